@@ -1,0 +1,37 @@
+-- Runs of threads, and candidate executions: a run of each thread, a read-from map and a coherence order.
+-- After Alglave, Maranget and Tautschnig, Herding cats, 2014, section 4.
+use Rattle.std.specs.Prelude.{ℕ, List, Bool, true, false, ◌==◌, ◌&&◌}
+use Rattle.events.specs.declared.event.Access.{Access}
+use Rattle.events.specs.declared.event.Access.TheVariants.{Read, Write, Fence, ExRead, ExWrite}
+use Rattle.events.specs.declared.event.Event.{Event}
+use Rattle.events.specs.declared.event.EventId.{EventId}
+
+abbrev pub is_read : Access → Bool
+is_read Read = true
+is_read ExRead = true
+is_read Write = false
+is_read ExWrite = false
+is_read Fence = false
+
+abbrev pub is_write : Access → Bool
+is_write Write = true
+is_write ExWrite = true
+is_write Read = false
+is_write ExRead = false
+is_write Fence = false
+
+abbrev pub writes_to : ℕ → Event → Bool
+writes_to x e = is_write e.access && (e.loc == x)
+
+-- the events of a thread in program order, and its registers at the end
+pub record ThreadRun : Type 0 where
+  pub events : List Event
+  pub registers : List ℕ
+
+-- init: the initial value of each location. runs: of each thread. rf: of each read, thread by thread in
+-- program order, the write that it reads from. co: of each location, its writes in coherence order.
+pub record Execution : Type 0 where
+  pub init : List ℕ
+  pub runs : List ThreadRun
+  pub rf : List EventId
+  pub co : List (List EventId)

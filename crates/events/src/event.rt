@@ -1,0 +1,57 @@
+//! Events of a thread, and how an execution names them.
+
+ghost use Rattle.std.specs.Prelude.{◌≡◌};
+ghost use Rattle.events.specs.Executions.{is_read, writes_to};
+
+/// A memory order, or none.
+#[derive(Clone, Copy, Debug, PartialEq, Eq)]
+pub enum Order {
+    /// The initial writes' place in this table: they have no order.
+    NoOrder,
+    /// A plain access.
+    Na,
+    Rlx,
+    Acq,
+    Rel,
+    AcqRel,
+    Sc,
+}
+
+/// What an event does.
+#[derive(Clone, Copy, Debug, PartialEq, Eq)]
+pub enum Access {
+    Read,
+    Write,
+    Fence,
+    /// The read of an exchange.
+    ExRead,
+    /// The write of an exchange.
+    ExWrite,
+}
+
+/// One event of a thread. A location is named by its place in the test's list of locations;
+/// a fence has location 0 and value 0.
+#[derive(Clone, Copy, Debug, PartialEq, Eq)]
+pub struct Event {
+    pub thread: usize,
+    pub access: Access,
+    pub loc: usize,
+    pub value: u32,
+    pub order: Order,
+}
+
+/// An event's name in an execution: the initial write of a location, or a thread and a place in its run.
+#[derive(Clone, Copy, Debug, PartialEq, Eq)]
+pub enum EventId {
+    Initial(usize),
+    Own(usize, usize),
+}
+
+impl Access {
+    /// Whether it reads.
+    pub fn is_read(self) -> bool
+        ensures { result ≡ is_read self }
+    {
+        matches!(self, Access::Read | Access::ExRead)
+    }
+}

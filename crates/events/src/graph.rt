@@ -1,0 +1,92 @@
+//! Candidate executions.
+
+ghost use Rattle.std.specs.Prelude.{◌≡◌};
+
+use crate::event::EventId;
+use crate::run::Run;
+use std::marker::Model;
+
+/// A coherence order: the writes of one location, the initial one first.
+#[derive(Drop)]
+pub struct Coherence {
+    writes: Vec<EventId>,
+}
+
+impl Model for Coherence {
+    ghost use Rattle.std.specs.Prelude.{List};
+    ghost use Rattle.events.specs.declared.event.EventId.{EventId};
+
+    ghost Value = { List EventId };
+
+    ghost view = { λ o. o.writes.items };
+}
+
+impl Coherence {
+    /// The order of these writes.
+    pub fn new(writes: Vec<EventId>) -> Self
+        ensures { result ≡ writes.items }
+    {
+        Coherence { writes }
+    }
+
+    /// The writes, in order.
+    pub fn writes(&self) -> &[EventId]
+        ensures { result.now ≡ self.now }
+    {
+        &self.writes
+    }
+}
+
+/// A candidate execution.
+#[derive(Drop)]
+pub struct Graph {
+    init: Vec<u32>,
+    runs: Vec<Run>,
+    rf: Vec<EventId>,
+    co: Vec<Coherence>,
+}
+
+impl Model for Graph {
+    ghost use Rattle.events.specs.Executions.{Execution};
+
+    ghost Value = { Execution };
+
+    ghost view = { λ g. record { init = g.init.items; runs = g.runs.items; rf = g.rf.items; co = g.co.items } };
+}
+
+impl Graph {
+    /// The execution with these parts.
+    pub fn new(init: Vec<u32>, runs: Vec<Run>, rf: Vec<EventId>, co: Vec<Coherence>) -> Self
+        ensures { result ≡ record { init = init.items; runs = runs.items; rf = rf.items; co = co.items } }
+    {
+        Graph { init, runs, rf, co }
+    }
+
+    /// The initial value of each location.
+    pub fn init(&self) -> &[u32]
+        ensures { result.now ≡ self.now.init }
+    {
+        &self.init
+    }
+
+    /// The run of each thread.
+    pub fn runs(&self) -> &[Run]
+        ensures { result.now ≡ self.now.runs }
+    {
+        &self.runs
+    }
+
+    /// The write that each read reads from, thread by thread, in program order.
+    pub fn rf(&self) -> &[EventId]
+        ensures { result.now ≡ self.now.rf }
+    {
+        &self.rf
+    }
+
+    /// The coherence order of each location.
+    pub fn co(&self) -> &[Coherence]
+        ensures { result.now ≡ self.now.co }
+    {
+        &self.co
+    }
+}

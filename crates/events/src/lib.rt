@@ -1,0 +1,10 @@
+//! Events, the runs of threads, and candidate executions.
+#![tactic(auto)]
+
+mod event;
+mod graph;
+mod run;
+
+pub use event::{Access, Event, EventId, Order};
+pub use graph::{Coherence, Graph};
+pub use run::Run;

@@ -1,0 +1,45 @@
+-- Final states, and what holds in them. (herd7 manual, final conditions.)
+use Rattle.std.specs.Prelude.{◌≡◌, ℕ, List, [], ◌∷◌, Bool, true, false, not, ◌==◌, ◌&&◌, ◌||◌, if◌then◌else◌, ◌⊎◌}
+use Rattle.std.specs.Ordering.{is_lt}
+use Rattle.listings.specs.Lists.{IsIn, Lists}
+use Rattle.litmus_c.specs.declared.conditions.place.Binding.{Binding}
+use Rattle.litmus_c.specs.declared.conditions.place.Place.{Place}
+use Rattle.litmus_c.specs.contracts.conditions.place.PlaceOrd.TheImpl.{ghosts as place_order}
+use Rattle.litmus_c.specs.contracts.conditions.place.PlacePartialEq.TheImpl.{ghosts as place_equality}
+use Rattle.litmus_c.specs.Conditions.{Formula, truth, falsehood, equals, negation, conjunction, disjunction, implication, Condition}
+
+-- the value of a place; a place that the state doesn't list has 0
+abbrev pub value_at : List Binding → Place → ℕ
+value_at [] place = 0
+value_at (b ∷ state) place = if place_equality.eq b.place place then b.value else value_at state place
+
+-- whether the proposition holds in the state
+abbrev pub holds_in : List Binding → Formula → Bool
+holds_in state truth = true
+holds_in state falsehood = false
+holds_in state (equals place value) = value_at state place == value
+holds_in state (negation a) = not (holds_in state a)
+holds_in state (conjunction a b) = holds_in state a && holds_in state b
+holds_in state (disjunction a b) = holds_in state a || holds_in state b
+holds_in state (implication a b) = not (holds_in state a) || holds_in state b
+
+-- the proposition speaks of the place
+abbrev pub Mentions : Formula → Place → Type 0
+Mentions truth p = ⊥
+Mentions falsehood p = ⊥
+Mentions (equals place value) p = p ≡ place
+Mentions (negation a) p = Mentions a p
+Mentions (conjunction a b) p = Mentions a p ⊎ Mentions b p
+Mentions (disjunction a b) p = Mentions a p ⊎ Mentions b p
+Mentions (implication a b) p = Mentions a p ⊎ Mentions b p
+
+-- each place stands before the next: registers by thread and then name, then locations by name
+abbrev pub AreInOrder : List Place → Type 0
+AreInOrder [] = Unit {0}
+AreInOrder (p ∷ []) = Unit {0}
+AreInOrder (p ∷ q ∷ rest) = (is_lt (place_order.cmp p q) ≡ true) × AreInOrder (q ∷ rest)
+
+-- The observed places: those of the condition and those that are listed, once each, in order.
+pub record AreObserved (condition : Condition) (listed places : List Place) : Type 0 where
+  pub members : Lists (λ p. Mentions condition.formula p ⊎ IsIn p listed) places
+  pub order : AreInOrder places

@@ -1,0 +1,59 @@
+//! The condition of a test.
+
+ghost use Rattle.std.specs.Prelude.{◌≡◌};
+ghost use Rattle.litmus_c.specs.Conditions.{formula_of};
+
+use crate::conditions::prop::Prop;
+use std::marker::Model;
+
+/// What is asked of the final states of the allowed executions.
+#[derive(Clone, Copy, Debug, PartialEq, Eq)]
+pub enum Kind {
+    /// Some have the proposition.
+    Exists,
+    /// None has it.
+    NotExists,
+    /// All have it.
+    Forall,
+}
+
+/// A question and its proposition.
+#[derive(Drop)]
+pub struct Cond {
+    kind: Kind,
+    prop: Prop,
+}
+
+impl Model for Cond {
+    ghost use Rattle.litmus_c.specs.Conditions.{Condition, formula_of};
+    ghost use Rattle.litmus_c.specs.Codes.{coded_condition};
+
+    ghost Value = { Condition };
+
+    ghost coded = { coded_condition };
+
+    ghost view = { λ c. record { kind = c.kind; formula = formula_of c.prop } };
+}
+
+impl Cond {
+    /// The question of this kind on this proposition.
+    pub fn new(kind: Kind, prop: Prop) -> Self
+        ensures { result ≡ record { kind = kind; formula = formula_of prop } }
+    {
+        Cond { kind, prop }
+    }
+
+    /// What is asked.
+    pub fn kind(&self) -> Kind
+        ensures { result ≡ self.now.kind }
+    {
+        self.kind
+    }
+
+    /// The proposition.
+    pub fn prop(&self) -> &Prop
+        ensures { formula_of result.now ≡ self.now.formula }
+    {
+        &self.prop
+    }
+}

@@ -1,0 +1,15 @@
+//! C litmus tests: their trees, their conditions, and the reader.
+#![tactic(auto)]
+
+pub mod conditions;
+mod fault;
+mod reading;
+mod test;
+mod tree;
+
+pub use fault::TestFault;
+pub use reading::read_test;
+pub use test::Test;
+pub use tree::{
+    Call, Declarator, Expression, LocationKind, Parameter, RightSide, Statement, Thread,
+};

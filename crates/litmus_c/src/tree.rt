@@ -1,0 +1,112 @@
+//! The tree of a thread.
+
+ghost use Rattle.std.specs.Prelude.{◌≡◌, map};
+ghost use Rattle.litmus_c.specs.Tree.{step_of};
+
+use events::Order;
+use std::marker::Model;
+use wb_text::Name;
+
+/// How a parameter's type lets its location be accessed.
+#[derive(Clone, Copy, Debug, PartialEq, Eq)]
+pub enum LocationKind {
+    /// `atomic_int*`: by atomic calls alone.
+    Atomic,
+    /// `int*`: by plain reads and writes alone.
+    Plain,
+}
+
+/// A parameter, which names its location.
+#[derive(Drop)]
+pub struct Parameter {
+    pub name: Name,
+    pub kind: LocationKind,
+}
+
+/// An expression.
+#[derive(Drop)]
+pub enum Expression {
+    Number(u32),
+}
+
+/// A call of an atomic operation: the location first, the order last.
+#[derive(Drop)]
+pub enum Call {
+    Load(Name, Order),
+    Store(Name, Expression, Order),
+}
+
+/// What a register is given.
+#[derive(Drop)]
+pub enum RightSide {
+    /// The value of a call.
+    Call(Call),
+}
+
+/// A register that is declared. Without a value it gets 0.
+#[derive(Drop)]
+pub struct Declarator {
+    pub register: Name,
+    pub value: Option<RightSide>,
+}
+
+/// A statement.
+#[derive(Drop)]
+pub enum Statement {
+    Empty,
+    Declare(Vec<Declarator>),
+    Assign(Name, RightSide),
+    /// A call whose value, if it has one, is dropped.
+    Perform(Call),
+}
+
+/// A thread. Contracts see its program.
+#[derive(Drop)]
+pub struct Thread {
+    parameters: Vec<Parameter>,
+    statements: Vec<Statement>,
+    registers: Vec<Name>,
+}
+
+impl Model for Thread {
+    ghost use Rattle.std.specs.Prelude.{map};
+    ghost use Rattle.litmus_c.specs.Tree.{Program, step_of};
+
+    ghost Value = { Program };
+
+    ghost view = { λ t. record { parameters = t.parameters.items; steps = map step_of t.statements.items; registers = t.registers.items } };
+}
+
+impl Thread {
+    /// A thread of these parts.
+    pub fn new(parameters: Vec<Parameter>, statements: Vec<Statement>, registers: Vec<Name>) -> Self
+        ensures { result ≡ record { parameters = parameters.items; steps = map step_of statements.items; registers = registers.items } }
+    {
+        Thread {
+            parameters,
+            statements,
+            registers,
+        }
+    }
+
+    /// The parameters, in order.
+    pub fn parameters(&self) -> &[Parameter]
+        ensures { result.now ≡ self.now.parameters }
+    {
+        &self.parameters
+    }
+
+    /// The statements, in order.
+    pub fn statements(&self) -> &[Statement]
+        ensures { map step_of result.now ≡ self.now.steps }
+    {
+        &self.statements
+    }
+
+    /// All its registers: those of the initial state, and then those that it declares or assigns, once each.
+    pub fn registers(&self) -> &[Name]
+        ensures { result.now ≡ self.now.registers }
+    {
+        &self.registers
+    }
+}

@@ -1,0 +1,104 @@
+//! Names of tests, locations, registers and files.
+
+ghost use Rattle.std.specs.Prelude.{◌≡◌, ◌↔◌, IsTrue, IfOk, MatchResult};
+ghost use Rattle.std.specs.Str.{bytes_eq};
+ghost use Rattle.wb_text.specs.Names.{IsName};
+ghost use Rattle.wb_text.specs.declared.fault.NameFault.TheVariants.{BadName, NoMemory};
+
+use crate::fault::NameFault;
+use std::alloc::AllocError;
+use std::cmp::Ordering;
+use std::marker::Model;
+
+/// A name: 1 to 64 printable ASCII bytes (33 to 126). Contracts see its bytes.
+#[derive(Drop)]
+pub struct Name {
+    bytes: Vec<u8>,
+}
+
+impl Model for Name {
+    ghost use Rattle.std.specs.Prelude.{ℕ, List};
+    ghost use Rattle.wb_text.specs.Names.{IsName};
+
+    ghost Value = { List ℕ };
+
+    ghost view = { λ n. n.bytes.items };
+
+    ghost invariant = { λ n. IsName n.bytes.items };
+}
+
+impl Name {
+    /// The bytes.
+    pub fn bytes(&self) -> &[u8]
+        ensures value { result.now ≡ self.now }
+        ensures name { IsName self.now }
+    {
+        self.bytes.as_slice()
+    }
+
+    /// A second name of the same bytes.
+    pub fn copy(&self) -> Result<Name, AllocError>
+        ensures { IfOk result (λ n. n ≡ self.now) }
+    {
+        Ok(Name {
+            bytes: self.bytes.clone()?,
+        })
+    }
+}
+
+impl PartialEq for Name {
+    ghost use Rattle.std.proofs.Common.{rules};
+    ghost use Rattle.std.specs.Cmp.Rules.{comparing};
+    ghost use Rattle.std.specs.Str.{bytes_eq};
+
+    ghost eq = { bytes_eq };
+
+    ghost laws = { Prim.search (comparing, rules) };
+
+    fn eq(&self, other: &Name) -> bool {
+        self.bytes.as_slice() == other.bytes.as_slice()
+    }
+}
+
+impl Eq for Name {
+    ghost use Rattle.std.proofs.Common.{rules};
+    ghost use Rattle.std.specs.Cmp.Rules.{comparing};
+
+    ghost laws = { Prim.search (comparing, rules) };
+}
+
+/// By their bytes, as texts are ordered.
+impl Ord for Name {
+    ghost use Rattle.std.proofs.Common.{rules};
+    ghost use Rattle.std.specs.Cmp.Lexicographic.{slice_cmp};
+    ghost use Rattle.std.specs.Cmp.Rules.{comparing};
+    ghost use Rattle.std.specs.Ordering.{nat_cmp};
+
+    ghost cmp = { slice_cmp nat_cmp };
+
+    ghost total = { Prim.search (comparing, rules) };
+
+    ghost matches_partial_cmp = { Prim.search (comparing, rules) };
+
+    ghost matches_eq = { Prim.search (comparing, rules) };
+
+    fn cmp(&self, other: &Name) -> Ordering {
+        self.bytes.as_slice().cmp(other.bytes.as_slice())
+    }
+}
+
+impl PartialOrd for Name {
+    ghost use Rattle.std.proofs.Common.{rules};
+    ghost use Rattle.std.specs.Cmp.{partial_order_from_own_ties};
+    ghost use Rattle.std.specs.Cmp.Lexicographic.{slice_cmp};
+    ghost use Rattle.std.specs.Cmp.Rules.{comparing};
+    ghost use Rattle.std.specs.Ordering.{nat_cmp, as_partial_cmp};
+
+    ghost partial_cmp = { as_partial_cmp (slice_cmp nat_cmp) };
+
+    ghost laws = { partial_order_from_own_ties (Prim.search (comparing, rules)) (Prim.search (comparing, rules)) };
+
+    fn partial_cmp(&self, other: &Name) -> Option<Ordering> {
+        Some(self.cmp(other))
+    }
+}
