@@ -4,3 +4,4 @@ pub mod Limits
 pub mod Reads
 pub mod States
 pub mod Tree
+pub mod Values
