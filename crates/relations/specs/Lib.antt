@@ -5,3 +5,4 @@ pub mod TableFacts
 pub mod Equality
 pub mod Monotone
 pub mod Growth
+pub mod Examples
