@@ -1,6 +1,7 @@
 -- What is known of a relation made of a table.
-use Rattle.std.proofs.Common.{◌≡◌, ℕ, ◌<◌, ◌≤◌, ◌⊎◌, ◌↔◌, ◌+◌, ◌*◌, List, Bool, true, false, refl, sym, ◌∙◌, ap, subst, inl, inr, arith, length, set, IsTrue}
+use Rattle.std.proofs.Common.{◌≡◌, ℕ, ◌<◌, ◌≤◌, ◌⊎◌, ◌↔◌, ◌+◌, ◌*◌, List, Bool, true, false, refl, sym, ◌∙◌, ap, subst, inl, inr, arith, length, replicate, set, IsTrue}
 use Rattle.std.proofs.lemmas.Bool.{false≢true, cases_eq}
+use Rattle.std.proofs.lemmas.List.{get_or-replicate}
 use Rattle.relations.specs.Tables.{cell, spot, square}
 use Rattle.relations.specs.Relation.{Relation, In, IsExactly, IsCanonical, Builds, IsWithin, relation}
 use Rattle.relations.specs.TableFacts.{cell_square, square_below, square_again}
@@ -20,6 +21,21 @@ by_relation n f P only all = record {
   all = λ i j a b p. in_relation n f i j a b (all i j a b p);
   canonical = record { pairs = square_again n f };
 }
+
+-- One truth value all over.
+spot_all : (m i j : ℕ) (b : Bool) → 4096 ≤ m → i < 64 → j < 64 → spot (replicate m b) i j ≡ b
+unfolding spot
+spot_all m i j b l p q = get_or-replicate m (64 * i + j) b false (omega arith)
+
+pub no_pair : (n m : ℕ) → n ≤ 64 → 4096 ≤ m → IsExactly n (λ i j. ⊥) (relation n (spot (replicate m false)))
+no_pair n m k l =
+    by_relation n (spot (replicate m false)) (λ i j. ⊥)
+    (λ i j a b h. false≢true (sym (spot_all m i j false l (omega arith) (omega arith)) ∙ h)) (λ i j a b p. absurd p)
+
+pub each_pair : (n m : ℕ) → n ≤ 64 → 4096 ≤ m → IsExactly n (λ i j. Unit {0}) (relation n (spot (replicate m true)))
+each_pair n m k l =
+    by_relation n (spot (replicate m true)) (λ i j. Unit {0})
+    (λ i j a b h. tt) (λ i j a b p. spot_all m i j true l (omega arith) (omega arith))
 
 -- One pair more.
 inserted_in : (n : ℕ) (cells : List Bool) (i j : ℕ) → n ≤ 64 → length cells ≡ 4096 → i < n → j < n →

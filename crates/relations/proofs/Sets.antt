@@ -1,6 +1,7 @@
 -- What is known of a set made of a table.
-use Rattle.std.proofs.Common.{◌≡◌, ℕ, ◌<◌, ◌≤◌, ◌⊎◌, ◌↔◌, List, Bool, true, false, refl, sym, ◌∙◌, subst, inl, inr, arith, length, set, IsTrue}
-use Rattle.std.proofs.lemmas.Bool.{cases_eq}
+use Rattle.std.proofs.Common.{◌≡◌, ℕ, ◌<◌, ◌≤◌, ◌⊎◌, ◌↔◌, List, Bool, true, false, refl, sym, ◌∙◌, subst, inl, inr, arith, length, replicate, set, IsTrue}
+use Rattle.std.proofs.lemmas.Bool.{false≢true, cases_eq}
+use Rattle.std.proofs.lemmas.List.{get_or-replicate}
 use Rattle.relations.specs.Tables.{place, line}
 use Rattle.relations.specs.TableFacts.{place_line, line_below, line_again}
 use Rattle.relations.specs.Events.{EventSet, Has, IsExactlySet, IsCanonicalSet, BuildsSet, event_set}
@@ -20,6 +21,21 @@ by_line n f P only all = record {
   all = λ i a p. in_line n f i a (all i a p);
   canonical = record { members = line_again n f };
 }
+
+-- One truth value all over.
+place_all : (m i : ℕ) (b : Bool) → i < m → place (replicate m b) i ≡ b
+unfolding place
+place_all m i b p = get_or-replicate m i b false p
+
+pub no_event : (n m : ℕ) → n ≤ 64 → 64 ≤ m → IsExactlySet n (λ i. ⊥) (event_set n (place (replicate m false)))
+no_event n m k l =
+    by_line n (place (replicate m false)) (λ i. ⊥)
+    (λ i a h. false≢true (sym (place_all m i false (omega arith)) ∙ h)) (λ i a p. absurd p)
+
+pub each_event : (n m : ℕ) → n ≤ 64 → 64 ≤ m → IsExactlySet n (λ i. Unit {0}) (event_set n (place (replicate m true)))
+each_event n m k l =
+    by_line n (place (replicate m true)) (λ i. Unit {0})
+    (λ i a h. tt) (λ i a p. place_all m i true (omega arith))
 
 -- One event more.
 inserted_in : (n : ℕ) (members : List Bool) (i : ℕ) → n ≤ 64 → length members ≡ 64 → i < n →

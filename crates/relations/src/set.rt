@@ -42,7 +42,6 @@ impl Set {
         requires { i < self.now.count }
         ensures { IsTrue result ↔ Has self.now i }
     {
-        let _ = &self.count;
         self.members[i]
     }
 
@@ -51,7 +50,6 @@ impl Set {
         requires { i < self.old.count }
         ensures { IsExactlySet self.old.count (λ a. Has self.old a ⊎ (a ≡ i)) self.new }
     {
-        let _ = &self.count;
         self.members[i] = true;
     }
 

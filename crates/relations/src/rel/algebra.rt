@@ -11,15 +11,10 @@ impl Rel {
         requires { count ≤ 64 }
         ensures { IsExactly count (λ i j. ⊥) result }
     {
-        Self::build(
+        Rel {
             count,
-            |i, j|
-                ensures { IsTrue result ↔ (⊥) }
-            {
-                let _ = (i, j);
-                false
-            },
-        )
+            cells: [false; 4096],
+        }
     }
 
     /// Each pair.
@@ -27,15 +22,10 @@ impl Rel {
         requires { count ≤ 64 }
         ensures { IsExactly count (λ i j. Unit {0}) result }
     {
-        Self::build(
+        Rel {
             count,
-            |i, j|
-                ensures { IsTrue result ↔ (Unit {0}) }
-            {
-                let _ = (i, j);
-                true
-            },
-        )
+            cells: [true; 4096],
+        }
     }
 
     /// Each event with itself.

@@ -11,15 +11,10 @@ impl Set {
         requires { count ≤ 64 }
         ensures { IsExactlySet count (λ i. ⊥) result }
     {
-        Self::build(
+        Set {
             count,
-            |i|
-                ensures { IsTrue result ↔ (⊥) }
-            {
-                let _ = i;
-                false
-            },
-        )
+            members: [false; 64],
+        }
     }
 
     /// Each event.
@@ -27,15 +22,10 @@ impl Set {
         requires { count ≤ 64 }
         ensures { IsExactlySet count (λ i. Unit {0}) result }
     {
-        Self::build(
+        Set {
             count,
-            |i|
-                ensures { IsTrue result ↔ (Unit {0}) }
-            {
-                let _ = i;
-                true
-            },
-        )
+            members: [true; 64],
+        }
     }
 
     /// The events of either.
