@@ -1,9 +1,9 @@
 -- What is known of a relation made of a table.
-use Rattle.std.proofs.Common.{◌≡◌, ℕ, ◌<◌, ◌≤◌, ◌⊎◌, ◌↔◌, ◌+◌, ◌*◌, List, Bool, true, false, refl, sym, ◌∙◌, ap, subst, inl, inr, arith, length, replicate, set, IsTrue}
+use Rattle.std.proofs.Common.{◌≡◌, ℕ, ◌<◌, ◌≤◌, ◌⊎◌, ◌↔◌, ◌+◌, ◌*◌, List, Bool, true, false, refl, sym, ◌∙◌, subst, inl, inr, arith, length, replicate, set, IsTrue}
 use Rattle.std.proofs.lemmas.Bool.{false≢true, cases_eq}
 use Rattle.std.proofs.lemmas.List.{get_or-replicate}
-use Rattle.relations.specs.Tables.{cell, spot, square}
-use Rattle.relations.specs.Relation.{Relation, In, IsExactly, IsCanonical, Builds, IsWithin, relation}
+use Rattle.relations.specs.Tables.{cell, spot}
+use Rattle.relations.specs.Relation.{Relation, In, IsExactly, IsCanonical, IsWithin, relation}
 use Rattle.relations.specs.TableFacts.{cell_square, square_below, square_again}
 use Rattle.relations.specs.Equality.{pair_below}
 use Rattle.relations.proofs.Cells.{spot_written, spot_beside}

@@ -1,11 +1,10 @@
 -- What is known of a set made of a table.
-use Rattle.std.proofs.Common.{◌≡◌, ℕ, ◌<◌, ◌≤◌, ◌⊎◌, ◌↔◌, List, Bool, true, false, refl, sym, ◌∙◌, subst, inl, inr, arith, length, replicate, set, IsTrue}
+use Rattle.std.proofs.Common.{◌≡◌, ℕ, ◌<◌, ◌≤◌, ◌⊎◌, ◌↔◌, List, Bool, true, false, refl, sym, ◌∙◌, subst, inl, inr, arith, length, replicate, set}
 use Rattle.std.proofs.lemmas.Bool.{false≢true, cases_eq}
 use Rattle.std.proofs.lemmas.List.{get_or-replicate}
-use Rattle.relations.specs.Tables.{place, line}
+use Rattle.relations.specs.Tables.{place}
 use Rattle.relations.specs.TableFacts.{place_line, line_below, line_again}
-use Rattle.relations.specs.Events.{EventSet, Has, IsExactlySet, IsCanonicalSet, BuildsSet, event_set}
-use Rattle.relations.specs.Equality.{event_below}
+use Rattle.relations.specs.Events.{EventSet, Has, IsExactlySet, IsCanonicalSet, event_set}
 use Rattle.relations.proofs.Cells.{place_written, place_beside}
 
 in_line : (n : ℕ) (f : ℕ → Bool) (i : ℕ) → i < n → f i ≡ true → Has (event_set n f) i

@@ -1,6 +1,6 @@
 -- Each operation gives at least as much where it is given more; complement and the right side of
 -- a difference give at most as much.
-use Rattle.std.proofs.Common.{◌≡◌, ℕ, ◌<◌, ◌⊎◌, inl, inr}
+use Rattle.std.proofs.Common.{◌≡◌, ℕ, ◌⊎◌, inl, inr}
 use Rattle.relations.specs.Relation.{Within, Through, Chain, one, more, Domain, Range}
 
 pub union_monotone : (P Q R S : ℕ → ℕ → Type 0) → Within P R → Within Q S → Within (λ i j. P i j ⊎ Q i j) (λ i j. R i j ⊎ S i j)

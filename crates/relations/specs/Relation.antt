@@ -1,6 +1,6 @@
 -- A relation over the events 0, 1, .. below a count, as a value: it is known by its count and by
 -- which pairs it has.
-use Rattle.std.specs.Prelude.{◌≡◌, ℕ, ◌<◌, ◌⊎◌, List, Bool, true}
+use Rattle.std.specs.Prelude.{◌≡◌, ℕ, ◌<◌, List, Bool, true}
 use Rattle.relations.specs.Tables.{square, cell}
 
 pub record Relation : Type 0 where

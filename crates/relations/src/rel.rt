@@ -14,6 +14,7 @@ mod ends;
 #[derive(Drop)]
 pub struct Rel {
     count: usize,
+    // The pair (i, j) stands at 64 * i + j; what stands beyond the count has no meaning.
     cells: [bool; 4096],
 }
 
@@ -45,8 +46,8 @@ impl Rel {
         requires to { j < self.now.count }
         ensures { IsTrue result ↔ In self.now i j }
     {
-        let _ = &self.count;
-        self.cells[64 * i + j]
+        let cells = &self.cells;
+        cells[64 * i + j]
     }
 
     /// Puts the pair `(i, j)` in.
@@ -55,8 +56,8 @@ impl Rel {
         requires to { j < self.old.count }
         ensures { IsExactly self.old.count (λ a b. In self.old a b ⊎ ((a ≡ i) × (b ≡ j))) self.new }
     {
-        let _ = &self.count;
-        self.cells[64 * i + j] = true;
+        let cells = &mut self.cells;
+        cells[64 * i + j] = true;
     }
 
     /// The same relation once more.

@@ -12,6 +12,7 @@ mod pairs;
 #[derive(Drop)]
 pub struct Set {
     count: usize,
+    // What stands beyond the count has no meaning.
     members: [bool; 64],
 }
 

@@ -36,6 +36,7 @@ impl Rel {
     pub fn is_acyclic(&self) -> bool
         ensures { IsTrue result ↔ IsAcyclic (In self.now) }
     {
+        // It tells that no pair is beyond the count.
         let _ = self.count();
         self.plus().is_irreflexive()
     }
@@ -45,6 +46,7 @@ impl Rel {
         requires { self.now.count ≡ other.now.count }
         ensures { IsTrue result ↔ IsWithin self.now other.now }
     {
+        // It tells that no pair is beyond the count.
         let _ = self.count();
         self.minus(other).is_empty()
     }

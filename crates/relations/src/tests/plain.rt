@@ -1,8 +1,8 @@
 //! A plain, slow definition of each operation, and the comparison with the operation itself.
 
-use crate::{Rel, Set};
 ghost use Rattle.std.specs.Prelude.{◌≤◌};
 
+use crate::{Rel, Set};
 use std::process::Abort;
 
 /// Is the pair in? Beyond the count there is none.
