@@ -1,7 +1,8 @@
 //! Relations over events.
 
 ghost use Rattle.std.specs.Prelude.{◌≡◌, ℕ, ◌<◌, ◌≤◌, ◌⊎◌, ◌↔◌, IsTrue};
-ghost use Rattle.relations.specs.Relation.{In, IsExactly, IsCanonical, Builds};
+ghost use Rattle.relations.specs.Relation.{In, IsExactly, IsCanonical};
+ghost use Rattle.relations.specs.Building.{Builds};
 
 use std::marker::Model;
 

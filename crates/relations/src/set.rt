@@ -1,7 +1,8 @@
 //! Sets of events.
 
 ghost use Rattle.std.specs.Prelude.{◌≡◌, ℕ, ◌<◌, ◌≤◌, ◌⊎◌, ◌↔◌, IsTrue};
-ghost use Rattle.relations.specs.Events.{Has, IsExactlySet, IsCanonicalSet, BuildsSet};
+ghost use Rattle.relations.specs.Events.{Has, IsExactlySet, IsCanonicalSet};
+ghost use Rattle.relations.specs.Building.{BuildsSet};
 
 use std::marker::Model;
 

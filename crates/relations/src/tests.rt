@@ -22,9 +22,7 @@ fn closures(rt: HostRuntime) {
 fn a_chain_of_64_events(rt: HostRuntime) {
     let mut steps = Rel::empty(64);
     for i in 0..63 {
-        if steps.count() == 64 {
-            steps.insert(i, i + 1);
-        }
+        steps.insert(i, i + 1);
     }
     assert_eq!(rt; plain::pair_count(&steps.plus()), 2016);
     assert_eq!(rt; plain::pair_count(&steps.star()), 2080);
@@ -37,7 +35,7 @@ fn the_greatest_and_the_least_count(rt: HostRuntime) {
     assert!(rt; Rel::full(0).is_empty());
     assert!(rt; Set::full(64).complement().is_empty());
     assert!(rt; Set::full(0).is_empty());
-    assert!(rt; Rel::id(64).is_acyclic() == false && Rel::id(0).is_acyclic());
+    assert!(rt; !Rel::id(64).is_acyclic() && Rel::id(0).is_acyclic());
 }
 
 #[test]

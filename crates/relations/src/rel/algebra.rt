@@ -1,7 +1,8 @@
 //! The operations on relations that look at one pair at a time, and composition.
 
 ghost use Rattle.std.specs.Prelude.{◌≡◌, ℕ, ◌<◌, ◌≤◌, ◌⊎◌, ◌↔◌, IsTrue};
-ghost use Rattle.relations.specs.Relation.{In, IsExactly, Through};
+ghost use Rattle.relations.specs.Relation.{In, IsExactly};
+ghost use Rattle.relations.specs.Algebra.{Through};
 
 use crate::rel::Rel;
 

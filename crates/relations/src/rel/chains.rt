@@ -1,7 +1,8 @@
 //! Transitive closures.
 
 ghost use Rattle.std.specs.Prelude.{◌≡◌, ℕ, ◌<◌, ◌≤◌, ◌⊎◌, ◌↔◌, IsTrue};
-ghost use Rattle.relations.specs.Relation.{In, IsExactly, Chain};
+ghost use Rattle.relations.specs.Relation.{In, IsExactly};
+ghost use Rattle.relations.specs.Algebra.{Chain};
 
 use crate::rel::Rel;
 

@@ -1,7 +1,8 @@
 //! The checks on relations.
 
 ghost use Rattle.std.specs.Prelude.{◌≡◌, ◌↔◌, IsTrue};
-ghost use Rattle.relations.specs.Relation.{In, IsWithin, IsEmpty, IsIrreflexive, IsAcyclic};
+ghost use Rattle.relations.specs.Relation.{In, IsWithin};
+ghost use Rattle.relations.specs.Algebra.{IsEmpty, IsIrreflexive, IsAcyclic};
 
 use crate::rel::Rel;
 

@@ -2,7 +2,8 @@
 
 ghost use Rattle.std.specs.Prelude.{◌≡◌, ◌<◌, ◌↔◌, IsTrue};
 ghost use Rattle.relations.specs.Events.{IsExactlySet};
-ghost use Rattle.relations.specs.Relation.{In, Domain, Range};
+ghost use Rattle.relations.specs.Relation.{In};
+ghost use Rattle.relations.specs.Algebra.{Domain, Range};
 
 use crate::rel::Rel;
 use crate::set::Set;

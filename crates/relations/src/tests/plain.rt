@@ -98,7 +98,7 @@ pub fn relation(count: usize, code: u32) -> Rel
     let mut rest = code;
     for i in 0..count {
         for j in 0..count {
-            if rest % 2 == 1 && i < r.count() && j < r.count() {
+            if rest % 2 == 1 {
                 r.insert(i, j);
             }
             rest /= 2;
@@ -114,7 +114,7 @@ pub fn set(count: usize, code: u32) -> Set
     let mut s = Set::empty(count);
     let mut rest = code;
     for i in 0..count {
-        if rest % 2 == 1 && i < s.count() {
+        if rest % 2 == 1 {
             s.insert(i);
         }
         rest /= 2;
