@@ -1,0 +1,4 @@
+pub mod Cells
+pub mod Sets
+pub mod Relations
+pub mod Below
