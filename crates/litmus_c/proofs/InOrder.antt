@@ -15,9 +15,9 @@ use Rattle.litmus_c.specs.Conditions.{Formula, truth, falsehood, equals, negatio
 use Rattle.litmus_c.specs.States.{Mentions, mentioned, AreInOrder, AreObserved}
 use Rattle.litmus_c.specs.declared.conditions.place.Place.{Place}
 use Rattle.litmus_c.specs.contracts.conditions.place.PlaceOrd.TheImpl.{ghosts as place_order}
-use Rattle.litmus_c.specs.contracts.conditions.place.PlaceEq.TheImpl.Laws.{laws-law}
-use Rattle.litmus_c.specs.contracts.conditions.place.PlacePartialEq.TheImpl.{ghosts as place_equality}
-use Rattle.litmus_c.proofs.Places.{place_total, place_ties, place_exact}
+use Rattle.litmus_c.specs.Equality.{same_place}
+use Rattle.litmus_c.specs.Exact.{place_exact, place_equivalence}
+use Rattle.litmus_c.proofs.Places.{place_total, place_ties}
 
 contains : {X : Type 0} (x : X) (xs : List X) → IsIn x xs → Contains xs x
 contains x [] h = absurd h
@@ -73,23 +73,23 @@ in_order_strict (x ∷ []) s = tt
 in_order_strict (x ∷ y ∷ xs) s = (ap is_lt s.0.0, in_order_strict (y ∷ xs) s.1)
 
 -- Places that are sorted and then rid of repeats are observed.
-pub observed_places : (condition : Condition) (listed found sorted places : List Place) → found ≡ mentioned condition.formula ++ listed → IsPermutation found sorted → IsSorted place_order.cmp sorted → IsFiltered (DiffersFromLast place_equality.eq) [] sorted places → AreObserved condition listed places
+pub observed_places : (condition : Condition) (listed found sorted places : List Place) → found ≡ mentioned condition.formula ++ listed → IsPermutation found sorted → IsSorted place_order.cmp sorted → IsFiltered (DiffersFromLast same_place) [] sorted places → AreObserved condition listed places
 observed_places condition listed found sorted places is moved up kept =
-    let same : places ≡ dedup place_equality.eq sorted = dedup_is place_equality.eq sorted places kept in
+    let same : places ≡ dedup same_place sorted = dedup_is same_place sorted places kept in
     let strict : IsStrictlySortedBy place_order.cmp places = (let P : List Place → Type 0 = λ xs. IsStrictlySortedBy place_order.cmp xs in subst P (sym same) (IsStrictlySortedBy-dedup place_total place_ties sorted up)) in
     record {
       members = record {
         once = once_strict places strict;
         only = λ p h.
             (let P : List Place → Type 0 = λ xs. IsIn p xs in
-            let there = Contains-from_dedup place_equality.eq sorted p (contains p _ (subst P same h)) in
+            let there = Contains-from_dedup same_place sorted p (contains p _ (subst P same h)) in
             let before = contained p found (Contains-permutation sorted found p (IsPermutation-sym _ _ moved) there) in
             elim (in_append (mentioned condition.formula) listed p (subst P is before)) [ inl m ↦ inl (mentions condition.formula p m) | inr m ↦ inr m ]);
         all = λ p h.
             (let P : List Place → Type 0 = λ xs. IsIn p xs in
             let before : IsIn p (mentioned condition.formula ++ listed) = (elim h [ inl m ↦ in_left _ listed p (is_mentioned condition.formula p m) | inr m ↦ in_right (mentioned condition.formula) listed p m ]) in
             let there = Contains-permutation found sorted p moved (contains p found (subst P (sym is) before)) in
-            subst P (sym same) (contained p _ (Contains-dedup laws-law (λ a b. (place_exact a b).0) sorted p there)));
+            subst P (sym same) (contained p _ (Contains-dedup place_equivalence (λ a b. (place_exact a b).0) sorted p there)));
       };
       order = in_order_strict places strict;
     }

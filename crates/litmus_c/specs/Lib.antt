@@ -1,5 +1,7 @@
 pub mod Codes
 pub mod Conditions
+pub mod Equality
+pub mod Exact
 pub mod Limits
 pub mod Reads
 pub mod States

@@ -7,7 +7,7 @@ use Rattle.litmus_c.specs.declared.conditions.condition.Kind.{Kind}
 use Rattle.litmus_c.specs.declared.conditions.condition.Kind.TheVariants.{Exists, NotExists, Forall}
 use Rattle.litmus_c.specs.declared.conditions.place.Place.{Place}
 use Rattle.litmus_c.specs.contracts.conditions.place.PlaceOrd.TheImpl.{ghosts as place_order}
-use Rattle.litmus_c.specs.contracts.conditions.place.PlacePartialEq.TheImpl.{ghosts as place_equality}
+use Rattle.litmus_c.specs.Equality.{same_place}
 use Rattle.litmus_c.specs.Conditions.{Formula, truth, falsehood, equals, negation, conjunction, disjunction, implication, Condition}
 
 -- each place with the value at its index
@@ -19,7 +19,7 @@ bindings (p ∷ places) (v ∷ values) = record { place = p; value = v } ∷ bin
 -- the value of a place; a place that the state doesn't list has 0
 abbrev pub value_at : List Binding → Place → ℕ
 value_at [] place = 0
-value_at (b ∷ state) place = if place_equality.eq b.place place then b.value else value_at state place
+value_at (b ∷ state) place = if same_place b.place place then b.value else value_at state place
 
 -- whether the proposition holds in the state
 abbrev pub holds_in : List Binding → Formula → Bool
