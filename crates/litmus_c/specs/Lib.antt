@@ -4,6 +4,7 @@ pub mod Equality
 pub mod Exact
 pub mod Limits
 pub mod Reads
+pub mod StateExamples
 pub mod States
 pub mod Tree
 pub mod Values
