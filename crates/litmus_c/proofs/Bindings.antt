@@ -1,12 +1,6 @@
 -- Reading a state place by place.
-use Rattle.std.proofs.Common.{◌≡◌, ◌∙◌, ℕ, ◌+◌, ◌<◌, ◌⊎◌, inl, inr, ◌==◌, ◌&&◌, ◌||◌, not, List, [], ◌∷◌, length, map, get_or, drop, Bool, true, false, sym, refl, ap, subst, add-one, drop-cons, arith}
-use Rattle.std.specs.Bool.{Decides}
-use Rattle.listings.specs.Lists.{IsIn, NoRepeats}
-use Rattle.listings.proofs.Listings.{map_in}
-use Rattle.litmus_c.specs.Conditions.{Formula, truth, falsehood, equals, negation, conjunction, disjunction, implication, Condition}
-use Rattle.litmus_c.specs.Exact.{place_exact}
-use Rattle.litmus_c.specs.declared.conditions.place.Binding.{Binding}
-use Rattle.litmus_c.specs.States.{bindings, value_at, holds_in, Mentions, AreObserved}
+use Rattle.std.proofs.Common.{◌≡◌, ℕ, ◌+◌, ◌<◌, List, ◌∷◌, length, get_or, drop, true, false, sym, refl, add-one, drop-cons, arith}
+use Rattle.litmus_c.specs.States.{bindings, value_at}
 use Rattle.litmus_c.specs.Equality.{same_place}
 use Rattle.litmus_c.specs.declared.conditions.place.Place.{Place}
 

@@ -1,22 +1,13 @@
 -- Places in order stand once each, and two lists of the same places in order are equal.
-use Rattle.std.proofs.Common.{◌≡◌, ◌∙◌, ℕ, zero, suc, ◌<◌, ◌⊎◌, inl, inr, List, [], ◌∷◌, ◌++◌, length, get_or, Less, refl, sym, ap, subst, arith}
-use Rattle.std.specs.List.{AllByRecursion, Contains, dedup}
-use Rattle.std.specs.List.Retain.{IsFiltered, DiffersFromLast}
-use Rattle.std.specs.List.Sorted.{IsPermutation, IsSorted, IsStrictlySortedBy}
-use Rattle.std.specs.Ordering.{is_lt}
+use Rattle.std.proofs.Common.{◌≡◌, ◌∙◌, ◌⊎◌, inl, inr, List, [], ◌∷◌, Less, refl, sym, ap, subst}
+use Rattle.std.specs.List.{AllByRecursion}
+use Rattle.std.specs.List.Sorted.{IsStrictlySortedBy}
 use Rattle.std.proofs.lemmas.Cmp.{tied_itself}
-use Rattle.std.proofs.lemmas.List.Filters.{dedup_is}
-use Rattle.std.proofs.lemmas.List.Kept.{IsStrictlySortedBy-dedup, Contains-dedup, Contains-from_dedup}
-use Rattle.std.proofs.lemmas.List.Sorted.{Contains-permutation, IsPermutation-sym}
 use Rattle.listings.specs.Lists.{IsIn, NoRepeats}
-use Rattle.listings.proofs.Listings.{in_append, in_left, in_right}
-use Rattle.litmus_c.specs.Conditions.{Formula, truth, falsehood, equals, negation, conjunction, disjunction, implication, Condition}
-use Rattle.litmus_c.specs.States.{Mentions, mentioned, AreInOrder, AreObserved}
+use Rattle.litmus_c.specs.States.{AreInOrder}
 use Rattle.litmus_c.specs.declared.conditions.place.Place.{Place}
 use Rattle.litmus_c.specs.contracts.conditions.place.PlaceOrd.TheImpl.{ghosts as place_order}
-use Rattle.litmus_c.specs.Equality.{same_place}
-use Rattle.litmus_c.specs.Exact.{place_exact, place_equivalence}
-use Rattle.litmus_c.proofs.Places.{place_total, place_ties, precedes, is_less}
+use Rattle.litmus_c.proofs.Places.{place_total, precedes, is_less}
 
 -- what is above all of xs is none of them
 above_all : (x y : Place) (xs : List Place) → AllByRecursion (λ q. place_order.cmp x q ≡ Less) xs → IsIn y xs → place_order.cmp x y ≡ Less

@@ -1,22 +1,20 @@
 -- What `observed` makes is the list of observed places, and there is one such list.
-use Rattle.std.proofs.Common.{◌≡◌, ◌∙◌, ℕ, zero, suc, ◌<◌, ◌⊎◌, inl, inr, List, [], ◌∷◌, ◌++◌, length, get_or, Less, refl, sym, ap, subst, arith}
-use Rattle.std.specs.List.{AllByRecursion, Contains, dedup}
+use Rattle.std.proofs.Common.{◌≡◌, ℕ, zero, suc, ◌<◌, inl, inr, List, [], ◌∷◌, ◌++◌, length, get_or, sym, subst, arith}
+use Rattle.std.specs.List.{Contains, dedup}
 use Rattle.std.specs.List.Retain.{IsFiltered, DiffersFromLast}
 use Rattle.std.specs.List.Sorted.{IsPermutation, IsSorted, IsStrictlySortedBy}
-use Rattle.std.specs.Ordering.{is_lt}
-use Rattle.std.proofs.lemmas.Cmp.{tied_itself}
 use Rattle.std.proofs.lemmas.List.Filters.{dedup_is}
 use Rattle.std.proofs.lemmas.List.Kept.{IsStrictlySortedBy-dedup, Contains-dedup, Contains-from_dedup}
 use Rattle.std.proofs.lemmas.List.Sorted.{Contains-permutation, IsPermutation-sym}
-use Rattle.listings.specs.Lists.{IsIn, NoRepeats}
+use Rattle.listings.specs.Lists.{IsIn}
 use Rattle.listings.proofs.Listings.{in_append, in_left, in_right}
 use Rattle.litmus_c.specs.Conditions.{Formula, truth, falsehood, equals, negation, conjunction, disjunction, implication, Condition}
-use Rattle.litmus_c.specs.States.{Mentions, mentioned, AreInOrder, AreObserved}
+use Rattle.litmus_c.specs.States.{Mentions, mentioned, AreObserved}
 use Rattle.litmus_c.specs.declared.conditions.place.Place.{Place}
 use Rattle.litmus_c.specs.contracts.conditions.place.PlaceOrd.TheImpl.{ghosts as place_order}
 use Rattle.litmus_c.specs.Equality.{same_place}
 use Rattle.litmus_c.specs.Exact.{place_exact, place_equivalence}
-use Rattle.litmus_c.proofs.Places.{place_total, place_ties, precedes, is_less}
+use Rattle.litmus_c.proofs.Places.{place_total, place_ties}
 use Rattle.litmus_c.proofs.InOrder.{once_strict, in_order_strict, strict_in_order, same_strict}
 
 contains : {X : Type 0} (x : X) (xs : List X) → IsIn x xs → Contains xs x

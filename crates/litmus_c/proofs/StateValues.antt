@@ -1,5 +1,5 @@
 -- The values of a state's places, and what they say of a proposition.
-use Rattle.std.proofs.Common.{◌≡◌, ◌∙◌, ℕ, ◌+◌, ◌<◌, ◌⊎◌, inl, inr, ◌==◌, ◌&&◌, ◌||◌, not, List, [], ◌∷◌, length, map, get_or, drop, Bool, true, false, sym, refl, ap, subst, add-one, drop-cons, arith}
+use Rattle.std.proofs.Common.{◌≡◌, ℕ, ◌⊎◌, inl, inr, ◌==◌, not, List, [], ◌∷◌, map, Bool, true, false, sym, refl, ap, subst}
 use Rattle.std.specs.Bool.{Decides}
 use Rattle.listings.specs.Lists.{IsIn, NoRepeats}
 use Rattle.listings.proofs.Listings.{map_in}
