@@ -1,0 +1,4 @@
+pub mod Codes
+pub mod Outcomes
+pub mod Texts
+pub mod Writing
