@@ -1,0 +1,4 @@
+pub mod Bindings
+pub mod Distinct
+pub mod InOrder
+pub mod Places
