@@ -1,6 +1,7 @@
 //! The condition of a test: places, propositions and final states.
 
 mod condition;
+pub mod laws;
 mod observing;
 mod place;
 mod prop;
