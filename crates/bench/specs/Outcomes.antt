@@ -1,9 +1,9 @@
 -- What a verdict says of a test.
-use Rattle.std.specs.Prelude.{ℕ, List, Bool, not, ◌==◌}
+use Rattle.std.specs.Prelude.{ℕ, List, Bool}
 use Rattle.litmus_c.specs.Tree.{Word}
 use Rattle.litmus_c.specs.Conditions.{Formula}
+use Rattle.litmus_c.specs.States.{answers_ok}
 use Rattle.litmus_c.specs.declared.conditions.condition.Kind.{Kind}
-use Rattle.litmus_c.specs.declared.conditions.condition.Kind.TheVariants.{Exists, NotExists, Forall}
 use Rattle.litmus_c.specs.declared.conditions.place.Place.{Place}
 
 -- The test's name and question, the observed places, how many executions have the proposition and how many have it
@@ -18,11 +18,6 @@ pub record Outcome : Type 0 where
   pub states : List (List ℕ)
   pub flags : List Word
 
--- the answer to the question: some have the proposition, none has it, or all have it
-abbrev pub answer : Kind → ℕ → ℕ → Bool
-answer Exists positive negative = not (positive == 0)
-answer NotExists positive negative = positive == 0
-answer Forall positive negative = negative == 0
-
+-- whether the answer to the question is yes
 abbrev pub is_ok : Outcome → Bool
-is_ok v = answer v.kind v.positive v.negative
+is_ok v = answers_ok v.kind v.positive v.negative

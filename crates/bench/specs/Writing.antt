@@ -1,13 +1,7 @@
 -- What a call that writes bytes leaves of its writer.
-use Rattle.std.specs.Prelude.{◌≡◌, ℕ, List, ◌++◌, Option, Bool, true, Result, Ok, Err}
+use Rattle.std.specs.Prelude.{◌≡◌, ℕ, List, Option, Bool, true, Result, Ok, Err}
 use Rattle.std.specs.Io.KnownBytes.{Appends}
-
--- known bytes grow by a front part of these bytes
-pub record AppendsFront (old new : Option (List ℕ)) (bytes : List ℕ) : Type 0 where
-  pub front : List ℕ
-  pub rest : List ℕ
-  pub parts : bytes ≡ front ++ rest
-  pub held : Appends old new front
+use Rattle.wb_text.specs.Memory.{AppendsFront}
 
 -- At Ok the writer holds the bytes behind what it held. Else it holds a front part of them, and has its mark of failure.
 abbrev pub Writes : {A E : Type 0} → Option (List ℕ) → Option (List ℕ) → Bool → Result A E → List ℕ → Type 0

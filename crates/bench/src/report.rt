@@ -4,14 +4,15 @@ ghost use Rattle.std.specs.Prelude.{◌≡◌, ◌++◌, ◌∷◌, [], List, If
 ghost use Rattle.std.specs.Io.KnownBytes.{Appends};
 ghost use Rattle.std.specs.List.{flat_map};
 ghost use Rattle.litmus_c.specs.Conditions.{formula_of};
-ghost use Rattle.bench.specs.Writing.{Writes, AppendsFront};
+ghost use Rattle.wb_text.specs.Memory.{AppendsFront};
+ghost use Rattle.bench.specs.Writing.{Writes};
 ghost use Rattle.bench.specs.Texts as texts;
 
 use crate::slices::{Row, Verdict};
 use itoa::Buffer;
 use litmus_c::conditions::{Kind, Place, Prop};
 use thiserror::Error;
-use wb_text::{Failed, Name, Sink};
+use wb_text::{Failed, Name, Sink, give_all};
 
 /// Why a summary was not written whole.
 #[derive(Clone, Copy, Debug, Drop, PartialEq, Eq, Error)]
@@ -40,7 +41,7 @@ fn write_lines<W: Sink>(verdict: &Verdict, writer: &mut W) -> Result<(), Failed>
     write_count(verdict, writer)?;
     write_states(verdict.places(), verdict.states(), writer)?;
     write_answer(verdict, writer)?;
-    give_all(b"Witnesses\n", writer)?;
+    write_bytes(b"Witnesses\n", writer)?;
     write_counts(verdict, writer)?;
     write_flags(verdict.flags(), writer)?;
     write_condition(verdict, writer)?;
@@ -51,7 +52,7 @@ fn write_name<W: Sink>(verdict: &Verdict, writer: &mut W) -> Result<(), Failed>
     ensures { Writes (W.held writer.old) (W.held writer.new) (W.has_failed writer.new) result (texts.name_line verdict.now) }
 {
     let kind = kind_text(verdict.kind());
-    give_parts(
+    write_parts(
         &[b"Test ", verdict.name().bytes(), b" ", kind, b"\n"],
         writer,
     )
@@ -62,7 +63,7 @@ fn write_count<W: Sink>(verdict: &Verdict, writer: &mut W) -> Result<(), Failed>
 {
     let mut count = Buffer::new();
     let count = count.format(verdict.states().len()).as_bytes();
-    give_parts(&[b"States ", count, b"\n"], writer)
+    write_parts(&[b"States ", count, b"\n"], writer)
 }
 
 fn write_states<W: Sink>(places: &[Place], states: &[Row], writer: &mut W) -> Result<(), Failed>
@@ -83,7 +84,7 @@ fn write_state<W: Sink>(places: &[Place], values: &[u32], writer: &mut W) -> Res
         write_binding(separator, place, *value, writer)?;
         separator = b" ";
     }
-    give_all(b"\n", writer)
+    write_bytes(b"\n", writer)
 }
 
 /// Writes a place and its value behind a separator.
@@ -95,15 +96,15 @@ fn write_binding<W: Sink>(
 ) -> Result<(), Failed>
     ensures { Writes (W.held writer.old) (W.held writer.new) (W.has_failed writer.new) result (separator.now ++ texts.binding_text (place.now, value)) }
 {
-    give_all(separator, writer)?;
+    write_bytes(separator, writer)?;
     write_atom(place, value, writer)?;
-    give_all(b";", writer)
+    write_bytes(b";", writer)
 }
 
 fn write_answer<W: Sink>(verdict: &Verdict, writer: &mut W) -> Result<(), Failed>
     ensures { Writes (W.held writer.old) (W.held writer.new) (W.has_failed writer.new) result (texts.answer_line verdict.now) }
 {
-    give_all(if verdict.ok() { b"Ok\n" } else { b"No\n" }, writer)
+    write_bytes(if verdict.ok() { b"Ok\n" } else { b"No\n" }, writer)
 }
 
 fn write_counts<W: Sink>(verdict: &Verdict, writer: &mut W) -> Result<(), Failed>
@@ -113,7 +114,7 @@ fn write_counts<W: Sink>(verdict: &Verdict, writer: &mut W) -> Result<(), Failed
     let positive = positive.format(verdict.positive()).as_bytes();
     let mut negative = Buffer::new();
     let negative = negative.format(verdict.negative()).as_bytes();
-    give_parts(
+    write_parts(
         &[b"Positive: ", positive, b" Negative: ", negative, b"\n"],
         writer,
     )
@@ -131,18 +132,18 @@ fn write_flags<W: Sink>(flags: &[Name], writer: &mut W) -> Result<(), Failed>
 fn write_flag<W: Sink>(flag: &Name, writer: &mut W) -> Result<(), Failed>
     ensures { Writes (W.held writer.old) (W.held writer.new) (W.has_failed writer.new) result (texts.flag_line flag.now) }
 {
-    give_parts(&[b"Flag ", flag.bytes(), b"\n"], writer)
+    write_parts(&[b"Flag ", flag.bytes(), b"\n"], writer)
 }
 
 fn write_condition<W: Sink>(verdict: &Verdict, writer: &mut W) -> Result<(), Failed>
     ensures { Writes (W.held writer.old) (W.held writer.new) (W.has_failed writer.new) result (texts.condition_line verdict.now) }
 {
-    give_parts(
+    write_parts(
         &[b"Condition ", quantifier_text(verdict.kind()), b" ("],
         writer,
     )?;
     write_prop(verdict.prop(), writer)?;
-    give_all(b")\n", writer)
+    write_bytes(b")\n", writer)
 }
 
 fn write_observation<W: Sink>(verdict: &Verdict, writer: &mut W) -> Result<(), Failed>
@@ -154,7 +155,7 @@ fn write_observation<W: Sink>(verdict: &Verdict, writer: &mut W) -> Result<(), F
     let negative = negative.format(verdict.negative()).as_bytes();
     let name = verdict.name().bytes();
     let word = verdict.word().as_bytes();
-    give_parts(
+    write_parts(
         &[
             b"Observation ",
             name,
@@ -195,9 +196,9 @@ fn quantifier_text(kind: Kind) -> &'static [u8]
 fn write_operand<W: Sink>(prop: &Prop, bare: bool, writer: &mut W) -> Result<(), Failed>
     ensures { Writes (W.held writer.old) (W.held writer.new) (W.has_failed writer.new) result (texts.operand bare (texts.formula_text (formula_of prop.now))) }
 {
-    give_all(opening(bare), writer)?;
+    write_bytes(opening(bare), writer)?;
     write_prop(prop, writer)?;
-    give_all(closing(bare), writer)
+    write_bytes(closing(bare), writer)
 }
 
 #[cycle(propositions)]
@@ -205,11 +206,11 @@ fn write_prop<W: Sink>(prop: &Prop, writer: &mut W) -> Result<(), Failed>
     ensures { Writes (W.held writer.old) (W.held writer.new) (W.has_failed writer.new) result (texts.formula_text (formula_of prop.now)) }
 {
     match prop {
-        Prop::True => give_all(b"true", writer),
-        Prop::False => give_all(b"false", writer),
+        Prop::True => write_bytes(b"true", writer),
+        Prop::False => write_bytes(b"false", writer),
         Prop::Equals(place, value) => write_atom(place, *value, writer),
         Prop::Not(operand) => {
-            give_all(b"~", writer)?;
+            write_bytes(b"~", writer)?;
             write_operand(operand, is_simple(operand), writer)
         }
         Prop::And(left, right) => {
@@ -254,7 +255,7 @@ fn write_infix<W: Sink>(
     ensures { Writes (W.held writer.old) (W.held writer.new) (W.has_failed writer.new) result (texts.operand left_is_bare (texts.formula_text (formula_of left.now)) ++ sign.now ++ texts.operand right_is_bare (texts.formula_text (formula_of right.now))) }
 {
     write_operand(left, left_is_bare, writer)?;
-    give_all(sign, writer)?;
+    write_bytes(sign, writer)?;
     write_operand(right, right_is_bare, writer)
 }
 
@@ -307,30 +308,25 @@ fn write_atom<W: Sink>(place: &Place, value: u32, writer: &mut W) -> Result<(), 
         Place::Reg(thread, name) => {
             let mut number = Buffer::new();
             let thread = number.format(*thread).as_bytes();
-            give_parts(&[thread, b":", name.bytes(), b"=", value], writer)
+            write_parts(&[thread, b":", name.bytes(), b"=", value], writer)
         }
-        Place::Loc(name) => give_parts(&[b"[", name.bytes(), b"]=", value], writer),
+        Place::Loc(name) => write_parts(&[b"[", name.bytes(), b"]=", value], writer),
     }
 }
 
 /// Hands the parts to the writer, one after another.
-fn give_parts<W: Sink>(parts: &[&[u8]], writer: &mut W) -> Result<(), Failed>
+fn write_parts<W: Sink>(parts: &[&[u8]], writer: &mut W) -> Result<(), Failed>
     ensures { Writes (W.held writer.old) (W.held writer.new) (W.has_failed writer.new) result (flat_map (λ p. p.now) parts.now) }
 {
     for part in parts {
-        give_all(part, writer)?;
+        write_bytes(part, writer)?;
     }
     Ok(())
 }
 
-/// Hands all bytes to the writer.
-fn give_all<W: Sink>(bytes: &[u8], writer: &mut W) -> Result<(), Failed>
+/// Hands the bytes to the writer.
+fn write_bytes<W: Sink>(bytes: &[u8], writer: &mut W) -> Result<(), Failed>
     ensures { Writes (W.held writer.old) (W.held writer.new) (W.has_failed writer.new) result bytes.now }
 {
-    let mut rest = bytes;
-    while !rest.is_empty() {
-        let count = writer.give(rest)?;
-        rest = &rest[count..];
-    }
-    Ok(())
+    give_all(writer, bytes)
 }

@@ -9,4 +9,4 @@ pub returns : goal.returns
 returns g c =
     let positive : c.as_bytes-positive.result.now ≡ decimal c.args.verdict.now.positive = cc in
     let negative : c.as_bytes-negative.result.now ≡ decimal c.args.verdict.now.negative = cc in
-    same _ _ _ _ _ _ (rw (positive, negative) (ap (λ l. codes "Positive: " ++ l) (regroup (decimal c.args.verdict.now.positive) (decimal c.args.verdict.now.negative)))) c.give_parts.ensures
+    same _ _ _ _ _ _ (rw (positive, negative) (ap (λ l. codes "Positive: " ++ l) (regroup (decimal c.args.verdict.now.positive) (decimal c.args.verdict.now.negative)))) c.write_parts.ensures

@@ -12,4 +12,4 @@ returns g c =
     let shown : c.as_bytes-word.result.now ≡ word c.args.verdict.now = cc in
     let positive : c.as_bytes-positive.result.now ≡ decimal c.args.verdict.now.positive = cc in
     let negative : c.as_bytes-negative.result.now ≡ decimal c.args.verdict.now.negative = cc in
-    same _ _ _ _ _ _ (rw (name, shown, positive, negative) (ap (λ l. codes "Observation " ++ l) (regroup c.args.verdict.now.name (word c.args.verdict.now) (decimal c.args.verdict.now.positive) (decimal c.args.verdict.now.negative)))) c.give_parts.ensures
+    same _ _ _ _ _ _ (rw (name, shown, positive, negative) (ap (λ l. codes "Observation " ++ l) (regroup c.args.verdict.now.name (word c.args.verdict.now) (decimal c.args.verdict.now.positive) (decimal c.args.verdict.now.negative)))) c.write_parts.ensures

@@ -32,4 +32,4 @@ pub returns : goal.returns
 returns g c =
     let done = left-none c.loop-place.separator.now _ _ (either_empty_from_Zip c.loop-place.place-iterator c.next.new.self _ c.in-None.is c.next.ensures.steps) in
     let whole = c.loop-place.invariant.2 ∙ ap (λ l. c.loop-place.invariant.0 ++ l) done ∙ append-nil c.loop-place.invariant.0 in
-    after _ _ _ _ _ _ _ _ c.loop-place.invariant.1 c.give_all.ensures (ap (λ l. l ++ codes "\n") whole)
+    after _ _ _ _ _ _ _ _ c.loop-place.invariant.1 c.write_bytes.ensures (ap (λ l. l ++ codes "\n") whole)
