@@ -11,13 +11,14 @@ use Rattle.bench.specs.Writing.{Writes}
 -- a front part of what stands behind what was written, whatever would have followed
 pub front_of : (old mid new : Option (List ℕ)) (as' bs cs whole : List ℕ) → Appends old mid as' → AppendsFront mid new bs → whole ≡ as' ++ (bs ++ cs) → AppendsFront old new whole
 front_of old mid new as' bs cs whole done part e =
-    let given = part.1.given in
-    (part.0 ++ cs,
-    record {
-      given = as' ++ given;
-      split = e ∙ ap (λ l. as' ++ (l ++ cs)) part.1.split ∙ ap (λ l. as' ++ l) (append_assoc given part.0 cs) ∙ sym (append_assoc as' given (part.0 ++ cs));
-      grown = Appends-trans old mid new as' given done part.1.grown;
-    })
+    let given = part.1.given in (
+      part.0 ++ cs,
+      record {
+        given = as' ++ given;
+        split = e ∙ ap (λ l. as' ++ (l ++ cs)) part.1.split ∙ ap (λ l. as' ++ l) (append_assoc given part.0 cs) ∙ sym (append_assoc as' given (part.0 ++ cs));
+        grown = Appends-trans old mid new as' given done part.1.grown;
+      },
+    )
 
 pub at_err : {A E : Type 0} (old new : Option (List ℕ)) (failed : Bool) (r : Result A E) (bytes : List ℕ) → IsErr r → AppendsFront old new bytes → failed ≡ true → Writes old new failed r bytes
 at_err old new failed (Ok done) bytes is part mark = cc

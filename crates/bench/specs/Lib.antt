@@ -1,5 +1,7 @@
 pub mod Codes
+pub mod Faults
 pub mod Finals
+pub mod Inputs
 pub mod Outcomes
 pub mod Slots
 pub mod Tallies

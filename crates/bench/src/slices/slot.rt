@@ -3,7 +3,8 @@
 ghost use Rattle.std.specs.Prelude.{◌≡◌, IfOk, map};
 ghost use Rattle.candidates.specs.Runs.{place_of};
 ghost use Rattle.candidates.specs.Candidates.{write_value};
-ghost use Rattle.bench.specs.Slots.{slot_of, slot_value, final_location};
+ghost use Rattle.bench.specs.Finals.{final_location};
+ghost use Rattle.bench.specs.Slots.{slot_of, slot_value};
 
 use crate::slices::row::Row;
 use events::{EventId, Graph};

@@ -1,21 +1,20 @@
 //! Counts over all executions of a test.
 
-ghost use Rattle.std.specs.Prelude.{◌≡◌, ◌<◌, ◌≤◌, ◌+◌, ◌^◌, length, not, count_by, IfOk, IfErr, OnOk, OnErr, if◌then◌else◌};
+ghost use Rattle.std.specs.Prelude.{◌≡◌, ◌<◌, ◌≤◌, ◌+◌, ◌-◌, ◌^◌, [], length, IfOk, IfErr, OnOk, if◌then◌else◌};
 ghost use Rattle.std.specs.BTreeSet.{insert_key};
 ghost use Rattle.std.specs.Cmp.Lexicographic.{slice_cmp};
 ghost use Rattle.std.specs.Ordering.{nat_cmp};
 ghost use Rattle.litmus_c.specs.Conditions.{formula_of};
-ghost use Rattle.litmus_c.specs.States.{bindings, holds_in, AreObserved};
-ghost use Rattle.candidates.specs.Candidates.{choices_of, size_of, graph_at, found};
+ghost use Rattle.litmus_c.specs.States.{bindings, holds_in};
+ghost use Rattle.candidates.specs.Candidates.{size_of, graph_at, found};
 ghost use Rattle.candidates.specs.Faults.{IsSpaceFault};
-ghost use Rattle.bench.specs.Finals.{has, obs};
 ghost use Rattle.bench.specs.Verdicts.{IsVerdict};
 ghost use Rattle.bench.specs.Tallies.{IsTally};
 
 use crate::slices::row::Row;
 use crate::slices::slot::{row, slots};
 use crate::slices::verdict::Verdict;
-use candidates::{Space, SpaceFault};
+use candidates::{Space, SpaceFault, laws};
 use litmus_c::Test;
 use litmus_c::conditions::{Place, Prop, State, holds, observed};
 use std::alloc::{AllocError, Global};
@@ -34,6 +33,7 @@ pub fn evaluate(alloc: Global, test: Test) -> Result<Verdict, SpaceFault>
     ensures found { IfOk result (IsVerdict test) }
     ensures fault { IfErr result (IsSpaceFault test) }
 {
+    laws::counting();
     let space = Space::new(alloc, &test)?;
     let places = observed(alloc, test.condition(), test.listed())?;
     let tally = count(alloc, &test, &places, &space)?;
@@ -57,7 +57,12 @@ fn count(alloc: Global, test: &Test, places: &[Place], space: &Space) -> Result<
 }
 
 impl Tally {
-    fn new(alloc: Global) -> Self {
+    /// A tally of no state.
+    fn new(alloc: Global) -> Self
+        ensures positive { result.positive ≡ 0 }
+        ensures negative { result.negative ≡ 0 }
+        ensures states { result.states.keys ≡ [] }
+    {
         Tally {
             positive: 0,
             negative: 0,

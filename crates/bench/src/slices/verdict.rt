@@ -1,6 +1,9 @@
 //! Verdicts.
 
 ghost use Rattle.std.specs.Prelude.{◌≡◌, [], IfOk};
+ghost use Rattle.std.specs.Cmp.Lexicographic.{slice_cmp};
+ghost use Rattle.std.specs.List.Sorted.{IsStrictlySortedBy};
+ghost use Rattle.std.specs.Ordering.{nat_cmp};
 ghost use Rattle.litmus_c.specs.Conditions.{formula_of};
 ghost use Rattle.bench.specs.Outcomes.{is_ok};
 ghost use Rattle.bench.specs.Texts.{word};
@@ -37,10 +40,20 @@ impl Model for Verdict {
 
 impl Verdict {
     /// What a tally of a test says. No flag is raised.
-    pub(crate) fn new(alloc: Global, test: Test, places: Vec<Place>, tally: Tally) -> Result<Self, AllocError>
-        ensures { IfOk result (λ v. v ≡ record { name = test.name; kind = test.condition.kind; formula = test.condition.formula; places = places.items; positive = tally.positive; negative = tally.negative; states = tally.states.keys; flags = [] }) }
+    pub(crate) fn new(
+        alloc: Global,
+        test: Test,
+        places: Vec<Place>,
+        tally: Tally,
+    ) -> Result<Self, AllocError>
+        ensures value { IfOk result (λ v. v ≡ record { name = test.name; kind = test.condition.kind; formula = test.condition.formula; places = places.items; positive = tally.positive; negative = tally.negative; states = tally.states.keys; flags = [] }) }
+        ensures sorted { IfOk result (λ v. IsStrictlySortedBy (slice_cmp nat_cmp) v.states) }
     {
-        let Tally { positive, negative, states } = tally;
+        let Tally {
+            positive,
+            negative,
+            states,
+        } = tally;
         Ok(Verdict {
             test,
             places,
