@@ -1,3 +1,4 @@
+pub mod Bounding
 pub mod ByLocation
 pub mod Caps
 pub mod Law
@@ -5,4 +6,6 @@ pub mod RunLists
 pub mod Sources
 pub mod Steps
 pub mod Tallies
+pub mod Turns
+pub mod Unrolling
 pub mod Writing

@@ -5,6 +5,6 @@ use Rattle.candidates.proofs.c11_threads.Setting.push_reads.Given as goal
 
 abbrev pub invariant-loop-value : goal.invariant-loop-value
 invariant-loop-value l = record {
-  is : l.next.items ++ map (λ v. followed l.run (giving (read l.self.thread l.loc v l.order ∷ []) l.register l.run.registers v)) (drop l.value-index l.self.values) ≡ l.fn.next.items ++ map (followed l.run) (load_runs l.self l.loc l.order l.register l.run.registers);
+  is : l.next.items ++ map (followed l.run) (map (λ v. giving (read l.self.thread l.loc v l.order ∷ []) l.register l.run.registers v) (drop l.value-index l.self.values)) ≡ l.fn.next.items ++ map (followed l.run) (load_runs l.self l.loc l.order l.register l.run.registers);
   within : length l.next.items ≤ 4096;
 }
