@@ -185,10 +185,10 @@ test : (b : Bool) → (b ≡ true) ⊎ (b ≡ false)
 test true = inl refl
 test false = inr refl
 
-shown : (s : Choices) (i : ℕ) → is_consistent (candidate_at s i) ≡ true → graph_at s i ≡ Some (candidate_at s i)
+pub shown : (s : Choices) (i : ℕ) → is_consistent (candidate_at s i) ≡ true → graph_at s i ≡ Some (candidate_at s i)
 shown s i h = rw h refl
 
-hidden : (s : Choices) (i : ℕ) → is_consistent (candidate_at s i) ≡ false → graph_at s i ≡ None
+pub hidden : (s : Choices) (i : ℕ) → is_consistent (candidate_at s i) ≡ false → graph_at s i ≡ None
 hidden s i h = rw h refl
 
 some_same : {X : Type 0} (x y : X) → Some x ≡ Some y → x ≡ y

@@ -4,6 +4,7 @@ pub mod Caps
 pub mod Law
 pub mod RunLists
 pub mod Sources
+pub mod Spaces
 pub mod Steps
 pub mod Tallies
 pub mod Turns
