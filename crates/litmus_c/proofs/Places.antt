@@ -1,34 +1,40 @@
--- Places are compared exactly, and their order is total.
-use Rattle.std.proofs.Common.{◌≡◌, ◌==◌, ◌&&◌, Bool, true, false, refl, ap}
-use Rattle.std.specs.Bool.{Decides}
+-- The order of places: as specs/ has it, total, and with ties exactly at equal places.
+use Rattle.std.proofs.Common.{◌≡◌, ℕ, ◌<◌, ◌⊎◌, inl, inr, Less, Equal, Greater, refl, arith}
 use Rattle.std.specs.Cmp.{IsTotalOrder}
-use Rattle.std.specs.Ordering.{eq_by_cmp}
-use Rattle.std.proofs.lemmas.Bool.Decides.{Decides-eqb}
-use Rattle.std.proofs.lemmas.Slice.Eq.{bytes_eq-Decides}
-use Rattle.std.specs.Str.{bytes_eq}
+use Rattle.std.specs.Ordering.{eq_by_cmp, nat_cmp, ordering_then, MatchOrdering}
+use Rattle.std.specs.declared.cmp.Ordering.{Ordering}
+use Rattle.std.proofs.lemmas.Cmp.{ranked}
 use Rattle.litmus_c.specs.declared.conditions.place.Place.{Place}
 use Rattle.litmus_c.specs.declared.conditions.place.Place.TheVariants.{Reg, Loc}
+use Rattle.litmus_c.specs.States.{Precedes}
+use Rattle.litmus_c.specs.Equality.{same_place}
 use Rattle.litmus_c.specs.contracts.conditions.place.PlaceOrd.TheImpl.{ghosts as place_order}
 use Rattle.litmus_c.specs.contracts.conditions.place.PlaceOrd.TheImpl.Laws.{total-law, matches_eq-law}
-use Rattle.litmus_c.specs.contracts.conditions.place.PlacePartialEq.TheImpl.{ghosts as place_equality}
 
 pub place_total : IsTotalOrder place_order.cmp
 place_total = total-law
 
-pub place_ties : (a b : Place) → place_equality.eq a b ≡ eq_by_cmp place_order.cmp a b
+pub place_ties : (a b : Place) → same_place a b ≡ eq_by_cmp place_order.cmp a b
 place_ties = matches_eq-law
 
-both : (a b : Bool) → (a && b) ≡ true → (a ≡ true) × (b ≡ true)
-both true b h = (refl, h)
-both false b h = cc
+below_first : (k j : ℕ) (o p : Ordering) → p ≡ nat_cmp k j → MatchOrdering p (k < j) (k ≡ j) (j < k) → ordering_then p o ≡ Less → (k < j) ⊎ ((k ≡ j) × (o ≡ Less))
+below_first k j o Less is m h = inl m
+below_first k j o Equal is m h = inr (m, h)
+below_first k j o Greater is m h = cc
 
-pub place_exact : (a b : Place) → Decides (place_equality.eq a b) (a ≡ b)
-place_exact (Reg k x) (Reg j y) =
-    let names = bytes_eq-Decides x y in
-    let threads = Decides-eqb k j in (
-      λ h. (let t = both (k == j) (bytes_eq x y) h in let e : k ≡ j = threads.0 t.0 in let n : x ≡ y = names.0 t.1 in cc),
-      λ e. (let t : (k == j) ≡ true = threads.1 (let s : k ≡ j = cc in s) in let n : bytes_eq x y ≡ true = names.1 (let s : x ≡ y = cc in s) in rw (t, n) refl),
-    )
-place_exact (Reg k x) (Loc y) = (λ h. cc, λ e. cc)
-place_exact (Loc x) (Reg k y) = (λ h. cc, λ e. cc)
-place_exact (Loc x) (Loc y) = (λ h. ap Loc ((bytes_eq-Decides x y).0 h), λ e. (bytes_eq-Decides x y).1 (let n : x ≡ y = cc in n))
+first_below : (k j : ℕ) (o p : Ordering) → p ≡ nat_cmp k j → MatchOrdering p (k < j) (k ≡ j) (j < k) → (k < j) ⊎ ((k ≡ j) × (o ≡ Less)) → ordering_then p o ≡ Less
+first_below k j o Less is m h = refl
+first_below k j o Equal is m h = elim h [ inl l ↦ absurd (omega (arith, l, m)) | inr e ↦ e.1 ]
+first_below k j o Greater is m h = elim h [ inl l ↦ absurd (omega (arith, l, m)) | inr e ↦ absurd (omega (arith, e.0, m)) ]
+
+pub precedes : (a b : Place) → place_order.cmp a b ≡ Less → Precedes a b
+precedes (Reg k x) (Reg j y) h = below_first k j _ _ refl (ranked k j _ refl) h
+precedes (Reg k x) (Loc y) h = tt
+precedes (Loc x) (Reg k y) h = cc
+precedes (Loc x) (Loc y) h = h
+
+pub is_less : (a b : Place) → Precedes a b → place_order.cmp a b ≡ Less
+is_less (Reg k x) (Reg j y) h = first_below k j _ _ refl (ranked k j _ refl) h
+is_less (Reg k x) (Loc y) h = refl
+is_less (Loc x) (Reg k y) h = absurd h
+is_less (Loc x) (Loc y) h = h

@@ -1,7 +1,10 @@
 pub mod Codes
 pub mod Conditions
+pub mod Equality
+pub mod Exact
 pub mod Limits
 pub mod Reads
+pub mod StateExamples
 pub mod States
 pub mod Tree
 pub mod Values

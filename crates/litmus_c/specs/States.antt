@@ -1,13 +1,15 @@
 -- Final states, and what holds in them. (herd7 manual, final conditions.)
-use Rattle.std.specs.Prelude.{◌≡◌, ℕ, List, [], ◌∷◌, ◌++◌, Bool, true, false, not, ◌==◌, ◌&&◌, ◌||◌, if◌then◌else◌, ◌⊎◌}
-use Rattle.std.specs.Ordering.{is_lt}
+use Rattle.std.specs.Prelude.{◌≡◌, ℕ, ◌<◌, List, [], ◌∷◌, ◌++◌, Bool, true, false, not, ◌==◌, ◌&&◌, ◌||◌, if◌then◌else◌, ◌⊎◌}
+use Rattle.std.specs.Cmp.Lexicographic.{slice_cmp}
+use Rattle.std.specs.Ordering.{nat_cmp}
+use Rattle.std.specs.declared.cmp.Ordering.TheVariants.{Less}
 use Rattle.listings.specs.Lists.{IsIn, Lists}
 use Rattle.litmus_c.specs.declared.conditions.place.Binding.{Binding}
 use Rattle.litmus_c.specs.declared.conditions.condition.Kind.{Kind}
 use Rattle.litmus_c.specs.declared.conditions.condition.Kind.TheVariants.{Exists, NotExists, Forall}
 use Rattle.litmus_c.specs.declared.conditions.place.Place.{Place}
-use Rattle.litmus_c.specs.contracts.conditions.place.PlaceOrd.TheImpl.{ghosts as place_order}
-use Rattle.litmus_c.specs.contracts.conditions.place.PlacePartialEq.TheImpl.{ghosts as place_equality}
+use Rattle.litmus_c.specs.declared.conditions.place.Place.TheVariants.{Reg, Loc}
+use Rattle.litmus_c.specs.Equality.{same_place}
 use Rattle.litmus_c.specs.Conditions.{Formula, truth, falsehood, equals, negation, conjunction, disjunction, implication, Condition}
 
 -- each place with the value at its index
@@ -19,7 +21,7 @@ bindings (p ∷ places) (v ∷ values) = record { place = p; value = v } ∷ bin
 -- the value of a place; a place that the state doesn't list has 0
 abbrev pub value_at : List Binding → Place → ℕ
 value_at [] place = 0
-value_at (b ∷ state) place = if place_equality.eq b.place place then b.value else value_at state place
+value_at (b ∷ state) place = if same_place b.place place then b.value else value_at state place
 
 -- whether the proposition holds in the state
 abbrev pub holds_in : List Binding → Formula → Bool
@@ -57,11 +59,22 @@ mentioned (conjunction a b) = mentioned a ++ mentioned b
 mentioned (disjunction a b) = mentioned a ++ mentioned b
 mentioned (implication a b) = mentioned a ++ mentioned b
 
--- each place stands before the next: registers by thread and then name, then locations by name
+-- a name comes before another, by their bytes
+abbrev pub ComesBefore : List ℕ → List ℕ → Type 0
+ComesBefore x y = slice_cmp nat_cmp x y ≡ Less
+
+-- registers by thread and then name, then locations by name
+abbrev pub Precedes : Place → Place → Type 0
+Precedes (Reg k x) (Reg j y) = (k < j) ⊎ ((k ≡ j) × ComesBefore x y)
+Precedes (Reg k x) (Loc y) = Unit {0}
+Precedes (Loc x) (Reg k y) = ⊥
+Precedes (Loc x) (Loc y) = ComesBefore x y
+
+-- each place precedes the next
 abbrev pub AreInOrder : List Place → Type 0
 AreInOrder [] = Unit {0}
 AreInOrder (p ∷ []) = Unit {0}
-AreInOrder (p ∷ q ∷ rest) = (is_lt (place_order.cmp p q) ≡ true) × AreInOrder (q ∷ rest)
+AreInOrder (p ∷ q ∷ rest) = Precedes p q × AreInOrder (q ∷ rest)
 
 -- The observed places: those of the condition and those that are listed, once each, in order.
 pub record AreObserved (condition : Condition) (listed places : List Place) : Type 0 where

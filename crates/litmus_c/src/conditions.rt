@@ -1,10 +1,13 @@
 //! The condition of a test: places, propositions and final states.
 
 mod condition;
+pub mod laws;
 mod observing;
 mod place;
 mod prop;
 mod state;
+#[cfg(test)]
+mod tests;
 
 pub use condition::{Cond, Kind};
 pub use observing::observed;

@@ -1,9 +1,10 @@
 //! The condition of a test.
 
-ghost use Rattle.std.specs.Prelude.{◌≡◌};
+ghost use Rattle.std.specs.Prelude.{◌≡◌, IfOk};
 ghost use Rattle.litmus_c.specs.Conditions.{formula_of};
 
 use crate::conditions::prop::Prop;
+use std::alloc::AllocError;
 use std::marker::Model;
 
 /// What is asked of the final states of the allowed executions.
@@ -35,6 +36,30 @@ impl Model for Cond {
     ghost view = { λ c. record { kind = c.kind; formula = formula_of c.prop } };
 }
 
+impl PartialEq for Cond {
+    ghost use Rattle.std.specs.Prelude.{◌≡◌, ◌↔◌, IsTrue};
+    ghost use Rattle.std.specs.Cmp.{partial_equiv_from_equiv};
+    ghost use Rattle.litmus_c.specs.Equality.{same_condition};
+    ghost use Rattle.litmus_c.specs.Exact.{condition_equivalence};
+
+    ghost eq = { same_condition };
+
+    ghost laws = { partial_equiv_from_equiv condition_equivalence };
+
+    fn eq(&self, other: &Cond) -> bool
+        ensures value { result ≡ same_condition self.now other.now }
+        ensures exact { IsTrue result ↔ (self.now ≡ other.now) }
+    {
+        self.kind == other.kind && self.prop == other.prop
+    }
+}
+
+impl Eq for Cond {
+    ghost use Rattle.litmus_c.specs.Exact.{condition_equivalence};
+
+    ghost laws = { condition_equivalence };
+}
+
 impl Cond {
     /// The question of this kind on this proposition.
     pub fn new(kind: Kind, prop: Prop) -> Self
@@ -55,5 +80,12 @@ impl Cond {
         ensures { formula_of result.now ≡ self.now.formula }
     {
         &self.prop
+    }
+
+    /// A second condition that is equal.
+    pub fn copy(&self) -> Result<Cond, AllocError>
+        ensures { IfOk result (λ c. c ≡ self.now) }
+    {
+        Ok(Cond::new(self.kind, self.prop.copy()?))
     }
 }
