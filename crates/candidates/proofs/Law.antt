@@ -1,5 +1,5 @@
 -- Each execution of a test stands at exactly one number below its size.
-use Rattle.std.proofs.Common.{◌≡◌, ℕ, ◌≤◌, ◌⊎◌, List, [], ◌∷◌, length, map, refl, sym, ◌∙◌, ap, subst, inl, inr, arith, Bool, true, false, ◌==◌, ◌&&◌, Option, None, Some}
+use Rattle.std.proofs.Common.{◌≡◌, ℕ, ◌≤◌, ◌<◌, ◌⊎◌, List, [], ◌∷◌, length, map, refl, sym, ◌∙◌, ap, subst, inl, inr, arith, Bool, true, false, ◌==◌, ◌&&◌, Option, None, Some}
 use Rattle.std.specs.Prelude.{IfSome}
 use Rattle.std.proofs.lemmas.List.{length-map}
 use Rattle.std.proofs.lemmas.Bool.{eqb-true, eq-eqb, false≢true}
@@ -50,6 +50,9 @@ from_choice t [] [] h = tt
 from_choice t [] (run ∷ runs) h = h
 from_choice t (k ∷ threads) [] h = h
 from_choice t (k ∷ threads) (run ∷ runs) h = ((lists_runs_of t k).all run h.0, from_choice t threads runs h.1)
+
+pub choice_is : (t : Litmus) (i : ℕ) → i < count_choices (choices_of t).threads → IsChoice t (choice (choices_of t).threads i)
+choice_is t i l = to_choice t (upto (length t.threads)) (choice (choices_of t).threads i) ((choices_numbered t).only i l)
 
 pub lists_choices : (t : Litmus) → Lists (IsChoice t) (choices (choices_of t).threads)
 lists_choices t = listed (mapped (λ c. c) (choices_numbered t) (λ c h. to_choice t (upto (length t.threads)) c h) (λ c h. (c, from_choice t (upto (length t.threads)) c h, refl)) (λ a b p q e. e))
@@ -147,7 +150,7 @@ readable init runs (r ∷ rs) (w ∷ ws) f =
 abbrev pub OfTest : Litmus → Execution → Type 0
 OfTest t x = OfSome (IsCandidate (initial_values t)) (choices (choices_of t).threads) x
 
-as_many : (t : Litmus) → length (initial_values t) ≡ length t.locations
+pub as_many : (t : Litmus) → length (initial_values t) ≡ length t.locations
 as_many t = simp length-map
 
 to_execution : (t : Litmus) (x : Execution) → OfTest t x → is_consistent x ≡ true → IsExecution t x
@@ -182,10 +185,10 @@ test : (b : Bool) → (b ≡ true) ⊎ (b ≡ false)
 test true = inl refl
 test false = inr refl
 
-shown : (s : Choices) (i : ℕ) → is_consistent (candidate_at s i) ≡ true → graph_at s i ≡ Some (candidate_at s i)
+pub shown : (s : Choices) (i : ℕ) → is_consistent (candidate_at s i) ≡ true → graph_at s i ≡ Some (candidate_at s i)
 shown s i h = rw h refl
 
-hidden : (s : Choices) (i : ℕ) → is_consistent (candidate_at s i) ≡ false → graph_at s i ≡ None
+pub hidden : (s : Choices) (i : ℕ) → is_consistent (candidate_at s i) ≡ false → graph_at s i ≡ None
 hidden s i h = rw h refl
 
 some_same : {X : Type 0} (x y : X) → Some x ≡ Some y → x ≡ y

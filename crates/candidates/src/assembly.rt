@@ -1,6 +1,6 @@
 //! The candidate with this number among those with the same runs.
 
-ghost use Rattle.std.specs.Prelude.{◌≡◌, ◌++◌, ◌<◌, ◌≤◌, ◌*◌, ◌∷◌, ℕ, length, filter, true, false, IfOk, OnOk, MatchOption};
+ghost use Rattle.std.specs.Prelude.{◌≡◌, ◌++◌, ◌<◌, ◌≤◌, ◌*◌, ◌/◌, ◌%◌, ◌∷◌, ℕ, length, filter, true, false, IfOk, OnOk, MatchOption};
 ghost use Rattle.events.specs.declared.event.EventId.TheVariants.{Initial};
 ghost use Rattle.events.specs.Executions.{is_read};
 ghost use Rattle.listings.specs.Lists.{product_by};
@@ -108,6 +108,31 @@ fn write_value(init: &[u32], runs: &[Run], write: EventId) -> u32
     }
 }
 
+/// What a read reads from, and the number that is left for the reads after it.
+#[derive(Clone, Copy)]
+struct Pick {
+    source: EventId,
+    rest: u64,
+}
+
+/// What the read reads from, with this number.
+fn pick_source(
+    alloc: Global,
+    runs: &[Run],
+    read: &Event,
+    number: u64,
+) -> Result<Pick, AllocError>
+    ensures source { IfOk result (λ p. p.source ≡ source_at runs.now read.now (number % count_sources runs.now read.now)) }
+    ensures rest { IfOk result (λ p. p.rest ≡ number / count_sources runs.now read.now) }
+{
+    let sources = sources(alloc, runs, read.loc)?;
+    let count = sources.len() as u64;
+    Ok(Pick {
+        source: sources[(number % count) as usize],
+        rest: number / count,
+    })
+}
+
 /// What each read reads from, with this number, where each has the value of what it reads from.
 fn read_from(
     alloc: Global,
@@ -122,14 +147,12 @@ fn read_from(
     let mut rf = Vec::new(alloc);
     let mut rest = number;
     for read in reads {
-        let sources = sources(alloc, runs, read.loc)?;
-        let count = sources.len() as u64;
-        let source = sources[(rest % count) as usize];
-        if write_value(init, runs, source) != read.value {
+        let pick = pick_source(alloc, runs, read, rest)?;
+        if write_value(init, runs, pick.source) != read.value {
             return Ok(None);
         }
-        rf.push(source)?;
-        rest /= count;
+        rf.push(pick.source)?;
+        rest = pick.rest;
     }
     Ok(Some(rf))
 }

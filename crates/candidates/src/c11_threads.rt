@@ -1,8 +1,9 @@
 //! The runs of a thread of C11 atomics.
 
-ghost use Rattle.std.specs.Prelude.{◌≡◌, ◌++◌, ◌<◌, ◌≤◌, ◌∷◌, [], length, map, IfOk, IfErr, OnOk, Some, slice_index_or, slice_set};
+ghost use Rattle.std.specs.Prelude.{◌≡◌, ◌++◌, ◌<◌, ◌≤◌, ◌∷◌, [], length, map, IfOk, IfErr, OnOk, None, Some, slice_index_or, slice_set};
 ghost use Rattle.listings.specs.Lists.{Lists};
 ghost use Rattle.litmus_c.specs.States.{value_at};
+ghost use Rattle.litmus_c.specs.Values.{values_of};
 ghost use Rattle.litmus_c.specs.Tree.{action_of, right_of, declared_of, step_of};
 ghost use Rattle.candidates.specs.Runs.{IsRun, place_of, read, write, initial_registers, thread_of};
 ghost use Rattle.candidates.specs.Candidates.{followed, extended, runs_in_turn, given, giving, load_runs, store_runs, call_runs, right_runs, declare_runs, step_runs, setting_of, runs_of};
@@ -31,10 +32,6 @@ impl<'a> Model for Setting<'a> {
     ghost Value = { InThread };
 
     ghost view = { λ s. record { thread = s.thread; locations = s.locations.now; registers = s.registers.now; values = s.values.now } };
-
-    ghost use Rattle.std.specs.Prelude.{◌≤◌, length};
-
-    ghost invariant = { λ s. 1 ≤ length s.values.now };
 }
 
 /// The first place of a name.
@@ -80,6 +77,20 @@ fn clear(runs: &mut [Run], register: usize)
 }
 
 impl Setting<'_> {
+    /// The number of a location.
+    fn location(&self, name: &Name) -> usize
+        ensures { result ≡ place_of name.now self.now.locations }
+    {
+        place_of(self.locations, name)
+    }
+
+    /// The number of a register.
+    fn register(&self, name: &Name) -> usize
+        ensures { result ≡ place_of name.now self.now.registers }
+    {
+        place_of(self.registers, name)
+    }
+
     /// A second run like this one, which then reads the value.
     fn read(
         &self,
@@ -186,11 +197,11 @@ impl Setting<'_> {
     {
         match call {
             Call::Load(location, order) => {
-                let loc = place_of(self.locations, location);
+                let loc = self.location(location);
                 *runs = self.load(alloc, runs.as_slice(), loc, *order, register)?;
             }
             Call::Store(location, Expression::Number(value), order) => {
-                let loc = place_of(self.locations, location);
+                let loc = self.location(location);
                 self.store(runs.as_mut_slice(), loc, *value, *order, register)?;
             }
         }
@@ -210,7 +221,7 @@ impl Setting<'_> {
         ensures within { OnOk result (length runs.new.items ≤ 4096) }
         ensures fault { IfErr result (IsFaultAt self.now.thread (length (extended (right_runs self.now (right_of right.now) (Some (place_of register.now self.now.registers))) runs.old.items))) }
     {
-        let register = place_of(self.registers, register);
+        let register = self.register(register);
         match right {
             RightSide::Call(call) => self.call(alloc, runs, call, Some(register)),
         }
@@ -231,7 +242,7 @@ impl Setting<'_> {
         match &declarator.value {
             Some(right) => self.assign(alloc, runs, right, &declarator.register),
             None => {
-                let register = place_of(self.registers, &declarator.register);
+                let register = self.register(&declarator.register);
                 clear(runs.as_mut_slice(), register);
                 Ok(())
             }
@@ -245,7 +256,8 @@ impl Setting<'_> {
         runs: &mut Vec<Run>,
         declarators: &[Declarator],
     ) -> Result<(), RunFault>
-        requires { length runs.old.items ≤ 4096 }
+        requires values { 1 ≤ length self.now.values }
+        requires few { length runs.old.items ≤ 4096 }
         ensures done { OnOk result (runs.new.items ≡ extended (runs_in_turn (declare_runs self.now) (map declared_of declarators.now)) runs.old.items) }
         ensures within { OnOk result (length runs.new.items ≤ 4096) }
         ensures fault { IfErr result (IsFaultAt self.now.thread (length (extended (runs_in_turn (declare_runs self.now) (map declared_of declarators.now)) runs.old.items))) }
@@ -263,7 +275,8 @@ impl Setting<'_> {
         runs: &mut Vec<Run>,
         statement: &Statement,
     ) -> Result<(), RunFault>
-        requires { length runs.old.items ≤ 4096 }
+        requires values { 1 ≤ length self.now.values }
+        requires few { length runs.old.items ≤ 4096 }
         ensures done { OnOk result (runs.new.items ≡ extended (step_runs self.now (step_of statement.now)) runs.old.items) }
         ensures within { OnOk result (length runs.new.items ≤ 4096) }
         ensures fault { IfErr result (IsFaultAt self.now.thread (length (extended (step_runs self.now (step_of statement.now)) runs.old.items))) }
@@ -285,7 +298,8 @@ impl Setting<'_> {
         runs: &mut Vec<Run>,
         statements: &[Statement],
     ) -> Result<(), RunFault>
-        requires { length runs.old.items ≤ 4096 }
+        requires values { 1 ≤ length self.now.values }
+        requires few { length runs.old.items ≤ 4096 }
         ensures done { OnOk result (runs.new.items ≡ extended (runs_in_turn (step_runs self.now) (map step_of statements.now)) runs.old.items) }
         ensures within { OnOk result (length runs.new.items ≤ 4096) }
         ensures fault { IfErr result (IsFaultAt self.now.thread (length (extended (runs_in_turn (step_runs self.now) (map step_of statements.now)) runs.old.items))) }
@@ -310,6 +324,37 @@ fn initial_registers(alloc: Global, test: &Test, thread: usize) -> Result<Vec<u3
     Ok(registers)
 }
 
+/// What the statements of a thread stand in.
+fn within<'a>(test: &'a Test, thread: usize, values: &'a [u32]) -> Setting<'a>
+    requires thread { thread < length test.now.threads }
+    requires values { values.now ≡ values_of test.now }
+    ensures { result ≡ setting_of test.entry.now thread }
+{
+    Setting {
+        thread,
+        locations: test.locations(),
+        registers: test.threads()[thread].registers(),
+        values,
+    }
+}
+
+/// The statements of a thread.
+fn statements(test: &Test, thread: usize) -> &[Statement]
+    requires { thread < length test.now.threads }
+    ensures { map step_of result.now ≡ (thread_of test.now thread).steps }
+{
+    test.threads()[thread].statements()
+}
+
+/// The one run of no statement.
+fn start(alloc: Global, test: &Test, thread: usize) -> Result<Vec<Run>, AllocError>
+    requires { thread < length test.now.threads }
+    ensures { IfOk result (λ v. v.items ≡ giving [] None (initial_registers test.now thread) 0 ∷ []) }
+{
+    let first = Run::new(Vec::new(alloc), initial_registers(alloc, test, thread)?);
+    Ok(vec![in alloc; first]?)
+}
+
 /// The runs of a thread, each once. A run that reads a lower value first stands before the others.
 pub fn runs(alloc: Global, test: &Test, thread: usize) -> Result<Vec<Run>, RunFault>
     requires { thread < length test.now.threads }
@@ -319,15 +364,8 @@ pub fn runs(alloc: Global, test: &Test, thread: usize) -> Result<Vec<Run>, RunFa
     ensures fault { IfErr result (IsRunFault test.now thread) }
 {
     let values = test.values(alloc)?;
-    let program = &test.threads()[thread];
-    let setting = Setting {
-        thread,
-        locations: test.locations(),
-        registers: program.registers(),
-        values: &values,
-    };
-    let first = Run::new(Vec::new(alloc), initial_registers(alloc, test, thread)?);
-    let mut runs = vec![in alloc; first]?;
-    setting.perform_all(alloc, &mut runs, program.statements())?;
+    let setting = within(test, thread, &values);
+    let mut runs = start(alloc, test, thread)?;
+    setting.perform_all(alloc, &mut runs, statements(test, thread))?;
     Ok(runs)
 }

@@ -22,7 +22,7 @@ pub(crate) fn capped_power(base: u64, exponent: usize) -> Option<u64>
     ensures { IsCapped MOST_CANDIDATES (base ^ exponent) result }
 {
     let mut power = 1;
-    for _ in 0..exponent {
+    for _taken in 0..exponent {
         power = capped_product(power, base)?;
     }
     Some(power)

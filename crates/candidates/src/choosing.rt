@@ -1,7 +1,7 @@
 //! Choices of one run of each thread, and how many candidates have the runs of a choice.
 
-ghost use Rattle.std.specs.Prelude.{◌≡◌, ◌++◌, ◌<◌, ◌≤◌, ◌+◌, ◌*◌, ℕ, List, length, map, count_by, IfOk, MatchOption};
-ghost use Rattle.listings.specs.Lists.{IsIn, sum_of};
+ghost use Rattle.std.specs.Prelude.{◌≡◌, ◌++◌, ◌<◌, ◌≤◌, ◌+◌, ◌*◌, ◌^◌, ℕ, List, length, map, count_by, sum_by, IfOk, MatchOption};
+ghost use Rattle.listings.specs.Lists.{IsIn, sum_of, factorial};
 ghost use Rattle.events.specs.Executions.{ThreadRun, writes_to};
 ghost use Rattle.candidates.specs.Executions.{block};
 ghost use Rattle.candidates.specs.Candidates.{IsCapped, choice, choices, count_choices, candidate, Choices, candidate_at};
@@ -73,8 +73,8 @@ fn count(events: &[Event], location: usize) -> Counts
 fn count_chosen(threads: &[RunList], number: u64, location: usize) -> Counts
     requires number { number < count_choices threads.now }
     requires few { event_count (choice threads.now number) ≤ 64 }
-    ensures reads { result.reads ≡ sum_of (λ run. count_by (reads_from location) run.events) (choice threads.now number) }
-    ensures writes { result.writes ≡ sum_of (λ run. count_by (writes_to location) run.events) (choice threads.now number) }
+    ensures reads { result.reads ≡ sum_by (λ run. count_by (reads_from location) run.events) (choice threads.now number) }
+    ensures writes { result.writes ≡ sum_by (λ run. count_by (writes_to location) run.events) (choice threads.now number) }
 {
     let mut reads: usize = 0;
     let mut writes: usize = 0;
@@ -90,6 +90,17 @@ fn count_chosen(threads: &[RunList], number: u64, location: usize) -> Counts
     Counts { reads, writes }
 }
 
+/// How many ways there are to read from a location that is read and written this often, times how many
+/// orders of the writes, if that is at most the limit.
+fn ways(counts: Counts) -> Option<u64>
+    requires { counts.writes ≤ 64 }
+    ensures { IsCapped MOST_CANDIDATES ((counts.writes + 1) ^ counts.reads * factorial counts.writes) result }
+{
+    let ways = capped_power(counts.writes as u64 + 1, counts.reads)?;
+    let orders = capped_factorial(counts.writes)?;
+    capped_product(ways, orders)
+}
+
 /// How many candidates have the runs of the choice with this number, if that is at most the limit.
 pub(crate) fn block(threads: &[RunList], locations: usize, number: u64) -> Option<u64>
     requires number { number < count_choices threads.now }
@@ -98,10 +109,8 @@ pub(crate) fn block(threads: &[RunList], locations: usize, number: u64) -> Optio
 {
     let mut product = 1;
     for location in 0..locations {
-        let counts = count_chosen(threads, number, location);
-        let ways = capped_power(counts.writes as u64 + 1, counts.reads)?;
-        let orders = capped_factorial(counts.writes)?;
-        product = capped_product(product, capped_product(ways, orders)?)?;
+        let ways = ways(count_chosen(threads, number, location))?;
+        product = capped_product(product, ways)?;
     }
     Some(product)
 }

@@ -3,13 +3,16 @@
 ghost use Rattle.std.specs.Prelude.{◌≡◌, ◌<◌, ◌≤◌, ◌^◌, ℕ, List, length, map, IfOk, MatchResult, IfErr};
 ghost use Rattle.candidates.specs.Runs.{initial_values};
 ghost use Rattle.candidates.specs.Executions.{IsSize, upto};
-ghost use Rattle.candidates.specs.Candidates.{choices_of, runs_of, size_of, graph_at};
-ghost use Rattle.candidates.specs.Faults.{IsSpaceFault};
+ghost use Rattle.candidates.specs.Candidates.{choice, count_choices, choices_of, runs_of, size_of, graph_at};
+ghost use Rattle.candidates.specs.Faults.{HaveFewRuns, IsSpaceFault};
+ghost use Rattle.candidates.specs.Bounds.{AreWithin};
+ghost use Rattle.events.specs.Executions.{ThreadRun};
+ghost use Rattle.listings.specs.Lists.{IsIn};
 
 use crate::assembly::assemble;
 use crate::c11_threads::{initial_value, runs};
 use crate::choosing::{RunList, choice, count_choices, locate, total};
-use crate::fault::SpaceFault;
+use crate::fault::{MOST_CANDIDATES, SpaceFault};
 use events::Graph;
 use litmus_c::Test;
 use litmus_c::conditions::Place;
@@ -53,6 +56,9 @@ fn initial_values(alloc: Global, test: &Test) -> Result<Vec<u32>, AllocError>
 /// The runs of each thread of a test.
 fn all_runs(alloc: Global, test: &Test) -> Result<Vec<RunList>, SpaceFault>
     ensures lists { IfOk result (λ v. v.items ≡ map (runs_of test.now) (upto (length test.now.threads))) }
+    ensures few { IfOk result (λ _. HaveFewRuns test.now) }
+    ensures some { IfOk result (λ v. (runs : List ThreadRun) → IsIn runs v.items → 1 ≤ length runs) }
+    ensures within { IfOk result (λ v. (i : ℕ) → i < count_choices v.items → AreWithin (length test.now.locations) (choice v.items i)) }
     ensures fault { IfErr result (IsSpaceFault test.now) }
 {
     let mut lists = Vec::new(alloc);
@@ -60,6 +66,25 @@ fn all_runs(alloc: Global, test: &Test) -> Result<Vec<RunList>, SpaceFault>
         lists.push(RunList::new(runs(alloc, test, thread)?))?;
     }
     Ok(lists)
+}
+
+/// The candidate with this number, where it is an execution.
+fn numbered(
+    alloc: Global,
+    threads: &[RunList],
+    init: &[u32],
+    choices: u64,
+    number: u64,
+) -> Result<Option<Graph>, AllocError>
+    requires choices { choices ≡ count_choices threads.now }
+    requires within { (i : ℕ) → i < count_choices threads.now → AreWithin (length init.now) (choice threads.now i) }
+    requires size { size_of (record { init = init.now; threads = threads.now }) ≤ MOST_CANDIDATES }
+    requires number { number < size_of (record { init = init.now; threads = threads.now }) }
+    ensures { IfOk result (λ g. g ≡ graph_at (record { init = init.now; threads = threads.now }) number) }
+{
+    let position = locate(threads, init, choices, number);
+    let runs = choice(alloc, threads, position.choice)?;
+    assemble(alloc, init, runs, position.rest)
 }
 
 impl Space {
@@ -74,8 +99,12 @@ impl Space {
     {
         let threads = all_runs(alloc, test)?;
         let init = initial_values(alloc, test)?;
-        let choices = count_choices(&threads).ok_or(SpaceFault::TooManyCandidates)?;
-        let size = total(&threads, init.len(), choices).ok_or(SpaceFault::TooManyCandidates)?;
+        let Some(choices) = count_choices(&threads) else {
+            return Err(SpaceFault::TooManyCandidates);
+        };
+        let Some(size) = total(&threads, init.len(), choices) else {
+            return Err(SpaceFault::TooManyCandidates);
+        };
         Ok(Space {
             init,
             threads,
@@ -97,8 +126,6 @@ impl Space {
         requires { number < size_of self.now }
         ensures { IfOk result (λ g. g ≡ graph_at self.now number) }
     {
-        let position = locate(&self.threads, &self.init, self.choices, number);
-        let runs = choice(alloc, &self.threads, position.choice)?;
-        assemble(alloc, &self.init, runs, position.rest)
+        numbered(alloc, &self.threads, &self.init, self.choices, number)
     }
 }

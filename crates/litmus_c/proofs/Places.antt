@@ -1,13 +1,12 @@
 -- The order of places: as specs/ has it, total, and with ties exactly at equal places.
-use Rattle.std.proofs.Common.{◌≡◌, ◌∙◌, ℕ, ◌<◌, ◌⊎◌, inl, inr, Less, Equal, Greater, refl, sym, ap, arith}
+use Rattle.std.proofs.Common.{◌≡◌, ℕ, ◌<◌, ◌⊎◌, inl, inr, Less, Equal, Greater, refl, arith}
 use Rattle.std.specs.Cmp.{IsTotalOrder}
-use Rattle.std.specs.Cmp.Lexicographic.{slice_cmp}
 use Rattle.std.specs.Ordering.{eq_by_cmp, nat_cmp, ordering_then, MatchOrdering}
 use Rattle.std.specs.declared.cmp.Ordering.{Ordering}
-use Rattle.std.proofs.lemmas.Cmp.{by_ranked, ranked, nat_cmp_total, tied_itself}
+use Rattle.std.proofs.lemmas.Cmp.{ranked}
 use Rattle.litmus_c.specs.declared.conditions.place.Place.{Place}
 use Rattle.litmus_c.specs.declared.conditions.place.Place.TheVariants.{Reg, Loc}
-use Rattle.litmus_c.specs.States.{ComesBefore, Precedes}
+use Rattle.litmus_c.specs.States.{Precedes}
 use Rattle.litmus_c.specs.Equality.{same_place}
 use Rattle.litmus_c.specs.contracts.conditions.place.PlaceOrd.TheImpl.{ghosts as place_order}
 use Rattle.litmus_c.specs.contracts.conditions.place.PlaceOrd.TheImpl.Laws.{total-law, matches_eq-law}

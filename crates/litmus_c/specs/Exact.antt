@@ -1,9 +1,8 @@
 -- Each test of equality is true exactly of equal values, and so is an equivalence.
-use Rattle.std.specs.Prelude.{◌≡◌, ℕ, ◌==◌, ◌&&◌, Bool, true, false, refl}
+use Rattle.std.specs.Prelude.{◌≡◌, ℕ, ◌&&◌, Bool, true, false, refl}
 use Rattle.std.proofs.Common.{◌∙◌, sym, ap}
 use Rattle.std.specs.Bool.{Decides, one_answer}
-use Rattle.std.specs.Cmp.{IsEquivalence, IsPartialEquivalence}
-use Rattle.std.specs.Str.{bytes_eq}
+use Rattle.std.specs.Cmp.{IsEquivalence}
 use Rattle.std.proofs.lemmas.Bool.Decides.{Decides-eqb}
 use Rattle.std.proofs.lemmas.Slice.Eq.{bytes_eq-Decides}
 use Rattle.litmus_c.specs.Conditions.{Formula, truth, falsehood, equals, negation, conjunction, disjunction, implication, Condition, formula_of}

@@ -6,6 +6,8 @@ mod observing;
 mod place;
 mod prop;
 mod state;
+#[cfg(test)]
+mod tests;
 
 pub use condition::{Cond, Kind};
 pub use observing::observed;

@@ -1,8 +1,9 @@
 //! What holds of final states and of the observed places.
 
-ghost use Rattle.std.specs.Prelude.{◌≡◌, ℕ, List, map};
+ghost use Rattle.std.specs.Prelude.{◌≡◌, ◌↔◌, ℕ, IsTrue, List, map};
 ghost use Rattle.listings.specs.Lists.{IsIn, NoRepeats};
 ghost use Rattle.litmus_c.specs.Conditions.{Formula, Condition};
+ghost use Rattle.litmus_c.specs.Equality.{same_place, same_binding, same_formula, same_condition};
 ghost use Rattle.litmus_c.specs.States.{bindings, value_at, holds_in, Mentions, AreObserved};
 ghost use Rattle.litmus_c.specs.declared.conditions.place.Binding.{Binding};
 ghost use Rattle.litmus_c.specs.declared.conditions.place.Place.{Place};
@@ -31,4 +32,12 @@ pub fn bound_values()
 /// States that give the places of a proposition the same values agree on it.
 pub fn same_values()
     ensures { (a : Formula) (s t : List Binding) → ((p : Place) → Mentions a p → value_at s p ≡ value_at t p) → holds_in s a ≡ holds_in t a }
+{}
+
+/// The tests of equality are true exactly of equal values.
+pub fn exact_equality()
+    ensures places { (a b : Place) → IsTrue (same_place a b) ↔ (a ≡ b) }
+    ensures bindings { (a b : Binding) → IsTrue (same_binding a b) ↔ (a ≡ b) }
+    ensures formulas { (a b : Formula) → IsTrue (same_formula a b) ↔ (a ≡ b) }
+    ensures conditions { (a b : Condition) → IsTrue (same_condition a b) ↔ (a ≡ b) }
 {}

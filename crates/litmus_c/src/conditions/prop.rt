@@ -56,6 +56,7 @@ impl Eq for Prop {
 
 impl Prop {
     /// A second proposition that is equal. Each box is made where its first lies.
+    #[cycle(copying)]
     pub fn copy(&self) -> Result<Prop, AllocError>
         ensures { IfOk result (λ p. formula_of p ≡ formula_of self.now) }
     {
@@ -63,26 +64,20 @@ impl Prop {
             Prop::True => Ok(Prop::True),
             Prop::False => Ok(Prop::False),
             Prop::Equals(place, value) => Ok(Prop::Equals(place.copy()?, *value)),
-            Prop::Not(a) => Ok(Prop::Not(boxed_beside(a, a.copy()?)?)),
-            Prop::And(a, b) => Ok(Prop::And(
-                boxed_beside(a, a.copy()?)?,
-                boxed_beside(b, b.copy()?)?,
-            )),
-            Prop::Or(a, b) => Ok(Prop::Or(
-                boxed_beside(a, a.copy()?)?,
-                boxed_beside(b, b.copy()?)?,
-            )),
-            Prop::Implies(a, b) => Ok(Prop::Implies(
-                boxed_beside(a, a.copy()?)?,
-                boxed_beside(b, b.copy()?)?,
-            )),
+            Prop::Not(a) => Ok(Prop::Not(boxed_copy(a)?)),
+            Prop::And(a, b) => Ok(Prop::And(boxed_copy(a)?, boxed_copy(b)?)),
+            Prop::Or(a, b) => Ok(Prop::Or(boxed_copy(a)?, boxed_copy(b)?)),
+            Prop::Implies(a, b) => Ok(Prop::Implies(boxed_copy(a)?, boxed_copy(b)?)),
         }
     }
 }
 
-/// A box of the value, from the allocator of the first box.
-fn boxed_beside(first: &Box<Prop>, value: Prop) -> Result<Box<Prop>, AllocError>
-    ensures { IfOk result (λ b. b.value ≡ value) }
+/// A box of an equal proposition, from the same allocator. It isn't inlined, which keeps the stack that a long chain
+/// of connectives takes small.
+#[cycle(copying)]
+#[inline(never)]
+fn boxed_copy(first: &Box<Prop>) -> Result<Box<Prop>, AllocError>
+    ensures { IfOk result (λ b. formula_of b.value ≡ formula_of first.now.value) }
 {
-    Ok(Box::new(*Box::allocator(first), value)?)
+    Ok(Box::new(*Box::allocator(first), first.copy()?)?)
 }

@@ -1,4 +1,4 @@
-use Rattle.litmus_c.proofs.Bindings.{bound_value, unbound_value}
+use Rattle.litmus_c.proofs.StateValues.{bound_value, unbound_value}
 use Rattle.litmus_c.proofs.conditions.laws.bound_values.Goals as goal
 
 pub returns : goal.returns

@@ -1,4 +1,4 @@
-use Rattle.litmus_c.proofs.Bindings.{listed_value}
+use Rattle.litmus_c.proofs.StateValues.{listed_value}
 use Rattle.litmus_c.proofs.conditions.laws.listed_values.Goals as goal
 
 pub returns : goal.returns

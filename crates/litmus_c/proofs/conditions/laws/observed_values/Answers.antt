@@ -1,4 +1,4 @@
-use Rattle.litmus_c.proofs.Bindings.{observed_answer}
+use Rattle.litmus_c.proofs.StateValues.{observed_answer}
 use Rattle.litmus_c.proofs.conditions.laws.observed_values.Goals as goal
 
 pub returns : goal.returns

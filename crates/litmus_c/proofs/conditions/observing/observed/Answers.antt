@@ -1,6 +1,6 @@
 use Rattle.std.proofs.Common.{◌≡◌, ◌++◌, refl}
 use Rattle.litmus_c.specs.States.{mentioned}
-use Rattle.litmus_c.proofs.InOrder.{observed_places}
+use Rattle.litmus_c.proofs.ObservedPlaces.{observed_places}
 use Rattle.litmus_c.proofs.conditions.observing.observed.Goals as goal
 
 pub returns : goal.returns
