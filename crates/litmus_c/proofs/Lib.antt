@@ -1,4 +1,5 @@
 pub mod Bindings
+pub mod Distinct
 pub mod InOrder
 pub mod ObservedPlaces
 pub mod Places

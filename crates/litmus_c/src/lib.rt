@@ -6,6 +6,7 @@ mod fault;
 mod reading;
 mod test;
 mod tree;
+mod values;
 
 pub use fault::TestFault;
 pub use reading::read_test;
@@ -13,3 +14,4 @@ pub use test::Test;
 pub use tree::{
     Call, Declarator, Expression, LocationKind, Parameter, RightSide, Statement, Thread,
 };
+pub use values::{ValuesFault, values_among};

@@ -1,0 +1,5 @@
+pub mod Answered
+pub mod Bindings
+pub mod Counted
+pub mod Rows
+pub mod Written

@@ -1,0 +1,21 @@
+-- The fault that stands for one of a lower layer. Want of memory is one fault, wherever it arose.
+use Rattle.wb_text.specs.declared.fault.ReadFault.{ReadFault}
+use Rattle.wb_text.specs.declared.fault.ReadFault.TheVariants as of_reading
+use Rattle.litmus_c.specs.declared.fault.TestFault.{TestFault}
+use Rattle.litmus_c.specs.declared.fault.TestFault.TheVariants as of_test
+use Rattle.candidates.specs.declared.fault.SpaceFault.{SpaceFault}
+use Rattle.candidates.specs.declared.fault.SpaceFault.TheVariants as of_space
+use Rattle.bench.specs.declared.one.OneFault.{OneFault}
+use Rattle.bench.specs.declared.one.OneFault.TheVariants.{Read, Test, Space, NoMemory}
+
+abbrev pub read_fault : ReadFault → OneFault
+read_fault of_reading.Failed = Read
+read_fault of_reading.NoMemory = NoMemory
+
+abbrev pub test_fault : TestFault → OneFault
+test_fault of_test.NoMemory = NoMemory
+test_fault f = Test f
+
+abbrev pub space_fault : SpaceFault → OneFault
+space_fault of_space.NoMemory = NoMemory
+space_fault f = Space f

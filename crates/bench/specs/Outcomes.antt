@@ -1,0 +1,23 @@
+-- What a verdict says of a test.
+use Rattle.std.specs.Prelude.{ℕ, List, Bool}
+use Rattle.litmus_c.specs.Tree.{Word}
+use Rattle.litmus_c.specs.Conditions.{Formula}
+use Rattle.litmus_c.specs.States.{answers_ok}
+use Rattle.litmus_c.specs.declared.conditions.condition.Kind.{Kind}
+use Rattle.litmus_c.specs.declared.conditions.place.Place.{Place}
+
+-- The test's name and question, the observed places, how many executions have the proposition and how many have it
+-- not, the distinct final states as values at the observed places, and the raised flags.
+pub record Outcome : Type 0 where
+  pub name : Word
+  pub kind : Kind
+  pub formula : Formula
+  pub places : List Place
+  pub positive : ℕ
+  pub negative : ℕ
+  pub states : List (List ℕ)
+  pub flags : List Word
+
+-- whether the answer to the question is yes
+abbrev pub is_ok : Outcome → Bool
+is_ok v = answers_ok v.kind v.positive v.negative

@@ -1,0 +1,138 @@
+//! From the bytes of a test to its summary.
+
+ghost use Rattle.std.specs.Prelude.{◌≡◌, [], true, Err, IfSome, IfOk, IfErr, OnOk};
+ghost use Rattle.std.specs.Io.KnownBytes.{Keeps};
+ghost use Rattle.wb_text.specs.Memory.{LosesAtMost};
+ghost use Rattle.bench.specs.Inputs.{text_of, HasOutcome, Summarizes, SummarizesPartly, IsRefusal, IsFaultOf};
+
+use crate::report::{WriteFault, write_summary};
+use crate::slices::{Verdict, evaluate};
+use candidates::SpaceFault;
+use litmus_c::{TestFault, read_test};
+use std::alloc::Global;
+use thiserror::Error;
+use wb_text::{ReadFault, Sink, Source, read_up_to};
+
+/// The most bytes of an input that are read.
+const MOST_BYTES: usize = 65_537;
+
+/// Why there is no summary, or not all of it. What it prints follows `refused`.
+#[derive(Clone, Copy, Debug, Drop, PartialEq, Eq, Error)]
+pub enum OneFault {
+    /// The reader failed.
+    #[error("96 Read")]
+    Read,
+    /// The input is no test.
+    #[error("{0}")]
+    Test(TestFault),
+    /// The test has too many runs or candidates.
+    #[error("{0}")]
+    Space(SpaceFault),
+    /// The writer failed.
+    #[error("97 Write")]
+    Write,
+    #[error("NoMemory")]
+    NoMemory,
+}
+
+/// Reads the whole input as one test and writes the summary of its executions, with the empty model in one slice.
+///
+/// The faults are tried in the order of `OneFault`.
+pub fn one<R: Source, W: Sink>(
+    alloc: Global,
+    reader: &mut R,
+    cat: &[u8],
+    total: u16,
+    writer: &mut W,
+) -> Result<(), OneFault>
+    requires empty_model { cat.now ≡ [] }
+    requires one_slice { total ≡ 1 }
+
+    // The input reads as a test, and the writer got the summary of a right verdict on it.
+    ensures summary { OnOk result (IfSome (R.left reader.old) (λ input. Summarizes (text_of input) (W.held writer.old) (W.held writer.new))) }
+    // Where the writer fails, it got a front part of that summary.
+    ensures part { result ≡ Err OneFault.Write → IfSome (R.left reader.old) (λ input. SummarizesPartly (text_of input) (W.held writer.old) (W.held writer.new)) }
+    // At every other fault it got nothing.
+    ensures nothing { IfErr result (λ e. ¬ (e ≡ OneFault.Write) → Keeps (W.held writer.old) (W.held writer.new)) }
+
+    // The test's faults and its space's come only where they stand.
+    ensures refusal { IfErr result (λ e. IfSome (R.left reader.old) (λ input. IsFaultOf (text_of input) e)) }
+    ensures read { result ≡ Err OneFault.Read → R.has_failed reader.new ≡ true }
+    ensures write { result ≡ Err OneFault.Write → W.has_failed writer.new ≡ true }
+    ensures taken { LosesAtMost 65537 (R.left reader.old) (R.left reader.new) }
+{
+    let _ = cat;
+    let _ = total;
+    let text = read_up_to(alloc, reader, MOST_BYTES)?;
+    let verdict = judge(alloc, &text)?;
+    Ok(write_summary(&verdict, writer)?)
+}
+
+/// The verdict on the test that a text is.
+fn judge(alloc: Global, text: &[u8]) -> Result<Verdict, OneFault>
+    ensures found { IfOk result (HasOutcome text.now) }
+    ensures refusal { IfErr result (IsRefusal text.now) }
+{
+    let test = read_test(alloc, text)?;
+    Ok(evaluate(alloc, test)?)
+}
+
+impl OneFault {
+    /// Whether the input is refused, as a test or by the space of its candidates.
+    pub fn is_refusal(&self) -> bool {
+        matches!(self, OneFault::Test(_) | OneFault::Space(_))
+    }
+}
+
+impl From<ReadFault> for OneFault {
+    ghost use Rattle.std.specs.Prelude.{◌≡◌};
+    ghost use Rattle.bench.specs.Faults.{read_fault};
+
+    ghost from_gives = { λ f e. e ≡ read_fault f };
+
+    fn from(fault: ReadFault) -> Self {
+        match fault {
+            ReadFault::Failed => OneFault::Read,
+            ReadFault::NoMemory => OneFault::NoMemory,
+        }
+    }
+}
+
+impl From<TestFault> for OneFault {
+    ghost use Rattle.std.specs.Prelude.{◌≡◌};
+    ghost use Rattle.bench.specs.Faults.{test_fault};
+
+    ghost from_gives = { λ f e. e ≡ test_fault f };
+
+    fn from(fault: TestFault) -> Self {
+        match fault {
+            TestFault::NoMemory => OneFault::NoMemory,
+            fault => OneFault::Test(fault),
+        }
+    }
+}
+
+impl From<SpaceFault> for OneFault {
+    ghost use Rattle.std.specs.Prelude.{◌≡◌};
+    ghost use Rattle.bench.specs.Faults.{space_fault};
+
+    ghost from_gives = { λ f e. e ≡ space_fault f };
+
+    fn from(fault: SpaceFault) -> Self {
+        match fault {
+            SpaceFault::NoMemory => OneFault::NoMemory,
+            fault => OneFault::Space(fault),
+        }
+    }
+}
+
+impl From<WriteFault> for OneFault {
+    ghost use Rattle.std.specs.Prelude.{◌≡◌};
+    ghost use Rattle.bench.specs.declared.one.OneFault.TheVariants as faults;
+
+    ghost from_gives = { λ _ e. e ≡ faults.Write };
+
+    fn from(_fault: WriteFault) -> Self {
+        OneFault::Write
+    }
+}

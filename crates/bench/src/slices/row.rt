@@ -1,0 +1,93 @@
+//! Final states as values.
+
+ghost use Rattle.std.specs.Prelude.{◌≡◌};
+
+use std::cmp::Ordering;
+use std::marker::Model;
+
+/// A final state: the values at the observed places, in their order. Contracts see the values.
+#[derive(Drop)]
+pub struct Row {
+    values: Vec<u32>,
+}
+
+impl Model for Row {
+    ghost use Rattle.std.specs.Prelude.{ℕ, List};
+
+    ghost Value = { List ℕ };
+
+    ghost view = { λ r. r.values.items };
+}
+
+impl Row {
+    /// The state of these values.
+    pub fn new(values: Vec<u32>) -> Self
+        ensures { result ≡ values.items }
+    {
+        Row { values }
+    }
+
+    /// The values.
+    pub fn values(&self) -> &[u32]
+        ensures { result.now ≡ self.now }
+    {
+        &self.values
+    }
+}
+
+impl PartialEq for Row {
+    ghost use Rattle.std.proofs.Common.{rules};
+    ghost use Rattle.std.specs.Cmp.Rules.{comparing};
+    ghost use Rattle.std.specs.Str.{bytes_eq};
+
+    ghost eq = { bytes_eq };
+
+    ghost laws = { Prim.search (comparing, rules) };
+
+    fn eq(&self, other: &Row) -> bool {
+        self.values.as_slice() == other.values.as_slice()
+    }
+}
+
+impl Eq for Row {
+    ghost use Rattle.std.proofs.Common.{rules};
+    ghost use Rattle.std.specs.Cmp.Rules.{comparing};
+
+    ghost laws = { Prim.search (comparing, rules) };
+}
+
+/// By their values as numbers, the first place first.
+impl Ord for Row {
+    ghost use Rattle.std.proofs.Common.{rules};
+    ghost use Rattle.std.specs.Cmp.Lexicographic.{slice_cmp};
+    ghost use Rattle.std.specs.Cmp.Rules.{comparing};
+    ghost use Rattle.std.specs.Ordering.{nat_cmp};
+
+    ghost cmp = { slice_cmp nat_cmp };
+
+    ghost total = { Prim.search (comparing, rules) };
+
+    ghost matches_partial_cmp = { Prim.search (comparing, rules) };
+
+    ghost matches_eq = { Prim.search (comparing, rules) };
+
+    fn cmp(&self, other: &Row) -> Ordering {
+        self.values.as_slice().cmp(other.values.as_slice())
+    }
+}
+
+impl PartialOrd for Row {
+    ghost use Rattle.std.proofs.Common.{rules};
+    ghost use Rattle.std.specs.Cmp.{partial_order_from_own_ties};
+    ghost use Rattle.std.specs.Cmp.Lexicographic.{slice_cmp};
+    ghost use Rattle.std.specs.Cmp.Rules.{comparing};
+    ghost use Rattle.std.specs.Ordering.{nat_cmp, as_partial_cmp};
+
+    ghost partial_cmp = { as_partial_cmp (slice_cmp nat_cmp) };
+
+    ghost laws = { partial_order_from_own_ties (Prim.search (comparing, rules)) (Prim.search (comparing, rules)) };
+
+    fn partial_cmp(&self, other: &Row) -> Option<Ordering> {
+        Some(self.cmp(other))
+    }
+}

@@ -1,0 +1,12 @@
+pub mod Bounding
+pub mod ByLocation
+pub mod Caps
+pub mod Law
+pub mod RunLists
+pub mod Sources
+pub mod Spaces
+pub mod Steps
+pub mod Tallies
+pub mod Turns
+pub mod Unrolling
+pub mod Writing

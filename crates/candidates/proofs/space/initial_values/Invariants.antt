@@ -1,0 +1,8 @@
+use Rattle.std.proofs.Common.{◌≡◌, ◌++◌, ◌≤◌, ◌<◌, ◌*◌, ◌+◌, ◌^◌, take, drop, length, map, ℕ, [], ◌∷◌, true, Some}
+use Rattle.litmus_c.specs.States.{value_at}
+use Rattle.litmus_c.specs.declared.conditions.place.Place.TheVariants.{Loc}
+use Rattle.candidates.specs.Runs.{initial_values}
+use Rattle.candidates.proofs.space.initial_values.Given as goal
+
+abbrev pub invariant-loop-location : goal.invariant-loop-location
+invariant-loop-location l = l.values.items ++ map (λ x. value_at l.test.initial (Loc x)) (drop l.location-index l.location-items) ≡ initial_values l.test
