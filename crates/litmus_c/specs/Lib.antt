@@ -1,6 +1,9 @@
 pub mod Codes
 pub mod Conditions
+pub mod Drafts
+pub mod Grammar
 pub mod Limits
+pub mod Reading
 pub mod Reads
 pub mod States
 pub mod Tree

@@ -2,8 +2,12 @@
 #![tactic(auto)]
 
 pub mod conditions;
+mod draft;
 mod fault;
 mod reading;
+mod symbol;
+mod syntax;
+mod syntax_fault;
 mod test;
 mod tree;
 

@@ -1,0 +1,3 @@
+pub mod Shorter
+pub mod Symbols
+pub mod Sound
