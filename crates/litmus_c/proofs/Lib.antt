@@ -1,3 +1,4 @@
 pub mod Shorter
 pub mod Symbols
 pub mod Sound
+pub mod Levels

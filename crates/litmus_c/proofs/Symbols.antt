@@ -124,4 +124,4 @@ order-ok ts rest o e =
     (x.0.0, name-ok ts x.0.1 x.0.0 x.1, order_named-is x.0.0 y.0 (required_ok syntax (order_named x.0.0) y.0 y.1))
 
 pub order-named : {w : Word} {o : Order} → IsOrder w o → order_named w ≡ Some o
-order-named order_relaxed = rw (bytes_eq-refl (codes "memory_order_relaxed"))
+order-named order_relaxed = refl

@@ -273,15 +273,15 @@ closed_step_at n ts = do
 unfoldable pub step_at : ℕ → List Symbol → Reading Step
 step_at n ts = match_option (after Semicolon ts) (closed_step_at n ts) (λ y. Ok (empty, y.1))
 
-unfoldable pub steps_more : ℕ → List Step → List Symbol → Reading (List Step)
-steps_more n ss ts = do
+unfoldable pub steps_more : ℕ → Unit {0} → List Step → List Symbol → Reading (List Step)
+steps_more n _ ss ts = do
   s ← step_at n ts
   Ok (ss ++ s.0 ∷ [], s.1)
 
 -- statements up to a brace, and the brace
 unfoldable pub block_at : ℕ → List Symbol → Reading (List Step)
 block_at n ts = do
-  x ← repeated syntax (unless RightBrace) (λ _ ss us. steps_more n ss us) [] ts
+  x ← repeated syntax (unless RightBrace) (steps_more n) [] ts
   y ← expected RightBrace x.1
   Ok (x.0, y.1)
 
@@ -304,15 +304,15 @@ thread_at n k ts = do
   ss ← block_at n z.1
   Ok (record { parameters = ps.0; steps = ss.0 }, ss.1)
 
-unfoldable pub threads_more : ℕ → List Listing → List Symbol → Reading (List Listing)
-threads_more n bs ts = do
+unfoldable pub threads_more : ℕ → Unit {0} → List Listing → List Symbol → Reading (List Listing)
+threads_more n _ bs ts = do
   b ← thread_at n (length bs) ts
   Ok (bs ++ b.0 ∷ [], b.1)
 
 unfoldable pub threads_at : ℕ → List Symbol → Reading (List Listing)
 threads_at n ts = do
-  x ← threads_more n [] ts
-  repeated syntax before_name (λ _ bs us. threads_more n bs us) x.0 x.1
+  x ← threads_more n tt [] ts
+  repeated syntax before_name (threads_more n) x.0 x.1
 
 -- conditions
 
@@ -328,15 +328,15 @@ equation_at ts = do
 unfoldable pub atomic_with : (List Symbol → Reading Formula) → List Symbol → Reading Formula
 atomic_with r ts = match_option (after LeftParen ts) (equation_at ts) (λ y. r y.1 >>= λ a. expected RightParen a.1 >>= λ z. Ok (a.0, z.1))
 
-unfoldable pub conjunction_more : (List Symbol → Reading Formula) → Formula → List Symbol → Reading Formula
-conjunction_more r a ts = do
+unfoldable pub conjunction_more : (List Symbol → Reading Formula) → Unit {0} → Formula → List Symbol → Reading Formula
+conjunction_more r _ a ts = do
   b ← atomic_with r ts
   Ok (conjunction a b.0, b.1)
 
 unfoldable pub proposition_with : (List Symbol → Reading Formula) → List Symbol → Reading Formula
 proposition_with r ts = do
   a ← atomic_with r ts
-  repeated syntax (after And) (λ _ b us. conjunction_more r b us) a.0 a.1
+  repeated syntax (after And) (conjunction_more r) a.0 a.1
 
 -- what may nest n deep
 unfoldable pub below : ℕ → List Symbol → Reading Formula

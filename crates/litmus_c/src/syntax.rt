@@ -233,7 +233,7 @@ impl<'a> Reader<'a> {
     }
 
     /// entries := [entry] {";" [entry]}
-    #[tactic(auto, unfolding(crate::specs::Reading::entries_at))]
+    #[tactic(auto, unfolding(crate::specs::Reading::entries_at), using(crate::proofs::Levels::entries_turn, crate::proofs::Levels::entries_turn_takes))]
     fn entries(&mut self) -> Result<Vec<Binding>, SyntaxFault>
         ensures { Gives (λ v. v.items) result self.new.rest.now (entries_at self.old.rest.now) }
     {
@@ -273,7 +273,7 @@ impl<'a> Reader<'a> {
     }
 
     /// parameters := parameter {"," parameter}
-    #[tactic(auto, unfolding(crate::specs::Reading::parameters_at))]
+    #[tactic(auto, unfolding(crate::specs::Reading::parameters_at), using(crate::proofs::Levels::parameters_turn, crate::proofs::Levels::parameters_turn_takes))]
     fn parameters(&mut self) -> Result<Vec<Parameter>, SyntaxFault>
         ensures { Gives (λ v. v.items) result self.new.rest.now (parameters_at self.old.rest.now) }
     {
@@ -437,7 +437,7 @@ impl<'a> Reader<'a> {
     }
 
     /// Statements up to a brace, and the brace.
-    #[tactic(auto, unfolding(crate::specs::Reading::block_at, crate::specs::Reading::unless, crate::specs::Reading::steps_more))]
+    #[tactic(auto, unfolding(crate::specs::Reading::block_at, crate::specs::Reading::unless, crate::specs::Reading::expected), using(crate::proofs::Levels::steps_turn, crate::proofs::Levels::step_takes, crate::proofs::Levels::steps_push))]
     fn block(&mut self, nesting: u32) -> Result<Vec<Statement>, SyntaxFault>
         ensures { Gives (λ v. map step_of v.items) result self.new.rest.now (block_at nesting self.old.rest.now) }
     {
@@ -479,7 +479,7 @@ impl<'a> Reader<'a> {
     }
 
     /// thread {thread}
-    #[tactic(auto, unfolding(crate::specs::Reading::threads_at, crate::specs::Reading::threads_more))]
+    #[tactic(auto, unfolding(crate::specs::Reading::threads_at, crate::specs::Reading::threads_more), using(crate::proofs::Levels::threads_turn, crate::proofs::Levels::thread_takes, crate::proofs::Levels::listings_push, crate::proofs::Levels::listings_len))]
     fn threads(&mut self, nesting: u32) -> Result<Vec<Body>, SyntaxFault>
         ensures { Gives (λ v. map listing_of v.items) result self.new.rest.now (threads_at nesting self.old.rest.now) }
     {
@@ -519,7 +519,7 @@ impl<'a> Reader<'a> {
 
     /// proposition := atomic {"/\" atomic}
     #[cycle(propositions)]
-    #[tactic(auto, unfolding(crate::specs::Reading::proposition_with, crate::specs::Reading::conjunction_more))]
+    #[tactic(auto, unfolding(crate::specs::Reading::proposition_with), using(crate::proofs::Levels::conjunction_turn, crate::proofs::Levels::atomic_takes, crate::proofs::Levels::after_takes))]
     fn proposition(&mut self, nesting: u32) -> Result<Prop, SyntaxFault>
         ensures { Gives formula_of result self.new.rest.now (proposition_with (below nesting) self.old.rest.now) }
     {

@@ -14,7 +14,7 @@ decreases-proposition l = 2 * l.nesting + 1
 
 -- what is behind the operand so far, read on, is what the level reads
 abbrev pub invariant-proposition-loop-self : goal.invariant-proposition-loop-self
-invariant-proposition-loop-self l = repeated syntax (after And) (λ _ a us. conjunction_more (below l.nesting) a us) (formula_of l.left) l.self.rest.now ≡ proposition_with (below l.nesting) l.fn.self.rest.now
+invariant-proposition-loop-self l = repeated syntax (after And) (conjunction_more (below l.nesting)) (formula_of l.left) l.self.rest.now ≡ proposition_with (below l.nesting) l.fn.self.rest.now
 
 abbrev pub decreases-proposition-loop-self : goal.decreases-proposition-loop-self
 decreases-proposition-loop-self l = length l.self.rest.now

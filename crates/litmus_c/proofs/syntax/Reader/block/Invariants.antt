@@ -8,8 +8,8 @@ use Rattle.litmus_c.proofs.syntax.Reader.block.Given as goal
 -- what is behind the statements so far, read on, is what is read
 abbrev pub invariant-loop-self : goal.invariant-loop-self
 invariant-loop-self l =
-    repeated syntax (unless RightBrace) (λ _ ss us. steps_more l.nesting ss us) (map step_of l.statements.items) l.self.rest.now ≡
-    repeated syntax (unless RightBrace) (λ _ ss us. steps_more l.nesting ss us) [] l.fn.self.rest.now
+    repeated syntax (unless RightBrace) (steps_more l.nesting) (map step_of l.statements.items) l.self.rest.now ≡
+    repeated syntax (unless RightBrace) (steps_more l.nesting) [] l.fn.self.rest.now
 
 abbrev pub decreases-loop-self : goal.decreases-loop-self
 decreases-loop-self l = length l.self.rest.now
