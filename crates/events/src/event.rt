@@ -1,7 +1,7 @@
 //! Events of a thread, and how an execution names them.
 
 ghost use Rattle.std.specs.Prelude.{◌≡◌};
-ghost use Rattle.events.specs.Executions.{is_read, writes_to};
+ghost use Rattle.events.specs.Executions.{is_read, is_write, writes_to};
 
 /// A memory order, or none.
 #[derive(Clone, Copy, Debug, PartialEq, Eq)]
@@ -53,5 +53,28 @@ impl Access {
         ensures { result ≡ is_read self }
     {
         matches!(self, Access::Read | Access::ExRead)
+    }
+
+    /// Whether it writes.
+    pub fn is_write(self) -> bool
+        ensures { result ≡ is_write self }
+    {
+        matches!(self, Access::Write | Access::ExWrite)
+    }
+}
+
+impl Event {
+    /// Whether it reads.
+    pub fn is_read(&self) -> bool
+        ensures { result ≡ is_read self.now.access }
+    {
+        self.access.is_read()
+    }
+
+    /// Whether it writes to the location.
+    pub fn writes_to(&self, location: usize) -> bool
+        ensures { result ≡ writes_to location self.now }
+    {
+        self.access.is_write() && self.loc == location
     }
 }

@@ -1,5 +1,5 @@
 -- The condition of a test as a tree. (herd7 manual, final conditions.)
-use Rattle.std.specs.Prelude.{ℕ, List}
+use Rattle.std.specs.Prelude.{ℕ}
 use Rattle.litmus_c.specs.declared.conditions.place.Place.{Place}
 use Rattle.litmus_c.specs.declared.conditions.condition.Kind.{Kind}
 use Rattle.litmus_c.specs.declared.conditions.prop.Prop.{Prop, True, False, Equals, Not', And', Or', Implies'}

@@ -1,12 +1,20 @@
 -- Final states, and what holds in them. (herd7 manual, final conditions.)
-use Rattle.std.specs.Prelude.{◌≡◌, ℕ, List, [], ◌∷◌, Bool, true, false, not, ◌==◌, ◌&&◌, ◌||◌, if◌then◌else◌, ◌⊎◌}
+use Rattle.std.specs.Prelude.{◌≡◌, ℕ, List, [], ◌∷◌, ◌++◌, Bool, true, false, not, ◌==◌, ◌&&◌, ◌||◌, if◌then◌else◌, ◌⊎◌}
 use Rattle.std.specs.Ordering.{is_lt}
 use Rattle.listings.specs.Lists.{IsIn, Lists}
 use Rattle.litmus_c.specs.declared.conditions.place.Binding.{Binding}
+use Rattle.litmus_c.specs.declared.conditions.condition.Kind.{Kind}
+use Rattle.litmus_c.specs.declared.conditions.condition.Kind.TheVariants.{Exists, NotExists, Forall}
 use Rattle.litmus_c.specs.declared.conditions.place.Place.{Place}
 use Rattle.litmus_c.specs.contracts.conditions.place.PlaceOrd.TheImpl.{ghosts as place_order}
 use Rattle.litmus_c.specs.contracts.conditions.place.PlacePartialEq.TheImpl.{ghosts as place_equality}
 use Rattle.litmus_c.specs.Conditions.{Formula, truth, falsehood, equals, negation, conjunction, disjunction, implication, Condition}
+
+-- each place with the value at its index
+abbrev pub bindings : List Place → List ℕ → List Binding
+bindings [] values = []
+bindings (p ∷ places) [] = []
+bindings (p ∷ places) (v ∷ values) = record { place = p; value = v } ∷ bindings places values
 
 -- the value of a place; a place that the state doesn't list has 0
 abbrev pub value_at : List Binding → Place → ℕ
@@ -23,6 +31,12 @@ holds_in state (conjunction a b) = holds_in state a && holds_in state b
 holds_in state (disjunction a b) = holds_in state a || holds_in state b
 holds_in state (implication a b) = not (holds_in state a) || holds_in state b
 
+-- whether the answer is Ok, by the numbers of executions that have the proposition and that have it not
+abbrev pub answers_ok : Kind → ℕ → ℕ → Bool
+answers_ok Exists positive negative = not (positive == 0)
+answers_ok NotExists positive negative = positive == 0
+answers_ok Forall positive negative = negative == 0
+
 -- the proposition speaks of the place
 abbrev pub Mentions : Formula → Place → Type 0
 Mentions truth p = ⊥
@@ -32,6 +46,16 @@ Mentions (negation a) p = Mentions a p
 Mentions (conjunction a b) p = Mentions a p ⊎ Mentions b p
 Mentions (disjunction a b) p = Mentions a p ⊎ Mentions b p
 Mentions (implication a b) p = Mentions a p ⊎ Mentions b p
+
+-- the places of a proposition from the left, as often as it speaks of them
+abbrev pub mentioned : Formula → List Place
+mentioned truth = []
+mentioned falsehood = []
+mentioned (equals place value) = place ∷ []
+mentioned (negation a) = mentioned a
+mentioned (conjunction a b) = mentioned a ++ mentioned b
+mentioned (disjunction a b) = mentioned a ++ mentioned b
+mentioned (implication a b) = mentioned a ++ mentioned b
 
 -- each place stands before the next: registers by thread and then name, then locations by name
 abbrev pub AreInOrder : List Place → Type 0

@@ -1,8 +1,9 @@
 -- The values of a test: 0, 1, and every constant of its initial state and of its programs.
-use Rattle.std.specs.Prelude.{◌≡◌, ℕ, ◌⊎◌, List, [], ◌∷◌, ◌++◌, map, Option, None, Some}
-use Rattle.std.specs.List.{flat_map}
+use Rattle.std.specs.Prelude.{◌≡◌, ℕ, ◌⊎◌, List, [], ◌∷◌, ◌++◌, map, Option, None, Some, if◌then◌else◌, ◌==◌}
+use Rattle.std.specs.List.{flat_map, list_any}
+use Rattle.litmus_c.specs.declared.conditions.place.Binding.{Binding}
 use Rattle.listings.specs.Lists.{IsIn}
-use Rattle.litmus_c.specs.Tree.{Term, number, Action, load, store, Right, value_of, Declared, Step, empty, declare, assign, perform, Program, Litmus}
+use Rattle.litmus_c.specs.Tree.{Term, number, Action, load, store, Right, value_of, Step, empty, declare, assign, perform, Program, Litmus}
 
 abbrev pub term_constants : Term → List ℕ
 term_constants (number n) = n ∷ []
@@ -27,10 +28,33 @@ step_constants (perform a) = action_constants a
 abbrev pub program_constants : Program → List ℕ
 program_constants p = flat_map step_constants p.steps
 
--- the constants of the initial state, and then those of the programs, as they stand
+-- the constants of an initial state, and then those of programs, as they stand
+abbrev pub constants_among : List Binding → List Program → List ℕ
+constants_among initial threads = map (λ b. b.value) initial ++ flat_map program_constants threads
+
 abbrev pub constants : Litmus → List ℕ
-constants t = map (λ b. b.value) t.initial ++ flat_map program_constants t.threads
+constants t = constants_among t.initial t.threads
+
+-- v is 0, 1 or a constant of an initial state or of programs
+abbrev pub IsValue : List Binding → List Program → ℕ → Type 0
+IsValue initial threads v = (v ≡ 0) ⊎ (v ≡ 1) ⊎ IsIn v (constants_among initial threads)
 
 -- v is a value of the test
 abbrev pub InDom : Litmus → ℕ → Type 0
-InDom t v = (v ≡ 0) ⊎ (v ≡ 1) ⊎ IsIn v (constants t)
+InDom t v = IsValue t.initial t.threads v
+
+-- vs, and then v where it isn't among them
+abbrev pub with_value : List ℕ → ℕ → List ℕ
+with_value vs v = if list_any (λ w. w == v) vs then vs else vs ++ v ∷ []
+
+-- vs, and then each of cs where it first stands
+abbrev pub with_values : List ℕ → List ℕ → List ℕ
+with_values vs [] = vs
+with_values vs (c ∷ cs) = with_values (with_value vs c) cs
+
+-- 0, 1, and then each constant where it first stands
+abbrev pub values_among : List Binding → List Program → List ℕ
+values_among initial threads = with_values (0 ∷ 1 ∷ []) (constants_among initial threads)
+
+abbrev pub values_of : Litmus → List ℕ
+values_of t = values_among t.initial t.threads

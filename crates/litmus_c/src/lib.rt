@@ -10,6 +10,7 @@ mod syntax;
 mod syntax_fault;
 mod test;
 mod tree;
+mod values;
 
 pub use fault::TestFault;
 pub use reading::read_test;
@@ -17,3 +18,4 @@ pub use test::Test;
 pub use tree::{
     Call, Declarator, Expression, LocationKind, Parameter, RightSide, Statement, Thread,
 };
+pub use values::{ValuesFault, values_among};

@@ -1,0 +1,4 @@
+pub mod Law
+pub mod RunLists
+pub mod Tallies
+pub mod Writing

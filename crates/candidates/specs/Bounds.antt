@@ -1,0 +1,17 @@
+-- How large the runs of a test are.
+use Rattle.std.specs.Prelude.{ℕ, ◌+◌, ◌≤◌, ◌<◌, List, length, Bool, ◌==◌, ◌&&◌, All}
+use Rattle.events.specs.declared.event.Event.{Event}
+use Rattle.events.specs.Executions.{ThreadRun, is_read}
+use Rattle.listings.specs.Lists.{sum_of}
+
+abbrev pub reads_from : ℕ → Event → Bool
+reads_from x e = is_read e.access && (e.loc == x)
+
+-- how many events the runs have
+abbrev pub event_count : List ThreadRun → ℕ
+event_count runs = sum_of (λ run. length run.events) runs
+
+-- The runs have at most 64 events with one initial write of each location, and their events are at those locations.
+pub record AreWithin (locations : ℕ) (runs : List ThreadRun) : Type 0 where
+  pub few : locations + event_count runs ≤ 64
+  pub places : All (λ run. All (λ e. e.loc < locations) run.events) runs

@@ -1,0 +1,191 @@
+-- The numbering of candidates that this crate fixes: of the runs of a thread, of the choices of runs, of rf and of co.
+use Rattle.std.specs.Prelude.{◌≡◌, ℕ, zero, suc, ◌*◌, ◌/◌, ◌%◌, ◌<◌, ◌≤◌, List, [], ◌∷◌, ◌++◌, length, map, slice_index_or, slice_set, Bool, true, if◌then◌else◌, ◌==◌, ◌&&◌, Option, None, Some, IfSome}
+use Rattle.std.specs.List.{flat_map}
+use Rattle.events.specs.declared.event.Access.TheVariants.{Read}
+use Rattle.events.specs.declared.event.Event.{Event}
+use Rattle.events.specs.declared.event.EventId.{EventId}
+use Rattle.events.specs.declared.event.EventId.TheVariants.{Initial, Own}
+use Rattle.events.specs.declared.event.Order.{Order}
+use Rattle.events.specs.declared.event.Order.TheVariants.{NoOrder}
+use Rattle.events.specs.Executions.{ThreadRun, Execution}
+use Rattle.listings.specs.Lists.{Lists, sum_of, product_by, factorial, tabulate}
+use Rattle.listings.specs.Numbered.{digits, arrange, walk}
+use Rattle.litmus_c.specs.Tree.{Word, Action, load, store, Right, value_of, Declared, Step, empty, declare, assign, perform, Litmus}
+use Rattle.litmus_c.specs.Values.{values_of}
+use Rattle.candidates.specs.Runs.{place_of, read, write, term_value, thread_of, initial_registers, initial_values}
+use Rattle.candidates.specs.Executions.{IsExecution, IsSize, reads, later_writes, upto, block}
+
+-- one run after another
+abbrev pub followed : ThreadRun → ThreadRun → ThreadRun
+followed a b = record { events = a.events ++ b.events; registers = b.registers }
+
+-- each of these runs, and then each of the runs that f gives from its registers
+abbrev pub extended : (List ℕ → List ThreadRun) → List ThreadRun → List ThreadRun
+extended f runs = flat_map (λ run. map (followed run) (f run.registers)) runs
+
+-- the runs of parts, where f gives those of each from any registers
+abbrev pub runs_in_turn : {A : Type 0} → (A → List ℕ → List ThreadRun) → List A → List ℕ → List ThreadRun
+runs_in_turn f [] registers = record { events = []; registers = registers } ∷ []
+runs_in_turn f (a ∷ rest) registers = extended (runs_in_turn f rest) (f a registers)
+
+-- What a statement stands in: the number of its thread, the names of locations and registers, and the values of the test.
+pub record Setting : Type 0 where
+  pub thread : ℕ
+  pub locations : List Word
+  pub registers : List Word
+  pub values : List ℕ
+
+-- the registers, where v is given to one of them or to none
+abbrev pub given : Option ℕ → List ℕ → ℕ → List ℕ
+given None registers v = registers
+given (Some r) registers v = slice_set registers r v
+
+-- a run of these events that gives v to a register
+abbrev pub giving : List Event → Option ℕ → List ℕ → ℕ → ThreadRun
+giving events r registers v = record { events = events; registers = given r registers v }
+
+abbrev pub load_runs : Setting → ℕ → Order → Option ℕ → List ℕ → List ThreadRun
+load_runs s x o r registers = map (λ v. giving (read s.thread x v o ∷ []) r registers v) s.values
+
+abbrev pub store_runs : Setting → ℕ → ℕ → Order → Option ℕ → List ℕ → List ThreadRun
+store_runs s x v o r registers = giving (write s.thread x v o ∷ []) r registers 0 ∷ []
+
+abbrev pub call_runs : Setting → Action → Option ℕ → List ℕ → List ThreadRun
+call_runs s (load x o) r registers = load_runs s (place_of x s.locations) o r registers
+call_runs s (store x e o) r registers = store_runs s (place_of x s.locations) (term_value e) o r registers
+
+abbrev pub right_runs : Setting → Right → Option ℕ → List ℕ → List ThreadRun
+right_runs s (value_of a) r registers = call_runs s a r registers
+
+abbrev pub declare_runs_as : Setting → Word → Option Right → List ℕ → List ThreadRun
+declare_runs_as s r None registers = giving [] (Some (place_of r s.registers)) registers 0 ∷ []
+declare_runs_as s r (Some right) registers = right_runs s right (Some (place_of r s.registers)) registers
+
+abbrev pub declare_runs : Setting → Declared → List ℕ → List ThreadRun
+declare_runs s d registers = declare_runs_as s d.register d.value registers
+
+abbrev pub step_runs : Setting → Step → List ℕ → List ThreadRun
+step_runs s empty registers = giving [] None registers 0 ∷ []
+step_runs s (declare ds) registers = runs_in_turn (declare_runs s) ds registers
+step_runs s (assign r right) registers = right_runs s right (Some (place_of r s.registers)) registers
+step_runs s (perform a) registers = call_runs s a None registers
+
+abbrev pub setting_of : Litmus → ℕ → Setting
+setting_of t k = record { thread = k; locations = t.locations; registers = (thread_of t k).registers; values = values_of t }
+
+-- the runs of thread k: the value of the first read is the slowest to change
+abbrev pub runs_of : Litmus → ℕ → List ThreadRun
+runs_of t k = runs_in_turn (step_runs (setting_of t k)) (thread_of t k).steps (initial_registers t k)
+
+-- The initial values, and the runs of each thread.
+pub record Choices : Type 0 where
+  pub init : List ℕ
+  pub threads : List (List ThreadRun)
+
+abbrev pub choices_of : Litmus → Choices
+choices_of t = record { init = initial_values t; threads = map (runs_of t) (upto (length t.threads)) }
+
+abbrev pub no_run : ThreadRun
+no_run = record { events = []; registers = [] }
+
+abbrev pub run_at : List ThreadRun → ℕ → ThreadRun
+run_at runs i = slice_index_or runs i no_run
+
+-- one run of each thread, by the digits of i
+abbrev pub choice : List (List ThreadRun) → ℕ → List ThreadRun
+choice threads i = digits (λ runs. length runs) run_at threads i
+
+abbrev pub count_choices : List (List ThreadRun) → ℕ
+count_choices threads = product_by (λ runs. length runs) threads
+
+abbrev pub choices : List (List ThreadRun) → List (List ThreadRun)
+choices threads = tabulate (count_choices threads) (choice threads)
+
+-- what a read of x may read from, whatever the value
+abbrev pub sources : List ThreadRun → ℕ → List EventId
+sources runs x = Initial x ∷ later_writes runs x
+
+abbrev pub count_sources : List ThreadRun → Event → ℕ
+count_sources runs r = suc (length (later_writes runs r.loc))
+
+abbrev pub source_at : List ThreadRun → Event → ℕ → EventId
+source_at runs r i = slice_index_or (sources runs r.loc) i (Initial 0)
+
+abbrev pub count_orders : List ThreadRun → ℕ → ℕ
+count_orders runs x = factorial (length (later_writes runs x))
+
+abbrev pub order_at : List ThreadRun → ℕ → ℕ → List EventId
+order_at runs x i = Initial x ∷ arrange (later_writes runs x) i
+
+abbrev pub count_rf : List ThreadRun → ℕ
+count_rf runs = product_by (count_sources runs) (reads runs)
+
+-- the candidate of these runs with this number: rf by the digits of its lower part, co by those of its higher part
+abbrev pub candidate : List ℕ → List ThreadRun → ℕ → Execution
+candidate init runs i = record {
+  init = init;
+  runs = runs;
+  rf = digits (count_sources runs) (source_at runs) (reads runs) (i % count_rf runs);
+  co = digits (count_orders runs) (order_at runs) (upto (length init)) (i / count_rf runs);
+}
+
+abbrev pub no_execution : Execution
+no_execution = record { init = []; runs = []; rf = []; co = [] }
+
+abbrev pub candidate_at : Choices → ℕ → Execution
+candidate_at s i = walk (block (length s.init)) (candidate s.init) no_execution (choices s.threads) i
+
+abbrev pub no_event : Event
+no_event = record { thread = 0; access = Read; loc = 0; value = 0; order = NoOrder }
+
+-- the value that a write writes
+abbrev pub write_value : List ℕ → List ThreadRun → EventId → ℕ
+write_value init runs (Initial x) = slice_index_or init x 0
+write_value init runs (Own k p) = (slice_index_or (run_at runs k).events p no_event).value
+
+abbrev pub agree : List ℕ → List ThreadRun → List Event → List EventId → Bool
+agree init runs [] ws = true
+agree init runs (r ∷ rs) [] = true
+agree init runs (r ∷ rs) (w ∷ ws) = (write_value init runs w == r.value) && agree init runs rs ws
+
+-- Each read has the value of the write that it reads from.
+abbrev pub is_consistent : Execution → Bool
+is_consistent x = agree x.init x.runs (reads x.runs) x.rf
+
+abbrev pub graph_at : Choices → ℕ → Option Execution
+graph_at s i = if is_consistent (candidate_at s i) then Some (candidate_at s i) else None
+
+-- The candidate with this number, where it is an execution.
+abbrev pub At : Litmus → ℕ → Option Execution
+At t i = graph_at (choices_of t) i
+
+-- how many candidates there are
+abbrev pub size_of : Choices → ℕ
+size_of s = sum_of (block (length s.init)) (choices s.threads)
+
+-- The law: each execution of the test stands at exactly one number below its size, and nothing else stands there.
+pub record IsNumberedBy (t : Litmus) (n : ℕ) (at : ℕ → Option Execution) : Type 0 where
+  pub only : (i : ℕ) → i < n → IfSome (at i) (IsExecution t)
+  pub all : (x : Execution) → IsExecution t x → (i : ℕ) × (i < n) × (at i ≡ Some x)
+  pub once : (x : Execution) (i j : ℕ) → i < n → j < n → at i ≡ Some x → at j ≡ Some x → i ≡ j
+
+abbrev pub Numbering : Type 0
+Numbering = (t : Litmus) (n : ℕ) → IsSize t n → IsNumberedBy t n (At t)
+
+abbrev pub some_of : Option Execution → List Execution
+some_of None = []
+some_of (Some x) = x ∷ []
+
+-- what stands at the numbers below n
+abbrev pub found : (ℕ → Option Execution) → ℕ → List Execution
+found at zero = []
+found at (suc n) = found at n ++ some_of (at n)
+
+-- The law that a count over the numbers rests on: what stands at the numbers below the size are the executions, each once.
+abbrev pub Counting : Type 0
+Counting = (t : Litmus) (n : ℕ) → IsSize t n → Lists (IsExecution t) (found (At t) n)
+
+-- the number where it is at most the limit, and nothing where it is above
+abbrev pub IsCapped : ℕ → ℕ → Option ℕ → Type 0
+IsCapped limit n None = limit < n
+IsCapped limit n (Some m) = (m ≡ n) × (n ≤ limit)

@@ -1,0 +1,5 @@
+pub mod Bounds
+pub mod Candidates
+pub mod Executions
+pub mod Faults
+pub mod Runs

@@ -1,0 +1,104 @@
+//! The numbered candidates of a test.
+
+ghost use Rattle.std.specs.Prelude.{◌≡◌, ◌<◌, ◌≤◌, ◌^◌, ℕ, List, length, map, IfOk, MatchResult, IfErr};
+ghost use Rattle.candidates.specs.Runs.{initial_values};
+ghost use Rattle.candidates.specs.Executions.{IsSize, upto};
+ghost use Rattle.candidates.specs.Candidates.{choices_of, runs_of, size_of, graph_at};
+ghost use Rattle.candidates.specs.Faults.{IsSpaceFault};
+
+use crate::assembly::assemble;
+use crate::c11_threads::{initial_value, runs};
+use crate::choosing::{RunList, choice, count_choices, locate, total};
+use crate::fault::SpaceFault;
+use events::Graph;
+use litmus_c::Test;
+use litmus_c::conditions::Place;
+use std::alloc::{AllocError, Global};
+use std::marker::Model;
+
+/// The numbered candidates of a test. It holds the runs of each thread, and no candidate.
+#[derive(Drop)]
+pub struct Space {
+    init: Vec<u32>,
+    threads: Vec<RunList>,
+    choices: u64,
+    size: u64,
+}
+
+impl Model for Space {
+    ghost use Rattle.std.specs.Prelude.{◌≡◌, ◌≤◌, ◌<◌, ℕ, length};
+    ghost use Rattle.candidates.specs.Candidates.{Choices, count_choices, choice, size_of};
+    ghost use Rattle.candidates.specs.Bounds.{AreWithin};
+    ghost use Rattle.candidates.specs.declared.fault.TheConstants.{MOST_CANDIDATES};
+
+    ghost Value = { Choices };
+
+    ghost view = { λ s. record { init = s.init.items; threads = s.threads.items } };
+
+    ghost invariant = { λ s. record { choices : s.choices ≡ count_choices s.threads.items; size : s.size ≡ size_of (record { init = s.init.items; threads = s.threads.items }); most : s.size ≤ MOST_CANDIDATES; within : (i : ℕ) → i < count_choices s.threads.items → AreWithin (length s.init.items) (choice s.threads.items i) } };
+}
+
+/// The initial value of each location of a test.
+fn initial_values(alloc: Global, test: &Test) -> Result<Vec<u32>, AllocError>
+    ensures { IfOk result (λ v. v.items ≡ initial_values test.now) }
+{
+    let mut values = Vec::new(alloc);
+    for location in test.locations() {
+        let place = Place::Loc(location.copy()?);
+        values.push(initial_value(test.initial(), &place))?;
+    }
+    Ok(values)
+}
+
+/// The runs of each thread of a test.
+fn all_runs(alloc: Global, test: &Test) -> Result<Vec<RunList>, SpaceFault>
+    ensures lists { IfOk result (λ v. v.items ≡ map (runs_of test.now) (upto (length test.now.threads))) }
+    ensures fault { IfErr result (IsSpaceFault test.now) }
+{
+    let mut lists = Vec::new(alloc);
+    for thread in 0..test.threads().len() {
+        lists.push(RunList::new(runs(alloc, test, thread)?))?;
+    }
+    Ok(lists)
+}
+
+impl Space {
+    /// The candidates of a test.
+    pub fn new(alloc: Global, test: &Test) -> Result<Self, SpaceFault>
+        // It numbers the candidates as `At` does.
+        ensures space { IfOk result (λ s. s ≡ choices_of test.now) }
+        // Its size is the test's, and at most 2^32.
+        ensures size { IfOk result (λ s. IsSize test.now (size_of s) × (size_of s ≤ 2 ^ 32)) }
+        // A thread has too many runs, the test has too many candidates, or memory ran out.
+        ensures fault { IfErr result (IsSpaceFault test.now) }
+    {
+        let threads = all_runs(alloc, test)?;
+        let init = initial_values(alloc, test)?;
+        let choices = count_choices(&threads).ok_or(SpaceFault::TooManyCandidates)?;
+        let size = total(&threads, init.len(), choices).ok_or(SpaceFault::TooManyCandidates)?;
+        Ok(Space {
+            init,
+            threads,
+            choices,
+            size,
+        })
+    }
+
+    /// How many candidates there are.
+    pub fn size(&self) -> u64
+        ensures { result ≡ size_of self.now }
+    {
+        self.size
+    }
+
+    /// The candidate with this number, where it is an execution. It passes over the choices of runs
+    /// before its own.
+    pub fn graph(&self, alloc: Global, number: u64) -> Result<Option<Graph>, AllocError>
+        requires { number < size_of self.now }
+        ensures { IfOk result (λ g. g ≡ graph_at self.now number) }
+    {
+        let position = locate(&self.threads, &self.init, self.choices, number);
+        let runs = choice(alloc, &self.threads, position.choice)?;
+        assemble(alloc, &self.init, runs, position.rest)
+    }
+}
