@@ -5,4 +5,5 @@ pub mod Levels
 pub mod Places
 pub mod Shorter
 pub mod Sound
+pub mod Spelled
 pub mod Symbols

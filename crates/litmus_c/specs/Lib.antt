@@ -6,5 +6,6 @@ pub mod Limits
 pub mod Reading
 pub mod Reads
 pub mod States
+pub mod Symbols
 pub mod Tree
 pub mod Values
