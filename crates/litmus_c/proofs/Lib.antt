@@ -1,7 +1,11 @@
 pub mod Bindings
+pub mod Complete
 pub mod Distinct
+pub mod Fair
 pub mod InOrder
+pub mod Kept
 pub mod Levels
+pub mod Names
 pub mod Places
 pub mod Shorter
 pub mod Sound

@@ -11,11 +11,11 @@ use Rattle.wb_text.specs.Numbers.{IsDecimal, decimal_value}
 use Rattle.litmus_c.specs.Symbols.{is_name, has_leading_zero, is_number}
 use Rattle.litmus_c.specs.Tree.{Word}
 
-true_or_false : (b : Bool) → (b ≡ true) ⊎ (b ≡ false)
+pub true_or_false : (b : Bool) → (b ≡ true) ⊎ (b ≡ false)
 true_or_false true = inl refl
 true_or_false false = inr refl
 
-and_parts : (a b : Bool) → (a && b) ≡ true → (a ≡ true) × (b ≡ true)
+pub and_parts : (a b : Bool) → (a && b) ≡ true → (a ≡ true) × (b ≡ true)
 and_parts true b e = (refl, e)
 and_parts false b e = absurd (false≢true e)
 
@@ -28,7 +28,7 @@ le_true a b e = search (rules, tests)
 true_le : (a b : ℕ) → a ≤ b → nat_le a b ≡ true
 true_le a b h = search (rules, tests)
 
-lt_true : (a b : ℕ) → nat_lt a b ≡ true → a < b
+pub lt_true : (a b : ℕ) → nat_lt a b ≡ true → a < b
 lt_true a b e = search (rules, tests)
 
 true_lt : (a b : ℕ) → a < b → nat_lt a b ≡ true

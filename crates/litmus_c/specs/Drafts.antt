@@ -1,5 +1,7 @@
 -- Tests as they are written, apart from where they lie in memory.
-use Rattle.std.specs.Prelude.{ℕ, List, map}
+use Rattle.std.specs.Prelude.{ℕ, List, map, Bool}
+use Rattle.std.specs.List.{list_any}
+use Rattle.std.specs.Str.{bytes_eq}
 use Rattle.litmus_c.specs.declared.conditions.place.Binding.{Binding}
 use Rattle.litmus_c.specs.declared.tree.Parameter.{Parameter}
 use Rattle.litmus_c.specs.declared.draft.Body as bodies
@@ -24,3 +26,7 @@ listing_of b = record { parameters = b.parameters.items; steps = map step_of b.s
 
 abbrev pub written_of : drafts.Draft → Written
 written_of d = record { name = d.name; entries = d.entries.items; threads = map listing_of d.bodies.items; condition = d.condition }
+
+-- a parameter has this name
+abbrev pub is_parameter : List Parameter → Word → Bool
+is_parameter ps x = list_any (λ p. bytes_eq p.name x) ps

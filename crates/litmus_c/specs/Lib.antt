@@ -5,6 +5,7 @@ pub mod Grammar
 pub mod Limits
 pub mod Reading
 pub mod Reads
+pub mod Rules
 pub mod States
 pub mod Symbols
 pub mod Tree

@@ -3,7 +3,6 @@
 -- from it to the grammar, in both directions.
 use Rattle.std.specs.Prelude.{ℕ, ◌+◌, List, [], ◌∷◌, ◌++◌, length, Bool, true, false, Option, Some, None, Result, Ok, Err, ◌≡◌, if◌then◌else◌, codes}
 use Rattle.std.specs.Fmt.{decimal}
-use Rattle.std.specs.List.{list_any}
 use Rattle.std.specs.Str.{bytes_eq}
 use Rattle.std.proofs.Common.{zero, suc}
 use Rattle.descent.specs.Reading.{Read, Look, match_option, ◌>>=◌, required, repeated}
@@ -18,12 +17,14 @@ use Rattle.litmus_c.specs.declared.symbol.Symbol.{Symbol}
 use Rattle.litmus_c.specs.declared.symbol.Symbol.TheVariants.{Fixed, Name, Number, Word as head_word, Other}
 use Rattle.litmus_c.specs.declared.symbol.Terminal.{Terminal}
 use Rattle.litmus_c.specs.declared.symbol.Terminal.TheVariants.{Int, AtomicInt, Exists, AtomicLoadExplicit, AtomicStoreExplicit, LeftParen, RightParen, LeftBrace, RightBrace, LeftBracket, RightBracket, Semicolon, Colon, Comma, Assign, Star, And}
+use Rattle.litmus_c.specs.declared.fault.TestFault.{TestFault}
+use Rattle.litmus_c.specs.declared.fault.TestFault.TheVariants as faults
 use Rattle.litmus_c.specs.declared.syntax_fault.SyntaxFault.{SyntaxFault}
 use Rattle.litmus_c.specs.declared.syntax_fault.SyntaxFault.TheVariants.{Syntax, TooDeep, NoMemory}
 use Rattle.litmus_c.specs.declared.tree.LocationKind.TheVariants.{Atomic}
 use Rattle.litmus_c.specs.declared.tree.Parameter.{Parameter}
 use Rattle.litmus_c.specs.Conditions.{Formula, equals, conjunction, Condition}
-use Rattle.litmus_c.specs.Drafts.{Listing, Written}
+use Rattle.litmus_c.specs.Drafts.{Listing, Written, is_parameter}
 use Rattle.litmus_c.specs.Tree.{Word, Term, number, Action, load, store, Right, value_of, Declared, Step, empty, declare, assign, perform}
 
 -- why there is no reading
@@ -136,9 +137,6 @@ entries_at ts = do
   repeated syntax (after Semicolon) (λ _ bs us. entry_behind bs us) x.0 x.1
 
 -- parameters
-
-abbrev pub is_parameter : List Parameter → Word → Bool
-is_parameter ps x = list_any (λ p. bytes_eq p.name x) ps
 
 unfoldable pub parameter_behind : List Parameter → List Symbol → Reading Parameter
 parameter_behind ps ts = do
@@ -381,3 +379,16 @@ test_at n ts = do
   c ← condition_at n ps.1
   e ← end_at c.1
   Ok (record { name = x.0; entries = bs.0; threads = ps.0; condition = c.0 }, e.1)
+
+-- The same where nothing is left to read.
+abbrev pub GivesAll : {X A : Type 0} → (X → A) → Result X SyntaxFault → Reading A → Type 0
+GivesAll view (Ok x) read = read ≡ Ok (view x, [])
+GivesAll view (Err NoMemory) read = Unit {0}
+GivesAll view (Err (Syntax p)) read = read ≡ Err syntax
+GivesAll view (Err TooDeep) read = read ≡ Err deep
+
+-- the refusal that a fault of the grammar is
+abbrev pub refusal : SyntaxFault → TestFault
+refusal (Syntax p) = faults.Syntax p
+refusal TooDeep = faults.TooDeep
+refusal NoMemory = faults.NoMemory

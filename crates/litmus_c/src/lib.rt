@@ -4,7 +4,9 @@
 pub mod conditions;
 mod draft;
 mod fault;
+mod making;
 mod reading;
+mod rules;
 mod symbol;
 mod syntax;
 mod syntax_fault;

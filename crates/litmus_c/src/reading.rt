@@ -6,8 +6,12 @@ ghost use Rattle.litmus_c.specs.Tree.{Litmus};
 ghost use Rattle.litmus_c.specs.declared.fault.TestFault.TheVariants.{NoMemory};
 
 use crate::fault::TestFault;
+use crate::making::make_test;
+use crate::symbol::symbols;
+use crate::syntax::read_draft;
 use crate::test::Test;
 use std::alloc::Global;
+use wb_text::{Dialect, TextFault, tokens};
 
 /// Reads a text as a test.
 pub fn read_test(alloc: Global, text: &[u8]) -> Result<Test, TestFault>
@@ -16,7 +20,12 @@ pub fn read_test(alloc: Global, text: &[u8]) -> Result<Test, TestFault>
     // A test that the text spells is read, unless memory runs out.
     ensures only { (t : Litmus) → Reads text.now t → MatchResult result (λ u. u ≡ t) (λ e. e ≡ NoMemory) }
 {
-    let _ = alloc;
-    let _ = text;
-    Err(TestFault::NoMemory)
+    let tokens = match tokens(alloc, text, Dialect::Litmus) {
+        Ok(tokens) => tokens,
+        Err(TextFault::NoMemory) => return Err(TestFault::NoMemory),
+        Err(fault) => return Err(TestFault::Text(fault)),
+    };
+    let symbols = symbols(alloc, text, tokens.as_slice())?;
+    let draft = read_draft(alloc, tokens.as_slice(), symbols.as_slice(), text.len())?;
+    make_test(alloc, draft)
 }

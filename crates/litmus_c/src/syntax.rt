@@ -3,13 +3,14 @@
 ghost use Rattle.std.specs.Prelude.{◌≡◌, ◌≤◌, ◌∷◌, ◌++◌, [], ℕ, List, length, map, Option, Some, None, Ok, Err, IfOk, IfErr, MatchBool, MatchOption, MatchResult};
 ghost use Rattle.std.proofs.Common.{suc};
 ghost use Rattle.litmus_c.specs.Conditions.{formula_of};
-ghost use Rattle.litmus_c.specs.Drafts.{listing_of, written_of};
-ghost use Rattle.litmus_c.specs.Reading.{Gives, next_at, after, expected, name_at, number_look, number_at, before_name, open_at, location_at, register_at, place_at, bound_at, behind_type, entry_at, ends_entry, entry_behind, entries_at, is_parameter, parameter_behind, parameters_more, parameters_at, parameters_closed, parameter_list_at, order_named, order_at, expression_at, target_at, last_order_at, load_at, stored_at, call_at, right_at, given_at, declarator_at, declarators_at, assignment_at, open_step_at, step_at, steps_more, block_at, names_thread, thread_name_at, thread_at, threads_at, equation_at, atomic_with, proposition_with, below, condition_at, word_at, language_at, end_at, initial_at, test_at};
+ghost use Rattle.litmus_c.specs.Drafts.{is_parameter, listing_of, written_of};
+ghost use Rattle.litmus_c.specs.Reading.{Gives, GivesAll, next_at, after, expected, name_at, number_look, number_at, before_name, open_at, location_at, register_at, place_at, bound_at, behind_type, entry_at, ends_entry, entry_behind, entries_at, parameter_behind, parameters_more, parameters_at, parameters_closed, parameter_list_at, order_named, order_at, expression_at, target_at, last_order_at, load_at, stored_at, call_at, right_at, given_at, declarator_at, declarators_at, assignment_at, open_step_at, step_at, steps_more, block_at, names_thread, thread_name_at, thread_at, threads_at, equation_at, atomic_with, proposition_with, below, condition_at, word_at, language_at, end_at, initial_at, test_at};
 ghost use Rattle.litmus_c.specs.Tree.{term_of, action_of, right_of, declared_of, step_of};
 
 use crate::conditions::{Binding, Cond, Kind, Place, Prop};
 use crate::draft::{Body, Draft};
 use crate::symbol::{Symbol, Terminal};
+use crate::rules::is_parameter;
 use crate::syntax_fault::SyntaxFault;
 use crate::tree::{Call, Declarator, Expression, LocationKind, Parameter, RightSide, Statement};
 use events::Order;
@@ -611,13 +612,6 @@ impl<'a> Reader<'a> {
     }
 }
 
-/// Whether a parameter has this name.
-fn is_parameter(parameters: &[Parameter], name: &Name) -> bool
-    ensures { result ≡ is_parameter parameters.now name.now }
-{
-    parameters.iter().any(|parameter| parameter.name == *name)
-}
-
 /// The order that a name stands for.
 fn order_named(name: &[u8]) -> Option<Order>
     ensures { result ≡ order_named name.now }
@@ -635,4 +629,23 @@ fn names_thread(alloc: Global, name: &[u8], number: usize) -> Result<bool, Alloc
 {
     let expected = format!(in alloc; "P{number}")?;
     Ok(name == expected.as_bytes())
+}
+
+/// The test that the symbols spell. `end` is the length of the text.
+pub fn read_draft(
+    alloc: Global,
+    tokens: &[Token],
+    symbols: &[Symbol],
+    end: usize,
+) -> Result<Draft, SyntaxFault>
+    requires { length symbols.now ≡ length tokens.now }
+    ensures { GivesAll written_of result (test_at 32 symbols.now) }
+{
+    let mut reader = Reader {
+        alloc,
+        rest: symbols,
+        tokens,
+        end,
+    };
+    reader.test(NESTING)
 }
