@@ -442,7 +442,7 @@ test-complete (written {n} {x} {ts} {us} {vs} {rest} {bs} {ls} {c} d e f) none =
     rw (language-first (head_word x ∷ Fixed LeftBrace ∷ ts), head-first x (Fixed LeftBrace ∷ ts), expected-first LeftBrace ts, (entries-complete d).is, expected-first RightBrace us,
     (last (threads-arrive e) (condition-opens f)).is, (condition-complete g nothing-behind).is, nothing-left)
 
-same : {v w : Written} → ◌≡◌ {A = Reading Written} (Ok (v, [])) (Ok (w, [])) → v ≡ w
+pub same : {v w : Written} → ◌≡◌ {A = Reading Written} (Ok (v, [])) (Ok (w, [])) → v ≡ w
 same {v} e = moved (λ l t. v ≡ t) e refl
 
 pub one_reading : (ts : List Symbol) (v w : Written) → Spells ts v → Spells ts w → v ≡ w

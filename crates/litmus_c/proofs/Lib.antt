@@ -2,6 +2,7 @@ pub mod Bindings
 pub mod Complete
 pub mod Distinct
 pub mod Fair
+pub mod Found
 pub mod InOrder
 pub mod Kept
 pub mod Levels

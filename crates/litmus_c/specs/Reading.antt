@@ -8,6 +8,8 @@ use Rattle.std.proofs.Common.{zero, suc}
 use Rattle.descent.specs.Reading.{Read, Look, match_option, ◌>>=◌, required, repeated}
 use Rattle.events.specs.declared.event.Order.{Order}
 use Rattle.events.specs.declared.event.Order.TheVariants.{Rlx}
+use Rattle.wb_text.specs.declared.fault.TextFault.{TextFault}
+use Rattle.wb_text.specs.declared.fault.TextFault.TheVariants as text_faults
 use Rattle.litmus_c.specs.declared.conditions.place.Binding.{Binding}
 use Rattle.litmus_c.specs.declared.conditions.place.Place.{Place}
 use Rattle.litmus_c.specs.declared.conditions.place.Place.TheVariants.{Reg, Loc}
@@ -392,3 +394,8 @@ abbrev pub refusal : SyntaxFault → TestFault
 refusal (Syntax p) = faults.Syntax p
 refusal TooDeep = faults.TooDeep
 refusal NoMemory = faults.NoMemory
+
+-- the refusal that a fault of the text is
+abbrev pub text_refusal : TextFault → TestFault
+text_refusal text_faults.NoMemory = faults.NoMemory
+text_refusal f = faults.Text f

@@ -69,3 +69,16 @@ impl From<SyntaxFault> for TestFault {
         }
     }
 }
+
+impl From<TextFault> for TestFault {
+    ghost use Rattle.litmus_c.specs.Reading.{text_refusal};
+
+    ghost from_gives = { λ f e. e ≡ text_refusal f };
+
+    fn from(fault: TextFault) -> Self {
+        match fault {
+            TextFault::NoMemory => TestFault::NoMemory,
+            _ => TestFault::Text(fault),
+        }
+    }
+}

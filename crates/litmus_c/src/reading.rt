@@ -1,17 +1,19 @@
 //! The reader.
 
 ghost use Rattle.std.specs.Prelude.{◌≡◌, IfOk, MatchResult};
-ghost use Rattle.litmus_c.specs.Reads.{Reads};
+ghost use Rattle.litmus_c.specs.Drafts.{Written, written_of};
+ghost use Rattle.litmus_c.specs.Reads.{IsWrittenIn, Reads};
 ghost use Rattle.litmus_c.specs.Tree.{Litmus};
 ghost use Rattle.litmus_c.specs.declared.fault.TestFault.TheVariants.{NoMemory};
 
+use crate::draft::Draft;
 use crate::fault::TestFault;
 use crate::making::make_test;
 use crate::symbol::symbols;
 use crate::syntax::read_draft;
 use crate::test::Test;
 use std::alloc::Global;
-use wb_text::{Dialect, TextFault, tokens};
+use wb_text::{Dialect, tokens};
 
 /// Reads a text as a test.
 pub fn read_test(alloc: Global, text: &[u8]) -> Result<Test, TestFault>
@@ -20,12 +22,16 @@ pub fn read_test(alloc: Global, text: &[u8]) -> Result<Test, TestFault>
     // A test that the text spells is read, unless memory runs out.
     ensures only { (t : Litmus) → Reads text.now t → MatchResult result (λ u. u ≡ t) (λ e. e ≡ NoMemory) }
 {
-    let tokens = match tokens(alloc, text, Dialect::Litmus) {
-        Ok(tokens) => tokens,
-        Err(TextFault::NoMemory) => return Err(TestFault::NoMemory),
-        Err(fault) => return Err(TestFault::Text(fault)),
-    };
+    make_test(alloc, read_text(alloc, text)?)
+}
+
+/// The test that is written in a text.
+fn read_text(alloc: Global, text: &[u8]) -> Result<Draft, TestFault>
+    ensures found { IfOk result (λ d. IsWrittenIn text.now (written_of d)) }
+    ensures only { (w : Written) → IsWrittenIn text.now w → MatchResult result (λ d. written_of d ≡ w) (λ e. e ≡ NoMemory) }
+{
+    let tokens = tokens(alloc, text, Dialect::Litmus)?;
     let symbols = symbols(alloc, text, tokens.as_slice())?;
     let draft = read_draft(alloc, tokens.as_slice(), symbols.as_slice(), text.len())?;
-    make_test(alloc, draft)
+    Ok(draft)
 }
