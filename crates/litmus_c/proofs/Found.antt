@@ -3,7 +3,10 @@ use Rattle.std.proofs.Common.{◌≡◌, ◌<◌, ◌≤◌, ℕ, List, [], sym,
 use Rattle.std.specs.Prelude.{Result, Ok, Err, IfOk, OnOk, IfErr, MatchResult, length, true, false}
 use Rattle.std.proofs.lemmas.Bool.{false≢true}
 use Rattle.descent.proofs.Tools.{moved}
+use Rattle.wb_text.specs.Faults.{HasCause}
 use Rattle.wb_text.specs.Tokens.{IsTokenList}
+use Rattle.wb_text.specs.declared.fault.TextFault.{TextFault}
+use Rattle.wb_text.specs.declared.fault.TextFault.TheVariants as text_faults
 use Rattle.wb_text.specs.declared.token.Dialect.TheVariants as dialects
 use Rattle.wb_text.specs.declared.token.Token.{Token}
 use Rattle.litmus_c.specs.declared.conditions.place.Binding.{Binding}
@@ -15,8 +18,8 @@ use Rattle.litmus_c.specs.Drafts.{Written, written_of}
 use Rattle.litmus_c.specs.Grammar.{Spells}
 use Rattle.litmus_c.specs.declared.syntax_fault.SyntaxFault.{SyntaxFault}
 use Rattle.litmus_c.specs.declared.syntax_fault.SyntaxFault.TheVariants as faults
-use Rattle.litmus_c.specs.Reading.{Reading, GivesAll, refusal, test_at}
-use Rattle.litmus_c.specs.Reads.{IsWrittenIn, Reads}
+use Rattle.litmus_c.specs.Reading.{Cause, syntax, deep, Reading, GivesAll, refusal, text_refusal, test_at}
+use Rattle.litmus_c.specs.Reads.{IsWrittenIn, HasNoTest, IsRefused, IsUnwritten, Reads}
 use Rattle.litmus_c.specs.Rules.{litmus_of, KeepsRules, Explains}
 use Rattle.litmus_c.specs.Symbols.{symbols_of}
 use Rattle.litmus_c.specs.Tree.{Litmus}
@@ -83,3 +86,52 @@ test_only text w (Err e) t d same made cause =
     let P : Litmus → Type 0 = λ u. KeepsRules d.parts.entries u in
     let Q : Written → Type 0 = λ v. KeepsRules v.entries (litmus_of v) in
     no_cause w.entries (litmus_of w) e (subst Q (sym same) (subst P d.made d.rules)) cause
+
+-- Causes.
+
+pub text_cause : (text : List ℕ) (f : TextFault) → HasCause dialects.Litmus text f → IsUnwritten text (text_refusal f)
+text_cause text text_faults.NoMemory h = tt
+text_cause text text_faults.NotAscii h = h
+text_cause text text_faults.BadByte h = h
+text_cause text text_faults.OpenComment h = h
+text_cause text text_faults.OpenString h = h
+text_cause text text_faults.NumberTooBig h = h
+text_cause text text_faults.TooLong h = h
+
+no_test : (text : List ℕ) (ts : List Token) (symbols : List Symbol) (e : Cause) → symbols ≡ symbols_of text ts → ((us : List Token) → IsTokenList dialects.Litmus text us → ts ≡ us) →
+    ◌≡◌ {A = Reading Written} (test_at 32 symbols) (Err e) → HasNoTest text
+no_test text ts symbols e is unique fails w d =
+    let reads : test_at 32 symbols ≡ Ok (w, []) = read_of text ts symbols w is d (unique d.tokens d.is_list) in
+    cc
+
+pub draft_cause : (text : List ℕ) (ts : List Token) (symbols : List Symbol) (s : SyntaxFault) → symbols ≡ symbols_of text ts →
+    ((us : List Token) → IsTokenList dialects.Litmus text us → ts ≡ us) → GivesAll written_of (Err s) (test_at 32 symbols) → IsUnwritten text (refusal s)
+draft_cause text ts symbols (faults.Syntax p) is unique g = no_test text ts symbols syntax is unique g
+draft_cause text ts symbols faults.TooDeep is unique g = no_test text ts symbols deep is unique g
+draft_cause text ts symbols faults.NoMemory is unique g = tt
+
+pub unwritten_cause : (text : List ℕ) (e : TestFault) → IsUnwritten text e → IsRefused text e
+unwritten_cause text NoMemory h = h
+unwritten_cause text (Text f) h = h
+unwritten_cause text (Syntax n) h = h
+unwritten_cause text TooDeep h = h
+unwritten_cause text UnknownName h = absurd h
+unwritten_cause text TooManyThreads h = absurd h
+unwritten_cause text TooManyLocations h = absurd h
+unwritten_cause text TooManyEvents h = absurd h
+unwritten_cause text TooManyValues h = absurd h
+
+rule_of : (text : List ℕ) (w : Written) (e : TestFault) → IsWrittenIn text w → Explains w.entries (litmus_of w) e → IsRefused text e
+rule_of text w NoMemory d h = tt
+rule_of text w (Text f) d h = absurd h
+rule_of text w (Syntax n) d h = absurd h
+rule_of text w TooDeep d h = absurd h
+rule_of text w UnknownName d h = (w, d, h)
+rule_of text w TooManyThreads d h = (w, d, h)
+rule_of text w TooManyLocations d h = (w, d, h)
+rule_of text w TooManyEvents d h = (w, d, h)
+rule_of text w TooManyValues d h = (w, d, h)
+
+pub rule_cause : (text : List ℕ) (w : Written) (r : Result Litmus TestFault) → IsWrittenIn text w → IfErr r (λ e. Explains w.entries (litmus_of w) e) → IfErr r (λ e. IsRefused text e)
+rule_cause text w (Ok t) d h = tt
+rule_cause text w (Err e) d h = rule_of text w e d h

@@ -21,3 +21,6 @@ pub use tree::{
     Call, Declarator, Expression, LocationKind, Parameter, RightSide, Statement, Thread,
 };
 pub use values::{ValuesFault, values_among};
+
+#[cfg(test)]
+mod tests;
