@@ -1,6 +1,54 @@
 -- Which test a text spells.
-use Rattle.std.specs.Prelude.{ℕ, List}
+use Rattle.std.specs.Prelude.{◌≡◌, ℕ, List}
+use Rattle.wb_text.specs.Faults.{HasCause}
+use Rattle.wb_text.specs.Tokens.{IsTokenList}
+use Rattle.wb_text.specs.declared.token.Dialect.TheVariants as dialects
+use Rattle.wb_text.specs.declared.token.Token.{Token}
+use Rattle.litmus_c.specs.declared.fault.TestFault.{TestFault}
+use Rattle.litmus_c.specs.declared.fault.TestFault.TheVariants.{Text, Syntax, UnknownName, TooDeep, TooManyThreads, TooManyLocations, TooManyEvents, TooManyValues, NoMemory}
+use Rattle.litmus_c.specs.Drafts.{Written}
+use Rattle.litmus_c.specs.Grammar.{Spells}
+use Rattle.litmus_c.specs.Rules.{litmus_of, KeepsRules, Explains}
+use Rattle.litmus_c.specs.Symbols.{symbols_of}
 use Rattle.litmus_c.specs.Tree.{Litmus}
 
+-- The text has these tokens, and their symbols are the written test by the grammar.
+pub record IsWrittenIn (text : List ℕ) (w : Written) : Type 0 where
+  pub tokens : List Token
+  pub is_list : IsTokenList dialects.Litmus text tokens
+  pub spelled : Spells (symbols_of text tokens) w
+
+-- The test is the one that the written test makes, and it keeps the rules and limits.
 pub record Reads (text : List ℕ) (t : Litmus) : Type 0 where
-  pub never : ⊥
+  pub parts : Written
+  pub is_written : IsWrittenIn text parts
+  pub rules : KeepsRules parts.entries t
+  pub made : t ≡ litmus_of parts
+
+-- no test is written in the text
+abbrev pub HasNoTest : List ℕ → Type 0
+HasNoTest text = (w : Written) → ¬ IsWrittenIn text w
+
+-- a test is written in the text, and breaks a rule or a limit for which there is this refusal
+abbrev pub BreaksRule : List ℕ → TestFault → Type 0
+BreaksRule text e = (w : Written) × IsWrittenIn text w × Explains w.entries (litmus_of w) e
+
+-- The cause of a refusal.
+abbrev pub IsRefused : List ℕ → TestFault → Type 0
+IsRefused text NoMemory = Unit {0}
+IsRefused text (Text f) = HasCause dialects.Litmus text f
+IsRefused text (Syntax n) = HasNoTest text
+IsRefused text TooDeep = HasNoTest text
+IsRefused text UnknownName = BreaksRule text UnknownName
+IsRefused text TooManyThreads = BreaksRule text TooManyThreads
+IsRefused text TooManyLocations = BreaksRule text TooManyLocations
+IsRefused text TooManyEvents = BreaksRule text TooManyEvents
+IsRefused text TooManyValues = BreaksRule text TooManyValues
+
+-- The same before the rules are tried.
+abbrev pub IsUnwritten : List ℕ → TestFault → Type 0
+IsUnwritten text NoMemory = Unit {0}
+IsUnwritten text (Text f) = HasCause dialects.Litmus text f
+IsUnwritten text (Syntax n) = HasNoTest text
+IsUnwritten text TooDeep = HasNoTest text
+IsUnwritten text e = ⊥

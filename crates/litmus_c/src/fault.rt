@@ -2,6 +2,7 @@
 
 ghost use Rattle.std.specs.Prelude.{◌≡◌};
 
+use crate::syntax_fault::SyntaxFault;
 use std::alloc::{AllocError, AllocFailed};
 use thiserror::Error;
 use wb_text::TextFault;
@@ -13,6 +14,71 @@ pub enum TestFault {
     Text(TextFault),
     #[error("12 Syntax {0}")]
     Syntax(usize),
+    /// A name, a thread or a location that isn't there, or that is of the wrong kind.
+    #[error("14 UnknownName")]
+    UnknownName,
+    /// More than 32 levels of nesting.
+    #[error("18 TooDeep")]
+    TooDeep,
+    /// More than 8 threads.
+    #[error("19 TooManyThreads")]
+    TooManyThreads,
+    /// More than 8 locations.
+    #[error("20 TooManyLocations")]
+    TooManyLocations,
+    /// More than 64 events, one initial write of each location among them.
+    #[error("21 TooManyEvents")]
+    TooManyEvents,
+    /// More than 16 values.
+    #[error("22 TooManyValues")]
+    TooManyValues,
     #[error("NoMemory")]
     NoMemory,
+}
+
+impl From<AllocError> for TestFault {
+    ghost use Rattle.litmus_c.specs.declared.fault.TestFault.TheVariants.{NoMemory};
+
+    ghost from_gives = { λ _ e. e ≡ NoMemory };
+
+    fn from(_error: AllocError) -> Self {
+        TestFault::NoMemory
+    }
+}
+
+impl<T: Drop> From<AllocFailed<T>> for TestFault {
+    ghost use Rattle.litmus_c.specs.declared.fault.TestFault.TheVariants.{NoMemory};
+
+    ghost from_gives = { λ _ e. e ≡ NoMemory };
+
+    fn from(_error: AllocFailed<T>) -> Self {
+        TestFault::NoMemory
+    }
+}
+
+impl From<SyntaxFault> for TestFault {
+    ghost use Rattle.litmus_c.specs.Reading.{refusal};
+
+    ghost from_gives = { λ s e. e ≡ refusal s };
+
+    fn from(fault: SyntaxFault) -> Self {
+        match fault {
+            SyntaxFault::Syntax(offset) => TestFault::Syntax(offset),
+            SyntaxFault::TooDeep => TestFault::TooDeep,
+            SyntaxFault::NoMemory => TestFault::NoMemory,
+        }
+    }
+}
+
+impl From<TextFault> for TestFault {
+    ghost use Rattle.litmus_c.specs.Reading.{text_refusal};
+
+    ghost from_gives = { λ f e. e ≡ text_refusal f };
+
+    fn from(fault: TextFault) -> Self {
+        match fault {
+            TextFault::NoMemory => TestFault::NoMemory,
+            _ => TestFault::Text(fault),
+        }
+    }
 }

@@ -2,8 +2,14 @@
 #![tactic(auto)]
 
 pub mod conditions;
+mod draft;
 mod fault;
+mod making;
 mod reading;
+mod rules;
+mod symbol;
+mod syntax;
+mod syntax_fault;
 mod test;
 mod tree;
 mod values;
@@ -15,3 +21,6 @@ pub use tree::{
     Call, Declarator, Expression, LocationKind, Parameter, RightSide, Statement, Thread,
 };
 pub use values::{ValuesFault, values_among};
+
+#[cfg(test)]
+mod tests;

@@ -1,13 +1,19 @@
 //! The reader.
 
-ghost use Rattle.std.specs.Prelude.{◌≡◌, IfOk, MatchResult};
-ghost use Rattle.litmus_c.specs.Reads.{Reads};
+ghost use Rattle.std.specs.Prelude.{◌≡◌, IfOk, IfErr, MatchResult};
+ghost use Rattle.litmus_c.specs.Drafts.{Written, written_of};
+ghost use Rattle.litmus_c.specs.Reads.{IsWrittenIn, IsRefused, IsUnwritten, Reads};
 ghost use Rattle.litmus_c.specs.Tree.{Litmus};
 ghost use Rattle.litmus_c.specs.declared.fault.TestFault.TheVariants.{NoMemory};
 
+use crate::draft::Draft;
 use crate::fault::TestFault;
+use crate::making::make_test;
+use crate::symbol::symbols;
+use crate::syntax::read_draft;
 use crate::test::Test;
 use std::alloc::Global;
+use wb_text::{Dialect, tokens};
 
 /// Reads a text as a test.
 pub fn read_test(alloc: Global, text: &[u8]) -> Result<Test, TestFault>
@@ -15,8 +21,20 @@ pub fn read_test(alloc: Global, text: &[u8]) -> Result<Test, TestFault>
     ensures found { IfOk result (λ t. Reads text.now t) }
     // A test that the text spells is read, unless memory runs out.
     ensures only { (t : Litmus) → Reads text.now t → MatchResult result (λ u. u ≡ t) (λ e. e ≡ NoMemory) }
+    // Each refusal comes only where its cause stands.
+    ensures cause { IfErr result (λ e. IsRefused text.now e) }
 {
-    let _ = alloc;
-    let _ = text;
-    Err(TestFault::NoMemory)
+    make_test(alloc, read_text(alloc, text)?)
+}
+
+/// The test that is written in a text.
+fn read_text(alloc: Global, text: &[u8]) -> Result<Draft, TestFault>
+    ensures found { IfOk result (λ d. IsWrittenIn text.now (written_of d)) }
+    ensures only { (w : Written) → IsWrittenIn text.now w → MatchResult result (λ d. written_of d ≡ w) (λ e. e ≡ NoMemory) }
+    ensures cause { IfErr result (λ e. IsUnwritten text.now e) }
+{
+    let tokens = tokens(alloc, text, Dialect::Litmus)?;
+    let symbols = symbols(alloc, text, tokens.as_slice())?;
+    let draft = read_draft(alloc, tokens.as_slice(), symbols.as_slice(), text.len())?;
+    Ok(draft)
 }

@@ -1,0 +1,13 @@
+use Rattle.std.proofs.Common.{◌≤◌, [], arith, ap, length}
+use Rattle.std.specs.List.{flat_map}
+use Rattle.std.proofs.lemmas.Result.{err_from_is_err_and}
+use Rattle.litmus_c.specs.Rules.{with_names, place_locations}
+use Rattle.litmus_c.proofs.Names.{at_least, explained}
+use Rattle.litmus_c.proofs.making.entry_locations.Goals as goal
+
+pub returns-in_err-note_place-clause-cause : goal.returns-in_err-note_place-clause-cause
+returns-in_err-note_place-clause-cause c =
+    let p = err_from_is_err_and c.from_residual.result c.from_residual.ensures.1 in
+    let few : length (with_names c.loop-entry.locations.items (place_locations c.entry-item.result.place)) ≤ length (with_names [] (flat_map (λ b. place_locations b.place) c.args.entries.now)) =
+      omega (arith, at_least (λ b. place_locations b.place) c.entry-item.result c.args.entries.now c.loop-entry.entry-index c.loop-entry.locations.items c.loop-entry-test.true c.entry-item.is, ap length c.loop-entry.invariant.rest) in
+    rw (p.1, p.2) (explained (with_names c.loop-entry.locations.items (place_locations c.entry-item.result.place)) (with_names [] (flat_map (λ b. place_locations b.place) c.args.entries.now)) _ few c.in_err-note_place.ensures.cause)

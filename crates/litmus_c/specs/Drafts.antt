@@ -1,0 +1,32 @@
+-- Tests as they are written, apart from where they lie in memory.
+use Rattle.std.specs.Prelude.{ℕ, List, map, Bool}
+use Rattle.std.specs.List.{list_any}
+use Rattle.std.specs.Str.{bytes_eq}
+use Rattle.litmus_c.specs.declared.conditions.place.Binding.{Binding}
+use Rattle.litmus_c.specs.declared.tree.Parameter.{Parameter}
+use Rattle.litmus_c.specs.declared.draft.Body as bodies
+use Rattle.litmus_c.specs.declared.draft.Draft as drafts
+use Rattle.litmus_c.specs.Conditions.{Condition}
+use Rattle.litmus_c.specs.Tree.{Word, Step, step_of}
+
+-- a thread
+pub record Listing : Type 0 where
+  pub parameters : List Parameter
+  pub steps : List Step
+
+-- a test, with the entries of its initial state in order
+pub record Written : Type 0 where
+  pub name : Word
+  pub entries : List Binding
+  pub threads : List Listing
+  pub condition : Condition
+
+abbrev pub listing_of : bodies.Body → Listing
+listing_of b = record { parameters = b.parameters.items; steps = map step_of b.statements.items }
+
+abbrev pub written_of : drafts.Draft → Written
+written_of d = record { name = d.name; entries = d.entries.items; threads = map listing_of d.bodies.items; condition = d.condition }
+
+-- a parameter has this name
+abbrev pub is_parameter : List Parameter → Word → Bool
+is_parameter ps x = list_any (λ p. bytes_eq p.name x) ps

@@ -1,0 +1,300 @@
+//! From a test as it is written to the test that it means.
+
+ghost use Rattle.std.specs.Prelude.{◌≡◌, ◌≤◌, ◌<◌, ◌+◌, ◌&&◌, [], ℕ, List, map, length, sum_by, IfOk, IfErr, OnOk};
+ghost use Rattle.std.specs.List.{flat_map, list_all};
+ghost use Rattle.litmus_c.specs.Drafts.{listing_of, written_of};
+ghost use Rattle.litmus_c.specs.Limits.{program_events};
+ghost use Rattle.litmus_c.specs.declared.fault.TestFault.TheVariants.{TooManyEvents};
+ghost use Rattle.litmus_c.specs.Rules.{with_name, with_names, lasting, place_locations, parameter_names, locations_of, place_registers, step_registers, registers_of, program_of, programs_of, litmus_of, entry_is_fair, program_is_fair, formula_is_fair, KeepsRules, Explains, ExplainsLocations, ExplainsValues};
+ghost use Rattle.litmus_c.specs.Values.{values_among};
+ghost use Rattle.litmus_c.specs.Tree.{declared_of, step_of};
+
+use crate::conditions::{Binding, Cond, Place};
+use crate::draft::{Body, Draft};
+use crate::fault::TestFault;
+use crate::rules::{
+    after_threads, entry_is_fair, formula_is_fair, is_given, is_one_of, program_is_fair,
+};
+use crate::test::Test;
+use crate::tree::{Declarator, Parameter, Statement, Thread};
+use crate::values::{ValuesFault, values_among};
+use std::alloc::{AllocError, Global};
+use wb_text::Name;
+
+const MAX_THREADS: usize = 8;
+const MAX_LOCATIONS: usize = 8;
+const MAX_VALUES: usize = 16;
+const MAX_EVENTS: usize = 64;
+
+/// Adds a name that isn't there yet.
+fn note(names: &mut Vec<Name>, name: &Name) -> Result<(), AllocError>
+    ensures { OnOk result (names.new.items ≡ with_name names.old.items name.now) }
+{
+    if !is_one_of(names.as_slice(), name) {
+        names.push(name.copy()?)?;
+    }
+    Ok(())
+}
+
+/// Adds a location that isn't there yet, up to the most that a test has.
+fn note_location(locations: &mut Vec<Name>, name: &Name) -> Result<(), TestFault>
+    ensures done { OnOk result (locations.new.items ≡ with_name locations.old.items name.now) }
+    ensures few { OnOk result (length locations.new.items ≤ 8) }
+    ensures cause { IfErr result (λ e. ExplainsLocations (with_name locations.old.items name.now) e) }
+{
+    note(locations, name)?;
+    if locations.len() > MAX_LOCATIONS {
+        return Err(TestFault::TooManyLocations);
+    }
+    Ok(())
+}
+
+/// Adds the location of a place, if it is one.
+fn note_place(locations: &mut Vec<Name>, place: &Place) -> Result<(), TestFault>
+    requires { length locations.old.items ≤ 8 }
+    ensures done { OnOk result (locations.new.items ≡ with_names locations.old.items (place_locations place.now)) }
+    ensures few { OnOk result (length locations.new.items ≤ 8) }
+    ensures cause { IfErr result (λ e. ExplainsLocations (with_names locations.old.items (place_locations place.now)) e) }
+{
+    match place {
+        Place::Loc(name) => note_location(locations, name),
+        Place::Reg(_, _) => Ok(()),
+    }
+}
+
+/// The locations of the entries of the initial state.
+fn entry_locations(alloc: Global, entries: &[Binding]) -> Result<Vec<Name>, TestFault>
+    ensures done { IfOk result (λ v. v.items ≡ with_names [] (flat_map (λ b. place_locations b.place) entries.now)) }
+    ensures few { IfOk result (λ v. length v.items ≤ 8) }
+    ensures cause { IfErr result (λ e. ExplainsLocations (with_names [] (flat_map (λ b. place_locations b.place) entries.now)) e) }
+{
+    let mut locations = Vec::new(alloc);
+    for entry in entries {
+        note_place(&mut locations, &entry.place)?;
+    }
+    Ok(locations)
+}
+
+/// Adds the locations of the parameters.
+fn note_parameters(locations: &mut Vec<Name>, parameters: &[Parameter]) -> Result<(), TestFault>
+    requires { length locations.old.items ≤ 8 }
+    ensures done { OnOk result (locations.new.items ≡ with_names locations.old.items (map (λ p. p.name) parameters.now)) }
+    ensures few { OnOk result (length locations.new.items ≤ 8) }
+    ensures cause { IfErr result (λ e. ExplainsLocations (with_names locations.old.items (map (λ p. p.name) parameters.now)) e) }
+{
+    for parameter in parameters {
+        note_location(locations, &parameter.name)?;
+    }
+    Ok(())
+}
+
+/// The locations: those of the entries, and then the parameters of each thread.
+fn find_locations(
+    alloc: Global,
+    entries: &[Binding],
+    bodies: &[Body],
+) -> Result<Vec<Name>, TestFault>
+    ensures done { IfOk result (λ v. v.items ≡ with_names (with_names [] (flat_map (λ b. place_locations b.place) entries.now)) (flat_map parameter_names (map listing_of bodies.now))) }
+    ensures few { IfOk result (λ v. length v.items ≤ 8) }
+    ensures cause { IfErr result (λ e. ExplainsLocations (with_names (with_names [] (flat_map (λ b. place_locations b.place) entries.now)) (flat_map parameter_names (map listing_of bodies.now))) e) }
+{
+    let mut locations = entry_locations(alloc, entries)?;
+    for body in bodies {
+        note_parameters(&mut locations, body.parameters.as_slice())?;
+    }
+    Ok(locations)
+}
+
+/// Adds the register of a place, if it is one of thread `number`.
+fn note_register(registers: &mut Vec<Name>, number: usize, place: &Place) -> Result<(), AllocError>
+    ensures { OnOk result (registers.new.items ≡ with_names registers.old.items (place_registers number place.now)) }
+{
+    match place {
+        Place::Reg(owner, name) => {
+            if *owner == number {
+                note(registers, name)?;
+            }
+            Ok(())
+        }
+        Place::Loc(_) => Ok(()),
+    }
+}
+
+/// The registers that the entries give thread `number`.
+fn entry_registers(
+    alloc: Global,
+    number: usize,
+    entries: &[Binding],
+) -> Result<Vec<Name>, AllocError>
+    ensures { IfOk result (λ v. v.items ≡ with_names [] (flat_map (λ b. place_registers number b.place) entries.now)) }
+{
+    let mut registers = Vec::new(alloc);
+    for entry in entries {
+        note_register(&mut registers, number, &entry.place)?;
+    }
+    Ok(registers)
+}
+
+/// Adds the registers that are declared.
+fn note_declarators(
+    registers: &mut Vec<Name>,
+    declarators: &[Declarator],
+) -> Result<(), AllocError>
+    ensures { OnOk result (registers.new.items ≡ with_names registers.old.items (map (λ d. d.register) (map declared_of declarators.now))) }
+{
+    for declarator in declarators {
+        note(registers, &declarator.register)?;
+    }
+    Ok(())
+}
+
+/// Adds the registers that a statement declares or assigns.
+fn note_statement(registers: &mut Vec<Name>, statement: &Statement) -> Result<(), AllocError>
+    ensures { OnOk result (registers.new.items ≡ with_names registers.old.items (step_registers (step_of statement.now))) }
+{
+    match statement {
+        Statement::Empty | Statement::Perform(_) => Ok(()),
+        Statement::Declare(declarators) => note_declarators(registers, declarators.as_slice()),
+        Statement::Assign(register, _) => note(registers, register),
+    }
+}
+
+/// The registers of thread `number`.
+fn find_registers(
+    alloc: Global,
+    number: usize,
+    entries: &[Binding],
+    statements: &[Statement],
+) -> Result<Vec<Name>, AllocError>
+    ensures { IfOk result (λ v. v.items ≡ registers_of number entries.now (map step_of statements.now)) }
+{
+    let mut registers = entry_registers(alloc, number, entries)?;
+    for statement in statements {
+        note_statement(&mut registers, statement)?;
+    }
+    Ok(registers)
+}
+
+/// The entries that hold: of two for one place the later.
+fn find_lasting(alloc: Global, entries: &[Binding]) -> Result<Vec<Binding>, AllocError>
+    ensures { IfOk result (λ v. v.items ≡ lasting entries.now) }
+{
+    let mut kept = Vec::new(alloc);
+    let mut rest = entries;
+    while let Some((entry, later)) = rest.split_first() {
+        if !is_given(later, &entry.place) {
+            kept.push(entry.copy()?)?;
+        }
+        rest = later;
+    }
+    Ok(kept)
+}
+
+/// The threads, with their registers.
+#[tactic(auto, using(crate::proofs::Names::programs_push, crate::proofs::Names::programs_len, crate::proofs::Names::map_len))]
+fn make_threads(
+    alloc: Global,
+    entries: &[Binding],
+    bodies: Vec<Body>,
+) -> Result<Vec<Thread>, AllocError>
+    ensures { IfOk result (λ v. v.items ≡ programs_of 0 entries.now (map listing_of bodies.items)) }
+{
+    let mut threads = Vec::new(alloc);
+    for body in bodies {
+        let registers =
+            find_registers(alloc, threads.len(), entries, body.statements.as_slice())?;
+        threads.push(Thread::new(body.parameters, body.statements, registers))?;
+    }
+    Ok(threads)
+}
+
+fn entries_are_fair(entries: &[Binding], threads: &[Thread]) -> bool
+    ensures { result ≡ list_all (λ b. entry_is_fair threads.now b.place) entries.now }
+{
+    entries
+        .iter()
+        .all(|entry| entry_is_fair(threads, &entry.place))
+}
+
+fn programs_are_fair(threads: &[Thread]) -> bool
+    ensures { result ≡ list_all program_is_fair threads.now }
+{
+    threads.iter().all(program_is_fair)
+}
+
+/// Whether the names that are used are there.
+fn names_are_there(
+    entries: &[Binding],
+    threads: &[Thread],
+    condition: &Cond,
+    locations: &[Name],
+) -> bool
+    ensures { result ≡ (list_all (λ b. entry_is_fair threads.now b.place) entries.now && list_all program_is_fair threads.now && formula_is_fair threads.now locations.now condition.now.formula) }
+{
+    entries_are_fair(entries, threads)
+        && programs_are_fair(threads)
+        && formula_is_fair(threads, locations, condition.prop())
+}
+
+/// Refuses more values than a test has.
+fn check_values(alloc: Global, initial: &[Binding], threads: &[Thread]) -> Result<(), TestFault>
+    ensures few { OnOk result (length (values_among initial.now threads.now) ≤ 16) }
+    ensures cause { IfErr result (λ e. ExplainsValues (values_among initial.now threads.now) e) }
+{
+    match values_among(alloc, initial, threads, MAX_VALUES) {
+        Ok(_) => Ok(()),
+        Err(ValuesFault::TooMany) => Err(TestFault::TooManyValues),
+        Err(ValuesFault::NoMemory) => Err(TestFault::NoMemory),
+    }
+}
+
+/// Refuses more events than a test has, one initial write of each location among them.
+fn check_events(locations: &[Name], threads: &[Thread]) -> Result<(), TestFault>
+    requires { length locations.now ≤ 64 }
+    ensures few { OnOk result (length locations.now + sum_by program_events threads.now ≤ 64) }
+    ensures cause { IfErr result (λ e. (e ≡ TooManyEvents) × (64 < length locations.now + sum_by program_events threads.now)) }
+{
+    match after_threads(MAX_EVENTS - locations.len(), threads) {
+        Some(_) => Ok(()),
+        None => Err(TestFault::TooManyEvents),
+    }
+}
+
+/// The test that a text spells, if it keeps the rules.
+pub fn make_test(alloc: Global, draft: Draft) -> Result<Test, TestFault>
+    ensures made { IfOk result (λ t. t ≡ litmus_of (written_of draft)) }
+    ensures kept { OnOk result (KeepsRules draft.entries.items (litmus_of (written_of draft))) }
+    ensures cause { IfErr result (λ e. Explains draft.entries.items (litmus_of (written_of draft)) e) }
+{
+    let Draft {
+        name,
+        entries,
+        bodies,
+        condition,
+    } = draft;
+    if bodies.len() > MAX_THREADS {
+        return Err(TestFault::TooManyThreads);
+    }
+    let entries = entries.as_slice();
+    let locations = find_locations(alloc, entries, bodies.as_slice())?;
+    let initial = find_lasting(alloc, entries)?;
+    let threads = make_threads(alloc, entries, bodies)?;
+    if !names_are_there(
+        entries,
+        threads.as_slice(),
+        &condition,
+        locations.as_slice(),
+    ) {
+        return Err(TestFault::UnknownName);
+    }
+    check_values(alloc, initial.as_slice(), threads.as_slice())?;
+    check_events(locations.as_slice(), threads.as_slice())?;
+    Ok(Test::new(
+        name,
+        initial,
+        threads,
+        condition,
+        Vec::new(alloc),
+        locations,
+    ))
+}

@@ -1,0 +1,651 @@
+//! Recursive descent: a test as it is written, from its symbols.
+
+ghost use Rattle.std.specs.Prelude.{◌≡◌, ◌≤◌, ◌∷◌, ◌++◌, [], ℕ, List, length, map, Option, Some, None, Ok, Err, IfOk, IfErr, MatchBool, MatchOption, MatchResult};
+ghost use Rattle.std.proofs.Common.{suc};
+ghost use Rattle.litmus_c.specs.Conditions.{formula_of};
+ghost use Rattle.litmus_c.specs.Drafts.{is_parameter, listing_of, written_of};
+ghost use Rattle.litmus_c.specs.Reading.{Gives, GivesAll, next_at, after, expected, name_at, number_look, number_at, before_name, open_at, location_at, register_at, place_at, bound_at, behind_type, entry_at, ends_entry, entry_behind, entries_at, parameter_behind, parameters_more, parameters_at, parameters_closed, parameter_list_at, order_named, order_at, expression_at, target_at, last_order_at, load_at, stored_at, call_at, right_at, given_at, declarator_at, declarators_at, assignment_at, open_step_at, step_at, steps_more, block_at, names_thread, thread_name_at, thread_at, threads_at, equation_at, atomic_with, proposition_with, below, condition_at, word_at, language_at, end_at, initial_at, test_at};
+ghost use Rattle.litmus_c.specs.Tree.{term_of, action_of, right_of, declared_of, step_of};
+
+use crate::conditions::{Binding, Cond, Kind, Place, Prop};
+use crate::draft::{Body, Draft};
+use crate::symbol::{Symbol, Terminal};
+use crate::rules::is_parameter;
+use crate::syntax_fault::SyntaxFault;
+use crate::tree::{Call, Declarator, Expression, LocationKind, Parameter, RightSide, Statement};
+use events::Order;
+use std::alloc::{AllocError, Global};
+use wb_text::{Name, Token};
+
+/// How deep the parts of a test may nest.
+pub const NESTING: u32 = 32;
+
+/// The symbols that are not yet read.
+#[derive(Drop)]
+pub struct Reader<'a> {
+    alloc: Global,
+    rest: &'a [Symbol],
+    /// All tokens, of which `rest` has the last.
+    tokens: &'a [Token],
+    /// The length of the text.
+    end: usize,
+    ghost within: { length rest.now ≤ length tokens.now },
+}
+
+impl<'a> Reader<'a> {
+    /// The offset of the next token, or the text's length.
+    fn position(&self) -> usize {
+        match self.tokens.get(self.tokens.len() - self.rest.len()) {
+            Some(token) => token.from,
+            None => self.end,
+        }
+    }
+
+    /// What may nest in something that may nest `nesting` deep.
+    fn deeper(&self, nesting: u32) -> Result<u32, SyntaxFault>
+        ensures ok { IfOk result (λ n. nesting ≡ suc n) }
+        ensures err { IfErr result (λ e. (nesting ≡ 0) × (e ≡ SyntaxFault.TooDeep)) }
+    {
+        nesting.checked_sub(1).ok_or(SyntaxFault::TooDeep)
+    }
+
+    /// Takes the next symbol, if it is this terminal.
+    #[tactic(auto, unfolding(crate::specs::Reading::after))]
+    fn take(&mut self, terminal: Terminal) -> bool
+        ensures { MatchBool result (after terminal self.old.rest.now ≡ Some (tt, self.new.rest.now)) ((after terminal self.old.rest.now ≡ None) × (self.new.rest.now ≡ self.old.rest.now)) }
+    {
+        let Some((first, rest)) = self.rest.split_first() else {
+            return false;
+        };
+        match first {
+            Symbol::Fixed(found) if *found == terminal => {
+                self.rest = rest;
+                true
+            }
+            _ => false,
+        }
+    }
+
+    #[tactic(auto, unfolding(crate::specs::Reading::expected))]
+    fn expect(&mut self, terminal: Terminal) -> Result<(), SyntaxFault>
+        ensures { Gives (λ _. tt) result self.new.rest.now (expected terminal self.old.rest.now) }
+    {
+        if self.take(terminal) {
+            Ok(())
+        } else {
+            Err(SyntaxFault::Syntax(self.position()))
+        }
+    }
+
+    /// The name that comes next.
+    #[tactic(auto, unfolding(crate::specs::Reading::name_at))]
+    fn name_ref(&mut self) -> Result<&'a Name, SyntaxFault>
+        ensures { Gives (λ s. s.now) result self.new.rest.now (name_at self.old.rest.now) }
+    {
+        let Some((first, rest)) = self.rest.split_first() else {
+            return Err(SyntaxFault::Syntax(self.position()));
+        };
+        match first {
+            Symbol::Name(name) => {
+                self.rest = rest;
+                Ok(name)
+            }
+            _ => Err(SyntaxFault::Syntax(self.position())),
+        }
+    }
+
+    fn name(&mut self) -> Result<Name, SyntaxFault>
+        ensures { Gives (λ n. n) result self.new.rest.now (name_at self.old.rest.now) }
+    {
+        Ok(self.name_ref()?.copy()?)
+    }
+
+    #[tactic(auto, unfolding(crate::specs::Reading::number_look))]
+    fn take_number(&mut self) -> Option<u32>
+        ensures { MatchOption result ((number_look self.old.rest.now ≡ None) × (self.new.rest.now ≡ self.old.rest.now)) (λ n. number_look self.old.rest.now ≡ Some (n, self.new.rest.now)) }
+    {
+        let (first, rest) = self.rest.split_first()?;
+        match first {
+            Symbol::Number(number) => {
+                self.rest = rest;
+                Some(*number)
+            }
+            _ => None,
+        }
+    }
+
+    #[tactic(auto, unfolding(crate::specs::Reading::number_at))]
+    fn number(&mut self) -> Result<u32, SyntaxFault>
+        ensures { Gives (λ n. n) result self.new.rest.now (number_at self.old.rest.now) }
+    {
+        match self.take_number() {
+            Some(number) => Ok(number),
+            None => Err(SyntaxFault::Syntax(self.position())),
+        }
+    }
+
+    /// Whether a name comes next.
+    #[tactic(auto, unfolding(crate::specs::Reading::before_name))]
+    fn is_before_name(&self) -> bool
+        ensures { MatchBool result (before_name self.now.rest.now ≡ Some (tt, self.now.rest.now)) (before_name self.now.rest.now ≡ None) }
+    {
+        matches!(self.rest, [Symbol::Name(_), ..])
+    }
+
+    /// An opening parenthesis. Answers how deep its inside may nest.
+    #[tactic(auto, unfolding(crate::specs::Reading::open_at, crate::specs::Reading::opened))]
+    fn open(&mut self, nesting: u32) -> Result<u32, SyntaxFault>
+        ensures { Gives (λ n. n) result self.new.rest.now (open_at nesting self.old.rest.now) }
+    {
+        self.expect(Terminal::LeftParen)?;
+        self.deeper(nesting)
+    }
+
+    /// location := name | "[" name "]"
+    #[tactic(auto, unfolding(crate::specs::Reading::location_at))]
+    fn location(&mut self) -> Result<Name, SyntaxFault>
+        ensures { Gives (λ n. n) result self.new.rest.now (location_at self.old.rest.now) }
+    {
+        if !self.take(Terminal::LeftBracket) {
+            return self.name();
+        }
+        let name = self.name()?;
+        self.expect(Terminal::RightBracket)?;
+        Ok(name)
+    }
+
+    /// The rest of a register: ":" name
+    #[tactic(auto, unfolding(crate::specs::Reading::register_at))]
+    fn register(&mut self, thread: u32) -> Result<Place, SyntaxFault>
+        ensures { Gives (λ p. p) result self.new.rest.now (register_at thread self.old.rest.now) }
+    {
+        self.expect(Terminal::Colon)?;
+        Ok(Place::Reg(thread as usize, self.name()?))
+    }
+
+    /// place := number ":" name | location
+    #[tactic(auto, unfolding(crate::specs::Reading::place_at))]
+    fn place(&mut self) -> Result<Place, SyntaxFault>
+        ensures { Gives (λ p. p) result self.new.rest.now (place_at self.old.rest.now) }
+    {
+        match self.take_number() {
+            Some(thread) => self.register(thread),
+            None => Ok(Place::Loc(self.location()?)),
+        }
+    }
+
+    /// The rest of an entry: ["=" number], which only a location may lack.
+    #[tactic(auto, unfolding(crate::specs::Reading::bound_at, crate::specs::Reading::bare))]
+    fn bound(&mut self, place: Place) -> Result<Binding, SyntaxFault>
+        ensures { Gives (λ b. b) result self.new.rest.now (bound_at place self.old.rest.now) }
+    {
+        if self.take(Terminal::Assign) {
+            let value = self.number()?;
+            return Ok(Binding { place, value });
+        }
+        match place {
+            Place::Loc(_) => Ok(Binding { place, value: 0 }),
+            Place::Reg(_, _) => Err(SyntaxFault::Syntax(self.position())),
+        }
+    }
+
+    #[tactic(auto, unfolding(crate::specs::Reading::behind_type))]
+    fn skip_type(&mut self)
+        ensures { self.new.rest.now ≡ behind_type self.old.rest.now }
+    {
+        if !self.take(Terminal::Int) {
+            let _ = self.take(Terminal::AtomicInt);
+        }
+    }
+
+    /// entry := [type] (location | place "=" number)
+    #[tactic(auto, unfolding(crate::specs::Reading::entry_at))]
+    fn entry(&mut self) -> Result<Binding, SyntaxFault>
+        ensures { Gives (λ b. b) result self.new.rest.now (entry_at self.old.rest.now) }
+    {
+        self.skip_type();
+        let place = self.place()?;
+        self.bound(place)
+    }
+
+    #[tactic(auto, unfolding(crate::specs::Reading::ends_entry))]
+    fn ends_entry(&self) -> bool
+        ensures { result ≡ ends_entry self.now.rest.now }
+    {
+        matches!(
+            self.rest,
+            [
+                Symbol::Fixed(Terminal::Semicolon | Terminal::RightBrace),
+                ..
+            ]
+        )
+    }
+
+    /// Adds the next entry, if there is one.
+    #[tactic(auto, unfolding(crate::specs::Reading::entry_behind))]
+    fn entry_into(&mut self, entries: &mut Vec<Binding>) -> Result<(), SyntaxFault>
+        ensures { Gives (λ _. entries.new.items) result self.new.rest.now (entry_behind entries.old.items self.old.rest.now) }
+    {
+        if !self.ends_entry() {
+            let entry = self.entry()?;
+            entries.push(entry)?;
+        }
+        Ok(())
+    }
+
+    /// entries := [entry] {";" [entry]}
+    #[tactic(auto, unfolding(crate::specs::Reading::entries_at), using(crate::proofs::Levels::entries_turn, crate::proofs::Levels::entries_turn_takes))]
+    fn entries(&mut self) -> Result<Vec<Binding>, SyntaxFault>
+        ensures { Gives (λ v. v.items) result self.new.rest.now (entries_at self.old.rest.now) }
+    {
+        let mut entries = Vec::new(self.alloc);
+        self.entry_into(&mut entries)?;
+        while self.take(Terminal::Semicolon) {
+            self.entry_into(&mut entries)?;
+        }
+        Ok(entries)
+    }
+
+    /// parameter := "atomic_int" "*" name, which is none of the earlier ones
+    #[tactic(auto, unfolding(crate::specs::Reading::parameter_behind))]
+    fn parameter(&mut self, earlier: &[Parameter]) -> Result<Parameter, SyntaxFault>
+        ensures { Gives (λ p. p) result self.new.rest.now (parameter_behind earlier.now self.old.rest.now) }
+    {
+        self.expect(Terminal::AtomicInt)?;
+        self.expect(Terminal::Star)?;
+        let position = self.position();
+        let name = self.name()?;
+        if is_parameter(earlier, &name) {
+            return Err(SyntaxFault::Syntax(position));
+        }
+        Ok(Parameter {
+            name,
+            kind: LocationKind::Atomic,
+        })
+    }
+
+    #[tactic(auto, unfolding(crate::specs::Reading::parameters_more))]
+    fn parameter_into(&mut self, parameters: &mut Vec<Parameter>) -> Result<(), SyntaxFault>
+        ensures { Gives (λ _. parameters.new.items) result self.new.rest.now (parameters_more parameters.old.items self.old.rest.now) }
+    {
+        let parameter = self.parameter(parameters.as_slice())?;
+        parameters.push(parameter)?;
+        Ok(())
+    }
+
+    /// parameters := parameter {"," parameter}
+    #[tactic(auto, unfolding(crate::specs::Reading::parameters_at), using(crate::proofs::Levels::parameters_turn, crate::proofs::Levels::parameters_turn_takes))]
+    fn parameters(&mut self) -> Result<Vec<Parameter>, SyntaxFault>
+        ensures { Gives (λ v. v.items) result self.new.rest.now (parameters_at self.old.rest.now) }
+    {
+        let mut parameters = Vec::new(self.alloc);
+        self.parameter_into(&mut parameters)?;
+        while self.take(Terminal::Comma) {
+            self.parameter_into(&mut parameters)?;
+        }
+        Ok(parameters)
+    }
+
+    /// "(" [parameters] ")"
+    #[tactic(auto, unfolding(crate::specs::Reading::parameter_list_at, crate::specs::Reading::parameters_closed))]
+    fn parameter_list(&mut self, nesting: u32) -> Result<Vec<Parameter>, SyntaxFault>
+        ensures { Gives (λ v. v.items) result self.new.rest.now (parameter_list_at nesting self.old.rest.now) }
+    {
+        self.open(nesting)?;
+        if self.take(Terminal::RightParen) {
+            return Ok(Vec::new(self.alloc));
+        }
+        let parameters = self.parameters()?;
+        self.expect(Terminal::RightParen)?;
+        Ok(parameters)
+    }
+
+    #[tactic(auto, unfolding(crate::specs::Reading::order_at))]
+    fn order(&mut self) -> Result<Order, SyntaxFault>
+        ensures { Gives (λ o. o) result self.new.rest.now (order_at self.old.rest.now) }
+    {
+        let position = self.position();
+        let name = self.name_ref()?;
+        order_named(name.bytes()).ok_or(SyntaxFault::Syntax(position))
+    }
+
+    /// expression := number
+    #[tactic(auto, unfolding(crate::specs::Reading::expression_at))]
+    fn expression(&mut self) -> Result<Expression, SyntaxFault>
+        ensures { Gives term_of result self.new.rest.now (expression_at self.old.rest.now) }
+    {
+        Ok(Expression::Number(self.number()?))
+    }
+
+    /// The location of a call: name ","
+    #[tactic(auto, unfolding(crate::specs::Reading::target_at))]
+    fn target(&mut self) -> Result<Name, SyntaxFault>
+        ensures { Gives (λ n. n) result self.new.rest.now (target_at self.old.rest.now) }
+    {
+        let name = self.name()?;
+        self.expect(Terminal::Comma)?;
+        Ok(name)
+    }
+
+    /// The end of a call: order ")"
+    #[tactic(auto, unfolding(crate::specs::Reading::last_order_at))]
+    fn last_order(&mut self) -> Result<Order, SyntaxFault>
+        ensures { Gives (λ o. o) result self.new.rest.now (last_order_at self.old.rest.now) }
+    {
+        let order = self.order()?;
+        self.expect(Terminal::RightParen)?;
+        Ok(order)
+    }
+
+    /// load := "atomic_load_explicit" "(" name "," order ")"
+    #[tactic(auto, unfolding(crate::specs::Reading::load_at))]
+    fn load(&mut self, nesting: u32) -> Result<Call, SyntaxFault>
+        ensures { Gives action_of result self.new.rest.now (load_at nesting self.old.rest.now) }
+    {
+        self.expect(Terminal::AtomicLoadExplicit)?;
+        self.open(nesting)?;
+        let location = self.target()?;
+        let order = self.last_order()?;
+        Ok(Call::Load(location, order))
+    }
+
+    /// The rest of a store: "(" name "," expression "," order ")"
+    #[tactic(auto, unfolding(crate::specs::Reading::stored_at))]
+    fn stored(&mut self, nesting: u32) -> Result<Call, SyntaxFault>
+        ensures { Gives action_of result self.new.rest.now (stored_at nesting self.old.rest.now) }
+    {
+        self.open(nesting)?;
+        let location = self.target()?;
+        let value = self.expression()?;
+        self.expect(Terminal::Comma)?;
+        let order = self.last_order()?;
+        Ok(Call::Store(location, value, order))
+    }
+
+    #[tactic(auto, unfolding(crate::specs::Reading::call_at))]
+    fn call(&mut self, nesting: u32) -> Result<Call, SyntaxFault>
+        ensures { Gives action_of result self.new.rest.now (call_at nesting self.old.rest.now) }
+    {
+        if self.take(Terminal::AtomicStoreExplicit) {
+            self.stored(nesting)
+        } else {
+            self.load(nesting)
+        }
+    }
+
+    #[tactic(auto, unfolding(crate::specs::Reading::right_at))]
+    fn right_side(&mut self, nesting: u32) -> Result<RightSide, SyntaxFault>
+        ensures { Gives right_of result self.new.rest.now (right_at nesting self.old.rest.now) }
+    {
+        Ok(RightSide::Call(self.load(nesting)?))
+    }
+
+    /// name "=" right
+    #[tactic(auto, unfolding(crate::specs::Reading::given_at))]
+    fn given(&mut self, nesting: u32) -> Result<(Name, RightSide), SyntaxFault>
+        ensures { Gives (λ g. (g.0, right_of g.1)) result self.new.rest.now (given_at nesting self.old.rest.now) }
+    {
+        let register = self.name()?;
+        self.expect(Terminal::Assign)?;
+        Ok((register, self.right_side(nesting)?))
+    }
+
+    #[tactic(auto, unfolding(crate::specs::Reading::declarator_at))]
+    fn declarator(&mut self, nesting: u32) -> Result<Declarator, SyntaxFault>
+        ensures { Gives declared_of result self.new.rest.now (declarator_at nesting self.old.rest.now) }
+    {
+        let (register, value) = self.given(nesting)?;
+        Ok(Declarator {
+            register,
+            value: Some(value),
+        })
+    }
+
+    #[tactic(auto, unfolding(crate::specs::Reading::declarators_at))]
+    fn declarators(&mut self, nesting: u32) -> Result<Vec<Declarator>, SyntaxFault>
+        ensures { Gives (λ v. map declared_of v.items) result self.new.rest.now (declarators_at nesting self.old.rest.now) }
+    {
+        let mut declarators = Vec::new(self.alloc);
+        declarators.push(self.declarator(nesting)?)?;
+        Ok(declarators)
+    }
+
+    /// A statement without its semicolon: "int" declarators | name "=" right | call
+    #[tactic(auto, unfolding(crate::specs::Reading::open_step_at, crate::specs::Reading::declared_at, crate::specs::Reading::assignment_at, crate::specs::Reading::performed_at))]
+    fn open_statement(&mut self, nesting: u32) -> Result<Statement, SyntaxFault>
+        ensures { Gives step_of result self.new.rest.now (open_step_at nesting self.old.rest.now) }
+    {
+        if self.take(Terminal::Int) {
+            return Ok(Statement::Declare(self.declarators(nesting)?));
+        }
+        if self.is_before_name() {
+            let (register, value) = self.given(nesting)?;
+            return Ok(Statement::Assign(register, value));
+        }
+        Ok(Statement::Perform(self.call(nesting)?))
+    }
+
+    #[tactic(auto, unfolding(crate::specs::Reading::step_at, crate::specs::Reading::closed_step_at))]
+    fn statement(&mut self, nesting: u32) -> Result<Statement, SyntaxFault>
+        ensures { Gives step_of result self.new.rest.now (step_at nesting self.old.rest.now) }
+    {
+        if self.take(Terminal::Semicolon) {
+            return Ok(Statement::Empty);
+        }
+        let statement = self.open_statement(nesting)?;
+        self.expect(Terminal::Semicolon)?;
+        Ok(statement)
+    }
+
+    /// Statements up to a brace, and the brace.
+    #[tactic(auto, unfolding(crate::specs::Reading::block_at, crate::specs::Reading::unless, crate::specs::Reading::expected), using(crate::proofs::Levels::steps_turn, crate::proofs::Levels::step_takes, crate::proofs::Levels::steps_push))]
+    fn block(&mut self, nesting: u32) -> Result<Vec<Statement>, SyntaxFault>
+        ensures { Gives (λ v. map step_of v.items) result self.new.rest.now (block_at nesting self.old.rest.now) }
+    {
+        let mut statements = Vec::new(self.alloc);
+        while !self.take(Terminal::RightBrace) {
+            let statement = self.statement(nesting)?;
+            statements.push(statement)?;
+        }
+        Ok(statements)
+    }
+
+    /// "P0" for thread 0, and so on
+    #[tactic(auto, unfolding(crate::specs::Reading::thread_name_at))]
+    fn thread_name(&mut self, number: usize) -> Result<(), SyntaxFault>
+        ensures { Gives (λ _. tt) result self.new.rest.now (thread_name_at number self.old.rest.now) }
+    {
+        let position = self.position();
+        let name = self.name_ref()?;
+        if names_thread(self.alloc, name.bytes(), number)? {
+            Ok(())
+        } else {
+            Err(SyntaxFault::Syntax(position))
+        }
+    }
+
+    /// thread := "P0" "(" [parameters] ")" "{" {statement} "}"
+    #[tactic(auto, unfolding(crate::specs::Reading::thread_at))]
+    fn thread(&mut self, nesting: u32, number: usize) -> Result<Body, SyntaxFault>
+        ensures { Gives listing_of result self.new.rest.now (thread_at nesting number self.old.rest.now) }
+    {
+        self.thread_name(number)?;
+        let parameters = self.parameter_list(nesting)?;
+        self.expect(Terminal::LeftBrace)?;
+        let statements = self.block(nesting)?;
+        Ok(Body {
+            parameters,
+            statements,
+        })
+    }
+
+    /// thread {thread}
+    #[tactic(auto, unfolding(crate::specs::Reading::threads_at, crate::specs::Reading::threads_more), using(crate::proofs::Levels::threads_turn, crate::proofs::Levels::thread_takes, crate::proofs::Levels::listings_push, crate::proofs::Levels::listings_len))]
+    fn threads(&mut self, nesting: u32) -> Result<Vec<Body>, SyntaxFault>
+        ensures { Gives (λ v. map listing_of v.items) result self.new.rest.now (threads_at nesting self.old.rest.now) }
+    {
+        let mut bodies = Vec::new(self.alloc);
+        bodies.push(self.thread(nesting, 0)?)?;
+        while self.is_before_name() {
+            let body = self.thread(nesting, bodies.len())?;
+            bodies.push(body)?;
+        }
+        Ok(bodies)
+    }
+
+    /// place "=" number
+    #[tactic(auto, unfolding(crate::specs::Reading::equation_at))]
+    fn equation(&mut self) -> Result<Prop, SyntaxFault>
+        ensures { Gives formula_of result self.new.rest.now (equation_at self.old.rest.now) }
+    {
+        let place = self.place()?;
+        self.expect(Terminal::Assign)?;
+        Ok(Prop::Equals(place, self.number()?))
+    }
+
+    /// atomic := "(" proposition ")" | place "=" number
+    #[cycle(propositions)]
+    #[tactic(auto, unfolding(crate::specs::Reading::atomic_with, crate::specs::Reading::below))]
+    fn atomic(&mut self, nesting: u32) -> Result<Prop, SyntaxFault>
+        ensures { Gives formula_of result self.new.rest.now (atomic_with (below nesting) self.old.rest.now) }
+    {
+        if !self.take(Terminal::LeftParen) {
+            return self.equation();
+        }
+        let nesting = self.deeper(nesting)?;
+        let inner = self.proposition(nesting)?;
+        self.expect(Terminal::RightParen)?;
+        Ok(inner)
+    }
+
+    /// proposition := atomic {"/\" atomic}
+    #[cycle(propositions)]
+    #[tactic(auto, unfolding(crate::specs::Reading::proposition_with), using(crate::proofs::Levels::conjunction_turn, crate::proofs::Levels::atomic_takes, crate::proofs::Levels::after_takes))]
+    fn proposition(&mut self, nesting: u32) -> Result<Prop, SyntaxFault>
+        ensures { Gives formula_of result self.new.rest.now (proposition_with (below nesting) self.old.rest.now) }
+    {
+        let mut left = self.atomic(nesting)?;
+        while self.take(Terminal::And) {
+            let right = self.atomic(nesting)?;
+            left = Prop::And(Box::new(self.alloc, left)?, Box::new(self.alloc, right)?);
+        }
+        Ok(left)
+    }
+
+    /// condition := "exists" proposition
+    #[tactic(auto, unfolding(crate::specs::Reading::condition_at))]
+    fn condition(&mut self, nesting: u32) -> Result<Cond, SyntaxFault>
+        ensures { Gives (λ c. c) result self.new.rest.now (condition_at nesting self.old.rest.now) }
+    {
+        self.expect(Terminal::Exists)?;
+        Ok(Cond::new(Kind::Exists, self.proposition(nesting)?))
+    }
+
+    /// A word of the head.
+    #[tactic(auto, unfolding(crate::specs::Reading::word_at))]
+    fn word(&mut self) -> Result<&'a Name, SyntaxFault>
+        ensures { Gives (λ s. s.now) result self.new.rest.now (word_at self.old.rest.now) }
+    {
+        let Some((first, rest)) = self.rest.split_first() else {
+            return Err(SyntaxFault::Syntax(self.position()));
+        };
+        match first {
+            Symbol::Word(word) => {
+                self.rest = rest;
+                Ok(word)
+            }
+            _ => Err(SyntaxFault::Syntax(self.position())),
+        }
+    }
+
+    /// "C"
+    #[tactic(auto, unfolding(crate::specs::Reading::language_at))]
+    fn language(&mut self) -> Result<(), SyntaxFault>
+        ensures { Gives (λ _. tt) result self.new.rest.now (language_at self.old.rest.now) }
+    {
+        let position = self.position();
+        if self.word()?.bytes() == b"C".as_slice() {
+            Ok(())
+        } else {
+            Err(SyntaxFault::Syntax(position))
+        }
+    }
+
+    #[tactic(auto, unfolding(crate::specs::Reading::end_at))]
+    fn end(&mut self) -> Result<(), SyntaxFault>
+        ensures { Gives (λ _. tt) result self.new.rest.now (end_at self.old.rest.now) }
+    {
+        match self.rest.split_first() {
+            None => Ok(()),
+            Some(_) => Err(SyntaxFault::Syntax(self.position())),
+        }
+    }
+
+    /// "{" entries "}"
+    #[tactic(auto, unfolding(crate::specs::Reading::initial_at))]
+    fn initial(&mut self) -> Result<Vec<Binding>, SyntaxFault>
+        ensures { Gives (λ v. v.items) result self.new.rest.now (initial_at self.old.rest.now) }
+    {
+        self.expect(Terminal::LeftBrace)?;
+        let entries = self.entries()?;
+        self.expect(Terminal::RightBrace)?;
+        Ok(entries)
+    }
+
+    /// test := "C" name "{" entries "}" thread {thread} condition
+    #[tactic(auto, unfolding(crate::specs::Reading::test_at))]
+    fn test(&mut self, nesting: u32) -> Result<Draft, SyntaxFault>
+        ensures { Gives written_of result self.new.rest.now (test_at nesting self.old.rest.now) }
+    {
+        self.language()?;
+        let name = self.word()?.copy()?;
+        let entries = self.initial()?;
+        let bodies = self.threads(nesting)?;
+        let condition = self.condition(nesting)?;
+        self.end()?;
+        Ok(Draft {
+            name,
+            entries,
+            bodies,
+            condition,
+        })
+    }
+}
+
+/// The order that a name stands for.
+fn order_named(name: &[u8]) -> Option<Order>
+    ensures { result ≡ order_named name.now }
+{
+    if name == b"memory_order_relaxed".as_slice() {
+        Some(Order::Rlx)
+    } else {
+        None
+    }
+}
+
+/// Whether this is the name of thread `number`.
+fn names_thread(alloc: Global, name: &[u8], number: usize) -> Result<bool, AllocError>
+    ensures { IfOk result (λ b. b ≡ names_thread name.now number) }
+{
+    let expected = format!(in alloc; "P{number}")?;
+    Ok(name == expected.as_bytes())
+}
+
+/// The test that the symbols spell. `end` is the length of the text.
+pub fn read_draft(
+    alloc: Global,
+    tokens: &[Token],
+    symbols: &[Symbol],
+    end: usize,
+) -> Result<Draft, SyntaxFault>
+    requires { length symbols.now ≡ length tokens.now }
+    ensures { GivesAll written_of result (test_at 32 symbols.now) }
+{
+    let mut reader = Reader {
+        alloc,
+        rest: symbols,
+        tokens,
+        end,
+    };
+    reader.test(NESTING)
+}

@@ -1,0 +1,170 @@
+use super::*;
+use crate::conditions::{Kind, Place};
+use std::alloc::Global;
+use std::test::Fail;
+use wb_text::TextFault;
+
+const SB: &[u8] = b"C SB
+{}
+P0 (atomic_int* x, atomic_int* y) {
+  atomic_store_explicit(x, 1, memory_order_relaxed);
+  int r0 = atomic_load_explicit(y, memory_order_relaxed);
+}
+P1 (atomic_int* x, atomic_int* y) {
+  atomic_store_explicit(y, 1, memory_order_relaxed);
+  int r0 = atomic_load_explicit(x, memory_order_relaxed);
+}
+exists (0:r0=0 /\\ 1:r0=0)
+";
+
+/// The fault of a text, if it is refused.
+fn fault(alloc: Global, text: &str) -> Option<TestFault> {
+    read_test(alloc, text.as_bytes()).err()
+}
+
+/// `part`, so many times, between `front` and `back`.
+fn many(
+    alloc: Global,
+    front: &str,
+    part: &str,
+    times: u32,
+    back: &str,
+) -> Result<String, std::alloc::AllocError> {
+    let mut text = String::from_str(alloc, front)?;
+    for _ in 0..times {
+        text.push_str(part)?;
+    }
+    text.push_str(back)?;
+    Ok(text)
+}
+
+#[test]
+fn sb_reads(rt: HostRuntime) -> Result<(), Fail> {
+    let test = read_test(rt.alloc(), SB)?;
+    assert!(rt; test.name().bytes() == b"SB".as_slice());
+    assert_eq!(rt; test.initial().len(), 0);
+    assert_eq!(rt; test.threads().len(), 2);
+    assert_eq!(rt; test.listed().len(), 0);
+    assert_eq!(rt; test.locations().len(), 2);
+    assert!(rt; test.condition().kind() == Kind::Exists);
+    for thread in test.threads() {
+        assert_eq!(rt; thread.parameters().len(), 2);
+        assert_eq!(rt; thread.statements().len(), 2);
+        assert_eq!(rt; thread.registers().len(), 1);
+    }
+    Ok(())
+}
+
+#[test]
+fn reading_faults(rt: HostRuntime) {
+    assert_eq!(rt; fault(rt.alloc(), "C SB\n{"), Some(TestFault::Syntax(6)));
+}
+
+#[test]
+fn prefixes_of_sb(rt: HostRuntime) {
+    let mut length = SB.len() - 2;
+    while length > 0 {
+        length -= 1;
+        let read = read_test(rt.alloc(), &SB[..length]);
+        assert!(rt; matches!(read, Err(TestFault::Text(_) | TestFault::Syntax(_))));
+    }
+}
+
+#[test]
+fn nested_parentheses(rt: HostRuntime) -> Result<(), Fail> {
+    let alloc = rt.alloc();
+    let closed = many(alloc, "x=0", ")", 33, "")?;
+    let deepest = many(alloc, "C a\n{x}P0(){}exists ", "(", 32, &closed[..35])?;
+    assert_eq!(rt; fault(alloc, deepest.as_str()), None);
+    let beyond = many(alloc, "C a\n{x}P0(){}exists ", "(", 33, closed.as_str())?;
+    assert_eq!(rt; fault(alloc, beyond.as_str()), Some(TestFault::TooDeep));
+    Ok(())
+}
+
+#[test]
+fn threads(rt: HostRuntime) {
+    let eight = "C a\n{x}P0(){}P1(){}P2(){}P3(){}P4(){}P5(){}P6(){}P7(){}exists x=0";
+    assert_eq!(rt; fault(rt.alloc(), eight), None);
+    let nine = "C a\n{x}P0(){}P1(){}P2(){}P3(){}P4(){}P5(){}P6(){}P7(){}P8(){}exists y=0";
+    assert_eq!(rt; fault(rt.alloc(), nine), Some(TestFault::TooManyThreads));
+    let skipped = "C a\n{x}P0(){}P2(){}exists x=0";
+    assert_eq!(rt; fault(rt.alloc(), skipped), Some(TestFault::Syntax(13)));
+}
+
+#[test]
+fn locations(rt: HostRuntime) {
+    let eight = "C a\n{a;b;c;d;e;f;g;h}P0(){}exists a=0";
+    assert_eq!(rt; fault(rt.alloc(), eight), None);
+    let nine = "C a\n{a;b;c;d;e;f;g;h;i}P0(){}exists y=0";
+    assert_eq!(rt; fault(rt.alloc(), nine), Some(TestFault::TooManyLocations));
+}
+
+#[test]
+fn events(rt: HostRuntime) -> Result<(), Fail> {
+    let load = "atomic_load_explicit(x,memory_order_relaxed);";
+    let most = many(rt.alloc(), "C a\n{}P0(atomic_int*x){", load, 63, "}exists x=0")?;
+    assert_eq!(rt; fault(rt.alloc(), most.as_str()), None);
+    let more = many(rt.alloc(), "C a\n{}P0(atomic_int*x){", load, 64, "}exists x=0")?;
+    assert_eq!(rt; fault(rt.alloc(), more.as_str()), Some(TestFault::TooManyEvents));
+    Ok(())
+}
+
+#[test]
+fn values(rt: HostRuntime) {
+    let sixteen = "C a\n{0:a=2;0:b=3;0:c=4;0:d=5;0:e=6;0:f=7;0:g=8;0:h=9;0:i=10;0:j=11;0:k=12;0:l=13;0:m=14;0:n=15}P0(){}exists 0:a=0";
+    assert_eq!(rt; fault(rt.alloc(), sixteen), None);
+    let seventeen = "C a\n{0:a=2;0:b=3;0:c=4;0:d=5;0:e=6;0:f=7;0:g=8;0:h=9;0:i=10;0:j=11;0:k=12;0:l=13;0:m=14;0:n=15;0:o=16}P0(){}exists 0:a=0";
+    assert_eq!(rt; fault(rt.alloc(), seventeen), Some(TestFault::TooManyValues));
+}
+
+#[test]
+fn comments(rt: HostRuntime) {
+    let text = "C a (* b (* c *) *)\n{x // d\n; /* e */}P0(/**/){}exists (* f *) x=0 // g";
+    assert_eq!(rt; fault(rt.alloc(), text), None);
+}
+
+#[test]
+fn two_entries_for_one_place(rt: HostRuntime) -> Result<(), Fail> {
+    let test = read_test(rt.alloc(), b"C a\n{int x=1; [x]=2; 0:r=3; y=4; y}P0(){}exists x=0")?;
+    assert_eq!(rt; test.initial().len(), 3);
+    for binding in test.initial() {
+        let value = match &binding.place {
+            Place::Reg(_, _) => 3,
+            Place::Loc(name) => {
+                if name.bytes() == b"x".as_slice() {
+                    2
+                } else {
+                    0
+                }
+            }
+        };
+        assert_eq!(rt; binding.value, value);
+    }
+    assert_eq!(rt; test.locations().len(), 2);
+    Ok(())
+}
+
+#[test]
+fn unknown_names(rt: HostRuntime) {
+    let alloc = rt.alloc();
+    assert_eq!(rt; fault(alloc, "C a\n{x}P0(){}exists y=0"), Some(TestFault::UnknownName));
+    assert_eq!(rt; fault(alloc, "C a\n{x}P0(){}exists 0:r=0"), Some(TestFault::UnknownName));
+    assert_eq!(rt; fault(alloc, "C a\n{x}P0(){}exists 1:r=0"), Some(TestFault::UnknownName));
+    assert_eq!(rt; fault(alloc, "C a\n{1:r=0}P0(){}exists 0:r=0"), Some(TestFault::UnknownName));
+    assert_eq!(rt; fault(alloc, "C a\n{0:x=1}P0(atomic_int*x){}exists x=0"), Some(TestFault::UnknownName));
+    let parameter = "C a\n{}P0(atomic_int*x){int x=atomic_load_explicit(x,memory_order_relaxed);}exists x=0";
+    assert_eq!(rt; fault(alloc, parameter), Some(TestFault::UnknownName));
+    let free = "C a\n{x}P0(){atomic_load_explicit(x,memory_order_relaxed);}exists x=0";
+    assert_eq!(rt; fault(alloc, free), Some(TestFault::UnknownName));
+}
+
+#[test]
+fn syntax_faults(rt: HostRuntime) {
+    let alloc = rt.alloc();
+    assert_eq!(rt; fault(alloc, "C a\n{x}P0(){}exists x=0 x"), Some(TestFault::Syntax(24)));
+    assert_eq!(rt; fault(alloc, "C a\n{x}P0(){}exists x=00"), Some(TestFault::Syntax(22)));
+    assert_eq!(rt; fault(alloc, "C a\n{int}P0(){}exists x=0"), Some(TestFault::Syntax(8)));
+    assert_eq!(rt; fault(alloc, "C a\n{}P0(atomic_int*x,atomic_int*x){}exists x=0"), Some(TestFault::Syntax(33)));
+    assert_eq!(rt; fault(alloc, "C a\n{x}P0(){x=0;}exists x=0"), Some(TestFault::Syntax(15)));
+    assert_eq!(rt; fault(alloc, "C a\n{\"}P0(){}exists x=0"), Some(TestFault::Text(TextFault::OpenString)));
+}
