@@ -17,7 +17,7 @@ use Rattle.bench.specs.declared.slices.tally.Tally.{Tally}
 use Rattle.bench.specs.Finals.{final, obs, has, last_or}
 use Rattle.bench.specs.Outcomes.{Outcome}
 use Rattle.bench.specs.Slots.{slot_of, slot_value}
-use Rattle.bench.specs.Tallies.{collected, IsTally}
+use Rattle.bench.specs.Tallies.{collected, outcome_of, IsTally}
 use Rattle.bench.specs.Verdicts.{Tells, IsVerdict}
 use Rattle.bench.proofs.Rows.{row_cmp, from_collected, in_collected, no_repeats, are_sorted}
 
@@ -99,11 +99,11 @@ last_of w (v ∷ vs) =
 -- the verdict of a tally of all executions
 
 pub tells : (t : Litmus) (xs : List Execution) (places : List Place) (tally : Tally) (v : Outcome) → Lists (IsExecution t) xs → IsTally t places xs tally → AreObserved t.condition t.listed places
-    → v ≡ record { name = t.name; kind = t.condition.kind; formula = t.condition.formula; places = places; positive = tally.positive; negative = tally.negative; states = tally.states.keys; flags = [] }
+    → v ≡ outcome_of t places tally
     → IsStrictlySortedBy row_cmp v.states
     → IsVerdict t v
 tells t xs places tally v all h observed e sorted =
-    let outcome : Outcome = record { name = t.name; kind = t.condition.kind; formula = t.condition.formula; places = places; positive = tally.positive; negative = tally.negative; states = tally.states.keys; flags = [] } in
+    let outcome = outcome_of t places tally in
     let S : Outcome → Type 0 = λ o. IsStrictlySortedBy row_cmp o.states in
     let in_order = subst S e sorted in
     let rows = h.states in

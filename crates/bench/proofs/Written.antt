@@ -6,7 +6,11 @@ use Rattle.std.proofs.lemmas.Grind.{flat_map-append}
 use Rattle.std.specs.Io.KnownBytes.{Appends}
 use Rattle.std.proofs.KnownBytes.{Appends-nil, Appends-trans}
 use Rattle.wb_text.specs.Memory.{AppendsFront}
-use Rattle.bench.specs.Writing.{Writes}
+
+-- `Writes`, of what the writer holds and of its mark
+abbrev pub Wrote : {A E : Type 0} → Option (List ℕ) → Option (List ℕ) → Bool → Result A E → List ℕ → Type 0
+Wrote old new failed (Ok done) bytes = Appends old new bytes
+Wrote old new failed (Err fault) bytes = AppendsFront old new bytes × (failed ≡ true)
 
 -- a front part of what stands behind what was written, whatever would have followed
 pub front_of : (old mid new : Option (List ℕ)) (as' bs cs whole : List ℕ) → Appends old mid as' → AppendsFront mid new bs → whole ≡ as' ++ (bs ++ cs) → AppendsFront old new whole
@@ -20,17 +24,17 @@ front_of old mid new as' bs cs whole done part e =
       },
     )
 
-pub at_err : {A E : Type 0} (old new : Option (List ℕ)) (failed : Bool) (r : Result A E) (bytes : List ℕ) → IsErr r → AppendsFront old new bytes → failed ≡ true → Writes old new failed r bytes
+pub at_err : {A E : Type 0} (old new : Option (List ℕ)) (failed : Bool) (r : Result A E) (bytes : List ℕ) → IsErr r → AppendsFront old new bytes → failed ≡ true → Wrote old new failed r bytes
 at_err old new failed (Ok done) bytes is part mark = cc
 at_err old new failed (Err fault) bytes is part mark = (part, mark)
 
 -- The exit at a write of bs that failed, after as' was written: cs would have followed.
-pub exit : {A E : Type 0} (old mid new : Option (List ℕ)) (failed : Bool) (r : Result A E) (as' bs cs whole : List ℕ) → IsErr r → Appends old mid as' → AppendsFront mid new bs × (failed ≡ true) → whole ≡ as' ++ (bs ++ cs) → Writes old new failed r whole
+pub exit : {A E : Type 0} (old mid new : Option (List ℕ)) (failed : Bool) (r : Result A E) (as' bs cs whole : List ℕ) → IsErr r → Appends old mid as' → AppendsFront mid new bs × (failed ≡ true) → whole ≡ as' ++ (bs ++ cs) → Wrote old new failed r whole
 exit old mid new failed r as' bs cs whole is done part e =
     at_err old new failed r whole is (front_of old mid new as' bs cs whole done part.0 e) part.1
 
 -- a write behind another that was done
-pub after : {A E : Type 0} (old mid new : Option (List ℕ)) (failed : Bool) (r : Result A E) (as' bs whole : List ℕ) → Appends old mid as' → Writes mid new failed r bs → whole ≡ as' ++ bs → Writes old new failed r whole
+pub after : {A E : Type 0} (old mid new : Option (List ℕ)) (failed : Bool) (r : Result A E) (as' bs whole : List ℕ) → Appends old mid as' → Wrote mid new failed r bs → whole ≡ as' ++ bs → Wrote old new failed r whole
 after old mid new failed (Ok done) as' bs whole a b e =
     let P : List ℕ → Type 0 = λ l. Appends old new l in subst P (sym e) (Appends-trans old mid new as' bs a b)
 after old mid new failed (Err fault) as' bs whole a b e =
@@ -46,5 +50,5 @@ pub flat_map-item : {X : Type 0} (f : X → List ℕ) (xs : List X) (k : ℕ) (x
 flat_map-item f xs k x h e = flat_map-at f xs k x h ∙ ap (λ y. flat_map f (take k xs) ++ (f y ++ flat_map f (drop (k + 1) xs))) (sym e)
 
 -- the same bytes, written otherwise
-pub same : {A E : Type 0} (old new : Option (List ℕ)) (failed : Bool) (r : Result A E) (as' bs : List ℕ) → as' ≡ bs → Writes old new failed r as' → Writes old new failed r bs
-same old new failed r as' bs e w = let P : List ℕ → Type 0 = λ l. Writes old new failed r l in subst P e w
+pub same : {A E : Type 0} (old new : Option (List ℕ)) (failed : Bool) (r : Result A E) (as' bs : List ℕ) → as' ≡ bs → Wrote old new failed r as' → Wrote old new failed r bs
+same old new failed r as' bs e w = let P : List ℕ → Type 0 = λ l. Wrote old new failed r l in subst P e w

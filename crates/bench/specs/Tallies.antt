@@ -8,6 +8,7 @@ use Rattle.litmus_c.specs.declared.conditions.place.Place.{Place}
 use Rattle.litmus_c.specs.Tree.{Litmus}
 use Rattle.bench.specs.declared.slices.tally.Tally.{Tally}
 use Rattle.bench.specs.Finals.{obs, has}
+use Rattle.bench.specs.Outcomes.{Outcome}
 
 -- the values at the places, put in order one after another
 abbrev pub collected : Litmus → List Place → List Execution → List (List ℕ)
@@ -18,3 +19,16 @@ pub record IsTally (t : Litmus) (places : List Place) (xs : List Execution) (tal
   pub positive : tally.positive ≡ count_by (has t places) xs
   pub negative : tally.negative ≡ count_by (λ x. not (has t places x)) xs
   pub states : tally.states.keys ≡ collected t places xs
+
+-- what a tally of a test says; no flag is raised
+abbrev pub outcome_of : Litmus → List Place → Tally → Outcome
+outcome_of t places tally = record {
+  name = t.name;
+  kind = t.condition.kind;
+  formula = t.condition.formula;
+  places = places;
+  positive = tally.positive;
+  negative = tally.negative;
+  states = tally.states.keys;
+  flags = [];
+}

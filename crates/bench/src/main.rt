@@ -35,3 +35,6 @@ fn run(rt: &(impl Input + Print + AllocGlobal)) -> Result<(), OneFault> {
         Err(_) => Err(OneFault::Write),
     }
 }
+
+#[cfg(test)]
+mod tests;

@@ -49,14 +49,18 @@ pub fn one<R: Source, W: Sink>(
     requires one_slice { total ≡ 1 }
 
     // The input reads as a test, and the writer got the summary of a right verdict on it.
-    ensures summary { OnOk result (IfSome (R.left reader.old) (λ input. Summarizes (text_of input) (W.held writer.old) (W.held writer.new))) }
+    ensures summary { OnOk result (IfSome (R.left reader.old) (λ input.
+        Summarizes (text_of input) (W.held writer.old) (W.held writer.new))) }
     // Where the writer fails, it got a front part of that summary.
-    ensures part { result ≡ Err OneFault.Write → IfSome (R.left reader.old) (λ input. SummarizesPartly (text_of input) (W.held writer.old) (W.held writer.new)) }
+    ensures part { result ≡ Err OneFault.Write → IfSome (R.left reader.old) (λ input.
+        SummarizesPartly (text_of input) (W.held writer.old) (W.held writer.new)) }
     // At every other fault it got nothing.
-    ensures nothing { IfErr result (λ e. ¬ (e ≡ OneFault.Write) → Keeps (W.held writer.old) (W.held writer.new)) }
+    ensures nothing { IfErr result (λ e.
+        ¬ (e ≡ OneFault.Write) → Keeps (W.held writer.old) (W.held writer.new)) }
 
     // The test's faults and its space's come only where they stand.
-    ensures refusal { IfErr result (λ e. IfSome (R.left reader.old) (λ input. IsFaultOf (text_of input) e)) }
+    ensures refusal { IfErr result (λ e.
+        IfSome (R.left reader.old) (λ input. IsFaultOf (text_of input) e)) }
     ensures read { result ≡ Err OneFault.Read → R.has_failed reader.new ≡ true }
     ensures write { result ≡ Err OneFault.Write → W.has_failed writer.new ≡ true }
     ensures taken { LosesAtMost 65537 (R.left reader.old) (R.left reader.new) }

@@ -35,7 +35,7 @@ pub fn write_summary<W: Sink>(verdict: &Verdict, writer: &mut W) -> Result<(), W
 }
 
 fn write_lines<W: Sink>(verdict: &Verdict, writer: &mut W) -> Result<(), Failed>
-    ensures { Writes (W.held writer.old) (W.held writer.new) (W.has_failed writer.new) result (texts.Text verdict.now) }
+    ensures { Writes W.held W.has_failed writer.old writer.new result (texts.Text verdict.now) }
 {
     write_name(verdict, writer)?;
     write_count(verdict, writer)?;
@@ -49,7 +49,8 @@ fn write_lines<W: Sink>(verdict: &Verdict, writer: &mut W) -> Result<(), Failed>
 }
 
 fn write_name<W: Sink>(verdict: &Verdict, writer: &mut W) -> Result<(), Failed>
-    ensures { Writes (W.held writer.old) (W.held writer.new) (W.has_failed writer.new) result (texts.name_line verdict.now) }
+    ensures { Writes W.held W.has_failed writer.old writer.new result
+        (texts.name_line verdict.now) }
 {
     let kind = kind_text(verdict.kind());
     write_parts(
@@ -59,7 +60,8 @@ fn write_name<W: Sink>(verdict: &Verdict, writer: &mut W) -> Result<(), Failed>
 }
 
 fn write_count<W: Sink>(verdict: &Verdict, writer: &mut W) -> Result<(), Failed>
-    ensures { Writes (W.held writer.old) (W.held writer.new) (W.has_failed writer.new) result (texts.count_line verdict.now) }
+    ensures { Writes W.held W.has_failed writer.old writer.new result
+        (texts.count_line verdict.now) }
 {
     let mut count = Buffer::new();
     let count = count.format(verdict.states().len()).as_bytes();
@@ -67,7 +69,8 @@ fn write_count<W: Sink>(verdict: &Verdict, writer: &mut W) -> Result<(), Failed>
 }
 
 fn write_states<W: Sink>(places: &[Place], states: &[Row], writer: &mut W) -> Result<(), Failed>
-    ensures { Writes (W.held writer.old) (W.held writer.new) (W.has_failed writer.new) result (flat_map (texts.state_line places.now) states.now) }
+    ensures { Writes W.held W.has_failed writer.old writer.new result
+        (flat_map (texts.state_line places.now) states.now) }
 {
     for state in states {
         write_state(places, state.values(), writer)?;
@@ -77,7 +80,8 @@ fn write_states<W: Sink>(places: &[Place], states: &[Row], writer: &mut W) -> Re
 
 /// Writes the line of a state.
 fn write_state<W: Sink>(places: &[Place], values: &[u32], writer: &mut W) -> Result<(), Failed>
-    ensures { Writes (W.held writer.old) (W.held writer.new) (W.has_failed writer.new) result (texts.state_line places.now values.now) }
+    ensures { Writes W.held W.has_failed writer.old writer.new result
+        (texts.state_line places.now values.now) }
 {
     let mut separator: &[u8] = b"";
     for (place, value) in places.iter().zip(values) {
@@ -94,7 +98,8 @@ fn write_binding<W: Sink>(
     value: u32,
     writer: &mut W,
 ) -> Result<(), Failed>
-    ensures { Writes (W.held writer.old) (W.held writer.new) (W.has_failed writer.new) result (separator.now ++ texts.binding_text (place.now, value)) }
+    ensures { Writes W.held W.has_failed writer.old writer.new result
+        (separator.now ++ texts.binding_text (place.now, value)) }
 {
     write_bytes(separator, writer)?;
     write_atom(place, value, writer)?;
@@ -102,13 +107,15 @@ fn write_binding<W: Sink>(
 }
 
 fn write_answer<W: Sink>(verdict: &Verdict, writer: &mut W) -> Result<(), Failed>
-    ensures { Writes (W.held writer.old) (W.held writer.new) (W.has_failed writer.new) result (texts.answer_line verdict.now) }
+    ensures { Writes W.held W.has_failed writer.old writer.new result
+        (texts.answer_line verdict.now) }
 {
     write_bytes(if verdict.ok() { b"Ok\n" } else { b"No\n" }, writer)
 }
 
 fn write_counts<W: Sink>(verdict: &Verdict, writer: &mut W) -> Result<(), Failed>
-    ensures { Writes (W.held writer.old) (W.held writer.new) (W.has_failed writer.new) result (texts.counts_line verdict.now) }
+    ensures { Writes W.held W.has_failed writer.old writer.new result
+        (texts.counts_line verdict.now) }
 {
     let mut positive = Buffer::new();
     let positive = positive.format(verdict.positive()).as_bytes();
@@ -121,7 +128,8 @@ fn write_counts<W: Sink>(verdict: &Verdict, writer: &mut W) -> Result<(), Failed
 }
 
 fn write_flags<W: Sink>(flags: &[Name], writer: &mut W) -> Result<(), Failed>
-    ensures { Writes (W.held writer.old) (W.held writer.new) (W.has_failed writer.new) result (flat_map texts.flag_line flags.now) }
+    ensures { Writes W.held W.has_failed writer.old writer.new result
+        (flat_map texts.flag_line flags.now) }
 {
     for flag in flags {
         write_flag(flag, writer)?;
@@ -130,13 +138,14 @@ fn write_flags<W: Sink>(flags: &[Name], writer: &mut W) -> Result<(), Failed>
 }
 
 fn write_flag<W: Sink>(flag: &Name, writer: &mut W) -> Result<(), Failed>
-    ensures { Writes (W.held writer.old) (W.held writer.new) (W.has_failed writer.new) result (texts.flag_line flag.now) }
+    ensures { Writes W.held W.has_failed writer.old writer.new result (texts.flag_line flag.now) }
 {
     write_parts(&[b"Flag ", flag.bytes(), b"\n"], writer)
 }
 
 fn write_condition<W: Sink>(verdict: &Verdict, writer: &mut W) -> Result<(), Failed>
-    ensures { Writes (W.held writer.old) (W.held writer.new) (W.has_failed writer.new) result (texts.condition_line verdict.now) }
+    ensures { Writes W.held W.has_failed writer.old writer.new result
+        (texts.condition_line verdict.now) }
 {
     write_parts(
         &[b"Condition ", quantifier_text(verdict.kind()), b" ("],
@@ -147,7 +156,8 @@ fn write_condition<W: Sink>(verdict: &Verdict, writer: &mut W) -> Result<(), Fai
 }
 
 fn write_observation<W: Sink>(verdict: &Verdict, writer: &mut W) -> Result<(), Failed>
-    ensures { Writes (W.held writer.old) (W.held writer.new) (W.has_failed writer.new) result (texts.observation_line verdict.now) }
+    ensures { Writes W.held W.has_failed writer.old writer.new result
+        (texts.observation_line verdict.now) }
 {
     let mut positive = Buffer::new();
     let positive = positive.format(verdict.positive()).as_bytes();
@@ -194,7 +204,8 @@ fn quantifier_text(kind: Kind) -> &'static [u8]
 /// Writes a proposition, in parentheses unless it stands bare.
 #[cycle(propositions)]
 fn write_operand<W: Sink>(prop: &Prop, bare: bool, writer: &mut W) -> Result<(), Failed>
-    ensures { Writes (W.held writer.old) (W.held writer.new) (W.has_failed writer.new) result (texts.operand bare (texts.formula_text (formula_of prop.now))) }
+    ensures { Writes W.held W.has_failed writer.old writer.new result
+        (texts.operand bare (texts.formula_text (formula_of prop.now))) }
 {
     write_bytes(opening(bare), writer)?;
     write_prop(prop, writer)?;
@@ -203,7 +214,8 @@ fn write_operand<W: Sink>(prop: &Prop, bare: bool, writer: &mut W) -> Result<(),
 
 #[cycle(propositions)]
 fn write_prop<W: Sink>(prop: &Prop, writer: &mut W) -> Result<(), Failed>
-    ensures { Writes (W.held writer.old) (W.held writer.new) (W.has_failed writer.new) result (texts.formula_text (formula_of prop.now)) }
+    ensures { Writes W.held W.has_failed writer.old writer.new result
+        (texts.formula_text (formula_of prop.now)) }
 {
     match prop {
         Prop::True => write_bytes(b"true", writer),
@@ -252,7 +264,9 @@ fn write_infix<W: Sink>(
     right_is_bare: bool,
     writer: &mut W,
 ) -> Result<(), Failed>
-    ensures { Writes (W.held writer.old) (W.held writer.new) (W.has_failed writer.new) result (texts.operand left_is_bare (texts.formula_text (formula_of left.now)) ++ sign.now ++ texts.operand right_is_bare (texts.formula_text (formula_of right.now))) }
+    ensures { Writes W.held W.has_failed writer.old writer.new result
+        (texts.operand left_is_bare (texts.formula_text (formula_of left.now)) ++ sign.now
+        ++ texts.operand right_is_bare (texts.formula_text (formula_of right.now))) }
 {
     write_operand(left, left_is_bare, writer)?;
     write_bytes(sign, writer)?;
@@ -300,7 +314,8 @@ fn is_simple_or_implication(prop: &Prop) -> bool
 }
 
 fn write_atom<W: Sink>(place: &Place, value: u32, writer: &mut W) -> Result<(), Failed>
-    ensures { Writes (W.held writer.old) (W.held writer.new) (W.has_failed writer.new) result (texts.atom_text place.now value) }
+    ensures { Writes W.held W.has_failed writer.old writer.new result
+        (texts.atom_text place.now value) }
 {
     let mut number = Buffer::new();
     let value = number.format(value).as_bytes();
@@ -316,7 +331,8 @@ fn write_atom<W: Sink>(place: &Place, value: u32, writer: &mut W) -> Result<(), 
 
 /// Hands the parts to the writer, one after another.
 fn write_parts<W: Sink>(parts: &[&[u8]], writer: &mut W) -> Result<(), Failed>
-    ensures { Writes (W.held writer.old) (W.held writer.new) (W.has_failed writer.new) result (flat_map (λ p. p.now) parts.now) }
+    ensures { Writes W.held W.has_failed writer.old writer.new result
+        (flat_map (λ p. p.now) parts.now) }
 {
     for part in parts {
         write_bytes(part, writer)?;
@@ -326,7 +342,7 @@ fn write_parts<W: Sink>(parts: &[&[u8]], writer: &mut W) -> Result<(), Failed>
 
 /// Hands the bytes to the writer.
 fn write_bytes<W: Sink>(bytes: &[u8], writer: &mut W) -> Result<(), Failed>
-    ensures { Writes (W.held writer.old) (W.held writer.new) (W.has_failed writer.new) result bytes.now }
+    ensures { Writes W.held W.has_failed writer.old writer.new result bytes.now }
 {
     give_all(writer, bytes)
 }

@@ -43,7 +43,8 @@ pub fn evaluate(alloc: Global, test: Test) -> Result<Verdict, SpaceFault>
 /// Counts what stands at the numbers of the space, one candidate at a time.
 fn count(alloc: Global, test: &Test, places: &[Place], space: &Space) -> Result<Tally, AllocError>
     requires { size_of space.now ≤ 2 ^ 32 }
-    ensures { IfOk result (IsTally test.now places.now (found (graph_at space.now) (size_of space.now))) }
+    ensures { IfOk result
+        (IsTally test.now places.now (found (graph_at space.now) (size_of space.now))) }
 {
     let slots = slots(alloc, test, places)?;
     let mut tally = Tally::new(alloc);
@@ -74,9 +75,12 @@ impl Tally {
     fn add(&mut self, prop: &Prop, places: &[Place], state: Row) -> Result<(), AllocError>
         requires few { self.old.positive + self.old.negative < 2 ^ 64 - 1 }
         requires whole { length places.now ≡ length state }
-        ensures positive { OnOk result (self.new.positive ≡ self.old.positive + (if holds_in (bindings places.now state) (formula_of prop.now) then 1 else 0)) }
-        ensures negative { OnOk result (self.new.negative ≡ self.old.negative + (if holds_in (bindings places.now state) (formula_of prop.now) then 0 else 1)) }
-        ensures states { OnOk result (self.new.states.keys ≡ insert_key (slice_cmp nat_cmp) self.old.states.keys state) }
+        ensures positive { let has = holds_in (bindings places.now state) (formula_of prop.now) in
+            OnOk result (self.new.positive ≡ self.old.positive + (if has then 1 else 0)) }
+        ensures negative { let has = holds_in (bindings places.now state) (formula_of prop.now) in
+            OnOk result (self.new.negative ≡ self.old.negative + (if has then 0 else 1)) }
+        ensures states { OnOk result
+            (self.new.states.keys ≡ insert_key (slice_cmp nat_cmp) self.old.states.keys state) }
     {
         let has = holds(prop, &State::new(places, state.values()));
         self.states.insert(state)?;

@@ -1,11 +1,12 @@
 //! Verdicts.
 
-ghost use Rattle.std.specs.Prelude.{◌≡◌, [], IfOk};
+ghost use Rattle.std.specs.Prelude.{◌≡◌, IfOk};
 ghost use Rattle.std.specs.Cmp.Lexicographic.{slice_cmp};
 ghost use Rattle.std.specs.List.Sorted.{IsStrictlySortedBy};
 ghost use Rattle.std.specs.Ordering.{nat_cmp};
 ghost use Rattle.litmus_c.specs.Conditions.{formula_of};
 ghost use Rattle.bench.specs.Outcomes.{is_ok};
+ghost use Rattle.bench.specs.Tallies.{outcome_of};
 ghost use Rattle.bench.specs.Texts.{word};
 
 use crate::slices::row::Row;
@@ -35,7 +36,16 @@ impl Model for Verdict {
 
     ghost coded = { coded_outcome };
 
-    ghost view = { λ v. record { name = v.test.name; kind = v.test.condition.kind; formula = v.test.condition.formula; places = v.places.items; positive = v.positive; negative = v.negative; states = v.states.items; flags = v.flags.items } };
+    ghost view = { λ v. record {
+      name = v.test.name;
+      kind = v.test.condition.kind;
+      formula = v.test.condition.formula;
+      places = v.places.items;
+      positive = v.positive;
+      negative = v.negative;
+      states = v.states.items;
+      flags = v.flags.items;
+    } };
 }
 
 impl Verdict {
@@ -46,7 +56,7 @@ impl Verdict {
         places: Vec<Place>,
         tally: Tally,
     ) -> Result<Self, AllocError>
-        ensures value { IfOk result (λ v. v ≡ record { name = test.name; kind = test.condition.kind; formula = test.condition.formula; places = places.items; positive = tally.positive; negative = tally.negative; states = tally.states.keys; flags = [] }) }
+        ensures value { IfOk result (λ v. v ≡ outcome_of test places.items tally) }
         ensures sorted { IfOk result (λ v. IsStrictlySortedBy (slice_cmp nat_cmp) v.states) }
     {
         let Tally {
