@@ -1,2 +1,5 @@
+pub mod Bytes
+pub mod Memory
 pub mod Names
+pub mod Numbers
 pub mod Tokens

@@ -45,6 +45,15 @@ pub enum NameFault {
 #[error("failed")]
 pub struct Failed;
 
+/// Why bytes were not read to their end or limit.
+#[derive(Clone, Copy, Debug, Drop, PartialEq, Eq, Error)]
+pub enum ReadFault {
+    #[error("failed")]
+    Failed,
+    #[error("NoMemory")]
+    NoMemory,
+}
+
 impl From<AllocError> for TextFault {
     ghost use Rattle.wb_text.specs.declared.fault.TextFault.TheVariants.{NoMemory};
 
@@ -72,5 +81,25 @@ impl From<AllocError> for NameFault {
 
     fn from(_error: AllocError) -> Self {
         NameFault::NoMemory
+    }
+}
+
+impl From<AllocError> for ReadFault {
+    ghost use Rattle.wb_text.specs.declared.fault.ReadFault.TheVariants.{NoMemory};
+
+    ghost from_gives = { λ _ e. e ≡ NoMemory };
+
+    fn from(_error: AllocError) -> Self {
+        ReadFault::NoMemory
+    }
+}
+
+impl From<Failed> for ReadFault {
+    ghost use Rattle.wb_text.specs.declared.fault.ReadFault.TheVariants.{Failed};
+
+    ghost from_gives = { λ _ e. e ≡ Failed };
+
+    fn from(_error: Failed) -> Self {
+        ReadFault::Failed
     }
 }

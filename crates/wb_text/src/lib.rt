@@ -1,14 +1,23 @@
 //! The text layer: names, tokens of the two languages, and byte sources and sinks.
 #![tactic(auto)]
 
+mod byte;
 mod fault;
+mod gap;
+mod head;
 mod name;
+mod number;
+mod sign;
 mod sink;
 mod source;
 mod token;
 
-pub use fault::{Failed, NameFault, TextFault};
+pub use fault::{Failed, NameFault, ReadFault, TextFault};
 pub use name::Name;
-pub use sink::Sink;
-pub use source::Source;
+pub use number::decimal;
+pub use sink::{MemSink, Sink, WriteSink, give_all};
+pub use source::{MemSource, ReadSource, Source, read_up_to};
 pub use token::{Dialect, Token, TokenKind, tokens};
+
+#[cfg(test)]
+mod tests;

@@ -1,14 +1,26 @@
 //! Names of tests, locations, registers and files.
 
-ghost use Rattle.std.specs.Prelude.{◌≡◌, ◌↔◌, IsTrue, IfOk, MatchResult};
+ghost use Rattle.std.specs.Prelude.{◌≡◌, ◌↔◌, IsTrue, IfOk, MatchResult, Err};
 ghost use Rattle.std.specs.Str.{bytes_eq};
-ghost use Rattle.wb_text.specs.Names.{IsName};
+ghost use Rattle.wb_text.specs.Names.{IsName, IsPrintable};
 ghost use Rattle.wb_text.specs.declared.fault.NameFault.TheVariants.{BadName, NoMemory};
 
 use crate::fault::NameFault;
-use std::alloc::AllocError;
+use std::alloc::{AllocError, Global};
 use std::cmp::Ordering;
+use std::fmt;
+use std::fmt::Write;
 use std::marker::Model;
+
+/// The most bytes of a name.
+const MAX_NAME: usize = 64;
+
+/// A printable ASCII byte that is no blank.
+fn is_printable(byte: u8) -> bool
+    ensures { IsTrue result ↔ IsPrintable byte }
+{
+    byte >= 33 && byte <= 126
+}
 
 /// A name: 1 to 64 printable ASCII bytes (33 to 126). Contracts see its bytes.
 #[derive(Drop)]
@@ -28,6 +40,22 @@ impl Model for Name {
 }
 
 impl Name {
+    /// The name of these bytes.
+    pub fn new(alloc: Global, bytes: &[u8]) -> Result<Name, NameFault>
+        ensures name { IfOk result (λ n. (n ≡ bytes.now) × IsName bytes.now) }
+        ensures bad { (result ≡ Err BadName) ↔ ¬ IsName bytes.now }
+    {
+        if bytes.is_empty()
+            || bytes.len() > MAX_NAME
+            || !bytes.iter().all(|byte| is_printable(*byte))
+        {
+            return Err(NameFault::BadName);
+        }
+        Ok(Name {
+            bytes: Vec::from_slice(alloc, bytes)?,
+        })
+    }
+
     /// The bytes.
     pub fn bytes(&self) -> &[u8]
         ensures value { result.now ≡ self.now }
@@ -100,5 +128,21 @@ impl PartialOrd for Name {
 
     fn partial_cmp(&self, other: &Name) -> Option<Ordering> {
         Some(self.cmp(other))
+    }
+}
+
+/// Its bytes, which are ASCII.
+impl fmt::Display for Name {
+    fn fmt<W: fmt::Write>(&self, f: &mut fmt::Formatter<W>) -> fmt::Result {
+        for byte in self.bytes.as_slice() {
+            f.write_char(char::from(*byte))?;
+        }
+        Ok(())
+    }
+}
+
+impl fmt::Debug for Name {
+    fn fmt<W: fmt::Write>(&self, f: &mut fmt::Formatter<W>) -> fmt::Result {
+        write!(f, "{self}")
     }
 }

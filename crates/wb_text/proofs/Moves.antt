@@ -1,0 +1,41 @@
+-- Bytes that move in several steps.
+use Rattle.std.proofs.Common.{◌≡◌, ℕ, ◌+◌, ◌-◌, ◌≤◌, List, [], ◌++◌, length, take, drop, sym, refl, ap, ◌∙◌, append_assoc, take-append-drop, arith, length-append}
+use Rattle.std.specs.Prelude.{Option, Some, None, Result, Ok, Err, OnErr}
+use Rattle.std.specs.Io.KnownBytes.{Appends, Consumes, Keeps}
+use Rattle.std.proofs.KnownBytes.{Appends-nil, Appends-trans, Consumes-trans}
+use Rattle.std.proofs.lemmas.List.{take_rest}
+use Rattle.wb_text.specs.Memory.{AppendsUpTo, LosesAtMost}
+
+Appends-kept : (a b c : Option (List ℕ)) (xs : List ℕ) → Appends a b xs → Keeps b c → Appends a c xs
+Appends-kept None b c xs h g = tt
+Appends-kept (Some s) None c xs h g = absurd h
+Appends-kept (Some s) (Some t) None xs h g = absurd g
+Appends-kept (Some s) (Some t) (Some u) xs h g = g ∙ h
+
+-- at first nothing is given
+pub gives_none : (a : Option (List ℕ)) (bs : List ℕ) → AppendsUpTo a a bs bs
+gives_none a bs = record { given = []; split = refl; grown = Appends-nil a }
+
+-- n bytes more
+pub gives_more : (a b c : Option (List ℕ)) (bs rest : List ℕ) (n : ℕ) → AppendsUpTo a b bs rest → Appends b c (take n rest) → AppendsUpTo a c bs (drop n rest)
+gives_more a b c bs rest n h g = record {
+  given = h.given ++ take n rest;
+  split = h.split ∙ ap (λ l. h.given ++ l) (sym (take-append-drop n rest)) ∙ sym (append_assoc h.given (take n rest) (drop n rest));
+  grown = Appends-trans a b c h.given (take n rest) h.grown g;
+}
+
+-- no byte more
+pub gives_kept : (a b c : Option (List ℕ)) (bs rest : List ℕ) → AppendsUpTo a b bs rest → Keeps b c → AppendsUpTo a c bs rest
+gives_kept a b c bs rest h g = record { given = h.given; split = h.split; grown = Appends-kept a b c h.given h.grown g }
+
+-- the same of the rest as `&rest[n..]` gives it
+pub gives_range : (a b c : Option (List ℕ)) (bs rest : List ℕ) (n : ℕ) → AppendsUpTo a b bs rest → Appends b c (take n rest) → AppendsUpTo a c bs (take (length rest - n) (drop n rest))
+gives_range a b c bs rest n h g = rw take_rest (gives_more a b c bs rest n h g)
+
+-- two losses in a row
+pub loses_more : (a b c : Option (List ℕ)) (bs cs : List ℕ) (n : ℕ) → Consumes a b bs → Consumes b c cs → length bs + length cs ≤ n → LosesAtMost n a c
+loses_more a b c bs cs n h g small = (bs ++ cs, omega (arith, length-append bs cs), Consumes-trans a b c bs cs h g)
+
+pub on_any_err : {T E P : Type 0} (r : Result T E) → P → OnErr r P
+on_any_err (Ok x) p = tt
+on_any_err (Err e) p = p

@@ -1,0 +1,8 @@
+use Rattle.std.proofs.Common.{◌+◌, ◌≤◌, length}
+use Rattle.wb_text.proofs.gap.after_nested.Given as goal
+
+abbrev pub invariant-loop-depth : goal.invariant-loop-depth
+invariant-loop-depth l = (l.depth + length l.rest ≤ length l.inside + 1) × (length l.rest ≤ length l.inside)
+
+abbrev pub decreases-loop-depth : goal.decreases-loop-depth
+decreases-loop-depth l = length l.rest

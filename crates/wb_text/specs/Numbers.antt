@@ -1,0 +1,11 @@
+-- Decimal numbers.
+use Rattle.std.specs.Prelude.{◌≡◌, ℕ, ◌+◌, ◌*◌, ◌-◌, ◌<◌, List, length, fold, All, true}
+use Rattle.wb_text.specs.Bytes.{is_digit}
+
+-- one decimal digit or more
+abbrev pub IsDecimal : List ℕ → Type 0
+IsDecimal bytes = (0 < length bytes) × All (λ b. is_digit b ≡ true) bytes
+
+-- the number that decimal digits spell
+abbrev pub decimal_value : List ℕ → ℕ
+decimal_value digits = fold (λ value digit. value * 10 + (digit - 48)) 0 digits
