@@ -138,6 +138,7 @@ kind-sound (Fixed Empty ∷ ts) rest k e = moved (λ l p. (t : Terminal) × (Fix
 kind-sound ts rest k e = absurd (cc)
 
 optional-sound : (t : Terminal) (ts : List Symbol) → IsOptional t ts (optional_at t ts).1 (optional_at t ts).0
+unfolding optional_at
 optional-sound t ts =
     elim (cases_of (after t ts) _ _ (optional_at t ts) refl) [
       | inl s ↦ subst (λ (p : Bool × List Symbol). IsOptional t ts p.1 p.0) s.1 absent

@@ -5,3 +5,5 @@ pub mod Grammar
 pub mod Items
 pub mod Reading
 pub mod Symbols
+pub mod Nodes
+pub mod Counting

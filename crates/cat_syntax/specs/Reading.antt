@@ -195,7 +195,7 @@ element_at ts = do
   Ok (record { value = a.0; alias = x.0 }, x.1)
 
 -- whether this terminal comes next, and what stands behind it
-abbrev pub optional_at : Terminal → List Symbol → Bool × List Symbol
+unfoldable pub optional_at : Terminal → List Symbol → Bool × List Symbol
 optional_at t ts = match_option (after t ts) (false, ts) (λ y. (true, y.1))
 
 unfoldable pub kind_at : List Symbol → Reading CheckKind

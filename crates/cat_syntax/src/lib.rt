@@ -1,9 +1,11 @@
 //! Models in the cat language: their trees and the reader.
 #![tactic(auto)]
 
+mod counting;
 mod fault;
 mod file;
 mod foreign;
+pub mod laws;
 mod operator;
 mod reading;
 mod symbol;

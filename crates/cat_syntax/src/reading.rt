@@ -1,13 +1,18 @@
 //! The reader: recursive descent over the symbols of a text.
 
-ghost use Rattle.std.specs.Prelude.{◌≡◌, ◌≤◌, List, drop, length, Some, None, Ok, Err, IfOk, IfErr, MatchBool};
+ghost use Rattle.std.specs.Prelude.{◌≡◌, ◌≤◌, List, drop, length, Some, None, Ok, Err, IfOk, IfErr, MatchBool, MatchResult};
 ghost use Rattle.std.proofs.Common.{suc};
+ghost use Rattle.cat_syntax.specs.Items.{IsFile};
+ghost use Rattle.cat_syntax.specs.Nodes.{nodes};
+ghost use Rattle.cat_syntax.specs.Tree.{File};
+ghost use Rattle.cat_syntax.specs.declared.fault.CatFault.TheVariants.{NoMemory};
 ghost use Rattle.cat_syntax.specs.Reading.{Gives, after, expected, name_at};
 
 mod expressions;
 mod items;
 
 
+use crate::counting::excess;
 use crate::fault::CatFault;
 use crate::file::CatFile;
 use crate::symbol::{Symbol, Terminal, symbols};
@@ -119,18 +124,61 @@ impl<'a> Reader<'a> {
     }
 }
 
+/// The fault of symbols of which the one at `place` is the first of a node too many: what stands up to there comes first.
+fn fault_up_to<'a>(
+    alloc: Global,
+    symbols: &'a [Symbol<'a>],
+    tokens: &'a [Token],
+    end: usize,
+    place: usize,
+) -> CatFault
+    requires { length symbols.now ≡ length tokens.now }
+{
+    let mut reader = Reader {
+        alloc,
+        rest: symbols,
+        tokens,
+        end,
+    };
+    match reader.file() {
+        Err(CatFault::NoMemory) => CatFault::NoMemory,
+        Err(fault) if reader.position() <= place => fault,
+        _ => CatFault::TooLarge,
+    }
+}
+
+/// The model that these symbols are.
+fn read_symbols<'a>(
+    alloc: Global,
+    symbols: &'a [Symbol<'a>],
+    tokens: &'a [Token],
+    end: usize,
+) -> Result<CatFile, CatFault>
+    requires { length symbols.now ≡ length tokens.now }
+    ensures found { IfOk result (λ f. IsFile symbols.now f × (nodes f ≤ 4096)) }
+    ensures only { (f : File) → IsFile symbols.now f → nodes f ≤ 4096 → MatchResult result (λ g. g ≡ f) (λ e. e ≡ NoMemory) }
+{
+    if let Some(place) = excess(symbols) {
+        // The node's symbol, and what a reader looks at behind it.
+        let shown = symbols.len().min(place.saturating_add(3));
+        return Err(fault_up_to(alloc, &symbols[..shown], &tokens[..shown], end, place));
+    }
+    let mut reader = Reader {
+        alloc,
+        rest: symbols,
+        tokens,
+        end,
+    };
+    reader.file()
+}
+
 /// Reads a text as a model.
 ///
-/// Refuses with `Text`, and then with the first fault from the left.
+/// Refuses with `Text`, and then with the first fault from the left; at one token with `Syntax` or `Unsupported` before
+/// `TooDeep`, and that before `TooLarge`.
 #[tactic(auto, using(crate::proofs::Tokens::symbols_length))]
 pub fn read_cat(alloc: Global, text: &[u8]) -> Result<CatFile, CatFault> {
     let tokens = tokens(alloc, text, Dialect::Cat)?;
     let symbols = symbols(alloc, text, &tokens)?;
-    let mut reader = Reader {
-        alloc,
-        rest: &symbols,
-        tokens: &tokens,
-        end: text.len(),
-    };
-    reader.file()
+    read_symbols(alloc, &symbols, &tokens, text.len())
 }

@@ -157,7 +157,7 @@ impl<'a> Reader<'a> {
     }
 
     /// ["flag"] ["~"] kind expression ["as" name]
-    #[tactic(auto, unfolding(crate::specs::Reading::check_at, crate::specs::Reading::check_with))]
+    #[tactic(auto, unfolding(crate::specs::Reading::check_at, crate::specs::Reading::check_with, crate::specs::Reading::optional_at))]
     fn check(&mut self) -> Result<Check, CatFault>
         ensures { Gives check_of result self.new.rest.now (check_at self.old.rest.now) }
     {
