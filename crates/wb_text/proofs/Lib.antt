@@ -1,3 +1,12 @@
+pub mod Gaps
+pub mod Heads
+pub mod Lexemes
+pub mod Lists
 pub mod Moves
+pub mod Nesting
 pub mod Runs
+pub mod Signs
+pub mod Spelling
+pub mod Tails
+pub mod Texts
 pub mod Values

@@ -20,7 +20,7 @@ pub word_begins : (xs : List ℕ) → 0 < length xs → is_blank (get_or xs 0 0)
 word_begins xs h e = prefix_len-pos (is_of Word) xs h (ap not e)
 
 -- what begins a name goes on with it
-start_is_part : (d : Dialect) (b : ℕ) → is_name_start b ≡ true → is_name_part d b ≡ true
+pub start_is_part : (d : Dialect) (b : ℕ) → is_name_start b ≡ true → is_name_part d b ≡ true
 start_is_part Litmus b e = grind arith
 start_is_part Cat b e = grind arith
 

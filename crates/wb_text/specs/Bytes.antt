@@ -1,5 +1,5 @@
 -- Classes of bytes.
-use Rattle.std.specs.Prelude.{ℕ, Bool, ◌||◌, ◌==◌, not}
+use Rattle.std.specs.Prelude.{ℕ, Bool, false, ◌||◌, ◌==◌, not, List, [], ◌∷◌}
 use Rattle.std.specs.Char.{is_ascii_digit, is_ascii_alphabetic, is_ascii_alphanumeric}
 use Rattle.wb_text.specs.declared.byte.Class.{Class}
 use Rattle.wb_text.specs.declared.byte.Class.TheVariants.{Word, Digit, Name}
@@ -9,6 +9,11 @@ use Rattle.wb_text.specs.declared.token.Dialect.TheVariants.{Litmus, Cat}
 -- a space, a tab, a carriage return or a line feed
 abbrev pub is_blank : ℕ → Bool
 is_blank b = b == 32 || b == 9 || b == 13 || b == 10
+
+-- whether a text begins with a blank
+abbrev pub begins_blank : List ℕ → Bool
+begins_blank [] = false
+begins_blank (b ∷ text) = is_blank b
 
 abbrev pub is_digit : ℕ → Bool
 is_digit b = is_ascii_digit b

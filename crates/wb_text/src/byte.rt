@@ -2,7 +2,7 @@
 
 ghost use Rattle.std.specs.Prelude.{◌≡◌};
 ghost use Rattle.std.specs.List.{prefix_len};
-ghost use Rattle.wb_text.specs.Bytes.{is_blank, is_digit, is_name_start, is_of};
+ghost use Rattle.wb_text.specs.Bytes.{begins_blank, is_blank, is_digit, is_name_start, is_of};
 
 use crate::token::Dialect;
 
@@ -37,6 +37,16 @@ pub fn is_blank(byte: u8) -> bool
     ensures { result ≡ is_blank byte }
 {
     byte == b' ' || byte == b'\t' || byte == b'\r' || byte == b'\n'
+}
+
+/// Whether a text begins with a blank.
+pub fn begins_blank(text: &[u8]) -> bool
+    ensures { result ≡ begins_blank text.now }
+{
+    match text {
+        [byte, ..] => is_blank(*byte),
+        [] => false,
+    }
 }
 
 /// A decimal digit.

@@ -1,9 +1,13 @@
 //! The head of a test: its language, its name, and the information up to the first `{`.
 
-ghost use Rattle.std.specs.Prelude.{◌≡◌, ◌≤◌, ◌<◌, length, IfOk, IfSome, All, slice_index, false};
-ghost use Rattle.std.specs.List.{prefix_len};
-ghost use Rattle.wb_text.specs.Bytes.{is_blank, is_of};
-ghost use Rattle.wb_text.specs.Tokens.{IsWithin};
+ghost use Rattle.std.specs.Prelude.{◌≡◌, ◌≢◌, ◌≤◌, ◌<◌, ℕ, List, ◌++◌, length, drop, IfErr, IfOk, MatchOption};
+ghost use Rattle.wb_text.specs.declared.fault.TextFault.TheVariants.{NoMemory, OpenComment};
+ghost use Rattle.wb_text.specs.declared.token.Dialect.TheVariants.{Litmus};
+ghost use Rattle.wb_text.specs.declared.token.Token.{Token};
+ghost use Rattle.wb_text.specs.declared.token.TokenKind.TheVariants.{Word};
+ghost use Rattle.wb_text.specs.Faults.{HasCause};
+ghost use Rattle.wb_text.specs.Gaps.{IsGap, IsOpenComment};
+ghost use Rattle.wb_text.specs.Tokens.{BeginsRun, BeginsToken, IsBody, IsHead, IsInformation, IsSameLine, IsTitle, token_at};
 
 use crate::byte::{Class, run_len};
 use crate::fault::TextFault;
@@ -11,75 +15,121 @@ use crate::gap::{after_comment, after_gap, after_quoted};
 use crate::token::{Dialect, Token, TokenKind};
 use memchr::memchr;
 
-#[tactic(auto, using(crate::proofs::Runs::word_begins))]
-/// Pushes the words of a head, and gives what follows the information: a `{` and more, or nothing.
-pub fn read_head<'a>(text: &'a [u8], tokens: &mut Vec<Token>) -> Result<&'a [u8], TextFault>
-    ensures left { IfOk result (λ rest. length rest.now ≤ length text.now) }
-    ensures tokens { All (IsWithin (length text.now)) tokens.old.items → All (IsWithin (length text.now)) tokens.new.items }
+/// Pushes the words of a text's head, and gives what follows it.
+pub fn read_head<'a>(
+    text: &'a [u8],
+    dialect: Dialect,
+    tokens: &mut Vec<Token>,
+) -> Result<&'a [u8], TextFault>
+    ensures head { IfOk result (λ rest. (words : List Token) × IsHead (length text.now) dialect text.now words rest.now × (tokens.new.items ≡ tokens.old.items ++ words)) }
+    ensures none { IfErr result (λ e. e ≢ NoMemory → (words : List Token) (rest : List ℕ) → ¬ IsHead (length text.now) dialect text.now words rest) }
+    ensures cause { IfErr result (λ e. HasCause dialect text.now e) }
 {
-    let first = after_gap(text, Dialect::Litmus)?;
-    if first.is_empty() {
-        return Ok(first);
-    }
-    let behind_first = read_word(text.len(), first, tokens)?;
-    match on_same_line(behind_first)? {
-        Some(second) => after_information(read_word(text.len(), second, tokens)?),
-        None => after_information(behind_first),
+    match dialect {
+        Dialect::Litmus => read_words(text, tokens),
+        Dialect::Cat => Ok(text),
     }
 }
 
-/// Pushes the word that `rest` begins with, and gives what follows it.
-#[tactic(auto, using(crate::proofs::Runs::run_within))]
-fn read_word<'a>(
+/// Pushes the words of a test's head, and gives what follows it: a `{` and more, or nothing.
+fn read_words<'a>(text: &'a [u8], tokens: &mut Vec<Token>) -> Result<&'a [u8], TextFault>
+    ensures head { IfOk result (λ rest. (words : List Token) × IsHead (length text.now) Litmus text.now words rest.now × (tokens.new.items ≡ tokens.old.items ++ words)) }
+    ensures none { IfErr result (λ e. e ≢ NoMemory → (words : List Token) (rest : List ℕ) → ¬ IsHead (length text.now) Litmus text.now words rest) }
+    ensures cause { IfErr result (λ e. HasCause Litmus text.now e) }
+{
+    let language = after_gap(text, Dialect::Litmus)?;
+    if language.is_empty() {
+        return Ok(language);
+    }
+    let len = word_len(language)?;
+    tokens.push(word(text.len(), language, len))?;
+    read_title(text.len(), &language[len..], tokens)
+}
+
+/// Pushes the name of a test if it stands on the line, and gives what follows the information.
+fn read_title<'a>(
     total: usize,
-    rest: &'a [u8],
+    text: &'a [u8],
     tokens: &mut Vec<Token>,
 ) -> Result<&'a [u8], TextFault>
-    requires here { 0 < prefix_len (is_of Class.Word) rest.now }
-    requires within { length rest.now ≤ total }
-    ensures left { IfOk result (λ after. length after.now ≤ length rest.now) }
-    ensures tokens { All (IsWithin total) tokens.old.items → All (IsWithin total) tokens.new.items }
+    requires { length text.now ≤ total }
+    ensures title { IfOk result (λ rest. (names : List Token) × IsTitle total text.now names rest.now × (tokens.new.items ≡ tokens.old.items ++ names)) }
+    ensures none { IfErr result (λ e. e ≢ NoMemory → (names : List Token) (rest : List ℕ) → ¬ IsTitle total text.now names rest) }
+    ensures cause { IfErr result (λ e. HasCause Litmus text.now e) }
 {
-    let len = run_len(rest, Class::Word);
-    let (word, after) = rest.split_at(len);
-    if !word.is_ascii() {
-        return Err(TextFault::NotAscii);
-    }
+    let Some(name) = on_same_line(text)? else {
+        return after_information(text);
+    };
+    let len = word_len(name)?;
+    tokens.push(word(total, name, len))?;
+    after_information(&name[len..])
+}
+
+/// The word of `len` bytes that `rest`, the end of `total` bytes, begins with.
+fn word(total: usize, rest: &[u8], len: usize) -> Token
+    requires within { length rest.now ≤ total }
+    requires here { len ≤ length rest.now }
+    ensures { result ≡ token_at total Word rest.now len }
+{
     let from = total - rest.len();
-    tokens.push(Token {
+    Token {
         kind: TokenKind::Word,
         from,
         to: from + len,
-    })?;
-    Ok(after)
+    }
+}
+
+/// The length of the word that a text begins with.
+fn word_len(text: &[u8]) -> Result<usize, TextFault>
+    requires { BeginsRun text.now }
+    ensures word { IfOk result (λ n. BeginsToken Litmus Word text.now n) }
+    ensures none { IfErr result (λ e. (n : ℕ) → ¬ BeginsToken Litmus Word text.now n) }
+    ensures cause { IfErr result (λ e. HasCause Litmus text.now e) }
+{
+    let len = run_len(text, Class::Word);
+    if text[..len].is_ascii() {
+        Ok(len)
+    } else {
+        Err(TextFault::NotAscii)
+    }
 }
 
 /// Where the next run begins, if that is on the same line.
 fn on_same_line(text: &[u8]) -> Result<Option<&[u8]>, TextFault>
-    ensures { IfOk result (λ o. IfSome o (λ next. (0 < length next.now) × (is_blank (slice_index next.now 0) ≡ false) × (length next.now ≤ length text.now))) }
+    ensures run { IfOk result (λ o. MatchOption o
+        ((next : List ℕ) → IsSameLine text.now next → ¬ BeginsRun next)
+        (λ next. IsSameLine text.now next.now × BeginsRun next.now)) }
+    ensures open { IfErr result (λ e. (e ≡ OpenComment) × ((rest : List ℕ) × IsGap Litmus text.now rest × IsOpenComment Litmus rest)) }
 {
     let next = after_gap(text, Dialect::Litmus)?;
-    let gap = &text[..text.len() - next.len()];
-    if next.is_empty() || memchr(b'\n', gap).is_some() {
-        Ok(None)
-    } else {
-        Ok(Some(next))
+    if next.is_empty() {
+        return Ok(None);
+    }
+    match memchr(b'\n', &text[..text.len() - next.len()]) {
+        Some(_) => Ok(None),
+        None => Ok(Some(next)),
     }
 }
 
 /// What follows the information: a `{` outside comments and quoted texts and more, or nothing.
 fn after_information(text: &[u8]) -> Result<&[u8], TextFault>
-    ensures { IfOk result (λ rest. length rest.now ≤ length text.now) }
+    ensures information { IfOk result (λ rest. IsInformation text.now rest.now × IsBody rest.now) }
+    ensures none { IfErr result (λ e. (rest : List ℕ) → IsInformation text.now rest → ¬ IsBody rest) }
+    ensures fault { IfErr result (λ e. e ≢ NoMemory) }
+    ensures cause { IfErr result (λ e. HasCause Litmus text.now e) }
 {
     let mut rest = text;
-    loop {
-        rest = match rest {
-            [] | [b'{', ..] => return Ok(rest),
-            [b'"', inside @ ..] => match after_quoted(inside) {
-                Some(after) => after,
-                None => return Err(TextFault::OpenString),
-            },
-            [_, after @ ..] => after_comment(rest, Dialect::Litmus)?.unwrap_or(after),
-        };
+    while !rest.is_empty() && rest[0] != b'{' {
+        if rest[0] == b'"' {
+            let Some(after) = after_quoted(&rest[1..]) else {
+                return Err(TextFault::OpenString);
+            };
+            rest = after;
+        } else if let Some(after) = after_comment(rest, Dialect::Litmus)? {
+            rest = after;
+        } else {
+            rest = &rest[1..];
+        }
     }
+    Ok(rest)
 }

@@ -5,6 +5,7 @@ mod byte;
 mod fault;
 mod gap;
 mod head;
+mod lexeme;
 mod name;
 mod number;
 mod sign;

@@ -1,16 +1,15 @@
 //! Tokens of the two languages.
 
-ghost use Rattle.std.specs.Prelude.{◌≡◌, ◌≤◌, ◌<◌, List, All, IfOk, MatchResult, length};
+ghost use Rattle.std.specs.Prelude.{◌≡◌, ◌<◌, ◌↔◌, List, All, Err, IfErr, IfOk, MatchResult, length};
+ghost use Rattle.wb_text.specs.Faults.{HasCause};
 ghost use Rattle.wb_text.specs.Tokens.{IsTokenList, IsWithin};
 ghost use Rattle.wb_text.specs.declared.token.Token.{Token};
-ghost use Rattle.wb_text.specs.declared.fault.TextFault.TheVariants.{NoMemory};
+ghost use Rattle.wb_text.specs.declared.fault.TextFault.TheVariants.{NoMemory, TooLong};
 
-use crate::byte::{Class, is_digit, is_name_start, run_len};
 use crate::fault::TextFault;
-use crate::gap::{after_gap, after_quoted};
+use crate::gap::after_gap;
 use crate::head::read_head;
-use crate::number::decimal;
-use crate::sign::sign_len;
+use crate::lexeme::first_token;
 use std::alloc::Global;
 
 /// The language that a text is written in.
@@ -54,69 +53,32 @@ const MAX_TEXT: usize = 65_536;
 pub fn tokens(alloc: Global, text: &[u8], dialect: Dialect) -> Result<Vec<Token>, TextFault>
     // The tokens are slices of the text.
     ensures within { IfOk result (λ v. All (IsWithin (length text.now)) v.items) }
+    // They are a token list of the text.
+    ensures found { IfOk result (λ v. IsTokenList dialect text.now v.items) }
+    // A text that has a token list has this one alone, and is refused only for want of memory.
+    ensures only { (ts : List Token) → IsTokenList dialect text.now ts → MatchResult result (λ v. v.items ≡ ts) (λ e. e ≡ NoMemory) }
+
+    ensures too_long { (result ≡ Err TooLong) ↔ (65536 < length text.now) }
+    // Each fault comes only where its cause stands.
+    ensures cause { IfErr result (λ e. HasCause dialect text.now e) }
 {
     if text.len() > MAX_TEXT {
         return Err(TextFault::TooLong);
     }
     let mut tokens = Vec::new(alloc);
-    let mut rest = match dialect {
-        Dialect::Litmus => read_head(text, &mut tokens)?,
-        Dialect::Cat => text,
-    };
+    let mut rest = read_head(text, dialect, &mut tokens)?;
     loop {
-        rest = after_gap(rest, dialect)?;
-        if rest.is_empty() {
+        let next = after_gap(rest, dialect)?;
+        if next.is_empty() {
             return Ok(tokens);
         }
-        let (kind, len) = token_at(rest, dialect)?;
-        let from = text.len() - rest.len();
+        let (kind, len) = first_token(next, dialect)?;
+        let from = text.len() - next.len();
         tokens.push(Token {
             kind,
             from,
             to: from + len,
         })?;
-        rest = &rest[len..];
-    }
-}
-
-/// The kind and the length of the token that a text begins with.
-#[tactic(auto, using(crate::proofs::Runs::name_run_len))]
-fn token_at(text: &[u8], dialect: Dialect) -> Result<(TokenKind, usize), TextFault>
-    requires { 0 < length text.now }
-    ensures { IfOk result (λ t. (0 < t.1) × (t.1 ≤ length text.now)) }
-{
-    let first = text[0];
-    if is_digit(first) {
-        let len = run_len(text, Class::Digit);
-        match decimal(&text[..len]) {
-            Some(_) => Ok((TokenKind::Number, len)),
-            None => Err(TextFault::NumberTooBig),
-        }
-    } else if is_name_start(first) {
-        Ok((TokenKind::Name, run_len(text, Class::Name(dialect))))
-    } else if first == b'"' {
-        Ok((TokenKind::Quoted, quoted_len(text)?))
-    } else {
-        match sign_len(text, dialect) {
-            0 if first > 127 => Err(TextFault::NotAscii),
-            0 => Err(TextFault::BadByte),
-            len => Ok((TokenKind::Sign, len)),
-        }
-    }
-}
-
-/// The length of the quoted text that a text begins with.
-fn quoted_len(text: &[u8]) -> Result<usize, TextFault>
-    requires { 0 < length text.now }
-    ensures { IfOk result (λ len. (0 < len) × (len ≤ length text.now)) }
-{
-    let Some(after) = after_quoted(&text[1..]) else {
-        return Err(TextFault::OpenString);
-    };
-    let len = text.len() - after.len();
-    if text[..len].is_ascii() {
-        Ok(len)
-    } else {
-        Err(TextFault::NotAscii)
+        rest = &next[len..];
     }
 }

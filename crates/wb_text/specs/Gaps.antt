@@ -1,0 +1,57 @@
+-- Blanks and comments. A relation `.. text rest` says what text begins with, and that rest follows.
+use Rattle.std.specs.Prelude.{◌≡◌, ℕ, ◌+◌, ◌<◌, Bool, true, false, ◌||◌, ◌&&◌, ◌==◌, List, [], ◌∷◌, ◌++◌, length, drop, codes, Some}
+use Rattle.std.specs.List.{position_or_len}
+use Rattle.memchr.specs.Find.{FindsNeedle, IsFirstByte, is_byte}
+use Rattle.wb_text.specs.declared.token.Dialect.{Dialect}
+use Rattle.wb_text.specs.declared.token.Dialect.TheVariants.{Litmus, Cat}
+use Rattle.wb_text.specs.Bytes.{begins_blank}
+use Rattle.wb_text.specs.Signs.{begins_with}
+
+-- behind a `(*`: the text goes on to the `*)` that closes it. Comments nest.
+pub data IsNested : List ℕ → List ℕ → Type 0 where
+  closed : {text rest : List ℕ} → text ≡ codes "*)" ++ rest → IsNested text rest
+  nested : {text inside behind rest : List ℕ} → text ≡ codes "(*" ++ inside → IsNested inside behind → IsNested behind rest → IsNested text rest
+  other : {text rest : List ℕ} → 0 < length text → begins_with (codes "(*") text ≡ false → begins_with (codes "*)") text ≡ false → IsNested (drop 1 text) rest → IsNested text rest
+
+-- behind a `//`: the rest of the line
+abbrev pub IsLine : List ℕ → List ℕ → Type 0
+IsLine text rest = rest ≡ drop (position_or_len (λ b. b == 10) text) text
+
+-- behind a `/*`: all up to the first `*/`. These do not nest.
+pub record IsBlock (text rest : List ℕ) : Type 0 where
+  pub place : ℕ
+  pub first : FindsNeedle text (codes "*/") 0 (Some place)
+  pub after : rest ≡ drop (place + 2) text
+
+-- behind a double quote: all up to the next one
+pub record IsQuoted (text rest : List ℕ) : Type 0 where
+  pub place : ℕ
+  pub first : IsFirstByte (is_byte 34) text (Some place)
+  pub after : rest ≡ drop (place + 1) text
+
+-- a comment
+pub data IsComment (d : Dialect) : List ℕ → List ℕ → Type 0 where
+  nesting : {text inside rest : List ℕ} → text ≡ codes "(*" ++ inside → IsNested inside rest → IsComment d text rest
+  line : {text inside rest : List ℕ} → text ≡ codes "//" ++ inside → IsLine inside rest → IsComment d text rest
+  block : {text inside rest : List ℕ} → d ≡ Litmus → text ≡ codes "/*" ++ inside → IsBlock inside rest → IsComment d text rest
+
+-- blanks and comments
+pub data IsGap (d : Dialect) : List ℕ → List ℕ → Type 0 where
+  none : {rest : List ℕ} → IsGap d rest rest
+  blank : {text rest : List ℕ} → begins_blank text ≡ true → IsGap d (drop 1 text) rest → IsGap d text rest
+  comment : {text behind rest : List ℕ} → IsComment d text behind → IsGap d behind rest → IsGap d text rest
+
+-- whether a comment opens
+abbrev pub opens_comment : Dialect → List ℕ → Bool
+opens_comment Litmus text = begins_with (codes "(*") text || begins_with (codes "//") text || begins_with (codes "/*") text
+opens_comment Cat text = begins_with (codes "(*") text || begins_with (codes "//") text
+
+-- a comment opens that is never closed
+pub record IsOpenComment (d : Dialect) (text : List ℕ) : Type 0 where
+  pub opens : opens_comment d text ≡ true
+  pub unclosed : (rest : List ℕ) → ¬ IsComment d text rest
+
+-- neither a blank nor a comment stands here
+pub record IsGapEnd (d : Dialect) (text : List ℕ) : Type 0 where
+  pub no_blank : begins_blank text ≡ false
+  pub no_comment : opens_comment d text ≡ false
