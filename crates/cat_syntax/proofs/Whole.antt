@@ -1,6 +1,10 @@
 -- The whole of the symbols.
 use Rattle.std.proofs.Common.{◌≡◌, ◌≤◌, List, [], refl, sym, ◌∙◌, ap, subst, arith}
 use Rattle.std.specs.Prelude.{Result, Ok, Err, IfOk, MatchResult}
+use Rattle.std.specs.Result.{IsErrAnd}
+use Rattle.wb_text.specs.declared.fault.TextFault.{TextFault}
+use Rattle.wb_text.specs.declared.fault.TextFault.TheVariants as texts
+use Rattle.cat_syntax.specs.Faults.{cause_of}
 use Rattle.cat_syntax.specs.declared.counting.Context.TheVariants.{Naming}
 use Rattle.cat_syntax.specs.declared.fault.CatFault.{CatFault}
 use Rattle.cat_syntax.specs.declared.fault.CatFault.TheVariants.{Text, Syntax, Unsupported, TooDeep, TooLarge, NoMemory}
@@ -40,3 +44,8 @@ only_of ss rest (Err TooLarge) f d h = absurd (not-refused ss f d h)
 
 pub small_of : (ss : List Symbol) (f : File) → IsFile ss f → nodes f ≤ 4096 → weight Naming ss ≤ 4096
 small_of ss f d h = omega (arith, file-weight ss f d)
+
+-- want of memory in the text layer
+pub no_memory : (r : Result File CatFault) (e : TextFault) (f : File) → IsErrAnd r (λ g. g ≡ cause_of e) → e ≡ texts.NoMemory → MatchResult r (λ g. g ≡ f) (λ g. g ≡ NoMemory)
+no_memory (Ok g) e f h same = absurd h
+no_memory (Err g) e f h same = h ∙ ap cause_of same

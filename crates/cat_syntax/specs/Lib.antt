@@ -7,3 +7,4 @@ pub mod Reading
 pub mod Symbols
 pub mod Nodes
 pub mod Counting
+pub mod Reads

@@ -1,7 +1,8 @@
 //! Laws of the grammar. They have no effect.
 
-ghost use Rattle.std.specs.Prelude.{◌≡◌, List};
+ghost use Rattle.std.specs.Prelude.{◌≡◌, ℕ, List};
 ghost use Rattle.cat_syntax.specs.Items.{IsFile};
+ghost use Rattle.cat_syntax.specs.Reads.{Reads};
 ghost use Rattle.cat_syntax.specs.Tree.{File};
 ghost use Rattle.cat_syntax.specs.declared.symbol.Symbol.{Symbol};
 

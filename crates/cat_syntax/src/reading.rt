@@ -3,6 +3,7 @@
 ghost use Rattle.std.specs.Prelude.{◌≡◌, ◌≤◌, List, drop, length, Some, None, Ok, Err, IfOk, IfErr, MatchBool, MatchResult};
 ghost use Rattle.std.proofs.Common.{suc};
 ghost use Rattle.cat_syntax.specs.Items.{IsFile};
+ghost use Rattle.cat_syntax.specs.Reads.{Reads};
 ghost use Rattle.cat_syntax.specs.Nodes.{nodes};
 ghost use Rattle.cat_syntax.specs.Tree.{File};
 ghost use Rattle.cat_syntax.specs.declared.fault.CatFault.TheVariants.{NoMemory};
@@ -177,7 +178,12 @@ fn read_symbols<'a>(
 /// Refuses with `Text`, and then with the first fault from the left; at one token with `Syntax` or `Unsupported` before
 /// `TooDeep`, and that before `TooLarge`.
 #[tactic(auto, using(crate::proofs::Tokens::symbols_length))]
-pub fn read_cat(alloc: Global, text: &[u8]) -> Result<CatFile, CatFault> {
+pub fn read_cat(alloc: Global, text: &[u8]) -> Result<CatFile, CatFault>
+    // What is read is a model that the text spells.
+    ensures found { IfOk result (λ f. Reads text.now f) }
+    // A model that the text spells is read, as the one that it is, unless memory runs out.
+    ensures only { (f : File) → Reads text.now f → MatchResult result (λ g. g ≡ f) (λ e. e ≡ NoMemory) }
+{
     let tokens = tokens(alloc, text, Dialect::Cat)?;
     let symbols = symbols(alloc, text, &tokens)?;
     read_symbols(alloc, &symbols, &tokens, text.len())
