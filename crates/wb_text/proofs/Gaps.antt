@@ -1,16 +1,16 @@
 -- Comments end at one place, and gaps lead to one.
-use Rattle.std.proofs.Common.{◌≡◌, ℕ, zero, suc, ◌+◌, ◌-◌, ◌<◌, ◌≤◌, Bool, true, false, ◌⊎◌, inl, inr, List, [], ◌∷◌, ◌++◌, length, get_or, take, drop, sym, refl, ap, ◌∙◌, subst, arith, rules, length-drop}
-use Rattle.std.specs.Prelude.{◌||◌, ◌==◌, codes, Option, Some, None, nat_eq}
+use Rattle.std.proofs.Common.{◌≡◌, ℕ, ◌+◌, ◌-◌, ◌<◌, ◌≤◌, Bool, true, false, ◌⊎◌, inl, inr, List, [], ◌∷◌, ◌++◌, length, get_or, take, drop, sym, refl, ap, ◌∙◌, subst, arith, length-drop}
+use Rattle.std.specs.Prelude.{◌||◌, codes, Some, nat_eq}
 use Rattle.std.specs.List.{position_or_len}
 use Rattle.std.proofs.lemmas.List.{take_rest}
 use Rattle.std.proofs.lemmas.Bool.{false≢true, cases_lt}
-use Rattle.memchr.specs.Find.{FindsNeedle, IsFirst, IsFirstByte, OccursAt, Passes, is_byte}
+use Rattle.memchr.specs.Find.{IsFirst, OccursAt, Passes, is_byte}
 use Rattle.wb_text.specs.declared.token.Dialect.{Dialect}
 use Rattle.wb_text.specs.declared.token.Dialect.TheVariants.{Litmus, Cat}
 use Rattle.wb_text.specs.Bytes.{begins_blank}
 use Rattle.wb_text.specs.Signs.{begins_with}
 use Rattle.wb_text.specs.Gaps.{IsNested, closed, nested, other, IsLine, IsBlock, IsQuoted, IsComment, nesting, line, block, IsGap, none, blank, comment, opens_comment, IsOpenComment, IsGapEnd}
-use Rattle.wb_text.proofs.Texts.{first, either_or, neither_or, begins_true, begins_is, range_is}
+use Rattle.wb_text.proofs.Texts.{first, either_or, begins_true, begins_is, range_is}
 
 -- two texts that are one begin with one byte
 same_first : {a b : List ℕ} → a ≡ b → first a ≡ first b

@@ -1,9 +1,9 @@
 -- The head of a text.
-use Rattle.std.proofs.Common.{◌≡◌, ◌≢◌, ℕ, ◌+◌, ◌-◌, ◌<◌, ◌≤◌, Bool, true, false, ◌⊎◌, inl, inr, List, [], ◌∷◌, ◌++◌, length, get_or, take, drop, not, sym, refl, ap, ◌∙◌, subst, arith, length-drop, length-append, append_assoc}
+use Rattle.std.proofs.Common.{◌≡◌, ◌≢◌, ℕ, ◌-◌, ◌<◌, Bool, true, false, ◌⊎◌, inl, inr, List, [], ◌∷◌, ◌++◌, length, get_or, take, drop, not, sym, refl, ap, ◌∙◌, subst, arith, length-append, append_assoc}
 use Rattle.std.specs.Prelude.{codes, nat_eq, Some, None, Result, Ok, Err, IfOk, IfErr}
 use Rattle.std.specs.Borrow.{Bor}
 use Rattle.memchr.specs.Find.{IsFirstByte, is_byte}
-use Rattle.std.proofs.lemmas.Bool.{false≢true, eq-eqb}
+use Rattle.std.proofs.lemmas.Bool.{false≢true}
 use Rattle.wb_text.specs.declared.fault.TextFault.{TextFault}
 use Rattle.wb_text.specs.declared.fault.TextFault.TheVariants.{NoMemory}
 use Rattle.wb_text.specs.declared.token.Dialect.{Dialect}
@@ -11,9 +11,9 @@ use Rattle.wb_text.specs.declared.token.Dialect.TheVariants.{Litmus, Cat}
 use Rattle.wb_text.specs.declared.token.Token.{Token}
 use Rattle.wb_text.specs.declared.token.TokenKind.{TokenKind}
 use Rattle.wb_text.specs.declared.token.TokenKind.TheVariants.{Word}
-use Rattle.wb_text.specs.Bytes.{begins_blank, is_blank}
+use Rattle.wb_text.specs.Bytes.{is_blank}
 use Rattle.wb_text.specs.Faults.{HasCause}
-use Rattle.wb_text.specs.Gaps.{IsQuoted, IsComment, nesting, line, block, IsGap, none, blank, comment, opens_comment, IsOpenComment, IsGapEnd}
+use Rattle.wb_text.specs.Gaps.{IsQuoted, IsComment, IsGap, none, blank, comment, opens_comment, IsOpenComment, IsGapEnd}
 use Rattle.wb_text.specs.Tokens.{IsLongest, BeginsToken, BeginsRun, IsSameLine, IsInformation, nothing, commented, quoted, plain, IsBody, IsTitle, named, nameless, IsHead, cat, empty, words, token_at}
 use Rattle.std.proofs.lemmas.List.{take_rest, take_at, get_or_default, append-nil}
 use Rattle.wb_text.proofs.Texts.{first, first_blank, not_true, range_is}

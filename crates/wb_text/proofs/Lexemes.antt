@@ -1,7 +1,7 @@
 -- Which token a text begins with.
-use Rattle.std.proofs.Common.{◌≡◌, ◌≢◌, ℕ, zero, suc, ◌+◌, ◌-◌, ◌<◌, ◌≤◌, Bool, true, false, List, [], ◌∷◌, ◌++◌, length, get_or, take, drop, not, sym, refl, ap, ◌∙◌, subst, rules, arith, length-take, length-drop, get_or-take, get_or-drop, add-zero, inl, inr}
-use Rattle.std.specs.Prelude.{All, SomeIff, Option, None}
-use Rattle.std.specs.List.{AllPass, Contains, prefix_len}
+use Rattle.std.proofs.Common.{◌≡◌, ◌≢◌, ℕ, suc, ◌+◌, ◌-◌, ◌<◌, ◌≤◌, Bool, true, false, List, [], ◌∷◌, ◌++◌, length, get_or, take, drop, sym, refl, ap, ◌∙◌, subst, arith, length-take, length-drop, get_or-take, get_or-drop, add-zero, inl, inr}
+use Rattle.std.specs.Prelude.{All}
+use Rattle.std.specs.List.{Contains, prefix_len}
 use Rattle.std.proofs.lemmas.Bool.{false≢true, cases_lt}
 use Rattle.std.proofs.lemmas.List.{get_or_past, get_or_default}
 use Rattle.wb_text.specs.declared.fault.TextFault.TheVariants.{BadByte, NotAscii, NumberTooBig, OpenString}
@@ -11,13 +11,13 @@ use Rattle.wb_text.specs.declared.token.Dialect.TheVariants.{Litmus}
 use Rattle.wb_text.specs.declared.token.TokenKind.{TokenKind}
 use Rattle.wb_text.specs.declared.token.TokenKind.TheVariants.{Word, Name, Number, Quoted, Sign}
 use Rattle.wb_text.specs.Bytes.{begins_blank, is_of, is_digit, is_name_start, is_name_part}
-use Rattle.wb_text.specs.Faults.{HasCause, NoToken, BeginsBadByte, BeginsNotAscii, BeginsBigNumber, IsOpenString}
+use Rattle.wb_text.specs.Faults.{HasCause, NoToken}
 use Rattle.wb_text.specs.Gaps.{IsQuoted, opens_comment}
 use Rattle.wb_text.specs.Numbers.{IsDecimal, decimal_value}
 use Rattle.wb_text.specs.Signs.{signs}
 use Rattle.wb_text.specs.Tokens.{Spells, IsLongest, BeginsToken}
 use Rattle.wb_text.proofs.Texts.{first, first_blank, range_is}
-use Rattle.wb_text.proofs.Spelling.{Starts, starts_at, spells_nonempty, longest_once, longest_pos, number_longest, name_longest, word_longest, sign_longest, sign_like, quoted_longest, quoted_closed, digit_ascii, part_ascii, run_all, run_length}
+use Rattle.wb_text.proofs.Spelling.{Starts, starts_at, spells_nonempty, longest_once, number_longest, name_longest, word_longest, sign_longest, sign_like, quoted_longest, quoted_closed, digit_ascii, part_ascii, run_all, run_length}
 
 digit_is_no_name : (b : ℕ) → is_digit b ≡ true → is_name_start b ≡ false
 digit_is_no_name b e = grind arith

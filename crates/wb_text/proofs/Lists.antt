@@ -1,11 +1,10 @@
 -- Token lists.
-use Rattle.std.proofs.Common.{◌≡◌, ◌≢◌, ℕ, zero, suc, ◌+◌, ◌-◌, ◌<◌, ◌≤◌, Bool, true, false, List, [], ◌∷◌, ◌++◌, length, get_or, take, drop, sym, refl, ap, ◌∙◌, subst, arith, append_assoc, length-drop}
+use Rattle.std.proofs.Common.{◌≡◌, ◌≢◌, ℕ, zero, suc, ◌-◌, ◌<◌, ◌≤◌, Bool, true, false, List, [], ◌∷◌, ◌++◌, length, take, drop, sym, refl, ap, ◌∙◌, subst, arith, append_assoc, length-drop}
 use Rattle.std.specs.Prelude.{All}
 use Rattle.std.proofs.lemmas.Bool.{false≢true}
 use Rattle.std.proofs.lemmas.List.{append-nil, take_rest}
 use Rattle.wb_text.specs.declared.fault.TextFault.TheVariants.{TooLong}
 use Rattle.wb_text.specs.declared.token.Dialect.{Dialect}
-use Rattle.wb_text.specs.declared.token.Dialect.TheVariants.{Litmus, Cat}
 use Rattle.wb_text.specs.declared.token.Token.{Token}
 use Rattle.wb_text.specs.declared.token.TokenKind.{TokenKind}
 use Rattle.wb_text.specs.declared.token.TokenKind.TheVariants.{Word, Name, Number, Quoted, Sign}
@@ -15,9 +14,9 @@ use Rattle.wb_text.specs.Tokens.{IsWithin, IsLongest, BeginsToken, HasTokens, no
 use Rattle.wb_text.proofs.Gaps.{IsStuck, stuck_at_end, stuck_at_open, gap_once, gap_length, comment_shorter, opens_nonempty}
 use Rattle.wb_text.proofs.Spelling.{Starts, starts_at, longest_pos, longest_once}
 use Rattle.wb_text.proofs.Lexemes.{only_number, only_quoted, only_name, only_sign}
-use Rattle.wb_text.proofs.Texts.{first, range_is}
+use Rattle.wb_text.proofs.Texts.{first}
 use Rattle.wb_text.proofs.Tails.{IsTail, tail_trans, gap_tail, info_tail}
-use Rattle.wb_text.proofs.Heads.{token_stuck, token_run, head_once}
+use Rattle.wb_text.proofs.Heads.{token_stuck, head_once}
 
 both : {b : Bool} → b ≡ true → b ≡ false → ⊥
 both e f = false≢true (sym f ∙ e)

@@ -1,12 +1,12 @@
 -- The longest front of bytes that pass a test.
-use Rattle.std.proofs.Common.{◌≡◌, ℕ, ◌<◌, ◌≤◌, Bool, true, false, List, [], ◌∷◌, length, get_or, not, refl, ap, rules, arith}
+use Rattle.std.proofs.Common.{◌≡◌, ℕ, ◌<◌, ◌≤◌, Bool, true, false, List, [], ◌∷◌, length, get_or, not, ap, arith}
 use Rattle.std.specs.List.{prefix_len}
 use Rattle.std.proofs.lemmas.List.Sums.{prefix_len-le-length}
 use Rattle.wb_text.specs.declared.byte.Class.{Class}
-use Rattle.wb_text.specs.declared.byte.Class.TheVariants.{Word, Digit, Name}
+use Rattle.wb_text.specs.declared.byte.Class.TheVariants.{Word, Name}
 use Rattle.wb_text.specs.declared.token.Dialect.{Dialect}
 use Rattle.wb_text.specs.declared.token.Dialect.TheVariants.{Litmus, Cat}
-use Rattle.wb_text.specs.Bytes.{is_blank, is_digit, is_name_start, is_name_part, is_of}
+use Rattle.wb_text.specs.Bytes.{is_blank, is_name_start, is_name_part, is_of}
 
 -- it is not empty where the first byte passes
 pub prefix_len-pos : (p : ℕ → Bool) (xs : List ℕ) → 0 < length xs → p (get_or xs 0 0) ≡ true → 0 < prefix_len p xs

@@ -1,21 +1,18 @@
 -- What each kind of token is made of, and how long the longest slice of it is.
-use Rattle.std.proofs.Common.{◌≡◌, ◌≢◌, ℕ, zero, suc, ◌+◌, ◌-◌, ◌<◌, ◌≤◌, Bool, true, false, ◌⊎◌, inl, inr, List, [], ◌∷◌, ◌++◌, length, get_or, take, drop, not, sym, refl, ap, ◌∙◌, subst, rules, arith, length-take-le, length-take, length-append, get_or-take, get_or-drop}
+use Rattle.std.proofs.Common.{◌≡◌, ℕ, zero, suc, ◌+◌, ◌<◌, ◌≤◌, Bool, true, false, inl, inr, List, [], ◌∷◌, ◌++◌, length, get_or, take, drop, not, sym, refl, ap, ◌∙◌, subst, arith, length-take-le, length-take, length-append, get_or-take}
 use Rattle.std.specs.Prelude.{◌==◌, ◌&&◌, nat_lt, nat_le, nat_eq, All}
 use Rattle.std.specs.List.{AllPass, Contains, list_all, prefix_len}
 use Rattle.std.proofs.lemmas.Bool.{false≢true, eqb-true, eq-eqb, leb-true, ltb-true, cases_lt}
 use Rattle.std.proofs.lemmas.List.{get_or_default, get_or_at, take_more, take-take, take_at}
 use Rattle.std.proofs.lemmas.List.Sums.{AllPass-from_list_all, prefix_len-le-length, prefix_len_passes, prefix_len_stops}
-use Rattle.memchr.specs.Find.{is_byte}
-use Rattle.wb_text.specs.declared.byte.Class.{Class}
 use Rattle.wb_text.specs.declared.token.Dialect.{Dialect}
 use Rattle.wb_text.specs.declared.token.Dialect.TheVariants.{Litmus, Cat}
 use Rattle.wb_text.specs.declared.token.TokenKind.{TokenKind}
 use Rattle.wb_text.specs.declared.token.TokenKind.TheVariants.{Word, Name, Number, Quoted, Sign}
-use Rattle.wb_text.specs.Bytes.{begins_blank, is_blank, is_digit, is_name_start, is_name_part, is_of}
-use Rattle.wb_text.specs.Gaps.{IsQuoted, opens_comment}
-use Rattle.wb_text.specs.Numbers.{IsDecimal, decimal_value}
+use Rattle.wb_text.specs.Bytes.{is_blank, is_digit, is_name_start, is_name_part}
+use Rattle.wb_text.specs.Gaps.{IsQuoted}
 use Rattle.wb_text.specs.Signs.{signs}
-use Rattle.wb_text.specs.Tokens.{Spells, IsLongest, BeginsToken}
+use Rattle.wb_text.specs.Tokens.{Spells, IsLongest}
 use Rattle.wb_text.proofs.Runs.{prefix_len-pos, start_is_part}
 use Rattle.wb_text.proofs.Texts.{first, and_both, not_true}
 

@@ -1,12 +1,11 @@
 -- What is left of a text is its end, and a fault there is a fault of the text.
-use Rattle.std.proofs.Common.{◌≡◌, ℕ, ◌+◌, ◌-◌, ◌<◌, ◌≤◌, List, [], ◌∷◌, ◌++◌, length, take, drop, sym, refl, ap, ◌∙◌, subst, arith, inl, inr, length-drop, take-append-drop}
-use Rattle.std.specs.List.{position_or_len}
+use Rattle.std.proofs.Common.{◌≡◌, ℕ, ◌+◌, ◌-◌, List, [], ◌++◌, length, take, drop, sym, refl, ap, ◌∙◌, subst, arith, inl, inr, length-drop, take-append-drop}
 use Rattle.std.proofs.lemmas.Bool.{cases_lt}
 use Rattle.std.proofs.lemmas.List.{drop-drop, drop_all, take_all, append-nil}
 use Rattle.wb_text.specs.declared.fault.TextFault.{TextFault}
 use Rattle.wb_text.specs.declared.token.Dialect.{Dialect}
 use Rattle.wb_text.specs.Faults.{HasCause, StandsAt}
-use Rattle.wb_text.specs.Gaps.{IsNested, closed, nested, other, IsQuoted, IsComment, nesting, line, block, IsGap, none, blank, comment}
+use Rattle.wb_text.specs.Gaps.{IsNested, closed, nested, other, IsComment, nesting, line, block, IsGap, none, blank, comment}
 use Rattle.wb_text.specs.Tokens.{IsInformation, nothing, commented, quoted, plain}
 
 -- rest is the end of text

@@ -1,5 +1,5 @@
 -- Blanks and comments. A relation `.. text rest` says what text begins with, and that rest follows.
-use Rattle.std.specs.Prelude.{◌≡◌, ℕ, ◌+◌, ◌<◌, Bool, true, false, ◌||◌, ◌&&◌, ◌==◌, List, [], ◌∷◌, ◌++◌, length, drop, codes, Some}
+use Rattle.std.specs.Prelude.{◌≡◌, ℕ, ◌+◌, ◌<◌, Bool, true, false, ◌||◌, ◌==◌, List, ◌++◌, length, drop, codes, Some, refl}
 use Rattle.std.specs.List.{position_or_len}
 use Rattle.memchr.specs.Find.{FindsNeedle, IsFirstByte, is_byte}
 use Rattle.wb_text.specs.declared.token.Dialect.{Dialect}
@@ -55,3 +55,7 @@ pub record IsOpenComment (d : Dialect) (text : List ℕ) : Type 0 where
 pub record IsGapEnd (d : Dialect) (text : List ℕ) : Type 0 where
   pub no_blank : begins_blank text ≡ false
   pub no_comment : opens_comment d text ≡ false
+
+-- a blank and a comment inside a comment
+example : IsGap Litmus (codes " (*(**)*)x") (codes "x")
+example = blank refl (comment (nesting {inside = codes "(**)*)x"} refl (nested {inside = codes "*)*)x"} {behind = codes "*)x"} refl (closed refl) (closed refl))) none)

@@ -5,6 +5,7 @@ mod byte;
 mod fault;
 mod gap;
 mod head;
+pub mod laws;
 mod lexeme;
 mod name;
 mod number;

@@ -1,6 +1,6 @@
 //! Where bytes go.
 
-ghost use Rattle.std.specs.Prelude.{◌≡◌, ◌≤◌, ◌<◌, ◌-◌, ℕ, List, Option, Some, None, Bool, true, false, [], length, take, min, IfOk, OnOk, OnErr};
+ghost use Rattle.std.specs.Prelude.{◌≡◌, ◌≤◌, ◌<◌, ◌-◌, ℕ, List, Option, Some, None, Bool, true, false, [], length, take, min, ◌↔◌, IfOk, IsErr, OnOk, OnErr};
 ghost use Rattle.std.specs.Io.KnownBytes.{Keeps, Appends};
 ghost use Rattle.wb_text.specs.Memory.{AppendsFront};
 
@@ -90,7 +90,20 @@ impl Sink for MemSink {
 
     ghost has_failed = { λ s. s.has_failed };
 
-    fn give(&mut self, bytes: &[u8]) -> Result<usize, Failed> {
+    fn give(&mut self, bytes: &[u8]) -> Result<usize, Failed>
+        ensures count { IfOk result (λ n. n ≤ length bytes.now) }
+        ensures some { IfOk result (λ n. 0 < length bytes.now → 0 < n) }
+        ensures given { IfOk result (λ n. Appends (Some self.old.bytes) (Some self.new.bytes) (take n bytes.now)) }
+        ensures kept { OnErr result (Keeps (Some self.old.bytes) (Some self.new.bytes)) }
+        ensures marked { OnErr result (self.new.has_failed ≡ true) }
+        ensures lasting { self.old.has_failed ≡ true → self.new.has_failed ≡ true }
+
+        // As many as there is room for, and a failure only where there is none.
+        ensures all { IfOk result (λ n. n ≡ min (length bytes.now) (self.old.room - length self.old.bytes)) }
+        ensures full { IsErr result ↔ (0 < length bytes.now) × (self.old.room ≤ length self.old.bytes) }
+        ensures same { self.new.room ≡ self.old.room }
+        ensures unmarked { OnOk result (self.new.has_failed ≡ self.old.has_failed) }
+    {
         let n = bytes.len().min(self.room - self.bytes.len());
         if n == 0 && !bytes.is_empty() {
             self.has_failed = true;

@@ -1,6 +1,6 @@
 //! Where bytes come from.
 
-ghost use Rattle.std.specs.Prelude.{◌≡◌, ◌≤◌, ◌<◌, ℕ, List, Option, Some, None, Bool, true, false, length, take, drop, min, IfOk, OnErr, Err, vec_len};
+ghost use Rattle.std.specs.Prelude.{◌≡◌, ◌≤◌, ◌<◌, ℕ, List, Option, Some, None, Bool, true, false, length, take, drop, min, [], ◌↔◌, IfOk, OnOk, OnErr, Err, IsErr, vec_len};
 ghost use Rattle.std.specs.Io.KnownBytes.{Keeps, Consumes, IsAtEnd};
 ghost use Rattle.wb_text.specs.Memory.{LosesAtMost};
 
@@ -96,7 +96,20 @@ impl<'a> Source for MemSource<'a> {
 
     ghost has_failed = { λ s. s.has_failed };
 
-    fn take(&mut self, into: &mut [u8]) -> Result<usize, Failed> {
+    fn take(&mut self, into: &mut [u8]) -> Result<usize, Failed>
+        ensures count { IfOk result (λ n. n ≤ length into.new) }
+        ensures taken { IfOk result (λ n. Consumes (Some self.old.bytes) (Some self.new.bytes) (take n into.new)) }
+        ensures end { IfOk result (λ n. n ≡ 0 → 0 < length into.new → IsAtEnd (Some self.new.bytes)) }
+        ensures kept { OnErr result (Keeps (Some self.old.bytes) (Some self.new.bytes)) }
+        ensures marked { OnErr result (self.new.has_failed ≡ true) }
+        ensures lasting { self.old.has_failed ≡ true → self.new.has_failed ≡ true }
+
+        // As many as there are and fit, and a failure only in place of the end.
+        ensures all { IfOk result (λ n. n ≡ min (length into.new) (length self.old.bytes)) }
+        ensures fails { IsErr result ↔ (self.old.bytes ≡ []) × (self.old.fails ≡ true) }
+        ensures same { self.new.fails ≡ self.old.fails }
+        ensures unmarked { OnOk result (self.new.has_failed ≡ self.old.has_failed) }
+    {
         if self.rest.is_empty() && self.fails {
             self.has_failed = true;
             return Err(Failed);

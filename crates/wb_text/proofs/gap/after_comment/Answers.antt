@@ -1,4 +1,4 @@
-use Rattle.std.proofs.Common.{◌≡◌, refl, sym, ◌∙◌, arith, rules}
+use Rattle.std.proofs.Common.{◌≡◌, sym, ◌∙◌, rules}
 use Rattle.std.proofs.lemmas.Result.{err_from_is_err_and}
 use Rattle.wb_text.specs.declared.token.Dialect.TheVariants.{Litmus}
 use Rattle.wb_text.proofs.Gaps.{nesting_range, line_range, block_range, open_block}

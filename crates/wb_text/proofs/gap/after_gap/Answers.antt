@@ -1,4 +1,4 @@
-use Rattle.std.proofs.Common.{sym, ◌∙◌, arith}
+use Rattle.std.proofs.Common.{sym, ◌∙◌}
 use Rattle.wb_text.specs.Gaps.{none}
 use Rattle.wb_text.proofs.Gaps.{gap_range, gap_more_comment, comment_shorter}
 use Rattle.wb_text.proofs.gap.after_gap.Goals as goal

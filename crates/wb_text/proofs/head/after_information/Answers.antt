@@ -1,4 +1,4 @@
-use Rattle.std.proofs.Common.{sym, ◌∙◌, arith}
+use Rattle.std.proofs.Common.{sym, ◌∙◌}
 use Rattle.std.proofs.lemmas.Result.{err_from_is_err_and}
 use Rattle.wb_text.specs.declared.fault.TextFault.TheVariants.{OpenComment, OpenString}
 use Rattle.wb_text.specs.declared.token.Dialect.TheVariants.{Litmus}

@@ -1,6 +1,5 @@
-use Rattle.std.proofs.Common.{◌≡◌, [], sym}
+use Rattle.std.proofs.Common.{[], sym}
 use Rattle.std.proofs.lemmas.List.{append-nil}
-use Rattle.wb_text.specs.declared.token.Dialect.TheVariants.{Cat}
 use Rattle.wb_text.proofs.Heads.{head_cat}
 use Rattle.wb_text.proofs.head.read_head.Goals as goal
 

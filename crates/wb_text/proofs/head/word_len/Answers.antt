@@ -1,4 +1,3 @@
-use Rattle.std.proofs.Common.{arith}
 use Rattle.wb_text.specs.declared.token.Dialect.TheVariants.{Litmus}
 use Rattle.wb_text.proofs.Lexemes.{word_token, word_slice, not_ascii, not_ascii_cause}
 use Rattle.wb_text.proofs.head.word_len.Goals as goal

@@ -1,4 +1,3 @@
-use Rattle.std.proofs.Common.{arith}
 use Rattle.wb_text.proofs.Lexemes.{quoted_none, quoted_open, quoted_slice, quoted_not_ascii}
 use Rattle.wb_text.proofs.lexeme.quoted_len.Goals as goal
 

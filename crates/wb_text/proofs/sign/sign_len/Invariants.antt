@@ -1,4 +1,4 @@
-use Rattle.std.proofs.Common.{◌≤◌, ◌<◌, length, map}
+use Rattle.std.proofs.Common.{map}
 use Rattle.wb_text.proofs.Signs.{LongestOf}
 use Rattle.wb_text.proofs.sign.sign_len.Given as goal
 

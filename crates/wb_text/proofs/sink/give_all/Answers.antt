@@ -1,4 +1,3 @@
-use Rattle.std.proofs.Common.{rules}
 use Rattle.wb_text.proofs.Moves.{gives_range}
 use Rattle.wb_text.proofs.sink.give_all.Goals as goal
 
