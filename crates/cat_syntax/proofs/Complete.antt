@@ -156,6 +156,7 @@ right-ends joins_union ts = record { none_between = bar-below ts; none_behind = 
 
 mutual
   unfolding begins_operand begins_check
+
   level-opens : {k n : ℕ} {ts rest : List Symbol} {a : Term} → IsLevel k n ts rest a → begins_operand ts ≡ true
   level-opens (level_unary d) = unary-opens d
   level-opens (level_tighter d) = level-opens d

@@ -91,11 +91,12 @@ binding-sound bs ts rest b k e =
     let y = bind_ok (expected Equals x.0.1) _ _ x.2 in
     let a = bind_ok (expression_at y.0.1) _ _ y.2 in
     let n = new_name-sound bs ts x.0.1 x.0.0 x.1 in
-    moved (λ l c. IsBinding ts l c × BindOnce (bs ++ c ∷ [])) a.2
-    (subst (λ l. IsBinding l a.0.1 (record { name = x.0.0; value = a.0.0 })) (sym n.0)
-    (subst (λ l. IsBinding (Name x.0.0 ∷ l) a.0.1 (record { name = x.0.0; value = a.0.0 })) (sym (expected-ok Equals x.0.1 y.0.1 y.0.0 y.1))
-    (binding (expression-sound y.0.1 a.0.1 a.0.0 a.1))),
-    once-push bs (record { name = x.0.0; value = a.0.0 }) k n.1)
+    moved (λ l c. IsBinding ts l c × BindOnce (bs ++ c ∷ [])) a.2 (
+      subst (λ l. IsBinding l a.0.1 (record { name = x.0.0; value = a.0.0 })) (sym n.0)
+          (subst (λ l. IsBinding (Name x.0.0 ∷ l) a.0.1 (record { name = x.0.0; value = a.0.0 })) (sym (expected-ok Equals x.0.1 y.0.1 y.0.0 y.1))
+          (binding (expression-sound y.0.1 a.0.1 a.0.0 a.1))),
+      once-push bs (record { name = x.0.0; value = a.0.0 }) k n.1,
+    )
 
 pub element-sound : Sound element_at IsElement
 unfolding element_at
@@ -244,12 +245,12 @@ unfolding items_at
 items-sound ts rest cs e =
     let end : rest ≡ [] = end-none rest (repeated-stops tt unless_end (push_item (λ _. item_at)) [] ts cs rest e) in
     let so_far : (ds : List Clause) → AreItems rest ds → AreItems ts (cs ++ ds) =
-        repeated-keeps tt unless_end (push_item (λ _. item_at)) (λ l bs. (ds : List Clause) → AreItems l ds → AreItems ts (bs ++ ds))
-        (λ o us mid back bs cs d was f.
-        let y = bind_ok (item_at mid) _ _ f in
-        moved (λ l es. (ds : List Clause) → AreItems l ds → AreItems ts (es ++ ds)) y.2
-        (λ ds g. rw append_assoc (d (y.0.0 ∷ ds) (subst (λ l. AreItems l (y.0.0 ∷ ds)) (unless_end-same us mid o was) (items-join mid y.0.1 y.0.0 (item-sound mid y.0.1 y.0.0 y.1) ds g)))))
-        [] ts cs rest (λ ds g. g) e in
+    repeated-keeps tt unless_end (push_item (λ _. item_at)) (λ l bs. (ds : List Clause) → AreItems l ds → AreItems ts (bs ++ ds))
+    (λ o us mid back bs cs d was f.
+    let y = bind_ok (item_at mid) _ _ f in
+    moved (λ l es. (ds : List Clause) → AreItems l ds → AreItems ts (es ++ ds)) y.2
+    (λ ds g. rw append_assoc (d (y.0.0 ∷ ds) (subst (λ l. AreItems l (y.0.0 ∷ ds)) (unless_end-same us mid o was) (items-join mid y.0.1 y.0.0 (item-sound mid y.0.1 y.0.0 y.1) ds g)))))
+    [] ts cs rest (λ ds g. g) e in
     (rw append-nil at (so_far [] (subst (λ l. AreItems l []) (sym end) no_items)), end)
 
 pub file-sound : (ts rest : List Symbol) (f : File) → file_at ts ≡ Ok (f, rest) → IsFile ts f

@@ -50,6 +50,7 @@ right-weight joins_union ss = refl
 -- behind ~ an operand counts as ever
 mutual
   unfolding weight cost context_after
+
   unary-behind : {n : ℕ} {ts rest : List Symbol} {a : Term} → IsUnary n ts rest a → weight contexts.Tilde ts ≡ plain ts
   unary-behind (unary_complement d) = refl
   unary-behind (unary_postfix d) = postfix-behind d
@@ -73,6 +74,7 @@ mutual
 
 mutual
   unfolding weight cost context_after
+
   level-weight : {k n : ℕ} {ts rest : List Symbol} {a : Term} → IsLevel k n ts rest a → plain ts ≡ term_nodes a + plain rest
   level-weight (level_unary d) = unary-weight d
   level-weight (level_tighter d) = level-weight d

@@ -63,8 +63,8 @@ pub data IsItem : List Symbol → List Symbol → Clause → Type 0 where
   item_let : {ts rest : List Symbol} {bs : List Bound} → AreSeparated And IsBinding ts rest bs → BindOnce bs → IsItem (Fixed Let ∷ ts) rest (bind bs)
   item_rec : {ts rest : List Symbol} {bs : List Bound} → AreSeparated And IsBinding ts rest bs → BindOnce bs → IsItem (Fixed Let ∷ Fixed Rec ∷ ts) rest (bind_recursively bs)
   item_check : {ts us vs ws rest : List Symbol} {flag negated : Bool} {t : Terminal} {kind : CheckKind} {a : Term} {x : Option Word} →
-    IsOptional Flag ts us flag → IsOptional Tilde us (Fixed t ∷ vs) negated → Checks t kind → IsExpression vs ws a → IsAlias ws rest x →
-    IsItem ts rest (check flag negated kind a x)
+      IsOptional Flag ts us flag → IsOptional Tilde us (Fixed t ∷ vs) negated → Checks t kind → IsExpression vs ws a → IsAlias ws rest x →
+      IsItem ts rest (check flag negated kind a x)
   item_include : {x : Word} {rest : List Symbol} → IsName x → IsItem (Fixed Include ∷ Quoted x ∷ rest) rest (include x)
   item_show : {ts rest : List Symbol} {es : List Shown} → AreSeparated Comma IsElement ts rest es → IsItem (Fixed Show ∷ ts) rest (show es)
   item_unshow : {ts rest : List Symbol} {xs : List Word} → AreSeparated Comma IsNamed ts rest xs → IsItem (Fixed Unshow ∷ ts) rest (unshow xs)

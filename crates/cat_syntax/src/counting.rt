@@ -26,7 +26,10 @@ pub enum Context {
 fn is_check_word(terminal: Terminal) -> bool
     ensures { result ≡ word_is terminal }
 {
-    matches!(terminal, Terminal::Acyclic | Terminal::Irreflexive | Terminal::Empty)
+    matches!(
+        terminal,
+        Terminal::Acyclic | Terminal::Irreflexive | Terminal::Empty
+    )
 }
 
 /// Whether a terminal is a node where nothing before it says otherwise.

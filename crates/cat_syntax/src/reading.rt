@@ -12,7 +12,6 @@ ghost use Rattle.cat_syntax.specs.Reading.{Gives, after, expected, name_at};
 mod expressions;
 mod items;
 
-
 use crate::counting::excess;
 use crate::fault::CatFault;
 use crate::file::CatFile;

@@ -6,11 +6,10 @@ ghost use Rattle.std.specs.List.{list_all};
 ghost use Rattle.wb_text.specs.Tokens.{IsWithin};
 ghost use Rattle.cat_syntax.specs.Symbols.{is_printable as spells_printable, is_name as spells_name, spelling_of, terminal_of as terminal_written, inside, calls as calls_next, bytes_of, symbol_of, symbols_of};
 
+use crate::foreign::is_left_out;
 use std::alloc::{AllocError, Global};
 use std::marker::Model;
 use wb_text::{Name, NameFault, Token, TokenKind};
-
-use crate::foreign::is_left_out;
 
 /// A reserved word, a constant or a sign.
 #[derive(Clone, Copy, Debug, PartialEq, Eq)]
@@ -132,7 +131,10 @@ impl Terminal {
 fn terminal_of(bytes: &[u8]) -> Option<Terminal>
     ensures { result ≡ terminal_written bytes.now }
 {
-    TERMINALS.iter().copied().find(|terminal| terminal.spelling() == bytes)
+    TERMINALS
+        .iter()
+        .copied()
+        .find(|terminal| terminal.spelling() == bytes)
 }
 
 /// A printable ASCII byte that is no blank.
@@ -296,7 +298,11 @@ fn symbol_at<'a>(text: &'a [u8], token: Token, following: &[Token]) -> Symbol<'a
 
 /// The symbols of a text with these tokens.
 #[tactic(auto, using(crate::proofs::Tokens::all_drop, crate::proofs::Tokens::symbols_next, std::proofs::Common::append_assoc))]
-pub fn symbols<'a>(alloc: Global, text: &'a [u8], tokens: &[Token]) -> Result<Vec<Symbol<'a>>, AllocError>
+pub fn symbols<'a>(
+    alloc: Global,
+    text: &'a [u8],
+    tokens: &[Token],
+) -> Result<Vec<Symbol<'a>>, AllocError>
     requires { All (IsWithin (length text.now)) tokens.now }
     ensures { IfOk result (λ v. v.items ≡ symbols_of text.now tokens.now) }
 {

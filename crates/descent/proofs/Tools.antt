@@ -53,3 +53,8 @@ pub record Shows {T A : Type 0} (r : List T → Look T A) (ts rest : List T) (a 
 pub chosen : {A : Type 0} (b : Bool) (x y z : A) → (if b then x else y) ≡ z → ((b ≡ true) × (x ≡ z)) ⊎ ((b ≡ false) × (y ≡ z))
 chosen true x y z e = inl (refl, e)
 chosen false x y z e = inr (refl, e)
+
+-- a last step that cannot fail
+pub bind_pure : {A B C F : Type 0} (o : Result A F) (f : A → B) (g : B → Result C F) → ((o >>= λ x. Ok (f x)) >>= g) ≡ (o >>= λ x. g (f x))
+bind_pure (Err e) f g = refl
+bind_pure (Ok x) f g = refl

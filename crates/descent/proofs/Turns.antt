@@ -2,7 +2,7 @@
 use Rattle.std.proofs.Common.{◌≡◌, ℕ, zero, suc, ◌<◌, ◌≤◌, List, length, ◌∙◌, arith, inl, inr, ◌⊎◌}
 use Rattle.std.specs.Prelude.{Some, None, Ok, Err}
 use Rattle.descent.specs.Reading.{Read, Look, match_option, ◌>>=◌, turns, repeated}
-use Rattle.descent.proofs.Tools.{bind_ok, cases_of, moved, none_or_some, ok_or_err, Yields, Shows}
+use Rattle.descent.proofs.Tools.{bind_ok, cases_of, moved, none_or_some, ok_or_err, bind_pure, Yields, Shows}
 
 -- Soundness: what holds of the value and the rest so far, and stays so by each turn, holds at the end.
 turns-keep : {T F O A : Type 0} (c : F) (op : List T → Look T O) (step : O → A → List T → Read T F A) (P : List T → A → Type 0) →
@@ -81,6 +81,14 @@ module _ {T F O A : Type 0} (c : F) (op : List T → Look T O) (step : O → A �
               (omega (arith, shorter ts x.1 y.1 x.0 a y.0 e f)) (omega arith))
         ])
       ]
+
+  -- a turn that reads an item and joins it to what is there
+  pub items-more : {B : Type 0} (item : A → List T → Read T F B) (join : A → B → A) → ((o : O) (a : A) (ts : List T) → step o a ts ≡ (item a ts >>= λ y. Ok (join a y.0, y.1))) →
+      (a : A) (ts : List T) → repeated c op step a ts ≡ match_option (op ts) (Ok (a, ts)) (λ x. item a x.1 >>= λ y. repeated c op step (join a y.0) y.1)
+  items-more item join is a ts = repeated-more a ts ∙ elim (none_or_some (op ts)) [
+    | inl e ↦ rw e
+    | inr (x, e) ↦ rw (e, is x.0 a x.1, bind_pure {B = A × List T} (item a x.1) (λ y. (join a y.0, y.1)) (λ y. repeated c op step y.0 y.1))
+  ]
 
   -- one more turn
   pub next : {r : List T → Read T F A} {ts us mid rest : List T} {o : O} {a b : A} →

@@ -65,7 +65,12 @@ fn associates_left(level: u32) -> bool
 }
 
 /// The expression that an operator makes of its operands.
-fn join(alloc: Global, operator: Infix, left: Expression, right: Expression) -> Result<Expression, AllocError>
+fn join(
+    alloc: Global,
+    operator: Infix,
+    left: Expression,
+    right: Expression,
+) -> Result<Expression, AllocError>
     ensures { IfOk result (λ e. term_of e ≡ joined operator (term_of left) (term_of right)) }
 {
     let left = Box::new(alloc, left)?;
@@ -106,7 +111,11 @@ impl<'a> Reader<'a> {
             4 => (Terminal::Bar, Infix::Union),
             _ => return None,
         };
-        if self.take(terminal) { Some(operator) } else { None }
+        if self.take(terminal) {
+            Some(operator)
+        } else {
+            None
+        }
     }
 
     /// Takes an operator that stands behind its operand, if it comes next.
@@ -257,7 +266,12 @@ impl<'a> Reader<'a> {
     /// An expression between two signs.
     #[cycle(expressions)]
     #[tactic(auto, unfolding(crate::specs::Reading::enclosed_with, crate::specs::Reading::expected, crate::specs::Reading::below), using(crate::proofs::Levels::required_takes))]
-    fn enclosed(&mut self, opening: Terminal, closing: Terminal, nesting: u32) -> Result<Expression, CatFault>
+    fn enclosed(
+        &mut self,
+        opening: Terminal,
+        closing: Terminal,
+        nesting: u32,
+    ) -> Result<Expression, CatFault>
         ensures { Gives term_of result self.new.rest.now (enclosed_with (below nesting) opening closing self.old.rest.now) }
     {
         if !self.sees(opening) {

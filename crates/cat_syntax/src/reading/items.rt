@@ -18,7 +18,9 @@ use wb_text::Name;
 fn is_bound(bindings: &[Binding], name: &Spelling) -> bool
     ensures { result ≡ list_any (λ b. bytes_eq b.name name.now) bindings.now }
 {
-    bindings.iter().any(|binding| binding.name.bytes() == name.bytes())
+    bindings
+        .iter()
+        .any(|binding| binding.name.bytes() == name.bytes())
 }
 
 impl<'a> Reader<'a> {

@@ -14,5 +14,5 @@ pub returns-clause-only : goal.returns-clause-only
 returns-clause-only c = λ f d.
     let list : c.in_ok-tokens.tokens.items ≡ d.tokens = c.in_ok-tokens.ensures.only d.tokens d.is_list in
     let same : c.deref-2.result.now ≡ symbols_of c.args.text.now d.tokens =
-        c.deref-2.ensures.value ∙ c.in_ok-symbols.ensures ∙ ap (symbols_of c.args.text.now) (c.deref.ensures.value ∙ list) in
+    c.deref-2.ensures.value ∙ c.in_ok-symbols.ensures ∙ ap (symbols_of c.args.text.now) (c.deref.ensures.value ∙ list) in
     c.read_symbols.ensures.only f (subst (λ l. IsFile l f) (sym same) d.spelled) d.at_most
