@@ -1,0 +1,266 @@
+-- Items that are read are in the grammar.
+use Rattle.std.proofs.Common.{◌≡◌, ℕ, zero, suc, ◌<◌, ◌≤◌, List, [], ◌∷◌, ◌++◌, length, true, false, refl, ap, sym, ◌∙◌, subst, arith, ◌⊎◌, inl, inr, append_assoc}
+use Rattle.std.proofs.lemmas.List.{append-nil}
+use Rattle.std.specs.Prelude.{Bool, Option, Some, None, Result, Ok, Err, if◌then◌else◌}
+use Rattle.descent.specs.Reading.{Read, Look, match_option, ◌>>=◌, repeated}
+use Rattle.descent.proofs.Tools.{bind_ok, cases_of, chosen, moved, moved_look}
+use Rattle.descent.proofs.Turns.{repeated-keeps, repeated-stops}
+use Rattle.cat_syntax.specs.declared.symbol.Symbol.{Symbol}
+use Rattle.cat_syntax.specs.declared.symbol.Symbol.TheVariants.{Fixed, Name, Quoted, Unsupported}
+use Rattle.cat_syntax.specs.declared.symbol.Terminal.{Terminal}
+use Rattle.cat_syntax.specs.declared.symbol.Terminal.TheVariants.{Let, Rec, And, Acyclic, Irreflexive, Empty, As, Flag, Show, Unshow, Include, Comma, Equals, Tilde}
+use Rattle.cat_syntax.specs.declared.tree.CheckKind.{CheckKind}
+use Rattle.cat_syntax.specs.Tree.{Word, Term, Bound, Shown, Clause, bind, bind_recursively, check, include, show, unshow, File}
+use Rattle.cat_syntax.specs.Symbols.{is_name}
+use Rattle.cat_syntax.specs.Items.{IsExpression, AreSeparated, one, more, IsOptional, absent, present, IsNamed, named, IsAlias, no_alias, alias, IsBinding, binding, IsElement, element, Checks, checks_acyclic, checks_irreflexive, checks_empty, is_bound, BindOnce, IsItem, item_let, item_rec, item_check, item_include, item_show, item_unshow, AreItems, no_items, more_items, IsFile, untitled, title_name, title_quoted}
+use Rattle.cat_syntax.specs.Reading.{Reading, after, expected, name_at, expression_at, push_item, separated, alias_at, repeats, new_name_at, binding_at, group_at, element_at, optional_at, kind_at, check_with, check_at, quoted_at, item_at, unless_end, title_at, items_at, file_at}
+use Rattle.cat_syntax.proofs.Symbols.{after-some, expected-ok, name-ok}
+use Rattle.cat_syntax.proofs.Names.{name_is}
+use Rattle.cat_syntax.proofs.Once.{once-push}
+use Rattle.cat_syntax.proofs.Sound.{Sound, level-shorter, level_is}
+
+pub expression-sound : Sound expression_at IsExpression
+unfolding expression_at
+expression-sound ts rest a e = level_is 64 5 ts rest a e
+
+-- lists
+
+pub separated-shorter : {A : Type 0} (separator : Terminal) (Is : List Symbol → List Symbol → A → Type 0) →
+    ((ts rest : List Symbol) (x : A) → Is ts rest x → length rest < length ts) →
+    (ts rest : List Symbol) (xs : List A) → AreSeparated separator Is ts rest xs → length rest < length ts
+separated-shorter separator Is shorter ts rest xs (one {x = x} d) = shorter ts rest x d
+separated-shorter separator Is shorter ts rest xs (more {mid = mid} {x = x} {xs = ys} d ds) =
+    omega (arith, shorter ts (Fixed separator ∷ mid) x d, separated-shorter separator Is shorter mid rest ys ds)
+
+separated-join : {A : Type 0} (separator : Terminal) (Is : List Symbol → List Symbol → A → Type 0) (ts end mid rest : List Symbol) (xs ys : List A) →
+    AreSeparated separator Is ts end xs → end ≡ Fixed separator ∷ mid → AreSeparated separator Is mid rest ys → AreSeparated separator Is ts rest (xs ++ ys)
+separated-join separator Is ts end mid rest xs ys (one {x = x} d) e es = more (subst (λ l. Is ts l x) e d) es
+separated-join separator Is ts end mid rest xs ys (more {mid = us} {xs = zs} d ds) e es = more d (separated-join separator Is us end mid rest zs ys ds e es)
+
+-- Kept: what holds of the list so far
+module _ {A : Type 0} (separator : Terminal) (Is : List Symbol → List Symbol → A → Type 0) (item : List A → List Symbol → Reading A) (Kept : List A → Type 0) (kept : Kept [])
+    (sound : (xs : List A) (ts rest : List Symbol) (x : A) → Kept xs → item xs ts ≡ Ok (x, rest) → Is ts rest x × Kept (xs ++ x ∷ [])) where
+  push-sound : (xs : List A) (ts rest : List Symbol) (ys : List A) → Kept xs → push_item item tt xs ts ≡ Ok (ys, rest) → (x : A) × (ys ≡ xs ++ x ∷ []) × Is ts rest x × Kept ys
+  push-sound xs ts rest ys k e =
+      let y = bind_ok (item xs ts) _ _ e in
+      let s = sound xs ts y.0.1 y.0.0 k y.1 in
+      moved (λ l zs. (x : A) × (zs ≡ xs ++ x ∷ []) × Is ts l x × Kept zs) y.2 (y.0.0, refl, s.0, s.1)
+
+  pub separated-sound : (ts rest : List Symbol) (xs : List A) → separated separator item ts ≡ Ok (xs, rest) → AreSeparated separator Is ts rest xs × Kept xs
+  unfolding separated
+  separated-sound ts rest xs e =
+      let x = bind_ok (push_item item tt [] ts) _ _ e in
+      let p = push-sound [] ts x.0.1 x.0.0 kept x.1 in
+      repeated-keeps tt (after separator) (push_item item) (λ l ys. AreSeparated separator Is ts l ys × Kept ys)
+      (λ o us mid back ys zs d was f.
+      let q = push-sound ys mid back zs d.1 f in
+      (subst (λ (l : List A). AreSeparated separator Is ts back l) (sym q.1) (separated-join separator Is ts us mid back ys (q.0 ∷ []) d.0 (after-some separator us mid o was) (one q.2)), q.3))
+      x.0.0 x.0.1 xs rest (subst (λ (l : List A). AreSeparated separator Is ts x.0.1 l) (sym p.1) (one p.2), p.3) x.2
+
+-- parts of items
+
+pub named-sound : Sound name_at IsNamed
+named-sound ts rest x e = subst (λ l. IsNamed l rest x) (sym (name-ok ts rest x e)) named
+
+pub alias-sound : Sound alias_at IsAlias
+unfolding alias_at
+alias-sound ts rest x e =
+    elim (cases_of (after As ts) _ _ _ e) [
+      | inl s ↦ moved (λ l t. IsAlias ts l t) s.1 no_alias
+      | inr (y, was, f) ↦
+          let z = bind_ok (name_at y.1) _ _ f in
+          subst (λ l. IsAlias l rest x) (sym (after-some As ts y.1 y.0 was))
+          (subst (λ l. IsAlias (Fixed As ∷ l) rest x) (sym (name-ok y.1 z.0.1 z.0.0 z.1))
+          (moved (λ l t. IsAlias (Fixed As ∷ Name z.0.0 ∷ z.0.1) l t) z.2 alias))
+    ]
+
+pub new_name-sound : (bs : List Bound) (ts rest : List Symbol) (x : Word) → new_name_at bs ts ≡ Ok (x, rest) → (ts ≡ Name x ∷ rest) × (is_bound bs x ≡ false)
+unfolding new_name_at repeats
+new_name-sound bs ts rest x e =
+    elim (chosen (repeats bs ts) _ _ _ e) [
+      | inl h ↦ absurd (cc)
+      | inr h ↦
+          let same : ts ≡ Name x ∷ rest = name-ok ts rest x h.1 in
+          (same, subst (λ l. repeats bs l ≡ false) same h.0)
+    ]
+
+binding-sound : (bs : List Bound) (ts rest : List Symbol) (b : Bound) → BindOnce bs → binding_at bs ts ≡ Ok (b, rest) → IsBinding ts rest b × BindOnce (bs ++ b ∷ [])
+unfolding binding_at
+binding-sound bs ts rest b k e =
+    let x = bind_ok (new_name_at bs ts) _ _ e in
+    let y = bind_ok (expected Equals x.0.1) _ _ x.2 in
+    let a = bind_ok (expression_at y.0.1) _ _ y.2 in
+    let n = new_name-sound bs ts x.0.1 x.0.0 x.1 in
+    moved (λ l c. IsBinding ts l c × BindOnce (bs ++ c ∷ [])) a.2 (
+      subst (λ l. IsBinding l a.0.1 (record { name = x.0.0; value = a.0.0 })) (sym n.0)
+          (subst (λ l. IsBinding (Name x.0.0 ∷ l) a.0.1 (record { name = x.0.0; value = a.0.0 })) (sym (expected-ok Equals x.0.1 y.0.1 y.0.0 y.1))
+          (binding (expression-sound y.0.1 a.0.1 a.0.0 a.1))),
+      once-push bs (record { name = x.0.0; value = a.0.0 }) k n.1,
+    )
+
+pub element-sound : Sound element_at IsElement
+unfolding element_at
+element-sound ts rest b e =
+    let a = bind_ok (expression_at ts) _ _ e in
+    let x = bind_ok (alias_at a.0.1) _ _ a.2 in
+    moved (λ l c. IsElement ts l c) x.2 (element (expression-sound ts a.0.1 a.0.0 a.1) (alias-sound a.0.1 x.0.1 x.0.0 x.1))
+
+pub bindings-sound : (ts rest : List Symbol) (bs : List Bound) → separated And binding_at ts ≡ Ok (bs, rest) → AreSeparated And IsBinding ts rest bs × BindOnce bs
+bindings-sound = separated-sound And IsBinding binding_at BindOnce tt binding-sound
+
+elements-sound : (ts rest : List Symbol) (es : List Shown) → separated Comma (λ _. element_at) ts ≡ Ok (es, rest) → AreSeparated Comma IsElement ts rest es
+elements-sound ts rest es e = (separated-sound Comma IsElement (λ _. element_at) (λ _. Unit {0}) tt (λ xs us back x k f. (element-sound us back x f, tt)) ts rest es e).0
+
+names-sound : (ts rest : List Symbol) (xs : List Word) → separated Comma (λ _. name_at) ts ≡ Ok (xs, rest) → AreSeparated Comma IsNamed ts rest xs
+names-sound ts rest xs e = (separated-sound Comma IsNamed (λ _. name_at) (λ _. Unit {0}) tt (λ ys us back x k f. (named-sound us back x f, tt)) ts rest xs e).0
+
+-- items
+
+group-sound : Sound group_at (λ ts rest c. IsItem (Fixed Let ∷ ts) rest c)
+unfolding group_at
+group-sound ts rest c e =
+    elim (cases_of (after Rec ts) _ _ _ e) [
+      | inl s ↦
+          let x = bind_ok (separated And binding_at ts) _ _ s.1 in
+          let d = bindings-sound ts x.0.1 x.0.0 x.1 in
+          moved (λ l t. IsItem (Fixed Let ∷ ts) l t) x.2 (item_let d.0 d.1)
+      | inr (y, was, f) ↦
+          let x = bind_ok (separated And binding_at y.1) _ _ f in
+          let d = bindings-sound y.1 x.0.1 x.0.0 x.1 in
+          subst (λ l. IsItem (Fixed Let ∷ l) rest c) (sym (after-some Rec ts y.1 y.0 was))
+          (moved (λ l t. IsItem (Fixed Let ∷ Fixed Rec ∷ y.1) l t) x.2 (item_rec d.0 d.1))
+    ]
+
+kind-sound : (ts rest : List Symbol) (k : CheckKind) → kind_at ts ≡ Ok (k, rest) → (t : Terminal) × (ts ≡ Fixed t ∷ rest) × Checks t k
+unfolding kind_at
+kind-sound (Fixed Acyclic ∷ ts) rest k e = moved (λ l p. (t : Terminal) × (Fixed Acyclic ∷ ts ≡ Fixed t ∷ l) × Checks t p) e (Acyclic, refl, checks_acyclic)
+kind-sound (Fixed Irreflexive ∷ ts) rest k e = moved (λ l p. (t : Terminal) × (Fixed Irreflexive ∷ ts ≡ Fixed t ∷ l) × Checks t p) e (Irreflexive, refl, checks_irreflexive)
+kind-sound (Fixed Empty ∷ ts) rest k e = moved (λ l p. (t : Terminal) × (Fixed Empty ∷ ts ≡ Fixed t ∷ l) × Checks t p) e (Empty, refl, checks_empty)
+kind-sound ts rest k e = absurd (cc)
+
+optional-sound : (t : Terminal) (ts : List Symbol) → IsOptional t ts (optional_at t ts).1 (optional_at t ts).0
+unfolding optional_at
+optional-sound t ts =
+    elim (cases_of (after t ts) _ _ (optional_at t ts) refl) [
+      | inl s ↦ subst (λ (p : Bool × List Symbol). IsOptional t ts p.1 p.0) s.1 absent
+      | inr (y, was, f) ↦ subst (λ (p : Bool × List Symbol). IsOptional t ts p.1 p.0) f (subst (λ l. IsOptional t l y.1 true) (sym (after-some t ts y.1 y.0 was)) present)
+    ]
+
+check-sound : Sound check_at IsItem
+unfolding check_at check_with
+check-sound ts rest c e =
+    let flag = optional_at Flag ts in
+    let negated = optional_at Tilde flag.1 in
+    let k = bind_ok (kind_at negated.1) _ _ e in
+    let a = bind_ok (expression_at k.0.1) _ _ k.2 in
+    let x = bind_ok (alias_at a.0.1) _ _ a.2 in
+    let t = kind-sound negated.1 k.0.1 k.0.0 k.1 in
+    moved (λ l p. IsItem ts l p) x.2
+    (item_check (optional-sound Flag ts) (subst (λ l. IsOptional Tilde flag.1 l negated.0) t.1 (optional-sound Tilde flag.1)) t.2
+    (expression-sound k.0.1 a.0.1 a.0.0 a.1) (alias-sound a.0.1 x.0.1 x.0.0 x.1))
+
+quoted-sound : Sound quoted_at (λ ts rest x. IsItem (Fixed Include ∷ ts) rest (include x))
+unfolding quoted_at
+quoted-sound (Quoted x ∷ ts) rest y e =
+    elim (chosen (is_name x) _ _ _ e) [
+      | inl h ↦ moved (λ l z. IsItem (Fixed Include ∷ Quoted x ∷ ts) l (include z)) h.1 (item_include (name_is x h.0))
+      | inr h ↦ absurd (cc)
+    ]
+quoted-sound ts rest y e = absurd (cc)
+
+pub item-sound : Sound item_at IsItem
+unfolding item_at
+item-sound ts rest c e =
+    elim (cases_of (after Let ts) _ _ _ e) [
+      | inr (y, was, f) ↦ subst (λ l. IsItem l rest c) (sym (after-some Let ts y.1 y.0 was)) (group-sound y.1 rest c f)
+      | inl s ↦ elim (cases_of (after Include ts) _ _ _ s.1) [
+        | inr (y, was, f) ↦
+            let x = bind_ok (quoted_at y.1) _ _ f in
+            subst (λ l. IsItem l rest c) (sym (after-some Include ts y.1 y.0 was))
+            (moved (λ l t. IsItem (Fixed Include ∷ y.1) l t) x.2 (quoted-sound y.1 x.0.1 x.0.0 x.1))
+        | inl s ↦ elim (cases_of (after Show ts) _ _ _ s.1) [
+          | inr (y, was, f) ↦
+              let x = bind_ok (separated Comma (λ _. element_at) y.1) _ _ f in
+              subst (λ l. IsItem l rest c) (sym (after-some Show ts y.1 y.0 was))
+              (moved (λ l t. IsItem (Fixed Show ∷ y.1) l t) x.2 (item_show (elements-sound y.1 x.0.1 x.0.0 x.1)))
+          | inl s ↦ elim (cases_of (after Unshow ts) _ _ _ s.1) [
+            | inr (y, was, f) ↦
+                let x = bind_ok (separated Comma (λ _. name_at) y.1) _ _ f in
+                subst (λ l. IsItem l rest c) (sym (after-some Unshow ts y.1 y.0 was))
+                (moved (λ l t. IsItem (Fixed Unshow ∷ y.1) l t) x.2 (item_unshow (names-sound y.1 x.0.1 x.0.0 x.1)))
+            | inl s ↦ check-sound ts rest c s.1
+          ]
+        ]
+      ]
+    ]
+
+-- each takes a symbol
+
+alias-shorter : (ts rest : List Symbol) (x : Option Word) → IsAlias ts rest x → length rest ≤ length ts
+alias-shorter ts rest x no_alias = omega arith
+alias-shorter ts rest x alias = omega arith
+
+optional-shorter : (t : Terminal) (ts rest : List Symbol) (b : Bool) → IsOptional t ts rest b → length rest ≤ length ts
+optional-shorter t ts rest b absent = omega arith
+optional-shorter t ts rest b present = omega arith
+
+pub named-shorter : (ts rest : List Symbol) (x : Word) → IsNamed ts rest x → length rest < length ts
+named-shorter ts rest x named = omega arith
+
+pub binding-shorter : (ts rest : List Symbol) (b : Bound) → IsBinding ts rest b → length rest < length ts
+binding-shorter ts rest b (binding d) = omega (arith, level-shorter d)
+
+pub element-shorter : (ts rest : List Symbol) (b : Shown) → IsElement ts rest b → length rest < length ts
+element-shorter ts rest b (element {mid = mid} {x = x} d e) = omega (arith, level-shorter d, alias-shorter mid rest x e)
+
+pub item-shorter : (ts rest : List Symbol) (c : Clause) → IsItem ts rest c → length rest < length ts
+item-shorter ts rest c (item_let {ts = us} {bs = bs} d o) = omega (arith, separated-shorter And IsBinding binding-shorter us rest bs d)
+item-shorter ts rest c (item_rec {ts = us} {bs = bs} d o) = omega (arith, separated-shorter And IsBinding binding-shorter us rest bs d)
+item-shorter ts rest c (item_check {us = us} {vs = vs} {ws = ws} {flag = flag} {negated = negated} {t = t} {x = x} f n k d e) =
+    omega (arith, optional-shorter Flag ts us flag f, optional-shorter Tilde us (Fixed t ∷ vs) negated n, level-shorter d, alias-shorter ws rest x e)
+item-shorter ts rest c (item_include n) = omega arith
+item-shorter ts rest c (item_show {ts = us} {es = es} d) = omega (arith, separated-shorter Comma IsElement element-shorter us rest es d)
+item-shorter ts rest c (item_unshow {ts = us} {xs = xs} d) = omega (arith, separated-shorter Comma IsNamed named-shorter us rest xs d)
+
+-- the whole of the symbols
+
+items-join : (ts rest : List Symbol) (c : Clause) → IsItem ts rest c → (cs : List Clause) → AreItems rest cs → AreItems ts (c ∷ cs)
+items-join ts rest c d cs e = more_items d e
+
+unless_end-same : (ts rest : List Symbol) (u : Unit {0}) → unless_end ts ≡ Some (u, rest) → rest ≡ ts
+unfolding unless_end
+unless_end-same [] rest u e = absurd (cc)
+unless_end-same (t ∷ ts) rest u e = sym (moved_look (λ l v. t ∷ ts ≡ l) e refl)
+
+pub unless_end_takes : (ts rest : List Symbol) (u : Unit {0}) → unless_end ts ≡ Some (u, rest) → length rest ≤ length ts
+unless_end_takes ts rest u e = omega (arith, ap length (unless_end-same ts rest u e))
+
+end-none : (ts : List Symbol) → unless_end ts ≡ None → ts ≡ []
+unfolding unless_end
+end-none [] e = refl
+end-none (t ∷ ts) e = absurd (cc)
+
+items-sound : (ts rest : List Symbol) (cs : List Clause) → items_at ts ≡ Ok (cs, rest) → AreItems ts cs × (rest ≡ [])
+unfolding items_at
+items-sound ts rest cs e =
+    let end : rest ≡ [] = end-none rest (repeated-stops tt unless_end (push_item (λ _. item_at)) [] ts cs rest e) in
+    let so_far : (ds : List Clause) → AreItems rest ds → AreItems ts (cs ++ ds) =
+    repeated-keeps tt unless_end (push_item (λ _. item_at)) (λ l bs. (ds : List Clause) → AreItems l ds → AreItems ts (bs ++ ds))
+    (λ o us mid back bs cs d was f.
+    let y = bind_ok (item_at mid) _ _ f in
+    moved (λ l es. (ds : List Clause) → AreItems l ds → AreItems ts (es ++ ds)) y.2
+    (λ ds g. rw append_assoc (d (y.0.0 ∷ ds) (subst (λ l. AreItems l (y.0.0 ∷ ds)) (unless_end-same us mid o was) (items-join mid y.0.1 y.0.0 (item-sound mid y.0.1 y.0.0 y.1) ds g)))))
+    [] ts cs rest (λ ds g. g) e in
+    (rw append-nil at (so_far [] (subst (λ l. AreItems l []) (sym end) no_items)), end)
+
+pub file-sound : (ts rest : List Symbol) (f : File) → file_at ts ≡ Ok (f, rest) → IsFile ts f
+unfolding file_at title_at
+file-sound (Name x ∷ ts) rest f e =
+    let y = bind_ok (items_at ts) _ _ e in
+    moved (λ l g. IsFile (Name x ∷ ts) g) y.2 (title_name (items-sound ts y.0.1 y.0.0 y.1).0)
+file-sound (Quoted x ∷ ts) rest f e =
+    let y = bind_ok (items_at ts) _ _ e in
+    moved (λ l g. IsFile (Quoted x ∷ ts) g) y.2 (title_quoted (items-sound ts y.0.1 y.0.0 y.1).0)
+file-sound ts rest f e =
+    let y = bind_ok (items_at ts) _ _ e in
+    moved (λ l g. IsFile ts g) y.2 (untitled (items-sound ts y.0.1 y.0.0 y.1).0)

@@ -1,0 +1,84 @@
+-- What the loops and the recursion of the levels use.
+use Rattle.std.proofs.Common.{◌≡◌, ℕ, zero, suc, ◌<◌, ◌≤◌, List, length, refl, arith, inl, inr}
+use Rattle.std.specs.Prelude.{Some, None, Ok, Err}
+use Rattle.cat_syntax.specs.declared.symbol.Terminal.{Terminal}
+use Rattle.descent.specs.Reading.{required, Read, Look, match_option, ◌>>=◌, repeated}
+use Rattle.descent.proofs.Tools.{required_ok, bind_ok, moved, none_or_some, ok_or_err}
+use Rattle.descent.proofs.Turns.{repeated-more}
+use Rattle.cat_syntax.specs.declared.operator.Infix.{Infix}
+use Rattle.cat_syntax.specs.declared.operator.Postfix.{Postfix}
+use Rattle.cat_syntax.specs.declared.symbol.Symbol.{Symbol}
+use Rattle.cat_syntax.specs.Tree.{Term}
+use Rattle.cat_syntax.specs.Grammar.{joined}
+use Rattle.cat_syntax.specs.Reading.{Reading, after, infix_at, postfix_at, applied, applied_at, next_operand, chain_right, right, level_with, below}
+use Rattle.cat_syntax.proofs.Symbols as symbols
+use Rattle.cat_syntax.proofs.Sound.{level-shorter, level_is}
+
+pub infix_takes : (k : ℕ) (ts rest : List Symbol) (o : Infix) → infix_at k ts ≡ Some (o, rest) → length rest < length ts
+infix_takes = symbols.infix_takes
+
+pub postfix_takes : (ts rest : List Symbol) (o : Postfix) → postfix_at ts ≡ Some (o, rest) → length rest < length ts
+postfix_takes = symbols.postfix_takes
+
+pub level_takes : (n k : ℕ) (ts rest : List Symbol) (a : Term) → level_with (below n) k ts ≡ Ok (a, rest) → length rest < length ts
+level_takes n k ts rest a e = level-shorter (level_is n k ts rest a e)
+
+pub required_takes : (t : Terminal) (ts rest : List Symbol) (u : Unit {0}) → required {F = Unit {0}} tt (after t ts) ≡ Ok (u, rest) → length rest < length ts
+required_takes t ts rest u e = symbols.after_takes t ts rest u (required_ok tt (after t ts) (u, rest) e)
+
+-- a turn of each loop
+
+pub left_shorter : (n k : ℕ) (ts mid rest : List Symbol) (o : Infix) (a b : Term) → infix_at k ts ≡ Some (o, mid) → next_operand (level_with (below n) k) o a mid ≡ Ok (b, rest) → length rest < length ts
+left_shorter n k ts mid rest o a b e f =
+    let g = bind_ok (level_with (below n) k mid) _ _ f in
+    moved (λ l t. length l < length ts) g.2 (omega (arith, infix_takes k ts mid o e, level_takes n k mid g.0.1 g.0.0 g.1))
+
+pub left_more : (n k : ℕ) (a : Term) (ts : List Symbol) →
+    repeated tt (infix_at k) (next_operand (level_with (below n) k)) a ts ≡
+    match_option (infix_at k ts) (Ok (a, ts)) (λ x. next_operand (level_with (below n) k) x.0 a x.1 >>= λ y. repeated tt (infix_at k) (next_operand (level_with (below n) k)) y.0 y.1)
+left_more n k = repeated-more tt (infix_at k) (next_operand (level_with (below n) k)) (left_shorter n k)
+
+pub postfix_shorter : (ts mid rest : List Symbol) (o : Postfix) (a b : Term) → postfix_at ts ≡ Some (o, mid) → applied_at o a mid ≡ Ok (b, rest) → length rest < length ts
+postfix_shorter ts mid rest o a b e f = moved (λ l t. length l < length ts) f (postfix_takes ts mid o e)
+
+pub postfix_more : (a : Term) (ts : List Symbol) →
+    repeated tt postfix_at applied_at a ts ≡
+    match_option (postfix_at ts) (Ok (a, ts)) (λ x. applied_at x.0 a x.1 >>= λ y. repeated tt postfix_at applied_at y.0 y.1)
+postfix_more = repeated-more tt postfix_at applied_at postfix_shorter
+
+-- operators to the right
+
+module _ (op : List Symbol → Look Symbol Infix) (item : List Symbol → Reading Term)
+    (op_shorter : (ts mid : List Symbol) (o : Infix) → op ts ≡ Some (o, mid) → length mid < length ts)
+    (item_shorter : (ts rest : List Symbol) (a : Term) → item ts ≡ Ok (a, rest) → length rest < length ts) where
+  chain-any : (k m : ℕ) (ts : List Symbol) → length ts < k → length ts < m → chain_right op item k ts ≡ chain_right op item m ts
+  unfolding chain_right
+  chain-any zero m ts h i = absurd (omega arith)
+  chain-any (suc k) zero ts h i = absurd (omega arith)
+  chain-any (suc k) (suc m) ts h i =
+      elim (ok_or_err (item ts)) [
+        | inl (d, f) ↦ rw f
+        | inr (x, f) ↦ rw f (elim (none_or_some (op x.1)) [
+          | inl e ↦ rw e
+          | inr (o, e) ↦ rw e (rw (chain-any k m o.1
+              (omega (arith, item_shorter ts x.1 x.0 f, op_shorter x.1 o.1 o.0 e))
+              (omega (arith, item_shorter ts x.1 x.0 f, op_shorter x.1 o.1 o.0 e))))
+        ])
+      ]
+
+  chain-more : (ts : List Symbol) → right op item ts ≡ (item ts >>= λ x. match_option (op x.1) (Ok (x.0, x.1)) (λ o. right op item o.1 >>= λ y. Ok (joined o.0 x.0 y.0, y.1)))
+  unfolding right chain_right
+  chain-more ts =
+      elim (ok_or_err (item ts)) [
+        | inl (d, f) ↦ rw f
+        | inr (x, f) ↦ rw f (elim (none_or_some (op x.1)) [
+          | inl e ↦ rw e
+          | inr (o, e) ↦ rw e (rw (chain-any (length ts) (suc (length o.1)) o.1
+              (omega (arith, item_shorter ts x.1 x.0 f, op_shorter x.1 o.1 o.0 e)) (omega arith)))
+        ])
+      ]
+
+pub right_more : (n k : ℕ) (ts : List Symbol) →
+    right (infix_at k) (level_with (below n) k) ts ≡
+    (level_with (below n) k ts >>= λ x. match_option (infix_at k x.1) (Ok (x.0, x.1)) (λ o. right (infix_at k) (level_with (below n) k) o.1 >>= λ y. Ok (joined o.0 x.0 y.0, y.1)))
+right_more n k = chain-more (infix_at k) (level_with (below n) k) (infix_takes k) (level_takes n k)

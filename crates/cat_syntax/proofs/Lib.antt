@@ -1,0 +1,12 @@
+pub mod Names
+pub mod Symbols
+pub mod Tokens
+pub mod Once
+pub mod Sound
+pub mod Levels
+pub mod ItemsSound
+pub mod Lists
+pub mod Complete
+pub mod ItemsComplete
+pub mod Weights
+pub mod Whole

@@ -1,0 +1,93 @@
+-- What the loops over lists use.
+use Rattle.std.proofs.Common.{◌≡◌, ℕ, ◌<◌, ◌≤◌, List, [], ◌∷◌, ◌++◌, length, map, arith, ap}
+use Rattle.std.proofs.lemmas.List.{map-append}
+use Rattle.std.specs.Prelude.{Some, None, Ok, Err, Option}
+use Rattle.descent.specs.Reading.{Look, match_option, ◌>>=◌, repeated}
+use Rattle.descent.proofs.Tools.{bind_ok, moved}
+use Rattle.descent.proofs.Turns.{repeated-more}
+use Rattle.cat_syntax.specs.declared.symbol.Symbol.{Symbol}
+use Rattle.cat_syntax.specs.declared.symbol.Terminal.{Terminal}
+use Rattle.cat_syntax.specs.declared.symbol.Terminal.TheVariants.{And, Comma, Equals}
+use Rattle.cat_syntax.specs.declared.tree.Binding.{Binding}
+use Rattle.cat_syntax.specs.declared.tree.Element.{Element}
+use Rattle.cat_syntax.specs.declared.tree.Item.{Item}
+use Rattle.cat_syntax.specs.Tree.{Word, Term, Bound, Shown, Clause, bound_of, shown_of, clause_of}
+use Rattle.cat_syntax.specs.Reading.{Reading, after, expected, name_at, new_name_at, binding_at, element_at, item_at, push_item, unless_end, expression_at}
+use Rattle.cat_syntax.proofs.Symbols as symbols
+use Rattle.cat_syntax.proofs.ItemsSound as sound
+use Rattle.cat_syntax.proofs.Sound.{level-shorter}
+
+pub after_takes : (t : Terminal) (ts rest : List Symbol) (u : Unit {0}) → after t ts ≡ Some (u, rest) → length rest < length ts
+after_takes = symbols.after_takes
+
+expression_takes : (ts rest : List Symbol) (a : Term) → expression_at ts ≡ Ok (a, rest) → length rest < length ts
+expression_takes ts rest a e = level-shorter (sound.expression-sound ts rest a e)
+
+pub name_takes : (ts rest : List Symbol) (x : Word) → name_at ts ≡ Ok (x, rest) → length rest < length ts
+name_takes ts rest x e = omega (arith, ap length (symbols.name-ok ts rest x e))
+
+pub element_takes : (ts rest : List Symbol) (x : Shown) → element_at ts ≡ Ok (x, rest) → length rest < length ts
+element_takes ts rest x e = sound.element-shorter ts rest x (sound.element-sound ts rest x e)
+
+new_name_takes : (bs : List Bound) (ts rest : List Symbol) (x : Word) → new_name_at bs ts ≡ Ok (x, rest) → length rest < length ts
+new_name_takes bs ts rest x e = omega (arith, ap length (sound.new_name-sound bs ts rest x e).0)
+
+pub binding_takes : (bs : List Bound) (ts rest : List Symbol) (b : Bound) → binding_at bs ts ≡ Ok (b, rest) → length rest < length ts
+unfolding binding_at
+binding_takes bs ts rest b e =
+    let x = bind_ok (new_name_at bs ts) _ _ e in
+    let y = bind_ok (expected Equals x.0.1) _ _ x.2 in
+    let a = bind_ok (expression_at y.0.1) _ _ y.2 in
+    moved (λ l c. length l < length ts) a.2
+    (omega (arith, new_name_takes bs ts x.0.1 x.0.0 x.1, ap length (symbols.expected-ok Equals x.0.1 y.0.1 y.0.0 y.1), expression_takes y.0.1 a.0.1 a.0.0 a.1))
+
+pub item_takes : (ts rest : List Symbol) (c : Clause) → item_at ts ≡ Ok (c, rest) → length rest < length ts
+item_takes ts rest c e = sound.item-shorter ts rest c (sound.item-sound ts rest c e)
+
+-- a turn of a loop over a list
+
+module _ {A : Type 0} (op : List Symbol → Look Symbol (Unit {0})) (item : List A → List Symbol → Reading A)
+    (op_shorter : (ts rest : List Symbol) (u : Unit {0}) → op ts ≡ Some (u, rest) → length rest ≤ length ts)
+    (item_shorter : (xs : List A) (ts rest : List Symbol) (x : A) → item xs ts ≡ Ok (x, rest) → length rest < length ts) where
+  turn_shorter : (ts mid rest : List Symbol) (o : Unit {0}) (xs ys : List A) → op ts ≡ Some (o, mid) → push_item item o xs mid ≡ Ok (ys, rest) → length rest < length ts
+  turn_shorter ts mid rest o xs ys e f =
+      let y = bind_ok (item xs mid) _ _ f in
+      moved (λ l t. length l < length ts) y.2 (omega (arith, op_shorter ts mid o e, item_shorter xs mid y.0.1 y.0.0 y.1))
+
+  pub list-more : (xs : List A) (ts : List Symbol) →
+      repeated tt op (push_item item) xs ts ≡ match_option (op ts) (Ok (xs, ts)) (λ x. push_item item x.0 xs x.1 >>= λ y. repeated tt op (push_item item) y.0 y.1)
+  list-more = repeated-more tt op (push_item item) turn_shorter
+
+after_no_longer : (t : Terminal) (ts rest : List Symbol) (u : Unit {0}) → after t ts ≡ Some (u, rest) → length rest ≤ length ts
+after_no_longer t ts rest u e = omega (arith, symbols.after_takes t ts rest u e)
+
+pub bindings_more : (bs : List Bound) (ts : List Symbol) →
+    repeated tt (after And) (push_item binding_at) bs ts ≡
+    match_option (after And ts) (Ok (bs, ts)) (λ x. push_item binding_at x.0 bs x.1 >>= λ y. repeated tt (after And) (push_item binding_at) y.0 y.1)
+bindings_more = list-more (after And) binding_at (after_no_longer And) binding_takes
+
+pub elements_more : (es : List Shown) (ts : List Symbol) →
+    repeated tt (after Comma) (push_item (λ _. element_at)) es ts ≡
+    match_option (after Comma ts) (Ok (es, ts)) (λ x. push_item (λ _. element_at) x.0 es x.1 >>= λ y. repeated tt (after Comma) (push_item (λ _. element_at)) y.0 y.1)
+elements_more = list-more (after Comma) (λ _. element_at) (after_no_longer Comma) (λ _. element_takes)
+
+pub names_more : (xs : List Word) (ts : List Symbol) →
+    repeated tt (after Comma) (push_item (λ _. name_at)) xs ts ≡
+    match_option (after Comma ts) (Ok (xs, ts)) (λ x. push_item (λ _. name_at) x.0 xs x.1 >>= λ y. repeated tt (after Comma) (push_item (λ _. name_at)) y.0 y.1)
+names_more = list-more (after Comma) (λ _. name_at) (after_no_longer Comma) (λ _. name_takes)
+
+pub items_more : (cs : List Clause) (ts : List Symbol) →
+    repeated tt unless_end (push_item (λ _. item_at)) cs ts ≡
+    match_option (unless_end ts) (Ok (cs, ts)) (λ x. push_item (λ _. item_at) x.0 cs x.1 >>= λ y. repeated tt unless_end (push_item (λ _. item_at)) y.0 y.1)
+items_more = list-more unless_end (λ _. item_at) sound.unless_end_takes (λ _. item_takes)
+
+-- one more in memory
+
+pub bounds_push : (bs : List Binding) (b : Binding) → map bound_of (bs ++ b ∷ []) ≡ map bound_of bs ++ bound_of b ∷ []
+bounds_push bs b = map-append bound_of bs (b ∷ [])
+
+pub shown_push : (es : List Element) (e : Element) → map shown_of (es ++ e ∷ []) ≡ map shown_of es ++ shown_of e ∷ []
+shown_push es e = map-append shown_of es (e ∷ [])
+
+pub clauses_push : (is : List Item) (i : Item) → map clause_of (is ++ i ∷ []) ≡ map clause_of is ++ clause_of i ∷ []
+clauses_push is i = map-append clause_of is (i ∷ [])

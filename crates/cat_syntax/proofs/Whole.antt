@@ -1,0 +1,51 @@
+-- The whole of the symbols.
+use Rattle.std.proofs.Common.{◌≡◌, ◌≤◌, List, [], refl, sym, ◌∙◌, ap, subst, arith}
+use Rattle.std.specs.Prelude.{Result, Ok, Err, IfOk, MatchResult}
+use Rattle.std.specs.Result.{IsErrAnd}
+use Rattle.wb_text.specs.declared.fault.TextFault.{TextFault}
+use Rattle.wb_text.specs.declared.fault.TextFault.TheVariants as texts
+use Rattle.cat_syntax.specs.Faults.{cause_of}
+use Rattle.cat_syntax.specs.declared.counting.Context.TheVariants.{Naming}
+use Rattle.cat_syntax.specs.declared.fault.CatFault.{CatFault}
+use Rattle.cat_syntax.specs.declared.fault.CatFault.TheVariants.{Text, Syntax, Unsupported, TooDeep, TooLarge, NoMemory}
+use Rattle.cat_syntax.specs.declared.symbol.Symbol.{Symbol}
+use Rattle.cat_syntax.specs.Counting.{weight}
+use Rattle.cat_syntax.specs.Items.{IsFile}
+use Rattle.cat_syntax.specs.Nodes.{nodes}
+use Rattle.cat_syntax.specs.Reading.{Reading, Gives, file_at}
+use Rattle.cat_syntax.specs.Tree.{File}
+use Rattle.cat_syntax.proofs.Weights.{file-weight}
+use Rattle.cat_syntax.proofs.ItemsSound.{file-sound}
+use Rattle.cat_syntax.proofs.ItemsComplete.{file-complete}
+
+pub found_of : (ss rest : List Symbol) (r : Result File CatFault) → weight Naming ss ≤ 4096 → Gives {X = File} {A = File} (λ f. f) r rest (file_at ss) → IfOk r (λ f. IsFile ss f × (nodes f ≤ 4096))
+found_of ss rest (Ok f) h g =
+    let d = file-sound ss rest f g in
+    (d, omega (arith, file-weight ss f d))
+found_of ss rest (Err e) h g = tt
+
+same-file : (ss rest : List Symbol) (f g : File) → IsFile ss f → file_at ss ≡ Ok (g, rest) → g ≡ f
+same-file ss rest f g d e =
+    let same : ◌≡◌ {A = Reading File} (Ok (g, rest)) (Ok (f, [])) = sym e ∙ file-complete ss f d in
+    let pair : ◌≡◌ {A = File × List Symbol} (g, rest) (f, []) = cc in
+    ap (λ (q : File × List Symbol). q.0) pair
+
+not-refused : (ss : List Symbol) (f : File) → IsFile ss f → file_at ss ≡ Err tt → ⊥
+not-refused ss f d e = let g = file-complete ss f d in cc
+
+pub only_of : (ss rest : List Symbol) (r : Result File CatFault) (f : File) → IsFile ss f → Gives {X = File} {A = File} (λ g. g) r rest (file_at ss) → MatchResult r (λ g. g ≡ f) (λ e. e ≡ NoMemory)
+only_of ss rest (Ok g) f d h = same-file ss rest f g d h
+only_of ss rest (Err NoMemory) f d h = refl
+only_of ss rest (Err (Text e)) f d h = absurd (not-refused ss f d h)
+only_of ss rest (Err (Syntax e)) f d h = absurd (not-refused ss f d h)
+only_of ss rest (Err (Unsupported e)) f d h = absurd (not-refused ss f d h)
+only_of ss rest (Err TooDeep) f d h = absurd (not-refused ss f d h)
+only_of ss rest (Err TooLarge) f d h = absurd (not-refused ss f d h)
+
+pub small_of : (ss : List Symbol) (f : File) → IsFile ss f → nodes f ≤ 4096 → weight Naming ss ≤ 4096
+small_of ss f d h = omega (arith, file-weight ss f d)
+
+-- want of memory in the text layer
+pub no_memory : (r : Result File CatFault) (e : TextFault) (f : File) → IsErrAnd r (λ g. g ≡ cause_of e) → e ≡ texts.NoMemory → MatchResult r (λ g. g ≡ f) (λ g. g ≡ NoMemory)
+no_memory (Ok g) e f h same = absurd h
+no_memory (Err g) e f h same = h ∙ ap cause_of same

@@ -1,0 +1,44 @@
+use Rattle.std.proofs.Common.{◌≡◌, ◌+◌, ◌*◌, ◌≤◌, length}
+use Rattle.descent.specs.Reading.{repeated}
+use Rattle.cat_syntax.specs.Tree.{term_of}
+use Rattle.cat_syntax.specs.Reading.{infix_at, postfix_at, applied_at, next_operand, left, postfix_with, level_with, below}
+use Rattle.cat_syntax.proofs.reading.Reader.+expressions.Given as goal
+
+-- a call goes down one level, or has fewer symbols before it
+
+abbrev pub decreases-enclosed : goal.decreases-enclosed
+decreases-enclosed l = 20 * length l.self.now.rest.now
+
+abbrev pub decreases-primary : goal.decreases-primary
+decreases-primary l = 20 * length l.self.now.rest.now + 1
+
+abbrev pub decreases-postfix : goal.decreases-postfix
+decreases-postfix l = 20 * length l.self.now.rest.now + 2
+
+abbrev pub decreases-unary : goal.decreases-unary
+decreases-unary l = 20 * length l.self.now.rest.now + 3
+
+abbrev pub decreases-level : goal.decreases-level
+decreases-level l = 20 * length l.self.now.rest.now + 3 * l.level + 4
+
+abbrev pub decreases-left : goal.decreases-left
+decreases-left l = 20 * length l.self.now.rest.now + 3 * l.level + 5
+
+abbrev pub decreases-right : goal.decreases-right
+decreases-right l = 20 * length l.self.now.rest.now + 3 * l.level + 5
+
+-- what is behind the operand so far, read on, is what the level reads
+abbrev pub invariant-left-loop-operator : goal.invariant-left-loop-operator
+invariant-left-loop-operator l =
+    (repeated tt (infix_at l.level) (next_operand (level_with (below l.nesting) l.level)) (term_of l.left) l.self.rest.now ≡ left (infix_at l.level) (level_with (below l.nesting) l.level) l.fn.self.rest.now) ×
+    (length l.self.rest.now ≤ length l.fn.self.rest.now)
+
+abbrev pub decreases-left-loop-operator : goal.decreases-left-loop-operator
+decreases-left-loop-operator l = length l.self.rest.now
+
+abbrev pub invariant-postfix-loop-operator : goal.invariant-postfix-loop-operator
+invariant-postfix-loop-operator l =
+    repeated tt postfix_at applied_at (term_of l.operand) l.self.rest.now ≡ postfix_with (below l.nesting) l.fn.self.rest.now
+
+abbrev pub decreases-postfix-loop-operator : goal.decreases-postfix-loop-operator
+decreases-postfix-loop-operator l = length l.self.rest.now

@@ -1,0 +1,18 @@
+use Rattle.std.proofs.Common.{◌≡◌, sym, subst, ◌∙◌, ap}
+use Rattle.wb_text.specs.declared.fault.TextFault.TheVariants as texts
+use Rattle.cat_syntax.specs.Items.{IsFile}
+use Rattle.cat_syntax.specs.Symbols.{symbols_of}
+use Rattle.cat_syntax.proofs.Whole.{no_memory}
+use Rattle.cat_syntax.proofs.reading.read_cat.Goals as goal
+
+pub returns-in_err-tokens-clause-only : goal.returns-in_err-tokens-clause-only
+returns-in_err-tokens-clause-only c = λ f d.
+    let none : c.in_err-tokens.field-0.0 ≡ texts.NoMemory = c.in_err-tokens.ensures.only d.tokens d.is_list in
+    no_memory c.from_residual.result c.in_err-tokens.field-0.0 f c.from_residual.ensures.1 none
+
+pub returns-clause-only : goal.returns-clause-only
+returns-clause-only c = λ f d.
+    let list : c.in_ok-tokens.tokens.items ≡ d.tokens = c.in_ok-tokens.ensures.only d.tokens d.is_list in
+    let same : c.deref-2.result.now ≡ symbols_of c.args.text.now d.tokens =
+    c.deref-2.ensures.value ∙ c.in_ok-symbols.ensures ∙ ap (symbols_of c.args.text.now) (c.deref.ensures.value ∙ list) in
+    c.read_symbols.ensures.only f (subst (λ l. IsFile l f) (sym same) d.spelled) d.at_most

@@ -1,0 +1,10 @@
+pub mod Faults
+pub mod Codes
+pub mod Tree
+pub mod Grammar
+pub mod Items
+pub mod Reading
+pub mod Symbols
+pub mod Nodes
+pub mod Counting
+pub mod Reads

@@ -1,0 +1,256 @@
+-- Reading as functions on lists of symbols: one definition for each function of `Reader`.
+-- The grammar does not rest on this file: it says what the private functions give, and proofs/ leads
+-- from it to the grammar, in both directions.
+use Rattle.std.specs.Prelude.{ℕ, List, [], ◌∷◌, ◌++◌, length, Bool, true, false, Option, Some, None, Result, Ok, Err, ◌≡◌, if◌then◌else◌}
+use Rattle.std.proofs.Common.{zero, suc}
+use Rattle.descent.specs.Reading.{Read, Look, match_option, ◌>>=◌, required, repeated}
+use Rattle.cat_syntax.specs.contracts.symbol.TerminalPartialEq.TheImpl.{ghosts}
+use Rattle.cat_syntax.specs.declared.fault.CatFault.{CatFault}
+use Rattle.cat_syntax.specs.declared.fault.CatFault.TheVariants.{NoMemory}
+use Rattle.cat_syntax.specs.declared.operator.Infix.{Infix}
+use Rattle.cat_syntax.specs.declared.operator.Infix.TheVariants.{Union, Sequence, Difference, Intersection, Product}
+use Rattle.cat_syntax.specs.declared.operator.Postfix.{Postfix}
+use Rattle.cat_syntax.specs.declared.operator.Postfix.TheVariants as postfixes
+use Rattle.cat_syntax.specs.declared.symbol.Symbol.{Symbol}
+use Rattle.cat_syntax.specs.declared.symbol.Symbol.TheVariants.{Fixed, Name, Quoted, Unsupported}
+use Rattle.cat_syntax.specs.declared.symbol.Terminal.{Terminal}
+use Rattle.cat_syntax.specs.declared.symbol.Terminal.TheVariants.{Let, Rec, And, Acyclic, Irreflexive, Empty, As, Flag, Show, Unshow, Include, Comma, Equals, Domain, Range, Underscore, Zero, LeftParen, RightParen, LeftBracket, RightBracket, LeftBrace, RightBrace, Bar, Semicolon, Backslash, Ampersand, Star, Tilde, Plus, Question, Inverse}
+use Rattle.cat_syntax.specs.declared.tree.CheckKind.{CheckKind}
+use Rattle.cat_syntax.specs.declared.tree.CheckKind.TheVariants as kinds
+use Rattle.cat_syntax.specs.Items.{is_bound}
+use Rattle.cat_syntax.specs.Symbols.{is_name}
+use Rattle.cat_syntax.specs.Tree.{Bound, Shown, Clause, bind, bind_recursively, check, include, show, unshow, File, Word, Term, plus, star, optional, inverse, complement, domain, range, identity, name, empty_relation, empty_set, universe}
+use Rattle.cat_syntax.specs.Grammar.{joined, begins_operand}
+
+-- a value and the symbols behind it, or no reading
+abbrev pub Reading : Type 0 → Type 0
+Reading A = Read Symbol (Unit {0}) A
+
+-- the fault is want of memory, or else P
+abbrev pub OrNoMemory : CatFault → Type 0 → Type 0
+OrNoMemory NoMemory P = Unit {0}
+OrNoMemory _ P = P
+
+-- What a function returned, seen by view, and the symbols that it left are what reading gives, unless memory ran out.
+abbrev pub Gives : {X A : Type 0} → (X → A) → Result X CatFault → List Symbol → Reading A → Type 0
+Gives view (Ok x) rest read = read ≡ Ok (view x, rest)
+Gives view (Err e) rest read = OrNoMemory e (read ≡ Err tt)
+
+-- What a function took, if it took something.
+abbrev pub Takes : {A : Type 0} → Option A → List Symbol → List Symbol → Look Symbol A → Type 0
+Takes None old rest look = (look ≡ None) × (rest ≡ old)
+Takes (Some x) old rest look = look ≡ Some (x, rest)
+
+-- single symbols
+
+abbrev pub terminal_eq : Terminal → Terminal → Bool
+terminal_eq a b = ghosts.eq a b
+
+-- this terminal
+unfoldable pub after : Terminal → List Symbol → Look Symbol (Unit {0})
+after t [] = None
+after t (Fixed u ∷ ts) = if terminal_eq u t then Some (tt, ts) else None
+after t (s ∷ ts) = None
+
+unfoldable pub expected : Terminal → List Symbol → Reading (Unit {0})
+expected t ts = required tt (after t ts)
+
+unfoldable pub name_at : List Symbol → Reading Word
+name_at (Name x ∷ ts) = Ok (x, ts)
+name_at ts = Err tt
+
+-- this terminal, as an operator
+abbrev pub sign : Terminal → Infix → List Symbol → Look Symbol Infix
+sign t o ts = match_option (after t ts) None (λ y. Some (o, y.1))
+
+-- the operator of a level
+unfoldable pub infix_at : ℕ → List Symbol → Look Symbol Infix
+infix_at zero ts = sign Star Product ts
+infix_at (suc zero) ts = sign Ampersand Intersection ts
+infix_at (suc (suc zero)) ts = sign Backslash Difference ts
+infix_at (suc (suc (suc zero))) ts = sign Semicolon Sequence ts
+infix_at (suc (suc (suc (suc zero)))) ts = sign Bar Union ts
+infix_at k ts = None
+
+-- whether the operator of a level associates to the left
+unfoldable pub associates_left : ℕ → Bool
+associates_left zero = true
+associates_left (suc (suc zero)) = true
+associates_left k = false
+
+unfoldable pub postfix_at : List Symbol → Look Symbol Postfix
+postfix_at (Fixed Plus ∷ ts) = Some (postfixes.Plus, ts)
+postfix_at (Fixed Star ∷ ts) = if begins_operand ts then None else Some (postfixes.Star, ts)
+postfix_at (Fixed Question ∷ ts) = Some (postfixes.Optional, ts)
+postfix_at (Fixed Inverse ∷ ts) = Some (postfixes.Inverse, ts)
+postfix_at ts = None
+
+abbrev pub applied : Postfix → Term → Term
+applied postfixes.Plus = plus
+applied postfixes.Star = star
+applied postfixes.Optional = optional
+applied postfixes.Inverse = inverse
+
+-- Operators that associate to the right: an operand, and what stands behind it. No more than k operands are read.
+unfoldable pub chain_right : (List Symbol → Look Symbol Infix) → (List Symbol → Reading Term) → ℕ → List Symbol → Reading Term
+chain_right op item zero ts = Err tt
+chain_right op item (suc k) ts = item ts >>= λ x. match_option (op x.1) (Ok (x.0, x.1)) (λ o. chain_right op item k o.1 >>= λ y. Ok (joined o.0 x.0 y.0, y.1))
+
+-- each operand takes a symbol
+unfoldable pub right : (List Symbol → Look Symbol Infix) → (List Symbol → Reading Term) → List Symbol → Reading Term
+right op item ts = chain_right op item (suc (length ts)) ts
+
+-- one more operand
+abbrev pub next_operand : (List Symbol → Reading Term) → Infix → Term → List Symbol → Reading Term
+next_operand item o a ts = item ts >>= λ y. Ok (joined o a y.0, y.1)
+
+-- Operators that associate to the left.
+unfoldable pub left : (List Symbol → Look Symbol Infix) → (List Symbol → Reading Term) → List Symbol → Reading Term
+left op item ts = item ts >>= λ x. repeated tt op (next_operand item) x.0 x.1
+
+-- The levels. `Inner` reads what nests one deeper.
+
+pub record Inner : Type 0 where
+  pub level : List Symbol → Reading Term
+  pub unary : List Symbol → Reading Term
+
+-- an expression between two signs
+unfoldable pub enclosed_with : Inner → Terminal → Terminal → List Symbol → Reading Term
+enclosed_with r opening closing ts = do
+  x ← expected opening ts
+  a ← r.level x.1
+  y ← expected closing a.1
+  Ok (a.0, y.1)
+
+unfoldable pub primary_with : Inner → List Symbol → Reading Term
+primary_with r (Name x ∷ ts) = Ok (name x, ts)
+primary_with r (Fixed Underscore ∷ ts) = Ok (universe, ts)
+primary_with r (Fixed Zero ∷ ts) = Ok (empty_relation, ts)
+primary_with r (Fixed LeftBrace ∷ ts) = expected RightBrace ts >>= λ y. Ok (empty_set, y.1)
+primary_with r (Fixed LeftParen ∷ ts) = enclosed_with r LeftParen RightParen (Fixed LeftParen ∷ ts)
+primary_with r (Fixed LeftBracket ∷ ts) = enclosed_with r LeftBracket RightBracket (Fixed LeftBracket ∷ ts) >>= λ x. Ok (identity x.0, x.1)
+primary_with r (Fixed Domain ∷ ts) = enclosed_with r LeftParen RightParen ts >>= λ x. Ok (domain x.0, x.1)
+primary_with r (Fixed Range ∷ ts) = enclosed_with r LeftParen RightParen ts >>= λ x. Ok (range x.0, x.1)
+primary_with r ts = Err tt
+
+abbrev pub applied_at : Postfix → Term → List Symbol → Reading Term
+applied_at o a ts = Ok (applied o a, ts)
+
+unfoldable pub postfix_with : Inner → List Symbol → Reading Term
+postfix_with r ts = primary_with r ts >>= λ x. repeated tt postfix_at applied_at x.0 x.1
+
+unfoldable pub unary_with : Inner → List Symbol → Reading Term
+unary_with r (Fixed Tilde ∷ ts) = r.unary ts >>= λ x. Ok (complement x.0, x.1)
+unary_with r ts = postfix_with r ts
+
+unfoldable pub level_with : Inner → ℕ → List Symbol → Reading Term
+level_with r zero ts = unary_with r ts
+level_with r (suc k) ts = if associates_left k then left (infix_at k) (level_with r k) ts else right (infix_at k) (level_with r k) ts
+
+-- what may nest n deep
+unfoldable pub below : ℕ → Inner
+below zero = record { level = λ _. Err tt; unary = λ _. Err tt }
+below (suc n) = record { level = level_with (below n) 5; unary = unary_with (below n) }
+
+-- items
+
+unfoldable pub expression_at : List Symbol → Reading Term
+expression_at ts = level_with (below 64) 5 ts
+
+-- one more of a list; what comes may rest on those before it
+abbrev pub push_item : {A : Type 0} → (List A → List Symbol → Reading A) → Unit {0} → List A → List Symbol → Reading (List A)
+push_item item _ xs ts = item xs ts >>= λ y. Ok (xs ++ y.0 ∷ [], y.1)
+
+-- x {separator x}
+unfoldable pub separated : {A : Type 0} → Terminal → (List A → List Symbol → Reading A) → List Symbol → Reading (List A)
+separated separator item ts = push_item item tt [] ts >>= λ x. repeated tt (after separator) (push_item item) x.0 x.1
+
+unfoldable pub alias_at : List Symbol → Reading (Option Word)
+alias_at ts = match_option (after As ts) (Ok (None, ts)) (λ y. name_at y.1 >>= λ x. Ok (Some x.0, x.1))
+
+-- the next symbol is a name that is bound
+unfoldable pub repeats : List Bound → List Symbol → Bool
+repeats bs (Name x ∷ ts) = is_bound bs x
+repeats bs (Unsupported x ∷ ts) = is_bound bs x
+repeats bs ts = false
+
+unfoldable pub new_name_at : List Bound → List Symbol → Reading Word
+new_name_at bs ts = if repeats bs ts then Err tt else name_at ts
+
+unfoldable pub binding_at : List Bound → List Symbol → Reading Bound
+binding_at bs ts = do
+  x ← new_name_at bs ts
+  y ← expected Equals x.1
+  a ← expression_at y.1
+  Ok (record { name = x.0; value = a.0 }, a.1)
+
+-- what stands behind `let`
+unfoldable pub group_at : List Symbol → Reading Clause
+group_at ts = match_option (after Rec ts) (separated And binding_at ts >>= λ x. Ok (bind x.0, x.1)) (λ y. separated And binding_at y.1 >>= λ x. Ok (bind_recursively x.0, x.1))
+
+unfoldable pub element_at : List Symbol → Reading Shown
+element_at ts = do
+  a ← expression_at ts
+  x ← alias_at a.1
+  Ok (record { value = a.0; alias = x.0 }, x.1)
+
+-- whether this terminal comes next, and what stands behind it
+unfoldable pub optional_at : Terminal → List Symbol → Bool × List Symbol
+optional_at t ts = match_option (after t ts) (false, ts) (λ y. (true, y.1))
+
+unfoldable pub kind_at : List Symbol → Reading CheckKind
+kind_at (Fixed Acyclic ∷ ts) = Ok (kinds.Acyclic, ts)
+kind_at (Fixed Irreflexive ∷ ts) = Ok (kinds.Irreflexive, ts)
+kind_at (Fixed Empty ∷ ts) = Ok (kinds.Empty, ts)
+kind_at ts = Err tt
+
+-- what stands behind `flag` and `~`
+unfoldable pub check_with : Bool → Bool → List Symbol → Reading Clause
+check_with flag negated ts = do
+  k ← kind_at ts
+  a ← expression_at k.1
+  x ← alias_at a.1
+  Ok (check flag negated k.0 a.0 x.0, x.1)
+
+unfoldable pub check_at : List Symbol → Reading Clause
+check_at ts =
+    let flag = optional_at Flag ts in
+    let negated = optional_at Tilde flag.1 in
+    check_with flag.0 negated.0 negated.1
+
+-- a quoted text that is a name
+unfoldable pub quoted_at : List Symbol → Reading Word
+quoted_at (Quoted x ∷ ts) = if is_name x then Ok (x, ts) else Err tt
+quoted_at ts = Err tt
+
+unfoldable pub item_at : List Symbol → Reading Clause
+item_at ts =
+    match_option (after Let ts)
+    (match_option (after Include ts)
+    (match_option (after Show ts)
+    (match_option (after Unshow ts)
+    (check_at ts)
+    (λ y. separated Comma (λ _. name_at) y.1 >>= λ x. Ok (unshow x.0, x.1)))
+    (λ y. separated Comma (λ _. element_at) y.1 >>= λ x. Ok (show x.0, x.1)))
+    (λ y. quoted_at y.1 >>= λ x. Ok (include x.0, x.1)))
+    (λ y. group_at y.1)
+
+-- nothing is read, and symbols are left
+unfoldable pub unless_end : List Symbol → Look Symbol (Unit {0})
+unless_end [] = None
+unless_end (t ∷ ts) = Some (tt, t ∷ ts)
+
+unfoldable pub title_at : List Symbol → Reading (Option Word)
+title_at (Name x ∷ ts) = Ok (Some x, ts)
+title_at (Quoted x ∷ ts) = Ok (Some x, ts)
+title_at ts = Ok (None, ts)
+
+unfoldable pub items_at : List Symbol → Reading (List Clause)
+items_at ts = repeated tt unless_end (push_item (λ _. item_at)) [] ts
+
+-- all of the symbols
+unfoldable pub file_at : List Symbol → Reading File
+file_at ts = do
+  title ← title_at ts
+  items ← items_at title.1
+  Ok (record { title = title.0; items = items.0 }, items.1)

@@ -1,0 +1,81 @@
+//! A model as it is read.
+
+ghost use Rattle.std.specs.Prelude.{◌≡◌, map, Option, None, Some, option_map};
+ghost use Rattle.cat_syntax.specs.Tree.{clause_of};
+
+use crate::tree::Item;
+use std::marker::Model;
+
+/// The title of a model. Contracts see its bytes.
+#[derive(Drop)]
+pub struct Title {
+    bytes: Vec<u8>,
+}
+
+impl Model for Title {
+    ghost use Rattle.std.specs.Prelude.{ℕ, List};
+
+    ghost Value = { List ℕ };
+
+    ghost view = { λ t. t.bytes.items };
+}
+
+impl Title {
+    /// A title of these bytes.
+    pub fn new(bytes: Vec<u8>) -> Self
+        ensures { result ≡ bytes.items }
+    {
+        Title { bytes }
+    }
+
+    /// The bytes.
+    pub fn bytes(&self) -> &[u8]
+        ensures { result.now ≡ self.now }
+    {
+        self.bytes.as_slice()
+    }
+}
+
+/// A model: its title and its items. Contracts see its tree.
+#[derive(Drop)]
+pub struct CatFile {
+    title: Option<Title>,
+    items: Vec<Item>,
+}
+
+impl Model for CatFile {
+    ghost use Rattle.cat_syntax.specs.Tree.{File};
+    ghost use Rattle.cat_syntax.specs.Codes.{coded_file};
+
+    ghost Value = { File };
+
+    ghost coded = { coded_file };
+
+    ghost use Rattle.std.specs.Prelude.{map};
+    ghost use Rattle.cat_syntax.specs.Tree.{clause_of};
+
+    ghost view = { λ f. record { title = f.title; items = map clause_of f.items.items } };
+}
+
+impl CatFile {
+    /// A model of these parts.
+    pub fn new(title: Option<Title>, items: Vec<Item>) -> Self
+        ensures { result ≡ record { title = title; items = map clause_of items.items } }
+    {
+        CatFile { title, items }
+    }
+
+    /// The title, if there is one.
+    pub fn title(&self) -> Option<&Title>
+        ensures { option_map (λ t. t.now) result ≡ self.now.title }
+    {
+        self.title.as_ref()
+    }
+
+    /// The items, in order.
+    pub fn items(&self) -> &[Item]
+        ensures { map clause_of result.now ≡ self.now.items }
+    {
+        &self.items
+    }
+}

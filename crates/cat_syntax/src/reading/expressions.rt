@@ -1,0 +1,294 @@
+//! Expressions, by a table of levels of operators.
+
+ghost use Rattle.std.specs.Prelude.{◌≡◌, ℕ, List, IfOk};
+ghost use Rattle.cat_syntax.specs.Tree.{Term, term_of};
+ghost use Rattle.cat_syntax.specs.Grammar.{joined, begins_operand as operand_next, begins_check as check_next};
+ghost use Rattle.cat_syntax.specs.Reading.{Gives, Takes, applied, infix_at, associates_left as is_left, postfix_at, enclosed_with, primary_with, postfix_with, unary_with, left, right, level_with, below, expression_at};
+
+use crate::fault::CatFault;
+use crate::operator::{Infix, Postfix};
+use crate::reading::Reader;
+use crate::symbol::{Symbol, Terminal};
+use crate::tree::Expression;
+use std::alloc::{AllocError, Global};
+
+/// How deep an expression may nest.
+const NESTING: u32 = 64;
+
+/// How many levels of operators there are.
+const LEVELS: u32 = 5;
+
+/// Whether a check's word comes next.
+#[tactic(auto, unfolding(crate::specs::Grammar::begins_check))]
+fn begins_check(symbols: &[Symbol]) -> bool
+    ensures { result ≡ check_next symbols.now }
+{
+    match symbols {
+        [first, ..] => matches!(
+            first,
+            Symbol::Fixed(Terminal::Acyclic | Terminal::Irreflexive | Terminal::Empty)
+        ),
+        [] => false,
+    }
+}
+
+/// Whether an operand comes next.
+#[tactic(auto, unfolding(crate::specs::Grammar::begins_operand))]
+fn begins_operand(symbols: &[Symbol]) -> bool
+    ensures { result ≡ operand_next symbols.now }
+{
+    match symbols {
+        [first, rest @ ..] => match first {
+            Symbol::Name(_) | Symbol::Unsupported(_) => true,
+            Symbol::Fixed(
+                Terminal::Domain
+                | Terminal::Range
+                | Terminal::Underscore
+                | Terminal::Zero
+                | Terminal::LeftParen
+                | Terminal::LeftBracket
+                | Terminal::LeftBrace,
+            ) => true,
+            Symbol::Fixed(Terminal::Tilde) => !begins_check(rest),
+            _ => false,
+        },
+        [] => false,
+    }
+}
+
+/// Whether the operator of a level associates to the left.
+#[tactic(auto, unfolding(crate::specs::Reading::associates_left))]
+fn associates_left(level: u32) -> bool
+    ensures { result ≡ is_left level }
+{
+    matches!(level, 0 | 2)
+}
+
+/// The expression that an operator makes of its operands.
+fn join(
+    alloc: Global,
+    operator: Infix,
+    left: Expression,
+    right: Expression,
+) -> Result<Expression, AllocError>
+    ensures { IfOk result (λ e. term_of e ≡ joined operator (term_of left) (term_of right)) }
+{
+    let left = Box::new(alloc, left)?;
+    let right = Box::new(alloc, right)?;
+    Ok(match operator {
+        Infix::Union => Expression::Union(left, right),
+        Infix::Sequence => Expression::Sequence(left, right),
+        Infix::Difference => Expression::Difference(left, right),
+        Infix::Intersection => Expression::Intersection(left, right),
+        Infix::Product => Expression::Product(left, right),
+    })
+}
+
+/// The expression that an operator makes of the operand before it.
+fn apply(alloc: Global, operator: Postfix, operand: Expression) -> Result<Expression, AllocError>
+    ensures { IfOk result (λ e. term_of e ≡ applied operator (term_of operand)) }
+{
+    let operand = Box::new(alloc, operand)?;
+    Ok(match operator {
+        Postfix::Plus => Expression::Plus(operand),
+        Postfix::Star => Expression::Star(operand),
+        Postfix::Optional => Expression::Optional(operand),
+        Postfix::Inverse => Expression::Inverse(operand),
+    })
+}
+
+impl<'a> Reader<'a> {
+    /// Takes the operator of a level, if it comes next.
+    #[tactic(auto, unfolding(crate::specs::Reading::infix_at))]
+    fn infix(&mut self, level: u32) -> Option<Infix>
+        ensures { Takes result self.old.rest.now self.new.rest.now (infix_at level self.old.rest.now) }
+    {
+        let (terminal, operator) = match level {
+            0 => (Terminal::Star, Infix::Product),
+            1 => (Terminal::Ampersand, Infix::Intersection),
+            2 => (Terminal::Backslash, Infix::Difference),
+            3 => (Terminal::Semicolon, Infix::Sequence),
+            4 => (Terminal::Bar, Infix::Union),
+            _ => return None,
+        };
+        if self.take(terminal) {
+            Some(operator)
+        } else {
+            None
+        }
+    }
+
+    /// Takes an operator that stands behind its operand, if it comes next.
+    #[tactic(auto, unfolding(crate::specs::Reading::postfix_at))]
+    fn postfix_sign(&mut self) -> Option<Postfix>
+        ensures { Takes result self.old.rest.now self.new.rest.now (postfix_at self.old.rest.now) }
+    {
+        let [first, rest @ ..] = self.rest else {
+            return None;
+        };
+        let operator = match first {
+            Symbol::Fixed(Terminal::Plus) => Postfix::Plus,
+            Symbol::Fixed(Terminal::Star) if !begins_operand(rest) => Postfix::Star,
+            Symbol::Fixed(Terminal::Question) => Postfix::Optional,
+            Symbol::Fixed(Terminal::Inverse) => Postfix::Inverse,
+            _ => return None,
+        };
+        self.rest = rest;
+        Some(operator)
+    }
+
+    /// level 0 := unary; level k + 1 := level k {operator of level k} level k
+    #[cycle(expressions)]
+    #[tactic(auto, unfolding(crate::specs::Reading::level_with))]
+    fn level(&mut self, level: u32, nesting: u32) -> Result<Expression, CatFault>
+        ensures { Gives term_of result self.new.rest.now (level_with (below nesting) level self.old.rest.now) }
+    {
+        let Some(tighter) = level.checked_sub(1) else {
+            return self.unary(nesting);
+        };
+        if associates_left(tighter) {
+            self.left(tighter, nesting)
+        } else {
+            self.right(tighter, nesting)
+        }
+    }
+
+    /// Operands of a level, joined from the left.
+    #[cycle(expressions)]
+    #[tactic(auto, unfolding(crate::specs::Reading::left), using(crate::proofs::Levels::left_more, crate::proofs::Levels::level_takes, crate::proofs::Levels::infix_takes))]
+    fn left(&mut self, level: u32, nesting: u32) -> Result<Expression, CatFault>
+        ensures { Gives term_of result self.new.rest.now (left (infix_at level) (level_with (below nesting) level) self.old.rest.now) }
+    {
+        let mut left = self.level(level, nesting)?;
+        while let Some(operator) = self.infix(level) {
+            let right = self.level(level, nesting)?;
+            left = join(self.alloc, operator, left, right)?;
+        }
+        Ok(left)
+    }
+
+    /// Operands of a level, joined from the right.
+    #[cycle(expressions)]
+    #[tactic(auto, using(crate::proofs::Levels::right_more, crate::proofs::Levels::level_takes, crate::proofs::Levels::infix_takes))]
+    fn right(&mut self, level: u32, nesting: u32) -> Result<Expression, CatFault>
+        ensures { Gives term_of result self.new.rest.now (right (infix_at level) (level_with (below nesting) level) self.old.rest.now) }
+    {
+        let left = self.level(level, nesting)?;
+        let Some(operator) = self.infix(level) else {
+            return Ok(left);
+        };
+        let right = self.right(level, nesting)?;
+        Ok(join(self.alloc, operator, left, right)?)
+    }
+
+    /// unary := "~" unary | postfix
+    #[cycle(expressions)]
+    #[tactic(auto, unfolding(crate::specs::Reading::unary_with, crate::specs::Reading::below))]
+    fn unary(&mut self, nesting: u32) -> Result<Expression, CatFault>
+        ensures { Gives term_of result self.new.rest.now (unary_with (below nesting) self.old.rest.now) }
+    {
+        let [first, rest @ ..] = self.rest else {
+            return self.postfix(nesting);
+        };
+        match first {
+            Symbol::Fixed(Terminal::Tilde) => {
+                let nesting = self.deeper(nesting)?;
+                self.rest = rest;
+                let operand = self.unary(nesting)?;
+                Ok(Expression::Complement(Box::new(self.alloc, operand)?))
+            }
+            _ => self.postfix(nesting),
+        }
+    }
+
+    /// postfix := primary {"+" | "*" | "?" | "^-1"}
+    #[cycle(expressions)]
+    #[tactic(auto, unfolding(crate::specs::Reading::postfix_with), using(crate::proofs::Levels::postfix_more, crate::proofs::Levels::postfix_takes))]
+    fn postfix(&mut self, nesting: u32) -> Result<Expression, CatFault>
+        ensures { Gives term_of result self.new.rest.now (postfix_with (below nesting) self.old.rest.now) }
+    {
+        let mut operand = self.primary(nesting)?;
+        while let Some(operator) = self.postfix_sign() {
+            operand = apply(self.alloc, operator, operand)?;
+        }
+        Ok(operand)
+    }
+
+    /// primary := name | "_" | "0" | "{" "}" | "(" level 5 ")" | "[" level 5 "]" | ("domain" | "range") "(" level 5 ")"
+    #[cycle(expressions)]
+    #[tactic(auto, unfolding(crate::specs::Reading::primary_with))]
+    fn primary(&mut self, nesting: u32) -> Result<Expression, CatFault>
+        ensures { Gives term_of result self.new.rest.now (primary_with (below nesting) self.old.rest.now) }
+    {
+        let [first, rest @ ..] = self.rest else {
+            return Err(self.unexpected());
+        };
+        match first {
+            Symbol::Name(spelling) => {
+                let name = spelling.name(self.alloc)?;
+                self.rest = rest;
+                Ok(Expression::Name(name))
+            }
+            Symbol::Fixed(Terminal::Underscore) => {
+                self.rest = rest;
+                Ok(Expression::Universe)
+            }
+            Symbol::Fixed(Terminal::Zero) => {
+                self.rest = rest;
+                Ok(Expression::EmptyRelation)
+            }
+            Symbol::Fixed(Terminal::LeftBrace) => {
+                self.rest = rest;
+                self.expect(Terminal::RightBrace)?;
+                Ok(Expression::EmptySet)
+            }
+            Symbol::Fixed(Terminal::LeftParen) => {
+                self.enclosed(Terminal::LeftParen, Terminal::RightParen, nesting)
+            }
+            Symbol::Fixed(Terminal::LeftBracket) => {
+                let set = self.enclosed(Terminal::LeftBracket, Terminal::RightBracket, nesting)?;
+                Ok(Expression::Identity(Box::new(self.alloc, set)?))
+            }
+            Symbol::Fixed(Terminal::Domain) => {
+                self.rest = rest;
+                let relation = self.enclosed(Terminal::LeftParen, Terminal::RightParen, nesting)?;
+                Ok(Expression::Domain(Box::new(self.alloc, relation)?))
+            }
+            Symbol::Fixed(Terminal::Range) => {
+                self.rest = rest;
+                let relation = self.enclosed(Terminal::LeftParen, Terminal::RightParen, nesting)?;
+                Ok(Expression::Range(Box::new(self.alloc, relation)?))
+            }
+            _ => Err(self.unexpected()),
+        }
+    }
+
+    /// An expression between two signs.
+    #[cycle(expressions)]
+    #[tactic(auto, unfolding(crate::specs::Reading::enclosed_with, crate::specs::Reading::expected, crate::specs::Reading::below), using(crate::proofs::Levels::required_takes))]
+    fn enclosed(
+        &mut self,
+        opening: Terminal,
+        closing: Terminal,
+        nesting: u32,
+    ) -> Result<Expression, CatFault>
+        ensures { Gives term_of result self.new.rest.now (enclosed_with (below nesting) opening closing self.old.rest.now) }
+    {
+        if !self.sees(opening) {
+            return Err(self.unexpected());
+        }
+        let nesting = self.deeper(nesting)?;
+        self.expect(opening)?;
+        let inner = self.level(LEVELS, nesting)?;
+        self.expect(closing)?;
+        Ok(inner)
+    }
+
+    /// An expression.
+    #[tactic(auto, unfolding(crate::specs::Reading::expression_at))]
+    pub fn expression(&mut self) -> Result<Expression, CatFault>
+        ensures { Gives term_of result self.new.rest.now (expression_at self.old.rest.now) }
+    {
+        self.level(LEVELS, NESTING)
+    }
+}

@@ -1,0 +1,257 @@
+//! Items and whole models.
+
+ghost use Rattle.std.specs.Prelude.{◌≡◌, List, map, option_map, Option};
+ghost use Rattle.std.specs.List.{list_any};
+ghost use Rattle.std.specs.Str.{bytes_eq};
+ghost use Rattle.cat_syntax.specs.Tree.{bound_of, shown_of, check_of, clause_of, File};
+ghost use Rattle.cat_syntax.specs.Reading.{Gives, alias_at, repeats as name_repeats, new_name_at, binding_at, group_at, element_at, kind_at, check_with, check_at, quoted_at, separated, name_at, item_at, title_at, items_at, file_at, unless_end};
+ghost use Rattle.cat_syntax.specs.declared.symbol.Terminal.TheVariants.{And, Comma};
+
+use crate::fault::CatFault;
+use crate::file::{CatFile, Title};
+use crate::reading::Reader;
+use crate::symbol::{Spelling, Symbol, Terminal};
+use crate::tree::{Binding, Check, CheckKind, Element, Item};
+use wb_text::Name;
+
+/// Whether a name is among those that are bound.
+fn is_bound(bindings: &[Binding], name: &Spelling) -> bool
+    ensures { result ≡ list_any (λ b. bytes_eq b.name name.now) bindings.now }
+{
+    bindings
+        .iter()
+        .any(|binding| binding.name.bytes() == name.bytes())
+}
+
+impl<'a> Reader<'a> {
+    /// ["as" name]
+    #[tactic(auto, unfolding(crate::specs::Reading::alias_at))]
+    fn alias(&mut self) -> Result<Option<Name>, CatFault>
+        ensures { Gives (λ x. x) result self.new.rest.now (alias_at self.old.rest.now) }
+    {
+        if self.take(Terminal::As) {
+            Ok(Some(self.name()?))
+        } else {
+            Ok(None)
+        }
+    }
+
+    /// Whether the next symbol is a name that is bound.
+    #[tactic(auto, unfolding(crate::specs::Reading::repeats))]
+    fn repeats(&self, bound: &[Binding]) -> bool
+        ensures { result ≡ name_repeats (map bound_of bound.now) self.now.rest.now }
+    {
+        match self.rest {
+            [first, ..] => match first {
+                Symbol::Name(name) => is_bound(bound, name),
+                Symbol::Unsupported(name) => is_bound(bound, name),
+                _ => false,
+            },
+            [] => false,
+        }
+    }
+
+    /// A name that is not bound.
+    #[tactic(auto, unfolding(crate::specs::Reading::new_name_at))]
+    fn new_name(&mut self, bound: &[Binding]) -> Result<Name, CatFault>
+        ensures { Gives (λ x. x) result self.new.rest.now (new_name_at (map bound_of bound.now) self.old.rest.now) }
+    {
+        if self.repeats(bound) {
+            return Err(CatFault::Syntax(self.offset()));
+        }
+        self.name()
+    }
+
+    /// name "=" expression, where the name is not bound
+    #[tactic(auto, unfolding(crate::specs::Reading::binding_at))]
+    fn binding(&mut self, bound: &[Binding]) -> Result<Binding, CatFault>
+        ensures { Gives bound_of result self.new.rest.now (binding_at (map bound_of bound.now) self.old.rest.now) }
+    {
+        let name = self.new_name(bound)?;
+        self.expect(Terminal::Equals)?;
+        let value = self.expression()?;
+        Ok(Binding { name, value })
+    }
+
+    /// binding {"and" binding}
+    #[tactic(auto, unfolding(crate::specs::Reading::separated), using(crate::proofs::Lists::bindings_more, crate::proofs::Lists::bounds_push, crate::proofs::Lists::after_takes, crate::proofs::Lists::binding_takes))]
+    fn bindings(&mut self) -> Result<Vec<Binding>, CatFault>
+        ensures { Gives (λ v. map bound_of v.items) result self.new.rest.now (separated And binding_at self.old.rest.now) }
+    {
+        let mut bindings = Vec::new(self.alloc);
+        let first = self.binding(&bindings)?;
+        bindings.push(first)?;
+        while self.take(Terminal::And) {
+            let next = self.binding(&bindings)?;
+            bindings.push(next)?;
+        }
+        Ok(bindings)
+    }
+
+    /// What stands behind `let`: ["rec"] bindings
+    #[tactic(auto, unfolding(crate::specs::Reading::group_at))]
+    fn group(&mut self) -> Result<Item, CatFault>
+        ensures { Gives clause_of result self.new.rest.now (group_at self.old.rest.now) }
+    {
+        if self.take(Terminal::Rec) {
+            Ok(Item::LetRec(self.bindings()?))
+        } else {
+            Ok(Item::Let(self.bindings()?))
+        }
+    }
+
+    /// expression ["as" name]
+    #[tactic(auto, unfolding(crate::specs::Reading::element_at))]
+    fn element(&mut self) -> Result<Element, CatFault>
+        ensures { Gives shown_of result self.new.rest.now (element_at self.old.rest.now) }
+    {
+        let expression = self.expression()?;
+        let name = self.alias()?;
+        Ok(Element { expression, name })
+    }
+
+    /// element {"," element}
+    #[tactic(auto, unfolding(crate::specs::Reading::separated), using(crate::proofs::Lists::elements_more, crate::proofs::Lists::shown_push, crate::proofs::Lists::after_takes, crate::proofs::Lists::element_takes))]
+    fn elements(&mut self) -> Result<Vec<Element>, CatFault>
+        ensures { Gives (λ v. map shown_of v.items) result self.new.rest.now (separated Comma (λ _. element_at) self.old.rest.now) }
+    {
+        let mut elements = Vec::new(self.alloc);
+        let first = self.element()?;
+        elements.push(first)?;
+        while self.take(Terminal::Comma) {
+            let next = self.element()?;
+            elements.push(next)?;
+        }
+        Ok(elements)
+    }
+
+    /// name {"," name}
+    #[tactic(auto, unfolding(crate::specs::Reading::separated), using(crate::proofs::Lists::names_more, crate::proofs::Lists::after_takes, crate::proofs::Lists::name_takes))]
+    fn names(&mut self) -> Result<Vec<Name>, CatFault>
+        ensures { Gives (λ v. v.items) result self.new.rest.now (separated Comma (λ _. name_at) self.old.rest.now) }
+    {
+        let mut names = Vec::new(self.alloc);
+        let first = self.name()?;
+        names.push(first)?;
+        while self.take(Terminal::Comma) {
+            let next = self.name()?;
+            names.push(next)?;
+        }
+        Ok(names)
+    }
+
+    /// "acyclic" | "irreflexive" | "empty"
+    #[tactic(auto, unfolding(crate::specs::Reading::kind_at))]
+    fn check_kind(&mut self) -> Result<CheckKind, CatFault>
+        ensures { Gives (λ k. k) result self.new.rest.now (kind_at self.old.rest.now) }
+    {
+        let [first, rest @ ..] = self.rest else {
+            return Err(self.unexpected());
+        };
+        let kind = match first {
+            Symbol::Fixed(Terminal::Acyclic) => CheckKind::Acyclic,
+            Symbol::Fixed(Terminal::Irreflexive) => CheckKind::Irreflexive,
+            Symbol::Fixed(Terminal::Empty) => CheckKind::Empty,
+            _ => return Err(self.unexpected()),
+        };
+        self.rest = rest;
+        Ok(kind)
+    }
+
+    /// ["flag"] ["~"] kind expression ["as" name]
+    #[tactic(auto, unfolding(crate::specs::Reading::check_at, crate::specs::Reading::check_with, crate::specs::Reading::optional_at))]
+    fn check(&mut self) -> Result<Check, CatFault>
+        ensures { Gives check_of result self.new.rest.now (check_at self.old.rest.now) }
+    {
+        let flag = self.take(Terminal::Flag);
+        let negated = self.take(Terminal::Tilde);
+        let kind = self.check_kind()?;
+        let expression = self.expression()?;
+        let name = self.alias()?;
+        Ok(Check {
+            flag,
+            negated,
+            kind,
+            expression,
+            name,
+        })
+    }
+
+    /// A quoted text that is a name.
+    #[tactic(auto, unfolding(crate::specs::Reading::quoted_at))]
+    fn quoted(&mut self) -> Result<Name, CatFault>
+        ensures { Gives (λ x. x) result self.new.rest.now (quoted_at self.old.rest.now) }
+    {
+        let [first, rest @ ..] = self.rest else {
+            return Err(self.unexpected());
+        };
+        match first {
+            Symbol::Quoted(quotation) => match Spelling::new(quotation.bytes()) {
+                Some(spelling) => {
+                    let name = spelling.name(self.alloc)?;
+                    self.rest = rest;
+                    Ok(name)
+                }
+                None => Err(self.unexpected()),
+            },
+            _ => Err(self.unexpected()),
+        }
+    }
+
+    #[tactic(auto, unfolding(crate::specs::Reading::item_at))]
+    fn item(&mut self) -> Result<Item, CatFault>
+        ensures { Gives clause_of result self.new.rest.now (item_at self.old.rest.now) }
+    {
+        if self.take(Terminal::Let) {
+            self.group()
+        } else if self.take(Terminal::Include) {
+            Ok(Item::Include(self.quoted()?))
+        } else if self.take(Terminal::Show) {
+            Ok(Item::Show(self.elements()?))
+        } else if self.take(Terminal::Unshow) {
+            Ok(Item::Unshow(self.names()?))
+        } else {
+            Ok(Item::Check(self.check()?))
+        }
+    }
+
+    /// [name | quoted]
+    #[tactic(auto, unfolding(crate::specs::Reading::title_at))]
+    fn title(&mut self) -> Result<Option<Title>, CatFault>
+        ensures { Gives (λ t. t) result self.new.rest.now (title_at self.old.rest.now) }
+    {
+        let [first, rest @ ..] = self.rest else {
+            return Ok(None);
+        };
+        let bytes = match first {
+            Symbol::Name(name) => Vec::from_slice(self.alloc, name.bytes())?,
+            Symbol::Quoted(quotation) => Vec::from_slice(self.alloc, quotation.bytes())?,
+            _ => return Ok(None),
+        };
+        self.rest = rest;
+        Ok(Some(Title::new(bytes)))
+    }
+
+    /// {item}, up to the end
+    #[tactic(auto, unfolding(crate::specs::Reading::items_at, crate::specs::Reading::unless_end), using(crate::proofs::Lists::items_more, crate::proofs::Lists::item_takes, crate::proofs::Lists::clauses_push))]
+    fn items(&mut self) -> Result<Vec<Item>, CatFault>
+        ensures { Gives (λ v. map clause_of v.items) result self.new.rest.now (items_at self.old.rest.now) }
+    {
+        let mut items = Vec::new(self.alloc);
+        while !self.rest.is_empty() {
+            let item = self.item()?;
+            items.push(item)?;
+        }
+        Ok(items)
+    }
+
+    /// file := [name | quoted] {item}
+    #[tactic(auto, unfolding(crate::specs::Reading::file_at))]
+    pub fn file(&mut self) -> Result<CatFile, CatFault>
+        ensures { Gives (λ f. f) result self.new.rest.now (file_at self.old.rest.now) }
+    {
+        let title = self.title()?;
+        let items = self.items()?;
+        Ok(CatFile::new(title, items))
+    }
+}

@@ -1,0 +1,208 @@
+use super::*;
+use std::alloc::{AllocError, Global};
+use std::test::Fail;
+
+/// An expression as text, with parentheses round each part.
+#[cycle(shown)]
+fn shown(alloc: Global, expression: &Expression) -> Result<String, AllocError> {
+    match expression {
+        Expression::Union(a, b) => shown_pair(alloc, a, "|", b),
+        Expression::Sequence(a, b) => shown_pair(alloc, a, ";", b),
+        Expression::Difference(a, b) => shown_pair(alloc, a, "-", b),
+        Expression::Intersection(a, b) => shown_pair(alloc, a, "&", b),
+        Expression::Product(a, b) => shown_pair(alloc, a, "x", b),
+        Expression::Complement(a) => shown_with(alloc, "~", a, ""),
+        Expression::Plus(a) => shown_with(alloc, "", a, "+"),
+        Expression::Star(a) => shown_with(alloc, "", a, "*"),
+        Expression::Optional(a) => shown_with(alloc, "", a, "?"),
+        Expression::Inverse(a) => shown_with(alloc, "", a, "^-1"),
+        Expression::Domain(a) => shown_with(alloc, "domain", a, ""),
+        Expression::Range(a) => shown_with(alloc, "range", a, ""),
+        Expression::Identity(a) => shown_with(alloc, "id", a, ""),
+        Expression::Name(name) => format!(in alloc; "{name}"),
+        Expression::EmptyRelation => format!(in alloc; "0"),
+        Expression::EmptySet => format!(in alloc; "{{}}"),
+        Expression::Universe => format!(in alloc; "_"),
+    }
+}
+
+#[cycle(shown)]
+fn shown_pair(
+    alloc: Global,
+    a: &Expression,
+    sign: &str,
+    b: &Expression,
+) -> Result<String, AllocError> {
+    let a = shown(alloc, a)?;
+    let b = shown(alloc, b)?;
+    format!(in alloc; "({a}{sign}{b})")
+}
+
+#[cycle(shown)]
+fn shown_with(
+    alloc: Global,
+    before: &str,
+    a: &Expression,
+    behind: &str,
+) -> Result<String, AllocError> {
+    let a = shown(alloc, a)?;
+    format!(in alloc; "{before}({a}){behind}")
+}
+
+/// Whether a text is `let r = ..` with this expression, or with this fault.
+fn reads_as(alloc: Global, text: &str, wanted: &str) -> Result<bool, AllocError> {
+    let found = match read_cat(alloc, text.as_bytes()) {
+        Err(fault) => format!(in alloc; "{fault}")?,
+        Ok(file) => match file.items().first() {
+            Some(Item::Let(bindings)) => match bindings.first() {
+                Some(binding) => shown(alloc, &binding.value)?,
+                None => format!(in alloc; "no binding")?,
+            },
+            _ => format!(in alloc; "another item")?,
+        },
+    };
+    Ok(found.as_str() == wanted)
+}
+
+#[test]
+fn operators_and_levels(rt: HostRuntime) -> Result<(), Fail> {
+    let alloc = rt.alloc();
+    assert!(rt; reads_as(alloc, "let r = a \\ b \\ c", "((a-b)-c)")?);
+    assert!(rt; reads_as(alloc, "let r = a ; b ; c", "(a;(b;c))")?);
+    assert!(rt; reads_as(alloc, "let r = a | b ; c | d", "(a|((b;c)|d))")?);
+    assert!(rt;
+        reads_as(
+            alloc,
+            "let r = a | b ; c \\ d & e * f",
+            "(a|(b;(c-(d&(exf)))))"
+        )?
+    );
+    assert!(rt; reads_as(alloc, "let r = W * R * F", "((WxR)xF)")?);
+    assert!(rt; reads_as(alloc, "let r = ~a* ; b+?^-1", "(~((a)*);(((b)+)?)^-1)")?);
+    assert!(rt; reads_as(alloc, "let r = a* * b", "((a)*xb)")?);
+    assert!(rt; reads_as(alloc, "let r = a* ~empty 0", "(a)*")?);
+    assert!(rt; reads_as(alloc, "let r = a * ~b", "(ax~(b))")?);
+    assert!(rt;
+        reads_as(
+            alloc,
+            "let r = domain(a) | range(b) | [{}] | 0 | _",
+            "(domain(a)|(range(b)|(id({})|(0|_))))"
+        )?
+    );
+    Ok(())
+}
+
+#[test]
+fn faults(rt: HostRuntime) -> Result<(), Fail> {
+    let alloc = rt.alloc();
+    assert!(rt; reads_as(alloc, "let r = a and r = b", "52 Syntax 14")?);
+    assert!(rt; reads_as(alloc, "let r = a)", "52 Syntax 9")?);
+    assert!(rt; reads_as(alloc, "let r =", "52 Syntax 7")?);
+    assert!(rt; reads_as(alloc, "let _ = a", "52 Syntax 4")?);
+    assert!(rt; reads_as(alloc, "let r = 1", "52 Syntax 8")?);
+    assert!(rt; reads_as(alloc, "let r = f(a)", "53 Unsupported f")?);
+    assert!(rt; reads_as(alloc, "let r = a and r (x) = b", "52 Syntax 14")?);
+    assert!(rt; reads_as(alloc, "let r = a ++ b", "53 Unsupported ++")?);
+    assert!(rt; reads_as(alloc, "let r = if a", "53 Unsupported if")?);
+    assert!(rt; reads_as(alloc, "include \"a b\"", "52 Syntax 8")?);
+    assert!(rt; reads_as(alloc, "(* (* *)", "51 Text 3 OpenComment")?);
+    Ok(())
+}
+
+/// The built-in model after RC11.
+const RC11: &str = "RC11
+let sb = po | (IW * (_ \\ IW))
+let rb = rf^-1 ; co
+let eco = (rf | (co | rb))+
+let rel = REL | (ACQ_REL | SC)
+let acq = ACQ | (ACQ_REL | SC)
+let rs = [W] ; ((sb & loc)? ; ([W & A] ; (rf ; rmw)*))
+let sw = [rel] ; (([F] ; sb)? ; (rs ; (rf ; ([R & A] ; ((sb ; [F])? ; [acq])))))
+let hb = (sb | sw)+
+irreflexive (hb ; eco?) as coherence
+empty (rmw & (rb ; co)) as atomicity
+acyclic (sb | rf) as no-thin-air
+let sbx = sb \\ loc
+let scb = sb | ((sbx ; (hb ; sbx)) | ((hb & loc) | (co | rb)))
+let fsc = [F & SC]
+let base = ([SC] | (fsc ; hb?)) ; (scb ; ([SC] | (hb? ; fsc)))
+let fence = fsc ; ((hb | (hb ; (eco ; hb))) ; fsc)
+acyclic (base | fence) as sc
+let conflict = (((W * M) | (M * W)) & loc) \\ id
+let race = conflict \\ ((A * A) | (hb | hb^-1))
+flag ~empty race as data-race
+";
+
+#[test]
+fn prefixes_of_rc11(rt: HostRuntime) -> Result<(), Fail> {
+    let alloc = rt.alloc();
+    let text = RC11.as_bytes();
+    assert!(rt; matches!(read_cat(alloc, text), Ok(file) if file.items().len() == 20));
+    for end in 0..text.len() {
+        assert!(rt; !matches!(read_cat(alloc, &text[..end]), Err(CatFault::NoMemory)));
+    }
+    Ok(())
+}
+
+/// A text, then a part some times, then an end.
+fn repeated(
+    alloc: Global,
+    start: &str,
+    part: &str,
+    times: usize,
+    end: &str,
+) -> Result<String, AllocError> {
+    let mut text = String::from_str(alloc, start)?;
+    for _ in 0..times {
+        text.push_str(part)?;
+    }
+    text.push_str(end)?;
+    Ok(text)
+}
+
+#[test]
+fn limits(rt: HostRuntime) -> Result<(), Fail> {
+    let alloc = rt.alloc();
+    let deep = repeated(alloc, "empty ", "(", 64, "0")?;
+    let deep = repeated(alloc, deep.as_str(), ")", 64, "")?;
+    assert!(rt; read_cat(alloc, deep.as_bytes()).is_ok());
+    let deeper = repeated(alloc, "empty ", "(", 65, "0")?;
+    assert!(rt; matches!(read_cat(alloc, deeper.as_bytes()), Err(CatFault::TooDeep)));
+    let large = repeated(alloc, "empty rf", " | rf", 2_047, "")?;
+    assert!(rt; read_cat(alloc, large.as_bytes()).is_ok());
+    let larger = repeated(alloc, "empty rf", " | rf", 2_048, "")?;
+    assert!(rt; matches!(read_cat(alloc, larger.as_bytes()), Err(CatFault::TooLarge)));
+    let larger = repeated(alloc, "empty rf", " | rf", 2_048, ")")?;
+    assert!(rt; matches!(read_cat(alloc, larger.as_bytes()), Err(CatFault::TooLarge)));
+    let faulty = repeated(alloc, "empty rf", " | rf", 2_047, " | )")?;
+    assert!(rt; matches!(read_cat(alloc, faulty.as_bytes()), Err(CatFault::TooLarge)));
+    let faulty = repeated(alloc, "empty rf", " | rf", 2_046, " | )")?;
+    assert!(rt; matches!(read_cat(alloc, faulty.as_bytes()), Err(CatFault::Syntax(_))));
+    let shown = repeated(alloc, "empty rf", " | rf", 2_047, " show )")?;
+    assert!(rt; matches!(read_cat(alloc, shown.as_bytes()), Err(CatFault::Syntax(_))));
+    Ok(())
+}
+
+#[test]
+fn items(rt: HostRuntime) -> Result<(), Fail> {
+    let alloc = rt.alloc();
+    let text =
+        "\"a title\" let rec r = r and s = r include \"b.cat\" flag ~empty r as none show r as a, s unshow r, s";
+    let file = read_cat(alloc, text.as_bytes())
+        .ok()
+        .ok_or("the text is a model")?;
+    assert!(rt; matches!(file.title(), Some(title) if title.bytes() == b"a title".as_slice()));
+    assert!(rt;
+        matches!(
+            file.items(),
+            [
+                Item::LetRec(_),
+                Item::Include(_),
+                Item::Check(_),
+                Item::Show(_),
+                Item::Unshow(_)
+            ]
+        )
+    );
+    Ok(())
+}

@@ -1,0 +1,90 @@
+//! Trees of models.
+
+use wb_text::Name;
+
+/// An expression: a set of events or a relation between events.
+#[derive(Drop)]
+pub enum Expression {
+    /// `a | b`
+    Union(Box<Expression>, Box<Expression>),
+    /// `a ; b`
+    Sequence(Box<Expression>, Box<Expression>),
+    /// `a \ b`
+    Difference(Box<Expression>, Box<Expression>),
+    /// `a & b`
+    Intersection(Box<Expression>, Box<Expression>),
+    /// `a * b`
+    Product(Box<Expression>, Box<Expression>),
+    /// `~a`
+    Complement(Box<Expression>),
+    /// `a+`
+    Plus(Box<Expression>),
+    /// `a*`
+    Star(Box<Expression>),
+    /// `a?`
+    Optional(Box<Expression>),
+    /// `a^-1`
+    Inverse(Box<Expression>),
+    /// `domain(a)`
+    Domain(Box<Expression>),
+    /// `range(a)`
+    Range(Box<Expression>),
+    /// `[a]`
+    Identity(Box<Expression>),
+    /// A name that is bound, or a named set or relation of the execution.
+    Name(Name),
+    /// `0`
+    EmptyRelation,
+    /// `{}`
+    EmptySet,
+    /// `_`
+    Universe,
+}
+
+/// What a check tests.
+#[derive(Clone, Copy, Debug, PartialEq, Eq)]
+pub enum CheckKind {
+    Acyclic,
+    Irreflexive,
+    Empty,
+}
+
+/// A name with what it is bound to.
+#[derive(Drop)]
+pub struct Binding {
+    pub name: Name,
+    pub value: Expression,
+}
+
+/// A check: `flag ~acyclic a as name`, where all but the word and the expression may be left out.
+#[derive(Drop)]
+pub struct Check {
+    pub flag: bool,
+    pub negated: bool,
+    pub kind: CheckKind,
+    pub expression: Expression,
+    pub name: Option<Name>,
+}
+
+/// An element of a `show`.
+#[derive(Drop)]
+pub struct Element {
+    pub expression: Expression,
+    pub name: Option<Name>,
+}
+
+/// An item of a model.
+#[derive(Drop)]
+pub enum Item {
+    /// `let a = e and b = f`: all names are bound at once.
+    Let(Vec<Binding>),
+    /// `let rec a = e and b = f`: the names stand in their own expressions.
+    LetRec(Vec<Binding>),
+    Check(Check),
+    /// `include "name"`
+    Include(Name),
+    /// `show a as b, c`, which has no effect.
+    Show(Vec<Element>),
+    /// `unshow a, b`, which has no effect.
+    Unshow(Vec<Name>),
+}
