@@ -4,6 +4,7 @@
 pub mod conditions;
 mod draft;
 mod fault;
+pub mod laws;
 mod making;
 mod reading;
 mod rules;

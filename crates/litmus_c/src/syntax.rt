@@ -18,7 +18,7 @@ use std::alloc::{AllocError, Global};
 use wb_text::{Name, Token};
 
 /// How deep the parts of a test may nest.
-pub const NESTING: u32 = 32;
+const NESTING: u32 = 32;
 
 /// The symbols that are not yet read.
 #[derive(Drop)]
