@@ -222,4 +222,3 @@ numbering t n size =
           (u.0, u.1, shown s u.0 h ∙ ap (λ (y : Execution). Some y) u.2));
       once = λ x i j li lj a b. q.once i j li lj (stands s i x a ∙ sym (stands s j x b));
     }
-

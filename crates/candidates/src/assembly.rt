@@ -116,12 +116,7 @@ struct Pick {
 }
 
 /// What the read reads from, with this number.
-fn pick_source(
-    alloc: Global,
-    runs: &[Run],
-    read: &Event,
-    number: u64,
-) -> Result<Pick, AllocError>
+fn pick_source(alloc: Global, runs: &[Run], read: &Event, number: u64) -> Result<Pick, AllocError>
     ensures source { IfOk result (λ p. p.source ≡ source_at runs.now read.now (number % count_sources runs.now read.now)) }
     ensures rest { IfOk result (λ p. p.rest ≡ number / count_sources runs.now read.now) }
 {

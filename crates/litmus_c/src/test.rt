@@ -35,6 +35,28 @@ impl Model for Test {
 }
 
 impl Test {
+    /// A test of these parts.
+    pub fn new(
+        name: Name,
+        initial: Vec<Binding>,
+        threads: Vec<Thread>,
+        condition: Cond,
+        listed: Vec<Place>,
+        locations: Vec<Name>,
+    ) -> Self
+        requires { IsTest (record { name = name; initial = initial.items; threads = threads.items; condition = condition; listed = listed.items; locations = locations.items }) }
+        ensures { result ≡ record { name = name; initial = initial.items; threads = threads.items; condition = condition; listed = listed.items; locations = locations.items } }
+    {
+        Test {
+            name,
+            initial,
+            threads,
+            condition,
+            listed,
+            locations,
+        }
+    }
+
     /// The name that the head gives.
     pub fn name(&self) -> &Name
         ensures { result.now ≡ self.now.name }
