@@ -44,7 +44,7 @@ pub all_cons : {X : Type 0} (P : X → Type 0) (x : X) (xs : List X) → P x →
 all_cons P x xs p h zero d l = p
 all_cons P x xs p h (suc k) d l = h k d (omega (arith, l))
 
-all_append : {X : Type 0} (P : X → Type 0) (xs ys : List X) → All P xs → All P ys → All P (xs ++ ys)
+pub all_append : {X : Type 0} (P : X → Type 0) (xs ys : List X) → All P xs → All P ys → All P (xs ++ ys)
 all_append P [] ys h g = g
 all_append P (x ∷ xs) ys h g = all_cons P x (xs ++ ys) (all_head P x xs h) (all_append P xs ys (all_tail P x xs h) g)
 

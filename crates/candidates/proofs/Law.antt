@@ -110,7 +110,7 @@ together init runs = record {
   same = λ a c b d pa pb pc pd e. (ap (λ (x : Execution). x.rf) e, ap (λ (x : Execution). x.co) e);
 }
 
-block_numbered : (init : List ℕ) (runs : List ThreadRun) → IsNumbered (IsCandidate init runs) (block (length init) runs) (candidate init runs)
+pub block_numbered : (init : List ℕ) (runs : List ThreadRun) → IsNumbered (IsCandidate init runs) (block (length init) runs) (candidate init runs)
 block_numbered init runs =
     pairs (by_digits (reads runs) (λ r h. sources_numbered runs r)) (by_digits (upto (length init)) (λ x h. orders_numbered init runs x)) (together init runs)
 
@@ -222,4 +222,3 @@ numbering t n size =
           (u.0, u.1, shown s u.0 h ∙ ap (λ (y : Execution). Some y) u.2));
       once = λ x i j li lj a b. q.once i j li lj (stands s i x a ∙ sym (stands s j x b));
     }
-

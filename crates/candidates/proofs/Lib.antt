@@ -1,6 +1,7 @@
 pub mod Bounding
 pub mod ByLocation
 pub mod Caps
+pub mod Graphs
 pub mod Law
 pub mod RunLists
 pub mod Sources

@@ -3,7 +3,6 @@ use Rattle.std.specs.Prelude.{ℕ, ◌+◌, ◌≤◌, ◌<◌, List, length, su
 use Rattle.events.specs.declared.event.Event.{Event}
 use Rattle.events.specs.Executions.{ThreadRun, is_read}
 
-
 abbrev pub reads_from : ℕ → Event → Bool
 reads_from x e = is_read e.access && (e.loc == x)
 

@@ -5,6 +5,7 @@ ghost use Rattle.events.specs.declared.event.EventId.TheVariants.{Initial};
 ghost use Rattle.events.specs.Executions.{is_read};
 ghost use Rattle.listings.specs.Lists.{product_by};
 ghost use Rattle.listings.specs.Numbered.{arrange, digits};
+ghost use Rattle.candidates.specs.Bounds.{AreWithin};
 ghost use Rattle.candidates.specs.Executions.{writes_from, later_writes, reads, upto, block};
 ghost use Rattle.candidates.specs.Candidates.{sources, count_sources, source_at, count_orders, order_at, candidate, write_value, agree, is_consistent};
 
@@ -116,12 +117,7 @@ struct Pick {
 }
 
 /// What the read reads from, with this number.
-fn pick_source(
-    alloc: Global,
-    runs: &[Run],
-    read: &Event,
-    number: u64,
-) -> Result<Pick, AllocError>
+fn pick_source(alloc: Global, runs: &[Run], read: &Event, number: u64) -> Result<Pick, AllocError>
     ensures source { IfOk result (λ p. p.source ≡ source_at runs.now read.now (number % count_sources runs.now read.now)) }
     ensures rest { IfOk result (λ p. p.rest ≡ number / count_sources runs.now read.now) }
 {
@@ -224,7 +220,9 @@ pub(crate) fn assemble(
     runs: Vec<Run>,
     number: u64,
 ) -> Result<Option<Graph>, AllocError>
-    requires { block (length init.now) runs.items ≤ MOST_CANDIDATES }
+    requires within { AreWithin (length init.now) runs.items }
+    requires most { block (length init.now) runs.items ≤ MOST_CANDIDATES }
+    requires number { number < block (length init.now) runs.items }
     ensures none { IfOk result (λ o. MatchOption o (is_consistent (candidate init.now runs.items number) ≡ false) (λ _. Unit {0})) }
     ensures some { IfOk result (λ o. MatchOption o (Unit {0}) (λ g. (g ≡ candidate init.now runs.items number) × (is_consistent g ≡ true))) }
 {

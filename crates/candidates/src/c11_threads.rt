@@ -35,7 +35,7 @@ impl<'a> Model for Setting<'a> {
 }
 
 /// The first place of a name.
-fn place_of(names: &[Name], name: &Name) -> usize
+pub(crate) fn place_of(names: &[Name], name: &Name) -> usize
     ensures { result ≡ place_of name.now names.now }
 {
     for (place, other) in names.iter().enumerate() {

@@ -1,10 +1,11 @@
 -- Runs of threads, and candidate executions: a run of each thread, a read-from map and a coherence order.
 -- After Alglave, Maranget and Tautschnig, Herding cats, 2014, section 4.
-use Rattle.std.specs.Prelude.{ℕ, List, Bool, true, false, ◌==◌, ◌&&◌}
+use Rattle.std.specs.Prelude.{ℕ, ◌+◌, ◌<◌, ◌≤◌, List, [], length, sum_by, slice_index_or, All, Bool, true, false, ◌==◌, ◌&&◌}
 use Rattle.events.specs.declared.event.Access.{Access}
 use Rattle.events.specs.declared.event.Access.TheVariants.{Read, Write, Fence, ExRead, ExWrite}
 use Rattle.events.specs.declared.event.Event.{Event}
 use Rattle.events.specs.declared.event.EventId.{EventId}
+use Rattle.events.specs.declared.event.EventId.TheVariants.{Initial, Own}
 
 abbrev pub is_read : Access → Bool
 is_read Read = true
@@ -35,3 +36,17 @@ pub record Execution : Type 0 where
   pub runs : List ThreadRun
   pub rf : List EventId
   pub co : List (List EventId)
+
+abbrev pub empty_run : ThreadRun
+empty_run = record { events = []; registers = [] }
+
+-- the name is that of an initial write or of an event of the runs
+abbrev pub IsNamed : List ℕ → List ThreadRun → EventId → Type 0
+IsNamed init runs (Initial x) = x < length init
+IsNamed init runs (Own k p) = (k < length runs) × (p < length (slice_index_or runs k empty_run).events)
+
+-- What every graph keeps: at most 64 events with its initial writes, and rf and co name its own events.
+pub record IsGraph (x : Execution) : Type 0 where
+  pub few : length x.init + sum_by (λ run. length run.events) x.runs ≤ 64
+  pub rf : All (IsNamed x.init x.runs) x.rf
+  pub co : All (All (IsNamed x.init x.runs)) x.co

@@ -1,6 +1,7 @@
 //! Candidate executions.
 
 ghost use Rattle.std.specs.Prelude.{◌≡◌};
+ghost use Rattle.events.specs.Executions.{IsGraph};
 
 use crate::event::EventId;
 use crate::run::Run;
@@ -37,7 +38,7 @@ impl Coherence {
     }
 }
 
-/// A candidate execution.
+/// A candidate execution. It has at most 64 events with its initial writes, and its maps name its own events.
 #[derive(Drop)]
 pub struct Graph {
     init: Vec<u32>,
@@ -51,12 +52,17 @@ impl Model for Graph {
 
     ghost Value = { Execution };
 
+    ghost use Rattle.events.specs.Executions.{IsGraph};
+
     ghost view = { λ g. record { init = g.init.items; runs = g.runs.items; rf = g.rf.items; co = g.co.items } };
+
+    ghost invariant = { λ g. IsGraph (record { init = g.init.items; runs = g.runs.items; rf = g.rf.items; co = g.co.items }) };
 }
 
 impl Graph {
     /// The execution with these parts.
     pub fn new(init: Vec<u32>, runs: Vec<Run>, rf: Vec<EventId>, co: Vec<Coherence>) -> Self
+        requires { IsGraph (record { init = init.items; runs = runs.items; rf = rf.items; co = co.items }) }
         ensures { result ≡ record { init = init.items; runs = runs.items; rf = rf.items; co = co.items } }
     {
         Graph { init, runs, rf, co }
@@ -71,7 +77,8 @@ impl Graph {
 
     /// The run of each thread.
     pub fn runs(&self) -> &[Run]
-        ensures { result.now ≡ self.now.runs }
+        ensures value { result.now ≡ self.now.runs }
+        ensures graph { IsGraph self.now }
     {
         &self.runs
     }
