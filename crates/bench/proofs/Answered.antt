@@ -1,10 +1,9 @@
 -- What is answered to an input.
-use Rattle.std.proofs.Common.{◌≡◌, ℕ, ◌<◌, ◌≤◌, List, [], ◌++◌, length, take, inl, inr, Option, None, Some, IfSome, Result, Ok, Err, sym, ap, ◌∙◌, subst, append-nil, arith}
+use Rattle.std.proofs.Common.{◌≡◌, ℕ, ◌<◌, ◌≤◌, List, [], ◌++◌, length, take, inl, inr, Option, None, Some, IfSome, Result, Ok, Err, sym, subst, arith}
 use Rattle.std.specs.Prelude.{IfErr, IsErrAnd}
-use Rattle.std.specs.Io.KnownBytes.{Consumes, IsAtEnd, Appends}
+use Rattle.std.specs.Io.KnownBytes.{Consumes, IsAtEnd}
 use Rattle.std.proofs.lemmas.Bool.{cases_lt}
 use Rattle.std.proofs.lemmas.Grind.{common_steps}
-use Rattle.wb_text.specs.Memory.{AppendsFront}
 use Rattle.litmus_c.specs.Tree.{Litmus}
 use Rattle.litmus_c.specs.Reads.{Reads}
 use Rattle.litmus_c.specs.declared.fault.TestFault.{TestFault}

@@ -1,5 +1,5 @@
 -- The bindings of a state, written from the front.
-use Rattle.std.proofs.Common.{◌≡◌, ℕ, List, [], ◌∷◌, ◌++◌, map, codes, refl, sym, ap, ◌∙◌, append_assoc, append-nil, subst, ◌⊎◌, inl, inr}
+use Rattle.std.proofs.Common.{◌≡◌, ℕ, List, [], ◌∷◌, ◌++◌, map, codes, refl, sym, ap, append_assoc, append-nil, ◌⊎◌, inl, inr}
 use Rattle.std.specs.List.{join_with_byte, zip}
 use Rattle.litmus_c.specs.declared.conditions.place.Place.{Place}
 use Rattle.bench.specs.Texts.{binding_text}

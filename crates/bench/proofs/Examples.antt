@@ -1,12 +1,10 @@
 -- Computed examples of the printed summary.
-use Rattle.std.specs.Prelude.{◌≡◌, refl, List, ℕ, [], ◌∷◌, codes, decimal}
+use Rattle.std.specs.Prelude.{◌≡◌, refl, [], ◌∷◌, codes, decimal}
 use Rattle.std.proofs.Common.{lit<}
 use Rattle.std.proofs.lemmas.Fmt.{decimal_digit}
 use Rattle.litmus_c.specs.Conditions.{Formula, truth, falsehood, equals, negation, conjunction, disjunction, implication}
 use Rattle.litmus_c.specs.declared.conditions.condition.Kind.TheVariants.{Exists, Forall}
-use Rattle.litmus_c.specs.declared.conditions.place.Place.{Place}
 use Rattle.litmus_c.specs.declared.conditions.place.Place.TheVariants.{Reg, Loc}
-use Rattle.bench.specs.Outcomes.{Outcome}
 use Rattle.bench.specs.Texts.{formula_text, Text}
 
 zero_text : decimal 0 ≡ codes "0"

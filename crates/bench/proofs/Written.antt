@@ -1,10 +1,10 @@
 -- Writes one after another.
-use Rattle.std.proofs.Common.{◌≡◌, ℕ, suc, ◌+◌, ◌<◌, List, [], ◌∷◌, ◌++◌, length, take, drop, get_or, Bool, true, Result, Ok, Err, Option, refl, sym, ap, ◌∙◌, subst, append_assoc, append-nil, arith, take-append-drop, drop-cons}
+use Rattle.std.proofs.Common.{◌≡◌, ℕ, suc, ◌+◌, ◌<◌, List, [], ◌++◌, length, take, drop, get_or, Bool, true, Result, Ok, Err, Option, sym, ap, ◌∙◌, subst, append_assoc, append-nil, arith, take-append-drop, drop-cons}
 use Rattle.std.specs.Prelude.{IsErr}
 use Rattle.std.specs.List.{flat_map}
 use Rattle.std.proofs.lemmas.Grind.{flat_map-append}
 use Rattle.std.specs.Io.KnownBytes.{Appends}
-use Rattle.std.proofs.KnownBytes.{Appends-nil, Appends-trans}
+use Rattle.std.proofs.KnownBytes.{Appends-trans}
 use Rattle.wb_text.specs.Memory.{AppendsFront}
 
 -- `Writes`, of what the writer holds and of its mark

@@ -1,13 +1,10 @@
 -- Where the final values of places stand in an execution.
-use Rattle.std.specs.Prelude.{ℕ, List, [], ◌∷◌, slice_index_or}
-use Rattle.events.specs.declared.event.EventId.{EventId}
-use Rattle.events.specs.declared.event.EventId.TheVariants.{Initial}
+use Rattle.std.specs.Prelude.{ℕ}
 use Rattle.events.specs.Executions.{Execution}
 use Rattle.litmus_c.specs.declared.conditions.place.Place.{Place}
 use Rattle.litmus_c.specs.declared.conditions.place.Place.TheVariants.{Reg, Loc}
 use Rattle.litmus_c.specs.Tree.{Litmus}
 use Rattle.candidates.specs.Runs.{place_of, thread_of}
-use Rattle.candidates.specs.Candidates.{run_at, write_value}
 use Rattle.bench.specs.declared.slices.slot.Slot.{Slot}
 use Rattle.bench.specs.declared.slices.slot.Slot.TheVariants.{Register, Location}
 use Rattle.bench.specs.Finals.{final_register, final_location}

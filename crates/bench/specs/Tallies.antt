@@ -1,5 +1,5 @@
 -- What a tally holds.
-use Rattle.std.specs.Prelude.{◌≡◌, ℕ, ◌+◌, List, [], not, count_by, fold}
+use Rattle.std.specs.Prelude.{◌≡◌, ℕ, List, [], not, count_by, fold}
 use Rattle.std.specs.BTreeSet.{insert_key}
 use Rattle.std.specs.Cmp.Lexicographic.{slice_cmp}
 use Rattle.std.specs.Ordering.{nat_cmp}

@@ -1,6 +1,6 @@
-use Rattle.std.proofs.Common.{ℕ, ◌≤◌, List, length, arith}
-use Rattle.bench.specs.Inputs.{IsFaultOf, Summarizes, SummarizesPartly}
-use Rattle.bench.proofs.Answered.{text_is, of_text, fault_of, read_refusal}
+use Rattle.std.proofs.Common.{arith}
+use Rattle.bench.specs.Inputs.{Summarizes, SummarizesPartly}
+use Rattle.bench.proofs.Answered.{text_is, of_text, read_refusal}
 use Rattle.bench.proofs.one.one.Goals as goal
 
 pub returns-in_err-verdict-clause-refusal : goal.returns-in_err-verdict-clause-refusal

@@ -1,4 +1,4 @@
-use Rattle.std.proofs.Common.{ap, ◌≡◌, ℕ, List, ◌++◌, [], codes, decimal, append_assoc}
+use Rattle.std.proofs.Common.{ap, ◌≡◌, ℕ, List, ◌++◌, codes, decimal, append_assoc}
 use Rattle.bench.specs.Texts.{word}
 use Rattle.bench.proofs.Written.{same}
 use Rattle.bench.proofs.report.write_observation.Goals as goal

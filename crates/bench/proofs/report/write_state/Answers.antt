@@ -1,4 +1,4 @@
-use Rattle.std.proofs.Common.{◌≡◌, [], codes, ◌++◌, sym, ◌∙◌, append-nil, ap}
+use Rattle.std.proofs.Common.{◌≡◌, [], codes, ◌++◌, ◌∙◌, append-nil, ap}
 use Rattle.std.specs.List.{zip}
 use Rattle.std.proofs.KnownBytes.{Appends-nil, Appends-trans}
 use Rattle.std.proofs.lemmas.Slice.Zip.{Zip-more, either_empty_from_Zip}

@@ -1,4 +1,4 @@
-use Rattle.std.proofs.Common.{◌≡◌, List, [], get_or, ap, ◌∙◌}
+use Rattle.std.proofs.Common.{◌≡◌, [], get_or, ap, ◌∙◌}
 use Rattle.events.specs.declared.event.EventId.{EventId}
 use Rattle.events.specs.declared.event.EventId.TheVariants.{Initial}
 use Rattle.candidates.specs.Candidates.{write_value}
