@@ -1,6 +1,5 @@
 -- The runs of a test are within its limits.
-use Rattle.std.proofs.Common.{◌≡◌, ℕ, zero, suc, ◌+◌, ◌<◌, ◌≤◌, ◌⊎◌, List, [], ◌∷◌, ◌++◌, length, get_or, drop, drop-cons, add-one, refl, sym, ◌∙◌, ap, subst, inl, inr, arith, Bool, true, false, if◌then◌else◌, Option, None, Some, length-append}
-use Rattle.std.proofs.lemmas.Bool.{false≢true}
+use Rattle.std.proofs.Common.{◌≡◌, ℕ, zero, suc, ◌+◌, ◌<◌, ◌≤◌, ◌⊎◌, List, [], ◌∷◌, ◌++◌, length, get_or, drop, drop-cons, refl, sym, ◌∙◌, ap, subst, inl, inr, arith, Bool, true, false, Option, None, Some, length-append}
 use Rattle.std.proofs.lemmas.List.Sums.{sum_by-cons}
 use Rattle.std.proofs.lemmas.Slice.Eq.{bytes_eq-Decides}
 use Rattle.std.specs.List.{sum_by, All, Contains}
@@ -8,14 +7,13 @@ use Rattle.std.specs.Str.{bytes_eq}
 use Rattle.events.specs.declared.event.Event.{Event}
 use Rattle.events.specs.Executions.{ThreadRun}
 use Rattle.listings.specs.Lists.{ForEach, tabulate}
-use Rattle.litmus_c.specs.Tree.{Word, Action, load, store, Right, value_of, Declared, Step, empty, declare, assign, perform, Program, Litmus}
+use Rattle.litmus_c.specs.Tree.{Word, Action, load, store, Right, value_of, Step, empty, declare, assign, perform, Litmus}
 use Rattle.litmus_c.specs.Limits.{right_events, optional_events, step_events, program_events, location_of, RightNames, OptionalNames, StepNames, ProgramNames, IsTest}
-use Rattle.candidates.specs.Runs.{place_of, Calls, Gives, InTurn, Assigns, DeclaresAs, Declares, Performs, thread_of, no_program, IsRun, initial_values}
-use Rattle.candidates.specs.Executions.{IsChoice, upto}
+use Rattle.candidates.specs.Runs.{place_of, Calls, Gives, InTurn, DeclaresAs, Declares, Performs, thread_of, no_program, IsRun}
 use Rattle.candidates.specs.Candidates.{choices_of, choice, count_choices}
 use Rattle.candidates.specs.Bounds.{event_count, AreWithin}
 use Rattle.candidates.proofs.ByLocation.{all_head, all_tail}
-use Rattle.candidates.proofs.Law.{choice_is, as_many}
+use Rattle.candidates.proofs.Law.{choice_is}
 
 test : (b : Bool) → (b ≡ true) ⊎ (b ≡ false)
 test true = inl refl

@@ -1,6 +1,6 @@
 -- Products and sums grow: once one is above the limit, it stays above.
 use Rattle.std.proofs.Common.{◌≡◌, ℕ, zero, suc, ◌+◌, ◌-◌, ◌*◌, ◌/◌, ◌%◌, ◌^◌, Option, None, Some, ◌<◌, ◌≤◌, List, [], ◌∷◌, ◌++◌, append_assoc, length, drop, get_or, drop-cons, add-one, refl, sym, ◌∙◌, ap, subst, inl, inr, arith}
-use Rattle.std.proofs.Math.Nat.{mul-le-mul_left, mul_assoc, mul_comm, mul-one, pow-suc, pow-zero, one-le-pow}
+use Rattle.std.proofs.Math.Nat.{mul-le-mul_left, mul_assoc, mul_comm, mul-one, pow-suc, one-le-pow}
 use Rattle.std.proofs.lemmas.Nat.{pow-add}
 use Rattle.std.proofs.lemmas.Bool.{cases_lt}
 use Rattle.std.proofs.lemmas.List.{drop_all}

@@ -1,18 +1,18 @@
 -- A candidate names its own events alone.
-use Rattle.std.proofs.Common.{◌≡◌, ℕ, zero, suc, ◌+◌, ◌<◌, ◌≤◌, ◌⊎◌, List, [], ◌∷◌, ◌++◌, length, get_or, filter, refl, sym, ◌∙◌, ap, subst, inl, inr, arith, Bool, true, false}
-use Rattle.std.specs.List.{sum_by, All}
+use Rattle.std.proofs.Common.{◌≡◌, ℕ, zero, suc, ◌<◌, ◌⊎◌, List, [], ◌∷◌, length, filter, refl, sym, subst, inl, inr, arith, Bool, true, false}
+use Rattle.std.specs.List.{All}
 use Rattle.events.specs.declared.event.Event.{Event}
 use Rattle.events.specs.declared.event.EventId.{EventId}
 use Rattle.events.specs.declared.event.EventId.TheVariants.{Initial, Own}
-use Rattle.events.specs.Executions.{ThreadRun, Execution, is_read, IsNamed, IsGraph}
+use Rattle.events.specs.Executions.{ThreadRun, is_read, IsNamed, IsGraph}
 use Rattle.listings.specs.Lists.{IsIn, StandsAt, ForEach, tabulate}
 use Rattle.listings.proofs.Listings.{in_get_or}
-use Rattle.candidates.specs.Executions.{Writes, IsCoherence, reads, upto, block}
+use Rattle.candidates.specs.Executions.{Writes, IsCoherence, reads, block}
 use Rattle.candidates.specs.Candidates.{no_run, candidate, write_value}
-use Rattle.candidates.specs.Bounds.{event_count, AreWithin}
+use Rattle.candidates.specs.Bounds.{AreWithin}
 use Rattle.candidates.proofs.Bounding.{all_nil, all_cons, all_append}
 use Rattle.candidates.proofs.ByLocation.{all_head, all_tail}
-use Rattle.candidates.proofs.Law.{CanRead, IsCandidate, block_numbered}
+use Rattle.candidates.proofs.Law.{CanRead, block_numbered}
 use Rattle.candidates.proofs.Writing.{in_sources, stands_get}
 
 stands_below : {X : Type 0} (xs : List X) (i : ℕ) (x : X) → StandsAt xs i x → i < length xs

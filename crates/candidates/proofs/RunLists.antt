@@ -1,18 +1,16 @@
 -- The runs of a thread are listed.
-use Rattle.std.proofs.Common.{◌≡◌, ℕ, suc, ◌+◌, ◌≤◌, List, [], ◌∷◌, ◌++◌, length, map, refl, sym, ◌∙◌, ap, subst, inl, inr, arith, append_assoc, Option, None, Some, length-append}
+use Rattle.std.proofs.Common.{◌≡◌, ℕ, ◌≤◌, List, [], ◌∷◌, ◌++◌, length, map, refl, sym, ◌∙◌, ap, subst, inl, inr, arith, append_assoc, Option, None, Some, length-append}
 use Rattle.std.proofs.lemmas.List.{length-map}
-use Rattle.std.specs.List.{flat_map}
-use Rattle.std.specs.Prelude.{slice_set}
 use Rattle.events.specs.declared.event.Event.{Event}
 use Rattle.events.specs.declared.event.Order.{Order}
 use Rattle.events.specs.Executions.{ThreadRun}
 use Rattle.listings.specs.Lists.{IsIn, NoRepeats, Lists}
 use Rattle.listings.proofs.Listings.{in_map, map_in, once_map, in_flat_map, flat_map_in, once_flat_map_of}
 use Rattle.litmus_c.specs.Tree.{Word, Term, Action, load, store, Right, value_of, Declared, Step, empty, declare, assign, perform, Litmus}
-use Rattle.litmus_c.specs.Values.{InDom, values_of}
+use Rattle.litmus_c.specs.Values.{values_of}
 use Rattle.litmus_c.proofs.Distinct.{lists_values}
-use Rattle.candidates.specs.Runs.{place_of, read, write, term_value, Calls, Gives, InTurn, Assigns, DeclaresAs, Declares, Performs, thread_of, initial_registers, IsRun}
-use Rattle.candidates.specs.Candidates.{Setting, followed, extended, runs_in_turn, given, giving, load_runs, store_runs, call_runs, right_runs, declare_runs_as, declare_runs, step_runs, setting_of, runs_of}
+use Rattle.candidates.specs.Runs.{place_of, read, write, term_value, Calls, InTurn, Assigns, DeclaresAs, Declares, Performs, thread_of, initial_registers, IsRun}
+use Rattle.candidates.specs.Candidates.{followed, extended, runs_in_turn, given, giving, load_runs, store_runs, call_runs, right_runs, declare_runs_as, declare_runs, step_runs, setting_of, runs_of}
 
 in_some : {X : Type 0} (xs : List X) (x : X) → IsIn x xs → 1 ≤ length xs
 in_some [] x h = absurd h

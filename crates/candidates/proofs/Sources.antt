@@ -1,5 +1,5 @@
 -- What the reads read from, one read after another.
-use Rattle.std.proofs.Common.{◌≡◌, ◌≢◌, ℕ, suc, ◌+◌, ◌<◌, ◌/◌, ◌%◌, ◌⊎◌, List, ◌∷◌, length, get_or, drop, drop-cons, add-one, refl, sym, ◌∙◌, ap, inl, inr, arith, Bool, true, false, ◌==◌, ◌&&◌}
+use Rattle.std.proofs.Common.{◌≡◌, ◌≢◌, ℕ, ◌+◌, ◌<◌, ◌/◌, ◌%◌, ◌⊎◌, List, ◌∷◌, length, get_or, drop, drop-cons, add-one, refl, ◌∙◌, ap, inl, inr, Bool, true, false, ◌==◌, ◌&&◌}
 use Rattle.std.proofs.lemmas.Bool.{eqb-true, eq-eqb}
 use Rattle.events.specs.declared.event.Event.{Event}
 use Rattle.events.specs.Executions.{ThreadRun}

@@ -1,5 +1,5 @@
 -- The runs of all threads: when there are too many, and how large they are.
-use Rattle.std.proofs.Common.{◌≡◌, ℕ, suc, ◌+◌, ◌<◌, ◌≤◌, ◌^◌, List, [], ◌∷◌, ◌++◌, length, map, drop, refl, sym, ◌∙◌, ap, subst, inl, inr, arith, append_assoc, append-nil, Option, None, Some, Bool, true, false, if◌then◌else◌}
+use Rattle.std.proofs.Common.{◌≡◌, ℕ, ◌+◌, ◌<◌, ◌≤◌, ◌^◌, List, [], ◌∷◌, ◌++◌, length, map, drop, refl, sym, ◌∙◌, ap, subst, inl, inr, arith, append_assoc, append-nil, Option, None, Some, true, false}
 use Rattle.std.specs.Prelude.{Result, Ok, Err, IfOk, MatchOption}
 use Rattle.std.proofs.lemmas.Bool.{cases_lt}
 use Rattle.std.proofs.lemmas.List.{drop_all}
@@ -9,15 +9,14 @@ use Rattle.litmus_c.specs.Limits.{IsTest}
 use Rattle.litmus_c.specs.Tree.{Litmus}
 use Rattle.candidates.specs.declared.fault.RunFault.{RunFault}
 use Rattle.candidates.specs.declared.fault.RunFault.TheVariants.{TooManyRuns, NoMemory}
-use Rattle.candidates.specs.declared.fault.SpaceFault.{SpaceFault}
 use Rattle.candidates.specs.declared.fault.SpaceFault.TheVariants.{TooManyCandidates}
 use Rattle.candidates.specs.Executions.{IsSize, upto, block}
 use Rattle.candidates.specs.Candidates.{runs_of, choices_of, choices, choice, count_choices, size_of, Choices, candidate_at, graph_at, is_consistent}
-use Rattle.candidates.specs.Faults.{IsRunFault, IsSpaceFault, HasRuns, HaveFewRuns, space_fault_of}
+use Rattle.candidates.specs.Faults.{IsRunFault, IsSpaceFault, HaveFewRuns, space_fault_of}
 use Rattle.candidates.specs.Bounds.{AreWithin}
 use Rattle.candidates.proofs.Bounding.{within}
 use Rattle.candidates.proofs.Caps.{drop_upto, length_tabulate}
-use Rattle.candidates.proofs.Law.{sized, shown, hidden, as_many}
+use Rattle.candidates.proofs.Law.{sized, shown, hidden}
 use Rattle.candidates.proofs.RunLists.{lists_runs_of, some_runs}
 use Rattle.candidates.proofs.Steps.{choices_below}
 

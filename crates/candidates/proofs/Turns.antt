@@ -3,7 +3,6 @@ use Rattle.std.proofs.Common.{◌≡◌, ℕ, suc, ◌+◌, ◌≤◌, ◌<◌, 
 use Rattle.std.proofs.lemmas.List.{drop_all, length-map}
 use Rattle.std.proofs.lemmas.Result.{IfErr-weaker}
 use Rattle.std.specs.Prelude.{Result, IfErr}
-use Rattle.std.specs.List.{flat_map}
 use Rattle.events.specs.declared.event.Event.{Event}
 use Rattle.events.specs.Executions.{ThreadRun}
 use Rattle.litmus_c.specs.Tree.{Word, Action, load, store, Right, value_of, Declared, Step, empty, declare, assign, perform}

@@ -1,5 +1,5 @@
 -- The runs of a thread, from its start through all its statements.
-use Rattle.std.proofs.Common.{◌≡◌, ℕ, ◌<◌, List, [], ◌∷◌, length, refl, sym, ◌∙◌, ap, None}
+use Rattle.std.proofs.Common.{◌≡◌, ℕ, List, [], ◌∷◌, length, sym, ◌∙◌, ap, None}
 use Rattle.events.specs.Executions.{ThreadRun}
 use Rattle.litmus_c.specs.Tree.{Step, Litmus}
 use Rattle.candidates.specs.declared.fault.RunFault.{RunFault}

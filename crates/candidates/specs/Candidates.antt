@@ -1,5 +1,5 @@
 -- The numbering of candidates that this crate fixes: of the runs of a thread, of the choices of runs, of rf and of co.
-use Rattle.std.specs.Prelude.{◌≡◌, ℕ, zero, suc, ◌*◌, ◌/◌, ◌%◌, ◌<◌, ◌≤◌, List, [], ◌∷◌, ◌++◌, length, map, slice_index_or, slice_set, Bool, true, if◌then◌else◌, ◌==◌, ◌&&◌, Option, None, Some, IfSome}
+use Rattle.std.specs.Prelude.{◌≡◌, ℕ, zero, suc, ◌/◌, ◌%◌, ◌<◌, ◌≤◌, List, [], ◌∷◌, ◌++◌, length, map, slice_index_or, slice_set, Bool, true, if◌then◌else◌, ◌==◌, ◌&&◌, Option, None, Some, IfSome}
 use Rattle.std.specs.List.{flat_map}
 use Rattle.events.specs.declared.event.Access.TheVariants.{Read}
 use Rattle.events.specs.declared.event.Event.{Event}

@@ -1,6 +1,6 @@
 -- The runs of a thread, as a big-step relation by cases on its statements.
 -- (ISO/IEC 9899:2011, 7.17.7; herd7 manual, C litmus tests.)
-use Rattle.std.specs.Prelude.{◌≡◌, ℕ, zero, suc, List, [], ◌∷◌, ◌++◌, map, if◌then◌else◌, slice_index_or, slice_set, Option, None, Some}
+use Rattle.std.specs.Prelude.{◌≡◌, ℕ, suc, List, [], ◌∷◌, ◌++◌, map, if◌then◌else◌, slice_index_or, slice_set, Option, None, Some}
 use Rattle.std.specs.Str.{bytes_eq}
 use Rattle.events.specs.declared.event.Access.TheVariants.{Read, Write}
 use Rattle.events.specs.declared.event.Event.{Event}

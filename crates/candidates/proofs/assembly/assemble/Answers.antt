@@ -7,7 +7,7 @@ use Rattle.events.specs.Executions.{ThreadRun, Execution, IsGraph}
 use Rattle.listings.specs.Lists.{product_by}
 use Rattle.candidates.specs.Executions.{reads}
 use Rattle.candidates.specs.Candidates.{count_sources, candidate}
-use Rattle.candidates.proofs.Caps.{ways_below, all_orders_below}
+use Rattle.candidates.proofs.Caps.{ways_below}
 use Rattle.candidates.proofs.assembly.assemble.Goals as goal
 
 pub count_ways-requires : goal.count_ways-requires

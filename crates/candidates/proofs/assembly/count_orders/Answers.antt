@@ -1,5 +1,5 @@
 use Rattle.candidates.specs.declared.fault.TheConstants.{MOST_CANDIDATES}
-use Rattle.std.proofs.Common.{◌≡◌, ℕ, Option, subst, ap, ◌∙◌, length, arith}
+use Rattle.std.proofs.Common.{◌≡◌, ℕ, subst, length, arith}
 use Rattle.std.proofs.lemmas.Grind.{common_steps}
 use Rattle.listings.specs.Lists.{factorial}
 use Rattle.candidates.specs.Executions.{later_writes}

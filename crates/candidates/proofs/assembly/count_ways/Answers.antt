@@ -1,4 +1,4 @@
-use Rattle.std.proofs.Common.{◌≡◌, ◌≤◌, ◌*◌, drop, ◌+◌, refl, arith}
+use Rattle.std.proofs.Common.{◌≡◌, ◌*◌, drop, ◌+◌, refl, arith}
 use Rattle.listings.specs.Lists.{product_by}
 use Rattle.candidates.specs.Candidates.{count_sources, no_event}
 use Rattle.candidates.proofs.Caps.{taken_factor, factor_le, product_positive, sources_positive}

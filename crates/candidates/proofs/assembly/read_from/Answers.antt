@@ -1,5 +1,4 @@
-use Rattle.std.proofs.Common.{◌≡◌, ℕ, ◌≢◌, ◌∙◌, ◌%◌, sym, ap, get_or, arith, append_assoc, ◌++◌, ◌∷◌, [], drop, ◌+◌, ◌/◌, List}
-use Rattle.std.proofs.lemmas.Grind.{common_steps}
+use Rattle.std.proofs.Common.{◌≡◌, ℕ, ◌∙◌, ◌%◌, sym, ap, get_or, append_assoc, ◌++◌, ◌∷◌, [], drop, ◌+◌, List}
 use Rattle.events.specs.declared.event.EventId.{EventId}
 use Rattle.listings.specs.Numbered.{digits}
 use Rattle.candidates.specs.Candidates.{count_sources, source_at, no_event, agree, write_value}

@@ -1,7 +1,7 @@
-use Rattle.std.proofs.Common.{◌≡◌, ◌++◌, ◌≤◌, ◌<◌, ◌*◌, ◌+◌, ◌^◌, take, drop, length, map, ℕ, [], ◌∷◌, true, Some}
+use Rattle.std.proofs.Common.{◌≡◌, ◌++◌, drop, map}
 use Rattle.litmus_c.specs.States.{value_at}
 use Rattle.litmus_c.specs.declared.conditions.place.Place.TheVariants.{Reg}
-use Rattle.candidates.specs.Runs.{initial_registers, thread_of}
+use Rattle.candidates.specs.Runs.{initial_registers}
 use Rattle.candidates.proofs.c11_threads.initial_registers.Given as goal
 
 abbrev pub invariant-loop-name : goal.invariant-loop-name

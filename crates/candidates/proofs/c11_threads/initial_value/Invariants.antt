@@ -1,4 +1,4 @@
-use Rattle.std.proofs.Common.{◌≡◌, ◌++◌, ◌≤◌, ◌<◌, ◌*◌, ◌+◌, ◌^◌, take, drop, length, map, ℕ, [], ◌∷◌, true, Some}
+use Rattle.std.proofs.Common.{◌≡◌, drop}
 use Rattle.litmus_c.specs.States.{value_at}
 use Rattle.candidates.proofs.c11_threads.initial_value.Given as goal
 

@@ -1,4 +1,4 @@
-use Rattle.std.proofs.Common.{◌≡◌, ◌++◌, ◌≤◌, ◌<◌, ◌*◌, ◌+◌, ◌^◌, take, drop, length, map, ℕ, [], ◌∷◌, true, Some}
+use Rattle.std.proofs.Common.{◌≡◌, ◌+◌, drop}
 use Rattle.candidates.specs.Runs.{place_of}
 use Rattle.candidates.proofs.c11_threads.place_of.Given as goal
 

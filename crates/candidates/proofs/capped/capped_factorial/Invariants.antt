@@ -1,6 +1,5 @@
-use Rattle.std.proofs.Common.{◌≡◌, ◌++◌, ◌≤◌, ◌<◌, ◌*◌, ◌+◌, ◌^◌, take, drop, length, map, ℕ, [], ◌∷◌, true, Some}
-use Rattle.listings.specs.Lists.{product_by, sum_of, factorial}
-use Rattle.listings.specs.Numbered.{digits, walk}
+use Rattle.std.proofs.Common.{◌≡◌, ◌≤◌}
+use Rattle.listings.specs.Lists.{factorial}
 use Rattle.candidates.specs.declared.fault.TheConstants.{MOST_CANDIDATES}
 use Rattle.candidates.proofs.capped.capped_factorial.Given as goal
 

@@ -3,7 +3,7 @@ use Rattle.candidates.specs.Executions.{upto, block}
 use Rattle.candidates.specs.Candidates.{choice, IsCapped}
 use Rattle.candidates.specs.declared.fault.TheConstants.{MOST_CANDIDATES}
 use Rattle.candidates.proofs.Caps.{above, above_by_one, taken_factor, below_upto, get_or_tabulate, kept_positive, whole}
-use Rattle.candidates.proofs.ByLocation.{ways_at, reads_at, writes_at, ways_positive, writes_few, by_location}
+use Rattle.candidates.proofs.ByLocation.{ways_at, ways_positive, writes_few, by_location}
 use Rattle.candidates.proofs.choosing.block.Goals as goal
 
 abbrev pub factor : (size : ℕ → ℕ) (n i : ℕ) → i < n → size i ≡ size (get_or (upto n) i 0)

@@ -1,4 +1,4 @@
-use Rattle.std.proofs.Common.{◌≡◌, ◌++◌, ◌≤◌, ◌<◌, ◌*◌, ◌+◌, ◌^◌, take, drop, length, map, ℕ, [], ◌∷◌, true, Some}
+use Rattle.std.proofs.Common.{◌≡◌, take}
 use Rattle.std.specs.List.{count_by}
 use Rattle.events.specs.Executions.{writes_to}
 use Rattle.candidates.specs.Bounds.{reads_from}

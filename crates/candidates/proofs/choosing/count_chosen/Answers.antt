@@ -1,10 +1,10 @@
-use Rattle.std.proofs.Common.{◌≡◌, ◌+◌, ◌%◌, ◌/◌, ◌≤◌, length, get_or, drop, [], ◌∷◌, arith}
+use Rattle.std.proofs.Common.{◌≡◌, ◌+◌, ◌/◌, length, drop, ◌∷◌, arith}
 use Rattle.std.proofs.lemmas.Grind.{common_steps}
 use Rattle.std.specs.List.{count_by}
 use Rattle.events.specs.Executions.{writes_to}
 use Rattle.candidates.specs.Bounds.{reads_from}
 use Rattle.candidates.specs.Candidates.{choice}
-use Rattle.candidates.proofs.ByLocation.{reads_at, writes_at, reads_few, writes_few, chosen_next, first_part}
+use Rattle.candidates.proofs.ByLocation.{reads_few, writes_few, chosen_next, first_part}
 use Rattle.candidates.proofs.choosing.count_chosen.Goals as goal
 
 pub overflow_add-reads : goal.overflow_add-reads

@@ -1,5 +1,5 @@
-use Rattle.std.proofs.Common.{◌≡◌, ◌++◌, ◌≤◌, ◌<◌, ◌*◌, ◌+◌, ◌^◌, take, drop, length, map, ℕ, [], ◌∷◌, true, Some}
-use Rattle.candidates.specs.Candidates.{choice, choices, count_choices, count_sources, source_at, count_orders, order_at, candidate, no_execution, agree, extended, runs_in_turn, giving, followed, load_runs, store_runs, declare_runs, step_runs, runs_of}
+use Rattle.std.proofs.Common.{◌≡◌, ◌<◌, ◌+◌, drop}
+use Rattle.candidates.specs.Candidates.{choice, count_choices}
 use Rattle.candidates.proofs.ByLocation.{reads_at, writes_at}
 use Rattle.candidates.proofs.choosing.count_chosen.Given as goal
 

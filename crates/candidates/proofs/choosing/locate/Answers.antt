@@ -1,4 +1,4 @@
-use Rattle.std.proofs.Common.{◌≡◌, ◌∙◌, ◌<◌, ◌≤◌, length, sym, arith}
+use Rattle.std.proofs.Common.{◌∙◌, ◌<◌, ◌≤◌, length, sym, arith}
 use Rattle.candidates.specs.declared.fault.TheConstants.{MOST_CANDIDATES}
 use Rattle.candidates.specs.Executions.{block}
 use Rattle.candidates.specs.Candidates.{choice, count_choices}

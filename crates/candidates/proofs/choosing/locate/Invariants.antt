@@ -1,8 +1,8 @@
-use Rattle.std.proofs.Common.{◌≡◌, ◌++◌, ◌≤◌, ◌<◌, ◌*◌, ◌+◌, ◌^◌, take, drop, length, map, ℕ, [], ◌∷◌, true, Some}
-use Rattle.listings.specs.Lists.{product_by, sum_of, factorial}
-use Rattle.listings.specs.Numbered.{digits, walk}
-use Rattle.candidates.specs.Executions.{writes_from, writes_from_thread, later_writes, reads, upto, block}
-use Rattle.candidates.specs.Candidates.{choice, choices, count_choices, count_sources, source_at, count_orders, order_at, candidate, no_execution, agree, extended, runs_in_turn, giving, followed, load_runs, store_runs, declare_runs, step_runs, runs_of}
+use Rattle.std.proofs.Common.{◌≡◌, ◌≤◌, ◌<◌, drop, length}
+use Rattle.listings.specs.Lists.{sum_of}
+use Rattle.listings.specs.Numbered.{walk}
+use Rattle.candidates.specs.Executions.{block}
+use Rattle.candidates.specs.Candidates.{choices, candidate, no_execution}
 use Rattle.candidates.proofs.choosing.locate.Given as goal
 
 abbrev pub invariant-loop-choice : goal.invariant-loop-choice

@@ -1,8 +1,5 @@
-use Rattle.std.proofs.Common.{◌≡◌, ◌∙◌, ◌<◌, ◌≤◌, ap, sym, append-nil, arith, length, map, drop, List, ◌++◌, ℕ}
+use Rattle.std.proofs.Common.{◌∙◌, ◌<◌, ap, arith, length}
 use Rattle.std.proofs.lemmas.Result.{err_from_is_err_and}
-use Rattle.events.specs.Executions.{ThreadRun}
-use Rattle.candidates.specs.Executions.{upto}
-use Rattle.candidates.specs.Candidates.{runs_of}
 use Rattle.candidates.proofs.Spaces.{first_fault, few_more, all_few, next_list, all_lists, some_of_all, within_all}
 use Rattle.candidates.proofs.space.all_runs.Goals as goal
 

@@ -1,4 +1,4 @@
-use Rattle.std.proofs.Common.{◌≡◌, ◌++◌, ◌≤◌, ◌<◌, ◌*◌, ◌+◌, ◌^◌, take, drop, length, map, ℕ, [], ◌∷◌, true, Some}
+use Rattle.std.proofs.Common.{◌≡◌, ◌++◌, drop, map}
 use Rattle.litmus_c.specs.States.{value_at}
 use Rattle.litmus_c.specs.declared.conditions.place.Place.TheVariants.{Loc}
 use Rattle.candidates.specs.Runs.{initial_values}

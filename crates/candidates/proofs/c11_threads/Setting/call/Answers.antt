@@ -1,10 +1,8 @@
-use Rattle.std.proofs.Common.{◌≡◌, ◌∙◌, ap, sym, arith, length, Some, None, List}
-use Rattle.std.proofs.lemmas.Grind.{common_steps}
+use Rattle.std.proofs.Common.{◌≡◌, ◌∙◌, ap, sym, length, List}
 use Rattle.events.specs.Executions.{ThreadRun}
-use Rattle.litmus_c.specs.Tree.{action_of, right_of, declared_of, step_of}
-use Rattle.candidates.specs.Runs.{place_of}
-use Rattle.candidates.specs.Candidates.{extended, load_runs, call_runs, right_runs, declare_runs, step_runs, runs_in_turn}
-use Rattle.candidates.proofs.Turns.{same_fault, fault_of_same, unchanged}
+use Rattle.litmus_c.specs.Tree.{action_of}
+use Rattle.candidates.specs.Candidates.{extended, load_runs, call_runs}
+use Rattle.candidates.proofs.Turns.{same_fault}
 use Rattle.std.proofs.lemmas.Result.{err_from_is_err_and}
 use Rattle.litmus_c.specs.declared.tree.Call.{Call}
 use Rattle.candidates.proofs.c11_threads.Setting.call.Goals as goal

@@ -1,8 +1,8 @@
-use Rattle.std.proofs.Common.{◌∙◌, sym, arith}
+use Rattle.std.proofs.Common.{◌∙◌, sym}
 use Rattle.std.proofs.lemmas.Result.{err_from_is_err_and}
-use Rattle.litmus_c.specs.Tree.{declared_of, step_of}
-use Rattle.candidates.specs.Candidates.{declare_runs, step_runs}
-use Rattle.candidates.proofs.Turns.{turn, turned, turn_fault, some_declare, some_step, unchanged}
+use Rattle.litmus_c.specs.Tree.{declared_of}
+use Rattle.candidates.specs.Candidates.{declare_runs}
+use Rattle.candidates.proofs.Turns.{turn, turned, turn_fault, some_declare}
 use Rattle.candidates.proofs.c11_threads.Setting.declare_all.Goals as goal
 
 pub returns-in_err-declare-clause-fault : goal.returns-in_err-declare-clause-fault

@@ -1,6 +1,6 @@
-use Rattle.std.proofs.Common.{◌≡◌, ◌++◌, ◌≤◌, ◌<◌, ◌*◌, ◌+◌, ◌^◌, take, drop, length, map, ℕ, [], ◌∷◌, true, Some}
+use Rattle.std.proofs.Common.{◌≡◌, ◌++◌, ◌≤◌, drop, length, map, [], ◌∷◌}
 use Rattle.candidates.specs.Runs.{read}
-use Rattle.candidates.specs.Candidates.{choice, choices, count_choices, count_sources, source_at, count_orders, order_at, candidate, no_execution, agree, extended, runs_in_turn, giving, followed, load_runs, store_runs, declare_runs, step_runs, runs_of}
+use Rattle.candidates.specs.Candidates.{giving, followed, load_runs}
 use Rattle.candidates.proofs.c11_threads.Setting.push_reads.Given as goal
 
 abbrev pub invariant-loop-value : goal.invariant-loop-value

@@ -1,4 +1,4 @@
-use Rattle.std.proofs.Common.{◌≡◌, ◌∙◌, ◌<◌, ◌≤◌, ◌^◌, ap, sym, subst, arith, length, List, ℕ, map}
+use Rattle.std.proofs.Common.{◌≡◌, ◌∙◌, ◌<◌, ap, subst, arith, length, List, ℕ}
 use Rattle.events.specs.Executions.{ThreadRun}
 use Rattle.listings.specs.Lists.{sum_of}
 use Rattle.candidates.specs.declared.fault.TheConstants.{MOST_CANDIDATES}
