@@ -1,8 +1,8 @@
 -- What the loops and the recursion of the levels use.
-use Rattle.std.proofs.Common.{◌≡◌, ℕ, zero, suc, ◌<◌, ◌≤◌, List, length, refl, arith, inl, inr}
-use Rattle.std.specs.Prelude.{Some, None, Ok, Err}
+use Rattle.std.proofs.Common.{◌≡◌, ℕ, zero, suc, ◌<◌, List, length, arith, inl, inr}
+use Rattle.std.specs.Prelude.{Some, Ok}
 use Rattle.cat_syntax.specs.declared.symbol.Terminal.{Terminal}
-use Rattle.descent.specs.Reading.{required, Read, Look, match_option, ◌>>=◌, repeated}
+use Rattle.descent.specs.Reading.{required, Look, match_option, ◌>>=◌, repeated}
 use Rattle.descent.proofs.Tools.{required_ok, bind_ok, moved, none_or_some, ok_or_err}
 use Rattle.descent.proofs.Turns.{repeated-more}
 use Rattle.cat_syntax.specs.declared.operator.Infix.{Infix}
@@ -10,7 +10,7 @@ use Rattle.cat_syntax.specs.declared.operator.Postfix.{Postfix}
 use Rattle.cat_syntax.specs.declared.symbol.Symbol.{Symbol}
 use Rattle.cat_syntax.specs.Tree.{Term}
 use Rattle.cat_syntax.specs.Grammar.{joined}
-use Rattle.cat_syntax.specs.Reading.{Reading, after, infix_at, postfix_at, applied, applied_at, next_operand, chain_right, right, level_with, below}
+use Rattle.cat_syntax.specs.Reading.{Reading, after, infix_at, postfix_at, applied_at, next_operand, chain_right, right, level_with, below}
 use Rattle.cat_syntax.proofs.Symbols as symbols
 use Rattle.cat_syntax.proofs.Sound.{level-shorter, level_is}
 

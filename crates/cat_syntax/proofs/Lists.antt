@@ -1,7 +1,7 @@
 -- What the loops over lists use.
-use Rattle.std.proofs.Common.{◌≡◌, ℕ, ◌<◌, ◌≤◌, List, [], ◌∷◌, ◌++◌, length, map, arith, ap}
+use Rattle.std.proofs.Common.{◌≡◌, ◌<◌, ◌≤◌, List, [], ◌∷◌, ◌++◌, length, map, arith, ap}
 use Rattle.std.proofs.lemmas.List.{map-append}
-use Rattle.std.specs.Prelude.{Some, None, Ok, Err, Option}
+use Rattle.std.specs.Prelude.{Some, Ok}
 use Rattle.descent.specs.Reading.{Look, match_option, ◌>>=◌, repeated}
 use Rattle.descent.proofs.Tools.{bind_ok, moved}
 use Rattle.descent.proofs.Turns.{repeated-more}

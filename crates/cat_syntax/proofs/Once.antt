@@ -1,5 +1,5 @@
 -- Names that are bound once.
-use Rattle.std.proofs.Common.{◌≡◌, ℕ, List, [], ◌∷◌, ◌++◌, true, false, refl, sym, inl, inr, map, length, get_or, ◌≤◌, arith}
+use Rattle.std.proofs.Common.{◌≡◌, List, [], ◌∷◌, ◌++◌, true, false, refl, sym, inl, inr, map, length, get_or, ◌≤◌, arith}
 use Rattle.cat_syntax.specs.declared.symbol.Symbol.{Symbol}
 use Rattle.cat_syntax.specs.declared.symbol.Symbol.TheVariants.{Name, Unsupported}
 use Rattle.cat_syntax.specs.Reading.{repeats}

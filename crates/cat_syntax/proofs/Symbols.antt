@@ -1,8 +1,7 @@
 -- Single symbols.
-use Rattle.std.proofs.Common.{◌≡◌, ℕ, zero, suc, ◌<◌, ◌≤◌, List, [], ◌∷◌, length, true, false, refl, ap, subst, arith, rules, ◌⊎◌, inl, inr}
-use Rattle.std.specs.Prelude.{Bool, Option, Some, None, Result, Ok, Err, if◌then◌else◌}
-use Rattle.descent.specs.Reading.{Read, Look, required}
-use Rattle.descent.proofs.Tools.{required_ok, cases_of, moved_look, Yields, Shows}
+use Rattle.std.proofs.Common.{◌≡◌, ℕ, zero, suc, ◌<◌, List, ◌∷◌, length, true, false, refl, ap, subst, arith, rules, ◌⊎◌, inl, inr}
+use Rattle.std.specs.Prelude.{Bool, Option, Some, None, Ok, if◌then◌else◌}
+use Rattle.descent.proofs.Tools.{required_ok, cases_of, moved_look}
 use Rattle.cat_syntax.specs.declared.operator.Infix.{Infix}
 use Rattle.cat_syntax.specs.declared.operator.Postfix.{Postfix}
 use Rattle.cat_syntax.specs.declared.symbol.Symbol.{Symbol}

@@ -1,5 +1,5 @@
 -- The symbols of the tokens of a text.
-use Rattle.std.proofs.Common.{◌≡◌, ℕ, zero, suc, ◌+◌, ◌<◌, ◌≤◌, List, [], ◌∷◌, length, drop, get_or, refl, ap, arith, add-one, length-drop, drop-cons}
+use Rattle.std.proofs.Common.{◌≡◌, ℕ, zero, suc, ◌+◌, ◌<◌, List, [], ◌∷◌, length, drop, get_or, refl, ap, arith, add-one, drop-cons}
 use Rattle.std.specs.Prelude.{All}
 use Rattle.wb_text.specs.declared.token.Token.{Token}
 use Rattle.cat_syntax.specs.Symbols.{symbol_of, symbols_of}

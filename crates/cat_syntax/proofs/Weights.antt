@@ -1,7 +1,7 @@
 -- The nodes of the symbols are the nodes of the tree that they spell.
-use Rattle.std.proofs.Common.{◌≡◌, ℕ, zero, suc, ◌+◌, ◌<◌, ◌≤◌, List, [], ◌∷◌, length, drop, get_or, true, false, refl, ap, sym, ◌∙◌, subst, arith, add-one, drop-cons}
+use Rattle.std.proofs.Common.{◌≡◌, ℕ, ◌+◌, ◌<◌, List, ◌∷◌, length, drop, get_or, refl, ◌∙◌, arith, add-one, drop-cons}
 use Rattle.std.proofs.lemmas.List.Sums.{sum_by-cons}
-use Rattle.std.specs.Prelude.{Bool, Option, Some, None, sum_by}
+use Rattle.std.specs.Prelude.{Bool, Option, sum_by}
 use Rattle.cat_syntax.specs.declared.counting.Context.{Context}
 use Rattle.cat_syntax.specs.declared.counting.Context.TheVariants as contexts
 use Rattle.cat_syntax.specs.declared.operator.Infix.{Infix}
@@ -16,7 +16,7 @@ use Rattle.cat_syntax.specs.Nodes.{term_nodes, clause_nodes, nodes}
 use Rattle.cat_syntax.specs.Counting.{cost, context_after, weight}
 use Rattle.cat_syntax.specs.Grammar.{joined, JoinsLeft, joins_product, joins_difference, JoinsRight, joins_intersection, joins_sequence, joins_union, IsLevel, level_unary, level_tighter, level_left, level_right, IsUnary, unary_complement, unary_postfix, IsPostfix, postfix_primary, postfix_plus, postfix_star, postfix_optional, postfix_inverse, IsPrimary, primary_name, primary_universe, primary_empty_relation, primary_empty_set, primary_paren, primary_identity, primary_domain, primary_range}
 use Rattle.cat_syntax.specs.Items.{AreSeparated, one, more, IsOptional, absent, present, IsNamed, named, IsAlias, no_alias, alias, IsBinding, binding, IsElement, element, Checks, checks_acyclic, checks_irreflexive, checks_empty, IsItem, item_let, item_rec, item_check, item_include, item_show, item_unshow, AreItems, no_items, more_items, IsFile, untitled, title_name, title_quoted}
-use Rattle.cat_syntax.proofs.ItemsComplete.{StartsItem, starts_let, starts_flag, starts_tilde, starts_acyclic, starts_irreflexive, starts_empty, starts_include, starts_show, starts_unshow, Follows, at_end, at_item, items-follow}
+use Rattle.cat_syntax.proofs.ItemsComplete.{starts_let, starts_flag, starts_tilde, starts_acyclic, starts_irreflexive, starts_empty, starts_include, starts_show, starts_unshow, Follows, at_end, at_item, items-follow}
 
 -- the next symbol of a list
 pub weight_next : (c : Context) (ss : List Symbol) (i : ℕ) (d : Symbol) → i < length ss →

@@ -1,6 +1,6 @@
 -- Codes of the trees, by which the prover tells values of a modelled type apart. No contract rests on them.
 -- A tree of `specs/` that holds itself is coded by the Rust type whose tree it is, with each box lying nowhere.
-use Rattle.std.specs.Prelude.{refl, ℕ, List, Option, Bool}
+use Rattle.std.specs.Prelude.{refl, List, Option, Bool}
 use Rattle.std.specs.Coded.{Coded, code_by, coded×, coded_list, coded_ℕ, coded_option, coded_bool, coded⊎}
 use Rattle.std.specs.Prelude.{◌⊎◌}
 use Rattle.std.specs.declared.alloc.Global.{Global}

@@ -1,5 +1,5 @@
 -- Counting nodes by their symbols. The limit does not rest on this file: proofs/ shows that it counts the nodes of the tree.
-use Rattle.std.specs.Prelude.{ℕ, ◌+◌, List, [], ◌∷◌, Bool, true, false, not, if◌then◌else◌}
+use Rattle.std.specs.Prelude.{ℕ, ◌+◌, List, [], ◌∷◌, Bool, true, false, if◌then◌else◌}
 use Rattle.cat_syntax.specs.declared.counting.Context.{Context}
 use Rattle.cat_syntax.specs.declared.counting.Context.TheVariants as contexts
 use Rattle.cat_syntax.specs.declared.symbol.Symbol.{Symbol}

@@ -1,12 +1,12 @@
 -- The grammar of expressions. (herd7 manual, the cat language: expressions.)
 -- IsLevel k n ts rest a: the symbols ts begin with the expression a, whose operators outside of parentheses
 -- stand below level k, and which nests at most n deep, and rest follows it.
-use Rattle.std.specs.Prelude.{◌≡◌, ℕ, List, [], ◌∷◌, Bool, true, false, not}
+use Rattle.std.specs.Prelude.{◌≡◌, ℕ, List, ◌∷◌, Bool, true, false, not}
 use Rattle.std.proofs.Common.{zero, suc}
 use Rattle.cat_syntax.specs.declared.operator.Infix.{Infix}
 use Rattle.cat_syntax.specs.declared.operator.Infix.TheVariants.{Union, Sequence, Difference, Intersection, Product}
 use Rattle.cat_syntax.specs.declared.symbol.Symbol.{Symbol}
-use Rattle.cat_syntax.specs.declared.symbol.Symbol.TheVariants.{Fixed, Name, Quoted, Unsupported, Other}
+use Rattle.cat_syntax.specs.declared.symbol.Symbol.TheVariants.{Fixed, Name, Unsupported}
 use Rattle.cat_syntax.specs.declared.symbol.Terminal.{Terminal}
 use Rattle.cat_syntax.specs.declared.symbol.Terminal.TheVariants.{Acyclic, Irreflexive, Empty, Domain, Range, Underscore, Zero, LeftParen, RightParen, LeftBracket, RightBracket, LeftBrace, RightBrace, Bar, Semicolon, Backslash, Ampersand, Star, Tilde, Plus, Question, Inverse}
 use Rattle.cat_syntax.specs.Tree.{Term, union, sequence, difference, intersection, product, complement, plus, star, optional, inverse, domain, range, identity, name, empty_relation, empty_set, universe}

@@ -1,6 +1,6 @@
 -- The grammar of models. (herd7 manual, the cat language: instructions.)
 -- Each family says that the symbols ts begin with a part of a model, and that rest follows it.
-use Rattle.std.specs.Prelude.{◌≡◌, ℕ, List, [], ◌∷◌, Bool, true, false, Option, Some, None}
+use Rattle.std.specs.Prelude.{◌≡◌, List, [], ◌∷◌, Bool, true, false, Option, Some, None}
 use Rattle.std.specs.List.{list_any}
 use Rattle.std.specs.Str.{bytes_eq}
 use Rattle.wb_text.specs.Names.{IsName}

@@ -1,5 +1,5 @@
 -- The symbols of a text: what its tokens are in the grammar. (herd7 manual, the cat language: lexical conventions.)
-use Rattle.std.specs.Prelude.{◌≡◌, ℕ, ◌+◌, ◌-◌, List, [], ◌∷◌, ◌++◌, Bool, true, false, ◌&&◌, ◌==◌, nat_le, Option, Some, None, codes, length, if◌then◌else◌, slice_range, find, not, ◌||◌, take, drop}
+use Rattle.std.specs.Prelude.{ℕ, ◌-◌, List, [], ◌∷◌, Bool, true, false, ◌&&◌, nat_le, Option, codes, length, if◌then◌else◌, slice_range, find, ◌||◌, take, drop}
 use Rattle.std.specs.List.{list_any, list_all}
 use Rattle.std.specs.Str.{bytes_eq}
 use Rattle.wb_text.specs.declared.token.Token.{Token}

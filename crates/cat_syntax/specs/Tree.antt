@@ -1,5 +1,5 @@
 -- Models as trees, apart from where they lie in memory. (herd7 manual, the cat language.)
-use Rattle.std.specs.Prelude.{ℕ, List, [], ◌∷◌, map, Bool, Option, None, Some}
+use Rattle.std.specs.Prelude.{ℕ, List, map, Bool, Option}
 use Rattle.cat_syntax.specs.declared.tree.Binding.{Binding}
 use Rattle.cat_syntax.specs.declared.tree.Check.{Check}
 use Rattle.cat_syntax.specs.declared.tree.CheckKind.{CheckKind}
