@@ -11,3 +11,6 @@ mod space;
 
 pub use fault::{RunFault, SpaceFault};
 pub use space::Space;
+
+#[cfg(test)]
+mod tests;
