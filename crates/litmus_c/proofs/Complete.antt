@@ -439,8 +439,16 @@ pub test-complete : {n : ℕ} {ts rest : List Symbol} {w : Written} → IsWritte
 unfolding test_at initial_at
 test-complete (written {n} {x} {ts} {us} {vs} {rest} {bs} {ls} {c} d e f) none =
     let g : IsCondition n vs [] c = subst (λ l. IsCondition n vs l c) none f in
-    rw (language-first (head_word x ∷ Fixed LeftBrace ∷ ts), head-first x (Fixed LeftBrace ∷ ts), expected-first LeftBrace ts, (entries-complete d).is, expected-first RightBrace us,
-    (last (threads-arrive e) (condition-opens f)).is, (condition-complete g nothing-behind).is, nothing-left)
+    rw (
+      language-first (head_word x ∷ Fixed LeftBrace ∷ ts),
+      head-first x (Fixed LeftBrace ∷ ts),
+      expected-first LeftBrace ts,
+      (entries-complete d).is,
+      expected-first RightBrace us,
+      (last (threads-arrive e) (condition-opens f)).is,
+      (condition-complete g nothing-behind).is,
+      nothing-left,
+    )
 
 pub same : {v w : Written} → ◌≡◌ {A = Reading Written} (Ok (v, [])) (Ok (w, [])) → v ≡ w
 same {v} e = moved (λ l t. v ≡ t) e refl

@@ -112,7 +112,7 @@ programs-names k es [] xs w h = λ j d l. absurd (omega arith)
 programs-names k es (t ∷ ts) xs w h =
     let p = and_parts (program_is_fair (program_of k es t)) (list_all program_is_fair (programs_of (suc k) es ts)) h in
     let regs : (r : Word) → IsIn r (flat_map step_registers t.steps) → Contains (registers_of k es t.steps) r =
-      λ r m. contains (registers_of k es t.steps) r (noted (with_names [] (flat_map (λ b. place_registers k b.place) es)) (flat_map step_registers t.steps) r (inr m)) in
+    λ r m. contains (registers_of k es t.steps) r (noted (with_names [] (flat_map (λ b. place_registers k b.place) es)) (flat_map step_registers t.steps) r (inr m)) in
     All-cons (ProgramNames xs) (program_of k es t) (programs_of (suc k) es ts) (steps-names t.parameters xs (registers_of k es t.steps) t.steps (w t (inl refl)) regs p.0)
     (programs-names (suc k) es ts xs (λ u m. w u (inr m)) p.1)
 
@@ -126,9 +126,9 @@ is_test w h =
       locations = h.locations;
       events = h.events;
       names = programs-names 0 w.entries w.threads (locations_of w)
-        (λ l m x e. contains (locations_of w) x (noted (with_names [] (flat_map (λ b. place_locations b.place) w.entries)) (flat_map parameter_names w.threads) x
+          (λ l m x e. contains (locations_of w) x (noted (with_names [] (flat_map (λ b. place_locations b.place) w.entries)) (flat_map parameter_names w.threads) x
           (inr (flat_map_in parameter_names w.threads l x m (parameter_in l.parameters x e)))))
-        b.1;
+          b.1;
     }
 
 -- The parts that were made are those of the test.

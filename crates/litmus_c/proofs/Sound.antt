@@ -98,7 +98,7 @@ typed ts rest b d =
         | inr (y, was) ↦
             let same : behind_type ts ≡ y.1 = rw (g, was) in
             subst (λ l. IsEntry l rest b) (sym (after-some AtomicInt ts y.1 y.0 was)) (entry_typed type_atomic (subst (λ l. IsUntyped l rest b) same d))
-        ]
+      ]
       | inr (y, was) ↦
           let same : behind_type ts ≡ y.1 = rw was in
           subst (λ l. IsEntry l rest b) (sym (after-some Int ts y.1 y.0 was)) (entry_typed type_int (subst (λ l. IsUntyped l rest b) same d))
@@ -128,12 +128,12 @@ entries-sound ts rest cs e =
     let x = bind_ok (entry_behind [] ts) _ _ e in
     repeated-keeps syntax (after Semicolon) (λ _ bs us. entry_behind bs us) (λ l t. IsEntries ts l t)
     (λ o us mid back a b d was f.
-      let same : us ≡ Fixed Semicolon ∷ mid = after-some Semicolon us mid o was in
-      let past : IsEntries ts (Fixed Semicolon ∷ mid) a = subst (λ l. IsEntries ts l a) same d in
-      elim (entry_behind-sound a b mid back f) [
-        | inl (s, t) ↦ rw (s, t) (entries_empty past)
-        | inr (c, g, t) ↦ rw t (entries_more past g)
-      ])
+    let same : us ≡ Fixed Semicolon ∷ mid = after-some Semicolon us mid o was in
+    let past : IsEntries ts (Fixed Semicolon ∷ mid) a = subst (λ l. IsEntries ts l a) same d in
+    elim (entry_behind-sound a b mid back f) [
+      | inl (s, t) ↦ rw (s, t) (entries_empty past)
+      | inr (c, g, t) ↦ rw t (entries_more past g)
+    ])
     x.0.0 x.0.1 cs rest
     (elim (entry_behind-sound [] x.0.0 ts x.0.1 x.1) [
       | inl (s, t) ↦ rw (s, t) entries_none
@@ -168,9 +168,10 @@ parameter-sound ps p ts rest e =
     let same : ts ≡ Fixed AtomicInt ∷ Fixed Star ∷ Name x.0.0 ∷ x.0.1 = cc in
     elim (chosen (is_parameter ps x.0.0) _ _ _ x.2) [
       | inl g ↦ let h = g.1 in absurd (cc)
-      | inr g ↦ moved (λ l t. IsParameter ts l t × IsNew t ps) g.1
-          (subst (λ l. IsParameter l x.0.1 (record { name = x.0.0; kind = Atomic })) (sym same) parameter_atomic,
-          new ps (record { name = x.0.0; kind = Atomic }) g.0)
+      | inr g ↦ moved (λ l t. IsParameter ts l t × IsNew t ps) g.1 (
+        subst (λ l. IsParameter l x.0.1 (record { name = x.0.0; kind = Atomic })) (sym same) parameter_atomic,
+        new ps (record { name = x.0.0; kind = Atomic }) g.0,
+      )
     ]
 
 parameters-sound : Sound parameters_at IsParameters
@@ -180,9 +181,9 @@ parameters-sound ts rest ps e =
     let p = bind_ok (parameter_behind [] ts) _ _ x.1 in
     repeated-keeps syntax (after Comma) (λ _ qs us. parameters_more qs us) (λ l t. IsParameters ts l t)
     (λ o us mid back a b d was f.
-      let q = bind_ok (parameter_behind a mid) _ _ f in
-      let s = parameter-sound a q.0.0 mid q.0.1 q.1 in
-      moved (λ l t. IsParameters ts l t) q.2 (parameters_and (subst (λ l. IsParameters ts l a) (after-some Comma us mid o was) d) s.0 s.1))
+    let q = bind_ok (parameter_behind a mid) _ _ f in
+    let s = parameter-sound a q.0.0 mid q.0.1 q.1 in
+    moved (λ l t. IsParameters ts l t) q.2 (parameters_and (subst (λ l. IsParameters ts l a) (after-some Comma us mid o was) d) s.0 s.1))
     x.0.0 x.0.1 ps rest
     (moved (λ l t. IsParameters ts l t) p.2 (parameters_one (parameter-sound [] p.0.0 ts p.0.1 p.1).0))
     x.2
@@ -323,7 +324,7 @@ open_step-sound n ts us s e =
             let r = given-sound n y.1 v.0.1 v.0.0 v.1 in
             let same : ts ≡ Name v.0.0.0 ∷ Fixed Assign ∷ r.0 = sym (before_name-same ts y.1 y.0 was) ∙ r.1 in
             moved (λ l t. IsOpenStep n ts l t) v.2 (λ rest end. subst (λ l. IsStep n l rest (assign v.0.0.0 v.0.0.1)) (sym same) (step_assign (subst (λ l. IsRight n r.0 l v.0.0.1) end r.2)))
-        ]
+      ]
       | inr (y, was, g) ↦
           let ds = bind_ok (declarators_at n y.1) _ _ g in
           moved (λ l t. IsOpenStep n ts l t) ds.2 (λ rest end. subst (λ l. IsStep n l rest (declare ds.0.0)) (sym (after-some Int ts y.1 y.0 was))
@@ -350,8 +351,8 @@ block-sound n ts rest ss e =
     (subst (λ l. IsSteps n ts l x.0.0) (expected-ok RightBrace x.0.1 y.0.1 y.0.0 y.1)
     (repeated-keeps syntax (unless RightBrace) (steps_more n) (λ l t. IsSteps n ts l t)
     (λ o us mid back a b d was f.
-      let s = bind_ok (step_at n mid) _ _ f in
-      moved (λ l t. IsSteps n ts l t) s.2 (steps_and d (subst (λ l. IsStep n l s.0.1 s.0.0) (unless-same RightBrace us mid o was) (step-sound n mid s.0.1 s.0.0 s.1))))
+    let s = bind_ok (step_at n mid) _ _ f in
+    moved (λ l t. IsSteps n ts l t) s.2 (steps_and d (subst (λ l. IsStep n l s.0.1 s.0.0) (unless-same RightBrace us mid o was) (step-sound n mid s.0.1 s.0.0 s.1))))
     [] ts x.0.0 x.0.1 steps_none x.1))
 
 -- Threads.
@@ -380,8 +381,8 @@ threads-sound n ts rest bs e =
     let p = bind_ok (thread_at n 0 ts) _ _ x.1 in
     repeated-keeps syntax before_name (threads_more n) (λ l t. IsThreads n ts l t)
     (λ o us mid back a b d was f.
-      let q = bind_ok (thread_at n (length a) mid) _ _ f in
-      moved (λ l t. IsThreads n ts l t) q.2 (threads_and d (subst (λ l. IsThread n (length a) l q.0.1 q.0.0) (before_name-same us mid o was) (thread-sound n (length a) mid q.0.1 q.0.0 q.1))))
+    let q = bind_ok (thread_at n (length a) mid) _ _ f in
+    moved (λ l t. IsThreads n ts l t) q.2 (threads_and d (subst (λ l. IsThread n (length a) l q.0.1 q.0.0) (before_name-same us mid o was) (thread-sound n (length a) mid q.0.1 q.0.0 q.1))))
     x.0.0 x.0.1 bs rest
     (moved (λ l t. IsThreads n ts l t) p.2 (threads_one (thread-sound n 0 ts p.0.1 p.0.0 p.1)))
     x.2
@@ -426,8 +427,8 @@ module _ (n : ℕ) (r : List Symbol → Reading Formula) (inner : Sound r (Deepe
       let x = bind_ok (atomic_with r ts) _ _ e in
       proposition_or (or_conjunction (repeated-keeps syntax (after And) (conjunction_more r) (λ l t. IsConjunction n ts l t)
       (λ o us mid back b c d was f.
-        let q = bind_ok (atomic_with r mid) _ _ f in
-        moved (λ l t. IsConjunction n ts l t) q.2 (conjunction_and (subst (λ l. IsConjunction n ts l b) (after-some And us mid o was) d) (atomic-sound mid q.0.1 q.0.0 q.1)))
+      let q = bind_ok (atomic_with r mid) _ _ f in
+      moved (λ l t. IsConjunction n ts l t) q.2 (conjunction_and (subst (λ l. IsConjunction n ts l b) (after-some And us mid o was) d) (atomic-sound mid q.0.1 q.0.0 q.1)))
       x.0.0 x.0.1 a rest (conjunction_atomic (atomic-sound ts x.0.1 x.0.0 x.1)) x.2))
 
 below-sound : (n : ℕ) → Sound (below n) (Deeper IsProposition n)

@@ -74,10 +74,11 @@ number_of w None z h =
       | inr e ↦ e
     ]
 number_of w (Some n) z h =
-    let c : not (has_leading_zero w) ≡ true = rw z refl in
-    (and_true (not (has_leading_zero w) && nat_lt 0 (length w) && list_all is_digit w) (nat_le (decimal_value w) 2147483647)
-      (and_true (not (has_leading_zero w) && nat_lt 0 (length w)) (list_all is_digit w)
-        (and_true (not (has_leading_zero w)) (nat_lt 0 (length w)) c (true_lt 0 (length w) h.0.0.0))
-        ((all_digits w).1 h.0.0.1))
-      (true_le (decimal_value w) 2147483647 h.0.1),
-    h.1)
+    let c : not (has_leading_zero w) ≡ true = rw z refl in (
+      and_true (not (has_leading_zero w) && nat_lt 0 (length w) && list_all is_digit w) (nat_le (decimal_value w) 2147483647)
+          (and_true (not (has_leading_zero w) && nat_lt 0 (length w)) (list_all is_digit w)
+          (and_true (not (has_leading_zero w)) (nat_lt 0 (length w)) c (true_lt 0 (length w) h.0.0.0))
+          ((all_digits w).1 h.0.0.1))
+          (true_le (decimal_value w) 2147483647 h.0.1),
+      h.1,
+    )

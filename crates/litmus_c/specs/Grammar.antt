@@ -88,14 +88,14 @@ pub data IsOrder : Word → Order → Type 0 where
 -- load := "atomic_load_explicit" "(" name "," order ")", the calls that have a value
 pub data IsLoad : ℕ → List Symbol → List Symbol → Action → Type 0 where
   load_explicit : {n : ℕ} {x w : Word} {o : Order} {rest : List Symbol} → IsOrder w o →
-    IsLoad (suc n) (Fixed AtomicLoadExplicit ∷ Fixed LeftParen ∷ Name x ∷ Fixed Comma ∷ Name w ∷ Fixed RightParen ∷ rest) rest (load x o)
+      IsLoad (suc n) (Fixed AtomicLoadExplicit ∷ Fixed LeftParen ∷ Name x ∷ Fixed Comma ∷ Name w ∷ Fixed RightParen ∷ rest) rest (load x o)
 
 -- call := load | "atomic_store_explicit" "(" name "," expression "," order ")"
 pub data IsCall : ℕ → List Symbol → List Symbol → Action → Type 0 where
   call_load : {n : ℕ} {ts rest : List Symbol} {a : Action} → IsLoad n ts rest a → IsCall n ts rest a
   call_store : {n : ℕ} {x w : Word} {o : Order} {e : Term} {ts rest : List Symbol} →
-    IsExpression n ts (Fixed Comma ∷ Name w ∷ Fixed RightParen ∷ rest) e → IsOrder w o →
-    IsCall (suc n) (Fixed AtomicStoreExplicit ∷ Fixed LeftParen ∷ Name x ∷ Fixed Comma ∷ ts) rest (store x e o)
+      IsExpression n ts (Fixed Comma ∷ Name w ∷ Fixed RightParen ∷ rest) e → IsOrder w o →
+      IsCall (suc n) (Fixed AtomicStoreExplicit ∷ Fixed LeftParen ∷ Name x ∷ Fixed Comma ∷ ts) rest (store x e o)
 
 -- right := load
 pub data IsRight : ℕ → List Symbol → List Symbol → Right → Type 0 where
@@ -128,8 +128,8 @@ pub data IsSteps : ℕ → List Symbol → List Symbol → List Step → Type 0 
 -- thread k := "P" k "(" [parameters] ")" "{" statements "}"
 pub data IsThread : ℕ → ℕ → List Symbol → List Symbol → Listing → Type 0 where
   thread_body : {n k : ℕ} {ts us rest : List Symbol} {ps : List Parameter} {ss : List Step} →
-    IsParameterList n ts (Fixed LeftBrace ∷ us) ps → IsSteps n us (Fixed RightBrace ∷ rest) ss →
-    IsThread n k (Name (codes "P" ++ decimal k) ∷ ts) rest (record { parameters = ps; steps = ss })
+      IsParameterList n ts (Fixed LeftBrace ∷ us) ps → IsSteps n us (Fixed RightBrace ∷ rest) ss →
+      IsThread n k (Name (codes "P" ++ decimal k) ∷ ts) rest (record { parameters = ps; steps = ss })
 
 -- threads := thread 0 | threads and the thread of the next number
 pub data IsThreads : ℕ → List Symbol → List Symbol → List Listing → Type 0 where
@@ -166,8 +166,8 @@ pub data IsCondition : ℕ → List Symbol → List Symbol → Condition → Typ
 -- test := "C" name "{" entries "}" threads condition
 pub data IsWritten : ℕ → List Symbol → List Symbol → Written → Type 0 where
   written : {n : ℕ} {x : Word} {ts us vs rest : List Symbol} {bs : List Binding} {ls : List Listing} {c : Condition} →
-    IsEntries ts (Fixed RightBrace ∷ us) bs → IsThreads n us vs ls → IsCondition n vs rest c →
-    IsWritten n (head_word (codes "C") ∷ head_word x ∷ Fixed LeftBrace ∷ ts) rest (record { name = x; entries = bs; threads = ls; condition = c })
+      IsEntries ts (Fixed RightBrace ∷ us) bs → IsThreads n us vs ls → IsCondition n vs rest c →
+      IsWritten n (head_word (codes "C") ∷ head_word x ∷ Fixed LeftBrace ∷ ts) rest (record { name = x; entries = bs; threads = ls; condition = c })
 
 -- The whole of the symbols is the test, which nests at most 32 deep.
 abbrev pub Spells : List Symbol → Written → Type 0

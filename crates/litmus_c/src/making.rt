@@ -22,8 +22,11 @@ use std::alloc::{AllocError, Global};
 use wb_text::Name;
 
 const MAX_THREADS: usize = 8;
+
 const MAX_LOCATIONS: usize = 8;
+
 const MAX_VALUES: usize = 16;
+
 const MAX_EVENTS: usize = 64;
 
 /// Adds a name that isn't there yet.
@@ -136,10 +139,7 @@ fn entry_registers(
 }
 
 /// Adds the registers that are declared.
-fn note_declarators(
-    registers: &mut Vec<Name>,
-    declarators: &[Declarator],
-) -> Result<(), AllocError>
+fn note_declarators(registers: &mut Vec<Name>, declarators: &[Declarator]) -> Result<(), AllocError>
     ensures { OnOk result (registers.new.items ≡ with_names registers.old.items (map (λ d. d.register) (map declared_of declarators.now))) }
 {
     for declarator in declarators {
@@ -201,8 +201,7 @@ fn make_threads(
 {
     let mut threads = Vec::new(alloc);
     for body in bodies {
-        let registers =
-            find_registers(alloc, threads.len(), entries, body.statements.as_slice())?;
+        let registers = find_registers(alloc, threads.len(), entries, body.statements.as_slice())?;
         threads.push(Thread::new(body.parameters, body.statements, registers))?;
     }
     Ok(threads)

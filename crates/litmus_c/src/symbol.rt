@@ -107,9 +107,7 @@ fn is_order(bytes: &[u8]) -> bool
 fn is_no_name(bytes: &[u8]) -> bool
     ensures { result ≡ is_no_name bytes.now }
 {
-    is_kept(bytes)
-        || is_foreign(bytes)
-        || (bytes.starts_with(b"memory_order_") && !is_order(bytes))
+    is_kept(bytes) || is_foreign(bytes) || (bytes.starts_with(b"memory_order_") && !is_order(bytes))
 }
 
 /// The name of these bytes, if they are one.

@@ -9,8 +9,8 @@ ghost use Rattle.litmus_c.specs.Tree.{term_of, action_of, right_of, declared_of,
 
 use crate::conditions::{Binding, Cond, Kind, Place, Prop};
 use crate::draft::{Body, Draft};
-use crate::symbol::{Symbol, Terminal};
 use crate::rules::is_parameter;
+use crate::symbol::{Symbol, Terminal};
 use crate::syntax_fault::SyntaxFault;
 use crate::tree::{Call, Declarator, Expression, LocationKind, Parameter, RightSide, Statement};
 use events::Order;

@@ -102,19 +102,39 @@ fn locations(rt: HostRuntime) {
 #[test]
 fn events(rt: HostRuntime) -> Result<(), Fail> {
     let load = "atomic_load_explicit(x,memory_order_relaxed);";
-    let most = many(rt.alloc(), "C a\n{}P0(atomic_int*x){", load, 63, "}exists x=0")?;
+    let most = many(
+        rt.alloc(),
+        "C a\n{}P0(atomic_int*x){",
+        load,
+        63,
+        "}exists x=0",
+    )?;
     assert_eq!(rt; fault(rt.alloc(), most.as_str()), None);
-    let more = many(rt.alloc(), "C a\n{}P0(atomic_int*x){", load, 64, "}exists x=0")?;
-    assert_eq!(rt; fault(rt.alloc(), more.as_str()), Some(TestFault::TooManyEvents));
+    let more = many(
+        rt.alloc(),
+        "C a\n{}P0(atomic_int*x){",
+        load,
+        64,
+        "}exists x=0",
+    )?;
+    assert_eq!(rt;
+        fault(rt.alloc(), more.as_str()),
+        Some(TestFault::TooManyEvents)
+    );
     Ok(())
 }
 
 #[test]
 fn values(rt: HostRuntime) {
-    let sixteen = "C a\n{0:a=2;0:b=3;0:c=4;0:d=5;0:e=6;0:f=7;0:g=8;0:h=9;0:i=10;0:j=11;0:k=12;0:l=13;0:m=14;0:n=15}P0(){}exists 0:a=0";
+    let sixteen =
+        "C a\n{0:a=2;0:b=3;0:c=4;0:d=5;0:e=6;0:f=7;0:g=8;0:h=9;0:i=10;0:j=11;0:k=12;0:l=13;0:m=14;0:n=15}P0(){}exists 0:a=0";
     assert_eq!(rt; fault(rt.alloc(), sixteen), None);
-    let seventeen = "C a\n{0:a=2;0:b=3;0:c=4;0:d=5;0:e=6;0:f=7;0:g=8;0:h=9;0:i=10;0:j=11;0:k=12;0:l=13;0:m=14;0:n=15;0:o=16}P0(){}exists 0:a=0";
-    assert_eq!(rt; fault(rt.alloc(), seventeen), Some(TestFault::TooManyValues));
+    let seventeen =
+        "C a\n{0:a=2;0:b=3;0:c=4;0:d=5;0:e=6;0:f=7;0:g=8;0:h=9;0:i=10;0:j=11;0:k=12;0:l=13;0:m=14;0:n=15;0:o=16}P0(){}exists 0:a=0";
+    assert_eq!(rt;
+        fault(rt.alloc(), seventeen),
+        Some(TestFault::TooManyValues)
+    );
 }
 
 #[test]
@@ -125,7 +145,10 @@ fn comments(rt: HostRuntime) {
 
 #[test]
 fn two_entries_for_one_place(rt: HostRuntime) -> Result<(), Fail> {
-    let test = read_test(rt.alloc(), b"C a\n{int x=1; [x]=2; 0:r=3; y=4; y}P0(){}exists x=0")?;
+    let test = read_test(
+        rt.alloc(),
+        b"C a\n{int x=1; [x]=2; 0:r=3; y=4; y}P0(){}exists x=0",
+    )?;
     assert_eq!(rt; test.initial().len(), 3);
     for binding in test.initial() {
         let value = match &binding.place {
@@ -147,12 +170,28 @@ fn two_entries_for_one_place(rt: HostRuntime) -> Result<(), Fail> {
 #[test]
 fn unknown_names(rt: HostRuntime) {
     let alloc = rt.alloc();
-    assert_eq!(rt; fault(alloc, "C a\n{x}P0(){}exists y=0"), Some(TestFault::UnknownName));
-    assert_eq!(rt; fault(alloc, "C a\n{x}P0(){}exists 0:r=0"), Some(TestFault::UnknownName));
-    assert_eq!(rt; fault(alloc, "C a\n{x}P0(){}exists 1:r=0"), Some(TestFault::UnknownName));
-    assert_eq!(rt; fault(alloc, "C a\n{1:r=0}P0(){}exists 0:r=0"), Some(TestFault::UnknownName));
-    assert_eq!(rt; fault(alloc, "C a\n{0:x=1}P0(atomic_int*x){}exists x=0"), Some(TestFault::UnknownName));
-    let parameter = "C a\n{}P0(atomic_int*x){int x=atomic_load_explicit(x,memory_order_relaxed);}exists x=0";
+    assert_eq!(rt;
+        fault(alloc, "C a\n{x}P0(){}exists y=0"),
+        Some(TestFault::UnknownName)
+    );
+    assert_eq!(rt;
+        fault(alloc, "C a\n{x}P0(){}exists 0:r=0"),
+        Some(TestFault::UnknownName)
+    );
+    assert_eq!(rt;
+        fault(alloc, "C a\n{x}P0(){}exists 1:r=0"),
+        Some(TestFault::UnknownName)
+    );
+    assert_eq!(rt;
+        fault(alloc, "C a\n{1:r=0}P0(){}exists 0:r=0"),
+        Some(TestFault::UnknownName)
+    );
+    assert_eq!(rt;
+        fault(alloc, "C a\n{0:x=1}P0(atomic_int*x){}exists x=0"),
+        Some(TestFault::UnknownName)
+    );
+    let parameter =
+        "C a\n{}P0(atomic_int*x){int x=atomic_load_explicit(x,memory_order_relaxed);}exists x=0";
     assert_eq!(rt; fault(alloc, parameter), Some(TestFault::UnknownName));
     let free = "C a\n{x}P0(){atomic_load_explicit(x,memory_order_relaxed);}exists x=0";
     assert_eq!(rt; fault(alloc, free), Some(TestFault::UnknownName));
@@ -161,10 +200,28 @@ fn unknown_names(rt: HostRuntime) {
 #[test]
 fn syntax_faults(rt: HostRuntime) {
     let alloc = rt.alloc();
-    assert_eq!(rt; fault(alloc, "C a\n{x}P0(){}exists x=0 x"), Some(TestFault::Syntax(24)));
-    assert_eq!(rt; fault(alloc, "C a\n{x}P0(){}exists x=00"), Some(TestFault::Syntax(22)));
-    assert_eq!(rt; fault(alloc, "C a\n{int}P0(){}exists x=0"), Some(TestFault::Syntax(8)));
-    assert_eq!(rt; fault(alloc, "C a\n{}P0(atomic_int*x,atomic_int*x){}exists x=0"), Some(TestFault::Syntax(33)));
-    assert_eq!(rt; fault(alloc, "C a\n{x}P0(){x=0;}exists x=0"), Some(TestFault::Syntax(15)));
-    assert_eq!(rt; fault(alloc, "C a\n{\"}P0(){}exists x=0"), Some(TestFault::Text(TextFault::OpenString)));
+    assert_eq!(rt;
+        fault(alloc, "C a\n{x}P0(){}exists x=0 x"),
+        Some(TestFault::Syntax(24))
+    );
+    assert_eq!(rt;
+        fault(alloc, "C a\n{x}P0(){}exists x=00"),
+        Some(TestFault::Syntax(22))
+    );
+    assert_eq!(rt;
+        fault(alloc, "C a\n{int}P0(){}exists x=0"),
+        Some(TestFault::Syntax(8))
+    );
+    assert_eq!(rt;
+        fault(alloc, "C a\n{}P0(atomic_int*x,atomic_int*x){}exists x=0"),
+        Some(TestFault::Syntax(33))
+    );
+    assert_eq!(rt;
+        fault(alloc, "C a\n{x}P0(){x=0;}exists x=0"),
+        Some(TestFault::Syntax(15))
+    );
+    assert_eq!(rt;
+        fault(alloc, "C a\n{\"}P0(){}exists x=0"),
+        Some(TestFault::Text(TextFault::OpenString))
+    );
 }

@@ -9,5 +9,5 @@ pub returns-in_err-note_place-clause-cause : goal.returns-in_err-note_place-clau
 returns-in_err-note_place-clause-cause c =
     let p = err_from_is_err_and c.from_residual.result c.from_residual.ensures.1 in
     let few : length (with_names c.loop-entry.locations.items (place_locations c.entry-item.result.place)) ≤ length (with_names [] (flat_map (λ b. place_locations b.place) c.args.entries.now)) =
-      omega (arith, at_least (λ b. place_locations b.place) c.entry-item.result c.args.entries.now c.loop-entry.entry-index c.loop-entry.locations.items c.loop-entry-test.true c.entry-item.is, ap length c.loop-entry.invariant.rest) in
+    omega (arith, at_least (λ b. place_locations b.place) c.entry-item.result c.args.entries.now c.loop-entry.entry-index c.loop-entry.locations.items c.loop-entry-test.true c.entry-item.is, ap length c.loop-entry.invariant.rest) in
     rw (p.1, p.2) (explained (with_names c.loop-entry.locations.items (place_locations c.entry-item.result.place)) (with_names [] (flat_map (λ b. place_locations b.place) c.args.entries.now)) _ few c.in_err-note_place.ensures.cause)

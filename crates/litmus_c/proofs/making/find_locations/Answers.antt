@@ -20,6 +20,6 @@ returns-in_err-note_parameters-clause-cause c =
     let ys = flat_map parameter_names (map listing_of c.args.bodies.now) in
     let here = with_names c.loop-body.locations.items (parameter_names (listing_of c.body-item.result)) in
     let few : length here ≤ length (with_names xs ys) =
-      omega (arith, at_least_of parameter_names listing_of c.body-item.result c.args.bodies.now c.loop-body.body-index c.loop-body.locations.items c.loop-body-test.true c.body-item.is, ap length c.loop-body.invariant.rest) in
+    omega (arith, at_least_of parameter_names listing_of c.body-item.result c.args.bodies.now c.loop-body.body-index c.loop-body.locations.items c.loop-body-test.true c.body-item.is, ap length c.loop-body.invariant.rest) in
     let cause = rw c.as_slice.ensures.value at c.in_err-note_parameters.ensures.cause in
     rw (p.1, p.2) (explained here (with_names xs ys) _ few cause)

@@ -26,8 +26,8 @@ new-requires-2 c =
     let initial : c.in_ok-initial.initial.items ≡ lasting es = c.in_ok-initial.ensures ∙ ap lasting c.as_slice-entries.ensures.value in
     let threads : ts ≡ programs_of 0 es w.threads = c.in_ok-threads.ensures ∙ ap (λ (bs : List Binding). programs_of 0 bs w.threads) c.as_slice-entries.ensures.value in
     let locations : xs ≡ locations_of w = c.in_ok-locations.ensures.done ∙
-      ap (λ (bs : List Binding). with_names (with_names [] (flat_map (λ b. place_locations b.place) bs)) (flat_map parameter_names (map listing_of c.as_slice.result.now))) c.as_slice-entries.ensures.value ∙
-      ap (λ (bs : List Body). with_names (with_names [] (flat_map (λ b. place_locations b.place) es)) (flat_map parameter_names (map listing_of bs))) c.as_slice.ensures.value in
+    ap (λ (bs : List Binding). with_names (with_names [] (flat_map (λ b. place_locations b.place) bs)) (flat_map parameter_names (map listing_of c.as_slice.result.now))) c.as_slice-entries.ensures.value ∙
+    ap (λ (bs : List Body). with_names (with_names [] (flat_map (λ b. place_locations b.place) es)) (flat_map parameter_names (map listing_of bs))) c.as_slice.ensures.value in
     let few : length c.args.draft.bodies.items ≤ 8 = search rules in
     let there : c.names_are_there.result ≡ true = search rules in
     let asked = rw (c.as_slice-2.ensures.value, c.as_slice-3.ensures.value, c.as_slice-entries.ensures.value) at c.names_are_there.ensures in
@@ -46,8 +46,8 @@ returns-clause-kept c =
     let initial : c.in_ok-initial.initial.items ≡ lasting es = c.in_ok-initial.ensures ∙ ap lasting c.as_slice-entries.ensures.value in
     let threads : ts ≡ programs_of 0 es w.threads = c.in_ok-threads.ensures ∙ ap (λ (bs : List Binding). programs_of 0 bs w.threads) c.as_slice-entries.ensures.value in
     let locations : xs ≡ locations_of w = c.in_ok-locations.ensures.done ∙
-      ap (λ (bs : List Binding). with_names (with_names [] (flat_map (λ b. place_locations b.place) bs)) (flat_map parameter_names (map listing_of c.as_slice.result.now))) c.as_slice-entries.ensures.value ∙
-      ap (λ (bs : List Body). with_names (with_names [] (flat_map (λ b. place_locations b.place) es)) (flat_map parameter_names (map listing_of bs))) c.as_slice.ensures.value in
+    ap (λ (bs : List Binding). with_names (with_names [] (flat_map (λ b. place_locations b.place) bs)) (flat_map parameter_names (map listing_of c.as_slice.result.now))) c.as_slice-entries.ensures.value ∙
+    ap (λ (bs : List Body). with_names (with_names [] (flat_map (λ b. place_locations b.place) es)) (flat_map parameter_names (map listing_of bs))) c.as_slice.ensures.value in
     let few : length c.args.draft.bodies.items ≤ 8 = search rules in
     let there : c.names_are_there.result ≡ true = search rules in
     let asked = rw (c.as_slice-2.ensures.value, c.as_slice-3.ensures.value, c.as_slice-entries.ensures.value) at c.names_are_there.ensures in

@@ -8,5 +8,5 @@ pub returns-in_err-note_location-clause-cause : goal.returns-in_err-note_locatio
 returns-in_err-note_location-clause-cause c =
     let p = err_from_is_err_and c.from_residual.result c.from_residual.ensures.1 in
     let few : length (with_name c.loop-parameter.locations.items c.parameter-item.result.name) ≤ length (with_names c.args.locations.now.items (map (λ p. p.name) c.args.parameters.now)) =
-      omega (arith, at_least_with (λ p. p.name) c.parameter-item.result c.args.parameters.now c.loop-parameter.parameter-index c.loop-parameter.locations.items c.loop-parameter-test.true c.parameter-item.is, ap length c.loop-parameter.invariant.rest) in
+    omega (arith, at_least_with (λ p. p.name) c.parameter-item.result c.args.parameters.now c.loop-parameter.parameter-index c.loop-parameter.locations.items c.loop-parameter-test.true c.parameter-item.is, ap length c.loop-parameter.invariant.rest) in
     rw (p.1, p.2) (explained (with_name c.loop-parameter.locations.items c.parameter-item.result.name) (with_names c.args.locations.now.items (map (λ p. p.name) c.args.parameters.now)) _ few c.in_err-note_location.ensures.cause)
