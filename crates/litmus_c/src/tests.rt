@@ -62,9 +62,8 @@ fn reading_faults(rt: HostRuntime) {
 
 #[test]
 fn prefixes_of_sb(rt: HostRuntime) {
-    let mut length = SB.len() - 2;
-    while length > 0 {
-        length -= 1;
+    // The text ends with `)` and a line feed.
+    for length in 0..SB.len() - 2 {
         let read = read_test(rt.alloc(), &SB[..length]);
         assert!(rt; matches!(read, Err(TestFault::Text(_) | TestFault::Syntax(_))));
     }
@@ -73,10 +72,10 @@ fn prefixes_of_sb(rt: HostRuntime) {
 #[test]
 fn nested_parentheses(rt: HostRuntime) -> Result<(), Fail> {
     let alloc = rt.alloc();
-    let closed = many(alloc, "x=0", ")", 33, "")?;
-    let deepest = many(alloc, "C a\n{x}P0(){}exists ", "(", 32, &closed[..35])?;
+    let closed = many(alloc, "x=0", ")", 32, "")?;
+    let deepest = many(alloc, "C a\n{x}P0(){}exists ", "(", 32, closed.as_str())?;
     assert_eq!(rt; fault(alloc, deepest.as_str()), None);
-    let beyond = many(alloc, "C a\n{x}P0(){}exists ", "(", 33, closed.as_str())?;
+    let beyond = many(alloc, "C a\n{x}P0(){}exists (", "(", 32, closed.as_str())?;
     assert_eq!(rt; fault(alloc, beyond.as_str()), Some(TestFault::TooDeep));
     Ok(())
 }
@@ -218,7 +217,7 @@ fn syntax_faults(rt: HostRuntime) {
     );
     assert_eq!(rt;
         fault(alloc, "C a\n{x}P0(){x=0;}exists x=0"),
-        Some(TestFault::Syntax(15))
+        Some(TestFault::Syntax(14))
     );
     assert_eq!(rt;
         fault(alloc, "C a\n{\"}P0(){}exists x=0"),
