@@ -6,7 +6,7 @@ ghost use Rattle.events.specs.Executions.{is_read, is_write, writes_to};
 /// A memory order, or none.
 #[derive(Clone, Copy, Debug, PartialEq, Eq)]
 pub enum Order {
-    /// The initial writes' place in this table: they have no order.
+    /// Of an initial write, which has no order.
     NoOrder,
     /// A plain access.
     Na,
