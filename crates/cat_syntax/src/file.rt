@@ -68,6 +68,56 @@ impl Model for CatFile {
     ghost view = { λ f. record { title = f.title; items = map clause_of f.items.items } };
 }
 
+impl PartialEq for Title {
+    ghost use Rattle.std.proofs.Common.{rules};
+    ghost use Rattle.std.specs.Prelude.{◌≡◌, ◌↔◌, IsTrue};
+    ghost use Rattle.std.specs.Cmp.Rules.{comparing};
+    ghost use Rattle.std.specs.Str.{bytes_eq};
+
+    ghost eq = { bytes_eq };
+
+    ghost laws = { Prim.search (comparing, rules) };
+
+    fn eq(&self, other: &Title) -> bool
+        ensures value { result ≡ bytes_eq self.now other.now }
+        ensures exact { IsTrue result ↔ (self.now ≡ other.now) }
+    {
+        self.bytes == other.bytes
+    }
+}
+
+impl Eq for Title {
+    ghost use Rattle.std.proofs.Common.{rules};
+    ghost use Rattle.std.specs.Cmp.Rules.{comparing};
+
+    ghost laws = { Prim.search (comparing, rules) };
+}
+
+impl PartialEq for CatFile {
+    ghost use Rattle.std.specs.Prelude.{◌≡◌, ◌↔◌, IsTrue};
+    ghost use Rattle.std.specs.Cmp.{partial_equiv_from_equiv};
+    ghost use Rattle.cat_syntax.specs.Equality.{same_file};
+    ghost use Rattle.cat_syntax.specs.Exact.{file_equivalence};
+
+    ghost eq = { same_file };
+
+    ghost laws = { partial_equiv_from_equiv file_equivalence };
+
+    #[tactic(auto, using(crate::proofs::Equal::clauses_told))]
+    fn eq(&self, other: &CatFile) -> bool
+        ensures value { result ≡ same_file self.now other.now }
+        ensures exact { IsTrue result ↔ (self.now ≡ other.now) }
+    {
+        self.title == other.title && self.items == other.items
+    }
+}
+
+impl Eq for CatFile {
+    ghost use Rattle.cat_syntax.specs.Exact.{file_equivalence};
+
+    ghost laws = { file_equivalence };
+}
+
 impl CatFile {
     /// A model of these parts.
     pub fn new(title: Option<Title>, items: Vec<Item>) -> Self

@@ -3,6 +3,7 @@
 
 mod copying;
 mod counting;
+mod equality;
 mod fault;
 mod file;
 mod foreign;
