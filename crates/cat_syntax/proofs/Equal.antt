@@ -1,5 +1,5 @@
 -- Tests of equality of what stands in lists.
-use Rattle.std.proofs.Common.{◌≡◌, List, map, Bool, IsTrue, ◌↔◌, sym, ◌∙◌}
+use Rattle.std.proofs.Common.{◌≡◌, List, map, Bool, IsTrue, ◌↔◌, sym}
 use Rattle.std.specs.Cmp.Derive.Mapped.{pointwise-map}
 use Rattle.std.specs.Cmp.Lexicographic.{pointwise}
 use Rattle.cat_syntax.specs.Equality.{same_bound, same_shown, same_clause, same_file}

@@ -1,5 +1,5 @@
 -- The tests that `==` makes of models and of their parts.
-use Rattle.std.specs.Prelude.{◌&&◌, Bool, true, false, List, Option}
+use Rattle.std.specs.Prelude.{◌&&◌, Bool, true, false, Option}
 use Rattle.std.specs.Bool.{beq}
 use Rattle.std.specs.Cmp.Lexicographic.{pointwise}
 use Rattle.std.specs.Option.{option_eq}

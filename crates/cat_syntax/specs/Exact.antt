@@ -1,11 +1,9 @@
 -- Each test of equality is true exactly of equal values, and so is an equivalence.
-use Rattle.std.specs.Prelude.{◌≡◌, ℕ, ◌&&◌, Bool, true, false, refl, Option, None, Some, List}
+use Rattle.std.specs.Prelude.{◌≡◌, ◌&&◌, Bool, true, false, refl, Option, None, Some, List}
 use Rattle.std.proofs.Common.{◌∙◌, sym, ap}
 use Rattle.std.specs.Bool.{Decides, one_answer}
 use Rattle.std.specs.Cmp.{IsEquivalence, booleans_Decides}
-use Rattle.std.specs.Cmp.Lexicographic.{pointwise, pointwise_decides}
-use Rattle.std.specs.Option.{option_eq}
-use Rattle.std.specs.Str.{bytes_eq}
+use Rattle.std.specs.Cmp.Lexicographic.{pointwise_decides}
 use Rattle.std.proofs.lemmas.Slice.Eq.{bytes_eq-Decides}
 use Rattle.cat_syntax.specs.Equality.{same_term, same_alias, same_bound, same_shown, same_kind, same_clause, same_file}
 use Rattle.cat_syntax.specs.Tree.{Word, Term, union, sequence, difference, intersection, product, complement, plus, star, optional, inverse, domain, range, identity, name, empty_relation, empty_set, universe, Bound, Shown, Clause, bind, bind_recursively, check, include, show, unshow, File, term_of, bound_of, shown_of, check_of, clause_of}

@@ -1,6 +1,5 @@
-use Rattle.std.proofs.Common.{◌≡◌, arith, rules}
+use Rattle.std.proofs.Common.{arith, rules}
 use Rattle.cat_syntax.proofs.Equal.{bounds_told, shown_told, clause_told}
-use Rattle.cat_syntax.specs.Equality.{same_clause}
 use Rattle.cat_syntax.specs.Tree.{clause_of}
 use Rattle.cat_syntax.proofs.equality.ItemPartialEq.eq.Goals as goal
 

@@ -1,6 +1,5 @@
-use Rattle.std.proofs.Common.{◌≡◌, arith, rules}
+use Rattle.std.proofs.Common.{arith}
 use Rattle.cat_syntax.proofs.Equal.{clauses_told, file_told}
-use Rattle.cat_syntax.specs.Equality.{same_file}
 use Rattle.cat_syntax.proofs.file.CatFilePartialEq.eq.Goals as goal
 
 pub returns-then-eq-clause-exact : goal.returns-then-eq-clause-exact
