@@ -2,7 +2,7 @@
 use Rattle.std.specs.Prelude.{refl, ℕ, List}
 use Rattle.std.specs.Coded.{Coded, code_by, coded×, coded_list, coded_ℕ}
 use Rattle.conditions.specs.Conditions.{Condition}
-use Rattle.litmus_c.specs.Codes.{coded_condition}
+use Rattle.conditions.specs.Codes.{coded_condition}
 use Rattle.conditions.specs.contracts.place.Place.{the_row as place_row}
 use Rattle.conditions.specs.declared.place.Place.{Place}
 use Rattle.bench.specs.Outcomes.{Outcome}
