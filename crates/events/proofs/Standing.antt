@@ -1,0 +1,78 @@
+-- What stands at a place of a list.
+use Rattle.std.proofs.Common.{◌≡◌, ℕ, zero, suc, ◌+◌, ◌<◌, ◌≤◌, ◌↔◌, List, [], ◌∷◌, length, get_or, inl, inr, refl, sym, ◌∙◌, ap, subst, arith, IsTrue, Bool}
+use Rattle.std.proofs.lemmas.Bool.{cases_eq}
+use Rattle.events.specs.declared.event.EventId.{EventId}
+use Rattle.events.specs.declared.named.SetName.{SetName}
+use Rattle.events.specs.declared.named.RelName.{RelName}
+use Rattle.events.specs.Executions.{Execution}
+use Rattle.listings.specs.Lists.{StandsAt}
+use Rattle.events.specs.Named.{event_names, read_names, StandsFrom, StandsBefore, IsCoherenceBefore, ReadsFrom, ReadsBefore, InSet, InRel, NamedSet, NamedRel}
+
+pub stands : {X : Type 0} (xs : List X) (i : ℕ) (x : X) → i < length xs → x ≡ get_or xs i x → StandsAt xs i x
+stands [] i x l e = absurd (omega (arith, l))
+stands (y ∷ xs) zero x l e = e
+stands (y ∷ xs) (suc i) x l e = stands xs i x (omega (arith, l)) e
+
+-- what is read at a place stands there
+pub stands_read : {X : Type 0} (xs ys : List X) (i : ℕ) (x : X) → xs ≡ ys → i < length xs → x ≡ get_or xs i x → StandsAt ys i x
+stands_read {X} xs ys i x e l h = let P : List X → Type 0 = λ zs. StandsAt zs i x in subst P e (stands xs i x l h)
+
+pub stands_get : {X : Type 0} (xs : List X) (i : ℕ) (d x : X) → StandsAt xs i x → get_or xs i d ≡ x
+stands_get [] i d x s = absurd s
+stands_get (y ∷ xs) zero d x s = sym s
+stands_get (y ∷ xs) (suc i) d x s = stands_get xs i d x s
+
+pub stands_below : {X : Type 0} (xs : List X) (i : ℕ) (x : X) → StandsAt xs i x → i < length xs
+stands_below [] i x s = absurd s
+stands_below (y ∷ xs) zero x s = omega arith
+stands_below (y ∷ xs) (suc i) x s = omega (arith, stands_below xs i x s)
+
+pub one_stands : {X : Type 0} (xs : List X) (i : ℕ) (x y : X) → StandsAt xs i x → StandsAt xs i y → x ≡ y
+one_stands xs i x y s t = sym (stands_get xs i x x s) ∙ stands_get xs i x y t
+
+-- a test of an event is one of its number
+pub by_number : (g : Execution) (name : SetName) (i : ℕ) (e : EventId) (b : Bool) → StandsAt (event_names g) i e → (IsTrue b ↔ InSet g name e) → IsTrue b ↔ NamedSet g name i
+unfolding NamedSet
+by_number g name i e b s h = (
+  λ t. (e, s, h.0 t),
+  λ n. (let P : EventId → Type 0 = InSet g name in h.1 (subst P (one_stands (event_names g) i n.0 e n.1 s) n.2)),
+)
+
+-- a test of a pair of events is one of their numbers
+pub by_numbers : (g : Execution) (name : RelName) (i j : ℕ) (d e : EventId) (b : Bool) → StandsAt (event_names g) i d → StandsAt (event_names g) j e → (IsTrue b ↔ InRel g name d e) → IsTrue b ↔ NamedRel g name i j
+unfolding NamedRel
+by_numbers g name i j d e b s t h = (
+  λ u. (d, e, s, t, h.0 u),
+  λ n. (let P : EventId → Type 0 = λ x. InRel g name x n.1 in
+      let Q : EventId → Type 0 = λ y. InRel g name d y in
+      h.1 (subst Q (one_stands (event_names g) j n.1 e n.3 t) (subst P (one_stands (event_names g) i n.0 d n.2 s) n.4))),
+)
+
+-- LOOPS THAT LOOK FOR AN EVENT
+
+-- it doesn't stand at this place, so it stands after it
+pub stands_on : (order : List EventId) (i : ℕ) (d e : EventId) → i < length order → d ≡ get_or order i d → (d ≡ e → ⊥) → StandsFrom order i e → StandsFrom order (i + 1) e
+stands_on order i d e l h out s = (s.0, elim (cases_eq s.0 i) [
+  | inl f ↦ (let P : ℕ → Type 0 = λ n. StandsAt order n e in
+      absurd (out (one_stands order i d e (stands order i d l h) (subst P f s.2))))
+  | inr f ↦ omega (arith, f, s.1)
+], s.2)
+
+pub stands_past : (order : List EventId) (i : ℕ) (e : EventId) → ((i < length order) → ⊥) → StandsFrom order i e → ⊥
+stands_past order i e end s = end (omega (arith, s.1, stands_below order s.0 e s.2))
+
+-- none of the first i places has the first event with the second behind it
+abbrev pub NotYetBefore : List EventId → ℕ → EventId → EventId → Type 0
+NotYetBefore order i d e = (a : ℕ) → a < i → StandsAt order a d → StandsFrom order (a + 1) e → ⊥
+
+-- none of the first i orders has the first event before the second
+abbrev pub NotYetCoherence : Execution → ℕ → EventId → EventId → Type 0
+NotYetCoherence g i d e = (x : ℕ) → x < i → (order : List EventId) → StandsAt g.co x order → StandsBefore order d e → ⊥
+
+-- none of the first i reads is r and reads from w
+abbrev pub NotYetFrom : Execution → ℕ → EventId → EventId → Type 0
+NotYetFrom g i w r = (m : ℕ) → m < i → StandsAt (read_names g) m r → StandsAt g.rf m w → ⊥
+
+-- none of the first i reads is r and reads from a write before e
+abbrev pub NotYetReads : Execution → ℕ → EventId → EventId → Type 0
+NotYetReads g i r e = (m : ℕ) → m < i → StandsAt (read_names g) m r → (w : EventId) → StandsAt g.rf m w → IsCoherenceBefore g w e → ⊥
