@@ -54,8 +54,10 @@ row_filled n a b P r s h l m p f =
       only = λ i j z. elim (u.only i j z) [
         | inl x ↦ (let y : Before a b P i j = h.only i j x in
             (elim y.0 [ inl v ↦ inl v | inr w ↦ inr (w.0, omega (arith, w.1)) ], y.1))
-        | inr e ↦ (inr (e.0, omega (arith, e.1)),
-            (let Q : ℕ → Type 0 = λ v. P v j in let S : ℕ → Type 0 = λ w. P a w in subst Q (sym e.0) (subst S (sym e.1) p)))
+        | inr e ↦ (
+          inr (e.0, omega (arith, e.1)),
+          (let Q : ℕ → Type 0 = λ v. P v j in let S : ℕ → Type 0 = λ w. P a w in subst Q (sym e.0) (subst S (sym e.1) p)),
+        )
       ];
       all = λ i j x y q. elim q.0 [
         | inl v ↦ u.all i j x y (inl (h.all i j x y (inl v, q.1)))

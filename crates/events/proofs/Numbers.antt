@@ -164,8 +164,8 @@ names_listed g =
     record {
       once = once_append initial own_events (initial_listed (length g.init)).once (once_threads 0 g.runs)
           (λ w a b. (let f = (initial_listed (length g.init)).only w a in
-              let h = in_threads 0 g.runs w b in
-              initial_own f.0 (0 + h.0) h.1 (sym f.2 ∙ h.4)));
+          let h = in_threads 0 g.runs w b in
+          initial_own f.0 (0 + h.0) h.1 (sym f.2 ∙ h.4)));
       only = λ w h. only_named g w (in_append initial own_events w h);
       all = λ w h. elim (all_named g w h) [ inl a ↦ in_left initial own_events w a | inr b ↦ in_right initial own_events w b ];
     }

@@ -64,6 +64,7 @@ impl<'a> GraphView<'a> {
     }
 
     /// The set of this name.
+    #[tactic(auto, using(crate::proofs::Filling::set_begun, crate::proofs::Filling::set_filled, crate::proofs::Filling::set_passed, crate::proofs::Filling::set_full))]
     pub fn set(&self, name: SetName) -> Set
         ensures { IsExactlySet (event_count self.now) (NamedSet self.now name) result }
     {
@@ -77,6 +78,7 @@ impl<'a> GraphView<'a> {
     }
 
     /// The relation of this name.
+    #[tactic(auto, using(crate::proofs::Filling::rel_begun, crate::proofs::Filling::rel_full))]
     pub fn rel(&self, name: RelName) -> Rel
         ensures { IsExactly (event_count self.now) (NamedRel self.now name) result }
     {
@@ -88,6 +90,7 @@ impl<'a> GraphView<'a> {
     }
 
     // Puts in the pairs from this event.
+    #[tactic(auto, using(crate::proofs::Filling::row_begun, crate::proofs::Filling::row_filled, crate::proofs::Filling::row_passed, crate::proofs::Filling::row_full))]
     fn relate(&self, rel: &mut Rel, name: RelName, from: usize)
         requires before { IsExactly (event_count self.now) (λ i j. (i < from) × NamedRel self.now name i j) rel.old }
         requires from { from < event_count self.now }

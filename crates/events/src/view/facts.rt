@@ -2,6 +2,7 @@
 
 ghost use Rattle.std.specs.Prelude.{◌≡◌, ◌↔◌, IsTrue, MatchOption};
 ghost use Rattle.relations.specs.Events.{Has};
+ghost use Rattle.listings.specs.Lists.{StandsAt};
 ghost use Rattle.events.specs.Named.{no_event, event_at, access_of, location_of, order_of, data_of, control_of, IsMemory, IsAtOneLocation, IsExchange, IsDependency, IsCoherenceBefore, StandsFrom, StandsBefore};
 
 use crate::event::{Access, Event, EventId, Order};
@@ -27,12 +28,26 @@ fn is_dependency(places: &Set, first: EventId, second: EventId) -> bool
     }
 }
 
-/// Does the event stand in the order at or after this place?
+/// Are both one event?
+fn is_same(first: EventId, second: EventId) -> bool
+    ensures { IsTrue result ↔ (first ≡ second) }
+{
+    first == second
+}
+
+/// Does the event stand at this place?
+pub(super) fn stands_at(events: &[EventId], place: usize, event: EventId) -> bool
+    ensures { IsTrue result ↔ StandsAt events.now place event }
+{
+    place < events.len() && is_same(events[place], event)
+}
+
+/// Does the event stand at this place or later?
 fn stands_from(order: &[EventId], from: usize, event: EventId) -> bool
     ensures { IsTrue result ↔ StandsFrom order.now from event }
 {
     for place in from..order.len() {
-        if order[place] == event {
+        if stands_at(order, place, event) {
             return true;
         }
     }
@@ -44,7 +59,7 @@ fn stands_before(order: &[EventId], first: EventId, second: EventId) -> bool
     ensures { IsTrue result ↔ StandsBefore order.now first second }
 {
     for place in 0..order.len() {
-        if order[place] == first && stands_from(order, place + 1, second) {
+        if stands_at(order, place, first) && stands_from(order, place + 1, second) {
             return true;
         }
     }

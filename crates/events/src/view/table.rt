@@ -1,9 +1,11 @@
 //! The table of named sets and relations: what each asks of an event, or of two events.
 
 ghost use Rattle.std.specs.Prelude.{◌≡◌, ◌↔◌, ◌⊎◌, IsTrue};
-ghost use Rattle.events.specs.Named.{InSet, InRel, ReadsFrom, ReadsBefore};
+ghost use Rattle.listings.specs.Lists.{StandsAt};
+ghost use Rattle.events.specs.Named.{InSet, InRel, ReadsFrom, ReadsBefore, SourceIsBefore, read_names};
 
 use super::GraphView;
+use super::facts::stands_at;
 use crate::event::{Access, EventId, Order};
 use crate::named::{RelName, SetName};
 
@@ -71,9 +73,8 @@ impl GraphView<'_> {
     fn reads_from(&self, write: EventId, read: EventId) -> bool
         ensures { IsTrue result ↔ ReadsFrom self.now write read }
     {
-        let sources = self.graph.rf();
         for number in 0..self.reads.len() {
-            if self.reads[number] == read && number < sources.len() && sources[number] == write {
+            if self.is_read(number, read) && stands_at(self.graph.rf(), number, write) {
                 return true;
             }
         }
@@ -84,15 +85,26 @@ impl GraphView<'_> {
     fn reads_before(&self, read: EventId, event: EventId) -> bool
         ensures { IsTrue result ↔ ReadsBefore self.now read event }
     {
-        let sources = self.graph.rf();
         for number in 0..self.reads.len() {
-            if self.reads[number] == read
-                && number < sources.len()
-                && self.graph.is_coherence_before(sources[number], event)
-            {
+            if self.is_read(number, read) && self.source_is_before(number, event) {
                 return true;
             }
         }
         false
+    }
+
+    /// Is this the read with this number among the reads?
+    fn is_read(&self, number: usize, read: EventId) -> bool
+        ensures { IsTrue result ↔ StandsAt (read_names self.now) number read }
+    {
+        stands_at(self.reads.as_slice(), number, read)
+    }
+
+    /// Does the write of the read with this number stand before the event in coherence?
+    fn source_is_before(&self, number: usize, event: EventId) -> bool
+        ensures { IsTrue result ↔ SourceIsBefore self.now number event }
+    {
+        let sources = self.graph.rf();
+        number < sources.len() && self.graph.is_coherence_before(sources[number], event)
     }
 }
