@@ -1,7 +1,9 @@
 //! Events of a thread, and how an execution names them.
 
-ghost use Rattle.std.specs.Prelude.{◌≡◌};
+ghost use Rattle.std.specs.Prelude.{◌≡◌, ◌↔◌, ◌⊎◌, IsTrue};
 ghost use Rattle.events.specs.Executions.{is_read, is_write, writes_to, no_places};
+ghost use Rattle.events.specs.Named.{IsOfCall, IsInitial, IsBefore, IsNext, IsInternal};
+ghost use Rattle.events.specs.declared.event.Access.TheVariants.{ExRead, ExWrite};
 
 use relations::Set;
 
@@ -61,7 +63,67 @@ pub enum EventId {
     Own(usize, usize),
 }
 
+impl Order {
+    /// Whether it is the order of an atomic call or a fence.
+    pub fn is_of_call(self) -> bool
+        ensures { IsTrue result ↔ IsOfCall self }
+    {
+        !matches!(self, Order::NoOrder | Order::Na)
+    }
+}
+
+impl EventId {
+    /// Whether it names an initial write.
+    pub fn is_initial(self) -> bool
+        ensures { IsTrue result ↔ IsInitial self }
+    {
+        matches!(self, EventId::Initial(_))
+    }
+
+    /// Whether the event stands before the other in program order.
+    pub fn is_before(self, other: Self) -> bool
+        ensures { IsTrue result ↔ IsBefore self other }
+    {
+        match (self, other) {
+            (EventId::Own(thread, place), EventId::Own(same, later)) => {
+                thread == same && place < later
+            }
+            _ => false,
+        }
+    }
+
+    /// Whether the event stands directly before the other in program order.
+    pub fn is_next(self, other: Self) -> bool
+        ensures { IsTrue result ↔ IsNext self other }
+    {
+        match (self, other) {
+            (EventId::Own(thread, place), EventId::Own(same, next)) => {
+                thread == same && place < next && next - place == 1
+            }
+            _ => false,
+        }
+    }
+
+    /// Whether both events are of one thread, or both are initial writes.
+    pub fn is_internal(self, other: Self) -> bool
+        ensures { IsTrue result ↔ IsInternal self other }
+    {
+        match (self, other) {
+            (EventId::Own(thread, _), EventId::Own(same, _)) => thread == same,
+            (EventId::Initial(_), EventId::Initial(_)) => true,
+            _ => false,
+        }
+    }
+}
+
 impl Access {
+    /// Whether it is of an exchange.
+    pub fn is_of_exchange(self) -> bool
+        ensures { IsTrue result ↔ ((self ≡ ExRead) ⊎ (self ≡ ExWrite)) }
+    {
+        matches!(self, Access::ExRead | Access::ExWrite)
+    }
+
     /// Whether it reads.
     pub fn is_read(self) -> bool
         ensures { result ≡ is_read self }
