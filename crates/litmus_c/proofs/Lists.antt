@@ -8,8 +8,19 @@ use Rattle.std.proofs.lemmas.Cmp.{nat_list_eq_equiv}
 use Rattle.std.proofs.lemmas.List.{append_assoc, append-nil}
 use Rattle.std.proofs.lemmas.Map.Keys.{IsDistinct-head, IsDistinct-tail}
 use Rattle.litmus_c.specs.declared.tree.Declarator.{Declarator}
+use Rattle.litmus_c.specs.declared.tree.Parameter.{Parameter}
+use Rattle.litmus_c.specs.Drafts.{is_parameter}
 use Rattle.litmus_c.specs.Rules.{with_names}
 use Rattle.litmus_c.specs.Tree.{Word, declared_of}
+
+-- a parameter of a name, among their names
+pub is_named : (ps : List Parameter) (x : Word) → is_parameter ps x ≡ list_any (bytes_eq x) (map (λ p. p.name) ps)
+is_named [] x = refl
+is_named (p ∷ ps) x = rw (nat_list_eq_equiv.symm p.name x, is_named ps x) refl
+
+pub names_push : (ps : List Parameter) (p : Parameter) → map (λ q. q.name) (ps ++ p ∷ []) ≡ map (λ q. q.name) ps ++ p.name ∷ []
+names_push [] p = refl
+names_push (q ∷ ps) p = ap (λ l. q.name ∷ l) (names_push ps p)
 
 -- lists are compared as the lists of their trees
 pub pointwise_map : {X A : Type 0} (f : X → A) (E : A → A → Bool) (xs ys : List X) → pointwise (λ x y. E (f x) (f y)) xs ys ≡ pointwise E (map f xs) (map f ys)

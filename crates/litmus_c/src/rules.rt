@@ -14,7 +14,7 @@ use conditions::{Place, Prop};
 use wb_text::Name;
 
 /// Whether a parameter has this name.
-pub fn is_parameter(parameters: &[Parameter], name: &Name) -> bool
+fn is_parameter(parameters: &[Parameter], name: &Name) -> bool
     ensures { result ≡ is_parameter parameters.now name.now }
 {
     parameters.iter().any(|parameter| parameter.name == *name)

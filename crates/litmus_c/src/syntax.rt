@@ -1,19 +1,22 @@
 //! Recursive descent: a test as it is written, from its symbols.
 
-ghost use Rattle.std.specs.Prelude.{◌≡◌, ◌≤◌, ◌∷◌, ◌++◌, [], ℕ, List, length, map, Option, Some, None, Ok, Err, IfOk, IfErr, MatchBool, MatchOption, MatchResult};
+ghost use Rattle.std.specs.Prelude.{◌≡◌, ◌≤◌, ◌∷◌, ◌++◌, [], ℕ, List, length, map, false, Option, Some, None, Ok, Err, IfOk, IfErr, OnOk, MatchBool, MatchOption, MatchResult};
+ghost use Rattle.std.specs.Str.{bytes_eq};
 ghost use Rattle.std.proofs.Common.{suc};
 ghost use Rattle.conditions.specs.Conditions.{formula_of};
-ghost use Rattle.litmus_c.specs.Drafts.{is_parameter, listing_of, written_of};
+ghost use Rattle.indexmap.specs.IndexSet.{contains};
+ghost use Rattle.litmus_c.specs.Drafts.{listing_of, written_of};
+ghost use Rattle.litmus_c.specs.declared.tree.Parameter.{Parameter};
 ghost use Rattle.litmus_c.specs.Reading.{Gives, GivesAll, next_at, after, expected, name_at, number_look, number_at, before_name, open_at, location_at, register_at, place_at, bound_at, behind_type, entry_at, ends_entry, entry_behind, entries_at, parameter_behind, parameters_more, parameters_at, parameters_closed, parameter_list_at, order_named, order_at, expression_at, target_at, last_order_at, load_at, stored_at, call_at, right_at, given_at, declarator_at, declarators_at, assignment_at, open_step_at, step_at, steps_more, block_at, names_thread, thread_name_at, thread_at, threads_at, equation_at, atomic_with, proposition_with, below, condition_at, word_at, language_at, end_at, initial_at, test_at};
 ghost use Rattle.litmus_c.specs.Tree.{term_of, action_of, right_of, declared_of, step_of};
 
 use crate::draft::{Body, Draft};
-use crate::rules::is_parameter;
 use crate::symbol::{Symbol, Terminal};
 use crate::syntax_fault::SyntaxFault;
 use crate::tree::{Call, Declarator, Expression, LocationKind, Parameter, RightSide, Statement};
 use conditions::{Binding, Cond, Kind, Place, Prop};
 use events::Order;
+use indexmap::IndexSet;
 use std::alloc::{AllocError, Global};
 use wb_text::{Name, Token};
 
@@ -247,15 +250,16 @@ impl<'a> Reader<'a> {
     }
 
     /// parameter := "atomic_int" "*" name, which is none of the earlier ones
-    #[tactic(auto, unfolding(crate::specs::Reading::parameter_behind))]
-    fn parameter(&mut self, earlier: &[Parameter]) -> Result<Parameter, SyntaxFault>
-        ensures { Gives (λ p. p) result self.new.rest.now (parameter_behind earlier.now self.old.rest.now) }
+    #[tactic(auto, unfolding(crate::specs::Reading::parameter_behind), using(crate::proofs::Lists::is_named))]
+    fn parameter(&mut self, earlier: &IndexSet<Name>) -> Result<Parameter, SyntaxFault>
+        ensures gives { (ps : List Parameter) → map (λ p. p.name) ps ≡ earlier.now.keys → Gives (λ p. p) result self.new.rest.now (parameter_behind ps self.old.rest.now) }
+        ensures new { IfOk result (λ p. contains bytes_eq earlier.now p.name ≡ false) }
     {
         self.expect(Terminal::AtomicInt)?;
         self.expect(Terminal::Star)?;
         let position = self.position();
         let name = self.name()?;
-        if is_parameter(earlier, &name) {
+        if earlier.contains(&name) {
             return Err(SyntaxFault::Syntax(position));
         }
         Ok(Parameter {
@@ -264,11 +268,19 @@ impl<'a> Reader<'a> {
         })
     }
 
-    #[tactic(auto, unfolding(crate::specs::Reading::parameters_more))]
-    fn parameter_into(&mut self, parameters: &mut Vec<Parameter>) -> Result<(), SyntaxFault>
-        ensures { Gives (λ _. parameters.new.items) result self.new.rest.now (parameters_more parameters.old.items self.old.rest.now) }
+    /// Adds the next parameter, and its name.
+    #[tactic(auto, unfolding(crate::specs::Reading::parameters_more), using(crate::proofs::Lists::names_push))]
+    fn parameter_into(
+        &mut self,
+        parameters: &mut Vec<Parameter>,
+        names: &mut IndexSet<Name>,
+    ) -> Result<(), SyntaxFault>
+        requires { map (λ p. p.name) parameters.old.items ≡ names.old.keys }
+        ensures gives { Gives (λ _. parameters.new.items) result self.new.rest.now (parameters_more parameters.old.items self.old.rest.now) }
+        ensures names { OnOk result (map (λ p. p.name) parameters.new.items ≡ names.new.keys) }
     {
-        let parameter = self.parameter(parameters.as_slice())?;
+        let parameter = self.parameter(names)?;
+        names.insert(parameter.name.copy()?)?;
         parameters.push(parameter)?;
         Ok(())
     }
@@ -279,9 +291,10 @@ impl<'a> Reader<'a> {
         ensures { Gives (λ v. v.items) result self.new.rest.now (parameters_at self.old.rest.now) }
     {
         let mut parameters = Vec::new(self.alloc);
-        self.parameter_into(&mut parameters)?;
+        let mut names = IndexSet::new(self.alloc);
+        self.parameter_into(&mut parameters, &mut names)?;
         while self.take(Terminal::Comma) {
-            self.parameter_into(&mut parameters)?;
+            self.parameter_into(&mut parameters, &mut names)?;
         }
         Ok(parameters)
     }
