@@ -2,11 +2,13 @@
 #![tactic(auto)]
 
 mod fault;
+mod initial;
 pub mod laws;
 mod unroll;
 
 pub use fault::{MOST_RUNS, RunFault};
-pub use unroll::{initial_value, runs};
+pub use initial::initial_value;
+pub use unroll::runs;
 
 #[cfg(test)]
 mod tests;

@@ -2,7 +2,6 @@
 
 ghost use Rattle.std.specs.Prelude.{◌≡◌, ◌++◌, ◌<◌, ◌≤◌, ◌∷◌, [], length, map, IfOk, IfErr, OnOk, None, Some, slice_index_or, slice_set};
 ghost use Rattle.listings.specs.Lists.{Lists};
-ghost use Rattle.conditions.specs.States.{value_at};
 ghost use Rattle.litmus_c.specs.Values.{values_of};
 ghost use Rattle.litmus_c.specs.Tree.{action_of, right_of, declared_of, step_of};
 ghost use Rattle.c11_threads.specs.Runs.{IsRun, place_of, read, write, initial_registers, thread_of};
@@ -10,7 +9,7 @@ ghost use Rattle.c11_threads.specs.Unrolled.{followed, extended, runs_in_turn, g
 ghost use Rattle.c11_threads.specs.Faults.{IsFaultAt, IsRunFault};
 
 use crate::fault::{MOST_RUNS, RunFault};
-use conditions::{Binding, Place};
+use crate::initial::initial_registers;
 use events::{Access, Event, Order, Run, no_places};
 use litmus_c::{Call, Declarator, Expression, RightSide, Statement, Test};
 use std::alloc::{AllocError, Global};
@@ -44,18 +43,6 @@ fn place_of(names: &[Name], name: &Name) -> usize
         }
     }
     names.len()
-}
-
-/// The value that an initial state gives a place.
-pub fn initial_value(initial: &[Binding], place: &Place) -> u32
-    ensures { result ≡ value_at initial.now place.now }
-{
-    for binding in initial {
-        if binding.place == *place {
-            return binding.value;
-        }
-    }
-    0
 }
 
 /// Gives a value to a register, if there is one to give it to.
@@ -313,19 +300,6 @@ impl Setting<'_> {
         }
         Ok(())
     }
-}
-
-/// The registers of a thread at its start.
-fn initial_registers(alloc: Global, test: &Test, thread: usize) -> Result<Vec<u32>, AllocError>
-    requires { thread < length test.now.threads }
-    ensures { IfOk result (λ v. v.items ≡ initial_registers test.now thread) }
-{
-    let mut registers = Vec::new(alloc);
-    for name in test.threads()[thread].registers() {
-        let place = Place::Reg(thread, name.copy()?);
-        registers.push(initial_value(test.initial(), &place))?;
-    }
-    Ok(registers)
 }
 
 /// What the statements of a thread stand in.
