@@ -1,10 +1,8 @@
--- What is left of a text is its end, and a fault there is a fault of the text.
+-- What is left of a text is its end.
 use Rattle.std.proofs.Common.{◌≡◌, ℕ, ◌+◌, ◌-◌, List, [], ◌++◌, length, take, drop, sym, refl, ap, ◌∙◌, subst, arith, inl, inr, length-drop, take-append-drop}
 use Rattle.std.proofs.lemmas.Bool.{cases_lt}
 use Rattle.std.proofs.lemmas.List.{drop-drop, drop_all, take_all, append-nil}
-use Rattle.wb_text.specs.declared.fault.TextFault.{TextFault}
 use Rattle.wb_text.specs.declared.token.Dialect.{Dialect}
-use Rattle.wb_text.specs.Faults.{HasCause, StandsAt}
 use Rattle.wb_text.specs.Gaps.{IsNested, closed, nested, other, IsComment, nesting, line, block, IsGap, none, blank, comment}
 use Rattle.wb_text.specs.Tokens.{IsInformation, nothing, commented, quoted, plain}
 
@@ -32,9 +30,6 @@ pub gap_tail : {d : Dialect} {text rest : List ℕ} → IsGap d text rest → Is
 gap_tail none = (0, refl)
 gap_tail {text = t} {rest} (blank n g) = tail_trans t (drop 1 t) rest (1, refl) (gap_tail g)
 gap_tail {text = t} {rest} (comment {behind = b} c g) = tail_trans t b rest (comment_tail c) (gap_tail g)
-
-pub cause_behind : (d : Dialect) (text rest : List ℕ) (fault : TextFault) → IsTail text rest → HasCause d rest fault → HasCause d text fault
-cause_behind d text rest fault p h = (p.0 + h.0, subst (λ l. StandsAt d l fault) (ap (drop h.0) p.1 ∙ drop-drop h.0 p.0 text) h.1)
 
 -- a text is what was passed, and what is left
 pub tail_split : (text rest : List ℕ) → IsTail text rest → text ≡ take (length text - length rest) text ++ rest
