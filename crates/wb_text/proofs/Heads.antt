@@ -5,22 +5,23 @@ use Rattle.std.specs.Borrow.{Bor}
 use Rattle.memchr.specs.Find.{IsFirstByte, is_byte}
 use Rattle.std.proofs.lemmas.Bool.{false≢true}
 use Rattle.wb_text.specs.declared.fault.TextFault.{TextFault}
-use Rattle.wb_text.specs.declared.fault.TextFault.TheVariants.{NotAscii, OpenComment, TooLong, NoMemory}
+use Rattle.wb_text.specs.declared.fault.TextFault.TheVariants.{OpenComment, TooLong, NoMemory}
 use Rattle.wb_text.specs.declared.token.Dialect.{Dialect}
 use Rattle.wb_text.specs.declared.token.Dialect.TheVariants.{Litmus, Cat}
 use Rattle.wb_text.specs.declared.token.Token.{Token}
 use Rattle.wb_text.specs.declared.token.TokenKind.{TokenKind}
 use Rattle.wb_text.specs.declared.token.TokenKind.TheVariants.{Word}
 use Rattle.wb_text.specs.Bytes.{is_blank}
-use Rattle.wb_text.specs.Faults.{IsNotAscii, IsInformationFault, HasTitleFault, bad_name, behind_name, with_no_name, HasHeadFault, before_language, bad_language, behind_language, HasCause, out_of_memory, in_head}
+use Rattle.wb_text.specs.Faults.{IsInformationFault, HasTitleFault, behind_name, with_no_name, HasHeadFault, behind_language, HasCause, out_of_memory, in_head}
 use Rattle.wb_text.specs.Gaps.{IsQuoted, IsComment, IsGap, none, blank, comment, opens_comment, IsOpenComment, IsGapEnd}
 use Rattle.wb_text.specs.Tokens.{IsLongest, BeginsToken, BeginsRun, IsSameLine, IsInformation, nothing, commented, quoted, plain, IsBody, IsTitle, named, nameless, IsHead, cat, empty, words, token_at}
 use Rattle.std.proofs.lemmas.List.{take_rest, take_at, get_or_default, append-nil}
-use Rattle.wb_text.proofs.Texts.{first, first_blank, not_true, range_is}
+use Rattle.wb_text.proofs.Texts.{first, first_blank, not_true, not_false, range_is}
 use Rattle.wb_text.proofs.Lexemes.{begins_with_byte}
 use Rattle.wb_text.proofs.Tails.{tail_split, gap_tail}
-use Rattle.wb_text.proofs.Spelling.{starts_at, starts_no_blank, not_false, longest_pos, longest_once}
-use Rattle.wb_text.proofs.Gaps.{IsStuck, stuck_at_end, stuck_at_open, gap_once, comment_once, comment_opens, comment_shorter, quoted_once, opens_no_blank, opens_nonempty, opens_first, blank_nonempty}
+use Rattle.wb_text.proofs.Quotes.{quoted_once}
+use Rattle.wb_text.proofs.Spelling.{starts_at, starts_no_blank, longest_pos, longest_once}
+use Rattle.wb_text.proofs.Gaps.{IsStuck, stuck_at_end, stuck_at_open, gap_once, comment_once, comment_opens, comment_shorter, opens_no_blank, opens_nonempty, opens_first, blank_nonempty}
 
 both : {b : Bool} → b ≡ true → b ≡ false → ⊥
 both e f = false≢true (sym f ∙ e)

@@ -1,5 +1,5 @@
 -- Which token a text begins with.
-use Rattle.std.proofs.Common.{◌≡◌, ◌≢◌, ℕ, suc, ◌+◌, ◌-◌, ◌<◌, ◌≤◌, Bool, true, false, List, [], ◌∷◌, ◌++◌, length, get_or, take, drop, sym, refl, ap, ◌∙◌, subst, arith, length-take, length-drop, get_or-take, get_or-drop, add-zero, inl, inr}
+use Rattle.std.proofs.Common.{◌≡◌, ◌≢◌, ℕ, suc, ◌+◌, ◌-◌, ◌<◌, ◌≤◌, Bool, true, false, List, [], ◌∷◌, ◌++◌, length, get_or, take, drop, sym, refl, ap, ◌∙◌, subst, arith, length-take, length-drop, get_or-take, inl, inr}
 use Rattle.std.specs.Prelude.{All}
 use Rattle.std.specs.List.{Contains, prefix_len}
 use Rattle.std.proofs.lemmas.Bool.{false≢true, cases_lt}
@@ -16,6 +16,7 @@ use Rattle.wb_text.specs.Gaps.{IsQuoted, opens_comment}
 use Rattle.wb_text.specs.Numbers.{IsDecimal, decimal_value}
 use Rattle.wb_text.specs.Signs.{signs}
 use Rattle.wb_text.specs.Tokens.{Spells, IsLongest, BeginsToken}
+use Rattle.wb_text.proofs.Quotes.{quote_length}
 use Rattle.wb_text.proofs.Texts.{first, first_blank, range_is}
 use Rattle.wb_text.proofs.Spelling.{Starts, starts_at, spells_nonempty, longest_once, number_longest, name_longest, word_longest, sign_longest, sign_like, quoted_longest, quoted_closed, digit_ascii, part_ascii, run_all, run_length}
 
@@ -154,7 +155,7 @@ module _ (text : List ℕ) (l : 0 < length text) (e : first text ≡ 34) where
   pub quoted_slice : (rest : List ℕ) → IsQuoted (take (length text - 1) (drop 1 text)) rest → (d : Dialect) → IsLongest d Quoted text (length text - length rest)
   quoted_slice rest q d =
       let p : IsQuoted (drop 1 text) rest = subst (λ u. IsQuoted u rest) (range_is 1 text) q in
-      let n : p.place + 2 ≡ length text - length rest = omega (arith, p.first.0.high, ap length p.after, length-drop (p.place + 1) (drop 1 text), length-drop 1 text) in
+      let n : length p.inside + 2 ≡ length text - length rest = omega (arith, quote_length p, length-drop 1 text) in
       subst (λ u. IsLongest d Quoted u (length text - length rest)) (sym split) (subst (λ m. IsLongest d Quoted (34 ∷ drop 1 text) m) n (quoted_longest d (drop 1 text) rest p))
 
   pub quoted_not_ascii : (n : ℕ) → ((d : Dialect) → IsLongest d Quoted text n) → (i : ℕ) → 128 ≤ get_or (take n text) i 0 → (d : Dialect) → NoToken d text
