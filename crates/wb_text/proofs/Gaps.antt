@@ -1,15 +1,14 @@
 -- Comments end at one place, and gaps lead to one.
-use Rattle.std.proofs.Common.{◌≡◌, ℕ, ◌+◌, ◌-◌, ◌<◌, ◌≤◌, Bool, true, false, ◌⊎◌, inl, inr, List, [], ◌∷◌, ◌++◌, length, get_or, take, drop, sym, refl, ap, ◌∙◌, subst, arith, length-drop}
-use Rattle.std.specs.Prelude.{◌||◌, codes, Some, nat_eq}
+use Rattle.std.proofs.Common.{◌≡◌, ℕ, ◌-◌, ◌<◌, ◌≤◌, Bool, true, false, ◌⊎◌, inl, inr, List, [], ◌∷◌, ◌++◌, length, get_or, take, drop, sym, refl, ap, ◌∙◌, subst, arith, length-drop}
+use Rattle.std.specs.Prelude.{◌||◌, codes, nat_eq}
 use Rattle.std.specs.List.{position_or_len}
 use Rattle.std.proofs.lemmas.List.{take_rest}
-use Rattle.std.proofs.lemmas.Bool.{false≢true, cases_lt}
-use Rattle.memchr.specs.Find.{IsFirst, OccursAt, Passes, is_byte}
+use Rattle.std.proofs.lemmas.Bool.{false≢true}
 use Rattle.wb_text.specs.declared.token.Dialect.{Dialect}
 use Rattle.wb_text.specs.declared.token.Dialect.TheVariants.{Litmus, Cat}
 use Rattle.wb_text.specs.Bytes.{begins_blank}
 use Rattle.wb_text.specs.Signs.{begins_with}
-use Rattle.wb_text.specs.Gaps.{IsNested, closed, nested, other, IsLine, IsBlock, IsQuoted, IsComment, nesting, line, block, IsGap, none, blank, comment, opens_comment, IsOpenComment, IsGapEnd}
+use Rattle.wb_text.specs.Gaps.{IsNested, closed, nested, other, IsLine, IsBlock, block_closed, block_goes_on, IsComment, nesting, line, block, IsGap, none, blank, comment, opens_comment, IsOpenComment, IsGapEnd}
 use Rattle.wb_text.proofs.Texts.{first, either_or, begins_true, begins_is, range_is}
 
 -- two texts that are one begin with one byte
@@ -62,21 +61,15 @@ nested_shorter {text = t} (other l n m p) = omega (arith, length-drop 1 t, neste
 
 -- Comments.
 
-first_place : (P : ℕ → Type 0) (n k l : ℕ) → IsFirst P 0 n (Some k) → IsFirst P 0 n (Some l) → k ≡ l
-first_place P n k l h g =
-    elim (cases_lt k l) [
-      | inl less ↦ absurd (g.0.before k (omega arith) less h.1)
-      | inr more ↦ elim (cases_lt l k) [
-        | inl less ↦ absurd (h.0.before l (omega arith) less g.1)
-        | inr same ↦ omega arith
-      ]
-    ]
-
 block_once : {text a b : List ℕ} → IsBlock text a → IsBlock text b → a ≡ b
-block_once {text} p q = p.after ∙ ap (λ k. drop (k + 2) text) (first_place (OccursAt text (codes "*/")) (length text + 1) p.place q.place p.first q.first) ∙ sym q.after
+block_once (block_closed e) (block_closed f) = same_behind (sym e ∙ f)
+block_once (block_closed {rest = r} e) (block_goes_on l n q) = absurd (not_both (begins (codes "*/") r e) n)
+block_once (block_goes_on l n p) (block_closed {rest = r} f) = absurd (not_both (begins (codes "*/") r f) n)
+block_once (block_goes_on l n p) (block_goes_on m o q) = block_once p q
 
-pub quoted_once : {text a b : List ℕ} → IsQuoted text a → IsQuoted text b → a ≡ b
-quoted_once {text} p q = p.after ∙ ap (λ k. drop (k + 1) text) (first_place (Passes (is_byte 34) text) (length text) p.place q.place p.first q.first) ∙ sym q.after
+pub block_shorter : {text rest : List ℕ} → IsBlock text rest → length rest < length text
+block_shorter (block_closed e) = omega (arith, ap length e)
+block_shorter {text = t} (block_goes_on l n p) = omega (arith, length-drop 1 t, block_shorter p)
 
 module _ {d : Dialect} where
   pub comment_once : {text a b : List ℕ} → IsComment d text a → IsComment d text b → a ≡ b
@@ -93,7 +86,7 @@ module _ {d : Dialect} where
   pub comment_shorter : {text rest : List ℕ} → IsComment d text rest → length rest < length text
   comment_shorter (nesting e p) = omega (arith, ap length e, nested_shorter p)
   comment_shorter (line {inside = i} e p) = omega (arith, ap length e, ap length p, length-drop (position_or_len (λ b. nat_eq b 10) i) i)
-  comment_shorter (block {inside = i} _ e p) = omega (arith, ap length e, ap length p.after, length-drop (p.place + 2) i)
+  comment_shorter (block _ e p) = omega (arith, ap length e, block_shorter p)
 
 pub comment_opens : (d : Dialect) {text rest : List ℕ} → IsComment d text rest → opens_comment d text ≡ true
 comment_opens Litmus (nesting e p) = subst (λ l. opens_comment Litmus l ≡ true) (sym e) refl

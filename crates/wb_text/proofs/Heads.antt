@@ -5,22 +5,23 @@ use Rattle.std.specs.Borrow.{Bor}
 use Rattle.memchr.specs.Find.{IsFirstByte, is_byte}
 use Rattle.std.proofs.lemmas.Bool.{false≢true}
 use Rattle.wb_text.specs.declared.fault.TextFault.{TextFault}
-use Rattle.wb_text.specs.declared.fault.TextFault.TheVariants.{NoMemory}
+use Rattle.wb_text.specs.declared.fault.TextFault.TheVariants.{OpenComment, TooLong, NoMemory}
 use Rattle.wb_text.specs.declared.token.Dialect.{Dialect}
 use Rattle.wb_text.specs.declared.token.Dialect.TheVariants.{Litmus, Cat}
 use Rattle.wb_text.specs.declared.token.Token.{Token}
 use Rattle.wb_text.specs.declared.token.TokenKind.{TokenKind}
 use Rattle.wb_text.specs.declared.token.TokenKind.TheVariants.{Word}
 use Rattle.wb_text.specs.Bytes.{is_blank}
-use Rattle.wb_text.specs.Faults.{HasCause}
+use Rattle.wb_text.specs.Faults.{IsInformationFault, HasTitleFault, behind_name, with_no_name, HasHeadFault, behind_language, HasCause, out_of_memory, in_head}
 use Rattle.wb_text.specs.Gaps.{IsQuoted, IsComment, IsGap, none, blank, comment, opens_comment, IsOpenComment, IsGapEnd}
 use Rattle.wb_text.specs.Tokens.{IsLongest, BeginsToken, BeginsRun, IsSameLine, IsInformation, nothing, commented, quoted, plain, IsBody, IsTitle, named, nameless, IsHead, cat, empty, words, token_at}
 use Rattle.std.proofs.lemmas.List.{take_rest, take_at, get_or_default, append-nil}
-use Rattle.wb_text.proofs.Texts.{first, first_blank, not_true, range_is}
+use Rattle.wb_text.proofs.Texts.{first, first_blank, not_true, not_false, range_is}
 use Rattle.wb_text.proofs.Lexemes.{begins_with_byte}
-use Rattle.wb_text.proofs.Tails.{IsTail, tail_split, gap_tail, cause_behind}
-use Rattle.wb_text.proofs.Spelling.{starts_at, starts_no_blank, not_false, longest_pos, longest_once}
-use Rattle.wb_text.proofs.Gaps.{IsStuck, stuck_at_end, stuck_at_open, gap_once, comment_once, comment_opens, comment_shorter, quoted_once, opens_no_blank, opens_nonempty, opens_first, blank_nonempty}
+use Rattle.wb_text.proofs.Tails.{tail_split, gap_tail}
+use Rattle.wb_text.proofs.Quotes.{quoted_once}
+use Rattle.wb_text.proofs.Spelling.{starts_at, starts_no_blank, longest_pos, longest_once}
+use Rattle.wb_text.proofs.Gaps.{IsStuck, stuck_at_end, stuck_at_open, gap_once, comment_once, comment_opens, comment_shorter, opens_no_blank, opens_nonempty, opens_first, blank_nonempty}
 
 both : {b : Bool} → b ≡ true → b ≡ false → ⊥
 both e f = false≢true (sym f ∙ e)
@@ -250,10 +251,6 @@ module _ {text : List ℕ} (next : List ℕ) (g : IsGap Litmus text next) (z : I
 
 -- What a head gives, as the code puts it together.
 
-pub cause_err_behind : (d : Dialect) (text rest : List ℕ) (r : Result (Bor (List ℕ)) TextFault) → IsTail text rest → IfErr r (λ e. HasCause d rest e) → IfErr r (λ e. HasCause d text e)
-cause_err_behind d text rest (Ok x) t h = tt
-cause_err_behind d text rest (Err e) t h = cause_behind d text rest e t h
-
 module _ (total : ℕ) (text : List ℕ) (old new : List Token) where
   pub title_nameless : (r : Result (Bor (List ℕ)) TextFault) → ((name : List ℕ) → IsSameLine text name → BeginsRun name → ⊥) → IfOk r (λ rest. IsInformation text rest.now × IsBody rest.now) → IfOk r (λ rest. (names : List Token) × IsTitle total text names rest.now × (old ≡ old ++ names))
   title_nameless (Ok rest) f h = ([], nameless f h.0 h.1, sym (append-nil old))
@@ -283,12 +280,55 @@ module _ (total : ℕ) (text : List ℕ) (old new : List Token) where
   head_err (Ok rest) language n g b h = tt
   head_err (Err e) language n g b h = λ m ts rest t. head_none_title g b (λ us z i. h m us z (subst (λ l. IsTitle total l us z) (sym (range_is n language)) i)) t
 
--- the end of what the code goes on with
-pub range_tail : (n : ℕ) (text : List ℕ) → IsTail text (take (length text - n) (drop n text))
-range_tail n text = (n, range_is n text)
-
 pub head_void : {total : ℕ} {text next : List ℕ} → IsGap Litmus text next → next ≡ [] → IsHead total Litmus text [] next
 head_void {total} {text} {next} g e = subst (λ l. IsHead total Litmus text [] l) (sym e) (empty (subst (λ l. IsGap Litmus text l) e g))
 
 pub head_cat : {total : ℕ} {d : Dialect} {text : List ℕ} → d ≡ Cat → IsHead total d text [] text
 head_cat {total} {d} {text} e = subst (λ x. IsHead total x text [] text) (sym e) cat
+
+-- Faults in a head, as the code meets them.
+
+pub title_open : {text mid : List ℕ} → IsGap Litmus text mid → IsOpenComment Litmus mid → HasTitleFault text OpenComment
+title_open {mid = m} g o =
+    with_no_name
+    (λ name s run. both (subst (λ l. opens_comment Litmus l ≡ true) (gap_once g (stuck_at_open Litmus m o) s.gap (run_stuck run)) o.opens) run.no_comment)
+    (gap_information g)
+    o
+
+-- a fault in the information that text goes on with
+abbrev pub InformationFails : List ℕ → TextFault → Type 0
+InformationFails text fault = (rest : List ℕ) × IsInformation text rest × IsInformationFault rest fault
+
+module _ (text : List ℕ) where
+  pub title_cause_nameless : (r : Result (Bor (List ℕ)) TextFault) → ((name : List ℕ) → IsSameLine text name → BeginsRun name → ⊥) → IfErr r (λ e. InformationFails text e) → IfErr r (λ e. e ≢ NoMemory → HasTitleFault text e)
+  title_cause_nameless (Ok x) f h = tt
+  title_cause_nameless (Err e) f h = λ m. with_no_name f h.1 h.2
+
+  pub title_cause_named : (r : Result (Bor (List ℕ)) TextFault) (name : List ℕ) (n : ℕ) → IsSameLine text name → BeginsToken Litmus Word name n → IfErr r (λ e. InformationFails (take (length name - n) (drop n name)) e) → IfErr r (λ e. e ≢ NoMemory → HasTitleFault text e)
+  title_cause_named (Ok x) name n s b h = tt
+  title_cause_named (Err e) name n s b h = λ m. behind_name s b (subst (λ l. IsInformation l h.0) (range_is n name) h.1) h.2
+
+  pub head_cause_title : (r : Result (Bor (List ℕ)) TextFault) (language : List ℕ) (n : ℕ) → IsGap Litmus text language → BeginsToken Litmus Word language n → IfErr r (λ e. e ≢ NoMemory → HasTitleFault (take (length language - n) (drop n language)) e) → IfErr r (λ e. e ≢ NoMemory → HasHeadFault text e)
+  head_cause_title (Ok x) language n g b h = tt
+  head_cause_title (Err e) language n g b h = λ m. behind_language g b (subst (λ l. HasTitleFault l e) (range_is n language) (h m))
+
+  pub head_cause_litmus : (d : Dialect) (r : Result (Bor (List ℕ)) TextFault) → d ≡ Litmus → IfErr r (λ e. e ≢ NoMemory → HasHeadFault text e) → IfErr r (λ e. e ≢ NoMemory → (d ≡ Litmus) × HasHeadFault text e)
+  head_cause_litmus d (Ok x) is h = tt
+  head_cause_litmus d (Err e) is h = λ m. (is, h m)
+
+title_not_long : {text : List ℕ} → HasTitleFault text TooLong → ⊥
+title_not_long (behind_name s b i f) = f
+title_not_long (with_no_name s i f) = f
+
+head_not_long : {text : List ℕ} → HasHeadFault text TooLong → ⊥
+head_not_long (behind_language g b t) = title_not_long t
+
+-- no head is too long
+pub head_short : {d : Dialect} {text : List ℕ} (e : TextFault) → (e ≢ NoMemory → (d ≡ Litmus) × HasHeadFault text e) → e ≢ TooLong
+head_short {text = text} e h long =
+    let other : e ≢ NoMemory = λ m. cc in
+    head_not_long (subst (HasHeadFault text) long (h other).1)
+
+pub head_cause : {d : Dialect} {text : List ℕ} (e : TextFault) → (e ≢ NoMemory → (d ≡ Litmus) × HasHeadFault text e) → HasCause d text e
+head_cause NoMemory h = out_of_memory
+head_cause e h = let p = h (λ m. cc) in in_head p.0 p.1

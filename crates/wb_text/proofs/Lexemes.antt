@@ -1,21 +1,22 @@
 -- Which token a text begins with.
-use Rattle.std.proofs.Common.{◌≡◌, ◌≢◌, ℕ, suc, ◌+◌, ◌-◌, ◌<◌, ◌≤◌, Bool, true, false, List, [], ◌∷◌, ◌++◌, length, get_or, take, drop, sym, refl, ap, ◌∙◌, subst, arith, length-take, length-drop, get_or-take, get_or-drop, add-zero, inl, inr}
+use Rattle.std.proofs.Common.{◌≡◌, ◌≢◌, ℕ, suc, ◌+◌, ◌-◌, ◌<◌, ◌≤◌, Bool, true, false, List, [], ◌∷◌, ◌++◌, length, get_or, take, drop, sym, refl, ap, ◌∙◌, subst, arith, length-take, length-drop, get_or-take, inl, inr}
 use Rattle.std.specs.Prelude.{All}
 use Rattle.std.specs.List.{Contains, prefix_len}
 use Rattle.std.proofs.lemmas.Bool.{false≢true, cases_lt}
 use Rattle.std.proofs.lemmas.List.{get_or_past, get_or_default}
-use Rattle.wb_text.specs.declared.fault.TextFault.TheVariants.{BadByte, NotAscii, NumberTooBig, OpenString}
+use Rattle.wb_text.specs.declared.fault.TextFault.TheVariants.{BadByte, NumberTooBig, OpenString}
 use Rattle.wb_text.specs.declared.byte.Class.TheVariants as Class
 use Rattle.wb_text.specs.declared.token.Dialect.{Dialect}
 use Rattle.wb_text.specs.declared.token.Dialect.TheVariants.{Litmus}
 use Rattle.wb_text.specs.declared.token.TokenKind.{TokenKind}
 use Rattle.wb_text.specs.declared.token.TokenKind.TheVariants.{Word, Name, Number, Quoted, Sign}
 use Rattle.wb_text.specs.Bytes.{begins_blank, is_of, is_digit, is_name_start, is_name_part}
-use Rattle.wb_text.specs.Faults.{HasCause, NoToken}
+use Rattle.wb_text.specs.Faults.{IsTokenFault, IsNotAscii, NoToken}
 use Rattle.wb_text.specs.Gaps.{IsQuoted, opens_comment}
 use Rattle.wb_text.specs.Numbers.{IsDecimal, decimal_value}
 use Rattle.wb_text.specs.Signs.{signs}
 use Rattle.wb_text.specs.Tokens.{Spells, IsLongest, BeginsToken}
+use Rattle.wb_text.proofs.Quotes.{quote_length}
 use Rattle.wb_text.proofs.Texts.{first, first_blank, range_is}
 use Rattle.wb_text.proofs.Spelling.{Starts, starts_at, spells_nonempty, longest_once, number_longest, name_longest, word_longest, sign_longest, sign_like, quoted_longest, quoted_closed, digit_ascii, part_ascii, run_all, run_length}
 
@@ -73,10 +74,10 @@ module _ (d : Dialect) (text : List ℕ) (l : 0 < length text) where
       let small = b.small is in
       omega (arith, ap (λ m. decimal_value (take m text)) same)
 
-  pub number_cause : is_digit (first text) ≡ true → 2147483647 < decimal_value (take (prefix_len is_digit text) text) → HasCause d text NumberTooBig
+  pub number_cause : is_digit (first text) ≡ true → 2147483647 < decimal_value (take (prefix_len is_digit text) text) → IsTokenFault d text NumberTooBig
   number_cause e big =
       let s = number_longest d text l e in
-      (0, record { len = prefix_len is_digit text; within = s.within; digits = s.spelled; big = big })
+      record { len = prefix_len is_digit text; within = s.within; digits = s.spelled; big = big }
 
   -- names
   pub name_token : (n : ℕ) → opens_comment d text ≡ false → is_name_start (first text) ≡ true → n ≡ prefix_len (is_name_part d) text → (Name ≢ Word) × BeginsToken d Name text n
@@ -99,8 +100,8 @@ module _ (d : Dialect) (text : List ℕ) (l : 0 < length text) where
       let c : Spells d Sign (take n text) = subst (λ k. Spells d k (take n text)) is h in
       omega (arith, longest n fits c, spells_nonempty d kind (take n text) h, length-take n text)
 
-  pub sign_cause : is_digit (first text) ≡ false → is_name_start (first text) ≡ false → (first text ≡ 34 → ⊥) → ((m : ℕ) → m ≤ length text → Contains (signs d) (take m text) → m ≤ 0) → first text ≤ 127 → HasCause d text BadByte
-  sign_cause e f g longest small = (0, record { nonempty = l; ascii = small; none = sign_none e f g longest })
+  pub sign_cause : is_digit (first text) ≡ false → is_name_start (first text) ≡ false → (first text ≡ 34 → ⊥) → ((m : ℕ) → m ≤ length text → Contains (signs d) (take m text) → m ≤ 0) → first text ≤ 127 → IsTokenFault d text BadByte
+  sign_cause e f g longest small = record { nonempty = l; ascii = small; none = sign_none e f g longest }
 
 -- a longest slice that is not ASCII
 pub not_ascii : {d : Dialect} {kind : TokenKind} {text : List ℕ} {n m : ℕ} → IsLongest d kind text n → (i : ℕ) → 128 ≤ get_or (take n text) i 0 → BeginsToken d kind text m → ⊥
@@ -112,13 +113,13 @@ not_ascii {text = text} {n} {m} longest i above b =
       | inr past ↦ omega (arith, get_or_past (take m text) i 0 past)
     ]
 
-pub not_ascii_cause : (d : Dialect) (text : List ℕ) (n i : ℕ) → 128 ≤ get_or (take n text) i 0 → HasCause d text NotAscii
-not_ascii_cause d text n i above =
+pub not_ascii_at : {d : Dialect} {kind : TokenKind} {text : List ℕ} {n : ℕ} → IsLongest d kind text n → (i : ℕ) → 128 ≤ get_or (take n text) i 0 → IsNotAscii d kind text
+not_ascii_at {text = text} {n} longest i above =
     elim (cases_lt i (length (take n text))) [
       | inl inside ↦
-          let here : get_or (drop i text) 0 0 ≡ get_or text i 0 = get_or-drop i text 0 0 ∙ ap (λ k. get_or text k 0) (add-zero i) in
-          let front : get_or (take n text) i 0 ≡ get_or text i 0 = get_or-take n text i 0 (omega (arith, length-take n text)) in
-          (i, record { nonempty = omega (arith, length-drop i text, length-take n text); above = omega arith })
+          let less : i < n = omega (arith, length-take n text) in
+          let front : get_or (take n text) i 0 ≡ get_or text i 0 = get_or-take n text i 0 less in
+          record { len = n; slice = longest; place = i; inside = less; above = omega arith }
       | inr past ↦ absurd (omega (arith, get_or_past (take n text) i 0 past))
     ]
 
@@ -148,13 +149,13 @@ module _ (text : List ℕ) (l : 0 < length text) (e : first text ≡ 34) where
       let spelled : take n (34 ∷ t) ≡ 34 ∷ (h.0 ++ 34 ∷ []) = ap (take n) (sym split) ∙ h.1 in
       never _ (subst (λ u. IsQuoted u (drop (length h.0 + 1) t)) (sym (range_is 1 text)) (quoted_closed t n h.0 fits spelled h.2))
 
-  pub quoted_open : ((rest : List ℕ) → IsQuoted (take (length text - 1) (drop 1 text)) rest → ⊥) → (d : Dialect) → HasCause d text OpenString
-  quoted_open never d = (0, record { nonempty = l; quote = e; unclosed = λ rest q. never rest (subst (λ u. IsQuoted u rest) (sym (range_is 1 text)) q) })
+  pub quoted_open : ((rest : List ℕ) → IsQuoted (take (length text - 1) (drop 1 text)) rest → ⊥) → (d : Dialect) → IsTokenFault d text OpenString
+  quoted_open never d = record { nonempty = l; quote = e; unclosed = λ rest q. never rest (subst (λ u. IsQuoted u rest) (sym (range_is 1 text)) q) }
 
   pub quoted_slice : (rest : List ℕ) → IsQuoted (take (length text - 1) (drop 1 text)) rest → (d : Dialect) → IsLongest d Quoted text (length text - length rest)
   quoted_slice rest q d =
       let p : IsQuoted (drop 1 text) rest = subst (λ u. IsQuoted u rest) (range_is 1 text) q in
-      let n : p.place + 2 ≡ length text - length rest = omega (arith, p.first.0.high, ap length p.after, length-drop (p.place + 1) (drop 1 text), length-drop 1 text) in
+      let n : length p.inside + 2 ≡ length text - length rest = omega (arith, quote_length p, length-drop 1 text) in
       subst (λ u. IsLongest d Quoted u (length text - length rest)) (sym split) (subst (λ m. IsLongest d Quoted (34 ∷ drop 1 text) m) n (quoted_longest d (drop 1 text) rest p))
 
   pub quoted_not_ascii : (n : ℕ) → ((d : Dialect) → IsLongest d Quoted text n) → (i : ℕ) → 128 ≤ get_or (take n text) i 0 → (d : Dialect) → NoToken d text

@@ -1,9 +1,11 @@
+pub mod Blocks
 pub mod Gaps
 pub mod Heads
 pub mod Lexemes
 pub mod Lists
 pub mod Moves
 pub mod Nesting
+pub mod Quotes
 pub mod Runs
 pub mod Signs
 pub mod Spelling

@@ -3,12 +3,11 @@ use Rattle.std.proofs.Common.{◌≡◌, ◌≢◌, ℕ, zero, suc, ◌-◌, ◌
 use Rattle.std.specs.Prelude.{All}
 use Rattle.std.proofs.lemmas.Bool.{false≢true}
 use Rattle.std.proofs.lemmas.List.{append-nil, take_rest}
-use Rattle.wb_text.specs.declared.fault.TextFault.TheVariants.{TooLong}
 use Rattle.wb_text.specs.declared.token.Dialect.{Dialect}
 use Rattle.wb_text.specs.declared.token.Token.{Token}
 use Rattle.wb_text.specs.declared.token.TokenKind.{TokenKind}
 use Rattle.wb_text.specs.declared.token.TokenKind.TheVariants.{Word, Name, Number, Quoted, Sign}
-use Rattle.wb_text.specs.Faults.{HasCause, NoToken}
+use Rattle.wb_text.specs.Faults.{NoToken}
 use Rattle.wb_text.specs.Gaps.{IsGap, opens_comment, IsOpenComment, IsGapEnd}
 use Rattle.wb_text.specs.Tokens.{IsWithin, IsLongest, BeginsToken, HasTokens, no_token, token, IsTitle, named, nameless, IsHead, cat, empty, words, IsTokenList, token_at}
 use Rattle.wb_text.proofs.Gaps.{IsStuck, stuck_at_end, stuck_at_open, gap_once, gap_length, comment_shorter, opens_nonempty}
@@ -183,9 +182,6 @@ module _ {d : Dialect} {text : List ℕ} {ts : List Token} {rest : List ℕ} (s 
   pub scanned_within : All (IsWithin (length text)) ts
   scanned_within =
       subst (All (IsWithin (length text))) (sym s.parts) (All-append (IsWithin (length text)) s.words s.others (head_within (omega arith) s.head) (tokens_within (tail_length text s.body (head_tail s.head)) s.tokens))
-
-pub too_long_cause : (d : Dialect) (text : List ℕ) → HasCause d text TooLong → 65536 < length text
-too_long_cause d text h = omega (arith, h.1, length-drop h.0 text)
 
 pub token_length : {d : Dialect} {kind : TokenKind} {text : List ℕ} {n : ℕ} → BeginsToken d kind text n → (0 < n) × (n ≤ length text)
 token_length b = (longest_pos b.slice, b.slice.within)

@@ -2,7 +2,7 @@
 use Rattle.std.proofs.Common.{ℕ, ◌+◌, ◌-◌, ◌≤◌, List, [], ◌++◌, length, take, drop, sym, refl, ap, ◌∙◌, append_assoc, take-append-drop, arith, length-append}
 use Rattle.std.specs.Prelude.{Option, Some, None, Result, Ok, Err, OnErr}
 use Rattle.std.specs.Io.KnownBytes.{Appends, Consumes, Keeps}
-use Rattle.std.proofs.KnownBytes.{Appends-nil, Appends-trans, Consumes-trans}
+use Rattle.std.proofs.KnownBytes.{Appends-nil, Appends-trans, Consumes-trans, Keeps-refl, Keeps-trans}
 use Rattle.std.proofs.lemmas.List.{take_rest}
 use Rattle.wb_text.specs.Memory.{AppendsUpTo, LosesAtMost}
 
@@ -39,3 +39,23 @@ loses_more a b c bs cs n h g small = (bs ++ cs, omega (arith, length-append bs c
 pub on_any_err : {T E P : Type 0} (r : Result T E) → P → OnErr r P
 on_any_err (Ok x) p = tt
 on_any_err (Err e) p = p
+
+-- tries that move nothing, and then one that moves some
+
+pub keeps_first : (a : Option (List ℕ)) → Keeps a a
+keeps_first = Keeps-refl
+
+pub keeps_on : (a b c : Option (List ℕ)) → Keeps a b → Keeps b c → Keeps a c
+keeps_on = Keeps-trans
+
+pub takes_kept : (a b c : Option (List ℕ)) (bs : List ℕ) → Keeps a b → Consumes b c bs → Consumes a c bs
+takes_kept None b c bs h g = tt
+takes_kept (Some s) None c bs h g = absurd h
+takes_kept (Some s) (Some t) None bs h g = absurd g
+takes_kept (Some s) (Some t) (Some u) bs h g = sym h ∙ g
+
+pub given_kept : (a b c : Option (List ℕ)) (bs : List ℕ) → Keeps a b → Appends b c bs → Appends a c bs
+given_kept None b c bs h g = tt
+given_kept (Some s) None c bs h g = absurd h
+given_kept (Some s) (Some t) None bs h g = absurd g
+given_kept (Some s) (Some t) (Some u) bs h g = g ∙ ap (λ l. l ++ bs) h

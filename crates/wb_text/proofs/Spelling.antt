@@ -1,9 +1,9 @@
 -- What each kind of token is made of, and how long the longest slice of it is.
-use Rattle.std.proofs.Common.{◌≡◌, ℕ, zero, suc, ◌+◌, ◌<◌, ◌≤◌, Bool, true, false, inl, inr, List, [], ◌∷◌, ◌++◌, length, get_or, take, drop, not, sym, refl, ap, ◌∙◌, subst, arith, length-take-le, length-take, length-append, get_or-take}
+use Rattle.std.proofs.Common.{◌≡◌, ℕ, zero, suc, ◌+◌, ◌<◌, ◌≤◌, Bool, true, false, inl, inr, List, [], ◌∷◌, ◌++◌, length, get_or, take, drop, not, sym, refl, ap, ◌∙◌, subst, arith, length-take-le, length-take, length-append, append_assoc, get_or-take}
 use Rattle.std.specs.Prelude.{◌==◌, ◌&&◌, nat_lt, nat_le, nat_eq, All}
 use Rattle.std.specs.List.{AllPass, Contains, list_all, prefix_len}
-use Rattle.std.proofs.lemmas.Bool.{false≢true, eqb-true, eq-eqb, leb-true, ltb-true, cases_lt}
-use Rattle.std.proofs.lemmas.List.{get_or_default, get_or_at, take_more, take-take, take_at}
+use Rattle.std.proofs.lemmas.Bool.{false≢true, eq-eqb, leb-true, ltb-true, cases_lt}
+use Rattle.std.proofs.lemmas.List.{get_or_at, take-take, take_at}
 use Rattle.std.proofs.lemmas.List.Sums.{AllPass-from_list_all, prefix_len-le-length, prefix_len_passes, prefix_len_stops}
 use Rattle.wb_text.specs.declared.token.Dialect.{Dialect}
 use Rattle.wb_text.specs.declared.token.Dialect.TheVariants.{Litmus, Cat}
@@ -14,7 +14,8 @@ use Rattle.wb_text.specs.Gaps.{IsQuoted}
 use Rattle.wb_text.specs.Signs.{signs}
 use Rattle.wb_text.specs.Tokens.{Spells, IsLongest}
 use Rattle.wb_text.proofs.Runs.{prefix_len-pos, start_is_part}
-use Rattle.wb_text.proofs.Texts.{first, and_both, not_true}
+use Rattle.wb_text.proofs.Quotes.{split_at, quote_length, quote_here}
+use Rattle.wb_text.proofs.Texts.{first, and_both, not_false}
 
 -- a sign is not empty, is ASCII, and begins as no other token does
 sign_test : List ℕ → Bool
@@ -32,10 +33,6 @@ pub record IsSignLike (s : List ℕ) : Type 0 where
   pub no_quote : first s ≡ 34 → ⊥
   pub no_blank : is_blank (first s) ≡ false
   pub ascii : All (λ b. b ≤ 127) s
-
-pub not_false : (b : Bool) → not b ≡ true → b ≡ false
-not_false true e = sym e
-not_false false e = refl
 
 tested : (s : List ℕ) → sign_test s ≡ true → IsSignLike s
 unfolding sign_test
@@ -151,11 +148,6 @@ sign_longest d text n fits c longest = record {
 }
 
 -- a quoted text, behind its first quote
-quoted_is : (t : List ℕ) (p : ℕ) → p < length t → get_or t p 0 ≡ 34 → take (p + 2) (34 ∷ t) ≡ 34 ∷ (take p t ++ 34 ∷ [])
-quoted_is t p l e =
-    let two : p + 2 ≡ suc (p + 1) = omega arith in
-    rw two (ap (λ u. 34 ∷ u) (take_more t p 0 l ∙ ap (λ b. take p t ++ b ∷ []) e))
-
 quoted_text : (t b : List ℕ) (m : ℕ) → take m (34 ∷ t) ≡ 34 ∷ (b ++ 34 ∷ []) → m ≤ suc (length t) → (length b + 2 ≡ m) × (take (length b) t ≡ b) × (get_or t (length b) 0 ≡ 34)
 quoted_text t b zero e l = absurd (omega (arith, ap length e))
 quoted_text t b (suc m) e l =
@@ -165,24 +157,20 @@ quoted_text t b (suc m) e l =
     let quote : get_or t (length b) 0 ≡ 34 = sym (get_or-take m t (length b) 0 (omega arith)) ∙ ap (λ u. get_or u (length b) 0) inner ∙ get_or_at b 34 [] 0 (length b) refl in
     (omega arith, front, quote)
 
-no_quote : (t rest : List ℕ) (q : IsQuoted t rest) (k x : ℕ) → k < q.place → not (nat_eq (get_or (take q.place t) k x) 34) ≡ true
-no_quote t rest q k x less =
-    let e : get_or (take q.place t) k x ≡ get_or t k 0 = get_or-take q.place t k x less ∙ get_or_default t k x 0 (omega (arith, q.first.0.high)) in
-    ap not (not_true (nat_eq (get_or (take q.place t) k x) 34) (λ same. q.first.0.before k (omega arith) less (ap (λ b. nat_eq b 34) (sym e) ∙ same)))
-
-pub quoted_longest : (d : Dialect) (t rest : List ℕ) → (q : IsQuoted t rest) → IsLongest d Quoted (34 ∷ t) (q.place + 2)
+pub quoted_longest : (d : Dialect) (t rest : List ℕ) → (q : IsQuoted t rest) → IsLongest d Quoted (34 ∷ t) (length q.inside + 2)
 quoted_longest d t rest q =
-    let p = q.place in
-    let l : p < length t = q.first.0.high in
-    let e : get_or t p 0 ≡ 34 = eqb-true (get_or t p 0) 34 q.first.1 in
+    let p = length q.inside in
+    let two : p + 2 ≡ suc (p + 1) = omega arith in
+    let size : length (q.inside ++ 34 ∷ []) ≡ p + 1 = omega (arith, length-append q.inside (34 ∷ [])) in
+    let front : take (p + 1) t ≡ q.inside ++ 34 ∷ [] = ap (take (p + 1)) (q.closed ∙ sym (append_assoc q.inside (34 ∷ []) rest)) ∙ take_at (q.inside ++ 34 ∷ []) rest (p + 1) size in
     record {
-      within = omega arith;
-      spelled = (take p t, quoted_is t p l e, λ k x less. no_quote t rest q k x (omega (arith, length-take p t)));
+      within = omega (arith, quote_length q);
+      spelled = (q.inside, rw two (ap (λ u. 34 ∷ u) front), q.unbroken);
       longest = λ m more fits h.
           let s = quoted_text t h.0 m h.1 fits in
           let less : p < length h.0 = omega (arith, s.0) in
           let other : not (nat_eq (get_or h.0 p 0) 34) ≡ true = h.2 p 0 less in
-          let same : get_or h.0 p 0 ≡ 34 = ap (λ u. get_or u p 0) (sym s.1) ∙ get_or-take (length h.0) t p 0 less ∙ e in
+          let same : get_or h.0 p 0 ≡ 34 = ap (λ u. get_or u p 0) (sym s.1) ∙ get_or-take (length h.0) t p 0 less ∙ quote_here q in
           false≢true (sym (not_false _ other) ∙ eq-eqb _ 34 same);
     }
 
@@ -191,19 +179,9 @@ pub quoted_closed : (t : List ℕ) (m : ℕ) (b : List ℕ) → m ≤ suc (lengt
 quoted_closed t m b fits e all =
     let s = quoted_text t b m e fits in
     record {
-      place = length b;
-      first = (
-        record {
-          low = omega arith;
-          high = omega (arith, s.0);
-          before = λ k low less same.
-              let other : not (nat_eq (get_or b k 0) 34) ≡ true = all k 0 less in
-              let is : get_or b k 0 ≡ get_or t k 0 = ap (λ u. get_or u k 0) (sym s.1) ∙ get_or-take (length b) t k 0 less in
-              false≢true (sym (not_false _ other) ∙ ap (λ x. nat_eq x 34) is ∙ same);
-        },
-        eq-eqb (get_or t (length b) 0) 34 s.2,
-      );
-      after = refl;
+      inside = b;
+      closed = split_at t (length b) (omega (arith, s.0)) ∙ (λ i. s.1 i ++ s.2 i ∷ drop (length b + 1) t);
+      unbroken = all;
     }
 
 -- tokens are ASCII

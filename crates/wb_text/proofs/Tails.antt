@@ -1,12 +1,11 @@
--- What is left of a text is its end, and a fault there is a fault of the text.
-use Rattle.std.proofs.Common.{◌≡◌, ℕ, ◌+◌, ◌-◌, List, [], ◌++◌, length, take, drop, sym, refl, ap, ◌∙◌, subst, arith, inl, inr, length-drop, take-append-drop}
+-- What is left of a text is its end.
+use Rattle.std.proofs.Common.{◌≡◌, ℕ, ◌+◌, ◌-◌, List, [], ◌++◌, length, take, drop, sym, refl, ap, ◌∙◌, arith, inl, inr, length-drop, take-append-drop}
 use Rattle.std.proofs.lemmas.Bool.{cases_lt}
 use Rattle.std.proofs.lemmas.List.{drop-drop, drop_all, take_all, append-nil}
-use Rattle.wb_text.specs.declared.fault.TextFault.{TextFault}
 use Rattle.wb_text.specs.declared.token.Dialect.{Dialect}
-use Rattle.wb_text.specs.Faults.{HasCause, StandsAt}
-use Rattle.wb_text.specs.Gaps.{IsNested, closed, nested, other, IsComment, nesting, line, block, IsGap, none, blank, comment}
+use Rattle.wb_text.specs.Gaps.{IsNested, closed, nested, other, IsBlock, block_closed, block_goes_on, IsComment, nesting, line, block, IsGap, none, blank, comment}
 use Rattle.wb_text.specs.Tokens.{IsInformation, nothing, commented, quoted, plain}
+use Rattle.wb_text.proofs.Quotes.{quoted_rest}
 
 -- rest is the end of text
 abbrev pub IsTail : List ℕ → List ℕ → Type 0
@@ -23,18 +22,19 @@ nested_tail {text} {rest} (closed e) = (2, sym (ap (drop 2) e))
 nested_tail {text} {rest} (nested {inside = i} {behind = b} e p q) = tail_trans text b rest (tail_trans text i b (2, sym (ap (drop 2) e)) (nested_tail p)) (nested_tail q)
 nested_tail {text} {rest} (other l n m p) = tail_trans text (drop 1 text) rest (1, refl) (nested_tail p)
 
+block_tail : {text rest : List ℕ} → IsBlock text rest → IsTail text rest
+block_tail (block_closed e) = (2, sym (ap (drop 2) e))
+block_tail {text} {rest} (block_goes_on l n p) = tail_trans text (drop 1 text) rest (1, refl) (block_tail p)
+
 pub comment_tail : {d : Dialect} {text rest : List ℕ} → IsComment d text rest → IsTail text rest
 comment_tail {text = t} {rest} (nesting {inside = i} e p) = tail_trans t i rest (2, sym (ap (drop 2) e)) (nested_tail p)
 comment_tail {text = t} {rest} (line {inside = i} e p) = tail_trans t i rest (2, sym (ap (drop 2) e)) (_, p)
-comment_tail {text = t} {rest} (block {inside = i} l e p) = tail_trans t i rest (2, sym (ap (drop 2) e)) (p.place + 2, p.after)
+comment_tail {text = t} {rest} (block {inside = i} l e p) = tail_trans t i rest (2, sym (ap (drop 2) e)) (block_tail p)
 
 pub gap_tail : {d : Dialect} {text rest : List ℕ} → IsGap d text rest → IsTail text rest
 gap_tail none = (0, refl)
 gap_tail {text = t} {rest} (blank n g) = tail_trans t (drop 1 t) rest (1, refl) (gap_tail g)
 gap_tail {text = t} {rest} (comment {behind = b} c g) = tail_trans t b rest (comment_tail c) (gap_tail g)
-
-pub cause_behind : (d : Dialect) (text rest : List ℕ) (fault : TextFault) → IsTail text rest → HasCause d rest fault → HasCause d text fault
-cause_behind d text rest fault p h = (p.0 + h.0, subst (λ l. StandsAt d l fault) (ap (drop h.0) p.1 ∙ drop-drop h.0 p.0 text) h.1)
 
 -- a text is what was passed, and what is left
 pub tail_split : (text rest : List ℕ) → IsTail text rest → text ≡ take (length text - length rest) text ++ rest
@@ -53,5 +53,5 @@ tail_split text rest p =
 pub info_tail : {text rest : List ℕ} → IsInformation text rest → IsTail text rest
 info_tail nothing = (0, refl)
 info_tail {text = t} {rest} (commented {behind = b} c g) = tail_trans t b rest (comment_tail c) (info_tail g)
-info_tail {text = t} {rest} (quoted {inside = i} {behind = b} e q g) = tail_trans t b rest (tail_trans t i b (1, sym (ap (drop 1) e)) (q.place + 1, q.after)) (info_tail g)
+info_tail {text = t} {rest} (quoted {inside = i} {behind = b} e q g) = tail_trans t b rest (tail_trans t i b (1, sym (ap (drop 1) e)) (length q.inside + 1, quoted_rest q)) (info_tail g)
 info_tail {text = t} {rest} (plain l n m o g) = tail_trans t (drop 1 t) rest (1, refl) (info_tail g)

@@ -1,7 +1,6 @@
 -- Blanks and comments. A relation `.. text rest` says what text begins with, and that rest follows.
-use Rattle.std.specs.Prelude.{◌≡◌, ℕ, ◌+◌, ◌<◌, Bool, true, false, ◌||◌, ◌==◌, List, ◌++◌, length, drop, codes, Some, refl}
-use Rattle.std.specs.List.{position_or_len}
-use Rattle.memchr.specs.Find.{FindsNeedle, IsFirstByte, is_byte}
+use Rattle.std.specs.Prelude.{◌≡◌, ℕ, ◌<◌, Bool, true, false, ◌||◌, ◌==◌, not, List, ◌∷◌, ◌++◌, length, drop, codes, refl}
+use Rattle.std.specs.List.{AllPass, position_or_len}
 use Rattle.wb_text.specs.declared.token.Dialect.{Dialect}
 use Rattle.wb_text.specs.declared.token.Dialect.TheVariants.{Litmus, Cat}
 use Rattle.wb_text.specs.Bytes.{begins_blank}
@@ -18,16 +17,15 @@ abbrev pub IsLine : List ℕ → List ℕ → Type 0
 IsLine text rest = rest ≡ drop (position_or_len (λ b. b == 10) text) text
 
 -- behind a `/*`: all up to the first `*/`. These do not nest.
-pub record IsBlock (text rest : List ℕ) : Type 0 where
-  pub place : ℕ
-  pub first : FindsNeedle text (codes "*/") 0 (Some place)
-  pub after : rest ≡ drop (place + 2) text
+pub data IsBlock : List ℕ → List ℕ → Type 0 where
+  block_closed : {text rest : List ℕ} → text ≡ codes "*/" ++ rest → IsBlock text rest
+  block_goes_on : {text rest : List ℕ} → 0 < length text → begins_with (codes "*/") text ≡ false → IsBlock (drop 1 text) rest → IsBlock text rest
 
 -- behind a double quote: all up to the next one
 pub record IsQuoted (text rest : List ℕ) : Type 0 where
-  pub place : ℕ
-  pub first : IsFirstByte (is_byte 34) text (Some place)
-  pub after : rest ≡ drop (place + 1) text
+  pub inside : List ℕ
+  pub closed : text ≡ inside ++ 34 ∷ rest
+  pub unbroken : AllPass (λ b. not (b == 34)) inside
 
 -- a comment
 pub data IsComment (d : Dialect) : List ℕ → List ℕ → Type 0 where
@@ -59,3 +57,7 @@ pub record IsGapEnd (d : Dialect) (text : List ℕ) : Type 0 where
 -- a blank and a comment inside a comment
 example : IsGap Litmus (codes " (*(**)*)x") (codes "x")
 example = blank refl (comment (nesting {inside = codes "(**)*)x"} refl (nested {inside = codes "*)*)x"} {behind = codes "*)x"} refl (closed refl) (closed refl))) none)
+
+-- a block comment ends at its first `*/`
+block_example : IsComment Litmus (codes "/**/*/") (codes "*/")
+block_example = block {inside = codes "*/*/"} refl refl (block_closed refl)

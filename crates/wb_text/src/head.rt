@@ -1,11 +1,11 @@
 //! The head of a test: its language, its name, and the information up to the first `{`.
 
 ghost use Rattle.std.specs.Prelude.{◌≡◌, ◌≢◌, ◌≤◌, ◌<◌, ℕ, List, ◌++◌, length, drop, IfErr, IfOk, MatchOption};
-ghost use Rattle.wb_text.specs.declared.fault.TextFault.TheVariants.{NoMemory, OpenComment};
+ghost use Rattle.wb_text.specs.declared.fault.TextFault.TheVariants.{NoMemory, NotAscii, OpenComment};
 ghost use Rattle.wb_text.specs.declared.token.Dialect.TheVariants.{Litmus};
 ghost use Rattle.wb_text.specs.declared.token.Token.{Token};
 ghost use Rattle.wb_text.specs.declared.token.TokenKind.TheVariants.{Word};
-ghost use Rattle.wb_text.specs.Faults.{HasCause};
+ghost use Rattle.wb_text.specs.Faults.{IsNotAscii, IsInformationFault, HasTitleFault, HasHeadFault};
 ghost use Rattle.wb_text.specs.Gaps.{IsGap, IsOpenComment};
 ghost use Rattle.wb_text.specs.Tokens.{BeginsRun, BeginsToken, IsBody, IsHead, IsInformation, IsSameLine, IsTitle, token_at};
 
@@ -23,7 +23,7 @@ pub fn read_head<'a>(
 ) -> Result<&'a [u8], TextFault>
     ensures head { IfOk result (λ rest. (words : List Token) × IsHead (length text.now) dialect text.now words rest.now × (tokens.new.items ≡ tokens.old.items ++ words)) }
     ensures none { IfErr result (λ e. e ≢ NoMemory → (words : List Token) (rest : List ℕ) → ¬ IsHead (length text.now) dialect text.now words rest) }
-    ensures cause { IfErr result (λ e. HasCause dialect text.now e) }
+    ensures cause { IfErr result (λ e. e ≢ NoMemory → (dialect ≡ Litmus) × HasHeadFault text.now e) }
 {
     match dialect {
         Dialect::Litmus => read_words(text, tokens),
@@ -35,7 +35,7 @@ pub fn read_head<'a>(
 fn read_words<'a>(text: &'a [u8], tokens: &mut Vec<Token>) -> Result<&'a [u8], TextFault>
     ensures head { IfOk result (λ rest. (words : List Token) × IsHead (length text.now) Litmus text.now words rest.now × (tokens.new.items ≡ tokens.old.items ++ words)) }
     ensures none { IfErr result (λ e. e ≢ NoMemory → (words : List Token) (rest : List ℕ) → ¬ IsHead (length text.now) Litmus text.now words rest) }
-    ensures cause { IfErr result (λ e. HasCause Litmus text.now e) }
+    ensures cause { IfErr result (λ e. e ≢ NoMemory → HasHeadFault text.now e) }
 {
     let language = after_gap(text, Dialect::Litmus)?;
     if language.is_empty() {
@@ -55,7 +55,7 @@ fn read_title<'a>(
     requires { length text.now ≤ total }
     ensures title { IfOk result (λ rest. (names : List Token) × IsTitle total text.now names rest.now × (tokens.new.items ≡ tokens.old.items ++ names)) }
     ensures none { IfErr result (λ e. e ≢ NoMemory → (names : List Token) (rest : List ℕ) → ¬ IsTitle total text.now names rest) }
-    ensures cause { IfErr result (λ e. HasCause Litmus text.now e) }
+    ensures cause { IfErr result (λ e. e ≢ NoMemory → HasTitleFault text.now e) }
 {
     let Some(name) = on_same_line(text)? else {
         return after_information(text);
@@ -84,7 +84,7 @@ fn word_len(text: &[u8]) -> Result<usize, TextFault>
     requires { BeginsRun text.now }
     ensures word { IfOk result (λ n. BeginsToken Litmus Word text.now n) }
     ensures none { IfErr result (λ e. (n : ℕ) → ¬ BeginsToken Litmus Word text.now n) }
-    ensures cause { IfErr result (λ e. HasCause Litmus text.now e) }
+    ensures cause { IfErr result (λ e. (e ≡ NotAscii) × IsNotAscii Litmus Word text.now) }
 {
     let len = run_len(text, Class::Word);
     if text[..len].is_ascii() {
@@ -116,7 +116,7 @@ fn after_information(text: &[u8]) -> Result<&[u8], TextFault>
     ensures information { IfOk result (λ rest. IsInformation text.now rest.now × IsBody rest.now) }
     ensures none { IfErr result (λ e. (rest : List ℕ) → IsInformation text.now rest → ¬ IsBody rest) }
     ensures fault { IfErr result (λ e. e ≢ NoMemory) }
-    ensures cause { IfErr result (λ e. HasCause Litmus text.now e) }
+    ensures cause { IfErr result (λ e. (rest : List ℕ) × IsInformation text.now rest × IsInformationFault rest e) }
 {
     let mut rest = text;
     while !rest.is_empty() && rest[0] != b'{' {

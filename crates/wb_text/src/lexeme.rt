@@ -6,7 +6,7 @@ ghost use Rattle.wb_text.specs.declared.fault.TextFault.TheVariants.{NumberTooBi
 ghost use Rattle.wb_text.specs.declared.token.Dialect.{Dialect};
 ghost use Rattle.wb_text.specs.declared.token.TokenKind.TheVariants.{Word, Quoted};
 ghost use Rattle.wb_text.specs.Bytes.{is_digit};
-ghost use Rattle.wb_text.specs.Faults.{HasCause, NoToken};
+ghost use Rattle.wb_text.specs.Faults.{IsTokenFault, NoToken};
 ghost use Rattle.wb_text.specs.Gaps.{opens_comment};
 ghost use Rattle.wb_text.specs.Numbers.{decimal_value};
 ghost use Rattle.wb_text.specs.Tokens.{BeginsToken, IsLongest};
@@ -24,7 +24,7 @@ pub fn first_token(text: &[u8], dialect: Dialect) -> Result<(TokenKind, usize), 
     requires apart { opens_comment dialect text.now ≡ false }
     ensures token { IfOk result (λ t. (t.0 ≢ Word) × BeginsToken dialect t.0 text.now t.1) }
     ensures none { IfErr result (λ e. NoToken dialect text.now) }
-    ensures cause { IfErr result (λ e. HasCause dialect text.now e) }
+    ensures cause { IfErr result (λ e. IsTokenFault dialect text.now e) }
 {
     let first = text[0];
     if is_digit(first) {
@@ -65,7 +65,7 @@ fn quoted_len(text: &[u8]) -> Result<usize, TextFault>
     ensures len { IfOk result (λ len. (dialect : Dialect) → IsLongest dialect Quoted text.now len) }
     ensures ascii { IfOk result (λ len. All (λ b. b ≤ 127) (take len text.now)) }
     ensures none { IfErr result (λ e. (dialect : Dialect) → NoToken dialect text.now) }
-    ensures cause { IfErr result (λ e. (dialect : Dialect) → HasCause dialect text.now e) }
+    ensures cause { IfErr result (λ e. (dialect : Dialect) → IsTokenFault dialect text.now e) }
 {
     let Some(after) = after_quoted(&text[1..]) else {
         return Err(TextFault::OpenString);

@@ -6,7 +6,7 @@ ghost use Rattle.wb_text.specs.Memory.{AppendsFront};
 
 use crate::fault::Failed;
 use std::alloc::{AllocError, Global};
-use std::io::Write;
+use std::io::{ErrorKind, Write};
 use std::marker::Model;
 
 /// A sink of bytes.
@@ -119,7 +119,9 @@ impl Sink for MemSink {
     }
 }
 
-/// A writer of std's as a sink of bytes that no clause knows.
+/// A writer of std's as a sink of the bytes that it holds, as far as std knows them.
+///
+/// It writes again where a write was interrupted, as std's `write_all` does.
 #[derive(Drop)]
 pub struct WriteSink<W: Write> {
     writer: W,
@@ -128,6 +130,7 @@ pub struct WriteSink<W: Write> {
 
 impl<W: Write> WriteSink<W> {
     pub fn new(writer: W) -> Self
+        ensures held { W.contents result.writer ≡ W.contents writer }
         ensures unmarked { result.has_failed ≡ false }
     {
         WriteSink {
@@ -138,6 +141,7 @@ impl<W: Write> WriteSink<W> {
 
     /// Sends on what the writer still holds back.
     pub fn flush(&mut self) -> Result<(), Failed>
+        ensures kept { Keeps (W.contents self.old.writer) (W.contents self.new.writer) }
         ensures marked { OnErr result (self.new.has_failed ≡ true) }
         ensures lasting { self.old.has_failed ≡ true → self.new.has_failed ≡ true }
     {
@@ -152,17 +156,20 @@ impl<W: Write> WriteSink<W> {
 }
 
 impl<W: Write> Sink for WriteSink<W> {
-    ghost held = { λ _. None };
+    ghost held = { λ s. W.contents s.writer };
 
     ghost has_failed = { λ s. s.has_failed };
 
+    #[tactic(auto, using(crate::proofs::Moves::keeps_first, crate::proofs::Moves::keeps_on, crate::proofs::Moves::given_kept))]
     fn give(&mut self, bytes: &[u8]) -> Result<usize, Failed> {
-        match self.writer.write(bytes) {
-            Ok(n) if n > 0 || bytes.is_empty() => Ok(n),
-            _ => {
-                self.has_failed = true;
-                Err(Failed)
+        for _ in 0..u64::MAX {
+            match self.writer.write(bytes) {
+                Ok(count) if count > 0 || bytes.is_empty() => return Ok(count),
+                Err(error) if error.kind() == ErrorKind::Interrupted => {}
+                _ => break,
             }
         }
+        self.has_failed = true;
+        Err(Failed)
     }
 }

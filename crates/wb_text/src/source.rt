@@ -6,7 +6,7 @@ ghost use Rattle.wb_text.specs.Memory.{LosesAtMost};
 
 use crate::fault::{Failed, ReadFault};
 use std::alloc::Global;
-use std::io::Read;
+use std::io::{ErrorKind, Read};
 use std::marker::Model;
 
 /// A source of bytes.
@@ -122,7 +122,9 @@ impl<'a> Source for MemSource<'a> {
     }
 }
 
-/// A reader of std's as a source of bytes that no clause knows.
+/// A reader of std's as a source of the bytes that it has left, as far as std knows them.
+///
+/// It reads again where a read was interrupted, as std's own readers do.
 #[derive(Drop)]
 pub struct ReadSource<R: Read> {
     reader: R,
@@ -131,6 +133,7 @@ pub struct ReadSource<R: Read> {
 
 impl<R: Read> ReadSource<R> {
     pub fn new(reader: R) -> Self
+        ensures left { R.remaining result.reader ≡ R.remaining reader }
         ensures unmarked { result.has_failed ≡ false }
     {
         ReadSource {
@@ -141,17 +144,20 @@ impl<R: Read> ReadSource<R> {
 }
 
 impl<R: Read> Source for ReadSource<R> {
-    ghost left = { λ _. None };
+    ghost left = { λ s. R.remaining s.reader };
 
     ghost has_failed = { λ s. s.has_failed };
 
+    #[tactic(auto, using(crate::proofs::Moves::keeps_first, crate::proofs::Moves::keeps_on, crate::proofs::Moves::takes_kept))]
     fn take(&mut self, into: &mut [u8]) -> Result<usize, Failed> {
-        match self.reader.read(into) {
-            Ok(n) => Ok(n),
-            Err(_) => {
-                self.has_failed = true;
-                Err(Failed)
+        for _ in 0..u64::MAX {
+            match self.reader.read(into) {
+                Ok(count) => return Ok(count),
+                Err(error) if error.kind() == ErrorKind::Interrupted => {}
+                Err(_) => break,
             }
         }
+        self.has_failed = true;
+        Err(Failed)
     }
 }

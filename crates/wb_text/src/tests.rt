@@ -6,6 +6,8 @@ use crate::number::decimal;
 use crate::sink::{MemSink, Sink, WriteSink, give_all};
 use crate::source::{MemSource, ReadSource, Source, read_up_to};
 use crate::token::{Dialect, Token, TokenKind, tokens};
+use std::io;
+use std::io::{ErrorKind, Read, Write};
 use std::test::Fail;
 
 fn token(kind: TokenKind, from: usize, to: usize) -> Token {
@@ -319,5 +321,64 @@ fn sinks(rt: HostRuntime) -> Result<(), Fail> {
     let mut writer = WriteSink::new(Vec::new(rt.alloc()));
     assert!(rt; give_all(&mut writer, b"abc") == Ok(()));
     assert!(rt; writer.flush() == Ok(()));
+    Ok(())
+}
+
+/// A reader and a writer whose calls are interrupted at first, and each time after one that went well.
+#[derive(Drop)]
+struct Interrupted<T> {
+    inner: T,
+    is_next: bool,
+}
+
+impl<T> Interrupted<T> {
+    fn new(inner: T) -> Self {
+        Interrupted {
+            inner,
+            is_next: true,
+        }
+    }
+
+    fn interrupts(&mut self) -> bool {
+        let is_interrupted = self.is_next;
+        self.is_next = !is_interrupted;
+        is_interrupted
+    }
+}
+
+impl<'a> Read for Interrupted<&'a [u8]> {
+    fn read(&mut self, buf: &mut [u8]) -> io::Result<usize> {
+        if self.interrupts() {
+            return Err(io::Error::from(ErrorKind::Interrupted));
+        }
+        self.inner.read(buf)
+    }
+}
+
+impl Write for Interrupted<Vec<u8>> {
+    fn write(&mut self, buf: &[u8]) -> io::Result<usize> {
+        if self.interrupts() {
+            return Err(io::Error::from(ErrorKind::Interrupted));
+        }
+        self.inner.write(buf)
+    }
+
+    fn flush(&mut self) -> io::Result<()> {
+        self.inner.flush()
+    }
+}
+
+#[test]
+fn interruptions(rt: HostRuntime) -> Result<(), Fail> {
+    let mut source = ReadSource::new(Interrupted::new(b"xyz".as_slice()));
+    assert_eq!(rt;
+        read_up_to(rt.alloc(), &mut source, 9)?.as_slice(),
+        b"xyz".as_slice()
+    );
+    let mut bytes = Interrupted::new(Vec::new(rt.alloc()));
+    let mut sink = WriteSink::new(&mut bytes);
+    assert!(rt; sink.give(b"abc") == Ok(3));
+    assert!(rt; sink.give(b"de") == Ok(2));
+    assert_eq!(rt; bytes.inner.as_slice(), b"abcde".as_slice());
     Ok(())
 }

@@ -1,9 +1,7 @@
 use Rattle.std.proofs.Common.{ap, ◌++◌, ◌∷◌, [], ◌∙◌}
 use Rattle.std.proofs.lemmas.Result.{err_from_is_err_and}
-use Rattle.wb_text.specs.declared.fault.TextFault.TheVariants.{OpenComment}
-use Rattle.wb_text.specs.declared.token.Dialect.TheVariants.{Litmus}
-use Rattle.wb_text.proofs.Tails.{cause_behind, gap_tail, tail_trans}
-use Rattle.wb_text.proofs.Heads.{title_none_open, title_none_word, title_nameless, title_named, title_err_nameless, title_err_named, cause_err_behind, range_tail}
+use Rattle.wb_text.specs.Faults.{bad_name}
+use Rattle.wb_text.proofs.Heads.{title_none_open, title_none_word, title_nameless, title_named, title_err_nameless, title_err_named, title_open, title_cause_nameless, title_cause_named}
 use Rattle.wb_text.proofs.head.read_title.Goals as goal
 
 pub returns-in_err-name-clause-none : goal.returns-in_err-name-clause-none
@@ -16,7 +14,7 @@ pub returns-in_err-name-clause-cause : goal.returns-in_err-name-clause-cause
 returns-in_err-name-clause-cause c =
     let p = err_from_is_err_and c.from_residual.result c.from_residual.ensures.1 in
     let found = c.in_err-name.ensures.open.1 in
-    rw (p.1, p.2, c.in_err-name.ensures.open.0) (cause_behind Litmus c.args.text.now found.0 OpenComment (gap_tail found.1) (0, found.2))
+    rw (p.1, p.2, c.in_err-name.ensures.open.0) (λ m. title_open found.1 found.2)
 
 pub returns-in_default-clause-title : goal.returns-in_default-clause-title
 returns-in_default-clause-title c =
@@ -25,6 +23,10 @@ returns-in_default-clause-title c =
 pub returns-in_default-clause-none : goal.returns-in_default-clause-none
 returns-in_default-clause-none c =
     title_err_nameless c.args.total c.args.text.now c.args.tokens.now.items c.args.tokens.now.items c.after_information.result (rw c.in_default.is at c.in_ok-name.ensures.run) c.after_information.ensures.none
+
+pub returns-in_default-clause-cause : goal.returns-in_default-clause-cause
+returns-in_default-clause-cause c =
+    title_cause_nameless c.args.text.now c.after_information.result (rw c.in_default.is at c.in_ok-name.ensures.run) c.after_information.ensures.cause
 
 pub returns-in_err-len-clause-none : goal.returns-in_err-len-clause-none
 returns-in_err-len-clause-none c =
@@ -36,7 +38,7 @@ pub returns-in_err-len-clause-cause : goal.returns-in_err-len-clause-cause
 returns-in_err-len-clause-cause c =
     let p = err_from_is_err_and c.from_residual-in_err-len.result c.from_residual-in_err-len.ensures.1 in
     let run = rw c.in-Some.is at c.in_ok-name.ensures.run in
-    rw (p.1, p.2) (cause_behind Litmus c.args.text.now c.in-Some.name.now c.in_err-len.field-0.0 (gap_tail run.0.gap) c.in_err-len.ensures.cause)
+    rw (p.1, p.2, c.in_err-len.ensures.cause.0) (λ m. bad_name run.0 run.1 c.in_err-len.ensures.cause.1)
 
 pub returns-clause-title : goal.returns-clause-title
 returns-clause-title c =
@@ -52,5 +54,4 @@ returns-clause-none c =
 pub returns-clause-cause : goal.returns-clause-cause
 returns-clause-cause c =
     let run = rw c.in-Some.is at c.in_ok-name.ensures.run in
-    let name = c.in-Some.name.now in
-    cause_err_behind Litmus c.args.text.now _ c.after_information-2.result (tail_trans c.args.text.now name _ (gap_tail run.0.gap) (range_tail c.in_ok-len.len name)) c.after_information-2.ensures.cause
+    title_cause_named c.args.text.now c.after_information-2.result c.in-Some.name.now c.in_ok-len.len run.0 c.in_ok-len.ensures.word c.after_information-2.ensures.cause

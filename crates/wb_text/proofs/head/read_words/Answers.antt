@@ -2,12 +2,10 @@ use Rattle.std.proofs.Common.{sym, ap, ◌++◌, ◌∷◌, [], ◌∙◌, arith
 use Rattle.std.proofs.lemmas.Bool.{eqb-true}
 use Rattle.std.proofs.lemmas.List.{nil_from_length, append-nil}
 use Rattle.std.proofs.lemmas.Result.{err_from_is_err_and}
-use Rattle.wb_text.specs.declared.fault.TextFault.TheVariants.{OpenComment}
-use Rattle.wb_text.specs.declared.token.Dialect.TheVariants.{Litmus}
+use Rattle.wb_text.specs.Faults.{before_language, bad_language}
 use Rattle.wb_text.proofs.Gaps.{gap_length}
-use Rattle.wb_text.proofs.Tails.{cause_behind, gap_tail, tail_trans}
 use Rattle.wb_text.proofs.Texts.{nonempty, range_length}
-use Rattle.wb_text.proofs.Heads.{head_none_open, head_none_word, head_void, head_words, head_err, cause_err_behind, range_tail, line_run}
+use Rattle.wb_text.proofs.Heads.{head_none_open, head_none_word, head_void, head_words, head_err, head_cause_title, line_run}
 use Rattle.wb_text.proofs.head.read_words.Goals as goal
 
 pub returns-in_err-language-clause-none : goal.returns-in_err-language-clause-none
@@ -20,7 +18,7 @@ pub returns-in_err-language-clause-cause : goal.returns-in_err-language-clause-c
 returns-in_err-language-clause-cause c =
     let p = err_from_is_err_and c.from_residual.result c.from_residual.ensures.1 in
     let found = c.in_err-language.ensures.open.1 in
-    rw (p.1, p.2, c.in_err-language.ensures.open.0) (cause_behind Litmus c.args.text.now found.0 OpenComment (gap_tail found.1) (0, found.2))
+    rw (p.1, p.2, c.in_err-language.ensures.open.0) (λ m. before_language found.1 found.2)
 
 pub returns-then-is_empty-clause-head : goal.returns-then-is_empty-clause-head
 returns-then-is_empty-clause-head c =
@@ -37,7 +35,8 @@ returns-in_err-len-clause-none c =
 pub returns-in_err-len-clause-cause : goal.returns-in_err-len-clause-cause
 returns-in_err-len-clause-cause c =
     let p = err_from_is_err_and c.from_residual-in_err-len.result c.from_residual-in_err-len.ensures.1 in
-    rw (p.1, p.2) (cause_behind Litmus c.args.text.now c.in_ok-language.language.now c.in_err-len.field-0.0 (gap_tail c.in_ok-language.ensures.gap) c.in_err-len.ensures.cause)
+    let run = line_run c.in_ok-language.language.now c.in_ok-language.ensures.gap c.in_ok-language.ensures.all (nonempty _ (sym c.is_empty.ensures ∙ c.if-is_empty.false)) in
+    rw (p.1, p.2, c.in_err-len.ensures.cause.0) (λ m. bad_language c.in_ok-language.ensures.gap run c.in_err-len.ensures.cause.1)
 
 pub word-requires-clause-within : goal.word-requires-clause-within
 word-requires-clause-within c = gap_length c.in_ok-language.ensures.gap
@@ -56,5 +55,4 @@ returns-clause-none c =
 
 pub returns-clause-cause : goal.returns-clause-cause
 returns-clause-cause c =
-    let language = c.in_ok-language.language.now in
-    cause_err_behind Litmus c.args.text.now _ c.read_title.result (tail_trans c.args.text.now language _ (gap_tail c.in_ok-language.ensures.gap) (range_tail c.in_ok-len.len language)) c.read_title.ensures.cause
+    head_cause_title c.args.text.now c.read_title.result c.in_ok-language.language.now c.in_ok-len.len c.in_ok-language.ensures.gap c.in_ok-len.ensures.word c.read_title.ensures.cause

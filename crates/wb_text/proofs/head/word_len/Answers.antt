@@ -1,5 +1,5 @@
-use Rattle.wb_text.specs.declared.token.Dialect.TheVariants.{Litmus}
-use Rattle.wb_text.proofs.Lexemes.{word_token, word_slice, not_ascii, not_ascii_cause}
+use Rattle.std.proofs.Common.{refl}
+use Rattle.wb_text.proofs.Lexemes.{word_token, word_slice, not_ascii, not_ascii_at}
 use Rattle.wb_text.proofs.head.word_len.Goals as goal
 
 pub returns-then-is_ascii-clause-word : goal.returns-then-is_ascii-clause-word
@@ -14,4 +14,4 @@ returns-else-is_ascii-clause-none c =
 pub returns-else-is_ascii-clause-cause : goal.returns-else-is_ascii-clause-cause
 returns-else-is_ascii-clause-cause c =
     let above = c.if-is_ascii.ensures.cases in
-    not_ascii_cause Litmus c.args.text.now c.run_len-len.result above.0 above.1
+    (refl, not_ascii_at (word_slice c.args.text.now c.run_len-len.result c.requires.byte c.requires.no_blank c.run_len-len.ensures) above.0 above.1)

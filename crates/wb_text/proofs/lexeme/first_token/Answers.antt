@@ -48,3 +48,8 @@ returns-else-first-gt127-clause-none c =
 pub returns-else-first-gt127-clause-cause : goal.returns-else-first-gt127-clause-cause
 returns-else-first-gt127-clause-cause c =
     sign_cause c.args.dialect c.args.text.now c.requires.here (sym c.is_digit.ensures ∙ c.if-is_digit.false) (sym c.is_name_start.ensures ∙ c.if-is_name_start.false) c.if-first-eq34.false (λ m fits s. omega (arith, c.sign_len-len.ensures.longest m fits s)) c.if-first-gt127.false
+
+pub returns-in_err-quoted_len-clause-cause : goal.returns-in_err-quoted_len-clause-cause
+returns-in_err-quoted_len-clause-cause c =
+    let p = err_from_is_err_and c.from_residual-in_err-quoted_len.result c.from_residual-in_err-quoted_len.ensures.1 in
+    rw (p.1, p.2) (c.in_err-quoted_len.ensures.cause c.args.dialect)
