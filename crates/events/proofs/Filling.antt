@@ -1,5 +1,5 @@
 -- A set and a relation that are filled number by number with what has P.
-use Rattle.std.proofs.Common.{◌≡◌, ℕ, ◌+◌, ◌<◌, ◌⊎◌, refl, subst, sym, inl, inr, arith, Bool, true, false}
+use Rattle.std.proofs.Common.{◌≡◌, ℕ, ◌+◌, ◌<◌, ◌⊎◌, subst, sym, inl, inr, arith}
 use Rattle.std.proofs.lemmas.Bool.{cases_lt, cases_eq}
 use Rattle.relations.specs.Events.{EventSet, Has, IsExactlySet}
 use Rattle.relations.specs.Relation.{Relation, In, IsExactly}

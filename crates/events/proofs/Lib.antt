@@ -1,4 +1,5 @@
 pub mod Filling
 pub mod Numbers
+pub mod Parts
 pub mod Places
 pub mod Standing

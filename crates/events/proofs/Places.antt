@@ -1,5 +1,5 @@
 -- The set of no places.
-use Rattle.std.proofs.Common.{◌≡◌, ℕ, ◌<◌, Bool, true, false, refl, sym, ◌∙◌, ap, subst}
+use Rattle.std.proofs.Common.{◌≡◌, ℕ, false, refl, sym, ◌∙◌, ap, subst}
 use Rattle.std.proofs.lemmas.Bool.{false≢true}
 use Rattle.relations.specs.TableFacts.{place_line, line_below, line_again}
 use Rattle.relations.specs.Events.{EventSet, Has, IsExactlySet, event_set}

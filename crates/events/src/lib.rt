@@ -13,3 +13,6 @@ pub use graph::{Coherence, Graph};
 pub use named::{RelName, SetName};
 pub use run::Run;
 pub use view::GraphView;
+
+#[cfg(test)]
+mod tests;

@@ -1,5 +1,4 @@
-use Rattle.std.proofs.Common.{arith, sym, ◌∙◌, tests, rules}
-use Rattle.std.proofs.lemmas.Bool.{false≢true}
+use Rattle.std.proofs.Common.{arith, tests, rules}
 use Rattle.relations.specs.Equality.{event_below}
 use Rattle.events.proofs.view.facts.has_place.Goals as goal
 

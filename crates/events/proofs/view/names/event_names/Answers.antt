@@ -1,9 +1,9 @@
-use Rattle.std.proofs.Common.{◌≡◌, ◌++◌, ◌∙◌, ap, length, List, ℕ}
+use Rattle.std.proofs.Common.{◌++◌, ◌∙◌, ap, length, List, ℕ}
 use Rattle.listings.specs.Lists.{tabulate}
 use Rattle.events.specs.declared.event.EventId.{EventId}
 use Rattle.events.specs.declared.event.EventId.TheVariants.{Initial}
 use Rattle.events.specs.Executions.{ThreadRun}
-use Rattle.events.specs.Named.{thread_names, event_names, event_count}
+use Rattle.events.specs.Named.{thread_names, event_names}
 use Rattle.events.proofs.Numbers.{counted}
 use Rattle.events.proofs.view.names.event_names.Goals as goal
 
