@@ -1,5 +1,5 @@
 -- A text that is not too long meets one fault at most, and none if it has a token list.
-use Rattle.std.proofs.Common.{◌≡◌, ◌≢◌, ℕ, ◌<◌, ◌≤◌, ◌-◌, Bool, true, false, List, [], ◌∷◌, length, get_or, take, drop, sym, refl, ap, ◌∙◌, subst, arith, inl, inr, length-take, get_or-take}
+use Rattle.std.proofs.Common.{◌≡◌, ◌≢◌, ℕ, ◌<◌, ◌≤◌, ◌-◌, Bool, true, false, List, length, get_or, take, drop, sym, refl, ap, ◌∙◌, subst, arith, inl, inr, length-take, get_or-take}
 use Rattle.std.proofs.lemmas.Bool.{false≢true}
 use Rattle.wb_text.specs.declared.fault.TextFault.{TextFault}
 use Rattle.wb_text.specs.declared.fault.TextFault.TheVariants.{NoMemory}
@@ -10,13 +10,13 @@ use Rattle.wb_text.specs.declared.token.TokenKind.{TokenKind}
 use Rattle.wb_text.specs.declared.token.TokenKind.TheVariants.{Word, Number, Quoted}
 use Rattle.wb_text.specs.Bytes.{is_digit}
 use Rattle.wb_text.specs.Faults.{NoToken, IsNotAscii, IsOpenString, IsTokenFault, bad_text, bad_quotation, bad_byte, unclosed_quotation, big_number, IsInformationFault, unclosed_comment, unclosed_string, HasTitleFault, bad_name, behind_name, with_no_name, HasHeadFault, before_language, bad_language, behind_language, HasCause, out_of_memory, too_long, in_head, in_comment, at_token}
-use Rattle.wb_text.specs.Gaps.{IsGap, IsGapEnd, IsOpenComment, IsQuoted, opens_comment}
+use Rattle.wb_text.specs.Gaps.{IsGap, IsOpenComment, IsQuoted, opens_comment}
 use Rattle.wb_text.specs.Numbers.{decimal_value}
-use Rattle.wb_text.specs.Tokens.{IsLongest, BeginsToken, HasTokens, no_token, token, BeginsRun, IsInformation, IsTitle, IsHead, IsTokenList}
+use Rattle.wb_text.specs.Tokens.{IsLongest, BeginsToken, HasTokens, BeginsRun, IsInformation, IsTitle, IsHead, IsTokenList}
 use Rattle.wb_text.proofs.Texts.{first, range_is}
 use Rattle.wb_text.proofs.Spelling.{starts_at, longest_pos, longest_once, digit_ascii}
 use Rattle.wb_text.proofs.Lexemes.{only_number, only_quoted, quoted_spelled, quoted_none}
-use Rattle.wb_text.proofs.Gaps.{IsStuck, stuck_at_end, stuck_at_open, gap_once, opens_first, opens_nonempty}
+use Rattle.wb_text.proofs.Gaps.{IsStuck, stuck_at_end, stuck_at_open, gap_once, opens_first}
 use Rattle.wb_text.proofs.Heads.{token_stuck, token_run, run_stuck, stops_at_fault, info_once, info_none_fault, title_none_word, title_none_information, title_none_nameless, head_none_open, head_none_word, head_none_title, head_once}
 use Rattle.wb_text.proofs.Lists.{tokens_to_stuck, rest_is_last, scanned_of, scanned_none_open, scanned_none_here}
 
