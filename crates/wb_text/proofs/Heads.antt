@@ -12,7 +12,7 @@ use Rattle.wb_text.specs.declared.token.Token.{Token}
 use Rattle.wb_text.specs.declared.token.TokenKind.{TokenKind}
 use Rattle.wb_text.specs.declared.token.TokenKind.TheVariants.{Word}
 use Rattle.wb_text.specs.Bytes.{is_blank}
-use Rattle.wb_text.specs.Faults.{IsInformationFault, HasTitleFault, behind_name, with_no_name, HasHeadFault, behind_language, HasCause, out_of_memory, in_head}
+use Rattle.wb_text.specs.Faults.{IsInformationFault, unclosed_comment, unclosed_string, HasTitleFault, behind_name, with_no_name, HasHeadFault, behind_language, HasCause, out_of_memory, in_head}
 use Rattle.wb_text.specs.Gaps.{IsQuoted, IsComment, IsGap, none, blank, comment, opens_comment, IsOpenComment, IsGapEnd}
 use Rattle.wb_text.specs.Tokens.{IsLongest, BeginsToken, BeginsRun, IsSameLine, IsInformation, nothing, commented, quoted, plain, IsBody, IsTitle, named, nameless, IsHead, cat, empty, words, token_at}
 use Rattle.std.proofs.lemmas.List.{take_rest, take_at, get_or_default, append-nil}
@@ -63,25 +63,50 @@ quote_no_body text inside e b =
     let at : first text ≡ 123 = b (omega (arith, ap length e)) in
     omega (arith, ap first e)
 
-info_behind_comment : {text behind end : List ℕ} → IsInformation text end → IsBody end → IsComment Litmus text behind → IsInformation behind end
-info_behind_comment {text = t} nothing b c = absurd (opens_no_body t (comment_opens Litmus c) b)
-info_behind_comment {end = z} (commented f g) b c = subst (λ l. IsInformation l z) (comment_once f c) g
-info_behind_comment {text = t} (quoted {inside = i} e q g) b c = absurd (opens_no_quote t i (comment_opens Litmus c) e)
-info_behind_comment (plain l n m o g) b c = absurd (both (comment_opens Litmus c) o)
+-- No information goes on here.
+pub record Stops (text : List ℕ) : Type 0 where
+  pub no_comment : (rest : List ℕ) → IsComment Litmus text rest → ⊥
+  pub no_quotation : (inside rest : List ℕ) → text ≡ codes "\"" ++ inside → IsQuoted inside rest → ⊥
+  pub no_plain : 0 < length text → first text ≢ 123 → first text ≢ 34 → opens_comment Litmus text ≡ false → ⊥
 
-info_behind_quoted : {text inside behind end : List ℕ} → IsInformation text end → IsBody end → text ≡ codes "\"" ++ inside → IsQuoted inside behind → IsInformation behind end
-info_behind_quoted {text = t} {inside = i} nothing b e q = absurd (quote_no_body t i e b)
-info_behind_quoted {text = t} {inside = i} (commented f g) b e q = absurd (opens_no_quote t i (comment_opens Litmus f) e)
-info_behind_quoted {inside = i} {behind} {end} (quoted {behind = w} f p g) b e q =
+pub stops_at_body : (text : List ℕ) → IsBody text → Stops text
+stops_at_body text b = record {
+  no_comment = λ rest c. opens_no_body text (comment_opens Litmus c) b;
+  no_quotation = λ inside rest e q. quote_no_body text inside e b;
+  no_plain = λ l n m o. n (b l);
+}
+
+pub stops_at_fault : (text : List ℕ) {fault : TextFault} → IsInformationFault text fault → Stops text
+stops_at_fault text (unclosed_comment h) = record {
+  no_comment = h.unclosed;
+  no_quotation = λ inside rest e q. opens_no_quote text inside h.opens e;
+  no_plain = λ l n m o. both h.opens o;
+}
+stops_at_fault text (unclosed_string h) = record {
+  no_comment = λ rest c. elim (comment_first c) [ inl g ↦ omega (arith, h.quote) | inr g ↦ omega (arith, h.quote) ];
+  no_quotation = λ inside rest e q. h.unclosed rest (subst (λ l. IsQuoted l rest) (sym (ap (drop 1) e)) q);
+  no_plain = λ l n m o. m h.quote;
+}
+
+info_behind_comment : {text behind end : List ℕ} → IsInformation text end → Stops end → IsComment Litmus text behind → IsInformation behind end
+info_behind_comment {behind = w} nothing s c = absurd (s.no_comment w c)
+info_behind_comment {end = z} (commented f g) s c = subst (λ l. IsInformation l z) (comment_once f c) g
+info_behind_comment {text = t} (quoted {inside = i} e q g) s c = absurd (opens_no_quote t i (comment_opens Litmus c) e)
+info_behind_comment (plain l n m o g) s c = absurd (both (comment_opens Litmus c) o)
+
+info_behind_quoted : {text inside behind end : List ℕ} → IsInformation text end → Stops end → text ≡ codes "\"" ++ inside → IsQuoted inside behind → IsInformation behind end
+info_behind_quoted {inside = i} {behind} nothing s e q = absurd (s.no_quotation i behind e q)
+info_behind_quoted {text = t} {inside = i} (commented f g) s e q = absurd (opens_no_quote t i (comment_opens Litmus f) e)
+info_behind_quoted {inside = i} {behind} {end} (quoted {behind = w} f p g) s e q =
     let same : IsQuoted i w = subst (λ l. IsQuoted l w) (ap (drop 1) (sym f ∙ e)) p in
     subst (λ l. IsInformation l end) (quoted_once same q) g
-info_behind_quoted (plain l n m o g) b e q = absurd (m (ap first e))
+info_behind_quoted (plain l n m o g) s e q = absurd (m (ap first e))
 
-info_behind_other : {text end : List ℕ} → IsInformation text end → IsBody end → 0 < length text → first text ≢ 123 → first text ≢ 34 → opens_comment Litmus text ≡ false → IsInformation (drop 1 text) end
-info_behind_other nothing b l n m o = absurd (n (b l))
-info_behind_other (commented f g) b l n m o = absurd (both (comment_opens Litmus f) o)
-info_behind_other (quoted f p g) b l n m o = absurd (m (ap first f))
-info_behind_other (plain x y z w g) b l n m o = g
+info_behind_other : {text end : List ℕ} → IsInformation text end → Stops end → 0 < length text → first text ≢ 123 → first text ≢ 34 → opens_comment Litmus text ≡ false → IsInformation (drop 1 text) end
+info_behind_other nothing s l n m o = absurd (s.no_plain l n m o)
+info_behind_other (commented f g) s l n m o = absurd (both (comment_opens Litmus f) o)
+info_behind_other (quoted f p g) s l n m o = absurd (m (ap first f))
+info_behind_other (plain x y z w g) s l n m o = g
 
 pub info_trans : {text mid rest : List ℕ} → IsInformation text mid → IsInformation mid rest → IsInformation text rest
 info_trans nothing g = g
@@ -89,40 +114,33 @@ info_trans (commented c f) g = commented c (info_trans f g)
 info_trans (quoted e q f) g = quoted e q (info_trans f g)
 info_trans (plain l n m o f) g = plain l n m o (info_trans f g)
 
-pub info_to_body : {text mid end : List ℕ} → IsInformation text mid → IsInformation text end → IsBody end → IsInformation mid end
-info_to_body nothing g b = g
-info_to_body (commented c f) g b = info_to_body f (info_behind_comment g b c) b
-info_to_body (quoted e q f) g b = info_to_body f (info_behind_quoted g b e q) b
-info_to_body (plain l n m o f) g b = info_to_body f (info_behind_other g b l n m o) b
+pub info_to_stop : {text mid end : List ℕ} → IsInformation text mid → IsInformation text end → Stops end → IsInformation mid end
+info_to_stop nothing g s = g
+info_to_stop (commented c f) g s = info_to_stop f (info_behind_comment g s c) s
+info_to_stop (quoted e q f) g s = info_to_stop f (info_behind_quoted g s e q) s
+info_to_stop (plain l n m o f) g s = info_to_stop f (info_behind_other g s l n m o) s
 
-info_stays : {text end : List ℕ} → IsInformation text end → IsBody text → text ≡ end
-info_stays nothing b = refl
-info_stays {text = t} (commented c f) b = absurd (opens_no_body t (comment_opens Litmus c) b)
-info_stays {text = t} (quoted {inside = i} e q f) b = absurd (quote_no_body t i e b)
-info_stays (plain l n m o f) b = absurd (n (b l))
+info_stays : {text end : List ℕ} → IsInformation text end → Stops text → text ≡ end
+info_stays nothing s = refl
+info_stays (commented {behind = w} c f) s = absurd (s.no_comment w c)
+info_stays (quoted {inside = i} {behind = w} e q f) s = absurd (s.no_quotation i w e q)
+info_stays (plain l n m o f) s = absurd (s.no_plain l n m o)
 
-pub info_once : {text a b : List ℕ} → IsInformation text a → IsBody a → IsInformation text b → IsBody b → a ≡ b
-info_once f x g y = info_stays (info_to_body f g y) x
+pub info_once : {text a b : List ℕ} → IsInformation text a → Stops a → IsInformation text b → Stops b → a ≡ b
+info_once f x g y = info_stays (info_to_stop f g y) x
 
 -- no body is reached past what is never closed
-info_at_open : {text end : List ℕ} → IsInformation text end → IsBody end → IsOpenComment Litmus text → ⊥
-info_at_open {text = t} nothing b o = opens_no_body t o.opens b
-info_at_open (commented {behind = w} c f) b o = o.unclosed w c
-info_at_open {text = t} (quoted {inside = i} e q f) b o = opens_no_quote t i o.opens e
-info_at_open (plain l n m p f) b o = both o.opens p
+fault_no_body : {text : List ℕ} {fault : TextFault} → IsInformationFault text fault → IsBody text → ⊥
+fault_no_body {text} (unclosed_comment h) b = opens_no_body text h.opens b
+fault_no_body (unclosed_string h) b = omega (arith, b h.nonempty, h.quote)
+
+pub info_none_fault : {text mid : List ℕ} {fault : TextFault} → IsInformation text mid → IsInformationFault mid fault → (rest : List ℕ) → IsInformation text rest → IsBody rest → ⊥
+info_none_fault {mid = m} {fault} f h rest g b =
+    let same : m ≡ rest = info_once f (stops_at_fault m h) g (stops_at_body rest b) in
+    fault_no_body (subst (λ l. IsInformationFault l fault) same h) b
 
 pub info_none_open : {text mid : List ℕ} → IsInformation text mid → IsOpenComment Litmus mid → (rest : List ℕ) → IsInformation text rest → IsBody rest → ⊥
-info_none_open f o rest g b = info_at_open (info_to_body f g b) b o
-
-info_at_string : {text end : List ℕ} → IsInformation text end → IsBody end → 0 < length text → first text ≡ 34 → ((rest : List ℕ) → IsQuoted (drop 1 text) rest → ⊥) → ⊥
-info_at_string nothing b l e never = omega (arith, b l)
-info_at_string {text = t} (commented c f) b l e never = elim (comment_first c) [ inl g ↦ omega arith | inr g ↦ omega arith ]
-info_at_string {text = t} (quoted {behind = w} f q g) b l e never = never w (subst (λ l. IsQuoted l w) (sym (ap (drop 1) f)) q)
-info_at_string (plain x y z w g) b l e never = z e
-
-pub info_none_string : {text : List ℕ} (mid : List ℕ) → IsInformation text mid → 0 < length mid → first mid ≡ 34 → ((rest : List ℕ) → IsQuoted (take (length mid - 1) (drop 1 mid)) rest → ⊥) → (rest : List ℕ) → IsInformation text rest → IsBody rest → ⊥
-info_none_string mid f l e never rest g b =
-    info_at_string (info_to_body f g b) b l e (λ r q. never r (subst (λ u. IsQuoted u r) (sym (range_is 1 mid)) q))
+info_none_open f o rest g b = info_none_fault f (unclosed_comment o) rest g b
 
 -- a gap is information too
 pub gap_information : {text rest : List ℕ} → IsGap Litmus text rest → IsInformation text rest
@@ -166,11 +184,11 @@ module _ {total : ℕ} where
       let same : c ≡ d = gap_once s.gap (token_stuck b) t.gap (token_stuck e) in
       let size : k ≡ m = longest_once (subst (λ l. IsLongest Litmus Word l k) same b.slice) e.slice in (
         (λ q. token_at total Word (same q) (size q) ∷ []),
-        info_once (subst (λ l. IsInformation l x) (ap (drop k) same ∙ ap (λ h. drop h d) size) i) y j w,
+        info_once (subst (λ l. IsInformation l x) (ap (drop k) same ∙ ap (λ h. drop h d) size) i) (stops_at_body x y) j (stops_at_body z w),
       )
   title_once (named {name = c} s b i y) (nameless f j w) = absurd (f c s (token_run b))
   title_once (nameless f i y) (named {name = d} t e j w) = absurd (f d t (token_run e))
-  title_once (nameless f i y) (nameless g j w) = (refl, info_once i y j w)
+  title_once {a = x} {b = z} (nameless f i y) (nameless g j w) = (refl, info_once i (stops_at_body x y) j (stops_at_body z w))
 
   -- Heads.
 
@@ -293,7 +311,7 @@ title_open {mid = m} g o =
     with_no_name
     (λ name s run. both (subst (λ l. opens_comment Litmus l ≡ true) (gap_once g (stuck_at_open Litmus m o) s.gap (run_stuck run)) o.opens) run.no_comment)
     (gap_information g)
-    o
+    (unclosed_comment o)
 
 -- a fault in the information that text goes on with
 abbrev pub InformationFails : List ℕ → TextFault → Type 0
@@ -316,9 +334,13 @@ module _ (text : List ℕ) where
   head_cause_litmus d (Ok x) is h = tt
   head_cause_litmus d (Err e) is h = λ m. (is, h m)
 
+info_not_long : {text : List ℕ} {fault : TextFault} → IsInformationFault text fault → fault ≡ TooLong → ⊥
+info_not_long (unclosed_comment h) e = cc
+info_not_long (unclosed_string h) e = cc
+
 title_not_long : {text : List ℕ} → HasTitleFault text TooLong → ⊥
-title_not_long (behind_name s b i f) = f
-title_not_long (with_no_name s i f) = f
+title_not_long (behind_name s b i f) = info_not_long f refl
+title_not_long (with_no_name s i f) = info_not_long f refl
 
 head_not_long : {text : List ℕ} → HasHeadFault text TooLong → ⊥
 head_not_long (behind_language g b t) = title_not_long t

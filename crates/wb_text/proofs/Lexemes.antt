@@ -4,14 +4,15 @@ use Rattle.std.specs.Prelude.{All}
 use Rattle.std.specs.List.{Contains, prefix_len}
 use Rattle.std.proofs.lemmas.Bool.{false≢true, cases_lt}
 use Rattle.std.proofs.lemmas.List.{get_or_past, get_or_default}
-use Rattle.wb_text.specs.declared.fault.TextFault.TheVariants.{BadByte, NumberTooBig, OpenString}
+use Rattle.wb_text.specs.declared.fault.TextFault.{TextFault}
+use Rattle.wb_text.specs.declared.fault.TextFault.TheVariants.{BadByte, NumberTooBig, TooLong}
 use Rattle.wb_text.specs.declared.byte.Class.TheVariants as Class
 use Rattle.wb_text.specs.declared.token.Dialect.{Dialect}
 use Rattle.wb_text.specs.declared.token.Dialect.TheVariants.{Litmus}
 use Rattle.wb_text.specs.declared.token.TokenKind.{TokenKind}
 use Rattle.wb_text.specs.declared.token.TokenKind.TheVariants.{Word, Name, Number, Quoted, Sign}
 use Rattle.wb_text.specs.Bytes.{begins_blank, is_of, is_digit, is_name_start, is_name_part}
-use Rattle.wb_text.specs.Faults.{IsTokenFault, IsNotAscii, NoToken}
+use Rattle.wb_text.specs.Faults.{IsTokenFault, bad_text, bad_quotation, bad_byte, unclosed_quotation, big_number, IsOpenString, IsNotAscii, NoToken}
 use Rattle.wb_text.specs.Gaps.{IsQuoted, opens_comment}
 use Rattle.wb_text.specs.Numbers.{IsDecimal, decimal_value}
 use Rattle.wb_text.specs.Signs.{signs}
@@ -77,7 +78,7 @@ module _ (d : Dialect) (text : List ℕ) (l : 0 < length text) where
   pub number_cause : is_digit (first text) ≡ true → 2147483647 < decimal_value (take (prefix_len is_digit text) text) → IsTokenFault d text NumberTooBig
   number_cause e big =
       let s = number_longest d text l e in
-      record { len = prefix_len is_digit text; within = s.within; digits = s.spelled; big = big }
+      big_number (record { len = prefix_len is_digit text; slice = s; big = big })
 
   -- names
   pub name_token : (n : ℕ) → opens_comment d text ≡ false → is_name_start (first text) ≡ true → n ≡ prefix_len (is_name_part d) text → (Name ≢ Word) × BeginsToken d Name text n
@@ -101,7 +102,7 @@ module _ (d : Dialect) (text : List ℕ) (l : 0 < length text) where
       omega (arith, longest n fits c, spells_nonempty d kind (take n text) h, length-take n text)
 
   pub sign_cause : is_digit (first text) ≡ false → is_name_start (first text) ≡ false → (first text ≡ 34 → ⊥) → ((m : ℕ) → m ≤ length text → Contains (signs d) (take m text) → m ≤ 0) → first text ≤ 127 → IsTokenFault d text BadByte
-  sign_cause e f g longest small = record { nonempty = l; ascii = small; none = sign_none e f g longest }
+  sign_cause e f g longest small = bad_byte (record { nonempty = l; ascii = small; no_quote = g; none = sign_none e f g longest })
 
 -- a longest slice that is not ASCII
 pub not_ascii : {d : Dialect} {kind : TokenKind} {text : List ℕ} {n m : ℕ} → IsLongest d kind text n → (i : ℕ) → 128 ≤ get_or (take n text) i 0 → BeginsToken d kind text m → ⊥
@@ -123,6 +124,13 @@ not_ascii_at {text = text} {n} longest i above =
       | inr past ↦ absurd (omega (arith, get_or_past (take n text) i 0 past))
     ]
 
+pub token_not_long : {d : Dialect} {text : List ℕ} {fault : TextFault} → IsTokenFault d text fault → fault ≡ TooLong → ⊥
+token_not_long (bad_text h) e = cc
+token_not_long (bad_quotation h) e = cc
+token_not_long (bad_byte h) e = cc
+token_not_long (unclosed_quotation h) e = cc
+token_not_long (big_number h) e = cc
+
 -- words, as the code has them
 pub word_token : (text : List ℕ) (n : ℕ) → 0 < length text → begins_blank text ≡ false → opens_comment Litmus text ≡ false → n ≡ prefix_len (is_of Class.Word) text → ((i : ℕ) → get_or (take n text) i 0 < 128) → BeginsToken Litmus Word text n
 word_token text n l b a is small = record {
@@ -140,17 +148,21 @@ module _ (text : List ℕ) (l : 0 < length text) (e : first text ≡ 34) where
   split : text ≡ 34 ∷ drop 1 text
   split = begins_with_byte text 34 l e
 
+  pub quoted_spelled : (d : Dialect) (n : ℕ) → n ≤ length text → Spells d Quoted (take n text) → (rest : List ℕ) × IsQuoted (drop 1 text) rest
+  quoted_spelled d n within h =
+      let t = drop 1 text in
+      let fits : n ≤ suc (length t) = omega (arith, ap length split) in
+      let spelled : take n (34 ∷ t) ≡ 34 ∷ (h.0 ++ 34 ∷ []) = ap (take n) (sym split) ∙ h.1 in
+      (drop (length h.0 + 1) t, quoted_closed t n h.0 fits spelled h.2)
+
   pub quoted_none : ((rest : List ℕ) → IsQuoted (take (length text - 1) (drop 1 text)) rest → ⊥) → (d : Dialect) → NoToken d text
   quoted_none never d kind n w b =
       let is : kind ≡ Quoted = only_quoted kind (first text) w (starts_at d kind text n b.slice.spelled) e in
-      let h : Spells d Quoted (take n text) = subst (λ k. Spells d k (take n text)) is b.slice.spelled in
-      let t = drop 1 text in
-      let fits : n ≤ suc (length t) = omega (arith, b.slice.within, ap length split) in
-      let spelled : take n (34 ∷ t) ≡ 34 ∷ (h.0 ++ 34 ∷ []) = ap (take n) (sym split) ∙ h.1 in
-      never _ (subst (λ u. IsQuoted u (drop (length h.0 + 1) t)) (sym (range_is 1 text)) (quoted_closed t n h.0 fits spelled h.2))
+      let q = quoted_spelled d n b.slice.within (subst (λ k. Spells d k (take n text)) is b.slice.spelled) in
+      never q.0 (subst (λ u. IsQuoted u q.0) (sym (range_is 1 text)) q.1)
 
-  pub quoted_open : ((rest : List ℕ) → IsQuoted (take (length text - 1) (drop 1 text)) rest → ⊥) → (d : Dialect) → IsTokenFault d text OpenString
-  quoted_open never d = record { nonempty = l; quote = e; unclosed = λ rest q. never rest (subst (λ u. IsQuoted u rest) (sym (range_is 1 text)) q) }
+  pub quoted_open : ((rest : List ℕ) → IsQuoted (take (length text - 1) (drop 1 text)) rest → ⊥) → IsOpenString text
+  quoted_open never = record { nonempty = l; quote = e; unclosed = λ rest q. never rest (subst (λ u. IsQuoted u rest) (sym (range_is 1 text)) q) }
 
   pub quoted_slice : (rest : List ℕ) → IsQuoted (take (length text - 1) (drop 1 text)) rest → (d : Dialect) → IsLongest d Quoted text (length text - length rest)
   quoted_slice rest q d =

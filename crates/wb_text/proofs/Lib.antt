@@ -5,6 +5,7 @@ pub mod Lexemes
 pub mod Lists
 pub mod Moves
 pub mod Nesting
+pub mod OneFault
 pub mod Quotes
 pub mod Runs
 pub mod Signs

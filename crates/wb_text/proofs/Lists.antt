@@ -66,6 +66,24 @@ module _ {d : Dialect} {total : ℕ} where
   tokens_none_here g s l never (token {n = n} {kind = k} h v c t) e =
       never k n v (subst (λ x. BeginsToken d k x n) (gap_once h (token_stuck c) g s) c)
 
+  -- what is read up to a place where nothing goes on leads there
+  pub tokens_to_stuck : {text rest last end : List ℕ} {ts us : List Token} → HasTokens d total text ts rest → HasTokens d total text us last → IsGap d last end → IsStuck d end → NoToken d end → (vs : List Token) × HasTokens d total rest vs last
+  tokens_to_stuck {us = us} no_token t g s never = (us, t)
+  tokens_to_stuck (token {start = a} {n = n} {kind = k} h v c t) no_token g s never =
+      absurd (never k n v (subst (λ x. BeginsToken d k x n) (gap_once h (token_stuck c) g s) c))
+  tokens_to_stuck {last = z} (token {start = a} {n = n} {kind = k} h v c t) (token {start = b} {n = m} {kind = l} {ts = qs} f w x y) g s never =
+      let same : a ≡ b = gap_once h (token_stuck c) f (token_stuck x) in
+      let moved : BeginsToken d k b n = subst (λ q. BeginsToken d k q n) same c in
+      let kinds : k ≡ l = same_kind k l (first b) v w (starts_at d k b n moved.slice.spelled) (starts_at d l b m x.slice.spelled) in
+      let size : n ≡ m = longest_once (subst (λ q. IsLongest d q b n) kinds moved.slice) x.slice in
+      let behind : HasTokens d total (drop n a) qs z = subst (λ q. HasTokens d total q qs z) (ap (λ i. drop i b) (sym size) ∙ ap (drop n) (sym same)) y in
+      tokens_to_stuck t behind g s never
+
+  pub rest_is_last : {rest last place : List ℕ} {vs : List Token} → HasTokens d total rest vs last → IsGap d rest place → IsStuck d place → NoToken d place → rest ≡ last
+  rest_is_last no_token g s never = refl
+  rest_is_last (token {start = a} {n = n} {kind = k} h v c t) g s never =
+      absurd (never k n v (subst (λ x. BeginsToken d k x n) (gap_once h (token_stuck c) g s) c))
+
   pub at_end : {rest last : List ℕ} {vs : List Token} → HasTokens d total rest vs last → IsGap d rest [] → IsGap d last [] → vs ≡ []
   at_end no_token g e = refl
   at_end (token {start = a} h v c t) g e =
@@ -85,6 +103,9 @@ pub record Scanned (d : Dialect) (text : List ℕ) (ts : List Token) (rest : Lis
 module _ {d : Dialect} {text : List ℕ} where
   pub scanned_first : {ts : List Token} {body : List ℕ} → length text ≤ 65536 → (words : List Token) → ts ≡ words → IsHead (length text) d text words body → Scanned d text ts body
   scanned_first {body = b} s ws e h = record { short = s; words = ws; others = []; body = b; parts = e ∙ sym (append-nil ws); head = h; tokens = no_token }
+
+  pub scanned_of : {body last : List ℕ} {words others : List Token} → length text ≤ 65536 → IsHead (length text) d text words body → HasTokens d (length text) body others last → Scanned d text (words ++ others) last
+  scanned_of {body = b} {words = ws} {others = os} s h t = record { short = s; words = ws; others = os; body = b; parts = refl; head = h; tokens = t }
 
   pub scanned_push : {ts us : List Token} {rest : List ℕ} (start : List ℕ) (kind : TokenKind) (n : ℕ) → Scanned d text ts rest → IsGap d rest start → kind ≢ Word → BeginsToken d kind start n → us ≡ ts ++ token_at (length text) kind start n ∷ [] → Scanned d text us (take (length start - n) (drop n start))
   scanned_push start kind n s g w b e = rw take_rest (record {

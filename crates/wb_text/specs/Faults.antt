@@ -1,14 +1,14 @@
 -- Why a text is refused: what reading it from the left meets.
-use Rattle.std.specs.Prelude.{◌≡◌, ◌≢◌, ℕ, ◌<◌, ◌≤◌, ◌⊎◌, List, length, take, drop, slice_index}
+use Rattle.std.specs.Prelude.{◌≡◌, ◌≢◌, ℕ, ◌<◌, ◌≤◌, List, length, take, drop, slice_index}
 use Rattle.wb_text.specs.declared.fault.TextFault.{TextFault}
 use Rattle.wb_text.specs.declared.fault.TextFault.TheVariants.{NotAscii, BadByte, OpenComment, OpenString, NumberTooBig, TooLong, NoMemory}
 use Rattle.wb_text.specs.declared.token.Dialect.{Dialect}
 use Rattle.wb_text.specs.declared.token.Dialect.TheVariants.{Litmus}
 use Rattle.wb_text.specs.declared.token.Token.{Token}
 use Rattle.wb_text.specs.declared.token.TokenKind.{TokenKind}
-use Rattle.wb_text.specs.declared.token.TokenKind.TheVariants.{Word, Quoted}
+use Rattle.wb_text.specs.declared.token.TokenKind.TheVariants.{Word, Number, Quoted}
 use Rattle.wb_text.specs.Gaps.{IsGap, IsGapEnd, IsOpenComment, IsQuoted}
-use Rattle.wb_text.specs.Numbers.{IsDecimal, decimal_value}
+use Rattle.wb_text.specs.Numbers.{decimal_value}
 use Rattle.wb_text.specs.Tokens.{Spells, IsLongest, BeginsToken, HasTokens, IsSameLine, BeginsRun, IsInformation, IsHead}
 
 -- no token of a body begins here
@@ -28,10 +28,11 @@ pub record IsNotAscii (d : Dialect) (kind : TokenKind) (text : List ℕ) : Type 
   pub inside : place < len
   pub above : 127 < slice_index text place
 
--- an ASCII byte with which no token of a body begins
+-- an ASCII byte with which no token of a body begins, and no quoted text that is never closed
 pub record BeginsBadByte (d : Dialect) (text : List ℕ) : Type 0 where
   pub nonempty : 0 < length text
   pub ascii : slice_index text 0 ≤ 127
+  pub no_quote : slice_index text 0 ≢ 34
   pub none : (kind : TokenKind) (n : ℕ) → kind ≢ Word → n ≤ length text → ¬ Spells d kind (take n text)
 
 -- a double quote with none behind it
@@ -41,25 +42,23 @@ pub record IsOpenString (text : List ℕ) : Type 0 where
   pub unclosed : (rest : List ℕ) → ¬ IsQuoted (drop 1 text) rest
 
 -- digits whose value is above 2,147,483,647
-pub record BeginsBigNumber (text : List ℕ) : Type 0 where
+pub record BeginsBigNumber (d : Dialect) (text : List ℕ) : Type 0 where
   pub len : ℕ
-  pub within : len ≤ length text
-  pub digits : IsDecimal (take len text)
+  pub slice : IsLongest d Number text len
   pub big : 2147483647 < decimal_value (take len text)
 
 -- a fault where a token of a body is to begin
-abbrev pub IsTokenFault : Dialect → List ℕ → TextFault → Type 0
-IsTokenFault d text NotAscii = BeginsNotAscii text ⊎ IsNotAscii d Quoted text
-IsTokenFault d text BadByte = BeginsBadByte d text
-IsTokenFault d text OpenString = IsOpenString text
-IsTokenFault d text NumberTooBig = BeginsBigNumber text
-IsTokenFault d text fault = ⊥
+pub data IsTokenFault (d : Dialect) (text : List ℕ) : TextFault → Type 0 where
+  bad_text : BeginsNotAscii text → IsTokenFault d text NotAscii
+  bad_quotation : IsNotAscii d Quoted text → IsTokenFault d text NotAscii
+  bad_byte : BeginsBadByte d text → IsTokenFault d text BadByte
+  unclosed_quotation : IsOpenString text → IsTokenFault d text OpenString
+  big_number : BeginsBigNumber d text → IsTokenFault d text NumberTooBig
 
 -- a fault in the information of a head
-abbrev pub IsInformationFault : List ℕ → TextFault → Type 0
-IsInformationFault text OpenComment = IsOpenComment Litmus text
-IsInformationFault text OpenString = IsOpenString text
-IsInformationFault text fault = ⊥
+pub data IsInformationFault (text : List ℕ) : TextFault → Type 0 where
+  unclosed_comment : IsOpenComment Litmus text → IsInformationFault text OpenComment
+  unclosed_string : IsOpenString text → IsInformationFault text OpenString
 
 -- a fault behind the language: at the name, or in the information behind it
 pub data HasTitleFault (text : List ℕ) : TextFault → Type 0 where

@@ -1,6 +1,7 @@
 use Rattle.std.proofs.Common.{sym, ◌∙◌, arith}
 use Rattle.std.proofs.lemmas.Result.{err_from_is_err_and}
 use Rattle.wb_text.specs.Bytes.{is_digit}
+use Rattle.wb_text.specs.Faults.{bad_text}
 use Rattle.wb_text.proofs.Runs.{prefix_len-pos}
 use Rattle.wb_text.proofs.Lexemes.{number_token, number_none, number_cause, name_token, quoted_token, sign_token, sign_none, sign_cause}
 use Rattle.wb_text.proofs.lexeme.first_token.Goals as goal
@@ -53,3 +54,6 @@ pub returns-in_err-quoted_len-clause-cause : goal.returns-in_err-quoted_len-clau
 returns-in_err-quoted_len-clause-cause c =
     let p = err_from_is_err_and c.from_residual-in_err-quoted_len.result c.from_residual-in_err-quoted_len.ensures.1 in
     rw (p.1, p.2) (c.in_err-quoted_len.ensures.cause c.args.dialect)
+
+pub returns-then-first-gt127-clause-cause : goal.returns-then-first-gt127-clause-cause
+returns-then-first-gt127-clause-cause c = bad_text (record { nonempty = c.requires.here; above = c.if-first-gt127.true })

@@ -1,11 +1,12 @@
-use Rattle.std.proofs.Common.{◌≡◌, ◌++◌, sym, ap, ◌∙◌, subst, arith}
+use Rattle.std.proofs.Common.{◌≡◌, ◌++◌, sym, ap, ◌∙◌, arith}
 use Rattle.std.proofs.lemmas.Bool.{eqb-true}
 use Rattle.std.proofs.lemmas.List.{nil_from_length}
 use Rattle.std.proofs.lemmas.Result.{err_from_is_err_and}
 use Rattle.wb_text.specs.declared.fault.TextFault.TheVariants.{TooLong}
-use Rattle.wb_text.specs.Faults.{IsTokenFault, out_of_memory, too_long, in_comment, at_token}
+use Rattle.wb_text.specs.Faults.{out_of_memory, too_long, in_comment, at_token}
 use Rattle.wb_text.proofs.Gaps.{gap_length}
 use Rattle.wb_text.proofs.Heads.{head_cause, head_short}
+use Rattle.wb_text.proofs.Lexemes.{token_not_long}
 use Rattle.wb_text.proofs.Texts.{nonempty, range_length}
 use Rattle.wb_text.proofs.Lists.{scanned_first, scanned_push, scanned_list, scanned_none_open, scanned_none_here, scanned_tail, scanned_within, list_once, tail_length, token_length}
 use Rattle.wb_text.proofs.token.tokens.Goals as goal
@@ -59,14 +60,12 @@ returns-in_err-kind-clause-only c =
 
 pub returns-in_err-kind-clause-too_long : goal.returns-in_err-kind-clause-too_long
 returns-in_err-kind-clause-too_long c =
-    let p = err_from_is_err_and c.from_residual-in_err-kind.result c.from_residual-in_err-kind.ensures.1 in
-    let next = c.in_ok-next.next.now in (
+    let p = err_from_is_err_and c.from_residual-in_err-kind.result c.from_residual-in_err-kind.ensures.1 in (
       λ e.
           let was = p.1 in
           let is = p.2 in
           let same : c.in_err-kind.field-0.0 ≡ TooLong = cc in
-          let long : ⊥ = subst (IsTokenFault c.args.dialect next) same c.in_err-kind.ensures.cause in
-          absurd long,
+          absurd (token_not_long c.in_err-kind.ensures.cause same),
       λ long. absurd (omega arith),
     )
 
