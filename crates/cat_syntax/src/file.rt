@@ -1,9 +1,11 @@
 //! A model as it is read.
 
-ghost use Rattle.std.specs.Prelude.{◌≡◌, map, Option, None, Some, option_map};
+ghost use Rattle.std.specs.Prelude.{◌≡◌, map, Option, None, Some, option_map, IfOk};
 ghost use Rattle.cat_syntax.specs.Tree.{clause_of};
 
+use crate::copying::items_copy;
 use crate::tree::Item;
+use std::alloc::AllocError;
 use std::marker::Model;
 
 /// The title of a model. Contracts see its bytes.
@@ -33,6 +35,15 @@ impl Title {
         ensures { result.now ≡ self.now }
     {
         self.bytes.as_slice()
+    }
+
+    /// A second title of the same bytes.
+    pub fn copy(&self) -> Result<Title, AllocError>
+        ensures { IfOk result (λ t. t ≡ self.now) }
+    {
+        Ok(Title {
+            bytes: self.bytes.clone()?,
+        })
     }
 }
 
@@ -77,5 +88,16 @@ impl CatFile {
         ensures { map clause_of result.now ≡ self.now.items }
     {
         &self.items
+    }
+
+    /// A second model that is equal.
+    pub fn copy(&self) -> Result<CatFile, AllocError>
+        ensures { IfOk result (λ f. f ≡ self.now) }
+    {
+        let title = match &self.title {
+            Some(title) => Some(title.copy()?),
+            None => None,
+        };
+        Ok(CatFile::new(title, items_copy(&self.items)?))
     }
 }

@@ -1,6 +1,7 @@
 //! Models in the cat language: their trees and the reader.
 #![tactic(auto)]
 
+mod copying;
 mod counting;
 mod fault;
 mod file;
