@@ -1,3 +1,5 @@
+pub mod Stub
 pub mod Operators
 pub mod Meaning
+pub mod Names
 pub mod Judging
