@@ -1,2 +1,6 @@
 pub mod Values
 pub mod Terms
+pub mod Sorting
+pub mod Environments
+pub mod Execution
+pub mod Rows

@@ -33,6 +33,7 @@ impl<'a> GraphView<'a> {
         self.count
     }
 
+    #[tactic(auto, unfolding(crate::specs::Stub::NamedSet))]
     pub fn set(&self, name: SetName) -> Set
         ensures { IsExactlySet (event_count self.now) (NamedSet self.now name) result }
     {
@@ -40,6 +41,7 @@ impl<'a> GraphView<'a> {
         Set::empty(self.count())
     }
 
+    #[tactic(auto, unfolding(crate::specs::Stub::NamedRel))]
     pub fn rel(&self, name: RelName) -> Rel
         ensures { IsExactly (event_count self.now) (NamedRel self.now name) result }
     {
