@@ -4,3 +4,5 @@ pub mod Sorting
 pub mod Environments
 pub mod Execution
 pub mod Rows
+pub mod Groups
+pub mod Climbing

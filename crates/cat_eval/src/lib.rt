@@ -2,9 +2,12 @@
 #![tactic(auto)]
 
 mod evaluation;
+mod flags;
+mod judging;
 mod naming;
+mod rounds;
 mod stub;
 mod value;
 
+pub use judging::{Judgement, judge};
 pub use stub::GraphView;
-pub use value::{Entry, Value};

@@ -1,13 +1,13 @@
 //! Names and what they stand for.
 
 ghost use Rattle.std.specs.Prelude.{◌≡◌, [], IsSome, option_map, Some};
-ghost use Rattle.cat_model.specs.Sorts.{sort_of_name};
+ghost use Rattle.cat_model.specs.Sorts.{sort_of_name as sort_known};
 ghost use Rattle.cat_eval.specs.Meaning.{Under};
 ghost use Rattle.cat_eval.specs.Names.{Names, sort_of, scope_of, latest as latest_of};
 
 use crate::stub::GraphView;
 use crate::value::{Entry, Value};
-use cat_model::Named;
+use cat_model::{Named, Sort};
 use wb_text::Name;
 
 // The value of the latest binding of the name.
@@ -22,11 +22,27 @@ fn latest<'a>(entries: &'a [Entry], name: &Name) -> Option<&'a Value>
         .map(|entry| &entry.value)
 }
 
+/// Whether a name stands for a set or a relation.
+pub fn sort_of_name(earlier: &[Entry], group: &[Entry], name: &Name) -> Option<Sort>
+    ensures { result ≡ sort_known (scope_of (scope_of [] earlier.now) group.now) name.now }
+{
+    if let Some(value) = latest(group, name) {
+        return Some(value.sort());
+    }
+    if let Some(value) = latest(earlier, name) {
+        return Some(value.sort());
+    }
+    match Named::of(name) {
+        Some(named) => Some(named.sort()),
+        None => None,
+    }
+}
+
 /// What a name stands for: its latest binding, or else a set or a relation of the execution.
 pub fn look_up(view: &GraphView, earlier: &[Entry], group: &[Entry], name: &Name) -> Value
-    requires sorted { IsSome (sort_of_name (scope_of (scope_of [] earlier.now) group.now) name.now) }
+    requires sorted { IsSome (sort_known (scope_of (scope_of [] earlier.now) group.now) name.now) }
     ensures value { Under (Under (Names view.now) earlier.now) group.now name.now result }
-    ensures sort { sort_of_name (scope_of (scope_of [] earlier.now) group.now) name.now ≡ Some (sort_of result) }
+    ensures sort { sort_known (scope_of (scope_of [] earlier.now) group.now) name.now ≡ Some (sort_of result) }
 {
     if let Some(value) = latest(group, name) {
         return value.copy();
