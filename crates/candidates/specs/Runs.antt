@@ -5,7 +5,7 @@ use Rattle.std.specs.Str.{bytes_eq}
 use Rattle.events.specs.declared.event.Access.TheVariants.{Read, Write}
 use Rattle.events.specs.declared.event.Event.{Event}
 use Rattle.events.specs.declared.event.Order.{Order}
-use Rattle.events.specs.Executions.{ThreadRun}
+use Rattle.events.specs.Executions.{ThreadRun, no_places}
 use Rattle.litmus_c.specs.declared.conditions.place.Place.TheVariants.{Reg, Loc}
 use Rattle.litmus_c.specs.Tree.{Word, Term, number, Action, load, store, Right, value_of, Declared, Step, empty, declare, assign, perform, Program, Litmus}
 use Rattle.litmus_c.specs.States.{value_at}
@@ -17,10 +17,10 @@ place_of w [] = 0
 place_of w (name ∷ names) = if bytes_eq name w then 0 else suc (place_of w names)
 
 abbrev pub read : ℕ → ℕ → ℕ → Order → Event
-read k x v o = record { thread = k; access = Read; loc = x; value = v; order = o }
+read k x v o = record { thread = k; access = Read; loc = x; value = v; order = o; data_from = no_places; ctrl_from = no_places }
 
 abbrev pub write : ℕ → ℕ → ℕ → Order → Event
-write k x v o = record { thread = k; access = Write; loc = x; value = v; order = o }
+write k x v o = record { thread = k; access = Write; loc = x; value = v; order = o; data_from = no_places; ctrl_from = no_places }
 
 -- the value of an expression
 abbrev pub term_value : Term → ℕ

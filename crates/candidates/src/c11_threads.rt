@@ -10,7 +10,7 @@ ghost use Rattle.candidates.specs.Candidates.{followed, extended, runs_in_turn, 
 ghost use Rattle.candidates.specs.Faults.{IsFaultAt, IsRunFault};
 
 use crate::fault::{MOST_RUNS, RunFault};
-use events::{Access, Event, Order, Run};
+use events::{Access, Event, Order, Run, no_places};
 use litmus_c::conditions::{Binding, Place};
 use litmus_c::{Call, Declarator, Expression, RightSide, Statement, Test};
 use std::alloc::{AllocError, Global};
@@ -109,6 +109,8 @@ impl Setting<'_> {
             loc,
             value,
             order,
+            data_from: no_places(),
+            ctrl_from: no_places(),
         })?;
         give(&mut longer, register, value);
         Ok(longer)
@@ -174,9 +176,11 @@ impl Setting<'_> {
             loc,
             value,
             order,
+            data_from: no_places(),
+            ctrl_from: no_places(),
         };
         for run in runs.iter_mut() {
-            run.push(event)?;
+            run.push(event.copy())?;
             give(run, register, 0);
         }
         Ok(())

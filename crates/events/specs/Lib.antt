@@ -1,1 +1,2 @@
 pub mod Executions
+pub mod Named

@@ -1,7 +1,11 @@
 //! Events of a thread, and how an execution names them.
 
-ghost use Rattle.std.specs.Prelude.{◌≡◌};
-ghost use Rattle.events.specs.Executions.{is_read, is_write, writes_to};
+ghost use Rattle.std.specs.Prelude.{◌≡◌, ◌↔◌, ◌⊎◌, IsTrue};
+ghost use Rattle.events.specs.Executions.{is_read, is_write, writes_to, no_places};
+ghost use Rattle.events.specs.Named.{IsOfCall, IsInitial, IsBefore, IsNext, IsInternal};
+ghost use Rattle.events.specs.declared.event.Access.TheVariants.{ExRead, ExWrite};
+
+use relations::Set;
 
 /// A memory order, or none.
 #[derive(Clone, Copy, Debug, PartialEq, Eq)]
@@ -30,14 +34,26 @@ pub enum Access {
 }
 
 /// One event of a thread. A location is named by its place in the test's list of locations;
-/// a fence has location 0 and value 0.
-#[derive(Clone, Copy, Debug, PartialEq, Eq)]
+/// a fence has location 0 and value 0. What an event depends on is a set of places of its own thread's run,
+/// over the places 0 to 63.
+#[derive(Drop)]
 pub struct Event {
     pub thread: usize,
     pub access: Access,
     pub loc: usize,
     pub value: u32,
     pub order: Order,
+    /// The reads whose values reached the value that a write writes.
+    pub data_from: Set,
+    /// The reads whose values reached the tests of the branches around.
+    pub ctrl_from: Set,
+}
+
+/// The dependencies of an event that depends on nothing.
+pub fn no_places() -> Set
+    ensures { result ≡ no_places }
+{
+    Set::empty(64)
 }
 
 /// An event's name in an execution: the initial write of a location, or a thread and a place in its run.
@@ -47,7 +63,67 @@ pub enum EventId {
     Own(usize, usize),
 }
 
+impl Order {
+    /// Whether it is the order of an atomic call or a fence.
+    pub fn is_of_call(self) -> bool
+        ensures { IsTrue result ↔ IsOfCall self }
+    {
+        !matches!(self, Order::NoOrder | Order::Na)
+    }
+}
+
+impl EventId {
+    /// Whether it names an initial write.
+    pub fn is_initial(self) -> bool
+        ensures { IsTrue result ↔ IsInitial self }
+    {
+        matches!(self, EventId::Initial(_))
+    }
+
+    /// Whether the event stands before the other in program order.
+    pub fn is_before(self, other: Self) -> bool
+        ensures { IsTrue result ↔ IsBefore self other }
+    {
+        match (self, other) {
+            (EventId::Own(thread, place), EventId::Own(same, later)) => {
+                thread == same && place < later
+            }
+            _ => false,
+        }
+    }
+
+    /// Whether the event stands directly before the other in program order.
+    pub fn is_next(self, other: Self) -> bool
+        ensures { IsTrue result ↔ IsNext self other }
+    {
+        match (self, other) {
+            (EventId::Own(thread, place), EventId::Own(same, next)) => {
+                thread == same && place < next && next - place == 1
+            }
+            _ => false,
+        }
+    }
+
+    /// Whether both events are of one thread, or both are initial writes.
+    pub fn is_internal(self, other: Self) -> bool
+        ensures { IsTrue result ↔ IsInternal self other }
+    {
+        match (self, other) {
+            (EventId::Own(thread, _), EventId::Own(same, _)) => thread == same,
+            (EventId::Initial(_), EventId::Initial(_)) => true,
+            _ => false,
+        }
+    }
+}
+
 impl Access {
+    /// Whether it is of an exchange.
+    pub fn is_of_exchange(self) -> bool
+        ensures { IsTrue result ↔ ((self ≡ ExRead) ⊎ (self ≡ ExWrite)) }
+    {
+        matches!(self, Access::ExRead | Access::ExWrite)
+    }
+
     /// Whether it reads.
     pub fn is_read(self) -> bool
         ensures { result ≡ is_read self }
@@ -64,6 +140,21 @@ impl Access {
 }
 
 impl Event {
+    /// The same event once more.
+    pub fn copy(&self) -> Self
+        ensures { result ≡ self.now }
+    {
+        Event {
+            thread: self.thread,
+            access: self.access,
+            loc: self.loc,
+            value: self.value,
+            order: self.order,
+            data_from: self.data_from.copy(),
+            ctrl_from: self.ctrl_from.copy(),
+        }
+    }
+
     /// Whether it reads.
     pub fn is_read(&self) -> bool
         ensures { result ≡ is_read self.now.access }

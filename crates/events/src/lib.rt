@@ -3,10 +3,13 @@
 
 mod event;
 mod graph;
+pub mod laws;
 mod named;
 mod run;
+mod view;
 
-pub use event::{Access, Event, EventId, Order};
+pub use event::{Access, Event, EventId, Order, no_places};
 pub use graph::{Coherence, Graph};
 pub use named::{RelName, SetName};
 pub use run::Run;
+pub use view::GraphView;

@@ -1,0 +1,4 @@
+pub mod Filling
+pub mod Numbers
+pub mod Places
+pub mod Standing

@@ -1,0 +1,9 @@
+use Rattle.std.proofs.lemmas.Bool.{false≢true}
+use Rattle.events.proofs.Places.{no_data}
+use Rattle.events.proofs.graph.Graph.is_data_dependency.Goals as goal
+
+pub returns-in-None : goal.returns-in-None
+returns-in-None c = (
+  λ t. absurd (false≢true t),
+  λ h. absurd (no_data c.args.self.now c.args.first c.args.second c.in-Own.thread c.in-Own.place c.in-Own.is c.in-None.ensures h),
+)

@@ -1,0 +1,18 @@
+use Rattle.std.proofs.Common.{◌≡◌, ◌++◌, ◌∙◌, ap, length, List, ℕ}
+use Rattle.listings.specs.Lists.{tabulate}
+use Rattle.events.specs.declared.event.EventId.{EventId}
+use Rattle.events.specs.declared.event.EventId.TheVariants.{Initial}
+use Rattle.events.specs.Executions.{ThreadRun}
+use Rattle.events.specs.Named.{thread_names, event_names, event_count}
+use Rattle.events.proofs.Numbers.{counted}
+use Rattle.events.proofs.view.names.event_names.Goals as goal
+
+pub returns-clause-names : goal.returns-clause-names
+unfolding event_names
+returns-clause-names c =
+    c.in_ok-push_threads.ensures ∙ ap (λ (ns : List EventId). ns ++ thread_names 0 c.runs.result.now) c.in_ok-names.ensures
+    ∙ ap (λ (xs : List ℕ). tabulate (length xs) (λ x. Initial x) ++ thread_names 0 c.runs.result.now) c.init.ensures
+    ∙ ap (λ (rs : List ThreadRun). tabulate (length c.args.graph.now.init) (λ x. Initial x) ++ thread_names 0 rs) c.runs.ensures.value
+
+pub returns-clause-count : goal.returns-clause-count
+returns-clause-count c = ap length (returns-clause-names c) ∙ counted c.args.graph.now
