@@ -6,3 +6,5 @@ pub mod Execution
 pub mod Rows
 pub mod Groups
 pub mod Climbing
+pub mod Once
+pub mod Lawful

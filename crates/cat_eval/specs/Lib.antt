@@ -1,4 +1,3 @@
-pub mod Stub
 pub mod Operators
 pub mod Meaning
 pub mod Names

@@ -6,8 +6,6 @@ mod flags;
 mod judging;
 mod naming;
 mod rounds;
-mod stub;
 mod value;
 
 pub use judging::{Judgement, judge};
-pub use stub::GraphView;

@@ -5,9 +5,9 @@ ghost use Rattle.cat_model.specs.Sorts.{sort_of_name as sort_known};
 ghost use Rattle.cat_eval.specs.Meaning.{Under};
 ghost use Rattle.cat_eval.specs.Names.{Names, sort_of, scope_of, latest as latest_of};
 
-use crate::stub::GraphView;
 use crate::value::{Entry, Value};
 use cat_model::{Named, Sort};
+use events::GraphView;
 use wb_text::Name;
 
 // The value of the latest binding of the name.

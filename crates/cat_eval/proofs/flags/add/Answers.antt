@@ -1,16 +1,13 @@
-use Rattle.std.proofs.Common.{rules, ◌≡◌, ◌↔◌, ◌⊎◌, OnOk, OnErr, ℕ, ◌+◌, ◌-◌, ◌*◌, ◌<◌, ◌≤◌, length, ◌/◌, ◌%◌, Bool, true, false, nat_eq, nat_lt, List, [], ◌∷◌, ◌++◌, slice_index_or, slice_set, bit_and, bit_or, Fits, w8, w32, w64, Bor, MutBor}
-use Rattle.listings.specs.Lists.{IsIn, NoRepeats}
-use Rattle.cat_syntax.specs.Tree.{Word}
+use Rattle.cat_eval.proofs.Once.{kept, more, once_more}
 use Rattle.cat_eval.proofs.flags.add.Goals as goal
 
--- src/flags.rt:18:9
-pub returns-then-any-clause-added : goal.returns-then-any-clause-added
-returns-then-any-clause-added c = ?
+pub returns-then-has-clause-added : goal.returns-then-has-clause-added
+returns-then-has-clause-added c = kept c.deref.result.now c.args.names.now.items c.args.name.now c.has.result c.deref.ensures.value c.has.ensures c.if-has.true
 
--- src/flags.rt:11:1
 pub returns-clause-once : goal.returns-clause-once
-returns-clause-once c = ?
+returns-clause-once c =
+    once_more c.deref.result.now c.args.names.now.items c.push.new.self.items c.args.name.now c.in_ok-copy.copy c.has.result c.deref.ensures.value c.has.ensures c.if-has.false c.requires
+    c.in_ok-push.ensures.items c.in_ok-copy.ensures
 
--- src/flags.rt:11:1
 pub returns-clause-added : goal.returns-clause-added
-returns-clause-added c = ?
+returns-clause-added c = more c.args.names.now.items c.push.new.self.items c.args.name.now c.in_ok-copy.copy c.in_ok-push.ensures.items c.in_ok-copy.ensures

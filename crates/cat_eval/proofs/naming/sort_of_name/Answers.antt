@@ -1,22 +1,27 @@
-use Rattle.std.proofs.Common.{rules, ◌≡◌, [], IsSome, option_map, Some, ℕ, ◌+◌, ◌-◌, ◌*◌, ◌<◌, ◌≤◌, length, ◌/◌, ◌%◌, Bool, true, false, nat_eq, nat_lt, List, ◌∷◌, ◌++◌, slice_index_or, slice_set, bit_and, bit_or, Fits, w8, w32, w64, Bor, MutBor}
-use Rattle.cat_model.specs.Sorts.{sort_of_name as sort_known}
-use Rattle.cat_eval.specs.Meaning.{Under}
-use Rattle.cat_eval.specs.Names.{Names, sort_of, scope_of}
-use Rattle.cat_eval.specs.Names.{latest as latest_of}
+use Rattle.std.proofs.Common.{◌≡◌, [], Some, None, option_map, refl, sym, ◌∙◌, ap}
+use Rattle.cat_model.specs.Named.{sort_of_named}
+use Rattle.cat_model.specs.Sorts.{sort_of_name}
+use Rattle.cat_eval.specs.Names.{sort_of, scope_of}
+use Rattle.cat_eval.proofs.Environments.{scope_none, scope_some}
 use Rattle.cat_eval.proofs.naming.sort_of_name.Goals as goal
 
--- src/naming.rt:30:9
 pub returns-in-Some : goal.returns-in-Some
-returns-in-Some c = ?
+returns-in-Some c =
+    sym (scope_some (scope_of [] c.args.earlier.now) c.args.group.now c.args.name.now c.in-Some.value.now (sym c.latest.ensures ∙ ap (option_map (λ v. v.now)) c.in-Some.is) ∙ ap Some (sym c.sort.ensures))
 
--- src/naming.rt:33:9
 pub returns-in-Some-latest : goal.returns-in-Some-latest
-returns-in-Some-latest c = ?
+returns-in-Some-latest c =
+    sym (scope_none (scope_of [] c.args.earlier.now) c.args.group.now c.args.name.now (sym c.latest.ensures ∙ ap (option_map (λ v. v.now)) c.in_default.is) ∙
+      scope_some [] c.args.earlier.now c.args.name.now c.in-Some-latest.value.now (sym c.latest-2.ensures ∙ ap (option_map (λ v. v.now)) c.in-Some-latest.is) ∙ ap Some (sym c.sort-in-Some-latest.ensures))
 
--- src/naming.rt:26:1
 pub returns-in-Some-of : goal.returns-in-Some-of
-returns-in-Some-of c = ?
+returns-in-Some-of c =
+    sym (scope_none (scope_of [] c.args.earlier.now) c.args.group.now c.args.name.now (sym c.latest.ensures ∙ ap (option_map (λ v. v.now)) c.in_default.is) ∙
+      scope_none [] c.args.earlier.now c.args.name.now (sym c.latest-2.ensures ∙ ap (option_map (λ v. v.now)) c.in_default-latest.is) ∙
+      ap (option_map sort_of_named) (sym c.of.ensures ∙ c.in-Some-of.is) ∙ ap Some (sym c.sort-in-Some-of.ensures))
 
--- src/naming.rt:26:1
 pub returns-in-None : goal.returns-in-None
-returns-in-None c = ?
+returns-in-None c =
+    sym (scope_none (scope_of [] c.args.earlier.now) c.args.group.now c.args.name.now (sym c.latest.ensures ∙ ap (option_map (λ v. v.now)) c.in_default.is) ∙
+      scope_none [] c.args.earlier.now c.args.name.now (sym c.latest-2.ensures ∙ ap (option_map (λ v. v.now)) c.in_default-latest.is) ∙
+      ap (option_map sort_of_named) (sym c.of.ensures ∙ c.in-None.is))
