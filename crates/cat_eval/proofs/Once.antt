@@ -1,5 +1,5 @@
 -- Lists of names without repeats.
-use Rattle.std.proofs.Common.{◌≡◌, ℕ, ◌⊎◌, ◌↔◌, List, [], ◌∷◌, ◌++◌, Bool, true, false, ◌||◌, refl, sym, ◌∙◌, ap, subst, inl, inr}
+use Rattle.std.proofs.Common.{◌≡◌, ◌⊎◌, ◌↔◌, List, [], ◌∷◌, ◌++◌, Bool, true, false, ◌||◌, refl, sym, ◌∙◌, subst, inl, inr}
 use Rattle.std.specs.Str.{bytes_eq}
 use Rattle.std.specs.List.{list_any}
 use Rattle.std.proofs.lemmas.Bool.{false≢true}
@@ -54,7 +54,7 @@ once_more ys xs zs f g b s e t o d h =
     let P : List Word → Type 0 = λ ys. NoRepeats ys in
     let Q : List Word → Type 0 = λ zs. IsIn f zs in
     subst P (sym d) (once_append xs (g ∷ []) o ((λ k. k), tt)
-      (λ x m k. elim k [
-        | inl l ↦ false≢true (sym t ∙ e ∙ has_it ys f (let R : Word → Type 0 = λ y. IsIn y ys in let m2 : IsIn x ys = (let S : List Word → Type 0 = λ zs. IsIn x zs in subst S (sym s) m) in subst R (l ∙ h) m2))
-        | inr l ↦ l
-      ]))
+    (λ x m k. elim k [
+      | inl l ↦ false≢true (sym t ∙ e ∙ has_it ys f (let R : Word → Type 0 = λ y. IsIn y ys in let m2 : IsIn x ys = (let S : List Word → Type 0 = λ zs. IsIn x zs in subst S (sym s) m) in subst R (l ∙ h) m2))
+      | inr l ↦ l
+    ]))

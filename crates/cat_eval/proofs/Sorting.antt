@@ -1,5 +1,5 @@
 -- Values have the sorts of their expressions.
-use Rattle.std.proofs.Common.{◌≡◌, ℕ, ◌⊎◌, Option, Some, refl, sym, ◌∙◌, ap, subst}
+use Rattle.std.proofs.Common.{◌≡◌, ℕ, ◌⊎◌, Option, Some, sym, ◌∙◌, ap}
 use Rattle.relations.specs.Events.{Has}
 use Rattle.relations.specs.Relation.{In}
 use Rattle.relations.specs.Algebra.{Through, Chain, Domain, Range}
@@ -80,6 +80,7 @@ range_sort (Pairs r) v h = set_sort r.count (Range (In r)) v h
 identity_sort : (x v : Value) → IsIdentity x v → sort_of v ≡ Relation
 identity_sort (Events s) v h = relation_sort s.count (λ i j. (i ≡ j) × Has s i) v h
 identity_sort (Pairs r) v h = absurd h
+
 -- Each name stands for a value of its sort.
 pub record Fits (E : Word → Value → Type 0) (s : Scope) : Type 0 where
   pub fits : (x : Word) (v : Value) → E x v → sort_of_name s x ≡ Some (sort_of v)
