@@ -12,8 +12,8 @@ use Rattle.cat_syntax.specs.Tree.{Word}
 use Rattle.cat_model.specs.Sorts.{Scope, sort_of_name}
 use Rattle.cat_eval.specs.declared.value.Value.{Value}
 use Rattle.cat_eval.specs.declared.value.Entry.{Entry}
-use Rattle.cat_eval.specs.Meaning.{With, Under, IsOver}
-use Rattle.cat_eval.specs.Names.{sort_of, scope_of, latest}
+use Rattle.cat_eval.specs.Meaning.{With, Under}
+use Rattle.cat_eval.specs.Steps.{IsOver, sort_of, scope_of, latest}
 use Rattle.cat_eval.proofs.Sorting.{Fits}
 
 bool_cases : (b : Bool) → (b ≡ true) ⊎ (b ≡ false)

@@ -11,7 +11,7 @@ use Rattle.cat_eval.specs.declared.value.Value.{Value}
 use Rattle.cat_eval.specs.declared.value.Value.TheVariants.{Events, Pairs}
 use Rattle.cat_eval.specs.Operators.{IsSet, IsRelation, IsUnion, IsIntersection, IsDifference, IsComplement, IsSequence, IsProduct, IsPlus, IsStar, IsOptional, IsInverse, IsDomain, IsRange, IsIdentity}
 use Rattle.cat_eval.specs.Meaning.{Means}
-use Rattle.cat_eval.specs.Names.{sort_of}
+use Rattle.cat_eval.specs.Steps.{sort_of}
 
 pub set_sort : (n : ℕ) (P : ℕ → Type 0) (v : Value) → IsSet n P v → sort_of v ≡ Set
 set_sort n P v h = ap sort_of h.value

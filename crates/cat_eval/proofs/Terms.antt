@@ -6,7 +6,8 @@ use Rattle.cat_syntax.specs.Tree.{Word, Term, union, sequence, difference, inter
 use Rattle.cat_model.specs.Sorts.{names, denied_names}
 use Rattle.cat_eval.specs.declared.value.Value.{Value}
 use Rattle.cat_eval.specs.Operators.{IsUnion, IsIntersection, IsDifference, IsComplement, IsSequence, IsProduct, IsPlus, IsStar, IsOptional, IsInverse, IsDomain, IsRange, IsIdentity}
-use Rattle.cat_eval.specs.Meaning.{Made, MadeOfTwo, Means, Lies, IsOver}
+use Rattle.cat_eval.specs.Meaning.{Made, MadeOfTwo, Means, Lies}
+use Rattle.cat_eval.specs.Steps.{IsOver}
 use Rattle.cat_eval.proofs.Values as values
 
 left : {X : Type 0} (P : X → Type 0) (xs ys : List X) → All P (xs ++ ys) → All P xs

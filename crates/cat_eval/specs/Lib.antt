@@ -2,3 +2,6 @@ pub mod Operators
 pub mod Meaning
 pub mod Names
 pub mod Judging
+pub mod Steps
+pub mod Examples
+pub mod Laws

@@ -4,6 +4,7 @@
 mod evaluation;
 mod flags;
 mod judging;
+pub mod laws;
 mod naming;
 mod rounds;
 mod value;

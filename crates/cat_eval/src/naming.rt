@@ -3,7 +3,8 @@
 ghost use Rattle.std.specs.Prelude.{◌≡◌, [], IsSome, option_map, Some};
 ghost use Rattle.cat_model.specs.Sorts.{sort_of_name as sort_known};
 ghost use Rattle.cat_eval.specs.Meaning.{Under};
-ghost use Rattle.cat_eval.specs.Names.{Names, sort_of, scope_of, latest as latest_of};
+ghost use Rattle.cat_eval.specs.Names.{Names};
+ghost use Rattle.cat_eval.specs.Steps.{sort_of, scope_of, latest as latest_of};
 
 use crate::value::{Entry, Value};
 use cat_model::{Named, Sort};
@@ -11,7 +12,7 @@ use events::GraphView;
 use wb_text::Name;
 
 // The value of the latest binding of the name.
-#[tactic(auto, unfolding(crate::specs::Names::latest))]
+#[tactic(auto, unfolding(crate::specs::Steps::latest))]
 fn latest<'a>(entries: &'a [Entry], name: &Name) -> Option<&'a Value>
     ensures { option_map (λ v. v.now) result ≡ latest_of entries.now name.now }
 {

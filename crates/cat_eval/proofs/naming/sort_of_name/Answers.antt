@@ -1,8 +1,8 @@
 use Rattle.std.proofs.Common.{[], Some, option_map, sym, ◌∙◌, ap}
 use Rattle.cat_model.specs.Named.{sort_of_named}
-use Rattle.cat_eval.specs.Names.{scope_of}
 use Rattle.cat_eval.proofs.Environments.{scope_none, scope_some}
 use Rattle.cat_eval.proofs.naming.sort_of_name.Goals as goal
+use Rattle.cat_eval.specs.Steps.{scope_of}
 
 pub returns-in-Some : goal.returns-in-Some
 returns-in-Some c =
