@@ -1,0 +1,7 @@
+pub mod Operators
+pub mod Meaning
+pub mod Names
+pub mod Judging
+pub mod Steps
+pub mod Examples
+pub mod Laws

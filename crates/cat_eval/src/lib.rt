@@ -1,0 +1,12 @@
+//! Judges executions under models: which checks hold, and which flags are raised.
+#![tactic(auto)]
+
+mod evaluation;
+mod flags;
+mod judging;
+pub mod laws;
+mod naming;
+mod rounds;
+mod value;
+
+pub use judging::{Judgement, judge};

@@ -1,0 +1,5 @@
+pub mod Named
+pub mod Sorts
+pub mod Scopes
+pub mod Models
+pub mod Examples
