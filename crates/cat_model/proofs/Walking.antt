@@ -1,0 +1,122 @@
+-- Walks, and what they add.
+use Rattle.std.proofs.Common.{◌≡◌, ◌≢◌, ℕ, zero, suc, ◌+◌, ◌-◌, ◌<◌, ◌≤◌, List, [], ◌∷◌, ◌++◌, Option, Some, None, Bool, true, false, cond, take, drop, length, map, get_or, refl, sym, ◌∙◌, inl, inr, ◌⊎◌, subst, arith, ap, append_assoc, append-nil, IsSome}
+use Rattle.std.specs.List.{Contains, list_any, sum_by}
+use Rattle.std.specs.Str.{bytes_eq}
+use Rattle.std.proofs.lemmas.List.Sums.{sum_by-append, sum_by-cons}
+use Rattle.std.proofs.lemmas.Map.Views.{Contains-from_any}
+use Rattle.std.proofs.lemmas.Slice.Eq.{bytes_eq-Decides}
+use Rattle.cat_syntax.specs.Tree.{Word, Clause, include, File, clause_of}
+use Rattle.cat_model.specs.Closure.{IsPath, Includes, IsOwn, is_on, versioned, count, sum_in}
+use Rattle.cat_model.specs.Faults.{IsAstray}
+use Rattle.cat_model.specs.Files.{file_of}
+use Rattle.cat_model.specs.Walks.{Walks, walk_end, walk_own, walk_into, note, note_all, Grows, counts_for, Places, IsWalkFault, IsHere}
+use Rattle.cat_model.specs.declared.draft.Draft.{Draft}
+use Rattle.cat_model.specs.declared.fault.ModelFault.{ModelFault}
+use Rattle.cat_model.specs.declared.fault.ModelFault.TheVariants.{NoCat, NoInclude, IncludeCycle, Unbound, WrongSort, NotMonotone, FlagWithoutName, ModelTooLarge, NoMemory}
+use Rattle.cat_model.specs.declared.files.Entry.{Entry}
+use Rattle.cat_model.specs.declared.model.FileVersion.{FileVersion}
+
+-- one walk and then another
+pub walks-append : {es : List Entry} {path : List Word} {is js ks ls : List Clause} {xs ys : List Word} →
+    Walks es path is js xs → Walks es path ks ls ys → Walks es path (is ++ ks) (js ++ ls) (xs ++ ys)
+walks-append walk_end w = w
+walks-append (walk_own o v) w = walk_own o (walks-append v w)
+walks-append {es} {_} {_} {_} {ks} {ls} {_} {ys} (walk_into {path} {x} {f} {is} {js} {ms} {xs} {zs} e o l u v) w =
+    subst (λ us. Walks es path (include x ∷ (is ++ ks)) us (x ∷ ((zs ++ xs) ++ ys))) (sym (append_assoc ms js ls))
+    (subst (λ us. Walks es path (include x ∷ (is ++ ks)) (ms ++ (js ++ ls)) (x ∷ us)) (sym (append_assoc zs xs ys))
+    (walk_into e o l u (walks-append v w)))
+
+pub note_all-append : (es : List Entry) (files : List FileVersion) (xs ys : List Word) → note_all es files (xs ++ ys) ≡ note_all es (note_all es files xs) ys
+note_all-append es files [] ys = refl
+note_all-append es files (x ∷ xs) ys = note_all-append es (note es files x) xs ys
+
+pub counts-append : (es : List Entry) (path : List Word) (is js : List Clause) → counts_for es path (is ++ js) ≡ counts_for es path is + counts_for es path js
+counts-append es path is js = sum_by-append (count es (16 - length path) path) is js
+
+-- one part is placed and then another
+pub places-append : (es : List Entry) (path : List Word) (is js : List Clause) (old mid new : Draft) →
+    Places es path is old mid → Places es path js mid new → Places es path (is ++ js) old new
+places-append es path is js old mid new p q = record {
+  added = p.added ++ q.added;
+  read = p.read ++ q.read;
+  walks = walks-append p.walks q.walks;
+  grows = record {
+    items = q.grows.items ∙ (ap (λ (us : List Clause). us ++ q.added) p.grows.items ∙ append_assoc (map clause_of old.items.items) p.added q.added);
+    files = q.grows.files ∙ (ap (λ fs. note_all es fs q.read) p.grows.files ∙ sym (note_all-append es old.files.items p.read q.read));
+    counts = omega (arith, q.grows.counts, p.grows.counts, counts-append es path is js);
+  };
+}
+
+-- nothing is placed
+pub places-none : (es : List Entry) (path : List Word) (draft : Draft) → Places es path [] draft draft
+places-none es path draft = record {
+  added = [];
+  read = [];
+  walks = walk_end;
+  grows = record { items = sym (append-nil (map clause_of draft.items.items)); files = refl; counts = omega arith };
+}
+
+-- a fault at some count is one at a larger count
+pub fault-more : (e : ModelFault) (es : List Entry) (root : Word) (m n : ℕ) → m ≤ n → IsWalkFault e es root m → IsWalkFault e es root n
+fault-more (NoInclude x) es root m n l h = h
+fault-more (IncludeCycle x) es root m n l h = h
+fault-more ModelTooLarge es root m n l h = elim h [ inl p ↦ inl p | inr g ↦ inr (omega arith) ]
+fault-more NoMemory es root m n l h = h
+fault-more (NoCat x) es root m n l h = absurd h
+fault-more (Unbound x) es root m n l h = absurd h
+fault-more (WrongSort x) es root m n l h = absurd h
+fault-more (NotMonotone x) es root m n l h = absurd h
+fault-more FlagWithoutName es root m n l h = absurd h
+
+-- a path goes on to a file that its last one includes
+pub path-on : (es : List Entry) (root : Word) (path : List Word) (is : List Clause) (x : Word) → (h : IsHere es root path is) → Contains is (include x) → IsPath es root (x ∷ h.last ∷ h.before)
+path-on es root path is x h c =
+    (record { file = h.file; is = h.there; includes = subst (λ (us : List Clause). Contains us (include x)) (sym h.items_are) c },
+     subst (IsPath es root) h.path_is h.from)
+
+-- an include counts for one at least
+pub count-some : (es : List Entry) (depth : ℕ) (path : List Word) (x : Word) → 1 ≤ count es depth path (include x)
+unfolding count
+count-some es zero path x = omega arith
+count-some es (suc depth) path x = omega arith
+
+-- and for its file's items, if that is put in place
+pub count-include : (es : List Entry) (depth : ℕ) (path : List Word) (x : Word) (f : File) → file_of x es ≡ Some f → is_on path x ≡ false →
+    count es (suc depth) path (include x) ≡ 1 + sum_by (count es depth (x ∷ path)) f.items
+unfolding count
+count-include es depth path x f e o =
+    ap (λ b. 1 + cond b 0 (sum_in (count es depth (x ∷ path)) (file_of x es))) o ∙ ap (λ v. 1 + sum_in (count es depth (x ∷ path)) v) e
+
+pub counts-include : (es : List Entry) (path : List Word) (x : Word) (f : File) → length path < 16 → file_of x es ≡ Some f → is_on path x ≡ false →
+    counts_for es path (include x ∷ []) ≡ 1 + counts_for es (x ∷ path) f.items
+counts-include es path x f l e o =
+    let d : 16 - length path ≡ suc (16 - length (x ∷ path)) = omega arith in
+    let one = sum_by-cons (count es (16 - length path) path) (include x) [] in
+    let c = count-include es (16 - length (x ∷ path)) path x f e o in
+    omega (arith, one, ap (λ n. count es n path (include x)) d, c)
+
+pub missing-here : (es : List Entry) (root : Word) (path : List Word) (is : List Clause) (x : Word) → IsHere es root path is → Contains is (include x) → file_of x es ≡ None → IsAstray (NoInclude x) es root
+missing-here es root path is x h c e = (h.last, h.before, path-on es root path is x h c, e)
+
+pub cycle-here : (es : List Entry) (root : Word) (path : List Word) (is : List Clause) (x : Word) → IsHere es root path is → Contains is (include x) → is_on path x ≡ true → IsAstray (IncludeCycle x) es root
+cycle-here es root path is x h c e =
+    (h.last ∷ h.before, path-on es root path is x h c, subst (λ p. Contains p x) h.path_is (Contains-from_any (λ y z. (bytes_eq-Decides y z).0) x path e))
+
+pub deep-here : (es : List Entry) (root : Word) (path : List Word) (is : List Clause) (x : Word) → IsHere es root path is → Contains is (include x) → 16 ≤ length path → IsSome (file_of x es) →
+    (n : ℕ) → IsWalkFault ModelTooLarge es root n
+deep-here es root path is x h c l s n =
+    let long : 16 < length (x ∷ h.last ∷ h.before) = omega (arith, ap length h.path_is) in
+    inl (x, h.last ∷ h.before, path-on es root path is x h c, long, s)
+
+pub here-inside : (es : List Entry) (root : Word) (path : List Word) (is : List Clause) (x : Word) (f : File) → IsHere es root path is → Contains is (include x) → file_of x es ≡ Some f → length path < 16 →
+    IsHere es root (x ∷ path) f.items
+here-inside es root path is x f h c e l = record {
+  last = x;
+  before = path;
+  path_is = refl;
+  from = subst (λ p. IsPath es root (x ∷ p)) (sym h.path_is) (path-on es root path is x h c);
+  file = f;
+  there = e;
+  items_are = refl;
+  short = omega arith;
+}
