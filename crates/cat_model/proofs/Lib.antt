@@ -6,3 +6,5 @@ pub mod Ordered
 pub mod Listed
 pub mod Stored
 pub mod Scoped
+pub mod Faulty
+pub mod Whole

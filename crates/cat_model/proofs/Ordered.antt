@@ -6,7 +6,7 @@ use Rattle.cat_syntax.specs.declared.tree.CheckKind.{CheckKind}
 use Rattle.cat_syntax.specs.Items.{is_bound}
 use Rattle.cat_syntax.specs.Tree.{Word, Term, Bound, Clause, bind, bind_recursively, check, include, show, unshow, File}
 use Rattle.cat_model.proofs.Sorting.{one_sort, sorted_bound, contains_nothing, contains_one}
-use Rattle.cat_model.specs.Closure.{IsOwn, Expands, done, own, included, IsClosure}
+use Rattle.cat_model.specs.Closure.{IsOwn, Expands, done, own, included, IsClosure, once, versioned}
 use Rattle.cat_model.specs.Faults.{IsCause, IsAstray, IsItemFault, IsFaulty, IsUnbound, IsMissorted, IsDenied, IsNameless, terms_of, scope_in}
 use Rattle.cat_model.specs.Files.{file_of}
 use Rattle.cat_model.specs.Scopes.{Bind, recursive, IsMonotone, IsTestable, Follows, Lead, IsModel}
@@ -106,7 +106,7 @@ denied-none s (show ss) t x f h = h
 denied-none s (unshow ys) t x f h = h
 
 nameless-none : (s : Scope) (i : Clause) (t : Scope) → Follows s i t → IsNameless i → ⊥
-nameless-none s (check flag negated kind a x) t f h = let g : IsSome None = subst IsSome h.1 (f.1 h.0) in cc
+nameless-none s (check flag negated kind a x) t f h = let g : false ≡ true = subst IsSome h.1 (f.1 h.0) in cc
 nameless-none s (bind bs) t f h = h
 nameless-none s (bind_recursively bs) t f h = h
 nameless-none s (include y) t f h = h
@@ -135,34 +135,39 @@ same_file : (f g : File) → Some f ≡ Some g → f ≡ g
 same_file f g e = cc
 
 -- items expand in one way
-pub expands-one : {es : List Entry} {is js : List Clause} {xs : List Word} → Expands es is js xs → {ls ks : List Clause} {ys : List Word} → is ≡ ls → Expands es ls ks ys → js ≡ ks
-expands-one done e done = refl
+pub expands-one : {es : List Entry} {is js : List Clause} {xs : List Word} → Expands es is js xs → {ls ks : List Clause} {ys : List Word} → is ≡ ls → Expands es ls ks ys → (js ≡ ks) × (xs ≡ ys)
+expands-one done e done = (refl, refl)
 expands-one done e (own p w) = absurd (let z : ⊥ = cc in z)
 expands-one done e (included q u w) = absurd (let z : ⊥ = cc in z)
 expands-one (own o v) e done = absurd (let z : ⊥ = cc in z)
 expands-one (own {i} {is} {js} o v) e (own {i = j} {is = ls} {js = ks} p w) =
     let tail = expands-one v (let t : is ≡ ls = cc in t) w in
-    let head : i ≡ j = cc in cc
+    let head : i ≡ j = cc in
+    let items : (i ∷ js) ≡ (j ∷ ks) = ap (λ k. k ∷ js) head ∙ ap (λ (us : List Clause). j ∷ us) tail.0 in
+    (items, tail.1)
 expands-one (own {i} o v) e (included {x} q u w) = absurd (let h : i ≡ include x = cc in subst IsOwn h o)
 expands-one (included q u v) e done = absurd (let z : ⊥ = cc in z)
 expands-one (included {x} q u v) e (own {i = j} p w) = absurd (let h : j ≡ include x = cc in subst IsOwn h p)
-expands-one {es} (included {x} {f} {is} {js} {ks} q u v) e (included {x = y} {f = g} {is = ls} {js = ms} {ks = ns} p a b) =
+expands-one {es} (included {x} {f} {is} {js} {ks} {xs} {ys = zs} q u v) e (included {x = y} {f = g} {is = ls} {js = ms} {ks = ns} {xs = ys} {ys = ws} p a b) =
     let name : x ≡ y = cc in
     let same : f ≡ g = same_file f g (sym q ∙ (ap (λ z. file_of z es) name ∙ p)) in
     let inner = expands-one u (ap (λ (h : File). h.items) same) a in
     let outer = expands-one v (let t : is ≡ ls = cc in t) b in
-    ap (λ us. us ++ js) inner ∙ ap (λ us. ns ++ us) outer
+    let items : ks ++ js ≡ ns ++ ms = ap (λ us. us ++ js) inner.0 ∙ ap (λ us. ns ++ us) outer.0 in
+    let read : zs ++ xs ≡ ws ++ ys = ap (λ us. us ++ xs) inner.1 ∙ ap (λ us. ws ++ us) outer.1 in
+    (items, ap (λ z. z ∷ (zs ++ xs)) name ∙ ap (λ (us : List Word). y ∷ us) read)
 
--- a root gives one list of items
-pub closure-one : (es : List Entry) (root : Word) (is js : List Clause) (fs gs : List FileVersion) → IsClosure es root is fs → IsClosure es root js gs → is ≡ js
-closure-one es root is js fs gs c d =
-    expands-one c.expands (ap (λ (h : File). h.items) (same_file c.file d.file (sym c.is ∙ d.is))) d.expands
+-- a root gives one list of items, and one of files
+pub closure_one : (es : List Entry) (root : Word) (is js : List Clause) (fs gs : List FileVersion) → IsClosure es root is fs → IsClosure es root js gs → (is ≡ js) × (fs ≡ gs)
+closure_one es root is js fs gs c d =
+    let both = expands-one c.expands (ap (λ (h : File). h.items) (same_file c.file d.file (sym c.is ∙ d.is))) d.expands in
+    (both.0, c.files_are ∙ (ap (λ xs. map (versioned es) (once (root ∷ xs))) both.1 ∙ sym d.files_are))
 
 -- a root that gives a model has no cause of a refusal
 pub no-cause : (es : List Entry) (root : Word) (items : List Clause) (files : List FileVersion) → IsClosure es root items files → IsModel items → ((e : ModelFault) → ¬ IsAstray e es root) →
     (e : ModelFault) → ¬ IsCause e es root
 no-cause es root items files c m n e h =
-    elim h [ inl a ↦ n e a | inr f ↦ faultless e items m (subst (IsFaulty e) (closure-one es root f.0 items f.1 files f.2 c) f.3) ]
+    elim h [ inl a ↦ n e a | inr f ↦ faultless e items m (subst (IsFaulty e) ((closure_one es root f.0 items f.1 files f.2 c).0) f.3) ]
 
 pub astray-cause : (es : List Entry) (root : Word) (e : ModelFault) → (e ≡ NoMemory) ⊎ IsAstray e es root → (e ≡ NoMemory) ⊎ IsCause e es root
 astray-cause es root e h = elim h [ inl m ↦ inl m | inr a ↦ inr (inl a) ]

@@ -1,11 +1,11 @@
 -- Places and entries of names.
 use Rattle.std.proofs.Common.{◌≡◌, ℕ, ◌<◌, ◌≤◌, List, [], ◌∷◌, Bool, true, false, cond, Option, Some, None, length, get_or, is_some, nat_lt, refl, sym, ◌∙◌, ap, subst, inl, inr}
-use Rattle.std.specs.List.{position, find, slice_get, slice_set}
+use Rattle.std.specs.List.{position, position_or_len, find, slice_get}
+use Rattle.std.proofs.Math.ListN.{set}
 use Rattle.std.specs.Str.{bytes_eq}
 use Rattle.std.proofs.lemmas.Bool.{ltb-false}
 use Rattle.std.proofs.lemmas.List.Folds.{find_at}
 use Rattle.std.proofs.lemmas.List.Quantifiers.{position-Some}
-use Rattle.std.proofs.lemmas.List.Sums.{position_or_len}
 use Rattle.std.proofs.lemmas.Option.{slice_get_past}
 use Rattle.std.proofs.lemmas.Slice.Eq.{bytes_eq-Decides}
 use Rattle.cat_model.proofs.Noted.{split}
@@ -27,12 +27,12 @@ no_entry x es h =
 pub not_loaded : (x : Word) (es : List Entry) → place_of x es ≡ None → is_some (loaded x es) ≡ true → ⊥
 not_loaded x es h l = let e = no_entry x es h in let g : is_some (loaded_in None) ≡ true = subst (λ o. is_some (loaded_in o) ≡ true) e l in cc
 
--- an entry that is put in the place of its name is stored
-pub stored_in_place : (x : Word) (es : List Entry) (i : ℕ) (d e : Entry) → place_of x es ≡ Some i → d ≡ get_or es i d → e.name ≡ d.name → slice_set es i e ≡ store (record { name = x; version = e.version; file = e.file }) es
+-- an entry without its file in the place of its name is stored
+pub cleared : (x : Word) (es : List Entry) (i : ℕ) (d e : Entry) (v : ℕ) → place_of x es ≡ Some i → d ≡ get_or es i d → e ≡ record { name = d.name; version = v; file = None } →
+    set es i e ≡ store (record { name = x; version = v; file = None }) es
 unfolding place_of
-stored_in_place x es i d e h at same =
+cleared x es i d e v h at is =
     let found = position-Some (λ (f : Entry). bytes_eq f.name x) es i d h in
     let name : d.name ≡ x = (bytes_eq-Decides d.name x).0 (ap (λ (f : Entry). bytes_eq f.name x) at ∙ found.1) in
-    let is_x : e.name ≡ x = same ∙ name in
-    let whole : record { name = e.name; version = e.version; file = e.file } ≡ record { name = x; version = e.version; file = e.file } = ap (λ z. record { name = z; version = e.version; file = e.file }) is_x in
-    ap (λ f. slice_set es i f) whole ∙ sym (ap (λ o. store_at o (record { name = x; version = e.version; file = e.file }) es) h)
+    let whole : e ≡ record { name = x; version = v; file = None } = is ∙ ap (λ z. record { name = z; version = v; file = None }) name in
+    ap (set es i) whole ∙ sym (ap (λ o. store_at o (record { name = x; version = v; file = None }) es) h)

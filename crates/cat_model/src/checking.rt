@@ -76,7 +76,7 @@ fn with_relations<'a>(
     mut scope: Scope<'a>,
     bindings: &'a [Binding],
 ) -> Result<Scope<'a>, AllocError>
-    ensures { IfOk result (λ t. t ≡ recursive (map bound_of bindings.now) scope) }
+    ensures { IfOk result (λ t. t ≡ recursive (map bound_of bindings.now) scope.entry) }
 {
     for binding in bindings {
         scope.bind(&binding.name, Sort::Relation)?;
@@ -177,8 +177,8 @@ fn follow_let<'a>(
     scope: Scope<'a>,
     bindings: &'a [Binding],
 ) -> Result<Scope<'a>, ModelFault>
-    ensures ok { IfOk result (λ t. Follows scope (let_clause (map bound_of bindings.now)) t) }
-    ensures err { IfErr result (λ e. (e ≡ NoMemory) ⊎ IsItemFault e scope (let_clause (map bound_of bindings.now))) }
+    ensures ok { IfOk result (λ t. Follows scope.entry (let_clause (map bound_of bindings.now)) t) }
+    ensures err { IfErr result (λ e. (e ≡ NoMemory) ⊎ IsItemFault e scope.entry (let_clause (map bound_of bindings.now))) }
 {
     require_all_bound(alloc, &scope, bindings)?;
     bound(&scope, bindings)
@@ -190,8 +190,8 @@ fn follow_recursion<'a>(
     scope: Scope<'a>,
     bindings: &'a [Binding],
 ) -> Result<Scope<'a>, ModelFault>
-    ensures ok { IfOk result (λ t. Follows scope (bind_recursively (map bound_of bindings.now)) t) }
-    ensures err { IfErr result (λ e. (e ≡ NoMemory) ⊎ IsItemFault e scope (bind_recursively (map bound_of bindings.now))) }
+    ensures ok { IfOk result (λ t. Follows scope.entry (bind_recursively (map bound_of bindings.now)) t) }
+    ensures err { IfErr result (λ e. (e ≡ NoMemory) ⊎ IsItemFault e scope.entry (bind_recursively (map bound_of bindings.now))) }
 {
     let inner = with_relations(scope, bindings)?;
     require_all_bound(alloc, &inner, bindings)?;
@@ -203,8 +203,8 @@ fn follow_recursion<'a>(
 /// The scope behind an item.
 fn follow<'a>(alloc: Global, scope: Scope<'a>, item: &'a Item) -> Result<Scope<'a>, ModelFault>
     requires { IsOwn (clause_of item.now) }
-    ensures ok { IfOk result (λ t. Follows scope (clause_of item.now) t) }
-    ensures err { IfErr result (λ e. (e ≡ NoMemory) ⊎ IsItemFault e scope (clause_of item.now)) }
+    ensures ok { IfOk result (λ t. Follows scope.entry (clause_of item.now) t) }
+    ensures err { IfErr result (λ e. (e ≡ NoMemory) ⊎ IsItemFault e scope.entry (clause_of item.now)) }
 {
     match item {
         Item::Let(bindings) => follow_let(alloc, scope, bindings),

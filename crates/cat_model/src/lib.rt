@@ -5,6 +5,7 @@ mod checking;
 mod draft;
 mod fault;
 mod files;
+pub mod laws;
 mod model;
 mod named;
 
@@ -23,3 +24,6 @@ pub use model::{FileVersion, Model};
 pub use named::Named;
 pub use resolving::resolve;
 pub use sort::Sort;
+
+#[cfg(test)]
+mod tests;
