@@ -1,16 +1,15 @@
 -- A walk that comes to its end shows that no path leads astray.
-use Rattle.std.proofs.Common.{◌≡◌, ◌≢◌, ℕ, ◌+◌, ◌<◌, ◌≤◌, List, [], ◌∷◌, ◌++◌, Option, Some, None, Bool, true, false, length, map, refl, sym, ◌∙◌, inl, inr, ◌⊎◌, subst, arith, ap, IsSome}
-use Rattle.std.specs.List.{Contains, list_any, sum_by, All}
+use Rattle.std.proofs.Common.{◌≡◌, ◌≤◌, List, [], ◌∷◌, Some, false, length, refl, sym, ◌∙◌, inl, inr, ◌⊎◌, subst, arith}
+use Rattle.std.specs.List.{Contains, All}
 use Rattle.std.specs.Str.{bytes_eq}
 use Rattle.std.proofs.lemmas.List.Elements.{Contains-append_cases, All-nil, All-cons, All-append}
-use Rattle.std.proofs.lemmas.Map.Views.{list_any-from_Contains, Contains-from_any}
-use Rattle.std.proofs.lemmas.Slice.Eq.{bytes_eq-Decides}
+use Rattle.std.proofs.lemmas.Map.Views.{list_any-from_Contains}
 use Rattle.std.proofs.Common.{rules}
 use Rattle.std.specs.Cmp.{IsEquivalence}
 use Rattle.std.specs.Cmp.Rules.{comparing}
 use Rattle.cat_syntax.specs.Tree.{Word, Clause, include, File}
 use Rattle.cat_model.proofs.Sorting.{contains_nothing, contains_one}
-use Rattle.cat_model.specs.Closure.{IsPath, Includes, IsOwn, is_on, count, sum_in, root_count, Expands, done, own, included}
+use Rattle.cat_model.specs.Closure.{IsPath, IsOwn, is_on, root_count, Expands, done, own, included}
 use Rattle.cat_model.specs.Faults.{IsAstray}
 use Rattle.cat_model.specs.Files.{file_of}
 use Rattle.cat_model.specs.Walks.{Walks, walk_end, walk_own, walk_into}
@@ -52,8 +51,8 @@ fine-included walk_end x c = absurd (contains_nothing (include x) c)
 fine-included (walk_own {path} {i} {is} o w) x c = elim (contains_cons i is (include x) c) [ inl e ↦ absurd (no_own i x e o) | inr d ↦ fine-included w x d ]
 fine-included {es} (walk_into {path} {x = y} {f} {is} {js} {ks} {xs} {ys} e o l v w) x c =
     elim (contains_cons (include y) is (include x) c) [
-      inl p ↦ subst (λ z. Fine es z path) (same_name y x p) (record { file = f; there = e; fresh = o; short = omega arith; out = ks; read = ys; walks = v })
-    | inr d ↦ fine-included w x d
+      | inl p ↦ subst (λ z. Fine es z path) (same_name y x p) (record { file = f; there = e; fresh = o; short = omega arith; out = ks; read = ys; walks = v })
+      | inr d ↦ fine-included w x d
     ]
 
 equivalence : IsEquivalence bytes_eq

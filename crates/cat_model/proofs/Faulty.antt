@@ -51,8 +51,8 @@ faulty_at e is k i s l at h f = record {
   rest = drop (k + 1) is;
   scope = s;
   split =
-    sym (take-append-drop (k + 1) is)
-    ∙ (ap (λ js. js ++ drop (k + 1) is) (take_more is k i l ∙ ap (λ j. take k is ++ j ∷ []) (sym at)) ∙ append_assoc (take k is) (i ∷ []) (drop (k + 1) is));
+      sym (take-append-drop (k + 1) is)
+      ∙ (ap (λ js. js ++ drop (k + 1) is) (take_more is k i l ∙ ap (λ j. take k is ++ j ∷ []) (sym at)) ∙ append_assoc (take k is) (i ∷ []) (drop (k + 1) is));
   leads = h;
   fault = f;
 }

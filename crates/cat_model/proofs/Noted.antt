@@ -1,5 +1,5 @@
 -- Files in order of first reading.
-use Rattle.std.proofs.Common.{◌≡◌, List, [], ◌∷◌, ◌++◌, Bool, true, false, cond, not, ◌&&◌, ◌||◌, map, refl, sym, ◌∙◌, inl, inr, ◌⊎◌, ap, append_assoc, append-nil, filter}
+use Rattle.std.proofs.Common.{◌≡◌, List, [], ◌∷◌, ◌++◌, Bool, true, false, not, ◌&&◌, ◌||◌, map, refl, sym, ◌∙◌, inl, inr, ◌⊎◌, ap, append_assoc, append-nil, filter}
 use Rattle.std.specs.List.{list_any}
 use Rattle.std.specs.Str.{bytes_eq}
 use Rattle.std.proofs.lemmas.List.Folds.{list_any-append}
@@ -19,8 +19,8 @@ filter-twice p q r h [] = refl
 filter-twice p q r h (y ∷ ys) =
     let i = filter-twice p q r h ys in
     elim (split (q y)) [
-      inl t ↦ elim (split (p y)) [ inl u ↦ rw (h y, t, u) (ap (λ (us : List Word). y ∷ us) i) | inr u ↦ rw (h y, t, u) i ]
-    | inr t ↦ elim (split (p y)) [ inl u ↦ rw (h y, t, u) i | inr u ↦ rw (h y, t, u) i ]
+      | inl t ↦ elim (split (p y)) [ inl u ↦ rw (h y, t, u) (ap (λ (us : List Word). y ∷ us) i) | inr u ↦ rw (h y, t, u) i ]
+      | inr t ↦ elim (split (p y)) [ inl u ↦ rw (h y, t, u) i | inr u ↦ rw (h y, t, u) i ]
     ]
 
 filter-all : (p : Word → Bool) → ((y : Word) → p y ≡ true) → (ys : List Word) → filter p ys ≡ ys
@@ -43,8 +43,8 @@ old-again : (seen : List Word) (x y : Word) → is_in seen x ≡ true → unseen
 unfolding is_in unseen
 old-again seen x y t =
     elim (split (bytes_eq x y)) [
-      inl e ↦ (let same : x ≡ y = (bytes_eq-Decides x y).0 e in let seen_y : list_any (λ s. bytes_eq s y) seen ≡ true = ap (λ z. list_any (λ s. bytes_eq s z) seen) (sym same) ∙ t in rw seen_y refl)
-    | inr e ↦ rw e (elim (split (list_any (λ s. bytes_eq s y) seen)) [ inl u ↦ rw u refl | inr u ↦ rw u refl ])
+      | inl e ↦ (let same : x ≡ y = (bytes_eq-Decides x y).0 e in let seen_y : list_any (λ s. bytes_eq s y) seen ≡ true = ap (λ z. list_any (λ s. bytes_eq s z) seen) (sym same) ∙ t in rw seen_y refl)
+      | inr e ↦ rw e (elim (split (list_any (λ s. bytes_eq s y) seen)) [ inl u ↦ rw u refl | inr u ↦ rw u refl ])
     ]
 
 one-more : (seen : List Word) (x y : Word) → unseen (seen ++ x ∷ []) y ≡ (unseen seen y && not (bytes_eq x y))
@@ -52,8 +52,8 @@ unfolding is_in unseen
 one-more seen x y =
     rw (list_any-append (λ s. bytes_eq s y) seen (x ∷ []))
     (elim (split (list_any (λ s. bytes_eq s y) seen)) [
-      inl u ↦ rw u refl
-    | inr u ↦ rw u (elim (split (bytes_eq x y)) [ inl e ↦ rw e refl | inr e ↦ rw e refl ])
+      | inl u ↦ rw u refl
+      | inr u ↦ rw u (elim (split (bytes_eq x y)) [ inl e ↦ rw e refl | inr e ↦ rw e refl ])
     ])
 
 map-push : (es : List Entry) (seen : List Word) (x : Word) → map (versioned es) seen ++ versioned es x ∷ [] ≡ map (versioned es) (seen ++ x ∷ [])
@@ -71,11 +71,11 @@ unfolding is_in unseen
 noted-from es seen [] = ap (map (versioned es)) (sym (append-nil seen))
 noted-from es seen (x ∷ xs) =
     elim (split (list_any (λ s. bytes_eq s x) seen)) [
-      inl t ↦ ap (λ fs. note_all es fs xs) (note-old es seen x t) ∙ (noted-from es seen xs
+      | inl t ↦ ap (λ fs. note_all es fs xs) (note-old es seen x t) ∙ (noted-from es seen xs
           ∙ rw t (ap (λ us. map (versioned es) (seen ++ us)) (sym (filter-twice (unseen seen) (λ y. not (bytes_eq x y)) (unseen seen) (λ y. old-again seen x y t) (once xs)))))
-    | inr t ↦ ap (λ fs. note_all es fs xs) (note-new es seen x t) ∙ (noted-from es (seen ++ x ∷ []) xs
+      | inr t ↦ ap (λ fs. note_all es fs xs) (note-new es seen x t) ∙ (noted-from es (seen ++ x ∷ []) xs
           ∙ rw t (ap (map (versioned es)) (append_assoc seen (x ∷ []) (filter (unseen (seen ++ x ∷ [])) (once xs))
-            ∙ ap (λ us. seen ++ x ∷ us) (sym (filter-twice (unseen seen) (λ y. not (bytes_eq x y)) (unseen (seen ++ x ∷ [])) (λ y. one-more seen x y) (once xs))))))
+          ∙ ap (λ us. seen ++ x ∷ us) (sym (filter-twice (unseen seen) (λ y. not (bytes_eq x y)) (unseen (seen ++ x ∷ [])) (λ y. one-more seen x y) (once xs))))))
     ]
 
 -- the files that are noted are those read, each once, where it was first read

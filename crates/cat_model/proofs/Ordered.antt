@@ -1,16 +1,15 @@
 -- Items of a model have no fault, and a root gives one list of items.
-use Rattle.std.proofs.Common.{◌≡◌, ◌≢◌, List, [], ◌∷◌, ◌++◌, Option, Some, None, Bool, true, false, map, refl, sym, ◌∙◌, inl, inr, ◌⊎◌, subst, ap, IsSome}
+use Rattle.std.proofs.Common.{◌≡◌, List, [], ◌∷◌, ◌++◌, Some, true, false, map, refl, sym, ◌∙◌, inl, inr, ◌⊎◌, subst, ap, IsSome}
 use Rattle.std.specs.List.{Contains, All}
-use Rattle.std.proofs.lemmas.List.Elements.{Contains-append_cases, Contains-append_left, Contains-append_right, Contains-push, All-contains, All-map, All-nil, All-cons, All-head, All-tail}
-use Rattle.cat_syntax.specs.declared.tree.CheckKind.{CheckKind}
+use Rattle.std.proofs.lemmas.List.Elements.{Contains-append_cases, Contains-append_left, Contains-append_right, Contains-push, All-contains}
 use Rattle.cat_syntax.specs.Items.{is_bound}
 use Rattle.cat_syntax.specs.Tree.{Word, Term, Bound, Clause, bind, bind_recursively, check, include, show, unshow, File}
 use Rattle.cat_model.proofs.Sorting.{one_sort, sorted_bound, contains_nothing, contains_one}
 use Rattle.cat_model.specs.Closure.{IsOwn, Expands, done, own, included, IsClosure, once, versioned}
-use Rattle.cat_model.specs.Faults.{IsCause, IsAstray, IsItemFault, IsFaulty, IsUnbound, IsMissorted, IsDenied, IsNameless, terms_of, scope_in}
+use Rattle.cat_model.specs.Faults.{IsCause, IsAstray, IsItemFault, IsFaulty, IsUnbound, IsMissorted, IsDenied, IsNameless}
 use Rattle.cat_model.specs.Files.{file_of}
-use Rattle.cat_model.specs.Scopes.{Bind, recursive, IsMonotone, IsTestable, Follows, Lead, IsModel}
-use Rattle.cat_model.specs.Sorts.{Scope, HasSort, names, denied_names, sort_of_name}
+use Rattle.cat_model.specs.Scopes.{Bind, recursive, Follows, Lead, IsModel}
+use Rattle.cat_model.specs.Sorts.{Scope, HasSort, denied_names}
 use Rattle.cat_model.specs.declared.fault.ModelFault.{ModelFault}
 use Rattle.cat_model.specs.declared.fault.ModelFault.TheVariants.{NoCat, NoInclude, IncludeCycle, Unbound, WrongSort, NotMonotone, FlagWithoutName, ModelTooLarge, NoMemory}
 use Rattle.cat_model.specs.declared.files.Entry.{Entry}
@@ -45,8 +44,8 @@ pub from_value : (bs : List Bound) (a : Term) → Contains (map (λ b. b.value) 
 from_value [] a c = absurd (contains_nothing a c)
 from_value (b ∷ bs) a c =
     elim (in_cons b.value (map (λ d. d.value) bs) a c) [
-      inl e ↦ (b, contains_first b bs, e)
-    | inr r ↦ (let d = from_value bs a r in (d.0, contains_later b bs d.0 d.1, d.2))
+      | inl e ↦ (b, contains_first b bs, e)
+      | inr r ↦ (let d = from_value bs a r in (d.0, contains_later b bs d.0 d.1, d.2))
     ]
 
 pub follows-one : (s : Scope) (i : Clause) (t u : Scope) → Follows s i t → Follows s i u → t ≡ u

@@ -1,6 +1,6 @@
 -- Places and entries of names.
-use Rattle.std.proofs.Common.{◌≡◌, ℕ, ◌<◌, ◌≤◌, List, [], ◌∷◌, Bool, true, false, cond, Option, Some, None, length, get_or, is_some, nat_lt, refl, sym, ◌∙◌, ap, subst, inl, inr}
-use Rattle.std.specs.List.{position, position_or_len, find, slice_get}
+use Rattle.std.proofs.Common.{◌≡◌, ℕ, List, Bool, true, false, cond, Some, None, length, get_or, is_some, nat_lt, refl, sym, ◌∙◌, ap, subst}
+use Rattle.std.specs.List.{position_or_len}
 use Rattle.std.proofs.Math.ListN.{set}
 use Rattle.std.specs.Str.{bytes_eq}
 use Rattle.std.proofs.lemmas.Bool.{ltb-false}
@@ -8,7 +8,6 @@ use Rattle.std.proofs.lemmas.List.Folds.{find_at}
 use Rattle.std.proofs.lemmas.List.Quantifiers.{position-Some}
 use Rattle.std.proofs.lemmas.Option.{slice_get_past}
 use Rattle.std.proofs.lemmas.Slice.Eq.{bytes_eq-Decides}
-use Rattle.cat_model.proofs.Noted.{split}
 use Rattle.cat_model.specs.Files.{place_of, entry_of, loaded, loaded_in, store, store_at}
 use Rattle.cat_model.specs.declared.files.Entry.{Entry}
 use Rattle.cat_syntax.specs.Tree.{Word}

@@ -1,7 +1,6 @@
 -- Walks, and what they add.
-use Rattle.std.proofs.Common.{◌≡◌, ◌≢◌, ℕ, zero, suc, ◌+◌, ◌-◌, ◌<◌, ◌≤◌, List, [], ◌∷◌, ◌++◌, Option, Some, None, Bool, true, false, cond, take, drop, length, map, get_or, refl, sym, ◌∙◌, inl, inr, ◌⊎◌, subst, arith, ap, append_assoc, append-nil, IsSome, Bor}
-use Rattle.std.specs.List.{Contains, list_any, sum_by}
-use Rattle.std.specs.Str.{bytes_eq}
+use Rattle.std.proofs.Common.{◌≡◌, ◌≢◌, ℕ, zero, suc, ◌+◌, ◌-◌, ◌<◌, ◌≤◌, List, [], ◌∷◌, ◌++◌, Some, None, true, false, cond, take, drop, length, map, get_or, refl, sym, ◌∙◌, inl, inr, subst, arith, ap, append_assoc, append-nil, IsSome, Bor}
+use Rattle.std.specs.List.{Contains, sum_by}
 use Rattle.std.proofs.lemmas.List.Sums.{sum_by-append, sum_by-cons}
 use Rattle.std.proofs.lemmas.Map.Views.{Contains-from_any}
 use Rattle.std.proofs.lemmas.Slice.Eq.{bytes_eq-Decides}
@@ -11,7 +10,7 @@ use Rattle.std.specs.declared.alloc.Global.{Global}
 use Rattle.std.specs.declared.vec.Vec.{Vec}
 use Rattle.cat_syntax.specs.declared.tree.Item.{Item}
 use Rattle.cat_syntax.specs.Tree.{Word, Clause, bind, bind_recursively, check, include, show, unshow, File, clause_of}
-use Rattle.cat_model.specs.Closure.{IsPath, Includes, IsOwn, is_on, versioned, count, sum_in}
+use Rattle.cat_model.specs.Closure.{IsPath, IsOwn, is_on, count, sum_in}
 use Rattle.cat_model.specs.Faults.{IsAstray}
 use Rattle.cat_model.specs.Files.{file_of}
 use Rattle.cat_model.specs.Walks.{Walks, walk_end, walk_own, walk_into, note, note_all, Grows, counts_for, Places, IsWalkFault, IsHere}
@@ -75,9 +74,10 @@ fault-more FlagWithoutName es root m n l h = absurd h
 
 -- a path goes on to a file that its last one includes
 pub path-on : (es : List Entry) (root : Word) (path : List Word) (is : List Clause) (x : Word) → (h : IsHere es root path is) → Contains is (include x) → IsPath es root (x ∷ h.last ∷ h.before)
-path-on es root path is x h c =
-    (record { file = h.file; is = h.there; includes = subst (λ (us : List Clause). Contains us (include x)) (sym h.items_are) c },
-     subst (IsPath es root) h.path_is h.from)
+path-on es root path is x h c = (
+  record { file = h.file; is = h.there; includes = subst (λ (us : List Clause). Contains us (include x)) (sym h.items_are) c },
+  subst (IsPath es root) h.path_is h.from,
+)
 
 -- an include counts for one at least
 pub count-some : (es : List Entry) (depth : ℕ) (path : List Word) (x : Word) → 1 ≤ count es depth path (include x)

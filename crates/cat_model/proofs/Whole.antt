@@ -1,19 +1,18 @@
 -- The walk from the root.
-use Rattle.std.proofs.Common.{◌≡◌, ◌≤◌, ◌+◌, List, [], ◌∷◌, ◌++◌, Option, Some, map, refl, sym, ◌∙◌, ap, subst, arith, append-nil, Bor, option_map}
+use Rattle.std.proofs.Common.{◌≡◌, ◌≤◌, List, [], ◌∷◌, ◌++◌, Some, map, refl, sym, ◌∙◌, ap, subst, arith, append-nil}
 use Rattle.std.specs.List.{All}
 use Rattle.cat_syntax.specs.declared.tree.Item.{Item}
 use Rattle.cat_syntax.specs.declared.tree.Item.TheVariants as variants
-use Rattle.cat_syntax.specs.Tree.{Word, Clause, File, clause_of}
+use Rattle.cat_syntax.specs.Tree.{Word, File, clause_of}
 use Rattle.cat_model.proofs.Astray.{expands-walked, own-walked, none-astray}
 use Rattle.cat_model.proofs.Noted.{noted}
-use Rattle.cat_model.specs.Closure.{IsOwn, IsClosure, once, versioned, root_count, sum_in, count}
+use Rattle.cat_model.specs.Closure.{IsOwn, IsClosure, root_count, sum_in, count}
 use Rattle.cat_model.specs.Faults.{IsAstray}
 use Rattle.cat_model.specs.Files.{file_of}
-use Rattle.cat_model.specs.Walks.{Walks, note, note_all, Grows, Places, counts_for}
+use Rattle.cat_model.specs.Walks.{note, note_all, Grows, Places, counts_for}
 use Rattle.cat_model.specs.declared.draft.Draft.{Draft}
 use Rattle.cat_model.specs.declared.fault.ModelFault.{ModelFault}
 use Rattle.cat_model.specs.declared.files.Entry.{Entry}
-use Rattle.cat_model.specs.declared.model.FileVersion.{FileVersion}
 
 pub own_item : (i : Item) → ((x : Word) → i ≡ variants.Include x → ⊥) → IsOwn (clause_of i)
 own_item (variants.Let v) h = tt

@@ -1,5 +1,5 @@
 -- What a root file and the files that it includes give. (herd7 manual, the cat language: include.)
-use Rattle.std.specs.Prelude.{◌≡◌, ℕ, zero, suc, ◌+◌, ◌<◌, ◌⊎◌, List, [], ◌∷◌, ◌++◌, Bool, Option, Some, None, length, map, filter, not, if◌then◌else◌}
+use Rattle.std.specs.Prelude.{◌≡◌, ℕ, zero, suc, ◌+◌, List, [], ◌∷◌, ◌++◌, Bool, Option, Some, None, map, filter, not, if◌then◌else◌}
 use Rattle.std.specs.List.{Contains, list_any, sum_by}
 use Rattle.std.specs.Str.{bytes_eq}
 use Rattle.cat_syntax.specs.Tree.{Word, Clause, bind, bind_recursively, check, include, show, unshow, File}

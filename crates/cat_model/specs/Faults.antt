@@ -1,5 +1,5 @@
 -- When a model is refused.
-use Rattle.std.specs.Prelude.{◌≡◌, ◌<◌, ◌⊎◌, List, [], ◌∷◌, ◌++◌, true, Some, None, length, codes, map, IsSome, All, ◌≢◌}
+use Rattle.std.specs.Prelude.{◌≡◌, ◌<◌, ◌⊎◌, List, [], ◌∷◌, ◌++◌, true, None, length, codes, map, IsSome, All, ◌≢◌}
 use Rattle.std.specs.List.{Contains}
 use Rattle.cat_syntax.specs.declared.tree.CheckKind.{CheckKind}
 use Rattle.cat_syntax.specs.declared.tree.CheckKind.TheVariants.{Acyclic, Irreflexive, Empty}

@@ -1,7 +1,6 @@
 -- The files that models are put together from: names in order of first put, each with its version and its file, or none where the
 -- file was removed; beside them the built-in files.
-use Rattle.std.specs.Prelude.{◌≡◌, ℕ, List, [], ◌∷◌, ◌++◌, Bool, false, Option, Some, None, codes, if◌then◌else◌, find, position, slice_set, is_some, map, slice_get, option_map}
-use Rattle.std.specs.List.{list_any}
+use Rattle.std.specs.Prelude.{ℕ, List, [], ◌∷◌, ◌++◌, Option, Some, None, codes, if◌then◌else◌, find, position, slice_set}
 use Rattle.std.specs.Str.{bytes_eq}
 use Rattle.cat_syntax.specs.Tree.{Word, File}
 use Rattle.cat_model.specs.Rc11.{rc11}

@@ -14,10 +14,10 @@ ghost use Rattle.cat_model.specs.declared.sort.Sort.{Sort as Kind};
 ghost use Rattle.cat_model.specs.declared.sort.Sort.TheVariants.{Relation};
 
 use crate::fault::ModelFault;
-use crate::words::word;
 use crate::scope::Scope;
 use crate::sort::Sort;
 use crate::typing::{denied_names, has_sort, names, sort_of};
+use crate::words::word;
 use cat_syntax::{Binding, Check, CheckKind, Expression, Item};
 use std::alloc::{AllocError, Global};
 use wb_text::Name;

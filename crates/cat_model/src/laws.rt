@@ -10,13 +10,11 @@ ghost use Rattle.cat_model.specs.declared.files.Entry.{Entry};
 ghost use Rattle.cat_model.specs.declared.model.FileVersion.{FileVersion};
 
 /// A root gives at most one list of items and one list of files.
-#[tactic(auto, using(crate::proofs::Ordered::closure_one))]
 pub fn one_closure()
     ensures { (es : List Entry) (root : Word) (is js : List Clause) (fs gs : List FileVersion) → IsClosure es root is fs → IsClosure es root js gs → (is ≡ js) × (fs ≡ gs) }
 {}
 
 /// The items of a model have no fault.
-#[tactic(auto, using(crate::proofs::Ordered::faultless))]
 pub fn no_fault()
     ensures { (e : ModelFault) (items : List Clause) → IsModel items → ¬ IsFaulty e items }
 {}

@@ -8,7 +8,6 @@ mod files;
 pub mod laws;
 mod model;
 mod named;
-
 mod rc11_text;
 mod resolving;
 mod scope;

@@ -5,12 +5,11 @@ ghost use Rattle.cat_syntax.specs.Tree.{clause_of};
 ghost use Rattle.cat_model.specs.Rc11.{rc11 as rc11_tree};
 ghost use Rattle.cat_model.specs.Sketches.{line_of};
 
-use crate::sketch::Line;
 use crate::sketch::Sketch::{
     Difference, Identity, Intersection, Inverse, Name, Optional, Plus, Product, Sequence, Star,
     Union, Universe,
 };
-use crate::sketch::item;
+use crate::sketch::{Line, item};
 use cat_syntax::{CatFile, CheckKind, Item, Title};
 use std::alloc::{AllocError, Global};
 

@@ -41,15 +41,30 @@ pub fn expression(alloc: Global, sketch: &Sketch) -> Result<Expression, AllocErr
     match sketch {
         Sketch::Name(name) => Ok(Expression::Name(word(alloc, name)?)),
         Sketch::Universe => Ok(Expression::Universe),
-        Sketch::Union(a, b) => Ok(Expression::Union(Box::new(alloc, expression(alloc, a)?)?, Box::new(alloc, expression(alloc, b)?)?)),
-        Sketch::Sequence(a, b) => Ok(Expression::Sequence(Box::new(alloc, expression(alloc, a)?)?, Box::new(alloc, expression(alloc, b)?)?)),
+        Sketch::Union(a, b) => Ok(Expression::Union(
+            Box::new(alloc, expression(alloc, a)?)?,
+            Box::new(alloc, expression(alloc, b)?)?,
+        )),
+        Sketch::Sequence(a, b) => Ok(Expression::Sequence(
+            Box::new(alloc, expression(alloc, a)?)?,
+            Box::new(alloc, expression(alloc, b)?)?,
+        )),
         Sketch::Difference(a, b) => {
-            Ok(Expression::Difference(Box::new(alloc, expression(alloc, a)?)?, Box::new(alloc, expression(alloc, b)?)?))
+            Ok(Expression::Difference(
+                Box::new(alloc, expression(alloc, a)?)?,
+                Box::new(alloc, expression(alloc, b)?)?,
+            ))
         }
         Sketch::Intersection(a, b) => {
-            Ok(Expression::Intersection(Box::new(alloc, expression(alloc, a)?)?, Box::new(alloc, expression(alloc, b)?)?))
+            Ok(Expression::Intersection(
+                Box::new(alloc, expression(alloc, a)?)?,
+                Box::new(alloc, expression(alloc, b)?)?,
+            ))
         }
-        Sketch::Product(a, b) => Ok(Expression::Product(Box::new(alloc, expression(alloc, a)?)?, Box::new(alloc, expression(alloc, b)?)?)),
+        Sketch::Product(a, b) => Ok(Expression::Product(
+            Box::new(alloc, expression(alloc, a)?)?,
+            Box::new(alloc, expression(alloc, b)?)?,
+        )),
         Sketch::Plus(a) => Ok(Expression::Plus(Box::new(alloc, expression(alloc, a)?)?)),
         Sketch::Star(a) => Ok(Expression::Star(Box::new(alloc, expression(alloc, a)?)?)),
         Sketch::Optional(a) => Ok(Expression::Optional(Box::new(alloc, expression(alloc, a)?)?)),
@@ -94,6 +109,8 @@ pub fn item(alloc: Global, line: &Line) -> Result<Item, AllocError>
             Ok(Item::Let(bindings))
         }
         Line::Check(kind, value, name) => Ok(Item::Check(check(alloc, false, *kind, value, name)?)),
-        Line::FlagNot(kind, value, name) => Ok(Item::Check(check(alloc, true, *kind, value, name)?)),
+        Line::FlagNot(kind, value, name) => Ok(Item::Check(check(
+            alloc, true, *kind, value, name,
+        )?)),
     }
 }

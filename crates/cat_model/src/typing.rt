@@ -97,7 +97,6 @@ pub fn denied_names<'a>(
     }
 }
 
-
 /// Whether an expression has this sort.
 pub fn has_sort<'a>(scope: &Scope<'a>, sort: Sort, a: &Expression) -> bool
     ensures { IsTrue result ↔ HasSort scope.now (term_of a.now) sort }

@@ -130,12 +130,7 @@ impl<'a> Walk<'a> {
 
     /// Puts an item of the file that the path ends in.
     #[cycle(walk)]
-    fn item(
-        &self,
-        path: &[&'a Name],
-        item: &'a Item,
-        draft: &mut Draft,
-    ) -> Result<(), ModelFault>
+    fn item(&self, path: &[&'a Name], item: &'a Item, draft: &mut Draft) -> Result<(), ModelFault>
         requires { (is : List Clause) × IsHere self.now.files.now self.now.root.now (map (λ x. x.now) path.now) is × Contains is (clause_of item.now) }
         ensures ok { OnOk result (Places self.now.files.now (map (λ x. x.now) path.now) (clause_of item.now ∷ []) draft.old draft.new) }
         ensures err { IfErr result (λ e. IsWalkFault e self.now.files.now self.now.root.now (draft.old.count + counts_for self.now.files.now (map (λ x. x.now) path.now) (clause_of item.now ∷ []))) }

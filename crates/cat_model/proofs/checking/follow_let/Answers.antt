@@ -9,8 +9,8 @@ returns-in_err-require_all_bound-clause-err c =
     let p = err_from_is_err_and c.from_residual.result c.from_residual.ensures.1 in
     rw (p.1, p.2)
     (elim c.in_err-require_all_bound.ensures.err [
-      inl m ↦ inl m
-    | inr u ↦ inr (unbound_let c.in_err-require_all_bound.field-0.0 c.args.scope (map bound_of c.args.bindings.now) u)
+      | inl m ↦ inl m
+      | inr u ↦ inr (unbound_let c.in_err-require_all_bound.field-0.0 c.args.scope (map bound_of c.args.bindings.now) u)
     ])
 
 pub returns-clause-err : goal.returns-clause-err

@@ -10,8 +10,8 @@ returns-in_err-require_bound-clause-err c =
     let p = err_from_is_err_and c.from_residual.result c.from_residual.ensures.1 in
     rw (p.1, p.2)
     (elim c.in_err-require_bound.ensures.err [
-      inl m ↦ inl m
-    | inr u ↦ inr (u.0, bound_of c.binding-item.result, u.1, contains_at bound_of c.args.bindings.now c.loop-binding.binding-index c.binding-item.result c.loop-binding-test.true c.binding-item.is, u.2, u.3)
+      | inl m ↦ inl m
+      | inr u ↦ inr (u.0, bound_of c.binding-item.result, u.1, contains_at bound_of c.args.bindings.now c.loop-binding.binding-index c.binding-item.result c.loop-binding-test.true c.binding-item.is, u.2, u.3)
     ])
 
 pub loop-binding-preserved : goal.loop-binding-preserved

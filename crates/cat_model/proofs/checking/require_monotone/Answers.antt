@@ -2,7 +2,7 @@ use Rattle.std.proofs.Common.{◌≡◌, inl, inr, map, false}
 use Rattle.std.proofs.lemmas.Result.{err_from_is_err_and}
 use Rattle.std.specs.List.{All}
 use Rattle.cat_syntax.specs.Items.{is_bound}
-use Rattle.cat_syntax.specs.Tree.{Bound, term_of, bound_of}
+use Rattle.cat_syntax.specs.Tree.{Bound, bound_of}
 use Rattle.cat_model.specs.Sorts.{denied_names}
 use Rattle.cat_model.proofs.Listed.{all_more_map, all_end_map, contains_at}
 use Rattle.cat_model.proofs.checking.require_monotone.Goals as goal
@@ -12,8 +12,8 @@ returns-in_err-require_no_denial-clause-err c =
     let p = err_from_is_err_and c.from_residual.result c.from_residual.ensures.1 in
     rw (p.1, p.2)
     (elim c.in_err-require_no_denial.ensures.err [
-      inl m ↦ inl m
-    | inr u ↦ inr (u.0, bound_of c.binding-item.result, u.1, contains_at bound_of c.args.group.now c.loop-binding.binding-index c.binding-item.result c.loop-binding-test.true c.binding-item.is, u.2, u.3)
+      | inl m ↦ inl m
+      | inr u ↦ inr (u.0, bound_of c.binding-item.result, u.1, contains_at bound_of c.args.group.now c.loop-binding.binding-index c.binding-item.result c.loop-binding-test.true c.binding-item.is, u.2, u.3)
     ])
 
 pub loop-binding-preserved : goal.loop-binding-preserved

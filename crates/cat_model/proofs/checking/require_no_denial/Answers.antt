@@ -11,9 +11,12 @@ use Rattle.cat_model.proofs.checking.require_no_denial.Goals as goal
 pub returns-then-is_bound-clause-err : goal.returns-then-is_bound-clause-err
 returns-then-is_bound-clause-err c =
     let same : told c.deref-name-items.result.now ≡ denied_names (term_of c.args.expression.now) = gathered c.deref-name-items.result.now c.denied_names.new.found.items c.new-found.result.items (denied_names (term_of c.args.expression.now)) c.deref-name-items.ensures.value c.in_ok-denied_names.ensures c.new-found.ensures.items in
-    inr (c.name-item.result.now, ap NotMonotone c.in_ok-copy.ensures,
-        subst (λ ns. Contains ns c.name-item.result.now) same (contains_at (λ x. x.now) c.deref-name-items.result.now c.loop-name.name-index c.name-item.result c.loop-name-test.true c.name-item.is),
-        bound_any c.args.group.now c.name-item.result.now ∙ (sym c.is_bound.ensures ∙ c.if-is_bound.true))
+    inr (
+      c.name-item.result.now,
+      ap NotMonotone c.in_ok-copy.ensures,
+      subst (λ ns. Contains ns c.name-item.result.now) same (contains_at (λ x. x.now) c.deref-name-items.result.now c.loop-name.name-index c.name-item.result c.loop-name-test.true c.name-item.is),
+      bound_any c.args.group.now c.name-item.result.now ∙ (sym c.is_bound.ensures ∙ c.if-is_bound.true),
+    )
 
 pub loop-name-preserved : goal.loop-name-preserved
 loop-name-preserved c =

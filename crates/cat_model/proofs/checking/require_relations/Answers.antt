@@ -8,9 +8,12 @@ use Rattle.cat_model.proofs.checking.require_relations.Goals as goal
 
 pub returns-then-not-has_sort-clause-err : goal.returns-then-not-has_sort-clause-err
 returns-then-not-has_sort-clause-err c =
-    inr (bound_of c.binding-item.result, ap WrongSort c.in_ok-copy.ensures,
-        contains_at bound_of c.args.bindings.now c.loop-binding.binding-index c.binding-item.result c.loop-binding-test.true c.binding-item.is,
-        λ h. clash c.has_sort.result c.if-not-has_sort.true (c.has_sort.ensures.1 h))
+    inr (
+      bound_of c.binding-item.result,
+      ap WrongSort c.in_ok-copy.ensures,
+      contains_at bound_of c.args.bindings.now c.loop-binding.binding-index c.binding-item.result c.loop-binding-test.true c.binding-item.is,
+      λ h. clash c.has_sort.result c.if-not-has_sort.true (c.has_sort.ensures.1 h),
+    )
 
 pub loop-binding-preserved : goal.loop-binding-preserved
 loop-binding-preserved c =

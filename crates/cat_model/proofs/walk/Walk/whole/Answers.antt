@@ -1,4 +1,4 @@
-use Rattle.std.proofs.Common.{◌≡◌, Some, [], ◌∷◌, sym}
+use Rattle.std.proofs.Common.{◌≡◌, Some, [], sym}
 use Rattle.cat_model.proofs.Walking.{places_call}
 use Rattle.cat_model.proofs.Whole.{closure_whole, own_whole, only_whole}
 use Rattle.cat_model.specs.Files.{file_of}
