@@ -2,4 +2,11 @@ pub mod Named
 pub mod Sorts
 pub mod Scopes
 pub mod Models
+pub mod Rc11
+pub mod Sketches
+pub mod Files
+pub mod FileCodes
+pub mod Closure
+pub mod Faults
+pub mod Walks
 pub mod Examples

@@ -1,10 +1,11 @@
 //! A model that is ready to judge executions.
 
-ghost use Rattle.std.specs.Prelude.{◌≡◌, map};
+ghost use Rattle.std.specs.Prelude.{◌≡◌, map, IfOk};
 ghost use Rattle.cat_syntax.specs.Tree.{clause_of};
 ghost use Rattle.cat_model.specs.Scopes.{IsModel};
 
 use cat_syntax::Item;
+use std::alloc::AllocError;
 use wb_text::Name;
 
 /// A file that was read, with its version then.
@@ -38,6 +39,29 @@ impl std::marker::Model for Model {
     ghost invariant = { λ m. IsModel (map clause_of m.items.items) };
 }
 
+fn items_copy(first: &Vec<Item>) -> Result<Vec<Item>, AllocError>
+    ensures { IfOk result (λ v. map clause_of v.items ≡ map clause_of first.now.items) }
+{
+    let mut copies = Vec::new(*first.allocator());
+    for item in first {
+        copies.push(item.copy()?)?;
+    }
+    Ok(copies)
+}
+
+fn files_copy(first: &Vec<FileVersion>) -> Result<Vec<FileVersion>, AllocError>
+    ensures { IfOk result (λ v. v.items ≡ first.now.items) }
+{
+    let mut copies = Vec::new(*first.allocator());
+    for file in first {
+        copies.push(FileVersion {
+            name: file.name.copy()?,
+            version: file.version,
+        })?;
+    }
+    Ok(copies)
+}
+
 impl Model {
     /// The model of these items, which come from these files.
     pub(crate) fn new(items: Vec<Item>, files: Vec<FileVersion>) -> Self
@@ -60,5 +84,14 @@ impl Model {
         ensures { result.now ≡ self.now.files }
     {
         &self.files
+    }
+
+    /// A second model that is equal.
+    pub fn copy(&self) -> Result<Self, AllocError>
+        ensures { IfOk result (λ m. m ≡ self.now) }
+    {
+        let items = items_copy(&self.items)?;
+        let files = files_copy(&self.files)?;
+        Ok(Model { items, files })
     }
 }
