@@ -1,4 +1,4 @@
-//! Events, the runs of threads, and candidate executions.
+//! Events, the runs of threads, candidate executions, and the named sets and relations of one.
 #![tactic(auto)]
 
 mod event;
