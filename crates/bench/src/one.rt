@@ -5,8 +5,8 @@ ghost use Rattle.std.specs.Io.KnownBytes.{Keeps};
 ghost use Rattle.wb_text.specs.Memory.{LosesAtMost};
 ghost use Rattle.bench.specs.Inputs.{text_of, HasOutcome, Summarizes, SummarizesPartly, IsRefusal, IsFaultOf};
 
-use crate::report::{WriteFault, write_summary};
-use crate::slices::{Verdict, evaluate};
+use book::report::{WriteFault, write_summary};
+use book::slices::{Verdict, evaluate};
 use candidates::SpaceFault;
 use litmus_c::{TestFault, read_test};
 use std::alloc::Global;

@@ -1,0 +1,5 @@
+pub mod Bindings
+pub mod Counted
+pub mod Examples
+pub mod Rows
+pub mod Written
