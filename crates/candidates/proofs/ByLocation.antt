@@ -2,6 +2,7 @@
 use Rattle.std.proofs.Common.{◌≡◌, ◌≢◌, ℕ, zero, suc, ◌+◌, ◌*◌, ◌^◌, ◌<◌, ◌⊎◌, List, [], ◌∷◌, ◌++◌, length, filter, refl, sym, ◌∙◌, ap, inl, inr, arith, Bool, true, false, cond, ◌==◌, ◌&&◌, length-append, ◌≤◌, ◌%◌, ◌/◌, drop, get_or, drop-cons, add-one, subst}
 use Rattle.std.proofs.Math.Nat.{mul_assoc, mul-one, pow-zero, pow-suc, one-le-pow}
 use Rattle.std.proofs.lemmas.Nat.{pow-add}
+use Rattle.std.proofs.lemmas.List.Elements.{All-head, All-tail}
 use Rattle.std.proofs.lemmas.List.Sums.{sum_by-cons, count_by-le-length}
 use Rattle.std.proofs.lemmas.Bool.{eqb-true, eq-eqb, false≢true}
 use Rattle.std.specs.List.{sum_by, count_by, All}
@@ -12,12 +13,6 @@ use Rattle.candidates.specs.Executions.{reads, writes_from, writes_from_thread, 
 use Rattle.candidates.specs.Bounds.{reads_from, event_count}
 use Rattle.candidates.specs.Candidates.{choice, run_at}
 use Rattle.candidates.proofs.Caps.{factor_le, factorial_positive}
-
-pub all_head : {X : Type 0} (P : X → Type 0) (x : X) (xs : List X) → All P (x ∷ xs) → P x
-all_head P x xs h = h 0 x (omega arith)
-
-pub all_tail : {X : Type 0} (P : X → Type 0) (x : X) (xs : List X) → All P (x ∷ xs) → All P xs
-all_tail P x xs h k d l = h (suc k) d (omega (arith, l))
 
 test : (b : Bool) → (b ≡ true) ⊎ (b ≡ false)
 test true = inl refl
@@ -98,13 +93,13 @@ split f c d n = product_same (λ x. f x ^ (c x + d x)) (λ x. f x ^ c x * f x ^ 
 events_by_location : (f : ℕ → ℕ) (n : ℕ) (es : List Event) → All (λ e. e.loc < n) es → product_by (λ r. f r.loc) (filter (λ e. is_read e.access) es) ≡ product_by (λ x. f x ^ count_by (reads_from x) es) (upto n)
 events_by_location f n [] h = sym (ones n (λ i. i) (λ x. f x ^ 0) (λ i l. pow-zero (f i)))
 events_by_location f n (e ∷ es) h =
-    let rest = events_by_location f n es (all_tail (λ e. e.loc < n) e es h) in
+    let rest = events_by_location f n es (All-tail (λ e. e.loc < n) e es h) in
     let p = product_by (λ x. f x ^ count_by (reads_from x) es) (upto n) in
     let more : (x : ℕ) → f x ^ count_by (reads_from x) (e ∷ es) ≡ f x ^ (once_at e x + count_by (reads_from x) es) = λ x. ap (λ k. f x ^ k) (sum_by-cons (λ a. cond (reads_from x a) 1 0) e es) in
     let s : product_by (λ x. f x ^ count_by (reads_from x) (e ∷ es)) (upto n) ≡ product_by (λ x. f x ^ once_at e x) (upto n) * p =
     product_same (λ x. f x ^ count_by (reads_from x) (e ∷ es)) (λ x. f x ^ (once_at e x + count_by (reads_from x) es)) more (upto n) ∙ split f (once_at e) (λ x. count_by (reads_from x) es) n in
     elim (test (is_read e.access)) [
-      | inl t ↦ ap (product_by (λ r. f r.loc)) (filter_yes e es t) ∙ ap (λ k. f e.loc * k) rest ∙ sym (s ∙ ap (λ k. k * p) (one_read f n e (all_head (λ e. e.loc < n) e es h) t))
+      | inl t ↦ ap (product_by (λ r. f r.loc)) (filter_yes e es t) ∙ ap (λ k. f e.loc * k) rest ∙ sym (s ∙ ap (λ k. k * p) (one_read f n e (All-head (λ e. e.loc < n) e es h) t))
       | inr t ↦ ap (product_by (λ r. f r.loc)) (filter_no e es t) ∙ rest ∙ sym (s ∙ ap (λ k. k * p) (no_read f n e t) ∙ one_times p)
     ]
 
@@ -119,8 +114,8 @@ reads_by_location : (f : ℕ → ℕ) (n : ℕ) (runs : List ThreadRun) → All 
 reads_by_location f n [] h = sym (ones n (λ i. i) (λ x. f x ^ 0) (λ i l. pow-zero (f i)))
 reads_by_location f n (run ∷ runs) h =
     let P : ThreadRun → Type 0 = λ run. All (λ e. e.loc < n) run.events in
-    let here = events_by_location f n run.events (all_head P run runs h) in
-    let rest = reads_by_location f n runs (all_tail P run runs h) in
+    let here = events_by_location f n run.events (All-head P run runs h) in
+    let rest = reads_by_location f n runs (All-tail P run runs h) in
     let more : (x : ℕ) → f x ^ reads_at (run ∷ runs) x ≡ f x ^ (count_by (reads_from x) run.events + reads_at runs x) = λ x. ap (λ k. f x ^ k) (sum_by-cons (λ (r : ThreadRun). count_by (reads_from x) r.events) run runs) in
     product_append (λ r. f r.loc) (filter (λ e. is_read e.access) run.events) (reads runs)
     ∙ ap (λ k. k * product_by (λ r. f r.loc) (reads runs)) here

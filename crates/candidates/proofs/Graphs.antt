@@ -10,8 +10,7 @@ use Rattle.listings.proofs.Listings.{in_get_or}
 use Rattle.candidates.specs.Executions.{Writes, IsCoherence, reads, block}
 use Rattle.candidates.specs.Candidates.{no_run, candidate, write_value}
 use Rattle.candidates.specs.Bounds.{AreWithin}
-use Rattle.candidates.proofs.Bounding.{all_nil, all_cons, all_append}
-use Rattle.candidates.proofs.ByLocation.{all_head, all_tail}
+use Rattle.std.proofs.lemmas.List.Elements.{All-nil, All-cons, All-head, All-tail, All-append}
 use Rattle.candidates.proofs.Law.{CanRead, block_numbered}
 use Rattle.candidates.proofs.Writing.{in_sources, stands_get}
 
@@ -43,35 +42,35 @@ abbrev pub IsAt : ℕ → Event → Type 0
 IsAt n e = e.loc < n
 
 some_at : (n : ℕ) (es : List Event) → All (IsAt n) es → All (IsAt n) (filter (λ e. is_read e.access) es)
-some_at n [] h = all_nil (IsAt n)
+some_at n [] h = All-nil (IsAt n)
 some_at n (e ∷ es) h =
     let P : List Event → Type 0 = All (IsAt n) in
-    let rest = some_at n es (all_tail (IsAt n) e es h) in
+    let rest = some_at n es (All-tail (IsAt n) e es h) in
     elim (test (is_read e.access)) [
-      | inl t ↦ subst P (filter_yes e es t) (all_cons (IsAt n) e (filter (λ e. is_read e.access) es) (all_head (IsAt n) e es h) rest)
+      | inl t ↦ subst P (filter_yes e es t) (All-cons (IsAt n) e (filter (λ e. is_read e.access) es) (All-head (IsAt n) e es h) rest)
       | inr t ↦ subst P (filter_no e es t) rest
     ]
 
 reads_at_locations : (n : ℕ) (runs : List ThreadRun) → All (λ run. All (IsAt n) run.events) runs → All (IsAt n) (reads runs)
-reads_at_locations n [] h = all_nil (IsAt n)
+reads_at_locations n [] h = All-nil (IsAt n)
 reads_at_locations n (run ∷ runs) h =
     let P : ThreadRun → Type 0 = λ run. All (IsAt n) run.events in
-    all_append (IsAt n) (filter (λ e. is_read e.access) run.events) (reads runs) (some_at n run.events (all_head P run runs h)) (reads_at_locations n runs (all_tail P run runs h))
+    All-append (IsAt n) (filter (λ e. is_read e.access) run.events) (reads runs) (some_at n run.events (All-head P run runs h)) (reads_at_locations n runs (All-tail P run runs h))
 
 rf_named : (init : List ℕ) (runs : List ThreadRun) (rs : List Event) (ws : List EventId) → All (IsAt (length init)) rs → ForEach (CanRead runs) rs ws → All (IsNamed init runs) ws
-rf_named init runs [] [] h f = all_nil (IsNamed init runs)
+rf_named init runs [] [] h f = All-nil (IsNamed init runs)
 rf_named init runs [] (w ∷ ws) h f = absurd f
 rf_named init runs (r ∷ rs) [] h f = absurd f
 rf_named init runs (r ∷ rs) (w ∷ ws) h f =
-    all_cons (IsNamed init runs) w ws (named init runs w r.loc (write_value init runs w) (all_head (IsAt (length init)) r rs h) (in_sources init runs w r.loc f.0))
-    (rf_named init runs rs ws (all_tail (IsAt (length init)) r rs h) f.1)
+    All-cons (IsNamed init runs) w ws (named init runs w r.loc (write_value init runs w) (All-head (IsAt (length init)) r rs h) (in_sources init runs w r.loc f.0))
+    (rf_named init runs rs ws (All-tail (IsAt (length init)) r rs h) f.1)
 
 co_named : (init : List ℕ) (runs : List ThreadRun) (n : ℕ) (g : ℕ → ℕ) (co : List (List EventId)) → ((i : ℕ) → i < n → g i < length init) → ForEach (IsCoherence init runs) (tabulate n g) co → All (All (IsNamed init runs)) co
-co_named init runs zero g [] h f = all_nil (All (IsNamed init runs))
+co_named init runs zero g [] h f = All-nil (All (IsNamed init runs))
 co_named init runs zero g (o ∷ co) h f = absurd f
 co_named init runs (suc n) g [] h f = absurd f
 co_named init runs (suc n) g (o ∷ co) h f =
-    all_cons (All (IsNamed init runs)) o co
+    All-cons (All (IsNamed init runs)) o co
     (each (IsNamed init runs) o (λ w m. let v = f.0.writes.only w m in named init runs w (g 0) v.0 (h 0 (omega arith)) v.1))
     (co_named init runs n (λ i. g (suc i)) co (λ i l. h (suc i) (omega (arith, l))) f.1)
 

@@ -15,10 +15,12 @@ use Rattle.listings.proofs.Arrangements.{IsArrangement, by_arrange}
 use Rattle.listings.proofs.Walks.{OfSome, IsKeyed, by_walk}
 use Rattle.listings.proofs.Sums.{same_sums}
 use Rattle.litmus_c.specs.Tree.{Litmus}
-use Rattle.candidates.specs.Runs.{IsRun, initial_values}
+use Rattle.candidates.specs.Executions.{initial_values}
+use Rattle.c11_threads.specs.Runs.{IsRun}
 use Rattle.candidates.specs.Executions.{IsExecution, IsSize, IsChoice, IsCoherence, Writes, reads, later_writes, upto, block}
-use Rattle.candidates.specs.Candidates.{runs_of, Choices, choices_of, no_run, choice, count_choices, choices, sources, count_sources, source_at, count_orders, order_at, candidate, no_execution, candidate_at, write_value, agree, is_consistent, graph_at, size_of, Numbering}
-use Rattle.candidates.proofs.RunLists.{lists_runs_of}
+use Rattle.candidates.specs.Candidates.{Choices, choices_of, no_run, choice, count_choices, choices, sources, count_sources, source_at, count_orders, order_at, candidate, no_execution, candidate_at, write_value, agree, is_consistent, graph_at, size_of, Numbering}
+use Rattle.c11_threads.specs.Unrolled.{runs_of}
+use Rattle.c11_threads.proofs.RunLists.{lists_runs_of}
 use Rattle.candidates.proofs.Writing.{value_is, sources_in, in_sources, once_later, once_sources}
 
 -- a list lists what is in it

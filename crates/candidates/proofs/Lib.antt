@@ -3,11 +3,8 @@ pub mod ByLocation
 pub mod Caps
 pub mod Graphs
 pub mod Law
-pub mod RunLists
 pub mod Sources
 pub mod Spaces
 pub mod Steps
 pub mod Tallies
-pub mod Turns
-pub mod Unrolling
 pub mod Writing

@@ -7,17 +7,19 @@ use Rattle.events.specs.Executions.{ThreadRun, Execution}
 use Rattle.listings.specs.Lists.{IsIn, sum_of}
 use Rattle.litmus_c.specs.Limits.{IsTest}
 use Rattle.litmus_c.specs.Tree.{Litmus}
-use Rattle.candidates.specs.declared.fault.RunFault.{RunFault}
-use Rattle.candidates.specs.declared.fault.RunFault.TheVariants.{TooManyRuns, NoMemory}
+use Rattle.c11_threads.specs.declared.fault.RunFault.{RunFault}
+use Rattle.c11_threads.specs.declared.fault.RunFault.TheVariants.{TooManyRuns, NoMemory}
 use Rattle.candidates.specs.declared.fault.SpaceFault.TheVariants.{TooManyCandidates}
 use Rattle.candidates.specs.Executions.{IsSize, upto, block}
-use Rattle.candidates.specs.Candidates.{runs_of, choices_of, choices, choice, count_choices, size_of, Choices, candidate_at, graph_at, is_consistent}
-use Rattle.candidates.specs.Faults.{IsRunFault, IsSpaceFault, HaveFewRuns, space_fault_of}
+use Rattle.candidates.specs.Candidates.{choices_of, choices, choice, count_choices, size_of, Choices, candidate_at, graph_at, is_consistent}
+use Rattle.c11_threads.specs.Unrolled.{runs_of}
+use Rattle.candidates.specs.Faults.{IsSpaceFault, HaveFewRuns, space_fault_of}
+use Rattle.c11_threads.specs.Faults.{IsRunFault}
 use Rattle.candidates.specs.Bounds.{AreWithin}
 use Rattle.candidates.proofs.Bounding.{within}
 use Rattle.candidates.proofs.Caps.{drop_upto, length_tabulate}
 use Rattle.candidates.proofs.Law.{sized, shown, hidden}
-use Rattle.candidates.proofs.RunLists.{lists_runs_of, some_runs}
+use Rattle.c11_threads.proofs.RunLists.{lists_runs_of, some_runs}
 use Rattle.candidates.proofs.Steps.{choices_below}
 
 abbrev pub FewBelow : Litmus → ℕ → Type 0

@@ -1,81 +1,16 @@
 -- The numbering of candidates that this crate fixes: of the runs of a thread, of the choices of runs, of rf and of co.
-use Rattle.std.specs.Prelude.{◌≡◌, ℕ, zero, suc, ◌/◌, ◌%◌, ◌<◌, ◌≤◌, List, [], ◌∷◌, ◌++◌, length, map, slice_index_or, slice_set, Bool, true, if◌then◌else◌, ◌==◌, ◌&&◌, Option, None, Some, IfSome}
-use Rattle.std.specs.List.{flat_map}
+use Rattle.std.specs.Prelude.{◌≡◌, ℕ, zero, suc, ◌/◌, ◌%◌, ◌<◌, ◌≤◌, List, [], ◌∷◌, ◌++◌, length, map, slice_index_or, Bool, true, if◌then◌else◌, ◌==◌, ◌&&◌, Option, None, Some, IfSome}
 use Rattle.events.specs.declared.event.Access.TheVariants.{Read}
 use Rattle.events.specs.declared.event.Event.{Event}
 use Rattle.events.specs.declared.event.EventId.{EventId}
 use Rattle.events.specs.declared.event.EventId.TheVariants.{Initial, Own}
-use Rattle.events.specs.declared.event.Order.{Order}
 use Rattle.events.specs.declared.event.Order.TheVariants.{NoOrder}
-use Rattle.events.specs.Executions.{ThreadRun, Execution}
+use Rattle.events.specs.Executions.{ThreadRun, Execution, no_places}
 use Rattle.listings.specs.Lists.{Lists, sum_of, product_by, factorial, tabulate}
 use Rattle.listings.specs.Numbered.{digits, arrange, walk}
-use Rattle.litmus_c.specs.Tree.{Word, Action, load, store, Right, value_of, Declared, Step, empty, declare, assign, perform, Litmus}
-use Rattle.litmus_c.specs.Values.{values_of}
-use Rattle.candidates.specs.Runs.{place_of, read, write, term_value, thread_of, initial_registers, initial_values}
-use Rattle.candidates.specs.Executions.{IsExecution, IsSize, reads, later_writes, upto, block}
-
--- one run after another
-abbrev pub followed : ThreadRun → ThreadRun → ThreadRun
-followed a b = record { events = a.events ++ b.events; registers = b.registers }
-
--- each of these runs, and then each of the runs that f gives from its registers
-abbrev pub extended : (List ℕ → List ThreadRun) → List ThreadRun → List ThreadRun
-extended f runs = flat_map (λ run. map (followed run) (f run.registers)) runs
-
--- the runs of parts, where f gives those of each from any registers
-abbrev pub runs_in_turn : {A : Type 0} → (A → List ℕ → List ThreadRun) → List A → List ℕ → List ThreadRun
-runs_in_turn f [] registers = record { events = []; registers = registers } ∷ []
-runs_in_turn f (a ∷ rest) registers = extended (runs_in_turn f rest) (f a registers)
-
--- What a statement stands in: the number of its thread, the names of locations and registers, and the values of the test.
-pub record Setting : Type 0 where
-  pub thread : ℕ
-  pub locations : List Word
-  pub registers : List Word
-  pub values : List ℕ
-
--- the registers, where v is given to one of them or to none
-abbrev pub given : Option ℕ → List ℕ → ℕ → List ℕ
-given None registers v = registers
-given (Some r) registers v = slice_set registers r v
-
--- a run of these events that gives v to a register
-abbrev pub giving : List Event → Option ℕ → List ℕ → ℕ → ThreadRun
-giving events r registers v = record { events = events; registers = given r registers v }
-
-abbrev pub load_runs : Setting → ℕ → Order → Option ℕ → List ℕ → List ThreadRun
-load_runs s x o r registers = map (λ v. giving (read s.thread x v o ∷ []) r registers v) s.values
-
-abbrev pub store_runs : Setting → ℕ → ℕ → Order → Option ℕ → List ℕ → List ThreadRun
-store_runs s x v o r registers = giving (write s.thread x v o ∷ []) r registers 0 ∷ []
-
-abbrev pub call_runs : Setting → Action → Option ℕ → List ℕ → List ThreadRun
-call_runs s (load x o) r registers = load_runs s (place_of x s.locations) o r registers
-call_runs s (store x e o) r registers = store_runs s (place_of x s.locations) (term_value e) o r registers
-
-abbrev pub right_runs : Setting → Right → Option ℕ → List ℕ → List ThreadRun
-right_runs s (value_of a) r registers = call_runs s a r registers
-
-abbrev pub declare_runs_as : Setting → Word → Option Right → List ℕ → List ThreadRun
-declare_runs_as s r None registers = giving [] (Some (place_of r s.registers)) registers 0 ∷ []
-declare_runs_as s r (Some right) registers = right_runs s right (Some (place_of r s.registers)) registers
-
-abbrev pub declare_runs : Setting → Declared → List ℕ → List ThreadRun
-declare_runs s d registers = declare_runs_as s d.register d.value registers
-
-abbrev pub step_runs : Setting → Step → List ℕ → List ThreadRun
-step_runs s empty registers = giving [] None registers 0 ∷ []
-step_runs s (declare ds) registers = runs_in_turn (declare_runs s) ds registers
-step_runs s (assign r right) registers = right_runs s right (Some (place_of r s.registers)) registers
-step_runs s (perform a) registers = call_runs s a None registers
-
-abbrev pub setting_of : Litmus → ℕ → Setting
-setting_of t k = record { thread = k; locations = t.locations; registers = (thread_of t k).registers; values = values_of t }
-
--- the runs of thread k: the value of the first read is the slowest to change
-abbrev pub runs_of : Litmus → ℕ → List ThreadRun
-runs_of t k = runs_in_turn (step_runs (setting_of t k)) (thread_of t k).steps (initial_registers t k)
+use Rattle.litmus_c.specs.Tree.{Litmus}
+use Rattle.c11_threads.specs.Unrolled.{runs_of}
+use Rattle.candidates.specs.Executions.{initial_values, IsExecution, IsSize, reads, later_writes, upto, block}
 
 -- The initial values, and the runs of each thread.
 pub record Choices : Type 0 where
@@ -136,7 +71,7 @@ abbrev pub candidate_at : Choices → ℕ → Execution
 candidate_at s i = walk (block (length s.init)) (candidate s.init) no_execution (choices s.threads) i
 
 abbrev pub no_event : Event
-no_event = record { thread = 0; access = Read; loc = 0; value = 0; order = NoOrder }
+no_event = record { thread = 0; access = Read; loc = 0; value = 0; order = NoOrder; data_from = no_places; ctrl_from = no_places }
 
 -- the value that a write writes
 abbrev pub write_value : List ℕ → List ThreadRun → EventId → ℕ

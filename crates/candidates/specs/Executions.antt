@@ -1,14 +1,20 @@
 -- Executions of a test, and how many candidates there are.
 -- After Alglave, Maranget and Tautschnig, Herding cats, 2014, section 4.
-use Rattle.std.specs.Prelude.{◌≡◌, ℕ, suc, ◌*◌, List, [], ◌∷◌, ◌++◌, length, filter, true, if◌then◌else◌, slice_index_or}
+use Rattle.std.specs.Prelude.{◌≡◌, ℕ, suc, ◌*◌, List, [], ◌∷◌, ◌++◌, length, map, filter, true, if◌then◌else◌, slice_index_or}
 use Rattle.std.specs.List.{flat_map}
 use Rattle.events.specs.declared.event.Event.{Event}
 use Rattle.events.specs.declared.event.EventId.{EventId}
 use Rattle.events.specs.declared.event.EventId.TheVariants.{Initial, Own}
 use Rattle.events.specs.Executions.{ThreadRun, Execution, is_read, writes_to}
 use Rattle.listings.specs.Lists.{Lists, StandsAt, ForEach, product_by, sum_of, factorial, tabulate}
+use Rattle.conditions.specs.declared.place.Place.TheVariants.{Loc}
+use Rattle.conditions.specs.States.{value_at}
 use Rattle.litmus_c.specs.Tree.{Litmus}
-use Rattle.candidates.specs.Runs.{IsRun, initial_values}
+use Rattle.c11_threads.specs.Runs.{IsRun}
+
+-- the initial value of each location
+abbrev pub initial_values : Litmus → List ℕ
+initial_values t = map (λ x. value_at t.initial (Loc x)) t.locations
 
 -- The event that is so named writes v to x. The initial write of x writes its initial value.
 abbrev pub Writes : List ℕ → List ThreadRun → EventId → ℕ → ℕ → Type 0

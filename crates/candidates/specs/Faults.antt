@@ -1,31 +1,12 @@
--- When a thread's runs aren't listed, and when a test's candidates aren't numbered.
-use Rattle.std.specs.Prelude.{◌≡◌, ℕ, ◌<◌, ◌≤◌, ◌^◌, List, length}
-use Rattle.events.specs.Executions.{ThreadRun}
-use Rattle.listings.specs.Lists.{Lists}
+-- When a test's candidates aren't numbered.
+use Rattle.std.specs.Prelude.{ℕ, ◌<◌, ◌≤◌, ◌^◌, length}
 use Rattle.litmus_c.specs.Tree.{Litmus}
-use Rattle.candidates.specs.declared.fault.RunFault.{RunFault}
-use Rattle.candidates.specs.declared.fault.RunFault.TheVariants as of_runs
+use Rattle.c11_threads.specs.declared.fault.RunFault.{RunFault}
+use Rattle.c11_threads.specs.declared.fault.RunFault.TheVariants as of_runs
 use Rattle.candidates.specs.declared.fault.SpaceFault.{SpaceFault}
 use Rattle.candidates.specs.declared.fault.SpaceFault.TheVariants as of_space
-use Rattle.candidates.specs.Runs.{IsRun}
+use Rattle.c11_threads.specs.Faults.{HasRuns, HasTooManyRuns}
 use Rattle.candidates.specs.Executions.{IsSize}
-
--- What a fault means where thread k has n runs.
-abbrev pub IsFaultAt : ℕ → ℕ → RunFault → Type 0
-IsFaultAt k n (of_runs.TooManyRuns j) = (j ≡ k) × (4096 < n)
-IsFaultAt k n of_runs.NoMemory = Unit {0}
-
--- the number of runs of thread k
-abbrev pub HasRuns : Litmus → ℕ → ℕ → Type 0
-HasRuns t k n = (runs : List ThreadRun) × Lists (IsRun t k) runs × (length runs ≡ n)
-
-abbrev pub HasTooManyRuns : Litmus → ℕ → Type 0
-HasTooManyRuns t k = (n : ℕ) × HasRuns t k n × (4096 < n)
-
--- What a fault of the runs of thread k means.
-abbrev pub IsRunFault : Litmus → ℕ → RunFault → Type 0
-IsRunFault t k (of_runs.TooManyRuns j) = (j ≡ k) × HasTooManyRuns t k
-IsRunFault t k of_runs.NoMemory = Unit {0}
 
 -- Thread k is the lowest with too many runs.
 abbrev pub IsFirstWithTooManyRuns : Litmus → ℕ → Type 0

@@ -2,4 +2,3 @@ pub mod Bounds
 pub mod Candidates
 pub mod Executions
 pub mod Faults
-pub mod Runs

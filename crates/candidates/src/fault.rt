@@ -1,25 +1,13 @@
-//! Why there are no runs, or no space.
+//! Why there is no space.
 
 ghost use Rattle.std.specs.Prelude.{◌≡◌};
 
+use c11_threads::RunFault;
 use std::alloc::{AllocError, AllocFailed};
 use thiserror::Error;
 
-/// The most runs of a thread.
-pub const MOST_RUNS: usize = 4096;
-
 /// The most candidates of a test.
 pub const MOST_CANDIDATES: u64 = 1 << 32;
-
-/// Why a thread's runs aren't listed. The numbers are those of the printed refusals.
-#[derive(Clone, Copy, Debug, Drop, PartialEq, Eq, Error)]
-pub enum RunFault {
-    /// The thread has more than 4,096 runs.
-    #[error("31 TooManyRuns {0}")]
-    TooManyRuns(usize),
-    #[error("NoMemory")]
-    NoMemory,
-}
 
 /// Why a test's candidates aren't numbered.
 #[derive(Clone, Copy, Debug, Drop, PartialEq, Eq, Error)]
@@ -32,28 +20,6 @@ pub enum SpaceFault {
     TooManyCandidates,
     #[error("NoMemory")]
     NoMemory,
-}
-
-impl From<AllocError> for RunFault {
-    ghost use Rattle.std.specs.Prelude.{◌≡◌};
-    ghost use Rattle.candidates.specs.declared.fault.RunFault.TheVariants.{NoMemory};
-
-    ghost from_gives = { λ _ e. e ≡ NoMemory };
-
-    fn from(_error: AllocError) -> RunFault {
-        RunFault::NoMemory
-    }
-}
-
-impl<T: Drop> From<AllocFailed<T>> for RunFault {
-    ghost use Rattle.std.specs.Prelude.{◌≡◌};
-    ghost use Rattle.candidates.specs.declared.fault.RunFault.TheVariants.{NoMemory};
-
-    ghost from_gives = { λ _ e. e ≡ NoMemory };
-
-    fn from(_error: AllocFailed<T>) -> RunFault {
-        RunFault::NoMemory
-    }
 }
 
 impl From<AllocError> for SpaceFault {

@@ -1,15 +1,14 @@
-//! The runs of threads, and the numbered candidate executions of a test.
+//! The numbered candidate executions of a test.
 #![tactic(auto)]
 
 mod assembly;
-pub mod c11_threads;
 mod capped;
 mod choosing;
 mod fault;
 pub mod laws;
 mod space;
 
-pub use fault::{RunFault, SpaceFault};
+pub use fault::SpaceFault;
 pub use space::Space;
 
 #[cfg(test)]

@@ -1,21 +1,22 @@
 //! The numbered candidates of a test.
 
 ghost use Rattle.std.specs.Prelude.{◌≡◌, ◌<◌, ◌≤◌, ◌^◌, ℕ, List, length, map, IfOk, MatchResult, IfErr};
-ghost use Rattle.candidates.specs.Runs.{initial_values};
+ghost use Rattle.candidates.specs.Executions.{initial_values};
 ghost use Rattle.candidates.specs.Executions.{IsSize, upto};
-ghost use Rattle.candidates.specs.Candidates.{choice, count_choices, choices_of, runs_of, size_of, graph_at};
+ghost use Rattle.candidates.specs.Candidates.{choice, count_choices, choices_of, size_of, graph_at};
+ghost use Rattle.c11_threads.specs.Unrolled.{runs_of};
 ghost use Rattle.candidates.specs.Faults.{HaveFewRuns, IsSpaceFault};
 ghost use Rattle.candidates.specs.Bounds.{AreWithin};
 ghost use Rattle.events.specs.Executions.{ThreadRun};
 ghost use Rattle.listings.specs.Lists.{IsIn};
 
 use crate::assembly::assemble;
-use crate::c11_threads::{initial_value, runs};
 use crate::choosing::{RunList, choice, count_choices, locate, total};
 use crate::fault::{MOST_CANDIDATES, SpaceFault};
+use c11_threads::{initial_value, runs};
+use conditions::Place;
 use events::Graph;
 use litmus_c::Test;
-use litmus_c::conditions::Place;
 use std::alloc::{AllocError, Global};
 use std::marker::Model;
 

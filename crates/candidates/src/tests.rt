@@ -1,5 +1,5 @@
 use super::*;
-use crate::c11_threads::runs;
+use c11_threads::runs;
 use litmus_c::read_test;
 use std::alloc::Global;
 use std::test::Fail;

@@ -8,3 +8,5 @@ pub mod Symbols
 pub mod Nodes
 pub mod Counting
 pub mod Reads
+pub mod Equality
+pub mod Exact

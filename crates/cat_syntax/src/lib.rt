@@ -1,7 +1,9 @@
 //! Models in the cat language: their trees and the reader.
 #![tactic(auto)]
 
+mod copying;
 mod counting;
+mod equality;
 mod fault;
 mod file;
 mod foreign;

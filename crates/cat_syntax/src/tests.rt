@@ -192,3 +192,60 @@ fn items(rt: HostRuntime) -> Result<(), Fail> {
     assert!(rt; title.bytes() == b"a title".as_slice());
     Ok(())
 }
+
+/// Whether two texts are equal models.
+fn are_equal(alloc: Global, text: &str, other: &str) -> Result<bool, Fail> {
+    let file = read_cat(alloc, text.as_bytes())
+        .ok()
+        .ok_or("the text is a model")?;
+    let other = read_cat(alloc, other.as_bytes())
+        .ok()
+        .ok_or("the other text is a model")?;
+    Ok(file == other)
+}
+
+#[test]
+fn equality(rt: HostRuntime) -> Result<(), Fail> {
+    let alloc = rt.alloc();
+    let check = "T flag ~empty r as none";
+    assert!(rt; are_equal(alloc, check, "\"T\" flag ~ empty (r) as none")?);
+    for other in [
+        "flag ~empty r as none",
+        "U flag ~empty r as none",
+        "T ~empty r as none",
+        "T flag empty r as none",
+        "T flag ~acyclic r as none",
+        "T flag ~empty s as none",
+        "T flag ~empty r as some",
+        "T flag ~empty r",
+        "T flag ~empty r as none empty r",
+        "T",
+    ] {
+        assert!(rt; !are_equal(alloc, check, other)?);
+    }
+    assert!(rt; are_equal(alloc, "let a = r ; s | t", "let a = (r ; s) | t")?);
+    assert!(rt; !are_equal(alloc, "let a = r ; s | t", "let a = r ; (s | t)")?);
+    assert!(rt; !are_equal(alloc, "let a = r", "let rec a = r")?);
+    assert!(rt; !are_equal(alloc, "let a = r and b = s", "let b = s and a = r")?);
+    assert!(rt; !are_equal(alloc, "show a as b", "show a")?);
+    assert!(rt; !are_equal(alloc, "unshow a, b", "unshow a")?);
+    assert!(rt; !are_equal(alloc, "include \"a\"", "include \"b\"")?);
+    Ok(())
+}
+
+#[test]
+fn copies(rt: HostRuntime) -> Result<(), Fail> {
+    let alloc = rt.alloc();
+    let text =
+        "T let rec r = a | b ; c \\ d & W * R and s = ~(r+) let t = r* | r? | r^-1 | domain(r) | range(r) | [W] | 0 | {} | _ include \"b.cat\" flag ~empty r as none acyclic s show r as a, s unshow r, s";
+    let file = read_cat(alloc, text.as_bytes())
+        .ok()
+        .ok_or("the text is a model")?;
+    let copy = file.copy()?;
+    assert!(rt; copy == file);
+    assert_eq!(rt; copy.items().len(), 7);
+    for item in file.items() {
+        assert!(rt; item.copy()? == *item);
+    }
+    Ok(())
+}

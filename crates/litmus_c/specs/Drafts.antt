@@ -2,11 +2,11 @@
 use Rattle.std.specs.Prelude.{ℕ, List, map, Bool}
 use Rattle.std.specs.List.{list_any}
 use Rattle.std.specs.Str.{bytes_eq}
-use Rattle.litmus_c.specs.declared.conditions.place.Binding.{Binding}
+use Rattle.conditions.specs.declared.place.Binding.{Binding}
 use Rattle.litmus_c.specs.declared.tree.Parameter.{Parameter}
 use Rattle.litmus_c.specs.declared.draft.Body as bodies
 use Rattle.litmus_c.specs.declared.draft.Draft as drafts
-use Rattle.litmus_c.specs.Conditions.{Condition}
+use Rattle.conditions.specs.Conditions.{Condition}
 use Rattle.litmus_c.specs.Tree.{Word, Step, step_of}
 
 -- a thread

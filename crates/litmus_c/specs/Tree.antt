@@ -2,8 +2,8 @@
 use Rattle.std.specs.Prelude.{ℕ, List, [], ◌∷◌, map, Option, None, Some}
 use Rattle.std.specs.List.{flat_map}
 use Rattle.events.specs.declared.event.Order.{Order}
-use Rattle.litmus_c.specs.declared.conditions.place.Binding.{Binding}
-use Rattle.litmus_c.specs.declared.conditions.place.Place.{Place}
+use Rattle.conditions.specs.declared.place.Binding.{Binding}
+use Rattle.conditions.specs.declared.place.Place.{Place}
 use Rattle.litmus_c.specs.declared.tree.Parameter.{Parameter}
 use Rattle.litmus_c.specs.declared.tree.Expression.{Expression}
 use Rattle.litmus_c.specs.declared.tree.Expression.TheVariants.{Number}
@@ -14,7 +14,7 @@ use Rattle.litmus_c.specs.declared.tree.RightSide.TheVariants as rights
 use Rattle.litmus_c.specs.declared.tree.Declarator.{Declarator}
 use Rattle.litmus_c.specs.declared.tree.Statement.{Statement}
 use Rattle.litmus_c.specs.declared.tree.Statement.TheVariants.{Empty, Declare, Assign, Perform}
-use Rattle.litmus_c.specs.Conditions.{Condition}
+use Rattle.conditions.specs.Conditions.{Condition}
 
 -- the bytes of a name
 abbrev pub Word : Type 0

@@ -2,15 +2,15 @@
 
 ghost use Rattle.std.specs.Prelude.{◌≡◌, ◌≤◌, ◌-◌, map, length, SomeIff, sum_by};
 ghost use Rattle.std.specs.List.{list_all};
-ghost use Rattle.litmus_c.specs.Conditions.{formula_of};
+ghost use Rattle.conditions.specs.Conditions.{formula_of};
 ghost use Rattle.litmus_c.specs.Drafts.{is_parameter};
 ghost use Rattle.litmus_c.specs.Limits.{optional_events, right_events, step_events, program_events};
 ghost use Rattle.litmus_c.specs.Rules.{is_given, entry_is_fair, action_is_fair, right_is_fair, optional_is_fair, declared_is_fair, step_is_fair, program_is_fair, place_is_there, formula_is_fair};
 ghost use Rattle.litmus_c.specs.Symbols.{is_one_of};
 ghost use Rattle.litmus_c.specs.Tree.{action_of, right_of, option_right, declared_of, step_of};
 
-use crate::conditions::{Binding, Place, Prop};
 use crate::tree::{Call, Declarator, Parameter, RightSide, Statement, Thread};
+use conditions::{Binding, Place, Prop};
 use wb_text::Name;
 
 /// Whether a parameter has this name.

@@ -1,15 +1,15 @@
 //! Where the final values of observed places stand in an execution.
 
 ghost use Rattle.std.specs.Prelude.{◌≡◌, IfOk, map};
-ghost use Rattle.candidates.specs.Runs.{place_of};
+ghost use Rattle.c11_threads.specs.Runs.{place_of};
 ghost use Rattle.candidates.specs.Candidates.{write_value};
 ghost use Rattle.book.specs.Finals.{final_location};
 ghost use Rattle.book.specs.Slots.{slot_of, slot_value};
 
 use crate::slices::row::Row;
+use conditions::Place;
 use events::{EventId, Graph};
 use litmus_c::Test;
-use litmus_c::conditions::Place;
 use std::alloc::{AllocError, Global};
 use wb_text::Name;
 

@@ -1,6 +1,6 @@
 use Rattle.std.proofs.Common.{[], refl, append_assoc, codes}
 use Rattle.std.proofs.KnownBytes.{Appends-nil, Appends-trans}
-use Rattle.litmus_c.specs.Conditions.{formula_of}
+use Rattle.conditions.specs.Conditions.{formula_of}
 use Rattle.book.specs.Texts.{opening, closing, operand, formula_text}
 use Rattle.book.proofs.Written.{exit, after}
 use Rattle.book.proofs.report.+propositions.Goals as goal

@@ -1,6 +1,6 @@
 use Rattle.std.proofs.Common.{◌≡◌, ◌++◌, ◌≤◌, ℕ, ◌<◌, length, map, drop}
 use Rattle.candidates.specs.Executions.{upto}
-use Rattle.candidates.specs.Candidates.{runs_of}
+use Rattle.c11_threads.specs.Unrolled.{runs_of}
 use Rattle.candidates.proofs.space.all_runs.Given as goal
 
 abbrev pub invariant-loop-thread : goal.invariant-loop-thread

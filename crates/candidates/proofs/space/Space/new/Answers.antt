@@ -2,7 +2,7 @@ use Rattle.std.proofs.Common.{◌≡◌, ◌∙◌, ◌<◌, ap, subst, arith, l
 use Rattle.events.specs.Executions.{ThreadRun}
 use Rattle.listings.specs.Lists.{sum_of}
 use Rattle.candidates.specs.declared.fault.TheConstants.{MOST_CANDIDATES}
-use Rattle.candidates.specs.Runs.{initial_values}
+use Rattle.candidates.specs.Executions.{initial_values}
 use Rattle.candidates.specs.Executions.{block}
 use Rattle.candidates.specs.Candidates.{Choices, choices, count_choices, choices_of, size_of}
 use Rattle.candidates.proofs.Spaces.{too_many_choices, too_many_in_all, size_within}

@@ -1,0 +1,4 @@
+pub mod Few
+pub mod RunLists
+pub mod Turns
+pub mod Unrolling
