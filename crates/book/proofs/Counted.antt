@@ -1,5 +1,5 @@
--- Tallies and verdicts.
-use Rattle.std.proofs.Common.{◌≡◌, ℕ, suc, ◌+◌, ◌-◌, ◌≤◌, List, [], ◌∷◌, ◌++◌, length, Bool, true, false, cond, not, count_by, map, Option, None, Some, unwrap_or, refl, sym, ap, ◌∙◌, subst, inl, inr, append-nil, arith}
+-- Counts and verdicts.
+use Rattle.std.proofs.Common.{◌≡◌, ℕ, zero, suc, ◌+◌, ◌-◌, ◌≤◌, ◌^◌, List, [], ◌∷◌, ◌++◌, length, Bool, true, false, cond, not, count_by, map, Option, None, Some, unwrap_or, refl, sym, ap, ◌∙◌, subst, inl, inr, append-nil, arith}
 use Rattle.std.specs.Prelude.{slice_get}
 use Rattle.std.specs.BTreeSet.{insert_key}
 use Rattle.std.specs.List.Sorted.{IsStrictlySortedBy}
@@ -11,13 +11,15 @@ use Rattle.conditions.specs.declared.place.Place.{Place}
 use Rattle.conditions.specs.declared.place.Place.TheVariants.{Reg, Loc}
 use Rattle.litmus_c.specs.Tree.{Litmus}
 use Rattle.conditions.specs.States.{bindings, holds_in, AreObserved}
-use Rattle.candidates.specs.Executions.{IsExecution}
-use Rattle.candidates.specs.Candidates.{found, some_of}
-use Rattle.book.specs.declared.slices.tally.Tally.{Tally}
+use Rattle.candidates.specs.Candidates.{At, Choices, Counting, choices_of, found, size_of, some_of}
+use Rattle.candidates.specs.Executions.{IsSize}
+use Rattle.candidates.specs.Faults.{HaveFewRuns}
+use Rattle.book.specs.declared.slices.counter.Counter.{Counter}
 use Rattle.book.specs.Finals.{final, obs, has, last_or}
 use Rattle.book.specs.Outcomes.{Outcome}
+use Rattle.book.specs.Parts.{IsAdmitted, IsPart, executions_in, test_size}
 use Rattle.book.specs.Slots.{slot_of, slot_value}
-use Rattle.book.specs.Tallies.{collected, outcome_of, IsTally}
+use Rattle.book.specs.Counters.{collected, outcome_of, IsCount}
 use Rattle.book.specs.Verdicts.{Tells, IsVerdict}
 use Rattle.book.proofs.Rows.{row_cmp, from_collected, in_collected, no_repeats, are_sorted}
 
@@ -46,12 +48,12 @@ turned : (b : Bool) (m n : ℕ) → cond (not b) m n ≡ cond b n m
 turned true m n = refl
 turned false m n = refl
 
-more : (t : Litmus) (places : List Place) (xs : List Execution) (x : Execution) (state : List ℕ) (old new : Tally) → IsTally t places xs old
+more : (t : Litmus) (places : List Place) (xs : List Execution) (x : Execution) (state : List ℕ) (old new : Counter) → IsCount t places xs old
     → state ≡ obs t places x
     → new.positive ≡ old.positive + cond (holds_in (bindings places state) t.condition.formula) 1 0
     → new.negative ≡ old.negative + cond (holds_in (bindings places state) t.condition.formula) 0 1
     → new.states.keys ≡ insert_key row_cmp old.states.keys state
-    → IsTally t places (xs ++ x ∷ []) new
+    → IsCount t places (xs ++ x ∷ []) new
 more t places xs x state old new h e p n s =
     let P : List ℕ → Type 0 = λ r. new.positive ≡ old.positive + cond (holds_in (bindings places r) t.condition.formula) 1 0 in
     let N : List ℕ → Type 0 = λ r. new.negative ≡ old.negative + cond (holds_in (bindings places r) t.condition.formula) 0 1 in
@@ -63,21 +65,21 @@ more t places xs x state old new h e p n s =
       states = s ∙ ap (insert_key row_cmp old.states.keys) e ∙ ap (λ rows. insert_key row_cmp rows (obs t places x)) h.states ∙ sym (fold-append (λ rows y. insert_key row_cmp rows (obs t places y)) [] xs (x ∷ []));
     }
 
-pub counted_some : (t : Litmus) (places : List Place) (at : ℕ → Option Execution) (n : ℕ) (x : Execution) (state : List ℕ) (old new : Tally) → IsTally t places (found at n) old
+pub counted_some : (t : Litmus) (places : List Place) (at : ℕ → Option Execution) (n : ℕ) (x : Execution) (state : List ℕ) (old new : Counter) → IsCount t places (found at n) old
     → at n ≡ Some x
     → state ≡ map (slot_value x) (map (slot_of t) places)
     → new.positive ≡ old.positive + cond (holds_in (bindings places state) t.condition.formula) 1 0
     → new.negative ≡ old.negative + cond (holds_in (bindings places state) t.condition.formula) 0 1
     → new.states.keys ≡ insert_key row_cmp old.states.keys state
-    → IsTally t places (found at (n + 1)) new
+    → IsCount t places (found at (n + 1)) new
 counted_some t places at n x state old new h is e p m s =
-    let P : List Execution → Type 0 = λ xs. IsTally t places xs new in
+    let P : List Execution → Type 0 = λ xs. IsCount t places xs new in
     subst P (sym (step_some at n x is)) (more t places (found at n) x state old new h (e ∙ row_is t x places) p m s)
 
-pub counted_none : (t : Litmus) (places : List Place) (at : ℕ → Option Execution) (n : ℕ) (old new : Tally) → IsTally t places (found at n) old → at n ≡ None → new ≡ old → IsTally t places (found at (n + 1)) new
+pub counted_none : (t : Litmus) (places : List Place) (at : ℕ → Option Execution) (n : ℕ) (old new : Counter) → IsCount t places (found at n) old → at n ≡ None → new ≡ old → IsCount t places (found at (n + 1)) new
 counted_none t places at n old new h is e =
-    let P : List Execution → Type 0 = λ xs. IsTally t places xs new in
-    let Q : Tally → Type 0 = λ v. IsTally t places (found at n) v in
+    let P : List Execution → Type 0 = λ xs. IsCount t places xs new in
+    let Q : Counter → Type 0 = λ v. IsCount t places (found at n) v in
     subst P (sym (step_none at n is)) (subst Q (sym e) h)
 
 pub few : (b : Bool) (p n p' n' k : ℕ) → p + n ≤ k → p' ≡ p + cond b 1 0 → n' ≡ n + cond b 0 1 → p' + n' ≤ k + 1
@@ -96,14 +98,57 @@ last_of w (v ∷ vs) =
     let less : length (v ∷ vs) - 1 ≡ length vs = omega arith in
     ap (λ n. unwrap_or (slice_get (v ∷ vs) n) w) less ∙ last_is w v vs
 
--- the verdict of a tally of all executions
+-- the numbers of a range
 
-pub tells : (t : Litmus) (xs : List Execution) (places : List Place) (tally : Tally) (v : Outcome) → Lists (IsExecution t) xs → IsTally t places xs tally → AreObserved t.condition t.listed places
-    → v ≡ outcome_of t places tally
+pub next_some : (t : Litmus) (places : List Place) (at : ℕ → Option Execution) (from n : ℕ) (x : Execution) (state : List ℕ) (old new : Counter) → from ≤ n → IsCount t places (found (λ i. at (from + i)) (n - from)) old
+    → at n ≡ Some x
+    → state ≡ map (slot_value x) (map (slot_of t) places)
+    → new.positive ≡ old.positive + cond (holds_in (bindings places state) t.condition.formula) 1 0
+    → new.negative ≡ old.negative + cond (holds_in (bindings places state) t.condition.formula) 0 1
+    → new.states.keys ≡ insert_key row_cmp old.states.keys state
+    → IsCount t places (found (λ i. at (from + i)) (n + 1 - from)) new
+next_some t places at from n x state old new le h is e p m s =
+    let here : from + (n - from) ≡ n = omega arith in
+    let more : n + 1 - from ≡ (n - from) + 1 = omega arith in
+    let P : ℕ → Type 0 = λ k. IsCount t places (found (λ i. at (from + i)) k) new in
+    subst P (sym more) (counted_some t places (λ i. at (from + i)) (n - from) x state old new h (ap at here ∙ is) e p m s)
+
+pub next_none : (t : Litmus) (places : List Place) (at : ℕ → Option Execution) (from n : ℕ) (old new : Counter) → from ≤ n → IsCount t places (found (λ i. at (from + i)) (n - from)) old → at n ≡ None → new ≡ old → IsCount t places (found (λ i. at (from + i)) (n + 1 - from)) new
+next_none t places at from n old new le h is e =
+    let here : from + (n - from) ≡ n = omega arith in
+    let more : n + 1 - from ≡ (n - from) + 1 = omega arith in
+    let P : ℕ → Type 0 = λ k. IsCount t places (found (λ i. at (from + i)) k) new in
+    subst P (sym more) (counted_none t places (λ i. at (from + i)) (n - from) old new h (ap at here ∙ is) e)
+
+none_yet : (at : ℕ → Option Execution) (from : ℕ) → found at (from - from) ≡ []
+none_yet at from =
+    let none : from - from ≡ 0 = omega arith in
+    ap (found at) none
+
+pub counted_none_yet : (t : Litmus) (places : List Place) (at : ℕ → Option Execution) (from : ℕ) (new : Counter) → new.positive ≡ 0 → new.negative ≡ 0 → new.states.keys ≡ [] → IsCount t places (found (λ i. at (from + i)) (from - from)) new
+counted_none_yet t places at from new p n s =
+    let P : List Execution → Type 0 = λ xs. IsCount t places xs new in
+    subst P (sym (none_yet (λ i. at (from + i)) from)) (record { positive = p; negative = n; states = s })
+
+found_same : (f g : ℕ → Option Execution) → ((i : ℕ) → f i ≡ g i) → (n : ℕ) → found f n ≡ found g n
+found_same f g h zero = refl
+found_same f g h (suc n) = ap (λ xs. xs ++ some_of (f n)) (found_same f g h n) ∙ ap (λ o. found g n ++ some_of o) (h n)
+
+-- the executions at all numbers
+pub all_numbers : (t : Litmus) (n : ℕ) → executions_in t 0 n ≡ found (At t) n
+all_numbers t n =
+    let here : n - 0 ≡ n = omega arith in
+    let shift : (i : ℕ) → At t (0 + i) ≡ At t i = λ i. (let e : 0 + i ≡ i = omega arith in ap (At t) e) in
+    ap (found (λ i. At t (0 + i))) here ∙ found_same (λ i. At t (0 + i)) (At t) shift n
+
+-- the outcome of a count
+
+pub tells : (t : Litmus) (xs : List Execution) (places : List Place) (counter : Counter) (v : Outcome) → IsCount t places xs counter → AreObserved t.condition t.listed places
+    → v ≡ outcome_of t places counter
     → IsStrictlySortedBy row_cmp v.states
-    → IsVerdict t v
-tells t xs places tally v all h observed e sorted =
-    let outcome = outcome_of t places tally in
+    → Tells t xs v
+tells t xs places counter v h observed e sorted =
+    let outcome = outcome_of t places counter in
     let S : Outcome → Type 0 = λ o. IsStrictlySortedBy row_cmp o.states in
     let in_order = subst S e sorted in
     let rows = h.states in
@@ -115,11 +160,28 @@ tells t xs places tally v all h observed e sorted =
       positive = h.positive;
       negative = h.negative;
       states = record {
-        once = no_repeats tally.states.keys in_order;
+        once = no_repeats counter.states.keys in_order;
         only = λ s p. elim (from_collected (obs t places) s [] xs (let P : List (List ℕ) → Type 0 = λ ks. IsIn s ks in subst P rows p)) [ inl q ↦ absurd q | inr q ↦ q ];
         all = λ s q. let P : List (List ℕ) → Type 0 = λ ks. IsIn s ks in subst P (sym rows) (let Q : List ℕ → Type 0 = λ r. IsIn r (collected t places xs) in subst Q (sym q.2) (in_collected (obs t places) [] xs q.0 q.1));
       };
-      sorted = are_sorted tally.states.keys in_order;
+      sorted = are_sorted counter.states.keys in_order;
       flags = refl;
     } in
-    (xs, all, let T : Outcome → Type 0 = λ o. Tells t xs o in subst T (sym e) told)
+    let T : Outcome → Type 0 = λ o. Tells t xs o in subst T (sym e) told
+
+-- the outcome over all numbers is a verdict
+pub verdict_of : (t : Litmus) (from to : ℕ) (v : Outcome) → Counting → IsAdmitted t → from ≡ 0 → to ≡ test_size t → IsPart t from to v → IsVerdict t v
+verdict_of t from to v counting admitted first last part =
+    let all = counting t (test_size t) admitted.size in
+    let F : ℕ → Type 0 = λ k. IsPart t k to v in
+    let L : ℕ → Type 0 = λ k. IsPart t 0 k v in
+    let T : List Execution → Type 0 = λ xs. Tells t xs v in
+    (found (At t) (test_size t), all, subst T (all_numbers t (test_size t)) (subst L last (subst F first part)))
+
+-- what a test's space says of the test
+pub admitted : (t u : Litmus) (s : Choices) → u ≡ t → s ≡ choices_of u → IsSize u (size_of s) × (size_of s ≤ 2 ^ 32) → HaveFewRuns u → (s ≡ choices_of t) × IsAdmitted t
+admitted t u s e is size runs =
+    let P : Litmus → Type 0 = λ v. (s ≡ choices_of v) × IsAdmitted v in
+    let S : Choices → Type 0 = λ c. IsSize u (size_of c) × (size_of c ≤ 2 ^ 32) in
+    let sized = subst S is size in
+    subst P e (is, record { runs = runs; size = sized.0; few = sized.1 })

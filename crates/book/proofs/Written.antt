@@ -52,3 +52,13 @@ flat_map-item f xs k x h e = flat_map-at f xs k x h ∙ ap (λ y. flat_map f (ta
 -- the same bytes, written otherwise
 pub same : {A E : Type 0} (old new : Option (List ℕ)) (failed : Bool) (r : Result A E) (as' bs : List ℕ) → as' ≡ bs → Wrote old new failed r as' → Wrote old new failed r bs
 same old new failed r as' bs e w = let P : List ℕ → Type 0 = λ l. Wrote old new failed r l in subst P e w
+
+-- what was written, by the result
+
+pub done_is : {A E : Type 0} (old new : Option (List ℕ)) (failed : Bool) (r : Result A E) (x : A) (bytes : List ℕ) → r ≡ Ok x → Wrote old new failed r bytes → Appends old new bytes
+done_is old new failed (Ok y) x bytes e w = w
+done_is old new failed (Err y) x bytes e w = cc
+
+pub part_is : {A E : Type 0} (old new : Option (List ℕ)) (failed : Bool) (r : Result A E) (x : E) (bytes : List ℕ) → r ≡ Err x → Wrote old new failed r bytes → AppendsFront old new bytes
+part_is old new failed (Ok y) x bytes e w = cc
+part_is old new failed (Err y) x bytes e w = w.0

@@ -8,9 +8,9 @@ ghost use Rattle.wb_text.specs.Memory.{AppendsFront};
 ghost use Rattle.book.specs.Writing.{Writes};
 ghost use Rattle.book.specs.Texts as texts;
 
-use crate::slices::{Row, Verdict};
-use conditions::{Kind, Place, Prop};
+use crate::slices::{Finding, Row, Verdict};
 use itoa::Buffer;
+use conditions::{Kind, Place, Prop};
 use thiserror::Error;
 use wb_text::{Failed, Name, Sink, give_all};
 
@@ -24,47 +24,47 @@ pub enum WriteFault {
 
 /// Writes the summary, or a front part of it where the writer fails. It takes no memory.
 pub fn write_summary<W: Sink>(verdict: &Verdict, writer: &mut W) -> Result<(), WriteFault>
-    ensures written { OnOk result (Appends (W.held writer.old) (W.held writer.new) (texts.Text verdict.now)) }
-    ensures part { OnErr result (AppendsFront (W.held writer.old) (W.held writer.new) (texts.Text verdict.now)) }
+    ensures written { OnOk result (Appends (W.held writer.old) (W.held writer.new) (texts.Text verdict.now.outcome)) }
+    ensures part { OnErr result (AppendsFront (W.held writer.old) (W.held writer.new) (texts.Text verdict.now.outcome)) }
     ensures marked { OnErr result (W.has_failed writer.new ≡ true) }
 {
-    match write_lines(verdict, writer) {
+    match write_lines(verdict.finding(), writer) {
         Ok(()) => Ok(()),
         Err(Failed) => Err(WriteFault::Write),
     }
 }
 
-fn write_lines<W: Sink>(verdict: &Verdict, writer: &mut W) -> Result<(), Failed>
-    ensures { Writes W.held W.has_failed writer.old writer.new result (texts.Text verdict.now) }
+fn write_lines<W: Sink>(finding: &Finding, writer: &mut W) -> Result<(), Failed>
+    ensures { Writes W.held W.has_failed writer.old writer.new result (texts.Text finding.now) }
 {
-    write_name(verdict, writer)?;
-    write_count(verdict, writer)?;
-    write_states(verdict.places(), verdict.states(), writer)?;
-    write_answer(verdict, writer)?;
+    write_name(finding, writer)?;
+    write_count(finding, writer)?;
+    write_states(finding.places(), finding.states(), writer)?;
+    write_answer(finding, writer)?;
     write_bytes(b"Witnesses\n", writer)?;
-    write_counts(verdict, writer)?;
-    write_flags(verdict.flags(), writer)?;
-    write_condition(verdict, writer)?;
-    write_observation(verdict, writer)
+    write_counts(finding, writer)?;
+    write_flags(finding.flags(), writer)?;
+    write_condition(finding, writer)?;
+    write_observation(finding, writer)
 }
 
-fn write_name<W: Sink>(verdict: &Verdict, writer: &mut W) -> Result<(), Failed>
+fn write_name<W: Sink>(finding: &Finding, writer: &mut W) -> Result<(), Failed>
     ensures { Writes W.held W.has_failed writer.old writer.new result
-        (texts.name_line verdict.now) }
+        (texts.name_line finding.now) }
 {
-    let kind = kind_text(verdict.kind());
+    let kind = kind_text(finding.kind());
     write_parts(
-        &[b"Test ", verdict.name().bytes(), b" ", kind, b"\n"],
+        &[b"Test ", finding.name().bytes(), b" ", kind, b"\n"],
         writer,
     )
 }
 
-fn write_count<W: Sink>(verdict: &Verdict, writer: &mut W) -> Result<(), Failed>
+fn write_count<W: Sink>(finding: &Finding, writer: &mut W) -> Result<(), Failed>
     ensures { Writes W.held W.has_failed writer.old writer.new result
-        (texts.count_line verdict.now) }
+        (texts.count_line finding.now) }
 {
     let mut count = Buffer::new();
-    let count = count.format(verdict.states().len()).as_bytes();
+    let count = count.format(finding.states().len()).as_bytes();
     write_parts(&[b"States ", count, b"\n"], writer)
 }
 
@@ -106,21 +106,21 @@ fn write_binding<W: Sink>(
     write_bytes(b";", writer)
 }
 
-fn write_answer<W: Sink>(verdict: &Verdict, writer: &mut W) -> Result<(), Failed>
+fn write_answer<W: Sink>(finding: &Finding, writer: &mut W) -> Result<(), Failed>
     ensures { Writes W.held W.has_failed writer.old writer.new result
-        (texts.answer_line verdict.now) }
+        (texts.answer_line finding.now) }
 {
-    write_bytes(if verdict.ok() { b"Ok\n" } else { b"No\n" }, writer)
+    write_bytes(if finding.ok() { b"Ok\n" } else { b"No\n" }, writer)
 }
 
-fn write_counts<W: Sink>(verdict: &Verdict, writer: &mut W) -> Result<(), Failed>
+fn write_counts<W: Sink>(finding: &Finding, writer: &mut W) -> Result<(), Failed>
     ensures { Writes W.held W.has_failed writer.old writer.new result
-        (texts.counts_line verdict.now) }
+        (texts.counts_line finding.now) }
 {
     let mut positive = Buffer::new();
-    let positive = positive.format(verdict.positive()).as_bytes();
+    let positive = positive.format(finding.positive()).as_bytes();
     let mut negative = Buffer::new();
-    let negative = negative.format(verdict.negative()).as_bytes();
+    let negative = negative.format(finding.negative()).as_bytes();
     write_parts(
         &[b"Positive: ", positive, b" Negative: ", negative, b"\n"],
         writer,
@@ -143,28 +143,28 @@ fn write_flag<W: Sink>(flag: &Name, writer: &mut W) -> Result<(), Failed>
     write_parts(&[b"Flag ", flag.bytes(), b"\n"], writer)
 }
 
-fn write_condition<W: Sink>(verdict: &Verdict, writer: &mut W) -> Result<(), Failed>
+fn write_condition<W: Sink>(finding: &Finding, writer: &mut W) -> Result<(), Failed>
     ensures { Writes W.held W.has_failed writer.old writer.new result
-        (texts.condition_line verdict.now) }
+        (texts.condition_line finding.now) }
 {
     write_parts(
-        &[b"Condition ", quantifier_text(verdict.kind()), b" ("],
+        &[b"Condition ", quantifier_text(finding.kind()), b" ("],
         writer,
     )?;
-    write_prop(verdict.prop(), writer)?;
+    write_prop(finding.prop(), writer)?;
     write_bytes(b")\n", writer)
 }
 
-fn write_observation<W: Sink>(verdict: &Verdict, writer: &mut W) -> Result<(), Failed>
+fn write_observation<W: Sink>(finding: &Finding, writer: &mut W) -> Result<(), Failed>
     ensures { Writes W.held W.has_failed writer.old writer.new result
-        (texts.observation_line verdict.now) }
+        (texts.observation_line finding.now) }
 {
     let mut positive = Buffer::new();
-    let positive = positive.format(verdict.positive()).as_bytes();
+    let positive = positive.format(finding.positive()).as_bytes();
     let mut negative = Buffer::new();
-    let negative = negative.format(verdict.negative()).as_bytes();
-    let name = verdict.name().bytes();
-    let word = verdict.word().as_bytes();
+    let negative = negative.format(finding.negative()).as_bytes();
+    let name = finding.name().bytes();
+    let word = finding.word().as_bytes();
     write_parts(
         &[
             b"Observation ",

@@ -1,152 +1,134 @@
 //! Verdicts.
 
 ghost use Rattle.std.specs.Prelude.{◌≡◌, IfOk};
-ghost use Rattle.std.specs.Cmp.Lexicographic.{slice_cmp};
-ghost use Rattle.std.specs.List.Sorted.{IsStrictlySortedBy};
-ghost use Rattle.std.specs.Ordering.{nat_cmp};
-ghost use Rattle.conditions.specs.Conditions.{formula_of};
 ghost use Rattle.book.specs.Outcomes.{is_ok};
-ghost use Rattle.book.specs.Tallies.{outcome_of};
+ghost use Rattle.book.specs.Parts.{IsOver};
 ghost use Rattle.book.specs.Texts.{word};
+ghost use Rattle.book.specs.Verdicts.{IsVerdict};
 
-use crate::slices::row::Row;
-use crate::slices::tally::Tally;
-use litmus_c::Test;
-use conditions::{Kind, Place, Prop, ok_of};
+use crate::slices::finding::{Finding, FindingRef};
+use crate::slices::piece::PieceResult;
+use crate::slices::work::{FileVersion, WorkRef};
+use candidates::laws;
 use std::alloc::{AllocError, Global};
 use std::marker::Model;
-use wb_text::Name;
+use std::sync::Arc;
 
-/// What is found of a test.
+/// The verdict on a work: it is right for the work's test under its model.
 #[derive(Drop)]
 pub struct Verdict {
-    test: Test,
-    places: Vec<Place>,
-    positive: u64,
-    negative: u64,
-    states: Vec<Row>,
-    flags: Vec<Name>,
+    work: WorkRef,
+    version: u32,
+    found: FindingRef,
 }
 
 impl Model for Verdict {
-    ghost use Rattle.book.specs.Outcomes.{Outcome};
-    ghost use Rattle.book.specs.Codes.{coded_outcome};
+    ghost use Rattle.book.specs.Codes.{coded_judged};
+    ghost use Rattle.book.specs.Judgements.{Judged};
+    ghost use Rattle.book.specs.Verdicts.{IsVerdict};
 
-    ghost Value = { Outcome };
+    ghost Value = { Judged };
 
-    ghost coded = { coded_outcome };
+    ghost coded = { coded_judged };
 
-    ghost view = { λ v. record {
-      name = v.test.name;
-      kind = v.test.condition.kind;
-      formula = v.test.condition.formula;
-      places = v.places.items;
-      positive = v.positive;
-      negative = v.negative;
-      states = v.states.items;
-      flags = v.flags.items;
-    } };
+    ghost view = { λ v. record { work = v.work; version = v.version; outcome = v.found } };
+
+    ghost invariant = { λ v. IsVerdict v.work.test v.found };
 }
 
-impl Verdict {
-    /// What a tally of a test says. No flag is raised.
-    pub(crate) fn new(
-        alloc: Global,
-        test: Test,
-        places: Vec<Place>,
-        tally: Tally,
-    ) -> Result<Self, AllocError>
-        ensures value { IfOk result (λ v. v ≡ outcome_of test places.items tally) }
-        ensures sorted { IfOk result (λ v. IsStrictlySortedBy (slice_cmp nat_cmp) v.states) }
+/// A verdict that is kept more than once. Contracts see the verdict.
+#[derive(Drop)]
+pub struct VerdictRef {
+    verdict: Arc<Verdict>,
+}
+
+impl Model for VerdictRef {
+    ghost use Rattle.std.specs.Arc.{arc_value};
+    ghost use Rattle.book.specs.Codes.{coded_judged};
+    ghost use Rattle.book.specs.Judgements.{Judged};
+
+    ghost Value = { Judged };
+
+    ghost coded = { coded_judged };
+
+    ghost view = { λ v. arc_value v.verdict };
+}
+
+impl VerdictRef {
+    /// Keeps a verdict.
+    pub fn new(alloc: Global, verdict: Verdict) -> Result<Self, AllocError>
+        ensures value { IfOk result (λ v. v ≡ verdict) }
     {
-        let Tally {
-            positive,
-            negative,
-            states,
-        } = tally;
-        Ok(Verdict {
-            test,
-            places,
-            positive,
-            negative,
-            states: states.into_iter().collect(alloc)?,
-            flags: Vec::new(alloc),
+        Ok(VerdictRef {
+            verdict: Arc::new(alloc, verdict)?,
         })
     }
 
-    /// The name of the test.
-    pub fn name(&self) -> &Name
-        ensures { result.now ≡ self.now.name }
+    /// The verdict.
+    pub fn verdict(&self) -> &Verdict
+        ensures { result.now ≡ self.now }
     {
-        self.test.name()
+        &self.verdict
+    }
+}
+
+impl Verdict {
+    /// What a result over all numbers of a work says.
+    pub(crate) fn of(work: &WorkRef, version: u32, part: &PieceResult) -> Result<Self, AllocError>
+        requires { IsOver work.now part.now }
+        ensures work { IfOk result (λ v. v.work ≡ work.now) }
+        ensures version { IfOk result (λ v. v.version ≡ version) }
+        ensures outcome { IfOk result (λ v. v.outcome ≡ part.now.found) }
+    {
+        laws::counting();
+        let _size = work.work().size();
+        Ok(Verdict {
+            work: work.share()?,
+            version,
+            found: part.found().share()?,
+        })
     }
 
-    /// What the test asks.
-    pub fn kind(&self) -> Kind
-        ensures { result ≡ self.now.kind }
+    /// The work that was judged.
+    pub fn work(&self) -> &WorkRef
+        ensures { result.now ≡ self.now.work }
     {
-        self.test.condition().kind()
+        &self.work
     }
 
-    /// The proposition that it asks for.
-    pub fn prop(&self) -> &Prop
-        ensures { formula_of result.now ≡ self.now.formula }
+    /// The version of the test.
+    pub fn version(&self) -> u32
+        ensures { result ≡ self.now.version }
     {
-        self.test.condition().prop()
+        self.version
     }
 
-    /// The observed places, in order.
-    pub fn places(&self) -> &[Place]
-        ensures { result.now ≡ self.now.places }
+    /// The files of the model, with their versions.
+    pub fn files(&self) -> &[FileVersion]
+        ensures { result.now ≡ self.now.work.model }
     {
-        &self.places
+        self.work.work().model().files()
     }
 
-    /// How many executions have the proposition.
-    pub fn positive(&self) -> u64
-        ensures { result ≡ self.now.positive }
+    /// What is found over all allowed executions, each counted once.
+    pub fn finding(&self) -> &Finding
+        ensures outcome { result.now ≡ self.now.outcome }
+        ensures right { IsVerdict self.now.work.test self.now.outcome }
     {
-        self.positive
-    }
-
-    /// How many executions don't have it.
-    pub fn negative(&self) -> u64
-        ensures { result ≡ self.now.negative }
-    {
-        self.negative
-    }
-
-    /// The final states, once each, in order.
-    pub fn states(&self) -> &[Row]
-        ensures { result.now ≡ self.now.states }
-    {
-        &self.states
-    }
-
-    /// The flags that were raised.
-    pub fn flags(&self) -> &[Name]
-        ensures { result.now ≡ self.now.flags }
-    {
-        &self.flags
+        self.found.finding()
     }
 
     /// Whether the answer to the test's question is yes.
     pub fn ok(&self) -> bool
-        ensures { result ≡ is_ok self.now }
+        ensures { result ≡ is_ok self.now.outcome }
     {
-        ok_of(self.kind(), self.positive, self.negative)
+        self.found.finding().ok()
     }
 
     /// How often the proposition was seen: `Never`, `Always` or `Sometimes`.
     pub fn word(&self) -> &str
-        ensures { result.now ≡ word self.now }
+        ensures { result.now ≡ word self.now.outcome }
     {
-        if self.positive == 0 {
-            "Never"
-        } else if self.negative == 0 {
-            "Always"
-        } else {
-            "Sometimes"
-        }
+        self.found.finding().word()
     }
 }

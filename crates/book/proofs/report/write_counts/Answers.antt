@@ -7,6 +7,6 @@ regroup p q = simp append_assoc
 
 pub returns : goal.returns
 returns g c =
-    let positive : c.as_bytes-positive.result.now ≡ decimal c.args.verdict.now.positive = cc in
-    let negative : c.as_bytes-negative.result.now ≡ decimal c.args.verdict.now.negative = cc in
-    same _ _ _ _ _ _ (rw (positive, negative) (ap (λ l. codes "Positive: " ++ l) (regroup (decimal c.args.verdict.now.positive) (decimal c.args.verdict.now.negative)))) c.write_parts.ensures
+    let positive : c.as_bytes-positive.result.now ≡ decimal c.args.finding.now.positive = cc in
+    let negative : c.as_bytes-negative.result.now ≡ decimal c.args.finding.now.negative = cc in
+    same _ _ _ _ _ _ (rw (positive, negative) (ap (λ l. codes "Positive: " ++ l) (regroup (decimal c.args.finding.now.positive) (decimal c.args.finding.now.negative)))) c.write_parts.ensures
