@@ -9,6 +9,7 @@ pub mod Judgements
 pub mod Kept
 pub mod LineCodes
 pub mod Lines
+pub mod NameCodes
 pub mod Outcomes
 pub mod Parts
 pub mod Slots

@@ -1,6 +1,6 @@
 -- An entry of the journal, as contracts see it, and which replies go with which command.
 use Rattle.std.specs.Prelude.{ℕ, Bool, true, false}
-use Rattle.book.specs.Parts.{Part}
+use Rattle.book.specs.Parts.{Part, Portion}
 use Rattle.book.specs.declared.records.Command.{Command}
 use Rattle.book.specs.declared.records.Command.TheVariants as commands
 use Rattle.book.specs.declared.records.Returned.{Returned}
@@ -18,8 +18,12 @@ pub record Line : Type 0 where
   pub reply : Reply
 
 -- what is seen of a result: its claim, slice, range and work
+
+abbrev pub shown : Portion → Returned
+shown p = record { claim = p.claim; slice = p.slice; from = p.from; to = p.to; work = p.work }
+
 abbrev pub returned : Part → Returned
-returned r = record { claim = r.piece.claim; slice = r.piece.slice; from = r.piece.from; to = r.piece.to; work = r.piece.work }
+returned r = shown r.piece
 
 -- what is seen of a command
 abbrev pub seen : Command → Said

@@ -12,7 +12,7 @@ use Rattle.litmus_c.specs.Tree.{Word, Litmus}
 use Rattle.litmus_c.specs.declared.fault.TestFault.TheVariants as of_test
 use Rattle.candidates.specs.Faults.{IsSpaceFault}
 use Rattle.candidates.specs.declared.fault.SpaceFault.TheVariants as of_space
-use Rattle.cat_syntax.specs.declared.fault.CatFault.TheVariants as of_cat
+use Rattle.book.specs.declared.reading.CatFault.TheVariants as of_cat
 use Rattle.book.specs.Lines.{Line}
 use Rattle.book.specs.Parts.{IsAdmitted, IsRange, test_size}
 use Rattle.book.specs.Verdicts.{IsVerdict}

@@ -4,18 +4,18 @@ ghost use Rattle.std.specs.Prelude.{◌≡◌, ◌↔◌, ◌<◌, ◌+◌, ◌^
 ghost use Rattle.std.specs.Str.{bytes_eq};
 ghost use Rattle.book.specs.Changes.{changed, IsReady, FitsJob};
 ghost use Rattle.book.specs.Jobs.{IsSole};
-ghost use Rattle.book.specs.Lines.{answers, seen, returned};
+ghost use Rattle.book.specs.Lines.{answers, seen, returned, shown};
 ghost use Rattle.book.specs.Step.{Step, others, IsOwn};
+ghost use Rattle.book.specs.declared.records.Said.{Said};
 ghost use Rattle.book.specs.Workbench.{empty, job_of, claim_of, is_claimed, is_replaced, replaced, replaced_file, has_free, marked_in};
 
 use crate::jobs::Job;
 use crate::limits::Limits;
 use crate::names::{CatSlot, Cats, TestSlot, Tests};
-use crate::reading::read_empty_cat;
+use crate::reading::{CatFault, read_empty_cat};
 use crate::records::{Command, Live, ModelFault, Refusal, Replacement, Reply, SourceKind, Text};
 use crate::slices::{FileVersion, Piece, PieceResult, TestRef, VerdictRef, Work, WorkRef};
 use candidates::SpaceFault;
-use cat_syntax::CatFault;
 use litmus_c::{TestFault, read_test};
 use std::alloc::{AllocError, Global};
 use std::marker::Model;
@@ -333,15 +333,7 @@ impl Bench {
     {
         let work = job.work().work();
         self.tests.version(work.test().name()) != job.version()
-            || self.is_replaced_file(work.model().files())
-    }
-
-    fn is_replaced_file(&self, files: &[FileVersion]) -> bool
-        ensures { result ≡ is_some (replaced_file self.now.cats files.now) }
-    {
-        files
-            .iter()
-            .any(|file| self.cats.version(&file.name) != file.version)
+            || is_replaced_file(&self.cats, work.model().files())
     }
 
     /// The first of a job's test and then its files whose version is no longer the job's.
@@ -358,24 +350,7 @@ impl Bench {
                 version,
             }));
         }
-        self.replaced_file(work.model().files())
-    }
-
-    /// The first of the files whose version is no longer this.
-    fn replaced_file(&self, files: &[FileVersion]) -> Result<Option<Replacement>, AllocError>
-        ensures { IfOk result (λ r. r ≡ replaced_file self.now.cats files.now) }
-    {
-        for file in files {
-            let version = self.cats.version(&file.name);
-            if version != file.version {
-                return Ok(Some(Replacement {
-                    kind: SourceKind::Cat,
-                    name: file.name.copy()?,
-                    version,
-                }));
-            }
-        }
-        Ok(None)
+        replaced_file(&self.cats, work.model().files())
     }
 
     /// Does it, or nothing.
@@ -409,10 +384,36 @@ impl Bench {
 
 /// Whether a result is of the slice, range and work of its claim.
 fn is_own(claim: &Live, job: &Job, piece: &Piece) -> bool
-    ensures { let r = record { claim = piece.now.claim; slice = piece.now.slice; from = piece.now.from; to = piece.now.to; work = piece.now.work } in
-        IsTrue result ↔ IsOwn claim.now job.now r }
+    ensures { IsTrue result ↔ IsOwn claim.now job.now (shown piece.now) }
 {
     piece.slice() == claim.slice
         && job.has_range(piece.slice(), piece.from(), piece.to())
         && piece.work().same(job.work())
+}
+
+/// Whether the version of one of the files is no longer this.
+#[tactic(auto, using(crate::proofs::Search::any_replaced))]
+fn is_replaced_file(cats: &Cats, files: &[FileVersion]) -> bool
+    ensures { result ≡ is_some (replaced_file cats.now files.now) }
+{
+    files
+        .iter()
+        .any(|file| cats.version(&file.name) != file.version)
+}
+
+/// The first of the files whose version is no longer this.
+fn replaced_file(cats: &Cats, files: &[FileVersion]) -> Result<Option<Replacement>, AllocError>
+    ensures { IfOk result (λ r. r ≡ replaced_file cats.now files.now) }
+{
+    for file in files {
+        let version = cats.version(&file.name);
+        if version != file.version {
+            return Ok(Some(Replacement {
+                kind: SourceKind::Cat,
+                name: file.name.copy()?,
+                version,
+            }));
+        }
+    }
+    Ok(None)
 }

@@ -36,6 +36,8 @@ impl Model for Book {
 
     ghost Value = { Kept };
 
+    ghost coded = { coded_kept };
+
     ghost view = { λ b. record { limits = b.limits; journal = lines b.journal.items; state = b.bench } };
 
     ghost invariant = { λ b. IsKept b.limits (lines b.journal.items) b.bench };

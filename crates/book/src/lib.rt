@@ -16,6 +16,7 @@ pub use jobs::Job;
 pub use kept::{Book, Refused};
 pub use limits::Limits;
 pub use names::{CatSlot, Cats, TestSlot, Tests};
+pub use reading::CatFault;
 pub use records::{
     Command, Entry, Live, ModelFault, Refusal, Replacement, Reply, Returned, Said, SourceKind, Text,
 };

@@ -38,6 +38,10 @@ impl Model for Tests {
 
     ghost Value = { List (Word × TestSlot) };
 
+    ghost use Rattle.book.specs.NameCodes.{coded_tests};
+
+    ghost coded = { coded_tests };
+
     ghost view = { λ t. t.slots.entries };
 }
 

@@ -4,9 +4,9 @@ ghost use Rattle.std.specs.Prelude.{◌≡◌, true, IfOk};
 ghost use Rattle.std.specs.Arc.{arc_value};
 ghost use Rattle.book.specs.Lines.{answers, seen, returned};
 
+use crate::reading::CatFault;
 use crate::slices::{Piece, PieceResult, VerdictRef, WorkRef};
 use candidates::SpaceFault;
-use cat_syntax::CatFault;
 use litmus_c::TestFault;
 use std::alloc::{AllocError, Global};
 use std::marker::Model;

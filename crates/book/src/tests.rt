@@ -228,7 +228,7 @@ fn refusals(rt: HostRuntime) -> Result<(), Fail> {
     let alloc = rt.alloc();
     let mut book = Book::new(alloc, WIDE)?;
     let entry = call(&mut book, 0, put_cat(alloc, b"a.cat", b" acyclic po")?)?;
-    assert!(rt; matches!(entry.reply(), Reply::Refused(Refusal::ReadingCat(cat_syntax::CatFault::Syntax(1)))));
+    assert!(rt; matches!(entry.reply(), Reply::Refused(Refusal::ReadingCat(CatFault::Syntax(1)))));
     let entry = call(&mut book, 0, put_test(alloc, b"C SB\n{")?)?;
     assert!(rt; matches!(entry.reply(), Reply::Refused(Refusal::ReadingTest(litmus_c::TestFault::Syntax(6)))));
     let entry = call(&mut book, 0, ask(alloc, b"SB", b"stdlib.cat")?)?;

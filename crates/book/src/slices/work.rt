@@ -218,6 +218,15 @@ impl WorkRef {
     }
 }
 
+impl FileVersion {
+    /// Whether it is the same version of the same file.
+    fn same(&self, other: &FileVersion) -> bool
+        ensures { IsTrue result ↔ (self.now ≡ other.now) }
+    {
+        self.name == other.name && self.version == other.version
+    }
+}
+
 fn same_files(files: &[FileVersion], others: &[FileVersion]) -> bool
     ensures { IsTrue result ↔ (files.now ≡ others.now) }
 {
@@ -225,7 +234,7 @@ fn same_files(files: &[FileVersion], others: &[FileVersion]) -> bool
         return false;
     }
     for i in 0..files.len() {
-        if files[i].name != others[i].name || files[i].version != others[i].version {
+        if !files[i].same(&others[i]) {
             return false;
         }
     }
