@@ -17,10 +17,11 @@ use Rattle.candidates.specs.Faults.{HaveFewRuns}
 use Rattle.book.specs.declared.slices.counter.Counter.{Counter}
 use Rattle.book.specs.Finals.{final, obs, has, last_or}
 use Rattle.book.specs.Outcomes.{Outcome}
-use Rattle.book.specs.Parts.{IsAdmitted, IsPart, executions_in, test_size}
+use Rattle.book.specs.Parts.{IsAdmitted, IsOver, IsPart, Part, executions_in, test_size}
 use Rattle.book.specs.Slots.{slot_of, slot_value}
 use Rattle.book.specs.Counters.{collected, outcome_of, IsCount}
 use Rattle.book.specs.Verdicts.{Tells, IsVerdict}
+use Rattle.book.specs.Works.{Task}
 use Rattle.book.proofs.Rows.{row_cmp, from_collected, in_collected, no_repeats, are_sorted}
 
 -- the slots of the places have their final values
@@ -185,3 +186,10 @@ admitted t u s e is size runs =
     let S : Choices → Type 0 = λ c. IsSize u (size_of c) × (size_of c ≤ 2 ^ 32) in
     let sized = subst S is size in
     subst P e (is, record { runs = runs; size = sized.0; few = sized.1 })
+
+-- a result over all numbers of a work gives a verdict
+pub over_verdict : (w : Task) (r : Part) (v : Outcome) → Counting → IsAdmitted w.test → IsOver w r → IsPart r.piece.work.test r.piece.from r.piece.to r.found → v ≡ r.found → IsVerdict w.test v
+over_verdict w r v counting admitted over part e =
+    let P : Task → Type 0 = λ u. IsPart u.test r.piece.from r.piece.to r.found in
+    let V : Outcome → Type 0 = λ o. IsVerdict w.test o in
+    subst V (sym e) (verdict_of w.test r.piece.from r.piece.to r.found counting admitted over.first over.last (subst P over.same part))

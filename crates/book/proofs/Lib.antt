@@ -1,7 +1,9 @@
 pub mod Bindings
 pub mod Counted
+pub mod Cuts
 pub mod Examples
 pub mod Rows
 pub mod Runs
 pub mod Search
+pub mod Steps
 pub mod Written

@@ -1,7 +1,7 @@
 //! The state of the book, and what each command does to it.
 
-ghost use Rattle.std.specs.Prelude.{◌≡◌, ◌↔◌, ◌<◌, ◌+◌, ◌^◌, ◌++◌, ◌∷◌, [], None, Some, true, false, is_some, IsTrue, IfOk, OnOk, OnErr, option_copied};
-ghost use Rattle.std.specs.Str.{bytes_eq};
+ghost use Rattle.std.specs.Prelude.{◌≡◌, ◌↔◌, ◌<◌, ◌+◌, ◌^◌, ◌++◌, ◌∷◌, [], None, Some, true, false, is_some, IsTrue, IfOk, OnOk, OnErr, MatchOption};
+ghost use Rattle.std.specs.List.{find};
 ghost use Rattle.book.specs.Changes.{changed, IsReady, FitsJob};
 ghost use Rattle.book.specs.Jobs.{IsSole};
 ghost use Rattle.book.specs.Lines.{answers, seen, returned, shown};
@@ -144,6 +144,7 @@ impl Bench {
         }
     }
 
+    #[tactic(auto, using(crate::proofs::Steps::cat_unread, crate::proofs::Steps::cat_spent, crate::proofs::Steps::cat_put))]
     fn decide_put_cat(&self, alloc: Global, name: &Name, text: &Text) -> Result<Plan, AllocError>
         requires { self.now.closed ≡ false }
         ensures step { IfOk result (λ p. Step self.now 0 (Said.PutCat name.now text.now) p.reply (changed self.now p.change)) }
@@ -169,6 +170,7 @@ impl Bench {
         })
     }
 
+    #[tactic(auto, using(crate::proofs::Steps::test_unread, crate::proofs::Steps::test_spent, crate::proofs::Steps::test_put))]
     fn decide_put_test(&self, alloc: Global, text: &Text) -> Result<Plan, AllocError>
         requires { self.now.closed ≡ false }
         ensures step { IfOk result (λ p. Step self.now 0 (Said.PutTest text.now) p.reply (changed self.now p.change)) }
@@ -195,6 +197,7 @@ impl Bench {
         })
     }
 
+    #[tactic(auto, using(crate::proofs::Steps::no_test, crate::proofs::Steps::no_model, crate::proofs::Steps::no_space, crate::proofs::Steps::jobs_full, crate::proofs::Steps::opened))]
     fn decide_ask(&self, alloc: Global, test: &Name, cat: &Name) -> Result<Plan, AllocError>
         requires open { self.now.closed ≡ false }
         requires room { self.now.last_job + 1 < 2 ^ 32 }
@@ -224,6 +227,7 @@ impl Bench {
         })
     }
 
+    #[tactic(auto, using(crate::proofs::Steps::no_job, crate::proofs::Steps::judged, crate::proofs::Steps::poll_replaced, crate::proofs::Steps::pending))]
     fn decide_poll(&self, alloc: Global, number: u32) -> Result<Plan, AllocError>
         requires { self.now.closed ≡ false }
         ensures step { IfOk result (λ p. Step self.now 0 (Said.Poll number) p.reply (changed self.now p.change)) }
@@ -243,13 +247,14 @@ impl Bench {
         }
     }
 
+    #[tactic(auto, using(crate::proofs::Steps::nothing, crate::proofs::Steps::claims_spent, crate::proofs::Steps::given))]
     fn decide_claim(&self, seat: u8) -> Result<Plan, AllocError>
         requires { self.now.closed ≡ false }
         ensures step { IfOk result (λ p. Step self.now seat Said.Claim p.reply (changed self.now p.change)) }
         ensures kind { IfOk result (λ p. answers Said.Claim p.reply ≡ true) }
         ensures ready { IfOk result (λ p. IsReady self.now p.change) }
     {
-        let Some(job) = self.jobs.iter().find(|job| self.has_free(job)) else {
+        let Some(job) = self.free_job() else {
             return Ok(Plan::keep(Reply::Nothing));
         };
         if self.last_claim >= self.limits.claims {
@@ -268,6 +273,7 @@ impl Bench {
         })
     }
 
+    #[tactic(auto, using(crate::proofs::Steps::no_claim, crate::proofs::Steps::claim_of_no_job, crate::proofs::Steps::return_replaced, crate::proofs::Steps::return_stranger, crate::proofs::Steps::return_taken))]
     fn decide_return(&self, seat: u8, part: &PieceResult) -> Result<Plan, AllocError>
         requires { self.now.closed ≡ false }
         ensures step { IfOk result (λ p. Step self.now seat (Said.Return (returned part.now)) p.reply (changed self.now p.change)) }
@@ -298,19 +304,29 @@ impl Bench {
 
     /// The job of a number.
     fn job(&self, number: u32) -> Option<&Job>
-        ensures { option_copied result ≡ job_of self.now.jobs number }
+        ensures { MatchOption result (job_of self.now.jobs number ≡ None)
+            (λ j. job_of self.now.jobs number ≡ Some j.now) }
     {
         self.jobs.iter().find(|job| job.number() == number)
     }
 
     /// The live claim of a number and seat.
     fn claim(&self, number: u32, seat: u8) -> Option<Live>
-        ensures { result ≡ claim_of self.now.live number seat }
+        ensures { MatchOption result (claim_of self.now.live number seat ≡ None)
+            (λ c. claim_of self.now.live number seat ≡ Some c) }
     {
         self.live
             .iter()
             .find(|c| c.number == number && c.seat == seat)
             .copied()
+    }
+
+    /// The first job with a free slice.
+    fn free_job(&self) -> Option<&Job>
+        ensures { MatchOption result (find (has_free self.now) self.now.jobs ≡ None)
+            (λ j. find (has_free self.now) self.now.jobs ≡ Some j.now) }
+    {
+        self.jobs.iter().find(|job| self.has_free(job))
     }
 
     /// Whether a slice of a job is free.

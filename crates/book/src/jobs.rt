@@ -3,6 +3,7 @@
 ghost use Rattle.std.specs.Prelude.{◌≡◌, ◌↔◌, ◌∷◌, [], true, false, IfOk, IsTrue, slice_get};
 ghost use Rattle.book.specs.Parts.{IsRange, test_size};
 ghost use Rattle.book.specs.Step.{HasRange};
+ghost use Rattle.book.specs.Verdicts.{IsVerdict};
 ghost use Rattle.book.specs.Jobs.{IsSole, is_done, marked};
 
 use crate::slices::{Piece, PieceResult, Verdict, WorkRef};
@@ -110,6 +111,7 @@ impl Job {
         requires { is_done self.now ≡ true }
         ensures work { IfOk result (λ v. v.work ≡ self.now.work) }
         ensures version { IfOk result (λ v. v.version ≡ self.now.version) }
+        ensures right { IfOk result (λ v. IsVerdict v.work.test v.outcome) }
     {
         match &self.result {
             Some(part) => Verdict::of(&self.work, self.version, part),

@@ -14,12 +14,13 @@ use Rattle.conditions.specs.declared.place.Place.{Place}
 use Rattle.conditions.specs.declared.place.Place.TheVariants.{Reg, Loc}
 use Rattle.conditions.specs.declared.prop.Prop.{Prop}
 
-both : {P Q : Type 0} (r s : Bool) → Decides r P → Decides s Q → Decides (r && s) (P × Q)
+-- two tests, and what they are tests of
+pub both : {P Q : Type 0} (r s : Bool) → Decides r P → Decides s Q → Decides (r && s) (P × Q)
 both true s p q = (λ h. (p.0 refl, q.0 h), λ h. q.1 h.1)
 both false s p q = (λ h. cc, λ h. p.1 h.0)
 
 -- a test of what two values are made of
-by_parts : {P Q : Type 0} (r : Bool) → Decides r P → (P → Q) → (Q → P) → Decides r Q
+pub by_parts : {P Q : Type 0} (r : Bool) → Decides r P → (P → Q) → (Q → P) → Decides r Q
 by_parts r d to from = (λ h. to (d.0 h), λ q. d.1 (from q))
 
 pub place_exact : (a b : Place) → Decides (same_place a b) (a ≡ b)
@@ -55,7 +56,7 @@ asked k a = record { kind = k; formula = a }
 pub condition_exact : (a b : Condition) → Decides (same_condition a b) (a ≡ b)
 condition_exact a b = by_parts _ (both _ _ (kind_exact a.kind b.kind) (formula_exact a.formula b.formula)) (λ h. ap (λ k. asked k a.formula) h.0 ∙ ap (asked b.kind) h.1) (λ e. (ap (λ c. c.kind) e, ap (λ c. c.formula) e))
 
-equivalence : {K : Type 0} (E : K → K → Bool) → ((a b : K) → Decides (E a b) (a ≡ b)) → IsEquivalence E
+pub equivalence : {K : Type 0} (E : K → K → Bool) → ((a b : K) → Decides (E a b) (a ≡ b)) → IsEquivalence E
 equivalence E exact = record {
   refl = λ x. (exact x x).1 refl;
   symm = λ x y. one_answer _ _ (exact x y) (by_parts _ (exact y x) sym sym);

@@ -6,7 +6,7 @@ use std::alloc::AllocError;
 use wb_text::Name;
 
 /// A register of a thread, or a location. Registers come before locations, each by name.
-#[derive(PartialOrd, Ord, Drop)]
+#[derive(PartialOrd, Ord, Hash, Drop)]
 pub enum Place {
     Reg(usize, Name),
     Loc(Name),

@@ -14,16 +14,18 @@ use Rattle.litmus_c.specs.declared.draft.Draft.{Draft}
 use Rattle.litmus_c.specs.declared.fault.TestFault.{TestFault}
 use Rattle.litmus_c.specs.declared.fault.TestFault.TheVariants.{Text, Syntax, UnknownName, TooDeep, TooManyThreads, TooManyLocations, TooManyEvents, TooManyValues, NoMemory}
 use Rattle.litmus_c.specs.declared.symbol.Symbol.{Symbol}
+use Rattle.litmus_c.specs.Depth.{NestsTooDeep}
 use Rattle.litmus_c.specs.Drafts.{Written, written_of}
 use Rattle.litmus_c.specs.Grammar.{Spells}
 use Rattle.litmus_c.specs.declared.syntax_fault.SyntaxFault.{SyntaxFault}
 use Rattle.litmus_c.specs.declared.syntax_fault.SyntaxFault.TheVariants as faults
 use Rattle.litmus_c.specs.Reading.{Cause, syntax, deep, Reading, GivesAll, refusal, text_refusal, test_at}
-use Rattle.litmus_c.specs.Reads.{IsWrittenIn, HasNoTest, IsRefused, IsUnwritten, Reads}
+use Rattle.litmus_c.specs.Reads.{IsWrittenIn, HasNoTest, IsTooDeep, IsRefused, IsUnwritten, Reads}
 use Rattle.litmus_c.specs.Rules.{litmus_of, KeepsRules, Explains}
 use Rattle.litmus_c.specs.Symbols.{symbols_of}
 use Rattle.litmus_c.specs.Tree.{Litmus}
 use Rattle.litmus_c.proofs.Complete.{test-complete, one_reading, same}
+use Rattle.litmus_c.proofs.Deep.{test_deep}
 use Rattle.litmus_c.proofs.Sound.{test-sound}
 
 -- what was read is written in the text
@@ -104,11 +106,20 @@ no_test text ts symbols e is unique fails w d =
     let reads : test_at 32 symbols ≡ Ok (w, []) = read_of text ts symbols w is d (unique d.tokens d.is_list) in
     cc
 
-pub draft_cause : (text : List ℕ) (ts : List Token) (symbols : List Symbol) (s : SyntaxFault) → symbols ≡ symbols_of text ts →
+too_deep : (text : List ℕ) (ts : List Token) (symbols : List Symbol) → IsTokenList dialects.Litmus text ts → symbols ≡ symbols_of text ts → ((us : List Token) → IsTokenList dialects.Litmus text us → ts ≡ us) →
+    test_at 32 symbols ≡ Err deep → IsTooDeep text
+too_deep text ts symbols list is unique fails = record {
+  none = no_test text ts symbols deep is unique fails;
+  tokens = ts;
+  is_list = list;
+  nests = (let P : List Symbol → Type 0 = λ l. NestsTooDeep l in subst P is (test_deep 31 symbols fails));
+}
+
+pub draft_cause : (text : List ℕ) (ts : List Token) (symbols : List Symbol) (s : SyntaxFault) → IsTokenList dialects.Litmus text ts → symbols ≡ symbols_of text ts →
     ((us : List Token) → IsTokenList dialects.Litmus text us → ts ≡ us) → GivesAll written_of (Err s) (test_at 32 symbols) → IsUnwritten text (refusal s)
-draft_cause text ts symbols (faults.Syntax p) is unique g = no_test text ts symbols syntax is unique g
-draft_cause text ts symbols faults.TooDeep is unique g = no_test text ts symbols deep is unique g
-draft_cause text ts symbols faults.NoMemory is unique g = tt
+draft_cause text ts symbols (faults.Syntax p) list is unique g = no_test text ts symbols syntax is unique g
+draft_cause text ts symbols faults.TooDeep list is unique g = too_deep text ts symbols list is unique g
+draft_cause text ts symbols faults.NoMemory list is unique g = tt
 
 pub unwritten_cause : (text : List ℕ) (e : TestFault) → IsUnwritten text e → IsRefused text e
 unwritten_cause text NoMemory h = h

@@ -1,9 +1,11 @@
 pub mod Complete
+pub mod Deep
 pub mod Distinct
 pub mod Fair
 pub mod Found
 pub mod Kept
 pub mod Levels
+pub mod Lists
 pub mod Names
 pub mod Shorter
 pub mod Sound

@@ -122,7 +122,7 @@ entry_behind-sound bs cs ts rest e =
           inr (moved (λ l t. (b : Binding) × IsEntry ts l b × (t ≡ bs ++ b ∷ [])) x.2 (x.0.0, entry-sound ts x.0.1 x.0.0 x.1, refl))
     ]
 
-entries-sound : Sound entries_at IsEntries
+pub entries-sound : Sound entries_at IsEntries
 unfolding entries_at
 entries-sound ts rest cs e =
     let x = bind_ok (entry_behind [] ts) _ _ e in
@@ -374,7 +374,7 @@ thread-sound n k ts rest b e =
       | inr g ↦ let h = g.1 in absurd (cc)
     ]
 
-threads-sound : (n : ℕ) → Sound (threads_at n) (IsThreads n)
+pub threads-sound : (n : ℕ) → Sound (threads_at n) (IsThreads n)
 unfolding threads_at threads_more
 threads-sound n ts rest bs e =
     let x = bind_ok (thread_at n 0 ts >>= λ b. Ok ([] ++ b.0 ∷ [], b.1)) _ _ e in

@@ -1,5 +1,8 @@
 pub mod Codes
+pub mod Depth
 pub mod Drafts
+pub mod Equality
+pub mod Exact
 pub mod Grammar
 pub mod Limits
 pub mod Reading

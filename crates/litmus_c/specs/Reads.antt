@@ -6,6 +6,7 @@ use Rattle.wb_text.specs.declared.token.Dialect.TheVariants as dialects
 use Rattle.wb_text.specs.declared.token.Token.{Token}
 use Rattle.litmus_c.specs.declared.fault.TestFault.{TestFault}
 use Rattle.litmus_c.specs.declared.fault.TestFault.TheVariants.{Text, Syntax, UnknownName, TooDeep, TooManyThreads, TooManyLocations, TooManyEvents, TooManyValues, NoMemory}
+use Rattle.litmus_c.specs.Depth.{NestsTooDeep}
 use Rattle.litmus_c.specs.Drafts.{Written}
 use Rattle.litmus_c.specs.Grammar.{Spells}
 use Rattle.litmus_c.specs.Rules.{litmus_of, KeepsRules, Explains}
@@ -29,6 +30,13 @@ pub record Reads (text : List ℕ) (t : Litmus) : Type 0 where
 abbrev pub HasNoTest : List ℕ → Type 0
 HasNoTest text = (w : Written) → ¬ IsWrittenIn text w
 
+-- no test is written in the text, and something in it nests more than 32 deep
+pub record IsTooDeep (text : List ℕ) : Type 0 where
+  pub none : HasNoTest text
+  pub tokens : List Token
+  pub is_list : IsTokenList dialects.Litmus text tokens
+  pub nests : NestsTooDeep (symbols_of text tokens)
+
 -- a test is written in the text, and breaks a rule or a limit for which there is this refusal
 abbrev pub BreaksRule : List ℕ → TestFault → Type 0
 BreaksRule text e = (w : Written) × IsWrittenIn text w × Explains w.entries (litmus_of w) e
@@ -38,7 +46,7 @@ abbrev pub IsRefused : List ℕ → TestFault → Type 0
 IsRefused text NoMemory = Unit {0}
 IsRefused text (Text f) = HasCause dialects.Litmus text f
 IsRefused text (Syntax n) = HasNoTest text
-IsRefused text TooDeep = HasNoTest text
+IsRefused text TooDeep = IsTooDeep text
 IsRefused text UnknownName = BreaksRule text UnknownName
 IsRefused text TooManyThreads = BreaksRule text TooManyThreads
 IsRefused text TooManyLocations = BreaksRule text TooManyLocations
@@ -50,5 +58,5 @@ abbrev pub IsUnwritten : List ℕ → TestFault → Type 0
 IsUnwritten text NoMemory = Unit {0}
 IsUnwritten text (Text f) = HasCause dialects.Litmus text f
 IsUnwritten text (Syntax n) = HasNoTest text
-IsUnwritten text TooDeep = HasNoTest text
+IsUnwritten text TooDeep = IsTooDeep text
 IsUnwritten text e = ⊥

@@ -11,13 +11,12 @@ ghost use Rattle.litmus_c.specs.Tree.{declared_of, step_of};
 
 use crate::draft::{Body, Draft};
 use crate::fault::TestFault;
-use crate::rules::{
-    after_threads, entry_is_fair, formula_is_fair, is_given, is_one_of, program_is_fair,
-};
+use crate::rules::{after_threads, entry_is_fair, formula_is_fair, is_one_of, program_is_fair};
 use crate::test::Test;
 use crate::tree::{Declarator, Parameter, Statement, Thread};
 use crate::values::{ValuesFault, values_among};
 use conditions::{Binding, Cond, Place};
+use indexmap::IndexSet;
 use std::alloc::{AllocError, Global};
 use wb_text::Name;
 
@@ -29,23 +28,15 @@ const MAX_VALUES: usize = 16;
 
 const MAX_EVENTS: usize = 64;
 
-/// Adds a name that isn't there yet.
-fn note(names: &mut Vec<Name>, name: &Name) -> Result<(), AllocError>
-    ensures { OnOk result (names.new.items ≡ with_name names.old.items name.now) }
-{
-    if !is_one_of(names.as_slice(), name) {
-        names.push(name.copy()?)?;
-    }
-    Ok(())
-}
-
 /// Adds a location that isn't there yet, up to the most that a test has.
 fn note_location(locations: &mut Vec<Name>, name: &Name) -> Result<(), TestFault>
     ensures done { OnOk result (locations.new.items ≡ with_name locations.old.items name.now) }
     ensures few { OnOk result (length locations.new.items ≤ 8) }
     ensures cause { IfErr result (λ e. ExplainsLocations (with_name locations.old.items name.now) e) }
 {
-    note(locations, name)?;
+    if !is_one_of(locations.as_slice(), name) {
+        locations.push(name.copy()?)?;
+    }
     if locations.len() > MAX_LOCATIONS {
         return Err(TestFault::TooManyLocations);
     }
@@ -108,14 +99,26 @@ fn find_locations(
     Ok(locations)
 }
 
+/// Adds a register that isn't there yet.
+fn note_name(registers: &mut IndexSet<Name>, name: &Name) -> Result<(), AllocError>
+    ensures { OnOk result (registers.new.keys ≡ with_name registers.old.keys name.now) }
+{
+    registers.insert(name.copy()?)?;
+    Ok(())
+}
+
 /// Adds the register of a place, if it is one of thread `number`.
-fn note_register(registers: &mut Vec<Name>, number: usize, place: &Place) -> Result<(), AllocError>
-    ensures { OnOk result (registers.new.items ≡ with_names registers.old.items (place_registers number place.now)) }
+fn note_register(
+    registers: &mut IndexSet<Name>,
+    number: usize,
+    place: &Place,
+) -> Result<(), AllocError>
+    ensures { OnOk result (registers.new.keys ≡ with_names registers.old.keys (place_registers number place.now)) }
 {
     match place {
         Place::Reg(owner, name) => {
             if *owner == number {
-                note(registers, name)?;
+                note_name(registers, name)?;
             }
             Ok(())
         }
@@ -128,10 +131,10 @@ fn entry_registers(
     alloc: Global,
     number: usize,
     entries: &[Binding],
-) -> Result<Vec<Name>, AllocError>
-    ensures { IfOk result (λ v. v.items ≡ with_names [] (flat_map (λ b. place_registers number b.place) entries.now)) }
+) -> Result<IndexSet<Name>, AllocError>
+    ensures { IfOk result (λ s. s.keys ≡ with_names [] (flat_map (λ b. place_registers number b.place) entries.now)) }
 {
-    let mut registers = Vec::new(alloc);
+    let mut registers = IndexSet::new(alloc);
     for entry in entries {
         note_register(&mut registers, number, &entry.place)?;
     }
@@ -139,23 +142,26 @@ fn entry_registers(
 }
 
 /// Adds the registers that are declared.
-fn note_declarators(registers: &mut Vec<Name>, declarators: &[Declarator]) -> Result<(), AllocError>
-    ensures { OnOk result (registers.new.items ≡ with_names registers.old.items (map (λ d. d.register) (map declared_of declarators.now))) }
+fn note_declarators(
+    registers: &mut IndexSet<Name>,
+    declarators: &[Declarator],
+) -> Result<(), AllocError>
+    ensures { OnOk result (registers.new.keys ≡ with_names registers.old.keys (map (λ d. d.register) (map declared_of declarators.now))) }
 {
     for declarator in declarators {
-        note(registers, &declarator.register)?;
+        note_name(registers, &declarator.register)?;
     }
     Ok(())
 }
 
 /// Adds the registers that a statement declares or assigns.
-fn note_statement(registers: &mut Vec<Name>, statement: &Statement) -> Result<(), AllocError>
-    ensures { OnOk result (registers.new.items ≡ with_names registers.old.items (step_registers (step_of statement.now))) }
+fn note_statement(registers: &mut IndexSet<Name>, statement: &Statement) -> Result<(), AllocError>
+    ensures { OnOk result (registers.new.keys ≡ with_names registers.old.keys (step_registers (step_of statement.now))) }
 {
     match statement {
         Statement::Empty | Statement::Perform(_) => Ok(()),
         Statement::Declare(declarators) => note_declarators(registers, declarators.as_slice()),
-        Statement::Assign(register, _) => note(registers, register),
+        Statement::Assign(register, _) => note_name(registers, register),
     }
 }
 
@@ -165,8 +171,8 @@ fn find_registers(
     number: usize,
     entries: &[Binding],
     statements: &[Statement],
-) -> Result<Vec<Name>, AllocError>
-    ensures { IfOk result (λ v. v.items ≡ registers_of number entries.now (map step_of statements.now)) }
+) -> Result<IndexSet<Name>, AllocError>
+    ensures { IfOk result (λ s. s.keys ≡ registers_of number entries.now (map step_of statements.now)) }
 {
     let mut registers = entry_registers(alloc, number, entries)?;
     for statement in statements {
@@ -179,14 +185,14 @@ fn find_registers(
 fn find_lasting(alloc: Global, entries: &[Binding]) -> Result<Vec<Binding>, AllocError>
     ensures { IfOk result (λ v. v.items ≡ lasting entries.now) }
 {
+    let mut later = IndexSet::new(alloc);
     let mut kept = Vec::new(alloc);
-    let mut rest = entries;
-    while let Some((entry, later)) = rest.split_first() {
-        if !is_given(later, &entry.place) {
+    for entry in entries.iter().rev() {
+        if later.insert(entry.place.copy()?)? {
             kept.push(entry.copy()?)?;
         }
-        rest = later;
     }
+    kept.reverse();
     Ok(kept)
 }
 

@@ -5,12 +5,12 @@ ghost use Rattle.std.specs.List.{list_all};
 ghost use Rattle.conditions.specs.Conditions.{formula_of};
 ghost use Rattle.litmus_c.specs.Drafts.{is_parameter};
 ghost use Rattle.litmus_c.specs.Limits.{optional_events, right_events, step_events, program_events};
-ghost use Rattle.litmus_c.specs.Rules.{is_given, entry_is_fair, action_is_fair, right_is_fair, optional_is_fair, declared_is_fair, step_is_fair, program_is_fair, place_is_there, formula_is_fair};
+ghost use Rattle.litmus_c.specs.Rules.{entry_is_fair, action_is_fair, right_is_fair, optional_is_fair, declared_is_fair, step_is_fair, program_is_fair, place_is_there, formula_is_fair};
 ghost use Rattle.litmus_c.specs.Symbols.{is_one_of};
 ghost use Rattle.litmus_c.specs.Tree.{action_of, right_of, option_right, declared_of, step_of};
 
 use crate::tree::{Call, Declarator, Parameter, RightSide, Statement, Thread};
-use conditions::{Binding, Place, Prop};
+use conditions::{Place, Prop};
 use wb_text::Name;
 
 /// Whether a parameter has this name.
@@ -25,13 +25,6 @@ pub fn is_one_of(names: &[Name], name: &Name) -> bool
     ensures { result ≡ is_one_of names.now name.now }
 {
     names.iter().any(|other| *name == *other)
-}
-
-/// Whether an entry gives the place a value.
-pub fn is_given(entries: &[Binding], place: &Place) -> bool
-    ensures { result ≡ is_given entries.now place.now }
-{
-    entries.iter().any(|entry| entry.place == *place)
 }
 
 /// A register of an entry belongs to a thread, and is no parameter of it.
@@ -123,7 +116,7 @@ fn place_is_there(threads: &[Thread], locations: &[Name], place: &Place) -> bool
     match place {
         Place::Loc(name) => is_one_of(locations, name),
         Place::Reg(number, name) => match threads.get(*number) {
-            Some(thread) => is_one_of(thread.registers(), name),
+            Some(thread) => thread.has_register(name),
             None => false,
         },
     }

@@ -3,6 +3,9 @@
 ghost use Rattle.std.specs.Prelude.{◌≡◌};
 ghost use Rattle.litmus_c.specs.Limits.{IsTest};
 
+mod copying;
+mod equality;
+
 use crate::tree::Thread;
 use conditions::{Binding, Cond, Place};
 use std::marker::Model;

@@ -224,3 +224,122 @@ fn syntax_faults(rt: HostRuntime) {
         Some(TestFault::Text(TextFault::OpenString))
     );
 }
+
+#[test]
+fn first_refusal(rt: HostRuntime) -> Result<(), Fail> {
+    let alloc = rt.alloc();
+    // A text is a front, a part so many times, and a back. Each has two faults, of which the first is told.
+    for (front, part, times, back, first) in [
+        // 11 before 12
+        (
+            "C a\n{=}\"",
+            "",
+            0,
+            "",
+            TestFault::Text(TextFault::OpenString),
+        ),
+        // of 12 and 18 the first from the left
+        (
+            "C a\n{x}P0(){=}exists ",
+            "(",
+            33,
+            "x=0",
+            TestFault::Syntax(12),
+        ),
+        ("C a\n{x}P0(){}exists ", "(", 33, "=", TestFault::TooDeep),
+        // 12 and 18 before 19
+        (
+            "C a\n{x}P0(){}P1(){}P2(){}P3(){}P4(){}P5(){}P6(){}P7(){}P8(){}exists ;",
+            "",
+            0,
+            "",
+            TestFault::Syntax(68),
+        ),
+        (
+            "C a\n{x}P0(){}P1(){}P2(){}P3(){}P4(){}P5(){}P6(){}P7(){}P8(){}exists ",
+            "(",
+            33,
+            "x=0",
+            TestFault::TooDeep,
+        ),
+        // 19 before 20
+        (
+            "C a\n{a;b;c;d;e;f;g;h;i}P0(){}P1(){}P2(){}P3(){}P4(){}P5(){}P6(){}P7(){}P8(){}exists a=0",
+            "",
+            0,
+            "",
+            TestFault::TooManyThreads,
+        ),
+        // 20 before 14
+        (
+            "C a\n{a;b;c;d;e;f;g;h;i}P0(){}exists y=0",
+            "",
+            0,
+            "",
+            TestFault::TooManyLocations,
+        ),
+        // 14 before 22
+        (
+            "C a\n{0:a=2;0:b=3;0:c=4;0:d=5;0:e=6;0:f=7;0:g=8;0:h=9;0:i=10;0:j=11;0:k=12;0:l=13;0:m=14;0:n=15;0:o=16}P0(){}exists y=0",
+            "",
+            0,
+            "",
+            TestFault::UnknownName,
+        ),
+        // 14 before 21
+        (
+            "C a\n{}P0(atomic_int*x){",
+            "atomic_load_explicit(x,memory_order_relaxed);",
+            64,
+            "}exists y=0",
+            TestFault::UnknownName,
+        ),
+        // 22 before 21
+        (
+            "C a\n{0:a=2;0:b=3;0:c=4;0:d=5;0:e=6;0:f=7;0:g=8;0:h=9;0:i=10;0:j=11;0:k=12;0:l=13;0:m=14;0:n=15;0:o=16}P0(atomic_int*x){",
+            "atomic_load_explicit(x,memory_order_relaxed);",
+            64,
+            "}exists x=0",
+            TestFault::TooManyValues,
+        ),
+    ] {
+        let text = many(alloc, front, part, times, back)?;
+        assert_eq!(rt; fault(alloc, text.as_str()), Some(first), "of {front}");
+    }
+    Ok(())
+}
+
+#[test]
+fn copies_are_equal(rt: HostRuntime) -> Result<(), Fail> {
+    let test = read_test(rt.alloc(), SB)?;
+    assert!(rt; test.copy()? == test);
+    for thread in test.threads() {
+        assert!(rt; thread.copy()? == *thread);
+        for parameter in thread.parameters() {
+            assert!(rt; parameter.copy()? == *parameter);
+        }
+        for statement in thread.statements() {
+            assert!(rt; statement.copy()? == *statement);
+        }
+    }
+    Ok(())
+}
+
+#[test]
+fn other_texts_are_other_tests(rt: HostRuntime) -> Result<(), Fail> {
+    let first = read_test(
+        rt.alloc(),
+        b"C a\n{x=1}P0(atomic_int*y){atomic_store_explicit(y,1,memory_order_relaxed);}exists x=0",
+    )?;
+    for text in [
+        "C b\n{x=1}P0(atomic_int*y){atomic_store_explicit(y,1,memory_order_relaxed);}exists x=0",
+        "C a\n{x=0}P0(atomic_int*y){atomic_store_explicit(y,1,memory_order_relaxed);}exists x=0",
+        "C a\n{x=1}P0(atomic_int*y){atomic_store_explicit(y,0,memory_order_relaxed);}exists x=0",
+        "C a\n{x=1}P0(atomic_int*y){int r=atomic_load_explicit(y,memory_order_relaxed);}exists x=0",
+        "C a\n{x=1}P0(atomic_int*y){atomic_store_explicit(y,1,memory_order_relaxed);}exists y=0",
+        "C a\n{x=1}P0(atomic_int*y){atomic_store_explicit(y,1,memory_order_relaxed);}P1(){}exists x=0",
+    ] {
+        assert!(rt; read_test(rt.alloc(), text.as_bytes())? != first);
+    }
+    Ok(())
+}

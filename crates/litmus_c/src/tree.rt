@@ -1,9 +1,14 @@
 //! The tree of a thread.
 
 ghost use Rattle.std.specs.Prelude.{◌≡◌, map};
+ghost use Rattle.litmus_c.specs.Symbols.{is_one_of};
 ghost use Rattle.litmus_c.specs.Tree.{step_of};
 
+mod copying;
+mod equality;
+
 use events::Order;
+use indexmap::IndexSet;
 use std::marker::Model;
 use wb_text::Name;
 
@@ -65,7 +70,7 @@ pub enum Statement {
 pub struct Thread {
     parameters: Vec<Parameter>,
     statements: Vec<Statement>,
-    registers: Vec<Name>,
+    registers: IndexSet<Name>,
 }
 
 impl Model for Thread {
@@ -74,13 +79,17 @@ impl Model for Thread {
 
     ghost Value = { Program };
 
-    ghost view = { λ t. record { parameters = t.parameters.items; steps = map step_of t.statements.items; registers = t.registers.items } };
+    ghost view = { λ t. record { parameters = t.parameters.items; steps = map step_of t.statements.items; registers = t.registers.keys } };
 }
 
 impl Thread {
     /// A thread of these parts.
-    pub fn new(parameters: Vec<Parameter>, statements: Vec<Statement>, registers: Vec<Name>) -> Self
-        ensures { result ≡ record { parameters = parameters.items; steps = map step_of statements.items; registers = registers.items } }
+    pub fn new(
+        parameters: Vec<Parameter>,
+        statements: Vec<Statement>,
+        registers: IndexSet<Name>,
+    ) -> Self
+        ensures { result ≡ record { parameters = parameters.items; steps = map step_of statements.items; registers = registers.keys } }
     {
         Thread {
             parameters,
@@ -107,6 +116,13 @@ impl Thread {
     pub fn registers(&self) -> &[Name]
         ensures { result.now ≡ self.now.registers }
     {
-        &self.registers
+        self.registers.as_slice()
+    }
+
+    /// Whether this is one of its registers. It looks at no list of them.
+    pub fn has_register(&self, name: &Name) -> bool
+        ensures { result ≡ is_one_of self.now.registers name.now }
+    {
+        self.registers.contains(name)
     }
 }

@@ -2,6 +2,7 @@
 
 ghost use Rattle.std.specs.Prelude.{◌≡◌, ◌++◌, ◌∷◌, [], IfOk, IfErr, OnOk, OnErr, length};
 ghost use Rattle.book.specs.Judgements.{IsWhole};
+ghost use Rattle.book.specs.Verdicts.{IsVerdict};
 
 use crate::slices::piece::PieceResult;
 use crate::slices::verdict::Verdict;
@@ -71,6 +72,7 @@ impl Tally {
         requires { IsWhole self.now }
         ensures work { IfOk result (λ v. v.work ≡ self.now.work) }
         ensures version { IfOk result (λ v. v.version ≡ test_version) }
+        ensures right { IfOk result (λ v. IsVerdict v.work.test v.outcome) }
     {
         Verdict::of(&self.work, test_version, &self.parts[0])
     }

@@ -79,6 +79,7 @@ impl Verdict {
         ensures work { IfOk result (λ v. v.work ≡ work.now) }
         ensures version { IfOk result (λ v. v.version ≡ version) }
         ensures outcome { IfOk result (λ v. v.outcome ≡ part.now.found) }
+        ensures right { IfOk result (λ v. IsVerdict v.work.test v.outcome) }
     {
         laws::counting();
         let _size = work.work().size();

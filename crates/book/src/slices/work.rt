@@ -201,10 +201,11 @@ impl WorkRef {
     }
 
     /// Whether it is the same test under a model of the same files and versions.
+    #[tactic(auto, using(litmus_c::specs::Exact::litmus_exact))]
     pub fn same(&self, other: &WorkRef) -> bool
         ensures { IsTrue result ↔ (self.now ≡ other.now) }
     {
-        self.work().test().name() == other.work().test().name()
+        self.work().test() == other.work().test()
             && same_files(self.work().model().files(), other.work().model().files())
     }
 

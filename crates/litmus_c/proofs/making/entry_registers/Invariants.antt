@@ -5,4 +5,4 @@ use Rattle.litmus_c.proofs.making.entry_registers.Given as goal
 
 -- what is left to note gives what all of it gives
 abbrev pub invariant-loop-entry : goal.invariant-loop-entry
-invariant-loop-entry l = with_names l.registers.items (flat_map (λ b. place_registers l.number b.place) (drop l.entry-index l.entries)) ≡ with_names [] (flat_map (λ b. place_registers l.number b.place) l.entries)
+invariant-loop-entry l = with_names l.registers.keys (flat_map (λ b. place_registers l.number b.place) (drop l.entry-index l.entries)) ≡ with_names [] (flat_map (λ b. place_registers l.number b.place) l.entries)

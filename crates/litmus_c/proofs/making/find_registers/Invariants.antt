@@ -6,4 +6,4 @@ use Rattle.litmus_c.proofs.making.find_registers.Given as goal
 
 -- what is left to note gives what all of it gives
 abbrev pub invariant-loop-statement : goal.invariant-loop-statement
-invariant-loop-statement l = with_names l.registers.items (flat_map step_registers (map step_of (drop l.statement-index l.statements))) ≡ registers_of l.number l.entries (map step_of l.statements)
+invariant-loop-statement l = with_names l.registers.keys (flat_map step_registers (map step_of (drop l.statement-index l.statements))) ≡ registers_of l.number l.entries (map step_of l.statements)

@@ -46,4 +46,4 @@ returns-in_err-draft-clause-cause c =
     let p = err_from_is_err_and c.from_residual-in_err-draft.result c.from_residual-in_err-draft.ensures.1 in
     let f : List Token → List Symbol = λ l. symbols_of c.args.text.now l in
     let is : c.as_slice-3.result.now ≡ f c.in_ok-tokens.tokens.items = c.as_slice-3.ensures.value ∙ c.in_ok-symbols.ensures ∙ ap f c.as_slice.ensures.value in
-    rw (p.1, p.2) (draft_cause c.args.text.now c.in_ok-tokens.tokens.items c.as_slice-3.result.now c.in_err-draft.field-0.0 is c.in_ok-tokens.ensures.only c.in_err-draft.ensures)
+    rw (p.1, p.2) (draft_cause c.args.text.now c.in_ok-tokens.tokens.items c.as_slice-3.result.now c.in_err-draft.field-0.0 c.in_ok-tokens.ensures.found is c.in_ok-tokens.ensures.only c.in_err-draft.ensures)

@@ -1,0 +1,39 @@
+//! Equality of tests: two are equal where their trees are.
+
+ghost use Rattle.std.specs.Prelude.{◌≡◌, ◌↔◌, IsTrue};
+ghost use Rattle.std.specs.Cmp.{partial_equiv_from_equiv};
+ghost use Rattle.litmus_c.specs.Equality.{same_litmus};
+ghost use Rattle.litmus_c.specs.Exact.{litmus_equivalence};
+
+use crate::test::Test;
+
+impl PartialEq for Test {
+    ghost eq = { same_litmus };
+
+    ghost laws = { partial_equiv_from_equiv litmus_equivalence };
+
+    #[tactic(auto, using(crate::specs::Exact::litmus_exact))]
+    fn eq(&self, other: &Test) -> bool
+        ensures value { result ≡ same_litmus self.now other.now }
+        ensures exact { IsTrue result ↔ (self.now ≡ other.now) }
+    {
+        self.has_parts_of(other)
+    }
+}
+
+impl Test {
+    fn has_parts_of(&self, other: &Test) -> bool
+        ensures { result ≡ same_litmus self.now other.now }
+    {
+        self.name == other.name
+            && self.initial == other.initial
+            && self.threads == other.threads
+            && self.condition == other.condition
+            && self.listed == other.listed
+            && self.locations == other.locations
+    }
+}
+
+impl Eq for Test {
+    ghost laws = { litmus_equivalence };
+}
