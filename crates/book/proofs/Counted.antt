@@ -1,6 +1,6 @@
 -- Counts and verdicts.
 use Rattle.std.proofs.Common.{◌≡◌, ℕ, zero, suc, ◌+◌, ◌-◌, ◌≤◌, ◌^◌, List, [], ◌∷◌, ◌++◌, length, Bool, true, false, cond, not, count_by, map, Option, None, Some, unwrap_or, refl, sym, ap, ◌∙◌, subst, inl, inr, append-nil, arith}
-use Rattle.std.specs.Prelude.{slice_get}
+use Rattle.std.specs.Prelude.{slice_get, Result, Ok, Err, IfOk}
 use Rattle.std.specs.BTreeSet.{insert_key}
 use Rattle.std.specs.List.Sorted.{IsStrictlySortedBy}
 use Rattle.std.proofs.lemmas.List.Sums.{fold-append, sum_by-append}
@@ -193,3 +193,13 @@ over_verdict w r v counting admitted over part e =
     let P : Task → Type 0 = λ u. IsPart u.test r.piece.from r.piece.to r.found in
     let V : Outcome → Type 0 = λ o. IsVerdict w.test o in
     subst V (sym e) (verdict_of w.test r.piece.from r.piece.to r.found counting admitted over.first over.last (subst P over.same part))
+
+-- what is found at the numbers of a range
+pub finds : {E : Type 0} (w : Task) (t : Litmus) (from to : ℕ) (places : List Place) (counter : Counter) (r : Result Outcome E) → t ≡ w.test → IsCount w.test places (executions_in w.test from to) counter → AreObserved t.condition t.listed places
+    → IfOk r (λ v. v ≡ outcome_of w.test places counter)
+    → IfOk r (λ v. IsStrictlySortedBy row_cmp v.states)
+    → IfOk r (IsPart w.test from to)
+finds w t from to places counter (Ok v) e h observed value sorted =
+    let P : Litmus → Type 0 = λ u. AreObserved u.condition u.listed places in
+    tells w.test (executions_in w.test from to) places counter v h (subst P e observed) value sorted
+finds w t from to places counter (Err x) e h observed value sorted = tt

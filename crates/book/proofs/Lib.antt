@@ -4,6 +4,7 @@ pub mod Cuts
 pub mod Examples
 pub mod Rows
 pub mod Runs
+pub mod Scenes
 pub mod Search
 pub mod Steps
 pub mod Written

@@ -1,6 +1,6 @@
 //! The book: its state, and the journal of every call.
 
-ghost use Rattle.std.specs.Prelude.{◌≡◌, ◌<◌, ◌≤◌, ◌∷◌, ◌++◌, [], length, IfOk, IfErr, OnOk, OnErr};
+ghost use Rattle.std.specs.Prelude.{◌≡◌, ◌<◌, ◌≤◌, ◌+◌, ◌^◌, ◌∷◌, ◌++◌, [], length, IfOk, IfErr, OnOk, OnErr};
 ghost use Rattle.std.specs.Arc.{arc_value};
 ghost use Rattle.book.specs.Kept.{lines, IsKept};
 ghost use Rattle.book.specs.Lines.{seen};
@@ -88,6 +88,7 @@ impl Book {
     fn recorded(&mut self, place: u32, seat: u8, command: &Command) -> Result<Arc<Entry>, AllocError>
         requires place { place ≡ length self.old.journal }
         requires room { place < self.old.limits.journal }
+        requires next { place + 1 < 2 ^ 32 }
         ensures journal { IfOk result (λ e. self.new.journal ≡ self.old.journal ++ arc_value e ∷ []) }
         ensures entry { IfOk result (λ e. ((arc_value e).place ≡ place)
             × ((arc_value e).seat ≡ seat) × ((arc_value e).said ≡ seen command.now)) }
