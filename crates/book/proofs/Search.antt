@@ -1,6 +1,7 @@
 -- Searches of jobs, claims and files.
 use Rattle.std.proofs.Common.{◌≡◌, ℕ, zero, suc, ◌≢◌, not, ◌||◌, ◌&&◌, ◌+◌, ◌<◌, ◌==◌, List, [], ◌∷◌, ◌++◌, Bool, true, false, cond, Option, None, Some, length, get_or, take, drop, set, refl, sym, ap, ◌∙◌, arith, add-one, inl, inr, subst}
-use Rattle.std.specs.Prelude.{if◌then◌else◌, is_some, slice_get}
+use denote.Ref.{Bor}
+use Rattle.std.specs.Prelude.{if◌then◌else◌, is_some, option_copied, MatchOption}
 use Rattle.std.specs.List.{find, list_any}
 use Rattle.std.proofs.Math.Seq.{drop-cons}
 use Rattle.listings.specs.Lists.{IsIn}
@@ -99,3 +100,12 @@ any_file false cats r fs e = refl
 pub any_replaced : (cats : List (Word × CatSlot)) (fs : List FileVersion) → list_any (λ f. not (cat_version cats f.name == f.version)) fs ≡ is_some (replaced_file cats fs)
 any_replaced cats [] = refl
 any_replaced cats (f ∷ fs) = any_file (cat_version cats f.name == f.version) cats _ fs (any_replaced cats fs)
+
+-- an option by cases
+pub match_same : {X : Type 0} (o r : Option X) → o ≡ r → MatchOption o (r ≡ None) (λ x. r ≡ Some x)
+match_same None r e = sym e
+match_same (Some x) r e = sym e
+
+pub match_copied : {X : Type 0} (o : Option (Bor X)) (r : Option X) → option_copied o ≡ r → MatchOption o (r ≡ None) (λ x. r ≡ Some x.now)
+match_copied None r e = sym e
+match_copied (Some x) r e = sym e

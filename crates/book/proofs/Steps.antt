@@ -12,11 +12,13 @@ use Rattle.litmus_c.specs.declared.fault.TestFault.TheVariants as of_test
 use Rattle.candidates.specs.Faults.{IsSpaceFault}
 use Rattle.candidates.specs.declared.fault.SpaceFault.{SpaceFault}
 use Rattle.candidates.specs.declared.fault.SpaceFault.TheVariants as of_space
+use Rattle.book.specs.Changes.{FitsJob}
 use Rattle.book.specs.Jobs as jobs
 use Rattle.book.specs.Jobs.{Slice, done, is_done, marked}
 use Rattle.book.specs.Judgements.{Judged}
-use Rattle.book.specs.Parts.{IsAdmitted, test_size, Portion}
-use Rattle.book.specs.Step.{Step, IsCat, Asks, AsksUnder, AsksFor, Polls, Claims, Returns, ReturnsTo, IsOwn, ended, taken, IsCut}
+use Rattle.book.specs.Lines.{returned}
+use Rattle.book.specs.Parts.{IsAdmitted, test_size, Part, Portion}
+use Rattle.book.specs.Step.{Step, IsCat, Asks, AsksUnder, AsksFor, Polls, Claims, Returns, ReturnsTo, HasRange, IsOwn, ended, taken, IsCut}
 use Rattle.book.specs.Verdicts.{IsVerdict}
 use Rattle.book.specs.Workbench.{Workbench, cat_version, test_of, test_version, model_of, job_of, claim_of, replaced, is_free, free_among, has_free}
 use Rattle.book.specs.Works.{Task}
@@ -133,12 +135,14 @@ or_false : (b : Bool) → (b || false) ≡ b
 or_false true = refl
 or_false false = refl
 
-pub given : (s : Workbench) (seat size number : ℕ) (returned : Bool) (job : jobs.Job) (p : Portion) → s.closed ≡ false → find (has_free s) s.jobs ≡ Some job → job.slices ≡ record { from = 0; to = size; returned = returned } ∷ [] → s.last_claim < s.limits.claims → number ≡ s.last_claim + 1
-    → p ≡ record { claim = number; job = job.number; slice = 0; from = 0; to = size; work = job.work }
+pub given : (s : Workbench) (seat number : ℕ) (job : jobs.Job) (p : Portion) → s.closed ≡ false → find (has_free s) s.jobs ≡ Some job → jobs.HasOneSlice job → s.last_claim < s.limits.claims → number ≡ s.last_claim + 1
+    → p ≡ record { claim = number; job = job.number; slice = 0; from = 0; to = test_size job.work.test; work = job.work }
     → Step s seat Claim (Piece p) (record s { last_claim = number; live = s.live ++ record { number = number; seat = seat; job = job.number; slice = 0 } ∷ [] })
-given s seat size number returned job p open' e one room n is =
+given s seat number job p open' e has_one room n is =
+    let size = test_size job.work.test in
+    let one = has_one.1 in
     let found = find_is (has_free s) s.jobs job e in
-    let slice : Slice = record { from = 0; to = size; returned = returned } in
+    let slice : Slice = record { from = 0; to = size; returned = has_one.0 } in
     let first : slice_get job.slices 0 ≡ Some slice = ap (λ xs. slice_get xs 0) one in
     let free : is_free s job 0 slice ≡ true = sym (or_false (is_free s job 0 slice)) ∙ sym (ap (λ xs. free_among s job 0 xs) one) ∙ found.1 in
     let piece : Portion = record { claim = number; job = job.number; slice = 0; from = 0; to = size; work = job.work } in
@@ -166,8 +170,34 @@ return_replaced s seat r c job x open' e f h = returns_to s seat r c (Some job) 
 pub return_stranger : (s : Workbench) (seat : ℕ) (r : Returned) (c : Live) (job : jobs.Job) → s.closed ≡ false → claim_of s.live r.claim seat ≡ Some c → job_of s.jobs c.job ≡ Some job → replaced s job ≡ None → ¬ IsOwn c job r → Step s seat (Return r) (Refused (Stranger r.claim)) s
 return_stranger s seat r c job open' e f h not = returns_to s seat r c (Some job) _ _ open' e f (h, not, refl, refl)
 
-pub return_taken : (s : Workbench) (seat size : ℕ) (returned : Bool) (r : Returned) (c : Live) (job : jobs.Job) → s.closed ≡ false → claim_of s.live r.claim seat ≡ Some c → job_of s.jobs c.job ≡ Some job → replaced s job ≡ None → IsOwn c job r → r.slice ≡ 0 → job.slices ≡ record { from = 0; to = size; returned = returned } ∷ [] → Step s seat (Return r) (Taken 1 1) (taken s r.claim seat c.job r.slice)
-return_taken s seat size returned r c job open' e f h own first one =
+pub return_taken : (s : Workbench) (seat : ℕ) (r : Returned) (c : Live) (job : jobs.Job) → s.closed ≡ false → claim_of s.live r.claim seat ≡ Some c → job_of s.jobs c.job ≡ Some job → replaced s job ≡ None → IsOwn c job r → r.slice ≡ 0 → jobs.HasOneSlice job → Step s seat (Return r) (Taken 1 1) (taken s r.claim seat c.job r.slice)
+return_taken s seat r c job open' e f h own first has_one =
+    let one = has_one.1 in
     let count : 1 ≡ done (marked r.slice job) = sym (ap (λ i. done (marked i job)) first ∙ ap (λ xs. done (marked 0 (record job { slices = xs }))) one) in
     let total : 1 ≡ length job.slices = sym (ap length one) in
     returns_to s seat r c (Some job) _ _ open' e f (h, own, refl, count, total)
+
+-- a result that is its claim's own is over all numbers of the job's work
+pub own_sole : (c : Live) (job : jobs.Job) (r : Part) → IsOwn c job (returned r) → r.piece.slice ≡ 0 → jobs.HasOneSlice job → jobs.IsSole job.work r
+own_sole c job r own first one =
+    let slice : Slice = record { from = 0; to = test_size job.work.test; returned = one.0 } in
+    let here : slice_get job.slices r.piece.slice ≡ Some slice = ap (slice_get job.slices) first ∙ ap (λ xs. slice_get xs 0) one.1 in
+    let P : Option Slice → Type 0 = λ o. HasRange o r.piece.from r.piece.to in
+    let range = subst P here own.1 in
+    record { over = record { same = own.2; first = sym range.0; last = sym range.1 }; slice = first }
+
+pub fits_job : (s : Workbench) (number : ℕ) (job : jobs.Job) (r : Part) → job_of s.jobs number ≡ Some job → jobs.IsSole job.work r → FitsJob (job_of s.jobs number) r
+fits_job s number job r e h = let P : Option jobs.Job → Type 0 = λ o. FitsJob o r in subst P (sym e) h
+
+pub no_space_of : (s : Workbench) (seat : ℕ) (test cat : Word) (t u : Litmus) (m : List FileVersion) (fault : SpaceFault) → s.closed ≡ false → test_of s.tests test ≡ Some t → model_of s.cats cat ≡ Some m → u ≡ t → IsSpaceFault u fault → fault ≢ of_space.NoMemory → Step s seat (Ask test cat) (Refused (Space fault)) s
+no_space_of s seat test cat t u m fault open' e f same cause not = no_space s seat test cat t m fault open' e f (let P : Litmus → Type 0 = λ v. IsSpaceFault v fault in subst P same cause) not
+
+pub opened_job : (s : Workbench) (seat : ℕ) (test cat : Word) (t u : Litmus) (m : List FileVersion) (number version : ℕ) (work w : Task) (job : jobs.Job) → s.closed ≡ false → test_of s.tests test ≡ Some t → model_of s.cats cat ≡ Some m → u ≡ t → work ≡ record { test = u; model = m } → IsAdmitted work.test → length s.jobs < 256 → number ≡ s.last_job + 1 → version ≡ test_version s.tests test → w ≡ work
+    → job ≡ record { number = number; version = version; work = w; slices = record { from = 0; to = test_size w.test; returned = false } ∷ [] }
+    → Step s seat (Ask test cat) (Job number) (record s { last_job = job.number; jobs = s.jobs ++ job ∷ [] })
+opened_job s seat test cat t u m number version work w job open' e f same made admitted room n v kept is =
+    let P : Litmus → Type 0 = λ x. work ≡ record { test = x; model = m } in
+    let made' : work ≡ record { test = t; model = m } = subst P same made in
+    let A : Task → Type 0 = λ x. IsAdmitted x.test in
+    let after : jobs.Job → Type 0 = λ j. Step s seat (Ask test cat) (Job number) (record s { last_job = j.number; jobs = s.jobs ++ j ∷ [] }) in
+    subst after (sym is) (opened s seat test cat t m number version w open' e f (subst A made' admitted) room n v (kept ∙ made'))

@@ -1,7 +1,7 @@
 -- Jobs.
 use Rattle.std.specs.Prelude.{◌≡◌, ℕ, zero, suc, Bool, true, List, [], ◌∷◌, count_by}
 use Rattle.std.specs.List.{list_all}
-use Rattle.book.specs.Parts.{Part, IsOver}
+use Rattle.book.specs.Parts.{Part, IsOver, test_size}
 use Rattle.book.specs.Works.{Task}
 
 -- A slice of a job: its numbers run from `from` to `to - 1`.
@@ -38,3 +38,7 @@ marked i job = record job { slices = mark i job.slices }
 pub record IsSole (work : Task) (r : Part) : Type 0 where
   pub over : IsOver work r
   pub slice : r.piece.slice ≡ 0
+
+-- The job has one slice over all numbers.
+abbrev pub HasOneSlice : Job → Type 0
+HasOneSlice job = (returned : Bool) × (job.slices ≡ record { from = 0; to = test_size job.work.test; returned = returned } ∷ [])

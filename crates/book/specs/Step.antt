@@ -103,7 +103,7 @@ Claims s seat (Piece p) s' =
 Claims s seat reply s' = ⊥
 
 -- the live claims but this one
-abbrev pub others : ℕ → ℕ → List Live → List Live
+unfoldable pub others : ℕ → ℕ → List Live → List Live
 others number seat live = filter (λ c. not (is_claim number seat c)) live
 
 -- with a claim ended

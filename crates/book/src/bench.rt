@@ -1,9 +1,9 @@
 //! The state of the book, and what each command does to it.
 
-ghost use Rattle.std.specs.Prelude.{◌≡◌, ◌↔◌, ◌<◌, ◌+◌, ◌^◌, ◌++◌, ◌∷◌, [], None, Some, true, false, is_some, IsTrue, IfOk, OnOk, OnErr, MatchOption};
+ghost use Rattle.std.specs.Prelude.{◌≡◌, ◌↔◌, ◌<◌, ◌+◌, ◌^◌, ◌++◌, ◌∷◌, [], None, Some, true, false, is_some, IsTrue, IfOk, OnOk, OnErr, MatchOption, option_copied};
 ghost use Rattle.std.specs.List.{find};
 ghost use Rattle.book.specs.Changes.{changed, IsReady, FitsJob};
-ghost use Rattle.book.specs.Jobs.{IsSole};
+ghost use Rattle.book.specs.Jobs.{HasOneSlice};
 ghost use Rattle.book.specs.Lines.{answers, seen, returned, shown};
 ghost use Rattle.book.specs.Step.{Step, others, IsOwn};
 ghost use Rattle.book.specs.declared.records.Said.{Said};
@@ -12,11 +12,11 @@ ghost use Rattle.book.specs.Workbench.{empty, job_of, claim_of, is_claimed, is_r
 use crate::jobs::Job;
 use crate::limits::Limits;
 use crate::names::{CatSlot, Cats, TestSlot, Tests};
-use crate::reading::{CatFault, read_empty_cat};
+use crate::reading::{CatFault, read_empty_cat, read_litmus};
 use crate::records::{Command, Live, ModelFault, Refusal, Replacement, Reply, SourceKind, Text};
 use crate::slices::{FileVersion, Piece, PieceResult, TestRef, VerdictRef, Work, WorkRef};
 use candidates::SpaceFault;
-use litmus_c::{TestFault, read_test};
+use litmus_c::TestFault;
 use std::alloc::{AllocError, Global};
 use std::marker::Model;
 use wb_text::Name;
@@ -86,7 +86,6 @@ impl Plan {
     }
 }
 
-#[tactic(auto, unfolding(crate::specs::Step::others))]
 fn end_claim(live: &mut Vec<Live>, number: u32, seat: u8)
     ensures { live.new.items ≡ others number seat live.old.items }
 {
@@ -177,7 +176,7 @@ impl Bench {
         ensures kind { IfOk result (λ p. answers (Said.PutTest text.now) p.reply ≡ true) }
         ensures ready { IfOk result (λ p. IsReady self.now p.change) }
     {
-        let test = match read_test(alloc, text.bytes()) {
+        let test = match read_litmus(alloc, text.bytes()) {
             Ok(test) => test,
             Err(TestFault::NoMemory) => return Err(AllocError),
             Err(fault) => return Ok(Plan::refuse(Refusal::ReadingTest(fault))),
@@ -197,7 +196,7 @@ impl Bench {
         })
     }
 
-    #[tactic(auto, using(crate::proofs::Steps::no_test, crate::proofs::Steps::no_model, crate::proofs::Steps::no_space, crate::proofs::Steps::jobs_full, crate::proofs::Steps::opened))]
+    #[tactic(auto, using(crate::proofs::Steps::no_test, crate::proofs::Steps::no_model, crate::proofs::Steps::no_space_of, crate::proofs::Steps::jobs_full, crate::proofs::Steps::opened_job))]
     fn decide_ask(&self, alloc: Global, test: &Name, cat: &Name) -> Result<Plan, AllocError>
         requires open { self.now.closed ≡ false }
         requires room { self.now.last_job + 1 < 2 ^ 32 }
@@ -273,7 +272,7 @@ impl Bench {
         })
     }
 
-    #[tactic(auto, using(crate::proofs::Steps::no_claim, crate::proofs::Steps::claim_of_no_job, crate::proofs::Steps::return_replaced, crate::proofs::Steps::return_stranger, crate::proofs::Steps::return_taken))]
+    #[tactic(auto, using(crate::proofs::Steps::no_claim, crate::proofs::Steps::claim_of_no_job, crate::proofs::Steps::return_replaced, crate::proofs::Steps::return_stranger, crate::proofs::Steps::return_taken, crate::proofs::Steps::own_sole, crate::proofs::Steps::fits_job))]
     fn decide_return(&self, seat: u8, part: &PieceResult) -> Result<Plan, AllocError>
         requires { self.now.closed ≡ false }
         ensures step { IfOk result (λ p. Step self.now seat (Said.Return (returned part.now)) p.reply (changed self.now p.change)) }
@@ -307,6 +306,12 @@ impl Bench {
         ensures { MatchOption result (job_of self.now.jobs number ≡ None)
             (λ j. job_of self.now.jobs number ≡ Some j.now) }
     {
+        self.find_job(number)
+    }
+
+    fn find_job(&self, number: u32) -> Option<&Job>
+        ensures { option_copied result ≡ job_of self.now.jobs number }
+    {
         self.jobs.iter().find(|job| job.number() == number)
     }
 
@@ -314,6 +319,12 @@ impl Bench {
     fn claim(&self, number: u32, seat: u8) -> Option<Live>
         ensures { MatchOption result (claim_of self.now.live number seat ≡ None)
             (λ c. claim_of self.now.live number seat ≡ Some c) }
+    {
+        self.find_claim(number, seat)
+    }
+
+    fn find_claim(&self, number: u32, seat: u8) -> Option<Live>
+        ensures { result ≡ claim_of self.now.live number seat }
     {
         self.live
             .iter()
@@ -325,6 +336,12 @@ impl Bench {
     fn free_job(&self) -> Option<&Job>
         ensures { MatchOption result (find (has_free self.now) self.now.jobs ≡ None)
             (λ j. find (has_free self.now) self.now.jobs ≡ Some j.now) }
+    {
+        self.find_free_job()
+    }
+
+    fn find_free_job(&self) -> Option<&Job>
+        ensures { option_copied result ≡ find (has_free self.now) self.now.jobs }
     {
         self.jobs.iter().find(|job| self.has_free(job))
     }
@@ -400,7 +417,9 @@ impl Bench {
 
 /// Whether a result is of the slice, range and work of its claim.
 fn is_own(claim: &Live, job: &Job, piece: &Piece) -> bool
-    ensures { IsTrue result ↔ IsOwn claim.now job.now (shown piece.now) }
+    ensures own { IsTrue result ↔ IsOwn claim.now job.now (shown piece.now) }
+    ensures first { IsTrue result → piece.now.slice ≡ 0 }
+    ensures one { HasOneSlice job.now }
 {
     piece.slice() == claim.slice
         && job.has_range(piece.slice(), piece.from(), piece.to())
@@ -408,13 +427,15 @@ fn is_own(claim: &Live, job: &Job, piece: &Piece) -> bool
 }
 
 /// Whether the version of one of the files is no longer this.
-#[tactic(auto, using(crate::proofs::Search::any_replaced))]
 fn is_replaced_file(cats: &Cats, files: &[FileVersion]) -> bool
     ensures { result ≡ is_some (replaced_file cats.now files.now) }
 {
-    files
-        .iter()
-        .any(|file| cats.version(&file.name) != file.version)
+    for file in files {
+        if cats.version(&file.name) != file.version {
+            return true;
+        }
+    }
+    false
 }
 
 /// The first of the files whose version is no longer this.

@@ -4,7 +4,7 @@ ghost use Rattle.std.specs.Prelude.{◌≡◌, ◌↔◌, ◌∷◌, [], true, f
 ghost use Rattle.book.specs.Parts.{IsRange, test_size};
 ghost use Rattle.book.specs.Step.{HasRange};
 ghost use Rattle.book.specs.Verdicts.{IsVerdict};
-ghost use Rattle.book.specs.Jobs.{IsSole, is_done, marked};
+ghost use Rattle.book.specs.Jobs.{HasOneSlice, IsSole, is_done, marked};
 
 use crate::slices::{Piece, PieceResult, Verdict, WorkRef};
 use std::alloc::AllocError;
@@ -83,7 +83,8 @@ impl Job {
 
     /// Its slice, given under a claim.
     pub fn piece(&self, claim: u32) -> Result<Piece, AllocError>
-        ensures { IfOk result (λ p. p ≡ record { claim = claim; job = self.now.number; slice = 0; from = 0; to = test_size self.now.work.test; work = self.now.work }) }
+        ensures one { HasOneSlice self.now }
+        ensures piece { IfOk result (λ p. p ≡ record { claim = claim; job = self.now.number; slice = 0; from = 0; to = test_size self.now.work.test; work = self.now.work }) }
     {
         let work = self.work.share()?;
         let size = work.work().size();
@@ -94,6 +95,7 @@ impl Job {
     pub fn has_range(&self, slice: u16, from: u64, to: u64) -> bool
         ensures range { IsTrue result ↔ HasRange (slice_get self.now.slices slice) from to }
         ensures first { IsTrue result → slice ≡ 0 }
+        ensures one { HasOneSlice self.now }
     {
         slice == 0 && from == 0 && to == self.work.work().size()
     }

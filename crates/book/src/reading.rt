@@ -1,12 +1,16 @@
 //! The reading of cat texts, which may have no items yet.
 
-ghost use Rattle.std.specs.Prelude.{◌≡◌, IfErr, OnOk};
+ghost use Rattle.std.specs.Prelude.{◌≡◌, ◌≢◌, [], IfOk, IfErr, OnOk, OnErr};
+ghost use Rattle.litmus_c.specs.Reads.{Reads};
+ghost use Rattle.litmus_c.specs.Tree.{Litmus};
+ghost use Rattle.litmus_c.specs.declared.fault.TestFault.TheVariants as of_test;
 ghost use Rattle.book.specs.Step.{IsCat};
 ghost use Rattle.book.specs.declared.reading.CatFault.TheVariants.{NoMemory};
 
+use litmus_c::{Test, TestFault, read_test};
 use std::alloc::Global;
 use thiserror::Error;
-use wb_text::{Dialect, TextFault, laws, tokens};
+use wb_text::{Dialect, TextFault, Token, tokens};
 
 /// Why a text is no cat file. The numbers are those of the printed refusals.
 #[derive(Clone, Copy, Debug, Drop, PartialEq, Eq, Error)]
@@ -21,17 +25,31 @@ pub enum CatFault {
     NoMemory,
 }
 
+/// Reads the text of a test.
+pub fn read_litmus(alloc: Global, text: &[u8]) -> Result<Test, TestFault>
+    ensures found { IfOk result (Reads text.now) }
+    ensures only { IfErr result (λ e. (t : Litmus) → Reads text.now t → e ≡ of_test.NoMemory) }
+{
+    read_test(alloc, text)
+}
+
 /// Reads a cat text that has no token. Another is refused at its first token.
 pub fn read_empty_cat(alloc: Global, text: &[u8]) -> Result<(), CatFault>
     ensures found { OnOk result (IsCat text.now) }
     ensures only { IfErr result (λ e. IsCat text.now → e ≡ NoMemory) }
 {
-    laws::one_token_list();
-    let tokens = match tokens(alloc, text, Dialect::Cat) {
-        Ok(tokens) => tokens,
-        Err(TextFault::NoMemory) => return Err(CatFault::NoMemory),
-        Err(fault) => return Err(CatFault::Text(fault)),
-    };
+    match tokens(alloc, text, Dialect::Cat) {
+        Ok(tokens) => first_token(&tokens),
+        Err(TextFault::NoMemory) => Err(CatFault::NoMemory),
+        Err(fault) => Err(CatFault::Text(fault)),
+    }
+}
+
+/// Refuses the first token.
+fn first_token(tokens: &[Token]) -> Result<(), CatFault>
+    ensures none { OnOk result (tokens.now ≡ []) }
+    ensures some { OnErr result (tokens.now ≢ []) }
+{
     match tokens.first() {
         None => Ok(()),
         Some(token) => Err(CatFault::Syntax(token.from)),

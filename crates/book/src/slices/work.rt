@@ -139,7 +139,6 @@ impl TestRef {
 
 impl Work {
     /// The test under the model.
-    #[tactic(auto, using(crate::proofs::Counted::admitted))]
     pub fn new(alloc: Global, test: TestRef, model: EmptyModel) -> Result<Self, SpaceFault>
         ensures work { IfOk result (λ w. w ≡ record { test = test; model = model }) }
         ensures admitted { IfOk result (λ w. IsAdmitted w.test) }

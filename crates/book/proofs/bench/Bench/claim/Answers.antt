@@ -1,0 +1,5 @@
+use Rattle.book.proofs.Search.{match_same}
+use Rattle.book.proofs.bench.Bench.claim.Goals as goal
+
+pub returns : goal.returns
+returns c = match_same _ _ c.find_claim.ensures
