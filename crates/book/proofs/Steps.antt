@@ -40,20 +40,20 @@ use Rattle.book.proofs.Search.{find_is, find_none, any_is}
 -- putting
 
 pub cat_unread : (s : Workbench) (seat : ℕ) (name : Word) (text : List ℕ) (fault : CatFault) → s.closed ≡ false → (IsCat text → fault ≡ of_cat.NoMemory) → fault ≢ of_cat.NoMemory → Step s seat (PutCat name text) (Refused (ReadingCat fault)) s
-cat_unread s seat name text fault open' only not = inr (open', (λ is. not (only is)), not, refl)
+cat_unread s seat name text fault open' only not = inr (open', ((λ is. not (only is)), not, refl))
 
 pub cat_spent : (s : Workbench) (seat : ℕ) (name n : Word) (text : List ℕ) (version : ℕ) → s.closed ≡ false → IsCat text → version ≡ cat_version s.cats name → s.limits.versions ≤ version → n ≡ name → Step s seat (PutCat name text) (Refused (VersionsSpent n)) s
-cat_spent s seat name n text version open' is v spent e = let P : ℕ → Type 0 = λ k. s.limits.versions ≤ k in inr (open', is, subst P v spent, e, refl)
+cat_spent s seat name n text version open' is v spent e = let P : ℕ → Type 0 = λ k. s.limits.versions ≤ k in inr (open', (is, subst P v spent, e, refl))
 
 pub cat_put : (s : Workbench) (seat : ℕ) (name n m : Word) (text : List ℕ) (version : ℕ) → s.closed ≡ false → IsCat text → version ≡ cat_version s.cats name → version < s.limits.versions → n ≡ name → m ≡ name
     → Step s seat (PutCat name text) (Version n (version + 1)) (record s { cats = insert_entry bytes_eq s.cats m (record { version = version + 1; is_loaded = true }) })
 cat_put s seat name n m text version open' is v room e f =
     let slot : CatSlot = record { version = version + 1; is_loaded = true } in
     let P : ℕ → Type 0 = λ k. k < s.limits.versions in
-    inr (open', is, subst P v room, e, ap (λ k. k + 1) v, ap (λ w. let t : Workbench = record s { cats = insert_entry bytes_eq s.cats w slot } in t) f)
+    inr (open', (is, subst P v room, e, ap (λ k. k + 1) v, ap (λ w. let t : Workbench = record s { cats = insert_entry bytes_eq s.cats w slot } in t) f))
 
 pub test_unread : (s : Workbench) (seat : ℕ) (text : List ℕ) (fault : TestFault) → s.closed ≡ false → ((t : Litmus) → Reads text t → fault ≡ of_test.NoMemory) → fault ≢ of_test.NoMemory → Step s seat (PutTest text) (Refused (ReadingTest fault)) s
-test_unread s seat text fault open' only not = inr (open', (λ t reads. not (only t reads)), not, refl)
+test_unread s seat text fault open' only not = inr (open', ((λ t reads. not (only t reads)), not, refl))
 
 pub test_spent : (s : Workbench) (seat : ℕ) (text : List ℕ) (t : Litmus) (n : Word) (version : ℕ) → s.closed ≡ false → Reads text t → n ≡ t.name → version ≡ test_version s.tests n → s.limits.versions ≤ version → Step s seat (PutTest text) (Refused (VersionsSpent n)) s
 test_spent s seat text t n version open' reads e v spent =
@@ -124,12 +124,12 @@ pending s seat id size job open' e one f =
 -- claiming
 
 pub nothing : (s : Workbench) (seat : ℕ) → s.closed ≡ false → find (has_free s) s.jobs ≡ None → Step s seat Claim Nothing s
-nothing s seat open' e = inr (open', find_none (has_free s) s.jobs e, refl)
+nothing s seat open' e = inr (open', (find_none (has_free s) s.jobs e, refl))
 
 pub claims_spent : (s : Workbench) (seat : ℕ) (job : jobs.Job) → s.closed ≡ false → find (has_free s) s.jobs ≡ Some job → s.limits.claims ≤ s.last_claim → Step s seat Claim (Refused ClaimsSpent) s
 claims_spent s seat job open' e spent =
     let found = find_is (has_free s) s.jobs job e in
-    inr (open', any_is (has_free s) s.jobs job found.0 found.1, spent, refl)
+    inr (open', (any_is (has_free s) s.jobs job found.0 found.1, spent, refl))
 
 or_false : (b : Bool) → (b || false) ≡ b
 or_false true = refl
@@ -148,7 +148,7 @@ given s seat number job p open' e has_one room n is =
     let piece : Portion = record { claim = number; job = job.number; slice = 0; from = 0; to = size; work = job.work } in
     let same : piece ≡ record { claim = s.last_claim + 1; job = job.number; slice = 0; from = 0; to = size; work = job.work } = ap (λ k. let q : Portion = record { claim = k; job = job.number; slice = 0; from = 0; to = size; work = job.work } in q) n in
     let P : Portion → Type 0 = λ q. Step s seat Claim (Piece q) (record s { last_claim = number; live = s.live ++ record { number = number; seat = seat; job = job.number; slice = 0 } ∷ [] }) in
-    subst P (sym is) (inr (open', room, (job, found.0, (slice, first, free, same)), refl))
+    subst P (sym is) (inr (open', (room, (job, found.0, (slice, first, free, same)), refl)))
 
 -- returning
 

@@ -1,4 +1,5 @@
 pub mod BenchCodes
+pub mod CatFaults
 pub mod Changes
 pub mod Codes
 pub mod Counters

@@ -7,7 +7,7 @@ ghost use Rattle.book.specs.Jobs.{HasOneSlice};
 ghost use Rattle.book.specs.Lines.{answers, seen, returned, shown};
 ghost use Rattle.book.specs.Step.{Step, others, IsOwn};
 ghost use Rattle.book.specs.declared.records.Said.{Said};
-ghost use Rattle.book.specs.Workbench.{empty, job_of, claim_of, is_claimed, is_replaced, replaced, replaced_file, has_free, marked_in};
+ghost use Rattle.book.specs.Workbench.{empty, job_of, claim_of, is_claim, is_claimed, is_replaced, replaced, replaced_file, has_free, marked_in};
 
 use crate::jobs::Job;
 use crate::limits::Limits;
@@ -90,6 +90,25 @@ fn end_claim(live: &mut Vec<Live>, number: u32, seat: u8)
     ensures { live.new.items ≡ others number seat live.old.items }
 {
     live.retain(|c| !(c.number == number && c.seat == seat));
+}
+
+/// The live claim of a number and seat.
+fn find_claim(live: &[Live], number: u32, seat: u8) -> Option<Live>
+    ensures { result ≡ claim_of live.now number seat }
+{
+    for claim in live {
+        if is_claim(claim, number, seat) {
+            return Some(*claim);
+        }
+    }
+    None
+}
+
+/// Whether a claim has this number and seat.
+fn is_claim(claim: &Live, number: u32, seat: u8) -> bool
+    ensures { result ≡ is_claim number seat claim.now }
+{
+    claim.number == number && claim.seat == seat
 }
 
 /// Hands a result to the job of a number.
@@ -213,7 +232,14 @@ impl Bench {
         let work = match Work::new(alloc, tree.share()?, model) {
             Ok(work) => work,
             Err(SpaceFault::NoMemory) => return Err(AllocError),
-            Err(fault) => return Ok(Plan::refuse(Refusal::Space(fault))),
+            Err(SpaceFault::TooManyRuns(thread)) => {
+                let fault = SpaceFault::TooManyRuns(thread);
+                return Ok(Plan::refuse(Refusal::Space(fault)));
+            }
+            Err(SpaceFault::TooManyCandidates) => {
+                let fault = SpaceFault::TooManyCandidates;
+                return Ok(Plan::refuse(Refusal::Space(fault)));
+            }
         };
         if self.jobs.len() >= MOST_JOBS {
             return Ok(Plan::refuse(Refusal::JobsFull));
@@ -320,16 +346,7 @@ impl Bench {
         ensures { MatchOption result (claim_of self.now.live number seat ≡ None)
             (λ c. claim_of self.now.live number seat ≡ Some c) }
     {
-        self.find_claim(number, seat)
-    }
-
-    fn find_claim(&self, number: u32, seat: u8) -> Option<Live>
-        ensures { result ≡ claim_of self.now.live number seat }
-    {
-        self.live
-            .iter()
-            .find(|c| c.number == number && c.seat == seat)
-            .copied()
+        find_claim(&self.live, number, seat)
     }
 
     /// The first job with a free slice.
@@ -419,7 +436,7 @@ impl Bench {
 fn is_own(claim: &Live, job: &Job, piece: &Piece) -> bool
     ensures own { IsTrue result ↔ IsOwn claim.now job.now (shown piece.now) }
     ensures first { IsTrue result → piece.now.slice ≡ 0 }
-    ensures one { HasOneSlice job.now }
+    ensures one { IsTrue result → HasOneSlice job.now }
 {
     piece.slice() == claim.slice
         && job.has_range(piece.slice(), piece.from(), piece.to())

@@ -95,7 +95,7 @@ impl Job {
     pub fn has_range(&self, slice: u16, from: u64, to: u64) -> bool
         ensures range { IsTrue result ↔ HasRange (slice_get self.now.slices slice) from to }
         ensures first { IsTrue result → slice ≡ 0 }
-        ensures one { HasOneSlice self.now }
+        ensures one { IsTrue result → HasOneSlice self.now }
     {
         slice == 0 && from == 0 && to == self.work.work().size()
     }

@@ -4,6 +4,7 @@ ghost use Rattle.std.specs.Prelude.{◌≡◌, ◌≢◌, [], IfOk, IfErr, OnOk,
 ghost use Rattle.litmus_c.specs.Reads.{Reads};
 ghost use Rattle.litmus_c.specs.Tree.{Litmus};
 ghost use Rattle.litmus_c.specs.declared.fault.TestFault.TheVariants as of_test;
+ghost use Rattle.book.specs.CatFaults.{cat_fault};
 ghost use Rattle.book.specs.Step.{IsCat};
 ghost use Rattle.book.specs.declared.reading.CatFault.TheVariants.{NoMemory};
 
@@ -40,8 +41,16 @@ pub fn read_empty_cat(alloc: Global, text: &[u8]) -> Result<(), CatFault>
 {
     match tokens(alloc, text, Dialect::Cat) {
         Ok(tokens) => first_token(&tokens),
-        Err(TextFault::NoMemory) => Err(CatFault::NoMemory),
-        Err(fault) => Err(CatFault::Text(fault)),
+        Err(fault) => Err(cat_fault(fault)),
+    }
+}
+
+fn cat_fault(fault: TextFault) -> CatFault
+    ensures { result ≡ cat_fault fault }
+{
+    match fault {
+        TextFault::NoMemory => CatFault::NoMemory,
+        fault => CatFault::Text(fault),
     }
 }
 

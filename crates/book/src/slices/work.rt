@@ -145,7 +145,8 @@ impl Work {
         // A thread has too many runs, the test has too many candidates, or memory ran out.
         ensures fault { IfErr result (IsSpaceFault test) }
     {
-        match Space::new(alloc, test.test()) {
+        let tree = test.test();
+        match Space::new(alloc, tree) {
             Ok(space) => Ok(Work { test, model, space }),
             Err(fault) => Err(fault),
         }

@@ -5,10 +5,10 @@ use Rattle.book.proofs.Counted.{admitted}
 use Rattle.book.proofs.slices.work.Work.new.Goals as goal
 
 pub invariant_of-result : goal.invariant_of-result
-invariant_of-result c = admitted c.args.test c.test.result.now c.in-Ok.space c.test.ensures c.in-Ok.ensures.space c.in-Ok.ensures.size c.in-Ok.ensures.runs
+invariant_of-result c = admitted c.args.test c.test-tree.result.now c.in-Ok.space c.test-tree.ensures c.in-Ok.ensures.space c.in-Ok.ensures.size c.in-Ok.ensures.runs
 
 pub returns-in-Ok-clause-admitted : goal.returns-in-Ok-clause-admitted
-returns-in-Ok-clause-admitted c = (admitted c.args.test c.test.result.now c.in-Ok.space c.test.ensures c.in-Ok.ensures.space c.in-Ok.ensures.size c.in-Ok.ensures.runs).1
+returns-in-Ok-clause-admitted c = (admitted c.args.test c.test-tree.result.now c.in-Ok.space c.test-tree.ensures c.in-Ok.ensures.space c.in-Ok.ensures.size c.in-Ok.ensures.runs).1
 
 pub returns-in-Err-clause-fault : goal.returns-in-Err-clause-fault
-returns-in-Err-clause-fault c = let P : Litmus → Type 0 = λ t. IsSpaceFault t c.in-Err.fault in subst P c.test.ensures c.in-Err.ensures.fault
+returns-in-Err-clause-fault c = let P : Litmus → Type 0 = λ t. IsSpaceFault t c.in-Err.fault in subst P c.test-tree.ensures c.in-Err.ensures.fault

@@ -1,0 +1,15 @@
+use Rattle.std.proofs.Common.{◌≡◌, ◌∙◌, ◌<◌, ◌+◌, length, arith, sym, ap}
+use Rattle.std.proofs.lemmas.Grind.{common_steps}
+use Rattle.book.specs.Workbench.{Workbench, model_of, test_of, test_version}
+use Rattle.book.proofs.Steps.{opened_job}
+use Rattle.book.proofs.bench.Bench.decide_ask.Goals as goal
+
+pub returns-clause-step : goal.returns-clause-step
+returns-clause-step c =
+    let s = c.args.self.now in
+    let room : length s.jobs < 256 = grind (arith, common_steps) in
+    let number : c.self.inside.last_job + 1 ≡ s.last_job + 1 = ap (λ (x : Workbench). x.last_job + 1) c.self.view_is in
+    let version : c.version-version.result ≡ test_version s.tests c.args.test.now = c.version-version.ensures ∙ ap (λ (x : Workbench). test_version x.tests c.args.test.now) c.self.view_is in
+    let found = ap (λ (x : Workbench). test_of x.tests c.args.test.now) (sym c.self.view_is) ∙ c.in-Some.ensures in
+    let model = ap (λ (x : Workbench). model_of x.cats c.args.cat.now) (sym c.self.view_is) ∙ sym c.in_ok-model.ensures ∙ c.in-Some-2.is in
+    opened_job s 0 c.args.test.now c.args.cat.now c.in-Some.tree.now c.in_ok-share.field-0 c.in-Some-2.model (c.self.inside.last_job + 1) c.version-version.result c.in-Ok.work c.in_ok-new.field-0 c.new-3.result c.requires.open found model c.in_ok-share.ensures c.in-Ok.ensures.work c.in-Ok.ensures.admitted room number version c.in_ok-new.ensures c.new-3.ensures
