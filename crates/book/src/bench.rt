@@ -12,11 +12,10 @@ ghost use Rattle.book.specs.Workbench.{empty, job_of, claim_of, is_claim, is_cla
 use crate::jobs::Job;
 use crate::limits::Limits;
 use crate::names::{CatSlot, Cats, TestSlot, Tests};
-use crate::reading::{CatFault, read_empty_cat, read_litmus};
+use crate::reading::{CatFault, is_memory, read_empty_cat, read_litmus};
 use crate::records::{Command, Live, ModelFault, Refusal, Replacement, Reply, SourceKind, Text};
 use crate::slices::{FileVersion, Piece, PieceResult, TestRef, VerdictRef, Work, WorkRef};
 use candidates::SpaceFault;
-use litmus_c::TestFault;
 use std::alloc::{AllocError, Global};
 use std::marker::Model;
 use wb_text::Name;
@@ -197,8 +196,12 @@ impl Bench {
     {
         let test = match read_litmus(alloc, text.bytes()) {
             Ok(test) => test,
-            Err(TestFault::NoMemory) => return Err(AllocError),
-            Err(fault) => return Ok(Plan::refuse(Refusal::ReadingTest(fault))),
+            Err(fault) => {
+                if is_memory(&fault) {
+                    return Err(AllocError);
+                }
+                return Ok(Plan::refuse(Refusal::ReadingTest(fault)));
+            }
         };
         let name = test.name().copy()?;
         let version = self.tests.version(&name);

@@ -1,6 +1,6 @@
 //! The reading of cat texts, which may have no items yet.
 
-ghost use Rattle.std.specs.Prelude.{◌≡◌, ◌≢◌, [], IfOk, IfErr, OnOk, OnErr};
+ghost use Rattle.std.specs.Prelude.{◌≡◌, ◌≢◌, [], IfOk, IfErr, MatchBool, OnOk, OnErr};
 ghost use Rattle.litmus_c.specs.Reads.{Reads};
 ghost use Rattle.litmus_c.specs.Tree.{Litmus};
 ghost use Rattle.litmus_c.specs.declared.fault.TestFault.TheVariants as of_test;
@@ -32,6 +32,13 @@ pub fn read_litmus(alloc: Global, text: &[u8]) -> Result<Test, TestFault>
     ensures only { IfErr result (λ e. (t : Litmus) → Reads text.now t → e ≡ of_test.NoMemory) }
 {
     read_test(alloc, text)
+}
+
+/// Whether memory ran out.
+pub fn is_memory(fault: &TestFault) -> bool
+    ensures { MatchBool result (fault.now ≡ of_test.NoMemory) (fault.now ≢ of_test.NoMemory) }
+{
+    matches!(fault, TestFault::NoMemory)
 }
 
 /// Reads a cat text that has no token. Another is refused at its first token.

@@ -1,7 +1,10 @@
 use Rattle.std.proofs.Common.{◌≡◌, ◌∙◌, ◌<◌, ◌+◌, length, arith, sym, ap}
 use Rattle.std.proofs.lemmas.Grind.{common_steps}
 use Rattle.book.specs.Workbench.{Workbench, model_of, test_of, test_version}
-use Rattle.book.proofs.Steps.{opened_job}
+use Rattle.candidates.specs.Faults.{IsSpaceFault}
+use Rattle.candidates.specs.declared.fault.SpaceFault.{SpaceFault}
+use Rattle.candidates.specs.declared.fault.SpaceFault.TheVariants.{TooManyRuns, TooManyCandidates}
+use Rattle.book.proofs.Steps.{no_space_of, opened_job}
 use Rattle.book.proofs.bench.Bench.decide_ask.Goals as goal
 
 pub returns-clause-step : goal.returns-clause-step
@@ -13,3 +16,20 @@ returns-clause-step c =
     let found = ap (λ (x : Workbench). test_of x.tests c.args.test.now) (sym c.self.view_is) ∙ c.in-Some.ensures in
     let model = ap (λ (x : Workbench). model_of x.cats c.args.cat.now) (sym c.self.view_is) ∙ sym c.in_ok-model.ensures ∙ c.in-Some-2.is in
     opened_job s 0 c.args.test.now c.args.cat.now c.in-Some.tree.now c.in_ok-share.field-0 c.in-Some-2.model (c.self.inside.last_job + 1) c.version-version.result c.in-Ok.work c.in_ok-new.field-0 c.new-3.result c.requires.open found model c.in_ok-share.ensures c.in-Ok.ensures.work c.in-Ok.ensures.admitted room number version c.in_ok-new.ensures c.new-3.ensures
+
+pub returns-in-Err-TooManyRuns-clause-step : goal.returns-in-Err-TooManyRuns-clause-step
+returns-in-Err-TooManyRuns-clause-step c =
+    let s = c.args.self.now in
+    let found = ap (λ (x : Workbench). test_of x.tests c.args.test.now) (sym c.self.view_is) ∙ c.in-Some.ensures in
+    let model = ap (λ (x : Workbench). model_of x.cats c.args.cat.now) (sym c.self.view_is) ∙ sym c.in_ok-model.ensures ∙ c.in-Some-2.is in
+    let fault : SpaceFault = TooManyRuns c.in-Err-TooManyRuns.thread in
+    let cause : IsSpaceFault c.in_ok-share.field-0 fault = c.in-Err-TooManyRuns.ensures.fault in
+    rw c.refuse-in-Err-TooManyRuns.ensures (no_space_of s 0 c.args.test.now c.args.cat.now c.in-Some.tree.now c.in_ok-share.field-0 c.in-Some-2.model fault c.requires.open found model c.in_ok-share.ensures cause (λ e. cc))
+
+pub returns-in-Err-TooManyCandidates-clause-step : goal.returns-in-Err-TooManyCandidates-clause-step
+returns-in-Err-TooManyCandidates-clause-step c =
+    let s = c.args.self.now in
+    let found = ap (λ (x : Workbench). test_of x.tests c.args.test.now) (sym c.self.view_is) ∙ c.in-Some.ensures in
+    let model = ap (λ (x : Workbench). model_of x.cats c.args.cat.now) (sym c.self.view_is) ∙ sym c.in_ok-model.ensures ∙ c.in-Some-2.is in
+    let cause : IsSpaceFault c.in_ok-share.field-0 TooManyCandidates = c.in-Err-TooManyCandidates.ensures.fault in
+    rw c.refuse-in-Err-TooManyCandidates.ensures (no_space_of s 0 c.args.test.now c.args.cat.now c.in-Some.tree.now c.in_ok-share.field-0 c.in-Some-2.model TooManyCandidates c.requires.open found model c.in_ok-share.ensures cause (λ e. cc))
