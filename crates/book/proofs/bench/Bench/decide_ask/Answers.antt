@@ -1,5 +1,9 @@
-use Rattle.std.proofs.Common.{◌≡◌, ◌∙◌, ◌<◌, ◌+◌, length, arith, sym, ap}
+use Rattle.std.proofs.Common.{◌≡◌, ℕ, ◌∙◌, ◌<◌, ◌+◌, length, arith, subst, sym, ap}
 use Rattle.std.proofs.lemmas.Grind.{common_steps}
+use Rattle.book.specs.Step.{Step}
+use Rattle.book.specs.declared.records.Refusal.TheVariants.{Space}
+use Rattle.book.specs.declared.records.Reply.TheVariants.{Refused}
+use Rattle.book.specs.declared.records.Said.TheVariants.{Ask}
 use Rattle.book.specs.Workbench.{Workbench, model_of, test_of, test_version}
 use Rattle.candidates.specs.Faults.{IsSpaceFault}
 use Rattle.candidates.specs.declared.fault.SpaceFault.{SpaceFault}
@@ -23,13 +27,16 @@ returns-in-Err-TooManyRuns-clause-step c =
     let found = ap (λ (x : Workbench). test_of x.tests c.args.test.now) (sym c.self.view_is) ∙ c.in-Some.ensures in
     let model = ap (λ (x : Workbench). model_of x.cats c.args.cat.now) (sym c.self.view_is) ∙ sym c.in_ok-model.ensures ∙ c.in-Some-2.is in
     let fault : SpaceFault = TooManyRuns c.in-Err-TooManyRuns.thread in
-    let cause : IsSpaceFault c.in_ok-share.field-0 fault = c.in-Err-TooManyRuns.ensures.fault in
-    rw c.refuse-in-Err-TooManyRuns.ensures (no_space_of s 0 c.args.test.now c.args.cat.now c.in-Some.tree.now c.in_ok-share.field-0 c.in-Some-2.model fault c.requires.open found model c.in_ok-share.ensures cause (λ e. cc))
+    let P : SpaceFault → Type 0 = λ f. IsSpaceFault c.in_ok-share.field-0 f in
+    let cause : IsSpaceFault c.in_ok-share.field-0 fault = subst P c.in-Err-TooManyRuns.field-0-is c.in-Err-TooManyRuns.ensures.fault in
+    let Q : ℕ → Type 0 = λ k. Step s 0 (Ask c.args.test.now c.args.cat.now) (Refused (Space (TooManyRuns k))) s in
+    rw c.refuse-in-Err-TooManyRuns.ensures (subst Q c.in-Err-TooManyRuns.thread-is (no_space_of s 0 c.args.test.now c.args.cat.now c.in-Some.tree.now c.in_ok-share.field-0 c.in-Some-2.model fault c.requires.open found model c.in_ok-share.ensures cause (λ e. cc)))
 
 pub returns-in-Err-TooManyCandidates-clause-step : goal.returns-in-Err-TooManyCandidates-clause-step
 returns-in-Err-TooManyCandidates-clause-step c =
     let s = c.args.self.now in
     let found = ap (λ (x : Workbench). test_of x.tests c.args.test.now) (sym c.self.view_is) ∙ c.in-Some.ensures in
     let model = ap (λ (x : Workbench). model_of x.cats c.args.cat.now) (sym c.self.view_is) ∙ sym c.in_ok-model.ensures ∙ c.in-Some-2.is in
-    let cause : IsSpaceFault c.in_ok-share.field-0 TooManyCandidates = c.in-Err-TooManyCandidates.ensures.fault in
+    let P : SpaceFault → Type 0 = λ f. IsSpaceFault c.in_ok-share.field-0 f in
+    let cause : IsSpaceFault c.in_ok-share.field-0 TooManyCandidates = subst P c.in-Err-TooManyCandidates.field-0-is c.in-Err-TooManyCandidates.ensures.fault in
     rw c.refuse-in-Err-TooManyCandidates.ensures (no_space_of s 0 c.args.test.now c.args.cat.now c.in-Some.tree.now c.in_ok-share.field-0 c.in-Some-2.model TooManyCandidates c.requires.open found model c.in_ok-share.ensures cause (λ e. cc))
