@@ -85,7 +85,12 @@ impl Book {
     }
 
     // All that takes memory comes first. The change and the push come last.
-    fn recorded(&mut self, place: u32, seat: u8, command: &Command) -> Result<Arc<Entry>, AllocError>
+    fn recorded(
+        &mut self,
+        place: u32,
+        seat: u8,
+        command: &Command,
+    ) -> Result<Arc<Entry>, AllocError>
         requires place { place ≡ length self.old.journal }
         requires room { place < self.old.limits.journal }
         requires next { place + 1 < 2 ^ 32 }

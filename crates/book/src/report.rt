@@ -9,8 +9,8 @@ ghost use Rattle.book.specs.Writing.{Writes};
 ghost use Rattle.book.specs.Texts as texts;
 
 use crate::slices::{Finding, Row, Verdict};
-use itoa::Buffer;
 use conditions::{Kind, Place, Prop};
+use itoa::Buffer;
 use thiserror::Error;
 use wb_text::{Failed, Name, Sink, give_all};
 

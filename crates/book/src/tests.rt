@@ -75,11 +75,7 @@ fn claimed(alloc: Global, book: &mut Book, seat: u8) -> Result<PieceResult, Fail
 }
 
 /// A book with a test, a job on it, and claim 1 at seat 0.
-fn book_with_claim(
-    alloc: Global,
-    bytes: &[u8],
-    test: &[u8],
-) -> Result<(Book, PieceResult), Fail> {
+fn book_with_claim(alloc: Global, bytes: &[u8], test: &[u8]) -> Result<(Book, PieceResult), Fail> {
     let mut book = Book::new(alloc, WIDE)?;
     call(&mut book, 0, put_test(alloc, bytes)?)?;
     let entry = call(&mut book, 0, ask(alloc, test, b"stdlib.cat")?)?;
@@ -228,14 +224,29 @@ fn refusals(rt: HostRuntime) -> Result<(), Fail> {
     let alloc = rt.alloc();
     let mut book = Book::new(alloc, WIDE)?;
     let entry = call(&mut book, 0, put_cat(alloc, b"a.cat", b" acyclic po")?)?;
-    assert!(rt; matches!(entry.reply(), Reply::Refused(Refusal::ReadingCat(CatFault::Syntax(1)))));
+    assert!(rt;
+        matches!(
+            entry.reply(),
+            Reply::Refused(Refusal::ReadingCat(CatFault::Syntax(1)))
+        )
+    );
     let entry = call(&mut book, 0, put_test(alloc, b"C SB\n{")?)?;
-    assert!(rt; matches!(entry.reply(), Reply::Refused(Refusal::ReadingTest(litmus_c::TestFault::Syntax(6)))));
+    assert!(rt;
+        matches!(
+            entry.reply(),
+            Reply::Refused(Refusal::ReadingTest(litmus_c::TestFault::Syntax(6)))
+        )
+    );
     let entry = call(&mut book, 0, ask(alloc, b"SB", b"stdlib.cat")?)?;
     assert!(rt; matches!(entry.reply(), Reply::Refused(Refusal::NoTest(_))));
     call(&mut book, 0, put_test(alloc, SB)?)?;
     let entry = call(&mut book, 0, ask(alloc, b"SB", b"rc11.cat")?)?;
-    assert!(rt; matches!(entry.reply(), Reply::Refused(Refusal::Model(ModelFault::NoCat(_)))));
+    assert!(rt;
+        matches!(
+            entry.reply(),
+            Reply::Refused(Refusal::Model(ModelFault::NoCat(_)))
+        )
+    );
     let entry = call(&mut book, 0, Command::Poll(1))?;
     assert!(rt; matches!(entry.reply(), Reply::Refused(Refusal::NoJob(1))));
     let entry = call(&mut book, 0, Command::Claim)?;

@@ -7,9 +7,9 @@ ghost use Rattle.book.specs.Finals.{final_location};
 ghost use Rattle.book.specs.Slots.{slot_of, slot_value};
 
 use crate::slices::row::Row;
+use conditions::Place;
 use events::{EventId, Graph};
 use litmus_c::Test;
-use conditions::Place;
 use std::alloc::{AllocError, Global};
 use wb_text::Name;
 
