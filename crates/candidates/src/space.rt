@@ -95,6 +95,8 @@ impl Space {
         ensures space { IfOk result (λ s. s ≡ choices_of test.now) }
         // Its size is the test's, and at most 2^32.
         ensures size { IfOk result (λ s. IsSize test.now (size_of s) × (size_of s ≤ 2 ^ 32)) }
+        // Each thread has at most 4,096 runs.
+        ensures runs { IfOk result (λ _. HaveFewRuns test.now) }
         // A thread has too many runs, the test has too many candidates, or memory ran out.
         ensures fault { IfErr result (IsSpaceFault test.now) }
     {
