@@ -12,5 +12,6 @@ pub mod Places
 pub mod Shorter
 pub mod Sound
 pub mod Spelled
+pub mod Steps
 pub mod StateValues
 pub mod Symbols

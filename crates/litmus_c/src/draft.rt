@@ -1,6 +1,6 @@
 //! A test as it is written, before its names are looked up.
 
-use crate::conditions::{Binding, Cond};
+use crate::conditions::{Binding, Cond, Place};
 use crate::tree::{Parameter, Statement};
 use wb_text::Name;
 
@@ -18,5 +18,7 @@ pub struct Draft {
     /// The entries of the initial state, in order.
     pub entries: Vec<Binding>,
     pub bodies: Vec<Body>,
+    /// What `locations` lists, in order.
+    pub listed: Vec<Place>,
     pub condition: Cond,
 }
