@@ -6,9 +6,9 @@ use Rattle.events.specs.declared.event.Access.TheVariants.{Read, Write}
 use Rattle.events.specs.declared.event.Event.{Event}
 use Rattle.events.specs.declared.event.Order.{Order}
 use Rattle.events.specs.Executions.{ThreadRun}
-use Rattle.litmus_c.specs.declared.conditions.place.Place.TheVariants.{Reg, Loc}
+use Rattle.conditions.specs.declared.place.Place.TheVariants.{Reg, Loc}
 use Rattle.litmus_c.specs.Tree.{Word, Term, number, Action, load, store, Right, value_of, Declared, Step, empty, declare, assign, perform, Program, Litmus}
-use Rattle.litmus_c.specs.States.{value_at}
+use Rattle.conditions.specs.States.{value_at}
 use Rattle.litmus_c.specs.Values.{InDom}
 
 -- the first place of the name among the names

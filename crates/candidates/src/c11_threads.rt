@@ -2,7 +2,7 @@
 
 ghost use Rattle.std.specs.Prelude.{◌≡◌, ◌++◌, ◌<◌, ◌≤◌, ◌∷◌, [], length, map, IfOk, IfErr, OnOk, None, Some, slice_index_or, slice_set};
 ghost use Rattle.listings.specs.Lists.{Lists};
-ghost use Rattle.litmus_c.specs.States.{value_at};
+ghost use Rattle.conditions.specs.States.{value_at};
 ghost use Rattle.litmus_c.specs.Values.{values_of};
 ghost use Rattle.litmus_c.specs.Tree.{action_of, right_of, declared_of, step_of};
 ghost use Rattle.candidates.specs.Runs.{IsRun, place_of, read, write, initial_registers, thread_of};
@@ -10,8 +10,8 @@ ghost use Rattle.candidates.specs.Candidates.{followed, extended, runs_in_turn, 
 ghost use Rattle.candidates.specs.Faults.{IsFaultAt, IsRunFault};
 
 use crate::fault::{MOST_RUNS, RunFault};
+use conditions::{Binding, Place};
 use events::{Access, Event, Order, Run};
-use litmus_c::conditions::{Binding, Place};
 use litmus_c::{Call, Declarator, Expression, RightSide, Statement, Test};
 use std::alloc::{AllocError, Global};
 use std::marker::Model;

@@ -13,9 +13,9 @@ use crate::assembly::assemble;
 use crate::c11_threads::{initial_value, runs};
 use crate::choosing::{RunList, choice, count_choices, locate, total};
 use crate::fault::{MOST_CANDIDATES, SpaceFault};
+use conditions::Place;
 use events::Graph;
 use litmus_c::Test;
-use litmus_c::conditions::Place;
 use std::alloc::{AllocError, Global};
 use std::marker::Model;
 

@@ -8,7 +8,7 @@ use Rattle.std.proofs.lemmas.List.Elements.{All-cons}
 use Rattle.std.proofs.lemmas.Map.Views.{Contains-from_any}
 use Rattle.listings.specs.Lists.{IsIn}
 use Rattle.listings.proofs.Listings.{in_append, in_left, in_right, in_flat_map, flat_map_in, map_in}
-use Rattle.litmus_c.specs.declared.conditions.place.Binding.{Binding}
+use Rattle.conditions.specs.declared.place.Binding.{Binding}
 use Rattle.litmus_c.specs.declared.rules.Rule.TheVariants.{Names, PlainAccess, AtomicAccess}
 use Rattle.litmus_c.specs.declared.tree.Parameter.{Parameter}
 use Rattle.litmus_c.specs.Drafts.{Listing, Written, is_parameter}

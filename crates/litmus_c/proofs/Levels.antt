@@ -4,12 +4,12 @@ use Rattle.std.specs.Prelude.{Some, None, Ok, ◌++◌}
 use Rattle.descent.specs.Reading.{match_option, ◌>>=◌, repeated}
 use Rattle.descent.proofs.Tools.{bind_ok, moved}
 use Rattle.descent.proofs.Turns.{repeated-more, items-more}
-use Rattle.litmus_c.specs.declared.conditions.place.Binding.{Binding}
+use Rattle.conditions.specs.declared.place.Binding.{Binding}
 use Rattle.litmus_c.specs.declared.symbol.Symbol.{Symbol}
 use Rattle.litmus_c.specs.declared.symbol.Terminal.{Terminal}
 use Rattle.litmus_c.specs.declared.symbol.Terminal.TheVariants.{RightBrace, Semicolon, Comma, And}
 use Rattle.litmus_c.specs.declared.tree.Parameter.{Parameter}
-use Rattle.litmus_c.specs.Conditions.{Formula, conjunction}
+use Rattle.conditions.specs.Conditions.{Formula, conjunction}
 use Rattle.litmus_c.specs.Drafts.{Listing, listing_of}
 use Rattle.litmus_c.specs.declared.draft.Body.{Body}
 use Rattle.litmus_c.specs.Reading.{syntax, after, unless, before_name, entry_behind, parameter_behind, parameters_more, step_at, steps_more, thread_at, threads_more, atomic_with, conjunction_more, below}

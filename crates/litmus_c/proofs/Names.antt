@@ -2,7 +2,7 @@
 use Rattle.std.proofs.Common.{◌≡◌, ℕ, zero, suc, ◌+◌, ◌<◌, ◌≤◌, ◌⊎◌, List, [], ◌∷◌, ◌++◌, length, refl, sym, ◌∙◌, ap, subst, inl, inr, arith, drop, get_or, drop-cons, add-one, map, length-append}
 use Rattle.std.specs.Prelude.{Bool, true, false, if◌then◌else◌, ◌||◌, Result, Ok, Err}
 use Rattle.std.specs.List.{flat_map}
-use Rattle.litmus_c.specs.declared.conditions.place.Binding.{Binding}
+use Rattle.conditions.specs.declared.place.Binding.{Binding}
 use Rattle.litmus_c.specs.declared.draft.Body.{Body}
 use Rattle.litmus_c.specs.declared.draft.Draft.{Draft}
 use Rattle.litmus_c.specs.declared.fault.TestFault.{TestFault}

@@ -2,12 +2,12 @@
 use Rattle.std.specs.Prelude.{List, map, Bool}
 use Rattle.std.specs.List.{list_any}
 use Rattle.std.specs.Str.{bytes_eq}
-use Rattle.litmus_c.specs.declared.conditions.place.Binding.{Binding}
-use Rattle.litmus_c.specs.declared.conditions.place.Place.{Place}
+use Rattle.conditions.specs.declared.place.Binding.{Binding}
+use Rattle.conditions.specs.declared.place.Place.{Place}
 use Rattle.litmus_c.specs.declared.tree.Parameter.{Parameter}
 use Rattle.litmus_c.specs.declared.draft.Body as bodies
 use Rattle.litmus_c.specs.declared.draft.Draft as drafts
-use Rattle.litmus_c.specs.Conditions.{Condition}
+use Rattle.conditions.specs.Conditions.{Condition}
 use Rattle.litmus_c.specs.Tree.{Word, Steps, steps_of}
 
 -- a thread

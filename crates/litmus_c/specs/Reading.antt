@@ -10,10 +10,10 @@ use Rattle.events.specs.declared.event.Order.{Order}
 use Rattle.events.specs.declared.event.Order.TheVariants.{Rlx}
 use Rattle.wb_text.specs.declared.fault.TextFault.{TextFault}
 use Rattle.wb_text.specs.declared.fault.TextFault.TheVariants as text_faults
-use Rattle.litmus_c.specs.declared.conditions.place.Binding.{Binding}
-use Rattle.litmus_c.specs.declared.conditions.place.Place.{Place}
-use Rattle.litmus_c.specs.declared.conditions.place.Place.TheVariants.{Reg, Loc}
-use Rattle.litmus_c.specs.declared.conditions.condition.Kind.TheVariants.{Exists as exists_kind}
+use Rattle.conditions.specs.declared.place.Binding.{Binding}
+use Rattle.conditions.specs.declared.place.Place.{Place}
+use Rattle.conditions.specs.declared.place.Place.TheVariants.{Reg, Loc}
+use Rattle.conditions.specs.declared.condition.Kind.TheVariants.{Exists as exists_kind}
 use Rattle.litmus_c.specs.contracts.symbol.TerminalPartialEq.TheImpl.{ghosts}
 use Rattle.litmus_c.specs.declared.symbol.Symbol.{Symbol}
 use Rattle.litmus_c.specs.declared.symbol.Symbol.TheVariants.{Fixed, Name, Number, Word as head_word, Other}
@@ -25,7 +25,7 @@ use Rattle.litmus_c.specs.declared.syntax_fault.SyntaxFault.{SyntaxFault}
 use Rattle.litmus_c.specs.declared.syntax_fault.SyntaxFault.TheVariants.{Syntax, BadOrder, Unsupported, TooDeep, NoMemory}
 use Rattle.litmus_c.specs.declared.tree.LocationKind.TheVariants.{Atomic}
 use Rattle.litmus_c.specs.declared.tree.Parameter.{Parameter}
-use Rattle.litmus_c.specs.Conditions.{Formula, equals, conjunction, Condition}
+use Rattle.conditions.specs.Conditions.{Formula, equals, conjunction, Condition}
 use Rattle.litmus_c.specs.Drafts.{Listing, Written, is_parameter}
 use Rattle.litmus_c.specs.Tree.{Word, Term, number, Action, load, store, Right, value_of, Declared, Step, empty, declare, assign, perform, Steps, no_steps, followed}
 

@@ -10,7 +10,6 @@ ghost use Rattle.litmus_c.specs.Values.{values_among};
 ghost use Rattle.litmus_c.specs.Tree.{declared_of, step_of, steps_of};
 ghost use Rattle.litmus_c.specs.declared.rules.Rule.TheVariants.{Names, PlainAccess, AtomicAccess};
 
-use crate::conditions::{Binding, Cond, Place};
 use crate::draft::{Body, Draft};
 use crate::fault::TestFault;
 use crate::rules::{
@@ -20,6 +19,7 @@ use crate::rules::{
 use crate::test::Test;
 use crate::tree::{Declarator, Parameter, Statement, Thread};
 use crate::values::{ValuesFault, values_among};
+use conditions::{Binding, Cond, Place};
 use std::alloc::{AllocError, Global};
 use wb_text::Name;
 

@@ -2,17 +2,17 @@
 
 ghost use Rattle.std.specs.Prelude.{◌≡◌, ◌≤◌, ◌-◌, map, length, SomeIff, sum_by};
 ghost use Rattle.std.specs.List.{list_all};
-ghost use Rattle.litmus_c.specs.Conditions.{formula_of};
+ghost use Rattle.conditions.specs.Conditions.{formula_of};
 ghost use Rattle.litmus_c.specs.Drafts.{is_parameter};
 ghost use Rattle.litmus_c.specs.Limits.{action_events, optional_events, right_events, step_events, steps_events, program_events};
 ghost use Rattle.litmus_c.specs.Rules.{is_given, entry_is_fair, has_other_kind, may_read, may_give, may_call, may_access, term_keeps, action_keeps, right_keeps, declared_keeps, step_keeps, steps_keep, program_keeps, place_is_there, formula_is_fair};
 ghost use Rattle.litmus_c.specs.Symbols.{is_one_of};
 ghost use Rattle.litmus_c.specs.Tree.{term_of, action_of, right_of, declared_of, step_of, steps_of};
 
-use crate::conditions::{Binding, Place, Prop};
 use crate::tree::{
     Call, Declarator, Expression, LocationKind, Parameter, RightSide, Statement, Thread,
 };
+use conditions::{Binding, Place, Prop};
 use wb_text::Name;
 
 /// Whether a parameter has this name.

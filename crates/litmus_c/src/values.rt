@@ -7,9 +7,9 @@ ghost use Rattle.litmus_c.specs.Tree.{term_of, action_of, right_of, declared_of,
 ghost use Rattle.litmus_c.specs.Values.{term_constants, action_constants, right_constants, optional_constants, step_constants, steps_constants, program_constants, with_value, with_values, values_among, values_of, IsValue, InDom};
 ghost use Rattle.litmus_c.specs.declared.values.ValuesFault.TheVariants.{TooMany};
 
-use crate::conditions::Binding;
 use crate::test::Test;
 use crate::tree::{Call, Declarator, Expression, RightSide, Statement, Thread};
+use conditions::Binding;
 use std::alloc::{AllocError, AllocFailed, Global};
 
 /// Why there is no list of values.

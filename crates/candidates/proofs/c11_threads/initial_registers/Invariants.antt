@@ -1,6 +1,6 @@
 use Rattle.std.proofs.Common.{◌≡◌, ◌++◌, drop, map}
-use Rattle.litmus_c.specs.States.{value_at}
-use Rattle.litmus_c.specs.declared.conditions.place.Place.TheVariants.{Reg}
+use Rattle.conditions.specs.States.{value_at}
+use Rattle.conditions.specs.declared.place.Place.TheVariants.{Reg}
 use Rattle.candidates.specs.Runs.{initial_registers}
 use Rattle.candidates.proofs.c11_threads.initial_registers.Given as goal
 

@@ -1,7 +1,7 @@
 use Rattle.std.proofs.Common.{◌≡◌, ◌≤◌, ◌<◌, ◌+◌, List, [], arith, ap, ◌∙◌, length, map, rules, sym}
 use Rattle.std.specs.Prelude.{◌&&◌, true, sum_by}
 use Rattle.std.specs.List.{flat_map, list_all}
-use Rattle.litmus_c.specs.declared.conditions.place.Binding.{Binding}
+use Rattle.conditions.specs.declared.place.Binding.{Binding}
 use Rattle.litmus_c.specs.declared.draft.Body.{Body}
 use Rattle.litmus_c.specs.Drafts.{listing_of, written_of}
 use Rattle.litmus_c.specs.Limits.{program_events, IsTest}
