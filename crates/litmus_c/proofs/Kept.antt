@@ -155,8 +155,12 @@ programs-names k es (t ∷ ts) xs w h =
 pub is_test : (w : Written) → KeepsRules w.entries (litmus_of w) → IsTest (litmus_of w)
 is_test w h =
     let t = litmus_of w in
-    let a = and_parts (list_all (λ b. entry_is_fair t.threads b.place) w.entries) (list_all (program_keeps Names) t.threads && places_are_there t.threads t.locations t.listed && formula_is_fair t.threads t.locations t.condition.formula) h.names in
-    let b = and_parts (list_all (program_keeps Names) t.threads) (places_are_there t.threads t.locations t.listed && formula_is_fair t.threads t.locations t.condition.formula) a.1 in
+    let entries = list_all (λ b. entry_is_fair t.threads b.place) w.entries in
+    let programs = list_all (program_keeps Names) t.threads in
+    let places = places_are_there t.threads t.locations t.listed in
+    let a = and_parts (entries && programs && places) (formula_is_fair t.threads t.locations t.condition.formula) h.names in
+    let b = and_parts (entries && programs) places a.0 in
+    let c = and_parts entries programs b.0 in
     record {
       threads = h.threads;
       locations = h.locations;
@@ -164,7 +168,7 @@ is_test w h =
       names = programs-names 0 w.entries w.threads (locations_of w)
           (λ l m x e. contains (locations_of w) x (noted (with_names [] (flat_map (λ b. place_locations b.place) w.entries)) (flat_map parameter_names w.threads) x
           (inr (flat_map_in parameter_names w.threads l x m (parameter_in l.parameters x e)))))
-          b.0;
+          c.1;
     }
 
 -- The parts that were made are those of the test.

@@ -13,12 +13,6 @@ use Rattle.events.specs.contracts.event.Order.{the_row as order_row}
 use Rattle.litmus_c.specs.contracts.tree.Parameter.{the_row as parameter_row}
 use Rattle.litmus_c.specs.declared.tree.Parameter.{Parameter}
 use Rattle.litmus_c.specs.Tree.{Word, Term, number, held, denied, equal, unequal, both, either, Action, load, store, exchange, fence, Right, computed, plain_read, value_of, Declared, Step, empty, block, declare, assign, plain_write, perform, if_only, if_else, Steps, no_steps, in_turn, Program, Litmus}
-use Rattle.conditions.specs.contracts.place.Binding.{the_row as binding_row}
-use Rattle.conditions.specs.contracts.place.Place.{the_row as place_row}
-use Rattle.litmus_c.specs.contracts.tree.Parameter.{the_row as parameter_row}
-use Rattle.conditions.specs.declared.place.Binding.{Binding}
-use Rattle.conditions.specs.declared.place.Place.{Place}
-use Rattle.litmus_c.specs.declared.tree.Parameter.{Parameter}
 
 -- An expression and a statement are coded by the number of their case, and the codes of its parts.
 

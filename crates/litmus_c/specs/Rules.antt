@@ -103,9 +103,13 @@ entry_is_fair ps (Loc x) = true
 -- Three rules of a thread with the parameters ps and the registers rs. Names: what is used is there, and no parameter
 -- is a register. PlainAccess: no plain access is to an atomic location. AtomicAccess: no call is on a plain location.
 
+-- a parameter has this name and this kind
+abbrev pub is_of : LocationKind → Word → Parameter → Bool
+is_of k x p = bytes_eq p.name x && kind_equality.eq p.kind k
+
 -- no parameter of this name has this kind
 abbrev pub has_other_kind : List Parameter → LocationKind → Word → Bool
-has_other_kind ps k x = not (list_any (λ p. bytes_eq p.name x && kind_equality.eq p.kind k) ps)
+has_other_kind ps k x = not (list_any (is_of k x) ps)
 
 -- a register is read
 abbrev pub may_read : Rule → List Parameter → List Word → Word → Bool

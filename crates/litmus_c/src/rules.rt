@@ -5,7 +5,7 @@ ghost use Rattle.std.specs.List.{list_all};
 ghost use Rattle.conditions.specs.Conditions.{formula_of};
 ghost use Rattle.litmus_c.specs.Drafts.{is_parameter};
 ghost use Rattle.litmus_c.specs.Limits.{action_events, optional_events, right_events, step_events, steps_events, program_events};
-ghost use Rattle.litmus_c.specs.Rules.{is_given, entry_is_fair, has_other_kind, may_read, may_give, may_call, may_access, term_keeps, action_keeps, right_keeps, declared_keeps, step_keeps, steps_keep, program_keeps, place_is_there, formula_is_fair};
+ghost use Rattle.litmus_c.specs.Rules.{is_given, entry_is_fair, is_of, has_other_kind, may_read, may_give, may_call, may_access, term_keeps, action_keeps, right_keeps, declared_keeps, step_keeps, steps_keep, program_keeps, place_is_there, formula_is_fair};
 ghost use Rattle.litmus_c.specs.Symbols.{is_one_of};
 ghost use Rattle.litmus_c.specs.Tree.{term_of, action_of, right_of, declared_of, step_of, steps_of};
 
@@ -60,13 +60,20 @@ pub enum Rule {
     AtomicAccess,
 }
 
+/// Whether a parameter has this name and this kind.
+fn is_of(kind: LocationKind, name: &Name, parameter: &Parameter) -> bool
+    ensures { result ≡ is_of kind name.now parameter.now }
+{
+    parameter.name == *name && parameter.kind == kind
+}
+
 /// Whether no parameter of this name has this kind.
 fn has_other_kind(parameters: &[Parameter], kind: LocationKind, name: &Name) -> bool
     ensures { result ≡ has_other_kind parameters.now kind name.now }
 {
     !parameters
         .iter()
-        .any(|parameter| parameter.name == *name && parameter.kind == kind)
+        .any(|parameter| is_of(kind, name, parameter))
 }
 
 /// A rule, and the names of the thread on which it is tried.
@@ -168,9 +175,8 @@ impl<'a> Scope<'a> {
         }
     }
 
-    #[tactic(auto, using(crate::proofs::Fair::all_declared))]
     fn declarators_keep(&self, declarators: &[Declarator]) -> bool
-        ensures { result ≡ list_all (declared_keeps self.now.rule self.now.parameters.now self.now.registers.now) (map declared_of declarators.now) }
+        ensures { result ≡ list_all (λ d. declared_keeps self.now.rule self.now.parameters.now self.now.registers.now (declared_of d)) declarators.now }
     {
         declarators
             .iter()
@@ -178,7 +184,7 @@ impl<'a> Scope<'a> {
     }
 
     #[cycle(keeping)]
-    #[tactic(auto, using(crate::proofs::Steps::only_if, crate::proofs::Steps::if_and_else))]
+    #[tactic(auto, using(crate::proofs::Fair::all_declared, crate::proofs::Steps::only_if, crate::proofs::Steps::if_and_else))]
     fn step_keeps(&self, statement: &Statement) -> bool
         ensures { result ≡ step_keeps self.now.rule self.now.parameters.now self.now.registers.now (step_of statement.now) }
     {
