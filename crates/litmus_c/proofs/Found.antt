@@ -62,7 +62,6 @@ no_cause es t TooDeep k h = absurd h
 pub no_fault : (s : SyntaxFault) (w : Written) (ts : List Symbol) → GivesAll written_of (Err s) (test_at 32 ts) → test_at 32 ts ≡ Ok (w, []) → refusal s ≡ NoMemory
 no_fault (faults.Syntax p) w ts g e = absurd (cc)
 no_fault faults.BadOrder w ts g e = absurd (cc)
-no_fault (faults.Unsupported x) w ts g e = absurd (cc)
 no_fault faults.TooDeep w ts g e = absurd (cc)
 no_fault faults.NoMemory w ts g e = refl
 
@@ -114,7 +113,6 @@ pub draft_cause : (text : List ℕ) (ts : List Token) (symbols : List Symbol) (s
     ((us : List Token) → IsTokenList dialects.Litmus text us → ts ≡ us) → GivesAll written_of (Err s) (test_at 32 symbols) → IsUnwritten text (refusal s)
 draft_cause text ts symbols (faults.Syntax p) is unique g = no_test text ts symbols syntax is unique g
 draft_cause text ts symbols faults.BadOrder is unique g = no_test text ts symbols syntax is unique g
-draft_cause text ts symbols (faults.Unsupported x) is unique g = no_test text ts symbols syntax is unique g
 draft_cause text ts symbols faults.TooDeep is unique g = no_test text ts symbols deep is unique g
 draft_cause text ts symbols faults.NoMemory is unique g = tt
 

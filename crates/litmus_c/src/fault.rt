@@ -77,7 +77,6 @@ impl From<SyntaxFault> for TestFault {
         match fault {
             SyntaxFault::Syntax(offset) => TestFault::Syntax(offset),
             SyntaxFault::BadOrder => TestFault::BadOrder,
-            SyntaxFault::Unsupported(word) => TestFault::Unsupported(word),
             SyntaxFault::TooDeep => TestFault::TooDeep,
             SyntaxFault::NoMemory => TestFault::NoMemory,
         }

@@ -154,7 +154,7 @@ fn add_declarators(
 
 /// Adds the constants of a statement.
 #[cycle(constants)]
-#[tactic(auto, using(crate::proofs::Distinct::with_append, crate::proofs::Distinct::longer, crate::proofs::Steps::only_if, crate::proofs::Steps::if_and_else))]
+#[tactic(auto, using(crate::proofs::Distinct::only_values, crate::proofs::Distinct::only_first, crate::proofs::Distinct::else_values, crate::proofs::Distinct::else_first, crate::proofs::Distinct::else_second))]
 fn add_statement(
     values: &mut Vec<u32>,
     statement: &Statement,
