@@ -314,6 +314,9 @@ call-complete (call_fence {n} {ts = ts} o) = record { word = Fence; behind = Fix
 valued : {n : ℕ} {us rest : List Symbol} {a : Action} → IsCall n us rest a → HasValue a → (c : Operation) (ts : List Symbol) → us ≡ Call c ∷ ts → has_value c ≡ true
 valued call_load h c ts e = let same : Load ≡ c = cc in rw (← same) refl
 valued (call_load_explicit o) h c ts e = let same : LoadExplicit ≡ c = cc in rw (← same) refl
+valued (call_store d) h c ts e = elim h [ ]
+valued (call_store_explicit d o) h c ts e = elim h [ ]
+valued (call_fence o) h c ts e = elim h [ ]
 valued (call_exchange d) h c ts e = let same : Exchange ≡ c = cc in rw (← same) refl
 valued (call_exchange_explicit d o) h c ts e = let same : ExchangeExplicit ≡ c = cc in rw (← same) refl
 

@@ -107,8 +107,8 @@ no_comma : (ts : List Symbol) → after Comma (Fixed Semicolon ∷ ts) ≡ None
 unfolding after
 no_comma ts = refl
 
-declarators-complete : {n : ℕ} {ts rest : List Symbol} {ds : List Declared} → IsDeclarators n ts (Fixed Semicolon ∷ rest) ds → Yields (declarators_at n) ts (Fixed Semicolon ∷ rest) ds
-declarators-complete {rest = rest} d = last (declarators-arrive d (semicolon-after rest)) (no_comma rest)
+declarators-complete : {n : ℕ} {ts rest : List Symbol} {ds : List Declared} → IsDeclarators n ts rest ds → EndsRight rest → after Comma rest ≡ None → Yields (declarators_at n) ts rest ds
+declarators-complete d ends none = last (declarators-arrive d ends) none
 
 -- Simple statements.
 
@@ -317,13 +317,13 @@ stored : (n : ℕ) (x : Word) {ts rest : List Symbol} {e : Term} → Yields (exp
 unfolding simple_at write_at name_at
 stored n x {ts} y = record { is = rw (star-not (Name x ∷ Fixed Assign ∷ ts), after-first Star (Name x ∷ Fixed Assign ∷ ts), expected-first Assign ts, y.is) }
 
-simple-complete : {n : ℕ} {ts rest : List Symbol} {s : Step} → IsSimple n ts (Fixed Semicolon ∷ rest) s → Yields (simple_at n) ts (Fixed Semicolon ∷ rest) s
-simple-complete {n} (simple_declare d) = declared n (declarators-complete d)
-simple-complete {n} {rest = rest} (simple_assign {r = r} d) = assigned n r (right-complete d (semicolon-ends 3 rest))
-simple-complete {n} {rest = rest} (simple_write {x = x} d) = stored n x (expression-complete d (semicolon-ends 3 rest))
-simple-complete {n} {ts} {rest} (simple_perform {a = a} d) =
+simple-complete : {n : ℕ} {ts rest : List Symbol} {s : Step} → IsSimple n ts rest s → EndsRight rest → after Comma rest ≡ None → Yields (simple_at n) ts rest s
+simple-complete (simple_declare {n} d) ends none = declared n (declarators-complete d ends none)
+simple-complete (simple_assign {n} {r} d) ends none = assigned n r (right-complete d ends.no_operator)
+simple-complete (simple_write {n} {x} d) ends none = stored n x (expression-complete d ends.no_operator)
+simple-complete (simple_perform {n} {ts} {rest} {a} d) ends none =
     let f = call-complete d in
-    subst (λ l. Yields (simple_at n) l (Fixed Semicolon ∷ rest) (perform a)) (sym f.front) (called n f.word f.behind f.reads)
+    subst (λ l. Yields (simple_at n) l rest (perform a)) (sym f.front) (called n f.word f.behind f.reads)
 
 -- how a simple statement begins
 record IsSimpleFirst (ts : List Symbol) : Type 0 where
@@ -361,9 +361,13 @@ brace-not : (ts : List Symbol) → after Semicolon (Fixed LeftBrace ∷ ts) ≡ 
 unfolding after
 brace-not ts = refl
 
-step-block : (n : ℕ) {ts rest : List Symbol} {ss : Steps} → Yields (steps_at n) ts rest ss → Yields (step_at (suc n)) (Fixed LeftBrace ∷ ts) rest (block ss)
-unfolding step_with block_with inside
-step-block n {ts} y = record { is = rw (brace-not ts, after-first LeftBrace ts, y.is) }
+block-yields : (n : ℕ) {ts rest : List Symbol} {ss : Steps} → Yields (steps_at n) ts rest ss → Yields (block_with (inside (suc n))) ts rest (block ss)
+unfolding block_with inside
+block-yields n y = record { is = rw y.is }
+
+step-brace : (n : ℕ) {ts rest : List Symbol} {s : Step} → Yields (block_with (inside n)) ts rest s → Yields (step_at n) (Fixed LeftBrace ∷ ts) rest s
+unfolding step_with
+step-brace n {ts} y = record { is = rw (brace-not ts, after-first LeftBrace ts, y.is) }
 
 step-simple : (n : ℕ) {ts rest : List Symbol} {s : Step} → IsSimpleFirst ts → Yields (simple_at n) ts (Fixed Semicolon ∷ rest) s → Yields (step_at n) ts rest s
 unfolding step_with closed_at
@@ -377,15 +381,19 @@ if-no_brace : (ts : List Symbol) → after LeftBrace (Fixed If ∷ ts) ≡ None
 unfolding after
 if-no_brace ts = refl
 
-step-if : (n : ℕ) {ts mid rest : List Symbol} {c : Term} {a : Step} → Yields (expression_at n) ts (Fixed RightParen ∷ mid) c → Yields (step_at n) mid rest a → after Else rest ≡ None →
-    Yields (step_at (suc n)) (Fixed If ∷ Fixed LeftParen ∷ ts) rest (if_only c a)
-unfolding step_with if_with else_with inside
-step-if n {ts} {mid} x y none = record { is = rw (if-no_semicolon (Fixed LeftParen ∷ ts), if-no_brace (Fixed LeftParen ∷ ts), after-first If (Fixed LeftParen ∷ ts), expected-first LeftParen ts, x.is, expected-first RightParen mid, y.is, none) }
+if-yields : (n : ℕ) {ts mid rest : List Symbol} {c : Term} {a : Step} → Yields (expression_at n) ts (Fixed RightParen ∷ mid) c → Yields (step_at n) mid rest a → after Else rest ≡ None →
+    Yields (if_with (inside (suc n))) (Fixed LeftParen ∷ ts) rest (if_only c a)
+unfolding if_with else_with inside
+if-yields n {ts} {mid} x y none = record { is = rw (expected-first LeftParen ts, x.is, expected-first RightParen mid, y.is, none) }
 
-step-else : (n : ℕ) {ts mid more rest : List Symbol} {c : Term} {a b : Step} → Yields (expression_at n) ts (Fixed RightParen ∷ mid) c → Yields (step_at n) mid (Fixed Else ∷ more) a → Yields (step_at n) more rest b →
-    Yields (step_at (suc n)) (Fixed If ∷ Fixed LeftParen ∷ ts) rest (if_else c a b)
-unfolding step_with if_with else_with inside
-step-else n {ts} {mid} {more} x y z = record { is = rw (if-no_semicolon (Fixed LeftParen ∷ ts), if-no_brace (Fixed LeftParen ∷ ts), after-first If (Fixed LeftParen ∷ ts), expected-first LeftParen ts, x.is, expected-first RightParen mid, y.is, after-first Else more, z.is) }
+else-yields : (n : ℕ) {ts mid more rest : List Symbol} {c : Term} {a b : Step} → Yields (expression_at n) ts (Fixed RightParen ∷ mid) c → Yields (step_at n) mid (Fixed Else ∷ more) a → Yields (step_at n) more rest b →
+    Yields (if_with (inside (suc n))) (Fixed LeftParen ∷ ts) rest (if_else c a b)
+unfolding if_with else_with inside
+else-yields n {ts} {mid} {more} x y z = record { is = rw (expected-first LeftParen ts, x.is, expected-first RightParen mid, y.is, after-first Else more, z.is) }
+
+step-branch : (n : ℕ) {ts rest : List Symbol} {s : Step} → Yields (if_with (inside n)) ts rest s → Yields (step_at n) (Fixed If ∷ ts) rest s
+unfolding step_with
+step-branch n {ts} y = record { is = rw (if-no_semicolon ts, if-no_brace ts, after-first If ts, y.is) }
 
 abbrev StepsTo : ℕ → List Symbol → List Symbol → Steps → Type 0
 StepsTo n ts rest ss = Arrives syntax (unless RightBrace) (steps_more (inside n) n) (repeated syntax (unless RightBrace) (steps_more (inside n) n) no_steps) ts rest ss
@@ -414,10 +422,10 @@ after-not t ts ends = elim (none_or_some (after t ts)) [
 mutual
   step-complete : {n : ℕ} {ts rest : List Symbol} {s : Step} → IsStep n ts rest s → Yields (step_at n) ts rest s
   step-complete (step_empty {n} {rest}) = step-empty n rest
-  step-complete (step_block {n} d) = step-block n (steps-end n (steps-arrive d))
-  step-complete (step_simple {n} d) = step-simple n (simple-opens d) (simple-complete d)
-  step-complete (step_if {n} {mid = mid} {rest} d e ends) = step-if n (expression-complete d (paren-ends 3 mid)) (step-complete e) (after-not Else rest ends)
-  step-complete (step_else {n} {mid = mid} d e f) = step-else n (expression-complete d (paren-ends 3 mid)) (step-complete e) (step-complete f)
+  step-complete (step_block {n} d) = step-brace (suc n) (block-yields n (steps-end n (steps-arrive d)))
+  step-complete (step_simple {n} {rest = rest} d) = step-simple n (simple-opens d) (simple-complete d (semicolon-after rest) (no_comma rest))
+  step-complete (step_if {n} {mid = mid} {rest} d e ends) = step-branch (suc n) (if-yields n (expression-complete d (paren-ends 3 mid)) (step-complete e) (after-not Else rest ends))
+  step-complete (step_else {n} {mid = mid} d e f) = step-branch (suc n) (else-yields n (expression-complete d (paren-ends 3 mid)) (step-complete e) (step-complete f))
 
   steps-arrive : {n : ℕ} {ts rest : List Symbol} {ss : Steps} → IsSteps n ts rest ss → StepsTo n ts rest ss
   steps-arrive steps_none = record { is = refl }

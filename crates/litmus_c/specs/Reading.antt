@@ -34,7 +34,8 @@ use Rattle.litmus_c.specs.declared.syntax_fault.SyntaxFault.TheVariants.{Syntax,
 use Rattle.litmus_c.specs.declared.tree.LocationKind.{LocationKind}
 use Rattle.litmus_c.specs.declared.tree.LocationKind.TheVariants.{Atomic, Plain}
 use Rattle.litmus_c.specs.declared.tree.Parameter.{Parameter}
-use Rattle.litmus_c.specs.Drafts.{Listing, Written, is_parameter}
+use Rattle.litmus_c.specs.declared.draft.Draft.{Draft}
+use Rattle.litmus_c.specs.Drafts.{Listing, Written, written_of, is_parameter}
 use Rattle.litmus_c.specs.Grammar.{joined, load_orders, store_orders, all_orders}
 use Rattle.litmus_c.specs.Symbols.{orders, looked_up}
 use Rattle.litmus_c.specs.Tree.{Word, Term, number, held, denied, Action, load, store, exchange, fence, Right, computed, plain_read, value_of, Declared, Step, empty, block, declare, assign, plain_write, perform, if_only, if_else, Steps, no_steps, followed}
@@ -625,12 +626,15 @@ GivesAll view (Err (Syntax p)) read = read ≡ Err syntax
 GivesAll view (Err BadOrder) read = read ≡ Err syntax
 GivesAll view (Err TooDeep) read = read ≡ Err deep
 
--- the refusal that a fault of the grammar is
-abbrev pub refusal : SyntaxFault → TestFault
-refusal (Syntax p) = faults.Syntax p
-refusal BadOrder = faults.BadOrder
-refusal TooDeep = faults.TooDeep
-refusal NoMemory = faults.NoMemory
+-- The same of a test and the refusal of its text. A word that the language leaves out is named.
+abbrev pub GivesTest : Result Draft TestFault → Reading Written → Type 0
+GivesTest (Ok d) read = read ≡ Ok (written_of d, [])
+GivesTest (Err faults.NoMemory) read = Unit {0}
+GivesTest (Err (faults.Syntax p)) read = read ≡ Err syntax
+GivesTest (Err faults.BadOrder) read = read ≡ Err syntax
+GivesTest (Err (faults.Unsupported w)) read = read ≡ Err syntax
+GivesTest (Err faults.TooDeep) read = read ≡ Err deep
+GivesTest (Err e) read = ⊥
 
 -- the refusal that a fault of the text is
 abbrev pub text_refusal : TextFault → TestFault

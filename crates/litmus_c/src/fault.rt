@@ -2,7 +2,6 @@
 
 ghost use Rattle.std.specs.Prelude.{◌≡◌};
 
-use crate::syntax_fault::SyntaxFault;
 use std::alloc::{AllocError, AllocFailed};
 use thiserror::Error;
 use wb_text::{Name, TextFault};
@@ -65,21 +64,6 @@ impl<T: Drop> From<AllocFailed<T>> for TestFault {
 
     fn from(_error: AllocFailed<T>) -> Self {
         TestFault::NoMemory
-    }
-}
-
-impl From<SyntaxFault> for TestFault {
-    ghost use Rattle.litmus_c.specs.Reading.{refusal};
-
-    ghost from_gives = { λ s e. e ≡ refusal s };
-
-    fn from(fault: SyntaxFault) -> Self {
-        match fault {
-            SyntaxFault::Syntax(offset) => TestFault::Syntax(offset),
-            SyntaxFault::BadOrder => TestFault::BadOrder,
-            SyntaxFault::TooDeep => TestFault::TooDeep,
-            SyntaxFault::NoMemory => TestFault::NoMemory,
-        }
     }
 }
 

@@ -245,17 +245,19 @@ fn spelled(
 }
 
 /// Whether an opening parenthesis stands first.
+#[tactic(auto, using(crate::proofs::Spelled::first_within))]
 fn is_opened(text: &[u8], tokens: &[Token]) -> bool
     requires { All (IsWithin (length text.now)) tokens.now }
     ensures { result ≡ is_opened text.now tokens.now }
 {
-    match tokens.first() {
-        Some(token) => &text[token.from..token.to] == b"(".as_slice(),
+    match tokens.split_first() {
+        Some((token, _)) => &text[token.from..token.to] == b"(".as_slice(),
         None => false,
     }
 }
 
 /// What the tokens of a text are in the grammar, in order.
+#[tactic(auto, using(crate::proofs::Spelled::first_within, crate::proofs::Spelled::rest_within))]
 pub fn symbols(alloc: Global, text: &[u8], tokens: &[Token]) -> Result<Vec<Symbol>, AllocError>
     requires { All (IsWithin (length text.now)) tokens.now }
     ensures { IfOk result (λ v. v.items ≡ symbols_of text.now tokens.now) }
