@@ -238,6 +238,10 @@ unfolding end_at
 end-ok [] rest u e = (refl, moved (λ l t. l ≡ []) e refl)
 end-ok (s ∷ ts) rest u e = absurd (cc)
 
+-- a refusal is no reading
+refused : {A : Type 0} (x : A × List Symbol) → ◌≡◌ {A = Reading A} (Err syntax) (Ok x) → ⊥
+refused x e = cc
+
 pub test-sound : (n : ℕ) → Sound (test_at n) (λ ts rest w. IsWritten n ts [] w × (rest ≡ []))
 unfolding test_at language_at initial_at
 test-sound n ts rest w e =
@@ -266,5 +270,5 @@ test-sound n ts rest w e =
           let ending : IsCondition n qs.0.1 [] k.0.0 = subst (λ l. IsCondition n qs.0.1 l k.0.0) ends.0 (condition-sound n qs.0.1 k.0.1 k.0.0 k.1) in
           moved (λ l t. IsWritten n ts [] t × (l ≡ [])) f.2
           (subst (λ l. IsWritten n l [] (record { name = x.0.0; entries = i.0.0; threads = ps.0.0; listed = qs.0.0; condition = k.0.0 })) (sym head) (written whole (threads-sound n i.0.1 ps.0.1 ps.0.0 ps.1) (listed-sound ps.0.1 qs.0.1 qs.0.0 qs.1) ending), ends.1)
-      | inr g ↦ let h = g.1 in absurd (cc)
+      | inr g ↦ absurd (refused l.0 g.1)
     ]
