@@ -218,12 +218,7 @@ fn name_symbol(alloc: Global, called: bool, bytes: &[u8]) -> Result<Symbol, Allo
     }
 }
 
-fn spelled(
-    alloc: Global,
-    kind: TokenKind,
-    called: bool,
-    bytes: &[u8],
-) -> Result<Symbol, AllocError>
+fn spelled(alloc: Global, kind: TokenKind, called: bool, bytes: &[u8]) -> Result<Symbol, AllocError>
     ensures { IfOk result (λ s. s ≡ symbol_by kind called bytes.now) }
 {
     match kind {
@@ -266,12 +261,7 @@ pub fn symbols(alloc: Global, text: &[u8], tokens: &[Token]) -> Result<Vec<Symbo
     let mut rest = tokens;
     while let Some((token, behind)) = rest.split_first() {
         let called = is_opened(text, behind);
-        symbols.push(spelled(
-            alloc,
-            token.kind,
-            called,
-            &text[token.from..token.to],
-        )?)?;
+        symbols.push(spelled(alloc, token.kind, called, &text[token.from..token.to])?)?;
         rest = behind;
     }
     Ok(symbols)

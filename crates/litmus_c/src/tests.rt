@@ -60,7 +60,10 @@ fn reading_faults(rt: HostRuntime) {
     let alloc = rt.alloc();
     assert_eq!(rt; fault(alloc, "C SB\n{"), Some(TestFault::Syntax(6)));
     assert_eq!(rt;
-        fault(alloc, "C a\n{}P0(atomic_int*x){atomic_store_explicit(x,1,memory_order_acquire);}exists true"),
+        fault(
+            alloc,
+            "C a\n{}P0(atomic_int*x){atomic_store_explicit(x,1,memory_order_acquire);}exists true"
+        ),
         Some(TestFault::BadOrder)
     );
     assert_eq!(rt;
@@ -90,7 +93,10 @@ fn foreign_words(rt: HostRuntime) {
         unsupported(alloc, b"while")
     );
     assert_eq!(rt;
-        fault(alloc, "C a\n{}P0(atomic_int*x){atomic_fetch_sub(x,1);}exists true"),
+        fault(
+            alloc,
+            "C a\n{}P0(atomic_int*x){atomic_fetch_sub(x,1);}exists true"
+        ),
         unsupported(alloc, b"atomic_fetch_sub")
     );
     assert_eq!(rt;
@@ -98,7 +104,10 @@ fn foreign_words(rt: HostRuntime) {
         unsupported(alloc, b"smp_mb")
     );
     assert_eq!(rt;
-        fault(alloc, "C a\n{}P0(){atomic_thread_fence(memory_order_consume);}exists true"),
+        fault(
+            alloc,
+            "C a\n{}P0(){atomic_thread_fence(memory_order_consume);}exists true"
+        ),
         unsupported(alloc, b"memory_order_consume")
     );
     assert_eq!(rt;
@@ -215,7 +224,10 @@ fn longest_way(rt: HostRuntime) -> Result<(), Fail> {
         32,
         "}exists true",
     )?;
-    assert_eq!(rt; fault(alloc, branches.as_str()), Some(TestFault::TooManyEvents));
+    assert_eq!(rt;
+        fault(alloc, branches.as_str()),
+        Some(TestFault::TooManyEvents)
+    );
     Ok(())
 }
 

@@ -97,7 +97,9 @@ fn add_call(values: &mut Vec<u32>, call: &Call, most: usize) -> Result<(), Value
 {
     match call {
         Call::Load(_, _) | Call::Fence(_) => Ok(()),
-        Call::Store(_, value, _) | Call::Exchange(_, value, _) => add_expression(values, value, most),
+        Call::Store(_, value, _) | Call::Exchange(_, value, _) => add_expression(
+            values, value, most,
+        ),
     }
 }
 

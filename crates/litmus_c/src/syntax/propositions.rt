@@ -105,10 +105,7 @@ impl<'a> Reader<'a> {
         }
         let nesting = self.deeper(nesting)?;
         let right = self.proposition(nesting)?;
-        Ok(Prop::Implies(
-            Box::new(self.alloc, left)?,
-            Box::new(self.alloc, right)?,
-        ))
+        Ok(Prop::Implies(Box::new(self.alloc, left)?, Box::new(self.alloc, right)?))
     }
 
     /// kind := "exists" | ("~" | "not") "exists" | "forall"
