@@ -17,8 +17,8 @@ returns-then-len-gt-MAX_THREADS-clause-cause c =
     let few : 8 < length c.args.draft.bodies.items = search rules in
     omega (arith, programs_len 0 c.args.draft.entries.items (map listing_of c.args.draft.bodies.items), map_len listing_of c.args.draft.bodies.items)
 
-pub new-requires-2 : goal.new-requires-2
-new-requires-2 c =
+pub new-requires : goal.new-requires
+new-requires c =
     let w = written_of c.args.draft in
     let es = c.args.draft.entries.items in
     let ts = c.in_ok-threads.threads.items in
@@ -34,8 +34,8 @@ new-requires-2 c =
     let atomic = rw c.as_slice-2.ensures.value at c.in_ok-check_names.ensures.atomic in
     let values = rw (c.as_slice-5.ensures.value, c.as_slice-6.ensures.value) at c.in_ok-check_values.ensures.few in
     let events = rw (c.as_slice-7.ensures.value, c.as_slice-8.ensures.value) at c.in_ok-check_events.ensures.few in
-    rw c.new.ensures.items (made_test w c.in_ok-initial.initial.items ts xs initial threads locations
-    (kept_rules w c.in_ok-initial.initial.items ts xs initial threads locations (omega (arith, map_len listing_of c.args.draft.bodies.items)) c.in_ok-locations.ensures.few names plain atomic values events))
+    made_test w c.in_ok-initial.initial.items ts xs initial threads locations
+    (kept_rules w c.in_ok-initial.initial.items ts xs initial threads locations (omega (arith, map_len listing_of c.args.draft.bodies.items)) c.in_ok-locations.ensures.few names plain atomic values events)
 
 pub returns-clause-kept : goal.returns-clause-kept
 returns-clause-kept c =
