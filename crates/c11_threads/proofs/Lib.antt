@@ -1,4 +1,2 @@
-pub mod Few
 pub mod RunLists
-pub mod Turns
-pub mod Unrolling
+pub mod Sets

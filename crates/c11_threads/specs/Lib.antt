@@ -1,3 +1,4 @@
+pub mod Contents
 pub mod Faults
 pub mod Runs
 pub mod Unrolled

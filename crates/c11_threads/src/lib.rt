@@ -1,12 +1,9 @@
 //! The runs of a thread of C11 atomics.
 #![tactic(auto)]
 
+mod content;
 mod fault;
 pub mod laws;
-mod unroll;
 
+pub use content::Content;
 pub use fault::{MOST_RUNS, RunFault};
-pub use unroll::{initial_value, runs};
-
-#[cfg(test)]
-mod tests;

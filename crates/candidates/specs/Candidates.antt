@@ -5,7 +5,7 @@ use Rattle.events.specs.declared.event.Event.{Event}
 use Rattle.events.specs.declared.event.EventId.{EventId}
 use Rattle.events.specs.declared.event.EventId.TheVariants.{Initial, Own}
 use Rattle.events.specs.declared.event.Order.TheVariants.{NoOrder}
-use Rattle.events.specs.Executions.{ThreadRun, Execution}
+use Rattle.events.specs.Executions.{ThreadRun, Execution, no_places}
 use Rattle.listings.specs.Lists.{Lists, sum_of, product_by, factorial, tabulate}
 use Rattle.listings.specs.Numbered.{digits, arrange, walk}
 use Rattle.litmus_c.specs.Tree.{Litmus}
@@ -71,7 +71,7 @@ abbrev pub candidate_at : Choices → ℕ → Execution
 candidate_at s i = walk (block (length s.init)) (candidate s.init) no_execution (choices s.threads) i
 
 abbrev pub no_event : Event
-no_event = record { thread = 0; access = Read; loc = 0; value = 0; order = NoOrder }
+no_event = record { thread = 0; access = Read; loc = 0; value = 0; order = NoOrder; data_from = no_places; ctrl_from = no_places }
 
 -- the value that a write writes
 abbrev pub write_value : List ℕ → List ThreadRun → EventId → ℕ

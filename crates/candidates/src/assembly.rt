@@ -57,7 +57,7 @@ fn push_reads(reads: &mut Vec<Event>, events: &[Event]) -> Result<(), AllocError
 {
     for event in events {
         if event.is_read() {
-            reads.push(*event)?;
+            reads.push(event.copy())?;
         }
     }
     Ok(())

@@ -1,11 +1,16 @@
 -- Runs of threads, and candidate executions: a run of each thread, a read-from map and a coherence order.
 -- After Alglave, Maranget and Tautschnig, Herding cats, 2014, section 4.
 use Rattle.std.specs.Prelude.{ℕ, ◌+◌, ◌<◌, ◌≤◌, List, [], length, sum_by, slice_index_or, All, Bool, true, false, ◌==◌, ◌&&◌}
+use Rattle.relations.specs.Events.{EventSet, event_set}
 use Rattle.events.specs.declared.event.Access.{Access}
 use Rattle.events.specs.declared.event.Access.TheVariants.{Read, Write, Fence, ExRead, ExWrite}
 use Rattle.events.specs.declared.event.Event.{Event}
 use Rattle.events.specs.declared.event.EventId.{EventId}
 use Rattle.events.specs.declared.event.EventId.TheVariants.{Initial, Own}
+
+-- the dependencies of an event that depends on nothing: no place of 0 to 63
+unfoldable pub no_places : EventSet
+no_places = event_set 64 (λ i. false)
 
 abbrev pub is_read : Access → Bool
 is_read Read = true

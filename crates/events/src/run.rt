@@ -3,7 +3,7 @@
 ghost use Rattle.std.specs.Prelude.{◌≡◌, ◌++◌, ◌∷◌, [], IfOk, OnOk, OnErr, slice_set};
 
 use crate::event::Event;
-use std::alloc::AllocError;
+use std::alloc::{AllocError, Global};
 use std::marker::Model;
 
 /// A run of a thread: its events in program order, and the values of its registers at the end.
@@ -19,6 +19,17 @@ impl Model for Run {
     ghost Value = { ThreadRun };
 
     ghost view = { λ r. record { events = r.events.items; registers = r.registers.items } };
+}
+
+/// The same events once more.
+fn copy_events(alloc: Global, events: &[Event]) -> Result<Vec<Event>, AllocError>
+    ensures { IfOk result (λ v. v.items ≡ events.now) }
+{
+    let mut copies = Vec::new(alloc);
+    for event in events {
+        copies.push(event.copy())?;
+    }
+    Ok(copies)
 }
 
 impl Run {
@@ -66,7 +77,7 @@ impl Run {
         ensures { IfOk result (λ r. r ≡ self.now) }
     {
         Ok(Run {
-            events: self.events.clone()?,
+            events: copy_events(*self.events.allocator(), &self.events)?,
             registers: self.registers.clone()?,
         })
     }
