@@ -1,2 +1,5 @@
+pub mod Few
 pub mod RunLists
 pub mod Sets
+pub mod Turns
+pub mod Whole

@@ -11,13 +11,13 @@ use Rattle.events.specs.declared.event.Order.TheVariants.{Na}
 use Rattle.events.specs.Executions.{ThreadRun, no_places}
 use Rattle.listings.specs.Lists.{IsIn, NoRepeats, Lists}
 use Rattle.listings.proofs.Listings.{in_map, map_in, once_map, in_flat_map, flat_map_in, once_flat_map_of}
-use Rattle.litmus_c.specs.Tree.{Word, Term, Action, load, store, exchange, fence, Right, computed, plain_read, value_of, Declared, Step, empty, block, declare, assign, plain_write, perform, if_only, if_else, Steps, no_steps, in_turn, Litmus}
+use Rattle.litmus_c.specs.Tree.{Word, Action, load, store, exchange, fence, Right, computed, plain_read, value_of, Declared, Step, empty, block, declare, assign, plain_write, perform, if_only, if_else, Steps, no_steps, in_turn, Litmus}
 use Rattle.litmus_c.specs.Values.{values_of, InDom}
 use Rattle.litmus_c.proofs.Distinct.{lists_values}
 use Rattle.c11_threads.specs.declared.content.Content.{Content}
 use Rattle.c11_threads.specs.Contents.{place_of, nothing}
-use Rattle.c11_threads.specs.Runs.{Progress, after, next_read, Site, thread_of, names, given_by, inside, reads_from, writes_into, fences, Calls, Gives, Assigns, Declares, DeclaresAll, Branches, Performs, PerformsAll, body, start, run_of, IsRun}
-use Rattle.c11_threads.specs.Unrolled.{setting_of, giving, reading, call_runs, right_runs, declare_runs, declares_runs, under, holds, step_runs, steps_runs, ends_of, runs_of}
+use Rattle.c11_threads.specs.Runs.{Progress, after, next_read, Site, thread_of, given_by, inside, reads_from, writes_into, fences, Calls, Assigns, Declares, DeclaresAll, Branches, Performs, PerformsAll, body, start, run_of, IsRun}
+use Rattle.c11_threads.specs.Unrolled.{setting_of, giving, call_runs, right_runs, declare_runs, declares_runs, under, holds, step_runs, steps_runs, ends_of, runs_of}
 
 in_some : {X : Type 0} (xs : List X) (x : X) → IsIn x xs → 1 ≤ length xs
 in_some [] x h = absurd h
@@ -115,11 +115,12 @@ Reading t p events r q = (w : Content) × (m : Progress) × ((v : ℕ) × InDom 
 
 once_map_of : {A X : Type 0} (f : A → X) (as' : List A) → ((a b : A) → IsIn a as' → IsIn b as' → f a ≡ f b → a ≡ b) → NoRepeats as' → NoRepeats (map f as')
 once_map_of f [] same o = tt
-once_map_of {A} f (a ∷ rest) same o =
-    (λ h. let m = in_map f rest (f a) h in
-        let F : A → Type 0 = λ b. IsIn b rest in
-        o.0 (subst F (same m.0 a (inr m.1) (inl refl) m.2) m.1),
-    once_map_of f rest (λ b c h k. same b c (inr h) (inr k)) o.1)
+once_map_of {A} f (a ∷ rest) same o = (
+  λ h. let m = in_map f rest (f a) h in
+      let F : A → Type 0 = λ b. IsIn b rest in
+      o.0 (subst F (same m.0 a (inr m.1) (inl refl) m.2) m.1),
+  once_map_of f rest (λ b c h k. same b c (inr h) (inr k)) o.1,
+)
 
 pub some_values : (t : Litmus) → 1 ≤ length (values_of t)
 some_values t = in_some (values_of t) 0 ((lists_values t.initial t.threads).all 0 (inl refl))

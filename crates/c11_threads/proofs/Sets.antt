@@ -1,10 +1,10 @@
 -- Sets of places, told by what is in them.
 use Rattle.std.proofs.Common.{◌≡◌, ℕ, ◌+◌, ◌<◌, ◌≤◌, ◌⊎◌, refl, sym, ◌∙◌, ap, subst, inl, inr, arith, Bool, true, false, ◌==◌, ◌||◌}
 use Rattle.std.proofs.lemmas.Bool.{eqb-true, eq-eqb, false≢true, cases_lt}
-use Rattle.relations.specs.Tables.{place, line}
+use Rattle.relations.specs.Tables.{place}
 use Rattle.relations.specs.TableFacts.{place_line, line_below, line_again, same_line}
 use Rattle.relations.specs.Events.{EventSet, Has, IsExactlySet, IsCanonicalSet, event_set}
-use Rattle.relations.specs.Equality.{one_set, event_below}
+use Rattle.relations.specs.Equality.{one_set}
 use Rattle.events.specs.Executions.{no_places}
 use Rattle.c11_threads.specs.Contents.{just, joined}
 
@@ -26,8 +26,8 @@ none_in : (i : ℕ) → Has no_places i → ⊥
 unfolding no_places
 none_in i h = let b : i < 64 = line_below 64 (λ j. false) i h in false≢true (sym (place_line 64 (λ j. false) i b) ∙ h)
 
-pub is_just : (p : ℕ) (s : EventSet) → IsExactlySet 64 (λ i. Has no_places i ⊎ (i ≡ p)) s → s ≡ just p
-unfolding just
+pub is_just : (p : ℕ) (s : EventSet) → IsExactlySet no_places.count (λ i. Has no_places i ⊎ (i ≡ p)) s → s ≡ just p
+unfolding no_places just
 is_just p s h = is_made (λ i. i == p) (λ i. Has no_places i ⊎ (i ≡ p)) s
     (λ i m. elim m [ inl n ↦ absurd (none_in i n) | inr e ↦ eq-eqb i p e ])
     (λ i l m. inr (eqb-true i p m))
@@ -63,7 +63,7 @@ is_joined s t u n l h = is_made (λ i. place s.members i || place t.members i) (
     (λ i b m. (omega (arith, b, l), in_or (place s.members i) (place t.members i) m))
     h
 
-none_count : no_places.count ≡ 64
+pub none_count : no_places.count ≡ 64
 unfolding no_places
 none_count = refl
 

@@ -1,3 +1,4 @@
+pub mod Bounds
 pub mod Contents
 pub mod Faults
 pub mod Runs

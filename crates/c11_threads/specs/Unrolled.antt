@@ -1,5 +1,5 @@
 -- The runs of a thread as a list: those of one statement, and then those of the statements after it.
-use Rattle.std.specs.Prelude.{◌≡◌, ℕ, List, [], ◌∷◌, ◌++◌, length, map, slice_set, Option, None, Some, Bool, if◌then◌else◌}
+use Rattle.std.specs.Prelude.{ℕ, List, [], ◌∷◌, map, slice_set, Option, None, Some, Bool, if◌then◌else◌}
 use Rattle.std.specs.List.{flat_map}
 use Rattle.relations.specs.Events.{EventSet}
 use Rattle.events.specs.declared.event.Access.{Access}
@@ -34,40 +34,43 @@ given (Some r) w registers = slice_set registers r w
 abbrev pub giving : Option ℕ → Content → Progress → Progress
 giving r w p = record { events = p.events; registers = given r w p.registers }
 
--- an event in an arm under ctrl
-abbrev pub event : Setting → EventSet → Access → ℕ → ℕ → Order → EventSet → Event
-event s c a x v o reads = record { thread = s.thread; access = a; loc = x; value = v; order = o; data_from = reads; ctrl_from = c }
+-- an event in an arm under ctrl, with the value w and what it depends on
+abbrev pub event : Setting → EventSet → Access → ℕ → Order → Content → Event
+event s c a x o w = record { thread = s.thread; access = a; loc = x; value = w.value; order = o; data_from = w.reads; ctrl_from = c }
+
+-- an access to location x
+abbrev pub accesses : Setting → EventSet → Access → Word → Order → Content → Event
+accesses s c a x o w = event s c a (place_of x s.locations) o w
 
 -- the event e with the value v
 abbrev pub reading : Event → ℕ → Event
 reading e v = record { thread = e.thread; access = e.access; loc = e.loc; value = v; order = e.order; data_from = e.data_from; ctrl_from = e.ctrl_from }
 
+abbrev pub perhaps : Option Event → List Event
+perhaps None = []
+perhaps (Some e) = e ∷ []
+
 -- the one way on from p with the event e and no value
 abbrev pub event_runs : Event → Option ℕ → Progress → List Progress
 event_runs e r p = giving r nothing (after p (e ∷ [])) ∷ []
 
--- the ways on from p that read each of the values by the event e, and then have these events
-abbrev pub read_runs : Setting → Event → List Event → Option ℕ → Progress → List Progress
-read_runs s e more r p = map (λ v. giving r (next_read p v) (after p (reading e v ∷ more))) s.values
+-- the ways on from p that read each of the values by the event e, and then have another event or none
+abbrev pub read_runs : Setting → Event → Option Event → Option ℕ → Progress → List Progress
+read_runs s e more r p = map (λ v. giving r (next_read p v) (after p (reading e v ∷ perhaps more))) s.values
 
-abbrev pub read_event : Setting → EventSet → Access → Word → Order → Event
-read_event s c a x o = event s c a (place_of x s.locations) 0 o no_places
-
-abbrev pub write_event : Setting → EventSet → Access → Word → Order → Content → Event
-write_event s c a x o w = event s c a (place_of x s.locations) w.value o w.reads
-
-abbrev pub fence_event : Setting → EventSet → Order → Event
-fence_event s c o = event s c Fence 0 0 o no_places
+-- what an expression gives at p
+abbrev pub given_at : Setting → Progress → Term → Content
+given_at s p e = content_in s.registers p.registers e
 
 abbrev pub call_runs : Setting → EventSet → Action → Option ℕ → Progress → List Progress
-call_runs s c (load x o) r p = read_runs s (read_event s c Read x o) [] r p
-call_runs s c (store x e o) r p = event_runs (write_event s c Write x o (content_in s.registers p.registers e)) r p
-call_runs s c (exchange x e o) r p = read_runs s (read_event s c ExRead x o) (write_event s c ExWrite x o (content_in s.registers p.registers e) ∷ []) r p
-call_runs s c (fence o) r p = event_runs (fence_event s c o) r p
+call_runs s c (load x o) r p = read_runs s (accesses s c Read x o nothing) None r p
+call_runs s c (store x e o) r p = event_runs (accesses s c Write x o (given_at s p e)) r p
+call_runs s c (exchange x e o) r p = read_runs s (accesses s c ExRead x o nothing) (Some (accesses s c ExWrite x o (given_at s p e))) r p
+call_runs s c (fence o) r p = event_runs (event s c Fence 0 o nothing) r p
 
 abbrev pub right_runs : Setting → EventSet → Right → ℕ → Progress → List Progress
-right_runs s c (computed e) r p = giving (Some r) (content_in s.registers p.registers e) p ∷ []
-right_runs s c (plain_read x) r p = read_runs s (read_event s c Read x Na) [] (Some r) p
+right_runs s c (computed e) r p = giving (Some r) (given_at s p e) p ∷ []
+right_runs s c (plain_read x) r p = read_runs s (accesses s c Read x Na nothing) None (Some r) p
 right_runs s c (value_of a) r p = call_runs s c a (Some r) p
 
 abbrev pub declare_runs : Setting → EventSet → Word → Option Right → Progress → List Progress
@@ -80,10 +83,10 @@ declares_runs s c (d ∷ ds) p = flat_map (declares_runs s c ds) (declare_runs s
 
 -- the arms of a branch are under ctrl and under its test
 abbrev pub under : Setting → EventSet → Term → Progress → EventSet
-under s c e p = joined c (content_in s.registers p.registers e).reads
+under s c e p = joined c (given_at s p e).reads
 
 abbrev pub holds : Setting → Term → Progress → Bool
-holds s e p = is_true (content_in s.registers p.registers e).value
+holds s e p = is_true (given_at s p e).value
 
 abbrev mutual
   pub step_runs : Step → Setting → EventSet → Progress → List Progress
@@ -91,7 +94,7 @@ abbrev mutual
   step_runs (block steps) s c p = steps_runs steps s c p
   step_runs (declare ds) s c p = declares_runs s c ds p
   step_runs (assign r right) s c p = right_runs s c right (place_of r s.registers) p
-  step_runs (plain_write x e) s c p = event_runs (write_event s c Write x Na (content_in s.registers p.registers e)) None p
+  step_runs (plain_write x e) s c p = event_runs (accesses s c Write x Na (given_at s p e)) None p
   step_runs (perform a) s c p = call_runs s c a None p
   step_runs (if_only e a) s c p = if holds s e p then step_runs a s (under s c e p) p else p ∷ []
   step_runs (if_else e a b) s c p = if holds s e p then step_runs a s (under s c e p) p else step_runs b s (under s c e p) p

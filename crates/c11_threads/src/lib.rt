@@ -4,6 +4,10 @@
 mod content;
 mod fault;
 pub mod laws;
+mod progress;
+mod running;
+mod unroll;
 
 pub use content::Content;
 pub use fault::{MOST_RUNS, RunFault};
+pub use running::{initial_value, runs};

@@ -1,0 +1,390 @@
+//! The runs of a thread, unrolled choice by choice.
+
+ghost use Rattle.std.specs.Prelude.{◌≡◌, ◌++◌, ◌<◌, ◌≤◌, ◌∷◌, [], length, map, IfOk, IfErr, OnOk, None, Some};
+ghost use Rattle.std.specs.List.{flat_map};
+ghost use Rattle.litmus_c.specs.Tree.{term_of, action_of, right_of, declared_of, step_of, steps_of};
+ghost use Rattle.events.specs.declared.event.Access.TheVariants.{Fence};
+ghost use Rattle.c11_threads.specs.Contents.{place_of, nothing};
+ghost use Rattle.c11_threads.specs.Runs.{after, next_read};
+ghost use Rattle.c11_threads.specs.Unrolled.{giving, event, accesses, reading, perhaps, event_runs, read_runs, given_at, call_runs, right_runs, declare_runs, declares_runs, step_runs, steps_runs};
+ghost use Rattle.c11_threads.specs.Faults.{IsFaultAt};
+
+use crate::content::{Content, content_of, joined, place_of};
+use crate::fault::{MOST_RUNS, RunFault};
+use crate::progress::Progress;
+use events::{Access, Event, Order, no_places};
+use litmus_c::{Call, Declarator, Expression, RightSide, Statement};
+use relations::Set;
+use std::alloc::{AllocError, Global};
+use std::marker::Model;
+use wb_text::Name;
+
+/// What the statements of a thread stand in.
+#[derive(Drop)]
+pub(crate) struct Setting<'a> {
+    pub(crate) thread: usize,
+    pub(crate) locations: &'a [Name],
+    pub(crate) registers: &'a [Name],
+    pub(crate) values: &'a [u32],
+}
+
+impl<'a> Model for Setting<'a> {
+    ghost use Rattle.c11_threads.specs.Unrolled.{Setting as InThread};
+
+    ghost Value = { InThread };
+
+    ghost view = { λ s. record { thread = s.thread; locations = s.locations.now; registers = s.registers.now; values = s.values.now } };
+}
+
+/// One way alone.
+fn single(alloc: Global, end: Progress) -> Result<Vec<Progress>, AllocError>
+    ensures { IfOk result (λ v. v.items ≡ end ∷ []) }
+{
+    Ok(vec![in alloc; end]?)
+}
+
+/// The way on that gives the content to the register.
+fn given(
+    alloc: Global,
+    from: &Progress,
+    register: usize,
+    content: Content,
+) -> Result<Vec<Progress>, AllocError>
+    ensures { IfOk result (λ v. v.items ≡ giving (Some register) content from.now ∷ []) }
+{
+    let mut end = from.copy(alloc)?;
+    end.give(Some(register), content);
+    single(alloc, end)
+}
+
+/// The way on that has the event and gives 0 to the register, if there is one.
+fn happen(
+    alloc: Global,
+    from: &Progress,
+    event: Event,
+    register: Option<usize>,
+) -> Result<Vec<Progress>, AllocError>
+    ensures { IfOk result (λ v. v.items ≡ event_runs event register from.now) }
+{
+    let mut end = from.copy(alloc)?;
+    end.push(event)?;
+    end.give(register, Content::nothing());
+    single(alloc, end)
+}
+
+/// The event with this value.
+fn reading(event: &Event, value: u32) -> Event
+    ensures { result ≡ reading event.now value }
+{
+    let mut read = event.copy();
+    read.value = value;
+    read
+}
+
+/// The way on that reads the value by the event, then has another event, if there is one, and gives the
+/// value to the register, if there is one.
+fn read_one(
+    alloc: Global,
+    from: &Progress,
+    read: &Event,
+    value: u32,
+    then: &Option<Event>,
+    register: Option<usize>,
+) -> Result<Progress, AllocError>
+    ensures { IfOk result (λ q. q ≡ giving register (next_read from.now value) (after from.now (reading read.now value ∷ perhaps then.now))) }
+{
+    let content = from.next_read(value);
+    let mut end = from.copy(alloc)?;
+    end.push(reading(read, value))?;
+    if let Some(event) = then {
+        end.push(event.copy())?;
+    }
+    end.give(register, content);
+    Ok(end)
+}
+
+impl Setting<'_> {
+    /// The number of a register.
+    fn register(&self, name: &Name) -> usize
+        ensures { result ≡ place_of name.now self.now.registers }
+    {
+        place_of(self.registers, name)
+    }
+
+    /// What an expression gives.
+    fn content(&self, from: &Progress, expression: &Expression) -> Content
+        ensures { result ≡ given_at self.now from.now (term_of expression.now) }
+    {
+        content_of(self.registers, from.registers(), expression)
+    }
+
+    /// A fence.
+    fn fence(&self, ctrl: &Set, order: Order) -> Event
+        ensures { result ≡ event self.now ctrl.now Fence 0 order nothing }
+    {
+        Event {
+            thread: self.thread,
+            access: Access::Fence,
+            loc: 0,
+            value: 0,
+            order,
+            data_from: no_places(),
+            ctrl_from: ctrl.copy(),
+        }
+    }
+
+    /// An access to a location.
+    fn access(
+        &self,
+        ctrl: &Set,
+        access: Access,
+        location: &Name,
+        order: Order,
+        content: Content,
+    ) -> Event
+        ensures { result ≡ accesses self.now ctrl.now access location.now order content }
+    {
+        Event {
+            thread: self.thread,
+            access,
+            loc: place_of(self.locations, location),
+            value: content.value,
+            order,
+            data_from: content.reads,
+            ctrl_from: ctrl.copy(),
+        }
+    }
+
+    /// The ways on that read each of the values by the event, and then have another event, if there is one.
+    fn read_each(
+        &self,
+        alloc: Global,
+        from: &Progress,
+        read: Event,
+        then: Option<Event>,
+        register: Option<usize>,
+    ) -> Result<Vec<Progress>, RunFault>
+        ensures done { IfOk result (λ v. (v.items ≡ read_runs self.now read then register from.now) × (length v.items ≤ 4096)) }
+        ensures fault { IfErr result (IsFaultAt self.now.thread (length (read_runs self.now read then register from.now))) }
+    {
+        let mut ends = Vec::new(alloc);
+        for value in self.values {
+            if ends.len() >= MOST_RUNS {
+                return Err(RunFault::TooManyRuns(self.thread));
+            }
+            ends.push(read_one(alloc, from, &read, *value, &then, register)?)?;
+        }
+        Ok(ends)
+    }
+
+    /// Adds further ways.
+    fn append(&self, ends: &mut Vec<Progress>, more: Vec<Progress>) -> Result<(), RunFault>
+        ensures done { OnOk result ((ends.new.items ≡ ends.old.items ++ more.items) × (length ends.new.items ≤ 4096)) }
+        ensures fault { IfErr result (IsFaultAt self.now.thread (length (ends.old.items ++ more.items))) }
+    {
+        let mut more = more;
+        if ends.len().saturating_add(more.len()) > MOST_RUNS {
+            return Err(RunFault::TooManyRuns(self.thread));
+        }
+        ends.append(&mut more)?;
+        Ok(())
+    }
+
+    /// The ways on of a call, whose value is given to the register, if there is one.
+    fn call(
+        &self,
+        alloc: Global,
+        ctrl: &Set,
+        call: &Call,
+        from: &Progress,
+        register: Option<usize>,
+    ) -> Result<Vec<Progress>, RunFault>
+        ensures done { IfOk result (λ v. (v.items ≡ call_runs self.now ctrl.now (action_of call.now) register from.now) × (length v.items ≤ 4096)) }
+        ensures fault { IfErr result (IsFaultAt self.now.thread (length (call_runs self.now ctrl.now (action_of call.now) register from.now))) }
+    {
+        match call {
+            Call::Load(location, order) => {
+                let read = self.access(ctrl, Access::Read, location, *order, Content::nothing());
+                self.read_each(alloc, from, read, None, register)
+            }
+            Call::Store(location, expression, order) => {
+                let content = self.content(from, expression);
+                let write = self.access(ctrl, Access::Write, location, *order, content);
+                Ok(happen(alloc, from, write, register)?)
+            }
+            Call::Exchange(location, expression, order) => {
+                let content = self.content(from, expression);
+                let write = self.access(ctrl, Access::ExWrite, location, *order, content);
+                let read = self.access(ctrl, Access::ExRead, location, *order, Content::nothing());
+                self.read_each(alloc, from, read, Some(write), register)
+            }
+            Call::Fence(order) => Ok(happen(alloc, from, self.fence(ctrl, *order), register)?),
+        }
+    }
+
+    /// The ways on that give the register the value of the right side.
+    fn assign(
+        &self,
+        alloc: Global,
+        ctrl: &Set,
+        right: &RightSide,
+        from: &Progress,
+        register: usize,
+    ) -> Result<Vec<Progress>, RunFault>
+        ensures done { IfOk result (λ v. (v.items ≡ right_runs self.now ctrl.now (right_of right.now) register from.now) × (length v.items ≤ 4096)) }
+        ensures fault { IfErr result (IsFaultAt self.now.thread (length (right_runs self.now ctrl.now (right_of right.now) register from.now))) }
+    {
+        match right {
+            RightSide::Value(expression) => {
+                let content = self.content(from, expression);
+                Ok(given(alloc, from, register, content)?)
+            }
+            RightSide::Read(location) => {
+                let read = self.access(ctrl, Access::Read, location, Order::Na, Content::nothing());
+                self.read_each(alloc, from, read, None, Some(register))
+            }
+            RightSide::Call(call) => self.call(alloc, ctrl, call, from, Some(register)),
+        }
+    }
+
+    /// The ways on that declare a register.
+    fn declare(
+        &self,
+        alloc: Global,
+        ctrl: &Set,
+        declarator: &Declarator,
+        from: &Progress,
+    ) -> Result<Vec<Progress>, RunFault>
+        ensures done { IfOk result (λ v. (v.items ≡ declare_runs self.now ctrl.now (declared_of declarator.now).register (declared_of declarator.now).value from.now) × (length v.items ≤ 4096)) }
+        ensures fault { IfErr result (IsFaultAt self.now.thread (length (declare_runs self.now ctrl.now (declared_of declarator.now).register (declared_of declarator.now).value from.now))) }
+    {
+        let register = self.register(&declarator.register);
+        match &declarator.value {
+            Some(right) => self.assign(alloc, ctrl, right, from, register),
+            None => Ok(given(alloc, from, register, Content::nothing())?),
+        }
+    }
+
+    /// Declares one register after each of the ways.
+    fn declare_each(
+        &self,
+        alloc: Global,
+        ctrl: &Set,
+        declarator: &Declarator,
+        starts: &[Progress],
+    ) -> Result<Vec<Progress>, RunFault>
+        ensures done { IfOk result (λ v. (v.items ≡ flat_map (declare_runs self.now ctrl.now (declared_of declarator.now).register (declared_of declarator.now).value) starts.now) × (length v.items ≤ 4096)) }
+        ensures fault { IfErr result (IsFaultAt self.now.thread (length (flat_map (declare_runs self.now ctrl.now (declared_of declarator.now).register (declared_of declarator.now).value) starts.now))) }
+    {
+        let mut ends = Vec::new(alloc);
+        for from in starts {
+            let more = self.declare(alloc, ctrl, declarator, from)?;
+            self.append(&mut ends, more)?;
+        }
+        Ok(ends)
+    }
+
+    /// Declares registers, one after another.
+    fn declare_all(
+        &self,
+        alloc: Global,
+        ctrl: &Set,
+        declarators: &[Declarator],
+        from: &Progress,
+    ) -> Result<Vec<Progress>, RunFault>
+        requires { 1 ≤ length self.now.values }
+        ensures done { IfOk result (λ v. (v.items ≡ declares_runs self.now ctrl.now (map declared_of declarators.now) from.now) × (length v.items ≤ 4096)) }
+        ensures fault { IfErr result (IsFaultAt self.now.thread (length (declares_runs self.now ctrl.now (map declared_of declarators.now) from.now))) }
+    {
+        let mut ends = single(alloc, from.copy(alloc)?)?;
+        for declarator in declarators {
+            ends = self.declare_each(alloc, ctrl, declarator, &ends)?;
+        }
+        Ok(ends)
+    }
+
+    /// The ways on of a statement. The arms of an `if` stand under its test.
+    #[cycle(performing)]
+    fn perform(
+        &self,
+        alloc: Global,
+        ctrl: &Set,
+        statement: &Statement,
+        from: &Progress,
+    ) -> Result<Vec<Progress>, RunFault>
+        requires { 1 ≤ length self.now.values }
+        ensures done { IfOk result (λ v. (v.items ≡ step_runs (step_of statement.now) self.now ctrl.now from.now) × (length v.items ≤ 4096)) }
+        ensures fault { IfErr result (IsFaultAt self.now.thread (length (step_runs (step_of statement.now) self.now ctrl.now from.now))) }
+    {
+        match statement {
+            Statement::Empty => Ok(single(alloc, from.copy(alloc)?)?),
+            Statement::Block(statements) => {
+                self.perform_all(alloc, ctrl, statements.as_slice(), from)
+            }
+            Statement::Declare(declarators) => {
+                self.declare_all(alloc, ctrl, declarators.as_slice(), from)
+            }
+            Statement::Assign(register, right) => {
+                self.assign(alloc, ctrl, right, from, self.register(register))
+            }
+            Statement::Write(location, expression) => {
+                let content = self.content(from, expression);
+                let write = self.access(ctrl, Access::Write, location, Order::Na, content);
+                Ok(happen(alloc, from, write, None)?)
+            }
+            Statement::Perform(call) => self.call(alloc, ctrl, call, from, None),
+            Statement::If(expression, first, second) => {
+                let test = self.content(from, expression);
+                let inside = joined(ctrl, &test.reads);
+                if test.value != 0 {
+                    return self.perform(alloc, &inside, first, from);
+                }
+                match second {
+                    Some(second) => self.perform(alloc, &inside, second, from),
+                    None => Ok(single(alloc, from.copy(alloc)?)?),
+                }
+            }
+        }
+    }
+
+    /// Performs a statement after each of the ways.
+    #[cycle(performing)]
+    fn perform_each(
+        &self,
+        alloc: Global,
+        ctrl: &Set,
+        statement: &Statement,
+        starts: &[Progress],
+    ) -> Result<Vec<Progress>, RunFault>
+        requires { 1 ≤ length self.now.values }
+        ensures done { IfOk result (λ v. (v.items ≡ flat_map (step_runs (step_of statement.now) self.now ctrl.now) starts.now) × (length v.items ≤ 4096)) }
+        ensures fault { IfErr result (IsFaultAt self.now.thread (length (flat_map (step_runs (step_of statement.now) self.now ctrl.now) starts.now))) }
+    {
+        let mut ends = Vec::new(alloc);
+        for from in starts {
+            let more = self.perform(alloc, ctrl, statement, from)?;
+            self.append(&mut ends, more)?;
+        }
+        Ok(ends)
+    }
+
+    /// Performs statements, one after another, each under the same tests.
+    #[cycle(performing)]
+    pub(crate) fn perform_all(
+        &self,
+        alloc: Global,
+        ctrl: &Set,
+        statements: &[Statement],
+        from: &Progress,
+    ) -> Result<Vec<Progress>, RunFault>
+        requires { 1 ≤ length self.now.values }
+        ensures done { IfOk result (λ v. (v.items ≡ steps_runs (steps_of statements.now) self.now ctrl.now from.now) × (length v.items ≤ 4096)) }
+        ensures fault { IfErr result (IsFaultAt self.now.thread (length (steps_runs (steps_of statements.now) self.now ctrl.now from.now))) }
+    {
+        let mut ends = single(alloc, from.copy(alloc)?)?;
+        for statement in statements {
+            ends = self.perform_each(alloc, ctrl, statement, &ends)?;
+        }
+        Ok(ends)
+    }
+}
