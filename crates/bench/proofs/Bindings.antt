@@ -1,7 +1,7 @@
 -- The bindings of a state, written from the front.
 use Rattle.std.proofs.Common.{◌≡◌, ℕ, List, [], ◌∷◌, ◌++◌, map, codes, refl, sym, ap, append_assoc, append-nil, ◌⊎◌, inl, inr}
 use Rattle.std.specs.List.{join_with_byte, zip}
-use Rattle.litmus_c.specs.declared.conditions.place.Place.{Place}
+use Rattle.conditions.specs.declared.place.Place.{Place}
 use Rattle.bench.specs.Texts.{binding_text}
 
 -- what is left to write: a separator, a binding, and then the others, each behind a space

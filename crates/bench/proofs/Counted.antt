@@ -7,10 +7,10 @@ use Rattle.std.proofs.lemmas.List.Sums.{fold-append, sum_by-append}
 use Rattle.events.specs.declared.event.EventId.{EventId}
 use Rattle.events.specs.Executions.{Execution}
 use Rattle.listings.specs.Lists.{IsIn, Lists}
-use Rattle.litmus_c.specs.declared.conditions.place.Place.{Place}
-use Rattle.litmus_c.specs.declared.conditions.place.Place.TheVariants.{Reg, Loc}
+use Rattle.conditions.specs.declared.place.Place.{Place}
+use Rattle.conditions.specs.declared.place.Place.TheVariants.{Reg, Loc}
 use Rattle.litmus_c.specs.Tree.{Litmus}
-use Rattle.litmus_c.specs.States.{bindings, holds_in, AreObserved}
+use Rattle.conditions.specs.States.{bindings, holds_in, AreObserved}
 use Rattle.candidates.specs.Executions.{IsExecution}
 use Rattle.candidates.specs.Candidates.{found, some_of}
 use Rattle.bench.specs.declared.slices.tally.Tally.{Tally}

@@ -1,10 +1,10 @@
 -- The code of an outcome, by which the prover tells outcomes apart. No contract rests on it.
 use Rattle.std.specs.Prelude.{refl, ℕ, List}
 use Rattle.std.specs.Coded.{Coded, code_by, coded×, coded_list, coded_ℕ}
-use Rattle.litmus_c.specs.Conditions.{Condition}
+use Rattle.conditions.specs.Conditions.{Condition}
 use Rattle.litmus_c.specs.Codes.{coded_condition}
-use Rattle.litmus_c.specs.contracts.conditions.place.Place.{the_row as place_row}
-use Rattle.litmus_c.specs.declared.conditions.place.Place.{Place}
+use Rattle.conditions.specs.contracts.place.Place.{the_row as place_row}
+use Rattle.conditions.specs.declared.place.Place.{Place}
 use Rattle.bench.specs.Outcomes.{Outcome}
 
 abbrev pub coded_outcome : Coded Outcome

@@ -4,10 +4,10 @@ use Rattle.std.specs.Prelude.{ℕ, List, [], ◌∷◌, map, Bool, slice_index_o
 use Rattle.events.specs.declared.event.EventId.{EventId}
 use Rattle.events.specs.declared.event.EventId.TheVariants.{Initial}
 use Rattle.events.specs.Executions.{Execution}
-use Rattle.litmus_c.specs.declared.conditions.place.Place.{Place}
-use Rattle.litmus_c.specs.declared.conditions.place.Place.TheVariants.{Reg, Loc}
+use Rattle.conditions.specs.declared.place.Place.{Place}
+use Rattle.conditions.specs.declared.place.Place.TheVariants.{Reg, Loc}
 use Rattle.litmus_c.specs.Tree.{Litmus}
-use Rattle.litmus_c.specs.States.{bindings, holds_in}
+use Rattle.conditions.specs.States.{bindings, holds_in}
 use Rattle.c11_threads.specs.Runs.{place_of, thread_of}
 use Rattle.candidates.specs.Candidates.{run_at, write_value}
 

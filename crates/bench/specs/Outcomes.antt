@@ -1,10 +1,10 @@
 -- What a verdict says of a test.
 use Rattle.std.specs.Prelude.{ℕ, List, Bool}
 use Rattle.litmus_c.specs.Tree.{Word}
-use Rattle.litmus_c.specs.Conditions.{Formula}
-use Rattle.litmus_c.specs.States.{answers_ok}
-use Rattle.litmus_c.specs.declared.conditions.condition.Kind.{Kind}
-use Rattle.litmus_c.specs.declared.conditions.place.Place.{Place}
+use Rattle.conditions.specs.Conditions.{Formula}
+use Rattle.conditions.specs.States.{answers_ok}
+use Rattle.conditions.specs.declared.condition.Kind.{Kind}
+use Rattle.conditions.specs.declared.place.Place.{Place}
 
 -- The test's name and question, the observed places, how many executions have the proposition and how many have it
 -- not, the distinct final states as values at the observed places, and the raised flags.

@@ -1,8 +1,8 @@
 -- Where the final values of places stand in an execution.
 use Rattle.std.specs.Prelude.{ℕ}
 use Rattle.events.specs.Executions.{Execution}
-use Rattle.litmus_c.specs.declared.conditions.place.Place.{Place}
-use Rattle.litmus_c.specs.declared.conditions.place.Place.TheVariants.{Reg, Loc}
+use Rattle.conditions.specs.declared.place.Place.{Place}
+use Rattle.conditions.specs.declared.place.Place.TheVariants.{Reg, Loc}
 use Rattle.litmus_c.specs.Tree.{Litmus}
 use Rattle.c11_threads.specs.Runs.{place_of, thread_of}
 use Rattle.bench.specs.declared.slices.slot.Slot.{Slot}

@@ -4,7 +4,7 @@ use Rattle.std.specs.BTreeSet.{insert_key}
 use Rattle.std.specs.Cmp.Lexicographic.{slice_cmp}
 use Rattle.std.specs.Ordering.{nat_cmp}
 use Rattle.events.specs.Executions.{Execution}
-use Rattle.litmus_c.specs.declared.conditions.place.Place.{Place}
+use Rattle.conditions.specs.declared.place.Place.{Place}
 use Rattle.litmus_c.specs.Tree.{Litmus}
 use Rattle.bench.specs.declared.slices.tally.Tally.{Tally}
 use Rattle.bench.specs.Finals.{obs, has}

@@ -3,11 +3,11 @@
 use Rattle.std.specs.Prelude.{ℕ, List, [], ◌++◌, length, map, Bool, true, false, ◌==◌, ◌||◌, if◌then◌else◌, codes, decimal}
 use Rattle.std.specs.List.{flat_map, join_with_byte, zip}
 use Rattle.litmus_c.specs.Tree.{Word}
-use Rattle.litmus_c.specs.Conditions.{Formula, truth, falsehood, equals, negation, conjunction, disjunction, implication}
-use Rattle.litmus_c.specs.declared.conditions.condition.Kind.{Kind}
-use Rattle.litmus_c.specs.declared.conditions.condition.Kind.TheVariants.{Exists, NotExists, Forall}
-use Rattle.litmus_c.specs.declared.conditions.place.Place.{Place}
-use Rattle.litmus_c.specs.declared.conditions.place.Place.TheVariants.{Reg, Loc}
+use Rattle.conditions.specs.Conditions.{Formula, truth, falsehood, equals, negation, conjunction, disjunction, implication}
+use Rattle.conditions.specs.declared.condition.Kind.{Kind}
+use Rattle.conditions.specs.declared.condition.Kind.TheVariants.{Exists, NotExists, Forall}
+use Rattle.conditions.specs.declared.place.Place.{Place}
+use Rattle.conditions.specs.declared.place.Place.TheVariants.{Reg, Loc}
 use Rattle.bench.specs.Outcomes.{Outcome, is_ok}
 
 -- a register as `0:r0`

@@ -3,7 +3,7 @@ use Rattle.std.specs.Prelude.{◌≡◌, ℕ, ◌<◌, ◌⊎◌, List, [], ◌�
 use Rattle.events.specs.Executions.{Execution}
 use Rattle.listings.specs.Lists.{IsIn, Lists}
 use Rattle.litmus_c.specs.Tree.{Litmus}
-use Rattle.litmus_c.specs.States.{AreObserved}
+use Rattle.conditions.specs.States.{AreObserved}
 use Rattle.candidates.specs.Executions.{IsExecution}
 use Rattle.bench.specs.Finals.{obs, has}
 use Rattle.bench.specs.Outcomes.{Outcome}

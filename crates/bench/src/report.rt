@@ -3,14 +3,14 @@
 ghost use Rattle.std.specs.Prelude.{◌≡◌, ◌++◌, ◌∷◌, [], List, IfOk, OnErr, OnOk, true, length, codes, decimal, ◌||◌};
 ghost use Rattle.std.specs.Io.KnownBytes.{Appends};
 ghost use Rattle.std.specs.List.{flat_map};
-ghost use Rattle.litmus_c.specs.Conditions.{formula_of};
+ghost use Rattle.conditions.specs.Conditions.{formula_of};
 ghost use Rattle.wb_text.specs.Memory.{AppendsFront};
 ghost use Rattle.bench.specs.Writing.{Writes};
 ghost use Rattle.bench.specs.Texts as texts;
 
 use crate::slices::{Row, Verdict};
+use conditions::{Kind, Place, Prop};
 use itoa::Buffer;
-use litmus_c::conditions::{Kind, Place, Prop};
 use thiserror::Error;
 use wb_text::{Failed, Name, Sink, give_all};
 

@@ -3,7 +3,7 @@
 ghost use Rattle.std.specs.Prelude.{◌≡◌, ◌<◌, ◌≤◌, ◌∷◌, [], length, map, IfOk, IfErr};
 ghost use Rattle.events.specs.Executions.{no_places};
 ghost use Rattle.listings.specs.Lists.{Lists};
-ghost use Rattle.litmus_c.specs.States.{value_at};
+ghost use Rattle.conditions.specs.States.{value_at};
 ghost use Rattle.litmus_c.specs.Values.{values_of};
 ghost use Rattle.litmus_c.specs.Tree.{steps_of};
 ghost use Rattle.c11_threads.specs.Runs.{IsRun, thread_of, start, run_of};
@@ -15,7 +15,7 @@ use crate::fault::RunFault;
 use crate::progress::Progress;
 use crate::unroll::Setting;
 use events::{Run, no_places};
-use litmus_c::conditions::{Binding, Place};
+use conditions::{Binding, Place};
 use litmus_c::{Statement, Test};
 use std::alloc::{AllocError, Global};
 

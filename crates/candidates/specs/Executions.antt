@@ -7,8 +7,8 @@ use Rattle.events.specs.declared.event.EventId.{EventId}
 use Rattle.events.specs.declared.event.EventId.TheVariants.{Initial, Own}
 use Rattle.events.specs.Executions.{ThreadRun, Execution, is_read, writes_to}
 use Rattle.listings.specs.Lists.{Lists, StandsAt, ForEach, product_by, sum_of, factorial, tabulate}
-use Rattle.litmus_c.specs.declared.conditions.place.Place.TheVariants.{Loc}
-use Rattle.litmus_c.specs.States.{value_at}
+use Rattle.conditions.specs.declared.place.Place.TheVariants.{Loc}
+use Rattle.conditions.specs.States.{value_at}
 use Rattle.litmus_c.specs.Tree.{Litmus}
 use Rattle.c11_threads.specs.Runs.{IsRun}
 

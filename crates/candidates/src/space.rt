@@ -14,9 +14,9 @@ use crate::assembly::assemble;
 use crate::choosing::{RunList, choice, count_choices, locate, total};
 use crate::fault::{MOST_CANDIDATES, SpaceFault};
 use c11_threads::{initial_value, runs};
+use conditions::Place;
 use events::Graph;
 use litmus_c::Test;
-use litmus_c::conditions::Place;
 use std::alloc::{AllocError, Global};
 use std::marker::Model;
 

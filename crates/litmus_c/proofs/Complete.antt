@@ -8,21 +8,21 @@ use Rattle.descent.proofs.Tools.{Yields, Shows, moved}
 use Rattle.descent.proofs.Turns.{Arrives, last, next}
 use Rattle.events.specs.declared.event.Order.{Order}
 use Rattle.listings.specs.Lists.{IsIn}
-use Rattle.litmus_c.specs.declared.conditions.place.Binding.{Binding}
-use Rattle.litmus_c.specs.declared.conditions.place.Place.{Place}
-use Rattle.litmus_c.specs.declared.conditions.place.Place.TheVariants.{Reg, Loc}
-use Rattle.litmus_c.specs.declared.conditions.condition.Kind.TheVariants.{Exists as exists_kind}
+use Rattle.conditions.specs.declared.place.Binding.{Binding}
+use Rattle.conditions.specs.declared.place.Place.{Place}
+use Rattle.conditions.specs.declared.place.Place.TheVariants.{Reg, Loc}
+use Rattle.conditions.specs.declared.condition.Kind.TheVariants.{Exists as exists_kind}
 use Rattle.litmus_c.specs.declared.symbol.Symbol.{Symbol}
 use Rattle.litmus_c.specs.declared.symbol.Symbol.TheVariants.{Fixed, Name, Number, Word as head_word, Other}
 use Rattle.litmus_c.specs.declared.symbol.Terminal.{Terminal}
 use Rattle.litmus_c.specs.declared.symbol.Terminal.TheVariants.{Int, AtomicInt, Exists, AtomicLoadExplicit, AtomicStoreExplicit, LeftParen, RightParen, LeftBrace, RightBrace, LeftBracket, RightBracket, Semicolon, Colon, Comma, Assign, Star, And}
 use Rattle.litmus_c.specs.declared.tree.LocationKind.TheVariants.{Atomic}
 use Rattle.litmus_c.specs.declared.tree.Parameter.{Parameter}
-use Rattle.litmus_c.specs.Conditions.{Formula, equals, conjunction, Condition}
+use Rattle.conditions.specs.Conditions.{Formula, equals, conjunction, Condition}
 use Rattle.litmus_c.specs.Drafts.{Listing, Written, is_parameter}
 use Rattle.litmus_c.specs.Grammar.{IsLocation, location_name, location_bracket, IsPlace, place_register, place_location, IsType, type_int, type_atomic, IsUntyped, untyped_zero, untyped_value, IsEntry, entry_untyped, entry_typed, IsEntries, entries_none, entries_one, entries_empty, entries_more, IsParameter, parameter_atomic, IsNew, IsParameters, parameters_one, parameters_more as parameters_and, IsParameterList, list_none, list_some, IsExpression, expression_number, IsOrder, IsLoad, load_explicit, IsCall, call_load, call_store, IsRight, right_call, IsDeclarator, declarator_value, IsDeclarators, declarators_one, IsStep, step_empty, step_declare, step_assign, step_perform, IsSteps, steps_none, steps_more as steps_and, IsThread, thread_body, IsThreads, threads_one, threads_more as threads_and, IsProposition, proposition_or, IsOr, or_conjunction, IsConjunction, conjunction_atomic, conjunction_and, IsAtomic, atomic_paren, atomic_equals, IsCondition, condition_exists, IsWritten, written, Spells}
 use Rattle.litmus_c.specs.Reading.{Reading, syntax, after, expected, unless, name_at, number_look, number_at, before_name, open_at, location_at, register_at, place_at, bare, bound_at, behind_type, entry_at, ends_entry, entry_behind, entries_at, parameter_behind, parameters_more, parameters_at, parameters_closed, parameter_list_at, order_named, order_at, expression_at, target_at, last_order_at, load_at, stored_at, call_at, right_at, given_at, declarator_at, declarators_at, assignment_at, performed_at, declared_at, open_step_at, closed_step_at, step_at, steps_more, block_at, names_thread, thread_name_at, thread_at, threads_more, threads_at, equation_at, atomic_with, conjunction_more, proposition_with, below, condition_at, word_at, language_at, end_at, initial_at, test_at}
-use Rattle.litmus_c.specs.Tree.{Word, Term, number, Action, load, store, Right, value_of, Declared, Step, empty, declare, assign, perform}
+use Rattle.litmus_c.specs.Tree.{Word, Term, number, Action, load, store, Right, value_of, Declared, Step, empty, declare, assign, perform, Steps, no_steps, followed}
 use Rattle.litmus_c.proofs.Levels.{entries_turn_takes, parameters_turn_takes, steps_turn_takes, threads_turn_takes, conjunction_turn_takes}
 use Rattle.litmus_c.proofs.Spelled.{true_or_false}
 use Rattle.litmus_c.proofs.Symbols.{bytes_eq-refl, bytes_eq-true, after-first, expected-first, open-first, order-named}
@@ -296,17 +296,17 @@ step-opens (step_declare d) = record { is = refl }
 step-opens (step_assign d) = record { is = refl }
 step-opens (step_perform d) = record { is = (call-word d).brace }
 
-abbrev StepsTo : ℕ → List Symbol → List Symbol → List Step → Type 0
-StepsTo n ts rest ss = Arrives syntax (unless RightBrace) (steps_more n) (repeated syntax (unless RightBrace) (steps_more n) []) ts rest ss
+abbrev StepsTo : ℕ → List Symbol → List Symbol → Steps → Type 0
+StepsTo n ts rest ss = Arrives syntax (unless RightBrace) (steps_more n) (repeated syntax (unless RightBrace) (steps_more n) no_steps) ts rest ss
 
-step-more : (n : ℕ) (ss : List Step) {ts rest : List Symbol} {s : Step} → Yields (step_at n) ts rest s → Yields (steps_more n tt ss) ts rest (ss ++ s ∷ [])
+step-more : (n : ℕ) (ss : Steps) {ts rest : List Symbol} {s : Step} → Yields (step_at n) ts rest s → Yields (steps_more n tt ss) ts rest (followed ss s)
 unfolding steps_more
 step-more n ss y = record { is = rw y.is }
 
-steps-next : (n : ℕ) {ts mid rest : List Symbol} {ss rs : List Step} → StepsTo n ts mid ss → Shows (unless RightBrace) mid mid tt → Yields (steps_more n tt ss) mid rest rs → StepsTo n ts rest rs
+steps-next : (n : ℕ) {ts mid rest : List Symbol} {ss rs : Steps} → StepsTo n ts mid ss → Shows (unless RightBrace) mid mid tt → Yields (steps_more n tt ss) mid rest rs → StepsTo n ts rest rs
 steps-next n s o y = next syntax (unless RightBrace) (steps_more n) (steps_turn_takes n) s o y
 
-steps-arrive : {n : ℕ} {ts rest : List Symbol} {ss : List Step} → IsSteps n ts rest ss → StepsTo n ts rest ss
+steps-arrive : {n : ℕ} {ts rest : List Symbol} {ss : Steps} → IsSteps n ts rest ss → StepsTo n ts rest ss
 steps-arrive steps_none = record { is = refl }
 steps-arrive (steps_and {n} {ss = ss} d e) = steps-next n (steps-arrive d) (step-opens e) (step-more n ss (step-complete e))
 
@@ -314,7 +314,7 @@ closed : (ts : List Symbol) → unless RightBrace (Fixed RightBrace ∷ ts) ≡ 
 unfolding unless
 closed ts = rw (after-first RightBrace ts)
 
-block-complete : {n : ℕ} {ts rest : List Symbol} {ss : List Step} → IsSteps n ts (Fixed RightBrace ∷ rest) ss → Yields (block_at n) ts rest ss
+block-complete : {n : ℕ} {ts rest : List Symbol} {ss : Steps} → IsSteps n ts (Fixed RightBrace ∷ rest) ss → Yields (block_at n) ts rest ss
 unfolding block_at
 block-complete {rest = rest} d = record { is = rw ((last (steps-arrive d) (closed rest)).is, expected-first RightBrace rest) }
 

@@ -4,17 +4,16 @@ use Rattle.std.specs.Prelude.{Some, None, Ok, ◌++◌}
 use Rattle.descent.specs.Reading.{match_option, ◌>>=◌, repeated}
 use Rattle.descent.proofs.Tools.{bind_ok, moved}
 use Rattle.descent.proofs.Turns.{repeated-more, items-more}
-use Rattle.litmus_c.specs.declared.conditions.place.Binding.{Binding}
+use Rattle.conditions.specs.declared.place.Binding.{Binding}
 use Rattle.litmus_c.specs.declared.symbol.Symbol.{Symbol}
 use Rattle.litmus_c.specs.declared.symbol.Terminal.{Terminal}
 use Rattle.litmus_c.specs.declared.symbol.Terminal.TheVariants.{RightBrace, Semicolon, Comma, And}
 use Rattle.litmus_c.specs.declared.tree.Parameter.{Parameter}
-use Rattle.litmus_c.specs.Conditions.{Formula, conjunction}
+use Rattle.conditions.specs.Conditions.{Formula, conjunction}
 use Rattle.litmus_c.specs.Drafts.{Listing, listing_of}
 use Rattle.litmus_c.specs.declared.draft.Body.{Body}
-use Rattle.litmus_c.specs.declared.tree.Statement.{Statement}
 use Rattle.litmus_c.specs.Reading.{syntax, after, unless, before_name, entry_behind, parameter_behind, parameters_more, step_at, steps_more, thread_at, threads_more, atomic_with, conjunction_more, below}
-use Rattle.litmus_c.specs.Tree.{Step, step_of}
+use Rattle.litmus_c.specs.Tree.{Step, Steps, followed}
 use Rattle.litmus_c.proofs.Shorter.{entry_shorter, parameter_shorter, step_shorter, thread_shorter, atomic_shorter}
 use Rattle.litmus_c.proofs.Sound.{entry_behind-sound, parameter-sound, step-sound, thread-sound, atomic_is}
 use Rattle.litmus_c.proofs.Symbols.{after-some, unless-same, before_name-same}
@@ -35,7 +34,7 @@ parameters_more_takes ps qs ts rest e =
     let x = bind_ok (parameter_behind ps ts) _ _ e in
     moved (λ l t. length l < length ts) x.2 (parameter_shorter (parameter-sound ps x.0.0 ts x.0.1 x.1).0)
 
-pub steps_more_takes : (n : ℕ) (ss rs : List Step) (ts rest : List Symbol) → steps_more n tt ss ts ≡ Ok (rs, rest) → length rest < length ts
+pub steps_more_takes : (n : ℕ) (ss rs : Steps) (ts rest : List Symbol) → steps_more n tt ss ts ≡ Ok (rs, rest) → length rest < length ts
 unfolding steps_more
 steps_more_takes n ss rs ts rest e =
     let x = bind_ok (step_at n ts) _ _ e in
@@ -61,7 +60,7 @@ entries_turn_takes ts mid rest o a b e f = omega (arith, after_takes Semicolon t
 pub parameters_turn_takes : (ts mid rest : List Symbol) (o : Unit {0}) (a b : List Parameter) → after Comma ts ≡ Some (o, mid) → parameters_more a mid ≡ Ok (b, rest) → length rest < length ts
 parameters_turn_takes ts mid rest o a b e f = omega (arith, after_takes Comma ts mid o e, parameters_more_takes a b mid rest f)
 
-pub steps_turn_takes : (n : ℕ) (ts mid rest : List Symbol) (o : Unit {0}) (a b : List Step) → unless RightBrace ts ≡ Some (o, mid) → steps_more n o a mid ≡ Ok (b, rest) → length rest < length ts
+pub steps_turn_takes : (n : ℕ) (ts mid rest : List Symbol) (o : Unit {0}) (a b : Steps) → unless RightBrace ts ≡ Some (o, mid) → steps_more n o a mid ≡ Ok (b, rest) → length rest < length ts
 steps_turn_takes n ts mid rest o a b e f = omega (arith, ap length (unless-same RightBrace ts mid o e), steps_more_takes n a b mid rest f)
 
 pub threads_turn_takes : (n : ℕ) (ts mid rest : List Symbol) (o : Unit {0}) (a b : List Listing) → before_name ts ≡ Some (o, mid) → threads_more n o a mid ≡ Ok (b, rest) → length rest < length ts
@@ -82,11 +81,11 @@ pub parameters_turn : (a : List Parameter) (ts : List Symbol) →
     match_option (after Comma ts) (Ok (a, ts)) (λ x. parameters_more a x.1 >>= λ y. repeated syntax (after Comma) (λ _ ps us. parameters_more ps us) y.0 y.1)
 parameters_turn = repeated-more syntax (after Comma) (λ _ ps us. parameters_more ps us) parameters_turn_takes
 
-pub steps_turn : (n : ℕ) (a : List Step) (ts : List Symbol) →
+pub steps_turn : (n : ℕ) (a : Steps) (ts : List Symbol) →
     repeated syntax (unless RightBrace) (steps_more n) a ts ≡
-    match_option (unless RightBrace ts) (Ok (a, ts)) (λ x. step_at n x.1 >>= λ y. repeated syntax (unless RightBrace) (steps_more n) (a ++ y.0 ∷ []) y.1)
+    match_option (unless RightBrace ts) (Ok (a, ts)) (λ x. step_at n x.1 >>= λ y. repeated syntax (unless RightBrace) (steps_more n) (followed a y.0) y.1)
 unfolding steps_more
-steps_turn n = items-more syntax (unless RightBrace) (steps_more n) (steps_turn_takes n) (λ _ ts. step_at n ts) (λ ss s. ss ++ s ∷ []) (λ o a ts. refl)
+steps_turn n = items-more syntax (unless RightBrace) (steps_more n) (steps_turn_takes n) (λ _ ts. step_at n ts) followed (λ o a ts. refl)
 
 pub threads_turn : (n : ℕ) (a : List Listing) (ts : List Symbol) →
     repeated syntax before_name (threads_more n) a ts ≡
@@ -112,10 +111,6 @@ pub atomic_takes : (n : ℕ) (ts rest : List Symbol) (a : Formula) → atomic_wi
 atomic_takes n ts rest a e = atomic_shorter (atomic_is n ts rest a e)
 
 -- one more element
-
-pub steps_push : (xs : List Statement) (s : Statement) → map step_of (xs ++ s ∷ []) ≡ map step_of xs ++ step_of s ∷ []
-steps_push [] s = refl
-steps_push (x ∷ xs) s = ap (λ l. step_of x ∷ l) (steps_push xs s)
 
 pub listings_push : (xs : List Body) (b : Body) → map listing_of (xs ++ b ∷ []) ≡ map listing_of xs ++ listing_of b ∷ []
 listings_push [] b = refl

@@ -1,16 +1,12 @@
-pub mod Bindings
 pub mod Complete
 pub mod Distinct
 pub mod Fair
 pub mod Found
-pub mod InOrder
 pub mod Kept
 pub mod Levels
 pub mod Names
-pub mod ObservedPlaces
-pub mod Places
 pub mod Shorter
 pub mod Sound
 pub mod Spelled
-pub mod StateValues
+pub mod Steps
 pub mod Symbols

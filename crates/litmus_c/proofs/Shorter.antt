@@ -1,13 +1,13 @@
 -- Each part takes a symbol; entries and statements may take none.
 use Rattle.std.proofs.Common.{ℕ, ◌<◌, ◌≤◌, List, length, arith}
-use Rattle.litmus_c.specs.declared.conditions.place.Binding.{Binding}
-use Rattle.litmus_c.specs.declared.conditions.place.Place.{Place}
+use Rattle.conditions.specs.declared.place.Binding.{Binding}
+use Rattle.conditions.specs.declared.place.Place.{Place}
 use Rattle.litmus_c.specs.declared.symbol.Symbol.{Symbol}
 use Rattle.litmus_c.specs.declared.tree.Parameter.{Parameter}
-use Rattle.litmus_c.specs.Conditions.{Formula}
+use Rattle.conditions.specs.Conditions.{Formula}
 use Rattle.litmus_c.specs.Drafts.{Listing}
 use Rattle.litmus_c.specs.Grammar.{IsLocation, location_name, location_bracket, IsPlace, place_register, place_location, IsUntyped, untyped_zero, untyped_value, IsEntry, entry_untyped, entry_typed, IsEntries, entries_none, entries_one, entries_empty, entries_more, IsParameter, parameter_atomic, IsParameters, parameters_one, parameters_more, IsParameterList, list_none, list_some, IsExpression, expression_number, IsLoad, load_explicit, IsCall, call_load, call_store, IsRight, right_call, IsDeclarator, declarator_value, IsDeclarators, declarators_one, IsStep, step_empty, step_declare, step_assign, step_perform, IsSteps, steps_none, steps_more, IsThread, thread_body, IsThreads, threads_one, threads_more, IsProposition, proposition_or, IsOr, or_conjunction, IsConjunction, conjunction_atomic, conjunction_and, IsAtomic, atomic_paren, atomic_equals}
-use Rattle.litmus_c.specs.Tree.{Word, Term, Action, Right, Declared, Step}
+use Rattle.litmus_c.specs.Tree.{Word, Term, Action, Right, Declared, Step, Steps}
 
 location_shorter : {ts rest : List Symbol} {x : Word} → IsLocation ts rest x → length rest < length ts
 location_shorter location_name = omega arith
@@ -61,7 +61,7 @@ step_shorter (step_declare d) = omega (arith, declarators_shorter d)
 step_shorter (step_assign d) = omega (arith, right_shorter d)
 step_shorter (step_perform d) = omega (arith, call_shorter d)
 
-steps_shorter : {n : ℕ} {ts rest : List Symbol} {ss : List Step} → IsSteps n ts rest ss → length rest ≤ length ts
+steps_shorter : {n : ℕ} {ts rest : List Symbol} {ss : Steps} → IsSteps n ts rest ss → length rest ≤ length ts
 steps_shorter steps_none = omega arith
 steps_shorter (steps_more d e) = omega (arith, steps_shorter d, step_shorter e)
 

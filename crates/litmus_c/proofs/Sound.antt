@@ -9,20 +9,20 @@ use Rattle.descent.proofs.Tools.{bind_ok, cases_of, none_or_some, moved, chosen}
 use Rattle.descent.proofs.Turns.{repeated-keeps}
 use Rattle.events.specs.declared.event.Order.{Order}
 use Rattle.listings.specs.Lists.{IsIn}
-use Rattle.litmus_c.specs.declared.conditions.place.Binding.{Binding}
-use Rattle.litmus_c.specs.declared.conditions.place.Place.{Place}
-use Rattle.litmus_c.specs.declared.conditions.place.Place.TheVariants.{Reg, Loc}
+use Rattle.conditions.specs.declared.place.Binding.{Binding}
+use Rattle.conditions.specs.declared.place.Place.{Place}
+use Rattle.conditions.specs.declared.place.Place.TheVariants.{Reg, Loc}
 use Rattle.litmus_c.specs.declared.symbol.Symbol.{Symbol}
 use Rattle.litmus_c.specs.declared.symbol.Symbol.TheVariants.{Fixed, Name, Number, Word as head_word, Other}
 use Rattle.litmus_c.specs.declared.symbol.Terminal.{Terminal}
 use Rattle.litmus_c.specs.declared.symbol.Terminal.TheVariants.{Int, AtomicInt, Exists, AtomicLoadExplicit, AtomicStoreExplicit, LeftParen, RightParen, LeftBrace, RightBrace, LeftBracket, RightBracket, Semicolon, Colon, Comma, Assign, Star, And}
 use Rattle.litmus_c.specs.declared.tree.LocationKind.TheVariants.{Atomic}
 use Rattle.litmus_c.specs.declared.tree.Parameter.{Parameter}
-use Rattle.litmus_c.specs.Conditions.{Formula, equals, conjunction, Condition}
+use Rattle.conditions.specs.Conditions.{Formula, equals, conjunction, Condition}
 use Rattle.litmus_c.specs.Drafts.{Listing, Written, is_parameter}
 use Rattle.litmus_c.specs.Grammar.{IsLocation, location_name, location_bracket, IsPlace, place_register, place_location, IsType, type_int, type_atomic, IsUntyped, untyped_zero, untyped_value, IsEntry, entry_untyped, entry_typed, IsEntries, entries_none, entries_one, entries_empty, entries_more, IsParameter, parameter_atomic, IsNew, IsParameters, parameters_one, parameters_more as parameters_and, IsParameterList, list_none, list_some, IsExpression, expression_number, IsOrder, IsLoad, load_explicit, IsCall, call_load, call_store, IsRight, right_call, IsDeclarator, declarator_value, IsDeclarators, declarators_one, IsStep, step_empty, step_declare, step_assign, step_perform, IsSteps, steps_none, steps_more as steps_and, IsThread, thread_body, IsThreads, threads_one, threads_more as threads_and, IsProposition, proposition_or, IsOr, or_conjunction, IsConjunction, conjunction_atomic, conjunction_and, IsAtomic, atomic_paren, atomic_equals, IsCondition, condition_exists, IsWritten, written, Spells}
 use Rattle.litmus_c.specs.Reading.{Reading, syntax, after, expected, unless, name_at, number_look, number_at, before_name, open_at, location_at, register_at, place_at, bare, bound_at, behind_type, entry_at, ends_entry, entry_behind, entries_at, parameter_behind, parameters_more, parameters_at, parameters_closed, parameter_list_at, order_at, expression_at, target_at, last_order_at, load_at, stored_at, call_at, right_at, given_at, declarator_at, declarators_at, assignment_at, performed_at, declared_at, open_step_at, closed_step_at, step_at, steps_more, block_at, names_thread, thread_name_at, thread_at, threads_more, threads_at, equation_at, atomic_with, conjunction_more, proposition_with, below, condition_at, word_at, language_at, end_at, initial_at, test_at}
-use Rattle.litmus_c.specs.Tree.{Word, Term, number, Action, load, store, Right, value_of, Declared, Step, empty, declare, assign, perform}
+use Rattle.litmus_c.specs.Tree.{Word, Term, number, Action, load, store, Right, value_of, Declared, Step, empty, declare, assign, perform, Steps, no_steps, followed}
 use Rattle.litmus_c.proofs.Symbols.{bytes_eq-true, bytes_eq-false, after-some, expected-ok, unless-same, name-ok, number_look-some, number-ok, word-ok, before_name-same, open-ok, order-ok}
 
 -- what r reads is so
@@ -345,7 +345,7 @@ step-sound n ts rest s e =
 block-sound : (n : ℕ) → Sound (block_at n) (λ ts rest ss. IsSteps n ts (Fixed RightBrace ∷ rest) ss)
 unfolding block_at steps_more
 block-sound n ts rest ss e =
-    let x = bind_ok (repeated syntax (unless RightBrace) (steps_more n) [] ts) _ _ e in
+    let x = bind_ok (repeated syntax (unless RightBrace) (steps_more n) no_steps ts) _ _ e in
     let y = bind_ok (expected RightBrace x.0.1) _ _ x.2 in
     moved (λ l t. IsSteps n ts (Fixed RightBrace ∷ l) t) y.2
     (subst (λ l. IsSteps n ts l x.0.0) (expected-ok RightBrace x.0.1 y.0.1 y.0.0 y.1)
@@ -353,7 +353,7 @@ block-sound n ts rest ss e =
     (λ o us mid back a b d was f.
     let s = bind_ok (step_at n mid) _ _ f in
     moved (λ l t. IsSteps n ts l t) s.2 (steps_and d (subst (λ l. IsStep n l s.0.1 s.0.0) (unless-same RightBrace us mid o was) (step-sound n mid s.0.1 s.0.0 s.1))))
-    [] ts x.0.0 x.0.1 steps_none x.1))
+    no_steps ts x.0.0 x.0.1 steps_none x.1))
 
 -- Threads.
 
@@ -480,6 +480,6 @@ test-sound n ts rest w e =
           let whole : IsEntries y.0.1 (Fixed RightBrace ∷ i.0.1) i.0.0 = moved (λ l t. IsEntries y.0.1 (Fixed RightBrace ∷ l) t) z.2 entries in
           let ending : IsCondition n ps.0.1 [] k.0.0 = subst (λ l. IsCondition n ps.0.1 l k.0.0) ends.0 (condition-sound n ps.0.1 k.0.1 k.0.0 k.1) in
           moved (λ l t. IsWritten n ts [] t × (l ≡ [])) f.2
-          (subst (λ l. IsWritten n l [] (record { name = x.0.0; entries = i.0.0; threads = ps.0.0; condition = k.0.0 })) (sym head) (written whole (threads-sound n i.0.1 ps.0.1 ps.0.0 ps.1) ending), ends.1)
+          (subst (λ l. IsWritten n l [] (record { name = x.0.0; entries = i.0.0; threads = ps.0.0; listed = []; condition = k.0.0 })) (sym head) (written whole (threads-sound n i.0.1 ps.0.1 ps.0.0 ps.1) ending), ends.1)
       | inr g ↦ let h = g.1 in absurd (cc)
     ]

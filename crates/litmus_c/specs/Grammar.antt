@@ -7,19 +7,19 @@ use Rattle.std.proofs.Common.{suc}
 use Rattle.listings.specs.Lists.{IsIn}
 use Rattle.events.specs.declared.event.Order.{Order}
 use Rattle.events.specs.declared.event.Order.TheVariants.{Rlx}
-use Rattle.litmus_c.specs.declared.conditions.place.Binding.{Binding}
-use Rattle.litmus_c.specs.declared.conditions.place.Place.{Place}
-use Rattle.litmus_c.specs.declared.conditions.place.Place.TheVariants.{Reg, Loc}
-use Rattle.litmus_c.specs.declared.conditions.condition.Kind.TheVariants.{Exists as exists_kind}
+use Rattle.conditions.specs.declared.place.Binding.{Binding}
+use Rattle.conditions.specs.declared.place.Place.{Place}
+use Rattle.conditions.specs.declared.place.Place.TheVariants.{Reg, Loc}
+use Rattle.conditions.specs.declared.condition.Kind.TheVariants.{Exists as exists_kind}
 use Rattle.litmus_c.specs.declared.symbol.Symbol.{Symbol}
 use Rattle.litmus_c.specs.declared.symbol.Symbol.TheVariants.{Fixed, Name, Number, Word as head_word}
 use Rattle.litmus_c.specs.declared.symbol.Terminal.{Terminal}
 use Rattle.litmus_c.specs.declared.symbol.Terminal.TheVariants.{Int, AtomicInt, Exists, AtomicLoadExplicit, AtomicStoreExplicit, LeftParen, RightParen, LeftBrace, RightBrace, LeftBracket, RightBracket, Semicolon, Colon, Comma, Assign, Star, And}
 use Rattle.litmus_c.specs.declared.tree.LocationKind.TheVariants.{Atomic}
 use Rattle.litmus_c.specs.declared.tree.Parameter.{Parameter}
-use Rattle.litmus_c.specs.Conditions.{Formula, equals, conjunction, Condition}
+use Rattle.conditions.specs.Conditions.{Formula, equals, conjunction, Condition}
 use Rattle.litmus_c.specs.Drafts.{Listing, Written}
-use Rattle.litmus_c.specs.Tree.{Word, Term, number, Action, load, store, Right, value_of, Declared, Step, empty, declare, assign, perform}
+use Rattle.litmus_c.specs.Tree.{Word, Term, number, Action, load, store, Right, value_of, Declared, Step, empty, declare, assign, perform, Steps, no_steps, followed}
 
 -- Places and the initial state.
 
@@ -119,15 +119,15 @@ pub data IsStep : ℕ → List Symbol → List Symbol → Step → Type 0 where
   step_perform : {n : ℕ} {ts rest : List Symbol} {a : Action} → IsCall n ts (Fixed Semicolon ∷ rest) a → IsStep n ts rest (perform a)
 
 -- statements := nothing | statements statement
-pub data IsSteps : ℕ → List Symbol → List Symbol → List Step → Type 0 where
-  steps_none : {n : ℕ} {ts : List Symbol} → IsSteps n ts ts []
-  steps_more : {n : ℕ} {ts mid rest : List Symbol} {ss : List Step} {s : Step} → IsSteps n ts mid ss → IsStep n mid rest s → IsSteps n ts rest (ss ++ s ∷ [])
+pub data IsSteps : ℕ → List Symbol → List Symbol → Steps → Type 0 where
+  steps_none : {n : ℕ} {ts : List Symbol} → IsSteps n ts ts no_steps
+  steps_more : {n : ℕ} {ts mid rest : List Symbol} {ss : Steps} {s : Step} → IsSteps n ts mid ss → IsStep n mid rest s → IsSteps n ts rest (followed ss s)
 
 -- Threads.
 
 -- thread k := "P" k "(" [parameters] ")" "{" statements "}"
 pub data IsThread : ℕ → ℕ → List Symbol → List Symbol → Listing → Type 0 where
-  thread_body : {n k : ℕ} {ts us rest : List Symbol} {ps : List Parameter} {ss : List Step} →
+  thread_body : {n k : ℕ} {ts us rest : List Symbol} {ps : List Parameter} {ss : Steps} →
       IsParameterList n ts (Fixed LeftBrace ∷ us) ps → IsSteps n us (Fixed RightBrace ∷ rest) ss →
       IsThread n k (Name (codes "P" ++ decimal k) ∷ ts) rest (record { parameters = ps; steps = ss })
 
@@ -167,7 +167,7 @@ pub data IsCondition : ℕ → List Symbol → List Symbol → Condition → Typ
 pub data IsWritten : ℕ → List Symbol → List Symbol → Written → Type 0 where
   written : {n : ℕ} {x : Word} {ts us vs rest : List Symbol} {bs : List Binding} {ls : List Listing} {c : Condition} →
       IsEntries ts (Fixed RightBrace ∷ us) bs → IsThreads n us vs ls → IsCondition n vs rest c →
-      IsWritten n (head_word (codes "C") ∷ head_word x ∷ Fixed LeftBrace ∷ ts) rest (record { name = x; entries = bs; threads = ls; condition = c })
+      IsWritten n (head_word (codes "C") ∷ head_word x ∷ Fixed LeftBrace ∷ ts) rest (record { name = x; entries = bs; threads = ls; listed = []; condition = c })
 
 -- The whole of the symbols is the test, which nests at most 32 deep.
 abbrev pub Spells : List Symbol → Written → Type 0

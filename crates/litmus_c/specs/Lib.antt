@@ -1,15 +1,10 @@
 pub mod Codes
-pub mod Conditions
 pub mod Drafts
-pub mod Equality
-pub mod Exact
 pub mod Grammar
 pub mod Limits
 pub mod Reading
 pub mod Reads
 pub mod Rules
-pub mod StateExamples
-pub mod States
 pub mod Symbols
 pub mod Tree
 pub mod Values

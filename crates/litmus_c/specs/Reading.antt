@@ -10,10 +10,10 @@ use Rattle.events.specs.declared.event.Order.{Order}
 use Rattle.events.specs.declared.event.Order.TheVariants.{Rlx}
 use Rattle.wb_text.specs.declared.fault.TextFault.{TextFault}
 use Rattle.wb_text.specs.declared.fault.TextFault.TheVariants as text_faults
-use Rattle.litmus_c.specs.declared.conditions.place.Binding.{Binding}
-use Rattle.litmus_c.specs.declared.conditions.place.Place.{Place}
-use Rattle.litmus_c.specs.declared.conditions.place.Place.TheVariants.{Reg, Loc}
-use Rattle.litmus_c.specs.declared.conditions.condition.Kind.TheVariants.{Exists as exists_kind}
+use Rattle.conditions.specs.declared.place.Binding.{Binding}
+use Rattle.conditions.specs.declared.place.Place.{Place}
+use Rattle.conditions.specs.declared.place.Place.TheVariants.{Reg, Loc}
+use Rattle.conditions.specs.declared.condition.Kind.TheVariants.{Exists as exists_kind}
 use Rattle.litmus_c.specs.contracts.symbol.TerminalPartialEq.TheImpl.{ghosts}
 use Rattle.litmus_c.specs.declared.symbol.Symbol.{Symbol}
 use Rattle.litmus_c.specs.declared.symbol.Symbol.TheVariants.{Fixed, Name, Number, Word as head_word, Other}
@@ -22,12 +22,12 @@ use Rattle.litmus_c.specs.declared.symbol.Terminal.TheVariants.{Int, AtomicInt, 
 use Rattle.litmus_c.specs.declared.fault.TestFault.{TestFault}
 use Rattle.litmus_c.specs.declared.fault.TestFault.TheVariants as faults
 use Rattle.litmus_c.specs.declared.syntax_fault.SyntaxFault.{SyntaxFault}
-use Rattle.litmus_c.specs.declared.syntax_fault.SyntaxFault.TheVariants.{Syntax, TooDeep, NoMemory}
+use Rattle.litmus_c.specs.declared.syntax_fault.SyntaxFault.TheVariants.{Syntax, BadOrder, Unsupported, TooDeep, NoMemory}
 use Rattle.litmus_c.specs.declared.tree.LocationKind.TheVariants.{Atomic}
 use Rattle.litmus_c.specs.declared.tree.Parameter.{Parameter}
-use Rattle.litmus_c.specs.Conditions.{Formula, equals, conjunction, Condition}
+use Rattle.conditions.specs.Conditions.{Formula, equals, conjunction, Condition}
 use Rattle.litmus_c.specs.Drafts.{Listing, Written, is_parameter}
-use Rattle.litmus_c.specs.Tree.{Word, Term, number, Action, load, store, Right, value_of, Declared, Step, empty, declare, assign, perform}
+use Rattle.litmus_c.specs.Tree.{Word, Term, number, Action, load, store, Right, value_of, Declared, Step, empty, declare, assign, perform, Steps, no_steps, followed}
 
 -- why there is no reading
 pub data Cause : Type 0 where
@@ -42,6 +42,8 @@ abbrev pub Gives : {X A : Type 0} → (X → A) → Result X SyntaxFault → Lis
 Gives view (Ok x) rest read = read ≡ Ok (view x, rest)
 Gives view (Err NoMemory) rest read = Unit {0}
 Gives view (Err (Syntax p)) rest read = read ≡ Err syntax
+Gives view (Err BadOrder) rest read = read ≡ Err syntax
+Gives view (Err (Unsupported w)) rest read = read ≡ Err syntax
 Gives view (Err TooDeep) rest read = read ≡ Err deep
 
 -- single symbols
@@ -273,15 +275,15 @@ closed_step_at n ts = do
 unfoldable pub step_at : ℕ → List Symbol → Reading Step
 step_at n ts = match_option (after Semicolon ts) (closed_step_at n ts) (λ y. Ok (empty, y.1))
 
-unfoldable pub steps_more : ℕ → Unit {0} → List Step → List Symbol → Reading (List Step)
+unfoldable pub steps_more : ℕ → Unit {0} → Steps → List Symbol → Reading Steps
 steps_more n _ ss ts = do
   s ← step_at n ts
-  Ok (ss ++ s.0 ∷ [], s.1)
+  Ok (followed ss s.0, s.1)
 
 -- statements up to a brace, and the brace
-unfoldable pub block_at : ℕ → List Symbol → Reading (List Step)
+unfoldable pub block_at : ℕ → List Symbol → Reading Steps
 block_at n ts = do
-  x ← repeated syntax (unless RightBrace) (steps_more n) [] ts
+  x ← repeated syntax (unless RightBrace) (steps_more n) no_steps ts
   y ← expected RightBrace x.1
   Ok (x.0, y.1)
 
@@ -380,18 +382,22 @@ test_at n ts = do
   ps ← threads_at n bs.1
   c ← condition_at n ps.1
   e ← end_at c.1
-  Ok (record { name = x.0; entries = bs.0; threads = ps.0; condition = c.0 }, e.1)
+  Ok (record { name = x.0; entries = bs.0; threads = ps.0; listed = []; condition = c.0 }, e.1)
 
 -- The same where nothing is left to read.
 abbrev pub GivesAll : {X A : Type 0} → (X → A) → Result X SyntaxFault → Reading A → Type 0
 GivesAll view (Ok x) read = read ≡ Ok (view x, [])
 GivesAll view (Err NoMemory) read = Unit {0}
 GivesAll view (Err (Syntax p)) read = read ≡ Err syntax
+GivesAll view (Err BadOrder) read = read ≡ Err syntax
+GivesAll view (Err (Unsupported w)) read = read ≡ Err syntax
 GivesAll view (Err TooDeep) read = read ≡ Err deep
 
 -- the refusal that a fault of the grammar is
 abbrev pub refusal : SyntaxFault → TestFault
 refusal (Syntax p) = faults.Syntax p
+refusal BadOrder = faults.BadOrder
+refusal (Unsupported w) = faults.Unsupported w
 refusal TooDeep = faults.TooDeep
 refusal NoMemory = faults.NoMemory
 

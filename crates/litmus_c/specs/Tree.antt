@@ -1,8 +1,8 @@
 -- Litmus tests as trees, apart from where they lie in memory. (herd7 manual, C litmus tests; ISO/IEC 9899:2011, 7.17.)
 use Rattle.std.specs.Prelude.{ℕ, List, [], ◌∷◌, map, Option, None, Some}
 use Rattle.events.specs.declared.event.Order.{Order}
-use Rattle.litmus_c.specs.declared.conditions.place.Binding.{Binding}
-use Rattle.litmus_c.specs.declared.conditions.place.Place.{Place}
+use Rattle.conditions.specs.declared.place.Binding.{Binding}
+use Rattle.conditions.specs.declared.place.Place.{Place}
 use Rattle.litmus_c.specs.declared.tree.Parameter.{Parameter}
 use Rattle.litmus_c.specs.declared.tree.Expression.{Expression, Number, Register, Not', Equal', Unequal', And', Or'}
 use Rattle.litmus_c.specs.declared.tree.Call as calls
@@ -13,7 +13,7 @@ use Rattle.litmus_c.specs.declared.tree.Declarator.{Declarator}
 use Rattle.litmus_c.specs.declared.tree.Statement.{Statement}
 use Rattle.litmus_c.specs.declared.tree.Statement.TheFolds.{fold-Statement}
 use Rattle.litmus_c.specs.declared.tree.Statement.TheOpen.{Statement-F}
-use Rattle.litmus_c.specs.Conditions.{Condition}
+use Rattle.conditions.specs.Conditions.{Condition}
 
 -- the bytes of a name
 abbrev pub Word : Type 0

@@ -1,7 +1,7 @@
 -- The values of a test: 0, 1, and every constant of its initial state and of its programs.
 use Rattle.std.specs.Prelude.{◌≡◌, ℕ, ◌⊎◌, List, [], ◌∷◌, ◌++◌, map, Option, None, Some, if◌then◌else◌, ◌==◌}
 use Rattle.std.specs.List.{flat_map, list_any}
-use Rattle.litmus_c.specs.declared.conditions.place.Binding.{Binding}
+use Rattle.conditions.specs.declared.place.Binding.{Binding}
 use Rattle.listings.specs.Lists.{IsIn}
 use Rattle.litmus_c.specs.Tree.{Term, number, held, denied, equal, unequal, both, either, Action, load, store, exchange, fence, Right, computed, plain_read, value_of, Step, empty, block, declare, assign, plain_write, perform, if_only, if_else, Steps, no_steps, in_turn, Program, Litmus}
 

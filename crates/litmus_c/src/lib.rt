@@ -1,7 +1,6 @@
-//! C litmus tests: their trees, their conditions, and the reader.
+//! C litmus tests: their trees, and the reader.
 #![tactic(auto)]
 
-pub mod conditions;
 mod draft;
 mod fault;
 pub mod laws;

@@ -2,17 +2,17 @@
 
 ghost use Rattle.std.specs.Prelude.{◌≡◌, ◌≤◌, ◌∷◌, ◌++◌, [], ℕ, List, length, map, Option, Some, None, Ok, Err, IfOk, IfErr, MatchBool, MatchOption, MatchResult};
 ghost use Rattle.std.proofs.Common.{suc};
-ghost use Rattle.litmus_c.specs.Conditions.{formula_of};
+ghost use Rattle.conditions.specs.Conditions.{formula_of};
 ghost use Rattle.litmus_c.specs.Drafts.{is_parameter, listing_of, written_of};
 ghost use Rattle.litmus_c.specs.Reading.{Gives, GivesAll, next_at, after, expected, name_at, number_look, number_at, before_name, open_at, location_at, register_at, place_at, bound_at, behind_type, entry_at, ends_entry, entry_behind, entries_at, parameter_behind, parameters_more, parameters_at, parameters_closed, parameter_list_at, order_named, order_at, expression_at, target_at, last_order_at, load_at, stored_at, call_at, right_at, given_at, declarator_at, declarators_at, assignment_at, open_step_at, step_at, steps_more, block_at, names_thread, thread_name_at, thread_at, threads_at, equation_at, atomic_with, proposition_with, below, condition_at, word_at, language_at, end_at, initial_at, test_at};
-ghost use Rattle.litmus_c.specs.Tree.{term_of, action_of, right_of, declared_of, step_of};
+ghost use Rattle.litmus_c.specs.Tree.{term_of, action_of, right_of, declared_of, step_of, steps_of};
 
-use crate::conditions::{Binding, Cond, Kind, Place, Prop};
 use crate::draft::{Body, Draft};
 use crate::rules::is_parameter;
 use crate::symbol::{Symbol, Terminal};
 use crate::syntax_fault::SyntaxFault;
 use crate::tree::{Call, Declarator, Expression, LocationKind, Parameter, RightSide, Statement};
+use conditions::{Binding, Cond, Kind, Place, Prop};
 use events::Order;
 use std::alloc::{AllocError, Global};
 use wb_text::{Name, Token};
@@ -438,9 +438,9 @@ impl<'a> Reader<'a> {
     }
 
     /// Statements up to a brace, and the brace.
-    #[tactic(auto, unfolding(crate::specs::Reading::block_at, crate::specs::Reading::unless, crate::specs::Reading::expected), using(crate::proofs::Levels::steps_turn, crate::proofs::Levels::step_takes, crate::proofs::Levels::steps_push))]
+    #[tactic(auto, unfolding(crate::specs::Reading::block_at, crate::specs::Reading::unless, crate::specs::Reading::expected), using(crate::proofs::Levels::steps_turn, crate::proofs::Levels::step_takes, crate::proofs::Steps::pushed))]
     fn block(&mut self, nesting: u32) -> Result<Vec<Statement>, SyntaxFault>
-        ensures { Gives (λ v. map step_of v.items) result self.new.rest.now (block_at nesting self.old.rest.now) }
+        ensures { Gives (λ v. steps_of v.items) result self.new.rest.now (block_at nesting self.old.rest.now) }
     {
         let mut statements = Vec::new(self.alloc);
         while !self.take(Terminal::RightBrace) {
@@ -607,6 +607,7 @@ impl<'a> Reader<'a> {
             name,
             entries,
             bodies,
+            listed: Vec::new(self.alloc),
             condition,
         })
     }

@@ -3,12 +3,17 @@
 ghost use Rattle.std.specs.Prelude.{◌≡◌};
 
 use std::alloc::{AllocError, AllocFailed};
+use wb_text::Name;
 
 /// Why the grammar has no test of these symbols.
-#[derive(Clone, Copy, Debug, Drop, PartialEq, Eq)]
+#[derive(Debug, Drop, PartialEq, Eq)]
 pub enum SyntaxFault {
     /// The offset of the first token that the grammar doesn't take, or the text's length where more is wanted.
     Syntax(usize),
+    /// A call with an order that it doesn't take.
+    BadOrder,
+    /// A word that the language leaves out.
+    Unsupported(Name),
     /// Something nests more than `NESTING` deep.
     TooDeep,
     NoMemory,

@@ -3,8 +3,8 @@
 ghost use Rattle.std.specs.Prelude.{◌≡◌};
 ghost use Rattle.litmus_c.specs.Limits.{IsTest};
 
-use crate::conditions::{Binding, Cond, Place};
 use crate::tree::Thread;
+use conditions::{Binding, Cond, Place};
 use std::marker::Model;
 use wb_text::Name;
 

@@ -1,5 +1,5 @@
 use super::*;
-use crate::conditions::{Kind, Place};
+use conditions::{Kind, Place};
 use std::alloc::Global;
 use std::test::Fail;
 use wb_text::TextFault;

@@ -7,9 +7,9 @@ ghost use Rattle.bench.specs.Finals.{final_location};
 ghost use Rattle.bench.specs.Slots.{slot_of, slot_value};
 
 use crate::slices::row::Row;
+use conditions::Place;
 use events::{EventId, Graph};
 use litmus_c::Test;
-use litmus_c::conditions::Place;
 use std::alloc::{AllocError, Global};
 use wb_text::Name;
 

@@ -4,8 +4,8 @@ ghost use Rattle.std.specs.Prelude.{◌≡◌, ◌<◌, ◌≤◌, ◌+◌, ◌-
 ghost use Rattle.std.specs.BTreeSet.{insert_key};
 ghost use Rattle.std.specs.Cmp.Lexicographic.{slice_cmp};
 ghost use Rattle.std.specs.Ordering.{nat_cmp};
-ghost use Rattle.litmus_c.specs.Conditions.{formula_of};
-ghost use Rattle.litmus_c.specs.States.{bindings, holds_in};
+ghost use Rattle.conditions.specs.Conditions.{formula_of};
+ghost use Rattle.conditions.specs.States.{bindings, holds_in};
 ghost use Rattle.candidates.specs.Candidates.{size_of, graph_at, found};
 ghost use Rattle.candidates.specs.Faults.{IsSpaceFault};
 ghost use Rattle.bench.specs.Verdicts.{IsVerdict};
@@ -15,8 +15,8 @@ use crate::slices::row::Row;
 use crate::slices::slot::{row, slots};
 use crate::slices::verdict::Verdict;
 use candidates::{Space, SpaceFault, laws};
+use conditions::{Place, Prop, State, holds, observed};
 use litmus_c::Test;
-use litmus_c::conditions::{Place, Prop, State, holds, observed};
 use std::alloc::{AllocError, Global};
 use std::collections::BTreeSet;
 

@@ -4,15 +4,15 @@ ghost use Rattle.std.specs.Prelude.{◌≡◌, IfOk};
 ghost use Rattle.std.specs.Cmp.Lexicographic.{slice_cmp};
 ghost use Rattle.std.specs.List.Sorted.{IsStrictlySortedBy};
 ghost use Rattle.std.specs.Ordering.{nat_cmp};
-ghost use Rattle.litmus_c.specs.Conditions.{formula_of};
+ghost use Rattle.conditions.specs.Conditions.{formula_of};
 ghost use Rattle.bench.specs.Outcomes.{is_ok};
 ghost use Rattle.bench.specs.Tallies.{outcome_of};
 ghost use Rattle.bench.specs.Texts.{word};
 
 use crate::slices::row::Row;
 use crate::slices::tally::Tally;
+use conditions::{Kind, Place, Prop, ok_of};
 use litmus_c::Test;
-use litmus_c::conditions::{Kind, Place, Prop, ok_of};
 use std::alloc::{AllocError, Global};
 use std::marker::Model;
 use wb_text::Name;

@@ -1,6 +1,6 @@
 use Rattle.std.proofs.Common.{[], refl, append_assoc, codes}
 use Rattle.std.proofs.KnownBytes.{Appends-nil, Appends-trans}
-use Rattle.litmus_c.specs.Conditions.{formula_of}
+use Rattle.conditions.specs.Conditions.{formula_of}
 use Rattle.bench.specs.Texts.{opening, closing, operand, formula_text}
 use Rattle.bench.proofs.Written.{exit, after}
 use Rattle.bench.proofs.report.+propositions.Goals as goal

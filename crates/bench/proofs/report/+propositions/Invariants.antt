@@ -1,5 +1,5 @@
 use Rattle.std.proofs.Common.{◌+◌, ◌*◌, max}
-use Rattle.litmus_c.specs.declared.conditions.prop.Prop.{size-Prop}
+use Rattle.conditions.specs.declared.prop.Prop.{size-Prop}
 use Rattle.bench.proofs.report.+propositions.Given as goal
 
 abbrev pub decreases-write_prop : goal.decreases-write_prop

@@ -1,5 +1,5 @@
 use Rattle.std.proofs.Common.{◌≡◌, drop}
-use Rattle.litmus_c.specs.States.{value_at}
+use Rattle.conditions.specs.States.{value_at}
 use Rattle.c11_threads.proofs.running.initial_value.Given as goal
 
 abbrev pub invariant-loop-binding : goal.invariant-loop-binding

@@ -1,7 +1,7 @@
 use Rattle.std.proofs.Common.{◌≡◌, ◌++◌, drop, map}
 use Rattle.events.specs.Executions.{no_places}
-use Rattle.litmus_c.specs.States.{value_at}
-use Rattle.litmus_c.specs.declared.conditions.place.Place.TheVariants.{Reg}
+use Rattle.conditions.specs.States.{value_at}
+use Rattle.conditions.specs.declared.place.Place.TheVariants.{Reg}
 use Rattle.c11_threads.specs.declared.content.Content.{Content}
 use Rattle.c11_threads.specs.Runs.{start}
 use Rattle.c11_threads.proofs.running.start.Given as goal

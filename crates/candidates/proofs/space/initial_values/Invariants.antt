@@ -1,6 +1,6 @@
 use Rattle.std.proofs.Common.{◌≡◌, ◌++◌, drop, map}
-use Rattle.litmus_c.specs.States.{value_at}
-use Rattle.litmus_c.specs.declared.conditions.place.Place.TheVariants.{Loc}
+use Rattle.conditions.specs.States.{value_at}
+use Rattle.conditions.specs.declared.place.Place.TheVariants.{Loc}
 use Rattle.candidates.specs.Executions.{initial_values}
 use Rattle.candidates.proofs.space.initial_values.Given as goal
 

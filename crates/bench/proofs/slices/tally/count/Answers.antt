@@ -1,5 +1,5 @@
 use Rattle.std.proofs.Common.{◌≡◌, None, Some, map, sym, ap, ◌∙◌, arith}
-use Rattle.litmus_c.specs.Conditions.{formula_of}
+use Rattle.conditions.specs.Conditions.{formula_of}
 use Rattle.candidates.specs.Candidates.{graph_at}
 use Rattle.bench.specs.Slots.{slot_of, slot_value}
 use Rattle.bench.proofs.Counted.{counted_some, counted_none, few}

@@ -1,7 +1,7 @@
 use Rattle.std.proofs.Common.{◌≡◌, ◌+◌, ◌*◌, length}
 use Rattle.descent.specs.Reading.{repeated}
 use Rattle.litmus_c.specs.declared.symbol.Terminal.TheVariants.{And}
-use Rattle.litmus_c.specs.Conditions.{formula_of}
+use Rattle.conditions.specs.Conditions.{formula_of}
 use Rattle.litmus_c.specs.Reading.{syntax, after, conjunction_more, proposition_with, below}
 use Rattle.litmus_c.proofs.syntax.Reader.+propositions.Given as goal
 

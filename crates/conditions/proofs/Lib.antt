@@ -1,0 +1,5 @@
+pub mod Bindings
+pub mod InOrder
+pub mod ObservedPlaces
+pub mod Places
+pub mod StateValues

@@ -1,0 +1,6 @@
+pub mod Codes
+pub mod Conditions
+pub mod Equality
+pub mod Exact
+pub mod StateExamples
+pub mod States

@@ -1,5 +1,0 @@
-use Rattle.litmus_c.proofs.StateValues.{bound_value, unbound_value}
-use Rattle.litmus_c.proofs.conditions.laws.bound_values.Goals as goal
-
-pub returns : goal.returns
-returns c = record { bound = bound_value; unbound = unbound_value }
