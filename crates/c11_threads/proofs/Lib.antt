@@ -1,4 +1,6 @@
+pub mod Reaching
 pub mod Few
+pub mod Kept
 pub mod RunLists
 pub mod Sets
 pub mod Turns

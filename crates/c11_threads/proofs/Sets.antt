@@ -22,7 +22,7 @@ is_made f P s to from h = one_set 64 (λ i. f i ≡ true) s (event_set 64 f)
     (record { count = h.count; only = λ i m. to i (h.only i m); all = λ i l m. h.all i l (from i l m); canonical = h.canonical })
     (exactly f)
 
-none_in : (i : ℕ) → Has no_places i → ⊥
+pub none_in : (i : ℕ) → Has no_places i → ⊥
 unfolding no_places
 none_in i h = let b : i < 64 = line_below 64 (λ j. false) i h in false≢true (sym (place_line 64 (λ j. false) i b) ∙ h)
 
@@ -104,3 +104,14 @@ joins_out s t u n out h = record {
   ]);
   canonical = h.canonical;
 }
+
+pub in_just : (p i : ℕ) → Has (just p) i → i ≡ p
+unfolding just
+in_just p i h = let b : i < 64 = line_below 64 (λ j. j == p) i h in eqb-true i p (sym (place_line 64 (λ j. j == p) i b) ∙ h)
+
+pub in_joined : (s t : EventSet) (i : ℕ) → Has (joined s t) i → Has s i ⊎ Has t i
+unfolding joined
+in_joined s t i h =
+    let f : ℕ → Bool = λ j. place s.members j || place t.members j in
+    let b : i < 64 = line_below 64 f i h in
+    in_or (place s.members i) (place t.members i) (sym (place_line 64 f i b) ∙ h)

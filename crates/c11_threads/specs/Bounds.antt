@@ -1,8 +1,10 @@
--- How many events a run has, and where.
-use Rattle.std.specs.Prelude.{◌≡◌, ℕ, ◌<◌, ◌≤◌, ◌⊎◌, List, length, All}
+-- Facts of all runs: how many events they have and where, their values, and what their events depend on.
+use Rattle.std.specs.Prelude.{◌≡◌, ℕ, ◌<◌, ◌≤◌, ◌⊎◌, List, length, All, true}
+use Rattle.relations.specs.Events.{Has}
 use Rattle.events.specs.declared.event.Access.TheVariants.{Fence}
 use Rattle.events.specs.declared.event.Event.{Event}
-use Rattle.events.specs.Executions.{ThreadRun}
+use Rattle.events.specs.Executions.{ThreadRun, is_read}
+use Rattle.listings.specs.Lists.{StandsAt}
 use Rattle.litmus_c.specs.Tree.{Litmus}
 use Rattle.litmus_c.specs.Limits.{program_events, ProgramNames}
 use Rattle.litmus_c.specs.Values.{InDom}
@@ -29,3 +31,11 @@ pub record AreValues (t : Litmus) (run : ThreadRun) : Type 0 where
 -- The law: every value stays among the values of the test.
 abbrev pub Keeping : Type 0
 Keeping = (t : Litmus) (k : ℕ) (run : ThreadRun) → k < length t.threads → IsRun t k run → AreValues t run
+
+-- a read stands at place i
+abbrev pub IsReadAt : List Event → ℕ → Type 0
+IsReadAt events i = (e : Event) × StandsAt events i e × (is_read e.access ≡ true)
+
+-- The law: what an event of a run depends on are reads before it.
+abbrev pub Depends : Type 0
+Depends = (t : Litmus) (k : ℕ) (run : ThreadRun) → IsRun t k run → (p : ℕ) (e : Event) → StandsAt run.events p e → (i : ℕ) → Has e.data_from i ⊎ Has e.ctrl_from i → (i < p) × IsReadAt run.events i
