@@ -11,3 +11,6 @@ mod unroll;
 pub use content::Content;
 pub use fault::{MOST_RUNS, RunFault};
 pub use running::{initial_value, runs};
+
+#[cfg(test)]
+mod tests;
