@@ -8,3 +8,4 @@ pub mod Stored
 pub mod Scoped
 pub mod Faulty
 pub mod Whole
+pub mod Equal

@@ -2,6 +2,7 @@ pub mod Named
 pub mod Sorts
 pub mod Scopes
 pub mod Models
+pub mod Equality
 pub mod Rc11
 pub mod Sketches
 pub mod Files

@@ -15,6 +15,29 @@ pub struct FileVersion {
     pub version: u32,
 }
 
+impl PartialEq for FileVersion {
+    ghost use Rattle.std.specs.Prelude.{◌≡◌, ◌↔◌, IsTrue};
+    ghost use Rattle.std.specs.Cmp.{partial_equiv_from_equiv};
+    ghost use Rattle.cat_model.specs.Equality.{same_version, version_equivalence};
+
+    ghost eq = { same_version };
+
+    ghost laws = { partial_equiv_from_equiv version_equivalence };
+
+    fn eq(&self, other: &FileVersion) -> bool
+        ensures value { result ≡ same_version self.now other.now }
+        ensures exact { IsTrue result ↔ (self.now ≡ other.now) }
+    {
+        self.name == other.name && self.version == other.version
+    }
+}
+
+impl Eq for FileVersion {
+    ghost use Rattle.cat_model.specs.Equality.{version_equivalence};
+
+    ghost laws = { version_equivalence };
+}
+
 /// The items of a model with all includes in place, and the files that they come from. Its type keeps that each item
 /// is well sorted in the scope of the earlier ones, that recursive bindings are monotone, and that flags have names.
 #[derive(Drop)]
@@ -37,6 +60,30 @@ impl std::marker::Model for Model {
     ghost view = { λ m. record { items = map clause_of m.items.items; files = m.files.items } };
 
     ghost invariant = { λ m. IsModel (map clause_of m.items.items) };
+}
+
+impl PartialEq for Model {
+    ghost use Rattle.std.specs.Prelude.{◌≡◌, ◌↔◌, IsTrue};
+    ghost use Rattle.std.specs.Cmp.{partial_equiv_from_equiv};
+    ghost use Rattle.cat_model.specs.Equality.{same_assembly, assembly_equivalence};
+
+    ghost eq = { same_assembly };
+
+    ghost laws = { partial_equiv_from_equiv assembly_equivalence };
+
+    #[tactic(auto, using(crate::proofs::Equal::clauses_told))]
+    fn eq(&self, other: &Model) -> bool
+        ensures value { result ≡ same_assembly self.now other.now }
+        ensures exact { IsTrue result ↔ (self.now ≡ other.now) }
+    {
+        self.items == other.items && self.files == other.files
+    }
+}
+
+impl Eq for Model {
+    ghost use Rattle.cat_model.specs.Equality.{assembly_equivalence};
+
+    ghost laws = { assembly_equivalence };
 }
 
 fn items_copy(first: &Vec<Item>) -> Result<Vec<Item>, AllocError>
