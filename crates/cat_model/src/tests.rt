@@ -202,3 +202,38 @@ fn files_that_include_each_other(rt: HostRuntime) -> Result<(), Fail> {
     assert!(rt; answers(alloc, &files, "one.cat", "63 IncludeCycle one.cat")?);
     Ok(())
 }
+
+/// The text of the built-in `rc11.cat`.
+const RC11: &str = "RC11
+let sb = po | (IW * (_ \\ IW))
+let rb = rf^-1 ; co
+let eco = (rf | (co | rb))+
+let rel = REL | (ACQ_REL | SC)
+let acq = ACQ | (ACQ_REL | SC)
+let rs = [W] ; ((sb & loc)? ; ([W & A] ; (rf ; rmw)*))
+let sw = [rel] ; (([F] ; sb)? ; (rs ; (rf ; ([R & A] ; ((sb ; [F])? ; [acq])))))
+let hb = (sb | sw)+
+irreflexive (hb ; eco?) as coherence
+empty (rmw & (rb ; co)) as atomicity
+acyclic (sb | rf) as no-thin-air
+let sbx = sb \\ loc
+let scb = sb | ((sbx ; (hb ; sbx)) | ((hb & loc) | (co | rb)))
+let fsc = [F & SC]
+let base = ([SC] | (fsc ; hb?)) ; (scb ; ([SC] | (hb? ; fsc)))
+let fence = fsc ; ((hb | (hb ; (eco ; hb))) ; fsc)
+acyclic (base | fence) as sc
+let conflict = (((W * M) | (M * W)) & loc) \\ id
+let race = conflict \\ ((A * A) | (hb | hb^-1))
+flag ~empty race as data-race
+";
+
+#[test]
+fn rc11_is_its_text(rt: HostRuntime) -> Result<(), Fail> {
+    let alloc = rt.alloc();
+    let files = Files::new(alloc)?;
+    let name = named(alloc, "rc11.cat")?;
+    let built_in = files.get(&name).ok_or("a built-in file")?;
+    let read = read_cat(alloc, RC11.as_bytes()).ok().ok_or("a model")?;
+    assert!(rt; *built_in == read);
+    Ok(())
+}
