@@ -2,6 +2,8 @@
 #![tactic(auto)]
 
 mod one;
+mod report;
+mod slices;
 
 use crate::one::OneFault;
 use std::io;
