@@ -11,6 +11,9 @@ fn count_runs(alloc: Global, call: &str, times: usize) -> Result<Result<usize, R
     }
     text.push_str("}\nexists (x=0)\n")?;
     let test = read_test(alloc, text.as_bytes())?;
+    if test.threads().is_empty() {
+        return Err("the test has a thread".into());
+    }
     Ok(runs(alloc, &test, 0).map(|found| found.len()))
 }
 
