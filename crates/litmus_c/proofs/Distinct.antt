@@ -5,8 +5,15 @@ use Rattle.std.proofs.lemmas.Bool.{eqb-true, eq-eqb, false≢true}
 use Rattle.listings.specs.Lists.{IsIn, NoRepeats, Lists}
 use Rattle.listings.proofs.Listings.{in_append, in_left, in_right, once_append}
 use Rattle.conditions.specs.declared.place.Binding.{Binding}
-use Rattle.litmus_c.specs.Tree.{Program}
-use Rattle.litmus_c.specs.Values.{constants_among, IsValue, with_value, with_values, values_among}
+use Rattle.std.specs.Prelude.{None, Some}
+use Rattle.std.specs.Global.{Global}
+use Rattle.std.proofs.Common.{Box}
+use Rattle.litmus_c.specs.declared.tree.Expression.{Expression}
+use Rattle.litmus_c.specs.declared.tree.Statement.{Statement}
+use Rattle.litmus_c.specs.declared.tree.Statement.TheVariants.{If as If'}
+use Rattle.litmus_c.specs.Tree.{Program, term_of, step_of, steps_of}
+use Rattle.litmus_c.proofs.Steps.{only_if, if_and_else}
+use Rattle.litmus_c.specs.Values.{term_constants, step_constants, steps_constants, constants_among, IsValue, with_value, with_values, values_among}
 
 test : (b : Bool) → (b ≡ true) ⊎ (b ≡ false)
 test true = inl refl
@@ -131,3 +138,29 @@ next_with g a xs i vs l e = ap (λ ys. with_values vs (map g ys)) (first a xs i 
 
 pub at_least_with : {A : Type 0} (g : A → ℕ) (a : A) (xs : List A) (i : ℕ) (vs : List ℕ) → i < length xs → a ≡ get_or xs i a → length (with_value vs (g a)) ≤ length (with_values vs (map g (drop i xs)))
 at_least_with g a xs i vs l e = rw (next_with g a xs i vs l e) (longer (with_value vs (g a)) (map g (drop (i + 1) xs)))
+
+pub next_steps : (a : Statement) (xs : List Statement) (i : ℕ) (vs : List ℕ) → i < length xs → a ≡ get_or xs i a → with_values vs (steps_constants (steps_of (drop i xs))) ≡ with_values (with_values vs (step_constants (step_of a))) (steps_constants (steps_of (drop (i + 1) xs)))
+next_steps a xs i vs l e = ap (λ ys. with_values vs (steps_constants (steps_of ys))) (first a xs i l e) ∙ with_append vs (step_constants (step_of a)) (steps_constants (steps_of (drop (i + 1) xs)))
+
+pub at_least_steps : (a : Statement) (xs : List Statement) (i : ℕ) (vs : List ℕ) → i < length xs → a ≡ get_or xs i a → length (with_values vs (step_constants (step_of a))) ≤ length (with_values vs (steps_constants (steps_of (drop i xs))))
+at_least_steps a xs i vs l e = rw (next_steps a xs i vs l e) (longer (with_values vs (step_constants (step_of a))) (steps_constants (steps_of (drop (i + 1) xs))))
+
+-- the parts of a branch, one after another
+
+pub only_values : (vs : List ℕ) (c : Expression) (a : Box Statement Global) → with_values vs (step_constants (step_of (If' c a None))) ≡ with_values (with_values vs (term_constants (term_of c))) (step_constants (step_of a.value))
+only_values vs c a = ap (λ s. with_values vs (step_constants s)) (only_if c a) ∙ with_append vs (term_constants (term_of c)) (step_constants (step_of a.value))
+
+pub else_values : (vs : List ℕ) (c : Expression) (a b : Box Statement Global) → with_values vs (step_constants (step_of (If' c a (Some b)))) ≡
+    with_values (with_values (with_values vs (term_constants (term_of c))) (step_constants (step_of a.value))) (step_constants (step_of b.value))
+else_values vs c a b =
+    ap (λ s. with_values vs (step_constants s)) (if_and_else c a b) ∙ with_append vs (term_constants (term_of c)) (step_constants (step_of a.value) ++ step_constants (step_of b.value)) ∙
+    with_append (with_values vs (term_constants (term_of c))) (step_constants (step_of a.value)) (step_constants (step_of b.value))
+
+pub only_first : (vs : List ℕ) (c : Expression) (a : Box Statement Global) → length (with_values vs (term_constants (term_of c))) ≤ length (with_values vs (step_constants (step_of (If' c a None))))
+only_first vs c a = rw (only_values vs c a) (longer (with_values vs (term_constants (term_of c))) (step_constants (step_of a.value)))
+
+pub else_second : (vs : List ℕ) (c : Expression) (a b : Box Statement Global) → length (with_values (with_values vs (term_constants (term_of c))) (step_constants (step_of a.value))) ≤ length (with_values vs (step_constants (step_of (If' c a (Some b)))))
+else_second vs c a b = rw (else_values vs c a b) (longer (with_values (with_values vs (term_constants (term_of c))) (step_constants (step_of a.value))) (step_constants (step_of b.value)))
+
+pub else_first : (vs : List ℕ) (c : Expression) (a b : Box Statement Global) → length (with_values vs (term_constants (term_of c))) ≤ length (with_values vs (step_constants (step_of (If' c a (Some b)))))
+else_first vs c a b = omega (arith, longer (with_values vs (term_constants (term_of c))) (step_constants (step_of a.value)), else_second vs c a b)

@@ -12,14 +12,12 @@ use Rattle.wb_text.specs.declared.token.Token.{Token}
 use Rattle.conditions.specs.declared.place.Binding.{Binding}
 use Rattle.litmus_c.specs.declared.draft.Draft.{Draft}
 use Rattle.litmus_c.specs.declared.fault.TestFault.{TestFault}
-use Rattle.litmus_c.specs.declared.fault.TestFault.TheVariants.{Text, Syntax, UnknownName, TooDeep, TooManyThreads, TooManyLocations, TooManyEvents, TooManyValues, NoMemory}
+use Rattle.litmus_c.specs.declared.fault.TestFault.TheVariants.{Text, Syntax, BadOrder, UnknownName, PlainOnAtomic, AtomicOnPlain, Unsupported, TooDeep, TooManyThreads, TooManyLocations, TooManyEvents, TooManyValues, NoMemory}
 use Rattle.litmus_c.specs.declared.symbol.Symbol.{Symbol}
 use Rattle.litmus_c.specs.Depth.{NestsTooDeep}
 use Rattle.litmus_c.specs.Drafts.{Written, written_of}
 use Rattle.litmus_c.specs.Grammar.{Spells}
-use Rattle.litmus_c.specs.declared.syntax_fault.SyntaxFault.{SyntaxFault}
-use Rattle.litmus_c.specs.declared.syntax_fault.SyntaxFault.TheVariants as faults
-use Rattle.litmus_c.specs.Reading.{Cause, syntax, deep, Reading, GivesAll, refusal, text_refusal, test_at}
+use Rattle.litmus_c.specs.Reading.{Cause, syntax, deep, Reading, GivesTest, text_refusal, test_at}
 use Rattle.litmus_c.specs.Reads.{IsWrittenIn, HasNoTest, IsTooDeep, IsRefused, IsUnwritten, Reads}
 use Rattle.litmus_c.specs.Rules.{litmus_of, KeepsRules, Explains}
 use Rattle.litmus_c.specs.Symbols.{symbols_of}
@@ -54,13 +52,27 @@ no_cause es t TooManyValues k h = absurd (omega (arith, k.values))
 no_cause es t TooManyEvents k h = absurd (omega (arith, k.events))
 no_cause es t (Text f) k h = absurd h
 no_cause es t (Syntax n) k h = absurd h
+no_cause es t BadOrder k h = absurd h
+no_cause es t (Unsupported w) k h = absurd h
+no_cause es t PlainOnAtomic k h = absurd (false≢true (sym h ∙ k.plain))
+no_cause es t AtomicOnPlain k h = absurd (false≢true (sym h ∙ k.atomic))
 no_cause es t TooDeep k h = absurd h
 
--- a fault of the grammar, where there is a test, is want of memory
-pub no_fault : (s : SyntaxFault) (w : Written) (ts : List Symbol) → GivesAll written_of (Err s) (test_at 32 ts) → test_at 32 ts ≡ Ok (w, []) → refusal s ≡ NoMemory
-no_fault (faults.Syntax p) w ts g e = absurd (cc)
-no_fault faults.TooDeep w ts g e = absurd (cc)
-no_fault faults.NoMemory w ts g e = refl
+-- a refusal by the grammar, where there is a test, is for want of memory
+pub no_fault : (e : TestFault) (w : Written) (ts : List Symbol) → GivesTest (Err e) (test_at 32 ts) → test_at 32 ts ≡ Ok (w, []) → e ≡ NoMemory
+no_fault NoMemory w ts g e = refl
+no_fault (Syntax p) w ts g e = absurd (cc)
+no_fault BadOrder w ts g e = absurd (cc)
+no_fault (Unsupported x) w ts g e = absurd (cc)
+no_fault TooDeep w ts g e = absurd (cc)
+no_fault (Text f) w ts g e = absurd g
+no_fault UnknownName w ts g e = absurd g
+no_fault PlainOnAtomic w ts g e = absurd g
+no_fault AtomicOnPlain w ts g e = absurd g
+no_fault TooManyThreads w ts g e = absurd g
+no_fault TooManyLocations w ts g e = absurd g
+no_fault TooManyEvents w ts g e = absurd g
+no_fault TooManyValues w ts g e = absurd g
 
 -- what was read is what is written
 pub read_same : (v w : Written) (ts : List Symbol) → test_at 32 ts ≡ Ok (v, []) → test_at 32 ts ≡ Ok (w, []) → v ≡ w
@@ -115,16 +127,30 @@ too_deep text ts symbols list is unique fails = record {
   nests = (let P : List Symbol → Type 0 = λ l. NestsTooDeep l in subst P is (test_deep 31 symbols fails));
 }
 
-pub draft_cause : (text : List ℕ) (ts : List Token) (symbols : List Symbol) (s : SyntaxFault) → IsTokenList dialects.Litmus text ts → symbols ≡ symbols_of text ts →
-    ((us : List Token) → IsTokenList dialects.Litmus text us → ts ≡ us) → GivesAll written_of (Err s) (test_at 32 symbols) → IsUnwritten text (refusal s)
-draft_cause text ts symbols (faults.Syntax p) list is unique g = no_test text ts symbols syntax is unique g
-draft_cause text ts symbols faults.TooDeep list is unique g = too_deep text ts symbols list is unique g
-draft_cause text ts symbols faults.NoMemory list is unique g = tt
+pub draft_cause : (text : List ℕ) (ts : List Token) (symbols : List Symbol) (e : TestFault) → IsTokenList dialects.Litmus text ts → symbols ≡ symbols_of text ts →
+    ((us : List Token) → IsTokenList dialects.Litmus text us → ts ≡ us) → GivesTest (Err e) (test_at 32 symbols) → IsUnwritten text e
+draft_cause text ts symbols NoMemory list is unique g = tt
+draft_cause text ts symbols (Syntax p) list is unique g = no_test text ts symbols syntax is unique g
+draft_cause text ts symbols BadOrder list is unique g = no_test text ts symbols syntax is unique g
+draft_cause text ts symbols (Unsupported x) list is unique g = no_test text ts symbols syntax is unique g
+draft_cause text ts symbols TooDeep list is unique g = too_deep text ts symbols list is unique g
+draft_cause text ts symbols (Text f) list is unique g = absurd g
+draft_cause text ts symbols UnknownName list is unique g = absurd g
+draft_cause text ts symbols PlainOnAtomic list is unique g = absurd g
+draft_cause text ts symbols AtomicOnPlain list is unique g = absurd g
+draft_cause text ts symbols TooManyThreads list is unique g = absurd g
+draft_cause text ts symbols TooManyLocations list is unique g = absurd g
+draft_cause text ts symbols TooManyEvents list is unique g = absurd g
+draft_cause text ts symbols TooManyValues list is unique g = absurd g
 
 pub unwritten_cause : (text : List ℕ) (e : TestFault) → IsUnwritten text e → IsRefused text e
 unwritten_cause text NoMemory h = h
 unwritten_cause text (Text f) h = h
 unwritten_cause text (Syntax n) h = h
+unwritten_cause text BadOrder h = h
+unwritten_cause text (Unsupported x) h = h
+unwritten_cause text PlainOnAtomic h = absurd h
+unwritten_cause text AtomicOnPlain h = absurd h
 unwritten_cause text TooDeep h = h
 unwritten_cause text UnknownName h = absurd h
 unwritten_cause text TooManyThreads h = absurd h
@@ -136,6 +162,10 @@ rule_of : (text : List ℕ) (w : Written) (e : TestFault) → IsWrittenIn text w
 rule_of text w NoMemory d h = tt
 rule_of text w (Text f) d h = absurd h
 rule_of text w (Syntax n) d h = absurd h
+rule_of text w BadOrder d h = absurd h
+rule_of text w (Unsupported x) d h = absurd h
+rule_of text w PlainOnAtomic d h = (w, d, h)
+rule_of text w AtomicOnPlain d h = (w, d, h)
 rule_of text w TooDeep d h = absurd h
 rule_of text w UnknownName d h = (w, d, h)
 rule_of text w TooManyThreads d h = (w, d, h)

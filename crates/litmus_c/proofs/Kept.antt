@@ -9,12 +9,13 @@ use Rattle.std.proofs.lemmas.Map.Views.{Contains-from_any}
 use Rattle.listings.specs.Lists.{IsIn}
 use Rattle.listings.proofs.Listings.{in_append, in_left, in_right, in_flat_map, flat_map_in, map_in}
 use Rattle.conditions.specs.declared.place.Binding.{Binding}
+use Rattle.litmus_c.specs.declared.rules.Rule.TheVariants.{Names, PlainAccess, AtomicAccess}
 use Rattle.litmus_c.specs.declared.tree.Parameter.{Parameter}
 use Rattle.litmus_c.specs.Drafts.{Listing, Written, is_parameter}
-use Rattle.litmus_c.specs.Limits.{program_events, IsTest, RightNames, OptionalNames, StepNames, ProgramNames, location_of}
-use Rattle.litmus_c.specs.Rules.{lasting, with_name, with_names, place_locations, parameter_names, locations_of, place_registers, step_registers, registers_of, program_of, programs_of, litmus_of, right_is_fair, optional_is_fair, declared_is_fair, step_is_fair, program_is_fair, entry_is_fair, formula_is_fair, KeepsRules}
+use Rattle.litmus_c.specs.Limits.{program_events, IsTest, TermNames, ActionNames, RightNames, OptionalNames, StepNames, StepsNames, ProgramNames}
+use Rattle.litmus_c.specs.Rules.{lasting, with_name, with_names, place_locations, parameter_names, locations_of, place_registers, step_registers, steps_registers, registers_of, program_of, programs_of, litmus_of, term_keeps, action_keeps, right_keeps, optional_keeps, declared_keeps, step_keeps, steps_keep, program_keeps, entry_is_fair, places_are_there, names_hold, formula_is_fair, KeepsRules}
 use Rattle.litmus_c.specs.Symbols.{is_one_of}
-use Rattle.litmus_c.specs.Tree.{Word, Action, Right, value_of, Declared, Step, empty, declare, assign, perform, Program, Litmus}
+use Rattle.litmus_c.specs.Tree.{Word, Term, number, held, denied, equal, unequal, both, either, Action, load, store, exchange, fence, Right, computed, plain_read, value_of, Declared, Step, empty, block, declare, assign, plain_write, perform, if_only, if_else, Steps, no_steps, in_turn, Program, Litmus}
 use Rattle.litmus_c.specs.Values.{values_among}
 use Rattle.litmus_c.proofs.Names.{programs_len}
 use Rattle.litmus_c.proofs.Spelled.{and_parts, true_or_false}
@@ -75,52 +76,91 @@ parameter_in (p ∷ ps) x h = elim (or_cases (bytes_eq p.name x) (is_parameter p
 abbrev Within : List Parameter → List Word → Type 0
 Within ps xs = (x : Word) → is_parameter ps x ≡ true → Contains xs x
 
-right-names : (ps : List Parameter) (xs : List Word) (v : Right) → Within ps xs → right_is_fair ps v ≡ true → RightNames xs v
-right-names ps xs (value_of a) w h = w (location_of a) h
+term-names : (ps : List Parameter) (rs : List Word) (e : Term) → term_keeps Names ps rs e ≡ true → TermNames rs e
+term-names ps rs (number n) h = tt
+term-names ps rs (held r) h = contains rs r (found_in rs r h)
+term-names ps rs (denied a) h = term-names ps rs a h
+term-names ps rs (equal a b) h = let p = and_parts (term_keeps Names ps rs a) (term_keeps Names ps rs b) h in (term-names ps rs a p.0, term-names ps rs b p.1)
+term-names ps rs (unequal a b) h = let p = and_parts (term_keeps Names ps rs a) (term_keeps Names ps rs b) h in (term-names ps rs a p.0, term-names ps rs b p.1)
+term-names ps rs (both a b) h = let p = and_parts (term_keeps Names ps rs a) (term_keeps Names ps rs b) h in (term-names ps rs a p.0, term-names ps rs b p.1)
+term-names ps rs (either a b) h = let p = and_parts (term_keeps Names ps rs a) (term_keeps Names ps rs b) h in (term-names ps rs a p.0, term-names ps rs b p.1)
 
-optional-names : (ps : List Parameter) (xs : List Word) (v : Option Right) → Within ps xs → optional_is_fair ps v ≡ true → OptionalNames xs v
-optional-names ps xs None w h = tt
-optional-names ps xs (Some v) w h = right-names ps xs v w h
+action-names : (ps : List Parameter) (xs rs : List Word) (a : Action) → Within ps xs → action_keeps Names ps rs a ≡ true → ActionNames xs rs a
+action-names ps xs rs (load x o) w h = w x h
+action-names ps xs rs (store x e o) w h = let p = and_parts (is_parameter ps x) (term_keeps Names ps rs e) h in (w x p.0, term-names ps rs e p.1)
+action-names ps xs rs (exchange x e o) w h = let p = and_parts (is_parameter ps x) (term_keeps Names ps rs e) h in (w x p.0, term-names ps rs e p.1)
+action-names ps xs rs (fence o) w h = tt
+
+right-names : (ps : List Parameter) (xs rs : List Word) (v : Right) → Within ps xs → right_keeps Names ps rs v ≡ true → RightNames xs rs v
+right-names ps xs rs (computed e) w h = term-names ps rs e h
+right-names ps xs rs (plain_read x) w h = w x h
+right-names ps xs rs (value_of a) w h = action-names ps xs rs a w h
+
+optional-names : (ps : List Parameter) (xs rs : List Word) (v : Option Right) → Within ps xs → optional_keeps Names ps rs v ≡ true → OptionalNames xs rs v
+optional-names ps xs rs None w h = tt
+optional-names ps xs rs (Some v) w h = right-names ps xs rs v w h
 
 declared-names : (ps : List Parameter) (xs rs : List Word) (ds : List Declared) → Within ps xs → ((r : Word) → IsIn r (map (λ d. d.register) ds) → Contains rs r) →
-    list_all (declared_is_fair ps) ds ≡ true → All (λ d. Contains rs d.register × OptionalNames xs d.value) ds
+    list_all (declared_keeps Names ps rs) ds ≡ true → All (λ d. Contains rs d.register × OptionalNames xs rs d.value) ds
 declared-names ps xs rs [] w regs h = λ k d l. absurd (omega arith)
 declared-names ps xs rs (d ∷ ds) w regs h =
-    let p = and_parts (declared_is_fair ps d) (list_all (declared_is_fair ps) ds) h in
-    let q = and_parts (not (is_parameter ps d.register)) (optional_is_fair ps d.value) p.0 in
-    All-cons (λ d. Contains rs d.register × OptionalNames xs d.value) d ds (regs d.register (inl refl), optional-names ps xs d.value w q.1) (declared-names ps xs rs ds w (λ r m. regs r (inr m)) p.1)
+    let p = and_parts (declared_keeps Names ps rs d) (list_all (declared_keeps Names ps rs) ds) h in
+    let q = and_parts (not (is_parameter ps d.register)) (optional_keeps Names ps rs d.value) p.0 in
+    All-cons (λ d. Contains rs d.register × OptionalNames xs rs d.value) d ds (regs d.register (inl refl), optional-names ps xs rs d.value w q.1) (declared-names ps xs rs ds w (λ r m. regs r (inr m)) p.1)
 
-step-names : (ps : List Parameter) (xs rs : List Word) (s : Step) → Within ps xs → ((r : Word) → IsIn r (step_registers s) → Contains rs r) → step_is_fair ps s ≡ true → StepNames xs rs s
-step-names ps xs rs empty w regs h = tt
-step-names ps xs rs (declare ds) w regs h = declared-names ps xs rs ds w regs h
-step-names ps xs rs (assign r v) w regs h =
-    let p = and_parts (not (is_parameter ps r)) (right_is_fair ps v) h in
-    (regs r (inl refl), right-names ps xs v w p.1)
-step-names ps xs rs (perform a) w regs h = w (location_of a) h
+-- each of these registers is among rs
+abbrev Given : List Word → List Word → Type 0
+Given rs ns = (r : Word) → IsIn r ns → Contains rs r
 
-steps-names : (ps : List Parameter) (xs rs : List Word) (ss : List Step) → Within ps xs → ((r : Word) → IsIn r (flat_map step_registers ss) → Contains rs r) →
-    list_all (step_is_fair ps) ss ≡ true → All (StepNames xs rs) ss
-steps-names ps xs rs [] w regs h = λ k d l. absurd (omega arith)
-steps-names ps xs rs (s ∷ ss) w regs h =
-    let p = and_parts (step_is_fair ps s) (list_all (step_is_fair ps) ss) h in
-    All-cons (StepNames xs rs) s ss (step-names ps xs rs s w (λ r m. regs r (in_left (step_registers s) (flat_map step_registers ss) r m)) p.0)
-    (steps-names ps xs rs ss w (λ r m. regs r (in_right (step_registers s) (flat_map step_registers ss) r m)) p.1)
+given-left : (rs ms ns : List Word) → Given rs (ms ++ ns) → Given rs ms
+given-left rs ms ns g r m = g r (in_left ms ns r m)
+
+given-right : (rs ms ns : List Word) → Given rs (ms ++ ns) → Given rs ns
+given-right rs ms ns g r m = g r (in_right ms ns r m)
+
+mutual
+  step-names : (ps : List Parameter) (xs rs : List Word) (s : Step) → Within ps xs → Given rs (step_registers s) → step_keeps Names ps rs s ≡ true → StepNames xs rs s
+  step-names ps xs rs empty w g h = tt
+  step-names ps xs rs (block ss) w g h = steps-names ps xs rs ss w g h
+  step-names ps xs rs (declare ds) w g h = declared-names ps xs rs ds w g h
+  step-names ps xs rs (assign r v) w g h =
+      let p = and_parts (not (is_parameter ps r)) (right_keeps Names ps rs v) h in
+      (g r (inl refl), right-names ps xs rs v w p.1)
+  step-names ps xs rs (plain_write x e) w g h = let p = and_parts (is_parameter ps x) (term_keeps Names ps rs e) h in (w x p.0, term-names ps rs e p.1)
+  step-names ps xs rs (perform a) w g h = action-names ps xs rs a w h
+  step-names ps xs rs (if_only c a) w g h =
+      let p = and_parts (term_keeps Names ps rs c) (step_keeps Names ps rs a) h in
+      (term-names ps rs c p.0, step-names ps xs rs a w g p.1)
+  step-names ps xs rs (if_else c a b) w g h =
+      let p = and_parts (term_keeps Names ps rs c) (step_keeps Names ps rs a && step_keeps Names ps rs b) h in
+      let q = and_parts (step_keeps Names ps rs a) (step_keeps Names ps rs b) p.1 in
+      (term-names ps rs c p.0, step-names ps xs rs a w (given-left rs (step_registers a) (step_registers b) g) q.0, step-names ps xs rs b w (given-right rs (step_registers a) (step_registers b) g) q.1)
+
+  steps-names : (ps : List Parameter) (xs rs : List Word) (ss : Steps) → Within ps xs → Given rs (steps_registers ss) → steps_keep Names ps rs ss ≡ true → StepsNames xs rs ss
+  steps-names ps xs rs no_steps w g h = tt
+  steps-names ps xs rs (in_turn s ss) w g h =
+      let p = and_parts (step_keeps Names ps rs s) (steps_keep Names ps rs ss) h in
+      (step-names ps xs rs s w (given-left rs (step_registers s) (steps_registers ss) g) p.0, steps-names ps xs rs ss w (given-right rs (step_registers s) (steps_registers ss) g) p.1)
 
 programs-names : (k : ℕ) (es : List Binding) (ts : List Listing) (xs : List Word) → ((t : Listing) → IsIn t ts → Within t.parameters xs) →
-    list_all program_is_fair (programs_of k es ts) ≡ true → All (ProgramNames xs) (programs_of k es ts)
+    list_all (program_keeps Names) (programs_of k es ts) ≡ true → All (ProgramNames xs) (programs_of k es ts)
 programs-names k es [] xs w h = λ j d l. absurd (omega arith)
 programs-names k es (t ∷ ts) xs w h =
-    let p = and_parts (program_is_fair (program_of k es t)) (list_all program_is_fair (programs_of (suc k) es ts)) h in
-    let regs : (r : Word) → IsIn r (flat_map step_registers t.steps) → Contains (registers_of k es t.steps) r =
-    λ r m. contains (registers_of k es t.steps) r (noted (with_names [] (flat_map (λ b. place_registers k b.place) es)) (flat_map step_registers t.steps) r (inr m)) in
+    let p = and_parts (program_keeps Names (program_of k es t)) (list_all (program_keeps Names) (programs_of (suc k) es ts)) h in
+    let regs : (r : Word) → IsIn r (steps_registers t.steps) → Contains (registers_of k es t.steps) r =
+    λ r m. contains (registers_of k es t.steps) r (noted (with_names [] (flat_map (λ b. place_registers k b.place) es)) (steps_registers t.steps) r (inr m)) in
     All-cons (ProgramNames xs) (program_of k es t) (programs_of (suc k) es ts) (steps-names t.parameters xs (registers_of k es t.steps) t.steps (w t (inl refl)) regs p.0)
     (programs-names (suc k) es ts xs (λ u m. w u (inr m)) p.1)
 
 pub is_test : (w : Written) → KeepsRules w.entries (litmus_of w) → IsTest (litmus_of w)
 is_test w h =
     let t = litmus_of w in
-    let a = and_parts (list_all (λ b. entry_is_fair t.threads b.place) w.entries && list_all program_is_fair t.threads) (formula_is_fair t.threads t.locations t.condition.formula) h.names in
-    let b = and_parts (list_all (λ b. entry_is_fair t.threads b.place) w.entries) (list_all program_is_fair t.threads) a.0 in
+    let entries = list_all (λ b. entry_is_fair t.threads b.place) w.entries in
+    let programs = list_all (program_keeps Names) t.threads in
+    let places = places_are_there t.threads t.locations t.listed in
+    let a = and_parts (entries && programs && places) (formula_is_fair t.threads t.locations t.condition.formula) h.names in
+    let b = and_parts (entries && programs) places a.0 in
+    let c = and_parts entries programs b.0 in
     record {
       threads = h.threads;
       locations = h.locations;
@@ -128,29 +168,31 @@ is_test w h =
       names = programs-names 0 w.entries w.threads (locations_of w)
           (λ l m x e. contains (locations_of w) x (noted (with_names [] (flat_map (λ b. place_locations b.place) w.entries)) (flat_map parameter_names w.threads) x
           (inr (flat_map_in parameter_names w.threads l x m (parameter_in l.parameters x e)))))
-          b.1;
+          c.1;
     }
 
 -- The parts that were made are those of the test.
 pub parts : (w : Written) (initial : List Binding) (threads : List Program) (locations : List Word) →
     initial ≡ lasting w.entries → threads ≡ programs_of 0 w.entries w.threads → locations ≡ locations_of w →
-    ◌≡◌ {A = Litmus} (record { name = w.name; initial = initial; threads = threads; condition = w.condition; listed = []; locations = locations }) (litmus_of w)
+    ◌≡◌ {A = Litmus} (record { name = w.name; initial = initial; threads = threads; condition = w.condition; listed = w.listed; locations = locations }) (litmus_of w)
 parts w initial threads locations e f g =
-    let a : List Binding → Litmus = λ i. record { name = w.name; initial = i; threads = threads; condition = w.condition; listed = []; locations = locations } in
-    let b : List Program → Litmus = λ p. record { name = w.name; initial = lasting w.entries; threads = p; condition = w.condition; listed = []; locations = locations } in
-    let c : List Word → Litmus = λ l. record { name = w.name; initial = lasting w.entries; threads = programs_of 0 w.entries w.threads; condition = w.condition; listed = []; locations = l } in
+    let a : List Binding → Litmus = λ i. record { name = w.name; initial = i; threads = threads; condition = w.condition; listed = w.listed; locations = locations } in
+    let b : List Program → Litmus = λ p. record { name = w.name; initial = lasting w.entries; threads = p; condition = w.condition; listed = w.listed; locations = locations } in
+    let c : List Word → Litmus = λ l. record { name = w.name; initial = lasting w.entries; threads = programs_of 0 w.entries w.threads; condition = w.condition; listed = w.listed; locations = l } in
     ap a e ∙ ap b f ∙ ap c g
 
 pub kept_rules : (w : Written) (initial : List Binding) (threads : List Program) (locations : List Word) →
     initial ≡ lasting w.entries → threads ≡ programs_of 0 w.entries w.threads → locations ≡ locations_of w →
     length w.threads ≤ 8 → length locations ≤ 8 →
-    (list_all (λ b. entry_is_fair threads b.place) w.entries && list_all program_is_fair threads && formula_is_fair threads locations w.condition.formula) ≡ true →
+    names_hold w.entries threads locations w.listed w.condition.formula ≡ true → list_all (program_keeps PlainAccess) threads ≡ true → list_all (program_keeps AtomicAccess) threads ≡ true →
     length (values_among initial threads) ≤ 16 → length locations + sum_by program_events threads ≤ 64 → KeepsRules w.entries (litmus_of w)
-kept_rules w initial threads locations e f g few here names values events =
+kept_rules w initial threads locations e f g few here names plain atomic values events =
     subst (λ (t : Litmus). KeepsRules w.entries t) (parts w initial threads locations e f g) (record {
       threads = omega (arith, ap length f, programs_len 0 w.entries w.threads);
       locations = here;
       names = names;
+      plain = plain;
+      atomic = atomic;
       values = values;
       events = events;
     })
@@ -158,5 +200,5 @@ kept_rules w initial threads locations e f g few here names values events =
 pub made_test : (w : Written) (initial : List Binding) (threads : List Program) (locations : List Word) →
     initial ≡ lasting w.entries → threads ≡ programs_of 0 w.entries w.threads → locations ≡ locations_of w →
     KeepsRules w.entries (litmus_of w) →
-    IsTest (record { name = w.name; initial = initial; threads = threads; condition = w.condition; listed = []; locations = locations })
+    IsTest (record { name = w.name; initial = initial; threads = threads; condition = w.condition; listed = w.listed; locations = locations })
 made_test w initial threads locations e f g h = subst (λ (t : Litmus). IsTest t) (sym (parts w initial threads locations e f g)) (is_test w h)

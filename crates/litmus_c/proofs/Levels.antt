@@ -7,20 +7,14 @@ use Rattle.descent.proofs.Turns.{repeated-more, items-more}
 use Rattle.conditions.specs.declared.place.Binding.{Binding}
 use Rattle.litmus_c.specs.declared.symbol.Symbol.{Symbol}
 use Rattle.litmus_c.specs.declared.symbol.Terminal.{Terminal}
-use Rattle.litmus_c.specs.declared.symbol.Terminal.TheVariants.{RightBrace, Semicolon, Comma, And}
+use Rattle.litmus_c.specs.declared.symbol.Terminal.TheVariants.{Semicolon, Comma}
 use Rattle.litmus_c.specs.declared.tree.Parameter.{Parameter}
-use Rattle.conditions.specs.Conditions.{Formula, conjunction}
 use Rattle.litmus_c.specs.Drafts.{Listing, listing_of}
 use Rattle.litmus_c.specs.declared.draft.Body.{Body}
-use Rattle.litmus_c.specs.declared.tree.Statement.{Statement}
-use Rattle.litmus_c.specs.Reading.{syntax, after, unless, before_name, entry_behind, parameter_behind, parameters_more, step_at, steps_more, thread_at, threads_more, atomic_with, conjunction_more, below}
-use Rattle.litmus_c.specs.Tree.{Step, step_of}
-use Rattle.litmus_c.proofs.Shorter.{entry_shorter, parameter_shorter, step_shorter, thread_shorter, atomic_shorter}
-use Rattle.litmus_c.proofs.Sound.{entry_behind-sound, parameter-sound, step-sound, thread-sound, atomic_is}
-use Rattle.litmus_c.proofs.Symbols.{after-some, unless-same, before_name-same}
-
-pub after_takes : (t : Terminal) (ts rest : List Symbol) (u : Unit {0}) → after t ts ≡ Some (u, rest) → length rest < length ts
-after_takes t ts rest u e = omega (arith, ap length (after-some t ts rest u e))
+use Rattle.litmus_c.specs.Reading.{syntax, after, before_name, entry_behind, parameter_behind, parameters_more, thread_at, threads_more}
+use Rattle.litmus_c.proofs.Shorter.{entry_shorter, parameter_shorter, thread_shorter}
+use Rattle.litmus_c.proofs.Sound.{entry_behind-sound, parameter-sound, thread-sound}
+use Rattle.litmus_c.proofs.Symbols.{after-some, after_takes, before_name-same}
 
 entry_behind_takes : (bs cs : List Binding) (ts rest : List Symbol) → entry_behind bs ts ≡ Ok (cs, rest) → length rest ≤ length ts
 entry_behind_takes bs cs ts rest e =
@@ -35,23 +29,11 @@ parameters_more_takes ps qs ts rest e =
     let x = bind_ok (parameter_behind ps ts) _ _ e in
     moved (λ l t. length l < length ts) x.2 (parameter_shorter (parameter-sound ps x.0.0 ts x.0.1 x.1).0)
 
-pub steps_more_takes : (n : ℕ) (ss rs : List Step) (ts rest : List Symbol) → steps_more n tt ss ts ≡ Ok (rs, rest) → length rest < length ts
-unfolding steps_more
-steps_more_takes n ss rs ts rest e =
-    let x = bind_ok (step_at n ts) _ _ e in
-    moved (λ l t. length l < length ts) x.2 (step_shorter (step-sound n ts x.0.1 x.0.0 x.1))
-
 pub threads_more_takes : (n : ℕ) (bs cs : List Listing) (ts rest : List Symbol) → threads_more n tt bs ts ≡ Ok (cs, rest) → length rest < length ts
 unfolding threads_more
 threads_more_takes n bs cs ts rest e =
     let x = bind_ok (thread_at n (length bs) ts) _ _ e in
     moved (λ l t. length l < length ts) x.2 (thread_shorter (thread-sound n (length bs) ts x.0.1 x.0.0 x.1))
-
-pub conjunction_more_takes : (n : ℕ) (a b : Formula) (ts rest : List Symbol) → conjunction_more (below n) tt a ts ≡ Ok (b, rest) → length rest < length ts
-unfolding conjunction_more
-conjunction_more_takes n a b ts rest e =
-    let x = bind_ok (atomic_with (below n) ts) _ _ e in
-    moved (λ l t. length l < length ts) x.2 (atomic_shorter (atomic_is n ts x.0.1 x.0.0 x.1))
 
 -- A turn of each loop takes a symbol.
 
@@ -61,14 +43,8 @@ entries_turn_takes ts mid rest o a b e f = omega (arith, after_takes Semicolon t
 pub parameters_turn_takes : (ts mid rest : List Symbol) (o : Unit {0}) (a b : List Parameter) → after Comma ts ≡ Some (o, mid) → parameters_more a mid ≡ Ok (b, rest) → length rest < length ts
 parameters_turn_takes ts mid rest o a b e f = omega (arith, after_takes Comma ts mid o e, parameters_more_takes a b mid rest f)
 
-pub steps_turn_takes : (n : ℕ) (ts mid rest : List Symbol) (o : Unit {0}) (a b : List Step) → unless RightBrace ts ≡ Some (o, mid) → steps_more n o a mid ≡ Ok (b, rest) → length rest < length ts
-steps_turn_takes n ts mid rest o a b e f = omega (arith, ap length (unless-same RightBrace ts mid o e), steps_more_takes n a b mid rest f)
-
 pub threads_turn_takes : (n : ℕ) (ts mid rest : List Symbol) (o : Unit {0}) (a b : List Listing) → before_name ts ≡ Some (o, mid) → threads_more n o a mid ≡ Ok (b, rest) → length rest < length ts
 threads_turn_takes n ts mid rest o a b e f = omega (arith, ap length (before_name-same ts mid o e), threads_more_takes n a b mid rest f)
-
-pub conjunction_turn_takes : (n : ℕ) (ts mid rest : List Symbol) (o : Unit {0}) (a b : Formula) → after And ts ≡ Some (o, mid) → conjunction_more (below n) o a mid ≡ Ok (b, rest) → length rest < length ts
-conjunction_turn_takes n ts mid rest o a b e f = omega (arith, after_takes And ts mid o e, conjunction_more_takes n a b mid rest f)
 
 -- A turn of each loop.
 
@@ -82,40 +58,18 @@ pub parameters_turn : (a : List Parameter) (ts : List Symbol) →
     match_option (after Comma ts) (Ok (a, ts)) (λ x. parameters_more a x.1 >>= λ y. repeated syntax (after Comma) (λ _ ps us. parameters_more ps us) y.0 y.1)
 parameters_turn = repeated-more syntax (after Comma) (λ _ ps us. parameters_more ps us) parameters_turn_takes
 
-pub steps_turn : (n : ℕ) (a : List Step) (ts : List Symbol) →
-    repeated syntax (unless RightBrace) (steps_more n) a ts ≡
-    match_option (unless RightBrace ts) (Ok (a, ts)) (λ x. step_at n x.1 >>= λ y. repeated syntax (unless RightBrace) (steps_more n) (a ++ y.0 ∷ []) y.1)
-unfolding steps_more
-steps_turn n = items-more syntax (unless RightBrace) (steps_more n) (steps_turn_takes n) (λ _ ts. step_at n ts) (λ ss s. ss ++ s ∷ []) (λ o a ts. refl)
-
 pub threads_turn : (n : ℕ) (a : List Listing) (ts : List Symbol) →
     repeated syntax before_name (threads_more n) a ts ≡
     match_option (before_name ts) (Ok (a, ts)) (λ x. thread_at n (length a) x.1 >>= λ y. repeated syntax before_name (threads_more n) (a ++ y.0 ∷ []) y.1)
 unfolding threads_more
 threads_turn n = items-more syntax before_name (threads_more n) (threads_turn_takes n) (λ bs ts. thread_at n (length bs) ts) (λ bs b. bs ++ b ∷ []) (λ o a ts. refl)
 
-pub conjunction_turn : (n : ℕ) (a : Formula) (ts : List Symbol) →
-    repeated syntax (after And) (conjunction_more (below n)) a ts ≡
-    match_option (after And ts) (Ok (a, ts)) (λ x. atomic_with (below n) x.1 >>= λ y. repeated syntax (after And) (conjunction_more (below n)) (conjunction a y.0) y.1)
-unfolding conjunction_more
-conjunction_turn n = items-more syntax (after And) (conjunction_more (below n)) (conjunction_turn_takes n) (λ _ ts. atomic_with (below n) ts) conjunction (λ o a ts. refl)
-
 -- What the code's measures need.
-
-pub step_takes : (n : ℕ) (ts rest : List Symbol) (s : Step) → step_at n ts ≡ Ok (s, rest) → length rest < length ts
-step_takes n ts rest s e = step_shorter (step-sound n ts rest s e)
 
 pub thread_takes : (n k : ℕ) (ts rest : List Symbol) (b : Listing) → thread_at n k ts ≡ Ok (b, rest) → length rest < length ts
 thread_takes n k ts rest b e = thread_shorter (thread-sound n k ts rest b e)
 
-pub atomic_takes : (n : ℕ) (ts rest : List Symbol) (a : Formula) → atomic_with (below n) ts ≡ Ok (a, rest) → length rest < length ts
-atomic_takes n ts rest a e = atomic_shorter (atomic_is n ts rest a e)
-
 -- one more element
-
-pub steps_push : (xs : List Statement) (s : Statement) → map step_of (xs ++ s ∷ []) ≡ map step_of xs ++ step_of s ∷ []
-steps_push [] s = refl
-steps_push (x ∷ xs) s = ap (λ l. step_of x ∷ l) (steps_push xs s)
 
 pub listings_push : (xs : List Body) (b : Body) → map listing_of (xs ++ b ∷ []) ≡ map listing_of xs ++ listing_of b ∷ []
 listings_push [] b = refl

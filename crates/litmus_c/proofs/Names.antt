@@ -6,7 +6,7 @@ use Rattle.conditions.specs.declared.place.Binding.{Binding}
 use Rattle.litmus_c.specs.declared.draft.Body.{Body}
 use Rattle.litmus_c.specs.declared.draft.Draft.{Draft}
 use Rattle.litmus_c.specs.declared.fault.TestFault.{TestFault}
-use Rattle.litmus_c.specs.declared.fault.TestFault.TheVariants.{Text, Syntax, UnknownName, TooDeep, TooManyThreads, TooManyLocations, TooManyEvents, TooManyValues, NoMemory}
+use Rattle.litmus_c.specs.declared.fault.TestFault.TheVariants.{Text, Syntax, BadOrder, UnknownName, PlainOnAtomic, AtomicOnPlain, Unsupported, TooDeep, TooManyThreads, TooManyLocations, TooManyEvents, TooManyValues, NoMemory}
 use Rattle.litmus_c.specs.Drafts.{Listing, listing_of}
 use Rattle.litmus_c.specs.Rules.{with_name, with_names, program_of, programs_of, ExplainsLocations}
 use Rattle.litmus_c.specs.Symbols.{is_one_of}
@@ -73,6 +73,10 @@ explained xs ys TooManyThreads l h = h
 explained xs ys TooManyEvents l h = h
 explained xs ys TooManyValues l h = h
 explained xs ys UnknownName l h = h
+explained xs ys BadOrder l h = h
+explained xs ys PlainOnAtomic l h = h
+explained xs ys AtomicOnPlain l h = h
+explained xs ys (Unsupported w) l h = h
 explained xs ys TooDeep l h = h
 explained xs ys (Text f) l h = h
 explained xs ys (Syntax n) l h = h

@@ -1,5 +1,5 @@
 -- What the tests on spellings mean.
-use Rattle.std.proofs.Common.{◌≡◌, ℕ, ◌<◌, ◌≤◌, List, length, ◌⊎◌, inl, inr, refl, sym, ◌∙◌, arith, tests, rules}
+use Rattle.std.proofs.Common.{◌≡◌, ℕ, ◌<◌, ◌≤◌, List, ◌∷◌, subst, length, ◌⊎◌, inl, inr, refl, sym, ◌∙◌, arith, tests, rules}
 use Rattle.std.specs.Prelude.{Bool, true, false, not, ◌&&◌, nat_lt, nat_le, All, Option, Some, None, SomeIff, MatchOption}
 use Rattle.std.specs.Bool.{Decides}
 use Rattle.std.specs.List.{list_all}
@@ -8,6 +8,9 @@ use Rattle.std.proofs.lemmas.Bool.Decides.{Decides-by_and}
 use Rattle.wb_text.specs.Bytes.{is_digit}
 use Rattle.wb_text.specs.Names.{IsName, IsPrintable}
 use Rattle.wb_text.specs.Numbers.{IsDecimal, decimal_value}
+use Rattle.wb_text.specs.Tokens.{IsWithin}
+use Rattle.wb_text.specs.declared.token.Token.{Token}
+use Rattle.std.proofs.lemmas.List.Elements.{All-head, All-rest}
 use Rattle.litmus_c.specs.Symbols.{is_name, has_leading_zero, is_number}
 use Rattle.litmus_c.specs.Tree.{Word}
 
@@ -82,3 +85,11 @@ number_of w (Some n) z h =
           (true_le (decimal_value w) 2147483647 h.0.1),
       h.1,
     )
+
+-- tokens within a text, one after another
+
+pub first_within : (n : ℕ) (t : Token) (ts us : List Token) → us ≡ t ∷ ts → All (IsWithin n) us → IsWithin n t
+first_within n t ts us e h = All-head (IsWithin n) t ts (subst (λ (l : List Token). All (IsWithin n) l) e h)
+
+pub rest_within : (n : ℕ) (t : Token) (ts us : List Token) → us ≡ t ∷ ts → All (IsWithin n) us → All (IsWithin n) ts
+rest_within n t ts us e h = All-rest (IsWithin n) t ts us e h

@@ -1,18 +1,16 @@
 -- Single symbols.
-use Rattle.std.proofs.Common.{◌≡◌, ◌≢◌, ℕ, suc, zero, List, [], ◌∷◌, ◌⊎◌, inl, inr, refl, sym, arith, rules, ap, ◌∙◌}
+use Rattle.std.proofs.Common.{◌≡◌, ◌≢◌, ℕ, suc, zero, List, [], ◌∷◌, ◌⊎◌, inl, inr, refl, sym, subst, arith, rules, ap, ◌∙◌, ◌<◌, length}
 use Rattle.std.specs.Prelude.{Bool, true, false, Option, Some, None, Ok, Err, if◌then◌else◌, codes}
 use Rattle.std.specs.Str.{bytes_eq}
 use Rattle.std.proofs.lemmas.Slice.Eq.{bytes_eq-Decides}
-use Rattle.events.specs.declared.event.Order.{Order}
-use Rattle.events.specs.declared.event.Order.TheVariants.{Rlx}
 use Rattle.descent.specs.Reading.{required}
 use Rattle.descent.proofs.Tools.{bind_ok, required_ok, moved, moved_look, chosen, cases_of}
+use Rattle.litmus_c.specs.declared.symbol.Operation.{Operation}
 use Rattle.litmus_c.specs.declared.symbol.Symbol.{Symbol}
-use Rattle.litmus_c.specs.declared.symbol.Symbol.TheVariants.{Fixed, Name, Number, Word as head_word, Other}
+use Rattle.litmus_c.specs.declared.symbol.Symbol.TheVariants.{Fixed, Call, Name, Number, Word as head_word, Foreign, Other}
 use Rattle.litmus_c.specs.declared.symbol.Terminal.{Terminal}
 use Rattle.litmus_c.specs.declared.symbol.Terminal.TheVariants.{LeftParen}
-use Rattle.litmus_c.specs.Grammar.{IsOrder, order_relaxed}
-use Rattle.litmus_c.specs.Reading.{syntax, deep, Reading, terminal_eq, after, expected, unless, name_at, number_look, number_at, before_name, opened, open_at, order_named, order_at, word_at}
+use Rattle.litmus_c.specs.Reading.{syntax, deep, Reading, terminal_eq, after, expected, unless, name_at, number_look, number_at, call_word, before_name, opened, open_at, word_at}
 use Rattle.litmus_c.specs.Tree.{Word}
 
 pub bytes_eq-true : (x y : Word) → bytes_eq x y ≡ true → x ≡ y
@@ -43,11 +41,32 @@ after-some t (Fixed v ∷ ts) rest u e =
 after-some t (Name x ∷ ts) rest u e = absurd (cc)
 after-some t (Number n ∷ ts) rest u e = absurd (cc)
 after-some t (head_word x ∷ ts) rest u e = absurd (cc)
+after-some t (Call c ∷ ts) rest u e = absurd (cc)
+after-some t (Foreign x ∷ ts) rest u e = absurd (cc)
 after-some t (Other ∷ ts) rest u e = absurd (cc)
+
+pub after_takes : (t : Terminal) (ts rest : List Symbol) (u : Unit {0}) → after t ts ≡ Some (u, rest) → length rest < length ts
+after_takes t ts rest u e = omega (arith, ap length (after-some t ts rest u e))
 
 pub after-first : (t : Terminal) (ts : List Symbol) → after t (Fixed t ∷ ts) ≡ Some (tt, ts)
 unfolding after
 after-first t ts = rw (terminal_eq-refl t)
+
+pub after-none : (t : Terminal) (ts rest : List Symbol) → after t ts ≡ None → ts ≡ Fixed t ∷ rest → ⊥
+after-none t ts rest e same =
+    let f : after t (Fixed t ∷ rest) ≡ None = subst (λ l. after t l ≡ None) same e in
+    let g : after t (Fixed t ∷ rest) ≡ Some (tt, rest) = after-first t rest in
+    cc
+
+-- another terminal stands first
+pub name-not : (t : Terminal) (x : Word) (ts : List Symbol) → after t (Name x ∷ ts) ≡ None
+unfolding after
+name-not t x ts = refl
+
+pub call_word-some : (ts rest : List Symbol) (c : Operation) → call_word ts ≡ Some (c, rest) → ts ≡ Call c ∷ rest
+unfolding call_word
+call_word-some (Call d ∷ ts) rest c e = moved_look (λ l t. Call d ∷ ts ≡ Call t ∷ l) e refl
+call_word-some ts rest c e = absurd (cc)
 
 pub expected-first : (t : Terminal) (ts : List Symbol) → expected t (Fixed t ∷ ts) ≡ Ok (tt, ts)
 unfolding expected
@@ -104,24 +123,3 @@ open-ok n m ts rest e =
 pub open-first : (n : ℕ) (ts : List Symbol) → open_at (suc n) (Fixed LeftParen ∷ ts) ≡ Ok (n, ts)
 unfolding open_at opened
 open-first n ts = rw (expected-first LeftParen ts)
-
-order_named-is : (x : Word) (o : Order) → order_named x ≡ Some o → IsOrder x o
-order_named-is x o e =
-    elim (chosen (bytes_eq x (codes "memory_order_relaxed")) (Some Rlx) None (Some o) e) [
-      | inl (t, s) ↦
-          let same : x ≡ codes "memory_order_relaxed" = bytes_eq-true x (codes "memory_order_relaxed") t in
-          let is : Rlx ≡ o = cc in
-          rw (same, ← is) order_relaxed
-      | inr (t, s) ↦ absurd (cc)
-    ]
-
-pub order-ok : (ts rest : List Symbol) (o : Order) → order_at ts ≡ Ok (o, rest) → (w : Word) × (ts ≡ Name w ∷ rest) × IsOrder w o
-unfolding order_at
-order-ok ts rest o e =
-    let x = bind_ok (name_at ts) _ _ e in
-    let y = bind_ok (required syntax (order_named x.0.0)) _ _ x.2 in
-    moved (λ l t. (w : Word) × (ts ≡ Name w ∷ l) × IsOrder w t) y.2
-    (x.0.0, name-ok ts x.0.1 x.0.0 x.1, order_named-is x.0.0 y.0 (required_ok syntax (order_named x.0.0) y.0 y.1))
-
-pub order-named : {w : Word} {o : Order} → IsOrder w o → order_named w ≡ Some o
-order-named order_relaxed = refl

@@ -5,7 +5,7 @@ use Rattle.wb_text.specs.Tokens.{IsTokenList}
 use Rattle.wb_text.specs.declared.token.Dialect.TheVariants as dialects
 use Rattle.wb_text.specs.declared.token.Token.{Token}
 use Rattle.litmus_c.specs.declared.fault.TestFault.{TestFault}
-use Rattle.litmus_c.specs.declared.fault.TestFault.TheVariants.{Text, Syntax, UnknownName, TooDeep, TooManyThreads, TooManyLocations, TooManyEvents, TooManyValues, NoMemory}
+use Rattle.litmus_c.specs.declared.fault.TestFault.TheVariants.{Text, Syntax, BadOrder, UnknownName, PlainOnAtomic, AtomicOnPlain, Unsupported, TooDeep, TooManyThreads, TooManyLocations, TooManyEvents, TooManyValues, NoMemory}
 use Rattle.litmus_c.specs.Depth.{NestsTooDeep}
 use Rattle.litmus_c.specs.Drafts.{Written}
 use Rattle.litmus_c.specs.Grammar.{Spells}
@@ -47,7 +47,11 @@ IsRefused text NoMemory = Unit {0}
 IsRefused text (Text f) = HasCause dialects.Litmus text f
 IsRefused text (Syntax n) = HasNoTest text
 IsRefused text TooDeep = IsTooDeep text
+IsRefused text BadOrder = HasNoTest text
+IsRefused text (Unsupported w) = HasNoTest text
 IsRefused text UnknownName = BreaksRule text UnknownName
+IsRefused text PlainOnAtomic = BreaksRule text PlainOnAtomic
+IsRefused text AtomicOnPlain = BreaksRule text AtomicOnPlain
 IsRefused text TooManyThreads = BreaksRule text TooManyThreads
 IsRefused text TooManyLocations = BreaksRule text TooManyLocations
 IsRefused text TooManyEvents = BreaksRule text TooManyEvents
@@ -58,5 +62,7 @@ abbrev pub IsUnwritten : List ℕ → TestFault → Type 0
 IsUnwritten text NoMemory = Unit {0}
 IsUnwritten text (Text f) = HasCause dialects.Litmus text f
 IsUnwritten text (Syntax n) = HasNoTest text
+IsUnwritten text BadOrder = HasNoTest text
+IsUnwritten text (Unsupported w) = HasNoTest text
 IsUnwritten text TooDeep = IsTooDeep text
 IsUnwritten text e = ⊥

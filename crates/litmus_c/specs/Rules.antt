@@ -7,13 +7,18 @@ use Rattle.conditions.specs.declared.place.Place.{Place}
 use Rattle.conditions.specs.declared.place.Place.TheVariants.{Reg, Loc}
 use Rattle.conditions.specs.contracts.place.PlacePartialEq.TheImpl.{ghosts as place_equality}
 use Rattle.litmus_c.specs.declared.fault.TestFault.{TestFault}
-use Rattle.litmus_c.specs.declared.fault.TestFault.TheVariants.{Text, Syntax, UnknownName, TooDeep, TooManyThreads, TooManyLocations, TooManyEvents, TooManyValues, NoMemory}
+use Rattle.litmus_c.specs.declared.fault.TestFault.TheVariants.{Text, Syntax, BadOrder, UnknownName, PlainOnAtomic, AtomicOnPlain, Unsupported, TooDeep, TooManyThreads, TooManyLocations, TooManyEvents, TooManyValues, NoMemory}
+use Rattle.litmus_c.specs.contracts.tree.LocationKindPartialEq.TheImpl.{ghosts as kind_equality}
+use Rattle.litmus_c.specs.declared.rules.Rule.{Rule}
+use Rattle.litmus_c.specs.declared.rules.Rule.TheVariants.{Names, PlainAccess, AtomicAccess}
+use Rattle.litmus_c.specs.declared.tree.LocationKind.{LocationKind}
+use Rattle.litmus_c.specs.declared.tree.LocationKind.TheVariants.{Atomic, Plain}
 use Rattle.litmus_c.specs.declared.tree.Parameter.{Parameter}
 use Rattle.conditions.specs.Conditions.{Formula, truth, falsehood, equals, negation, conjunction, disjunction, implication, Condition}
 use Rattle.litmus_c.specs.Drafts.{Listing, Written, is_parameter}
-use Rattle.litmus_c.specs.Limits.{location_of, program_events}
+use Rattle.litmus_c.specs.Limits.{program_events}
 use Rattle.litmus_c.specs.Symbols.{is_one_of}
-use Rattle.litmus_c.specs.Tree.{Word, Action, Right, value_of, Declared, Step, empty, declare, assign, perform, Program, Litmus}
+use Rattle.litmus_c.specs.Tree.{Word, Term, number, held, denied, equal, unequal, both, either, Action, load, store, exchange, fence, Right, computed, plain_read, value_of, Declared, Step, empty, block, declare, assign, plain_write, perform, if_only, if_else, Steps, no_steps, in_turn, Program, Litmus}
 use Rattle.litmus_c.specs.Values.{values_of}
 
 -- Names, once each where they first stand.
@@ -53,14 +58,23 @@ abbrev pub place_registers : ℕ → Place → List Word
 place_registers k (Reg j x) = if j == k then x ∷ [] else []
 place_registers k (Loc x) = []
 
-abbrev pub step_registers : Step → List Word
-step_registers empty = []
-step_registers (declare ds) = map (λ d. d.register) ds
-step_registers (assign r v) = r ∷ []
-step_registers (perform a) = []
+abbrev mutual
+  pub step_registers : Step → List Word
+  step_registers empty = []
+  step_registers (block ss) = steps_registers ss
+  step_registers (declare ds) = map (λ d. d.register) ds
+  step_registers (assign r v) = r ∷ []
+  step_registers (plain_write x e) = []
+  step_registers (perform a) = []
+  step_registers (if_only c a) = step_registers a
+  step_registers (if_else c a b) = step_registers a ++ step_registers b
 
-abbrev pub registers_of : ℕ → List Binding → List Step → List Word
-registers_of k es ss = with_names (with_names [] (flat_map (λ b. place_registers k b.place) es)) (flat_map step_registers ss)
+  pub steps_registers : Steps → List Word
+  steps_registers no_steps = []
+  steps_registers (in_turn s ss) = step_registers s ++ steps_registers ss
+
+abbrev pub registers_of : ℕ → List Binding → Steps → List Word
+registers_of k es ss = with_names (with_names [] (flat_map (λ b. place_registers k b.place) es)) (steps_registers ss)
 
 -- The test.
 
@@ -73,7 +87,7 @@ programs_of k es [] = []
 programs_of k es (t ∷ ts) = program_of k es t ∷ programs_of (suc k) es ts
 
 abbrev pub litmus_of : Written → Litmus
-litmus_of w = record { name = w.name; initial = lasting w.entries; threads = programs_of 0 w.entries w.threads; condition = w.condition; listed = []; locations = locations_of w }
+litmus_of w = record { name = w.name; initial = lasting w.entries; threads = programs_of 0 w.entries w.threads; condition = w.condition; listed = w.listed; locations = locations_of w }
 
 -- Names that are used are there.
 
@@ -86,29 +100,85 @@ abbrev pub entry_is_fair : List Program → Place → Bool
 entry_is_fair ps (Reg k x) = passes (λ p. not (is_parameter p.parameters x)) (slice_get ps k)
 entry_is_fair ps (Loc x) = true
 
--- a call's location is a parameter
-abbrev pub action_is_fair : List Parameter → Action → Bool
-action_is_fair ps a = is_parameter ps (location_of a)
+-- Three rules of a thread with the parameters ps and the registers rs. Names: what is used is there, and no parameter
+-- is a register. PlainAccess: no plain access is to an atomic location. AtomicAccess: no call is on a plain location.
 
-abbrev pub right_is_fair : List Parameter → Right → Bool
-right_is_fair ps (value_of a) = action_is_fair ps a
+-- a parameter has this name and this kind
+abbrev pub is_of : LocationKind → Word → Parameter → Bool
+is_of k x p = bytes_eq p.name x && kind_equality.eq p.kind k
 
-abbrev pub optional_is_fair : List Parameter → Option Right → Bool
-optional_is_fair ps None = true
-optional_is_fair ps (Some v) = right_is_fair ps v
+-- no parameter of this name has this kind
+abbrev pub has_other_kind : List Parameter → LocationKind → Word → Bool
+has_other_kind ps k x = not (list_any (is_of k x) ps)
 
--- a register is no parameter
-abbrev pub declared_is_fair : List Parameter → Declared → Bool
-declared_is_fair ps d = not (is_parameter ps d.register) && optional_is_fair ps d.value
+-- a register is read
+abbrev pub may_read : Rule → List Parameter → List Word → Word → Bool
+may_read Names ps rs r = is_one_of rs r
+may_read PlainAccess ps rs r = true
+may_read AtomicAccess ps rs r = true
 
-abbrev pub step_is_fair : List Parameter → Step → Bool
-step_is_fair ps empty = true
-step_is_fair ps (declare ds) = list_all (declared_is_fair ps) ds
-step_is_fair ps (assign r v) = not (is_parameter ps r) && right_is_fair ps v
-step_is_fair ps (perform a) = action_is_fair ps a
+-- a register is declared or assigned
+abbrev pub may_give : Rule → List Parameter → List Word → Word → Bool
+may_give Names ps rs r = not (is_parameter ps r)
+may_give PlainAccess ps rs r = true
+may_give AtomicAccess ps rs r = true
 
-abbrev pub program_is_fair : Program → Bool
-program_is_fair p = list_all (step_is_fair p.parameters) p.steps
+-- a call is on a location
+abbrev pub may_call : Rule → List Parameter → List Word → Word → Bool
+may_call Names ps rs x = is_parameter ps x
+may_call PlainAccess ps rs x = true
+may_call AtomicAccess ps rs x = has_other_kind ps Plain x
+
+-- a plain access is to a location
+abbrev pub may_access : Rule → List Parameter → List Word → Word → Bool
+may_access Names ps rs x = is_parameter ps x
+may_access PlainAccess ps rs x = has_other_kind ps Atomic x
+may_access AtomicAccess ps rs x = true
+
+abbrev pub term_keeps : Rule → List Parameter → List Word → Term → Bool
+term_keeps k ps rs (number n) = true
+term_keeps k ps rs (held r) = may_read k ps rs r
+term_keeps k ps rs (denied a) = term_keeps k ps rs a
+term_keeps k ps rs (equal a b) = term_keeps k ps rs a && term_keeps k ps rs b
+term_keeps k ps rs (unequal a b) = term_keeps k ps rs a && term_keeps k ps rs b
+term_keeps k ps rs (both a b) = term_keeps k ps rs a && term_keeps k ps rs b
+term_keeps k ps rs (either a b) = term_keeps k ps rs a && term_keeps k ps rs b
+
+abbrev pub action_keeps : Rule → List Parameter → List Word → Action → Bool
+action_keeps k ps rs (load x o) = may_call k ps rs x
+action_keeps k ps rs (store x e o) = may_call k ps rs x && term_keeps k ps rs e
+action_keeps k ps rs (exchange x e o) = may_call k ps rs x && term_keeps k ps rs e
+action_keeps k ps rs (fence o) = true
+
+abbrev pub right_keeps : Rule → List Parameter → List Word → Right → Bool
+right_keeps k ps rs (computed e) = term_keeps k ps rs e
+right_keeps k ps rs (plain_read x) = may_access k ps rs x
+right_keeps k ps rs (value_of a) = action_keeps k ps rs a
+
+abbrev pub optional_keeps : Rule → List Parameter → List Word → Option Right → Bool
+optional_keeps k ps rs None = true
+optional_keeps k ps rs (Some v) = right_keeps k ps rs v
+
+abbrev pub declared_keeps : Rule → List Parameter → List Word → Declared → Bool
+declared_keeps k ps rs d = may_give k ps rs d.register && optional_keeps k ps rs d.value
+
+abbrev mutual
+  pub step_keeps : Rule → List Parameter → List Word → Step → Bool
+  step_keeps k ps rs empty = true
+  step_keeps k ps rs (block ss) = steps_keep k ps rs ss
+  step_keeps k ps rs (declare ds) = list_all (declared_keeps k ps rs) ds
+  step_keeps k ps rs (assign r v) = may_give k ps rs r && right_keeps k ps rs v
+  step_keeps k ps rs (plain_write x e) = may_access k ps rs x && term_keeps k ps rs e
+  step_keeps k ps rs (perform a) = action_keeps k ps rs a
+  step_keeps k ps rs (if_only c a) = term_keeps k ps rs c && step_keeps k ps rs a
+  step_keeps k ps rs (if_else c a b) = term_keeps k ps rs c && (step_keeps k ps rs a && step_keeps k ps rs b)
+
+  pub steps_keep : Rule → List Parameter → List Word → Steps → Bool
+  steps_keep k ps rs no_steps = true
+  steps_keep k ps rs (in_turn s ss) = step_keeps k ps rs s && steps_keep k ps rs ss
+
+abbrev pub program_keeps : Rule → Program → Bool
+program_keeps k p = steps_keep k p.parameters p.registers p.steps
 
 -- a place of the condition is a register of a thread, or a location
 abbrev pub place_is_there : List Program → List Word → Place → Bool
@@ -124,8 +194,16 @@ formula_is_fair ps xs (conjunction a b) = formula_is_fair ps xs a && formula_is_
 formula_is_fair ps xs (disjunction a b) = formula_is_fair ps xs a && formula_is_fair ps xs b
 formula_is_fair ps xs (implication a b) = formula_is_fair ps xs a && formula_is_fair ps xs b
 
+abbrev pub places_are_there : List Program → List Word → List Place → Bool
+places_are_there ps xs qs = list_all (place_is_there ps xs) qs
+
+-- the names that entries, threads ps with locations xs, listed places and a condition use
+abbrev pub names_hold : List Binding → List Program → List Word → List Place → Formula → Bool
+names_hold es ps xs qs a =
+    list_all (λ b. entry_is_fair ps b.place) es && list_all (program_keeps Names) ps && places_are_there ps xs qs && formula_is_fair ps xs a
+
 abbrev pub names_are_there : List Binding → Litmus → Bool
-names_are_there es t = list_all (λ b. entry_is_fair t.threads b.place) es && list_all program_is_fair t.threads && formula_is_fair t.threads t.locations t.condition.formula
+names_are_there es t = names_hold es t.threads t.locations t.listed t.condition.formula
 
 -- the initial writes, and the events of the threads
 abbrev pub events_of : Litmus → ℕ
@@ -136,6 +214,8 @@ pub record KeepsRules (es : List Binding) (t : Litmus) : Type 0 where
   pub threads : length t.threads ≤ 8
   pub locations : length t.locations ≤ 8
   pub names : names_are_there es t ≡ true
+  pub plain : list_all (program_keeps PlainAccess) t.threads ≡ true
+  pub atomic : list_all (program_keeps AtomicAccess) t.threads ≡ true
   pub values : length (values_of t) ≤ 16
   pub events : events_of t ≤ 64
 
@@ -145,11 +225,22 @@ Explains es t NoMemory = Unit {0}
 Explains es t TooManyThreads = 8 < length t.threads
 Explains es t TooManyLocations = 8 < length t.locations
 Explains es t UnknownName = names_are_there es t ≡ false
+Explains es t PlainOnAtomic = list_all (program_keeps PlainAccess) t.threads ≡ false
+Explains es t AtomicOnPlain = list_all (program_keeps AtomicAccess) t.threads ≡ false
 Explains es t TooManyValues = 16 < length (values_of t)
 Explains es t TooManyEvents = 64 < events_of t
 Explains es t (Text f) = ⊥
 Explains es t (Syntax n) = ⊥
+Explains es t BadOrder = ⊥
+Explains es t (Unsupported w) = ⊥
 Explains es t TooDeep = ⊥
+
+-- A name that isn't there, or a plain or an atomic access that its location doesn't take.
+abbrev pub ExplainsNames : List Binding → List Program → List Word → List Place → Formula → TestFault → Type 0
+ExplainsNames es ps xs qs a UnknownName = names_hold es ps xs qs a ≡ false
+ExplainsNames es ps xs qs a PlainOnAtomic = list_all (program_keeps PlainAccess) ps ≡ false
+ExplainsNames es ps xs qs a AtomicOnPlain = list_all (program_keeps AtomicAccess) ps ≡ false
+ExplainsNames es ps xs qs a e = ⊥
 
 -- More than 8 locations, or no memory.
 abbrev pub ExplainsLocations : List Word → TestFault → Type 0

@@ -1,5 +1,5 @@
 -- The terminal symbols that the tokens of a text spell.
-use Rattle.std.specs.Prelude.{ℕ, List, [], ◌∷◌, map, length, Bool, true, false, not, ◌&&◌, ◌||◌, ◌==◌, nat_lt, nat_le, Option, Some, None, if◌then◌else◌, codes, slice_index}
+use Rattle.std.specs.Prelude.{ℕ, List, [], ◌∷◌, length, Bool, true, false, not, ◌&&◌, ◌||◌, ◌==◌, nat_lt, nat_le, Option, Some, None, if◌then◌else◌, codes, slice_index}
 use Rattle.std.specs.List.{list_any, list_all, slice_range, starts_with}
 use Rattle.std.specs.Str.{bytes_eq}
 use Rattle.wb_text.specs.Bytes.{is_digit}
@@ -7,14 +7,18 @@ use Rattle.wb_text.specs.Numbers.{decimal_value}
 use Rattle.wb_text.specs.declared.token.Token.{Token}
 use Rattle.wb_text.specs.declared.token.TokenKind.{TokenKind}
 use Rattle.wb_text.specs.declared.token.TokenKind.TheVariants as kinds
+use Rattle.events.specs.declared.event.Order.{Order}
+use Rattle.events.specs.declared.event.Order.TheVariants.{Rlx, Acq, Rel, AcqRel, Sc}
+use Rattle.litmus_c.specs.declared.symbol.Operation.{Operation}
+use Rattle.litmus_c.specs.declared.symbol.Operation.TheVariants.{Load, LoadExplicit, Store, StoreExplicit, Exchange, ExchangeExplicit, Fence}
 use Rattle.litmus_c.specs.declared.symbol.Symbol.{Symbol}
-use Rattle.litmus_c.specs.declared.symbol.Symbol.TheVariants.{Fixed, Name, Number, Word as head_word, Other}
+use Rattle.litmus_c.specs.declared.symbol.Symbol.TheVariants.{Fixed, Call, Name, Number, Word as head_word, Foreign, Other}
 use Rattle.litmus_c.specs.declared.symbol.Terminal.{Terminal}
-use Rattle.litmus_c.specs.declared.symbol.Terminal.TheVariants.{Int, AtomicInt, Exists, AtomicLoadExplicit, AtomicStoreExplicit, LeftParen, RightParen, LeftBrace, RightBrace, LeftBracket, RightBracket, Semicolon, Colon, Comma, Assign, Star, And}
+use Rattle.litmus_c.specs.declared.symbol.Terminal.TheVariants.{Int, AtomicInt, Volatile, If, Else, True, False, Exists, Forall, Not, Locations, LeftParen, RightParen, LeftBrace, RightBrace, LeftBracket, RightBracket, Semicolon, Colon, Comma, Assign, Star, Tilde, Bang, EqualEqual, BangEqual, AndAnd, OrOr, And, Or, Arrow}
 use Rattle.litmus_c.specs.Tree.{Word}
 
--- the terminal beside the first word of the table that is w
-abbrev pub looked_up : List (Word × Terminal) → Word → Option Terminal
+-- what stands beside the first word of the table that is w
+abbrev pub looked_up : {A : Type 0} → List (Word × A) → Word → Option A
 looked_up [] w = None
 looked_up (row ∷ rows) w = if bytes_eq w row.0 then Some row.1 else looked_up rows w
 
@@ -22,18 +26,29 @@ abbrev pub signs : List (Word × Terminal)
 signs =
     (codes "(", LeftParen) ∷ (codes ")", RightParen) ∷ (codes "{", LeftBrace) ∷ (codes "}", RightBrace) ∷
     (codes "[", LeftBracket) ∷ (codes "]", RightBracket) ∷ (codes ";", Semicolon) ∷ (codes ":", Colon) ∷
-    (codes ",", Comma) ∷ (codes "=", Assign) ∷ (codes "*", Star) ∷ (codes "/\\", And) ∷ []
+    (codes ",", Comma) ∷ (codes "=", Assign) ∷ (codes "*", Star) ∷ (codes "~", Tilde) ∷ (codes "!", Bang) ∷
+    (codes "==", EqualEqual) ∷ (codes "!=", BangEqual) ∷ (codes "&&", AndAnd) ∷ (codes "||", OrOr) ∷
+    (codes "/\\", And) ∷ (codes "\\/", Or) ∷ (codes "=>", Arrow) ∷ []
 
 abbrev pub words : List (Word × Terminal)
 words =
-    (codes "int", Int) ∷ (codes "atomic_int", AtomicInt) ∷ (codes "exists", Exists) ∷
-    (codes "atomic_load_explicit", AtomicLoadExplicit) ∷ (codes "atomic_store_explicit", AtomicStoreExplicit) ∷ []
+    (codes "int", Int) ∷ (codes "atomic_int", AtomicInt) ∷ (codes "volatile", Volatile) ∷ (codes "if", If) ∷ (codes "else", Else) ∷
+    (codes "true", True) ∷ (codes "false", False) ∷ (codes "exists", Exists) ∷ (codes "forall", Forall) ∷ (codes "not", Not) ∷
+    (codes "locations", Locations) ∷ []
 
--- words that are no names, and that no production takes
-abbrev pub kept_words : List Word
-kept_words =
-    codes "volatile" ∷ codes "if" ∷ codes "else" ∷ codes "true" ∷ codes "false" ∷ codes "forall" ∷ codes "not" ∷ codes "locations" ∷
-    codes "atomic_load" ∷ codes "atomic_store" ∷ codes "atomic_exchange" ∷ codes "atomic_exchange_explicit" ∷ codes "atomic_thread_fence" ∷ []
+-- the calls of ISO C11, 7.17.7 and 7.17.4
+abbrev pub calls : List (Word × Operation)
+calls =
+    (codes "atomic_load", Load) ∷ (codes "atomic_load_explicit", LoadExplicit) ∷
+    (codes "atomic_store", Store) ∷ (codes "atomic_store_explicit", StoreExplicit) ∷
+    (codes "atomic_exchange", Exchange) ∷ (codes "atomic_exchange_explicit", ExchangeExplicit) ∷
+    (codes "atomic_thread_fence", Fence) ∷ []
+
+-- the orders of ISO C11, 7.17.3, without consume
+abbrev pub orders : List (Word × Order)
+orders =
+    (codes "memory_order_relaxed", Rlx) ∷ (codes "memory_order_acquire", Acq) ∷ (codes "memory_order_release", Rel) ∷
+    (codes "memory_order_acq_rel", AcqRel) ∷ (codes "memory_order_seq_cst", Sc) ∷ []
 
 -- words of C and of the kernel that no test has
 abbrev pub foreign_words : List Word
@@ -41,20 +56,27 @@ foreign_words =
     codes "while" ∷ codes "for" ∷ codes "do" ∷ codes "switch" ∷ codes "goto" ∷ codes "break" ∷ codes "continue" ∷ codes "return" ∷
     codes "filter" ∷ codes "READ_ONCE" ∷ codes "WRITE_ONCE" ∷ []
 
-abbrev pub orders : List Word
-orders =
-    codes "memory_order_relaxed" ∷ codes "memory_order_acquire" ∷ codes "memory_order_release" ∷ codes "memory_order_acq_rel" ∷
-    codes "memory_order_seq_cst" ∷ []
-
 abbrev pub is_one_of : List Word → Word → Bool
 is_one_of ws w = list_any (bytes_eq w) ws
 
+abbrev pub begins : Word → Word → Bool
+begins w front = starts_with (λ a b. a == b) w front
+
+abbrev pub is_none : {A : Type 0} → Option A → Bool
+is_none None = true
+is_none (Some x) = false
+
 -- named as an order, and none of the five
 abbrev pub is_foreign_order : Word → Bool
-is_foreign_order w = starts_with (λ a b. a == b) w (codes "memory_order_") && not (is_one_of orders w)
+is_foreign_order w = begins w (codes "memory_order_") && is_none (looked_up orders w)
 
-abbrev pub is_no_name : Word → Bool
-is_no_name w = is_one_of kept_words w || is_one_of foreign_words w || is_foreign_order w
+-- named as a call of C or of the kernel
+abbrev pub is_foreign_call : Word → Bool
+is_foreign_call w = begins w (codes "atomic_") || begins w (codes "smp_")
+
+-- Whether the language leaves a word out, that is no call of its own. called: an opening parenthesis stands behind it.
+abbrev pub is_foreign : Bool → Word → Bool
+is_foreign called w = is_one_of foreign_words w || is_foreign_order w || (called && is_foreign_call w)
 
 -- 1 to 64 printable bytes
 abbrev pub is_name : Word → Bool
@@ -64,15 +86,19 @@ is_name w = nat_lt 0 (length w) && nat_le (length w) 64 && list_all (λ b. nat_l
 abbrev pub named_symbol : (Word → Symbol) → Word → Symbol
 named_symbol make w = if is_name w then make w else Other
 
-abbrev pub name_symbol : Word → Symbol
-name_symbol w = if is_no_name w then Other else named_symbol Name w
-
 abbrev pub fixed_or : Option Terminal → Symbol → Symbol
 fixed_or None s = s
 fixed_or (Some t) s = Fixed t
 
-abbrev pub word_symbol : Word → Symbol
-word_symbol w = fixed_or (looked_up words w) (name_symbol w)
+abbrev pub call_or : Option Operation → Symbol → Symbol
+call_or None s = s
+call_or (Some c) s = Call c
+
+abbrev pub name_symbol : Bool → Word → Symbol
+name_symbol called w = if is_foreign called w then named_symbol Foreign w else fixed_or (looked_up words w) (named_symbol Name w)
+
+abbrev pub word_symbol : Bool → Word → Symbol
+word_symbol called w = call_or (looked_up calls w) (name_symbol called w)
 
 -- digits after a zero
 abbrev pub has_leading_zero : Word → Bool
@@ -85,16 +111,23 @@ is_number w = not (has_leading_zero w) && nat_lt 0 (length w) && list_all is_dig
 abbrev pub number_symbol : Word → Symbol
 number_symbol w = if is_number w then Number (decimal_value w) else Other
 
--- by the kind of the token and its bytes
-abbrev pub symbol_by : TokenKind → Word → Symbol
-symbol_by kinds.Word w = named_symbol head_word w
-symbol_by kinds.Name w = word_symbol w
-symbol_by kinds.Number w = number_symbol w
-symbol_by kinds.Quoted w = Other
-symbol_by kinds.Sign w = fixed_or (looked_up signs w) Other
+-- by the kind of the token, what stands behind it, and its bytes
+abbrev pub symbol_by : TokenKind → Bool → Word → Symbol
+symbol_by kinds.Word called w = named_symbol head_word w
+symbol_by kinds.Name called w = word_symbol called w
+symbol_by kinds.Number called w = number_symbol w
+symbol_by kinds.Quoted called w = Other
+symbol_by kinds.Sign called w = fixed_or (looked_up signs w) Other
 
-abbrev pub symbol_of : List ℕ → Token → Symbol
-symbol_of text t = symbol_by t.kind (slice_range text t.from t.to)
+-- the bytes of a token
+abbrev pub spelling : List ℕ → Token → Word
+spelling text t = slice_range text t.from t.to
+
+-- an opening parenthesis stands first
+abbrev pub is_opened : List ℕ → List Token → Bool
+is_opened text [] = false
+is_opened text (t ∷ ts) = bytes_eq (spelling text t) (codes "(")
 
 abbrev pub symbols_of : List ℕ → List Token → List Symbol
-symbols_of text ts = map (symbol_of text) ts
+symbols_of text [] = []
+symbols_of text (t ∷ ts) = symbol_by t.kind (is_opened text ts) (spelling text t) ∷ symbols_of text ts

@@ -3,30 +3,51 @@ use Rattle.std.specs.Prelude.{◌≡◌, ℕ, ◌⊎◌, List, [], ◌∷◌, �
 use Rattle.std.specs.List.{flat_map, list_any}
 use Rattle.conditions.specs.declared.place.Binding.{Binding}
 use Rattle.listings.specs.Lists.{IsIn}
-use Rattle.litmus_c.specs.Tree.{Term, number, Action, load, store, Right, value_of, Step, empty, declare, assign, perform, Program, Litmus}
+use Rattle.litmus_c.specs.Tree.{Term, number, held, denied, equal, unequal, both, either, Action, load, store, exchange, fence, Right, computed, plain_read, value_of, Step, empty, block, declare, assign, plain_write, perform, if_only, if_else, Steps, no_steps, in_turn, Program, Litmus}
+
+-- Constants in order, those of an arm that is never taken among them.
 
 abbrev pub term_constants : Term → List ℕ
 term_constants (number n) = n ∷ []
+term_constants (held r) = []
+term_constants (denied a) = term_constants a
+term_constants (equal a b) = term_constants a ++ term_constants b
+term_constants (unequal a b) = term_constants a ++ term_constants b
+term_constants (both a b) = term_constants a ++ term_constants b
+term_constants (either a b) = term_constants a ++ term_constants b
 
 abbrev pub action_constants : Action → List ℕ
 action_constants (load x o) = []
 action_constants (store x e o) = term_constants e
+action_constants (exchange x e o) = term_constants e
+action_constants (fence o) = []
 
 abbrev pub right_constants : Right → List ℕ
+right_constants (computed e) = term_constants e
+right_constants (plain_read x) = []
 right_constants (value_of a) = action_constants a
 
 abbrev pub optional_constants : Option Right → List ℕ
 optional_constants None = []
 optional_constants (Some r) = right_constants r
 
-abbrev pub step_constants : Step → List ℕ
-step_constants empty = []
-step_constants (declare ds) = flat_map (λ d. optional_constants d.value) ds
-step_constants (assign r v) = right_constants v
-step_constants (perform a) = action_constants a
+abbrev mutual
+  pub step_constants : Step → List ℕ
+  step_constants empty = []
+  step_constants (block ss) = steps_constants ss
+  step_constants (declare ds) = flat_map (λ d. optional_constants d.value) ds
+  step_constants (assign r v) = right_constants v
+  step_constants (plain_write x e) = term_constants e
+  step_constants (perform a) = action_constants a
+  step_constants (if_only c a) = term_constants c ++ step_constants a
+  step_constants (if_else c a b) = term_constants c ++ step_constants a ++ step_constants b
+
+  pub steps_constants : Steps → List ℕ
+  steps_constants no_steps = []
+  steps_constants (in_turn s ss) = step_constants s ++ steps_constants ss
 
 abbrev pub program_constants : Program → List ℕ
-program_constants p = flat_map step_constants p.steps
+program_constants p = steps_constants p.steps
 
 -- the constants of an initial state, and then those of programs, as they stand
 abbrev pub constants_among : List Binding → List Program → List ℕ

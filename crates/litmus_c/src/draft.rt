@@ -1,7 +1,7 @@
 //! A test as it is written, before its names are looked up.
 
 use crate::tree::{Parameter, Statement};
-use conditions::{Binding, Cond};
+use conditions::{Binding, Cond, Place};
 use wb_text::Name;
 
 /// A thread as it is written.
@@ -18,5 +18,7 @@ pub struct Draft {
     /// The entries of the initial state, in order.
     pub entries: Vec<Binding>,
     pub bodies: Vec<Body>,
+    /// What `locations` lists, in order.
+    pub listed: Vec<Place>,
     pub condition: Cond,
 }

@@ -2,21 +2,32 @@
 
 ghost use Rattle.std.specs.Prelude.{◌≡◌};
 
-use crate::syntax_fault::SyntaxFault;
 use std::alloc::{AllocError, AllocFailed};
 use thiserror::Error;
-use wb_text::TextFault;
+use wb_text::{Name, TextFault};
 
 /// Why a text is no test. The numbers are those of the printed refusals.
-#[derive(Clone, Copy, Debug, Drop, PartialEq, Eq, Error)]
+#[derive(Debug, Drop, PartialEq, Eq, Error)]
 pub enum TestFault {
     #[error("11 Text {0}")]
     Text(TextFault),
     #[error("12 Syntax {0}")]
     Syntax(usize),
-    /// A name, a thread or a location that isn't there, or that is of the wrong kind.
+    /// A call with an order that it doesn't take.
+    #[error("13 BadOrder")]
+    BadOrder,
+    /// A name, a thread or a location that isn't there, or a parameter in a register's place.
     #[error("14 UnknownName")]
     UnknownName,
+    /// A plain access to a location that is a parameter of type `atomic_int*`.
+    #[error("15 PlainOnAtomic")]
+    PlainOnAtomic,
+    /// A call on a location that is a parameter of type `int*`.
+    #[error("16 AtomicOnPlain")]
+    AtomicOnPlain,
+    /// A word of C or of the kernel that the language leaves out.
+    #[error("17 Unsupported {0}")]
+    Unsupported(Name),
     /// More than 32 levels of nesting.
     #[error("18 TooDeep")]
     TooDeep,
@@ -53,20 +64,6 @@ impl<T: Drop> From<AllocFailed<T>> for TestFault {
 
     fn from(_error: AllocFailed<T>) -> Self {
         TestFault::NoMemory
-    }
-}
-
-impl From<SyntaxFault> for TestFault {
-    ghost use Rattle.litmus_c.specs.Reading.{refusal};
-
-    ghost from_gives = { λ s e. e ≡ refusal s };
-
-    fn from(fault: SyntaxFault) -> Self {
-        match fault {
-            SyntaxFault::Syntax(offset) => TestFault::Syntax(offset),
-            SyntaxFault::TooDeep => TestFault::TooDeep,
-            SyntaxFault::NoMemory => TestFault::NoMemory,
-        }
     }
 }
 

@@ -5,6 +5,7 @@ mod draft;
 mod fault;
 pub mod laws;
 mod making;
+mod operator;
 mod reading;
 mod rules;
 mod symbol;

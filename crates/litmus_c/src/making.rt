@@ -1,17 +1,21 @@
 //! From a test as it is written to the test that it means.
 
-ghost use Rattle.std.specs.Prelude.{◌≡◌, ◌≤◌, ◌<◌, ◌+◌, ◌&&◌, [], ℕ, List, map, length, sum_by, IfOk, IfErr, OnOk};
+ghost use Rattle.std.specs.Prelude.{◌≡◌, ◌≤◌, ◌<◌, ◌+◌, ◌&&◌, [], ℕ, List, map, length, sum_by, IfOk, IfErr, OnOk, true};
 ghost use Rattle.std.specs.List.{flat_map, list_all};
 ghost use Rattle.litmus_c.specs.Drafts.{listing_of, written_of};
 ghost use Rattle.litmus_c.specs.Limits.{program_events};
 ghost use Rattle.litmus_c.specs.declared.fault.TestFault.TheVariants.{TooManyEvents};
-ghost use Rattle.litmus_c.specs.Rules.{with_name, with_names, lasting, place_locations, parameter_names, locations_of, place_registers, step_registers, registers_of, program_of, programs_of, litmus_of, entry_is_fair, program_is_fair, formula_is_fair, KeepsRules, Explains, ExplainsLocations, ExplainsValues};
+ghost use Rattle.litmus_c.specs.Rules.{with_name, with_names, lasting, place_locations, parameter_names, locations_of, place_registers, step_registers, steps_registers, registers_of, program_of, programs_of, litmus_of, entry_is_fair, program_keeps, places_are_there, names_hold, formula_is_fair, KeepsRules, Explains, ExplainsNames, ExplainsLocations, ExplainsValues};
 ghost use Rattle.litmus_c.specs.Values.{values_among};
-ghost use Rattle.litmus_c.specs.Tree.{declared_of, step_of};
+ghost use Rattle.litmus_c.specs.Tree.{declared_of, step_of, steps_of};
+ghost use Rattle.litmus_c.specs.declared.rules.Rule.TheVariants.{Names, PlainAccess, AtomicAccess};
 
 use crate::draft::{Body, Draft};
 use crate::fault::TestFault;
-use crate::rules::{after_threads, entry_is_fair, formula_is_fair, is_one_of, program_is_fair};
+use crate::rules::{
+    Rule, after_threads, entry_is_fair, formula_is_fair, is_given, is_one_of, places_are_there,
+    program_keeps,
+};
 use crate::test::Test;
 use crate::tree::{Declarator, Parameter, Statement, Thread};
 use crate::values::{ValuesFault, values_among};
@@ -155,14 +159,36 @@ fn note_declarators(
 }
 
 /// Adds the registers that a statement declares or assigns.
+#[cycle(noting)]
+#[tactic(auto, using(crate::proofs::Names::names_append, crate::proofs::Steps::only_if, crate::proofs::Steps::if_and_else))]
 fn note_statement(registers: &mut IndexSet<Name>, statement: &Statement) -> Result<(), AllocError>
     ensures { OnOk result (registers.new.keys ≡ with_names registers.old.keys (step_registers (step_of statement.now))) }
 {
     match statement {
-        Statement::Empty | Statement::Perform(_) => Ok(()),
+        Statement::Empty | Statement::Write(_, _) | Statement::Perform(_) => Ok(()),
+        Statement::Block(statements) => note_statements(registers, statements.as_slice()),
         Statement::Declare(declarators) => note_declarators(registers, declarators.as_slice()),
         Statement::Assign(register, _) => note_name(registers, register),
+        Statement::If(_, arm, None) => note_statement(registers, arm),
+        Statement::If(_, arm, Some(other)) => {
+            note_statement(registers, arm)?;
+            note_statement(registers, other)
+        }
     }
+}
+
+/// Adds the registers that statements declare or assign.
+#[cycle(noting)]
+fn note_statements(
+    registers: &mut IndexSet<Name>,
+    statements: &[Statement],
+) -> Result<(), AllocError>
+    ensures { OnOk result (registers.new.keys ≡ with_names registers.old.keys (steps_registers (steps_of statements.now))) }
+{
+    for statement in statements {
+        note_statement(registers, statement)?;
+    }
+    Ok(())
 }
 
 /// The registers of thread `number`.
@@ -172,12 +198,10 @@ fn find_registers(
     entries: &[Binding],
     statements: &[Statement],
 ) -> Result<IndexSet<Name>, AllocError>
-    ensures { IfOk result (λ s. s.keys ≡ registers_of number entries.now (map step_of statements.now)) }
+    ensures { IfOk result (λ s. s.keys ≡ registers_of number entries.now (steps_of statements.now)) }
 {
     let mut registers = entry_registers(alloc, number, entries)?;
-    for statement in statements {
-        note_statement(&mut registers, statement)?;
-    }
+    note_statements(&mut registers, statements)?;
     Ok(registers)
 }
 
@@ -221,24 +245,52 @@ fn entries_are_fair(entries: &[Binding], threads: &[Thread]) -> bool
         .all(|entry| entry_is_fair(threads, &entry.place))
 }
 
-fn programs_are_fair(threads: &[Thread]) -> bool
-    ensures { result ≡ list_all program_is_fair threads.now }
+/// Whether all threads keep a rule.
+fn programs_keep(rule: Rule, threads: &[Thread]) -> bool
+    ensures { result ≡ list_all (program_keeps rule) threads.now }
 {
-    threads.iter().all(program_is_fair)
+    threads.iter().all(|thread| program_keeps(rule, thread))
 }
 
 /// Whether the names that are used are there.
-fn names_are_there(
+fn names_hold(
     entries: &[Binding],
     threads: &[Thread],
-    condition: &Cond,
     locations: &[Name],
+    listed: &[Place],
+    condition: &Cond,
 ) -> bool
-    ensures { result ≡ (list_all (λ b. entry_is_fair threads.now b.place) entries.now && list_all program_is_fair threads.now && formula_is_fair threads.now locations.now condition.now.formula) }
+    ensures { result ≡ names_hold entries.now threads.now locations.now listed.now condition.now.formula }
 {
     entries_are_fair(entries, threads)
-        && programs_are_fair(threads)
+        && programs_keep(Rule::Names, threads)
+        && places_are_there(threads, locations, listed)
         && formula_is_fair(threads, locations, condition.prop())
+}
+
+/// Refuses a name that isn't there, and then an access that its location doesn't take.
+fn check_names(
+    entries: &[Binding],
+    threads: &[Thread],
+    locations: &[Name],
+    listed: &[Place],
+    condition: &Cond,
+) -> Result<(), TestFault>
+    ensures names { OnOk result (names_hold entries.now threads.now locations.now listed.now condition.now.formula ≡ true) }
+    ensures plain { OnOk result (list_all (program_keeps PlainAccess) threads.now ≡ true) }
+    ensures atomic { OnOk result (list_all (program_keeps AtomicAccess) threads.now ≡ true) }
+    ensures cause { IfErr result (λ e. ExplainsNames entries.now threads.now locations.now listed.now condition.now.formula e) }
+{
+    if !names_hold(entries, threads, locations, listed, condition) {
+        return Err(TestFault::UnknownName);
+    }
+    if !programs_keep(Rule::PlainAccess, threads) {
+        return Err(TestFault::PlainOnAtomic);
+    }
+    if !programs_keep(Rule::AtomicAccess, threads) {
+        return Err(TestFault::AtomicOnPlain);
+    }
+    Ok(())
 }
 
 /// Refuses more values than a test has.
@@ -275,6 +327,7 @@ pub fn make_test(alloc: Global, draft: Draft) -> Result<Test, TestFault>
         name,
         entries,
         bodies,
+        listed,
         condition,
     } = draft;
     if bodies.len() > MAX_THREADS {
@@ -284,22 +337,14 @@ pub fn make_test(alloc: Global, draft: Draft) -> Result<Test, TestFault>
     let locations = find_locations(alloc, entries, bodies.as_slice())?;
     let initial = find_lasting(alloc, entries)?;
     let threads = make_threads(alloc, entries, bodies)?;
-    if !names_are_there(
+    check_names(
         entries,
         threads.as_slice(),
-        &condition,
         locations.as_slice(),
-    ) {
-        return Err(TestFault::UnknownName);
-    }
+        listed.as_slice(),
+        &condition,
+    )?;
     check_values(alloc, initial.as_slice(), threads.as_slice())?;
     check_events(locations.as_slice(), threads.as_slice())?;
-    Ok(Test::new(
-        name,
-        initial,
-        threads,
-        condition,
-        Vec::new(alloc),
-        locations,
-    ))
+    Ok(Test::new(name, initial, threads, condition, listed, locations))
 }

@@ -1,7 +1,8 @@
 //! The reader.
 
-ghost use Rattle.std.specs.Prelude.{◌≡◌, IfOk, IfErr, MatchResult};
+ghost use Rattle.std.specs.Prelude.{◌≡◌, IfOk, IfErr, MatchResult, length};
 ghost use Rattle.litmus_c.specs.Drafts.{Written, written_of};
+ghost use Rattle.litmus_c.specs.Reading.{GivesTest, test_at};
 ghost use Rattle.litmus_c.specs.Reads.{IsWrittenIn, IsRefused, IsUnwritten, Reads};
 ghost use Rattle.litmus_c.specs.Tree.{Litmus};
 ghost use Rattle.litmus_c.specs.declared.fault.TestFault.TheVariants.{NoMemory};
@@ -9,11 +10,12 @@ ghost use Rattle.litmus_c.specs.declared.fault.TestFault.TheVariants.{NoMemory};
 use crate::draft::Draft;
 use crate::fault::TestFault;
 use crate::making::make_test;
-use crate::symbol::symbols;
+use crate::symbol::{Symbol, symbols};
 use crate::syntax::read_draft;
+use crate::syntax_fault::SyntaxFault;
 use crate::test::Test;
-use std::alloc::Global;
-use wb_text::{Dialect, tokens};
+use std::alloc::{AllocError, Global};
+use wb_text::{Dialect, Name, Token, tokens};
 
 /// Reads a text as a test.
 pub fn read_test(alloc: Global, text: &[u8]) -> Result<Test, TestFault>
@@ -35,6 +37,45 @@ fn read_text(alloc: Global, text: &[u8]) -> Result<Draft, TestFault>
 {
     let tokens = tokens(alloc, text, Dialect::Litmus)?;
     let symbols = symbols(alloc, text, tokens.as_slice())?;
-    let draft = read_draft(alloc, tokens.as_slice(), symbols.as_slice(), text.len())?;
+    let draft = draft_of(alloc, tokens.as_slice(), symbols.as_slice(), text.len())?;
     Ok(draft)
+}
+
+/// The test that the symbols spell, or the refusal of its text, whose length is `end`.
+fn draft_of(
+    alloc: Global,
+    tokens: &[Token],
+    symbols: &[Symbol],
+    end: usize,
+) -> Result<Draft, TestFault>
+    requires { length symbols.now ≡ length tokens.now }
+    ensures { GivesTest result (test_at 32 symbols.now) }
+{
+    match read_draft(alloc, tokens, symbols, end) {
+        Ok(draft) => Ok(draft),
+        Err(SyntaxFault::Syntax(offset)) => match foreign_at(tokens, symbols, offset)? {
+            Some(word) => Err(TestFault::Unsupported(word)),
+            None => Err(TestFault::Syntax(offset)),
+        },
+        Err(SyntaxFault::BadOrder) => Err(TestFault::BadOrder),
+        Err(SyntaxFault::TooDeep) => Err(TestFault::TooDeep),
+        Err(SyntaxFault::NoMemory) => Err(TestFault::NoMemory),
+    }
+}
+
+/// The word at an offset, if it is one that the language leaves out.
+fn foreign_at(
+    tokens: &[Token],
+    symbols: &[Symbol],
+    offset: usize,
+) -> Result<Option<Name>, AllocError> {
+    for (token, symbol) in tokens.iter().zip(symbols) {
+        if token.from == offset {
+            return match symbol {
+                Symbol::Foreign(word) => Ok(Some(word.copy()?)),
+                _ => Ok(None),
+            };
+        }
+    }
+    Ok(None)
 }

@@ -4,13 +4,15 @@ ghost use Rattle.std.specs.Prelude.{◌≡◌, ◌≤◌, ◌-◌, map, length, 
 ghost use Rattle.std.specs.List.{list_all};
 ghost use Rattle.conditions.specs.Conditions.{formula_of};
 ghost use Rattle.litmus_c.specs.Drafts.{is_parameter};
-ghost use Rattle.litmus_c.specs.Limits.{optional_events, right_events, step_events, program_events};
-ghost use Rattle.litmus_c.specs.Rules.{entry_is_fair, action_is_fair, right_is_fair, optional_is_fair, declared_is_fair, step_is_fair, program_is_fair, place_is_there, formula_is_fair};
+ghost use Rattle.litmus_c.specs.Limits.{action_events, optional_events, right_events, step_events, steps_events, program_events};
+ghost use Rattle.litmus_c.specs.Rules.{is_given, entry_is_fair, is_of, has_other_kind, may_read, may_give, may_call, may_access, term_keeps, action_keeps, right_keeps, declared_keeps, step_keeps, steps_keep, program_keeps, place_is_there, formula_is_fair};
 ghost use Rattle.litmus_c.specs.Symbols.{is_one_of};
-ghost use Rattle.litmus_c.specs.Tree.{action_of, right_of, option_right, declared_of, step_of};
+ghost use Rattle.litmus_c.specs.Tree.{term_of, action_of, right_of, declared_of, step_of, steps_of};
 
-use crate::tree::{Call, Declarator, Parameter, RightSide, Statement, Thread};
-use conditions::{Place, Prop};
+use crate::tree::{
+    Call, Declarator, Expression, LocationKind, Parameter, RightSide, Statement, Thread,
+};
+use conditions::{Binding, Place, Prop};
 use wb_text::Name;
 
 /// Whether a parameter has this name.
@@ -40,73 +42,181 @@ pub fn entry_is_fair(threads: &[Thread], place: &Place) -> bool
     }
 }
 
-/// The location of a call is a parameter.
-fn action_is_fair(parameters: &[Parameter], call: &Call) -> bool
-    ensures { result ≡ action_is_fair parameters.now (action_of call.now) }
-{
-    match call {
-        Call::Load(location, _) | Call::Store(location, _, _) => is_parameter(parameters, location),
-    }
+/// A rule on the names that a thread uses.
+#[derive(Clone, Copy, Debug, PartialEq, Eq)]
+pub enum Rule {
+    /// What is used is there, and no parameter is a register.
+    Names,
+    /// No plain access is to an atomic location.
+    PlainAccess,
+    /// No call is on a plain location.
+    AtomicAccess,
 }
 
-fn right_is_fair(parameters: &[Parameter], right: &RightSide) -> bool
-    ensures { result ≡ right_is_fair parameters.now (right_of right.now) }
+/// Whether a parameter has this name and this kind.
+fn is_of(kind: LocationKind, name: &Name, parameter: &Parameter) -> bool
+    ensures { result ≡ is_of kind name.now parameter.now }
 {
-    match right {
-        RightSide::Call(call) => action_is_fair(parameters, call),
-    }
+    parameter.name == *name && parameter.kind == kind
 }
 
-/// A register is no parameter.
-fn declared_is_fair(parameters: &[Parameter], declarator: &Declarator) -> bool
-    ensures { result ≡ declared_is_fair parameters.now (declared_of declarator.now) }
+/// Whether no parameter of this name has this kind.
+fn has_other_kind(parameters: &[Parameter], kind: LocationKind, name: &Name) -> bool
+    ensures { result ≡ has_other_kind parameters.now kind name.now }
 {
-    if is_parameter(parameters, &declarator.register) {
-        return false;
-    }
-    match &declarator.value {
-        Some(value) => right_is_fair(parameters, value),
-        None => true,
-    }
-}
-
-fn declarators_are_fair(parameters: &[Parameter], declarators: &[Declarator]) -> bool
-    ensures { result ≡ list_all (λ d. declared_is_fair parameters.now (declared_of d)) declarators.now }
-{
-    declarators
+    !parameters
         .iter()
-        .all(|declarator| declared_is_fair(parameters, declarator))
+        .any(|parameter| is_of(kind, name, parameter))
 }
 
-#[tactic(auto, using(crate::proofs::Fair::all_declared))]
-fn step_is_fair(parameters: &[Parameter], statement: &Statement) -> bool
-    ensures { result ≡ step_is_fair parameters.now (step_of statement.now) }
-{
-    match statement {
-        Statement::Empty => true,
-        Statement::Declare(declarators) => {
-            declarators_are_fair(parameters, declarators.as_slice())
+/// A rule, and the names of the thread on which it is tried.
+#[derive(Clone, Copy)]
+struct Scope<'a> {
+    rule: Rule,
+    thread: &'a Thread,
+}
+
+impl<'a> Scope<'a> {
+    /// Whether this register may be read.
+    fn may_read(&self, register: &Name) -> bool
+        ensures { result ≡ may_read self.now.rule self.now.thread.now.parameters self.now.thread.now.registers register.now }
+    {
+        match self.rule {
+            Rule::Names => self.thread.has_register(register),
+            Rule::PlainAccess | Rule::AtomicAccess => true,
         }
-        Statement::Assign(register, value) => {
-            !is_parameter(parameters, register) && right_is_fair(parameters, value)
+    }
+
+    /// Whether this register may be declared or assigned.
+    fn may_give(&self, register: &Name) -> bool
+        ensures { result ≡ may_give self.now.rule self.now.thread.now.parameters self.now.thread.now.registers register.now }
+    {
+        match self.rule {
+            Rule::Names => !is_parameter(self.thread.parameters(), register),
+            Rule::PlainAccess | Rule::AtomicAccess => true,
         }
-        Statement::Perform(call) => action_is_fair(parameters, call),
+    }
+
+    /// Whether a call may be on this location.
+    fn may_call(&self, location: &Name) -> bool
+        ensures { result ≡ may_call self.now.rule self.now.thread.now.parameters self.now.thread.now.registers location.now }
+    {
+        match self.rule {
+            Rule::Names => is_parameter(self.thread.parameters(), location),
+            Rule::PlainAccess => true,
+            Rule::AtomicAccess => has_other_kind(self.thread.parameters(), LocationKind::Plain, location),
+        }
+    }
+
+    /// Whether a plain access may be to this location.
+    fn may_access(&self, location: &Name) -> bool
+        ensures { result ≡ may_access self.now.rule self.now.thread.now.parameters self.now.thread.now.registers location.now }
+    {
+        match self.rule {
+            Rule::Names => is_parameter(self.thread.parameters(), location),
+            Rule::PlainAccess => has_other_kind(self.thread.parameters(), LocationKind::Atomic, location),
+            Rule::AtomicAccess => true,
+        }
+    }
+
+    fn term_keeps(&self, expression: &Expression) -> bool
+        ensures { result ≡ term_keeps self.now.rule self.now.thread.now.parameters self.now.thread.now.registers (term_of expression.now) }
+    {
+        match expression {
+            Expression::Number(_) => true,
+            Expression::Register(register) => self.may_read(register),
+            Expression::Not(a) => self.term_keeps(a),
+            Expression::Equal(a, b)
+            | Expression::Unequal(a, b)
+            | Expression::And(a, b)
+            | Expression::Or(a, b) => self.term_keeps(a) && self.term_keeps(b),
+        }
+    }
+
+    fn call_keeps(&self, call: &Call) -> bool
+        ensures { result ≡ action_keeps self.now.rule self.now.thread.now.parameters self.now.thread.now.registers (action_of call.now) }
+    {
+        match call {
+            Call::Load(location, _) => self.may_call(location),
+            Call::Store(location, value, _) | Call::Exchange(location, value, _) => {
+                self.may_call(location) && self.term_keeps(value)
+            }
+            Call::Fence(_) => true,
+        }
+    }
+
+    fn right_keeps(&self, right: &RightSide) -> bool
+        ensures { result ≡ right_keeps self.now.rule self.now.thread.now.parameters self.now.thread.now.registers (right_of right.now) }
+    {
+        match right {
+            RightSide::Value(value) => self.term_keeps(value),
+            RightSide::Read(location) => self.may_access(location),
+            RightSide::Call(call) => self.call_keeps(call),
+        }
+    }
+
+    fn declarator_keeps(&self, declarator: &Declarator) -> bool
+        ensures { result ≡ declared_keeps self.now.rule self.now.thread.now.parameters self.now.thread.now.registers (declared_of declarator.now) }
+    {
+        if !self.may_give(&declarator.register) {
+            return false;
+        }
+        match &declarator.value {
+            Some(value) => self.right_keeps(value),
+            None => true,
+        }
+    }
+
+    fn declarators_keep(&self, declarators: &[Declarator]) -> bool
+        ensures { result ≡ list_all (λ d. declared_keeps self.now.rule self.now.thread.now.parameters self.now.thread.now.registers (declared_of d)) declarators.now }
+    {
+        declarators
+            .iter()
+            .all(|declarator| self.declarator_keeps(declarator))
+    }
+
+    #[cycle(keeping)]
+    #[tactic(auto, using(crate::proofs::Fair::all_declared, crate::proofs::Steps::only_if, crate::proofs::Steps::if_and_else))]
+    fn step_keeps(&self, statement: &Statement) -> bool
+        ensures { result ≡ step_keeps self.now.rule self.now.thread.now.parameters self.now.thread.now.registers (step_of statement.now) }
+    {
+        match statement {
+            Statement::Empty => true,
+            Statement::Block(statements) => self.steps_keep(statements.as_slice()),
+            Statement::Declare(declarators) => self.declarators_keep(declarators.as_slice()),
+            Statement::Assign(register, value) => {
+                self.may_give(register) && self.right_keeps(value)
+            }
+            Statement::Write(location, value) => {
+                self.may_access(location) && self.term_keeps(value)
+            }
+            Statement::Perform(call) => self.call_keeps(call),
+            Statement::If(test, arm, None) => self.term_keeps(test) && self.step_keeps(arm),
+            Statement::If(test, arm, Some(other)) => {
+                self.term_keeps(test) && self.step_keeps(arm) && self.step_keeps(other)
+            }
+        }
+    }
+
+    #[cycle(keeping)]
+    fn steps_keep(&self, statements: &[Statement]) -> bool
+        ensures { result ≡ steps_keep self.now.rule self.now.thread.now.parameters self.now.thread.now.registers (steps_of statements.now) }
+    {
+        for statement in statements {
+            if !self.step_keeps(statement) {
+                return false;
+            }
+        }
+        true
     }
 }
 
-fn statements_are_fair(parameters: &[Parameter], statements: &[Statement]) -> bool
-    ensures { result ≡ list_all (λ s. step_is_fair parameters.now (step_of s)) statements.now }
+/// Whether a thread keeps a rule.
+pub fn program_keeps(rule: Rule, thread: &Thread) -> bool
+    ensures { result ≡ program_keeps rule thread.now }
 {
-    statements
-        .iter()
-        .all(|statement| step_is_fair(parameters, statement))
-}
-
-/// The names that a thread uses are there.
-pub fn program_is_fair(thread: &Thread) -> bool
-    ensures { result ≡ program_is_fair thread.now }
-{
-    statements_are_fair(thread.parameters(), thread.statements())
+    let scope = Scope { rule, thread };
+    scope.steps_keep(thread.statements())
 }
 
 /// A place of the condition is a register of a thread, or a location.
@@ -120,6 +230,15 @@ fn place_is_there(threads: &[Thread], locations: &[Name], place: &Place) -> bool
             None => false,
         },
     }
+}
+
+/// The places of a list are there.
+pub fn places_are_there(threads: &[Thread], locations: &[Name], places: &[Place]) -> bool
+    ensures { result ≡ list_all (place_is_there threads.now locations.now) places.now }
+{
+    places
+        .iter()
+        .all(|place| place_is_there(threads, locations, place))
 }
 
 /// The places of a proposition are there.
@@ -136,12 +255,32 @@ pub fn formula_is_fair(threads: &[Thread], locations: &[Name], prop: &Prop) -> b
     }
 }
 
+/// What is left of `room` events after those of a call.
+fn after_call(room: usize, call: &Call) -> Option<usize>
+    ensures { SomeIff result (action_events (action_of call.now) ≤ room) (room - action_events (action_of call.now)) }
+{
+    match call {
+        Call::Load(_, _) | Call::Store(_, _, _) | Call::Fence(_) => room.checked_sub(1),
+        Call::Exchange(_, _, _) => room.checked_sub(2),
+    }
+}
+
+fn after_right(room: usize, right: &RightSide) -> Option<usize>
+    ensures { SomeIff result (right_events (right_of right.now) ≤ room) (room - right_events (right_of right.now)) }
+{
+    match right {
+        RightSide::Value(_) => Some(room),
+        RightSide::Read(_) => room.checked_sub(1),
+        RightSide::Call(call) => after_call(room, call),
+    }
+}
+
 /// What is left of `room` events after those of a declarator.
 fn after_declarator(room: usize, declarator: &Declarator) -> Option<usize>
     ensures { SomeIff result (optional_events (declared_of declarator.now).value ≤ room) (room - optional_events (declared_of declarator.now).value) }
 {
     match &declarator.value {
-        Some(RightSide::Call(_)) => room.checked_sub(1),
+        Some(value) => after_right(room, value),
         None => Some(room),
     }
 }
@@ -157,19 +296,32 @@ fn after_declarators(room: usize, declarators: &[Declarator]) -> Option<usize>
     Some(room)
 }
 
+/// What is left of `room` events after those of a statement, on its longest way.
+#[cycle(events)]
+#[tactic(auto, using(crate::proofs::Steps::only_if, crate::proofs::Steps::if_and_else))]
 fn after_statement(room: usize, statement: &Statement) -> Option<usize>
     ensures { SomeIff result (step_events (step_of statement.now) ≤ room) (room - step_events (step_of statement.now)) }
 {
     match statement {
         Statement::Empty => Some(room),
+        Statement::Block(statements) => after_statements(room, statements.as_slice()),
         Statement::Declare(declarators) => after_declarators(room, declarators.as_slice()),
-        Statement::Assign(_, RightSide::Call(_)) | Statement::Perform(_) => room.checked_sub(1),
+        Statement::Assign(_, value) => after_right(room, value),
+        Statement::Write(_, _) => room.checked_sub(1),
+        Statement::Perform(call) => after_call(room, call),
+        Statement::If(_, arm, None) => after_statement(room, arm),
+        Statement::If(_, arm, Some(other)) => {
+            let left = after_statement(room, arm)?;
+            let right = after_statement(room, other)?;
+            Some(left.min(right))
+        }
     }
 }
 
-#[tactic(auto, using(crate::proofs::Fair::statements_below))]
+#[cycle(events)]
+#[tactic(auto, using(crate::proofs::Fair::statements_below, crate::proofs::Steps::row_events))]
 fn after_statements(room: usize, statements: &[Statement]) -> Option<usize>
-    ensures { SomeIff result (sum_by step_events (map step_of statements.now) ≤ room) (room - sum_by step_events (map step_of statements.now)) }
+    ensures { SomeIff result (steps_events (steps_of statements.now) ≤ room) (room - steps_events (steps_of statements.now)) }
 {
     let mut room = room;
     for statement in statements {

@@ -3,19 +3,26 @@
 ghost use Rattle.std.specs.Prelude.{◌≡◌, IfOk, MatchOption, length, All, true, false};
 ghost use Rattle.wb_text.specs.Numbers.{decimal_value};
 ghost use Rattle.wb_text.specs.Tokens.{IsWithin};
-ghost use Rattle.litmus_c.specs.Symbols.{looked_up, signs, words, kept_words, foreign_words, orders, is_one_of, is_no_name, is_name, is_number, name_symbol, symbol_by, symbols_of};
+ghost use Rattle.litmus_c.specs.Symbols.{looked_up, signs, words, calls, orders, foreign_words, is_one_of, is_foreign_order, is_foreign_call, is_foreign, is_name, is_number, name_symbol, symbol_by, is_opened, symbols_of};
 
+use events::Order;
 use std::alloc::{AllocError, Global};
 use wb_text::{Name, NameFault, Token, TokenKind, decimal};
 
-/// A reserved word or a sign.
+/// A reserved word, that is none of a call, or a sign.
 #[derive(Clone, Copy, Debug, PartialEq, Eq)]
 pub enum Terminal {
     Int,
     AtomicInt,
+    Volatile,
+    If,
+    Else,
+    True,
+    False,
     Exists,
-    AtomicLoadExplicit,
-    AtomicStoreExplicit,
+    Forall,
+    Not,
+    Locations,
     LeftParen,
     RightParen,
     LeftBrace,
@@ -27,26 +34,54 @@ pub enum Terminal {
     Comma,
     Assign,
     Star,
+    Tilde,
+    /// `!`
+    Bang,
+    EqualEqual,
+    BangEqual,
+    AndAnd,
+    OrOr,
+    /// `/\`
     And,
+    /// `\/`
+    Or,
+    /// `=>`
+    Arrow,
+}
+
+/// A call of C's atomics.
+#[derive(Clone, Copy, Debug, PartialEq, Eq)]
+pub enum Operation {
+    Load,
+    LoadExplicit,
+    Store,
+    StoreExplicit,
+    Exchange,
+    ExchangeExplicit,
+    Fence,
 }
 
 /// What a token is in the grammar of tests.
 #[derive(Drop)]
 pub enum Symbol {
     Fixed(Terminal),
+    /// The word of a call.
+    Call(Operation),
     Name(Name),
     Number(u32),
     /// A word of a test's head: the language, and the test's name.
     Word(Name),
-    /// A token that no production takes.
+    /// A word that the language leaves out.
+    Foreign(Name),
+    /// Any other token that no production takes.
     Other,
 }
 
-/// The terminal of the first row that spells these bytes.
+/// What stands beside the first row that spells these bytes.
 macro_rules! looked_up {
-    ($bytes:ident: $($spelling:literal => $terminal:ident),*) => {
+    ($bytes:ident: $($spelling:literal => $meaning:expr),*) => {
         $(if $bytes == $spelling.as_slice() {
-            return Some(Terminal::$terminal);
+            return Some($meaning);
         })*
     };
 }
@@ -63,31 +98,48 @@ macro_rules! is_one_of {
 fn sign(bytes: &[u8]) -> Option<Terminal>
     ensures { result ≡ looked_up signs bytes.now }
 {
-    looked_up!(bytes: b"(" => LeftParen, b")" => RightParen, b"{" => LeftBrace, b"}" => RightBrace,
-        b"[" => LeftBracket, b"]" => RightBracket, b";" => Semicolon, b":" => Colon, b"," => Comma,
-        b"=" => Assign, b"*" => Star, b"/\\" => And);
+    looked_up!(bytes: b"(" => Terminal::LeftParen, b")" => Terminal::RightParen, b"{" => Terminal::LeftBrace,
+        b"}" => Terminal::RightBrace, b"[" => Terminal::LeftBracket, b"]" => Terminal::RightBracket,
+        b";" => Terminal::Semicolon, b":" => Terminal::Colon, b"," => Terminal::Comma, b"=" => Terminal::Assign,
+        b"*" => Terminal::Star, b"~" => Terminal::Tilde, b"!" => Terminal::Bang, b"==" => Terminal::EqualEqual,
+        b"!=" => Terminal::BangEqual, b"&&" => Terminal::AndAnd, b"||" => Terminal::OrOr, b"/\\" => Terminal::And,
+        b"\\/" => Terminal::Or, b"=>" => Terminal::Arrow);
     None
 }
 
 fn word(bytes: &[u8]) -> Option<Terminal>
     ensures { result ≡ looked_up words bytes.now }
 {
-    looked_up!(bytes: b"int" => Int, b"atomic_int" => AtomicInt, b"exists" => Exists,
-        b"atomic_load_explicit" => AtomicLoadExplicit, b"atomic_store_explicit" => AtomicStoreExplicit);
+    looked_up!(bytes: b"int" => Terminal::Int, b"atomic_int" => Terminal::AtomicInt, b"volatile" => Terminal::Volatile,
+        b"if" => Terminal::If, b"else" => Terminal::Else, b"true" => Terminal::True, b"false" => Terminal::False,
+        b"exists" => Terminal::Exists, b"forall" => Terminal::Forall, b"not" => Terminal::Not,
+        b"locations" => Terminal::Locations);
     None
 }
 
-/// Reserved words that no production takes.
-fn is_kept(bytes: &[u8]) -> bool
-    ensures { result ≡ is_one_of kept_words bytes.now }
+/// The call of this name.
+fn call_named(bytes: &[u8]) -> Option<Operation>
+    ensures { result ≡ looked_up calls bytes.now }
 {
-    is_one_of!(bytes: b"volatile", b"if", b"else", b"true", b"false", b"forall", b"not", b"locations",
-        b"atomic_load", b"atomic_store", b"atomic_exchange", b"atomic_exchange_explicit", b"atomic_thread_fence");
-    false
+    looked_up!(bytes: b"atomic_load" => Operation::Load, b"atomic_load_explicit" => Operation::LoadExplicit,
+        b"atomic_store" => Operation::Store, b"atomic_store_explicit" => Operation::StoreExplicit,
+        b"atomic_exchange" => Operation::Exchange, b"atomic_exchange_explicit" => Operation::ExchangeExplicit,
+        b"atomic_thread_fence" => Operation::Fence);
+    None
+}
+
+/// The order of this name.
+pub fn order_named(bytes: &[u8]) -> Option<Order>
+    ensures { result ≡ looked_up orders bytes.now }
+{
+    looked_up!(bytes: b"memory_order_relaxed" => Order::Rlx, b"memory_order_acquire" => Order::Acq,
+        b"memory_order_release" => Order::Rel, b"memory_order_acq_rel" => Order::AcqRel,
+        b"memory_order_seq_cst" => Order::Sc);
+    None
 }
 
 /// Words of C and of the kernel that no test has.
-fn is_foreign(bytes: &[u8]) -> bool
+fn is_foreign_word(bytes: &[u8]) -> bool
     ensures { result ≡ is_one_of foreign_words bytes.now }
 {
     is_one_of!(bytes: b"while", b"for", b"do", b"switch", b"goto", b"break", b"continue", b"return", b"filter",
@@ -95,19 +147,25 @@ fn is_foreign(bytes: &[u8]) -> bool
     false
 }
 
-fn is_order(bytes: &[u8]) -> bool
-    ensures { result ≡ is_one_of orders bytes.now }
+/// Named as an order, and none of the five.
+fn is_foreign_order(bytes: &[u8]) -> bool
+    ensures { result ≡ is_foreign_order bytes.now }
 {
-    is_one_of!(bytes: b"memory_order_relaxed", b"memory_order_acquire", b"memory_order_release",
-        b"memory_order_acq_rel", b"memory_order_seq_cst");
-    false
+    bytes.starts_with(b"memory_order_") && order_named(bytes).is_none()
 }
 
-/// Whether no register or location may have this name.
-fn is_no_name(bytes: &[u8]) -> bool
-    ensures { result ≡ is_no_name bytes.now }
+/// Named as a call.
+fn is_foreign_call(bytes: &[u8]) -> bool
+    ensures { result ≡ is_foreign_call bytes.now }
 {
-    is_kept(bytes) || is_foreign(bytes) || (bytes.starts_with(b"memory_order_") && !is_order(bytes))
+    bytes.starts_with(b"atomic_") || bytes.starts_with(b"smp_")
+}
+
+/// Whether the language leaves a word out, that is no call of its own. `called`: an opening parenthesis stands behind it.
+fn is_foreign(called: bool, bytes: &[u8]) -> bool
+    ensures { result ≡ is_foreign called bytes.now }
+{
+    is_foreign_word(bytes) || is_foreign_order(bytes) || (called && is_foreign_call(bytes))
 }
 
 /// The name of these bytes, if they are one.
@@ -134,7 +192,7 @@ fn number(bytes: &[u8]) -> Option<u32>
 }
 
 fn head_symbol(alloc: Global, bytes: &[u8]) -> Result<Symbol, AllocError>
-    ensures { IfOk result (λ s. s ≡ symbol_by TokenKind.Word bytes.now) }
+    ensures { IfOk result (λ s. s ≡ symbol_by TokenKind.Word false bytes.now) }
 {
     match name(alloc, bytes)? {
         Some(name) => Ok(Symbol::Word(name)),
@@ -142,11 +200,17 @@ fn head_symbol(alloc: Global, bytes: &[u8]) -> Result<Symbol, AllocError>
     }
 }
 
-fn name_symbol(alloc: Global, bytes: &[u8]) -> Result<Symbol, AllocError>
-    ensures { IfOk result (λ s. s ≡ name_symbol bytes.now) }
+fn name_symbol(alloc: Global, called: bool, bytes: &[u8]) -> Result<Symbol, AllocError>
+    ensures { IfOk result (λ s. s ≡ name_symbol called bytes.now) }
 {
-    if is_no_name(bytes) {
-        return Ok(Symbol::Other);
+    if is_foreign(called, bytes) {
+        return match name(alloc, bytes)? {
+            Some(name) => Ok(Symbol::Foreign(name)),
+            None => Ok(Symbol::Other),
+        };
+    }
+    if let Some(terminal) = word(bytes) {
+        return Ok(Symbol::Fixed(terminal));
     }
     match name(alloc, bytes)? {
         Some(name) => Ok(Symbol::Name(name)),
@@ -154,14 +218,14 @@ fn name_symbol(alloc: Global, bytes: &[u8]) -> Result<Symbol, AllocError>
     }
 }
 
-fn spelled(alloc: Global, kind: TokenKind, bytes: &[u8]) -> Result<Symbol, AllocError>
-    ensures { IfOk result (λ s. s ≡ symbol_by kind bytes.now) }
+fn spelled(alloc: Global, kind: TokenKind, called: bool, bytes: &[u8]) -> Result<Symbol, AllocError>
+    ensures { IfOk result (λ s. s ≡ symbol_by kind called bytes.now) }
 {
     match kind {
         TokenKind::Word => head_symbol(alloc, bytes),
-        TokenKind::Name => match word(bytes) {
-            Some(terminal) => Ok(Symbol::Fixed(terminal)),
-            None => name_symbol(alloc, bytes),
+        TokenKind::Name => match call_named(bytes) {
+            Some(operation) => Ok(Symbol::Call(operation)),
+            None => name_symbol(alloc, called, bytes),
         },
         TokenKind::Number => match number(bytes) {
             Some(number) => Ok(Symbol::Number(number)),
@@ -175,14 +239,30 @@ fn spelled(alloc: Global, kind: TokenKind, bytes: &[u8]) -> Result<Symbol, Alloc
     }
 }
 
+/// Whether an opening parenthesis stands first.
+#[tactic(auto, using(crate::proofs::Spelled::first_within))]
+fn is_opened(text: &[u8], tokens: &[Token]) -> bool
+    requires { All (IsWithin (length text.now)) tokens.now }
+    ensures { result ≡ is_opened text.now tokens.now }
+{
+    match tokens.split_first() {
+        Some((token, _)) => &text[token.from..token.to] == b"(".as_slice(),
+        None => false,
+    }
+}
+
 /// What the tokens of a text are in the grammar, in order.
+#[tactic(auto, using(crate::proofs::Spelled::first_within, crate::proofs::Spelled::rest_within))]
 pub fn symbols(alloc: Global, text: &[u8], tokens: &[Token]) -> Result<Vec<Symbol>, AllocError>
     requires { All (IsWithin (length text.now)) tokens.now }
     ensures { IfOk result (λ v. v.items ≡ symbols_of text.now tokens.now) }
 {
     let mut symbols = Vec::new(alloc);
-    for token in tokens {
-        symbols.push(spelled(alloc, token.kind, &text[token.from..token.to])?)?;
+    let mut rest = tokens;
+    while let Some((token, behind)) = rest.split_first() {
+        let called = is_opened(text, behind);
+        symbols.push(spelled(alloc, token.kind, called, &text[token.from..token.to])?)?;
+        rest = behind;
     }
     Ok(symbols)
 }

@@ -1,21 +1,23 @@
 //! Recursive descent: a test as it is written, from its symbols.
 
+mod calls;
+mod expressions;
+mod propositions;
+mod statements;
+
 ghost use Rattle.std.specs.Prelude.{◌≡◌, ◌≤◌, ◌∷◌, ◌++◌, [], ℕ, List, length, map, false, Option, Some, None, Ok, Err, IfOk, IfErr, OnOk, MatchBool, MatchOption, MatchResult};
 ghost use Rattle.std.specs.Str.{bytes_eq};
 ghost use Rattle.std.proofs.Common.{suc};
-ghost use Rattle.conditions.specs.Conditions.{formula_of};
 ghost use Rattle.indexmap.specs.IndexSet.{contains};
-ghost use Rattle.litmus_c.specs.Drafts.{listing_of, written_of};
+ghost use Rattle.litmus_c.specs.Drafts.{is_parameter, listing_of, written_of};
 ghost use Rattle.litmus_c.specs.declared.tree.Parameter.{Parameter};
-ghost use Rattle.litmus_c.specs.Reading.{Gives, GivesAll, next_at, after, expected, name_at, number_look, number_at, before_name, open_at, location_at, register_at, place_at, bound_at, behind_type, entry_at, ends_entry, entry_behind, entries_at, parameter_behind, parameters_more, parameters_at, parameters_closed, parameter_list_at, order_named, order_at, expression_at, target_at, last_order_at, load_at, stored_at, call_at, right_at, given_at, declarator_at, declarators_at, assignment_at, open_step_at, step_at, steps_more, block_at, names_thread, thread_name_at, thread_at, threads_at, equation_at, atomic_with, proposition_with, below, condition_at, word_at, language_at, end_at, initial_at, test_at};
-ghost use Rattle.litmus_c.specs.Tree.{term_of, action_of, right_of, declared_of, step_of};
+ghost use Rattle.litmus_c.specs.Reading.{Gives, GivesAll, after, expected, name_at, number_look, number_at, call_word, before_name, open_at, location_at, register_at, place_at, bound_at, behind_type, entry_at, ends_entry, entry_behind, entries_at, kind_at, behind_volatile, parameter_behind, parameters_more, parameters_at, parameters_closed, parameter_list_at, names_thread, thread_name_at, thread_at, threads_at, ends_place, place_behind, places_at, listed_at, word_at, language_at, end_at, initial_at, test_at};
 
 use crate::draft::{Body, Draft};
-use crate::symbol::{Symbol, Terminal};
+use crate::symbol::{Operation, Symbol, Terminal};
 use crate::syntax_fault::SyntaxFault;
-use crate::tree::{Call, Declarator, Expression, LocationKind, Parameter, RightSide, Statement};
-use conditions::{Binding, Cond, Kind, Place, Prop};
-use events::Order;
+use crate::tree::{LocationKind, Parameter};
+use conditions::{Binding, Place};
 use indexmap::IndexSet;
 use std::alloc::{AllocError, Global};
 use wb_text::{Name, Token};
@@ -124,6 +126,21 @@ impl<'a> Reader<'a> {
         match self.take_number() {
             Some(number) => Ok(number),
             None => Err(SyntaxFault::Syntax(self.position())),
+        }
+    }
+
+    /// Takes the word of a call.
+    #[tactic(auto, unfolding(crate::specs::Reading::call_word))]
+    fn take_call(&mut self) -> Option<Operation>
+        ensures { MatchOption result ((call_word self.old.rest.now ≡ None) × (self.new.rest.now ≡ self.old.rest.now)) (λ c. call_word self.old.rest.now ≡ Some (c, self.new.rest.now)) }
+    {
+        let (first, rest) = self.rest.split_first()?;
+        match first {
+            Symbol::Call(operation) => {
+                self.rest = rest;
+                Some(*operation)
+            }
+            _ => None,
         }
     }
 
@@ -249,23 +266,40 @@ impl<'a> Reader<'a> {
         Ok(entries)
     }
 
-    /// parameter := "atomic_int" "*" name, which is none of the earlier ones
+    /// The kind of the locations that a type gives: "atomic_int" | "int"
+    #[tactic(auto, unfolding(crate::specs::Reading::kind_at))]
+    fn kind(&mut self) -> Result<LocationKind, SyntaxFault>
+        ensures { Gives (λ k. k) result self.new.rest.now (kind_at self.old.rest.now) }
+    {
+        if self.take(Terminal::AtomicInt) {
+            return Ok(LocationKind::Atomic);
+        }
+        self.expect(Terminal::Int)?;
+        Ok(LocationKind::Plain)
+    }
+
+    #[tactic(auto, unfolding(crate::specs::Reading::behind_volatile))]
+    fn skip_volatile(&mut self)
+        ensures { self.new.rest.now ≡ behind_volatile self.old.rest.now }
+    {
+        let _ = self.take(Terminal::Volatile);
+    }
+
+    /// parameter := ["volatile"] type "*" name, which is none of the earlier ones
     #[tactic(auto, unfolding(crate::specs::Reading::parameter_behind), using(crate::proofs::Lists::is_named))]
     fn parameter(&mut self, earlier: &IndexSet<Name>) -> Result<Parameter, SyntaxFault>
         ensures gives { (ps : List Parameter) → map (λ p. p.name) ps ≡ earlier.now.keys → Gives (λ p. p) result self.new.rest.now (parameter_behind ps self.old.rest.now) }
         ensures new { IfOk result (λ p. contains bytes_eq earlier.now p.name ≡ false) }
     {
-        self.expect(Terminal::AtomicInt)?;
+        self.skip_volatile();
+        let kind = self.kind()?;
         self.expect(Terminal::Star)?;
         let position = self.position();
         let name = self.name()?;
         if earlier.contains(&name) {
             return Err(SyntaxFault::Syntax(position));
         }
-        Ok(Parameter {
-            name,
-            kind: LocationKind::Atomic,
-        })
+        Ok(Parameter { name, kind })
     }
 
     /// Adds the next parameter, and its name.
@@ -313,156 +347,6 @@ impl<'a> Reader<'a> {
         Ok(parameters)
     }
 
-    #[tactic(auto, unfolding(crate::specs::Reading::order_at))]
-    fn order(&mut self) -> Result<Order, SyntaxFault>
-        ensures { Gives (λ o. o) result self.new.rest.now (order_at self.old.rest.now) }
-    {
-        let position = self.position();
-        let name = self.name_ref()?;
-        order_named(name.bytes()).ok_or(SyntaxFault::Syntax(position))
-    }
-
-    /// expression := number
-    #[tactic(auto, unfolding(crate::specs::Reading::expression_at))]
-    fn expression(&mut self) -> Result<Expression, SyntaxFault>
-        ensures { Gives term_of result self.new.rest.now (expression_at self.old.rest.now) }
-    {
-        Ok(Expression::Number(self.number()?))
-    }
-
-    /// The location of a call: name ","
-    #[tactic(auto, unfolding(crate::specs::Reading::target_at))]
-    fn target(&mut self) -> Result<Name, SyntaxFault>
-        ensures { Gives (λ n. n) result self.new.rest.now (target_at self.old.rest.now) }
-    {
-        let name = self.name()?;
-        self.expect(Terminal::Comma)?;
-        Ok(name)
-    }
-
-    /// The end of a call: order ")"
-    #[tactic(auto, unfolding(crate::specs::Reading::last_order_at))]
-    fn last_order(&mut self) -> Result<Order, SyntaxFault>
-        ensures { Gives (λ o. o) result self.new.rest.now (last_order_at self.old.rest.now) }
-    {
-        let order = self.order()?;
-        self.expect(Terminal::RightParen)?;
-        Ok(order)
-    }
-
-    /// load := "atomic_load_explicit" "(" name "," order ")"
-    #[tactic(auto, unfolding(crate::specs::Reading::load_at))]
-    fn load(&mut self, nesting: u32) -> Result<Call, SyntaxFault>
-        ensures { Gives action_of result self.new.rest.now (load_at nesting self.old.rest.now) }
-    {
-        self.expect(Terminal::AtomicLoadExplicit)?;
-        self.open(nesting)?;
-        let location = self.target()?;
-        let order = self.last_order()?;
-        Ok(Call::Load(location, order))
-    }
-
-    /// The rest of a store: "(" name "," expression "," order ")"
-    #[tactic(auto, unfolding(crate::specs::Reading::stored_at))]
-    fn stored(&mut self, nesting: u32) -> Result<Call, SyntaxFault>
-        ensures { Gives action_of result self.new.rest.now (stored_at nesting self.old.rest.now) }
-    {
-        self.open(nesting)?;
-        let location = self.target()?;
-        let value = self.expression()?;
-        self.expect(Terminal::Comma)?;
-        let order = self.last_order()?;
-        Ok(Call::Store(location, value, order))
-    }
-
-    #[tactic(auto, unfolding(crate::specs::Reading::call_at))]
-    fn call(&mut self, nesting: u32) -> Result<Call, SyntaxFault>
-        ensures { Gives action_of result self.new.rest.now (call_at nesting self.old.rest.now) }
-    {
-        if self.take(Terminal::AtomicStoreExplicit) {
-            self.stored(nesting)
-        } else {
-            self.load(nesting)
-        }
-    }
-
-    #[tactic(auto, unfolding(crate::specs::Reading::right_at))]
-    fn right_side(&mut self, nesting: u32) -> Result<RightSide, SyntaxFault>
-        ensures { Gives right_of result self.new.rest.now (right_at nesting self.old.rest.now) }
-    {
-        Ok(RightSide::Call(self.load(nesting)?))
-    }
-
-    /// name "=" right
-    #[tactic(auto, unfolding(crate::specs::Reading::given_at))]
-    fn given(&mut self, nesting: u32) -> Result<(Name, RightSide), SyntaxFault>
-        ensures { Gives (λ g. (g.0, right_of g.1)) result self.new.rest.now (given_at nesting self.old.rest.now) }
-    {
-        let register = self.name()?;
-        self.expect(Terminal::Assign)?;
-        Ok((register, self.right_side(nesting)?))
-    }
-
-    #[tactic(auto, unfolding(crate::specs::Reading::declarator_at))]
-    fn declarator(&mut self, nesting: u32) -> Result<Declarator, SyntaxFault>
-        ensures { Gives declared_of result self.new.rest.now (declarator_at nesting self.old.rest.now) }
-    {
-        let (register, value) = self.given(nesting)?;
-        Ok(Declarator {
-            register,
-            value: Some(value),
-        })
-    }
-
-    #[tactic(auto, unfolding(crate::specs::Reading::declarators_at))]
-    fn declarators(&mut self, nesting: u32) -> Result<Vec<Declarator>, SyntaxFault>
-        ensures { Gives (λ v. map declared_of v.items) result self.new.rest.now (declarators_at nesting self.old.rest.now) }
-    {
-        let mut declarators = Vec::new(self.alloc);
-        declarators.push(self.declarator(nesting)?)?;
-        Ok(declarators)
-    }
-
-    /// A statement without its semicolon: "int" declarators | name "=" right | call
-    #[tactic(auto, unfolding(crate::specs::Reading::open_step_at, crate::specs::Reading::declared_at, crate::specs::Reading::assignment_at, crate::specs::Reading::performed_at))]
-    fn open_statement(&mut self, nesting: u32) -> Result<Statement, SyntaxFault>
-        ensures { Gives step_of result self.new.rest.now (open_step_at nesting self.old.rest.now) }
-    {
-        if self.take(Terminal::Int) {
-            return Ok(Statement::Declare(self.declarators(nesting)?));
-        }
-        if self.is_before_name() {
-            let (register, value) = self.given(nesting)?;
-            return Ok(Statement::Assign(register, value));
-        }
-        Ok(Statement::Perform(self.call(nesting)?))
-    }
-
-    #[tactic(auto, unfolding(crate::specs::Reading::step_at, crate::specs::Reading::closed_step_at))]
-    fn statement(&mut self, nesting: u32) -> Result<Statement, SyntaxFault>
-        ensures { Gives step_of result self.new.rest.now (step_at nesting self.old.rest.now) }
-    {
-        if self.take(Terminal::Semicolon) {
-            return Ok(Statement::Empty);
-        }
-        let statement = self.open_statement(nesting)?;
-        self.expect(Terminal::Semicolon)?;
-        Ok(statement)
-    }
-
-    /// Statements up to a brace, and the brace.
-    #[tactic(auto, unfolding(crate::specs::Reading::block_at, crate::specs::Reading::unless, crate::specs::Reading::expected), using(crate::proofs::Levels::steps_turn, crate::proofs::Levels::step_takes, crate::proofs::Levels::steps_push))]
-    fn block(&mut self, nesting: u32) -> Result<Vec<Statement>, SyntaxFault>
-        ensures { Gives (λ v. map step_of v.items) result self.new.rest.now (block_at nesting self.old.rest.now) }
-    {
-        let mut statements = Vec::new(self.alloc);
-        while !self.take(Terminal::RightBrace) {
-            let statement = self.statement(nesting)?;
-            statements.push(statement)?;
-        }
-        Ok(statements)
-    }
-
     /// "P0" for thread 0, and so on
     #[tactic(auto, unfolding(crate::specs::Reading::thread_name_at))]
     fn thread_name(&mut self, number: usize) -> Result<(), SyntaxFault>
@@ -485,7 +369,7 @@ impl<'a> Reader<'a> {
         self.thread_name(number)?;
         let parameters = self.parameter_list(nesting)?;
         self.expect(Terminal::LeftBrace)?;
-        let statements = self.block(nesting)?;
+        let statements = self.statements(nesting)?;
         Ok(Body {
             parameters,
             statements,
@@ -506,52 +390,56 @@ impl<'a> Reader<'a> {
         Ok(bodies)
     }
 
-    /// place "=" number
-    #[tactic(auto, unfolding(crate::specs::Reading::equation_at))]
-    fn equation(&mut self) -> Result<Prop, SyntaxFault>
-        ensures { Gives formula_of result self.new.rest.now (equation_at self.old.rest.now) }
+    #[tactic(auto, unfolding(crate::specs::Reading::ends_place))]
+    fn ends_place(&self) -> bool
+        ensures { result ≡ ends_place self.now.rest.now }
     {
-        let place = self.place()?;
-        self.expect(Terminal::Assign)?;
-        Ok(Prop::Equals(place, self.number()?))
+        matches!(
+            self.rest,
+            [
+                Symbol::Fixed(Terminal::Semicolon | Terminal::RightBracket),
+                ..
+            ]
+        )
     }
 
-    /// atomic := "(" proposition ")" | place "=" number
-    #[cycle(propositions)]
-    #[tactic(auto, unfolding(crate::specs::Reading::atomic_with, crate::specs::Reading::below))]
-    fn atomic(&mut self, nesting: u32) -> Result<Prop, SyntaxFault>
-        ensures { Gives formula_of result self.new.rest.now (atomic_with (below nesting) self.old.rest.now) }
+    /// Adds the next place, if there is one.
+    #[tactic(auto, unfolding(crate::specs::Reading::place_behind))]
+    fn place_into(&mut self, places: &mut Vec<Place>) -> Result<(), SyntaxFault>
+        ensures { Gives (λ _. places.new.items) result self.new.rest.now (place_behind places.old.items self.old.rest.now) }
     {
-        if !self.take(Terminal::LeftParen) {
-            return self.equation();
+        if !self.ends_place() {
+            let place = self.place()?;
+            places.push(place)?;
         }
-        let nesting = self.deeper(nesting)?;
-        let inner = self.proposition(nesting)?;
-        self.expect(Terminal::RightParen)?;
-        Ok(inner)
+        Ok(())
     }
 
-    /// proposition := atomic {"/\" atomic}
-    #[cycle(propositions)]
-    #[tactic(auto, unfolding(crate::specs::Reading::proposition_with), using(crate::proofs::Levels::conjunction_turn, crate::proofs::Levels::atomic_takes, crate::proofs::Levels::after_takes))]
-    fn proposition(&mut self, nesting: u32) -> Result<Prop, SyntaxFault>
-        ensures { Gives formula_of result self.new.rest.now (proposition_with (below nesting) self.old.rest.now) }
+    /// places := [place] {";" [place]}
+    #[tactic(auto, unfolding(crate::specs::Reading::places_at), using(crate::proofs::Places::places_turn, crate::proofs::Places::places_turn_takes))]
+    fn places(&mut self) -> Result<Vec<Place>, SyntaxFault>
+        ensures { Gives (λ v. v.items) result self.new.rest.now (places_at self.old.rest.now) }
     {
-        let mut left = self.atomic(nesting)?;
-        while self.take(Terminal::And) {
-            let right = self.atomic(nesting)?;
-            left = Prop::And(Box::new(self.alloc, left)?, Box::new(self.alloc, right)?);
+        let mut places = Vec::new(self.alloc);
+        self.place_into(&mut places)?;
+        while self.take(Terminal::Semicolon) {
+            self.place_into(&mut places)?;
         }
-        Ok(left)
+        Ok(places)
     }
 
-    /// condition := "exists" proposition
-    #[tactic(auto, unfolding(crate::specs::Reading::condition_at))]
-    fn condition(&mut self, nesting: u32) -> Result<Cond, SyntaxFault>
-        ensures { Gives (λ c. c) result self.new.rest.now (condition_at nesting self.old.rest.now) }
+    /// listed := ["locations" "[" places "]"]
+    #[tactic(auto, unfolding(crate::specs::Reading::listed_at, crate::specs::Reading::bracketed_at))]
+    fn listed(&mut self) -> Result<Vec<Place>, SyntaxFault>
+        ensures { Gives (λ v. v.items) result self.new.rest.now (listed_at self.old.rest.now) }
     {
-        self.expect(Terminal::Exists)?;
-        Ok(Cond::new(Kind::Exists, self.proposition(nesting)?))
+        if !self.take(Terminal::Locations) {
+            return Ok(Vec::new(self.alloc));
+        }
+        self.expect(Terminal::LeftBracket)?;
+        let places = self.places()?;
+        self.expect(Terminal::RightBracket)?;
+        Ok(places)
     }
 
     /// A word of the head.
@@ -605,7 +493,7 @@ impl<'a> Reader<'a> {
         Ok(entries)
     }
 
-    /// test := "C" name "{" entries "}" thread {thread} condition
+    /// test := "C" name "{" entries "}" thread {thread} listed condition
     #[tactic(auto, unfolding(crate::specs::Reading::test_at))]
     fn test(&mut self, nesting: u32) -> Result<Draft, SyntaxFault>
         ensures { Gives written_of result self.new.rest.now (test_at nesting self.old.rest.now) }
@@ -614,25 +502,16 @@ impl<'a> Reader<'a> {
         let name = self.word()?.copy()?;
         let entries = self.initial()?;
         let bodies = self.threads(nesting)?;
+        let listed = self.listed()?;
         let condition = self.condition(nesting)?;
         self.end()?;
         Ok(Draft {
             name,
             entries,
             bodies,
+            listed,
             condition,
         })
-    }
-}
-
-/// The order that a name stands for.
-fn order_named(name: &[u8]) -> Option<Order>
-    ensures { result ≡ order_named name.now }
-{
-    if name == b"memory_order_relaxed".as_slice() {
-        Some(Order::Rlx)
-    } else {
-        None
     }
 }
 

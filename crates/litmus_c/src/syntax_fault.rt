@@ -9,6 +9,8 @@ use std::alloc::{AllocError, AllocFailed};
 pub enum SyntaxFault {
     /// The offset of the first token that the grammar doesn't take, or the text's length where more is wanted.
     Syntax(usize),
+    /// A call with an order that it doesn't take.
+    BadOrder,
     /// Something nests more than `NESTING` deep.
     TooDeep,
     NoMemory,

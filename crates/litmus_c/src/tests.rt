@@ -2,7 +2,7 @@ use super::*;
 use conditions::{Kind, Place};
 use std::alloc::Global;
 use std::test::Fail;
-use wb_text::TextFault;
+use wb_text::{Name, TextFault};
 
 const SB: &[u8] = b"C SB
 {}
@@ -57,7 +57,178 @@ fn sb_reads(rt: HostRuntime) -> Result<(), Fail> {
 
 #[test]
 fn reading_faults(rt: HostRuntime) {
-    assert_eq!(rt; fault(rt.alloc(), "C SB\n{"), Some(TestFault::Syntax(6)));
+    let alloc = rt.alloc();
+    assert_eq!(rt; fault(alloc, "C SB\n{"), Some(TestFault::Syntax(6)));
+    assert_eq!(rt;
+        fault(
+            alloc,
+            "C a\n{}P0(atomic_int*x){atomic_store_explicit(x,1,memory_order_acquire);}exists true"
+        ),
+        Some(TestFault::BadOrder)
+    );
+    assert_eq!(rt;
+        fault(alloc, "C a\n{}P0(){int r0;while (r0) {}}exists true"),
+        unsupported(alloc, b"while")
+    );
+    assert_eq!(rt;
+        fault(alloc, "C a\n{}P0(){}exists (0:r9=1)"),
+        Some(TestFault::UnknownName)
+    );
+}
+
+/// The refusal of a word that the language leaves out.
+fn unsupported(alloc: Global, word: &[u8]) -> Option<TestFault> {
+    Some(TestFault::Unsupported(Name::new(alloc, word).ok()?))
+}
+
+#[test]
+fn foreign_words(rt: HostRuntime) {
+    let alloc = rt.alloc();
+    assert_eq!(rt;
+        fault(alloc, "C a\n{}P0(){int for;}exists true"),
+        unsupported(alloc, b"for")
+    );
+    assert_eq!(rt;
+        fault(alloc, "C a\n{}P0(){}exists true while"),
+        unsupported(alloc, b"while")
+    );
+    assert_eq!(rt;
+        fault(
+            alloc,
+            "C a\n{}P0(atomic_int*x){atomic_fetch_sub(x,1);}exists true"
+        ),
+        unsupported(alloc, b"atomic_fetch_sub")
+    );
+    assert_eq!(rt;
+        fault(alloc, "C a\n{}P0(){smp_mb();}exists true"),
+        unsupported(alloc, b"smp_mb")
+    );
+    assert_eq!(rt;
+        fault(
+            alloc,
+            "C a\n{}P0(){atomic_thread_fence(memory_order_consume);}exists true"
+        ),
+        unsupported(alloc, b"memory_order_consume")
+    );
+    assert_eq!(rt;
+        fault(alloc, "C a\n{}P0(){atomic_int (x);}exists true"),
+        unsupported(alloc, b"atomic_int")
+    );
+    assert_eq!(rt;
+        fault(alloc, "C a\n{}P0(){int atomic_x; atomic_x=1;}exists true"),
+        None
+    );
+}
+
+#[test]
+fn whole_language(rt: HostRuntime) {
+    let text = "C a\n{int x=1; 0:r=2}P0(volatile int*x,atomic_int*y){
+        int a, b = 3, c = *x, d = atomic_load(y); ; {} { a = 1; { b = a; } }
+        *x = a == b && !(c != 1) || d;
+        int e = atomic_exchange(y, 1); e = atomic_exchange_explicit(y, a, memory_order_acq_rel);
+        atomic_store(y, 0); atomic_store_explicit(y, b, memory_order_release);
+        atomic_load_explicit(y, memory_order_acquire); atomic_thread_fence(memory_order_acq_rel);
+        if (a) b = 1; else if (c) { b = 2; } else b = 3;
+    }locations [x; ; 0:a; [y]]not exists ~(0:a=1 \\/ x=1 /\\ not true) => false => [y]=2";
+    assert_eq!(rt; fault(rt.alloc(), text), None);
+}
+
+#[test]
+fn operators_bind(rt: HostRuntime) -> Result<(), Fail> {
+    let test = read_test(
+        rt.alloc(),
+        b"C a\n{}P0(){int r; r = 1 == 2 && 3 || !r && 4;}exists true",
+    )?;
+    let thread = test.threads().first().ok_or("a thread")?;
+    let statement = thread.statements().last().ok_or("a statement")?;
+    let Statement::Assign(_, RightSide::Value(Expression::Or(left, right))) = statement else {
+        return Err(Fail::from("`||` binds most loosely"));
+    };
+    let Expression::And(equal, three) = &**left else {
+        return Err(Fail::from("`&&` binds more tightly than `||`"));
+    };
+    assert!(rt; matches!(&**equal, Expression::Equal(_, _)));
+    assert!(rt; matches!(&**three, Expression::Number(3)));
+    let Expression::And(not, _) = &**right else {
+        return Err(Fail::from("`!` binds most tightly"));
+    };
+    assert!(rt; matches!(&**not, Expression::Not(_)));
+    Ok(())
+}
+
+#[test]
+fn nearest_if(rt: HostRuntime) -> Result<(), Fail> {
+    let test = read_test(
+        rt.alloc(),
+        b"C a\n{}P0(){int r; if (r) if (r) r = 1; else r = 2;}exists true",
+    )?;
+    let thread = test.threads().first().ok_or("a thread")?;
+    let Some(Statement::If(_, arm, None)) = thread.statements().last() else {
+        return Err(Fail::from("the outer if has no else"));
+    };
+    assert!(rt; matches!(&**arm, Statement::If(_, _, Some(_))));
+    Ok(())
+}
+
+#[test]
+fn kinds_of_access(rt: HostRuntime) {
+    let alloc = rt.alloc();
+    assert_eq!(rt;
+        fault(alloc, "C a\n{}P0(atomic_int*x){*x=1;}exists true"),
+        Some(TestFault::PlainOnAtomic)
+    );
+    assert_eq!(rt;
+        fault(alloc, "C a\n{}P0(int*x){atomic_store(x,1);}exists true"),
+        Some(TestFault::AtomicOnPlain)
+    );
+    let both = "C a\n{}P0(int*x){*x=1;}P1(atomic_int*x){atomic_store(x,1);}exists true";
+    assert_eq!(rt; fault(alloc, both), None);
+}
+
+#[test]
+fn order_of_refusals(rt: HostRuntime) {
+    let alloc = rt.alloc();
+    // 14 before 15, 15 before 16, 16 before 22.
+    let names = "C a\n{}P0(atomic_int*x,int*y){*x=1; atomic_store(y,1); int r=s;}exists true";
+    assert_eq!(rt; fault(alloc, names), Some(TestFault::UnknownName));
+    let plain = "C a\n{}P0(atomic_int*x,int*y){atomic_store(y,1); *x=1;}exists true";
+    assert_eq!(rt; fault(alloc, plain), Some(TestFault::PlainOnAtomic));
+    let values =
+        "C a\n{}P0(int*y){atomic_store(y,1); int r=2==3==4==5==6==7==8==9==10==11==12==13==14==15==16==17;}exists true";
+    assert_eq!(rt; fault(alloc, values), Some(TestFault::AtomicOnPlain));
+}
+
+#[test]
+fn longest_way(rt: HostRuntime) -> Result<(), Fail> {
+    let alloc = rt.alloc();
+    let fences = many(
+        alloc,
+        "C E\n{}P0(atomic_int*x){",
+        "atomic_thread_fence(memory_order_seq_cst);",
+        63,
+        "}exists true",
+    )?;
+    assert_eq!(rt; fault(alloc, fences.as_str()), None);
+    let more = many(
+        alloc,
+        "C E\n{}P0(atomic_int*x){",
+        "atomic_thread_fence(memory_order_seq_cst);",
+        64,
+        "}exists true",
+    )?;
+    assert_eq!(rt; fault(alloc, more.as_str()), Some(TestFault::TooManyEvents));
+    let branches = many(
+        alloc,
+        "C E\n{}P0(atomic_int*x){int r;",
+        "if (r) atomic_exchange(x,1); else atomic_load(x);",
+        32,
+        "}exists true",
+    )?;
+    assert_eq!(rt;
+        fault(alloc, branches.as_str()),
+        Some(TestFault::TooManyEvents)
+    );
+    Ok(())
 }
 
 #[test]
@@ -214,10 +385,6 @@ fn syntax_faults(rt: HostRuntime) {
     assert_eq!(rt;
         fault(alloc, "C a\n{}P0(atomic_int*x,atomic_int*x){}exists x=0"),
         Some(TestFault::Syntax(33))
-    );
-    assert_eq!(rt;
-        fault(alloc, "C a\n{x}P0(){x=0;}exists x=0"),
-        Some(TestFault::Syntax(14))
     );
     assert_eq!(rt;
         fault(alloc, "C a\n{\"}P0(){}exists x=0"),

@@ -1,8 +1,8 @@
 //! The tree of a thread.
 
-ghost use Rattle.std.specs.Prelude.{◌≡◌, map};
+ghost use Rattle.std.specs.Prelude.{◌≡◌};
 ghost use Rattle.litmus_c.specs.Symbols.{is_one_of};
-ghost use Rattle.litmus_c.specs.Tree.{step_of};
+ghost use Rattle.litmus_c.specs.Tree.{steps_of};
 
 mod copying;
 mod equality;
@@ -28,23 +28,37 @@ pub struct Parameter {
     pub kind: LocationKind,
 }
 
-/// An expression.
+/// An expression. Each operator gives 0 or 1.
 #[derive(Drop)]
 pub enum Expression {
     Number(u32),
+    /// The value that a register holds.
+    Register(Name),
+    Not(Box<Expression>),
+    Equal(Box<Expression>, Box<Expression>),
+    Unequal(Box<Expression>, Box<Expression>),
+    And(Box<Expression>, Box<Expression>),
+    Or(Box<Expression>, Box<Expression>),
 }
 
-/// A call of an atomic operation: the location first, the order last.
+/// A call of an atomic operation: the location first, the order last. A short form, as `atomic_load(x)`, is
+/// the explicit one with `memory_order_seq_cst`.
 #[derive(Drop)]
 pub enum Call {
     Load(Name, Order),
     Store(Name, Expression, Order),
+    Exchange(Name, Expression, Order),
+    Fence(Order),
 }
 
 /// What a register is given.
 #[derive(Drop)]
 pub enum RightSide {
-    /// The value of a call.
+    /// The value of an expression.
+    Value(Expression),
+    /// A plain read of a location.
+    Read(Name),
+    /// The value of a call that has one: a load, or an exchange.
     Call(Call),
 }
 
@@ -59,10 +73,15 @@ pub struct Declarator {
 #[derive(Drop)]
 pub enum Statement {
     Empty,
+    Block(Vec<Statement>),
     Declare(Vec<Declarator>),
     Assign(Name, RightSide),
+    /// A plain write to a location.
+    Write(Name, Expression),
     /// A call whose value, if it has one, is dropped.
     Perform(Call),
+    /// A test, the statement where it isn't 0, and the one behind `else`.
+    If(Expression, Box<Statement>, Option<Box<Statement>>),
 }
 
 /// A thread. Contracts see its program.
@@ -74,12 +93,14 @@ pub struct Thread {
 }
 
 impl Model for Thread {
-    ghost use Rattle.std.specs.Prelude.{map};
-    ghost use Rattle.litmus_c.specs.Tree.{Program, step_of};
+    ghost use Rattle.litmus_c.specs.Codes.{coded_program};
+    ghost use Rattle.litmus_c.specs.Tree.{Program, steps_of};
 
     ghost Value = { Program };
 
-    ghost view = { λ t. record { parameters = t.parameters.items; steps = map step_of t.statements.items; registers = t.registers.keys } };
+    ghost coded = { coded_program };
+
+    ghost view = { λ t. record { parameters = t.parameters.items; steps = steps_of t.statements.items; registers = t.registers.keys } };
 }
 
 impl Thread {
@@ -89,7 +110,7 @@ impl Thread {
         statements: Vec<Statement>,
         registers: IndexSet<Name>,
     ) -> Self
-        ensures { result ≡ record { parameters = parameters.items; steps = map step_of statements.items; registers = registers.keys } }
+        ensures { result ≡ record { parameters = parameters.items; steps = steps_of statements.items; registers = registers.keys } }
     {
         Thread {
             parameters,
@@ -107,7 +128,7 @@ impl Thread {
 
     /// The statements, in order.
     pub fn statements(&self) -> &[Statement]
-        ensures { map step_of result.now ≡ self.now.steps }
+        ensures { steps_of result.now ≡ self.now.steps }
     {
         &self.statements
     }

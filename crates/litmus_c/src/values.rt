@@ -3,8 +3,8 @@
 ghost use Rattle.std.specs.Prelude.{◌≡◌, ◌<◌, ◌≤◌, ◌∷◌, [], length, map, IfOk, IfErr, OnOk};
 ghost use Rattle.std.specs.List.{flat_map};
 ghost use Rattle.listings.specs.Lists.{Lists};
-ghost use Rattle.litmus_c.specs.Tree.{action_of, right_of, declared_of, step_of};
-ghost use Rattle.litmus_c.specs.Values.{action_constants, right_constants, optional_constants, step_constants, program_constants, with_value, with_values, values_among, values_of, IsValue, InDom};
+ghost use Rattle.litmus_c.specs.Tree.{term_of, action_of, right_of, declared_of, step_of, steps_of};
+ghost use Rattle.litmus_c.specs.Values.{term_constants, action_constants, right_constants, optional_constants, step_constants, steps_constants, program_constants, with_value, with_values, values_among, values_of, IsValue, InDom};
 ghost use Rattle.litmus_c.specs.declared.values.ValuesFault.TheVariants.{TooMany};
 
 use crate::test::Test;
@@ -60,6 +60,33 @@ fn add(values: &mut Vec<u32>, value: u32, most: usize) -> Result<(), ValuesFault
     Ok(())
 }
 
+/// Adds the constants of an expression.
+#[tactic(auto, using(crate::proofs::Distinct::with_append, crate::proofs::Distinct::longer))]
+fn add_expression(
+    values: &mut Vec<u32>,
+    expression: &Expression,
+    most: usize,
+) -> Result<(), ValuesFault>
+    requires { length values.old.items ≤ most }
+    ensures done { OnOk result (values.new.items ≡ with_values values.old.items (term_constants (term_of expression.now))) }
+    ensures within { OnOk result (length values.new.items ≤ most) }
+    ensures fault { IfErr result (λ e. e ≡ TooMany → most < length (with_values values.old.items (term_constants (term_of expression.now)))) }
+    ensures limited { IfErr result (λ e. e ≡ TooMany → most < usize.MAX) }
+{
+    match expression {
+        Expression::Number(value) => add(values, *value, most),
+        Expression::Register(_) => Ok(()),
+        Expression::Not(a) => add_expression(values, a, most),
+        Expression::Equal(a, b)
+        | Expression::Unequal(a, b)
+        | Expression::And(a, b)
+        | Expression::Or(a, b) => {
+            add_expression(values, a, most)?;
+            add_expression(values, b, most)
+        }
+    }
+}
+
 /// Adds the constants of a call.
 fn add_call(values: &mut Vec<u32>, call: &Call, most: usize) -> Result<(), ValuesFault>
     requires { length values.old.items ≤ most }
@@ -69,8 +96,10 @@ fn add_call(values: &mut Vec<u32>, call: &Call, most: usize) -> Result<(), Value
     ensures limited { IfErr result (λ e. e ≡ TooMany → most < usize.MAX) }
 {
     match call {
-        Call::Load(_, _) => Ok(()),
-        Call::Store(_, Expression::Number(value), _) => add(values, *value, most),
+        Call::Load(_, _) | Call::Fence(_) => Ok(()),
+        Call::Store(_, value, _) | Call::Exchange(_, value, _) => add_expression(
+            values, value, most,
+        ),
     }
 }
 
@@ -83,6 +112,8 @@ fn add_right(values: &mut Vec<u32>, right: &RightSide, most: usize) -> Result<()
     ensures limited { IfErr result (λ e. e ≡ TooMany → most < usize.MAX) }
 {
     match right {
+        RightSide::Value(value) => add_expression(values, value, most),
+        RightSide::Read(_) => Ok(()),
         RightSide::Call(call) => add_call(values, call, most),
     }
 }
@@ -124,6 +155,8 @@ fn add_declarators(
 }
 
 /// Adds the constants of a statement.
+#[cycle(constants)]
+#[tactic(auto, using(crate::proofs::Distinct::only_values, crate::proofs::Distinct::only_first, crate::proofs::Distinct::else_values, crate::proofs::Distinct::else_first, crate::proofs::Distinct::else_second))]
 fn add_statement(
     values: &mut Vec<u32>,
     statement: &Statement,
@@ -137,22 +170,34 @@ fn add_statement(
 {
     match statement {
         Statement::Empty => Ok(()),
+        Statement::Block(statements) => add_program(values, statements.as_slice(), most),
         Statement::Declare(declarators) => add_declarators(values, declarators.as_slice(), most),
         Statement::Assign(_, right) => add_right(values, right, most),
+        Statement::Write(_, value) => add_expression(values, value, most),
         Statement::Perform(call) => add_call(values, call, most),
+        Statement::If(test, arm, None) => {
+            add_expression(values, test, most)?;
+            add_statement(values, arm, most)
+        }
+        Statement::If(test, arm, Some(other)) => {
+            add_expression(values, test, most)?;
+            add_statement(values, arm, most)?;
+            add_statement(values, other, most)
+        }
     }
 }
 
-/// Adds the constants of a program.
+/// Adds the constants of statements.
+#[cycle(constants)]
 fn add_program(
     values: &mut Vec<u32>,
     statements: &[Statement],
     most: usize,
 ) -> Result<(), ValuesFault>
     requires { length values.old.items ≤ most }
-    ensures done { OnOk result (values.new.items ≡ with_values values.old.items (flat_map step_constants (map step_of statements.now))) }
+    ensures done { OnOk result (values.new.items ≡ with_values values.old.items (steps_constants (steps_of statements.now))) }
     ensures within { OnOk result (length values.new.items ≤ most) }
-    ensures fault { IfErr result (λ e. e ≡ TooMany → most < length (with_values values.old.items (flat_map step_constants (map step_of statements.now)))) }
+    ensures fault { IfErr result (λ e. e ≡ TooMany → most < length (with_values values.old.items (steps_constants (steps_of statements.now)))) }
     ensures limited { IfErr result (λ e. e ≡ TooMany → most < usize.MAX) }
 {
     for statement in statements {

@@ -5,7 +5,7 @@ use Rattle.conditions.specs.declared.place.Binding.{Binding}
 use Rattle.litmus_c.specs.declared.draft.Body.{Body}
 use Rattle.litmus_c.specs.Drafts.{listing_of, written_of}
 use Rattle.litmus_c.specs.Limits.{program_events, IsTest}
-use Rattle.litmus_c.specs.Rules.{lasting, with_names, place_locations, parameter_names, locations_of, programs_of, litmus_of, entry_is_fair, program_is_fair, formula_is_fair, KeepsRules}
+use Rattle.litmus_c.specs.Rules.{lasting, with_names, place_locations, parameter_names, locations_of, programs_of, litmus_of, KeepsRules}
 use Rattle.litmus_c.specs.Tree.{Program, Word}
 use Rattle.litmus_c.specs.Values.{values_among}
 use Rattle.litmus_c.proofs.Kept.{kept_rules, made_test}
@@ -17,8 +17,8 @@ returns-then-len-gt-MAX_THREADS-clause-cause c =
     let few : 8 < length c.args.draft.bodies.items = search rules in
     omega (arith, programs_len 0 c.args.draft.entries.items (map listing_of c.args.draft.bodies.items), map_len listing_of c.args.draft.bodies.items)
 
-pub new-requires-2 : goal.new-requires-2
-new-requires-2 c =
+pub new-requires : goal.new-requires
+new-requires c =
     let w = written_of c.args.draft in
     let es = c.args.draft.entries.items in
     let ts = c.in_ok-threads.threads.items in
@@ -29,13 +29,13 @@ new-requires-2 c =
     ap (λ (bs : List Binding). with_names (with_names [] (flat_map (λ b. place_locations b.place) bs)) (flat_map parameter_names (map listing_of c.as_slice.result.now))) c.as_slice-entries.ensures.value ∙
     ap (λ (bs : List Body). with_names (with_names [] (flat_map (λ b. place_locations b.place) es)) (flat_map parameter_names (map listing_of bs))) c.as_slice.ensures.value in
     let few : length c.args.draft.bodies.items ≤ 8 = search rules in
-    let there : c.names_are_there.result ≡ true = search rules in
-    let asked = rw (c.as_slice-2.ensures.value, c.as_slice-3.ensures.value, c.as_slice-entries.ensures.value) at c.names_are_there.ensures in
-    let names : (list_all (λ b. entry_is_fair ts b.place) es && list_all program_is_fair ts && formula_is_fair ts xs w.condition.formula) ≡ true = sym asked ∙ there in
-    let values = rw (c.as_slice-4.ensures.value, c.as_slice-5.ensures.value) at c.in_ok-check_values.ensures.few in
-    let events = rw (c.as_slice-6.ensures.value, c.as_slice-7.ensures.value) at c.in_ok-check_events.ensures.few in
-    rw c.new.ensures.items (made_test w c.in_ok-initial.initial.items ts xs initial threads locations
-    (kept_rules w c.in_ok-initial.initial.items ts xs initial threads locations (omega (arith, map_len listing_of c.args.draft.bodies.items)) c.in_ok-locations.ensures.few names values events))
+    let names = rw (c.as_slice-2.ensures.value, c.as_slice-3.ensures.value, c.as_slice-4.ensures.value, c.as_slice-entries.ensures.value) at c.in_ok-check_names.ensures.names in
+    let plain = rw c.as_slice-2.ensures.value at c.in_ok-check_names.ensures.plain in
+    let atomic = rw c.as_slice-2.ensures.value at c.in_ok-check_names.ensures.atomic in
+    let values = rw (c.as_slice-5.ensures.value, c.as_slice-6.ensures.value) at c.in_ok-check_values.ensures.few in
+    let events = rw (c.as_slice-7.ensures.value, c.as_slice-8.ensures.value) at c.in_ok-check_events.ensures.few in
+    made_test w c.in_ok-initial.initial.items ts xs initial threads locations
+    (kept_rules w c.in_ok-initial.initial.items ts xs initial threads locations (omega (arith, map_len listing_of c.args.draft.bodies.items)) c.in_ok-locations.ensures.few names plain atomic values events)
 
 pub returns-clause-kept : goal.returns-clause-kept
 returns-clause-kept c =
@@ -49,9 +49,9 @@ returns-clause-kept c =
     ap (λ (bs : List Binding). with_names (with_names [] (flat_map (λ b. place_locations b.place) bs)) (flat_map parameter_names (map listing_of c.as_slice.result.now))) c.as_slice-entries.ensures.value ∙
     ap (λ (bs : List Body). with_names (with_names [] (flat_map (λ b. place_locations b.place) es)) (flat_map parameter_names (map listing_of bs))) c.as_slice.ensures.value in
     let few : length c.args.draft.bodies.items ≤ 8 = search rules in
-    let there : c.names_are_there.result ≡ true = search rules in
-    let asked = rw (c.as_slice-2.ensures.value, c.as_slice-3.ensures.value, c.as_slice-entries.ensures.value) at c.names_are_there.ensures in
-    let names : (list_all (λ b. entry_is_fair ts b.place) es && list_all program_is_fair ts && formula_is_fair ts xs w.condition.formula) ≡ true = sym asked ∙ there in
-    let values = rw (c.as_slice-4.ensures.value, c.as_slice-5.ensures.value) at c.in_ok-check_values.ensures.few in
-    let events = rw (c.as_slice-6.ensures.value, c.as_slice-7.ensures.value) at c.in_ok-check_events.ensures.few in
-    kept_rules w c.in_ok-initial.initial.items ts xs initial threads locations (omega (arith, map_len listing_of c.args.draft.bodies.items)) c.in_ok-locations.ensures.few names values events
+    let names = rw (c.as_slice-2.ensures.value, c.as_slice-3.ensures.value, c.as_slice-4.ensures.value, c.as_slice-entries.ensures.value) at c.in_ok-check_names.ensures.names in
+    let plain = rw c.as_slice-2.ensures.value at c.in_ok-check_names.ensures.plain in
+    let atomic = rw c.as_slice-2.ensures.value at c.in_ok-check_names.ensures.atomic in
+    let values = rw (c.as_slice-5.ensures.value, c.as_slice-6.ensures.value) at c.in_ok-check_values.ensures.few in
+    let events = rw (c.as_slice-7.ensures.value, c.as_slice-8.ensures.value) at c.in_ok-check_events.ensures.few in
+    kept_rules w c.in_ok-initial.initial.items ts xs initial threads locations (omega (arith, map_len listing_of c.args.draft.bodies.items)) c.in_ok-locations.ensures.few names plain atomic values events

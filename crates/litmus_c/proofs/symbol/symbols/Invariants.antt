@@ -1,6 +1,15 @@
-use Rattle.std.proofs.Common.{◌≡◌, take}
+use Rattle.std.proofs.Common.{◌≡◌, ◌++◌, length}
+use Rattle.std.specs.Prelude.{All}
+use Rattle.wb_text.specs.Tokens.{IsWithin}
 use Rattle.litmus_c.specs.Symbols.{symbols_of}
 use Rattle.litmus_c.proofs.symbol.symbols.Given as goal
 
-abbrev pub invariant-loop-token : goal.invariant-loop-token
-invariant-loop-token l = l.symbols.items ≡ symbols_of l.text (take l.token-index l.tokens)
+-- the symbols so far, and those of the rest, are all
+abbrev pub invariant-loop-rest : goal.invariant-loop-rest
+invariant-loop-rest l = record {
+  all : l.symbols.items ++ symbols_of l.text l.rest ≡ symbols_of l.text l.tokens;
+  within : All (IsWithin (length l.text)) l.rest;
+}
+
+abbrev pub decreases-loop-rest : goal.decreases-loop-rest
+decreases-loop-rest l = length l.rest

@@ -3,7 +3,7 @@ use Rattle.std.specs.Prelude.{Result, Ok, Err}
 use Rattle.litmus_c.specs.declared.draft.Draft.{Draft}
 use Rattle.litmus_c.specs.declared.symbol.Symbol.{Symbol}
 use Rattle.litmus_c.specs.declared.syntax_fault.SyntaxFault.{SyntaxFault}
-use Rattle.litmus_c.specs.declared.syntax_fault.SyntaxFault.TheVariants.{Syntax, TooDeep, NoMemory}
+use Rattle.litmus_c.specs.declared.syntax_fault.SyntaxFault.TheVariants.{Syntax, BadOrder, TooDeep, NoMemory}
 use Rattle.litmus_c.specs.Drafts.{Written, written_of}
 use Rattle.litmus_c.specs.Reading.{Reading, Gives, GivesAll, test_at}
 use Rattle.litmus_c.proofs.Sound.{test-sound}
@@ -17,6 +17,7 @@ all ts rest (Ok d) e =
     e ∙ ap f same
 all ts rest (Err NoMemory) e = e
 all ts rest (Err (Syntax p)) e = e
+all ts rest (Err BadOrder) e = e
 all ts rest (Err TooDeep) e = e
 
 pub returns : goal.returns
