@@ -104,7 +104,11 @@ impl<'a> Scope<'a> {
         match self.rule {
             Rule::Names => is_parameter(self.thread.parameters(), location),
             Rule::PlainAccess => true,
-            Rule::AtomicAccess => has_other_kind(self.thread.parameters(), LocationKind::Plain, location),
+            Rule::AtomicAccess => has_other_kind(
+                self.thread.parameters(),
+                LocationKind::Plain,
+                location,
+            ),
         }
     }
 
@@ -114,7 +118,11 @@ impl<'a> Scope<'a> {
     {
         match self.rule {
             Rule::Names => is_parameter(self.thread.parameters(), location),
-            Rule::PlainAccess => has_other_kind(self.thread.parameters(), LocationKind::Atomic, location),
+            Rule::PlainAccess => has_other_kind(
+                self.thread.parameters(),
+                LocationKind::Atomic,
+                location,
+            ),
             Rule::AtomicAccess => true,
         }
     }
