@@ -1,8 +1,7 @@
 -- Where reading a test gives `deep`, something nests too deep.
-use Rattle.std.proofs.Common.{◌≡◌, ℕ, zero, suc, List, [], ◌∷◌, refl, sym, subst, ap, ◌∙◌, inl, inr}
-use Rattle.std.specs.Prelude.{◌++◌, Bool, true, false, Option, Some, None, Ok, Err, if◌then◌else◌, codes}
+use Rattle.std.proofs.Common.{◌≡◌, ℕ, suc, List, [], ◌∷◌, refl, sym, subst, inl, inr}
+use Rattle.std.specs.Prelude.{◌++◌, Ok, Err, codes}
 use Rattle.std.specs.Str.{bytes_eq}
-use Rattle.descent.specs.Reading.{match_option, ◌>>=◌, repeated}
 use Rattle.descent.proofs.Tools.{bind_ok, moved, chosen}
 use Rattle.conditions.specs.declared.place.Binding.{Binding}
 use Rattle.conditions.specs.declared.place.Place.{Place}
@@ -13,7 +12,7 @@ use Rattle.litmus_c.specs.declared.symbol.Terminal.TheVariants.{LeftBrace, Right
 use Rattle.litmus_c.specs.Depth.{DeepTest, deep_threads, deep_condition}
 use Rattle.litmus_c.specs.Drafts.{Listing}
 use Rattle.litmus_c.specs.Grammar.{IsEntries}
-use Rattle.litmus_c.specs.Reading.{Reading, syntax, deep, after, expected, number_at, place_at, bare, bound_at, behind_type, entry_at, ends_entry, entry_behind, entries_at, threads_at, ends_place, place_behind, places_at, bracketed_at, listed_at, condition_at, word_at, language_at, end_at, initial_at, test_at}
+use Rattle.litmus_c.specs.Reading.{deep, after, expected, bare, bound_at, behind_type, entry_at, ends_entry, entry_behind, entries_at, threads_at, ends_place, place_behind, places_at, bracketed_at, listed_at, condition_at, word_at, language_at, end_at, initial_at, test_at}
 use Rattle.litmus_c.specs.Tree.{Word}
 use Rattle.litmus_c.proofs.DeepPropositions.{fine_place, condition_deep}
 use Rattle.litmus_c.proofs.DeepStatements.{threads_deep}

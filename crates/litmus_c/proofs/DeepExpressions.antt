@@ -1,22 +1,20 @@
 -- Expressions, calls and right sides: where reading gives `deep`, something nests too deep.
-use Rattle.std.proofs.Common.{◌≡◌, ℕ, zero, suc, List, [], ◌∷◌, sym, subst, ap, ◌∙◌, refl, inl, inr}
-use Rattle.std.specs.Prelude.{Bool, true, false, Option, Some, None, Ok, Err, if◌then◌else◌}
-use Rattle.descent.specs.Reading.{◌>>=◌, required, repeated}
+use Rattle.std.proofs.Common.{◌≡◌, ℕ, zero, suc, List, ◌∷◌, sym, subst, inl, inr}
+use Rattle.std.specs.Prelude.{true, Option, Some, None, Ok, Err, if◌then◌else◌}
+use Rattle.descent.specs.Reading.{◌>>=◌, required}
 use Rattle.descent.proofs.Tools.{bind_ok, chosen, moved}
 use Rattle.events.specs.declared.event.Order.{Order}
-use Rattle.litmus_c.specs.declared.operator.Operator.{Operator}
 use Rattle.litmus_c.specs.declared.symbol.Operation.{Operation}
 use Rattle.litmus_c.specs.declared.symbol.Operation.TheVariants.{Load, LoadExplicit, Store, StoreExplicit, Exchange, ExchangeExplicit, Fence}
 use Rattle.litmus_c.specs.declared.symbol.Symbol.{Symbol}
 use Rattle.litmus_c.specs.declared.symbol.Symbol.TheVariants.{Fixed, Call, Name, Number}
 use Rattle.litmus_c.specs.declared.symbol.Terminal.TheVariants.{LeftParen, RightParen, Comma, Star, Bang}
 use Rattle.litmus_c.specs.Depth.{DeepLevel, deep_unary, deep_tighter, deep_joined, DeepUnary, deep_operand, deep_not, deep_paren, DeepExpression, TakesValue, store_takes, store_explicit_takes, exchange_takes, exchange_explicit_takes, GivesValue, load_gives, load_explicit_gives, exchange_gives, exchange_explicit_gives, DeepCall, deep_call, deep_value, DeepRight, deep_computed, deep_given}
-use Rattle.litmus_c.specs.Grammar.{joined, IsLevel, level_tighter, level_joined, load_orders, store_orders, all_orders}
-use Rattle.litmus_c.specs.Reading.{Reading, syntax, deep, after, expected, name_at, call_word, open_at, Terms, operator_at, unary_with, next_operand, operands, level_with, terms_below, expression_at, is_among, order_at, last_order_at, located_at, target_at, valued_at, stored_at, load_at, load_explicit_at, store_at, store_explicit_at, exchange_at, exchange_explicit_at, fence_at, operation_at, has_value, value_at, computed_at, plain_at, right_at}
+use Rattle.litmus_c.specs.Grammar.{IsLevel, level_tighter, level_joined, load_orders, store_orders, all_orders}
+use Rattle.litmus_c.specs.Reading.{syntax, deep, after, call_word, open_at, Terms, operator_at, unary_with, next_operand, operands, level_with, terms_below, expression_at, is_among, order_at, last_order_at, located_at, target_at, valued_at, stored_at, load_at, load_explicit_at, store_at, store_explicit_at, exchange_at, exchange_explicit_at, fence_at, operation_at, has_value, value_at, computed_at, plain_at, right_at}
 use Rattle.litmus_c.specs.Symbols.{orders, looked_up}
-use Rattle.litmus_c.specs.Tree.{Word, Term, Action, Right}
 use Rattle.litmus_c.proofs.Calls.{target-sound}
-use Rattle.litmus_c.proofs.DeepTools.{Shallow, fine_ok, fine_syntax, fine_bind, fine_if, fine_expected, fine_name, fine_made, later, first, either, chosen_deep, repeated_deep, open_deep}
+use Rattle.litmus_c.proofs.DeepTools.{Shallow, fine_ok, fine_syntax, fine_bind, fine_if, fine_expected, fine_name, fine_made, first, either, chosen_deep, repeated_deep, open_deep}
 use Rattle.litmus_c.proofs.Expressions.{operator-some, level_is}
 use Rattle.litmus_c.proofs.Sounds.{Sound}
 use Rattle.litmus_c.proofs.Symbols.{call_word-some}

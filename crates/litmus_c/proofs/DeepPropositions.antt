@@ -1,19 +1,16 @@
 -- Conditions: where reading gives `deep`, something nests too deep.
-use Rattle.std.proofs.Common.{◌≡◌, ℕ, zero, suc, List, [], ◌∷◌, sym, subst}
-use Rattle.std.specs.Prelude.{Some, None, Ok, Err}
-use Rattle.descent.specs.Reading.{match_option, ◌>>=◌, repeated}
+use Rattle.std.proofs.Common.{◌≡◌, ℕ, zero, suc, List, ◌∷◌, sym, subst}
+use Rattle.std.specs.Prelude.{Some, Err}
 use Rattle.descent.proofs.Tools.{bind_ok, moved}
 use Rattle.conditions.specs.declared.condition.Kind.{Kind}
-use Rattle.conditions.specs.declared.place.Place.{Place}
 use Rattle.conditions.specs.declared.place.Place.TheVariants.{Reg, Loc}
-use Rattle.conditions.specs.Conditions.{Formula}
 use Rattle.litmus_c.specs.declared.symbol.Symbol.{Symbol}
 use Rattle.litmus_c.specs.declared.symbol.Symbol.TheVariants.{Fixed}
-use Rattle.litmus_c.specs.declared.symbol.Terminal.TheVariants.{True, False, Exists, Forall, Not, LeftParen, RightParen, LeftBracket, RightBracket, Colon, Assign, Tilde, And, Or, Arrow}
+use Rattle.litmus_c.specs.declared.symbol.Terminal.TheVariants.{True, False, Exists, Forall, LeftParen, RightParen, LeftBracket, RightBracket, Colon, Assign, And, Or, Arrow}
 use Rattle.litmus_c.specs.Depth.{DeepProposition, deep_or, deep_implied, DeepOr, deep_conjunction, deep_disjoined, DeepConjunction, deep_atomic, deep_conjoined, DeepAtomic, deep_formula, deep_denied, deep_enclosed}
 use Rattle.litmus_c.specs.Grammar.{IsOr, or_conjunction, or_or, IsConjunction, conjunction_atomic, conjunction_and, IsAtomic, IsKind}
-use Rattle.litmus_c.specs.Reading.{Reading, syntax, deep, after, expected, name_at, number_look, number_at, location_at, register_at, place_at, equation_at, Propositions, denial, plain_atomic_at, denied_with, enclosed_with, atomic_with, conjunction_more, conjunction_with, or_more, or_with, proposition_with, propositions_below, kind_of_at, condition_at}
-use Rattle.litmus_c.proofs.DeepTools.{Shallow, fine_ok, fine_syntax, fine_bind, fine_match, fine_expected, fine_name, fine_number, fine_made, later, first, either, chosen_deep, repeated_deep}
+use Rattle.litmus_c.specs.Reading.{deep, after, number_look, location_at, register_at, place_at, equation_at, Propositions, denial, plain_atomic_at, denied_with, enclosed_with, atomic_with, conjunction_more, conjunction_with, or_more, or_with, proposition_with, propositions_below, kind_of_at, condition_at}
+use Rattle.litmus_c.proofs.DeepTools.{Shallow, fine_ok, fine_bind, fine_match, fine_expected, fine_name, fine_number, fine_made, later, first, either, chosen_deep, repeated_deep}
 use Rattle.litmus_c.proofs.Propositions.{denial-some, atomic_is, conjunction_is, or_is, kind-sound}
 use Rattle.litmus_c.proofs.Sounds.{Sound}
 use Rattle.litmus_c.proofs.Symbols.{after-some}
@@ -123,6 +120,6 @@ condition_deep n ts e =
       k.0,
       kind-sound ts k.1 k.0 is,
       first (proposition_with (propositions_below n) k.1) f
-      (proposition_deep n (propositions_below n) (propositions_deep n) (atomic_is n) (conjunction_is n) (or_is n) k.1)
-      (λ a. fine_ok _),
+          (proposition_deep n (propositions_below n) (propositions_deep n) (atomic_is n) (conjunction_is n) (or_is n) k.1)
+          (λ a. fine_ok _),
     ))

@@ -1,24 +1,22 @@
 -- Statements and threads: where reading gives `deep`, something nests too deep.
 use Rattle.std.proofs.Common.{◌≡◌, ℕ, zero, suc, List, [], ◌∷◌, sym, subst, ap, ◌∙◌, refl, inl, inr}
-use Rattle.std.specs.Prelude.{◌++◌, length, Bool, true, false, Option, Some, None, Ok, Err, if◌then◌else◌, codes}
+use Rattle.std.specs.Prelude.{◌++◌, length, Ok, Err, codes}
 use Rattle.std.specs.Fmt.{decimal}
-use Rattle.std.specs.Str.{bytes_eq}
 use Rattle.descent.specs.Reading.{◌>>=◌, repeated}
 use Rattle.descent.proofs.Tools.{bind_ok, chosen, moved}
-use Rattle.litmus_c.specs.declared.symbol.Operation.{Operation}
 use Rattle.litmus_c.specs.declared.symbol.Symbol.{Symbol}
-use Rattle.litmus_c.specs.declared.symbol.Symbol.TheVariants.{Fixed, Call, Name}
+use Rattle.litmus_c.specs.declared.symbol.Symbol.TheVariants.{Fixed, Name}
 use Rattle.litmus_c.specs.declared.symbol.Terminal.TheVariants.{Int, AtomicInt, If, Else, LeftParen, RightParen, LeftBrace, RightBrace, Semicolon, Comma, Assign, Star}
 use Rattle.litmus_c.specs.declared.tree.Parameter.{Parameter}
 use Rattle.litmus_c.specs.Depth.{DeepExpression, DeepAssigned, deep_right, DeepDeclarators, deep_declarator, deep_declared, DeepSimple, deep_declare, deep_assign, deep_write, deep_perform, DeepStep, deep_statement, deep_simple, deep_block, deep_test, deep_arm, deep_else, DeepSteps, deep_statements, deep_step, DeepThread, deep_list, deep_body, DeepThreads, deep_thread, deep_next}
-use Rattle.litmus_c.specs.Drafts.{Listing, is_parameter}
+use Rattle.litmus_c.specs.Drafts.{is_parameter}
 use Rattle.litmus_c.specs.Grammar.{IsExpression, IsDeclarators, declarators_one, declarators_more as declarators_and, IsStep, IsSteps, steps_none, steps_more as steps_and, IsParameterList, IsThread, IsThreads, threads_one, threads_more as threads_and}
-use Rattle.litmus_c.specs.Reading.{Reading, syntax, deep, after, expected, unless, name_at, before_name, call_word, open_at, expression_at, operation_at, right_at, declarator_at, declarators_more, declarators_at, assignment_at, write_at, declaration_at, performed_at, simple_at, closed_at, Inside, else_with, if_with, block_with, step_with, steps_more, steps_with, inside, step_at, steps_at, kind_at, behind_volatile, parameter_behind, parameters_more, parameters_at, parameters_closed, parameter_list_at, names_thread, thread_name_at, thread_at, threads_more, threads_at}
-use Rattle.litmus_c.specs.Tree.{Word, Term, Declared, Step, Steps, no_steps}
+use Rattle.litmus_c.specs.Reading.{syntax, deep, after, expected, unless, name_at, before_name, call_word, open_at, expression_at, operation_at, right_at, declarator_at, declarators_more, declarators_at, assignment_at, write_at, declaration_at, performed_at, simple_at, closed_at, Inside, else_with, if_with, block_with, step_with, steps_more, steps_with, inside, steps_at, kind_at, behind_volatile, parameter_behind, parameters_more, parameters_at, parameters_closed, parameter_list_at, names_thread, thread_name_at, thread_at, threads_more, threads_at}
+use Rattle.litmus_c.specs.Tree.{Word, Term, Step, no_steps}
 use Rattle.litmus_c.proofs.DeepExpressions.{expression_deep, any_expression, operation_deep, right_deep}
 use Rattle.litmus_c.proofs.DeepTools.{Shallow, fine_ok, fine_syntax, fine_bind, fine_match, fine_if, fine_repeated, fine_expected, fine_name, fine_made, later, first, either, chosen_deep, repeated_deep, IsLast, open_deep}
 use Rattle.litmus_c.proofs.Sound.{parameter_list-sound, thread-sound}
-use Rattle.litmus_c.proofs.Sounds.{Sound, Deeper, deeper}
+use Rattle.litmus_c.proofs.Sounds.{Deeper, deeper}
 use Rattle.litmus_c.proofs.Statements.{declarator-sound, SoundInside, inside-sound, step_is}
 use Rattle.litmus_c.proofs.Symbols.{bytes_eq-true, after-some, expected-ok, unless-same, name-ok, call_word-some, before_name-same}
 

@@ -1,6 +1,6 @@
 -- Reading functions that never give `deep`, and where the others give it.
-use Rattle.std.proofs.Common.{◌≡◌, ℕ, zero, suc, List, [], ◌∷◌, refl, inl, inr, ◌∙◌, ap}
-use Rattle.std.specs.Prelude.{length, Bool, true, false, Option, Some, None, Ok, Err, if◌then◌else◌}
+use Rattle.std.proofs.Common.{◌≡◌, ℕ, zero, suc, List, [], ◌∷◌, refl, inl, inr}
+use Rattle.std.specs.Prelude.{length, Bool, true, false, Some, None, Ok, Err, if◌then◌else◌}
 use Rattle.descent.specs.Reading.{Look, match_option, ◌>>=◌, required, turns, repeated}
 use Rattle.descent.proofs.Tools.{bind_err, cases_of}
 use Rattle.litmus_c.specs.declared.symbol.Symbol.{Symbol}

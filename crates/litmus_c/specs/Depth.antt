@@ -1,7 +1,8 @@
 -- Where a test nests too deep.
--- DeepX n ts says that the symbols ts begin as an X of the grammar, up to a place that nests n deep. All that stands
--- before this place is by the grammar, and nests less deep. The X itself nests 0 deep, and a chain of one connective
--- is no deeper than its parts. Where a level opens, whatever follows is behind a place that nests one deeper.
+-- DeepX n ts says that the symbols ts begin as an X of the grammar, up to a place that nests n deep in it: what stands
+-- before this place is by the grammar and nests less deep, and what stands behind it is left open. The start of the X
+-- nests 0 deep. Each opening parenthesis, `!`, `~`, `not`, block, arm of an `if` and right side of `=>` is one deeper
+-- than what it stands in; a chain of one connective is no level.
 use Rattle.std.specs.Prelude.{ℕ, List, ◌∷◌, ◌++◌, length, codes}
 use Rattle.std.specs.Fmt.{decimal}
 use Rattle.std.proofs.Common.{zero, suc}
