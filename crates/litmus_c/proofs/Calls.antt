@@ -104,11 +104,11 @@ located-first : (n : ℕ) (x : Word) (rest : List Symbol) → located_at (suc n)
 unfolding located_at name_at
 located-first n x rest = rw (open-first n (Name x ∷ rest))
 
-record IsTarget (n : ℕ) (ts rest : List Symbol) (x : Word × ℕ) : Type 0 where
-  level : n ≡ suc x.1
-  front : ts ≡ Fixed LeftParen ∷ Name x.0 ∷ Fixed Comma ∷ rest
+pub record IsTarget (n : ℕ) (ts rest : List Symbol) (x : Word × ℕ) : Type 0 where
+  pub level : n ≡ suc x.1
+  pub front : ts ≡ Fixed LeftParen ∷ Name x.0 ∷ Fixed Comma ∷ rest
 
-target-sound : (n : ℕ) → Sound (target_at n) (IsTarget n)
+pub target-sound : (n : ℕ) → Sound (target_at n) (IsTarget n)
 unfolding target_at
 target-sound n ts rest a e =
     let x = bind_ok (located_at n ts) _ _ e in

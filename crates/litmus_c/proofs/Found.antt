@@ -124,7 +124,7 @@ too_deep text ts symbols list is unique fails = record {
   none = no_test text ts symbols deep is unique fails;
   tokens = ts;
   is_list = list;
-  nests = (let P : List Symbol → Type 0 = λ l. NestsTooDeep l in subst P is (test_deep 31 symbols fails));
+  nests = (let P : List Symbol → Type 0 = λ l. NestsTooDeep l in subst P is (test_deep 32 symbols fails));
 }
 
 pub draft_cause : (text : List ℕ) (ts : List Token) (symbols : List Symbol) (e : TestFault) → IsTokenList dialects.Litmus text ts → symbols ≡ symbols_of text ts →
