@@ -1,7 +1,7 @@
 //! The names of a test: what is used is there.
 
 ghost use Rattle.std.specs.Prelude.{◌≡◌, ◌≤◌, ◌-◌, map, length, SomeIff, sum_by};
-ghost use Rattle.std.specs.List.{list_all};
+ghost use Rattle.std.specs.List.{list_all, list_any};
 ghost use Rattle.conditions.specs.Conditions.{formula_of};
 ghost use Rattle.litmus_c.specs.Drafts.{is_parameter};
 ghost use Rattle.litmus_c.specs.Limits.{action_events, optional_events, right_events, step_events, steps_events, program_events};
@@ -60,13 +60,20 @@ fn is_of(kind: LocationKind, name: &Name, parameter: &Parameter) -> bool
     parameter.name == *name && parameter.kind == kind
 }
 
+/// Whether a parameter of this name has this kind.
+fn has_kind(parameters: &[Parameter], kind: LocationKind, name: &Name) -> bool
+    ensures { result ≡ list_any (is_of kind name.now) parameters.now }
+{
+    parameters
+        .iter()
+        .any(|parameter| is_of(kind, name, parameter))
+}
+
 /// Whether no parameter of this name has this kind.
 fn has_other_kind(parameters: &[Parameter], kind: LocationKind, name: &Name) -> bool
     ensures { result ≡ has_other_kind parameters.now kind name.now }
 {
-    !parameters
-        .iter()
-        .any(|parameter| is_of(kind, name, parameter))
+    !has_kind(parameters, kind, name)
 }
 
 /// A rule, and the names of the thread on which it is tried.
@@ -175,7 +182,7 @@ impl<'a> Scope<'a> {
         }
     }
 
-    fn declarators_keep(&self, declarators: &[Declarator]) -> bool
+    fn each_keeps(&self, declarators: &[Declarator]) -> bool
         ensures { result ≡ list_all (λ d. declared_keeps self.now.rule self.now.thread.now.parameters self.now.thread.now.registers (declared_of d)) declarators.now }
     {
         declarators
@@ -183,8 +190,15 @@ impl<'a> Scope<'a> {
             .all(|declarator| self.declarator_keeps(declarator))
     }
 
+    #[tactic(auto, using(crate::proofs::Fair::all_declared))]
+    fn declarators_keep(&self, declarators: &[Declarator]) -> bool
+        ensures { result ≡ list_all (declared_keeps self.now.rule self.now.thread.now.parameters self.now.thread.now.registers) (map declared_of declarators.now) }
+    {
+        self.each_keeps(declarators)
+    }
+
     #[cycle(keeping)]
-    #[tactic(auto, using(crate::proofs::Fair::all_declared, crate::proofs::Steps::only_if, crate::proofs::Steps::if_and_else))]
+    #[tactic(auto, using(crate::proofs::Steps::only_if, crate::proofs::Steps::if_and_else))]
     fn step_keeps(&self, statement: &Statement) -> bool
         ensures { result ≡ step_keeps self.now.rule self.now.thread.now.parameters self.now.thread.now.registers (step_of statement.now) }
     {
