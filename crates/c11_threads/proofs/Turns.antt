@@ -1,6 +1,6 @@
 -- Ways that are taken part by part.
 use Rattle.std.proofs.Common.{◌≡◌, ℕ, suc, ◌+◌, ◌≤◌, ◌<◌, List, [], ◌∷◌, ◌++◌, length, map, get_or, drop, drop-cons, add-one, refl, sym, ◌∙◌, ap, arith, append_assoc, append-nil, Option, None, Some, Bool, true, false, if◌then◌else◌, length-append}
-use Rattle.std.proofs.lemmas.List.{drop_all, length-map}
+use Rattle.std.proofs.lemmas.List.{drop_all, length-drop, length-map}
 use Rattle.std.proofs.lemmas.Grind.{flat_map-append}
 use Rattle.std.specs.List.{flat_map}
 use Rattle.relations.specs.Events.{EventSet}
@@ -28,9 +28,10 @@ flat_map_one (p ∷ ps) = ap (λ (qs : List Progress). p ∷ qs) (flat_map_one p
 flat_map_alone : (f : Ways) (p : Progress) → flat_map f (p ∷ []) ≡ f p
 flat_map_alone f p = append-nil (f p)
 
-pub still_fault : (k n m : ℕ) (e : RunFault) → n ≤ m → IsFaultAt k n e → IsFaultAt k m e
-still_fault k n m (TooManyRuns j) l h = (h.0, omega (arith, h.1, l))
-still_fault k n m NoMemory l h = h
+-- More ways than there is room for are more than are wanted, where the others take what is left.
+pub still_fault : (k room most n m : ℕ) (e : RunFault) → most + n ≤ room + m → IsFaultAt k room n e → IsFaultAt k most m e
+still_fault k room most n m (TooManyRuns j) l h = (h.0, omega (arith, h.1, l))
+still_fault k room most n m NoMemory l h = h
 
 drop_first : {A : Type 0} (a : A) (xs : List A) (i : ℕ) → i < length xs → a ≡ get_or xs i a → drop i xs ≡ a ∷ drop (i + 1) xs
 drop_first a xs i l e = rw add-one (drop-cons xs i a l ∙ ap (λ y. y ∷ drop (suc i) xs) (sym e))
@@ -44,15 +45,6 @@ next_start f starts i from done l is =
 pub all_starts : (f : Ways) (starts : List Progress) (i : ℕ) (done : List Progress) → length starts ≤ i → done ++ flat_map f (drop i starts) ≡ done
 all_starts f starts i done l = ap (λ (ps : List Progress). done ++ flat_map f ps) (drop_all i starts l) ∙ append-nil done
 
--- As many ways as come from one start, or have been found, come from all.
-pub start_within : (f : Ways) (starts : List Progress) (i : ℕ) (from : Progress) (done all : List Progress) → i < length starts → from ≡ get_or starts i from → done ++ flat_map f (drop i starts) ≡ all → length (done ++ f from) ≤ length all
-start_within f starts i from done all l is whole =
-    let e = next_start f starts i from done l is ∙ whole in
-    omega (arith, ap (λ (ps : List Progress). length ps) e, length-append (done ++ f from) (flat_map f (drop (i + 1) starts)))
-
-pub one_within : (f : Ways) (starts : List Progress) (i : ℕ) (from : Progress) (done all : List Progress) → i < length starts → from ≡ get_or starts i from → done ++ flat_map f (drop i starts) ≡ all → length (f from) ≤ length all
-one_within f starts i from done all l is whole = omega (arith, start_within f starts i from done all l is whole, length-append done (f from))
-
 -- Each way has an end.
 some_call : (s : Setting) → 1 ≤ length s.values → (c : EventSet) (a : Action) (r : Option ℕ) (p : Progress) → 1 ≤ length (call_runs s c a r p)
 some_call s v c (load x o) r p = simp length-map v
@@ -65,7 +57,7 @@ some_right s v c (computed e) r p = omega arith
 some_right s v c (plain_read x) r p = simp length-map v
 some_right s v c (value_of a) r p = some_call s v c a (Some r) p
 
-some_declare : (s : Setting) → 1 ≤ length s.values → (c : EventSet) (r : Word) (a : Option Right) (p : Progress) → 1 ≤ length (declare_runs s c r a p)
+pub some_declare : (s : Setting) → 1 ≤ length s.values → (c : EventSet) (r : Word) (a : Option Right) (p : Progress) → 1 ≤ length (declare_runs s c r a p)
 some_declare s v c r None p = omega arith
 some_declare s v c r (Some a) p = some_right s v c a _ p
 
@@ -92,6 +84,15 @@ mutual
   some_steps no_steps s v c p = omega arith
   some_steps (in_turn a rest) s v c p = omega (arith, some_step a s v c p, some_flat_map (steps_runs rest s c) (step_runs a s c p) (some_steps rest s v c))
 
+-- What comes from one start, where each that waits has an end.
+pub start_fault : (f : Ways) → ((p : Progress) → 1 ≤ length (f p)) → (k room most waiting : ℕ) (starts : List Progress) (i : ℕ) (from : Progress) (done all : List Progress) (e : RunFault) → i < length starts → from ≡ get_or starts i from → done ++ flat_map f (drop i starts) ≡ all →
+    waiting + suc i ≡ length starts → room + length done + waiting ≡ most → IsFaultAt k room (length (f from)) e → IsFaultAt k most (length all) e
+start_fault f some k room most waiting starts i from done all e l is whole w r h =
+    let x = next_start f starts i from done l is ∙ whole in
+    let rest = drop (i + 1) starts in
+    still_fault k room most (length (f from)) (length all) e
+    (omega (arith, ap (λ (ps : List Progress). length ps) x, length-append (done ++ f from) (flat_map f rest), length-append done (f from), some_flat_map f rest some, length-drop (i + 1) starts, w, r)) h
+
 -- One statement more.
 pub turn : (s : Setting) (c : EventSet) (statements : List Statement) (i : ℕ) (a : Statement) (ends : List Progress) → i < length statements → a ≡ get_or statements i a → flat_map (steps_runs (steps_of (drop (i + 1) statements)) s c) (flat_map (step_runs (step_of a) s c) ends) ≡ flat_map (steps_runs (steps_of (drop i statements)) s c) ends
 turn s c statements i a ends l is =
@@ -111,12 +112,12 @@ further s c statements i a ends starts next all l is from done whole =
     ∙ turn s c statements i a ends l is ∙ whole
 
 -- A fault at one statement is a fault of all.
-pub turn_fault : (s : Setting) → 1 ≤ length s.values → (c : EventSet) (statements : List Statement) (i : ℕ) (a : Statement) (ends starts all : List Progress) (e : RunFault) → i < length statements → a ≡ get_or statements i a → starts ≡ ends → flat_map (steps_runs (steps_of (drop i statements)) s c) ends ≡ all → IsFaultAt s.thread (length (flat_map (step_runs (step_of a) s c) starts)) e → IsFaultAt s.thread (length all) e
-turn_fault s v c statements i a ends starts all e l is from whole h =
+pub turn_fault : (s : Setting) (most : ℕ) → 1 ≤ length s.values → (c : EventSet) (statements : List Statement) (i : ℕ) (a : Statement) (ends starts all : List Progress) (e : RunFault) → i < length statements → a ≡ get_or statements i a → starts ≡ ends → flat_map (steps_runs (steps_of (drop i statements)) s c) ends ≡ all → IsFaultAt s.thread most (length (flat_map (step_runs (step_of a) s c) starts)) e → IsFaultAt s.thread most (length all) e
+turn_fault s most v c statements i a ends starts all e l is from whole h =
     let done = flat_map (step_runs (step_of a) s c) starts in
     let rest = steps_runs (steps_of (drop (i + 1) statements)) s c in
     let t = further s c statements i a ends starts done all l is from refl whole in
-    still_fault s.thread (length done) (length all) e
+    still_fault s.thread most most (length done) (length all) e
     (omega (arith, some_flat_map rest done (some_steps (steps_of (drop (i + 1) statements)) s v c), ap (λ (ps : List Progress). length ps) t)) h
 
 -- The same of declarations.
@@ -136,10 +137,10 @@ declared_further s c ds i d ends starts next all l is from done whole =
     ap (flat_map (declares_runs s c (map declared_of (drop (i + 1) ds)))) (done ∙ ap (flat_map (declare_runs s c (declared_of d).register (declared_of d).value)) from)
     ∙ declare_turn s c ds i d ends l is ∙ whole
 
-pub declare_fault : (s : Setting) → 1 ≤ length s.values → (c : EventSet) (ds : List Declarator) (i : ℕ) (d : Declarator) (ends starts all : List Progress) (e : RunFault) → i < length ds → d ≡ get_or ds i d → starts ≡ ends → flat_map (declares_runs s c (map declared_of (drop i ds))) ends ≡ all → IsFaultAt s.thread (length (flat_map (declare_runs s c (declared_of d).register (declared_of d).value) starts)) e → IsFaultAt s.thread (length all) e
-declare_fault s v c ds i d ends starts all e l is from whole h =
+pub declare_fault : (s : Setting) (most : ℕ) → 1 ≤ length s.values → (c : EventSet) (ds : List Declarator) (i : ℕ) (d : Declarator) (ends starts all : List Progress) (e : RunFault) → i < length ds → d ≡ get_or ds i d → starts ≡ ends → flat_map (declares_runs s c (map declared_of (drop i ds))) ends ≡ all → IsFaultAt s.thread most (length (flat_map (declare_runs s c (declared_of d).register (declared_of d).value) starts)) e → IsFaultAt s.thread most (length all) e
+declare_fault s most v c ds i d ends starts all e l is from whole h =
     let done = flat_map (declare_runs s c (declared_of d).register (declared_of d).value) starts in
     let rest = declares_runs s c (map declared_of (drop (i + 1) ds)) in
     let t = declared_further s c ds i d ends starts done all l is from refl whole in
-    still_fault s.thread (length done) (length all) e
+    still_fault s.thread most most (length done) (length all) e
     (omega (arith, some_flat_map rest done (some_declares s v c (map declared_of (drop (i + 1) ds))), ap (λ (ps : List Progress). length ps) t)) h

@@ -25,7 +25,7 @@ as_runs t k runs ends all e f g = e ∙ ap (map run_of) (f ∙ g)
 pub all_listed : (t : Litmus) (k : ℕ) (runs : List ThreadRun) → runs ≡ runs_of t k → Lists (IsRun t k) runs
 all_listed t k runs e = let P : List ThreadRun → Type 0 = Lists (IsRun t k) in subst P (sym e) (lists_runs_of t k)
 
-pub run_fault : (t : Litmus) (k j : ℕ) (all : List Progress) (e : RunFault) → j ≡ k → all ≡ ends_of t k → IsFaultAt j (length all) e → IsRunFault t k e
+pub run_fault : (t : Litmus) (k j : ℕ) (all : List Progress) (e : RunFault) → j ≡ k → all ≡ ends_of t k → IsFaultAt j 4096 (length all) e → IsRunFault t k e
 run_fault t k j all (TooManyRuns i) is f h =
     let n : length (runs_of t k) ≡ length all = (let m : length (runs_of t k) ≡ length (ends_of t k) = simp length-map in m ∙ ap (λ (ps : List Progress). length ps) (sym f)) in
     (h.0 ∙ is, (length all, (runs_of t k, lists_runs_of t k, n), h.1))

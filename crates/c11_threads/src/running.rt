@@ -8,7 +8,7 @@ ghost use Rattle.c11_threads.specs.Runs.{IsRun, thread_of, start, run_of};
 ghost use Rattle.c11_threads.specs.Unrolled.{setting_of, runs_of};
 ghost use Rattle.c11_threads.specs.Faults.{IsRunFault};
 
-use crate::fault::RunFault;
+use crate::fault::{MOST_RUNS, RunFault};
 use crate::initial::initial_contents;
 use crate::progress::Progress;
 use crate::unroll::Setting;
@@ -68,6 +68,6 @@ pub fn runs(alloc: Global, test: &Test, thread: usize) -> Result<Vec<Run>, RunFa
     let values = test.values(alloc)?;
     let setting = within(test, thread, &values);
     let from = start(alloc, test, thread)?;
-    let ends = setting.perform_all(alloc, &no_places(), statements(test, thread), &from)?;
+    let ends = setting.perform_all(alloc, &no_places(), statements(test, thread), &from, MOST_RUNS)?;
     Ok(runs_from(alloc, &ends)?)
 }

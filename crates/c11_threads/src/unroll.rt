@@ -10,7 +10,7 @@ ghost use Rattle.c11_threads.specs.Unrolled.{giving, event, accesses, reading, p
 ghost use Rattle.c11_threads.specs.Faults.{IsFaultAt};
 
 use crate::content::{Content, content_of, joined, place_of};
-use crate::fault::{MOST_RUNS, RunFault};
+use crate::fault::RunFault;
 use crate::progress::Progress;
 use events::{Access, Event, Order, no_places};
 use litmus_c::{Call, Declarator, Expression, RightSide, Statement};
@@ -155,7 +155,8 @@ impl Setting<'_> {
         }
     }
 
-    /// The ways on that read each of the values by the event, and then have another event, if there is one.
+    /// The ways on that read each of the values by the event, and then have another event, if there is one; at
+    /// most so many.
     fn read_each(
         &self,
         alloc: Global,
@@ -163,31 +164,19 @@ impl Setting<'_> {
         read: Event,
         then: Option<Event>,
         register: Option<usize>,
+        most: usize,
     ) -> Result<Vec<Progress>, RunFault>
-        ensures done { IfOk result (λ v. (v.items ≡ read_runs self.now read then register from.now) × (length v.items ≤ 4096)) }
-        ensures fault { IfErr result (IsFaultAt self.now.thread (length (read_runs self.now read then register from.now))) }
+        ensures done { IfOk result (λ v. (v.items ≡ read_runs self.now read then register from.now) × (length v.items ≤ most)) }
+        ensures fault { IfErr result (IsFaultAt self.now.thread most (length (read_runs self.now read then register from.now))) }
     {
         let mut ends = Vec::new(alloc);
         for value in self.values {
-            if ends.len() >= MOST_RUNS {
+            if ends.len() >= most {
                 return Err(RunFault::TooManyRuns(self.thread));
             }
             ends.push(read_one(alloc, from, &read, *value, &then, register)?)?;
         }
         Ok(ends)
-    }
-
-    /// Adds further ways.
-    fn append(&self, ends: &mut Vec<Progress>, more: Vec<Progress>) -> Result<(), RunFault>
-        ensures done { OnOk result ((ends.new.items ≡ ends.old.items ++ more.items) × (length ends.new.items ≤ 4096)) }
-        ensures fault { IfErr result (IsFaultAt self.now.thread (length (ends.old.items ++ more.items))) }
-    {
-        let mut more = more;
-        if ends.len().saturating_add(more.len()) > MOST_RUNS {
-            return Err(RunFault::TooManyRuns(self.thread));
-        }
-        ends.append(&mut more)?;
-        Ok(())
     }
 
     /// The ways on of a call, whose value is given to the register, if there is one.
@@ -198,14 +187,16 @@ impl Setting<'_> {
         call: &Call,
         from: &Progress,
         register: Option<usize>,
+        most: usize,
     ) -> Result<Vec<Progress>, RunFault>
-        ensures done { IfOk result (λ v. (v.items ≡ call_runs self.now ctrl.now (action_of call.now) register from.now) × (length v.items ≤ 4096)) }
-        ensures fault { IfErr result (IsFaultAt self.now.thread (length (call_runs self.now ctrl.now (action_of call.now) register from.now))) }
+        requires { 1 ≤ most }
+        ensures done { IfOk result (λ v. (v.items ≡ call_runs self.now ctrl.now (action_of call.now) register from.now) × (length v.items ≤ most)) }
+        ensures fault { IfErr result (IsFaultAt self.now.thread most (length (call_runs self.now ctrl.now (action_of call.now) register from.now))) }
     {
         match call {
             Call::Load(location, order) => {
                 let read = self.access(ctrl, Access::Read, location, *order, Content::nothing());
-                self.read_each(alloc, from, read, None, register)
+                self.read_each(alloc, from, read, None, register, most)
             }
             Call::Store(location, expression, order) => {
                 let content = self.content(from, expression);
@@ -216,7 +207,7 @@ impl Setting<'_> {
                 let content = self.content(from, expression);
                 let write = self.access(ctrl, Access::ExWrite, location, *order, content);
                 let read = self.access(ctrl, Access::ExRead, location, *order, Content::nothing());
-                self.read_each(alloc, from, read, Some(write), register)
+                self.read_each(alloc, from, read, Some(write), register, most)
             }
             Call::Fence(order) => Ok(happen(alloc, from, self.fence(ctrl, *order), register)?),
         }
@@ -230,9 +221,11 @@ impl Setting<'_> {
         right: &RightSide,
         from: &Progress,
         register: usize,
+        most: usize,
     ) -> Result<Vec<Progress>, RunFault>
-        ensures done { IfOk result (λ v. (v.items ≡ right_runs self.now ctrl.now (right_of right.now) register from.now) × (length v.items ≤ 4096)) }
-        ensures fault { IfErr result (IsFaultAt self.now.thread (length (right_runs self.now ctrl.now (right_of right.now) register from.now))) }
+        requires { 1 ≤ most }
+        ensures done { IfOk result (λ v. (v.items ≡ right_runs self.now ctrl.now (right_of right.now) register from.now) × (length v.items ≤ most)) }
+        ensures fault { IfErr result (IsFaultAt self.now.thread most (length (right_runs self.now ctrl.now (right_of right.now) register from.now))) }
     {
         match right {
             RightSide::Value(expression) => {
@@ -241,9 +234,9 @@ impl Setting<'_> {
             }
             RightSide::Read(location) => {
                 let read = self.access(ctrl, Access::Read, location, Order::Na, Content::nothing());
-                self.read_each(alloc, from, read, None, Some(register))
+                self.read_each(alloc, from, read, None, Some(register), most)
             }
-            RightSide::Call(call) => self.call(alloc, ctrl, call, from, Some(register)),
+            RightSide::Call(call) => self.call(alloc, ctrl, call, from, Some(register), most),
         }
     }
 
@@ -254,32 +247,40 @@ impl Setting<'_> {
         ctrl: &Set,
         declarator: &Declarator,
         from: &Progress,
+        most: usize,
     ) -> Result<Vec<Progress>, RunFault>
-        ensures done { IfOk result (λ v. (v.items ≡ declare_runs self.now ctrl.now (declared_of declarator.now).register (declared_of declarator.now).value from.now) × (length v.items ≤ 4096)) }
-        ensures fault { IfErr result (IsFaultAt self.now.thread (length (declare_runs self.now ctrl.now (declared_of declarator.now).register (declared_of declarator.now).value from.now))) }
+        requires { 1 ≤ most }
+        ensures done { IfOk result (λ v. (v.items ≡ declare_runs self.now ctrl.now (declared_of declarator.now).register (declared_of declarator.now).value from.now) × (length v.items ≤ most)) }
+        ensures fault { IfErr result (IsFaultAt self.now.thread most (length (declare_runs self.now ctrl.now (declared_of declarator.now).register (declared_of declarator.now).value from.now))) }
     {
         let register = self.register(&declarator.register);
         match &declarator.value {
-            Some(right) => self.assign(alloc, ctrl, right, from, register),
+            Some(right) => self.assign(alloc, ctrl, right, from, register, most),
             None => Ok(given(alloc, from, register, Content::nothing())?),
         }
     }
 
-    /// Declares one register after each of the ways.
+    /// Declares one register after each of the ways. Each that still waits has an end, which leaves so much less room.
     fn declare_each(
         &self,
         alloc: Global,
         ctrl: &Set,
         declarator: &Declarator,
         starts: &[Progress],
+        most: usize,
     ) -> Result<Vec<Progress>, RunFault>
-        ensures done { IfOk result (λ v. (v.items ≡ flat_map (declare_runs self.now ctrl.now (declared_of declarator.now).register (declared_of declarator.now).value) starts.now) × (length v.items ≤ 4096)) }
-        ensures fault { IfErr result (IsFaultAt self.now.thread (length (flat_map (declare_runs self.now ctrl.now (declared_of declarator.now).register (declared_of declarator.now).value) starts.now))) }
+        requires values { 1 ≤ length self.now.values }
+        requires most { length starts.now ≤ most }
+        ensures done { IfOk result (λ v. (v.items ≡ flat_map (declare_runs self.now ctrl.now (declared_of declarator.now).register (declared_of declarator.now).value) starts.now) × (length v.items ≤ most)) }
+        ensures fault { IfErr result (IsFaultAt self.now.thread most (length (flat_map (declare_runs self.now ctrl.now (declared_of declarator.now).register (declared_of declarator.now).value) starts.now))) }
     {
         let mut ends = Vec::new(alloc);
+        let mut waiting = starts.len();
         for from in starts {
-            let more = self.declare(alloc, ctrl, declarator, from)?;
-            self.append(&mut ends, more)?;
+            waiting -= 1;
+            let room = most - ends.len() - waiting;
+            let mut more = self.declare(alloc, ctrl, declarator, from, room)?;
+            ends.append(&mut more)?;
         }
         Ok(ends)
     }
@@ -291,14 +292,16 @@ impl Setting<'_> {
         ctrl: &Set,
         declarators: &[Declarator],
         from: &Progress,
+        most: usize,
     ) -> Result<Vec<Progress>, RunFault>
-        requires { 1 ≤ length self.now.values }
-        ensures done { IfOk result (λ v. (v.items ≡ declares_runs self.now ctrl.now (map declared_of declarators.now) from.now) × (length v.items ≤ 4096)) }
-        ensures fault { IfErr result (IsFaultAt self.now.thread (length (declares_runs self.now ctrl.now (map declared_of declarators.now) from.now))) }
+        requires values { 1 ≤ length self.now.values }
+        requires most { 1 ≤ most }
+        ensures done { IfOk result (λ v. (v.items ≡ declares_runs self.now ctrl.now (map declared_of declarators.now) from.now) × (length v.items ≤ most)) }
+        ensures fault { IfErr result (IsFaultAt self.now.thread most (length (declares_runs self.now ctrl.now (map declared_of declarators.now) from.now))) }
     {
         let mut ends = single(alloc, from.copy(alloc)?)?;
         for declarator in declarators {
-            ends = self.declare_each(alloc, ctrl, declarator, &ends)?;
+            ends = self.declare_each(alloc, ctrl, declarator, &ends, most)?;
         }
         Ok(ends)
     }
@@ -311,43 +314,45 @@ impl Setting<'_> {
         ctrl: &Set,
         statement: &Statement,
         from: &Progress,
+        most: usize,
     ) -> Result<Vec<Progress>, RunFault>
-        requires { 1 ≤ length self.now.values }
-        ensures done { IfOk result (λ v. (v.items ≡ step_runs (step_of statement.now) self.now ctrl.now from.now) × (length v.items ≤ 4096)) }
-        ensures fault { IfErr result (IsFaultAt self.now.thread (length (step_runs (step_of statement.now) self.now ctrl.now from.now))) }
+        requires values { 1 ≤ length self.now.values }
+        requires most { 1 ≤ most }
+        ensures done { IfOk result (λ v. (v.items ≡ step_runs (step_of statement.now) self.now ctrl.now from.now) × (length v.items ≤ most)) }
+        ensures fault { IfErr result (IsFaultAt self.now.thread most (length (step_runs (step_of statement.now) self.now ctrl.now from.now))) }
     {
         match statement {
             Statement::Empty => Ok(single(alloc, from.copy(alloc)?)?),
             Statement::Block(statements) => {
-                self.perform_all(alloc, ctrl, statements.as_slice(), from)
+                self.perform_all(alloc, ctrl, statements.as_slice(), from, most)
             }
             Statement::Declare(declarators) => {
-                self.declare_all(alloc, ctrl, declarators.as_slice(), from)
+                self.declare_all(alloc, ctrl, declarators.as_slice(), from, most)
             }
             Statement::Assign(register, right) => {
-                self.assign(alloc, ctrl, right, from, self.register(register))
+                self.assign(alloc, ctrl, right, from, self.register(register), most)
             }
             Statement::Write(location, expression) => {
                 let content = self.content(from, expression);
                 let write = self.access(ctrl, Access::Write, location, Order::Na, content);
                 Ok(happen(alloc, from, write, None)?)
             }
-            Statement::Perform(call) => self.call(alloc, ctrl, call, from, None),
+            Statement::Perform(call) => self.call(alloc, ctrl, call, from, None, most),
             Statement::If(expression, first, second) => {
                 let test = self.content(from, expression);
                 let inside = joined(ctrl, &test.reads);
                 if test.value != 0 {
-                    return self.perform(alloc, &inside, first, from);
+                    return self.perform(alloc, &inside, first, from, most);
                 }
                 match second {
-                    Some(second) => self.perform(alloc, &inside, second, from),
+                    Some(second) => self.perform(alloc, &inside, second, from, most),
                     None => Ok(single(alloc, from.copy(alloc)?)?),
                 }
             }
         }
     }
 
-    /// Performs a statement after each of the ways.
+    /// Performs a statement after each of the ways. Each that still waits has an end, which leaves so much less room.
     #[cycle(performing)]
     fn perform_each(
         &self,
@@ -355,15 +360,20 @@ impl Setting<'_> {
         ctrl: &Set,
         statement: &Statement,
         starts: &[Progress],
+        most: usize,
     ) -> Result<Vec<Progress>, RunFault>
-        requires { 1 ≤ length self.now.values }
-        ensures done { IfOk result (λ v. (v.items ≡ flat_map (step_runs (step_of statement.now) self.now ctrl.now) starts.now) × (length v.items ≤ 4096)) }
-        ensures fault { IfErr result (IsFaultAt self.now.thread (length (flat_map (step_runs (step_of statement.now) self.now ctrl.now) starts.now))) }
+        requires values { 1 ≤ length self.now.values }
+        requires most { length starts.now ≤ most }
+        ensures done { IfOk result (λ v. (v.items ≡ flat_map (step_runs (step_of statement.now) self.now ctrl.now) starts.now) × (length v.items ≤ most)) }
+        ensures fault { IfErr result (IsFaultAt self.now.thread most (length (flat_map (step_runs (step_of statement.now) self.now ctrl.now) starts.now))) }
     {
         let mut ends = Vec::new(alloc);
+        let mut waiting = starts.len();
         for from in starts {
-            let more = self.perform(alloc, ctrl, statement, from)?;
-            self.append(&mut ends, more)?;
+            waiting -= 1;
+            let room = most - ends.len() - waiting;
+            let mut more = self.perform(alloc, ctrl, statement, from, room)?;
+            ends.append(&mut more)?;
         }
         Ok(ends)
     }
@@ -376,14 +386,16 @@ impl Setting<'_> {
         ctrl: &Set,
         statements: &[Statement],
         from: &Progress,
+        most: usize,
     ) -> Result<Vec<Progress>, RunFault>
-        requires { 1 ≤ length self.now.values }
-        ensures done { IfOk result (λ v. (v.items ≡ steps_runs (steps_of statements.now) self.now ctrl.now from.now) × (length v.items ≤ 4096)) }
-        ensures fault { IfErr result (IsFaultAt self.now.thread (length (steps_runs (steps_of statements.now) self.now ctrl.now from.now))) }
+        requires values { 1 ≤ length self.now.values }
+        requires most { 1 ≤ most }
+        ensures done { IfOk result (λ v. (v.items ≡ steps_runs (steps_of statements.now) self.now ctrl.now from.now) × (length v.items ≤ most)) }
+        ensures fault { IfErr result (IsFaultAt self.now.thread most (length (steps_runs (steps_of statements.now) self.now ctrl.now from.now))) }
     {
         let mut ends = single(alloc, from.copy(alloc)?)?;
         for statement in statements {
-            ends = self.perform_each(alloc, ctrl, statement, &ends)?;
+            ends = self.perform_each(alloc, ctrl, statement, &ends, most)?;
         }
         Ok(ends)
     }

@@ -6,7 +6,7 @@ use Rattle.c11_threads.proofs.unroll.Setting.declare_all.Goals as goal
 pub returns-in_err-ends-2-clause-fault : goal.returns-in_err-ends-2-clause-fault
 returns-in_err-ends-2-clause-fault c =
     let p = err_from_is_err_and c.from_residual-in_err-ends-2.result c.from_residual-in_err-ends-2.ensures.1 in
-    rw (p.1, p.2) (declare_fault c.args.self.now c.requires c.args.ctrl.now c.args.declarators.now c.loop-declarator.declarator-index c.declarator-item.result c.loop-declarator.ends.items c.deref.result.now _ c.in_err-ends-2.field-0.0
+    rw (p.1, p.2) (declare_fault c.args.self.now c.args.most c.requires.values c.args.ctrl.now c.args.declarators.now c.loop-declarator.declarator-index c.declarator-item.result c.loop-declarator.ends.items c.deref.result.now _ c.in_err-ends-2.field-0.0
     c.loop-declarator-test.true c.declarator-item.is c.deref.ensures.value c.loop-declarator.invariant.is c.in_err-ends-2.ensures.fault)
 
 pub loop-declarator-preserved : goal.loop-declarator-preserved

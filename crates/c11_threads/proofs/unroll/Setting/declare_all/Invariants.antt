@@ -7,5 +7,5 @@ use Rattle.c11_threads.proofs.unroll.Setting.declare_all.Given as goal
 abbrev pub invariant-loop-declarator : goal.invariant-loop-declarator
 invariant-loop-declarator l = record {
   is : flat_map (declares_runs l.self l.ctrl (map declared_of (drop l.declarator-index l.declarators))) l.ends.items ≡ declares_runs l.self l.ctrl (map declared_of l.declarators) l.from;
-  within : length l.ends.items ≤ 4096;
+  within : length l.ends.items ≤ l.most;
 }
