@@ -1,6 +1,6 @@
 -- Ways that are taken part by part.
 use Rattle.std.proofs.Common.{◌≡◌, ℕ, suc, ◌+◌, ◌≤◌, ◌<◌, List, [], ◌∷◌, ◌++◌, length, map, get_or, drop, drop-cons, add-one, refl, sym, ◌∙◌, ap, arith, append_assoc, append-nil, Option, None, Some, Bool, true, false, if◌then◌else◌, length-append}
-use Rattle.std.proofs.lemmas.List.{drop_all, length-drop, length-map}
+use Rattle.std.proofs.lemmas.List.{drop_all, length-map}
 use Rattle.std.proofs.lemmas.Grind.{flat_map-append}
 use Rattle.std.specs.List.{flat_map}
 use Rattle.relations.specs.Events.{EventSet}
@@ -35,15 +35,6 @@ still_fault k room most n m NoMemory l h = h
 
 drop_first : {A : Type 0} (a : A) (xs : List A) (i : ℕ) → i < length xs → a ≡ get_or xs i a → drop i xs ≡ a ∷ drop (i + 1) xs
 drop_first a xs i l e = rw add-one (drop-cons xs i a l ∙ ap (λ y. y ∷ drop (suc i) xs) (sym e))
-
--- The ways from one start more.
-pub next_start : (f : Ways) (starts : List Progress) (i : ℕ) (from : Progress) (done : List Progress) → i < length starts → from ≡ get_or starts i from → (done ++ f from) ++ flat_map f (drop (i + 1) starts) ≡ done ++ flat_map f (drop i starts)
-next_start f starts i from done l is =
-    append_assoc done (f from) (flat_map f (drop (i + 1) starts))
-    ∙ ap (λ (ps : List Progress). done ++ flat_map f ps) (sym (drop_first from starts i l is))
-
-pub all_starts : (f : Ways) (starts : List Progress) (i : ℕ) (done : List Progress) → length starts ≤ i → done ++ flat_map f (drop i starts) ≡ done
-all_starts f starts i done l = ap (λ (ps : List Progress). done ++ flat_map f ps) (drop_all i starts l) ∙ append-nil done
 
 -- Each way has an end.
 some_call : (s : Setting) → 1 ≤ length s.values → (c : EventSet) (a : Action) (r : Option ℕ) (p : Progress) → 1 ≤ length (call_runs s c a r p)
@@ -84,14 +75,23 @@ mutual
   some_steps no_steps s v c p = omega arith
   some_steps (in_turn a rest) s v c p = omega (arith, some_step a s v c p, some_flat_map (steps_runs rest s c) (step_runs a s c p) (some_steps rest s v c))
 
--- What comes from one start, where each that waits has an end.
-pub start_fault : (f : Ways) → ((p : Progress) → 1 ≤ length (f p)) → (k room most waiting : ℕ) (starts : List Progress) (i : ℕ) (from : Progress) (done all : List Progress) (e : RunFault) → i < length starts → from ≡ get_or starts i from → done ++ flat_map f (drop i starts) ≡ all →
-    waiting + suc i ≡ length starts → room + length done + waiting ≡ most → IsFaultAt k room (length (f from)) e → IsFaultAt k most (length all) e
-start_fault f some k room most waiting starts i from done all e l is whole w r h =
-    let x = next_start f starts i from done l is ∙ whole in
-    let rest = drop (i + 1) starts in
+-- From each of the ways in turn: one is taken, and the rest are left.
+
+pub next_way : (f : Ways) (left rest : List Progress) (from : Progress) (done all : List Progress) → left ≡ from ∷ rest → done ++ flat_map f left ≡ all → (done ++ f from) ++ flat_map f rest ≡ all
+next_way f left rest from done all is whole =
+    append_assoc done (f from) (flat_map f rest) ∙ ap (λ (ps : List Progress). done ++ flat_map f ps) (sym is) ∙ whole
+
+pub last_way : (f : Ways) (left done all : List Progress) → length left ≡ 0 → done ++ flat_map f left ≡ all → done ≡ all
+last_way f [] done all none whole = sym (append-nil done) ∙ whole
+last_way f (p ∷ left) done all none whole = absurd (omega (arith, none))
+
+-- Each way that is left has an end.
+pub way_fault : (f : Ways) → ((p : Progress) → 1 ≤ length (f p)) → (k room most waiting : ℕ) (left rest : List Progress) (from : Progress) (done all : List Progress) (e : RunFault) → left ≡ from ∷ rest → done ++ flat_map f left ≡ all →
+    waiting ≡ length rest → room + length done + waiting ≡ most → IsFaultAt k room (length (f from)) e → IsFaultAt k most (length all) e
+way_fault f some k room most waiting left rest from done all e is whole w r h =
+    let x = next_way f left rest from done all is whole in
     still_fault k room most (length (f from)) (length all) e
-    (omega (arith, ap (λ (ps : List Progress). length ps) x, length-append (done ++ f from) (flat_map f rest), length-append done (f from), some_flat_map f rest some, length-drop (i + 1) starts, w, r)) h
+    (omega (arith, ap (λ (ps : List Progress). length ps) x, length-append (done ++ f from) (flat_map f rest), length-append done (f from), some_flat_map f rest some, w, r)) h
 
 -- One statement more.
 pub turn : (s : Setting) (c : EventSet) (statements : List Statement) (i : ℕ) (a : Statement) (ends : List Progress) → i < length statements → a ≡ get_or statements i a → flat_map (steps_runs (steps_of (drop (i + 1) statements)) s c) (flat_map (step_runs (step_of a) s c) ends) ≡ flat_map (steps_runs (steps_of (drop i statements)) s c) ends
@@ -106,17 +106,17 @@ turned s c statements i ends l = ap (λ (as' : List Statement). flat_map (steps_
 pub at_start : (s : Setting) (c : EventSet) (statements : List Statement) (from : Progress) (ends : List Progress) → ends ≡ from ∷ [] → flat_map (steps_runs (steps_of statements) s c) ends ≡ steps_runs (steps_of statements) s c from
 at_start s c statements from ends e = ap (flat_map (steps_runs (steps_of statements) s c)) e ∙ flat_map_alone (steps_runs (steps_of statements) s c) from
 
-pub further : (s : Setting) (c : EventSet) (statements : List Statement) (i : ℕ) (a : Statement) (ends starts next all : List Progress) → i < length statements → a ≡ get_or statements i a → starts ≡ ends → next ≡ flat_map (step_runs (step_of a) s c) starts → flat_map (steps_runs (steps_of (drop i statements)) s c) ends ≡ all → flat_map (steps_runs (steps_of (drop (i + 1) statements)) s c) next ≡ all
-further s c statements i a ends starts next all l is from done whole =
-    ap (flat_map (steps_runs (steps_of (drop (i + 1) statements)) s c)) (done ∙ ap (flat_map (step_runs (step_of a) s c)) from)
+pub further : (s : Setting) (c : EventSet) (statements : List Statement) (i : ℕ) (a : Statement) (ends next all : List Progress) → i < length statements → a ≡ get_or statements i a → next ≡ flat_map (step_runs (step_of a) s c) ends → flat_map (steps_runs (steps_of (drop i statements)) s c) ends ≡ all → flat_map (steps_runs (steps_of (drop (i + 1) statements)) s c) next ≡ all
+further s c statements i a ends next all l is done whole =
+    ap (flat_map (steps_runs (steps_of (drop (i + 1) statements)) s c)) done
     ∙ turn s c statements i a ends l is ∙ whole
 
 -- A fault at one statement is a fault of all.
-pub turn_fault : (s : Setting) (most : ℕ) → 1 ≤ length s.values → (c : EventSet) (statements : List Statement) (i : ℕ) (a : Statement) (ends starts all : List Progress) (e : RunFault) → i < length statements → a ≡ get_or statements i a → starts ≡ ends → flat_map (steps_runs (steps_of (drop i statements)) s c) ends ≡ all → IsFaultAt s.thread most (length (flat_map (step_runs (step_of a) s c) starts)) e → IsFaultAt s.thread most (length all) e
-turn_fault s most v c statements i a ends starts all e l is from whole h =
-    let done = flat_map (step_runs (step_of a) s c) starts in
+pub turn_fault : (s : Setting) (most : ℕ) → 1 ≤ length s.values → (c : EventSet) (statements : List Statement) (i : ℕ) (a : Statement) (ends all : List Progress) (e : RunFault) → i < length statements → a ≡ get_or statements i a → flat_map (steps_runs (steps_of (drop i statements)) s c) ends ≡ all → IsFaultAt s.thread most (length (flat_map (step_runs (step_of a) s c) ends)) e → IsFaultAt s.thread most (length all) e
+turn_fault s most v c statements i a ends all e l is whole h =
+    let done = flat_map (step_runs (step_of a) s c) ends in
     let rest = steps_runs (steps_of (drop (i + 1) statements)) s c in
-    let t = further s c statements i a ends starts done all l is from refl whole in
+    let t = further s c statements i a ends done all l is refl whole in
     still_fault s.thread most most (length done) (length all) e
     (omega (arith, some_flat_map rest done (some_steps (steps_of (drop (i + 1) statements)) s v c), ap (λ (ps : List Progress). length ps) t)) h
 
@@ -132,15 +132,15 @@ declares_turned s c ds i ends l = ap (λ (es : List Declarator). flat_map (decla
 pub declares_at_start : (s : Setting) (c : EventSet) (ds : List Declarator) (from : Progress) (ends : List Progress) → ends ≡ from ∷ [] → flat_map (declares_runs s c (map declared_of ds)) ends ≡ declares_runs s c (map declared_of ds) from
 declares_at_start s c ds from ends e = ap (flat_map (declares_runs s c (map declared_of ds))) e ∙ flat_map_alone (declares_runs s c (map declared_of ds)) from
 
-pub declared_further : (s : Setting) (c : EventSet) (ds : List Declarator) (i : ℕ) (d : Declarator) (ends starts next all : List Progress) → i < length ds → d ≡ get_or ds i d → starts ≡ ends → next ≡ flat_map (declare_runs s c (declared_of d).register (declared_of d).value) starts → flat_map (declares_runs s c (map declared_of (drop i ds))) ends ≡ all → flat_map (declares_runs s c (map declared_of (drop (i + 1) ds))) next ≡ all
-declared_further s c ds i d ends starts next all l is from done whole =
-    ap (flat_map (declares_runs s c (map declared_of (drop (i + 1) ds)))) (done ∙ ap (flat_map (declare_runs s c (declared_of d).register (declared_of d).value)) from)
+pub declared_further : (s : Setting) (c : EventSet) (ds : List Declarator) (i : ℕ) (d : Declarator) (ends next all : List Progress) → i < length ds → d ≡ get_or ds i d → next ≡ flat_map (declare_runs s c (declared_of d).register (declared_of d).value) ends → flat_map (declares_runs s c (map declared_of (drop i ds))) ends ≡ all → flat_map (declares_runs s c (map declared_of (drop (i + 1) ds))) next ≡ all
+declared_further s c ds i d ends next all l is done whole =
+    ap (flat_map (declares_runs s c (map declared_of (drop (i + 1) ds)))) done
     ∙ declare_turn s c ds i d ends l is ∙ whole
 
-pub declare_fault : (s : Setting) (most : ℕ) → 1 ≤ length s.values → (c : EventSet) (ds : List Declarator) (i : ℕ) (d : Declarator) (ends starts all : List Progress) (e : RunFault) → i < length ds → d ≡ get_or ds i d → starts ≡ ends → flat_map (declares_runs s c (map declared_of (drop i ds))) ends ≡ all → IsFaultAt s.thread most (length (flat_map (declare_runs s c (declared_of d).register (declared_of d).value) starts)) e → IsFaultAt s.thread most (length all) e
-declare_fault s most v c ds i d ends starts all e l is from whole h =
-    let done = flat_map (declare_runs s c (declared_of d).register (declared_of d).value) starts in
+pub declare_fault : (s : Setting) (most : ℕ) → 1 ≤ length s.values → (c : EventSet) (ds : List Declarator) (i : ℕ) (d : Declarator) (ends all : List Progress) (e : RunFault) → i < length ds → d ≡ get_or ds i d → flat_map (declares_runs s c (map declared_of (drop i ds))) ends ≡ all → IsFaultAt s.thread most (length (flat_map (declare_runs s c (declared_of d).register (declared_of d).value) ends)) e → IsFaultAt s.thread most (length all) e
+declare_fault s most v c ds i d ends all e l is whole h =
+    let done = flat_map (declare_runs s c (declared_of d).register (declared_of d).value) ends in
     let rest = declares_runs s c (map declared_of (drop (i + 1) ds)) in
-    let t = declared_further s c ds i d ends starts done all l is from refl whole in
+    let t = declared_further s c ds i d ends done all l is refl whole in
     still_fault s.thread most most (length done) (length all) e
     (omega (arith, some_flat_map rest done (some_declares s v c (map declared_of (drop (i + 1) ds))), ap (λ (ps : List Progress). length ps) t)) h

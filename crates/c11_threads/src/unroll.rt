@@ -46,13 +46,13 @@ fn single(alloc: Global, end: Progress) -> Result<Vec<Progress>, AllocError>
 /// The way on that gives the content to the register.
 fn given(
     alloc: Global,
-    from: &Progress,
+    from: Progress,
     register: usize,
     content: Content,
 ) -> Result<Vec<Progress>, AllocError>
-    ensures { IfOk result (λ v. v.items ≡ giving (Some register) content from.now ∷ []) }
+    ensures { IfOk result (λ v. v.items ≡ giving (Some register) content from ∷ []) }
 {
-    let mut end = from.copy(alloc)?;
+    let mut end = from;
     end.give(Some(register), content);
     single(alloc, end)
 }
@@ -60,13 +60,13 @@ fn given(
 /// The way on that has the event and gives 0 to the register, if there is one.
 fn happen(
     alloc: Global,
-    from: &Progress,
+    from: Progress,
     event: Event,
     register: Option<usize>,
 ) -> Result<Vec<Progress>, AllocError>
-    ensures { IfOk result (λ v. v.items ≡ event_runs event register from.now) }
+    ensures { IfOk result (λ v. v.items ≡ event_runs event register from) }
 {
-    let mut end = from.copy(alloc)?;
+    let mut end = from;
     end.push(event)?;
     end.give(register, Content::nothing());
     single(alloc, end)
@@ -160,21 +160,21 @@ impl Setting<'_> {
     fn read_each(
         &self,
         alloc: Global,
-        from: &Progress,
+        from: Progress,
         read: Event,
         then: Option<Event>,
         register: Option<usize>,
         most: usize,
     ) -> Result<Vec<Progress>, RunFault>
-        ensures done { IfOk result (λ v. (v.items ≡ read_runs self.now read then register from.now) × (length v.items ≤ most)) }
-        ensures fault { IfErr result (IsFaultAt self.now.thread most (length (read_runs self.now read then register from.now))) }
+        ensures done { IfOk result (λ v. (v.items ≡ read_runs self.now read then register from) × (length v.items ≤ most)) }
+        ensures fault { IfErr result (IsFaultAt self.now.thread most (length (read_runs self.now read then register from))) }
     {
         let mut ends = Vec::new(alloc);
         for value in self.values {
             if ends.len() >= most {
                 return Err(RunFault::TooManyRuns(self.thread));
             }
-            ends.push(read_one(alloc, from, &read, *value, &then, register)?)?;
+            ends.push(read_one(alloc, &from, &read, *value, &then, register)?)?;
         }
         Ok(ends)
     }
@@ -185,13 +185,13 @@ impl Setting<'_> {
         alloc: Global,
         ctrl: &Set,
         call: &Call,
-        from: &Progress,
+        from: Progress,
         register: Option<usize>,
         most: usize,
     ) -> Result<Vec<Progress>, RunFault>
         requires { 1 ≤ most }
-        ensures done { IfOk result (λ v. (v.items ≡ call_runs self.now ctrl.now (action_of call.now) register from.now) × (length v.items ≤ most)) }
-        ensures fault { IfErr result (IsFaultAt self.now.thread most (length (call_runs self.now ctrl.now (action_of call.now) register from.now))) }
+        ensures done { IfOk result (λ v. (v.items ≡ call_runs self.now ctrl.now (action_of call.now) register from) × (length v.items ≤ most)) }
+        ensures fault { IfErr result (IsFaultAt self.now.thread most (length (call_runs self.now ctrl.now (action_of call.now) register from))) }
     {
         match call {
             Call::Load(location, order) => {
@@ -199,12 +199,12 @@ impl Setting<'_> {
                 self.read_each(alloc, from, read, None, register, most)
             }
             Call::Store(location, expression, order) => {
-                let content = self.content(from, expression);
+                let content = self.content(&from, expression);
                 let write = self.access(ctrl, Access::Write, location, *order, content);
                 Ok(happen(alloc, from, write, register)?)
             }
             Call::Exchange(location, expression, order) => {
-                let content = self.content(from, expression);
+                let content = self.content(&from, expression);
                 let write = self.access(ctrl, Access::ExWrite, location, *order, content);
                 let read = self.access(ctrl, Access::ExRead, location, *order, Content::nothing());
                 self.read_each(alloc, from, read, Some(write), register, most)
@@ -219,17 +219,17 @@ impl Setting<'_> {
         alloc: Global,
         ctrl: &Set,
         right: &RightSide,
-        from: &Progress,
+        from: Progress,
         register: usize,
         most: usize,
     ) -> Result<Vec<Progress>, RunFault>
         requires { 1 ≤ most }
-        ensures done { IfOk result (λ v. (v.items ≡ right_runs self.now ctrl.now (right_of right.now) register from.now) × (length v.items ≤ most)) }
-        ensures fault { IfErr result (IsFaultAt self.now.thread most (length (right_runs self.now ctrl.now (right_of right.now) register from.now))) }
+        ensures done { IfOk result (λ v. (v.items ≡ right_runs self.now ctrl.now (right_of right.now) register from) × (length v.items ≤ most)) }
+        ensures fault { IfErr result (IsFaultAt self.now.thread most (length (right_runs self.now ctrl.now (right_of right.now) register from))) }
     {
         match right {
             RightSide::Value(expression) => {
-                let content = self.content(from, expression);
+                let content = self.content(&from, expression);
                 Ok(given(alloc, from, register, content)?)
             }
             RightSide::Read(location) => {
@@ -246,12 +246,12 @@ impl Setting<'_> {
         alloc: Global,
         ctrl: &Set,
         declarator: &Declarator,
-        from: &Progress,
+        from: Progress,
         most: usize,
     ) -> Result<Vec<Progress>, RunFault>
         requires { 1 ≤ most }
-        ensures done { IfOk result (λ v. (v.items ≡ declare_runs self.now ctrl.now (declared_of declarator.now).register (declared_of declarator.now).value from.now) × (length v.items ≤ most)) }
-        ensures fault { IfErr result (IsFaultAt self.now.thread most (length (declare_runs self.now ctrl.now (declared_of declarator.now).register (declared_of declarator.now).value from.now))) }
+        ensures done { IfOk result (λ v. (v.items ≡ declare_runs self.now ctrl.now (declared_of declarator.now).register (declared_of declarator.now).value from) × (length v.items ≤ most)) }
+        ensures fault { IfErr result (IsFaultAt self.now.thread most (length (declare_runs self.now ctrl.now (declared_of declarator.now).register (declared_of declarator.now).value from))) }
     {
         let register = self.register(&declarator.register);
         match &declarator.value {
@@ -266,13 +266,13 @@ impl Setting<'_> {
         alloc: Global,
         ctrl: &Set,
         declarator: &Declarator,
-        starts: &[Progress],
+        starts: Vec<Progress>,
         most: usize,
     ) -> Result<Vec<Progress>, RunFault>
         requires values { 1 ≤ length self.now.values }
-        requires most { length starts.now ≤ most }
-        ensures done { IfOk result (λ v. (v.items ≡ flat_map (declare_runs self.now ctrl.now (declared_of declarator.now).register (declared_of declarator.now).value) starts.now) × (length v.items ≤ most)) }
-        ensures fault { IfErr result (IsFaultAt self.now.thread most (length (flat_map (declare_runs self.now ctrl.now (declared_of declarator.now).register (declared_of declarator.now).value) starts.now))) }
+        requires most { length starts.items ≤ most }
+        ensures done { IfOk result (λ v. (v.items ≡ flat_map (declare_runs self.now ctrl.now (declared_of declarator.now).register (declared_of declarator.now).value) starts.items) × (length v.items ≤ most)) }
+        ensures fault { IfErr result (IsFaultAt self.now.thread most (length (flat_map (declare_runs self.now ctrl.now (declared_of declarator.now).register (declared_of declarator.now).value) starts.items))) }
     {
         let mut ends = Vec::new(alloc);
         let mut waiting = starts.len();
@@ -291,17 +291,17 @@ impl Setting<'_> {
         alloc: Global,
         ctrl: &Set,
         declarators: &[Declarator],
-        from: &Progress,
+        from: Progress,
         most: usize,
     ) -> Result<Vec<Progress>, RunFault>
         requires values { 1 ≤ length self.now.values }
         requires most { 1 ≤ most }
-        ensures done { IfOk result (λ v. (v.items ≡ declares_runs self.now ctrl.now (map declared_of declarators.now) from.now) × (length v.items ≤ most)) }
-        ensures fault { IfErr result (IsFaultAt self.now.thread most (length (declares_runs self.now ctrl.now (map declared_of declarators.now) from.now))) }
+        ensures done { IfOk result (λ v. (v.items ≡ declares_runs self.now ctrl.now (map declared_of declarators.now) from) × (length v.items ≤ most)) }
+        ensures fault { IfErr result (IsFaultAt self.now.thread most (length (declares_runs self.now ctrl.now (map declared_of declarators.now) from))) }
     {
-        let mut ends = single(alloc, from.copy(alloc)?)?;
+        let mut ends = single(alloc, from)?;
         for declarator in declarators {
-            ends = self.declare_each(alloc, ctrl, declarator, &ends, most)?;
+            ends = self.declare_each(alloc, ctrl, declarator, ends, most)?;
         }
         Ok(ends)
     }
@@ -313,16 +313,16 @@ impl Setting<'_> {
         alloc: Global,
         ctrl: &Set,
         statement: &Statement,
-        from: &Progress,
+        from: Progress,
         most: usize,
     ) -> Result<Vec<Progress>, RunFault>
         requires values { 1 ≤ length self.now.values }
         requires most { 1 ≤ most }
-        ensures done { IfOk result (λ v. (v.items ≡ step_runs (step_of statement.now) self.now ctrl.now from.now) × (length v.items ≤ most)) }
-        ensures fault { IfErr result (IsFaultAt self.now.thread most (length (step_runs (step_of statement.now) self.now ctrl.now from.now))) }
+        ensures done { IfOk result (λ v. (v.items ≡ step_runs (step_of statement.now) self.now ctrl.now from) × (length v.items ≤ most)) }
+        ensures fault { IfErr result (IsFaultAt self.now.thread most (length (step_runs (step_of statement.now) self.now ctrl.now from))) }
     {
         match statement {
-            Statement::Empty => Ok(single(alloc, from.copy(alloc)?)?),
+            Statement::Empty => Ok(single(alloc, from)?),
             Statement::Block(statements) => {
                 self.perform_all(alloc, ctrl, statements.as_slice(), from, most)
             }
@@ -333,20 +333,20 @@ impl Setting<'_> {
                 self.assign(alloc, ctrl, right, from, self.register(register), most)
             }
             Statement::Write(location, expression) => {
-                let content = self.content(from, expression);
+                let content = self.content(&from, expression);
                 let write = self.access(ctrl, Access::Write, location, Order::Na, content);
                 Ok(happen(alloc, from, write, None)?)
             }
             Statement::Perform(call) => self.call(alloc, ctrl, call, from, None, most),
             Statement::If(expression, first, second) => {
-                let test = self.content(from, expression);
+                let test = self.content(&from, expression);
                 let inside = joined(ctrl, &test.reads);
                 if test.value != 0 {
                     return self.perform(alloc, &inside, first, from, most);
                 }
                 match second {
                     Some(second) => self.perform(alloc, &inside, second, from, most),
-                    None => Ok(single(alloc, from.copy(alloc)?)?),
+                    None => Ok(single(alloc, from)?),
                 }
             }
         }
@@ -359,13 +359,13 @@ impl Setting<'_> {
         alloc: Global,
         ctrl: &Set,
         statement: &Statement,
-        starts: &[Progress],
+        starts: Vec<Progress>,
         most: usize,
     ) -> Result<Vec<Progress>, RunFault>
         requires values { 1 ≤ length self.now.values }
-        requires most { length starts.now ≤ most }
-        ensures done { IfOk result (λ v. (v.items ≡ flat_map (step_runs (step_of statement.now) self.now ctrl.now) starts.now) × (length v.items ≤ most)) }
-        ensures fault { IfErr result (IsFaultAt self.now.thread most (length (flat_map (step_runs (step_of statement.now) self.now ctrl.now) starts.now))) }
+        requires most { length starts.items ≤ most }
+        ensures done { IfOk result (λ v. (v.items ≡ flat_map (step_runs (step_of statement.now) self.now ctrl.now) starts.items) × (length v.items ≤ most)) }
+        ensures fault { IfErr result (IsFaultAt self.now.thread most (length (flat_map (step_runs (step_of statement.now) self.now ctrl.now) starts.items))) }
     {
         let mut ends = Vec::new(alloc);
         let mut waiting = starts.len();
@@ -385,17 +385,17 @@ impl Setting<'_> {
         alloc: Global,
         ctrl: &Set,
         statements: &[Statement],
-        from: &Progress,
+        from: Progress,
         most: usize,
     ) -> Result<Vec<Progress>, RunFault>
         requires values { 1 ≤ length self.now.values }
         requires most { 1 ≤ most }
-        ensures done { IfOk result (λ v. (v.items ≡ steps_runs (steps_of statements.now) self.now ctrl.now from.now) × (length v.items ≤ most)) }
-        ensures fault { IfErr result (IsFaultAt self.now.thread most (length (steps_runs (steps_of statements.now) self.now ctrl.now from.now))) }
+        ensures done { IfOk result (λ v. (v.items ≡ steps_runs (steps_of statements.now) self.now ctrl.now from) × (length v.items ≤ most)) }
+        ensures fault { IfErr result (IsFaultAt self.now.thread most (length (steps_runs (steps_of statements.now) self.now ctrl.now from))) }
     {
-        let mut ends = single(alloc, from.copy(alloc)?)?;
+        let mut ends = single(alloc, from)?;
         for statement in statements {
-            ends = self.perform_each(alloc, ctrl, statement, &ends, most)?;
+            ends = self.perform_each(alloc, ctrl, statement, ends, most)?;
         }
         Ok(ends)
     }
