@@ -1,15 +1,21 @@
 -- The events of a run are few, and at locations of the test.
-use Rattle.std.proofs.Common.{◌≡◌, ℕ, zero, suc, ◌<◌, ◌≤◌, ◌⊎◌, List, [], ◌∷◌, length, get_or, refl, sym, subst, inl, inr, arith, Bool, true, false, Option, None, Some, length-append}
+use Rattle.std.proofs.Common.{◌≡◌, ℕ, zero, suc, ◌+◌, ◌<◌, ◌≤◌, ◌⊎◌, List, [], ◌∷◌, ◌++◌, length, get_or, refl, sym, ◌∙◌, ap, subst, inl, inr, arith, append_assoc, append-nil, Bool, true, false, Option, None, Some, length-append}
+use Rattle.std.specs.Prelude.{max}
 use Rattle.std.proofs.lemmas.List.Elements.{All-nil, All-cons, All-head, All-tail, All-append}
 use Rattle.std.proofs.lemmas.List.Sums.{sum_by-cons}
 use Rattle.std.proofs.lemmas.Slice.Eq.{bytes_eq-Decides}
 use Rattle.std.specs.List.{sum_by, All, Contains}
 use Rattle.std.specs.Str.{bytes_eq}
+use Rattle.events.specs.declared.event.Access.TheVariants.{Read, Write, ExRead, ExWrite}
 use Rattle.events.specs.declared.event.Event.{Event}
+use Rattle.events.specs.declared.event.Order.TheVariants.{Na}
 use Rattle.events.specs.Executions.{ThreadRun}
-use Rattle.litmus_c.specs.Tree.{Word, Action, load, store, Right, value_of, Step, empty, declare, assign, perform, Litmus}
-use Rattle.litmus_c.specs.Limits.{right_events, optional_events, step_events, program_events, location_of, RightNames, OptionalNames, StepNames, ProgramNames}
-use Rattle.c11_threads.specs.Runs.{place_of, Calls, Gives, InTurn, DeclaresAs, Declares, Performs, thread_of, IsRun}
+use Rattle.litmus_c.specs.Tree.{Word, Action, load, store, exchange, fence, Right, computed, plain_read, value_of, Declared, Step, empty, block, declare, assign, plain_write, perform, if_only, if_else, Steps, no_steps, in_turn}
+use Rattle.litmus_c.specs.Limits.{action_events, right_events, optional_events, step_events, steps_events, program_events, ActionNames, RightNames, OptionalNames, StepNames, StepsNames}
+use Rattle.c11_threads.specs.declared.content.Content.{Content}
+use Rattle.c11_threads.specs.Contents.{place_of, is_true}
+use Rattle.c11_threads.specs.Runs.{Progress, after, Site, thread_of, names, given_by, inside, reads_from, writes_into, fences, Calls, Gives, Assigns, Declares, DeclaresAll, Branches, Performs, PerformsAll, body, start}
+use Rattle.c11_threads.specs.Bounds.{IsPlaced, AreFew, Bounding}
 
 test : (b : Bool) → (b ≡ true) ⊎ (b ≡ false)
 test true = inl refl
@@ -31,51 +37,106 @@ place_below w (name ∷ names) (suc k) l e = elim (test (bytes_eq name w)) [
   | inr f ↦ omega (arith, place_no w name names f, place_below w names k (omega (arith, l)) e)
 ]
 
--- at most n events, each at one of m locations
-pub record AreFew (n m : ℕ) (events : List Event) : Type 0 where
-  pub count : length events ≤ n
-  pub places : All (λ e. e.loc < m) events
+-- q comes after p by events such as AreFew says.
+pub record Adds (n m : ℕ) (p q : Progress) : Type 0 where
+  pub more : List Event
+  pub is : q.events ≡ p.events ++ more
+  pub few : AreFew n m more
 
-no_events : (n m : ℕ) (events : List Event) → events ≡ [] → AreFew n m events
-no_events n m events e = let P : List Event → Type 0 = AreFew n m in subst P (sym e) (record { count = omega arith; places = All-nil (λ e. e.loc < m) })
+no_more : (n m : ℕ) (p q : Progress) → q.events ≡ p.events → Adds n m p q
+no_more n m p q e = record { more = []; is = e ∙ sym (append-nil p.events); few = record { count = omega arith; places = All-nil (IsPlaced m) } }
 
-one_event : (m : ℕ) (e : Event) (events : List Event) → e.loc < m → events ≡ e ∷ [] → AreFew 1 m events
-one_event m e events l is =
-    let P : List Event → Type 0 = AreFew 1 m in
-    let Q : Event → Type 0 = λ e. e.loc < m in
-    subst P (sym is) (record { count = omega arith; places = All-cons Q e [] l (All-nil Q) })
+one_more : (m : ℕ) (p q : Progress) (e : Event) → IsPlaced m e → q ≡ after p (e ∷ []) → Adds 1 m p q
+one_more m p q e l h = record {
+  more = e ∷ [];
+  is = ap (λ (r : Progress). r.events) h;
+  few = record { count = omega arith; places = All-cons (IsPlaced m) e [] l (All-nil (IsPlaced m)) };
+}
 
-few_calls : (t : Litmus) (k : ℕ) (a : Action) (events : List Event) (v : ℕ) → Contains t.locations (location_of a) → Calls t k a events v → AreFew 1 (length t.locations) events
-few_calls t k (load x o) events v c h = one_event (length t.locations) _ events (place_below x t.locations c.0 c.1 c.2) h.1
-few_calls t k (store x e o) events v c h = one_event (length t.locations) _ events (place_below x t.locations c.0 c.1 c.2) h.0
+two_more : (m : ℕ) (p q : Progress) (e f : Event) → IsPlaced m e → IsPlaced m f → q ≡ after p (e ∷ f ∷ []) → Adds 2 m p q
+two_more m p q e f l k h = record {
+  more = e ∷ f ∷ [];
+  is = ap (λ (r : Progress). r.events) h;
+  few = record { count = omega arith; places = All-cons (IsPlaced m) e (f ∷ []) l (All-cons (IsPlaced m) f [] k (All-nil (IsPlaced m))) };
+}
 
-few_gives : (t : Litmus) (k : ℕ) (r : Right) (events : List Event) (v : ℕ) → RightNames t.locations r → Gives t k r events v → AreFew (right_events r) (length t.locations) events
-few_gives t k (value_of a) events v c h = few_calls t k a events v c h
+then_more : (n k m : ℕ) (p r q : Progress) → Adds n m p r → Adds k m r q → Adds (n + k) m p q
+then_more n k m p r q a b = record {
+  more = a.more ++ b.more;
+  is = b.is ∙ ap (λ (es : List Event). es ++ b.more) a.is ∙ append_assoc p.events a.more b.more;
+  few = record { count = omega (arith, length-append a.more b.more, a.few.count, b.few.count); places = All-append (IsPlaced m) a.more b.more a.few.places b.few.places };
+}
 
-few_declares_as : (t : Litmus) (k : ℕ) (names : List Word) (r : Word) (right : Option Right) (s : List ℕ) (events : List Event) (s' : List ℕ) → OptionalNames t.locations right → DeclaresAs t k names r right s events s' → AreFew (optional_events right) (length t.locations) events
-few_declares_as t k names r None s events s' c h = no_events 0 (length t.locations) events h.0
-few_declares_as t k names r (Some right) s events s' c h = few_gives t k right events h.0 c h.1
+fewer : (n k m : ℕ) (p q : Progress) → n ≤ k → Adds n m p q → Adds k m p q
+fewer n k m p q l a = record { more = a.more; is = a.is; few = record { count = omega (arith, a.few.count, l); places = a.few.places } }
 
-in_turn_few : {A : Type 0} (R : A → List ℕ → List Event → List ℕ → Type 0) (P : A → Type 0) (size : A → ℕ) (m : ℕ) → ((a : A) (s : List ℕ) (events : List Event) (s' : List ℕ) → P a → R a s events s' → AreFew (size a) m events) → (as' : List A) (s : List ℕ) (events : List Event) (s' : List ℕ) → All P as' → InTurn R as' s events s' → AreFew (sum_by size as') m events
-in_turn_few R P size m each [] s events s' h r = no_events (sum_by size []) m events r.0
-in_turn_few {A} R P size m each (a ∷ rest) s events s' h r =
-    let p = each a s r.0 r.2 (All-head P a rest h) r.3 in
-    let q = in_turn_few R P size m each rest r.2 r.1 s' (All-tail P a rest h) r.4 in
-    let L : List Event → Type 0 = AreFew (sum_by size (a ∷ rest)) m in
-    subst L (sym r.5) (record {
-      count = omega (arith, length-append r.0 r.1, sum_by-cons size a rest, p.count, q.count);
-      places = All-append (λ e. e.loc < m) r.0 r.1 p.places q.places;
-    })
+same_events : (n m : ℕ) (p r q : Progress) → q.events ≡ r.events → Adds n m p r → Adds n m p q
+same_events n m p r q e a = record { more = a.more; is = e ∙ a.is; few = a.few }
 
-few_performs : (t : Litmus) (k : ℕ) (names : List Word) (step : Step) (s : List ℕ) (events : List Event) (s' : List ℕ) → StepNames t.locations names step → Performs t k names step s events s' → AreFew (step_events step) (length t.locations) events
-few_performs t k names empty s events s' c h = no_events 0 (length t.locations) events h.0
-few_performs t k names (declare ds) s events s' c h =
-    in_turn_few (Declares t k names) (λ d. Contains names d.register × OptionalNames t.locations d.value) (λ d. optional_events d.value) (length t.locations)
-    (λ d u es u' p r. few_declares_as t k names d.register d.value u es u' p.1 r) ds s events s' c h
-few_performs t k names (assign r right) s events s' c h = few_gives t k right events h.0 c.1 h.1
-few_performs t k names (perform a) s events s' c h = few_calls t k a events h.0 c h.1
+abbrev pub count : Site → ℕ
+count s = length s.test.locations
 
-pub few_events : (t : Litmus) (k : ℕ) (run : ThreadRun) → ProgramNames t.locations (thread_of t k) → IsRun t k run → AreFew (program_events (thread_of t k)) (length t.locations) run.events
-few_events t k run c h =
-    in_turn_few (Performs t k (thread_of t k).registers) (StepNames t.locations (thread_of t k).registers) step_events (length t.locations)
-    (λ step s es s' p r. few_performs t k (thread_of t k).registers step s es s' p r) (thread_of t k).steps _ run.events run.registers c h
+below : (s : Site) (x : Word) → Contains s.test.locations x → place_of x s.test.locations < count s
+below s x c = place_below x s.test.locations c.0 c.1 c.2
+
+few_calls : (s : Site) (a : Action) (p : Progress) (w : Content) (q : Progress) → ActionNames s.test.locations (names s) a → Calls s a p w q → Adds (action_events a) (count s) p q
+few_calls s (load x o) p w q c h = one_more (count s) p q (reads_from s Read x o h.0) (inr (below s x c)) h.3
+few_calls s (store x e o) p w q c h = one_more (count s) p q (writes_into s Write x o (given_by s p e)) (inr (below s x c.0)) h.1
+few_calls s (exchange x e o) p w q c h =
+    two_more (count s) p q (reads_from s ExRead x o h.0) (writes_into s ExWrite x o (given_by s p e)) (inr (below s x c.0)) (inr (below s x c.0)) h.3
+few_calls s (fence o) p w q c h = one_more (count s) p q (fences s o) (inl refl) h.1
+
+few_gives : (s : Site) (r : Right) (p : Progress) (w : Content) (q : Progress) → RightNames s.test.locations (names s) r → Gives s r p w q → Adds (right_events r) (count s) p q
+few_gives s (computed e) p w q c h = no_more 0 (count s) p q (ap (λ (u : Progress). u.events) h.1)
+few_gives s (plain_read x) p w q c h = one_more (count s) p q (reads_from s Read x Na h.0) (inr (below s x c)) h.3
+few_gives s (value_of a) p w q c h = few_calls s a p w q c h
+
+few_assigns : (s : Site) (r : Word) (right : Right) (p q : Progress) → RightNames s.test.locations (names s) right → Assigns s r right p q → Adds (right_events right) (count s) p q
+few_assigns s r right p q c h = same_events (right_events right) (count s) p h.1 q (ap (λ (u : Progress). u.events) h.3) (few_gives s right p h.0 h.1 c h.2)
+
+few_declares : (s : Site) (r : Word) (right : Option Right) (p q : Progress) → OptionalNames s.test.locations (names s) right → Declares s r right p q → Adds (optional_events right) (count s) p q
+few_declares s r None p q c h = no_more 0 (count s) p q (ap (λ (u : Progress). u.events) h)
+few_declares s r (Some right) p q c h = few_assigns s r right p q c h
+
+abbrev pub DeclaredNames : Site → Declared → Type 0
+DeclaredNames s d = Contains (names s) d.register × OptionalNames s.test.locations (names s) d.value
+
+few_declares_all : (s : Site) (ds : List Declared) (p q : Progress) → All (DeclaredNames s) ds → DeclaresAll s ds p q → Adds (sum_by (λ (d : Declared). optional_events d.value) ds) (count s) p q
+few_declares_all s [] p q c h = no_more (sum_by (λ (d : Declared). optional_events d.value) []) (count s) p q (ap (λ (u : Progress). u.events) h)
+few_declares_all s (d ∷ ds) p q c h =
+    let a = few_declares s d.register d.value p h.0 (All-head (DeclaredNames s) d ds c).1 h.1 in
+    let b = few_declares_all s ds h.0 q (All-tail (DeclaredNames s) d ds c) h.2 in
+    fewer (optional_events d.value + sum_by (λ (d : Declared). optional_events d.value) ds) (sum_by (λ (d : Declared). optional_events d.value) (d ∷ ds)) (count s) p q
+    (omega (arith, sum_by-cons (λ (d : Declared). optional_events d.value) d ds)) (then_more (optional_events d.value) (sum_by (λ (d : Declared). optional_events d.value) ds) (count s) p h.0 q a b)
+
+either_way : (b : Bool) (P Q R : Type 0) → (P → R) → (Q → R) → Branches b P Q → R
+either_way true P Q R f g h = f h
+either_way false P Q R f g h = g h
+
+mutual
+  few_step : (a : Step) (s : Site) (p q : Progress) → StepNames s.test.locations (names s) a → Performs a s p q → Adds (step_events a) (count s) p q
+  few_step empty s p q c h = no_more 0 (count s) p q (ap (λ (u : Progress). u.events) h)
+  few_step (block steps) s p q c h = few_steps steps s p q c h
+  few_step (declare ds) s p q c h = few_declares_all s ds p q c h
+  few_step (assign r right) s p q c h = few_assigns s r right p q c.1 h
+  few_step (plain_write x e) s p q c h = one_more (count s) p q (writes_into s Write x Na (given_by s p e)) (inr (below s x c.0)) h
+  few_step (perform a) s p q c h = few_calls s a p h.0 q c h.1
+  few_step (if_only e a) s p q c h =
+      either_way (is_true (given_by s p e).value) (Performs a (inside s p e) p q) (q ≡ p) (Adds (step_events a) (count s) p q)
+      (λ g. few_step a (inside s p e) p q c.1 g) (λ g. no_more (step_events a) (count s) p q (ap (λ (u : Progress). u.events) g)) h
+  few_step (if_else e a b) s p q c h =
+      let n = max (step_events a) (step_events b) in
+      either_way (is_true (given_by s p e).value) (Performs a (inside s p e) p q) (Performs b (inside s p e) p q) (Adds n (count s) p q)
+      (λ g. fewer (step_events a) n (count s) p q (omega arith) (few_step a (inside s p e) p q c.1 g))
+      (λ g. fewer (step_events b) n (count s) p q (omega arith) (few_step b (inside s p e) p q c.2 g)) h
+
+  few_steps : (steps : Steps) (s : Site) (p q : Progress) → StepsNames s.test.locations (names s) steps → PerformsAll steps s p q → Adds (steps_events steps) (count s) p q
+  few_steps no_steps s p q c h = no_more 0 (count s) p q (ap (λ (u : Progress). u.events) h)
+  few_steps (in_turn a rest) s p q c h =
+      then_more (step_events a) (steps_events rest) (count s) p h.0 q (few_step a s p h.0 c.0 h.1) (few_steps rest s h.0 q c.1 h.2)
+
+pub bounding : Bounding
+bounding t k run c h =
+    let a = few_steps (thread_of t k).steps (body t k) (start t k) h.0 c h.1 in
+    let P : List Event → Type 0 = AreFew (program_events (thread_of t k)) (length t.locations) in
+    subst P (sym (ap (λ (r : ThreadRun). r.events) h.2 ∙ a.is)) a.few

@@ -1,4 +1,7 @@
+pub mod Reaching
 pub mod Few
+pub mod Kept
 pub mod RunLists
+pub mod Sets
 pub mod Turns
-pub mod Unrolling
+pub mod Whole

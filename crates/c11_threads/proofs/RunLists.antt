@@ -1,33 +1,27 @@
 -- The runs of a thread are listed.
-use Rattle.std.proofs.Common.{◌≡◌, ℕ, ◌≤◌, List, [], ◌∷◌, ◌++◌, length, map, refl, sym, ◌∙◌, ap, subst, inl, inr, arith, append_assoc, Option, None, Some, length-append}
+use Rattle.std.proofs.Common.{◌≡◌, ℕ, ◌≤◌, List, [], ◌∷◌, ◌++◌, length, map, refl, sym, ◌∙◌, ap, subst, inl, inr, arith, append_assoc, append-nil, Option, None, Some, Bool, true, false, if◌then◌else◌, length-append}
+use Rattle.std.specs.List.{flat_map}
 use Rattle.std.proofs.lemmas.List.{length-map}
+use Rattle.relations.specs.Events.{EventSet}
+use Rattle.events.specs.declared.event.Access.{Access}
+use Rattle.events.specs.declared.event.Access.TheVariants.{Read, Write, ExRead, ExWrite}
 use Rattle.events.specs.declared.event.Event.{Event}
 use Rattle.events.specs.declared.event.Order.{Order}
-use Rattle.events.specs.Executions.{ThreadRun}
+use Rattle.events.specs.declared.event.Order.TheVariants.{Na}
+use Rattle.events.specs.Executions.{ThreadRun, no_places}
 use Rattle.listings.specs.Lists.{IsIn, NoRepeats, Lists}
 use Rattle.listings.proofs.Listings.{in_map, map_in, once_map, in_flat_map, flat_map_in, once_flat_map_of}
-use Rattle.litmus_c.specs.Tree.{Word, Term, Action, load, store, Right, value_of, Declared, Step, empty, declare, assign, perform, Litmus}
-use Rattle.litmus_c.specs.Values.{values_of}
+use Rattle.litmus_c.specs.Tree.{Word, Action, load, store, exchange, fence, Right, computed, plain_read, value_of, Declared, Step, empty, block, declare, assign, plain_write, perform, if_only, if_else, Steps, no_steps, in_turn, Litmus}
+use Rattle.litmus_c.specs.Values.{values_of, InDom}
 use Rattle.litmus_c.proofs.Distinct.{lists_values}
-use Rattle.c11_threads.specs.Runs.{place_of, read, write, term_value, Calls, InTurn, Assigns, DeclaresAs, Declares, Performs, thread_of, initial_registers, IsRun}
-use Rattle.c11_threads.specs.Unrolled.{followed, extended, runs_in_turn, given, giving, load_runs, store_runs, call_runs, right_runs, declare_runs_as, declare_runs, step_runs, setting_of, runs_of}
+use Rattle.c11_threads.specs.declared.content.Content.{Content}
+use Rattle.c11_threads.specs.Contents.{place_of, nothing}
+use Rattle.c11_threads.specs.Runs.{Progress, after, next_read, Site, thread_of, given_by, inside, reads_from, writes_into, fences, Calls, Assigns, Declares, DeclaresAll, Branches, Performs, PerformsAll, body, start, run_of, IsRun}
+use Rattle.c11_threads.specs.Unrolled.{setting_of, giving, call_runs, right_runs, declare_runs, declares_runs, under, holds, step_runs, steps_runs, ends_of, runs_of}
 
 in_some : {X : Type 0} (xs : List X) (x : X) → IsIn x xs → 1 ≤ length xs
 in_some [] x h = absurd h
 in_some (y ∷ xs) x h = omega arith
-
--- What leads from some registers by events to others, listed as runs.
-abbrev pub Leads : (List ℕ → List Event → List ℕ → Type 0) → List ℕ → ThreadRun → Type 0
-Leads R before run = R before run.events run.registers
-
--- The events tell the runs apart, whatever comes after them.
-abbrev pub Told : List ThreadRun → Type 0
-Told runs = (a b : ThreadRun) (x y : List Event) → IsIn a runs → IsIn b runs → a.events ++ x ≡ b.events ++ y → a ≡ b
-
-pub record Enumerates (R : List ℕ → List Event → List ℕ → Type 0) (f : List ℕ → List ThreadRun) : Type 0 where
-  pub lists : (s : List ℕ) → Lists (Leads R s) (f s)
-  pub told : (s : List ℕ) → Told (f s)
-  pub some : (s : List ℕ) → 1 ≤ length (f s)
 
 append_cancel : {X : Type 0} (xs ys zs : List X) → xs ++ ys ≡ xs ++ zs → ys ≡ zs
 append_cancel [] ys zs e = e
@@ -35,153 +29,223 @@ append_cancel {X} (x ∷ xs) ys zs e =
     let tail : List X → List X = λ l. elim l [ [] ↦ [] | y ∷ rest ↦ rest ] in
     append_cancel xs ys zs (ap tail e)
 
-same_run : (a b : ThreadRun) → a.events ≡ b.events → a.registers ≡ b.registers → a ≡ b
-same_run a b e f = ap (λ (es : List Event). let r : ThreadRun = record { events = es; registers = a.registers } in r) e ∙ ap (λ (rs : List ℕ). let r : ThreadRun = record { events = b.events; registers = rs } in r) f
+-- Where a way from p can lead, listed: each way adds events to those of p, and is told from the others by its events,
+-- whatever comes after them.
+pub record IsListed (p : Progress) (P : Progress → Type 0) (ends : List Progress) : Type 0 where
+  pub lists : Lists P ends
+  pub grows : (q : Progress) → IsIn q ends → (more : List Event) × (q.events ≡ p.events ++ more)
+  pub told : (a b : Progress) (x y : List Event) → IsIn a ends → IsIn b ends → a.events ++ x ≡ b.events ++ y → a ≡ b
+  pub some : 1 ≤ length ends
 
-followed_same : (run a b : ThreadRun) → followed run a ≡ followed run b → a ≡ b
-followed_same run a b e =
-    same_run a b (append_cancel run.events a.events b.events (ap (λ (r : ThreadRun). r.events) e)) (ap (λ (r : ThreadRun). r.registers) e)
-
--- The runs of one part and then of what is left.
-in_extended : (f : List ℕ → List ThreadRun) (runs : List ThreadRun) (run : ThreadRun) → IsIn run (extended f runs) → (a : ThreadRun) × (b : ThreadRun) × IsIn a runs × IsIn b (f a.registers) × (followed a b ≡ run)
-in_extended f runs run h =
-    let m = in_flat_map (λ a. map (followed a) (f a.registers)) runs run h in
-    let n = in_map (followed m.0) (f m.0.registers) run m.2 in
-    (m.0, n.0, m.1, n.1, n.2)
-
-extended_in : (f : List ℕ → List ThreadRun) (runs : List ThreadRun) (a b : ThreadRun) → IsIn a runs → IsIn b (f a.registers) → IsIn (followed a b) (extended f runs)
-extended_in f runs a b h m = flat_map_in (λ a. map (followed a) (f a.registers)) runs a (followed a b) h (map_in (followed a) (f a.registers) b m)
-
-once_extended : (f : List ℕ → List ThreadRun) (runs : List ThreadRun) → NoRepeats runs → Told runs → ((s : List ℕ) → NoRepeats (f s)) → NoRepeats (extended f runs)
-once_extended f runs o told each =
-    once_flat_map_of (λ run. map (followed run) (f run.registers)) runs
-    (λ run h. once_map (followed run) (f run.registers) (followed_same run) (each run.registers))
-    (λ a b run h m ha hb.
-    let p = in_map (followed a) (f a.registers) run ha in
-    let q = in_map (followed b) (f b.registers) run hb in
-    told a b p.0.events q.0.events h m (ap (λ (r : ThreadRun). r.events) (p.2 ∙ sym q.2)))
-    o
-
-told_extended : (f : List ℕ → List ThreadRun) (runs : List ThreadRun) → Told runs → ((s : List ℕ) → Told (f s)) → Told (extended f runs)
-told_extended f runs told each a b x y h m e =
-    let p = in_extended f runs a h in
-    let q = in_extended f runs b m in
-    let pe : a.events ++ x ≡ p.0.events ++ (p.1.events ++ x) = ap (λ (r : ThreadRun). r.events ++ x) (sym p.4) ∙ append_assoc p.0.events p.1.events x in
-    let qe : b.events ++ y ≡ q.0.events ++ (q.1.events ++ y) = ap (λ (r : ThreadRun). r.events ++ y) (sym q.4) ∙ append_assoc q.0.events q.1.events y in
-    let whole : p.0.events ++ (p.1.events ++ x) ≡ q.0.events ++ (q.1.events ++ y) = sym pe ∙ e ∙ qe in
-    let same : p.0 ≡ q.0 = told p.0 q.0 (p.1.events ++ x) (q.1.events ++ y) p.2 q.2 whole in
-    let F : ThreadRun → Type 0 = λ r. IsIn q.1 (f r.registers) in
-    let later : p.1.events ++ x ≡ q.1.events ++ y =
-    append_cancel p.0.events (p.1.events ++ x) (q.1.events ++ y) (whole ∙ ap (λ (r : ThreadRun). r.events ++ (q.1.events ++ y)) (sym same)) in
-    let rest : p.1 ≡ q.1 = each p.0.registers p.1 q.1 x y p.3 (subst F (sym same) q.3) later in
-    sym p.4 ∙ ap (λ (r : ThreadRun). followed r p.1) same ∙ ap (followed q.0) rest ∙ q.4
-
-pub some_extended : (f : List ℕ → List ThreadRun) (runs : List ThreadRun) → ((s : List ℕ) → 1 ≤ length (f s)) → length runs ≤ length (extended f runs)
-some_extended f [] some = omega arith
-some_extended f (run ∷ runs) some = simp (length-append, length-map) (omega (arith, some run.registers, some_extended f runs some))
-
--- A part that does one thing.
-one : (R : List ℕ → List Event → List ℕ → Type 0) (g : List ℕ → ThreadRun) → ((s : List ℕ) → R s (g s).events (g s).registers) → ((s : List ℕ) (es : List Event) (s' : List ℕ) → R s es s' → (es ≡ (g s).events) × (s' ≡ (g s).registers)) → Enumerates R (λ s. g s ∷ [])
-one R g does only = record {
-  lists = λ s. record {
-    once = (λ h. h, tt);
-    only = λ run h. elim h [ inl e ↦ (let P : ThreadRun → Type 0 = Leads R s in subst P (sym e) (does s)) | inr n ↦ absurd n ];
-    all = λ run r. (let o = only s run.events run.registers r in inl (same_run run (g s) o.0 o.1));
-  };
-  told = λ s a b x y h m e. elim h [ inl f ↦ elim m [ inl g ↦ f ∙ sym g | inr n ↦ absurd n ] | inr n ↦ absurd n ];
-  some = λ s. omega arith;
+reworded : (p : Progress) (P Q : Progress → Type 0) (ends : List Progress) → ((q : Progress) → P q → Q q) → ((q : Progress) → Q q → P q) → IsListed p P ends → IsListed p Q ends
+reworded p P Q ends f g h = record {
+  lists = record { once = h.lists.once; only = λ q i. f q (h.lists.only q i); all = λ q m. h.lists.all q (g q m) };
+  grows = h.grows;
+  told = h.told;
+  some = h.some;
 }
 
--- Parts one after another.
-in_turn : {A : Type 0} (R : A → List ℕ → List Event → List ℕ → Type 0) (f : A → List ℕ → List ThreadRun) → ((a : A) → Enumerates (R a) (f a)) → (as' : List A) → Enumerates (InTurn R as') (runs_in_turn f as')
-in_turn R f each [] = one (InTurn R []) (λ s. record { events = []; registers = s }) (λ s. (refl, refl)) (λ s es s' r. r)
-in_turn {A} R f each (a ∷ rest) =
-    let p = each a in
-    let q = in_turn R f each rest in
-    record {
-      lists = λ s. record {
-        once = once_extended (runs_in_turn f rest) (f a s) (p.lists s).once (p.told s) (λ u. (q.lists u).once);
-        only = λ run h. (let m = in_extended (runs_in_turn f rest) (f a s) run h in
-            let P : ThreadRun → Type 0 = Leads (InTurn R (a ∷ rest)) s in
-            subst P m.4 (m.0.events, m.1.events, m.0.registers, (p.lists s).only m.0 m.2, (q.lists m.0.registers).only m.1 m.3, refl));
-        all = λ run r. (let first : ThreadRun = record { events = r.0; registers = r.2 } in
-            let others : ThreadRun = record { events = r.1; registers = run.registers } in
-            let P : ThreadRun → Type 0 = λ y. IsIn y (extended (runs_in_turn f rest) (f a s)) in
-            subst P (same_run (followed first others) run (sym r.5) refl)
-            (extended_in (runs_in_turn f rest) (f a s) first others ((p.lists s).all first r.3) ((q.lists r.2).all others r.4)));
-      };
-      told = λ s. told_extended (runs_in_turn f rest) (f a s) (p.told s) q.told;
-      some = λ s. omega (arith, p.some s, some_extended (runs_in_turn f rest) (f a s) q.some);
-    }
+-- One way alone.
+alone : (p q : Progress) (P : Progress → Type 0) (more : List Event) → q.events ≡ p.events ++ more → P q → ((r : Progress) → P r → r ≡ q) → IsListed p P (q ∷ [])
+alone p q P more e does only = record {
+  lists = record {
+    once = (λ h. h, tt);
+    only = λ r h. elim h [ inl f ↦ subst P (sym f) does | inr n ↦ absurd n ];
+    all = λ r m. inl (only r m);
+  };
+  grows = λ r h. elim h [ inl f ↦ (more, ap (λ (u : Progress). u.events) f ∙ e) | inr n ↦ absurd n ];
+  told = λ a b x y h m f. elim h [ inl g ↦ elim m [ inl i ↦ g ∙ sym i | inr n ↦ absurd n ] | inr n ↦ absurd n ];
+  some = omega arith;
+}
 
--- A call whose value is given to a register or to none.
-abbrev pub Giving : Litmus → ℕ → Action → Option ℕ → List ℕ → List Event → List ℕ → Type 0
-Giving t k a r before events after = (v : ℕ) × Calls t k a events v × (after ≡ given r before v)
+still : (p : Progress) → p.events ≡ p.events ++ []
+still p = sym (append-nil p.events)
+
+stays : (p : Progress) → IsListed p (λ q. q ≡ p) (p ∷ [])
+stays p = alone p p (λ q. q ≡ p) [] (still p) refl (λ r h. h)
+
+pub some_flat_map : (g : Progress → List Progress) (ends : List Progress) → ((m : Progress) → 1 ≤ length (g m)) → length ends ≤ length (flat_map g ends)
+some_flat_map g [] some = omega arith
+some_flat_map g (m ∷ ends) some = simp length-append (omega (arith, some m, some_flat_map g ends some))
+
+-- One way, and then another from where it led.
+followed : (p : Progress) (P : Progress → Type 0) (Q : Progress → Progress → Type 0) (ends : List Progress) (g : Progress → List Progress) → IsListed p P ends → ((m : Progress) → IsListed m (Q m) (g m)) → IsListed p (λ q. (m : Progress) × P m × Q m q) (flat_map g ends)
+followed p P Q ends g first next = record {
+  lists = record {
+    once = once_flat_map_of g ends (λ m h. (next m).lists.once)
+        (λ a b x ha hb xa xb.
+        let u = (next a).grows x xa in
+        let v = (next b).grows x xb in
+        first.told a b u.0 v.0 ha hb (sym u.1 ∙ v.1))
+        first.lists.once;
+    only = λ q h. (let m = in_flat_map g ends q h in (m.0, first.lists.only m.0 m.1, (next m.0).lists.only q m.2));
+    all = λ q r. flat_map_in g ends r.0 q (first.lists.all r.0 r.1) ((next r.0).lists.all q r.2);
+  };
+  grows = λ q h. (let m = in_flat_map g ends q h in
+      let u = first.grows m.0 m.1 in
+      let v = (next m.0).grows q m.2 in
+      (u.0 ++ v.0, v.1 ∙ ap (λ (es : List Event). es ++ v.0) u.1 ∙ append_assoc p.events u.0 v.0));
+  told = λ a b x y h k e. (let m = in_flat_map g ends a h in
+      let n = in_flat_map g ends b k in
+      let u = (next m.0).grows a m.2 in
+      let v = (next n.0).grows b n.2 in
+      let left : a.events ++ x ≡ m.0.events ++ (u.0 ++ x) = ap (λ (es : List Event). es ++ x) u.1 ∙ append_assoc m.0.events u.0 x in
+      let right : b.events ++ y ≡ n.0.events ++ (v.0 ++ y) = ap (λ (es : List Event). es ++ y) v.1 ∙ append_assoc n.0.events v.0 y in
+      let same : m.0 ≡ n.0 = first.told m.0 n.0 (u.0 ++ x) (v.0 ++ y) m.1 n.1 (sym left ∙ e ∙ right) in
+      let F : Progress → Type 0 = λ r. IsIn b (g r) in
+      (next m.0).told a b x y m.2 (subst F (sym same) n.2) e);
+  some = omega (arith, first.some, some_flat_map g ends (λ m. (next m).some));
+}
+
+branched : (p : Progress) (b : Bool) (P Q : Progress → Type 0) (xs ys : List Progress) → IsListed p P xs → IsListed p Q ys → IsListed p (λ q. Branches b (P q) (Q q)) (if b then xs else ys)
+branched p true P Q xs ys h k = h
+branched p false P Q xs ys h k = k
+
+-- Events after those of p, and a value that is given to a register or to none.
+abbrev pub Making : Progress → Content → List Event → Option ℕ → Progress → Type 0
+Making p w0 events r q = (w : Content) × (m : Progress) × ((w ≡ w0) × (m ≡ after p events)) × (q ≡ giving r w m)
+
+made : (p : Progress) (w0 : Content) (events : List Event) (r : Option ℕ) → IsListed p (Making p w0 events r) (giving r w0 (after p events) ∷ [])
+made p w0 events r =
+    alone p (giving r w0 (after p events)) (Making p w0 events r) events refl (w0, after p events, (refl, refl), refl)
+    (λ q h. h.3 ∙ ap (λ (w : Content). giving r w h.1) h.2.0 ∙ ap (λ (m : Progress). giving r w0 m) h.2.1)
+
+abbrev pub Reading : Litmus → Progress → (ℕ → List Event) → Option ℕ → Progress → Type 0
+Reading t p events r q = (w : Content) × (m : Progress) × ((v : ℕ) × InDom t v × (w ≡ next_read p v) × (m ≡ after p (events v))) × (q ≡ giving r w m)
+
+once_map_of : {A X : Type 0} (f : A → X) (as' : List A) → ((a b : A) → IsIn a as' → IsIn b as' → f a ≡ f b → a ≡ b) → NoRepeats as' → NoRepeats (map f as')
+once_map_of f [] same o = tt
+once_map_of {A} f (a ∷ rest) same o = (
+  λ h. let m = in_map f rest (f a) h in
+      let F : A → Type 0 = λ b. IsIn b rest in
+      o.0 (subst F (same m.0 a (inr m.1) (inl refl) m.2) m.1),
+  once_map_of f rest (λ b c h k. same b c (inr h) (inr k)) o.1,
+)
+
+pub some_values : (t : Litmus) → 1 ≤ length (values_of t)
+some_values t = in_some (values_of t) 0 ((lists_values t.initial t.threads).all 0 (inl refl))
+
+read_listed : (t : Litmus) (p : Progress) (events : ℕ → List Event) (r : Option ℕ) → ((v w : ℕ) (x y : List Event) → events v ++ x ≡ events w ++ y → v ≡ w) → IsListed p (Reading t p events r) (map (λ v. giving r (next_read p v) (after p (events v))) (values_of t))
+read_listed t p events r apart =
+    let make : ℕ → Progress = λ v. giving r (next_read p v) (after p (events v)) in
+    let dom = lists_values t.initial t.threads in
+    let P : Progress → Type 0 = Reading t p events r in
+    let same : (v w : ℕ) (x y : List Event) → (make v).events ++ x ≡ (make w).events ++ y → v ≡ w = λ v w x y e.
+    apart v w x y (append_cancel p.events (events v ++ x) (events w ++ y) (sym (append_assoc p.events (events v) x) ∙ e ∙ append_assoc p.events (events w) y)) in
+    record {
+      lists = record {
+        once = once_map make (values_of t) (λ v w e. same v w [] [] (ap (λ (q : Progress). q.events ++ []) e)) dom.once;
+        only = λ q h. (let m = in_map make (values_of t) q h in
+            subst P m.2 (next_read p m.0, after p (events m.0), (m.0, dom.only m.0 m.1, refl, refl), refl));
+        all = λ q h. (let F : Progress → Type 0 = λ u. IsIn u (map make (values_of t)) in
+            let v = h.2.0 in
+            let e : q ≡ make v = h.3 ∙ ap (λ (w : Content). giving r w h.1) h.2.2 ∙ ap (λ (m : Progress). giving r (next_read p v) m) h.2.3 in
+            subst F (sym e) (map_in make (values_of t) v (dom.all v h.2.1)));
+      };
+      grows = λ q h. (let m = in_map make (values_of t) q h in (events m.0, ap (λ (u : Progress). u.events) (sym m.2)));
+      told = λ a b x y h k e. (let m = in_map make (values_of t) a h in
+          let n = in_map make (values_of t) b k in
+          let f : (make m.0).events ++ x ≡ (make n.0).events ++ y = ap (λ (u : Progress). u.events ++ x) m.2 ∙ e ∙ ap (λ (u : Progress). u.events ++ y) (sym n.2) in
+          sym m.2 ∙ ap make (same m.0 n.0 x y f) ∙ n.2);
+      some = simp length-map (some_values t);
+    }
 
 first_value : List Event → ℕ
 first_value [] = 0
 first_value (e ∷ events) = e.value
 
-read_value : (k x v w : ℕ) (o : Order) (es fs : List Event) → read k x v o ∷ es ≡ read k x w o ∷ fs → v ≡ w
+abbrev pub site : Litmus → ℕ → EventSet → Site
+site t k c = record { test = t; thread = k; ctrl = c }
+
+read_apart : (s : Site) (a : Access) (x : Word) (o : Order) (v w : ℕ) (xs ys : List Event) → reads_from s a x o v ∷ xs ≡ reads_from s a x o w ∷ ys → v ≡ w
 unfolding first_value
-read_value k x v w o es fs e = ap first_value e
+read_apart s a x o v w xs ys e = ap first_value e
 
-pub some_values : (t : Litmus) → 1 ≤ length (values_of t)
-some_values t = in_some (values_of t) 0 ((lists_values t.initial t.threads).all 0 (inl refl))
+-- A call whose value is given to a register or to none.
+abbrev pub Giving : Site → Action → Option ℕ → Progress → Progress → Type 0
+Giving s a r p q = (w : Content) × (m : Progress) × Calls s a p w m × (q ≡ giving r w m)
 
-load_enumerated : (t : Litmus) (k : ℕ) (x : Word) (o : Order) (r : Option ℕ) → Enumerates (Giving t k (load x o) r) (load_runs (setting_of t k) (place_of x t.locations) o r)
-load_enumerated t k x o r =
-    let l = place_of x t.locations in
-    record {
-      lists = λ s. (let make : ℕ → ThreadRun = λ v. giving (read k l v o ∷ []) r s v in record {
-        once = once_map make (values_of t) (λ v w e. read_value k l v w o [] [] (ap (λ (y : ThreadRun). y.events) e)) (lists_values t.initial t.threads).once;
-        only = λ run h. (let m = in_map make (values_of t) run h in
-            let P : ThreadRun → Type 0 = Leads (Giving t k (load x o) r) s in
-            subst P m.2 (m.0, ((lists_values t.initial t.threads).only m.0 m.1, refl), refl));
-        all = λ run h. (let P : ThreadRun → Type 0 = λ y. IsIn y (map make (values_of t)) in
-            subst P (sym (same_run run (make h.0) h.1.1 h.2)) (map_in make (values_of t) h.0 ((lists_values t.initial t.threads).all h.0 h.1.0)));
-      });
-      told = λ s a b y z h m e. (let make : ℕ → ThreadRun = λ v. giving (read k l v o ∷ []) r s v in
-          let p = in_map make (values_of t) a h in
-          let q = in_map make (values_of t) b m in
-          let f : read k l p.0 o ∷ y ≡ read k l q.0 o ∷ z = ap (λ (u : ThreadRun). u.events ++ y) p.2 ∙ e ∙ ap (λ (u : ThreadRun). u.events ++ z) (sym q.2) in
-          sym p.2 ∙ ap make (read_value k l p.0 q.0 o y z f) ∙ q.2);
-      some = λ s. simp length-map (some_values t);
-    }
+call_listed : (t : Litmus) (k : ℕ) (c : EventSet) (a : Action) (r : Option ℕ) (p : Progress) → IsListed p (Giving (site t k c) a r p) (call_runs (setting_of t k) c a r p)
+call_listed t k c (load x o) r p =
+    let s = site t k c in
+    read_listed t p (λ v. reads_from s Read x o v ∷ []) r (λ v w xs ys e. read_apart s Read x o v w xs ys e)
+call_listed t k c (store x e o) r p =
+    let s = site t k c in
+    made p nothing (writes_into s Write x o (given_by s p e) ∷ []) r
+call_listed t k c (exchange x e o) r p =
+    let s = site t k c in
+    let write = writes_into s ExWrite x o (given_by s p e) in
+    read_listed t p (λ v. reads_from s ExRead x o v ∷ write ∷ []) r (λ v w xs ys e. read_apart s ExRead x o v w (write ∷ xs) (write ∷ ys) e)
+call_listed t k c (fence o) r p = made p nothing (fences (site t k c) o ∷ []) r
 
-store_enumerated : (t : Litmus) (k : ℕ) (x : Word) (e : Term) (o : Order) (r : Option ℕ) → Enumerates (Giving t k (store x e o) r) (store_runs (setting_of t k) (place_of x t.locations) (term_value e) o r)
-store_enumerated t k x e o r =
-    one (Giving t k (store x e o) r) (λ s. giving (write k (place_of x t.locations) (term_value e) o ∷ []) r s 0)
-    (λ s. (0, (refl, refl), refl))
-    (λ s es s' h. (h.1.0, h.2 ∙ ap (given r s) h.1.1))
+right_listed : (t : Litmus) (k : ℕ) (c : EventSet) (name : Word) (right : Right) (p : Progress) → IsListed p (Assigns (site t k c) name right p) (right_runs (setting_of t k) c right (place_of name (thread_of t k).registers) p)
+right_listed t k c name (computed e) p =
+    let s = site t k c in
+    let r = place_of name (thread_of t k).registers in
+    let w0 = given_by s p e in
+    alone p (giving (Some r) w0 p) (Assigns s name (computed e) p) [] (still p) (w0, p, (refl, refl), refl)
+    (λ q h. h.3 ∙ ap (λ (w : Content). giving (Some r) w h.1) h.2.0 ∙ ap (λ (m : Progress). giving (Some r) w0 m) h.2.1)
+right_listed t k c name (plain_read x) p =
+    let s = site t k c in
+    read_listed t p (λ v. reads_from s Read x Na v ∷ []) (Some (place_of name (thread_of t k).registers)) (λ v w xs ys e. read_apart s Read x Na v w xs ys e)
+right_listed t k c name (value_of a) p = call_listed t k c a (Some (place_of name (thread_of t k).registers)) p
 
-call_enumerated : (t : Litmus) (k : ℕ) (a : Action) (r : Option ℕ) → Enumerates (Giving t k a r) (call_runs (setting_of t k) a r)
-call_enumerated t k (load x o) r = load_enumerated t k x o r
-call_enumerated t k (store x e o) r = store_enumerated t k x e o r
+declare_listed : (t : Litmus) (k : ℕ) (c : EventSet) (name : Word) (right : Option Right) (p : Progress) → IsListed p (Declares (site t k c) name right p) (declare_runs (setting_of t k) c name right p)
+declare_listed t k c name None p =
+    let q = giving (Some (place_of name (thread_of t k).registers)) nothing p in
+    alone p q (Declares (site t k c) name None p) [] (still p) refl (λ r h. h)
+declare_listed t k c name (Some right) p = right_listed t k c name right p
 
-right_enumerated : (t : Litmus) (k : ℕ) (name : Word) (right : Right) → Enumerates (Assigns t k (thread_of t k).registers name right) (right_runs (setting_of t k) right (Some (place_of name (thread_of t k).registers)))
-right_enumerated t k name (value_of a) = call_enumerated t k a (Some (place_of name (thread_of t k).registers))
+declares_listed : (t : Litmus) (k : ℕ) (c : EventSet) (ds : List Declared) (p : Progress) → IsListed p (DeclaresAll (site t k c) ds p) (declares_runs (setting_of t k) c ds p)
+declares_listed t k c [] p = stays p
+declares_listed t k c (d ∷ ds) p =
+    followed p (Declares (site t k c) d.register d.value p) (λ m q. DeclaresAll (site t k c) ds m q) (declare_runs (setting_of t k) c d.register d.value p) (declares_runs (setting_of t k) c ds)
+    (declare_listed t k c d.register d.value p) (λ m. declares_listed t k c ds m)
 
-declare_as_enumerated : (t : Litmus) (k : ℕ) (name : Word) (right : Option Right) → Enumerates (DeclaresAs t k (thread_of t k).registers name right) (declare_runs_as (setting_of t k) name right)
-declare_as_enumerated t k name None =
-    one (DeclaresAs t k (thread_of t k).registers name None) (λ s. giving [] (Some (place_of name (thread_of t k).registers)) s 0)
-    (λ s. (refl, refl)) (λ s es s' h. h)
-declare_as_enumerated t k name (Some right) = right_enumerated t k name right
+mutual
+  pub step_listed : (a : Step) (t : Litmus) (k : ℕ) (c : EventSet) (p : Progress) → IsListed p (λ q. Performs a (site t k c) p q) (step_runs a (setting_of t k) c p)
+  step_listed empty t k c p = stays p
+  step_listed (block steps) t k c p = steps_listed steps t k c p
+  step_listed (declare ds) t k c p = declares_listed t k c ds p
+  step_listed (assign r right) t k c p = right_listed t k c r right p
+  step_listed (plain_write x e) t k c p =
+      let s = site t k c in
+      let event = writes_into s Write x Na (given_by s p e) in
+      let q = after p (event ∷ []) in
+      alone p q (λ r. r ≡ q) (event ∷ []) refl refl (λ r h. h)
+  step_listed (perform a) t k c p =
+      reworded p (Giving (site t k c) a None p) (λ q. (w : Content) × Calls (site t k c) a p w q) (call_runs (setting_of t k) c a None p)
+      (λ q h. (let F : Progress → Type 0 = λ u. Calls (site t k c) a p h.0 u in (h.0, subst F (sym h.3) h.2)))
+      (λ q h. (h.0, q, h.1, refl))
+      (call_listed t k c a None p)
+  step_listed (if_only e a) t k c p =
+      let s = setting_of t k in
+      branched p (holds s e p) (λ q. Performs a (inside (site t k c) p e) p q) (λ q. q ≡ p) (step_runs a s (under s c e p) p) (p ∷ [])
+      (step_listed a t k (under s c e p) p) (stays p)
+  step_listed (if_else e a b) t k c p =
+      let s = setting_of t k in
+      branched p (holds s e p) (λ q. Performs a (inside (site t k c) p e) p q) (λ q. Performs b (inside (site t k c) p e) p q) (step_runs a s (under s c e p) p) (step_runs b s (under s c e p) p)
+      (step_listed a t k (under s c e p) p) (step_listed b t k (under s c e p) p)
 
-declare_enumerated : (t : Litmus) (k : ℕ) (d : Declared) → Enumerates (Declares t k (thread_of t k).registers d) (declare_runs (setting_of t k) d)
-declare_enumerated t k d = declare_as_enumerated t k d.register d.value
+  pub steps_listed : (steps : Steps) (t : Litmus) (k : ℕ) (c : EventSet) (p : Progress) → IsListed p (λ q. PerformsAll steps (site t k c) p q) (steps_runs steps (setting_of t k) c p)
+  steps_listed no_steps t k c p = stays p
+  steps_listed (in_turn a rest) t k c p =
+      followed p (λ m. Performs a (site t k c) p m) (λ m q. PerformsAll rest (site t k c) m q) (step_runs a (setting_of t k) c p) (steps_runs rest (setting_of t k) c)
+      (step_listed a t k c p) (λ m. steps_listed rest t k c m)
 
-pub step_enumerated : (t : Litmus) (k : ℕ) (step : Step) → Enumerates (Performs t k (thread_of t k).registers step) (step_runs (setting_of t k) step)
-step_enumerated t k empty = one (Performs t k (thread_of t k).registers empty) (λ s. giving [] None s 0) (λ s. (refl, refl)) (λ s es s' h. h)
-step_enumerated t k (declare ds) = in_turn (Declares t k (thread_of t k).registers) (declare_runs (setting_of t k)) (declare_enumerated t k) ds
-step_enumerated t k (assign r right) = right_enumerated t k r right
-step_enumerated t k (perform a) = call_enumerated t k a None
-
-runs_enumerated : (t : Litmus) (k : ℕ) → Enumerates (InTurn (Performs t k (thread_of t k).registers) (thread_of t k).steps) (runs_in_turn (step_runs (setting_of t k)) (thread_of t k).steps)
-runs_enumerated t k = in_turn (Performs t k (thread_of t k).registers) (step_runs (setting_of t k)) (step_enumerated t k) (thread_of t k).steps
+ends_listed : (t : Litmus) (k : ℕ) → IsListed (start t k) (λ q. PerformsAll (thread_of t k).steps (body t k) (start t k) q) (ends_of t k)
+ends_listed t k = steps_listed (thread_of t k).steps t k no_places (start t k)
 
 pub lists_runs_of : (t : Litmus) (k : ℕ) → Lists (IsRun t k) (runs_of t k)
-lists_runs_of t k = (runs_enumerated t k).lists (initial_registers t k)
+lists_runs_of t k =
+    let ends = ends_listed t k in
+    let P : ThreadRun → Type 0 = IsRun t k in
+    let F : ThreadRun → Type 0 = λ run. IsIn run (runs_of t k) in
+    record {
+      once = once_map_of run_of (ends_of t k) (λ a b h m e. ends.told a b [] [] h m (ap (λ (run : ThreadRun). run.events ++ []) e)) ends.lists.once;
+      only = λ run h. (let m = in_map run_of (ends_of t k) run h in subst P m.2 (m.0, ends.lists.only m.0 m.1, refl));
+      all = λ run r. subst F (sym r.2) (map_in run_of (ends_of t k) r.0 (ends.lists.all r.0 r.1));
+    }
 
 pub some_runs : (t : Litmus) (k : ℕ) → 1 ≤ length (runs_of t k)
-some_runs t k = (runs_enumerated t k).some (initial_registers t k)
+some_runs t k = simp length-map ((ends_listed t k).some)

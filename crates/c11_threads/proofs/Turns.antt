@@ -1,117 +1,146 @@
--- Runs that are extended part by part.
-use Rattle.std.proofs.Common.{◌≡◌, ℕ, suc, ◌+◌, ◌≤◌, ◌<◌, List, [], ◌∷◌, ◌++◌, length, map, get_or, drop, drop-cons, add-one, refl, sym, ◌∙◌, ap, arith, append_assoc, append-nil, Option, None, Some}
+-- Ways that are taken part by part.
+use Rattle.std.proofs.Common.{◌≡◌, ℕ, suc, ◌+◌, ◌≤◌, ◌<◌, List, [], ◌∷◌, ◌++◌, length, map, get_or, drop, drop-cons, add-one, refl, sym, ◌∙◌, ap, arith, append_assoc, append-nil, Option, None, Some, Bool, true, false, if◌then◌else◌, length-append}
 use Rattle.std.proofs.lemmas.List.{drop_all, length-map}
-use Rattle.std.proofs.lemmas.Result.{IfErr-weaker}
-use Rattle.std.specs.Prelude.{Result, IfErr}
-use Rattle.events.specs.declared.event.Event.{Event}
-use Rattle.events.specs.Executions.{ThreadRun}
-use Rattle.litmus_c.specs.Tree.{Word, Action, load, store, Right, value_of, Declared, Step, empty, declare, assign, perform}
+use Rattle.std.proofs.lemmas.Grind.{flat_map-append}
+use Rattle.std.specs.List.{flat_map}
+use Rattle.relations.specs.Events.{EventSet}
+use Rattle.litmus_c.specs.declared.tree.Declarator.{Declarator}
+use Rattle.litmus_c.specs.declared.tree.Statement.{Statement}
+use Rattle.litmus_c.specs.Tree.{Word, Action, load, store, exchange, fence, Right, computed, plain_read, value_of, Declared, Step, empty, block, declare, assign, plain_write, perform, if_only, if_else, Steps, no_steps, in_turn, step_of, steps_of, declared_of}
 use Rattle.c11_threads.specs.declared.fault.RunFault.{RunFault}
 use Rattle.c11_threads.specs.declared.fault.RunFault.TheVariants.{TooManyRuns, NoMemory}
 use Rattle.c11_threads.specs.Faults.{IsFaultAt}
-use Rattle.c11_threads.specs.Unrolled.{Setting, followed, extended, runs_in_turn, giving, call_runs, right_runs, declare_runs_as, declare_runs, step_runs}
-use Rattle.c11_threads.proofs.RunLists.{some_extended}
+use Rattle.c11_threads.specs.Runs.{Progress}
+use Rattle.c11_threads.specs.Unrolled.{Setting, call_runs, right_runs, declare_runs, declares_runs, under, holds, step_runs, steps_runs}
+use Rattle.c11_threads.proofs.RunLists.{some_flat_map}
 
-followed_followed : (a b c : ThreadRun) → followed (followed a b) c ≡ followed a (followed b c)
-followed_followed a b c = ap (λ (es : List Event). let r : ThreadRun = record { events = es; registers = c.registers } in r) (append_assoc a.events b.events c.events)
+abbrev pub Ways : Type 0
+Ways = Progress → List Progress
 
-map_followed : (a b : ThreadRun) (cs : List ThreadRun) → map (followed (followed a b)) cs ≡ map (followed a) (map (followed b) cs)
-map_followed a b [] = refl
-map_followed a b (c ∷ cs) = ap (λ (r : ThreadRun). r ∷ map (followed (followed a b)) cs) (followed_followed a b c) ∙ ap (λ (rs : List ThreadRun). followed a (followed b c) ∷ rs) (map_followed a b cs)
+flat_map_twice : (f g : Ways) (ps : List Progress) → flat_map g (flat_map f ps) ≡ flat_map (λ p. flat_map g (f p)) ps
+flat_map_twice f g [] = refl
+flat_map_twice f g (p ∷ ps) = flat_map-append g (f p) (flat_map f ps) ∙ ap (λ (qs : List Progress). flat_map g (f p) ++ qs) (flat_map_twice f g ps)
 
-map_append : (a : ThreadRun) (xs ys : List ThreadRun) → map (followed a) (xs ++ ys) ≡ map (followed a) xs ++ map (followed a) ys
-map_append a [] ys = refl
-map_append a (x ∷ xs) ys = ap (λ (rs : List ThreadRun). followed a x ∷ rs) (map_append a xs ys)
+flat_map_one : (ps : List Progress) → flat_map (λ p. p ∷ []) ps ≡ ps
+flat_map_one [] = refl
+flat_map_one (p ∷ ps) = ap (λ (qs : List Progress). p ∷ qs) (flat_map_one ps)
 
-extended_append : (h : List ℕ → List ThreadRun) (xs ys : List ThreadRun) → extended h (xs ++ ys) ≡ extended h xs ++ extended h ys
-extended_append h [] ys = refl
-extended_append h (x ∷ xs) ys =
-    ap (λ (rs : List ThreadRun). map (followed x) (h x.registers) ++ rs) (extended_append h xs ys)
-    ∙ sym (append_assoc (map (followed x) (h x.registers)) (extended h xs) (extended h ys))
+flat_map_alone : (f : Ways) (p : Progress) → flat_map f (p ∷ []) ≡ f p
+flat_map_alone f p = append-nil (f p)
 
-extended_map : (h : List ℕ → List ThreadRun) (a : ThreadRun) (bs : List ThreadRun) → extended h (map (followed a) bs) ≡ map (followed a) (extended h bs)
-extended_map h a [] = refl
-extended_map h a (b ∷ bs) =
-    ap (λ (rs : List ThreadRun). rs ++ extended h (map (followed a) bs)) (map_followed a b (h b.registers))
-    ∙ ap (λ (rs : List ThreadRun). map (followed a) (map (followed b) (h b.registers)) ++ rs) (extended_map h a bs)
-    ∙ sym (map_append a (map (followed b) (h b.registers)) (extended h bs))
+-- More ways than there is room for are more than are wanted, where the others take what is left.
+pub still_fault : (k room most n m : ℕ) (e : RunFault) → most + n ≤ room + m → IsFaultAt k room n e → IsFaultAt k most m e
+still_fault k room most n m (TooManyRuns j) l h = (h.0, omega (arith, h.1, l))
+still_fault k room most n m NoMemory l h = h
 
-extended_twice : (h f : List ℕ → List ThreadRun) (runs : List ThreadRun) → extended h (extended f runs) ≡ extended (λ s. extended h (f s)) runs
-extended_twice h f [] = refl
-extended_twice h f (run ∷ runs) =
-    extended_append h (map (followed run) (f run.registers)) (extended f runs)
-    ∙ ap (λ (rs : List ThreadRun). rs ++ extended h (extended f runs)) (extended_map h run (f run.registers))
-    ∙ ap (λ (rs : List ThreadRun). map (followed run) (extended h (f run.registers)) ++ rs) (extended_twice h f runs)
+drop_first : {A : Type 0} (a : A) (xs : List A) (i : ℕ) → i < length xs → a ≡ get_or xs i a → drop i xs ≡ a ∷ drop (i + 1) xs
+drop_first a xs i l e = rw add-one (drop-cons xs i a l ∙ ap (λ y. y ∷ drop (suc i) xs) (sym e))
 
-first : {A : Type 0} (a : A) (xs : List A) (i : ℕ) → i < length xs → a ≡ get_or xs i a → drop i xs ≡ a ∷ drop (i + 1) xs
-first a xs i l e = rw add-one (drop-cons xs i a l ∙ ap (λ y. y ∷ drop (suc i) xs) (sym e))
+-- Each way has an end.
+some_call : (s : Setting) → 1 ≤ length s.values → (c : EventSet) (a : Action) (r : Option ℕ) (p : Progress) → 1 ≤ length (call_runs s c a r p)
+some_call s v c (load x o) r p = simp length-map v
+some_call s v c (store x e o) r p = omega arith
+some_call s v c (exchange x e o) r p = simp length-map v
+some_call s v c (fence o) r p = omega arith
 
--- One part more.
-pub turn : {A B : Type 0} (f : B → List ℕ → List ThreadRun) (g : A → B) (xs : List A) (i : ℕ) (a : A) (runs done : List ThreadRun) → i < length xs → a ≡ get_or xs i a → done ≡ extended (f (g a)) runs → extended (runs_in_turn f (map g (drop (i + 1) xs))) done ≡ extended (runs_in_turn f (map g (drop i xs))) runs
-turn f g xs i a runs done l is e =
-    ap (extended (runs_in_turn f (map g (drop (i + 1) xs)))) e
-    ∙ extended_twice (runs_in_turn f (map g (drop (i + 1) xs))) (f (g a)) runs
-    ∙ ap (λ ys. extended (runs_in_turn f (map g ys)) runs) (sym (first a xs i l is))
+some_right : (s : Setting) → 1 ≤ length s.values → (c : EventSet) (a : Right) (r : ℕ) (p : Progress) → 1 ≤ length (right_runs s c a r p)
+some_right s v c (computed e) r p = omega arith
+some_right s v c (plain_read x) r p = simp length-map v
+some_right s v c (value_of a) r p = some_call s v c a (Some r) p
 
-nothing : (runs : List ThreadRun) → extended (λ s. giving [] None s 0 ∷ []) runs ≡ runs
-nothing [] = refl
-nothing (run ∷ runs) =
-    ap (λ (es : List Event). let r : ThreadRun = record { events = es; registers = run.registers } in r ∷ extended (λ s. giving [] None s 0 ∷ []) runs) (append-nil run.events)
-    ∙ ap (λ (rs : List ThreadRun). run ∷ rs) (nothing runs)
+pub some_declare : (s : Setting) → 1 ≤ length s.values → (c : EventSet) (r : Word) (a : Option Right) (p : Progress) → 1 ≤ length (declare_runs s c r a p)
+some_declare s v c r None p = omega arith
+some_declare s v c r (Some a) p = some_right s v c a _ p
 
-pub unchanged : (s : Setting) (runs : List ThreadRun) → extended (step_runs s empty) runs ≡ runs
-unchanged s runs = nothing runs
+pub some_declares : (s : Setting) → 1 ≤ length s.values → (c : EventSet) (ds : List Declared) (p : Progress) → 1 ≤ length (declares_runs s c ds p)
+some_declares s v c [] p = omega arith
+some_declares s v c (d ∷ ds) p = omega (arith, some_declare s v c d.register d.value p, some_flat_map (declares_runs s c ds) (declare_runs s c d.register d.value p) (some_declares s v c ds))
 
--- All parts are done.
-pub turned : {A B : Type 0} (f : B → List ℕ → List ThreadRun) (g : A → B) (xs : List A) (i : ℕ) (runs : List ThreadRun) → length xs ≤ i → extended (runs_in_turn f (map g (drop i xs))) runs ≡ runs
-turned f g xs i runs l = ap (λ ys. extended (runs_in_turn f (map g ys)) runs) (drop_all i xs l) ∙ nothing runs
+either_some : (b : Bool) (xs ys : List Progress) → 1 ≤ length xs → 1 ≤ length ys → 1 ≤ length (if b then xs else ys)
+either_some true xs ys h k = h
+either_some false xs ys h k = k
 
-some_in_turn : {A : Type 0} (f : A → List ℕ → List ThreadRun) → ((a : A) (s : List ℕ) → 1 ≤ length (f a s)) → (as' : List A) (s : List ℕ) → 1 ≤ length (runs_in_turn f as' s)
-some_in_turn f some [] s = omega arith
-some_in_turn f some (a ∷ rest) s = omega (arith, some a s, some_extended (runs_in_turn f rest) (f a s) (some_in_turn f some rest))
+mutual
+  pub some_step : (a : Step) (s : Setting) → 1 ≤ length s.values → (c : EventSet) (p : Progress) → 1 ≤ length (step_runs a s c p)
+  some_step empty s v c p = omega arith
+  some_step (block steps) s v c p = some_steps steps s v c p
+  some_step (declare ds) s v c p = some_declares s v c ds p
+  some_step (assign r right) s v c p = some_right s v c right _ p
+  some_step (plain_write x e) s v c p = omega arith
+  some_step (perform a) s v c p = some_call s v c a None p
+  some_step (if_only e a) s v c p = either_some (holds s e p) _ _ (some_step a s v (under s c e p) p) (let h : 1 ≤ length (p ∷ []) = omega arith in h)
+  some_step (if_else e a b) s v c p = either_some (holds s e p) _ _ (some_step a s v (under s c e p) p) (some_step b s v (under s c e p) p)
 
-some_call : (s : Setting) → 1 ≤ length s.values → (a : Action) (r : Option ℕ) (registers : List ℕ) → 1 ≤ length (call_runs s a r registers)
-some_call s v (load x o) r registers = simp length-map v
-some_call s v (store x e o) r registers = omega arith
+  pub some_steps : (steps : Steps) (s : Setting) → 1 ≤ length s.values → (c : EventSet) (p : Progress) → 1 ≤ length (steps_runs steps s c p)
+  some_steps no_steps s v c p = omega arith
+  some_steps (in_turn a rest) s v c p = omega (arith, some_step a s v c p, some_flat_map (steps_runs rest s c) (step_runs a s c p) (some_steps rest s v c))
 
-some_right : (s : Setting) → 1 ≤ length s.values → (a : Right) (r : Option ℕ) (registers : List ℕ) → 1 ≤ length (right_runs s a r registers)
-some_right s v (value_of a) r registers = some_call s v a r registers
+-- From each of the ways in turn: one is taken, and the rest are left.
 
-some_declare_as : (s : Setting) → 1 ≤ length s.values → (r : Word) (a : Option Right) (registers : List ℕ) → 1 ≤ length (declare_runs_as s r a registers)
-some_declare_as s v r None registers = omega arith
-some_declare_as s v r (Some a) registers = some_right s v a _ registers
+pub next_way : (f : Ways) (left rest : List Progress) (from : Progress) (done all : List Progress) → left ≡ from ∷ rest → done ++ flat_map f left ≡ all → (done ++ f from) ++ flat_map f rest ≡ all
+next_way f left rest from done all is whole =
+    append_assoc done (f from) (flat_map f rest) ∙ ap (λ (ps : List Progress). done ++ flat_map f ps) (sym is) ∙ whole
 
-pub some_declare : (s : Setting) → 1 ≤ length s.values → (d : Declared) (registers : List ℕ) → 1 ≤ length (declare_runs s d registers)
-some_declare s v d registers = some_declare_as s v d.register d.value registers
+pub last_way : (f : Ways) (left done all : List Progress) → length left ≡ 0 → done ++ flat_map f left ≡ all → done ≡ all
+last_way f [] done all none whole = sym (append-nil done) ∙ whole
+last_way f (p ∷ left) done all none whole = absurd (omega (arith, none))
 
-pub some_step : (s : Setting) → 1 ≤ length s.values → (step : Step) (registers : List ℕ) → 1 ≤ length (step_runs s step registers)
-some_step s v empty registers = omega arith
-some_step s v (declare ds) registers = some_in_turn (declare_runs s) (some_declare s v) ds registers
-some_step s v (assign r a) registers = some_right s v a _ registers
-some_step s v (perform a) registers = some_call s v a _ registers
+-- Each way that is left has an end.
+pub way_fault : (f : Ways) → ((p : Progress) → 1 ≤ length (f p)) → (k room most waiting : ℕ) (left rest : List Progress) (from : Progress) (done all : List Progress) (e : RunFault) → left ≡ from ∷ rest → done ++ flat_map f left ≡ all →
+    waiting ≡ length rest → room + length done + waiting ≡ most → IsFaultAt k room (length (f from)) e → IsFaultAt k most (length all) e
+way_fault f some k room most waiting left rest from done all e is whole w r h =
+    let x = next_way f left rest from done all is whole in
+    still_fault k room most (length (f from)) (length all) e
+    (omega (arith, ap (λ (ps : List Progress). length ps) x, length-append (done ++ f from) (flat_map f rest), length-append done (f from), some_flat_map f rest some, w, r)) h
 
-pub still_fault : (k n m : ℕ) (e : RunFault) → n ≤ m → IsFaultAt k n e → IsFaultAt k m e
-still_fault k n m (TooManyRuns j) l h = (h.0, omega (arith, h.1, l))
-still_fault k n m NoMemory l h = h
+-- One statement more.
+pub turn : (s : Setting) (c : EventSet) (statements : List Statement) (i : ℕ) (a : Statement) (ends : List Progress) → i < length statements → a ≡ get_or statements i a → flat_map (steps_runs (steps_of (drop (i + 1) statements)) s c) (flat_map (step_runs (step_of a) s c) ends) ≡ flat_map (steps_runs (steps_of (drop i statements)) s c) ends
+turn s c statements i a ends l is =
+    flat_map_twice (step_runs (step_of a) s c) (steps_runs (steps_of (drop (i + 1) statements)) s c) ends
+    ∙ ap (λ (as' : List Statement). flat_map (steps_runs (steps_of as') s c) ends) (sym (drop_first a statements i l is))
 
--- A fault at one part is a fault of all parts.
-pub turn_fault : {A B : Type 0} (f : B → List ℕ → List ThreadRun) (g : A → B) (xs : List A) (i : ℕ) (a : A) (runs : List ThreadRun) (k : ℕ) (e : RunFault) → ((b : B) (s : List ℕ) → 1 ≤ length (f b s)) → i < length xs → a ≡ get_or xs i a → (all : List ThreadRun) → extended (runs_in_turn f (map g (drop i xs))) runs ≡ all → IsFaultAt k (length (extended (f (g a)) runs)) e → IsFaultAt k (length all) e
-turn_fault f g xs i a runs k e some l is all whole h =
-    let done = extended (f (g a)) runs in
-    let t = turn f g xs i a runs done l is refl ∙ whole in
-    let m = some_extended (runs_in_turn f (map g (drop (i + 1) xs))) done (some_in_turn f some (map g (drop (i + 1) xs))) in
-    still_fault k (length done) (length all) e (omega (arith, m, ap (λ (rs : List ThreadRun). length rs) t)) h
+pub turned : (s : Setting) (c : EventSet) (statements : List Statement) (i : ℕ) (ends : List Progress) → length statements ≤ i → flat_map (steps_runs (steps_of (drop i statements)) s c) ends ≡ ends
+turned s c statements i ends l = ap (λ (as' : List Statement). flat_map (steps_runs (steps_of as') s c) ends) (drop_all i statements l) ∙ flat_map_one ends
 
-pub same_fault : (k n m : ℕ) (e : RunFault) → n ≡ m → IsFaultAt k n e → IsFaultAt k m e
-same_fault k n m e is h = still_fault k n m e (omega (arith, is)) h
+-- At the start there is one way.
+pub at_start : (s : Setting) (c : EventSet) (statements : List Statement) (from : Progress) (ends : List Progress) → ends ≡ from ∷ [] → flat_map (steps_runs (steps_of statements) s c) ends ≡ steps_runs (steps_of statements) s c from
+at_start s c statements from ends e = ap (flat_map (steps_runs (steps_of statements) s c)) e ∙ flat_map_alone (steps_runs (steps_of statements) s c) from
 
-pub fault_of_same : {T : Type 0} (r : Result T RunFault) (k : ℕ) (xs ys : List ThreadRun) → xs ≡ ys → IfErr r (IsFaultAt k (length xs)) → IfErr r (IsFaultAt k (length ys))
-fault_of_same r k xs ys is h = IfErr-weaker r (IsFaultAt k (length xs)) (IsFaultAt k (length ys)) (λ e. same_fault k (length xs) (length ys) e (ap (λ (rs : List ThreadRun). length rs) is)) h
+pub further : (s : Setting) (c : EventSet) (statements : List Statement) (i : ℕ) (a : Statement) (ends next all : List Progress) → i < length statements → a ≡ get_or statements i a → next ≡ flat_map (step_runs (step_of a) s c) ends → flat_map (steps_runs (steps_of (drop i statements)) s c) ends ≡ all → flat_map (steps_runs (steps_of (drop (i + 1) statements)) s c) next ≡ all
+further s c statements i a ends next all l is done whole =
+    ap (flat_map (steps_runs (steps_of (drop (i + 1) statements)) s c)) done
+    ∙ turn s c statements i a ends l is ∙ whole
 
-alone : (f : List ℕ → List ThreadRun) (s : List ℕ) (rs : List ThreadRun) → map (followed (giving [] None s 0)) rs ++ [] ≡ rs
-alone f s [] = refl
-alone f s (r ∷ rs) = ap (λ (xs : List ThreadRun). r ∷ xs) (alone f s rs)
+-- A fault at one statement is a fault of all.
+pub turn_fault : (s : Setting) (most : ℕ) → 1 ≤ length s.values → (c : EventSet) (statements : List Statement) (i : ℕ) (a : Statement) (ends all : List Progress) (e : RunFault) → i < length statements → a ≡ get_or statements i a → flat_map (steps_runs (steps_of (drop i statements)) s c) ends ≡ all → IsFaultAt s.thread most (length (flat_map (step_runs (step_of a) s c) ends)) e → IsFaultAt s.thread most (length all) e
+turn_fault s most v c statements i a ends all e l is whole h =
+    let done = flat_map (step_runs (step_of a) s c) ends in
+    let rest = steps_runs (steps_of (drop (i + 1) statements)) s c in
+    let t = further s c statements i a ends done all l is refl whole in
+    still_fault s.thread most most (length done) (length all) e
+    (omega (arith, some_flat_map rest done (some_steps (steps_of (drop (i + 1) statements)) s v c), ap (λ (ps : List Progress). length ps) t)) h
 
--- From the run with no event come the runs from its registers.
-pub from_start : (f : List ℕ → List ThreadRun) (s : List ℕ) → extended f (giving [] None s 0 ∷ []) ≡ f s
-from_start f s = alone f s (f s)
+-- The same of declarations.
+pub declare_turn : (s : Setting) (c : EventSet) (ds : List Declarator) (i : ℕ) (d : Declarator) (ends : List Progress) → i < length ds → d ≡ get_or ds i d → flat_map (declares_runs s c (map declared_of (drop (i + 1) ds))) (flat_map (declare_runs s c (declared_of d).register (declared_of d).value) ends) ≡ flat_map (declares_runs s c (map declared_of (drop i ds))) ends
+declare_turn s c ds i d ends l is =
+    flat_map_twice (declare_runs s c (declared_of d).register (declared_of d).value) (declares_runs s c (map declared_of (drop (i + 1) ds))) ends
+    ∙ ap (λ (es : List Declarator). flat_map (declares_runs s c (map declared_of es)) ends) (sym (drop_first d ds i l is))
+
+pub declares_turned : (s : Setting) (c : EventSet) (ds : List Declarator) (i : ℕ) (ends : List Progress) → length ds ≤ i → flat_map (declares_runs s c (map declared_of (drop i ds))) ends ≡ ends
+declares_turned s c ds i ends l = ap (λ (es : List Declarator). flat_map (declares_runs s c (map declared_of es)) ends) (drop_all i ds l) ∙ flat_map_one ends
+
+pub declares_at_start : (s : Setting) (c : EventSet) (ds : List Declarator) (from : Progress) (ends : List Progress) → ends ≡ from ∷ [] → flat_map (declares_runs s c (map declared_of ds)) ends ≡ declares_runs s c (map declared_of ds) from
+declares_at_start s c ds from ends e = ap (flat_map (declares_runs s c (map declared_of ds))) e ∙ flat_map_alone (declares_runs s c (map declared_of ds)) from
+
+pub declared_further : (s : Setting) (c : EventSet) (ds : List Declarator) (i : ℕ) (d : Declarator) (ends next all : List Progress) → i < length ds → d ≡ get_or ds i d → next ≡ flat_map (declare_runs s c (declared_of d).register (declared_of d).value) ends → flat_map (declares_runs s c (map declared_of (drop i ds))) ends ≡ all → flat_map (declares_runs s c (map declared_of (drop (i + 1) ds))) next ≡ all
+declared_further s c ds i d ends next all l is done whole =
+    ap (flat_map (declares_runs s c (map declared_of (drop (i + 1) ds)))) done
+    ∙ declare_turn s c ds i d ends l is ∙ whole
+
+pub declare_fault : (s : Setting) (most : ℕ) → 1 ≤ length s.values → (c : EventSet) (ds : List Declarator) (i : ℕ) (d : Declarator) (ends all : List Progress) (e : RunFault) → i < length ds → d ≡ get_or ds i d → flat_map (declares_runs s c (map declared_of (drop i ds))) ends ≡ all → IsFaultAt s.thread most (length (flat_map (declare_runs s c (declared_of d).register (declared_of d).value) ends)) e → IsFaultAt s.thread most (length all) e
+declare_fault s most v c ds i d ends all e l is whole h =
+    let done = flat_map (declare_runs s c (declared_of d).register (declared_of d).value) ends in
+    let rest = declares_runs s c (map declared_of (drop (i + 1) ds)) in
+    let t = declared_further s c ds i d ends done all l is refl whole in
+    still_fault s.thread most most (length done) (length all) e
+    (omega (arith, some_flat_map rest done (some_declares s v c (map declared_of (drop (i + 1) ds))), ap (λ (ps : List Progress). length ps) t)) h

@@ -6,9 +6,11 @@ ghost use Rattle.conditions.specs.Equality.{same_place};
 ghost use Rattle.conditions.specs.States.{value_at};
 ghost use Rattle.conditions.specs.declared.place.Place.{Place};
 ghost use Rattle.indexmap.specs.IndexMap.{get};
-ghost use Rattle.c11_threads.specs.Runs.{initial_registers};
+ghost use Rattle.c11_threads.specs.Runs.{initial_contents};
 
+use crate::content::Content;
 use conditions::{Binding, Place};
+use events::no_places;
 use indexmap::IndexMap;
 use litmus_c::Test;
 use std::alloc::{AllocError, Global};
@@ -36,16 +38,23 @@ fn initial_state(alloc: Global, initial: &[Binding]) -> Result<IndexMap<Place, u
     Ok(state)
 }
 
-/// The registers of a thread at its start.
-pub fn initial_registers(alloc: Global, test: &Test, thread: usize) -> Result<Vec<u32>, AllocError>
+/// What the registers of a thread hold at its start.
+pub(crate) fn initial_contents(
+    alloc: Global,
+    test: &Test,
+    thread: usize,
+) -> Result<Vec<Content>, AllocError>
     requires { thread < length test.now.threads }
-    ensures { IfOk result (λ v. v.items ≡ initial_registers test.now thread) }
+    ensures { IfOk result (λ v. v.items ≡ initial_contents test.now thread) }
 {
     let state = initial_state(alloc, test.initial())?;
-    let mut registers = Vec::new(alloc);
+    let mut contents = Vec::new(alloc);
     for name in test.threads()[thread].registers() {
         let place = Place::Reg(thread, name.copy()?);
-        registers.push(state.get(&place).copied().unwrap_or(0))?;
+        contents.push(Content {
+            value: state.get(&place).copied().unwrap_or(0),
+            reads: no_places(),
+        })?;
     }
-    Ok(registers)
+    Ok(contents)
 }

@@ -1,14 +1,18 @@
 //! The runs of a thread of C11 atomics.
 #![tactic(auto)]
 
+mod content;
 mod fault;
 mod initial;
 pub mod laws;
+mod progress;
+mod running;
 mod unroll;
 
+pub use content::Content;
 pub use fault::{MOST_RUNS, RunFault};
 pub use initial::initial_value;
-pub use unroll::runs;
+pub use running::runs;
 
 #[cfg(test)]
 mod tests;

@@ -1,28 +1,31 @@
 //! The runs of a thread, unrolled choice by choice.
 
-ghost use Rattle.std.specs.Prelude.{◌≡◌, ◌++◌, ◌<◌, ◌≤◌, ◌∷◌, [], length, map, IfOk, IfErr, OnOk, None, Some, slice_index_or, slice_set};
-ghost use Rattle.listings.specs.Lists.{Lists};
-ghost use Rattle.litmus_c.specs.Values.{values_of};
-ghost use Rattle.litmus_c.specs.Tree.{action_of, right_of, declared_of, step_of};
-ghost use Rattle.c11_threads.specs.Runs.{IsRun, place_of, read, write, initial_registers, thread_of};
-ghost use Rattle.c11_threads.specs.Unrolled.{followed, extended, runs_in_turn, given, giving, load_runs, store_runs, call_runs, right_runs, declare_runs, step_runs, setting_of, runs_of};
-ghost use Rattle.c11_threads.specs.Faults.{IsFaultAt, IsRunFault};
+ghost use Rattle.std.specs.Prelude.{◌≡◌, ◌++◌, ◌<◌, ◌≤◌, ◌∷◌, [], length, map, IfOk, IfErr, OnOk, None, Some};
+ghost use Rattle.std.specs.List.{flat_map};
+ghost use Rattle.litmus_c.specs.Tree.{term_of, action_of, right_of, declared_of, step_of, steps_of};
+ghost use Rattle.events.specs.declared.event.Access.TheVariants.{Fence};
+ghost use Rattle.c11_threads.specs.Contents.{place_of, nothing};
+ghost use Rattle.c11_threads.specs.Runs.{after, next_read};
+ghost use Rattle.c11_threads.specs.Unrolled.{giving, event, accesses, reading, perhaps, event_runs, read_runs, given_at, call_runs, right_runs, declare_runs, declares_runs, step_runs, steps_runs};
+ghost use Rattle.c11_threads.specs.Faults.{IsFaultAt};
 
-use crate::fault::{MOST_RUNS, RunFault};
-use crate::initial::initial_registers;
-use events::{Access, Event, Order, Run, no_places};
-use litmus_c::{Call, Declarator, Expression, RightSide, Statement, Test};
+use crate::content::{Content, content_of, joined, place_of};
+use crate::fault::RunFault;
+use crate::progress::Progress;
+use events::{Access, Event, Order, no_places};
+use litmus_c::{Call, Declarator, Expression, RightSide, Statement};
+use relations::Set;
 use std::alloc::{AllocError, Global};
 use std::marker::Model;
 use wb_text::Name;
 
-/// What a statement stands in.
+/// What the statements of a thread stand in.
 #[derive(Drop)]
-struct Setting<'a> {
-    thread: usize,
-    locations: &'a [Name],
-    registers: &'a [Name],
-    values: &'a [u32],
+pub(crate) struct Setting<'a> {
+    pub(crate) thread: usize,
+    pub(crate) locations: &'a [Name],
+    pub(crate) registers: &'a [Name],
+    pub(crate) values: &'a [u32],
 }
 
 impl<'a> Model for Setting<'a> {
@@ -33,44 +36,74 @@ impl<'a> Model for Setting<'a> {
     ghost view = { λ s. record { thread = s.thread; locations = s.locations.now; registers = s.registers.now; values = s.values.now } };
 }
 
-/// The first place of a name.
-fn place_of(names: &[Name], name: &Name) -> usize
-    ensures { result ≡ place_of name.now names.now }
+/// One way alone.
+fn single(alloc: Global, end: Progress) -> Result<Vec<Progress>, AllocError>
+    ensures { IfOk result (λ v. v.items ≡ end ∷ []) }
 {
-    for (place, other) in names.iter().enumerate() {
-        if other == name {
-            return place;
-        }
-    }
-    names.len()
+    Ok(vec![in alloc; end]?)
 }
 
-/// Gives a value to a register, if there is one to give it to.
-fn give(run: &mut Run, register: Option<usize>, value: u32)
-    ensures { run.new ≡ record { events = run.old.events; registers = given register run.old.registers value } }
+/// The way on that gives the content to the register.
+fn given(
+    alloc: Global,
+    from: Progress,
+    register: usize,
+    content: Content,
+) -> Result<Vec<Progress>, AllocError>
+    ensures { IfOk result (λ v. v.items ≡ giving (Some register) content from ∷ []) }
 {
-    if let Some(register) = register {
-        run.set(register, value);
-    }
+    let mut end = from;
+    end.give(Some(register), content);
+    single(alloc, end)
 }
 
-/// Sets the register to 0 in each of the runs.
-fn clear(runs: &mut [Run], register: usize)
-    ensures { runs.new ≡ extended (λ registers. giving [] (Some register) registers 0 ∷ []) runs.old }
+/// The way on that has the event and gives 0 to the register, if there is one.
+fn happen(
+    alloc: Global,
+    from: Progress,
+    event: Event,
+    register: Option<usize>,
+) -> Result<Vec<Progress>, AllocError>
+    ensures { IfOk result (λ v. v.items ≡ event_runs event register from) }
 {
-    for run in runs.iter_mut() {
-        run.set(register, 0);
+    let mut end = from;
+    end.push(event)?;
+    end.give(register, Content::nothing());
+    single(alloc, end)
+}
+
+/// The event with this value.
+fn reading(event: &Event, value: u32) -> Event
+    ensures { result ≡ reading event.now value }
+{
+    let mut read = event.copy();
+    read.value = value;
+    read
+}
+
+/// The way on that reads the value by the event, then has another event, if there is one, and gives the
+/// value to the register, if there is one.
+fn read_one(
+    alloc: Global,
+    from: &Progress,
+    read: &Event,
+    value: u32,
+    then: &Option<Event>,
+    register: Option<usize>,
+) -> Result<Progress, AllocError>
+    ensures { IfOk result (λ q. q ≡ giving register (next_read from.now value) (after from.now (reading read.now value ∷ perhaps then.now))) }
+{
+    let content = from.next_read(value);
+    let mut end = from.copy(alloc)?;
+    end.push(reading(read, value))?;
+    if let Some(event) = then {
+        end.push(event.copy())?;
     }
+    end.give(register, content);
+    Ok(end)
 }
 
 impl Setting<'_> {
-    /// The number of a location.
-    fn location(&self, name: &Name) -> usize
-        ensures { result ≡ place_of name.now self.now.locations }
-    {
-        place_of(self.locations, name)
-    }
-
     /// The number of a register.
     fn register(&self, name: &Name) -> usize
         ensures { result ≡ place_of name.now self.now.registers }
@@ -78,272 +111,292 @@ impl Setting<'_> {
         place_of(self.registers, name)
     }
 
-    /// A second run like this one, which then reads the value.
-    fn read(
-        &self,
-        run: &Run,
-        loc: usize,
-        value: u32,
-        order: Order,
-        register: Option<usize>,
-    ) -> Result<Run, AllocError>
-        ensures { IfOk result (λ r. r ≡ record { events = run.now.events ++ read self.now.thread loc value order ∷ []; registers = given register run.now.registers value }) }
+    /// What an expression gives.
+    fn content(&self, from: &Progress, expression: &Expression) -> Content
+        ensures { result ≡ given_at self.now from.now (term_of expression.now) }
     {
-        let mut longer = run.copy()?;
-        longer.push(Event {
+        content_of(self.registers, from.registers(), expression)
+    }
+
+    /// A fence.
+    fn fence(&self, ctrl: &Set, order: Order) -> Event
+        ensures { result ≡ event self.now ctrl.now Fence 0 order nothing }
+    {
+        Event {
             thread: self.thread,
-            access: Access::Read,
-            loc,
-            value,
+            access: Access::Fence,
+            loc: 0,
+            value: 0,
             order,
             data_from: no_places(),
-            ctrl_from: no_places(),
-        })?;
-        give(&mut longer, register, value);
-        Ok(longer)
-    }
-
-    /// Adds the runs that read each of the values after this one.
-    fn push_reads(
-        &self,
-        next: &mut Vec<Run>,
-        run: &Run,
-        loc: usize,
-        order: Order,
-        register: Option<usize>,
-    ) -> Result<(), RunFault>
-        requires { length next.old.items ≤ 4096 }
-        ensures done { OnOk result (next.new.items ≡ next.old.items ++ map (followed run.now) (load_runs self.now loc order register run.now.registers)) }
-        ensures within { OnOk result (length next.new.items ≤ 4096) }
-        ensures fault { IfErr result (IsFaultAt self.now.thread (length (next.old.items ++ map (followed run.now) (load_runs self.now loc order register run.now.registers)))) }
-    {
-        for value in self.values {
-            if next.len() >= MOST_RUNS {
-                return Err(RunFault::TooManyRuns(self.thread));
-            }
-            next.push(self.read(run, loc, *value, order, register)?)?;
+            ctrl_from: ctrl.copy(),
         }
-        Ok(())
     }
 
-    /// Reads each of the values after each of the runs.
-    fn load(
+    /// An access to a location.
+    fn access(
+        &self,
+        ctrl: &Set,
+        access: Access,
+        location: &Name,
+        order: Order,
+        content: Content,
+    ) -> Event
+        ensures { result ≡ accesses self.now ctrl.now access location.now order content }
+    {
+        Event {
+            thread: self.thread,
+            access,
+            loc: place_of(self.locations, location),
+            value: content.value,
+            order,
+            data_from: content.reads,
+            ctrl_from: ctrl.copy(),
+        }
+    }
+
+    /// The ways on that read each of the values by the event, and then have another event, if there is one; at
+    /// most so many.
+    fn read_each(
         &self,
         alloc: Global,
-        runs: &[Run],
-        loc: usize,
-        order: Order,
+        from: Progress,
+        read: Event,
+        then: Option<Event>,
         register: Option<usize>,
-    ) -> Result<Vec<Run>, RunFault>
-        ensures done { IfOk result (λ v. v.items ≡ extended (load_runs self.now loc order register) runs.now) }
-        ensures within { IfOk result (λ v. length v.items ≤ 4096) }
-        ensures fault { IfErr result (IsFaultAt self.now.thread (length (extended (load_runs self.now loc order register) runs.now))) }
+        most: usize,
+    ) -> Result<Vec<Progress>, RunFault>
+        ensures done { IfOk result (λ v. (v.items ≡ read_runs self.now read then register from) × (length v.items ≤ most)) }
+        ensures fault { IfErr result (IsFaultAt self.now.thread most (length (read_runs self.now read then register from))) }
     {
-        let mut next = Vec::new(alloc);
-        for run in runs {
-            self.push_reads(&mut next, run, loc, order, register)?;
+        let mut ends = Vec::new(alloc);
+        for value in self.values {
+            if ends.len() >= most {
+                return Err(RunFault::TooManyRuns(self.thread));
+            }
+            ends.push(read_one(alloc, &from, &read, *value, &then, register)?)?;
         }
-        Ok(next)
+        Ok(ends)
     }
 
-    /// Writes the value after each of the runs.
-    fn store(
-        &self,
-        runs: &mut [Run],
-        loc: usize,
-        value: u32,
-        order: Order,
-        register: Option<usize>,
-    ) -> Result<(), AllocError>
-        ensures { OnOk result (runs.new ≡ extended (store_runs self.now loc value order register) runs.old) }
-    {
-        let event = Event {
-            thread: self.thread,
-            access: Access::Write,
-            loc,
-            value,
-            order,
-            data_from: no_places(),
-            ctrl_from: no_places(),
-        };
-        for run in runs.iter_mut() {
-            run.push(event.copy())?;
-            give(run, register, 0);
-        }
-        Ok(())
-    }
-
-    /// Performs a call after each of the runs, and gives its value to the register, if there is one.
+    /// The ways on of a call, whose value is given to the register, if there is one.
     fn call(
         &self,
         alloc: Global,
-        runs: &mut Vec<Run>,
+        ctrl: &Set,
         call: &Call,
+        from: Progress,
         register: Option<usize>,
-    ) -> Result<(), RunFault>
-        requires { length runs.old.items ≤ 4096 }
-        ensures done { OnOk result (runs.new.items ≡ extended (call_runs self.now (action_of call.now) register) runs.old.items) }
-        ensures within { OnOk result (length runs.new.items ≤ 4096) }
-        ensures fault { IfErr result (IsFaultAt self.now.thread (length (extended (call_runs self.now (action_of call.now) register) runs.old.items))) }
+        most: usize,
+    ) -> Result<Vec<Progress>, RunFault>
+        requires { 1 ≤ most }
+        ensures done { IfOk result (λ v. (v.items ≡ call_runs self.now ctrl.now (action_of call.now) register from) × (length v.items ≤ most)) }
+        ensures fault { IfErr result (IsFaultAt self.now.thread most (length (call_runs self.now ctrl.now (action_of call.now) register from))) }
     {
         match call {
             Call::Load(location, order) => {
-                let loc = self.location(location);
-                *runs = self.load(alloc, runs.as_slice(), loc, *order, register)?;
+                let read = self.access(ctrl, Access::Read, location, *order, Content::nothing());
+                self.read_each(alloc, from, read, None, register, most)
             }
-            Call::Store(location, Expression::Number(value), order) => {
-                let loc = self.location(location);
-                self.store(runs.as_mut_slice(), loc, *value, *order, register)?;
+            Call::Store(location, expression, order) => {
+                let content = self.content(&from, expression);
+                let write = self.access(ctrl, Access::Write, location, *order, content);
+                Ok(happen(alloc, from, write, register)?)
             }
+            Call::Exchange(location, expression, order) => {
+                let content = self.content(&from, expression);
+                let write = self.access(ctrl, Access::ExWrite, location, *order, content);
+                let read = self.access(ctrl, Access::ExRead, location, *order, Content::nothing());
+                self.read_each(alloc, from, read, Some(write), register, most)
+            }
+            Call::Fence(order) => Ok(happen(alloc, from, self.fence(ctrl, *order), register)?),
         }
-        Ok(())
     }
 
-    /// Assigns to the register after each of the runs.
+    /// The ways on that give the register the value of the right side.
     fn assign(
         &self,
         alloc: Global,
-        runs: &mut Vec<Run>,
+        ctrl: &Set,
         right: &RightSide,
-        register: &Name,
-    ) -> Result<(), RunFault>
-        requires { length runs.old.items ≤ 4096 }
-        ensures done { OnOk result (runs.new.items ≡ extended (right_runs self.now (right_of right.now) (Some (place_of register.now self.now.registers))) runs.old.items) }
-        ensures within { OnOk result (length runs.new.items ≤ 4096) }
-        ensures fault { IfErr result (IsFaultAt self.now.thread (length (extended (right_runs self.now (right_of right.now) (Some (place_of register.now self.now.registers))) runs.old.items))) }
+        from: Progress,
+        register: usize,
+        most: usize,
+    ) -> Result<Vec<Progress>, RunFault>
+        requires { 1 ≤ most }
+        ensures done { IfOk result (λ v. (v.items ≡ right_runs self.now ctrl.now (right_of right.now) register from) × (length v.items ≤ most)) }
+        ensures fault { IfErr result (IsFaultAt self.now.thread most (length (right_runs self.now ctrl.now (right_of right.now) register from))) }
     {
-        let register = self.register(register);
         match right {
-            RightSide::Call(call) => self.call(alloc, runs, call, Some(register)),
+            RightSide::Value(expression) => {
+                let content = self.content(&from, expression);
+                Ok(given(alloc, from, register, content)?)
+            }
+            RightSide::Read(location) => {
+                let read = self.access(ctrl, Access::Read, location, Order::Na, Content::nothing());
+                self.read_each(alloc, from, read, None, Some(register), most)
+            }
+            RightSide::Call(call) => self.call(alloc, ctrl, call, from, Some(register), most),
         }
     }
 
-    /// Declares a register after each of the runs.
+    /// The ways on that declare a register.
     fn declare(
         &self,
         alloc: Global,
-        runs: &mut Vec<Run>,
+        ctrl: &Set,
         declarator: &Declarator,
-    ) -> Result<(), RunFault>
-        requires { length runs.old.items ≤ 4096 }
-        ensures done { OnOk result (runs.new.items ≡ extended (declare_runs self.now (declared_of declarator.now)) runs.old.items) }
-        ensures within { OnOk result (length runs.new.items ≤ 4096) }
-        ensures fault { IfErr result (IsFaultAt self.now.thread (length (extended (declare_runs self.now (declared_of declarator.now)) runs.old.items))) }
+        from: Progress,
+        most: usize,
+    ) -> Result<Vec<Progress>, RunFault>
+        requires { 1 ≤ most }
+        ensures done { IfOk result (λ v. (v.items ≡ declare_runs self.now ctrl.now (declared_of declarator.now).register (declared_of declarator.now).value from) × (length v.items ≤ most)) }
+        ensures fault { IfErr result (IsFaultAt self.now.thread most (length (declare_runs self.now ctrl.now (declared_of declarator.now).register (declared_of declarator.now).value from))) }
     {
+        let register = self.register(&declarator.register);
         match &declarator.value {
-            Some(right) => self.assign(alloc, runs, right, &declarator.register),
-            None => {
-                let register = self.register(&declarator.register);
-                clear(runs.as_mut_slice(), register);
-                Ok(())
-            }
+            Some(right) => self.assign(alloc, ctrl, right, from, register, most),
+            None => Ok(given(alloc, from, register, Content::nothing())?),
         }
     }
 
-    /// Declares registers, one after another, after each of the runs.
+    /// Declares one register after each of the ways. Each that still waits has an end, which leaves so much less room.
+    fn declare_each(
+        &self,
+        alloc: Global,
+        ctrl: &Set,
+        declarator: &Declarator,
+        starts: Vec<Progress>,
+        most: usize,
+    ) -> Result<Vec<Progress>, RunFault>
+        requires values { 1 ≤ length self.now.values }
+        requires most { length starts.items ≤ most }
+        ensures done { IfOk result (λ v. (v.items ≡ flat_map (declare_runs self.now ctrl.now (declared_of declarator.now).register (declared_of declarator.now).value) starts.items) × (length v.items ≤ most)) }
+        ensures fault { IfErr result (IsFaultAt self.now.thread most (length (flat_map (declare_runs self.now ctrl.now (declared_of declarator.now).register (declared_of declarator.now).value) starts.items))) }
+    {
+        let mut ends = Vec::new(alloc);
+        let mut waiting = starts.len();
+        for from in starts {
+            waiting -= 1;
+            let room = most - ends.len() - waiting;
+            let mut more = self.declare(alloc, ctrl, declarator, from, room)?;
+            ends.append(&mut more)?;
+        }
+        Ok(ends)
+    }
+
+    /// Declares registers, one after another.
     fn declare_all(
         &self,
         alloc: Global,
-        runs: &mut Vec<Run>,
+        ctrl: &Set,
         declarators: &[Declarator],
-    ) -> Result<(), RunFault>
+        from: Progress,
+        most: usize,
+    ) -> Result<Vec<Progress>, RunFault>
         requires values { 1 ≤ length self.now.values }
-        requires few { length runs.old.items ≤ 4096 }
-        ensures done { OnOk result (runs.new.items ≡ extended (runs_in_turn (declare_runs self.now) (map declared_of declarators.now)) runs.old.items) }
-        ensures within { OnOk result (length runs.new.items ≤ 4096) }
-        ensures fault { IfErr result (IsFaultAt self.now.thread (length (extended (runs_in_turn (declare_runs self.now) (map declared_of declarators.now)) runs.old.items))) }
+        requires most { 1 ≤ most }
+        ensures done { IfOk result (λ v. (v.items ≡ declares_runs self.now ctrl.now (map declared_of declarators.now) from) × (length v.items ≤ most)) }
+        ensures fault { IfErr result (IsFaultAt self.now.thread most (length (declares_runs self.now ctrl.now (map declared_of declarators.now) from))) }
     {
+        let mut ends = single(alloc, from)?;
         for declarator in declarators {
-            self.declare(alloc, runs, declarator)?;
+            ends = self.declare_each(alloc, ctrl, declarator, ends, most)?;
         }
-        Ok(())
+        Ok(ends)
     }
 
-    /// Performs a statement after each of the runs.
+    /// The ways on of a statement. The arms of an `if` stand under its test.
+    #[cycle(performing)]
     fn perform(
         &self,
         alloc: Global,
-        runs: &mut Vec<Run>,
+        ctrl: &Set,
         statement: &Statement,
-    ) -> Result<(), RunFault>
+        from: Progress,
+        most: usize,
+    ) -> Result<Vec<Progress>, RunFault>
         requires values { 1 ≤ length self.now.values }
-        requires few { length runs.old.items ≤ 4096 }
-        ensures done { OnOk result (runs.new.items ≡ extended (step_runs self.now (step_of statement.now)) runs.old.items) }
-        ensures within { OnOk result (length runs.new.items ≤ 4096) }
-        ensures fault { IfErr result (IsFaultAt self.now.thread (length (extended (step_runs self.now (step_of statement.now)) runs.old.items))) }
+        requires most { 1 ≤ most }
+        ensures done { IfOk result (λ v. (v.items ≡ step_runs (step_of statement.now) self.now ctrl.now from) × (length v.items ≤ most)) }
+        ensures fault { IfErr result (IsFaultAt self.now.thread most (length (step_runs (step_of statement.now) self.now ctrl.now from))) }
     {
         match statement {
-            Statement::Empty => Ok(()),
-            Statement::Declare(declarators) => {
-                self.declare_all(alloc, runs, declarators.as_slice())
+            Statement::Empty => Ok(single(alloc, from)?),
+            Statement::Block(statements) => {
+                self.perform_all(alloc, ctrl, statements.as_slice(), from, most)
             }
-            Statement::Assign(register, right) => self.assign(alloc, runs, right, register),
-            Statement::Perform(call) => self.call(alloc, runs, call, None),
+            Statement::Declare(declarators) => {
+                self.declare_all(alloc, ctrl, declarators.as_slice(), from, most)
+            }
+            Statement::Assign(register, right) => {
+                self.assign(alloc, ctrl, right, from, self.register(register), most)
+            }
+            Statement::Write(location, expression) => {
+                let content = self.content(&from, expression);
+                let write = self.access(ctrl, Access::Write, location, Order::Na, content);
+                Ok(happen(alloc, from, write, None)?)
+            }
+            Statement::Perform(call) => self.call(alloc, ctrl, call, from, None, most),
+            Statement::If(expression, first, second) => {
+                let test = self.content(&from, expression);
+                let inside = joined(ctrl, &test.reads);
+                if test.value != 0 {
+                    return self.perform(alloc, &inside, first, from, most);
+                }
+                match second {
+                    Some(second) => self.perform(alloc, &inside, second, from, most),
+                    None => Ok(single(alloc, from)?),
+                }
+            }
         }
     }
 
-    /// Performs statements, one after another, after each of the runs.
-    fn perform_all(
+    /// Performs a statement after each of the ways. Each that still waits has an end, which leaves so much less room.
+    #[cycle(performing)]
+    fn perform_each(
         &self,
         alloc: Global,
-        runs: &mut Vec<Run>,
-        statements: &[Statement],
-    ) -> Result<(), RunFault>
+        ctrl: &Set,
+        statement: &Statement,
+        starts: Vec<Progress>,
+        most: usize,
+    ) -> Result<Vec<Progress>, RunFault>
         requires values { 1 ≤ length self.now.values }
-        requires few { length runs.old.items ≤ 4096 }
-        ensures done { OnOk result (runs.new.items ≡ extended (runs_in_turn (step_runs self.now) (map step_of statements.now)) runs.old.items) }
-        ensures within { OnOk result (length runs.new.items ≤ 4096) }
-        ensures fault { IfErr result (IsFaultAt self.now.thread (length (extended (runs_in_turn (step_runs self.now) (map step_of statements.now)) runs.old.items))) }
+        requires most { length starts.items ≤ most }
+        ensures done { IfOk result (λ v. (v.items ≡ flat_map (step_runs (step_of statement.now) self.now ctrl.now) starts.items) × (length v.items ≤ most)) }
+        ensures fault { IfErr result (IsFaultAt self.now.thread most (length (flat_map (step_runs (step_of statement.now) self.now ctrl.now) starts.items))) }
     {
-        for statement in statements {
-            self.perform(alloc, runs, statement)?;
+        let mut ends = Vec::new(alloc);
+        let mut waiting = starts.len();
+        for from in starts {
+            waiting -= 1;
+            let room = most - ends.len() - waiting;
+            let mut more = self.perform(alloc, ctrl, statement, from, room)?;
+            ends.append(&mut more)?;
         }
-        Ok(())
+        Ok(ends)
     }
-}
 
-/// What the statements of a thread stand in.
-fn within<'a>(test: &'a Test, thread: usize, values: &'a [u32]) -> Setting<'a>
-    requires thread { thread < length test.now.threads }
-    requires values { values.now ≡ values_of test.now }
-    ensures { result ≡ setting_of test.entry.now thread }
-{
-    Setting {
-        thread,
-        locations: test.locations(),
-        registers: test.threads()[thread].registers(),
-        values,
+    /// Performs statements, one after another, each under the same tests.
+    #[cycle(performing)]
+    pub(crate) fn perform_all(
+        &self,
+        alloc: Global,
+        ctrl: &Set,
+        statements: &[Statement],
+        from: Progress,
+        most: usize,
+    ) -> Result<Vec<Progress>, RunFault>
+        requires values { 1 ≤ length self.now.values }
+        requires most { 1 ≤ most }
+        ensures done { IfOk result (λ v. (v.items ≡ steps_runs (steps_of statements.now) self.now ctrl.now from) × (length v.items ≤ most)) }
+        ensures fault { IfErr result (IsFaultAt self.now.thread most (length (steps_runs (steps_of statements.now) self.now ctrl.now from))) }
+    {
+        let mut ends = single(alloc, from)?;
+        for statement in statements {
+            ends = self.perform_each(alloc, ctrl, statement, ends, most)?;
+        }
+        Ok(ends)
     }
-}
-
-/// The statements of a thread.
-fn statements(test: &Test, thread: usize) -> &[Statement]
-    requires { thread < length test.now.threads }
-    ensures { map step_of result.now ≡ (thread_of test.now thread).steps }
-{
-    test.threads()[thread].statements()
-}
-
-/// The one run of no statement.
-fn start(alloc: Global, test: &Test, thread: usize) -> Result<Vec<Run>, AllocError>
-    requires { thread < length test.now.threads }
-    ensures { IfOk result (λ v. v.items ≡ giving [] None (initial_registers test.now thread) 0 ∷ []) }
-{
-    let first = Run::new(Vec::new(alloc), initial_registers(alloc, test, thread)?);
-    Ok(vec![in alloc; first]?)
-}
-
-/// The runs of a thread, each once. A run that reads a lower value first stands before the others.
-pub fn runs(alloc: Global, test: &Test, thread: usize) -> Result<Vec<Run>, RunFault>
-    requires { thread < length test.now.threads }
-    ensures each { IfOk result (λ v. Lists (IsRun test.now thread) v.items) }
-    ensures order { IfOk result (λ v. v.items ≡ runs_of test.now thread) }
-    ensures within { IfOk result (λ v. length v.items ≤ 4096) }
-    ensures fault { IfErr result (IsRunFault test.now thread) }
-{
-    let values = test.values(alloc)?;
-    let setting = within(test, thread, &values);
-    let mut runs = start(alloc, test, thread)?;
-    setting.perform_all(alloc, &mut runs, statements(test, thread))?;
-    Ok(runs)
 }

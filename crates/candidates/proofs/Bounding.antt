@@ -8,7 +8,8 @@ use Rattle.listings.specs.Lists.{ForEach, tabulate}
 use Rattle.litmus_c.specs.Tree.{Litmus}
 use Rattle.litmus_c.specs.Limits.{program_events, IsTest}
 use Rattle.c11_threads.specs.Runs.{thread_of, no_program, IsRun}
-use Rattle.c11_threads.proofs.Few.{few_events}
+use Rattle.c11_threads.specs.Bounds.{IsPlaced}
+use Rattle.c11_threads.proofs.Few.{bounding}
 use Rattle.candidates.specs.Candidates.{choices_of, choice, count_choices}
 use Rattle.candidates.specs.Bounds.{event_count, AreWithin}
 use Rattle.candidates.proofs.Law.{choice_is}
@@ -17,7 +18,7 @@ drop_thread : (t : Litmus) (j : ℕ) → j < length t.threads → drop j t.threa
 drop_thread t j l = drop-cons t.threads j no_program l
 
 abbrev pub AreAt : ℕ → ThreadRun → Type 0
-AreAt m run = All (λ e. e.loc < m) run.events
+AreAt m run = All (IsPlaced m) run.events
 
 few_runs : (t : Litmus) → IsTest t → (n j : ℕ) (g : ℕ → ℕ) (runs : List ThreadRun) → ((i : ℕ) → i < n → g i ≡ j + i) → j + n ≡ length t.threads → ForEach (IsRun t) (tabulate n g) runs → (event_count runs ≤ sum_by program_events (drop j t.threads)) × All (AreAt (length t.locations)) runs
 few_runs t p zero j g [] same e h = (omega arith, All-nil (AreAt (length t.locations)))
@@ -27,7 +28,7 @@ few_runs t p (suc n) j g (run ∷ runs) same e h =
     let l : j < length t.threads = omega (arith, e) in
     let here : g 0 ≡ j = same 0 (omega arith) ∙ (let z : j + 0 ≡ j = omega arith in z) in
     let I : ℕ → Type 0 = λ k. IsRun t k run in
-    let few = few_events t j run (p.names j no_program l) (subst I here h.0) in
+    let few = bounding t j run (p.names j no_program l) (subst I here h.0) in
     let rest = few_runs t p n (suc j) (λ i. g (suc i)) runs (λ i m. same (suc i) (omega (arith, m)) ∙ (let z : j + suc i ≡ suc j + i = omega arith in z)) (omega (arith, e)) h.1 in
     let d = ap (sum_by program_events) (drop_thread t j l) ∙ sum_by-cons program_events (thread_of t j) (drop (suc j) t.threads) in
     (omega (arith, sum_by-cons (λ (r : ThreadRun). length r.events) run runs, few.count, rest.0, d), All-cons (AreAt (length t.locations)) run runs few.places rest.1)

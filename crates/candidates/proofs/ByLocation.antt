@@ -9,6 +9,7 @@ use Rattle.std.specs.List.{sum_by, count_by, All}
 use Rattle.events.specs.declared.event.Event.{Event}
 use Rattle.events.specs.Executions.{ThreadRun, is_read, writes_to}
 use Rattle.listings.specs.Lists.{product_by, factorial, tabulate}
+use Rattle.c11_threads.specs.Bounds.{IsPlaced}
 use Rattle.candidates.specs.Executions.{reads, writes_from, writes_from_thread, later_writes, upto, block}
 use Rattle.candidates.specs.Bounds.{reads_from, event_count}
 use Rattle.candidates.specs.Candidates.{choice, run_at}
@@ -90,16 +91,19 @@ no_read f n e h = ones n (λ i. i) (λ x. f x ^ once_at e x) (λ i m. ap (λ k. 
 split : (f : ℕ → ℕ) (c d : ℕ → ℕ) (n : ℕ) → product_by (λ x. f x ^ (c x + d x)) (upto n) ≡ product_by (λ x. f x ^ c x) (upto n) * product_by (λ x. f x ^ d x) (upto n)
 split f c d n = product_same (λ x. f x ^ (c x + d x)) (λ x. f x ^ c x * f x ^ d x) (λ x. pow-add (f x) (c x) (d x)) (upto n) ∙ product_mul (λ x. f x ^ c x) (λ x. f x ^ d x) (upto n)
 
-events_by_location : (f : ℕ → ℕ) (n : ℕ) (es : List Event) → All (λ e. e.loc < n) es → product_by (λ r. f r.loc) (filter (λ e. is_read e.access) es) ≡ product_by (λ x. f x ^ count_by (reads_from x) es) (upto n)
+pub placed_read : (n : ℕ) (e : Event) → IsPlaced n e → is_read e.access ≡ true → e.loc < n
+placed_read n e h t = elim h [ inl f ↦ absurd (false≢true (sym (ap is_read f) ∙ t)) | inr l ↦ l ]
+
+events_by_location : (f : ℕ → ℕ) (n : ℕ) (es : List Event) → All (IsPlaced n) es → product_by (λ r. f r.loc) (filter (λ e. is_read e.access) es) ≡ product_by (λ x. f x ^ count_by (reads_from x) es) (upto n)
 events_by_location f n [] h = sym (ones n (λ i. i) (λ x. f x ^ 0) (λ i l. pow-zero (f i)))
 events_by_location f n (e ∷ es) h =
-    let rest = events_by_location f n es (All-tail (λ e. e.loc < n) e es h) in
+    let rest = events_by_location f n es (All-tail (IsPlaced n) e es h) in
     let p = product_by (λ x. f x ^ count_by (reads_from x) es) (upto n) in
     let more : (x : ℕ) → f x ^ count_by (reads_from x) (e ∷ es) ≡ f x ^ (once_at e x + count_by (reads_from x) es) = λ x. ap (λ k. f x ^ k) (sum_by-cons (λ a. cond (reads_from x a) 1 0) e es) in
     let s : product_by (λ x. f x ^ count_by (reads_from x) (e ∷ es)) (upto n) ≡ product_by (λ x. f x ^ once_at e x) (upto n) * p =
     product_same (λ x. f x ^ count_by (reads_from x) (e ∷ es)) (λ x. f x ^ (once_at e x + count_by (reads_from x) es)) more (upto n) ∙ split f (once_at e) (λ x. count_by (reads_from x) es) n in
     elim (test (is_read e.access)) [
-      | inl t ↦ ap (product_by (λ r. f r.loc)) (filter_yes e es t) ∙ ap (λ k. f e.loc * k) rest ∙ sym (s ∙ ap (λ k. k * p) (one_read f n e (All-head (λ e. e.loc < n) e es h) t))
+      | inl t ↦ ap (product_by (λ r. f r.loc)) (filter_yes e es t) ∙ ap (λ k. f e.loc * k) rest ∙ sym (s ∙ ap (λ k. k * p) (one_read f n e (placed_read n e (All-head (IsPlaced n) e es h) t) t))
       | inr t ↦ ap (product_by (λ r. f r.loc)) (filter_no e es t) ∙ rest ∙ sym (s ∙ ap (λ k. k * p) (no_read f n e t) ∙ one_times p)
     ]
 
@@ -110,10 +114,10 @@ reads_at runs x = sum_by (λ run. count_by (reads_from x) run.events) runs
 abbrev pub writes_at : List ThreadRun → ℕ → ℕ
 writes_at runs x = sum_by (λ run. count_by (writes_to x) run.events) runs
 
-reads_by_location : (f : ℕ → ℕ) (n : ℕ) (runs : List ThreadRun) → All (λ run. All (λ e. e.loc < n) run.events) runs → product_by (λ r. f r.loc) (reads runs) ≡ product_by (λ x. f x ^ reads_at runs x) (upto n)
+reads_by_location : (f : ℕ → ℕ) (n : ℕ) (runs : List ThreadRun) → All (λ run. All (IsPlaced n) run.events) runs → product_by (λ r. f r.loc) (reads runs) ≡ product_by (λ x. f x ^ reads_at runs x) (upto n)
 reads_by_location f n [] h = sym (ones n (λ i. i) (λ x. f x ^ 0) (λ i l. pow-zero (f i)))
 reads_by_location f n (run ∷ runs) h =
-    let P : ThreadRun → Type 0 = λ run. All (λ e. e.loc < n) run.events in
+    let P : ThreadRun → Type 0 = λ run. All (IsPlaced n) run.events in
     let here = events_by_location f n run.events (All-head P run runs h) in
     let rest = reads_by_location f n runs (All-tail P run runs h) in
     let more : (x : ℕ) → f x ^ reads_at (run ∷ runs) x ≡ f x ^ (count_by (reads_from x) run.events + reads_at runs x) = λ x. ap (λ k. f x ^ k) (sum_by-cons (λ (r : ThreadRun). count_by (reads_from x) r.events) run runs) in
@@ -159,7 +163,7 @@ count_later runs x = count_threads x 0 runs
 abbrev pub ways_at : List ThreadRun → ℕ → ℕ
 ways_at runs x = (writes_at runs x + 1) ^ reads_at runs x * factorial (writes_at runs x)
 
-pub by_location : (n : ℕ) (runs : List ThreadRun) → All (λ run. All (λ e. e.loc < n) run.events) runs → block n runs ≡ product_by (ways_at runs) (upto n)
+pub by_location : (n : ℕ) (runs : List ThreadRun) → All (λ run. All (IsPlaced n) run.events) runs → block n runs ≡ product_by (ways_at runs) (upto n)
 by_location n runs h =
     let f : ℕ → ℕ = λ x. writes_at runs x + 1 in
     let one : product_by (λ r. suc (length (later_writes runs r.loc))) (reads runs) ≡ product_by (λ r. f r.loc) (reads runs) =

@@ -7,10 +7,12 @@ use Rattle.events.specs.declared.event.EventId.TheVariants.{Initial, Own}
 use Rattle.events.specs.Executions.{ThreadRun, is_read, IsNamed, IsGraph}
 use Rattle.listings.specs.Lists.{IsIn, StandsAt, ForEach, tabulate}
 use Rattle.listings.proofs.Listings.{in_get_or}
+use Rattle.c11_threads.specs.Bounds.{IsPlaced}
 use Rattle.candidates.specs.Executions.{Writes, IsCoherence, reads, block}
 use Rattle.candidates.specs.Candidates.{no_run, candidate, write_value}
 use Rattle.candidates.specs.Bounds.{AreWithin}
 use Rattle.std.proofs.lemmas.List.Elements.{All-nil, All-cons, All-head, All-tail, All-append}
+use Rattle.candidates.proofs.ByLocation.{placed_read}
 use Rattle.candidates.proofs.Law.{CanRead, block_numbered}
 use Rattle.candidates.proofs.Writing.{in_sources, stands_get}
 
@@ -41,20 +43,20 @@ filter_no e es h = rw h refl
 abbrev pub IsAt : ℕ → Event → Type 0
 IsAt n e = e.loc < n
 
-some_at : (n : ℕ) (es : List Event) → All (IsAt n) es → All (IsAt n) (filter (λ e. is_read e.access) es)
+some_at : (n : ℕ) (es : List Event) → All (IsPlaced n) es → All (IsAt n) (filter (λ e. is_read e.access) es)
 some_at n [] h = All-nil (IsAt n)
 some_at n (e ∷ es) h =
     let P : List Event → Type 0 = All (IsAt n) in
-    let rest = some_at n es (All-tail (IsAt n) e es h) in
+    let rest = some_at n es (All-tail (IsPlaced n) e es h) in
     elim (test (is_read e.access)) [
-      | inl t ↦ subst P (filter_yes e es t) (All-cons (IsAt n) e (filter (λ e. is_read e.access) es) (All-head (IsAt n) e es h) rest)
+      | inl t ↦ subst P (filter_yes e es t) (All-cons (IsAt n) e (filter (λ e. is_read e.access) es) (placed_read n e (All-head (IsPlaced n) e es h) t) rest)
       | inr t ↦ subst P (filter_no e es t) rest
     ]
 
-reads_at_locations : (n : ℕ) (runs : List ThreadRun) → All (λ run. All (IsAt n) run.events) runs → All (IsAt n) (reads runs)
+reads_at_locations : (n : ℕ) (runs : List ThreadRun) → All (λ run. All (IsPlaced n) run.events) runs → All (IsAt n) (reads runs)
 reads_at_locations n [] h = All-nil (IsAt n)
 reads_at_locations n (run ∷ runs) h =
-    let P : ThreadRun → Type 0 = λ run. All (IsAt n) run.events in
+    let P : ThreadRun → Type 0 = λ run. All (IsPlaced n) run.events in
     All-append (IsAt n) (filter (λ e. is_read e.access) run.events) (reads runs) (some_at n run.events (All-head P run runs h)) (reads_at_locations n runs (All-tail P run runs h))
 
 rf_named : (init : List ℕ) (runs : List ThreadRun) (rs : List Event) (ws : List EventId) → All (IsAt (length init)) rs → ForEach (CanRead runs) rs ws → All (IsNamed init runs) ws

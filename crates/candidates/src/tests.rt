@@ -33,6 +33,33 @@ fn sb_calls(rt: HostRuntime) -> Result<(), Fail> {
     Ok(())
 }
 
+const LB_DATA: &str = "C LB\n{}\n\
+P0 (atomic_int* x, atomic_int* y) { int r0 = atomic_load_explicit(x, memory_order_relaxed); atomic_store_explicit(y, r0, memory_order_relaxed); }\n\
+P1 (atomic_int* x, atomic_int* y) { int r1 = atomic_load_explicit(y, memory_order_relaxed); atomic_store_explicit(x, r1, memory_order_relaxed); }\n\
+exists (0:r0=1)\n";
+
+const EXCHANGES: &str = "C EX\n{}\n\
+P0 (atomic_int* x) { int r0 = atomic_exchange_explicit(x, 1, memory_order_relaxed); }\n\
+P1 (atomic_int* x) { int r1 = atomic_exchange_explicit(x, 2, memory_order_relaxed); }\n\
+exists (0:r0=0 /\\ 1:r1=0)\n";
+
+const BRANCHES: &str = "C CT\n{}\n\
+P0 (atomic_int* x, atomic_int* y) { int r0 = atomic_load_explicit(x, memory_order_relaxed); if (r0 == 1) { atomic_store_explicit(y, 1, memory_order_relaxed); } }\n\
+P1 (atomic_int* x, atomic_int* y) { int r0 = atomic_load_explicit(y, memory_order_relaxed); if (r0 == 1) { atomic_store_explicit(x, 1, memory_order_relaxed); } }\n\
+exists (0:r0=1)\n";
+
+#[test]
+fn executions(rt: HostRuntime) -> Result<(), Fail> {
+    let alloc = rt.alloc();
+    for (text, count) in [(LB_DATA, 5), (EXCHANGES, 18), (BRANCHES, 2)] {
+        let space = Space::new(alloc, &read_test(alloc, text.as_bytes())?)?;
+        assert_eq!(rt; count_executions(alloc, &space)?, count);
+    }
+    let space = Space::new(alloc, &read_test(alloc, LB_DATA.as_bytes())?)?;
+    assert_eq!(rt; space.size(), 16);
+    Ok(())
+}
+
 /// The fault of the space of a test of one thread, which makes this call so often.
 fn fault_of(alloc: Global, call: &str, times: usize) -> Result<Option<SpaceFault>, Fail> {
     let mut text = String::from_str(alloc, "C T\n{}\nP0 (atomic_int* x) {\n")?;

@@ -1,22 +1,23 @@
 use Rattle.std.proofs.Common.{◌∙◌, sym}
 use Rattle.std.proofs.lemmas.Result.{err_from_is_err_and}
-use Rattle.litmus_c.specs.Tree.{declared_of}
-use Rattle.c11_threads.specs.Unrolled.{declare_runs}
-use Rattle.c11_threads.proofs.Turns.{turn, turned, turn_fault, some_declare}
+use Rattle.c11_threads.proofs.Turns.{declared_further, declares_turned, declare_fault}
 use Rattle.c11_threads.proofs.unroll.Setting.declare_all.Goals as goal
 
-pub returns-in_err-declare-clause-fault : goal.returns-in_err-declare-clause-fault
-returns-in_err-declare-clause-fault c =
-    let p = err_from_is_err_and c.from_residual.result c.from_residual.ensures.1 in
-    rw (p.1, p.2) (turn_fault (declare_runs c.args.self.now) declared_of c.args.declarators.now c.loop-declarator.declarator-index c.declarator-item.result c.loop-declarator.runs.items c.args.self.now.thread c.in_err-declare.field-0.0
-    (some_declare c.args.self.now c.requires.values) c.loop-declarator-test.true c.declarator-item.is _ c.loop-declarator.invariant.is c.in_err-declare.ensures.fault)
+pub returns-in_err-ends-2-clause-fault : goal.returns-in_err-ends-2-clause-fault
+returns-in_err-ends-2-clause-fault c =
+    let p = err_from_is_err_and c.from_residual-in_err-ends-2.result c.from_residual-in_err-ends-2.ensures.1 in
+    rw (p.1, p.2) (declare_fault c.args.self.now c.args.most c.requires.values c.args.ctrl.now c.args.declarators.now c.loop-declarator.declarator-index c.declarator-item.result c.loop-declarator.ends.items _ c.in_err-ends-2.field-0.0
+    c.loop-declarator-test.true c.declarator-item.is c.loop-declarator.invariant.is c.in_err-ends-2.ensures.fault)
 
 pub loop-declarator-preserved : goal.loop-declarator-preserved
 loop-declarator-preserved c = record {
-  is = turn (declare_runs c.args.self.now) declared_of c.args.declarators.now c.loop-declarator.declarator-index c.declarator-item.result c.loop-declarator.runs.items c.declare.new.runs.items
-      c.loop-declarator-test.true c.declarator-item.is c.in_ok-declare.ensures.done ∙ c.loop-declarator.invariant.is;
-  within = c.in_ok-declare.ensures.within;
+  is = declared_further c.args.self.now c.args.ctrl.now c.args.declarators.now c.loop-declarator.declarator-index c.declarator-item.result c.loop-declarator.ends.items c.in_ok-ends-2.ends.items _
+      c.loop-declarator-test.true c.declarator-item.is c.in_ok-ends-2.ensures.done.0 c.loop-declarator.invariant.is;
+  within = c.in_ok-ends-2.ensures.done.1;
 }
 
 pub returns-clause-done : goal.returns-clause-done
-returns-clause-done c = sym (turned (declare_runs c.args.self.now) declared_of c.args.declarators.now c.loop-declarator.declarator-index c.loop-declarator.runs.items c.loop-declarator-test.false) ∙ c.loop-declarator.invariant.is
+returns-clause-done c = (
+  sym (declares_turned c.args.self.now c.args.ctrl.now c.args.declarators.now c.loop-declarator.declarator-index c.loop-declarator.ends.items c.loop-declarator-test.false) ∙ c.loop-declarator.invariant.is,
+  c.loop-declarator.invariant.within,
+)

@@ -1,8 +1,0 @@
-use Rattle.std.proofs.Common.{◌≡◌, ◌++◌, drop, map}
-use Rattle.conditions.specs.States.{value_at}
-use Rattle.conditions.specs.declared.place.Place.TheVariants.{Reg}
-use Rattle.c11_threads.specs.Runs.{initial_registers}
-use Rattle.c11_threads.proofs.initial.initial_registers.Given as goal
-
-abbrev pub invariant-loop-name : goal.invariant-loop-name
-invariant-loop-name l = l.registers.items ++ map (λ r. value_at l.test.initial (Reg l.thread r)) (drop l.name-index l.name-items) ≡ initial_registers l.test l.thread

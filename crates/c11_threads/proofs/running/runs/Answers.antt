@@ -1,0 +1,27 @@
+use Rattle.std.proofs.Common.{◌∙◌, ◌≤◌, ap, sym, subst, length}
+use Rattle.std.proofs.lemmas.Result.{err_from_is_err_and}
+use Rattle.litmus_c.specs.Tree.{steps_of}
+use Rattle.c11_threads.specs.Unrolled.{Setting}
+use Rattle.c11_threads.proofs.RunLists.{some_values}
+use Rattle.c11_threads.proofs.Whole.{unrolled, as_runs, all_listed, run_fault}
+use Rattle.c11_threads.proofs.running.runs.Goals as goal
+
+pub perform_all-requires-clause-values : goal.perform_all-requires-clause-values
+perform_all-requires-clause-values c =
+    let P : Setting → Type 0 = λ s. 1 ≤ length s.values in
+    subst P (sym c.within-setting.ensures) (some_values c.args.test.now)
+
+pub returns-in_err-ends-clause-fault : goal.returns-in_err-ends-clause-fault
+returns-in_err-ends-clause-fault c =
+    let p = err_from_is_err_and c.from_residual-in_err-ends.result c.from_residual-in_err-ends.ensures.1 in
+    let t = c.args.test.now in
+    let k = c.args.thread in
+    let e = unrolled t k c.within-setting.result c.no_places.result (steps_of c.statements.result.now) c.in_ok-from.from c.within-setting.ensures c.no_places.ensures c.statements.ensures c.in_ok-from.ensures in
+    rw (p.1, p.2) (run_fault t k c.within-setting.result.thread _ c.in_err-ends.field-0.0 (ap (λ (s : Setting). s.thread) c.within-setting.ensures) e c.in_err-ends.ensures.fault)
+
+pub returns-clause-each : goal.returns-clause-each
+returns-clause-each c =
+    let t = c.args.test.now in
+    let k = c.args.thread in
+    let e = unrolled t k c.within-setting.result c.no_places.result (steps_of c.statements.result.now) c.in_ok-from.from c.within-setting.ensures c.no_places.ensures c.statements.ensures c.in_ok-from.ensures in
+    all_listed t k c.in_ok-runs_from.field-0.items (as_runs t k c.in_ok-runs_from.field-0.items c.deref-2.result.now _ (c.in_ok-runs_from.ensures) (c.deref-2.ensures.value ∙ c.in_ok-ends.ensures.done.0) e)

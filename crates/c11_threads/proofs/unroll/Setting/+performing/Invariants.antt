@@ -1,0 +1,20 @@
+use Rattle.std.proofs.Common.{◌≡◌, ◌++◌, ◌+◌, ◌≤◌, drop, length}
+use Rattle.std.specs.List.{flat_map}
+use Rattle.std.specs.Vec.Iter.{into_iter_items, into_iter_len}
+use Rattle.litmus_c.specs.Tree.{step_of, steps_of}
+use Rattle.c11_threads.specs.Unrolled.{step_runs, steps_runs}
+use Rattle.c11_threads.proofs.unroll.Setting.+performing.Given as goal
+
+abbrev pub invariant-perform_all-loop-statement : goal.invariant-perform_all-loop-statement
+invariant-perform_all-loop-statement l = record {
+  is : flat_map (steps_runs (steps_of (drop l.statement-index l.statements)) l.self l.ctrl) l.ends.items ≡ steps_runs (steps_of l.statements) l.self l.ctrl l.fn.from;
+  within : length l.ends.items ≤ l.most;
+}
+
+abbrev pub invariant-perform_each-loop-from : goal.invariant-perform_each-loop-from
+invariant-perform_each-loop-from l = record {
+  is : l.ends.items ++ flat_map (step_runs (step_of l.statement) l.self l.ctrl) (into_iter_items l.from-iterator) ≡ flat_map (step_runs (step_of l.statement) l.self l.ctrl) l.fn.starts.items;
+  within : length l.ends.items + l.waiting ≤ l.most;
+  waiting : l.waiting ≡ length (into_iter_items l.from-iterator);
+  left : into_iter_len l.from-iterator ≡ length (into_iter_items l.from-iterator);
+}

@@ -1,0 +1,10 @@
+use Rattle.std.proofs.Common.{◌≡◌, ◌++◌, ◌≤◌, ◌∷◌, drop, length, map}
+use Rattle.c11_threads.specs.Runs.{after, next_read}
+use Rattle.c11_threads.specs.Unrolled.{giving, reading, perhaps, read_runs}
+use Rattle.c11_threads.proofs.unroll.Setting.read_each.Given as goal
+
+abbrev pub invariant-loop-value : goal.invariant-loop-value
+invariant-loop-value l = record {
+  is : l.ends.items ++ map (λ v. giving l.register (next_read l.fn.from v) (after l.fn.from (reading l.read v ∷ perhaps l.then))) (drop l.value-index l.self.values) ≡ read_runs l.self l.read l.then l.register l.fn.from;
+  within : length l.ends.items ≤ l.most;
+}

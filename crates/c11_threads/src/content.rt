@@ -1,0 +1,151 @@
+//! What a register holds, and what an expression gives.
+
+ghost use Rattle.std.specs.Prelude.{◌≡◌, ◌↔◌, IsTrue};
+ghost use Rattle.relations.specs.Events.{Has};
+ghost use Rattle.litmus_c.specs.Tree.{term_of};
+ghost use Rattle.c11_threads.specs.Contents.{place_of, just, joined, nothing, truth, content, content_in};
+
+use events::no_places;
+use litmus_c::Expression;
+use relations::Set;
+use wb_text::Name;
+
+/// What a register holds, or an expression gives: a value, and the reads of the thread that reached
+/// it, by their places in the thread's run.
+#[derive(Drop)]
+pub struct Content {
+    pub value: u32,
+    pub reads: Set,
+}
+
+/// The first place of a name, or how many names there are.
+pub(crate) fn place_of(names: &[Name], name: &Name) -> usize
+    ensures { result ≡ place_of name.now names.now }
+{
+    for (place, other) in names.iter().enumerate() {
+        if other == name {
+            return place;
+        }
+    }
+    names.len()
+}
+
+/// The set of one place. A place past 63, which no thread has, is left out.
+pub(crate) fn just(place: usize) -> Set
+    ensures { result ≡ just place }
+{
+    let mut set = no_places();
+    if place < 64 {
+        set.insert(place);
+    }
+    set
+}
+
+/// Whether a place is in a set; one beyond its count isn't.
+fn has(set: &Set, place: usize) -> bool
+    ensures { IsTrue result ↔ Has set.now place }
+{
+    place < set.count() && set.contains(place)
+}
+
+/// The places of both sets.
+pub(crate) fn joined(first: &Set, second: &Set) -> Set
+    ensures { result ≡ joined first.now second.now }
+{
+    let mut both = no_places();
+    for place in 0..64 {
+        if has(first, place) || has(second, place) {
+            both.insert(place);
+        }
+    }
+    both
+}
+
+impl Content {
+    /// 0, which no read reached.
+    pub(crate) fn nothing() -> Self
+        ensures { result ≡ nothing }
+    {
+        Content {
+            value: 0,
+            reads: no_places(),
+        }
+    }
+
+    /// The same content once more.
+    pub(crate) fn copy(&self) -> Self
+        ensures { result ≡ self.now }
+    {
+        Content {
+            value: self.value,
+            reads: self.reads.copy(),
+        }
+    }
+}
+
+/// 1 for true and 0 for false.
+fn truth(holds: bool) -> u32
+    ensures { result ≡ truth holds }
+{
+    if holds { 1 } else { 0 }
+}
+
+/// What a register holds; a register that isn't there holds 0.
+fn held_by(names: &[Name], registers: &[Content], register: &Name) -> Content
+    ensures { result ≡ content names.now registers.now register.now }
+{
+    match registers.get(place_of(names, register)) {
+        Some(content) => content.copy(),
+        None => Content::nothing(),
+    }
+}
+
+/// What an operator gives that is true of two operands or not.
+fn decided(first: &Content, second: &Content, holds: bool) -> Content
+    ensures { result ≡ record { value = truth holds; reads = joined first.now.reads second.now.reads } }
+{
+    Content {
+        value: truth(holds),
+        reads: joined(&first.reads, &second.reads),
+    }
+}
+
+/// What an expression gives. Both operands of an operator are evaluated.
+pub(crate) fn content_of(names: &[Name], registers: &[Content], expression: &Expression) -> Content
+    ensures { result ≡ content_in names.now registers.now (term_of expression.now) }
+{
+    match expression {
+        Expression::Number(value) => Content {
+            value: *value,
+            reads: no_places(),
+        },
+        Expression::Register(register) => held_by(names, registers, register),
+        Expression::Not(a) => {
+            let a = content_of(names, registers, a);
+            Content {
+                value: truth(a.value == 0),
+                reads: a.reads,
+            }
+        }
+        Expression::Equal(a, b) => {
+            let a = content_of(names, registers, a);
+            let b = content_of(names, registers, b);
+            decided(&a, &b, a.value == b.value)
+        }
+        Expression::Unequal(a, b) => {
+            let a = content_of(names, registers, a);
+            let b = content_of(names, registers, b);
+            decided(&a, &b, a.value != b.value)
+        }
+        Expression::And(a, b) => {
+            let a = content_of(names, registers, a);
+            let b = content_of(names, registers, b);
+            decided(&a, &b, a.value != 0 && b.value != 0)
+        }
+        Expression::Or(a, b) => {
+            let a = content_of(names, registers, a);
+            let b = content_of(names, registers, b);
+            decided(&a, &b, a.value != 0 || b.value != 0)
+        }
+    }
+}
