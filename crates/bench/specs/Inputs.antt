@@ -7,9 +7,9 @@ use Rattle.litmus_c.specs.Reads.{Reads}
 use Rattle.candidates.specs.Faults.{IsSpaceFault}
 use Rattle.bench.specs.declared.one.OneFault.{OneFault}
 use Rattle.bench.specs.declared.one.OneFault.TheVariants.{Read, Test, Space, Write, NoMemory}
-use Rattle.bench.specs.Outcomes.{Outcome}
-use Rattle.bench.specs.Verdicts.{IsVerdict}
-use Rattle.bench.specs.Texts.{Text}
+use Rattle.book.specs.Outcomes.{Outcome}
+use Rattle.book.specs.Verdicts.{IsVerdict}
+use Rattle.book.specs.Texts.{Text}
 
 -- what is read of an input: at most one byte more than a text may have
 abbrev pub text_of : List ℕ → List ℕ

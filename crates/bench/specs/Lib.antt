@@ -1,10 +1,2 @@
-pub mod Codes
 pub mod Faults
-pub mod Finals
 pub mod Inputs
-pub mod Outcomes
-pub mod Slots
-pub mod Tallies
-pub mod Texts
-pub mod Verdicts
-pub mod Writing

@@ -2,8 +2,6 @@
 #![tactic(auto)]
 
 mod one;
-mod report;
-mod slices;
 
 use crate::one::OneFault;
 use std::io;

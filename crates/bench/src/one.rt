@@ -3,13 +3,14 @@
 ghost use Rattle.std.specs.Prelude.{◌≡◌, [], true, Err, IfSome, IfOk, IfErr, OnOk};
 ghost use Rattle.std.specs.Io.KnownBytes.{Keeps};
 ghost use Rattle.wb_text.specs.Memory.{LosesAtMost};
+ghost use Rattle.book.specs.Verdicts.{IsVerdict};
 ghost use Rattle.bench.specs.Inputs.{text_of, HasOutcome, Summarizes, SummarizesPartly, IsRefusal, IsFaultOf};
 
-use crate::report::{WriteFault, write_summary};
-use crate::slices::{Verdict, evaluate};
+use book::report::{WriteFault, write_summary};
+use book::slices::{EmptyModel, Piece, Tally, TestRef, Verdict, Work, WorkRef, evaluate};
 use candidates::SpaceFault;
 use litmus_c::{TestFault, read_test};
-use std::alloc::Global;
+use std::alloc::{AllocError, Global};
 use thiserror::Error;
 use wb_text::{ReadFault, Sink, Source, read_up_to};
 
@@ -72,19 +73,47 @@ pub fn one<R: Source, W: Sink>(
     Ok(write_summary(&verdict, writer)?)
 }
 
-/// The verdict on the test that a text is.
+/// The verdict on the test that a text is, under a model with no checks.
 fn judge(alloc: Global, text: &[u8]) -> Result<Verdict, OneFault>
-    ensures found { IfOk result (HasOutcome text.now) }
+    ensures found { IfOk result (λ v. HasOutcome text.now v.outcome) }
     ensures refusal { IfErr result (IsRefusal text.now) }
 {
     let test = read_test(alloc, text)?;
-    Ok(evaluate(alloc, test)?)
+    let model = EmptyModel::new(Vec::new(alloc));
+    let work = Work::new(alloc, TestRef::new(alloc, test)?, model)?;
+    Ok(verdict(alloc, WorkRef::new(alloc, work)?)?)
+}
+
+/// The verdict on a work, whose numbers are evaluated in one piece.
+fn verdict(alloc: Global, work: WorkRef) -> Result<Verdict, AllocError>
+    ensures work { IfOk result (λ v. v.work ≡ work) }
+    ensures right { IfOk result (λ v. IsVerdict v.work.test v.outcome) }
+{
+    let size = work.work().size();
+    let piece = Piece::new(1, 1, 0, 0, size, work.share()?);
+    let part = evaluate(alloc, &piece)?;
+    let mut tally = Tally::new(alloc, work);
+    match tally.merge(part) {
+        Ok(()) => tally.verdict(1),
+        Err((_, AllocError)) => Err(AllocError),
+    }
 }
 
 impl OneFault {
     /// Whether the input is refused, as a test or by the space of its candidates.
     pub fn is_refusal(&self) -> bool {
         matches!(self, OneFault::Test(_) | OneFault::Space(_))
+    }
+}
+
+impl From<AllocError> for OneFault {
+    ghost use Rattle.std.specs.Prelude.{◌≡◌};
+    ghost use Rattle.bench.specs.declared.one.OneFault.TheVariants as faults;
+
+    ghost from_gives = { λ _ e. e ≡ faults.NoMemory };
+
+    fn from(_error: AllocError) -> Self {
+        OneFault::NoMemory
     }
 }
 

@@ -1,0 +1,38 @@
+-- Computed examples of steps and journals.
+use Rattle.std.specs.Prelude.{◌≡◌, refl, true, [], ◌∷◌, None, codes}
+use Rattle.std.proofs.Common.{inr}
+use Rattle.book.specs.Jobs.{Slice, mark}
+use Rattle.book.specs.Step.{Step, Legal}
+use Rattle.book.specs.Workbench.{empty, is_there, model_of}
+use Rattle.book.specs.declared.limits.Limits.{Limits}
+use Rattle.book.specs.declared.records.Refusal.TheVariants.{NoJob, NoTest}
+use Rattle.book.specs.declared.records.Reply.TheVariants.{Nothing, Refused}
+use Rattle.book.specs.declared.records.Said.TheVariants.{Ask, Poll, Claim}
+
+abbrev pub limits : Limits
+limits = record { journal = 2; versions = 1; claims = 1 }
+
+-- an empty book has no job, no test and nothing to do
+pub poll_of_none : Step (empty limits) 3 (Poll 1) (Refused (NoJob 1)) (empty limits)
+poll_of_none = inr (refl, (refl, refl))
+
+pub ask_of_none : Step (empty limits) 3 (Ask (codes "SB") (codes "stdlib.cat")) (Refused (NoTest (codes "SB"))) (empty limits)
+ask_of_none = inr (refl, (refl, refl))
+
+pub nothing_to_claim : Step (empty limits) 3 Claim Nothing (empty limits)
+nothing_to_claim = inr (refl, (refl, refl))
+
+-- so this journal is legal
+pub two_calls : Legal limits (record { place = 0; seat = 3; said = Poll 1; reply = Refused (NoJob 1) } ∷ record { place = 1; seat = 4; said = Claim; reply = Nothing } ∷ [])
+two_calls = (empty limits, (refl, (empty limits, inr (refl, (refl, refl)), (refl, (empty limits, inr (refl, (refl, refl)), refl)))))
+
+-- three files are built in
+pub built_in : is_there [] (codes "stdlib.cat") ≡ true
+built_in = refl
+
+pub not_built_in : model_of [] (codes "rc11.cat") ≡ None
+not_built_in = refl
+
+-- the second of two slices is returned
+pub second : (a b : Slice) → mark 1 (a ∷ b ∷ []) ≡ a ∷ record b { returned = true } ∷ []
+second a b = refl

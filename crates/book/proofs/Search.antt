@@ -1,0 +1,111 @@
+-- Searches of jobs, claims and files.
+use Rattle.std.proofs.Common.{◌≡◌, ℕ, zero, suc, not, ◌||◌, ◌+◌, ◌<◌, ◌==◌, List, [], ◌∷◌, ◌++◌, Bool, true, false, cond, Option, None, Some, length, get_or, take, drop, set, refl, sym, ap, ◌∙◌, arith, add-one, inl, inr, subst}
+use denote.Ref.{Bor}
+use Rattle.std.specs.Prelude.{if◌then◌else◌, is_some, option_copied, MatchOption}
+use Rattle.std.specs.List.{find, list_any}
+use Rattle.std.proofs.Math.Seq.{drop-cons}
+use Rattle.listings.specs.Lists.{IsIn}
+use Rattle.litmus_c.specs.Tree.{Word}
+use Rattle.book.specs.declared.names.CatSlot.{CatSlot}
+use Rattle.book.specs.declared.records.Replacement.{Replacement}
+use Rattle.book.specs.declared.records.SourceKind.TheVariants.{Cat}
+use Rattle.book.specs.declared.slices.work.FileVersion.{FileVersion}
+use Rattle.book.specs.Jobs.{Job, marked}
+use Rattle.book.specs.Workbench.{job_of, marked_in, cat_version, replaced_file}
+
+here : {X : Type 0} (xs : List X) (i : ℕ) (x : X) → i < length xs → x ≡ get_or xs i x → drop i xs ≡ x ∷ drop (i + 1) xs
+here xs i x h e = drop-cons xs i x h ∙ rw (← e, add-one) refl
+
+if_true : {A : Type 0} (b : Bool) (x y : A) → b ≡ true → (if b then x else y) ≡ x
+if_true b x y e = ap (λ v. if v then x else y) e
+
+if_false : {A : Type 0} (b : Bool) (x y : A) → b ≡ false → (if b then x else y) ≡ y
+if_false b x y e = ap (λ v. if v then x else y) e
+
+cond_true : {A : Type 0} (b : Bool) (x y : A) → b ≡ true → cond b x y ≡ x
+cond_true b x y e = ap (λ v. cond v x y) e
+
+cond_false : {A : Type 0} (b : Bool) (x y : A) → b ≡ false → cond b x y ≡ y
+cond_false b x y e = ap (λ v. cond v x y) e
+
+-- what is found
+
+found_first : {X : Type 0} (p : X → Bool) (y : X) (ys : List X) (x : X) (b : Bool) → p y ≡ b → (find p ys ≡ Some x → IsIn x ys × (p x ≡ true)) → cond b (Some y) (find p ys) ≡ Some x → IsIn x (y ∷ ys) × (p x ≡ true)
+found_first {X} p y ys x true is rest e =
+    let same : y ≡ x = cc in
+    (inl (sym same), let P : X → Type 0 = λ z. p z ≡ true in subst P same is)
+found_first p y ys x false is rest e = let found = rest e in (inr found.0, found.1)
+
+pub find_is : {X : Type 0} (p : X → Bool) (xs : List X) (x : X) → find p xs ≡ Some x → IsIn x xs × (p x ≡ true)
+find_is p [] x e = cc
+find_is p (y ∷ ys) x e = found_first p y ys x (p y) refl (find_is p ys x) e
+
+pub find_none : {X : Type 0} (p : X → Bool) (xs : List X) → find p xs ≡ None → list_any p xs ≡ false
+find_none p [] e = refl
+find_none {X} p (y ∷ ys) e =
+    let at : (b : Bool) → p y ≡ b → cond b (Some y) (find p ys) ≡ None → (b || list_any p ys) ≡ false = elim [ true ↦ λ is none. cc | false ↦ λ is none. find_none p ys none ] in
+    at (p y) refl e
+
+any_first : {X : Type 0} (p : X → Bool) (y : X) (ys : List X) (x : X) → IsIn x (y ∷ ys) → p x ≡ true → (IsIn x ys → list_any p ys ≡ true) → list_any p (y ∷ ys) ≡ true
+any_first {X} p y ys x (inl e) is rest =
+    let P : X → Type 0 = λ z. p z ≡ true in
+    let first : p y ≡ true = subst P e is in
+    rw first refl
+any_first p y ys x (inr q) is rest =
+    let some : list_any p ys ≡ true = rest q in
+    let or : (b : Bool) → (b || true) ≡ true = elim [ true ↦ refl | false ↦ refl ] in
+    rw some (or (p y))
+
+pub any_is : {X : Type 0} (p : X → Bool) (xs : List X) (x : X) → IsIn x xs → p x ≡ true → list_any p xs ≡ true
+any_is p [] x q is = absurd q
+any_is p (y ∷ ys) x q is = any_first p y ys x q is (λ r. any_is p ys x r is)
+
+-- the job of a number, from the front
+
+pub job_of-found : (xs : List Job) (i : ℕ) (x : Job) (number : ℕ) → i < length xs → x ≡ get_or xs i x → (x.number == number) ≡ true → job_of (drop i xs) number ≡ Some x
+job_of-found xs i x number h e b = ap (λ v. job_of v number) (here xs i x h e) ∙ cond_true _ _ _ b
+
+pub job_of-next : (xs : List Job) (i : ℕ) (x : Job) (number : ℕ) → i < length xs → x ≡ get_or xs i x → (x.number == number) ≡ false → job_of (drop i xs) number ≡ job_of (drop (i + 1) xs) number
+job_of-next xs i x number h e b = ap (λ v. job_of v number) (here xs i x h e) ∙ cond_false _ _ _ b
+
+pub marked_in-found : (xs : List Job) (i : ℕ) (x : Job) (number slice : ℕ) → i < length xs → x ≡ get_or xs i x → (x.number == number) ≡ true → marked_in (drop i xs) number slice ≡ marked slice x ∷ drop (i + 1) xs
+marked_in-found xs i x number slice h e b = ap (λ v. marked_in v number slice) (here xs i x h e) ∙ if_true _ _ _ b
+
+pub marked_in-next : (xs : List Job) (i : ℕ) (x : Job) (number slice : ℕ) → i < length xs → x ≡ get_or xs i x → (x.number == number) ≡ false → marked_in (drop i xs) number slice ≡ x ∷ marked_in (drop (i + 1) xs) number slice
+marked_in-next xs i x number slice h e b = ap (λ v. marked_in v number slice) (here xs i x h e) ∙ if_false _ _ _ b
+
+set_here : (xs : List Job) (i : ℕ) (y : Job) → i < length xs → set xs i y ≡ take i xs ++ y ∷ drop (i + 1) xs
+set_here [] i y h = absurd (omega (arith, h))
+set_here (x ∷ xs) zero y h = refl
+set_here (x ∷ xs) (suc i) y h =
+    let k : i < length xs = omega (arith, h) in
+    let e : set xs i y ≡ take i xs ++ y ∷ drop (suc i) xs = set_here xs i y k ∙ rw add-one refl in
+    rw (add-one, e) refl
+
+pub marked_in-set : (xs : List Job) (i : ℕ) (x : Job) (number slice : ℕ) → i < length xs → x ≡ get_or xs i x → (x.number == number) ≡ true → marked_in xs number slice ≡ take i xs ++ marked_in (drop i xs) number slice → set xs i (marked slice x) ≡ marked_in xs number slice
+marked_in-set xs i x number slice h e b k = set_here xs i _ h ∙ sym (k ∙ ap (λ v. take i xs ++ v) (marked_in-found xs i x number slice h e b))
+
+-- replaced files, from the front
+
+pub replaced_file-found : (cats : List (Word × CatSlot)) (fs : List FileVersion) (i : ℕ) (f : FileVersion) → i < length fs → f ≡ get_or fs i f → (cat_version cats f.name == f.version) ≡ false → replaced_file cats (drop i fs) ≡ Some (record { kind = Cat; name = f.name; version = cat_version cats f.name })
+replaced_file-found cats fs i f h e b = ap (replaced_file cats) (here fs i f h e) ∙ if_false _ _ _ b
+
+pub replaced_file-next : (cats : List (Word × CatSlot)) (fs : List FileVersion) (i : ℕ) (f : FileVersion) → i < length fs → f ≡ get_or fs i f → (cat_version cats f.name == f.version) ≡ true → replaced_file cats (drop i fs) ≡ replaced_file cats (drop (i + 1) fs)
+replaced_file-next cats fs i f h e b = ap (replaced_file cats) (here fs i f h e) ∙ if_true _ _ _ b
+
+any_file : (b : Bool) (cats : List (Word × CatSlot)) (r : Replacement) (fs : List FileVersion) → list_any (λ f. not (cat_version cats f.name == f.version)) fs ≡ is_some (replaced_file cats fs) → (not b || list_any (λ f. not (cat_version cats f.name == f.version)) fs) ≡ is_some (if b then replaced_file cats fs else Some r)
+any_file true cats r fs e = e
+any_file false cats r fs e = refl
+
+pub any_replaced : (cats : List (Word × CatSlot)) (fs : List FileVersion) → list_any (λ f. not (cat_version cats f.name == f.version)) fs ≡ is_some (replaced_file cats fs)
+any_replaced cats [] = refl
+any_replaced cats (f ∷ fs) = any_file (cat_version cats f.name == f.version) cats _ fs (any_replaced cats fs)
+
+-- an option by cases
+pub match_same : {X : Type 0} (o r : Option X) → o ≡ r → MatchOption o (r ≡ None) (λ x. r ≡ Some x)
+match_same None r e = sym e
+match_same (Some x) r e = sym e
+
+pub match_copied : {X : Type 0} (o : Option (Bor X)) (r : Option X) → option_copied o ≡ r → MatchOption o (r ≡ None) (λ x. r ≡ Some x.now)
+match_copied None r e = sym e
+match_copied (Some x) r e = sym e

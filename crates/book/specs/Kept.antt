@@ -1,0 +1,25 @@
+-- The book, as contracts see it.
+use Rattle.std.specs.Prelude.{◌≡◌, ◌≤◌, List, map, length}
+use Rattle.std.specs.Arc.{arc_value}
+use Rattle.std.specs.declared.sync.Arc.{Arc}
+use Rattle.book.specs.Lines.{Line}
+use Rattle.book.specs.Step.{Leads}
+use Rattle.book.specs.Workbench.{Workbench}
+use Rattle.book.specs.declared.limits.Limits.{Limits}
+
+-- The limits, the journal and the workbench.
+pub record Kept : Type 0 where
+  pub limits : Limits
+  pub journal : List Line
+  pub state : Workbench
+
+-- the entries, as plain records
+abbrev pub lines : {Z : Type 0} → List (Arc Line Z) → List Line
+lines entries = map arc_value entries
+
+-- What each book meets: its journal leads to its workbench and is no longer than its limit.
+pub record IsKept (limits : Limits) (journal : List Line) (state : Workbench) : Type 0 where
+  pub leads : Leads limits journal state
+  pub within : length journal ≤ limits.journal
+  pub same : state.limits ≡ limits
+  pub numbered : state.last_job ≤ length journal

@@ -1,0 +1,20 @@
+-- Where the final values of places stand in an execution.
+use Rattle.std.specs.Prelude.{ℕ}
+use Rattle.events.specs.Executions.{Execution}
+use Rattle.conditions.specs.declared.place.Place.{Place}
+use Rattle.conditions.specs.declared.place.Place.TheVariants.{Reg, Loc}
+use Rattle.litmus_c.specs.Tree.{Litmus}
+use Rattle.c11_threads.specs.Runs.{place_of, thread_of}
+use Rattle.book.specs.declared.slices.slot.Slot.{Slot}
+use Rattle.book.specs.declared.slices.slot.Slot.TheVariants.{Register, Location}
+use Rattle.book.specs.Finals.{final_register, final_location}
+
+-- the place of a register among those of its thread, or of a location among the test's
+abbrev pub slot_of : Litmus → Place → Slot
+slot_of t (Reg k r) = Register k (place_of r (thread_of t k).registers)
+slot_of t (Loc y) = Location (place_of y t.locations)
+
+-- the value that stands there in an execution
+abbrev pub slot_value : Execution → Slot → ℕ
+slot_value x (Register k r) = final_register x k r
+slot_value x (Location y) = final_location x y

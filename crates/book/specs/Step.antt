@@ -1,0 +1,164 @@
+-- Which replies the book may give, and the workbench after them. A journal is legal if one workbench could have made it.
+-- Each reply is the first refusal whose cause stands, with the workbench unchanged; else it is as the command asks.
+use Rattle.std.specs.Prelude.{◌≡◌, ◌≢◌, ℕ, ◌+◌, ◌<◌, ◌≤◌, Bool, true, false, ◌&&◌, not, nat_lt, nat_le, List, [], ◌∷◌, ◌++◌, length, filter, count_by, Option, None, Some, slice_get, ◌⊎◌}
+use Rattle.std.specs.List.{list_all}
+use Rattle.std.specs.Str.{bytes_eq}
+use Rattle.indexmap.specs.IndexMap.{insert_entry}
+use Rattle.listings.specs.Lists.{IsIn}
+use Rattle.wb_text.specs.Tokens.{IsTokenList}
+use Rattle.wb_text.specs.declared.token.Dialect.TheVariants as dialects
+use Rattle.litmus_c.specs.Reads.{Reads}
+use Rattle.litmus_c.specs.Tree.{Word, Litmus}
+use Rattle.litmus_c.specs.declared.fault.TestFault.TheVariants as of_test
+use Rattle.candidates.specs.Faults.{IsSpaceFault}
+use Rattle.candidates.specs.declared.fault.SpaceFault.TheVariants as of_space
+use Rattle.book.specs.declared.reading.CatFault.TheVariants as of_cat
+use Rattle.book.specs.Lines.{Line}
+use Rattle.book.specs.Parts.{IsAdmitted, test_size}
+use Rattle.book.specs.Verdicts.{IsVerdict}
+use Rattle.book.specs.Jobs as jobs
+use Rattle.book.specs.Jobs.{Slice, done, is_done}
+use Rattle.book.specs.Workbench.{Workbench, empty, test_version, cat_version, test_of, model_of, job_of, claim_of, is_claim, replaced, is_free, any_free, marked_in}
+use Rattle.book.specs.declared.limits.Limits.{Limits}
+use Rattle.book.specs.declared.records.Live.{Live}
+use Rattle.book.specs.declared.records.ModelFault.TheVariants.{NoCat}
+use Rattle.book.specs.declared.records.Returned.{Returned}
+use Rattle.book.specs.declared.records.Said.{Said}
+use Rattle.book.specs.declared.records.Said.TheVariants.{PutCat, PutTest, Ask, Poll, Claim, Return}
+use Rattle.book.specs.declared.records.Refusal.TheVariants.{Closed, ReadingTest, ReadingCat, NoTest, Model, Space, JobsFull, NoJob, NoClaim, Replaced, Stranger, VersionsSpent, ClaimsSpent}
+use Rattle.book.specs.declared.records.Reply.{Reply}
+use Rattle.book.specs.declared.records.Reply.TheVariants.{Version, Job, Pending, Verdict, Piece, Nothing, Taken, Refused}
+use Rattle.book.specs.declared.slices.work.FileVersion.{FileVersion}
+
+-- A cat text is a file if it has no token.
+abbrev pub IsCat : List ℕ → Type 0
+IsCat text = IsTokenList dialects.Cat text []
+
+abbrev pub PutsCat : Workbench → Word → List ℕ → Reply → Workbench → Type 0
+PutsCat s name text (Refused (ReadingCat fault)) s' = (¬ IsCat text) × (fault ≢ of_cat.NoMemory) × (s' ≡ s)
+PutsCat s name text (Refused (VersionsSpent n)) s' = IsCat text × (s.limits.versions ≤ cat_version s.cats name) × (n ≡ name) × (s' ≡ s)
+PutsCat s name text (Version n v) s' =
+    IsCat text × (cat_version s.cats name < s.limits.versions) × (n ≡ name) × (v ≡ cat_version s.cats name + 1)
+    × (s' ≡ record s { cats = insert_entry bytes_eq s.cats name (record { version = v; is_loaded = true }) })
+PutsCat s name text reply s' = ⊥
+
+abbrev pub PutsTest : Workbench → List ℕ → Reply → Workbench → Type 0
+PutsTest s text (Refused (ReadingTest fault)) s' = ((t : Litmus) → ¬ Reads text t) × (fault ≢ of_test.NoMemory) × (s' ≡ s)
+PutsTest s text (Refused (VersionsSpent n)) s' = (t : Litmus) × Reads text t × (s.limits.versions ≤ test_version s.tests t.name) × (n ≡ t.name) × (s' ≡ s)
+PutsTest s text (Version n v) s' =
+    (t : Litmus) × Reads text t × (test_version s.tests t.name < s.limits.versions) × (n ≡ t.name) × (v ≡ test_version s.tests t.name + 1)
+    × (s' ≡ record s { tests = insert_entry bytes_eq s.tests n (record { version = v; tree = Some t }) })
+PutsTest s text reply s' = ⊥
+
+-- the slice has this number
+abbrev pub has_number : ℕ → Slice → Bool
+has_number i x = nat_le x.from i && nat_lt i x.to
+
+-- Fresh slices, 1 to 256 of them, that cover the numbers below n once each.
+pub record IsCut (n : ℕ) (slices : List Slice) : Type 0 where
+  pub some : 1 ≤ length slices
+  pub few : length slices ≤ 256
+  pub fresh : list_all (λ x. not x.returned) slices ≡ true
+  pub within : list_all (λ x. nat_le x.from x.to && nat_le x.to n) slices ≡ true
+  pub once : (i : ℕ) → i < n → count_by (has_number i) slices ≡ 1
+
+abbrev pub AsksFor : Workbench → Word → Word → Litmus → List FileVersion → Reply → Workbench → Type 0
+AsksFor s test cat t m (Refused (Space fault)) s' = IsSpaceFault t fault × (fault ≢ of_space.NoMemory) × (s' ≡ s)
+AsksFor s test cat t m (Refused JobsFull) s' = IsAdmitted t × (256 ≤ length s.jobs) × (s' ≡ s)
+AsksFor s test cat t m (Job id) s' =
+    IsAdmitted t × (length s.jobs < 256) × (id ≡ s.last_job + 1)
+    × ((slices : List Slice) × IsCut (test_size t) slices
+    × (s' ≡ record s { last_job = id; jobs = s.jobs ++ record { number = id; version = test_version s.tests test; work = record { test = t; model = m }; slices = slices } ∷ [] }))
+AsksFor s test cat t m reply s' = ⊥
+
+abbrev pub AsksUnder : Workbench → Word → Word → Litmus → Option (List FileVersion) → Reply → Workbench → Type 0
+AsksUnder s test cat t None (Refused (Model (NoCat n))) s' = (n ≡ cat) × (s' ≡ s)
+AsksUnder s test cat t None reply s' = ⊥
+AsksUnder s test cat t (Some m) reply s' = AsksFor s test cat t m reply s'
+
+-- The test and the model are those of now.
+abbrev pub Asks : Workbench → Word → Word → Option Litmus → Reply → Workbench → Type 0
+Asks s test cat None (Refused (NoTest n)) s' = (n ≡ test) × (s' ≡ s)
+Asks s test cat None reply s' = ⊥
+Asks s test cat (Some t) reply s' = AsksUnder s test cat t (model_of s.cats cat) reply s'
+
+-- Once all slices are returned, any right verdict with the job's version and work; until then the count, unless the job
+-- is replaced.
+abbrev pub Polls : Workbench → ℕ → Option jobs.Job → Reply → Workbench → Type 0
+Polls s id None (Refused (NoJob n)) s' = (n ≡ id) × (s' ≡ s)
+Polls s id (Some job) (Verdict v) s' = (is_done job ≡ true) × (v.work ≡ job.work) × (v.version ≡ job.version) × IsVerdict v.work.test v.outcome × (s' ≡ s)
+Polls s id (Some job) (Refused (Replaced r)) s' = (is_done job ≡ false) × (replaced s job ≡ Some r) × (s' ≡ s)
+Polls s id (Some job) (Pending d n) s' = (is_done job ≡ false) × (replaced s job ≡ None) × (d ≡ done job) × (n ≡ length job.slices) × (s' ≡ s)
+Polls s id job reply s' = ⊥
+
+-- Any free slice may be given.
+abbrev pub Claims : Workbench → ℕ → Reply → Workbench → Type 0
+Claims s seat Nothing s' = (any_free s ≡ false) × (s' ≡ s)
+Claims s seat (Refused ClaimsSpent) s' = (any_free s ≡ true) × (s.limits.claims ≤ s.last_claim) × (s' ≡ s)
+Claims s seat (Piece p) s' =
+    (s.last_claim < s.limits.claims)
+    × ((job : jobs.Job) × IsIn job s.jobs × ((x : Slice) × (slice_get job.slices p.slice ≡ Some x) × (is_free s job p.slice x ≡ true)
+    × (p ≡ record { claim = s.last_claim + 1; job = job.number; slice = p.slice; from = x.from; to = x.to; work = job.work })))
+    × (s' ≡ record s { last_claim = p.claim; live = s.live ++ record { number = p.claim; seat = seat; job = p.job; slice = p.slice } ∷ [] })
+Claims s seat reply s' = ⊥
+
+-- the live claims but this one
+unfoldable pub others : ℕ → ℕ → List Live → List Live
+others number seat live = filter (λ c. not (is_claim number seat c)) live
+
+-- with a claim ended
+abbrev pub ended : Workbench → ℕ → ℕ → Workbench
+ended s number seat = record s { live = others number seat s.live }
+
+-- with a claim ended, and its slice returned
+abbrev pub taken : Workbench → ℕ → ℕ → ℕ → ℕ → Workbench
+taken s number seat job slice = record s { live = others number seat s.live; jobs = marked_in s.jobs job slice }
+
+-- the slice has this range
+abbrev pub HasRange : Option Slice → ℕ → ℕ → Type 0
+HasRange None from to = ⊥
+HasRange (Some x) from to = (x.from ≡ from) × (x.to ≡ to)
+
+-- The result is of the slice, range and work of its claim.
+abbrev pub IsOwn : Live → jobs.Job → Returned → Type 0
+IsOwn c job r = (r.slice ≡ c.slice) × HasRange (slice_get job.slices r.slice) r.from r.to × (r.work ≡ job.work)
+
+abbrev pub ReturnsTo : Workbench → ℕ → Returned → Live → Option jobs.Job → Reply → Workbench → Type 0
+ReturnsTo s seat r c None (Refused (NoClaim n)) s' = (n ≡ r.claim) × (s' ≡ s)
+ReturnsTo s seat r c (Some job) (Refused (Replaced x)) s' = (replaced s job ≡ Some x) × (s' ≡ ended s r.claim seat)
+ReturnsTo s seat r c (Some job) (Refused (Stranger n)) s' = (replaced s job ≡ None) × (¬ IsOwn c job r) × (n ≡ r.claim) × (s' ≡ s)
+ReturnsTo s seat r c (Some job) (Taken d n) s' =
+    (replaced s job ≡ None) × IsOwn c job r × (s' ≡ taken s r.claim seat c.job r.slice)
+    × (d ≡ done (jobs.marked r.slice job)) × (n ≡ length job.slices)
+ReturnsTo s seat r c job reply s' = ⊥
+
+-- the live claim of this number and seat, and its job
+abbrev pub Returns : Workbench → ℕ → Returned → Option Live → Reply → Workbench → Type 0
+Returns s seat r None (Refused (NoClaim n)) s' = (n ≡ r.claim) × (s' ≡ s)
+Returns s seat r None reply s' = ⊥
+Returns s seat r (Some c) reply s' = ReturnsTo s seat r c (job_of s.jobs c.job) reply s'
+
+abbrev pub OpenStep : Workbench → ℕ → Said → Reply → Workbench → Type 0
+OpenStep s seat (PutCat name text) reply s' = PutsCat s name text reply s'
+OpenStep s seat (PutTest text) reply s' = PutsTest s text reply s'
+OpenStep s seat (Ask test cat) reply s' = Asks s test cat (test_of s.tests test) reply s'
+OpenStep s seat (Poll id) reply s' = Polls s id (job_of s.jobs id) reply s'
+OpenStep s seat Claim reply s' = Claims s seat reply s'
+OpenStep s seat (Return r) reply s' = Returns s seat r (claim_of s.live r.claim seat) reply s'
+
+-- A closed book refuses each command.
+abbrev pub Step : Workbench → ℕ → Said → Reply → Workbench → Type 0
+Step s seat said reply s' = ((s.closed ≡ true) × (reply ≡ Refused Closed) × (s' ≡ s)) ⊎ ((s.closed ≡ false) × OpenStep s seat said reply s')
+
+-- from s, whose next place is this one, the entries lead to s'
+abbrev pub LeadsFrom : ℕ → Workbench → List Line → Workbench → Type 0
+LeadsFrom place s [] s' = s' ≡ s
+LeadsFrom place s (line ∷ lines) s' = (line.place ≡ place) × ((mid : Workbench) × Step s line.seat line.said line.reply mid × LeadsFrom (place + 1) mid lines s')
+
+-- From the empty workbench the journal leads to s.
+abbrev pub Leads : Limits → List Line → Workbench → Type 0
+Leads limits journal s = LeadsFrom 0 (empty limits) journal s
+
+-- It leads to some workbench.
+abbrev pub Legal : Limits → List Line → Type 0
+Legal limits journal = (s : Workbench) × Leads limits journal s

@@ -1,0 +1,25 @@
+//! Evaluations of tests, their printed summaries, and the book of jobs.
+#![tactic(auto)]
+
+mod bench;
+mod jobs;
+mod kept;
+mod limits;
+mod names;
+mod reading;
+mod records;
+pub mod report;
+pub mod slices;
+
+pub use bench::{Bench, Change, Plan};
+pub use jobs::Job;
+pub use kept::{Book, Refused};
+pub use limits::Limits;
+pub use names::{CatSlot, Cats, TestSlot, Tests};
+pub use reading::CatFault;
+pub use records::{
+    Command, Entry, Live, ModelFault, Refusal, Replacement, Reply, Returned, Said, SourceKind, Text,
+};
+
+#[cfg(test)]
+mod tests;

@@ -1,0 +1,17 @@
+//! The evaluation of a test: works, pieces of their numbers, results, tallies and verdicts.
+
+mod counter;
+mod finding;
+mod piece;
+mod row;
+mod slot;
+mod tally;
+mod verdict;
+mod work;
+
+pub use finding::{Finding, FindingRef};
+pub use piece::{Piece, PieceResult, evaluate};
+pub use row::Row;
+pub use tally::Tally;
+pub use verdict::{Verdict, VerdictRef};
+pub use work::{EmptyModel, FileVersion, TestRef, Work, WorkRef};
