@@ -214,7 +214,11 @@ fn is_refused(refusal: &Refusal, told: &Told) -> bool {
 }
 
 const FIRST_SCRIPT: [Row; 7] = [
-    (0, Line::Cat(b"none.cat", b""), Told::Version(b"none.cat", 1)),
+    (
+        0,
+        Line::Cat(b"none.cat", b""),
+        Told::Version(b"none.cat", 1),
+    ),
     (0, Line::Test(SB), Told::Version(b"SB", 1)),
     (0, Line::Ask(b"SB", b"none.cat"), Told::Job(1)),
     (0, Line::Poll(1), Told::Pending(0, 1)),
@@ -260,7 +264,11 @@ fn stranger(rt: HostRuntime) -> Result<(), Fail> {
 
 const SPENT: [Row; 8] = [
     (0, Line::Cat(b"a.cat", b""), Told::Version(b"a.cat", 1)),
-    (0, Line::Cat(b"a.cat", b"(* again *)"), Told::Version(b"a.cat", 2)),
+    (
+        0,
+        Line::Cat(b"a.cat", b"(* again *)"),
+        Told::Version(b"a.cat", 2),
+    ),
     (0, Line::Cat(b"a.cat", b""), Told::VersionsSpent(b"a.cat")),
     (0, Line::Test(SB), Told::Version(b"SB", 1)),
     (0, Line::Ask(b"SB", b"cos.cat"), Told::Job(1)),
@@ -304,7 +312,11 @@ fn a_full_journal_hands_the_command_back(rt: HostRuntime) -> Result<(), Fail> {
 const HIDDEN: [Row; 4] = [
     (0, Line::Test(SB), Told::Version(b"SB", 1)),
     (0, Line::Ask(b"SB", b"stdlib.cat"), Told::Job(1)),
-    (0, Line::Cat(b"stdlib.cat", b""), Told::Version(b"stdlib.cat", 1)),
+    (
+        0,
+        Line::Cat(b"stdlib.cat", b""),
+        Told::Version(b"stdlib.cat", 1),
+    ),
     (0, Line::Poll(1), Told::ReplacedCat(b"stdlib.cat", 1)),
 ];
 

@@ -1,4 +1,4 @@
-use Rattle.std.proofs.Common.{[], ap, ◌∙◌, absurd}
+use Rattle.std.proofs.Common.{[], ap, ◌∙◌}
 use Rattle.book.specs.CatFaults.{cat_fault}
 use Rattle.book.proofs.Unread.{no_first}
 use Rattle.book.proofs.reading.read_empty_cat.Goals as goal
