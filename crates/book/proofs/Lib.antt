@@ -7,5 +7,6 @@ pub mod Runs
 pub mod Scenes
 pub mod Search
 pub mod Steps
+pub mod Unread
 pub mod Whole
 pub mod Written

@@ -4,13 +4,14 @@ use Rattle.std.specs.Prelude.{slice_get}
 use Rattle.std.specs.Str.{bytes_eq}
 use Rattle.indexmap.specs.IndexMap.{insert_entry}
 use Rattle.std.specs.List.{find}
-use Rattle.litmus_c.specs.Reads.{Reads}
+use Rattle.litmus_c.specs.Reads.{Reads, IsRefused}
 use Rattle.litmus_c.specs.Tree.{Word, Litmus}
 use Rattle.litmus_c.specs.declared.fault.TestFault.{TestFault}
 use Rattle.litmus_c.specs.declared.fault.TestFault.TheVariants as of_test
 use Rattle.candidates.specs.Faults.{IsSpaceFault}
 use Rattle.candidates.specs.declared.fault.SpaceFault.{SpaceFault}
 use Rattle.candidates.specs.declared.fault.SpaceFault.TheVariants as of_space
+use Rattle.book.specs.CatFaults.{IsCatRefused}
 use Rattle.book.specs.Changes.{FitsJob}
 use Rattle.book.specs.Jobs as jobs
 use Rattle.book.specs.Jobs.{Slice, done, is_done, marked}
@@ -38,8 +39,8 @@ use Rattle.book.proofs.Search.{find_is, find_none, any_is}
 
 -- putting
 
-pub cat_unread : (s : Workbench) (seat : ℕ) (name : Word) (text : List ℕ) (fault : CatFault) → s.closed ≡ false → (IsCat text → fault ≡ of_cat.NoMemory) → fault ≢ of_cat.NoMemory → Step s seat (PutCat name text) (Refused (ReadingCat fault)) s
-cat_unread s seat name text fault open' only not = inr (open', ((λ is. not (only is)), not, refl))
+pub cat_unread : (s : Workbench) (seat : ℕ) (name : Word) (text : List ℕ) (fault : CatFault) → s.closed ≡ false → (IsCat text → fault ≡ of_cat.NoMemory) → IsCatRefused text fault → fault ≢ of_cat.NoMemory → Step s seat (PutCat name text) (Refused (ReadingCat fault)) s
+cat_unread s seat name text fault open' only cause not = inr (open', ((λ is. not (only is)), not, cause, refl))
 
 pub cat_spent : (s : Workbench) (seat : ℕ) (name n : Word) (text : List ℕ) (version : ℕ) → s.closed ≡ false → IsCat text → version ≡ cat_version s.cats name → s.limits.versions ≤ version → n ≡ name → Step s seat (PutCat name text) (Refused (VersionsSpent n)) s
 cat_spent s seat name n text version open' is v spent e = let P : ℕ → Type 0 = λ k. s.limits.versions ≤ k in inr (open', (is, subst P v spent, e, refl))
@@ -51,8 +52,8 @@ cat_put s seat name n m text version open' is v room e f =
     let P : ℕ → Type 0 = λ k. k < s.limits.versions in
     inr (open', (is, subst P v room, e, ap (λ k. k + 1) v, ap (λ w. let t : Workbench = record s { cats = insert_entry bytes_eq s.cats w slot } in t) f))
 
-pub test_unread : (s : Workbench) (seat : ℕ) (text : List ℕ) (fault : TestFault) → s.closed ≡ false → ((t : Litmus) → Reads text t → fault ≡ of_test.NoMemory) → fault ≢ of_test.NoMemory → Step s seat (PutTest text) (Refused (ReadingTest fault)) s
-test_unread s seat text fault open' only not = inr (open', ((λ t reads. not (only t reads)), not, refl))
+pub test_unread : (s : Workbench) (seat : ℕ) (text : List ℕ) (fault : TestFault) → s.closed ≡ false → ((t : Litmus) → Reads text t → fault ≡ of_test.NoMemory) → IsRefused text fault → fault ≢ of_test.NoMemory → Step s seat (PutTest text) (Refused (ReadingTest fault)) s
+test_unread s seat text fault open' only cause not = inr (open', ((λ t reads. not (only t reads)), not, cause, refl))
 
 pub test_spent : (s : Workbench) (seat : ℕ) (text : List ℕ) (t : Litmus) (n : Word) (version : ℕ) → s.closed ≡ false → Reads text t → n ≡ t.name → version ≡ test_version s.tests n → s.limits.versions ≤ version → Step s seat (PutTest text) (Refused (VersionsSpent n)) s
 test_spent s seat text t n version open' reads e v spent =

@@ -3,6 +3,7 @@ pub mod CatFaults
 pub mod Changes
 pub mod Codes
 pub mod Counters
+pub mod EntryCodes
 pub mod Finals
 pub mod JobCodes
 pub mod Jobs
@@ -13,6 +14,7 @@ pub mod Lines
 pub mod NameCodes
 pub mod Outcomes
 pub mod Parts
+pub mod Same
 pub mod Slots
 pub mod Step
 pub mod Texts

@@ -7,12 +7,13 @@ use Rattle.indexmap.specs.IndexMap.{insert_entry}
 use Rattle.listings.specs.Lists.{IsIn}
 use Rattle.wb_text.specs.Tokens.{IsTokenList}
 use Rattle.wb_text.specs.declared.token.Dialect.TheVariants as dialects
-use Rattle.litmus_c.specs.Reads.{Reads}
+use Rattle.litmus_c.specs.Reads.{Reads, IsRefused}
 use Rattle.litmus_c.specs.Tree.{Word, Litmus}
 use Rattle.litmus_c.specs.declared.fault.TestFault.TheVariants as of_test
 use Rattle.candidates.specs.Faults.{IsSpaceFault}
 use Rattle.candidates.specs.declared.fault.SpaceFault.TheVariants as of_space
 use Rattle.book.specs.declared.reading.CatFault.TheVariants as of_cat
+use Rattle.book.specs.CatFaults.{IsCatRefused}
 use Rattle.book.specs.Lines.{Line}
 use Rattle.book.specs.Parts.{IsAdmitted, test_size}
 use Rattle.book.specs.Verdicts.{IsVerdict}
@@ -35,7 +36,7 @@ abbrev pub IsCat : List ℕ → Type 0
 IsCat text = IsTokenList dialects.Cat text []
 
 abbrev pub PutsCat : Workbench → Word → List ℕ → Reply → Workbench → Type 0
-PutsCat s name text (Refused (ReadingCat fault)) s' = (¬ IsCat text) × (fault ≢ of_cat.NoMemory) × (s' ≡ s)
+PutsCat s name text (Refused (ReadingCat fault)) s' = (¬ IsCat text) × (fault ≢ of_cat.NoMemory) × IsCatRefused text fault × (s' ≡ s)
 PutsCat s name text (Refused (VersionsSpent n)) s' = IsCat text × (s.limits.versions ≤ cat_version s.cats name) × (n ≡ name) × (s' ≡ s)
 PutsCat s name text (Version n v) s' =
     IsCat text × (cat_version s.cats name < s.limits.versions) × (n ≡ name) × (v ≡ cat_version s.cats name + 1)
@@ -43,7 +44,7 @@ PutsCat s name text (Version n v) s' =
 PutsCat s name text reply s' = ⊥
 
 abbrev pub PutsTest : Workbench → List ℕ → Reply → Workbench → Type 0
-PutsTest s text (Refused (ReadingTest fault)) s' = ((t : Litmus) → ¬ Reads text t) × (fault ≢ of_test.NoMemory) × (s' ≡ s)
+PutsTest s text (Refused (ReadingTest fault)) s' = ((t : Litmus) → ¬ Reads text t) × (fault ≢ of_test.NoMemory) × IsRefused text fault × (s' ≡ s)
 PutsTest s text (Refused (VersionsSpent n)) s' = (t : Litmus) × Reads text t × (s.limits.versions ≤ test_version s.tests t.name) × (n ≡ t.name) × (s' ≡ s)
 PutsTest s text (Version n v) s' =
     (t : Litmus) × Reads text t × (test_version s.tests t.name < s.limits.versions) × (n ≡ t.name) × (v ≡ test_version s.tests t.name + 1)

@@ -2,6 +2,7 @@
 #![tactic(auto)]
 
 mod bench;
+mod equality;
 mod jobs;
 mod kept;
 mod limits;

@@ -1,10 +1,10 @@
 //! The reading of cat texts, which may have no items yet.
 
-ghost use Rattle.std.specs.Prelude.{◌≡◌, ◌≢◌, [], IfOk, IfErr, MatchBool, OnOk, OnErr};
-ghost use Rattle.litmus_c.specs.Reads.{Reads};
+ghost use Rattle.std.specs.Prelude.{◌≡◌, ◌≢◌, [], IfOk, IfErr, MatchBool, MatchOption, OnOk};
+ghost use Rattle.litmus_c.specs.Reads.{Reads, IsRefused};
 ghost use Rattle.litmus_c.specs.Tree.{Litmus};
 ghost use Rattle.litmus_c.specs.declared.fault.TestFault.TheVariants as of_test;
-ghost use Rattle.book.specs.CatFaults.{cat_fault};
+ghost use Rattle.book.specs.CatFaults.{cat_fault, BeginsAt, IsCatRefused};
 ghost use Rattle.book.specs.Step.{IsCat};
 ghost use Rattle.book.specs.declared.reading.CatFault.TheVariants.{NoMemory};
 
@@ -30,6 +30,8 @@ pub enum CatFault {
 pub fn read_litmus(alloc: Global, text: &[u8]) -> Result<Test, TestFault>
     ensures found { IfOk result (Reads text.now) }
     ensures only { IfErr result (λ e. (t : Litmus) → Reads text.now t → e ≡ of_test.NoMemory) }
+    // Each refusal comes only where its cause stands.
+    ensures cause { IfErr result (λ e. IsRefused text.now e) }
 {
     read_test(alloc, text)
 }
@@ -45,9 +47,14 @@ pub fn is_memory(fault: &TestFault) -> bool
 pub fn read_empty_cat(alloc: Global, text: &[u8]) -> Result<(), CatFault>
     ensures found { OnOk result (IsCat text.now) }
     ensures only { IfErr result (λ e. IsCat text.now → e ≡ NoMemory) }
+    // Each refusal comes only where its cause stands.
+    ensures cause { IfErr result (λ e. IsCatRefused text.now e) }
 {
     match tokens(alloc, text, Dialect::Cat) {
-        Ok(tokens) => first_token(&tokens),
+        Ok(tokens) => match first_token(&tokens) {
+            None => Ok(()),
+            Some(place) => Err(CatFault::Syntax(place)),
+        },
         Err(fault) => Err(cat_fault(fault)),
     }
 }
@@ -61,13 +68,12 @@ fn cat_fault(fault: TextFault) -> CatFault
     }
 }
 
-/// Refuses the first token.
-fn first_token(tokens: &[Token]) -> Result<(), CatFault>
-    ensures none { OnOk result (tokens.now ≡ []) }
-    ensures some { OnErr result (tokens.now ≢ []) }
+/// Where the first token begins.
+fn first_token(tokens: &[Token]) -> Option<usize>
+    ensures { MatchOption result (tokens.now ≡ []) (BeginsAt tokens.now) }
 {
     match tokens.first() {
-        None => Ok(()),
-        Some(token) => Err(CatFault::Syntax(token.from)),
+        None => None,
+        Some(token) => Some(token.from),
     }
 }

@@ -70,7 +70,7 @@ pub struct Live {
 }
 
 /// What a name is of.
-#[derive(Clone, Copy, Drop)]
+#[derive(Clone, Copy, Drop, PartialEq, Eq)]
 pub enum SourceKind {
     Test,
     Cat,

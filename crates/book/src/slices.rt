@@ -1,6 +1,7 @@
 //! The evaluation of a test: works, pieces of their numbers, results, tallies and verdicts.
 
 mod counter;
+mod equality;
 mod finding;
 mod piece;
 mod row;
