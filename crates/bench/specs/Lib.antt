@@ -1,2 +1,5 @@
 pub mod Faults
 pub mod Inputs
+pub mod Refusals
+pub mod Replies
+pub mod Serving
