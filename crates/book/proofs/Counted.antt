@@ -6,7 +6,7 @@ use Rattle.std.specs.List.Sorted.{IsStrictlySortedBy}
 use Rattle.std.proofs.lemmas.List.Sums.{fold-append, sum_by-append}
 use Rattle.events.specs.declared.event.EventId.{EventId}
 use Rattle.events.specs.Executions.{Execution}
-use Rattle.listings.specs.Lists.{IsIn, Lists}
+use Rattle.listings.specs.Lists.{IsIn}
 use Rattle.conditions.specs.declared.place.Place.{Place}
 use Rattle.conditions.specs.declared.place.Place.TheVariants.{Reg, Loc}
 use Rattle.litmus_c.specs.Tree.{Litmus}

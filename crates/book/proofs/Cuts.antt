@@ -1,11 +1,8 @@
 -- A job of one slice.
-use Rattle.std.proofs.Common.{◌≡◌, ℕ, ◌<◌, ◌≤◌, ◌&&◌, List, [], ◌∷◌, Bool, true, false, count_by, refl, lit≤, arith}
-use Rattle.std.specs.Prelude.{nat_le, nat_lt}
-use Rattle.std.specs.List.{list_all}
+use Rattle.std.proofs.Common.{ℕ, ◌≤◌, [], ◌∷◌, false, refl, lit≤, arith}
 use Rattle.std.proofs.Math.Dec.{leb-zero}
 use Rattle.std.proofs.lemmas.Bool.{lt-ltb, le-leb}
-use Rattle.book.specs.Jobs.{Slice}
-use Rattle.book.specs.Step.{IsCut, has_number}
+use Rattle.book.specs.Step.{IsCut}
 
 -- one slice over all numbers is a cut
 pub whole_cut : (n : ℕ) → IsCut n (record { from = 0; to = n; returned = false } ∷ [])

@@ -1,10 +1,9 @@
 -- Computed examples of steps and journals.
-use Rattle.std.specs.Prelude.{◌≡◌, refl, ℕ, true, false, List, [], ◌∷◌, None, Some, codes}
+use Rattle.std.specs.Prelude.{◌≡◌, refl, true, [], ◌∷◌, None, codes}
 use Rattle.std.proofs.Common.{inr}
 use Rattle.book.specs.Jobs.{Slice, mark}
-use Rattle.book.specs.Lines.{Line}
-use Rattle.book.specs.Step.{Step, Leads, Legal}
-use Rattle.book.specs.Workbench.{empty, is_there, model_of, cat_version}
+use Rattle.book.specs.Step.{Step, Legal}
+use Rattle.book.specs.Workbench.{empty, is_there, model_of}
 use Rattle.book.specs.declared.limits.Limits.{Limits}
 use Rattle.book.specs.declared.records.Refusal.TheVariants.{NoJob, NoTest}
 use Rattle.book.specs.declared.records.Reply.TheVariants.{Nothing, Refused}

@@ -1,5 +1,5 @@
 -- Searches of jobs, claims and files.
-use Rattle.std.proofs.Common.{◌≡◌, ℕ, zero, suc, ◌≢◌, not, ◌||◌, ◌&&◌, ◌+◌, ◌<◌, ◌==◌, List, [], ◌∷◌, ◌++◌, Bool, true, false, cond, Option, None, Some, length, get_or, take, drop, set, refl, sym, ap, ◌∙◌, arith, add-one, inl, inr, subst}
+use Rattle.std.proofs.Common.{◌≡◌, ℕ, zero, suc, not, ◌||◌, ◌+◌, ◌<◌, ◌==◌, List, [], ◌∷◌, ◌++◌, Bool, true, false, cond, Option, None, Some, length, get_or, take, drop, set, refl, sym, ap, ◌∙◌, arith, add-one, inl, inr, subst}
 use denote.Ref.{Bor}
 use Rattle.std.specs.Prelude.{if◌then◌else◌, is_some, option_copied, MatchOption}
 use Rattle.std.specs.List.{find, list_any}

@@ -1,10 +1,9 @@
 -- Steps of an open book, from what was looked up.
-use Rattle.std.proofs.Common.{◌≡◌, ℕ, ◌+◌, ◌<◌, ◌≤◌, ◌||◌, length, Bool, true, false, List, [], ◌∷◌, ◌++◌, Option, None, Some, refl, sym, ap, ◌∙◌, subst, inl, inr, ◌≢◌}
+use Rattle.std.proofs.Common.{◌≡◌, ℕ, ◌+◌, ◌<◌, ◌≤◌, ◌||◌, length, Bool, true, false, List, [], ◌∷◌, ◌++◌, Option, None, Some, refl, sym, ap, ◌∙◌, subst, inr, ◌≢◌}
 use Rattle.std.specs.Prelude.{slice_get}
 use Rattle.std.specs.Str.{bytes_eq}
 use Rattle.indexmap.specs.IndexMap.{insert_entry}
-use Rattle.std.specs.List.{find, list_any}
-use Rattle.listings.specs.Lists.{IsIn}
+use Rattle.std.specs.List.{find}
 use Rattle.litmus_c.specs.Reads.{Reads}
 use Rattle.litmus_c.specs.Tree.{Word, Litmus}
 use Rattle.litmus_c.specs.declared.fault.TestFault.{TestFault}
@@ -18,7 +17,7 @@ use Rattle.book.specs.Jobs.{Slice, done, is_done, marked}
 use Rattle.book.specs.Judgements.{Judged}
 use Rattle.book.specs.Lines.{returned}
 use Rattle.book.specs.Parts.{IsAdmitted, test_size, Part, Portion}
-use Rattle.book.specs.Step.{Step, IsCat, Asks, AsksUnder, AsksFor, Polls, Claims, Returns, ReturnsTo, HasRange, IsOwn, ended, taken, IsCut}
+use Rattle.book.specs.Step.{Step, IsCat, Asks, AsksUnder, Polls, Returns, ReturnsTo, HasRange, IsOwn, ended, taken}
 use Rattle.book.specs.Verdicts.{IsVerdict}
 use Rattle.book.specs.Workbench.{Workbench, cat_version, test_of, test_version, model_of, job_of, claim_of, replaced, is_free, free_among, has_free}
 use Rattle.book.specs.Works.{Task}

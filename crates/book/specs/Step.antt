@@ -14,7 +14,7 @@ use Rattle.candidates.specs.Faults.{IsSpaceFault}
 use Rattle.candidates.specs.declared.fault.SpaceFault.TheVariants as of_space
 use Rattle.book.specs.declared.reading.CatFault.TheVariants as of_cat
 use Rattle.book.specs.Lines.{Line}
-use Rattle.book.specs.Parts.{IsAdmitted, IsRange, test_size}
+use Rattle.book.specs.Parts.{IsAdmitted, test_size}
 use Rattle.book.specs.Verdicts.{IsVerdict}
 use Rattle.book.specs.Jobs as jobs
 use Rattle.book.specs.Jobs.{Slice, done, is_done}

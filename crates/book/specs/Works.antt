@@ -1,5 +1,5 @@
 -- What is evaluated: a test under a model.
-use Rattle.std.specs.Prelude.{ℕ, List}
+use Rattle.std.specs.Prelude.{List}
 use Rattle.litmus_c.specs.Tree.{Litmus}
 use Rattle.book.specs.declared.slices.work.FileVersion.{FileVersion}
 

@@ -2,9 +2,10 @@
 
 ghost use Rattle.std.specs.Prelude.{◌≡◌, ◌++◌, ◌∷◌, [], IfOk, IfErr, OnOk, OnErr, length};
 ghost use Rattle.book.specs.Judgements.{IsWhole};
+ghost use Rattle.book.specs.Parts.{IsOver};
 ghost use Rattle.book.specs.Verdicts.{IsVerdict};
 
-use crate::slices::piece::PieceResult;
+use crate::slices::piece::{Piece, PieceResult, evaluate};
 use crate::slices::verdict::Verdict;
 use crate::slices::work::WorkRef;
 use std::alloc::{AllocError, AllocFailed, Global};
@@ -54,12 +55,15 @@ impl Tally {
     }
 
     /// Adds a result, or hands it back.
+    #[tactic(auto, using(crate::proofs::Whole::first_whole))]
     pub fn merge(&mut self, part: PieceResult) -> Result<(), (PieceResult, AllocError)>
         requires { part.piece.work ≡ self.old.work }
         ensures merged { OnOk result
             (self.new ≡ record self.old { parts = self.old.parts ++ part ∷ [] }) }
         ensures same { OnErr result (self.new ≡ self.old) }
         ensures back { IfErr result (λ e. e.0 ≡ part) }
+        // The first result, where it is over all numbers, is the whole.
+        ensures whole { self.old.parts ≡ [] → IsOver self.old.work part → OnOk result (IsWhole self.new) }
     {
         match self.parts.push(part) {
             Ok(()) => Ok(()),
@@ -75,5 +79,23 @@ impl Tally {
         ensures right { IfOk result (λ v. IsVerdict v.work.test v.outcome) }
     {
         Verdict::of(&self.work, test_version, &self.parts[0])
+    }
+}
+
+impl Verdict {
+    /// The verdict on a work, whose numbers are evaluated in one piece.
+    pub fn judge(alloc: Global, work: WorkRef, test_version: u32) -> Result<Self, AllocError>
+        ensures work { IfOk result (λ v. v.work ≡ work) }
+        ensures version { IfOk result (λ v. v.version ≡ test_version) }
+        ensures right { IfOk result (λ v. IsVerdict v.work.test v.outcome) }
+    {
+        let size = work.work().size();
+        let piece = Piece::new(1, 1, 0, 0, size, work.share()?);
+        let part = evaluate(alloc, &piece)?;
+        let mut tally = Tally::new(alloc, work);
+        match tally.merge(part) {
+            Ok(()) => tally.verdict(test_version),
+            Err((_, AllocError)) => Err(AllocError),
+        }
     }
 }

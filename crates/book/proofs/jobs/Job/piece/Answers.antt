@@ -1,4 +1,4 @@
-use Rattle.std.proofs.Common.{refl, subst, ◌≡◌}
+use Rattle.std.proofs.Common.{refl, subst}
 use Rattle.std.specs.Prelude.{is_some}
 use Rattle.book.specs.Jobs.{Job, HasOneSlice}
 use Rattle.book.proofs.jobs.Job.piece.Goals as goal
