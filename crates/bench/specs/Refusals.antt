@@ -35,7 +35,7 @@ abbrev pub numbered : List ℕ → ℕ → List ℕ
 numbered words n = words ++ decimal n
 
 abbrev pub test_fault_text : TestFault → List ℕ
-test_fault_text (of_test.Text f) = codes "11 Text " ++ text_fault_text f
+test_fault_text (of_test.Text f) = named (codes "11 Text ") (text_fault_text f)
 test_fault_text (of_test.Syntax offset) = numbered (codes "12 Syntax ") offset
 test_fault_text of_test.UnknownName = codes "14 UnknownName"
 test_fault_text of_test.TooDeep = codes "18 TooDeep"
@@ -46,7 +46,7 @@ test_fault_text of_test.TooManyValues = codes "22 TooManyValues"
 test_fault_text of_test.NoMemory = codes "NoMemory"
 
 abbrev pub cat_fault_text : CatFault → List ℕ
-cat_fault_text (of_cat.Text f) = codes "51 Text " ++ text_fault_text f
+cat_fault_text (of_cat.Text f) = named (codes "51 Text ") (text_fault_text f)
 cat_fault_text (of_cat.Syntax offset) = numbered (codes "52 Syntax ") offset
 cat_fault_text of_cat.NoMemory = codes "NoMemory"
 

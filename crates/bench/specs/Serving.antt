@@ -8,9 +8,11 @@ use Rattle.book.specs.Step.{Legal}
 use Rattle.book.specs.declared.kept.Refused.{Refused}
 use Rattle.book.specs.declared.kept.Refused.TheVariants.{JournalFull, NoMemory}
 use Rattle.book.specs.declared.limits.Limits.{Limits}
+use Rattle.bench.specs.Orders.{Answers}
 use Rattle.bench.specs.Replies.{reply_text}
 use Rattle.bench.specs.declared.answer.Answer.{Answer}
 use Rattle.bench.specs.declared.answer.Answer.TheVariants.{Made, NotTaken}
+use Rattle.bench.specs.declared.order.Order.{Order}
 use Rattle.bench.specs.declared.fault.ServeFault.{ServeFault}
 use Rattle.bench.specs.declared.fault.ServeFault.TheVariants as faults
 
@@ -28,13 +30,19 @@ abbrev pub entry_of : Answer → List Line
 entry_of (Made line) = line ∷ []
 entry_of (NotTaken why) = []
 
--- the entries that were made
-abbrev pub entries_of : List Answer → List Line
-entries_of answers = flat_map entry_of answers
+-- A call of a script: what was asked, and what answered it.
+pub record Call : Type 0 where
+  pub order : Order
+  pub answer : Answer
+  pub fits : Answers order answer
 
--- what is written of answers, one after another
-abbrev pub answers_text : List Answer → List ℕ
-answers_text answers = flat_map answer_text answers
+-- the entries that calls made
+abbrev pub entries_of : List Call → List Line
+entries_of calls = flat_map (λ c. entry_of c.answer) calls
+
+-- what is written of calls, one after another
+abbrev pub calls_text : List Call → List ℕ
+calls_text calls = flat_map (λ c. answer_text c.answer) calls
 
 abbrev pub finish_text : ℕ → List ℕ
 finish_text entries = codes "finish ok " ++ decimal entries ++ codes "\n"
@@ -42,7 +50,7 @@ finish_text entries = codes "finish ok " ++ decimal entries ++ codes "\n"
 abbrev pub bad_line_text : ℕ → List ℕ
 bad_line_text line = codes "bad line " ++ decimal line ++ codes "\n"
 
--- What is to stand behind the answers: the number of entries at the end of the script, a bad line, or nothing.
+-- What is to stand behind the calls: the number of entries at the end of the script, a bad line, or nothing.
 abbrev pub Closes : {A : Type 0} → ℕ → Result A ServeFault → List ℕ → Type 0
 Closes entries (Ok done) text = text ≡ finish_text entries
 Closes entries (Err (faults.BadLine line)) text = text ≡ bad_line_text line
@@ -58,10 +66,10 @@ Tells old new (Err faults.Read) text = Appends old new text
 Tells old new (Err (faults.BadLine line)) text = Appends old new text
 Tells old new (Err faults.NoMemory) text = Appends old new text
 
--- The journal of a book with these limits was made by answers, of which this was written.
+-- Calls made the journal of a book with these limits, and this was written of them.
 pub record IsServed {A : Type 0} (limits : Limits) (old new : Option (List ℕ)) (result : Result A ServeFault) : Type 0 where
-  pub answers : List Answer
-  pub legal : Legal limits (entries_of answers)
+  pub calls : List Call
+  pub legal : Legal limits (entries_of calls)
   pub closing : List ℕ
-  pub closes : Closes (length (entries_of answers)) result closing
-  pub told : Tells old new result (answers_text answers ++ closing)
+  pub closes : Closes (length (entries_of calls)) result closing
+  pub told : Tells old new result (calls_text calls ++ closing)

@@ -1,9 +1,8 @@
 //! Why a script is not done to its end.
 
-ghost use Rattle.std.specs.Prelude.{◌≡◌};
-
 use std::alloc::AllocError;
 use thiserror::Error;
+use wb_text::Failed;
 
 /// Why a script is not done to its end.
 #[derive(Clone, Copy, Debug, Drop, PartialEq, Eq, Error)]
@@ -29,5 +28,17 @@ impl From<AllocError> for ServeFault {
 
     fn from(_error: AllocError) -> Self {
         ServeFault::NoMemory
+    }
+}
+
+/// Of a writer: a reader that fails is met where it is read.
+impl From<Failed> for ServeFault {
+    ghost use Rattle.std.specs.Prelude.{◌≡◌};
+    ghost use Rattle.bench.specs.declared.fault.ServeFault.TheVariants as faults;
+
+    ghost from_gives = { λ _ e. e ≡ faults.Write };
+
+    fn from(_error: Failed) -> Self {
+        ServeFault::Write
     }
 }

@@ -1,5 +1,8 @@
 //! The lines of a script.
 
+ghost use Rattle.std.specs.Prelude.{◌≡◌, ◌≤◌, ◌≢◌, IfErr};
+ghost use Rattle.bench.specs.declared.fault.ServeFault.TheVariants as faults;
+
 use crate::block::Block;
 use crate::fault::ServeFault;
 use memchr::memchr;
@@ -41,7 +44,9 @@ impl Lines {
     }
 
     /// Goes to the next line, and answers whether there is one.
-    pub fn next<R: Source>(&mut self, reader: &mut R) -> Result<bool, ServeFault> {
+    pub fn next<R: Source>(&mut self, reader: &mut R) -> Result<bool, ServeFault>
+        ensures fault { IfErr result (λ e. e ≢ faults.Write) }
+    {
         if self.is_at_end(reader)? {
             return Ok(false);
         }
@@ -50,18 +55,16 @@ impl Lines {
         }
         self.count += 1;
         self.line.clear();
-        let is_ended = self.read_line(reader)?;
-        if self.line.len() > MOST_BYTES {
-            return Err(ServeFault::BadLine(self.count));
-        }
-        if is_ended && self.line.last() == Some(&b'\r') {
+        if self.read_line(reader)? && self.line.ends_with(b"\r") {
             self.line.pop();
         }
         Ok(true)
     }
 
     /// Whether no byte is left.
-    fn is_at_end<R: Source>(&mut self, reader: &mut R) -> Result<bool, ServeFault> {
+    fn is_at_end<R: Source>(&mut self, reader: &mut R) -> Result<bool, ServeFault>
+        ensures fault { IfErr result (λ e. e ≡ faults.Read) }
+    {
         match self.block.fill(reader) {
             Ok(()) => Ok(self.block.rest().is_empty()),
             Err(_) => Err(ServeFault::Read),
@@ -70,12 +73,18 @@ impl Lines {
 
     /// Adds bytes to the line up to a line feed or the end, and answers whether the feed stood there. It stops where the
     /// line is too long.
-    fn read_line<R: Source>(&mut self, reader: &mut R) -> Result<bool, ServeFault> {
-        for _ in 0..MOST_BYTES {
+    fn read_line<R: Source>(&mut self, reader: &mut R) -> Result<bool, ServeFault>
+        ensures fault { IfErr result (λ e. e ≢ faults.Write) }
+    {
+        for _ in 0..=MOST_BYTES {
             if self.is_at_end(reader)? {
                 return Ok(false);
             }
-            if self.take_part()? {
+            let is_fed = self.take_part()?;
+            if self.line.len() > MOST_BYTES {
+                return Err(ServeFault::BadLine(self.count));
+            }
+            if is_fed {
                 return Ok(true);
             }
         }
@@ -83,7 +92,8 @@ impl Lines {
     }
 
     /// Adds what the block has before a line feed to the line, and answers whether the feed stood there.
-    fn take_part(&mut self) -> Result<bool, AllocError> {
+    fn take_part(&mut self) -> Result<bool, AllocError>
+    {
         let rest = self.block.rest();
         match memchr(b'\n', rest) {
             Some(place) => {

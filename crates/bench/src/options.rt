@@ -1,5 +1,7 @@
 //! The words of the command line.
 
+ghost use Rattle.std.specs.Prelude.{◌≡◌};
+
 use book::Limits;
 use clap::{Arg, ArgAction, Command, Error, value_parser};
 use std::alloc::Global;

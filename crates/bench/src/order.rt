@@ -1,6 +1,7 @@
 //! What the lines of a script ask.
 
-use crate::fault::ServeFault;
+ghost use Rattle.std.specs.Prelude.{◌<◌, IfOk};
+
 use book::Text;
 use itoa::Buffer;
 use memchr::memchr;
@@ -42,7 +43,9 @@ pub enum LineFault {
 }
 
 /// The seat and the head that a line spells.
-pub fn read_head(alloc: Global, line: &[u8]) -> Result<(u8, Head), LineFault> {
+pub fn read_head(alloc: Global, line: &[u8]) -> Result<(u8, Head), LineFault>
+    ensures { IfOk result (λ r. r.0 < 8) }
+{
     let (seat, rest) = read_seat(line)?;
     let head = match split_word(rest) {
         (word, None) => read_word(word)?,
@@ -52,7 +55,9 @@ pub fn read_head(alloc: Global, line: &[u8]) -> Result<(u8, Head), LineFault> {
 }
 
 /// A seat, 0 to 7, and what stands behind it and a space.
-fn read_seat(line: &[u8]) -> Result<(u8, &[u8]), LineFault> {
+fn read_seat(line: &[u8]) -> Result<(u8, &[u8]), LineFault>
+    ensures { IfOk result (λ r. r.0 < 8) }
+{
     if line.len() < 2 {
         return Err(LineFault::Bad);
     }

@@ -68,7 +68,7 @@ fn write_replacement<W: Sink>(replacement: &Replacement, writer: &mut W) -> Resu
     write_parts(&[b"79 Replaced ", kind, b" ", name, b" ", version], writer)
 }
 
-fn kind_text(kind: SourceKind) -> &'static [u8]
+fn kind_text<'a>(kind: SourceKind) -> &'a [u8]
     ensures { result.now ≡ texts.kind_text kind }
 {
     match kind {
@@ -88,7 +88,7 @@ fn write_test_fault<W: Sink>(fault: TestFault, writer: &mut W) -> Result<(), Fai
     ensures { Writes W.held W.has_failed writer.old writer.new result (texts.test_fault_text fault) }
 {
     match fault {
-        TestFault::Text(fault) => write_parts(&[b"11 Text ", text_fault_text(fault)], writer),
+        TestFault::Text(fault) => write_text_fault(b"11 Text ", fault, writer),
         TestFault::Syntax(offset) => write_numbered(b"12 Syntax ", offset, writer),
         TestFault::UnknownName => write_bytes(b"14 UnknownName", writer),
         TestFault::TooDeep => write_bytes(b"18 TooDeep", writer),
@@ -111,7 +111,7 @@ fn write_cat_fault<W: Sink>(fault: CatFault, writer: &mut W) -> Result<(), Faile
     ensures { Writes W.held W.has_failed writer.old writer.new result (texts.cat_fault_text fault) }
 {
     match fault {
-        CatFault::Text(fault) => write_parts(&[b"51 Text ", text_fault_text(fault)], writer),
+        CatFault::Text(fault) => write_text_fault(b"51 Text ", fault, writer),
         CatFault::Syntax(offset) => write_numbered(b"52 Syntax ", offset, writer),
         CatFault::NoMemory => write_bytes(b"NoMemory", writer),
     }
@@ -134,7 +134,19 @@ fn write_space_fault<W: Sink>(fault: SpaceFault, writer: &mut W) -> Result<(), F
     }
 }
 
-fn text_fault_text(fault: TextFault) -> &'static [u8]
+/// Writes the fault of a text behind its words.
+fn write_text_fault<W: Sink>(
+    words: &[u8],
+    fault: TextFault,
+    writer: &mut W,
+) -> Result<(), Failed>
+    ensures { Writes W.held W.has_failed writer.old writer.new result (texts.named words.now (texts.text_fault_text fault)) }
+{
+    let name = text_fault_text(fault);
+    write_parts(&[words, name], writer)
+}
+
+fn text_fault_text<'a>(fault: TextFault) -> &'a [u8]
     ensures { result.now ≡ texts.text_fault_text fault }
 {
     match fault {

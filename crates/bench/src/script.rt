@@ -1,5 +1,8 @@
 //! The orders of a script.
 
+ghost use Rattle.std.specs.Prelude.{◌≡◌, ◌<◌, ◌≤◌, ◌≢◌, IfOk, IfErr, IfSome, vec_len};
+ghost use Rattle.bench.specs.declared.fault.ServeFault.TheVariants as faults;
+
 use crate::fault::ServeFault;
 use crate::lines::{Lines, MOST_LINES};
 use crate::order::{Head, LineFault, Order, Request, read_head};
@@ -32,7 +35,10 @@ impl Script {
     }
 
     /// The next order, if there is one.
-    pub fn next<R: Source>(&mut self, reader: &mut R) -> Result<Option<Order>, ServeFault> {
+    pub fn next<R: Source>(&mut self, reader: &mut R) -> Result<Option<Order>, ServeFault>
+        ensures seat { IfOk result (λ next. IfSome next (λ order. order.seat < 8)) }
+        ensures fault { IfErr result (λ e. e ≢ faults.Write) }
+    {
         for _ in 0..=MOST_LINES {
             if !self.lines.next(reader)? {
                 return Ok(None);
@@ -45,7 +51,10 @@ impl Script {
     }
 
     /// The order that begins with the line.
-    fn order<R: Source>(&mut self, reader: &mut R) -> Result<Order, ServeFault> {
+    fn order<R: Source>(&mut self, reader: &mut R) -> Result<Order, ServeFault>
+        ensures seat { IfOk result (λ order. order.seat < 8) }
+        ensures fault { IfErr result (λ e. e ≢ faults.Write) }
+    {
         let (seat, head) = match read_head(self.alloc, self.lines.line()) {
             Ok(head) => head,
             Err(LineFault::Bad) => return Err(ServeFault::BadLine(self.lines.count())),
@@ -60,7 +69,9 @@ impl Script {
     }
 
     /// The text that follows: its lines up to a line `.` alone.
-    fn text<R: Source>(&mut self, reader: &mut R) -> Result<Text, ServeFault> {
+    fn text<R: Source>(&mut self, reader: &mut R) -> Result<Text, ServeFault>
+        ensures fault { IfErr result (λ e. e ≢ faults.Write) }
+    {
         let mut bytes = Vec::new(self.alloc);
         for _ in 0..=MOST_LINES {
             if !self.lines.next(reader)? {

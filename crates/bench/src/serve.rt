@@ -1,5 +1,8 @@
 //! From a script to the replies of a book.
 
+ghost use Rattle.std.specs.Prelude.{◌≡◌, ◌++◌, List, true, Err};
+ghost use Rattle.bench.specs.Serving.{Call, IsServed, Tells, entries_of, calls_text};
+
 use crate::fault::ServeFault;
 use crate::lines::MOST_LINES;
 use crate::options::Options;
@@ -7,7 +10,7 @@ use crate::print::{give_answer, write_bad_line, write_finish};
 use crate::script::Script;
 use crate::sessions::{NoPiece, Sessions};
 use std::alloc::Global;
-use wb_text::{Failed, Sink, Source};
+use wb_text::{Sink, Source};
 
 /// Reads a script line by line, makes its calls on a book, and writes what becomes of each before it reads on.
 pub fn serve<R: Source, W: Sink>(
@@ -15,13 +18,19 @@ pub fn serve<R: Source, W: Sink>(
     reader: &mut R,
     writer: &mut W,
     options: &Options,
-) -> Result<(), ServeFault> {
+) -> Result<(), ServeFault>
+    // What is written is what answered the calls that made a legal journal, and then its length or that a line is bad.
+    ensures served { IsServed options.now.limits (W.held writer.old) (W.held writer.new) result }
+    ensures write { result ≡ Err ServeFault.Write → W.has_failed writer.new ≡ true }
+{
     let mut script = Script::new(alloc)?;
     let mut sessions = Sessions::new(alloc, options.limits)?;
-    match answer_all(alloc, &mut script, reader, &mut sessions, writer) {
-        Ok(()) => written(write_finish(sessions.entry_count(), writer)),
+    let outcome = answer_all(alloc, &mut script, reader, &mut sessions, writer);
+    let entries = sessions.entry_count();
+    match outcome {
+        Ok(()) => Ok(write_finish(entries, writer)?),
         Err(ServeFault::BadLine(line)) => {
-            written(write_bad_line(line, writer))?;
+            write_bad_line(line, writer)?;
             Err(ServeFault::BadLine(line))
         }
         Err(fault) => Err(fault),
@@ -35,22 +44,21 @@ fn answer_all<R: Source, W: Sink>(
     reader: &mut R,
     sessions: &mut Sessions,
     writer: &mut W,
-) -> Result<(), ServeFault> {
+) -> Result<(), ServeFault>
+    ensures told { (calls : List Call)
+        × (sessions.new.book.journal ≡ sessions.old.book.journal ++ entries_of calls)
+        × Tells (W.held writer.old) (W.held writer.new) result (calls_text calls) }
+    ensures limits { sessions.new.book.limits ≡ sessions.old.book.limits }
+    ensures write { result ≡ Err ServeFault.Write → W.has_failed writer.new ≡ true }
+{
     for _ in 0..=MOST_LINES {
         let Some(order) = script.next(reader)? else {
             return Ok(());
         };
         match sessions.call(order) {
-            Ok(answer) => written(give_answer(alloc, &answer, writer))?,
+            Ok(answer) => give_answer(alloc, &answer, writer)?,
             Err(NoPiece) => return Err(ServeFault::BadLine(script.line_count())),
         }
     }
     Err(ServeFault::Read)
-}
-
-fn written(outcome: Result<(), Failed>) -> Result<(), ServeFault> {
-    match outcome {
-        Ok(()) => Ok(()),
-        Err(Failed) => Err(ServeFault::Write),
-    }
 }
