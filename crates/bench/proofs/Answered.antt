@@ -10,7 +10,10 @@ use Rattle.litmus_c.specs.declared.fault.TestFault.{TestFault}
 use Rattle.litmus_c.specs.declared.fault.TestFault.TheVariants as of_test
 use Rattle.bench.specs.declared.one.OneFault.{OneFault}
 use Rattle.bench.specs.declared.one.OneFault.TheVariants.{Read, Test, Space, Write, NoMemory}
-use Rattle.bench.specs.Faults.{test_fault}
+use Rattle.candidates.specs.Faults.{IsSpaceFault}
+use Rattle.candidates.specs.declared.fault.SpaceFault.{SpaceFault}
+use Rattle.candidates.specs.declared.fault.SpaceFault.TheVariants as of_space
+use Rattle.bench.specs.Faults.{test_fault, space_fault}
 use Rattle.bench.specs.Inputs.{text_of, IsRefusal, IsFaultOf}
 
 -- What is read up to a limit is the front of the input.
@@ -41,6 +44,15 @@ refused text f only = λ t h. absurd (cc (only t h))
 pub test_refusal : {A : Type 0} (text : List ℕ) (f : TestFault) (r : Result A OneFault) → IsErrAnd r (λ e. e ≡ test_fault f) → ((t : Litmus) → Reads text t → f ≡ of_test.NoMemory) → IfErr r (IsRefusal text)
 test_refusal text f (Ok x) is only = tt
 test_refusal text f (Err e) is only = let P : OneFault → Type 0 = λ d. IsRefusal text d in subst P (sym is) (refused text f only)
+
+unspaced : (text : List ℕ) (t : Litmus) (f : SpaceFault) → Reads text t → IsSpaceFault t f → IsRefusal text (space_fault f)
+unspaced text t of_space.NoMemory reads is = tt
+unspaced text t (of_space.TooManyRuns k) reads is = (t, reads, is)
+unspaced text t of_space.TooManyCandidates reads is = (t, reads, is)
+
+pub space_refusal : {A : Type 0} (text : List ℕ) (t : Litmus) (f : SpaceFault) (r : Result A OneFault) → IsErrAnd r (λ e. e ≡ space_fault f) → Reads text t → IsSpaceFault t f → IfErr r (IsRefusal text)
+space_refusal text t f (Ok x) is reads fault = tt
+space_refusal text t f (Err e) is reads fault = let P : OneFault → Type 0 = λ d. IsRefusal text d in subst P (sym is) (unspaced text t f reads fault)
 
 pub fault_of : (text : List ℕ) (e : OneFault) → IsRefusal text e → IsFaultOf text e
 fault_of text Read p = tt

@@ -1,2 +1,7 @@
 pub mod Faults
 pub mod Inputs
+pub mod Lines
+pub mod Orders
+pub mod Refusals
+pub mod Replies
+pub mod Serving

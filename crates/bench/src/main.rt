@@ -1,27 +1,77 @@
-//! Evaluates a litmus test from standard input, and prints its summary.
+//! Runs a script of litmus tests over a book, or evaluates one test.
 #![tactic(auto)]
 
+mod answer;
+mod block;
+mod fault;
+mod lines;
 mod one;
+mod options;
+mod order;
+mod parts;
+mod print;
+mod refusal;
+mod script;
+mod serve;
+mod sessions;
 
+use crate::fault::ServeFault;
 use crate::one::OneFault;
+use crate::options::{Options, Task, read_task};
+use std::env;
 use std::io;
 use std::io::BufWriter;
 use std::process::ExitCode;
 use wb_text::{ReadSource, WriteSink};
 
-/// Ends with 0, with 2 where the test is refused, and with 1 where reading, writing or memory fails.
+/// The status where the words, a line of the script or the test is bad.
+const BAD: u8 = 2;
+
+/// Ends with 0, with 2 where the words, a line of the script or the test is bad, and with 1 where reading, writing or
+/// memory fails.
 fn main(rt: HostRuntime) -> ExitCode {
-    match run(&rt) {
+    let alloc = rt.alloc();
+    let words: Vec<String> = match env::args(&rt) {
+        Ok(words) => match words.collect(alloc) {
+            Ok(words) => words,
+            Err(_) => return ExitCode::from(BAD),
+        },
+        Err(_) => return ExitCode::from(BAD),
+    };
+    match read_task(alloc, words.as_slice()) {
+        Ok(Task::Alone) => evaluate_one(&rt),
+        Ok(Task::Script(options)) => serve_script(&rt, &options),
+        Err(error) => match error.print(&rt) {
+            Ok(()) => ExitCode::from(error.exit_code() as u8),
+            Err(_) => ExitCode::FAILURE,
+        },
+    }
+}
+
+/// Reads the input as a script.
+fn serve_script(rt: &(impl Input + Print + AllocGlobal), options: &Options) -> ExitCode {
+    let mut reader = ReadSource::new(rt.reader());
+    let mut writer = WriteSink::new(io::writer(rt));
+    match serve::serve(rt.alloc(), &mut reader, &mut writer, options) {
+        Ok(()) => ExitCode::SUCCESS,
+        Err(ServeFault::BadLine(_)) => ExitCode::from(BAD),
+        Err(_) => ExitCode::FAILURE,
+    }
+}
+
+/// Reads the input as one test, and prints its summary or why it is refused.
+fn evaluate_one(rt: &(impl Input + Print + AllocGlobal)) -> ExitCode {
+    match summarize(rt) {
         Ok(()) => ExitCode::SUCCESS,
         Err(fault) if fault.is_refusal() => match println!(rt; "refused {fault}") {
-            Ok(()) => ExitCode::from(2),
+            Ok(()) => ExitCode::from(BAD),
             Err(_) => ExitCode::FAILURE,
         },
         Err(_) => ExitCode::FAILURE,
     }
 }
 
-fn run(rt: &(impl Input + Print + AllocGlobal)) -> Result<(), OneFault> {
+fn summarize(rt: &(impl Input + Print + AllocGlobal)) -> Result<(), OneFault> {
     let Ok(buffer) = BufWriter::new(rt.alloc(), io::writer(rt)) else {
         return Err(OneFault::NoMemory);
     };

@@ -3,11 +3,10 @@
 ghost use Rattle.std.specs.Prelude.{◌≡◌, [], true, Err, IfSome, IfOk, IfErr, OnOk};
 ghost use Rattle.std.specs.Io.KnownBytes.{Keeps};
 ghost use Rattle.wb_text.specs.Memory.{LosesAtMost};
-ghost use Rattle.book.specs.Verdicts.{IsVerdict};
 ghost use Rattle.bench.specs.Inputs.{text_of, HasOutcome, Summarizes, SummarizesPartly, IsRefusal, IsFaultOf};
 
 use book::report::{WriteFault, write_summary};
-use book::slices::{EmptyModel, Piece, Tally, TestRef, Verdict, Work, WorkRef, evaluate};
+use book::slices::{EmptyModel, TestRef, Verdict, Work, WorkRef};
 use candidates::SpaceFault;
 use litmus_c::{TestFault, read_test};
 use std::alloc::{AllocError, Global};
@@ -81,22 +80,7 @@ fn judge(alloc: Global, text: &[u8]) -> Result<Verdict, OneFault>
     let test = read_test(alloc, text)?;
     let model = EmptyModel::new(Vec::new(alloc));
     let work = Work::new(alloc, TestRef::new(alloc, test)?, model)?;
-    Ok(verdict(alloc, WorkRef::new(alloc, work)?)?)
-}
-
-/// The verdict on a work, whose numbers are evaluated in one piece.
-fn verdict(alloc: Global, work: WorkRef) -> Result<Verdict, AllocError>
-    ensures work { IfOk result (λ v. v.work ≡ work) }
-    ensures right { IfOk result (λ v. IsVerdict v.work.test v.outcome) }
-{
-    let size = work.work().size();
-    let piece = Piece::new(1, 1, 0, 0, size, work.share()?);
-    let part = evaluate(alloc, &piece)?;
-    let mut tally = Tally::new(alloc, work);
-    match tally.merge(part) {
-        Ok(()) => tally.verdict(1),
-        Err((_, AllocError)) => Err(AllocError),
-    }
+    Ok(Verdict::judge(alloc, WorkRef::new(alloc, work)?, 1)?)
 }
 
 impl OneFault {

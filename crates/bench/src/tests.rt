@@ -1,5 +1,8 @@
 //! Tests of what no clause says, and of each call once.
 
+mod scripts;
+mod words;
+
 use crate::one::{OneFault, one};
 use std::alloc::Global;
 use std::test::Fail;

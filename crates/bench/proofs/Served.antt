@@ -1,0 +1,69 @@
+-- Answers one after another, and what stands behind them.
+use Rattle.std.proofs.Common.{◌≡◌, ◌≢◌, ℕ, List, [], ◌∷◌, ◌++◌, length, Option, None, Some, Bool, true, Result, Ok, Err, inl, inr, ◌⊎◌, refl, sym, ap, ◌∙◌, subst, append_assoc, append-nil}
+use Rattle.std.specs.Prelude.{IfErr, IsErr}
+use Rattle.std.specs.Io.KnownBytes.{Appends, Keeps}
+use Rattle.std.specs.List.{flat_map}
+use Rattle.std.proofs.KnownBytes.{Appends-trans, Appends-nil}
+use Rattle.std.proofs.lemmas.Grind.{flat_map-append}
+use Rattle.wb_text.specs.Memory.{AppendsFront}
+use Rattle.book.specs.Lines.{Line}
+use Rattle.book.specs.Step.{Legal}
+use Rattle.book.specs.declared.limits.Limits.{Limits}
+use Rattle.book.proofs.Written.{front_of}
+use Rattle.bench.specs.Serving.{Call, answer_text, entry_of, calls_text, entries_of, Closes, Tells, IsServed}
+use Rattle.bench.specs.declared.fault.ServeFault.{ServeFault}
+use Rattle.bench.specs.declared.fault.ServeFault.TheVariants as faults
+
+flat_map-last : {X Y : Type 0} (f : X → List Y) (xs : List X) (x : X) → flat_map f (xs ++ x ∷ []) ≡ flat_map f xs ++ f x
+flat_map-last f xs x = flat_map-append f xs (x ∷ []) ∙ ap (λ l. flat_map f xs ++ l) (append-nil (f x))
+
+-- one answer more
+
+pub grown : (start mid new : List Line) (calls : List Call) (c : Call) → mid ≡ start ++ entries_of calls → new ≡ mid ++ entry_of c.answer → new ≡ start ++ entries_of (calls ++ c ∷ [])
+grown start mid new calls c done more =
+    more ∙ ap (λ l. l ++ entry_of c.answer) done ∙ append_assoc start (entries_of calls) (entry_of c.answer) ∙ ap (λ l. start ++ l) (sym (flat_map-last (λ d. entry_of d.answer) calls c))
+
+pub written : (old mid new : Option (List ℕ)) (calls : List Call) (c : Call) → Appends old mid (calls_text calls) → Appends mid new (answer_text c.answer) → Appends old new (calls_text (calls ++ c ∷ []))
+written old mid new calls c done more =
+    let P : List ℕ → Type 0 = λ l. Appends old new l in
+    subst P (sym (flat_map-last (λ d. answer_text d.answer) calls c)) (Appends-trans old mid new (calls_text calls) (answer_text c.answer) done more)
+
+pub written_partly : (old mid new : Option (List ℕ)) (calls : List Call) (c : Call) → Appends old mid (calls_text calls) → AppendsFront mid new (answer_text c.answer) → AppendsFront old new (calls_text (calls ++ c ∷ []))
+written_partly old mid new calls c done more =
+    front_of old mid new (calls_text calls) (answer_text c.answer) [] (calls_text (calls ++ c ∷ [])) done more
+    (flat_map-last (λ d. answer_text d.answer) calls c ∙ ap (λ l. calls_text calls ++ l) (sym (append-nil (answer_text c.answer))))
+
+-- the result of a call that doesn't write
+
+pub tells_whole : {A : Type 0} (old new : Option (List ℕ)) (r : Result A ServeFault) (text : List ℕ) → IfErr r (λ e. e ≢ faults.Write) → Appends old new text → Tells old new r text
+tells_whole old new (Ok done) text other w = w
+tells_whole old new (Err faults.Read) text other w = w
+tells_whole old new (Err faults.Write) text other w = absurd (other refl)
+tells_whole old new (Err (faults.BadLine line)) text other w = w
+tells_whole old new (Err faults.NoMemory) text other w = w
+
+pub tells_part : {A : Type 0} (old new : Option (List ℕ)) (r : Result A ServeFault) (text : List ℕ) → r ≡ Err faults.Write → AppendsFront old new text → Tells old new r text
+tells_part old new r text e part = let P : Result A ServeFault → Type 0 = λ q. Tells old new q text in subst P (sym e) part
+
+-- the whole, from its parts
+pub served : {A : Type 0} (limits kept : Limits) (journal : List Line) (calls : List Call) (old new : Option (List ℕ)) (r : Result A ServeFault) (closing : List ℕ)
+    → Legal kept journal → kept ≡ limits → journal ≡ entries_of calls → Closes (length journal) r closing → Tells old new r (calls_text calls ++ closing) → IsServed limits old new r
+served limits kept journal calls old new r closing legal same made closes told =
+    let P : Limits → Type 0 = λ l. Legal l (entries_of calls) in
+    let Q : List Line → Type 0 = λ l. Legal kept l in
+    let C : List Line → Type 0 = λ l. Closes (length l) r closing in
+    record {
+      calls = calls;
+      legal = subst P same (subst Q made legal);
+      closing = closing;
+      closes = subst C made closes;
+      told = told;
+    }
+
+-- nothing stands behind the answers
+pub tells_nothing_more : {A : Type 0} (old new : Option (List ℕ)) (r : Result A ServeFault) (text : List ℕ) → Tells old new r text → Tells old new r (text ++ [])
+tells_nothing_more old new r text t = let P : List ℕ → Type 0 = λ l. Tells old new r l in subst P (sym (append-nil text)) t
+
+pub front_behind : (old mid new : Option (List ℕ)) (text closing : List ℕ) → Appends old mid text → AppendsFront mid new closing → AppendsFront old new (text ++ closing)
+front_behind old mid new text closing done part =
+    front_of old mid new text closing [] (text ++ closing) done part (ap (λ l. text ++ l) (sym (append-nil closing)))
