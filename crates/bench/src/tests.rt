@@ -1,5 +1,7 @@
 //! Tests of what no clause says, and of each call once.
 
+mod judging;
+mod rows;
 mod scripts;
 mod words;
 
