@@ -37,7 +37,11 @@ numbered words n = words ++ decimal n
 abbrev pub test_fault_text : TestFault → List ℕ
 test_fault_text (of_test.Text f) = named (codes "11 Text ") (text_fault_text f)
 test_fault_text (of_test.Syntax offset) = numbered (codes "12 Syntax ") offset
+test_fault_text of_test.BadOrder = codes "13 BadOrder"
 test_fault_text of_test.UnknownName = codes "14 UnknownName"
+test_fault_text of_test.PlainOnAtomic = codes "15 PlainOnAtomic"
+test_fault_text of_test.AtomicOnPlain = codes "16 AtomicOnPlain"
+test_fault_text (of_test.Unsupported word) = named (codes "17 Unsupported ") word
 test_fault_text of_test.TooDeep = codes "18 TooDeep"
 test_fault_text of_test.TooManyThreads = codes "19 TooManyThreads"
 test_fault_text of_test.TooManyLocations = codes "20 TooManyLocations"

@@ -17,7 +17,7 @@ use wb_text::{ReadFault, Sink, Source, read_up_to};
 const MOST_BYTES: usize = 65_537;
 
 /// Why there is no summary, or not all of it. What it prints follows `refused`.
-#[derive(Clone, Copy, Debug, Drop, PartialEq, Eq, Error)]
+#[derive(Debug, Drop, PartialEq, Eq, Error)]
 pub enum OneFault {
     /// The reader failed.
     #[error("96 Read")]

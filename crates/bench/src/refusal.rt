@@ -26,7 +26,7 @@ fn write_cause<W: Sink>(refusal: &Refusal, writer: &mut W) -> Result<(), Failed>
 {
     match refusal {
         Refusal::Closed => write_bytes(b"71 Closed", writer),
-        Refusal::ReadingTest(fault) => write_reading_test(*fault, writer),
+        Refusal::ReadingTest(fault) => write_reading_test(fault, writer),
         Refusal::ReadingCat(fault) => write_reading_cat(*fault, writer),
         Refusal::NoTest(name) => write_named(b"73 NoTest ", name, writer),
         Refusal::Model(ModelFault::NoCat(name)) => write_named(b"74 Model 61 NoCat ", name, writer),
@@ -77,20 +77,24 @@ fn kind_text<'a>(kind: SourceKind) -> &'a [u8]
     }
 }
 
-fn write_reading_test<W: Sink>(fault: TestFault, writer: &mut W) -> Result<(), Failed>
-    ensures { Writes W.held W.has_failed writer.old writer.new result (texts.reading_test_text fault) }
+fn write_reading_test<W: Sink>(fault: &TestFault, writer: &mut W) -> Result<(), Failed>
+    ensures { Writes W.held W.has_failed writer.old writer.new result (texts.reading_test_text fault.now) }
 {
     write_bytes(b"72 Reading ", writer)?;
     write_test_fault(fault, writer)
 }
 
-fn write_test_fault<W: Sink>(fault: TestFault, writer: &mut W) -> Result<(), Failed>
-    ensures { Writes W.held W.has_failed writer.old writer.new result (texts.test_fault_text fault) }
+fn write_test_fault<W: Sink>(fault: &TestFault, writer: &mut W) -> Result<(), Failed>
+    ensures { Writes W.held W.has_failed writer.old writer.new result (texts.test_fault_text fault.now) }
 {
     match fault {
-        TestFault::Text(fault) => write_text_fault(b"11 Text ", fault, writer),
-        TestFault::Syntax(offset) => write_numbered(b"12 Syntax ", offset, writer),
+        TestFault::Text(fault) => write_text_fault(b"11 Text ", *fault, writer),
+        TestFault::Syntax(offset) => write_numbered(b"12 Syntax ", *offset, writer),
+        TestFault::BadOrder => write_bytes(b"13 BadOrder", writer),
         TestFault::UnknownName => write_bytes(b"14 UnknownName", writer),
+        TestFault::PlainOnAtomic => write_bytes(b"15 PlainOnAtomic", writer),
+        TestFault::AtomicOnPlain => write_bytes(b"16 AtomicOnPlain", writer),
+        TestFault::Unsupported(word) => write_named(b"17 Unsupported ", word, writer),
         TestFault::TooDeep => write_bytes(b"18 TooDeep", writer),
         TestFault::TooManyThreads => write_bytes(b"19 TooManyThreads", writer),
         TestFault::TooManyLocations => write_bytes(b"20 TooManyLocations", writer),

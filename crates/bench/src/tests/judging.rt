@@ -103,7 +103,7 @@ exists (0:r0=0 /\\ 1:r0=0)";
     let rows = [
         ("let rec r = r flag empty r as none", 4, 4, 4),
         ("flag empty (W \\ W \\ W) as left", 4, 4, 4),
-        ("flag ~empty fr as read acyclic (po | rf | co | fr)", 4, 3, 3),
+        ("flag ~empty fr as read acyclic (po | rf | co | fr)", 4, 3, 2),
     ];
     assert!(rt; all_say(rt.alloc(), text, &rows)?);
     Ok(())
