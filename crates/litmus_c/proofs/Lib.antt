@@ -11,6 +11,7 @@ pub mod Lists
 pub mod Names
 pub mod Places
 pub mod Propositions
+pub mod Rows
 pub mod Shorter
 pub mod Sound
 pub mod Sounds

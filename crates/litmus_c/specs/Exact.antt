@@ -21,8 +21,9 @@ use Rattle.litmus_c.specs.declared.tree.LocationKind.{LocationKind}
 use Rattle.litmus_c.specs.declared.tree.Parameter.{Parameter}
 use Rattle.litmus_c.specs.declared.tree.RightSide.{RightSide}
 use Rattle.litmus_c.specs.declared.tree.Statement.{Statement}
-use Rattle.litmus_c.specs.Equality.{same_parameter, same_term, same_action, same_right, same_optional, same_declared, same_step, same_program, same_litmus}
-use Rattle.litmus_c.specs.Tree.{Word, Term, number, term_of, Action, load, store, action_of, Right, value_of, right_of, Declared, declared_of, Step, empty, declare, assign, perform, step_of, Program, Litmus}
+use Rattle.litmus_c.specs.Equality.{same_parameter, same_term, same_action, same_right, same_optional, same_declared, same_step, same_steps, same_program, same_litmus}
+use Rattle.litmus_c.specs.Tree as trees
+use Rattle.litmus_c.specs.Tree.{Word, Term, number, held, denied, equal, unequal, either, term_of, Action, load, store, exchange, fence, action_of, Right, computed, plain_read, value_of, right_of, Declared, declared_of, Step, empty, block, declare, assign, plain_write, perform, if_only, if_else, step_of, Steps, no_steps, in_turn, Program, Litmus}
 
 kind_exact : (a b : LocationKind) → Decides (kind_equality.eq a b) (a ≡ b)
 kind_exact a b = search rules
@@ -41,16 +42,30 @@ parameter_exact a b = by_parts _ (both _ _ (bytes_eq-Decides a.name b.name) (kin
 
 pub term_exact : (a b : Term) → Decides (same_term a b) (a ≡ b)
 term_exact (number a) (number b) = by_parts _ (Decides-eqb a b) (λ h. ap number h) (λ e. cc)
+term_exact (held r) (held s) = by_parts _ (bytes_eq-Decides r s) (λ h. ap held h) (λ e. cc)
+term_exact (denied a) (denied b) = by_parts _ (term_exact a b) (λ h. ap denied h) (λ e. cc)
+term_exact (equal a b) (equal c d) = by_parts _ (both _ _ (term_exact a c) (term_exact b d)) (λ h. let e = h.0 in let n = h.1 in cc) (λ e. ((let t : a ≡ c = cc in t), (let t : b ≡ d = cc in t)))
+term_exact (unequal a b) (unequal c d) = by_parts _ (both _ _ (term_exact a c) (term_exact b d)) (λ h. let e = h.0 in let n = h.1 in cc) (λ e. ((let t : a ≡ c = cc in t), (let t : b ≡ d = cc in t)))
+term_exact (trees.both a b) (trees.both c d) = by_parts _ (both _ _ (term_exact a c) (term_exact b d)) (λ h. let e = h.0 in let n = h.1 in cc) (λ e. ((let t : a ≡ c = cc in t), (let t : b ≡ d = cc in t)))
+term_exact (either a b) (either c d) = by_parts _ (both _ _ (term_exact a c) (term_exact b d)) (λ h. let e = h.0 in let n = h.1 in cc) (λ e. ((let t : a ≡ c = cc in t), (let t : b ≡ d = cc in t)))
+term_exact a b = (λ h. cc, λ e. cc)
 
 pub action_exact : (a b : Action) → Decides (same_action a b) (a ≡ b)
 action_exact (load x o) (load y p) = by_parts _ (both _ _ (bytes_eq-Decides x y) (order_exact o p)) (λ h. let e = h.0 in let n = h.1 in cc) (λ e. ((let t : x ≡ y = cc in t), (let t : o ≡ p = cc in t)))
 action_exact (store x e o) (store y f p) =
     by_parts _ (both _ _ (both _ _ (bytes_eq-Decides x y) (term_exact e f)) (order_exact o p)) (λ h. let d = h.0.0 in let m = h.0.1 in let n = h.1 in cc)
     (λ h. (((let t : x ≡ y = cc in t), (let t : e ≡ f = cc in t)), (let t : o ≡ p = cc in t)))
+action_exact (exchange x e o) (exchange y f p) =
+    by_parts _ (both _ _ (both _ _ (bytes_eq-Decides x y) (term_exact e f)) (order_exact o p)) (λ h. let d = h.0.0 in let m = h.0.1 in let n = h.1 in cc)
+    (λ h. (((let t : x ≡ y = cc in t), (let t : e ≡ f = cc in t)), (let t : o ≡ p = cc in t)))
+action_exact (fence o) (fence p) = by_parts _ (order_exact o p) (λ h. ap fence h) (λ e. cc)
 action_exact a b = (λ h. cc, λ e. cc)
 
 pub right_exact : (a b : Right) → Decides (same_right a b) (a ≡ b)
+right_exact (computed a) (computed b) = by_parts _ (term_exact a b) (λ h. ap computed h) (λ e. cc)
+right_exact (plain_read x) (plain_read y) = by_parts _ (bytes_eq-Decides x y) (λ h. ap plain_read h) (λ e. cc)
 right_exact (value_of a) (value_of b) = by_parts _ (action_exact a b) (λ h. ap value_of h) (λ e. cc)
+right_exact a b = (λ h. cc, λ e. cc)
 
 optional_exact : (a b : Option Right) → Decides (same_optional a b) (a ≡ b)
 optional_exact None None = (λ h. refl, λ e. refl)
@@ -63,19 +78,31 @@ declared x v = record { register = x; value = v }
 pub declared_exact : (a b : Declared) → Decides (same_declared a b) (a ≡ b)
 declared_exact a b = by_parts _ (both _ _ (bytes_eq-Decides a.register b.register) (optional_exact a.value b.value)) (λ h. ap (λ x. declared x a.value) h.0 ∙ ap (declared b.register) h.1) (λ e. (ap (λ c. c.register) e, ap (λ c. c.value) e))
 
-pub step_exact : (a b : Step) → Decides (same_step a b) (a ≡ b)
-step_exact empty empty = (λ h. refl, λ e. refl)
-step_exact (declare ds) (declare es) = by_parts _ (pointwise_decides declared_exact ds es) (λ h. ap declare h) (λ e. cc)
-step_exact (assign r v) (assign s w) = by_parts _ (both _ _ (bytes_eq-Decides r s) (right_exact v w)) (λ h. let e = h.0 in let n = h.1 in cc) (λ e. ((let t : r ≡ s = cc in t), (let t : v ≡ w = cc in t)))
-step_exact (perform a) (perform b) = by_parts _ (action_exact a b) (λ h. ap perform h) (λ e. cc)
-step_exact a b = (λ h. cc, λ e. cc)
+mutual
+  pub step_exact : (a b : Step) → Decides (same_step a b) (a ≡ b)
+  step_exact empty empty = (λ h. refl, λ e. refl)
+  step_exact (block ss) (block ts) = by_parts _ (steps_exact ss ts) (λ h. ap block h) (λ e. cc)
+  step_exact (declare ds) (declare es) = by_parts _ (pointwise_decides declared_exact ds es) (λ h. ap declare h) (λ e. cc)
+  step_exact (assign r v) (assign s w) = by_parts _ (both _ _ (bytes_eq-Decides r s) (right_exact v w)) (λ h. let e = h.0 in let n = h.1 in cc) (λ e. ((let t : r ≡ s = cc in t), (let t : v ≡ w = cc in t)))
+  step_exact (plain_write x e) (plain_write y f) = by_parts _ (both _ _ (bytes_eq-Decides x y) (term_exact e f)) (λ h. let d = h.0 in let n = h.1 in cc) (λ h. ((let t : x ≡ y = cc in t), (let t : e ≡ f = cc in t)))
+  step_exact (perform a) (perform b) = by_parts _ (action_exact a b) (λ h. ap perform h) (λ e. cc)
+  step_exact (if_only c a) (if_only d b) = by_parts _ (both _ _ (term_exact c d) (step_exact a b)) (λ h. let e = h.0 in let n = h.1 in cc) (λ e. ((let t : c ≡ d = cc in t), (let t : a ≡ b = cc in t)))
+  step_exact (if_else c a e) (if_else d b f) =
+      by_parts _ (both _ _ (both _ _ (term_exact c d) (step_exact a b)) (step_exact e f)) (λ h. let k = h.0.0 in let m = h.0.1 in let n = h.1 in cc)
+      (λ h. (((let t : c ≡ d = cc in t), (let t : a ≡ b = cc in t)), (let t : e ≡ f = cc in t)))
+  step_exact a b = (λ h. cc, λ e. cc)
 
-abbrev program : List Parameter → List Step → List Word → Program
+  pub steps_exact : (a b : Steps) → Decides (same_steps a b) (a ≡ b)
+  steps_exact no_steps no_steps = (λ h. refl, λ e. refl)
+  steps_exact (in_turn s ss) (in_turn t ts) = by_parts _ (both _ _ (step_exact s t) (steps_exact ss ts)) (λ h. let e = h.0 in let n = h.1 in cc) (λ e. ((let u : s ≡ t = cc in u), (let u : ss ≡ ts = cc in u)))
+  steps_exact a b = (λ h. cc, λ e. cc)
+
+abbrev program : List Parameter → Steps → List Word → Program
 program ps ss rs = record { parameters = ps; steps = ss; registers = rs }
 
 pub program_exact : (a b : Program) → Decides (same_program a b) (a ≡ b)
 program_exact a b =
-    by_parts _ (both _ _ (both _ _ (pointwise_decides parameter_exact a.parameters b.parameters) (pointwise_decides step_exact a.steps b.steps)) (words_exact a.registers b.registers))
+    by_parts _ (both _ _ (both _ _ (pointwise_decides parameter_exact a.parameters b.parameters) (steps_exact a.steps b.steps)) (words_exact a.registers b.registers))
     (λ h. ap (λ ps. program ps a.steps a.registers) h.0.0 ∙ ap (λ ss. program b.parameters ss a.registers) h.0.1 ∙ ap (program b.parameters b.steps) h.1)
     (λ e. ((ap (λ c. c.parameters) e, ap (λ c. c.steps) e), ap (λ c. c.registers) e))
 

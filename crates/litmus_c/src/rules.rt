@@ -12,7 +12,7 @@ ghost use Rattle.litmus_c.specs.Tree.{term_of, action_of, right_of, declared_of,
 use crate::tree::{
     Call, Declarator, Expression, LocationKind, Parameter, RightSide, Statement, Thread,
 };
-use conditions::{Binding, Place, Prop};
+use conditions::{Place, Prop};
 use wb_text::Name;
 
 /// Whether a parameter has this name.

@@ -1,7 +1,7 @@
 //! Copies of the parts of a thread. They take no allocator: a list is copied with its own.
 
 ghost use Rattle.std.specs.Prelude.{◌≡◌, map, IfOk};
-ghost use Rattle.litmus_c.specs.Tree.{term_of, action_of, right_of, declared_of, step_of};
+ghost use Rattle.litmus_c.specs.Tree.{term_of, action_of, right_of, declared_of, step_of, steps_of};
 
 use crate::tree::{Call, Declarator, Expression, Parameter, RightSide, Statement, Thread};
 use indexmap::IndexSet;
@@ -21,14 +21,39 @@ impl Parameter {
 }
 
 impl Expression {
-    /// A second expression that is equal.
+    /// A second expression that is equal. Each box is made where its first lies.
+    #[cycle(copying_expressions)]
     pub fn copy(&self) -> Result<Expression, AllocError>
         ensures { IfOk result (λ e. term_of e ≡ term_of self.now) }
     {
         match self {
             Expression::Number(number) => Ok(Expression::Number(*number)),
+            Expression::Register(register) => Ok(Expression::Register(register.copy()?)),
+            Expression::Not(a) => Ok(Expression::Not(boxed_expression(a)?)),
+            Expression::Equal(a, b) => Ok(Expression::Equal(
+                boxed_expression(a)?,
+                boxed_expression(b)?,
+            )),
+            Expression::Unequal(a, b) => Ok(Expression::Unequal(
+                boxed_expression(a)?,
+                boxed_expression(b)?,
+            )),
+            Expression::And(a, b) => {
+                Ok(Expression::And(boxed_expression(a)?, boxed_expression(b)?))
+            }
+            Expression::Or(a, b) => Ok(Expression::Or(boxed_expression(a)?, boxed_expression(b)?)),
         }
     }
+}
+
+/// A box of an equal expression, from the same allocator. It isn't inlined, which keeps the stack that a long chain of
+/// operators takes small.
+#[cycle(copying_expressions)]
+#[inline(never)]
+fn boxed_expression(first: &Box<Expression>) -> Result<Box<Expression>, AllocError>
+    ensures { IfOk result (λ b. term_of b.value ≡ term_of first.now.value) }
+{
+    Ok(Box::new(*Box::allocator(first), first.copy()?)?)
 }
 
 impl Call {
@@ -41,6 +66,10 @@ impl Call {
             Call::Store(location, value, order) => {
                 Ok(Call::Store(location.copy()?, value.copy()?, *order))
             }
+            Call::Exchange(location, value, order) => {
+                Ok(Call::Exchange(location.copy()?, value.copy()?, *order))
+            }
+            Call::Fence(order) => Ok(Call::Fence(*order)),
         }
     }
 }
@@ -51,6 +80,8 @@ impl RightSide {
         ensures { IfOk result (λ v. right_of v ≡ right_of self.now) }
     {
         match self {
+            RightSide::Value(value) => Ok(RightSide::Value(value.copy()?)),
+            RightSide::Read(location) => Ok(RightSide::Read(location.copy()?)),
             RightSide::Call(call) => Ok(RightSide::Call(call.copy()?)),
         }
     }
@@ -73,12 +104,18 @@ impl Declarator {
 }
 
 impl Statement {
-    /// A second statement that is equal.
+    /// A second statement that is equal. Each box is made where its first lies.
+    #[cycle(copying)]
+    #[tactic(auto, using(crate::proofs::Steps::only_if, crate::proofs::Steps::if_and_else))]
     pub fn copy(&self) -> Result<Statement, AllocError>
         ensures { IfOk result (λ s. step_of s ≡ step_of self.now) }
     {
         match self {
             Statement::Empty => Ok(Statement::Empty),
+            Statement::Block(statements) => Ok(Statement::Block(copy_statements(
+                *statements.allocator(),
+                statements,
+            )?)),
             Statement::Declare(declarators) => Ok(Statement::Declare(copy_declarators(
                 *declarators.allocator(),
                 declarators,
@@ -86,9 +123,41 @@ impl Statement {
             Statement::Assign(register, value) => {
                 Ok(Statement::Assign(register.copy()?, value.copy()?))
             }
+            Statement::Write(location, value) => {
+                Ok(Statement::Write(location.copy()?, value.copy()?))
+            }
             Statement::Perform(call) => Ok(Statement::Perform(call.copy()?)),
+            Statement::If(test, arm, None) => {
+                Ok(Statement::If(test.copy()?, boxed_statement(arm)?, None))
+            }
+            Statement::If(test, arm, Some(other)) => Ok(Statement::If(
+                test.copy()?,
+                boxed_statement(arm)?,
+                Some(boxed_statement(other)?),
+            )),
         }
     }
+}
+
+/// A box of an equal statement, from the same allocator.
+#[cycle(copying)]
+#[inline(never)]
+fn boxed_statement(first: &Box<Statement>) -> Result<Box<Statement>, AllocError>
+    ensures { IfOk result (λ b. step_of b.value ≡ step_of first.now.value) }
+{
+    Ok(Box::new(*Box::allocator(first), first.copy()?)?)
+}
+
+#[cycle(copying)]
+#[tactic(auto, using(crate::proofs::Rows::steps_push))]
+fn copy_statements(alloc: Global, statements: &[Statement]) -> Result<Vec<Statement>, AllocError>
+    ensures { IfOk result (λ v. steps_of v.items ≡ steps_of statements.now) }
+{
+    let mut copies = Vec::new(alloc);
+    for statement in statements {
+        copies.push(statement.copy()?)?;
+    }
+    Ok(copies)
 }
 
 impl Thread {
@@ -125,17 +194,6 @@ fn copy_parameters(alloc: Global, parameters: &[Parameter]) -> Result<Vec<Parame
     let mut copies = Vec::new(alloc);
     for parameter in parameters {
         copies.push(parameter.copy()?)?;
-    }
-    Ok(copies)
-}
-
-#[tactic(auto, using(crate::proofs::Levels::steps_push))]
-fn copy_statements(alloc: Global, statements: &[Statement]) -> Result<Vec<Statement>, AllocError>
-    ensures { IfOk result (λ v. map step_of v.items ≡ map step_of statements.now) }
-{
-    let mut copies = Vec::new(alloc);
-    for statement in statements {
-        copies.push(statement.copy()?)?;
     }
     Ok(copies)
 }

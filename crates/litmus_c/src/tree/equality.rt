@@ -3,9 +3,9 @@
 ghost use Rattle.std.specs.Prelude.{◌≡◌, ◌↔◌, IsTrue, map};
 ghost use Rattle.std.specs.Cmp.{partial_equiv_from_equiv};
 ghost use Rattle.std.specs.Cmp.Lexicographic.{pointwise};
-ghost use Rattle.litmus_c.specs.Equality.{same_parameter, same_term, same_action, same_right, same_declared, same_step, same_program};
+ghost use Rattle.litmus_c.specs.Equality.{same_parameter, same_term, same_action, same_right, same_declared, same_step, same_steps, same_program};
 ghost use Rattle.litmus_c.specs.Exact.{parameter_equivalence, term_equivalence, action_equivalence, right_equivalence, declared_equivalence, step_equivalence, program_equivalence};
-ghost use Rattle.litmus_c.specs.Tree.{term_of, action_of, right_of, declared_of, step_of};
+ghost use Rattle.litmus_c.specs.Tree.{term_of, action_of, right_of, declared_of, step_of, steps_of};
 
 use crate::tree::{Call, Declarator, Expression, Parameter, RightSide, Statement, Thread};
 
@@ -39,6 +39,13 @@ impl PartialEq for Expression {
     {
         match (self, other) {
             (Expression::Number(number), Expression::Number(other)) => number == other,
+            (Expression::Register(register), Expression::Register(other)) => register == other,
+            (Expression::Not(a), Expression::Not(b)) => **a == **b,
+            (Expression::Equal(a, b), Expression::Equal(c, d))
+            | (Expression::Unequal(a, b), Expression::Unequal(c, d))
+            | (Expression::And(a, b), Expression::And(c, d))
+            | (Expression::Or(a, b), Expression::Or(c, d)) => **a == **c && **b == **d,
+            _ => false,
         }
     }
 }
@@ -64,7 +71,12 @@ impl PartialEq for Call {
             (
                 Call::Store(location, value, order),
                 Call::Store(other_location, other_value, other_order),
+            )
+            | (
+                Call::Exchange(location, value, order),
+                Call::Exchange(other_location, other_value, other_order),
             ) => location == other_location && value == other_value && order == other_order,
+            (Call::Fence(order), Call::Fence(other_order)) => order == other_order,
             _ => false,
         }
     }
@@ -85,7 +97,10 @@ impl PartialEq for RightSide {
         ensures exact { IsTrue result ↔ (right_of self.now ≡ right_of other.now) }
     {
         match (self, other) {
+            (RightSide::Value(value), RightSide::Value(other)) => value == other,
+            (RightSide::Read(location), RightSide::Read(other)) => location == other,
             (RightSide::Call(call), RightSide::Call(other)) => call == other,
+            _ => false,
         }
     }
 }
@@ -134,21 +149,53 @@ impl PartialEq for Statement {
 }
 
 impl Statement {
+    #[cycle(comparing)]
+    #[tactic(auto, using(crate::proofs::Steps::only_if, crate::proofs::Steps::if_and_else))]
     fn has_parts_of(&self, other: &Statement) -> bool
         ensures { result ≡ same_step (step_of self.now) (step_of other.now) }
     {
         match (self, other) {
             (Statement::Empty, Statement::Empty) => true,
+            (Statement::Block(statements), Statement::Block(others)) => {
+                are_same_statements(statements, others)
+            }
             (Statement::Declare(declarators), Statement::Declare(others)) => {
                 are_same_declarators(declarators, others)
             }
             (Statement::Assign(register, value), Statement::Assign(other, other_value)) => {
                 register == other && value == other_value
             }
+            (Statement::Write(location, value), Statement::Write(other, other_value)) => {
+                location == other && value == other_value
+            }
             (Statement::Perform(call), Statement::Perform(other)) => call == other,
+            (Statement::If(test, arm, None), Statement::If(other, other_arm, None)) => {
+                test == other && arm.has_parts_of(other_arm)
+            }
+            (
+                Statement::If(test, arm, Some(rest)),
+                Statement::If(other, other_arm, Some(other_rest)),
+            ) => test == other && arm.has_parts_of(other_arm) && rest.has_parts_of(other_rest),
             _ => false,
         }
     }
+}
+
+/// Compares one by one. It isn't the comparison of slices, since a statement's own comparison calls it.
+#[cycle(comparing)]
+#[tactic(auto, using(crate::proofs::Rows::rows_differ))]
+fn are_same_statements(statements: &[Statement], others: &[Statement]) -> bool
+    ensures { result ≡ same_steps (steps_of statements.now) (steps_of others.now) }
+{
+    if statements.len() != others.len() {
+        return false;
+    }
+    for (index, statement) in statements.iter().enumerate() {
+        if !statement.has_parts_of(&others[index]) {
+            return false;
+        }
+    }
+    true
 }
 
 impl Eq for Statement {
@@ -187,10 +234,4 @@ fn are_same_declarators(declarators: &[Declarator], others: &[Declarator]) -> bo
     ensures { result ≡ pointwise same_declared (map declared_of declarators.now) (map declared_of others.now) }
 {
     declarators == others
-}
-
-fn are_same_statements(statements: &[Statement], others: &[Statement]) -> bool
-    ensures { result ≡ pointwise same_step (map step_of statements.now) (map step_of others.now) }
-{
-    statements == others
 }
