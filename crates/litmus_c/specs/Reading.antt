@@ -1,7 +1,7 @@
 -- Reading as functions on lists of symbols: one definition for each function of `Reader`.
 -- The grammar does not rest on this file: it says what the private functions give, and proofs/ leads
 -- from it to the grammar, in both directions.
-use Rattle.std.specs.Prelude.{ℕ, ◌+◌, List, [], ◌∷◌, ◌++◌, length, Bool, true, false, Option, Some, None, Result, Ok, Err, ◌≡◌, if◌then◌else◌, codes}
+use Rattle.std.specs.Prelude.{ℕ, ◌+◌, List, [], ◌∷◌, ◌++◌, length, Bool, true, false, Option, Some, None, Result, Ok, Err, ◌≡◌, if◌then◌else◌, codes, Contains}
 use Rattle.std.specs.Fmt.{decimal}
 use Rattle.std.specs.List.{list_any}
 use Rattle.std.specs.Str.{bytes_eq}
@@ -626,15 +626,15 @@ GivesAll view (Err (Syntax p)) read = read ≡ Err syntax
 GivesAll view (Err BadOrder) read = read ≡ Err syntax
 GivesAll view (Err TooDeep) read = read ≡ Err deep
 
--- The same of a test and the refusal of its text. A word that the language leaves out is named.
-abbrev pub GivesTest : Result Draft TestFault → Reading Written → Type 0
-GivesTest (Ok d) read = read ≡ Ok (written_of d, [])
-GivesTest (Err faults.NoMemory) read = Unit {0}
-GivesTest (Err (faults.Syntax p)) read = read ≡ Err syntax
-GivesTest (Err faults.BadOrder) read = read ≡ Err syntax
-GivesTest (Err (faults.Unsupported w)) read = read ≡ Err syntax
-GivesTest (Err faults.TooDeep) read = read ≡ Err deep
-GivesTest (Err e) read = ⊥
+-- The same of a test and the refusal of its text, for the symbols ts. A word that is named is one that the language leaves out.
+abbrev pub GivesTest : List Symbol → Result Draft TestFault → Reading Written → Type 0
+GivesTest ts (Ok d) read = read ≡ Ok (written_of d, [])
+GivesTest ts (Err faults.NoMemory) read = Unit {0}
+GivesTest ts (Err (faults.Syntax p)) read = read ≡ Err syntax
+GivesTest ts (Err faults.BadOrder) read = read ≡ Err syntax
+GivesTest ts (Err (faults.Unsupported w)) read = (read ≡ Err syntax) × Contains ts (Foreign w)
+GivesTest ts (Err faults.TooDeep) read = read ≡ Err deep
+GivesTest ts (Err e) read = ⊥
 
 -- the refusal that a fault of the text is
 abbrev pub text_refusal : TextFault → TestFault
