@@ -164,3 +164,24 @@ else_second vs c a b = rw (else_values vs c a b) (longer (with_values (with_valu
 
 pub else_first : (vs : List ℕ) (c : Expression) (a b : Box Statement Global) → length (with_values vs (term_constants (term_of c))) ≤ length (with_values vs (step_constants (step_of (If' c a (Some b)))))
 else_first vs c a b = omega (arith, longer (with_values vs (term_constants (term_of c))) (step_constants (step_of a.value)), else_second vs c a b)
+
+-- where the statement is told by equations
+
+pub only_whole : (vs ws : List ℕ) (s b : Statement) (c : Expression) (a : Box Statement Global) (o : Option (Box Statement Global)) → s ≡ If' c a o → o ≡ None → b ≡ a.value → ws ≡ with_values vs (term_constants (term_of c)) →
+    with_values ws (step_constants (step_of b)) ≡ with_values vs (step_constants (step_of s))
+only_whole vs ws s b c a o is none same w =
+    ap (λ l. with_values l (step_constants (step_of b))) w ∙ ap (λ t. with_values (with_values vs (term_constants (term_of c))) (step_constants (step_of t))) same ∙ sym (only_values vs c a) ∙
+    ap (λ t. with_values vs (step_constants (step_of t))) (sym (is ∙ ap (If' c a) none))
+
+pub else_whole : (vs ws us : List ℕ) (s t u : Statement) (c : Expression) (a b : Box Statement Global) (o : Option (Box Statement Global)) → s ≡ If' c a o → o ≡ Some b → t ≡ a.value → u ≡ b.value →
+    ws ≡ with_values vs (term_constants (term_of c)) → us ≡ with_values ws (step_constants (step_of t)) → with_values us (step_constants (step_of u)) ≡ with_values vs (step_constants (step_of s))
+else_whole vs ws us s t u c a b o is some first second w x =
+    ap (λ l. with_values l (step_constants (step_of u))) x ∙ ap (λ l. with_values (with_values l (step_constants (step_of t))) (step_constants (step_of u))) w ∙
+    ap (λ p. with_values (with_values (with_values vs (term_constants (term_of c))) (step_constants (step_of p))) (step_constants (step_of u))) first ∙
+    ap (λ p. with_values (with_values (with_values vs (term_constants (term_of c))) (step_constants (step_of a.value))) (step_constants (step_of p))) second ∙ sym (else_values vs c a b) ∙
+    ap (λ p. with_values vs (step_constants (step_of p))) (sym (is ∙ ap (If' c a) some))
+
+-- no fewer values than those of the test
+pub test_first : (vs : List ℕ) (s : Statement) (c : Expression) (a : Box Statement Global) (o : Option (Box Statement Global)) → s ≡ If' c a o → length (with_values vs (term_constants (term_of c))) ≤ length (with_values vs (step_constants (step_of s)))
+test_first vs s c a None is = subst (λ t. length (with_values vs (term_constants (term_of c))) ≤ length (with_values vs (step_constants (step_of t)))) (sym is) (only_first vs c a)
+test_first vs s c a (Some b) is = subst (λ t. length (with_values vs (term_constants (term_of c))) ≤ length (with_values vs (step_constants (step_of t)))) (sym is) (else_first vs c a b)

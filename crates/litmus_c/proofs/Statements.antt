@@ -53,7 +53,7 @@ declarators-sound n ts rest ds e =
     (moved (λ l t. IsDeclarators n ts l t) p.2 (declarators_one (declarator-sound n ts p.0.1 p.0.0 p.1)))
     x.2
 
-declarators_turn_takes : (n : ℕ) (ts mid rest : List Symbol) (o : Unit {0}) (a b : List Declared) → after Comma ts ≡ Some (o, mid) → declarators_more n a mid ≡ Ok (b, rest) → length rest < length ts
+pub declarators_turn_takes : (n : ℕ) (ts mid rest : List Symbol) (o : Unit {0}) (a b : List Declared) → after Comma ts ≡ Some (o, mid) → declarators_more n a mid ≡ Ok (b, rest) → length rest < length ts
 unfolding declarators_more
 declarators_turn_takes n ts mid rest o a b e f =
     let x = bind_ok (declarator_at n mid) _ _ f in

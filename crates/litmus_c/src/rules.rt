@@ -1,11 +1,11 @@
 //! The names of a test: what is used is there.
 
 ghost use Rattle.std.specs.Prelude.{◌≡◌, ◌≤◌, ◌-◌, map, length, SomeIff, sum_by};
-ghost use Rattle.std.specs.List.{list_all};
+ghost use Rattle.std.specs.List.{list_any, list_all};
 ghost use Rattle.conditions.specs.Conditions.{formula_of};
 ghost use Rattle.litmus_c.specs.Drafts.{is_parameter};
 ghost use Rattle.litmus_c.specs.Limits.{action_events, optional_events, right_events, step_events, steps_events, program_events};
-ghost use Rattle.litmus_c.specs.Rules.{is_given, entry_is_fair, is_of, has_other_kind, may_read, may_give, may_call, may_access, term_keeps, action_keeps, right_keeps, declared_keeps, step_keeps, steps_keep, program_keeps, place_is_there, formula_is_fair};
+ghost use Rattle.litmus_c.specs.Rules.{entry_is_fair, is_of, has_other_kind, may_read, may_give, may_call, may_access, term_keeps, action_keeps, right_keeps, declared_keeps, step_keeps, steps_keep, program_keeps, place_is_there, formula_is_fair};
 ghost use Rattle.litmus_c.specs.Symbols.{is_one_of};
 ghost use Rattle.litmus_c.specs.Tree.{term_of, action_of, right_of, declared_of, step_of, steps_of};
 
@@ -60,13 +60,20 @@ fn is_of(kind: LocationKind, name: &Name, parameter: &Parameter) -> bool
     parameter.name == *name && parameter.kind == kind
 }
 
+/// Whether a parameter of this name has this kind.
+fn has_kind(parameters: &[Parameter], kind: LocationKind, name: &Name) -> bool
+    ensures { result ≡ list_any (is_of kind name.now) parameters.now }
+{
+    parameters
+        .iter()
+        .any(|parameter| is_of(kind, name, parameter))
+}
+
 /// Whether no parameter of this name has this kind.
 fn has_other_kind(parameters: &[Parameter], kind: LocationKind, name: &Name) -> bool
     ensures { result ≡ has_other_kind parameters.now kind name.now }
 {
-    !parameters
-        .iter()
-        .any(|parameter| is_of(kind, name, parameter))
+    !has_kind(parameters, kind, name)
 }
 
 /// A rule, and the names of the thread on which it is tried.
