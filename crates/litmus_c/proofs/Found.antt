@@ -18,13 +18,15 @@ use Rattle.litmus_c.specs.declared.symbol.Symbol.TheVariants.{Foreign}
 use Rattle.litmus_c.specs.Depth.{NestsTooDeep}
 use Rattle.litmus_c.specs.Drafts.{Written, written_of}
 use Rattle.litmus_c.specs.Grammar.{Spells}
-use Rattle.litmus_c.specs.Reading.{Cause, syntax, deep, Reading, GivesTest, text_refusal, test_at}
-use Rattle.litmus_c.specs.Reads.{IsWrittenIn, HasNoTest, IsTooDeep, LeavesOut, IsRefused, IsUnwritten, Reads}
+use Rattle.litmus_c.specs.Misordered.{HasMisordered}
+use Rattle.litmus_c.specs.Reading.{Cause, syntax, deep, misordered, Reading, GivesTest, text_refusal, test_at}
+use Rattle.litmus_c.specs.Reads.{IsWrittenIn, HasNoTest, IsTooDeep, IsMisorderedIn, LeavesOut, IsRefused, IsUnwritten, Reads}
 use Rattle.litmus_c.specs.Rules.{litmus_of, KeepsRules, Explains}
 use Rattle.litmus_c.specs.Symbols.{symbols_of}
 use Rattle.litmus_c.specs.Tree.{Word, Litmus}
 use Rattle.litmus_c.proofs.Complete.{test-complete, one_reading, same}
 use Rattle.litmus_c.proofs.Deep.{test_deep}
+use Rattle.litmus_c.proofs.Misorders.{test_misordered}
 use Rattle.litmus_c.proofs.Sound.{test-sound}
 
 -- what was read is written in the text
@@ -128,6 +130,15 @@ too_deep text ts symbols list is unique fails = record {
   nests = (let P : List Symbol → Type 0 = λ l. NestsTooDeep l in subst P is (test_deep 31 symbols fails));
 }
 
+bad_order : (text : List ℕ) (ts : List Token) (symbols : List Symbol) → IsTokenList dialects.Litmus text ts → symbols ≡ symbols_of text ts → ((us : List Token) → IsTokenList dialects.Litmus text us → ts ≡ us) →
+    test_at 32 symbols ≡ Err misordered → IsMisorderedIn text
+bad_order text ts symbols list is unique fails = record {
+  none = no_test text ts symbols misordered is unique fails;
+  tokens = ts;
+  is_list = list;
+  stands = (let P : List Symbol → Type 0 = λ l. HasMisordered l in subst P is (test_misordered 32 symbols fails));
+}
+
 left_out : (text : List ℕ) (ts : List Token) (symbols : List Symbol) (x : Word) → IsTokenList dialects.Litmus text ts → symbols ≡ symbols_of text ts → ((us : List Token) → IsTokenList dialects.Litmus text us → ts ≡ us) →
     test_at 32 symbols ≡ Err syntax → Contains symbols (Foreign x) → LeavesOut text x
 left_out text ts symbols x list is unique fails there = record {
@@ -141,7 +152,7 @@ pub draft_cause : (text : List ℕ) (ts : List Token) (symbols : List Symbol) (e
     ((us : List Token) → IsTokenList dialects.Litmus text us → ts ≡ us) → GivesTest symbols (Err e) (test_at 32 symbols) → IsUnwritten text e
 draft_cause text ts symbols NoMemory list is unique g = tt
 draft_cause text ts symbols (Syntax p) list is unique g = no_test text ts symbols syntax is unique g
-draft_cause text ts symbols BadOrder list is unique g = no_test text ts symbols syntax is unique g
+draft_cause text ts symbols BadOrder list is unique g = bad_order text ts symbols list is unique g
 draft_cause text ts symbols (Unsupported x) list is unique g = left_out text ts symbols x list is unique g.0 g.1
 draft_cause text ts symbols TooDeep list is unique g = too_deep text ts symbols list is unique g
 draft_cause text ts symbols (Text f) list is unique g = absurd g
