@@ -5,7 +5,7 @@ use Rattle.std.proofs.lemmas.Bool.{eqb-true, eq-eqb, false≢true}
 use Rattle.listings.specs.Lists.{IsIn, NoRepeats, Lists}
 use Rattle.listings.proofs.Listings.{in_append, in_left, in_right, once_append}
 use Rattle.conditions.specs.declared.place.Binding.{Binding}
-use Rattle.std.specs.Prelude.{None, Some}
+use Rattle.std.specs.Prelude.{Option, None, Some}
 use Rattle.std.specs.Global.{Global}
 use Rattle.std.proofs.Common.{Box}
 use Rattle.litmus_c.specs.declared.tree.Expression.{Expression}
@@ -153,8 +153,9 @@ only_values vs c a = ap (λ s. with_values vs (step_constants s)) (only_if c a) 
 pub else_values : (vs : List ℕ) (c : Expression) (a b : Box Statement Global) → with_values vs (step_constants (step_of (If' c a (Some b)))) ≡
     with_values (with_values (with_values vs (term_constants (term_of c))) (step_constants (step_of a.value))) (step_constants (step_of b.value))
 else_values vs c a b =
-    ap (λ s. with_values vs (step_constants s)) (if_and_else c a b) ∙ with_append vs (term_constants (term_of c)) (step_constants (step_of a.value) ++ step_constants (step_of b.value)) ∙
-    with_append (with_values vs (term_constants (term_of c))) (step_constants (step_of a.value)) (step_constants (step_of b.value))
+    ap (λ s. with_values vs (step_constants s)) (if_and_else c a b)
+    ∙ with_append vs (term_constants (term_of c) ++ step_constants (step_of a.value)) (step_constants (step_of b.value))
+    ∙ ap (λ us. with_values us (step_constants (step_of b.value))) (with_append vs (term_constants (term_of c)) (step_constants (step_of a.value)))
 
 pub only_first : (vs : List ℕ) (c : Expression) (a : Box Statement Global) → length (with_values vs (term_constants (term_of c))) ≤ length (with_values vs (step_constants (step_of (If' c a None))))
 only_first vs c a = rw (only_values vs c a) (longer (with_values vs (term_constants (term_of c))) (step_constants (step_of a.value)))
@@ -165,23 +166,20 @@ else_second vs c a b = rw (else_values vs c a b) (longer (with_values (with_valu
 pub else_first : (vs : List ℕ) (c : Expression) (a b : Box Statement Global) → length (with_values vs (term_constants (term_of c))) ≤ length (with_values vs (step_constants (step_of (If' c a (Some b)))))
 else_first vs c a b = omega (arith, longer (with_values vs (term_constants (term_of c))) (step_constants (step_of a.value)), else_second vs c a b)
 
--- where the statement is told by equations
+-- the same of a statement that is a branch
 
-pub only_whole : (vs ws : List ℕ) (s b : Statement) (c : Expression) (a : Box Statement Global) (o : Option (Box Statement Global)) → s ≡ If' c a o → o ≡ None → b ≡ a.value → ws ≡ with_values vs (term_constants (term_of c)) →
-    with_values ws (step_constants (step_of b)) ≡ with_values vs (step_constants (step_of s))
-only_whole vs ws s b c a o is none same w =
-    ap (λ l. with_values l (step_constants (step_of b))) w ∙ ap (λ t. with_values (with_values vs (term_constants (term_of c))) (step_constants (step_of t))) same ∙ sym (only_values vs c a) ∙
-    ap (λ t. with_values vs (step_constants (step_of t))) (sym (is ∙ ap (If' c a) none))
+pub branch_only : (s : Statement) (c : Expression) (a : Box Statement Global) (o : Option (Box Statement Global)) (vs : List ℕ) → s ≡ If' c a o → o ≡ None → with_values vs (step_constants (step_of s)) ≡ with_values (with_values vs (term_constants (term_of c))) (step_constants (step_of a.value))
+branch_only s c a o vs e f = ap (λ t. with_values vs (step_constants (step_of t))) (e ∙ ap (If' c a) f) ∙ only_values vs c a
 
-pub else_whole : (vs ws us : List ℕ) (s t u : Statement) (c : Expression) (a b : Box Statement Global) (o : Option (Box Statement Global)) → s ≡ If' c a o → o ≡ Some b → t ≡ a.value → u ≡ b.value →
-    ws ≡ with_values vs (term_constants (term_of c)) → us ≡ with_values ws (step_constants (step_of t)) → with_values us (step_constants (step_of u)) ≡ with_values vs (step_constants (step_of s))
-else_whole vs ws us s t u c a b o is some first second w x =
-    ap (λ l. with_values l (step_constants (step_of u))) x ∙ ap (λ l. with_values (with_values l (step_constants (step_of t))) (step_constants (step_of u))) w ∙
-    ap (λ p. with_values (with_values (with_values vs (term_constants (term_of c))) (step_constants (step_of p))) (step_constants (step_of u))) first ∙
-    ap (λ p. with_values (with_values (with_values vs (term_constants (term_of c))) (step_constants (step_of a.value))) (step_constants (step_of p))) second ∙ sym (else_values vs c a b) ∙
-    ap (λ p. with_values vs (step_constants (step_of p))) (sym (is ∙ ap (If' c a) some))
+pub branch_else : (s : Statement) (c : Expression) (a b : Box Statement Global) (o : Option (Box Statement Global)) (vs : List ℕ) → s ≡ If' c a o → o ≡ Some b → with_values vs (step_constants (step_of s)) ≡
+    with_values (with_values (with_values vs (term_constants (term_of c))) (step_constants (step_of a.value))) (step_constants (step_of b.value))
+branch_else s c a b o vs e f = ap (λ t. with_values vs (step_constants (step_of t))) (e ∙ ap (If' c a) f) ∙ else_values vs c a b
 
--- no fewer values than those of the test
-pub test_first : (vs : List ℕ) (s : Statement) (c : Expression) (a : Box Statement Global) (o : Option (Box Statement Global)) → s ≡ If' c a o → length (with_values vs (term_constants (term_of c))) ≤ length (with_values vs (step_constants (step_of s)))
-test_first vs s c a None is = subst (λ t. length (with_values vs (term_constants (term_of c))) ≤ length (with_values vs (step_constants (step_of t)))) (sym is) (only_first vs c a)
-test_first vs s c a (Some b) is = subst (λ t. length (with_values vs (term_constants (term_of c))) ≤ length (with_values vs (step_constants (step_of t)))) (sym is) (else_first vs c a b)
+pub branch_only_first : (s : Statement) (c : Expression) (a : Box Statement Global) (o : Option (Box Statement Global)) (vs : List ℕ) → s ≡ If' c a o → o ≡ None → length (with_values vs (term_constants (term_of c))) ≤ length (with_values vs (step_constants (step_of s)))
+branch_only_first s c a o vs e f = rw (branch_only s c a o vs e f) (longer (with_values vs (term_constants (term_of c))) (step_constants (step_of a.value)))
+
+pub branch_else_second : (s : Statement) (c : Expression) (a b : Box Statement Global) (o : Option (Box Statement Global)) (vs : List ℕ) → s ≡ If' c a o → o ≡ Some b → length (with_values (with_values vs (term_constants (term_of c))) (step_constants (step_of a.value))) ≤ length (with_values vs (step_constants (step_of s)))
+branch_else_second s c a b o vs e f = rw (branch_else s c a b o vs e f) (longer (with_values (with_values vs (term_constants (term_of c))) (step_constants (step_of a.value))) (step_constants (step_of b.value)))
+
+pub branch_else_first : (s : Statement) (c : Expression) (a b : Box Statement Global) (o : Option (Box Statement Global)) (vs : List ℕ) → s ≡ If' c a o → o ≡ Some b → length (with_values vs (term_constants (term_of c))) ≤ length (with_values vs (step_constants (step_of s)))
+branch_else_first s c a b o vs e f = omega (arith, longer (with_values vs (term_constants (term_of c))) (step_constants (step_of a.value)), branch_else_second s c a b o vs e f)

@@ -108,7 +108,7 @@ terms-sound (suc n) = record {
   unary = λ ts rest a e. deeper (unary-sound n (terms_below n) (terms-sound n) ts rest a e);
 }
 
-level_is : (n k : ℕ) → Sound (level_with (terms_below n) k) (IsLevel k n)
+pub level_is : (n k : ℕ) → Sound (level_with (terms_below n) k) (IsLevel k n)
 level_is n k = level-sound n (terms_below n) (terms-sound n) k
 
 pub expression-sound : (n : ℕ) → Sound (expression_at n) (IsExpression n)

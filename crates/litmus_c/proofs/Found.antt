@@ -127,7 +127,7 @@ too_deep text ts symbols list is unique fails = record {
   none = no_test text ts symbols deep is unique fails;
   tokens = ts;
   is_list = list;
-  nests = (let P : List Symbol → Type 0 = λ l. NestsTooDeep l in subst P is (test_deep 31 symbols fails));
+  nests = (let P : List Symbol → Type 0 = λ l. NestsTooDeep l in subst P is (test_deep 32 symbols fails));
 }
 
 bad_order : (text : List ℕ) (ts : List Token) (symbols : List Symbol) → IsTokenList dialects.Litmus text ts → symbols ≡ symbols_of text ts → ((us : List Token) → IsTokenList dialects.Litmus text us → ts ≡ us) →

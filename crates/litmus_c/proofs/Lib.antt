@@ -1,6 +1,10 @@
 pub mod Calls
 pub mod Complete
 pub mod Deep
+pub mod DeepExpressions
+pub mod DeepPropositions
+pub mod DeepStatements
+pub mod DeepTools
 pub mod Distinct
 pub mod Expressions
 pub mod Fair

@@ -41,7 +41,7 @@ mutual
 
 -- Soundness.
 
-denial-some : (ts rest : List Symbol) (u : Unit {0}) → denial ts ≡ Some (u, rest) → (t : Terminal) × (ts ≡ Fixed t ∷ rest) × Denies t
+pub denial-some : (ts rest : List Symbol) (u : Unit {0}) → denial ts ≡ Some (u, rest) → (t : Terminal) × (ts ≡ Fixed t ∷ rest) × Denies t
 unfolding denial
 denial-some ts rest u e =
     elim (cases_of (after Tilde ts) _ _ _ e) [
@@ -144,13 +144,16 @@ propositions-sound (suc n) = record {
   atomic = λ ts rest a e. deeper (atomic-sound n (propositions_below n) (propositions-sound n) ts rest a e);
 }
 
-atomic_is : (n : ℕ) → Sound (atomic_with (propositions_below n)) (IsAtomic n)
+pub atomic_is : (n : ℕ) → Sound (atomic_with (propositions_below n)) (IsAtomic n)
 atomic_is n = atomic-sound n (propositions_below n) (propositions-sound n)
 
-conjunction_is : (n : ℕ) → Sound (conjunction_with (propositions_below n)) (IsConjunction n)
+pub conjunction_is : (n : ℕ) → Sound (conjunction_with (propositions_below n)) (IsConjunction n)
 conjunction_is n = conjunction-sound n (propositions_below n) (propositions-sound n)
 
-kind-sound : Sound kind_of_at IsKind
+pub or_is : (n : ℕ) → Sound (or_with (propositions_below n)) (IsOr n)
+or_is n = or-sound n (propositions_below n) (propositions-sound n)
+
+pub kind-sound : Sound kind_of_at IsKind
 unfolding kind_of_at
 kind-sound ts rest k e =
     elim (cases_of (after Forall ts) _ _ _ e) [

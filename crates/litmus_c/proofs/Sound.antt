@@ -181,7 +181,7 @@ parameters-sound ts rest ps e =
     (moved (λ l t. IsParameters ts l t) p.2 (parameters_one (parameter-sound [] p.0.0 ts p.0.1 p.1).0))
     x.2
 
-parameter_list-sound : (n : ℕ) → Sound (parameter_list_at n) (IsParameterList n)
+pub parameter_list-sound : (n : ℕ) → Sound (parameter_list_at n) (IsParameterList n)
 unfolding parameter_list_at parameters_closed
 parameter_list-sound n ts rest ps e =
     let m = bind_ok (open_at n ts) _ _ e in

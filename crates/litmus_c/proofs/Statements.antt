@@ -27,7 +27,7 @@ declarators_shorter : {n : ℕ} {ts rest : List Symbol} {ds : List Declared} →
 declarators_shorter (declarators_one d) = declarator_shorter d
 declarators_shorter (declarators_and d e) = omega (arith, declarators_shorter d, declarator_shorter e)
 
-declarator-sound : (n : ℕ) → Sound (declarator_at n) (IsDeclarator n)
+pub declarator-sound : (n : ℕ) → Sound (declarator_at n) (IsDeclarator n)
 unfolding declarator_at
 declarator-sound n ts rest d e =
     let x = bind_ok (name_at ts) _ _ e in
@@ -172,10 +172,10 @@ simple-sound n ts rest s e =
 
 -- Statements.
 
-record SoundInside (n : ℕ) (r : Inside) : Type 0 where
-  expression : Sound r.expression (Deeper IsExpression n)
-  statement : Sound r.statement (Deeper IsStep n)
-  statements : Sound r.statements (Deeper (λ m ts rest ss. IsSteps m ts (Fixed RightBrace ∷ rest) ss) n)
+pub record SoundInside (n : ℕ) (r : Inside) : Type 0 where
+  pub expression : Sound r.expression (Deeper IsExpression n)
+  pub statement : Sound r.statement (Deeper IsStep n)
+  pub statements : Sound r.statements (Deeper (λ m ts rest ss. IsSteps m ts (Fixed RightBrace ∷ rest) ss) n)
 
 deeper-block : {n : ℕ} {ts rest : List Symbol} {ss : Steps} → Deeper (λ m ts rest ss. IsSteps m ts (Fixed RightBrace ∷ rest) ss) n ts rest ss → IsStep n (Fixed LeftBrace ∷ ts) rest (block ss)
 deeper-block (deeper d) = step_block d
@@ -243,7 +243,7 @@ module _ (n : ℕ) (r : Inside) (inner : SoundInside n r) where
       moved (λ l t. IsSteps n ts l t) s.2 (steps_and d (subst (λ l. IsStep n l s.0.1 s.0.0) (unless-same RightBrace us mid o was) (step-sound mid s.0.1 s.0.0 s.1))))
       no_steps ts x.0.0 x.0.1 steps_none x.1))
 
-inside-sound : (n : ℕ) → SoundInside n (inside n)
+pub inside-sound : (n : ℕ) → SoundInside n (inside n)
 unfolding inside
 inside-sound zero = record { expression = λ ts rest a e. absurd (cc); statement = λ ts rest a e. absurd (cc); statements = λ ts rest a e. absurd (cc) }
 inside-sound (suc n) = record {
@@ -252,7 +252,7 @@ inside-sound (suc n) = record {
   statements = λ ts rest a e. deeper (steps-sound n (inside n) (inside-sound n) ts rest a e);
 }
 
-step_is : (n : ℕ) → Sound (step_at n) (IsStep n)
+pub step_is : (n : ℕ) → Sound (step_at n) (IsStep n)
 step_is n = step-sound n (inside n) (inside-sound n)
 
 pub steps_are : (n : ℕ) → Sound (steps_at n) (λ ts rest ss. IsSteps n ts (Fixed RightBrace ∷ rest) ss)

@@ -13,8 +13,7 @@ ghost use Rattle.litmus_c.specs.declared.rules.Rule.TheVariants.{Names, PlainAcc
 use crate::draft::{Body, Draft};
 use crate::fault::TestFault;
 use crate::rules::{
-    Rule, after_threads, entry_is_fair, formula_is_fair, is_one_of, places_are_there,
-    program_keeps,
+    Rule, after_threads, entry_is_fair, formula_is_fair, is_one_of, places_are_there, program_keeps,
 };
 use crate::test::Test;
 use crate::tree::{Declarator, Parameter, Statement, Thread};

@@ -1,11 +1,11 @@
 //! The names of a test: what is used is there.
 
 ghost use Rattle.std.specs.Prelude.{◌≡◌, ◌≤◌, ◌-◌, map, length, SomeIff, sum_by};
-ghost use Rattle.std.specs.List.{list_any, list_all};
+ghost use Rattle.std.specs.List.{list_all, list_any};
 ghost use Rattle.conditions.specs.Conditions.{formula_of};
 ghost use Rattle.litmus_c.specs.Drafts.{is_parameter};
 ghost use Rattle.litmus_c.specs.Limits.{action_events, optional_events, right_events, step_events, steps_events, program_events};
-ghost use Rattle.litmus_c.specs.Rules.{entry_is_fair, is_of, has_other_kind, may_read, may_give, may_call, may_access, term_keeps, action_keeps, right_keeps, declared_keeps, step_keeps, steps_keep, program_keeps, place_is_there, formula_is_fair};
+ghost use Rattle.litmus_c.specs.Rules.{is_given, entry_is_fair, is_of, has_other_kind, may_read, may_give, may_call, may_access, term_keeps, action_keeps, right_keeps, declared_keeps, step_keeps, steps_keep, program_keeps, place_is_there, formula_is_fair};
 ghost use Rattle.litmus_c.specs.Symbols.{is_one_of};
 ghost use Rattle.litmus_c.specs.Tree.{term_of, action_of, right_of, declared_of, step_of, steps_of};
 
@@ -111,7 +111,11 @@ impl<'a> Scope<'a> {
         match self.rule {
             Rule::Names => is_parameter(self.thread.parameters(), location),
             Rule::PlainAccess => true,
-            Rule::AtomicAccess => has_other_kind(self.thread.parameters(), LocationKind::Plain, location),
+            Rule::AtomicAccess => has_other_kind(
+                self.thread.parameters(),
+                LocationKind::Plain,
+                location,
+            ),
         }
     }
 
@@ -121,7 +125,11 @@ impl<'a> Scope<'a> {
     {
         match self.rule {
             Rule::Names => is_parameter(self.thread.parameters(), location),
-            Rule::PlainAccess => has_other_kind(self.thread.parameters(), LocationKind::Atomic, location),
+            Rule::PlainAccess => has_other_kind(
+                self.thread.parameters(),
+                LocationKind::Atomic,
+                location,
+            ),
             Rule::AtomicAccess => true,
         }
     }
@@ -174,7 +182,7 @@ impl<'a> Scope<'a> {
         }
     }
 
-    fn declarators_keep(&self, declarators: &[Declarator]) -> bool
+    fn each_keeps(&self, declarators: &[Declarator]) -> bool
         ensures { result ≡ list_all (λ d. declared_keeps self.now.rule self.now.thread.now.parameters self.now.thread.now.registers (declared_of d)) declarators.now }
     {
         declarators
@@ -182,8 +190,15 @@ impl<'a> Scope<'a> {
             .all(|declarator| self.declarator_keeps(declarator))
     }
 
+    #[tactic(auto, using(crate::proofs::Fair::all_declared))]
+    fn declarators_keep(&self, declarators: &[Declarator]) -> bool
+        ensures { result ≡ list_all (declared_keeps self.now.rule self.now.thread.now.parameters self.now.thread.now.registers) (map declared_of declarators.now) }
+    {
+        self.each_keeps(declarators)
+    }
+
     #[cycle(keeping)]
-    #[tactic(auto, using(crate::proofs::Fair::all_declared, crate::proofs::Steps::only_if, crate::proofs::Steps::if_and_else))]
+    #[tactic(auto, using(crate::proofs::Steps::only_if, crate::proofs::Steps::if_and_else))]
     fn step_keeps(&self, statement: &Statement) -> bool
         ensures { result ≡ step_keeps self.now.rule self.now.thread.now.parameters self.now.thread.now.registers (step_of statement.now) }
     {

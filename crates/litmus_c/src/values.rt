@@ -156,7 +156,7 @@ fn add_declarators(
 
 /// Adds the constants of a statement.
 #[cycle(constants)]
-#[tactic(auto, using(crate::proofs::Distinct::only_values, crate::proofs::Distinct::only_first, crate::proofs::Distinct::else_values, crate::proofs::Distinct::else_first, crate::proofs::Distinct::else_second))]
+#[tactic(auto, using(crate::proofs::Distinct::branch_only, crate::proofs::Distinct::branch_else, crate::proofs::Distinct::branch_only_first, crate::proofs::Distinct::branch_else_first, crate::proofs::Distinct::branch_else_second))]
 fn add_statement(
     values: &mut Vec<u32>,
     statement: &Statement,
@@ -175,15 +175,17 @@ fn add_statement(
         Statement::Assign(_, right) => add_right(values, right, most),
         Statement::Write(_, value) => add_expression(values, value, most),
         Statement::Perform(call) => add_call(values, call, most),
-        Statement::If(test, arm, None) => {
-            add_expression(values, test, most)?;
-            add_statement(values, arm, most)
-        }
-        Statement::If(test, arm, Some(other)) => {
-            add_expression(values, test, most)?;
-            add_statement(values, arm, most)?;
-            add_statement(values, other, most)
-        }
+        Statement::If(test, arm, other) => match other {
+            None => {
+                add_expression(values, test, most)?;
+                add_statement(values, arm, most)
+            }
+            Some(other) => {
+                add_expression(values, test, most)?;
+                add_statement(values, arm, most)?;
+                add_statement(values, other, most)
+            }
+        },
     }
 }
 

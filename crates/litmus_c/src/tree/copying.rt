@@ -1,7 +1,7 @@
 //! Copies of the parts of a thread. They take no allocator: a list is copied with its own.
 
 ghost use Rattle.std.specs.Prelude.{◌≡◌, map, IfOk};
-ghost use Rattle.litmus_c.specs.Tree.{term_of, action_of, right_of, declared_of, step_of, steps_of};
+ghost use Rattle.litmus_c.specs.Tree.{term_of, action_of, right_of, declared_of, if_else, step_of, steps_of};
 
 use crate::tree::{Call, Declarator, Expression, Parameter, RightSide, Statement, Thread};
 use indexmap::IndexSet;
@@ -130,13 +130,20 @@ impl Statement {
             Statement::If(test, arm, None) => {
                 Ok(Statement::If(test.copy()?, boxed_statement(arm)?, None))
             }
-            Statement::If(test, arm, Some(other)) => Ok(Statement::If(
+            Statement::If(test, arm, Some(other)) => Ok(two_armed(
                 test.copy()?,
                 boxed_statement(arm)?,
-                Some(boxed_statement(other)?),
+                boxed_statement(other)?,
             )),
         }
     }
+}
+
+#[tactic(auto, using(crate::proofs::Steps::if_and_else))]
+fn two_armed(test: Expression, arm: Box<Statement>, other: Box<Statement>) -> Statement
+    ensures { step_of result ≡ if_else (term_of test) (step_of arm.value) (step_of other.value) }
+{
+    Statement::If(test, arm, Some(other))
 }
 
 /// A box of an equal statement, from the same allocator.

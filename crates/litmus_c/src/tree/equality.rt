@@ -64,6 +64,14 @@ impl PartialEq for Call {
         ensures value { result ≡ same_action (action_of self.now) (action_of other.now) }
         ensures exact { IsTrue result ↔ (action_of self.now ≡ action_of other.now) }
     {
+        self.has_parts_of(other)
+    }
+}
+
+impl Call {
+    fn has_parts_of(&self, other: &Call) -> bool
+        ensures { result ≡ same_action (action_of self.now) (action_of other.now) }
+    {
         match (self, other) {
             (Call::Load(location, order), Call::Load(other_location, other_order)) => {
                 location == other_location && order == other_order
@@ -96,6 +104,14 @@ impl PartialEq for RightSide {
         ensures value { result ≡ same_right (right_of self.now) (right_of other.now) }
         ensures exact { IsTrue result ↔ (right_of self.now ≡ right_of other.now) }
     {
+        self.has_parts_of(other)
+    }
+}
+
+impl RightSide {
+    fn has_parts_of(&self, other: &RightSide) -> bool
+        ensures { result ≡ same_right (right_of self.now) (right_of other.now) }
+    {
         match (self, other) {
             (RightSide::Value(value), RightSide::Value(other)) => value == other,
             (RightSide::Read(location), RightSide::Read(other)) => location == other,
@@ -118,6 +134,14 @@ impl PartialEq for Declarator {
     fn eq(&self, other: &Declarator) -> bool
         ensures value { result ≡ same_declared (declared_of self.now) (declared_of other.now) }
         ensures exact { IsTrue result ↔ (declared_of self.now ≡ declared_of other.now) }
+    {
+        self.has_parts_of(other)
+    }
+}
+
+impl Declarator {
+    fn has_parts_of(&self, other: &Declarator) -> bool
+        ensures { result ≡ same_declared (declared_of self.now) (declared_of other.now) }
     {
         if self.register != other.register {
             return false;
@@ -190,8 +214,8 @@ fn are_same_statements(statements: &[Statement], others: &[Statement]) -> bool
     if statements.len() != others.len() {
         return false;
     }
-    for (index, statement) in statements.iter().enumerate() {
-        if !statement.has_parts_of(&others[index]) {
+    for i in 0..statements.len() {
+        if !statements[i].has_parts_of(&others[i]) {
             return false;
         }
     }
