@@ -12,8 +12,10 @@ use Rattle.conditions.specs.declared.place.Binding.{Binding}
 use Rattle.litmus_c.specs.declared.rules.Rule.TheVariants.{Names, PlainAccess, AtomicAccess}
 use Rattle.litmus_c.specs.declared.tree.Parameter.{Parameter}
 use Rattle.litmus_c.specs.Drafts.{Listing, Written, is_parameter}
+use Rattle.litmus_c.specs.declared.fault.TestFault.{TestFault}
+use Rattle.litmus_c.specs.declared.fault.TestFault.TheVariants.{Text, Syntax, BadOrder, UnknownName, PlainOnAtomic, AtomicOnPlain, Unsupported, TooDeep, TooManyThreads, TooManyLocations, TooManyEvents, TooManyValues, NoMemory}
 use Rattle.litmus_c.specs.Limits.{program_events, IsTest, TermNames, ActionNames, RightNames, OptionalNames, StepNames, StepsNames, ProgramNames}
-use Rattle.litmus_c.specs.Rules.{lasting, with_name, with_names, place_locations, parameter_names, locations_of, place_registers, step_registers, steps_registers, registers_of, program_of, programs_of, litmus_of, term_keeps, action_keeps, right_keeps, optional_keeps, declared_keeps, step_keeps, steps_keep, program_keeps, entry_is_fair, places_are_there, names_hold, formula_is_fair, KeepsRules}
+use Rattle.litmus_c.specs.Rules.{lasting, with_name, with_names, place_locations, parameter_names, locations_of, place_registers, step_registers, steps_registers, registers_of, program_of, programs_of, litmus_of, term_keeps, action_keeps, right_keeps, optional_keeps, declared_keeps, step_keeps, steps_keep, program_keeps, entry_is_fair, places_are_there, names_hold, formula_is_fair, KeepsRules, Explains, ExplainsNames}
 use Rattle.litmus_c.specs.Symbols.{is_one_of}
 use Rattle.litmus_c.specs.Tree.{Word, Term, number, held, denied, equal, unequal, both, either, Action, load, store, exchange, fence, Right, computed, plain_read, value_of, Declared, Step, empty, block, declare, assign, plain_write, perform, if_only, if_else, Steps, no_steps, in_turn, Program, Litmus}
 use Rattle.litmus_c.specs.Values.{values_among}
@@ -202,3 +204,26 @@ pub made_test : (w : Written) (initial : List Binding) (threads : List Program) 
     KeepsRules w.entries (litmus_of w) →
     IsTest (record { name = w.name; initial = initial; threads = threads; condition = w.condition; listed = w.listed; locations = locations })
 made_test w initial threads locations e f g h = subst (λ (t : Litmus). IsTest t) (sym (parts w initial threads locations e f g)) (is_test w h)
+
+explained : (w : Written) (e : TestFault) → ExplainsNames w.entries (programs_of 0 w.entries w.threads) (locations_of w) w.listed w.condition.formula e → Explains w.entries (litmus_of w) e
+explained w UnknownName h = h
+explained w PlainOnAtomic h = h
+explained w AtomicOnPlain h = h
+explained w (Text f) h = absurd h
+explained w (Syntax n) h = absurd h
+explained w BadOrder h = absurd h
+explained w (Unsupported x) h = absurd h
+explained w TooDeep h = absurd h
+explained w TooManyThreads h = absurd h
+explained w TooManyLocations h = absurd h
+explained w TooManyEvents h = absurd h
+explained w TooManyValues h = absurd h
+explained w NoMemory h = absurd h
+
+-- what explains a refusal of names explains it of the test
+pub names_cause : (w : Written) (threads : List Program) (locations : List Word) (e : TestFault) →
+    threads ≡ programs_of 0 w.entries w.threads → locations ≡ locations_of w →
+    ExplainsNames w.entries threads locations w.listed w.condition.formula e → Explains w.entries (litmus_of w) e
+names_cause w threads locations e f g h =
+    let P : List Program → List Word → TestFault → Type 0 = λ ps xs x. ExplainsNames w.entries ps xs w.listed w.condition.formula x in
+    explained w e (subst (λ xs. P (programs_of 0 w.entries w.threads) xs e) g (subst (λ ps. P ps locations e) f h))

@@ -8,7 +8,8 @@ use Rattle.litmus_c.specs.Limits.{program_events, IsTest}
 use Rattle.litmus_c.specs.Rules.{lasting, with_names, place_locations, parameter_names, locations_of, programs_of, litmus_of, KeepsRules}
 use Rattle.litmus_c.specs.Tree.{Program, Word}
 use Rattle.litmus_c.specs.Values.{values_among}
-use Rattle.litmus_c.proofs.Kept.{kept_rules, made_test}
+use Rattle.std.proofs.lemmas.Result.{err_from_is_err_and}
+use Rattle.litmus_c.proofs.Kept.{kept_rules, made_test, names_cause}
 use Rattle.litmus_c.proofs.Names.{programs_len, map_len}
 use Rattle.litmus_c.proofs.making.make_test.Goals as goal
 
@@ -55,3 +56,17 @@ returns-clause-kept c =
     let values = rw (c.as_slice-5.ensures.value, c.as_slice-6.ensures.value) at c.in_ok-check_values.ensures.few in
     let events = rw (c.as_slice-7.ensures.value, c.as_slice-8.ensures.value) at c.in_ok-check_events.ensures.few in
     kept_rules w c.in_ok-initial.initial.items ts xs initial threads locations (omega (arith, map_len listing_of c.args.draft.bodies.items)) c.in_ok-locations.ensures.few names plain atomic values events
+
+pub returns-in_err-check_names-clause-cause : goal.returns-in_err-check_names-clause-cause
+returns-in_err-check_names-clause-cause c =
+    let w = written_of c.args.draft in
+    let es = c.args.draft.entries.items in
+    let ts = c.in_ok-threads.threads.items in
+    let xs = c.in_ok-locations.locations.items in
+    let threads : ts ≡ programs_of 0 es w.threads = c.in_ok-threads.ensures ∙ ap (λ (bs : List Binding). programs_of 0 bs w.threads) c.as_slice-entries.ensures.value in
+    let locations : xs ≡ locations_of w = c.in_ok-locations.ensures.done ∙
+    ap (λ (bs : List Binding). with_names (with_names [] (flat_map (λ b. place_locations b.place) bs)) (flat_map parameter_names (map listing_of c.as_slice.result.now))) c.as_slice-entries.ensures.value ∙
+    ap (λ (bs : List Body). with_names (with_names [] (flat_map (λ b. place_locations b.place) es)) (flat_map parameter_names (map listing_of bs))) c.as_slice.ensures.value in
+    let cause = rw (c.as_slice-2.ensures.value, c.as_slice-3.ensures.value, c.as_slice-4.ensures.value, c.as_slice-entries.ensures.value) at c.in_err-check_names.ensures.cause in
+    let p = err_from_is_err_and c.from_residual-in_err-check_names.result c.from_residual-in_err-check_names.ensures.1 in
+    rw (p.1, p.2) (names_cause w ts xs c.in_err-check_names.field-0.0 threads locations cause)

@@ -34,5 +34,10 @@ add_statement-returns-in_err-add_statement-in-Some-clause-fault t c =
     ap (λ vs. length (with_values vs (step_constants (step_of c.deref-in-Some.result.now)))) c.in_ok-add_expression-in-Some.ensures.done in
     let here : length (with_values (with_values c.args.values.now.items (term_constants (term_of c.in-If.test))) (step_constants (step_of c.deref-in-Some.result.now))) ≡ length (with_values (with_values c.args.values.now.items (term_constants (term_of c.in-If.test))) (step_constants (step_of c.in-If.arm.value))) =
     ap (λ s. length (with_values (with_values c.args.values.now.items (term_constants (term_of c.in-If.test))) (step_constants (step_of s)))) c.deref-in-Some.ensures in
-    rw (p.1, p.2) (λ e. omega (arith, c.in_err-add_statement-in-Some.ensures.fault e, before, here,
-    branch_else_second c.args.statement.now c.in-If.test c.in-If.arm c.in-Some.other c.in-If.other c.args.values.now.items c.in-If.is c.in-Some.is))
+    rw (p.1, p.2) (λ e. omega (
+      arith,
+      c.in_err-add_statement-in-Some.ensures.fault e,
+      before,
+      here,
+      branch_else_second c.args.statement.now c.in-If.test c.in-If.arm c.in-Some.other c.in-If.other c.args.values.now.items c.in-If.is c.in-Some.is,
+    ))
