@@ -15,7 +15,7 @@ use Rattle.litmus_c.specs.declared.symbol.Symbol.TheVariants.{Fixed, Call, Name}
 use Rattle.litmus_c.specs.declared.symbol.Terminal.{Terminal}
 use Rattle.litmus_c.specs.declared.symbol.Terminal.TheVariants.{LeftParen, RightParen, Comma, Star}
 use Rattle.litmus_c.specs.Grammar.{IsExpression, level_unary, level_tighter, level_joined, IsLevel, IsUnary, unary_denied, unary_paren, unary_name, unary_number, IsOrder, load_orders, store_orders, all_orders, IsLastOrder, last_order, IsCall, call_load, call_load_explicit, call_store, call_store_explicit, call_exchange, call_exchange_explicit, call_fence, HasValue, load_has, exchange_has, IsRight, right_computed, right_read, right_call}
-use Rattle.litmus_c.specs.Reading.{Reading, syntax, after, expected, unless, name_at, call_word, before_name, open_at, expression_at, is_among, order_at, last_order_at, located_at, target_at, valued_at, stored_at, load_at, load_explicit_at, store_at, store_explicit_at, exchange_at, exchange_explicit_at, fence_at, operation_at, has_value, value_at, computed_at, plain_at, right_at}
+use Rattle.litmus_c.specs.Reading.{Reading, syntax, misordered, after, expected, unless, name_at, call_word, before_name, open_at, expression_at, is_among, order_at, last_order_at, located_at, target_at, valued_at, stored_at, load_at, load_explicit_at, store_at, store_explicit_at, exchange_at, exchange_explicit_at, fence_at, operation_at, has_value, value_at, computed_at, plain_at, right_at}
 use Rattle.litmus_c.specs.Symbols.{orders, looked_up}
 use Rattle.litmus_c.specs.Tree.{Word, Term, Action, load, store, exchange, fence, Right, computed, plain_read, value_of}
 use Rattle.litmus_c.proofs.Expressions.{Ends, level_shorter, expression-sound, expression-complete, paren-ends, comma-ends}
@@ -49,7 +49,7 @@ among-in (p ∷ os) o e = elim (or_cases (order_equality.eq p o) (is_among os o)
   | inr h ↦ inr (among-in os o h)
 ]
 
-in-among : (os : List Order) (o : Order) → IsIn o os → is_among os o ≡ true
+pub in-among : (os : List Order) (o : Order) → IsIn o os → is_among os o ≡ true
 in-among [] o h = absurd h
 in-among (p ∷ os) o h = elim h [
   | inl e ↦ or_left (order_equality.eq p o) (is_among os o) (subst (λ (q : Order). order_equality.eq q o ≡ true) e (order_eq-refl o))
@@ -59,7 +59,7 @@ in-among (p ∷ os) o h = elim h [
 last_order-sound : (os : List Order) → Sound (last_order_at os) (IsLastOrder os)
 unfolding last_order_at order_at
 last_order-sound os ts rest a e =
-    let o = bind_ok (name_at ts >>= λ x. required syntax (looked_up orders x.0) >>= λ o. if is_among os o then Ok (o, x.1) else Err syntax) _ _ e in
+    let o = bind_ok (name_at ts >>= λ x. required syntax (looked_up orders x.0) >>= λ o. if is_among os o then Ok (o, x.1) else Err misordered) _ _ e in
     let y = bind_ok (expected RightParen o.0.1) _ _ o.2 in
     let x = bind_ok (name_at ts) _ _ o.1 in
     let p = bind_ok (required syntax (looked_up orders x.0.0)) _ _ x.2 in
@@ -123,12 +123,12 @@ unfolding target_at
 target-first n x rest = rw (located-first n x (Fixed Comma ∷ rest), expected-first Comma rest)
 
 -- a location and a value
-record IsValued (n : ℕ) (ts rest : List Symbol) (v : Word × Term) : Type 0 where
-  inner : ℕ
-  level : n ≡ suc inner
-  from : List Symbol
-  front : ts ≡ Fixed LeftParen ∷ Name v.0 ∷ Fixed Comma ∷ from
-  value : IsExpression inner from rest v.1
+pub record IsValued (n : ℕ) (ts rest : List Symbol) (v : Word × Term) : Type 0 where
+  pub inner : ℕ
+  pub level : n ≡ suc inner
+  pub from : List Symbol
+  pub front : ts ≡ Fixed LeftParen ∷ Name v.0 ∷ Fixed Comma ∷ from
+  pub value : IsExpression inner from rest v.1
 
 valued-sound : (n : ℕ) → Sound (valued_at n) (IsValued n)
 unfolding valued_at
@@ -142,7 +142,7 @@ valued-first : (n : ℕ) (x : Word) {ts rest : List Symbol} {e : Term} → IsExp
 unfolding valued_at
 valued-first n x {ts} d ends = record { is = rw (target-first n x ts, (expression-complete d ends).is) }
 
-stored-sound : (n : ℕ) → Sound (stored_at n) (λ ts rest v. IsValued n ts (Fixed Comma ∷ rest) v)
+pub stored-sound : (n : ℕ) → Sound (stored_at n) (λ ts rest v. IsValued n ts (Fixed Comma ∷ rest) v)
 unfolding stored_at
 stored-sound n ts rest a e =
     let v = bind_ok (valued_at n ts) _ _ e in

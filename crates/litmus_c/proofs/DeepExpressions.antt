@@ -11,10 +11,10 @@ use Rattle.litmus_c.specs.declared.symbol.Symbol.TheVariants.{Fixed, Call, Name,
 use Rattle.litmus_c.specs.declared.symbol.Terminal.TheVariants.{LeftParen, RightParen, Comma, Star, Bang}
 use Rattle.litmus_c.specs.Depth.{DeepLevel, deep_unary, deep_tighter, deep_joined, DeepUnary, deep_operand, deep_not, deep_paren, DeepExpression, TakesValue, store_takes, store_explicit_takes, exchange_takes, exchange_explicit_takes, GivesValue, load_gives, load_explicit_gives, exchange_gives, exchange_explicit_gives, DeepCall, deep_call, deep_value, DeepRight, deep_computed, deep_given}
 use Rattle.litmus_c.specs.Grammar.{IsLevel, level_tighter, level_joined, load_orders, store_orders, all_orders}
-use Rattle.litmus_c.specs.Reading.{syntax, deep, after, call_word, open_at, Terms, operator_at, unary_with, next_operand, operands, level_with, terms_below, expression_at, is_among, order_at, last_order_at, located_at, target_at, valued_at, stored_at, load_at, load_explicit_at, store_at, store_explicit_at, exchange_at, exchange_explicit_at, fence_at, operation_at, has_value, value_at, computed_at, plain_at, right_at}
+use Rattle.litmus_c.specs.Reading.{syntax, deep, misordered, after, call_word, open_at, Terms, operator_at, unary_with, next_operand, operands, level_with, terms_below, expression_at, is_among, order_at, last_order_at, located_at, target_at, valued_at, stored_at, load_at, load_explicit_at, store_at, store_explicit_at, exchange_at, exchange_explicit_at, fence_at, operation_at, has_value, value_at, computed_at, plain_at, right_at}
 use Rattle.litmus_c.specs.Symbols.{orders, looked_up}
 use Rattle.litmus_c.proofs.Calls.{target-sound}
-use Rattle.litmus_c.proofs.DeepTools.{Shallow, fine_ok, fine_syntax, fine_bind, fine_if, fine_expected, fine_name, fine_made, first, either, chosen_deep, repeated_deep, open_deep}
+use Rattle.litmus_c.proofs.DeepTools.{Shallow, fine_ok, fine_syntax, fine_misordered, fine_bind, fine_if, fine_expected, fine_name, fine_made, first, either, chosen_deep, repeated_deep, open_deep}
 use Rattle.litmus_c.proofs.Expressions.{operator-some, level_is}
 use Rattle.litmus_c.proofs.Sounds.{Sound}
 use Rattle.litmus_c.proofs.Symbols.{call_word-some}
@@ -71,9 +71,9 @@ any_expression ts = deep_tighter (deep_tighter (deep_tighter (deep_unary deep_op
 
 -- Orders and arguments.
 
-fine_order_named : (os : List Order) (o : Option Order) (us : List Symbol) → Shallow (required syntax o >>= λ p. if is_among os p then Ok (p, us) else Err syntax)
+fine_order_named : (os : List Order) (o : Option Order) (us : List Symbol) → Shallow (required syntax o >>= λ p. if is_among os p then Ok (p, us) else Err misordered)
 fine_order_named os None us = fine_syntax
-fine_order_named os (Some o) us = fine_if (is_among os o) (fine_ok (o, us)) fine_syntax
+fine_order_named os (Some o) us = fine_if (is_among os o) (fine_ok (o, us)) fine_misordered
 
 fine_order : (os : List Order) (ts : List Symbol) → Shallow (order_at os ts)
 unfolding order_at

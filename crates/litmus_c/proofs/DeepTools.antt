@@ -7,7 +7,7 @@ use Rattle.litmus_c.specs.declared.symbol.Symbol.{Symbol}
 use Rattle.litmus_c.specs.declared.symbol.Symbol.TheVariants.{Fixed, Name}
 use Rattle.litmus_c.specs.declared.symbol.Terminal.{Terminal}
 use Rattle.litmus_c.specs.declared.symbol.Terminal.TheVariants.{LeftParen}
-use Rattle.litmus_c.specs.Reading.{Reading, syntax, deep, after, expected, name_at, number_look, number_at, opened, open_at}
+use Rattle.litmus_c.specs.Reading.{Reading, syntax, deep, misordered, after, expected, name_at, number_look, number_at, opened, open_at}
 use Rattle.litmus_c.proofs.Symbols.{expected-ok}
 
 -- What opens no level is never too deep. A record, so that antt finds its arguments.
@@ -19,6 +19,9 @@ fine_ok x = record { never = λ e. cc }
 
 pub fine_syntax : {A : Type 0} → Shallow {A = A} (Err syntax)
 fine_syntax = record { never = λ e. cc }
+
+pub fine_misordered : {A : Type 0} → Shallow {A = A} (Err misordered)
+fine_misordered = record { never = λ e. cc }
 
 pub fine_bind : {A B : Type 0} {o : Reading A} {f : A × List Symbol → Reading B} → Shallow o → ((x : A × List Symbol) → Shallow (f x)) → Shallow (o >>= f)
 fine_bind {o = o} {f} h g = record { never = λ e. elim (bind_err o f deep e) [ inl d ↦ h.never d | inr (x, is, d) ↦ (g x).never d ] }

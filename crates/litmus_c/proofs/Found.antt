@@ -1,6 +1,6 @@
 -- From the symbols of a text to the test that it spells.
 use Rattle.std.proofs.Common.{◌≡◌, ◌<◌, ◌≤◌, ℕ, List, [], sym, ◌∙◌, ap, subst, refl, arith}
-use Rattle.std.specs.Prelude.{Result, Ok, Err, IfOk, OnOk, IfErr, MatchResult, length, true, false}
+use Rattle.std.specs.Prelude.{Result, Ok, Err, IfOk, OnOk, IfErr, MatchResult, length, true, false, Contains}
 use Rattle.std.proofs.lemmas.Bool.{false≢true}
 use Rattle.descent.proofs.Tools.{moved}
 use Rattle.wb_text.specs.Faults.{HasCause}
@@ -14,16 +14,19 @@ use Rattle.litmus_c.specs.declared.draft.Draft.{Draft}
 use Rattle.litmus_c.specs.declared.fault.TestFault.{TestFault}
 use Rattle.litmus_c.specs.declared.fault.TestFault.TheVariants.{Text, Syntax, BadOrder, UnknownName, PlainOnAtomic, AtomicOnPlain, Unsupported, TooDeep, TooManyThreads, TooManyLocations, TooManyEvents, TooManyValues, NoMemory}
 use Rattle.litmus_c.specs.declared.symbol.Symbol.{Symbol}
+use Rattle.litmus_c.specs.declared.symbol.Symbol.TheVariants.{Foreign}
 use Rattle.litmus_c.specs.Depth.{NestsTooDeep}
 use Rattle.litmus_c.specs.Drafts.{Written, written_of}
 use Rattle.litmus_c.specs.Grammar.{Spells}
-use Rattle.litmus_c.specs.Reading.{Cause, syntax, deep, Reading, GivesTest, text_refusal, test_at}
-use Rattle.litmus_c.specs.Reads.{IsWrittenIn, HasNoTest, IsTooDeep, IsRefused, IsUnwritten, Reads}
+use Rattle.litmus_c.specs.Misordered.{HasMisordered}
+use Rattle.litmus_c.specs.Reading.{Cause, syntax, deep, misordered, Reading, GivesTest, text_refusal, test_at}
+use Rattle.litmus_c.specs.Reads.{IsWrittenIn, HasNoTest, IsTooDeep, IsMisorderedIn, LeavesOut, IsRefused, IsUnwritten, Reads}
 use Rattle.litmus_c.specs.Rules.{litmus_of, KeepsRules, Explains}
 use Rattle.litmus_c.specs.Symbols.{symbols_of}
-use Rattle.litmus_c.specs.Tree.{Litmus}
+use Rattle.litmus_c.specs.Tree.{Word, Litmus}
 use Rattle.litmus_c.proofs.Complete.{test-complete, one_reading, same}
 use Rattle.litmus_c.proofs.Deep.{test_deep}
+use Rattle.litmus_c.proofs.Misorders.{test_misordered}
 use Rattle.litmus_c.proofs.Sound.{test-sound}
 
 -- what was read is written in the text
@@ -59,11 +62,11 @@ no_cause es t AtomicOnPlain k h = absurd (false≢true (sym h ∙ k.atomic))
 no_cause es t TooDeep k h = absurd h
 
 -- a refusal by the grammar, where there is a test, is for want of memory
-pub no_fault : (e : TestFault) (w : Written) (ts : List Symbol) → GivesTest (Err e) (test_at 32 ts) → test_at 32 ts ≡ Ok (w, []) → e ≡ NoMemory
+pub no_fault : (e : TestFault) (w : Written) (ts : List Symbol) → GivesTest ts (Err e) (test_at 32 ts) → test_at 32 ts ≡ Ok (w, []) → e ≡ NoMemory
 no_fault NoMemory w ts g e = refl
 no_fault (Syntax p) w ts g e = absurd (cc)
 no_fault BadOrder w ts g e = absurd (cc)
-no_fault (Unsupported x) w ts g e = absurd (cc)
+no_fault (Unsupported x) w ts g e = let h = g.0 in absurd (cc)
 no_fault TooDeep w ts g e = absurd (cc)
 no_fault (Text f) w ts g e = absurd g
 no_fault UnknownName w ts g e = absurd g
@@ -127,12 +130,30 @@ too_deep text ts symbols list is unique fails = record {
   nests = (let P : List Symbol → Type 0 = λ l. NestsTooDeep l in subst P is (test_deep 32 symbols fails));
 }
 
+bad_order : (text : List ℕ) (ts : List Token) (symbols : List Symbol) → IsTokenList dialects.Litmus text ts → symbols ≡ symbols_of text ts → ((us : List Token) → IsTokenList dialects.Litmus text us → ts ≡ us) →
+    test_at 32 symbols ≡ Err misordered → IsMisorderedIn text
+bad_order text ts symbols list is unique fails = record {
+  none = no_test text ts symbols misordered is unique fails;
+  tokens = ts;
+  is_list = list;
+  stands = (let P : List Symbol → Type 0 = λ l. HasMisordered l in subst P is (test_misordered 32 symbols fails));
+}
+
+left_out : (text : List ℕ) (ts : List Token) (symbols : List Symbol) (x : Word) → IsTokenList dialects.Litmus text ts → symbols ≡ symbols_of text ts → ((us : List Token) → IsTokenList dialects.Litmus text us → ts ≡ us) →
+    test_at 32 symbols ≡ Err syntax → Contains symbols (Foreign x) → LeavesOut text x
+left_out text ts symbols x list is unique fails there = record {
+  none = no_test text ts symbols syntax is unique fails;
+  tokens = ts;
+  is_list = list;
+  stands = (let P : List Symbol → Type 0 = λ l. Contains l (Foreign x) in subst P is there);
+}
+
 pub draft_cause : (text : List ℕ) (ts : List Token) (symbols : List Symbol) (e : TestFault) → IsTokenList dialects.Litmus text ts → symbols ≡ symbols_of text ts →
-    ((us : List Token) → IsTokenList dialects.Litmus text us → ts ≡ us) → GivesTest (Err e) (test_at 32 symbols) → IsUnwritten text e
+    ((us : List Token) → IsTokenList dialects.Litmus text us → ts ≡ us) → GivesTest symbols (Err e) (test_at 32 symbols) → IsUnwritten text e
 draft_cause text ts symbols NoMemory list is unique g = tt
 draft_cause text ts symbols (Syntax p) list is unique g = no_test text ts symbols syntax is unique g
-draft_cause text ts symbols BadOrder list is unique g = no_test text ts symbols syntax is unique g
-draft_cause text ts symbols (Unsupported x) list is unique g = no_test text ts symbols syntax is unique g
+draft_cause text ts symbols BadOrder list is unique g = bad_order text ts symbols list is unique g
+draft_cause text ts symbols (Unsupported x) list is unique g = left_out text ts symbols x list is unique g.0 g.1
 draft_cause text ts symbols TooDeep list is unique g = too_deep text ts symbols list is unique g
 draft_cause text ts symbols (Text f) list is unique g = absurd g
 draft_cause text ts symbols UnknownName list is unique g = absurd g

@@ -12,7 +12,9 @@ pub mod Found
 pub mod Kept
 pub mod Levels
 pub mod Lists
+pub mod Misorders
 pub mod Names
+pub mod Ordered
 pub mod Places
 pub mod Propositions
 pub mod Rows

@@ -1,5 +1,5 @@
 -- What the tests on spellings mean.
-use Rattle.std.proofs.Common.{◌≡◌, ℕ, ◌<◌, ◌≤◌, List, ◌∷◌, subst, length, ◌⊎◌, inl, inr, refl, sym, ◌∙◌, arith, tests, rules}
+use Rattle.std.proofs.Common.{◌≡◌, ℕ, suc, ◌<◌, ◌≤◌, List, [], ◌∷◌, ◌++◌, ap, subst, length, ◌⊎◌, inl, inr, refl, sym, ◌∙◌, arith, tests, rules}
 use Rattle.std.specs.Prelude.{Bool, true, false, not, ◌&&◌, nat_lt, nat_le, All, Option, Some, None, SomeIff, MatchOption}
 use Rattle.std.specs.Bool.{Decides}
 use Rattle.std.specs.List.{list_all}
@@ -10,8 +10,10 @@ use Rattle.wb_text.specs.Names.{IsName, IsPrintable}
 use Rattle.wb_text.specs.Numbers.{IsDecimal, decimal_value}
 use Rattle.wb_text.specs.Tokens.{IsWithin}
 use Rattle.wb_text.specs.declared.token.Token.{Token}
+use Rattle.std.proofs.lemmas.List.{append_assoc}
+use Rattle.litmus_c.specs.declared.symbol.Symbol.{Symbol}
 use Rattle.std.proofs.lemmas.List.Elements.{All-head, All-rest}
-use Rattle.litmus_c.specs.Symbols.{is_name, has_leading_zero, is_number}
+use Rattle.litmus_c.specs.Symbols.{is_name, has_leading_zero, is_number, symbol_by, spelling, is_opened, symbols_of}
 use Rattle.litmus_c.specs.Tree.{Word}
 
 pub true_or_false : (b : Bool) → (b ≡ true) ⊎ (b ≡ false)
@@ -93,3 +95,14 @@ first_within n t ts us e h = All-head (IsWithin n) t ts (subst (λ (l : List Tok
 
 pub rest_within : (n : ℕ) (t : Token) (ts us : List Token) → us ≡ t ∷ ts → All (IsWithin n) us → All (IsWithin n) ts
 rest_within n t ts us e h = All-rest (IsWithin n) t ts us e h
+
+-- the symbol of one more token
+pub symbols_step : (text : List ℕ) (xs : List Symbol) (s : Symbol) (t : Token) (ts us : List Token) (all : List Symbol) → us ≡ t ∷ ts → s ≡ symbol_by t.kind (is_opened text ts) (spelling text t) →
+    xs ++ symbols_of text us ≡ all → (xs ++ s ∷ []) ++ symbols_of text ts ≡ all
+symbols_step text xs s t ts us all split is so_far =
+    append_assoc xs (s ∷ []) (symbols_of text ts) ∙ ap (λ u. xs ++ u ∷ symbols_of text ts) is ∙ ap (λ l. xs ++ symbols_of text l) (sym split) ∙ so_far
+
+-- a symbol for each token
+pub symbols_len : (text : List ℕ) (ts : List Token) → length (symbols_of text ts) ≡ length ts
+symbols_len text [] = refl
+symbols_len text (t ∷ ts) = ap (λ n. suc n) (symbols_len text ts)

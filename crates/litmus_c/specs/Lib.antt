@@ -5,6 +5,7 @@ pub mod Equality
 pub mod Exact
 pub mod Grammar
 pub mod Limits
+pub mod Misordered
 pub mod Reading
 pub mod Reads
 pub mod Rules

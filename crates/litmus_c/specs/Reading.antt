@@ -1,7 +1,7 @@
 -- Reading as functions on lists of symbols: one definition for each function of `Reader`.
 -- The grammar does not rest on this file: it says what the private functions give, and proofs/ leads
 -- from it to the grammar, in both directions.
-use Rattle.std.specs.Prelude.{ℕ, ◌+◌, List, [], ◌∷◌, ◌++◌, length, Bool, true, false, Option, Some, None, Result, Ok, Err, ◌≡◌, if◌then◌else◌, codes}
+use Rattle.std.specs.Prelude.{ℕ, ◌+◌, List, [], ◌∷◌, ◌++◌, length, Bool, true, false, Option, Some, None, Result, Ok, Err, ◌≡◌, if◌then◌else◌, codes, Contains}
 use Rattle.std.specs.Fmt.{decimal}
 use Rattle.std.specs.List.{list_any}
 use Rattle.std.specs.Str.{bytes_eq}
@@ -44,6 +44,7 @@ use Rattle.litmus_c.specs.Tree.{Word, Term, number, held, denied, Action, load, 
 pub data Cause : Type 0 where
   syntax : Cause
   deep : Cause
+  misordered : Cause
 
 abbrev pub Reading : Type 0 → Type 0
 Reading A = Read Symbol Cause A
@@ -53,7 +54,7 @@ abbrev pub Gives : {X A : Type 0} → (X → A) → Result X SyntaxFault → Lis
 Gives view (Ok x) rest read = read ≡ Ok (view x, rest)
 Gives view (Err NoMemory) rest read = Unit {0}
 Gives view (Err (Syntax p)) rest read = read ≡ Err syntax
-Gives view (Err BadOrder) rest read = read ≡ Err syntax
+Gives view (Err BadOrder) rest read = read ≡ Err misordered
 Gives view (Err TooDeep) rest read = read ≡ Err deep
 
 -- single symbols
@@ -248,7 +249,7 @@ unfoldable pub order_at : List Order → List Symbol → Reading Order
 order_at os ts = do
   x ← name_at ts
   o ← required syntax (looked_up orders x.0)
-  if is_among os o then Ok (o, x.1) else Err syntax
+  if is_among os o then Ok (o, x.1) else Err misordered
 
 -- an order, and a closing parenthesis
 unfoldable pub last_order_at : List Order → List Symbol → Reading Order
@@ -623,18 +624,18 @@ abbrev pub GivesAll : {X A : Type 0} → (X → A) → Result X SyntaxFault → 
 GivesAll view (Ok x) read = read ≡ Ok (view x, [])
 GivesAll view (Err NoMemory) read = Unit {0}
 GivesAll view (Err (Syntax p)) read = read ≡ Err syntax
-GivesAll view (Err BadOrder) read = read ≡ Err syntax
+GivesAll view (Err BadOrder) read = read ≡ Err misordered
 GivesAll view (Err TooDeep) read = read ≡ Err deep
 
--- The same of a test and the refusal of its text. A word that the language leaves out is named.
-abbrev pub GivesTest : Result Draft TestFault → Reading Written → Type 0
-GivesTest (Ok d) read = read ≡ Ok (written_of d, [])
-GivesTest (Err faults.NoMemory) read = Unit {0}
-GivesTest (Err (faults.Syntax p)) read = read ≡ Err syntax
-GivesTest (Err faults.BadOrder) read = read ≡ Err syntax
-GivesTest (Err (faults.Unsupported w)) read = read ≡ Err syntax
-GivesTest (Err faults.TooDeep) read = read ≡ Err deep
-GivesTest (Err e) read = ⊥
+-- The same of a test and the refusal of its text, for the symbols ts. A word that is named is one that the language leaves out.
+abbrev pub GivesTest : List Symbol → Result Draft TestFault → Reading Written → Type 0
+GivesTest ts (Ok d) read = read ≡ Ok (written_of d, [])
+GivesTest ts (Err faults.NoMemory) read = Unit {0}
+GivesTest ts (Err (faults.Syntax p)) read = read ≡ Err syntax
+GivesTest ts (Err faults.BadOrder) read = read ≡ Err misordered
+GivesTest ts (Err (faults.Unsupported w)) read = (read ≡ Err syntax) × Contains ts (Foreign w)
+GivesTest ts (Err faults.TooDeep) read = read ≡ Err deep
+GivesTest ts (Err e) read = ⊥
 
 -- the refusal that a fault of the text is
 abbrev pub text_refusal : TextFault → TestFault

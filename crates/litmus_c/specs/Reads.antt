@@ -1,5 +1,5 @@
 -- Which test a text spells.
-use Rattle.std.specs.Prelude.{◌≡◌, ℕ, List}
+use Rattle.std.specs.Prelude.{◌≡◌, ℕ, List, Contains}
 use Rattle.wb_text.specs.Faults.{HasCause}
 use Rattle.wb_text.specs.Tokens.{IsTokenList}
 use Rattle.wb_text.specs.declared.token.Dialect.TheVariants as dialects
@@ -9,9 +9,11 @@ use Rattle.litmus_c.specs.declared.fault.TestFault.TheVariants.{Text, Syntax, Ba
 use Rattle.litmus_c.specs.Depth.{NestsTooDeep}
 use Rattle.litmus_c.specs.Drafts.{Written}
 use Rattle.litmus_c.specs.Grammar.{Spells}
+use Rattle.litmus_c.specs.Misordered.{HasMisordered}
 use Rattle.litmus_c.specs.Rules.{litmus_of, KeepsRules, Explains}
+use Rattle.litmus_c.specs.declared.symbol.Symbol.TheVariants.{Foreign}
 use Rattle.litmus_c.specs.Symbols.{symbols_of}
-use Rattle.litmus_c.specs.Tree.{Litmus}
+use Rattle.litmus_c.specs.Tree.{Word, Litmus}
 
 -- The text has these tokens, and their symbols are the written test by the grammar.
 pub record IsWrittenIn (text : List ℕ) (w : Written) : Type 0 where
@@ -37,6 +39,20 @@ pub record IsTooDeep (text : List ℕ) : Type 0 where
   pub is_list : IsTokenList dialects.Litmus text tokens
   pub nests : NestsTooDeep (symbols_of text tokens)
 
+-- no test is written in the text, and a call in it has an order that it does not take
+pub record IsMisorderedIn (text : List ℕ) : Type 0 where
+  pub none : HasNoTest text
+  pub tokens : List Token
+  pub is_list : IsTokenList dialects.Litmus text tokens
+  pub stands : HasMisordered (symbols_of text tokens)
+
+-- no test is written in the text, and the language leaves out its word w
+pub record LeavesOut (text : List ℕ) (w : Word) : Type 0 where
+  pub none : HasNoTest text
+  pub tokens : List Token
+  pub is_list : IsTokenList dialects.Litmus text tokens
+  pub stands : Contains (symbols_of text tokens) (Foreign w)
+
 -- a test is written in the text, and breaks a rule or a limit for which there is this refusal
 abbrev pub BreaksRule : List ℕ → TestFault → Type 0
 BreaksRule text e = (w : Written) × IsWrittenIn text w × Explains w.entries (litmus_of w) e
@@ -47,8 +63,8 @@ IsRefused text NoMemory = Unit {0}
 IsRefused text (Text f) = HasCause dialects.Litmus text f
 IsRefused text (Syntax n) = HasNoTest text
 IsRefused text TooDeep = IsTooDeep text
-IsRefused text BadOrder = HasNoTest text
-IsRefused text (Unsupported w) = HasNoTest text
+IsRefused text BadOrder = IsMisorderedIn text
+IsRefused text (Unsupported w) = LeavesOut text w
 IsRefused text UnknownName = BreaksRule text UnknownName
 IsRefused text PlainOnAtomic = BreaksRule text PlainOnAtomic
 IsRefused text AtomicOnPlain = BreaksRule text AtomicOnPlain
@@ -62,7 +78,7 @@ abbrev pub IsUnwritten : List ℕ → TestFault → Type 0
 IsUnwritten text NoMemory = Unit {0}
 IsUnwritten text (Text f) = HasCause dialects.Litmus text f
 IsUnwritten text (Syntax n) = HasNoTest text
-IsUnwritten text BadOrder = HasNoTest text
-IsUnwritten text (Unsupported w) = HasNoTest text
+IsUnwritten text BadOrder = IsMisorderedIn text
+IsUnwritten text (Unsupported w) = LeavesOut text w
 IsUnwritten text TooDeep = IsTooDeep text
 IsUnwritten text e = ⊥

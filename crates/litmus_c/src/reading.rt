@@ -1,10 +1,11 @@
 //! The reader.
 
-ghost use Rattle.std.specs.Prelude.{◌≡◌, IfOk, IfErr, MatchResult, length};
+ghost use Rattle.std.specs.Prelude.{◌≡◌, IfOk, IfErr, IfSome, MatchResult, Contains, length};
 ghost use Rattle.litmus_c.specs.Drafts.{Written, written_of};
 ghost use Rattle.litmus_c.specs.Reading.{GivesTest, test_at};
 ghost use Rattle.litmus_c.specs.Reads.{IsWrittenIn, IsRefused, IsUnwritten, Reads};
 ghost use Rattle.litmus_c.specs.Tree.{Litmus};
+ghost use Rattle.litmus_c.specs.declared.symbol.Symbol.TheVariants.{Foreign};
 ghost use Rattle.litmus_c.specs.declared.fault.TestFault.TheVariants.{NoMemory};
 
 use crate::draft::Draft;
@@ -49,7 +50,7 @@ fn draft_of(
     end: usize,
 ) -> Result<Draft, TestFault>
     requires { length symbols.now ≡ length tokens.now }
-    ensures { GivesTest result (test_at 32 symbols.now) }
+    ensures { GivesTest symbols.now result (test_at 32 symbols.now) }
 {
     match read_draft(alloc, tokens, symbols, end) {
         Ok(draft) => Ok(draft),
@@ -68,7 +69,9 @@ fn foreign_at(
     tokens: &[Token],
     symbols: &[Symbol],
     offset: usize,
-) -> Result<Option<Name>, AllocError> {
+) -> Result<Option<Name>, AllocError>
+    ensures { IfOk result (λ o. IfSome o (λ w. Contains symbols.now (Foreign w))) }
+{
     for (token, symbol) in tokens.iter().zip(symbols) {
         if token.from == offset {
             return match symbol {

@@ -236,7 +236,11 @@ fn prefixes_of_sb(rt: HostRuntime) {
     // The text ends with `)` and a line feed.
     for length in 0..SB.len() - 2 {
         let read = read_test(rt.alloc(), &SB[..length]);
-        assert!(rt; matches!(read, Err(TestFault::Text(_) | TestFault::Syntax(_))));
+        // An order's name that is cut off is none of the five.
+        assert!(rt; matches!(
+            read,
+            Err(TestFault::Text(_) | TestFault::Syntax(_) | TestFault::Unsupported(_))
+        ));
     }
 }
 
@@ -405,7 +409,49 @@ fn first_refusal(rt: HostRuntime) -> Result<(), Fail> {
             "",
             TestFault::Text(TextFault::OpenString),
         ),
-        // of 12 and 18 the first from the left
+        // of 12, 13, 17 and 18 the first from the left
+        (
+            "C a\n{}P0(atomic_int*x){=atomic_load_explicit(x,memory_order_release);}exists true",
+            "",
+            0,
+            "",
+            TestFault::Syntax(23),
+        ),
+        (
+            "C a\n{}P0(atomic_int*x){atomic_load_explicit(x,memory_order_release);=}exists true",
+            "",
+            0,
+            "",
+            TestFault::BadOrder,
+        ),
+        (
+            "C a\n{}P0(atomic_int*x){atomic_load_explicit(x,memory_order_release);while}exists true",
+            "",
+            0,
+            "",
+            TestFault::BadOrder,
+        ),
+        (
+            "C a\n{}P0(){=while}exists true",
+            "",
+            0,
+            "",
+            TestFault::Syntax(11),
+        ),
+        (
+            "C a\n{}P0(atomic_int*x){int r=",
+            "(",
+            33,
+            "atomic_load_explicit(x,memory_order_release);while}exists true",
+            TestFault::TooDeep,
+        ),
+        (
+            "C a\n{}P0(atomic_int*x){atomic_load_explicit(x,memory_order_release);int r=",
+            "(",
+            33,
+            "1;}exists true",
+            TestFault::BadOrder,
+        ),
         (
             "C a\n{x}P0(){=}exists ",
             "(",
@@ -472,6 +518,68 @@ fn first_refusal(rt: HostRuntime) -> Result<(), Fail> {
     ] {
         let text = many(alloc, front, part, times, back)?;
         assert_eq!(rt; fault(alloc, text.as_str()), Some(first), "of {front}");
+    }
+    Ok(())
+}
+
+#[test]
+fn words_left_out_come_first(rt: HostRuntime) -> Result<(), Fail> {
+    let alloc = rt.alloc();
+    for (front, part, times, back) in [
+        ("C a\n{}P0(){while=}exists true", "", 0, ""),
+        (
+            "C a\n{}P0(atomic_int*x){while atomic_load_explicit(x,memory_order_release);}exists true",
+            "",
+            0,
+            "",
+        ),
+        ("C a\n{}P0(){while int r=", "(", 33, "1;}exists true"),
+        // 17 before 19
+        (
+            "C a\n{x}P0(){}P1(){}P2(){}P3(){}P4(){}P5(){}P6(){}P7(){}P8(){}exists while",
+            "",
+            0,
+            "",
+        ),
+    ] {
+        let text = many(alloc, front, part, times, back)?;
+        assert_eq!(rt; fault(alloc, text.as_str()), unsupported(alloc, b"while"), "of {front}");
+    }
+    Ok(())
+}
+
+/// What nests `times` deep, before the text that closes it.
+fn nested(
+    alloc: Global,
+    front: &str,
+    open: &str,
+    times: u32,
+    inner: &str,
+    close: &str,
+    back: &str,
+) -> Result<String, std::alloc::AllocError> {
+    let opened = many(alloc, front, open, times, inner)?;
+    many(alloc, opened.as_str(), close, times, back)
+}
+
+#[test]
+fn each_kind_of_nesting(rt: HostRuntime) -> Result<(), Fail> {
+    let alloc = rt.alloc();
+    for (front, open, inner, close, back) in [
+        ("C a\n{}P0(){int r=", "(", "1", ")", ";}exists true"),
+        ("C a\n{}P0(){int r=", "!", "1", "", ";}exists true"),
+        ("C a\n{}P0(){", "{", "", "}", "}exists true"),
+        ("C a\n{}P0(){", "if (1) ", ";", "", "}exists true"),
+        ("C a\n{}P0(){", "if (1) ; else ", ";", "", "}exists true"),
+        ("C a\n{x}P0(){}exists ", "~", "x=0", "", ""),
+        ("C a\n{x}P0(){}exists ", "not ", "x=0", "", ""),
+        ("C a\n{x}P0(){}exists ", "(", "x=0", ")", ""),
+        ("C a\n{x}P0(){}exists ", "x=0 => ", "x=0", "", ""),
+    ] {
+        let deepest = nested(alloc, front, open, 32, inner, close, back)?;
+        assert_eq!(rt; fault(alloc, deepest.as_str()), None, "of {open}");
+        let beyond = nested(alloc, front, open, 33, inner, close, back)?;
+        assert_eq!(rt; fault(alloc, beyond.as_str()), Some(TestFault::TooDeep), "of {open}");
     }
     Ok(())
 }

@@ -1,4 +1,4 @@
-use Rattle.std.proofs.Common.{◌≡◌, List, ap, ◌∙◌}
+use Rattle.std.proofs.Common.{◌≡◌, List, length, sym, ap, ◌∙◌}
 use Rattle.std.proofs.lemmas.Result.{err_from_is_err_and}
 use Rattle.wb_text.specs.declared.token.Token.{Token}
 use Rattle.litmus_c.specs.declared.symbol.Symbol.{Symbol}
@@ -6,6 +6,7 @@ use Rattle.litmus_c.specs.Drafts.{written_of}
 use Rattle.litmus_c.specs.Reading.{text_refusal}
 use Rattle.litmus_c.specs.Symbols.{symbols_of}
 use Rattle.litmus_c.proofs.Found.{written_in, read_of, no_fault, read_same, text_cause, draft_cause}
+use Rattle.litmus_c.proofs.Spelled.{symbols_len}
 use Rattle.litmus_c.proofs.reading.read_text.Goals as goal
 
 pub returns-in_err-tokens-clause-only : goal.returns-in_err-tokens-clause-only
@@ -47,3 +48,9 @@ returns-in_err-draft-clause-cause c =
     let f : List Token → List Symbol = λ l. symbols_of c.args.text.now l in
     let is : c.as_slice-3.result.now ≡ f c.in_ok-tokens.tokens.items = c.as_slice-3.ensures.value ∙ c.in_ok-symbols.ensures ∙ ap f c.as_slice.ensures.value in
     rw (p.1, p.2) (draft_cause c.args.text.now c.in_ok-tokens.tokens.items c.as_slice-3.result.now c.in_err-draft.field-0.0 c.in_ok-tokens.ensures.found is c.in_ok-tokens.ensures.only c.in_err-draft.ensures)
+
+pub draft_of-requires : goal.draft_of-requires
+draft_of-requires c =
+    let f : List Token → List Symbol = λ l. symbols_of c.args.text.now l in
+    let is : c.as_slice-3.result.now ≡ f c.as_slice-2.result.now = c.as_slice-3.ensures.value ∙ c.in_ok-symbols.ensures ∙ ap f (c.as_slice.ensures.value ∙ sym c.as_slice-2.ensures.value) in
+    ap length is ∙ symbols_len c.args.text.now c.as_slice-2.result.now

@@ -5,11 +5,11 @@ use Rattle.litmus_c.specs.Symbols.{symbols_of}
 use Rattle.litmus_c.proofs.symbol.symbols.Given as goal
 
 -- the symbols so far, and those of the rest, are all
-abbrev pub invariant-loop-rest : goal.invariant-loop-rest
-invariant-loop-rest l = record {
+abbrev pub invariant-loop-token : goal.invariant-loop-token
+invariant-loop-token l = record {
   all : l.symbols.items ++ symbols_of l.text l.rest ≡ symbols_of l.text l.tokens;
   within : All (IsWithin (length l.text)) l.rest;
 }
 
-abbrev pub decreases-loop-rest : goal.decreases-loop-rest
-decreases-loop-rest l = length l.rest
+abbrev pub decreases-loop-token : goal.decreases-loop-token
+decreases-loop-token l = length l.rest
