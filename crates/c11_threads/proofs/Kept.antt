@@ -1,22 +1,22 @@
 -- Every value of a run is a value of the test.
-use Rattle.std.proofs.Common.{◌≡◌, ℕ, zero, suc, ◌<◌, ◌⊎◌, List, [], ◌∷◌, ◌++◌, length, map, get_or, refl, sym, ◌∙◌, ap, subst, inl, inr, arith, Bool, true, false, Option, None, Some}
-use Rattle.std.specs.Prelude.{slice_index_or, slice_set, if◌then◌else◌, not, ◌==◌, ◌&&◌, ◌||◌}
+use Rattle.std.proofs.Common.{◌≡◌, ℕ, zero, suc, ◌<◌, List, [], ◌∷◌, ◌++◌, length, map, get_or, refl, sym, subst, inl, inr, Bool, true, false, Option, None, Some}
+use Rattle.std.specs.Prelude.{if◌then◌else◌, not, ◌==◌, ◌&&◌, ◌||◌}
 use Rattle.std.specs.List.{flat_map}
 use Rattle.events.specs.declared.event.Access.TheVariants.{Read, Write, ExRead, ExWrite}
 use Rattle.events.specs.declared.event.Event.{Event}
 use Rattle.events.specs.declared.event.Order.TheVariants.{Na}
-use Rattle.events.specs.Executions.{ThreadRun, no_places}
+use Rattle.events.specs.Executions.{ThreadRun}
 use Rattle.listings.specs.Lists.{IsIn}
 use Rattle.listings.proofs.Listings.{in_left, in_right, map_in, flat_map_in, in_get_or}
 use Rattle.conditions.specs.declared.place.Binding.{Binding}
 use Rattle.conditions.specs.declared.place.Place.{Place}
 use Rattle.conditions.specs.declared.place.Place.TheVariants.{Reg}
 use Rattle.conditions.specs.States.{value_at}
-use Rattle.litmus_c.specs.Tree.{Word, Term, number, held, denied, equal, unequal, both, either, Action, load, store, exchange, fence, Right, computed, plain_read, value_of, Declared, Step, empty, block, declare, assign, plain_write, perform, if_only, if_else, Steps, no_steps, in_turn, Program, Litmus}
+use Rattle.litmus_c.specs.Tree.{Word, Term, number, held, denied, equal, unequal, both, either, Action, load, store, exchange, fence, Right, computed, plain_read, value_of, Declared, Step, empty, block, declare, assign, plain_write, perform, if_only, if_else, Steps, no_steps, in_turn, Litmus}
 use Rattle.litmus_c.specs.Values.{term_constants, action_constants, right_constants, optional_constants, step_constants, steps_constants, program_constants, InDom}
 use Rattle.c11_threads.specs.declared.content.Content.{Content}
 use Rattle.c11_threads.specs.Contents.{place_of, nothing, is_true, truth, value_in}
-use Rattle.c11_threads.specs.Runs.{Progress, after, next_read, Site, thread_of, no_program, holding, names, given_by, inside, reads_from, writes_into, fences, Calls, Gives, Assigns, Declares, DeclaresAll, Branches, Performs, PerformsAll, body, initial_content, start, run_of, IsRun}
+use Rattle.c11_threads.specs.Runs.{Progress, after, next_read, Site, thread_of, no_program, holding, names, given_by, inside, reads_from, writes_into, fences, Calls, Gives, Assigns, Declares, DeclaresAll, Branches, Performs, PerformsAll, body, initial_content, start}
 use Rattle.c11_threads.specs.Bounds.{AreValues, Keeping}
 use Rattle.std.specs.List.{All}
 use Rattle.std.proofs.lemmas.List.Elements.{All-nil, All-cons, All-head, All-tail, All-append, All-set, All-map}

@@ -1,3 +1,4 @@
+pub mod Examples
 pub mod Reaching
 pub mod Few
 pub mod Kept

@@ -1,22 +1,17 @@
 -- What events of a run depend on: reads before them.
-use Rattle.std.proofs.Common.{◌≡◌, ℕ, zero, suc, ◌<◌, ◌⊎◌, List, [], ◌∷◌, ◌++◌, length, map, get_or, refl, sym, ◌∙◌, ap, subst, inl, inr, arith, append_assoc, Bool, true, false, ◌==◌, ◌||◌, Option, None, Some}
+use Rattle.std.proofs.Common.{◌≡◌, ℕ, zero, suc, ◌<◌, ◌⊎◌, List, [], ◌∷◌, ◌++◌, length, get_or, refl, sym, ◌∙◌, ap, subst, inl, inr, arith, append_assoc, Bool, true, false, Option, None, Some}
 use Rattle.std.specs.List.{All}
-use Rattle.std.proofs.lemmas.Bool.{eqb-true, false≢true}
 use Rattle.std.proofs.lemmas.List.Elements.{All-head, All-tail, All-set, All-map}
-use Rattle.relations.specs.Tables.{place}
-use Rattle.relations.specs.TableFacts.{place_line, line_below}
 use Rattle.relations.specs.Events.{EventSet, Has}
 use Rattle.events.specs.declared.event.Access.TheVariants.{Read, Write, ExRead, ExWrite}
 use Rattle.events.specs.declared.event.Event.{Event}
 use Rattle.events.specs.declared.event.Order.TheVariants.{Na}
 use Rattle.events.specs.Executions.{ThreadRun, no_places, is_read}
 use Rattle.listings.specs.Lists.{StandsAt}
-use Rattle.conditions.specs.declared.place.Place.TheVariants.{Reg}
-use Rattle.conditions.specs.States.{value_at}
 use Rattle.litmus_c.specs.Tree.{Word, Term, number, held, denied, equal, unequal, both, either, Action, load, store, exchange, fence, Right, computed, plain_read, value_of, Declared, Step, empty, block, declare, assign, plain_write, perform, if_only, if_else, Steps, no_steps, in_turn, Litmus}
 use Rattle.c11_threads.specs.declared.content.Content.{Content}
-use Rattle.c11_threads.specs.Contents.{place_of, just, joined, nothing, is_true, reads_in}
-use Rattle.c11_threads.specs.Runs.{Progress, after, holding, next_read, Site, thread_of, names, given_by, inside, reads_from, writes_into, fences, Calls, Gives, Assigns, Declares, DeclaresAll, Branches, Performs, PerformsAll, body, initial_content, start, IsRun}
+use Rattle.c11_threads.specs.Contents.{place_of, joined, nothing, is_true, reads_in}
+use Rattle.c11_threads.specs.Runs.{Progress, after, holding, next_read, Site, thread_of, names, given_by, inside, reads_from, writes_into, fences, Calls, Gives, Assigns, Declares, DeclaresAll, Branches, Performs, PerformsAll, body, initial_content, start}
 use Rattle.c11_threads.specs.Bounds.{IsReadAt, Depends}
 use Rattle.c11_threads.proofs.Sets.{none_in, in_just, in_joined}
 use Rattle.c11_threads.proofs.RunLists.{site, step_listed}

@@ -2,8 +2,7 @@
 --   r = atomic_load_explicit(x, memory_order_relaxed);
 --   if (r) atomic_store_explicit(y, 1, memory_order_relaxed);
 --   atomic_store(y, r);
-use Rattle.std.proofs.Common.{◌≡◌, ℕ, List, [], ◌∷◌, refl}
-use Rattle.relations.specs.Tables.{place, line}
+use Rattle.std.specs.Prelude.{◌≡◌, ℕ, [], ◌∷◌}
 use Rattle.relations.specs.Events.{EventSet}
 use Rattle.events.specs.declared.event.Access.{Access}
 use Rattle.events.specs.declared.event.Access.TheVariants.{Read, Write, ExRead, ExWrite}
@@ -13,8 +12,8 @@ use Rattle.events.specs.declared.event.Order.TheVariants.{Rlx, AcqRel, Sc}
 use Rattle.events.specs.Executions.{ThreadRun, no_places}
 use Rattle.conditions.specs.declared.condition.Kind.TheVariants.{Exists}
 use Rattle.conditions.specs.Conditions.{truth}
-use Rattle.litmus_c.specs.Tree.{Word, number, held, load, store, exchange, value_of, Step, assign, perform, if_only, Steps, no_steps, in_turn, Litmus}
-use Rattle.c11_threads.specs.Contents.{just, joined}
+use Rattle.litmus_c.specs.Tree.{Word, number, held, load, store, exchange, value_of, assign, perform, if_only, Steps, no_steps, in_turn, Litmus}
+use Rattle.c11_threads.specs.Contents.{just}
 use Rattle.c11_threads.specs.Unrolled.{runs_of}
 
 abbrev pub x : Word
@@ -60,9 +59,8 @@ where_one = record {
   registers = 1 ∷ [];
 }
 
-pub two_runs : runs_of (test_of branching) 0 ≡ where_zero ∷ where_one ∷ []
-unfolding just joined no_places line place
-two_runs = refl
+abbrev pub BranchingRuns : Type 0
+BranchingRuns = runs_of (test_of branching) 0 ≡ where_zero ∷ where_one ∷ []
 
 -- r = atomic_exchange_explicit(x, 1, memory_order_acq_rel): a read of any value, and then a write with the same order
 abbrev pub exchanged : ℕ → ThreadRun
@@ -71,6 +69,5 @@ exchanged v = record {
   registers = v ∷ [];
 }
 
-pub exchanges : runs_of (test_of (in_turn (assign r (value_of (exchange x (number 1) AcqRel))) no_steps)) 0 ≡ exchanged 0 ∷ exchanged 1 ∷ []
-unfolding just joined no_places line place
-exchanges = refl
+abbrev pub ExchangeRuns : Type 0
+ExchangeRuns = runs_of (test_of (in_turn (assign r (value_of (exchange x (number 1) AcqRel))) no_steps)) 0 ≡ exchanged 0 ∷ exchanged 1 ∷ []

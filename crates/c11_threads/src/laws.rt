@@ -2,6 +2,7 @@
 
 ghost use Rattle.c11_threads.specs.Unrolled.{Listing};
 ghost use Rattle.c11_threads.specs.Bounds.{Bounding, Keeping, Depends};
+ghost use Rattle.c11_threads.specs.RunExamples.{BranchingRuns, ExchangeRuns};
 
 /// The runs of a thread as a list are its runs, each once.
 pub fn listing()
@@ -22,4 +23,10 @@ pub fn keeping()
 /// What an event of a run depends on are reads before it.
 pub fn depending()
     ensures { Depends }
+{}
+
+/// The runs of a branch and of an exchange, computed from the definitions.
+pub fn examples()
+    ensures branch { BranchingRuns }
+    ensures exchange { ExchangeRuns }
 {}

@@ -68,6 +68,12 @@ pub fn runs(alloc: Global, test: &Test, thread: usize) -> Result<Vec<Run>, RunFa
     let values = test.values(alloc)?;
     let setting = within(test, thread, &values);
     let from = start(alloc, test, thread)?;
-    let ends = setting.perform_all(alloc, &no_places(), statements(test, thread), from, MOST_RUNS)?;
+    let ends = setting.perform_all(
+        alloc,
+        &no_places(),
+        statements(test, thread),
+        from,
+        MOST_RUNS,
+    )?;
     Ok(runs_from(alloc, &ends)?)
 }

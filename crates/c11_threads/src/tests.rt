@@ -32,9 +32,15 @@ fn sizes(rt: HostRuntime) -> Result<(), Fail> {
     for _ in 0..12 {
         loads.push_str("r = atomic_load_explicit(x, memory_order_relaxed);\n")?;
     }
-    assert_eq!(rt; runs_of(alloc, loads.as_str())?.map(|runs| runs.len()), Ok(4096));
+    assert_eq!(rt;
+        runs_of(alloc, loads.as_str())?.map(|runs| runs.len()),
+        Ok(4096)
+    );
     loads.push_str("r = atomic_load(x);\n")?;
-    assert_eq!(rt; runs_of(alloc, loads.as_str())?.map(|runs| runs.len()), Err(RunFault::TooManyRuns(0)));
+    assert_eq!(rt;
+        runs_of(alloc, loads.as_str())?.map(|runs| runs.len()),
+        Err(RunFault::TooManyRuns(0))
+    );
     assert_eq!(rt; runs_of(alloc, ";")?.map(|runs| runs.len()), Ok(1));
     Ok(())
 }
@@ -45,9 +51,30 @@ fn ctrl(rt: HostRuntime) -> Result<(), Fail> {
     let statements = "int r = atomic_load(x); if (r) { atomic_store(y, 1); } atomic_store(y, r);\n";
     let runs = runs_of(alloc, statements)??;
     assert_eq!(rt; runs.len(), 2);
-    assert!(rt; holds(&runs, 0, 1, |e| e.value == 0 && has(&e.data_from, 0) && !has(&e.ctrl_from, 0)));
-    assert!(rt; holds(&runs, 1, 1, |e| e.value == 1 && !has(&e.data_from, 0) && has(&e.ctrl_from, 0)));
-    assert!(rt; holds(&runs, 1, 2, |e| e.value == 1 && has(&e.data_from, 0) && !has(&e.ctrl_from, 0)));
+    assert!(rt;
+        holds(
+            &runs,
+            0,
+            1,
+            |e| e.value == 0 && has(&e.data_from, 0) && !has(&e.ctrl_from, 0)
+        )
+    );
+    assert!(rt;
+        holds(
+            &runs,
+            1,
+            1,
+            |e| e.value == 1 && !has(&e.data_from, 0) && has(&e.ctrl_from, 0)
+        )
+    );
+    assert!(rt;
+        holds(
+            &runs,
+            1,
+            2,
+            |e| e.value == 1 && has(&e.data_from, 0) && !has(&e.ctrl_from, 0)
+        )
+    );
     Ok(())
 }
 
@@ -58,6 +85,13 @@ fn exchange(rt: HostRuntime) -> Result<(), Fail> {
     let runs = runs_of(alloc, statements)??;
     assert_eq!(rt; runs.len(), 3);
     assert!(rt; holds(&runs, 2, 0, |e| e.access == Access::ExRead && e.value == 2));
-    assert!(rt; holds(&runs, 2, 1, |e| e.access == Access::ExWrite && e.order == Order::AcqRel));
+    assert!(rt;
+        holds(
+            &runs,
+            2,
+            1,
+            |e| e.access == Access::ExWrite && e.order == Order::AcqRel
+        )
+    );
     Ok(())
 }
