@@ -3,7 +3,7 @@
 ghost use Rattle.std.specs.Prelude.{◌<◌};
 
 use super::*;
-use crate::slices::{PieceResult, evaluate};
+use crate::slices::{Piece, PieceResult, VerdictRef, evaluate};
 use candidates::SpaceFault;
 use litmus_c::TestFault;
 use std::alloc::Global;
@@ -26,31 +26,20 @@ exists (0:r0=0 /\\ 1:r0=0)
 
 const EMPTY: &[u8] = b"C E\n{ x; }\nP0 () {}\nexists (x=0)\n";
 
-const THIRTEEN_STORES: &[u8] = b"C S
-{}
-P0 (atomic_int* x) {
-  atomic_store_explicit(x, 1, memory_order_relaxed);
-  atomic_store_explicit(x, 1, memory_order_relaxed);
-  atomic_store_explicit(x, 1, memory_order_relaxed);
-  atomic_store_explicit(x, 1, memory_order_relaxed);
-  atomic_store_explicit(x, 1, memory_order_relaxed);
-  atomic_store_explicit(x, 1, memory_order_relaxed);
-  atomic_store_explicit(x, 1, memory_order_relaxed);
-  atomic_store_explicit(x, 1, memory_order_relaxed);
-  atomic_store_explicit(x, 1, memory_order_relaxed);
-  atomic_store_explicit(x, 1, memory_order_relaxed);
-  atomic_store_explicit(x, 1, memory_order_relaxed);
-  atomic_store_explicit(x, 1, memory_order_relaxed);
-  atomic_store_explicit(x, 1, memory_order_relaxed);
+/// The texts of the tests that are put.
+#[derive(Clone, Copy)]
+enum Source {
+    Sb,
+    Empty,
+    Unfinished,
+    ThirteenStores,
 }
-exists (x=1)
-";
 
 /// What is called. A `Return` is of one of the results so far.
 #[derive(Clone, Copy)]
 enum Line {
     Cat(&'static [u8], &'static [u8]),
-    Test(&'static [u8]),
+    Test(Source),
     Ask(&'static [u8], &'static [u8]),
     Poll(u32),
     Claim,
@@ -95,6 +84,28 @@ fn text(alloc: Global, bytes: &[u8]) -> Result<Text, Fail> {
     Ok(Text::new(alloc, Vec::from_slice(alloc, bytes)?)?)
 }
 
+impl Source {
+    fn text(&self, alloc: Global) -> Result<Text, Fail> {
+        match self {
+            Source::Sb => text(alloc, SB),
+            Source::Empty => text(alloc, EMPTY),
+            Source::Unfinished => text(alloc, b"C SB\n{"),
+            Source::ThirteenStores => thirteen_stores(alloc),
+        }
+    }
+}
+
+fn thirteen_stores(alloc: Global) -> Result<Text, Fail> {
+    let store = "atomic_store_explicit(x, 1, memory_order_relaxed);\n";
+    let mut body = Vec::new(alloc);
+    body.extend_from_slice(b"C S\n{}\nP0 (atomic_int* x) {\n")?;
+    for _ in 0..13 {
+        body.extend_from_slice(store.as_bytes())?;
+    }
+    body.extend_from_slice(b"}\nexists (x=1)\n")?;
+    Ok(Text::new(alloc, body)?)
+}
+
 fn name(alloc: Global, bytes: &[u8]) -> Result<Name, Fail> {
     Ok(Name::new(alloc, bytes)?)
 }
@@ -102,7 +113,7 @@ fn name(alloc: Global, bytes: &[u8]) -> Result<Name, Fail> {
 fn command(alloc: Global, line: &Line, results: &[PieceResult]) -> Result<Command, Fail> {
     Ok(match line {
         Line::Cat(file, bytes) => Command::PutCat(name(alloc, file)?, text(alloc, bytes)?),
-        Line::Test(bytes) => Command::PutTest(text(alloc, bytes)?),
+        Line::Test(source) => Command::PutTest(source.text(alloc)?),
         Line::Ask(test, cat) => Command::Ask(name(alloc, test)?, name(alloc, cat)?),
         Line::Poll(job) => Command::Poll(*job),
         Line::Claim => Command::Claim,
@@ -160,55 +171,95 @@ fn play(
 
 /// Whether a reply is as told.
 fn is_told(reply: &Reply, told: &Told) -> bool {
-    match (reply, told) {
-        (Reply::Version(name, version), Told::Version(bytes, other)) => {
-            name.bytes() == *bytes && version == other
-        }
-        (Reply::Job(job), Told::Job(other)) => job == other,
-        (Reply::Pending(done, total), Told::Pending(other, others)) => {
-            done == other && total == others
-        }
-        (Reply::Verdict(verdict), Told::Verdict(positive, negative)) => {
-            let finding = verdict.verdict().finding();
-            finding.positive() == *positive && finding.negative() == *negative
-        }
-        (Reply::Piece(piece), Told::Piece(claim, job, to)) => {
-            piece.claim() == *claim
-                && piece.job() == *job
-                && piece.slice() == 0
-                && piece.from() == 0
-                && piece.to() == *to
-        }
-        (Reply::Nothing, Told::Nothing) => true,
-        (Reply::Taken(done, total), Told::Taken(other, others)) => done == other && total == others,
-        (Reply::Refused(refusal), _) => is_refused(refusal, told),
-        _ => false,
+    match told {
+        Told::Version(bytes, version) => match reply {
+            Reply::Version(name, other) => name.bytes() == *bytes && version == other,
+            _ => false,
+        },
+        Told::Job(job) => matches!(reply, Reply::Job(other) if other == job),
+        Told::Pending(done, total) => match reply {
+            Reply::Pending(other, others) => done == other && total == others,
+            _ => false,
+        },
+        Told::Verdict(positive, negative) => match reply {
+            Reply::Verdict(verdict) => has_counts(verdict, *positive, *negative),
+            _ => false,
+        },
+        Told::Piece(claim, job, to) => match reply {
+            Reply::Piece(piece) => is_whole(piece, *claim, *job, *to),
+            _ => false,
+        },
+        Told::Nothing => matches!(reply, Reply::Nothing),
+        Told::Taken(done, total) => match reply {
+            Reply::Taken(other, others) => done == other && total == others,
+            _ => false,
+        },
+        _ => match reply {
+            Reply::Refused(refusal) => is_refused(refusal, told),
+            _ => false,
+        },
     }
+}
+
+fn has_counts(verdict: &VerdictRef, positive: u64, negative: u64) -> bool {
+    let finding = verdict.verdict().finding();
+    finding.positive() == positive && finding.negative() == negative
+}
+
+/// Whether a piece is the whole of a job.
+fn is_whole(piece: &Piece, claim: u32, job: u32, to: u64) -> bool {
+    piece.claim() == claim
+        && piece.job() == job
+        && piece.slice() == 0
+        && piece.from() == 0
+        && piece.to() == to
 }
 
 /// Whether a refusal is as told.
 fn is_refused(refusal: &Refusal, told: &Told) -> bool {
-    match (refusal, told) {
-        (Refusal::ReadingCat(CatFault::Syntax(place)), Told::CatSyntax(other)) => place == other,
-        (Refusal::ReadingTest(TestFault::Syntax(place)), Told::TestSyntax(other)) => place == other,
-        (Refusal::NoTest(name), Told::NoTest(bytes)) => name.bytes() == *bytes,
-        (Refusal::Model(ModelFault::NoCat(name)), Told::NoCat(bytes)) => name.bytes() == *bytes,
-        (Refusal::Space(SpaceFault::TooManyCandidates), Told::TooManyCandidates) => true,
-        (Refusal::NoJob(job), Told::NoJob(other)) => job == other,
-        (Refusal::NoClaim(claim), Told::NoClaim(other)) => claim == other,
-        (Refusal::Replaced(replacement), Told::ReplacedTest(bytes, version)) => {
-            matches!(replacement.kind, SourceKind::Test)
-                && replacement.name.bytes() == *bytes
-                && replacement.version == *version
+    match told {
+        Told::CatSyntax(place) => match refusal {
+            Refusal::ReadingCat(CatFault::Syntax(other)) => place == other,
+            _ => false,
+        },
+        Told::TestSyntax(place) => match refusal {
+            Refusal::ReadingTest(TestFault::Syntax(other)) => place == other,
+            _ => false,
+        },
+        Told::NoTest(bytes) => match refusal {
+            Refusal::NoTest(name) => name.bytes() == *bytes,
+            _ => false,
+        },
+        Told::NoCat(bytes) => match refusal {
+            Refusal::Model(ModelFault::NoCat(name)) => name.bytes() == *bytes,
+            _ => false,
+        },
+        Told::TooManyCandidates => {
+            matches!(refusal, Refusal::Space(SpaceFault::TooManyCandidates))
         }
-        (Refusal::Replaced(replacement), Told::ReplacedCat(bytes, version)) => {
-            matches!(replacement.kind, SourceKind::Cat)
-                && replacement.name.bytes() == *bytes
-                && replacement.version == *version
+        Told::NoJob(job) => matches!(refusal, Refusal::NoJob(other) if other == job),
+        Told::NoClaim(claim) => matches!(refusal, Refusal::NoClaim(other) if other == claim),
+        Told::ReplacedTest(bytes, version) => {
+            is_replaced(refusal, SourceKind::Test, bytes, *version)
         }
-        (Refusal::Stranger(claim), Told::Stranger(other)) => claim == other,
-        (Refusal::VersionsSpent(name), Told::VersionsSpent(bytes)) => name.bytes() == *bytes,
-        (Refusal::ClaimsSpent, Told::ClaimsSpent) => true,
+        Told::ReplacedCat(bytes, version) => is_replaced(refusal, SourceKind::Cat, bytes, *version),
+        Told::Stranger(claim) => matches!(refusal, Refusal::Stranger(other) if other == claim),
+        Told::VersionsSpent(bytes) => match refusal {
+            Refusal::VersionsSpent(name) => name.bytes() == *bytes,
+            _ => false,
+        },
+        Told::ClaimsSpent => matches!(refusal, Refusal::ClaimsSpent),
+        _ => false,
+    }
+}
+
+fn is_replaced(refusal: &Refusal, kind: SourceKind, name: &[u8], version: u32) -> bool {
+    match refusal {
+        Refusal::Replaced(replacement) => {
+            replacement.kind == kind
+                && replacement.name.bytes() == name
+                && replacement.version == version
+        }
         _ => false,
     }
 }
@@ -219,7 +270,7 @@ const FIRST_SCRIPT: [Row; 7] = [
         Line::Cat(b"none.cat", b""),
         Told::Version(b"none.cat", 1),
     ),
-    (0, Line::Test(SB), Told::Version(b"SB", 1)),
+    (0, Line::Test(Source::Sb), Told::Version(b"SB", 1)),
     (0, Line::Ask(b"SB", b"none.cat"), Told::Job(1)),
     (0, Line::Poll(1), Told::Pending(0, 1)),
     (1, Line::Claim, Told::Piece(1, 1, 16)),
@@ -238,13 +289,13 @@ fn first_script(rt: HostRuntime) -> Result<(), Fail> {
 }
 
 const OTHER_BOOK: [Row; 3] = [
-    (0, Line::Test(EMPTY), Told::Version(b"E", 1)),
+    (0, Line::Test(Source::Empty), Told::Version(b"E", 1)),
     (0, Line::Ask(b"E", b"stdlib.cat"), Told::Job(1)),
     (0, Line::Claim, Told::Piece(1, 1, 1)),
 ];
 
 const STRANGER: [Row; 5] = [
-    (0, Line::Test(SB), Told::Version(b"SB", 1)),
+    (0, Line::Test(Source::Sb), Told::Version(b"SB", 1)),
     (0, Line::Ask(b"SB", b"stdlib.cat"), Told::Job(1)),
     (0, Line::Claim, Told::Piece(1, 1, 16)),
     (0, Line::Return(0), Told::Stranger(1)),
@@ -270,7 +321,7 @@ const SPENT: [Row; 8] = [
         Told::Version(b"a.cat", 2),
     ),
     (0, Line::Cat(b"a.cat", b""), Told::VersionsSpent(b"a.cat")),
-    (0, Line::Test(SB), Told::Version(b"SB", 1)),
+    (0, Line::Test(Source::Sb), Told::Version(b"SB", 1)),
     (0, Line::Ask(b"SB", b"cos.cat"), Told::Job(1)),
     (0, Line::Ask(b"SB", b"c11_cos.cat"), Told::Job(2)),
     (0, Line::Claim, Told::Piece(1, 1, 16)),
@@ -287,9 +338,9 @@ fn spent(rt: HostRuntime) -> Result<(), Fail> {
 }
 
 const FULL: [Row; 3] = [
-    (0, Line::Test(SB), Told::Version(b"SB", 1)),
-    (0, Line::Test(SB), Told::VersionsSpent(b"SB")),
-    (0, Line::Test(SB), Told::VersionsSpent(b"SB")),
+    (0, Line::Test(Source::Sb), Told::Version(b"SB", 1)),
+    (0, Line::Test(Source::Sb), Told::VersionsSpent(b"SB")),
+    (0, Line::Test(Source::Sb), Told::VersionsSpent(b"SB")),
 ];
 
 #[test]
@@ -298,7 +349,7 @@ fn a_full_journal_hands_the_command_back(rt: HostRuntime) -> Result<(), Fail> {
     let mut book = Book::new(alloc, limits(3, 1, 10))?;
     let mut results = Vec::new(alloc);
     assert_eq!(rt; play(alloc, &mut book, &mut results, &FULL)?, None);
-    let again = command(alloc, &Line::Test(SB), &results)?;
+    let again = command(alloc, &Line::Test(Source::Sb), &results)?;
     match book.apply(0, again) {
         Err((Command::PutTest(text), Refused::JournalFull)) => {
             assert_eq!(rt; text.bytes(), SB);
@@ -310,7 +361,7 @@ fn a_full_journal_hands_the_command_back(rt: HostRuntime) -> Result<(), Fail> {
 }
 
 const HIDDEN: [Row; 4] = [
-    (0, Line::Test(SB), Told::Version(b"SB", 1)),
+    (0, Line::Test(Source::Sb), Told::Version(b"SB", 1)),
     (0, Line::Ask(b"SB", b"stdlib.cat"), Told::Job(1)),
     (
         0,
@@ -331,11 +382,15 @@ fn a_hidden_built_in_file_replaces(rt: HostRuntime) -> Result<(), Fail> {
 
 const REFUSALS: [Row; 10] = [
     (0, Line::Cat(b"a.cat", b" acyclic po"), Told::CatSyntax(1)),
-    (0, Line::Test(b"C SB\n{"), Told::TestSyntax(6)),
+    (0, Line::Test(Source::Unfinished), Told::TestSyntax(6)),
     (0, Line::Ask(b"SB", b"stdlib.cat"), Told::NoTest(b"SB")),
-    (0, Line::Test(SB), Told::Version(b"SB", 1)),
+    (0, Line::Test(Source::Sb), Told::Version(b"SB", 1)),
     (0, Line::Ask(b"SB", b"rc11.cat"), Told::NoCat(b"rc11.cat")),
-    (0, Line::Test(THIRTEEN_STORES), Told::Version(b"S", 1)),
+    (
+        0,
+        Line::Test(Source::ThirteenStores),
+        Told::Version(b"S", 1),
+    ),
     (0, Line::Ask(b"S", b"stdlib.cat"), Told::TooManyCandidates),
     (0, Line::Poll(1), Told::NoJob(1)),
     (0, Line::Claim, Told::Nothing),
@@ -354,14 +409,14 @@ fn refusals(rt: HostRuntime) -> Result<(), Fail> {
 }
 
 const REPLACED: [Row; 16] = [
-    (0, Line::Test(SB), Told::Version(b"SB", 1)),
+    (0, Line::Test(Source::Sb), Told::Version(b"SB", 1)),
     (0, Line::Ask(b"SB", b"stdlib.cat"), Told::Job(1)),
     (3, Line::Claim, Told::Piece(1, 1, 16)),
     (3, Line::Claim, Told::Nothing),
     // The claim is of another seat.
     (2, Line::Return(0), Told::NoClaim(1)),
     // Equal text makes no difference: the version is another. The claim ends.
-    (0, Line::Test(SB), Told::Version(b"SB", 2)),
+    (0, Line::Test(Source::Sb), Told::Version(b"SB", 2)),
     (0, Line::Poll(1), Told::ReplacedTest(b"SB", 2)),
     (3, Line::Return(0), Told::ReplacedTest(b"SB", 2)),
     (3, Line::Return(0), Told::NoClaim(1)),
@@ -371,7 +426,7 @@ const REPLACED: [Row; 16] = [
     (3, Line::Return(1), Told::Taken(1, 1)),
     (0, Line::Poll(2), Told::Verdict(1, 3)),
     // The verdict of a finished job is replied also after a replacement.
-    (0, Line::Test(SB), Told::Version(b"SB", 3)),
+    (0, Line::Test(Source::Sb), Told::Version(b"SB", 3)),
     (0, Line::Poll(2), Told::Verdict(1, 3)),
 ];
 
@@ -388,7 +443,11 @@ fn a_return_after_a_put_is_refused(rt: HostRuntime) -> Result<(), Fail> {
 fn at_most_256_jobs(rt: HostRuntime) -> Result<(), Fail> {
     let alloc = rt.alloc();
     let mut book = Book::new(alloc, limits(300, 10, 10))?;
-    call(&mut book, 0, command(alloc, &Line::Test(EMPTY), &[])?)?;
+    call(
+        &mut book,
+        0,
+        command(alloc, &Line::Test(Source::Empty), &[])?,
+    )?;
     let ask = Line::Ask(b"E", b"cos.cat");
     for number in 1..257u32 {
         let entry = call(&mut book, 0, command(alloc, &ask, &[])?)?;
