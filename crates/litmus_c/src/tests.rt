@@ -237,10 +237,12 @@ fn prefixes_of_sb(rt: HostRuntime) {
     for length in 0..SB.len() - 2 {
         let read = read_test(rt.alloc(), &SB[..length]);
         // An order's name that is cut off is none of the five.
-        assert!(rt; matches!(
-            read,
-            Err(TestFault::Text(_) | TestFault::Syntax(_) | TestFault::Unsupported(_))
-        ));
+        assert!(rt;
+            matches!(
+                read,
+                Err(TestFault::Text(_) | TestFault::Syntax(_) | TestFault::Unsupported(_))
+            )
+        );
     }
 }
 
@@ -543,7 +545,11 @@ fn words_left_out_come_first(rt: HostRuntime) -> Result<(), Fail> {
         ),
     ] {
         let text = many(alloc, front, part, times, back)?;
-        assert_eq!(rt; fault(alloc, text.as_str()), unsupported(alloc, b"while"), "of {front}");
+        assert_eq!(rt;
+            fault(alloc, text.as_str()),
+            unsupported(alloc, b"while"),
+            "of {front}"
+        );
     }
     Ok(())
 }
@@ -579,7 +585,11 @@ fn each_kind_of_nesting(rt: HostRuntime) -> Result<(), Fail> {
         let deepest = nested(alloc, front, open, 32, inner, close, back)?;
         assert_eq!(rt; fault(alloc, deepest.as_str()), None, "of {open}");
         let beyond = nested(alloc, front, open, 33, inner, close, back)?;
-        assert_eq!(rt; fault(alloc, beyond.as_str()), Some(TestFault::TooDeep), "of {open}");
+        assert_eq!(rt;
+            fault(alloc, beyond.as_str()),
+            Some(TestFault::TooDeep),
+            "of {open}"
+        );
     }
     Ok(())
 }
