@@ -85,7 +85,7 @@ fn write_reply<W: Sink>(reply: &Reply, writer: &mut W) -> Result<(), Failed>
         Reply::Version(name, version) => write_version(name, *version, writer),
         Reply::Job(job) => write_job(*job, writer),
         Reply::Pending(done, total) => write_counts(b"pending ", *done, *total, writer),
-        Reply::Verdict(verdict) => write_verdict(verdict.verdict(), writer),
+        Reply::Verdict(judged) => write_verdict(judged.verdict(), writer),
         Reply::Piece(piece) => write_piece(piece, writer),
         Reply::Nothing => give_all(writer, b"nothing\n"),
         Reply::Taken(done, total) => write_counts(b"taken ", *done, *total, writer),

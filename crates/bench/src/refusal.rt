@@ -29,7 +29,7 @@ fn write_cause<W: Sink>(refusal: &Refusal, writer: &mut W) -> Result<(), Failed>
         Refusal::ReadingTest(fault) => write_reading_test(*fault, writer),
         Refusal::ReadingCat(fault) => write_reading_cat(*fault, writer),
         Refusal::NoTest(name) => write_named(b"73 NoTest ", name, writer),
-        Refusal::Model(ModelFault::NoCat(name)) => write_named(b"74 Model 61 NoCat ", name, writer),
+        Refusal::Model(fault) => write_model_fault(fault, writer),
         Refusal::Space(fault) => write_space(*fault, writer),
         Refusal::JobsFull => write_bytes(b"76 JobsFull", writer),
         Refusal::NoJob(job) => write_numbered(b"77 NoJob ", *job as usize, writer),
@@ -38,6 +38,14 @@ fn write_cause<W: Sink>(refusal: &Refusal, writer: &mut W) -> Result<(), Failed>
         Refusal::Stranger(claim) => write_numbered(b"80 Stranger ", *claim as usize, writer),
         Refusal::VersionsSpent(name) => write_named(b"81 VersionsSpent ", name, writer),
         Refusal::ClaimsSpent => write_bytes(b"82 ClaimsSpent", writer),
+    }
+}
+
+fn write_model_fault<W: Sink>(fault: &ModelFault, writer: &mut W) -> Result<(), Failed>
+    ensures { Writes W.held W.has_failed writer.old writer.new result (texts.model_text fault.now) }
+{
+    match fault {
+        ModelFault::NoCat(name) => write_named(b"74 Model 61 NoCat ", name, writer),
     }
 }
 
