@@ -96,3 +96,10 @@ unserved limits held (Err faults.NoMemory) is = record { calls = []; legal = (em
 unserved limits held (Err faults.Read) is = cc
 unserved limits held (Err faults.Write) is = cc
 unserved limits held (Err (faults.BadLine line)) is = cc
+
+-- told by the same result
+pub told_as : {A : Type 0} (old new : Option (List ℕ)) (r : Result A ServeFault) (fault known : ServeFault) (text : List ℕ) → r ≡ Err fault → fault ≡ known → Tells old new r text → Tells {A = A} old new (Err known) text
+told_as {A} old new r fault known text e same t =
+    let P : Result A ServeFault → Type 0 = λ q. Tells old new q text in
+    let Q : ServeFault → Type 0 = λ f. Tells {A = A} old new (Err f) text in
+    subst Q same (subst P e t)

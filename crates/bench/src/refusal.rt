@@ -41,6 +41,7 @@ fn write_cause<W: Sink>(refusal: &Refusal, writer: &mut W) -> Result<(), Failed>
     }
 }
 
+#[tactic(auto, using(crate::proofs::Models::writes_model))]
 fn write_model_fault<W: Sink>(fault: &ModelFault, writer: &mut W) -> Result<(), Failed>
     ensures { Writes W.held W.has_failed writer.old writer.new result (texts.model_text fault.now) }
 {

@@ -1,8 +1,8 @@
-use Rattle.std.proofs.Common.{◌++◌, ◌∙◌, ap, refl, [], inl, Ok, Err}
+use Rattle.std.proofs.Common.{◌≡◌, rules, ◌++◌, ◌∙◌, ap, refl, [], inl, Ok, Err}
 use Rattle.std.proofs.KnownBytes.{Appends-trans}
 use Rattle.bench.specs.Serving.{entries_of, calls_text, finish_text, bad_line_text}
 use Rattle.bench.specs.declared.fault.ServeFault.TheVariants as faults
-use Rattle.bench.proofs.Served.{served, unserved, tells_part, closes_finish, closes_bad_line, front_behind, tells_nothing_more}
+use Rattle.bench.proofs.Served.{served, unserved, tells_part, closes_finish, closes_bad_line, front_behind, tells_nothing_more, told_as}
 use Rattle.bench.proofs.serve.serve.Goals as goal
 
 pub returns-in_err-script-clause-served : goal.returns-in_err-script-clause-served
@@ -34,7 +34,8 @@ returns-in-Ok-clause-served g c =
 pub returns-in_err-write_bad_line-in-Err-BadLine-clause-served : goal.returns-in_err-write_bad_line-in-Err-BadLine-clause-served
 returns-in_err-write_bad_line-in-Err-BadLine-clause-served g c =
     let told = c.answer_all-outcome.ensures.told in
-    let whole = rw c.in-Err-BadLine.is at told.2 in
+    let fault : c.in-Err-BadLine.field-0 ≡ faults.BadLine c.in-Err-BadLine.line = search rules in
+    let whole = told_as _ _ _ c.in-Err-BadLine.field-0 (faults.BadLine c.in-Err-BadLine.line) _ c.in-Err-BadLine.is fault told.2 in
     let kept = c.answer_all-outcome.new.sessions.book in
     served c.args.options.now.limits kept.limits kept.journal told.0 _ _ c.from_residual-in_err-write_bad_line-in-Err-BadLine.result c.entry_count-entries.result (bad_line_text c.in-Err-BadLine.line) c.entry_count-entries.ensures.legal
     (c.answer_all-outcome.ensures.limits ∙ c.in_ok-sessions.ensures.limits)
@@ -45,7 +46,8 @@ returns-in_err-write_bad_line-in-Err-BadLine-clause-served g c =
 pub returns-in-Err-BadLine-clause-served : goal.returns-in-Err-BadLine-clause-served
 returns-in-Err-BadLine-clause-served g c =
     let told = c.answer_all-outcome.ensures.told in
-    let whole = rw c.in-Err-BadLine.is at told.2 in
+    let fault : c.in-Err-BadLine.field-0 ≡ faults.BadLine c.in-Err-BadLine.line = search rules in
+    let whole = told_as _ _ _ c.in-Err-BadLine.field-0 (faults.BadLine c.in-Err-BadLine.line) _ c.in-Err-BadLine.is fault told.2 in
     let kept = c.answer_all-outcome.new.sessions.book in
     served c.args.options.now.limits kept.limits kept.journal told.0 _ _ (Err (faults.BadLine c.in-Err-BadLine.line)) c.entry_count-entries.result (bad_line_text c.in-Err-BadLine.line) c.entry_count-entries.ensures.legal
     (c.answer_all-outcome.ensures.limits ∙ c.in_ok-sessions.ensures.limits)
@@ -56,7 +58,8 @@ returns-in-Err-BadLine-clause-served g c =
 pub returns-in-Err-Read-clause-served : goal.returns-in-Err-Read-clause-served
 returns-in-Err-Read-clause-served g c =
     let told = c.answer_all-outcome.ensures.told in
-    let whole = rw c.in-Err-Read.is at told.2 in
+    let fault : c.in-Err-Read.field-0 ≡ faults.Read = search rules in
+    let whole = told_as _ _ _ c.in-Err-Read.field-0 faults.Read _ c.in-Err-Read.is fault told.2 in
     let kept = c.answer_all-outcome.new.sessions.book in
     served c.args.options.now.limits kept.limits kept.journal told.0 _ _ (Err faults.Read) c.entry_count-entries.result [] c.entry_count-entries.ensures.legal
     (c.answer_all-outcome.ensures.limits ∙ c.in_ok-sessions.ensures.limits)
@@ -67,7 +70,8 @@ returns-in-Err-Read-clause-served g c =
 pub returns-in-Err-Write-clause-served : goal.returns-in-Err-Write-clause-served
 returns-in-Err-Write-clause-served g c =
     let told = c.answer_all-outcome.ensures.told in
-    let whole = rw c.in-Err-Write.is at told.2 in
+    let fault : c.in-Err-Write.field-0 ≡ faults.Write = search rules in
+    let whole = told_as _ _ _ c.in-Err-Write.field-0 faults.Write _ c.in-Err-Write.is fault told.2 in
     let kept = c.answer_all-outcome.new.sessions.book in
     served c.args.options.now.limits kept.limits kept.journal told.0 _ _ (Err faults.Write) c.entry_count-entries.result [] c.entry_count-entries.ensures.legal
     (c.answer_all-outcome.ensures.limits ∙ c.in_ok-sessions.ensures.limits)
@@ -78,7 +82,8 @@ returns-in-Err-Write-clause-served g c =
 pub returns-clause-served : goal.returns-clause-served
 returns-clause-served g c =
     let told = c.answer_all-outcome.ensures.told in
-    let whole = rw c.in-Err-NoMemory.is at told.2 in
+    let fault : c.in-Err-NoMemory.field-0 ≡ faults.NoMemory = search rules in
+    let whole = told_as _ _ _ c.in-Err-NoMemory.field-0 faults.NoMemory _ c.in-Err-NoMemory.is fault told.2 in
     let kept = c.answer_all-outcome.new.sessions.book in
     served c.args.options.now.limits kept.limits kept.journal told.0 _ _ (Err faults.NoMemory) c.entry_count-entries.result [] c.entry_count-entries.ensures.legal
     (c.answer_all-outcome.ensures.limits ∙ c.in_ok-sessions.ensures.limits)
