@@ -41,13 +41,20 @@ fn write_cause<W: Sink>(refusal: &Refusal, writer: &mut W) -> Result<(), Failed>
     }
 }
 
-#[tactic(auto, using(crate::proofs::Models::writes_model))]
+/// The name of the file that isn't there.
+fn missing_file(fault: &ModelFault) -> &Name
+    ensures { fault.now ≡ ModelFault.NoCat result.now }
+{
+    match fault {
+        ModelFault::NoCat(name) => name,
+    }
+}
+
 fn write_model_fault<W: Sink>(fault: &ModelFault, writer: &mut W) -> Result<(), Failed>
     ensures { Writes W.held W.has_failed writer.old writer.new result (texts.model_text fault.now) }
 {
-    match fault {
-        ModelFault::NoCat(name) => write_named(b"74 Model 61 NoCat ", name, writer),
-    }
+    let missing = missing_file(fault);
+    write_named(b"74 Model 61 NoCat ", missing, writer)
 }
 
 /// Writes a name behind its words.

@@ -65,7 +65,7 @@ returns-in-Err-Read-clause-served g c =
     (c.answer_all-outcome.ensures.limits ∙ c.in_ok-sessions.ensures.limits)
     (told.1 ∙ ap (λ j. j ++ entries_of told.0) c.in_ok-sessions.ensures.journal)
     c.entry_count-entries.ensures.count refl
-    (tells_nothing_more _ _ (Err faults.Read) (calls_text told.0) whole)
+    (tells_nothing_more {A = Unit {0}} _ _ (Err faults.Read) (calls_text told.0) whole)
 
 pub returns-in-Err-Write-clause-served : goal.returns-in-Err-Write-clause-served
 returns-in-Err-Write-clause-served g c =
@@ -77,7 +77,7 @@ returns-in-Err-Write-clause-served g c =
     (c.answer_all-outcome.ensures.limits ∙ c.in_ok-sessions.ensures.limits)
     (told.1 ∙ ap (λ j. j ++ entries_of told.0) c.in_ok-sessions.ensures.journal)
     c.entry_count-entries.ensures.count (inl refl)
-    (tells_nothing_more _ _ (Err faults.Write) (calls_text told.0) whole)
+    (tells_nothing_more {A = Unit {0}} _ _ (Err faults.Write) (calls_text told.0) whole)
 
 pub returns-clause-served : goal.returns-clause-served
 returns-clause-served g c =
@@ -89,4 +89,4 @@ returns-clause-served g c =
     (c.answer_all-outcome.ensures.limits ∙ c.in_ok-sessions.ensures.limits)
     (told.1 ∙ ap (λ j. j ++ entries_of told.0) c.in_ok-sessions.ensures.journal)
     c.entry_count-entries.ensures.count refl
-    (tells_nothing_more _ _ (Err faults.NoMemory) (calls_text told.0) whole)
+    (tells_nothing_more {A = Unit {0}} _ _ (Err faults.NoMemory) (calls_text told.0) whole)
