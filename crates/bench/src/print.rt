@@ -142,7 +142,10 @@ fn write_claim<W: Sink>(piece: &Piece, writer: &mut W) -> Result<(), Failed>
     let job = job.format(piece.job()).as_bytes();
     let mut slice = Buffer::new();
     let slice = slice.format(piece.slice()).as_bytes();
-    write_parts(&[b"piece ", claim, b" job ", job, b" slice ", slice], writer)
+    write_parts(
+        &[b"piece ", claim, b" job ", job, b" slice ", slice],
+        writer,
+    )
 }
 
 /// Writes the numbers of a piece.

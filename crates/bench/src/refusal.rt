@@ -151,11 +151,7 @@ fn write_space_fault<W: Sink>(fault: SpaceFault, writer: &mut W) -> Result<(), F
 }
 
 /// Writes the fault of a text behind its words.
-fn write_text_fault<W: Sink>(
-    words: &[u8],
-    fault: TextFault,
-    writer: &mut W,
-) -> Result<(), Failed>
+fn write_text_fault<W: Sink>(words: &[u8], fault: TextFault, writer: &mut W) -> Result<(), Failed>
     ensures { Writes W.held W.has_failed writer.old writer.new result (texts.named words.now (texts.text_fault_text fault)) }
 {
     let name = text_fault_text(fault);

@@ -10,7 +10,7 @@ returns-in_err-give_answer-in-Ok-clause-told g c =
       done.0 ++ call ∷ [],
       grown _ _ _ done.0 call done.1 c.in-Ok.ensures.journal,
       tells_part _ _ c.from_residual-in_err-give_answer-in-Ok.result _ c.from_residual-in_err-give_answer-in-Ok.ensures.1
-      (written_partly _ _ _ done.0 call done.2 c.in_err-give_answer-in-Ok.ensures.0),
+          (written_partly _ _ _ done.0 call done.2 c.in_err-give_answer-in-Ok.ensures.0),
     )
 
 pub loop-preserved : goal.loop-preserved
