@@ -1,6 +1,6 @@
 -- Answers one after another, and what stands behind them.
 use Rattle.std.proofs.Common.{◌≡◌, ◌≢◌, ℕ, List, [], ◌∷◌, ◌++◌, length, Option, None, Some, Bool, true, Result, Ok, Err, inl, inr, ◌⊎◌, refl, sym, ap, ◌∙◌, subst, append_assoc, append-nil}
-use Rattle.std.specs.Prelude.{IfErr, IsErr}
+use Rattle.std.specs.Prelude.{IfErr, IsErr, IsErrAnd}
 use Rattle.std.specs.Io.KnownBytes.{Appends, Keeps}
 use Rattle.std.specs.List.{flat_map}
 use Rattle.std.proofs.KnownBytes.{Appends-trans, Appends-nil}
@@ -8,9 +8,10 @@ use Rattle.std.proofs.lemmas.Grind.{flat_map-append}
 use Rattle.wb_text.specs.Memory.{AppendsFront}
 use Rattle.book.specs.Lines.{Line}
 use Rattle.book.specs.Step.{Legal}
+use Rattle.book.specs.Workbench.{empty}
 use Rattle.book.specs.declared.limits.Limits.{Limits}
 use Rattle.book.proofs.Written.{front_of}
-use Rattle.bench.specs.Serving.{Call, answer_text, entry_of, calls_text, entries_of, Closes, Tells, IsServed}
+use Rattle.bench.specs.Serving.{Call, answer_text, entry_of, calls_text, entries_of, finish_text, bad_line_text, Closes, Tells, IsServed}
 use Rattle.bench.specs.declared.fault.ServeFault.{ServeFault}
 use Rattle.bench.specs.declared.fault.ServeFault.TheVariants as faults
 
@@ -42,21 +43,41 @@ tells_whole old new (Err faults.Write) text other w = absurd (other refl)
 tells_whole old new (Err (faults.BadLine line)) text other w = w
 tells_whole old new (Err faults.NoMemory) text other w = w
 
-pub tells_part : {A : Type 0} (old new : Option (List ℕ)) (r : Result A ServeFault) (text : List ℕ) → r ≡ Err faults.Write → AppendsFront old new text → Tells old new r text
-tells_part old new r text e part = let P : Result A ServeFault → Type 0 = λ q. Tells old new q text in subst P (sym e) part
+pub tells_part : {A : Type 0} (old new : Option (List ℕ)) (r : Result A ServeFault) (text : List ℕ) → IsErrAnd r (λ e. e ≡ faults.Write) → AppendsFront old new text → Tells old new r text
+tells_part old new (Ok done) text is part = absurd is
+tells_part old new (Err faults.Read) text is part = cc
+tells_part old new (Err faults.Write) text is part = part
+tells_part old new (Err (faults.BadLine line)) text is part = cc
+tells_part old new (Err faults.NoMemory) text is part = cc
+
+-- where the writer fails at what stands behind the calls
+
+pub closes_finish : {A : Type 0} (n : ℕ) (r : Result A ServeFault) → IsErrAnd r (λ e. e ≡ faults.Write) → Closes n r (finish_text n)
+closes_finish n (Ok done) is = absurd is
+closes_finish n (Err faults.Read) is = cc
+closes_finish n (Err faults.Write) is = inr (inl refl)
+closes_finish n (Err (faults.BadLine line)) is = cc
+closes_finish n (Err faults.NoMemory) is = cc
+
+pub closes_bad_line : {A : Type 0} (n line : ℕ) (r : Result A ServeFault) → IsErrAnd r (λ e. e ≡ faults.Write) → Closes n r (bad_line_text line)
+closes_bad_line n line (Ok done) is = absurd is
+closes_bad_line n line (Err faults.Read) is = cc
+closes_bad_line n line (Err faults.Write) is = inr (inr (line, refl))
+closes_bad_line n line (Err (faults.BadLine other)) is = cc
+closes_bad_line n line (Err faults.NoMemory) is = cc
 
 -- the whole, from its parts
-pub served : {A : Type 0} (limits kept : Limits) (journal : List Line) (calls : List Call) (old new : Option (List ℕ)) (r : Result A ServeFault) (closing : List ℕ)
-    → Legal kept journal → kept ≡ limits → journal ≡ entries_of calls → Closes (length journal) r closing → Tells old new r (calls_text calls ++ closing) → IsServed limits old new r
-served limits kept journal calls old new r closing legal same made closes told =
+pub served : {A : Type 0} (limits kept : Limits) (journal : List Line) (calls : List Call) (old new : Option (List ℕ)) (r : Result A ServeFault) (n : ℕ) (closing : List ℕ)
+    → Legal kept journal → kept ≡ limits → journal ≡ entries_of calls → n ≡ length journal → Closes n r closing → Tells old new r (calls_text calls ++ closing) → IsServed limits old new r
+served limits kept journal calls old new r n closing legal same made count closes told =
     let P : Limits → Type 0 = λ l. Legal l (entries_of calls) in
     let Q : List Line → Type 0 = λ l. Legal kept l in
-    let C : List Line → Type 0 = λ l. Closes (length l) r closing in
+    let C : ℕ → Type 0 = λ m. Closes m r closing in
     record {
       calls = calls;
       legal = subst P same (subst Q made legal);
       closing = closing;
-      closes = subst C made closes;
+      closes = subst C (count ∙ ap length made) closes;
       told = told;
     }
 
@@ -67,3 +88,18 @@ tells_nothing_more old new r text t = let P : List ℕ → Type 0 = λ l. Tells 
 pub front_behind : (old mid new : Option (List ℕ)) (text closing : List ℕ) → Appends old mid text → AppendsFront mid new closing → AppendsFront old new (text ++ closing)
 front_behind old mid new text closing done part =
     front_of old mid new text closing [] (text ++ closing) done part (ap (λ l. text ++ l) (sym (append-nil closing)))
+
+-- no memory for the script or the book
+pub unserved : {A : Type 0} (limits : Limits) (held : Option (List ℕ)) (r : Result A ServeFault) → IsErrAnd r (λ e. e ≡ faults.NoMemory) → IsServed limits held held r
+unserved limits held (Ok done) is = absurd is
+unserved limits held (Err faults.NoMemory) is = record { calls = []; legal = (empty limits, refl); closing = []; closes = refl; told = Appends-nil held }
+unserved limits held (Err faults.Read) is = cc
+unserved limits held (Err faults.Write) is = cc
+unserved limits held (Err (faults.BadLine line)) is = cc
+
+-- told by the same result
+pub told_as : {A : Type 0} (old new : Option (List ℕ)) (r : Result A ServeFault) (fault known : ServeFault) (text : List ℕ) → r ≡ Err fault → fault ≡ known → Tells old new r text → Tells {A = A} old new (Err known) text
+told_as {A} old new r fault known text e same t =
+    let P : Result A ServeFault → Type 0 = λ q. Tells old new q text in
+    let Q : ServeFault → Type 0 = λ f. Tells {A = A} old new (Err f) text in
+    subst Q same (subst P e t)

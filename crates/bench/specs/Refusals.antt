@@ -10,6 +10,7 @@ use Rattle.candidates.specs.declared.fault.SpaceFault.{SpaceFault}
 use Rattle.candidates.specs.declared.fault.SpaceFault.TheVariants as of_space
 use Rattle.book.specs.declared.reading.CatFault.{CatFault}
 use Rattle.book.specs.declared.reading.CatFault.TheVariants as of_cat
+use Rattle.book.specs.declared.records.ModelFault.{ModelFault}
 use Rattle.book.specs.declared.records.ModelFault.TheVariants.{NoCat}
 use Rattle.book.specs.declared.records.Replacement.{Replacement}
 use Rattle.book.specs.declared.records.SourceKind.{SourceKind}
@@ -68,6 +69,9 @@ reading_cat_text f = codes "72 Reading " ++ cat_fault_text f
 abbrev pub space_text : SpaceFault → List ℕ
 space_text f = codes "75 Space " ++ space_fault_text f
 
+abbrev pub model_text : ModelFault → List ℕ
+model_text (NoCat name) = named (codes "74 Model 61 NoCat ") name
+
 abbrev pub kind_text : SourceKind → List ℕ
 kind_text kinds.Test = codes "test"
 kind_text kinds.Cat = codes "cat"
@@ -80,7 +84,7 @@ cause_text Closed = codes "71 Closed"
 cause_text (ReadingTest f) = reading_test_text f
 cause_text (ReadingCat f) = reading_cat_text f
 cause_text (NoTest name) = named (codes "73 NoTest ") name
-cause_text (Model (NoCat name)) = named (codes "74 Model 61 NoCat ") name
+cause_text (Model f) = model_text f
 cause_text (Space f) = space_text f
 cause_text JobsFull = codes "76 JobsFull"
 cause_text (NoJob job) = numbered (codes "77 NoJob ") job

@@ -92,8 +92,7 @@ impl Lines {
     }
 
     /// Adds what the block has before a line feed to the line, and answers whether the feed stood there.
-    fn take_part(&mut self) -> Result<bool, AllocError>
-    {
+    fn take_part(&mut self) -> Result<bool, AllocError> {
         let rest = self.block.rest();
         match memchr(b'\n', rest) {
             Some(place) => {

@@ -18,10 +18,9 @@ mod sessions;
 use crate::fault::ServeFault;
 use crate::one::OneFault;
 use crate::options::{Options, Task, read_task};
-use std::env;
-use std::io;
 use std::io::BufWriter;
 use std::process::ExitCode;
+use std::{env, io};
 use wb_text::{ReadSource, WriteSink};
 
 /// The status where the words, a line of the script or the test is bad.

@@ -85,7 +85,7 @@ fn write_reply<W: Sink>(reply: &Reply, writer: &mut W) -> Result<(), Failed>
         Reply::Version(name, version) => write_version(name, *version, writer),
         Reply::Job(job) => write_job(*job, writer),
         Reply::Pending(done, total) => write_counts(b"pending ", *done, *total, writer),
-        Reply::Verdict(verdict) => write_verdict(verdict.verdict(), writer),
+        Reply::Verdict(judged) => write_verdict(judged.verdict(), writer),
         Reply::Piece(piece) => write_piece(piece, writer),
         Reply::Nothing => give_all(writer, b"nothing\n"),
         Reply::Taken(done, total) => write_counts(b"taken ", *done, *total, writer),
@@ -142,7 +142,10 @@ fn write_claim<W: Sink>(piece: &Piece, writer: &mut W) -> Result<(), Failed>
     let job = job.format(piece.job()).as_bytes();
     let mut slice = Buffer::new();
     let slice = slice.format(piece.slice()).as_bytes();
-    write_parts(&[b"piece ", claim, b" job ", job, b" slice ", slice], writer)
+    write_parts(
+        &[b"piece ", claim, b" job ", job, b" slice ", slice],
+        writer,
+    )
 }
 
 /// Writes the numbers of a piece.

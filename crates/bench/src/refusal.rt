@@ -29,7 +29,7 @@ fn write_cause<W: Sink>(refusal: &Refusal, writer: &mut W) -> Result<(), Failed>
         Refusal::ReadingTest(fault) => write_reading_test(fault, writer),
         Refusal::ReadingCat(fault) => write_reading_cat(*fault, writer),
         Refusal::NoTest(name) => write_named(b"73 NoTest ", name, writer),
-        Refusal::Model(ModelFault::NoCat(name)) => write_named(b"74 Model 61 NoCat ", name, writer),
+        Refusal::Model(fault) => write_model_fault(fault, writer),
         Refusal::Space(fault) => write_space(*fault, writer),
         Refusal::JobsFull => write_bytes(b"76 JobsFull", writer),
         Refusal::NoJob(job) => write_numbered(b"77 NoJob ", *job as usize, writer),
@@ -39,6 +39,22 @@ fn write_cause<W: Sink>(refusal: &Refusal, writer: &mut W) -> Result<(), Failed>
         Refusal::VersionsSpent(name) => write_named(b"81 VersionsSpent ", name, writer),
         Refusal::ClaimsSpent => write_bytes(b"82 ClaimsSpent", writer),
     }
+}
+
+/// The name of the file that isn't there.
+fn missing_file(fault: &ModelFault) -> &Name
+    ensures { fault.now ≡ ModelFault.NoCat result.now }
+{
+    match fault {
+        ModelFault::NoCat(name) => name,
+    }
+}
+
+fn write_model_fault<W: Sink>(fault: &ModelFault, writer: &mut W) -> Result<(), Failed>
+    ensures { Writes W.held W.has_failed writer.old writer.new result (texts.model_text fault.now) }
+{
+    let missing = missing_file(fault);
+    write_named(b"74 Model 61 NoCat ", missing, writer)
 }
 
 /// Writes a name behind its words.
@@ -139,11 +155,7 @@ fn write_space_fault<W: Sink>(fault: SpaceFault, writer: &mut W) -> Result<(), F
 }
 
 /// Writes the fault of a text behind its words.
-fn write_text_fault<W: Sink>(
-    words: &[u8],
-    fault: TextFault,
-    writer: &mut W,
-) -> Result<(), Failed>
+fn write_text_fault<W: Sink>(words: &[u8], fault: TextFault, writer: &mut W) -> Result<(), Failed>
     ensures { Writes W.held W.has_failed writer.old writer.new result (texts.named words.now (texts.text_fault_text fault)) }
 {
     let name = text_fault_text(fault);

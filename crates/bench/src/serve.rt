@@ -33,7 +33,9 @@ pub fn serve<R: Source, W: Sink>(
             write_bad_line(line, writer)?;
             Err(ServeFault::BadLine(line))
         }
-        Err(fault) => Err(fault),
+        Err(ServeFault::Read) => Err(ServeFault::Read),
+        Err(ServeFault::Write) => Err(ServeFault::Write),
+        Err(ServeFault::NoMemory) => Err(ServeFault::NoMemory),
     }
 }
 

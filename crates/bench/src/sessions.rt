@@ -13,8 +13,6 @@ use book::slices::{Piece, evaluate};
 use book::{Book, Command, Limits, Refused, Reply};
 use std::alloc::{AllocError, Global};
 
-
-
 /// A piece that a claim gave: the number of the claim, and the place of its entry in the journal.
 #[derive(Clone, Copy, Drop)]
 struct Given {

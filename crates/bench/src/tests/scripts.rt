@@ -195,11 +195,20 @@ fn a_piece_is_returned_twice(rt: HostRuntime) -> Result<(), Fail> {
 fn refusals(rt: HostRuntime) -> Result<(), Fail> {
     let alloc = rt.alloc();
     let rows: [(&[u8], &[u8]); 6] = [
-        (b"0 test\nC SB\n{ /*\n.\n", b"refused 72 Reading 11 Text 3 OpenComment\nfinish ok 1\n"),
-        (b"0 cat a.cat\nlet\n.\n", b"refused 72 Reading 52 Syntax 0\nfinish ok 1\n"),
+        (
+            b"0 test\nC SB\n{ /*\n.\n",
+            b"refused 72 Reading 11 Text 3 OpenComment\nfinish ok 1\n",
+        ),
+        (
+            b"0 cat a.cat\nlet\n.\n",
+            b"refused 72 Reading 52 Syntax 0\nfinish ok 1\n",
+        ),
         (b"0 ask SB a.cat\n", b"refused 73 NoTest SB\nfinish ok 1\n"),
         (b"0 poll 0\n", b"refused 77 NoJob 0\nfinish ok 1\n"),
-        (b"# remark\r\n\r\n0 poll 4294967295\r\n", b"refused 77 NoJob 4294967295\nfinish ok 1\n"),
+        (
+            b"# remark\r\n\r\n0 poll 4294967295\r\n",
+            b"refused 77 NoJob 4294967295\nfinish ok 1\n",
+        ),
         (b"7 claim", b"nothing\nfinish ok 1\n"),
     ];
     for (script, answers) in rows {
@@ -313,6 +322,9 @@ fn statuses_print_their_numbers(rt: HostRuntime) -> Result<(), Fail> {
     let alloc = rt.alloc();
     assert_eq!(rt; ServeFault::Read.to_string(alloc)?.as_str(), "96 Read");
     assert_eq!(rt; ServeFault::Write.to_string(alloc)?.as_str(), "97 Write");
-    assert_eq!(rt; ServeFault::BadLine(3).to_string(alloc)?.as_str(), "98 BadLine 3");
+    assert_eq!(rt;
+        ServeFault::BadLine(3).to_string(alloc)?.as_str(),
+        "98 BadLine 3"
+    );
     Ok(())
 }

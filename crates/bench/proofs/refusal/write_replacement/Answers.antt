@@ -8,7 +8,7 @@ regroup k n v = simp (append_assoc, append-nil)
 
 pub returns : goal.returns
 returns g c =
-    let kind : c.kind_text.result.now ≡ kind_text c.args.replacement.now.kind = cc in
+    let kind : c.kind_text-kind.result.now ≡ kind_text c.args.replacement.now.kind = cc in
     let name : c.bytes-name.result.now ≡ c.args.replacement.now.name = cc in
     let version : c.as_bytes-version.result.now ≡ decimal c.args.replacement.now.version = cc in
     same _ _ _ _ _ _ (rw (kind, name, version) (regroup (kind_text c.args.replacement.now.kind) c.args.replacement.now.name (decimal c.args.replacement.now.version))) c.write_parts.ensures

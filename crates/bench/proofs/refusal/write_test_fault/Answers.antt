@@ -4,13 +4,13 @@ pub returns-in-UnknownName : goal.returns-in-UnknownName
 returns-in-UnknownName g c = rw c.in-UnknownName.is c.write_bytes.ensures
 
 pub returns-in-TooManyThreads : goal.returns-in-TooManyThreads
-returns-in-TooManyThreads g c = rw c.in-TooManyThreads.is c.write_bytes-3.ensures
+returns-in-TooManyThreads g c = rw c.in-TooManyThreads.is c.write_bytes-in-TooManyThreads.ensures
 
 pub returns-in-TooManyLocations : goal.returns-in-TooManyLocations
-returns-in-TooManyLocations g c = rw c.in-TooManyLocations.is c.write_bytes-4.ensures
+returns-in-TooManyLocations g c = rw c.in-TooManyLocations.is c.write_bytes-in-TooManyLocations.ensures
 
 pub returns-in-TooManyEvents : goal.returns-in-TooManyEvents
-returns-in-TooManyEvents g c = rw c.in-TooManyEvents.is c.write_bytes-5.ensures
+returns-in-TooManyEvents g c = rw c.in-TooManyEvents.is c.write_bytes-in-TooManyEvents.ensures
 
 pub returns-in-TooManyValues : goal.returns-in-TooManyValues
-returns-in-TooManyValues g c = rw c.in-TooManyValues.is c.write_bytes-6.ensures
+returns-in-TooManyValues g c = rw c.in-TooManyValues.is c.write_bytes-in-TooManyValues.ensures
