@@ -17,3 +17,9 @@ returns-in-TooManyThreads g c = rw c.in-TooManyThreads.is c.write_bytes-in-TooMa
 
 pub returns-in-TooManyLocations : goal.returns-in-TooManyLocations
 returns-in-TooManyLocations g c = rw c.in-TooManyLocations.is c.write_bytes-in-TooManyLocations.ensures
+
+pub returns-in-TooManyEvents : goal.returns-in-TooManyEvents
+returns-in-TooManyEvents g c = rw c.in-TooManyEvents.is c.write_bytes-in-TooManyEvents.ensures
+
+pub returns-in-TooManyValues : goal.returns-in-TooManyValues
+returns-in-TooManyValues g c = rw c.in-TooManyValues.is c.write_bytes-in-TooManyValues.ensures
