@@ -8,7 +8,8 @@ use Rattle.conditions.specs.declared.place.Place.{Place}
 use Rattle.conditions.specs.declared.place.Place.TheVariants.{Reg, Loc}
 use Rattle.litmus_c.specs.Tree.{Litmus}
 use Rattle.conditions.specs.States.{bindings, holds_in}
-use Rattle.c11_threads.specs.Runs.{place_of, thread_of}
+use Rattle.c11_threads.specs.Contents.{place_of}
+use Rattle.c11_threads.specs.Runs.{thread_of}
 use Rattle.candidates.specs.Candidates.{run_at, write_value}
 
 -- register r at the end of the run of thread k

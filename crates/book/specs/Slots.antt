@@ -4,7 +4,8 @@ use Rattle.events.specs.Executions.{Execution}
 use Rattle.conditions.specs.declared.place.Place.{Place}
 use Rattle.conditions.specs.declared.place.Place.TheVariants.{Reg, Loc}
 use Rattle.litmus_c.specs.Tree.{Litmus}
-use Rattle.c11_threads.specs.Runs.{place_of, thread_of}
+use Rattle.c11_threads.specs.Contents.{place_of}
+use Rattle.c11_threads.specs.Runs.{thread_of}
 use Rattle.book.specs.declared.slices.slot.Slot.{Slot}
 use Rattle.book.specs.declared.slices.slot.Slot.TheVariants.{Register, Location}
 use Rattle.book.specs.Finals.{final_register, final_location}

@@ -1,7 +1,7 @@
 //! Where the final values of observed places stand in an execution.
 
 ghost use Rattle.std.specs.Prelude.{◌≡◌, IfOk, map};
-ghost use Rattle.c11_threads.specs.Runs.{place_of};
+ghost use Rattle.c11_threads.specs.Contents.{place_of};
 ghost use Rattle.candidates.specs.Candidates.{write_value};
 ghost use Rattle.book.specs.Finals.{final_location};
 ghost use Rattle.book.specs.Slots.{slot_of, slot_value};

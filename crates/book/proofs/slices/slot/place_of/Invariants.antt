@@ -1,5 +1,5 @@
 use Rattle.std.proofs.Common.{◌≡◌, ◌+◌, drop}
-use Rattle.c11_threads.specs.Runs.{place_of}
+use Rattle.c11_threads.specs.Contents.{place_of}
 use Rattle.book.proofs.slices.slot.place_of.Given as goal
 
 abbrev pub invariant-loop-place : goal.invariant-loop-place
