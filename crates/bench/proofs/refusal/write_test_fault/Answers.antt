@@ -23,3 +23,6 @@ returns-in-TooManyEvents g c = rw c.in-TooManyEvents.is c.write_bytes-in-TooMany
 
 pub returns-in-TooManyValues : goal.returns-in-TooManyValues
 returns-in-TooManyValues g c = rw c.in-TooManyValues.is c.write_bytes-in-TooManyValues.ensures
+
+pub returns-in-Unsupported : goal.returns-in-Unsupported
+returns-in-Unsupported g c = rw c.in-Unsupported.is c.write_named.ensures
