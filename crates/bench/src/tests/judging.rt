@@ -35,7 +35,7 @@ fn model(alloc: Global, cat: &str) -> Result<Model, Fail> {
 }
 
 /// The figures of the test that a text is.
-fn figures(alloc: Global, text: &str, cat: &str) -> Result<Figures, Fail> {
+fn figures_of(alloc: Global, text: &str, cat: &str) -> Result<Figures, Fail> {
     let model = model(alloc, cat)?;
     let test = read_test(alloc, text.as_bytes()).ok().ok_or("a test")?;
     let space = Space::new(alloc, &test).ok().ok_or("a space")?;
@@ -65,7 +65,7 @@ fn all_say(alloc: Global, text: &str, rows: &[(&str, usize, usize, usize)]) -> R
             allowed: *allowed,
             flagged: *flagged,
         };
-        if figures(alloc, text, cat)? != wanted {
+        if figures_of(alloc, text, cat)? != wanted {
             return Ok(false);
         }
     }
@@ -103,7 +103,12 @@ exists (0:r0=0 /\\ 1:r0=0)";
     let rows = [
         ("let rec r = r flag empty r as none", 4, 4, 4),
         ("flag empty (W \\ W \\ W) as left", 4, 4, 4),
-        ("flag ~empty fr as read acyclic (po | rf | co | fr)", 4, 3, 2),
+        (
+            "flag ~empty fr as read acyclic (po | rf | co | fr)",
+            4,
+            3,
+            2,
+        ),
     ];
     assert!(rt; all_say(rt.alloc(), text, &rows)?);
     Ok(())
@@ -191,10 +196,10 @@ P1 (int* x, atomic_int* y) {
 }
 exists (1:r0=1 /\\ 1:r1=0)";
     let alloc = rt.alloc();
-    let found = figures(alloc, text, "rc11.cat")?;
+    let found = figures_of(alloc, text, "rc11.cat")?;
     assert_eq!(rt; found.allowed, 4);
     assert!(rt; found.flagged > 0);
-    let found = figures(alloc, guarded, "rc11.cat")?;
+    let found = figures_of(alloc, guarded, "rc11.cat")?;
     assert_eq!(rt; found.allowed, 2);
     assert_eq!(rt; found.flagged, 0);
     Ok(())
@@ -273,7 +278,13 @@ P1 (atomic_int* x, atomic_int* y) {
   atomic_store_explicit(x, 1, memory_order_relaxed);
 }
 exists (0:r0=1 /\\ 1:r0=1)";
-    assert!(rt; all_say(rt.alloc(), inside, &[("", 2, 2, 0), ("acyclic (ctrl | rf)", 2, 1, 0)])?);
+    assert!(rt;
+        all_say(
+            rt.alloc(),
+            inside,
+            &[("", 2, 2, 0), ("acyclic (ctrl | rf)", 2, 1, 0)]
+        )?
+    );
     assert!(rt; all_say(rt.alloc(), behind, &[("acyclic (ctrl | rf)", 4, 4, 0)])?);
     Ok(())
 }

@@ -89,7 +89,8 @@ exists (0:r0=1)
 #[test]
 fn empty_thread_of_no_place(rt: HostRuntime) -> Result<(), Fail> {
     let text = b"C E\n{}\nP0 () {}\nexists true\n";
-    let summary = b"Test E Allowed\nStates 1\n\nOk\nWitnesses\nPositive: 1 Negative: 0\nCondition exists (true)\nObservation E Always 1 0\n";
+    let summary =
+        b"Test E Allowed\nStates 1\n\nOk\nWitnesses\nPositive: 1 Negative: 0\nCondition exists (true)\nObservation E Always 1 0\n";
     assert!(rt; ends_with(rt.alloc(), text, summary)?);
     Ok(())
 }
