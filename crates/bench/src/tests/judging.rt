@@ -27,7 +27,11 @@ fn model(alloc: Global, cat: &str) -> Result<Model, Fail> {
     } else {
         let file = read_cat(alloc, cat.as_bytes()).ok().ok_or("a cat file")?;
         let name = Name::new(alloc, b"main.cat").ok().ok_or("a name")?;
-        files.put(name, 1, file).ok().ok_or("memory")?;
+        let version = files.version(&name);
+        if version == u32::MAX {
+            return Err("a version is left")?;
+        }
+        files.put(name, version + 1, file).ok().ok_or("memory")?;
         "main.cat"
     };
     let root = Name::new(alloc, root.as_bytes()).ok().ok_or("a name")?;
