@@ -7,11 +7,10 @@ use Rattle.std.specs.Str.{bytes_eq}
 use Rattle.std.proofs.lemmas.Cmp.{nat_list_eq_equiv}
 use Rattle.std.proofs.lemmas.List.{append_assoc, append-nil}
 use Rattle.std.proofs.lemmas.Map.Keys.{IsDistinct-head, IsDistinct-tail}
-use Rattle.litmus_c.specs.declared.tree.Declarator.{Declarator}
 use Rattle.litmus_c.specs.declared.tree.Parameter.{Parameter}
 use Rattle.litmus_c.specs.Drafts.{is_parameter}
 use Rattle.litmus_c.specs.Rules.{with_names}
-use Rattle.litmus_c.specs.Tree.{Word, declared_of}
+use Rattle.litmus_c.specs.Tree.{Word}
 
 -- a parameter of a name, among their names
 pub is_named : (ps : List Parameter) (x : Word) → is_parameter ps x ≡ list_any (bytes_eq x) (map (λ p. p.name) ps)
@@ -28,10 +27,6 @@ pointwise_map f E [] [] = refl
 pointwise_map f E [] (y ∷ ys) = refl
 pointwise_map f E (x ∷ xs) [] = refl
 pointwise_map f E (x ∷ xs) (y ∷ ys) = ap (λ b. E (f x) (f y) && b) (pointwise_map f E xs ys)
-
-pub declared_push : (xs : List Declarator) (d : Declarator) → map declared_of (xs ++ d ∷ []) ≡ map declared_of xs ++ declared_of d ∷ []
-declared_push [] d = refl
-declared_push (x ∷ xs) d = ap (λ l. declared_of x ∷ l) (declared_push xs d)
 
 holds_there : {X : Type 0} (P : X → Type 0) (xs : List X) (y : X) (ys : List X) → AllByRecursion P (xs ++ y ∷ ys) → P y
 holds_there P [] y ys h = h.0

@@ -181,7 +181,7 @@ impl Thread {
     }
 }
 
-#[tactic(auto, using(crate::proofs::Lists::declared_push))]
+#[tactic(auto, using(crate::proofs::Steps::declared_push))]
 fn copy_declarators(
     alloc: Global,
     declarators: &[Declarator],
