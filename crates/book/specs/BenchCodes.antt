@@ -1,6 +1,8 @@
 -- Codes of the book and its state, by which the prover tells values apart. No contract rests on them.
 use Rattle.std.specs.Prelude.{refl, ℕ, Bool, List}
 use Rattle.std.specs.Coded.{Coded, code_by, coded×, coded_list, coded_ℕ, coded_bool}
+use Rattle.cat_model.specs.FileCodes.{coded_entries}
+use Rattle.cat_model.specs.declared.files.Entry.{Entry}
 use Rattle.litmus_c.specs.Tree.{Word}
 use Rattle.book.specs.JobCodes.{coded_job}
 use Rattle.book.specs.Jobs.{Job}
@@ -9,18 +11,16 @@ use Rattle.book.specs.LineCodes.{coded_line}
 use Rattle.book.specs.Lines.{Line}
 use Rattle.book.specs.Workbench.{Workbench}
 use Rattle.book.specs.contracts.limits.Limits.{the_row as limits_row}
-use Rattle.book.specs.contracts.names.CatSlot.{the_row as cat_row}
 use Rattle.book.specs.NameCodes.{coded_tests}
 use Rattle.book.specs.contracts.records.Live.{the_row as live_row}
 use Rattle.book.specs.declared.limits.Limits.{Limits}
-use Rattle.book.specs.declared.names.CatSlot.{CatSlot}
 use Rattle.book.specs.declared.names.TestSlot.{TestSlot}
 use Rattle.book.specs.declared.records.Live.{Live}
 
 abbrev pub coded_workbench : Coded Workbench
 coded_workbench =
-    code_by (Limits × (List (Word × TestSlot) × (List (Word × CatSlot) × (List Job × (List Live × (ℕ × (ℕ × Bool)))))))
-    (coded× limits_row.coded (coded× coded_tests (coded× (coded_list (coded× (coded_list coded_ℕ) cat_row.coded)) (coded× (coded_list coded_job) (coded× (coded_list live_row.coded) (coded× coded_ℕ (coded× coded_ℕ coded_bool)))))))
+    code_by (Limits × (List (Word × TestSlot) × (List Entry × (List Job × (List Live × (ℕ × (ℕ × Bool)))))))
+    (coded× limits_row.coded (coded× coded_tests (coded× coded_entries (coded× (coded_list coded_job) (coded× (coded_list live_row.coded) (coded× coded_ℕ (coded× coded_ℕ coded_bool)))))))
     (λ s. (s.limits, (s.tests, (s.cats, (s.jobs, (s.live, (s.last_job, (s.last_claim, s.closed))))))))
     (λ p. record { limits = p.0; tests = p.1.0; cats = p.1.1.0; jobs = p.1.1.1.0; live = p.1.1.1.1.0; last_job = p.1.1.1.1.1.0; last_claim = p.1.1.1.1.1.1.0; closed = p.1.1.1.1.1.1.1 })
     (λ _. refl)

@@ -1,14 +1,13 @@
 -- Codes by which the prover tells values apart. No contract rests on them.
 use Rattle.std.specs.Prelude.{refl, ℕ, List}
 use Rattle.std.specs.Coded.{Coded, code_by, coded×, coded_list, coded_ℕ}
+use Rattle.cat_model.specs.Models.{Assembly, coded_assembly}
 use Rattle.conditions.specs.Conditions.{Condition}
 use Rattle.conditions.specs.Codes.{coded_condition}
 use Rattle.litmus_c.specs.Codes.{coded_litmus}
 use Rattle.litmus_c.specs.Tree.{Litmus}
 use Rattle.conditions.specs.contracts.place.Place.{the_row as place_row}
 use Rattle.conditions.specs.declared.place.Place.{Place}
-use Rattle.book.specs.contracts.slices.work.FileVersion.{the_row as file_row}
-use Rattle.book.specs.declared.slices.work.FileVersion.{FileVersion}
 use Rattle.book.specs.Judgements.{Results, Judged}
 use Rattle.book.specs.Outcomes.{Outcome}
 use Rattle.book.specs.Parts.{Portion, Part}
@@ -24,7 +23,7 @@ coded_outcome =
 
 abbrev pub coded_task : Coded Task
 coded_task =
-    code_by (Litmus × List FileVersion) (coded× coded_litmus (coded_list file_row.coded))
+    code_by (Litmus × Assembly) (coded× coded_litmus coded_assembly)
     (λ w. (w.test, w.model)) (λ p. record { test = p.0; model = p.1 }) (λ _. refl)
 
 abbrev pub coded_portion : Coded Portion

@@ -1,14 +1,12 @@
 -- Codes of commands and replies, by which the prover tells values apart. No contract rests on them.
 use Rattle.std.specs.Coded.{Coded}
 use Rattle.book.specs.contracts.records.Command.{the_row as command_row}
-use Rattle.book.specs.contracts.records.ModelFault.{the_row as model_fault_row}
 use Rattle.book.specs.contracts.records.Refusal.{the_row as refusal_row}
 use Rattle.book.specs.contracts.records.Replacement.{the_row as replacement_row}
 use Rattle.book.specs.contracts.records.Reply.{the_row as reply_row}
 use Rattle.book.specs.contracts.records.Returned.{the_row as returned_row}
 use Rattle.book.specs.contracts.records.Said.{the_row as said_row}
 use Rattle.book.specs.declared.records.Command.{Command}
-use Rattle.book.specs.declared.records.ModelFault.{ModelFault}
 use Rattle.book.specs.declared.records.Refusal.{Refusal}
 use Rattle.book.specs.declared.records.Replacement.{Replacement}
 use Rattle.book.specs.declared.records.Reply.{Reply}
@@ -32,6 +30,3 @@ coded_refusal = refusal_row.coded
 
 abbrev pub coded_replacement : Coded Replacement
 coded_replacement = replacement_row.coded
-
-abbrev pub coded_model_fault : Coded ModelFault
-coded_model_fault = model_fault_row.coded

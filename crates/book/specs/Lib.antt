@@ -1,5 +1,4 @@
 pub mod BenchCodes
-pub mod CatFaults
 pub mod Changes
 pub mod Codes
 pub mod Counters

@@ -1,5 +1,7 @@
 -- What is found at some of the numbers of a test.
-use Rattle.std.specs.Prelude.{◌≡◌, ℕ, ◌+◌, ◌-◌, ◌≤◌, ◌^◌, List}
+use Rattle.std.specs.Prelude.{◌≡◌, ℕ, ◌+◌, ◌-◌, ◌≤◌, ◌^◌, List, [], ◌∷◌}
+use Rattle.cat_eval.specs.Judging.{Allowed}
+use Rattle.cat_syntax.specs.Tree.{Clause}
 use Rattle.events.specs.Executions.{Execution}
 use Rattle.litmus_c.specs.Tree.{Litmus}
 use Rattle.candidates.specs.Candidates.{At, found, choices_of, size_of}
@@ -23,9 +25,15 @@ pub record IsAdmitted (t : Litmus) : Type 0 where
 abbrev pub executions_in : Litmus → ℕ → ℕ → List Execution
 executions_in t from to = found (λ i. At t (from + i)) (to - from)
 
--- The outcome is right for the executions at the numbers from `from` to `to - 1`.
-abbrev pub IsPart : Litmus → ℕ → ℕ → Outcome → Type 0
-IsPart t from to v = Tells t (executions_in t from to) v
+-- ys are those of xs that have P, in their order
+pub data AreThose {X : Type 0} (P : X → Type 0) : (xs ys : List X) → Type 0 where
+  at_end : AreThose P [] []
+  taken : {x : X} {xs ys : List X} → P x → AreThose P xs ys → AreThose P (x ∷ xs) (x ∷ ys)
+  passed : {x : X} {xs ys : List X} → ¬ P x → AreThose P xs ys → AreThose P (x ∷ xs) ys
+
+-- The outcome is right for the executions at the numbers from `from` to `to - 1` that a model of these items allows.
+abbrev pub IsPart : Litmus → List Clause → ℕ → ℕ → Outcome → Type 0
+IsPart t items from to v = (xs : List Execution) × AreThose (Allowed items) (executions_in t from to) xs × Tells t items xs v
 
 -- A slice of a job's numbers, given under a claim.
 pub record Portion : Type 0 where

@@ -5,42 +5,42 @@ use Rattle.std.specs.List.{list_all}
 use Rattle.std.specs.Str.{bytes_eq}
 use Rattle.indexmap.specs.IndexMap.{insert_entry}
 use Rattle.listings.specs.Lists.{IsIn}
-use Rattle.wb_text.specs.Tokens.{IsTokenList}
-use Rattle.wb_text.specs.declared.token.Dialect.TheVariants as dialects
+use Rattle.cat_model.specs.Closure.{IsClosure}
+use Rattle.cat_model.specs.Faults.{IsCause}
+use Rattle.cat_model.specs.Files.{version_of, store}
+use Rattle.cat_model.specs.Models.{Assembly}
+use Rattle.cat_model.specs.Scopes.{IsModel}
+use Rattle.cat_model.specs.declared.fault.ModelFault.{ModelFault}
+use Rattle.cat_model.specs.declared.files.Entry.{Entry}
+use Rattle.cat_syntax.specs.Reads.{Reads as ReadsCat}
+use Rattle.cat_syntax.specs.Tree.{File}
+use Rattle.cat_syntax.specs.declared.fault.CatFault.TheVariants as of_cat
 use Rattle.litmus_c.specs.Reads.{Reads, IsRefused}
 use Rattle.litmus_c.specs.Tree.{Word, Litmus}
 use Rattle.litmus_c.specs.declared.fault.TestFault.TheVariants as of_test
 use Rattle.candidates.specs.Faults.{IsSpaceFault}
 use Rattle.candidates.specs.declared.fault.SpaceFault.TheVariants as of_space
-use Rattle.book.specs.declared.reading.CatFault.TheVariants as of_cat
-use Rattle.book.specs.CatFaults.{IsCatRefused}
 use Rattle.book.specs.Lines.{Line}
 use Rattle.book.specs.Parts.{IsAdmitted, test_size}
 use Rattle.book.specs.Verdicts.{IsVerdict}
 use Rattle.book.specs.Jobs as jobs
 use Rattle.book.specs.Jobs.{Slice, done, is_done}
-use Rattle.book.specs.Workbench.{Workbench, empty, test_version, cat_version, test_of, model_of, job_of, claim_of, is_claim, replaced, is_free, any_free, marked_in}
+use Rattle.book.specs.Workbench.{Workbench, empty, test_version, test_of, job_of, claim_of, is_claim, replaced, is_free, any_free, marked_in}
 use Rattle.book.specs.declared.limits.Limits.{Limits}
 use Rattle.book.specs.declared.records.Live.{Live}
-use Rattle.book.specs.declared.records.ModelFault.TheVariants.{NoCat}
 use Rattle.book.specs.declared.records.Returned.{Returned}
 use Rattle.book.specs.declared.records.Said.{Said}
 use Rattle.book.specs.declared.records.Said.TheVariants.{PutCat, PutTest, Ask, Poll, Claim, Return}
 use Rattle.book.specs.declared.records.Refusal.TheVariants.{Closed, ReadingTest, ReadingCat, NoTest, Model, Space, JobsFull, NoJob, NoClaim, Replaced, Stranger, VersionsSpent, ClaimsSpent}
 use Rattle.book.specs.declared.records.Reply.{Reply}
 use Rattle.book.specs.declared.records.Reply.TheVariants.{Version, Job, Pending, Verdict, Piece, Nothing, Taken, Refused}
-use Rattle.book.specs.declared.slices.work.FileVersion.{FileVersion}
-
--- A cat text is a file if it has no token.
-abbrev pub IsCat : List ℕ → Type 0
-IsCat text = IsTokenList dialects.Cat text []
 
 abbrev pub PutsCat : Workbench → Word → List ℕ → Reply → Workbench → Type 0
-PutsCat s name text (Refused (ReadingCat fault)) s' = (¬ IsCat text) × (fault ≢ of_cat.NoMemory) × IsCatRefused text fault × (s' ≡ s)
-PutsCat s name text (Refused (VersionsSpent n)) s' = IsCat text × (s.limits.versions ≤ cat_version s.cats name) × (n ≡ name) × (s' ≡ s)
+PutsCat s name text (Refused (ReadingCat fault)) s' = ((f : File) → ¬ ReadsCat text f) × (fault ≢ of_cat.NoMemory) × (s' ≡ s)
+PutsCat s name text (Refused (VersionsSpent n)) s' = (f : File) × ReadsCat text f × (s.limits.versions ≤ version_of name s.cats) × (n ≡ name) × (s' ≡ s)
 PutsCat s name text (Version n v) s' =
-    IsCat text × (cat_version s.cats name < s.limits.versions) × (n ≡ name) × (v ≡ cat_version s.cats name + 1)
-    × (s' ≡ record s { cats = insert_entry bytes_eq s.cats name (record { version = v; is_loaded = true }) })
+    (f : File) × ReadsCat text f × (version_of name s.cats < s.limits.versions) × (n ≡ name) × (v ≡ version_of name s.cats + 1)
+    × (s' ≡ record s { cats = store (record { name = name; version = v; file = Some f }) s.cats })
 PutsCat s name text reply s' = ⊥
 
 abbrev pub PutsTest : Workbench → List ℕ → Reply → Workbench → Type 0
@@ -63,31 +63,34 @@ pub record IsCut (n : ℕ) (slices : List Slice) : Type 0 where
   pub within : list_all (λ x. nat_le x.from x.to && nat_le x.to n) slices ≡ true
   pub once : (i : ℕ) → i < n → count_by (has_number i) slices ≡ 1
 
-abbrev pub AsksFor : Workbench → Word → Word → Litmus → List FileVersion → Reply → Workbench → Type 0
-AsksFor s test cat t m (Refused (Space fault)) s' = IsSpaceFault t fault × (fault ≢ of_space.NoMemory) × (s' ≡ s)
-AsksFor s test cat t m (Refused JobsFull) s' = IsAdmitted t × (256 ≤ length s.jobs) × (s' ≡ s)
-AsksFor s test cat t m (Job id) s' =
+-- The files give this model at the root: its items with every include in place and the files that were read, and no cause
+-- to refuse it stands.
+pub record IsModelOf (cats : List Entry) (root : Word) (m : Assembly) : Type 0 where
+  pub closure : IsClosure cats root m.items m.files
+  pub model : IsModel m.items
+  pub sound : (fault : ModelFault) → ¬ IsCause fault cats root
+
+abbrev pub AsksFor : Workbench → Word → Litmus → Assembly → Reply → Workbench → Type 0
+AsksFor s test t m (Refused (Space fault)) s' = IsSpaceFault t fault × (fault ≢ of_space.NoMemory) × (s' ≡ s)
+AsksFor s test t m (Refused JobsFull) s' = IsAdmitted t × (256 ≤ length s.jobs) × (s' ≡ s)
+AsksFor s test t m (Job id) s' =
     IsAdmitted t × (length s.jobs < 256) × (id ≡ s.last_job + 1)
     × ((slices : List Slice) × IsCut (test_size t) slices
     × (s' ≡ record s { last_job = id; jobs = s.jobs ++ record { number = id; version = test_version s.tests test; work = record { test = t; model = m }; slices = slices } ∷ [] }))
-AsksFor s test cat t m reply s' = ⊥
-
-abbrev pub AsksUnder : Workbench → Word → Word → Litmus → Option (List FileVersion) → Reply → Workbench → Type 0
-AsksUnder s test cat t None (Refused (Model (NoCat n))) s' = (n ≡ cat) × (s' ≡ s)
-AsksUnder s test cat t None reply s' = ⊥
-AsksUnder s test cat t (Some m) reply s' = AsksFor s test cat t m reply s'
+AsksFor s test t m reply s' = ⊥
 
 -- The test and the model are those of now.
 abbrev pub Asks : Workbench → Word → Word → Option Litmus → Reply → Workbench → Type 0
 Asks s test cat None (Refused (NoTest n)) s' = (n ≡ test) × (s' ≡ s)
 Asks s test cat None reply s' = ⊥
-Asks s test cat (Some t) reply s' = AsksUnder s test cat t (model_of s.cats cat) reply s'
+Asks s test cat (Some t) (Refused (Model fault)) s' = IsCause fault s.cats cat × (s' ≡ s)
+Asks s test cat (Some t) reply s' = (m : Assembly) × IsModelOf s.cats cat m × AsksFor s test t m reply s'
 
 -- Once all slices are returned, any right verdict with the job's version and work; until then the count, unless the job
 -- is replaced.
 abbrev pub Polls : Workbench → ℕ → Option jobs.Job → Reply → Workbench → Type 0
 Polls s id None (Refused (NoJob n)) s' = (n ≡ id) × (s' ≡ s)
-Polls s id (Some job) (Verdict v) s' = (is_done job ≡ true) × (v.work ≡ job.work) × (v.version ≡ job.version) × IsVerdict v.work.test v.outcome × (s' ≡ s)
+Polls s id (Some job) (Verdict v) s' = (is_done job ≡ true) × (v.work ≡ job.work) × (v.version ≡ job.version) × IsVerdict v.work.test v.work.model.items v.outcome × (s' ≡ s)
 Polls s id (Some job) (Refused (Replaced r)) s' = (is_done job ≡ false) × (replaced s job ≡ Some r) × (s' ≡ s)
 Polls s id (Some job) (Pending d n) s' = (is_done job ≡ false) × (replaced s job ≡ None) × (d ≡ done job) × (n ≡ length job.slices) × (s' ≡ s)
 Polls s id job reply s' = ⊥

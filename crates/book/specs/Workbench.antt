@@ -1,57 +1,43 @@
 -- The state of the book, without its results.
-use Rattle.std.specs.Prelude.{ℕ, ◌+◌, Bool, false, ◌&&◌, ◌||◌, ◌==◌, not, List, [], ◌∷◌, Option, None, Some, is_some, if◌then◌else◌, codes}
+use Rattle.std.specs.Prelude.{ℕ, ◌+◌, Bool, false, ◌&&◌, ◌||◌, ◌==◌, not, List, [], ◌∷◌, Option, None, Some, is_some, if◌then◌else◌}
 use Rattle.std.specs.List.{list_any, find}
 use Rattle.std.specs.Map.{lookup}
 use Rattle.std.specs.Option.{option_map_or}
 use Rattle.std.specs.Str.{bytes_eq}
+use Rattle.cat_model.specs.Files.{version_of}
+use Rattle.cat_model.specs.declared.files.Entry.{Entry}
+use Rattle.cat_model.specs.declared.model.FileVersion.{FileVersion}
 use Rattle.litmus_c.specs.Tree.{Word, Litmus}
 use Rattle.book.specs.Jobs.{Job, Slice, marked}
 use Rattle.book.specs.declared.limits.Limits.{Limits}
-use Rattle.book.specs.declared.names.CatSlot.{CatSlot}
 use Rattle.book.specs.declared.names.TestSlot.{TestSlot}
 use Rattle.book.specs.declared.records.Live.{Live}
 use Rattle.book.specs.declared.records.Replacement.{Replacement}
 use Rattle.book.specs.declared.records.SourceKind.TheVariants.{Test, Cat}
-use Rattle.book.specs.declared.slices.work.FileVersion.{FileVersion}
 
--- Tests and cat files stand by name, in first-loaded order, each with its version and its tree or nothing.
+-- Tests and cat files stand by name, in first-loaded order, each with its version and its tree or nothing. The built-in
+-- cat files are there beside them, each at version 0.
 pub record Workbench : Type 0 where
   pub limits : Limits
   pub tests : List (Word × TestSlot)
-  pub cats : List (Word × CatSlot)
+  pub cats : List Entry
   pub jobs : List Job
   pub live : List Live
   pub last_job : ℕ
   pub last_claim : ℕ
   pub closed : Bool
 
--- nothing but the limits
+-- nothing but the limits and the built-in files
 abbrev pub empty : Limits → Workbench
 empty limits = record { limits = limits; tests = []; cats = []; jobs = []; live = []; last_job = 0; last_claim = 0; closed = false }
 
--- the version of a name: 0 until its first put
-
+-- the version of a test's name: 0 until its first put
 abbrev pub test_version : List (Word × TestSlot) → Word → ℕ
 test_version tests name = option_map_or (λ x. x.version) (lookup (bytes_eq name) tests) 0
-
-abbrev pub cat_version : List (Word × CatSlot) → Word → ℕ
-cat_version cats name = option_map_or (λ x. x.version) (lookup (bytes_eq name) cats) 0
 
 -- the test of a name
 abbrev pub test_of : List (Word × TestSlot) → Word → Option Litmus
 test_of tests name = option_map_or (λ x. x.tree) (lookup (bytes_eq name) tests) None
-
--- the names of the built-in files, which have no items
-abbrev pub is_built_in : Word → Bool
-is_built_in name = bytes_eq name (codes "stdlib.cat") || bytes_eq name (codes "cos.cat") || bytes_eq name (codes "c11_cos.cat")
-
--- a file of this name is there
-abbrev pub is_there : List (Word × CatSlot) → Word → Bool
-is_there cats name = option_map_or (λ x. x.is_loaded) (lookup (bytes_eq name) cats) false || is_built_in name
-
--- the model whose root has this name, by its files with the versions of now
-abbrev pub model_of : List (Word × CatSlot) → Word → Option (List FileVersion)
-model_of cats name = if is_there cats name then Some (record { name = name; version = cat_version cats name } ∷ []) else None
 
 -- the job of a number
 abbrev pub job_of : List Job → ℕ → Option Job
@@ -65,14 +51,14 @@ abbrev pub claim_of : List Live → ℕ → ℕ → Option Live
 claim_of live number seat = find (is_claim number seat) live
 
 -- The first of the job's files whose version isn't the job's, with its version now; or nothing.
-abbrev pub replaced_file : List (Word × CatSlot) → List FileVersion → Option Replacement
+abbrev pub replaced_file : List Entry → List FileVersion → Option Replacement
 replaced_file cats [] = None
-replaced_file cats (f ∷ fs) = if cat_version cats f.name == f.version then replaced_file cats fs else Some (record { kind = Cat; name = f.name; version = cat_version cats f.name })
+replaced_file cats (f ∷ fs) = if version_of f.name cats == f.version then replaced_file cats fs else Some (record { kind = Cat; name = f.name; version = version_of f.name cats })
 
 -- The first of the job's test and then its files whose version isn't the job's, with the version now; or nothing.
 abbrev pub replaced : Workbench → Job → Option Replacement
 replaced s job =
-    if test_version s.tests job.work.test.name == job.version then replaced_file s.cats job.work.model
+    if test_version s.tests job.work.test.name == job.version then replaced_file s.cats job.work.model.files
     else Some (record { kind = Test; name = job.work.test.name; version = test_version s.tests job.work.test.name })
 
 abbrev pub is_replaced : Workbench → Job → Bool

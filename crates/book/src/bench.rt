@@ -5,19 +5,23 @@ ghost use Rattle.std.specs.List.{find};
 ghost use Rattle.book.specs.Changes.{changed, IsReady, FitsJob};
 ghost use Rattle.book.specs.Jobs.{HasOneSlice};
 ghost use Rattle.book.specs.Lines.{answers, seen, returned, shown};
-ghost use Rattle.book.specs.Step.{Step, others, IsOwn};
+ghost use Rattle.cat_model.specs.Files.{version_of, store};
+ghost use Rattle.book.specs.Step.{Step, others, IsOwn, IsModelOf};
 ghost use Rattle.book.specs.declared.records.Said.{Said};
-ghost use Rattle.book.specs.Workbench.{empty, job_of, claim_of, is_claim, is_claimed, is_replaced, replaced, replaced_file, has_free, marked_in};
+ghost use Rattle.book.specs.Workbench.{empty, test_of, job_of, claim_of, is_claim, is_claimed, is_replaced, replaced, replaced_file, has_free, marked_in};
 
 use crate::jobs::Job;
 use crate::limits::Limits;
-use crate::names::{CatSlot, Cats, TestSlot, Tests};
-use crate::reading::{CatFault, is_memory, read_empty_cat, read_litmus};
-use crate::records::{Command, Live, ModelFault, Refusal, Replacement, Reply, SourceKind, Text};
-use crate::slices::{FileVersion, Piece, PieceResult, TestRef, VerdictRef, Work, WorkRef};
+use crate::names::{TestSlot, Tests};
+use crate::reading::{
+    is_cat_memory, is_memory, is_model_memory, model_of, read_file, read_litmus,
+};
+use crate::records::{Command, Live, Refusal, Replacement, Reply, SourceKind, Text};
+use crate::slices::{Piece, PieceResult, TestRef, VerdictRef, Work, WorkRef};
 use candidates::SpaceFault;
+use cat_model::{FileVersion, Files, Model};
+use cat_syntax::CatFile;
 use std::alloc::{AllocError, Global};
-use std::marker::Model;
 use wb_text::Name;
 
 /// The most jobs that are held.
@@ -28,7 +32,7 @@ const MOST_JOBS: usize = 256;
 pub struct Bench {
     limits: Limits,
     tests: Tests,
-    cats: Cats,
+    cats: Files,
     jobs: Vec<Job>,
     live: Vec<Live>,
     last_job: u32,
@@ -36,7 +40,7 @@ pub struct Bench {
     closed: bool,
 }
 
-impl Model for Bench {
+impl std::marker::Model for Bench {
     ghost use Rattle.book.specs.BenchCodes.{coded_workbench};
     ghost use Rattle.book.specs.Workbench.{Workbench};
 
@@ -51,7 +55,7 @@ impl Model for Bench {
 #[derive(Drop)]
 pub enum Change {
     Keep,
-    PutCat(Name, CatSlot),
+    PutCat(Name, u32, CatFile),
     PutTest(Name, TestSlot),
     Open(Job),
     Hold(Live),
@@ -82,6 +86,23 @@ impl Plan {
         ensures { result ≡ record { reply = Reply.Refused refusal; change = Change.Keep } }
     {
         Plan::keep(Reply::Refused(refusal))
+    }
+}
+
+/// Stores a file, or changes nothing.
+fn put_file(
+    files: &mut Files,
+    name: Name,
+    version: u32,
+    file: CatFile,
+) -> Result<(), AllocError>
+    requires { version_of name files.old < version }
+    ensures ok { OnOk result (files.new ≡ store (record { name = name; version = version; file = Some file }) files.old) }
+    ensures err { OnErr result (files.new ≡ files.old) }
+{
+    match files.put(name, version, file) {
+        Ok(()) => Ok(()),
+        Err(_) => Err(AllocError),
     }
 }
 
@@ -126,19 +147,19 @@ fn take_in(jobs: &mut Vec<Job>, number: u32, part: PieceResult)
 
 impl Bench {
     /// The empty workbench.
-    pub fn new(alloc: Global, limits: Limits) -> Self
-        ensures { result ≡ empty limits }
+    pub fn new(alloc: Global, limits: Limits) -> Result<Self, AllocError>
+        ensures { IfOk result (λ b. b ≡ empty limits) }
     {
-        Bench {
+        Ok(Bench {
             limits,
             tests: Tests::new(alloc),
-            cats: Cats::new(alloc),
+            cats: Files::new(alloc)?,
             jobs: Vec::new(alloc),
             live: Vec::new(alloc),
             last_job: 0,
             last_claim: 0,
             closed: false,
-        }
+        })
     }
 
     /// Chooses a reply, and changes nothing.
@@ -168,22 +189,22 @@ impl Bench {
         ensures kind { IfOk result (λ p. answers (Said.PutCat name.now text.now) p.reply ≡ true) }
         ensures ready { IfOk result (λ p. IsReady self.now p.change) }
     {
-        match read_empty_cat(alloc, text.bytes()) {
-            Ok(()) => {}
-            Err(CatFault::NoMemory) => return Err(AllocError),
-            Err(fault) => return Ok(Plan::refuse(Refusal::ReadingCat(fault))),
-        }
+        let file = match read_file(alloc, text.bytes()) {
+            Ok(file) => file,
+            Err(fault) => {
+                if is_cat_memory(&fault) {
+                    return Err(AllocError);
+                }
+                return Ok(Plan::refuse(Refusal::ReadingCat(fault)));
+            }
+        };
         let version = self.cats.version(name);
         if version >= self.limits.versions {
             return Ok(Plan::refuse(Refusal::VersionsSpent(name.copy()?)));
         }
-        let slot = CatSlot {
-            version: version + 1,
-            is_loaded: true,
-        };
         Ok(Plan {
             reply: Reply::Version(name.copy()?, version + 1),
-            change: Change::PutCat(name.copy()?, slot),
+            change: Change::PutCat(name.copy()?, version + 1, file),
         })
     }
 
@@ -218,7 +239,7 @@ impl Bench {
         })
     }
 
-    #[tactic(auto, using(crate::proofs::Steps::no_test, crate::proofs::Steps::no_model, crate::proofs::Steps::no_space_of, crate::proofs::Steps::jobs_full, crate::proofs::Steps::opened_job))]
+    #[tactic(auto, using(crate::proofs::Steps::no_test, crate::proofs::Steps::no_model))]
     fn decide_ask(&self, alloc: Global, test: &Name, cat: &Name) -> Result<Plan, AllocError>
         requires open { self.now.closed ≡ false }
         requires room { self.now.last_job + 1 < 2 ^ 32 }
@@ -229,9 +250,36 @@ impl Bench {
         let Some(tree) = self.tests.test(test) else {
             return Ok(Plan::refuse(Refusal::NoTest(test.copy()?)));
         };
-        let Some(model) = self.cats.model(alloc, cat)? else {
-            return Ok(Plan::refuse(Refusal::Model(ModelFault::NoCat(cat.copy()?))));
+        let model = match model_of(alloc, &self.cats, cat) {
+            Ok(model) => model,
+            Err(fault) => {
+                if is_model_memory(&fault) {
+                    return Err(AllocError);
+                }
+                return Ok(Plan::refuse(Refusal::Model(fault)));
+            }
         };
+        self.decide_work(alloc, test, cat, tree, model)
+    }
+
+    // The test of this name is there, and so is the model of this root.
+    #[tactic(auto, using(crate::proofs::Steps::no_space_of, crate::proofs::Steps::jobs_full, crate::proofs::Steps::opened_job))]
+    fn decide_work(
+        &self,
+        alloc: Global,
+        test: &Name,
+        cat: &Name,
+        tree: &TestRef,
+        model: Model,
+    ) -> Result<Plan, AllocError>
+        requires open { self.now.closed ≡ false }
+        requires room { self.now.last_job + 1 < 2 ^ 32 }
+        requires there { test_of self.now.tests test.now ≡ Some tree.now }
+        requires model { IsModelOf self.now.cats cat.now model }
+        ensures step { IfOk result (λ p. Step self.now 0 (Said.Ask test.now cat.now) p.reply (changed self.now p.change)) }
+        ensures kind { IfOk result (λ p. answers (Said.Ask test.now cat.now) p.reply ≡ true) }
+        ensures ready { IfOk result (λ p. IsReady self.now p.change) }
+    {
         let work = match Work::new(alloc, tree.share()?, model) {
             Ok(work) => work,
             Err(SpaceFault::NoMemory) => return Err(AllocError),
@@ -414,7 +462,7 @@ impl Bench {
     {
         match change {
             Change::Keep => {}
-            Change::PutCat(name, slot) => self.cats.put(name, slot)?,
+            Change::PutCat(name, version, file) => put_file(&mut self.cats, name, version, file)?,
             Change::PutTest(name, slot) => self.tests.put(name, slot)?,
             Change::Open(job) => {
                 let number = job.number();
@@ -447,7 +495,7 @@ fn is_own(claim: &Live, job: &Job, piece: &Piece) -> bool
 }
 
 /// Whether the version of one of the files is no longer this.
-fn is_replaced_file(cats: &Cats, files: &[FileVersion]) -> bool
+fn is_replaced_file(cats: &Files, files: &[FileVersion]) -> bool
     ensures { result ≡ is_some (replaced_file cats.now files.now) }
 {
     for file in files {
@@ -459,7 +507,7 @@ fn is_replaced_file(cats: &Cats, files: &[FileVersion]) -> bool
 }
 
 /// The first of the files whose version is no longer this.
-fn replaced_file(cats: &Cats, files: &[FileVersion]) -> Result<Option<Replacement>, AllocError>
+fn replaced_file(cats: &Files, files: &[FileVersion]) -> Result<Option<Replacement>, AllocError>
     ensures { IfOk result (λ r. r ≡ replaced_file cats.now files.now) }
 {
     for file in files {

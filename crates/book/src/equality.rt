@@ -2,15 +2,16 @@
 
 ghost use Rattle.std.specs.Prelude.{◌≡◌, ◌↔◌, IsTrue};
 ghost use Rattle.std.specs.Str.{bytes_eq};
-ghost use Rattle.book.specs.EntryCodes.{coded_returned, coded_command, coded_said, coded_replacement, coded_model_fault, coded_refusal, coded_reply};
+ghost use Rattle.book.specs.EntryCodes.{coded_returned, coded_command, coded_said, coded_replacement, coded_refusal, coded_reply};
 ghost use Rattle.book.specs.LineCodes.{coded_line};
 ghost use Rattle.book.specs.Same.{same, same_equivalence, same_partial_equivalence};
 
-use crate::reading::CatFault;
 use crate::records::{
-    Command, Entry, ModelFault, Refusal, Replacement, Reply, Returned, Said, Text,
+    Command, Entry, Refusal, Replacement, Reply, Returned, Said, Text,
 };
 use candidates::SpaceFault;
+use cat_model::ModelFault;
+use cat_syntax::CatFault;
 use litmus_c::TestFault;
 
 impl PartialEq for Text {
@@ -102,23 +103,6 @@ impl PartialEq for Replacement {
 
 impl Eq for Replacement {
     ghost laws = { same_equivalence coded_replacement };
-}
-
-impl PartialEq for ModelFault {
-    ghost eq = { same coded_model_fault };
-
-    ghost laws = { same_partial_equivalence coded_model_fault };
-
-    fn eq(&self, other: &ModelFault) -> bool
-        ensures value { result ≡ same coded_model_fault self.now other.now }
-        ensures exact { IsTrue result ↔ (self.now ≡ other.now) }
-    {
-        self.is_same(other)
-    }
-}
-
-impl Eq for ModelFault {
-    ghost laws = { same_equivalence coded_model_fault };
 }
 
 impl PartialEq for Refusal {
@@ -252,18 +236,6 @@ impl Replacement {
     }
 }
 
-impl ModelFault {
-    fn is_same(&self, other: &ModelFault) -> bool
-        ensures { IsTrue result ↔ (self.now ≡ other.now) }
-    {
-        match self {
-            ModelFault::NoCat(part) => match other {
-                ModelFault::NoCat(other) => part == other,
-            },
-        }
-    }
-}
-
 impl Refusal {
     fn is_same(&self, other: &Refusal) -> bool
         ensures { IsTrue result ↔ (self.now ≡ other.now) }
@@ -283,7 +255,7 @@ impl Refusal {
                 _ => false,
             },
             Refusal::Model(part) => match other {
-                Refusal::Model(other) => part.is_same(other),
+                Refusal::Model(other) => is_same_model_fault(part, other),
                 _ => false,
             },
             Refusal::Space(part) => match other {
@@ -372,6 +344,12 @@ fn is_same_test_fault(fault: &TestFault, other: &TestFault) -> bool
 }
 
 fn is_same_cat_fault(fault: &CatFault, other: &CatFault) -> bool
+    ensures { IsTrue result ↔ (fault.now ≡ other.now) }
+{
+    fault == other
+}
+
+fn is_same_model_fault(fault: &ModelFault, other: &ModelFault) -> bool
     ensures { IsTrue result ↔ (fault.now ≡ other.now) }
 {
     fault == other

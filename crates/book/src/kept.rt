@@ -51,7 +51,7 @@ impl Book {
         Ok(Book {
             alloc,
             limits,
-            bench: Bench::new(alloc, limits),
+            bench: Bench::new(alloc, limits)?,
             journal: Vec::with_capacity(alloc, 1)?,
         })
     }

@@ -16,10 +16,9 @@ pub use bench::{Bench, Change, Plan};
 pub use jobs::Job;
 pub use kept::{Book, Refused};
 pub use limits::Limits;
-pub use names::{CatSlot, Cats, TestSlot, Tests};
-pub use reading::CatFault;
+pub use names::{TestSlot, Tests};
 pub use records::{
-    Command, Entry, Live, ModelFault, Refusal, Replacement, Reply, Returned, Said, SourceKind, Text,
+    Command, Entry, Live, Refusal, Replacement, Reply, Returned, Said, SourceKind, Text,
 };
 
 #[cfg(test)]

@@ -1,30 +1,21 @@
-//! The reading of cat texts, which may have no items yet.
+//! The reading of texts, and of the files of a model.
 
-ghost use Rattle.std.specs.Prelude.{◌≡◌, ◌≢◌, [], IfOk, IfErr, MatchBool, MatchOption, OnOk};
+ghost use Rattle.std.specs.Prelude.{◌≡◌, ◌≢◌, IfOk, IfErr, MatchBool};
 ghost use Rattle.litmus_c.specs.Reads.{Reads, IsRefused};
 ghost use Rattle.litmus_c.specs.Tree.{Litmus};
 ghost use Rattle.litmus_c.specs.declared.fault.TestFault.TheVariants as of_test;
-ghost use Rattle.book.specs.CatFaults.{cat_fault, BeginsAt, IsCatRefused};
-ghost use Rattle.book.specs.Step.{IsCat};
-ghost use Rattle.book.specs.declared.reading.CatFault.TheVariants.{NoMemory};
+ghost use Rattle.cat_syntax.specs.Reads.{Reads as ReadsCat};
+ghost use Rattle.cat_syntax.specs.Tree.{File};
+ghost use Rattle.cat_syntax.specs.declared.fault.CatFault.TheVariants as of_cat;
+ghost use Rattle.cat_model.specs.Faults.{IsCause};
+ghost use Rattle.cat_model.specs.declared.fault.ModelFault.TheVariants as of_model;
+ghost use Rattle.book.specs.Step.{IsModelOf};
 
+use cat_model::{Files, Model, ModelFault, resolve};
+use cat_syntax::{CatFault, CatFile, read_cat};
 use litmus_c::{Test, TestFault, read_test};
 use std::alloc::Global;
-use thiserror::Error;
-use wb_text::{Dialect, TextFault, Token, tokens};
-
-/// Why a text is no cat file. The numbers are those of the printed refusals.
-#[derive(Clone, Copy, Debug, Drop, PartialEq, Eq, Error)]
-pub enum CatFault {
-    /// The text has no tokens.
-    #[error("51 Text {0}")]
-    Text(TextFault),
-    /// A token, by its offset: a file has no items yet.
-    #[error("52 Syntax {0}")]
-    Syntax(usize),
-    #[error("NoMemory")]
-    NoMemory,
-}
+use wb_text::Name;
 
 /// Reads the text of a test.
 pub fn read_litmus(alloc: Global, text: &[u8]) -> Result<Test, TestFault>
@@ -36,6 +27,22 @@ pub fn read_litmus(alloc: Global, text: &[u8]) -> Result<Test, TestFault>
     read_test(alloc, text)
 }
 
+/// Reads the text of a cat file.
+pub fn read_file(alloc: Global, text: &[u8]) -> Result<CatFile, CatFault>
+    ensures found { IfOk result (ReadsCat text.now) }
+    ensures only { IfErr result (λ e. (f : File) → ReadsCat text.now f → e ≡ of_cat.NoMemory) }
+{
+    read_cat(alloc, text)
+}
+
+/// The model whose root has this name.
+pub fn model_of(alloc: Global, files: &Files, root: &Name) -> Result<Model, ModelFault>
+    ensures model { IfOk result (IsModelOf files.now root.now) }
+    ensures cause { IfErr result (λ e. e ≢ of_model.NoMemory → IsCause e files.now root.now) }
+{
+    resolve(alloc, files, root)
+}
+
 /// Whether memory ran out.
 pub fn is_memory(fault: &TestFault) -> bool
     ensures { MatchBool result (fault.now ≡ of_test.NoMemory) (fault.now ≢ of_test.NoMemory) }
@@ -43,37 +50,16 @@ pub fn is_memory(fault: &TestFault) -> bool
     matches!(fault, TestFault::NoMemory)
 }
 
-/// Reads a cat text that has no token. Another is refused at its first token.
-pub fn read_empty_cat(alloc: Global, text: &[u8]) -> Result<(), CatFault>
-    ensures found { OnOk result (IsCat text.now) }
-    ensures only { IfErr result (λ e. IsCat text.now → e ≡ NoMemory) }
-    // Each refusal comes only where its cause stands.
-    ensures cause { IfErr result (λ e. IsCatRefused text.now e) }
+/// Whether memory ran out.
+pub fn is_cat_memory(fault: &CatFault) -> bool
+    ensures { MatchBool result (fault.now ≡ of_cat.NoMemory) (fault.now ≢ of_cat.NoMemory) }
 {
-    match tokens(alloc, text, Dialect::Cat) {
-        Ok(tokens) => match first_token(&tokens) {
-            None => Ok(()),
-            Some(place) => Err(CatFault::Syntax(place)),
-        },
-        Err(fault) => Err(cat_fault(fault)),
-    }
+    matches!(fault, CatFault::NoMemory)
 }
 
-fn cat_fault(fault: TextFault) -> CatFault
-    ensures { result ≡ cat_fault fault }
+/// Whether memory ran out.
+pub fn is_model_memory(fault: &ModelFault) -> bool
+    ensures { MatchBool result (fault.now ≡ of_model.NoMemory) (fault.now ≢ of_model.NoMemory) }
 {
-    match fault {
-        TextFault::NoMemory => CatFault::NoMemory,
-        fault => CatFault::Text(fault),
-    }
-}
-
-/// Where the first token begins.
-fn first_token(tokens: &[Token]) -> Option<usize>
-    ensures { MatchOption result (tokens.now ≡ []) (BeginsAt tokens.now) }
-{
-    match tokens.first() {
-        None => None,
-        Some(token) => Some(token.from),
-    }
+    matches!(fault, ModelFault::NoMemory)
 }

@@ -4,9 +4,10 @@ ghost use Rattle.std.specs.Prelude.{◌≡◌, true, IfOk};
 ghost use Rattle.std.specs.Arc.{arc_value};
 ghost use Rattle.book.specs.Lines.{answers, seen, returned};
 
-use crate::reading::CatFault;
 use crate::slices::{Piece, PieceResult, VerdictRef, WorkRef};
 use candidates::SpaceFault;
+use cat_model::ModelFault;
+use cat_syntax::CatFault;
 use litmus_c::TestFault;
 use std::alloc::{AllocError, Global};
 use std::marker::Model;
@@ -84,13 +85,6 @@ pub struct Replacement {
     pub version: u32,
 }
 
-/// Why a name leads to no model.
-#[derive(Drop)]
-pub enum ModelFault {
-    /// 61: no file of this name is loaded or built in.
-    NoCat(Name),
-}
-
 /// A refusal that the journal records. The numbers are those of the printed refusals.
 #[derive(Drop)]
 pub enum Refusal {
@@ -102,7 +96,7 @@ pub enum Refusal {
     ReadingCat(CatFault),
     /// 73
     NoTest(Name),
-    /// 74
+    /// 74: the name leads to no model.
     Model(ModelFault),
     /// 75
     Space(SpaceFault),

@@ -15,4 +15,4 @@ pub use piece::{Piece, PieceResult, evaluate};
 pub use row::Row;
 pub use tally::Tally;
 pub use verdict::{Verdict, VerdictRef};
-pub use work::{EmptyModel, FileVersion, TestRef, Work, WorkRef};
+pub use work::{TestRef, Work, WorkRef};

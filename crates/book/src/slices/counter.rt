@@ -1,30 +1,36 @@
-//! Counts over the executions at some of the numbers of a test.
+//! Counts over the allowed executions at some of the numbers of a test.
 
-ghost use Rattle.std.specs.Prelude.{◌≡◌, ◌<◌, ◌≤◌, ◌+◌, ◌-◌, ◌^◌, [], length, IfOk, OnOk, if◌then◌else◌};
+ghost use Rattle.std.specs.Prelude.{◌≡◌, ◌<◌, ◌≤◌, ◌+◌, ◌-◌, ◌^◌, ◌⊎◌, ◌↔◌, ℕ, List, [], length, map, IfOk, OnOk, if◌then◌else◌};
 ghost use Rattle.std.specs.BTreeSet.{insert_key};
 ghost use Rattle.std.specs.Cmp.Lexicographic.{slice_cmp};
 ghost use Rattle.std.specs.Ordering.{nat_cmp};
 ghost use Rattle.conditions.specs.Conditions.{formula_of};
 ghost use Rattle.conditions.specs.States.{bindings, holds_in};
-ghost use Rattle.book.specs.Counters.{IsCount};
+ghost use Rattle.listings.specs.Lists.{IsIn};
+ghost use Rattle.book.specs.Counters.{IsCountOf, IsWeighed};
 ghost use Rattle.book.specs.Parts.{IsRange, executions_in};
+ghost use Rattle.book.specs.Slots.{slot_of};
 
 use crate::slices::row::Row;
-use crate::slices::slot::{row, slots};
+use crate::slices::slot::{Slot, row, slots};
 use crate::slices::work::Work;
+use cat_eval::judge;
 use conditions::{Place, Prop, State, holds};
+use events::{Graph, GraphView};
 use std::alloc::{AllocError, Global};
 use std::collections::BTreeSet;
+use wb_text::Name;
 
-/// How many final states have a proposition and how many have it not, and which states there are.
+/// How many final states have a proposition and how many have it not, which states there are, and which flags were raised.
 #[derive(Drop)]
 pub struct Counter {
     pub positive: u64,
     pub negative: u64,
     pub states: BTreeSet<Row>,
+    pub flags: BTreeSet<Name>,
 }
 
-/// Counts what stands at the numbers from `from` to `to - 1`, one candidate at a time.
+/// Counts the allowed executions at the numbers from `from` to `to - 1`, one candidate at a time.
 pub fn count(
     alloc: Global,
     work: &Work,
@@ -34,16 +40,14 @@ pub fn count(
 ) -> Result<Counter, AllocError>
     requires { IsRange work.now.test from to }
     ensures { IfOk result
-        (IsCount work.now.test places.now (executions_in work.now.test from to)) }
+        (IsCountOf work.now.test work.now.model.items places.now (executions_in work.now.test from to)) }
 {
-    let test = work.test();
     let space = work.space();
-    let slots = slots(alloc, test, places)?;
+    let slots = slots(alloc, work.test(), places)?;
     let mut counter = Counter::new(alloc);
     for number in from..to {
         if let Some(graph) = space.graph(alloc, number)? {
-            let state = row(alloc, &slots, &graph)?;
-            counter.add(test.condition().prop(), places, state)?;
+            counter.weigh(alloc, work, places, &slots, &graph)?;
         }
     }
     Ok(counter)
@@ -55,12 +59,37 @@ impl Counter {
         ensures positive { result.positive ≡ 0 }
         ensures negative { result.negative ≡ 0 }
         ensures states { result.states.keys ≡ [] }
+        ensures flags { result.flags.keys ≡ [] }
     {
         Counter {
             positive: 0,
             negative: 0,
             states: BTreeSet::new(alloc),
+            flags: BTreeSet::new(alloc),
         }
+    }
+
+    /// Counts an execution, if the work's model allows it.
+    fn weigh(
+        &mut self,
+        alloc: Global,
+        work: &Work,
+        places: &[Place],
+        slots: &[Slot],
+        graph: &Graph,
+    ) -> Result<(), AllocError>
+        requires few { self.old.positive + self.old.negative < 2 ^ 64 - 1 }
+        requires slots { slots.now ≡ map (slot_of work.now.test) places.now }
+        ensures weighed { OnOk result
+            (IsWeighed work.now.test work.now.model.items places.now graph.now self.old self.new) }
+    {
+        let judgement = judge(alloc, work.model(), &GraphView::of(alloc, graph)?)?;
+        if judgement.allowed() {
+            let state = row(alloc, slots, graph)?;
+            self.add(work.test().condition().prop(), places, state)?;
+            raise(&mut self.flags, judgement.flags())?;
+        }
+        Ok(())
     }
 
     /// Counts one more final state.
@@ -73,6 +102,7 @@ impl Counter {
             OnOk result (self.new.negative ≡ self.old.negative + (if has then 0 else 1)) }
         ensures states { OnOk result
             (self.new.states.keys ≡ insert_key (slice_cmp nat_cmp) self.old.states.keys state) }
+        ensures flags { self.new.flags ≡ self.old.flags }
     {
         let has = holds(prop, &State::new(places, state.values()));
         self.states.insert(state)?;
@@ -83,4 +113,14 @@ impl Counter {
         }
         Ok(())
     }
+}
+
+/// Adds the names that aren't there.
+fn raise(flags: &mut BTreeSet<Name>, names: &[Name]) -> Result<(), AllocError>
+    ensures { OnOk result ((name : List ℕ) → IsIn name flags.new.keys ↔ (IsIn name flags.old.keys ⊎ IsIn name names.now)) }
+{
+    for name in names {
+        flags.insert(name.copy()?)?;
+    }
+    Ok(())
 }

@@ -18,7 +18,7 @@ use std::marker::Model;
 use std::sync::Arc;
 use wb_text::Name;
 
-/// What is found of some executions of a work's test.
+/// What is found of some executions of a work's test: of those that the work's model allows.
 #[derive(Drop)]
 pub struct Finding {
     work: WorkRef,
@@ -95,7 +95,7 @@ impl FindingRef {
 }
 
 impl Finding {
-    /// What a count of a work's test says. No flag is raised.
+    /// What a count of a work's test says.
     pub(crate) fn new(
         alloc: Global,
         work: WorkRef,
@@ -104,11 +104,13 @@ impl Finding {
     ) -> Result<Self, AllocError>
         ensures value { IfOk result (λ v. v ≡ outcome_of work.test places.items counter) }
         ensures sorted { IfOk result (λ v. IsStrictlySortedBy (slice_cmp nat_cmp) v.states) }
+        ensures in_order { IfOk result (λ v. IsStrictlySortedBy (slice_cmp nat_cmp) v.flags) }
     {
         let Counter {
             positive,
             negative,
             states,
+            flags,
         } = counter;
         Ok(Finding {
             work,
@@ -116,7 +118,7 @@ impl Finding {
             positive,
             negative,
             states: states.into_iter().collect(alloc)?,
-            flags: Vec::new(alloc),
+            flags: flags.into_iter().collect(alloc)?,
         })
     }
 
@@ -169,7 +171,7 @@ impl Finding {
         &self.states
     }
 
-    /// The flags that were raised.
+    /// The names of the flags that were raised, once each, in order of their bytes.
     pub fn flags(&self) -> &[Name]
         ensures { result.now ≡ self.now.flags }
     {

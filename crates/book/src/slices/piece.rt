@@ -51,10 +51,10 @@ impl Model for PieceResult {
 
     ghost view = { λ r. record { piece = r.piece; found = r.found } };
 
-    ghost invariant = { λ r. IsPart r.piece.work.test r.piece.from r.piece.to r.found };
+    ghost invariant = { λ r. IsPart r.piece.work.test r.piece.work.model.items r.piece.from r.piece.to r.found };
 }
 
-/// Evaluates the numbers of a piece, one after another.
+/// Evaluates the numbers of a piece, one after another, under the model of its work.
 pub fn evaluate(alloc: Global, piece: &Piece) -> Result<PieceResult, AllocError>
     ensures { IfOk result (λ r. r.piece ≡ piece.now) }
 {
@@ -67,7 +67,7 @@ pub fn evaluate(alloc: Global, piece: &Piece) -> Result<PieceResult, AllocError>
 /// What is found at the numbers from `from` to `to - 1` of a work.
 fn find(alloc: Global, work: &WorkRef, from: u64, to: u64) -> Result<Finding, AllocError>
     requires { IsRange work.now.test from to }
-    ensures { IfOk result (IsPart work.now.test from to) }
+    ensures { IfOk result (IsPart work.now.test work.now.model.items from to) }
 {
     let test = work.work().test();
     let places = observed(alloc, test.condition(), test.listed())?;
@@ -151,7 +151,7 @@ impl Piece {
 
 impl PieceResult {
     pub(crate) fn new(piece: Piece, found: FindingRef) -> Self
-        requires { IsPart piece.work.test piece.from piece.to found }
+        requires { IsPart piece.work.test piece.work.model.items piece.from piece.to found }
         ensures { result ≡ record { piece = piece; found = found } }
     {
         PieceResult { piece, found }
@@ -168,7 +168,7 @@ impl PieceResult {
     pub fn found(&self) -> &FindingRef
         ensures found { result.now ≡ self.now.found }
         ensures right { let piece = self.now.piece in
-            IsPart piece.work.test piece.from piece.to self.now.found }
+            IsPart piece.work.test piece.work.model.items piece.from piece.to self.now.found }
     {
         &self.found
     }

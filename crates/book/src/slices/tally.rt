@@ -76,7 +76,7 @@ impl Tally {
         requires { IsWhole self.now }
         ensures work { IfOk result (λ v. v.work ≡ self.now.work) }
         ensures version { IfOk result (λ v. v.version ≡ test_version) }
-        ensures right { IfOk result (λ v. IsVerdict v.work.test v.outcome) }
+        ensures right { IfOk result (λ v. IsVerdict v.work.test v.work.model.items v.outcome) }
     {
         Verdict::of(&self.work, test_version, &self.parts[0])
     }
@@ -87,7 +87,7 @@ impl Verdict {
     pub fn judge(alloc: Global, work: WorkRef, test_version: u32) -> Result<Self, AllocError>
         ensures work { IfOk result (λ v. v.work ≡ work) }
         ensures version { IfOk result (λ v. v.version ≡ test_version) }
-        ensures right { IfOk result (λ v. IsVerdict v.work.test v.outcome) }
+        ensures right { IfOk result (λ v. IsVerdict v.work.test v.work.model.items v.outcome) }
     {
         let size = work.work().size();
         let piece = Piece::new(1, 1, 0, 0, size, work.share()?);

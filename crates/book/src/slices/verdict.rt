@@ -8,8 +8,9 @@ ghost use Rattle.book.specs.Verdicts.{IsVerdict};
 
 use crate::slices::finding::{Finding, FindingRef};
 use crate::slices::piece::PieceResult;
-use crate::slices::work::{FileVersion, WorkRef};
+use crate::slices::work::WorkRef;
 use candidates::laws;
+use cat_model::FileVersion;
 use std::alloc::{AllocError, Global};
 use std::marker::Model;
 use std::sync::Arc;
@@ -33,7 +34,7 @@ impl Model for Verdict {
 
     ghost view = { λ v. record { work = v.work; version = v.version; outcome = v.found } };
 
-    ghost invariant = { λ v. IsVerdict v.work.test v.found };
+    ghost invariant = { λ v. IsVerdict v.work.test v.work.model.items v.found };
 }
 
 /// A verdict that is kept more than once. Contracts see the verdict.
@@ -79,7 +80,7 @@ impl Verdict {
         ensures work { IfOk result (λ v. v.work ≡ work.now) }
         ensures version { IfOk result (λ v. v.version ≡ version) }
         ensures outcome { IfOk result (λ v. v.outcome ≡ part.now.found) }
-        ensures right { IfOk result (λ v. IsVerdict v.work.test v.outcome) }
+        ensures right { IfOk result (λ v. IsVerdict v.work.test v.work.model.items v.outcome) }
     {
         laws::counting();
         let _size = work.work().size();
@@ -106,7 +107,7 @@ impl Verdict {
 
     /// The files of the model, with their versions.
     pub fn files(&self) -> &[FileVersion]
-        ensures { result.now ≡ self.now.work.model }
+        ensures { result.now ≡ self.now.work.model.files }
     {
         self.work.work().model().files()
     }
@@ -114,7 +115,7 @@ impl Verdict {
     /// What is found over all allowed executions, each counted once.
     pub fn finding(&self) -> &Finding
         ensures outcome { result.now ≡ self.now.outcome }
-        ensures right { IsVerdict self.now.work.test self.now.outcome }
+        ensures right { IsVerdict self.now.work.test self.now.work.model.items self.now.outcome }
     {
         self.found.finding()
     }

@@ -6,33 +6,10 @@ ghost use Rattle.candidates.specs.Faults.{IsSpaceFault};
 ghost use Rattle.book.specs.Parts.{IsAdmitted, test_size};
 
 use candidates::{Space, SpaceFault};
+use cat_model::Model;
 use litmus_c::Test;
 use std::alloc::{AllocError, Global};
-use std::marker::Model;
 use std::sync::Arc;
-use wb_text::Name;
-
-/// A file of a model, with the version that was read.
-#[derive(Drop)]
-pub struct FileVersion {
-    pub name: Name,
-    pub version: u32,
-}
-
-/// A model that has no checks, so that it allows every execution. Contracts see the files that it was read from.
-#[derive(Drop)]
-pub struct EmptyModel {
-    files: Vec<FileVersion>,
-}
-
-impl Model for EmptyModel {
-    ghost use Rattle.std.specs.Prelude.{List};
-    ghost use Rattle.book.specs.declared.slices.work.FileVersion.{FileVersion};
-
-    ghost Value = { List FileVersion };
-
-    ghost view = { λ m. m.files.items };
-}
 
 /// A test that is kept more than once. Contracts see the test.
 #[derive(Drop)]
@@ -40,7 +17,7 @@ pub struct TestRef {
     test: Arc<Test>,
 }
 
-impl Model for TestRef {
+impl std::marker::Model for TestRef {
     ghost use Rattle.std.specs.Arc.{arc_value};
     ghost use Rattle.litmus_c.specs.Tree.{Litmus};
     ghost use Rattle.litmus_c.specs.Codes.{coded_litmus};
@@ -56,11 +33,11 @@ impl Model for TestRef {
 #[derive(Drop)]
 pub struct Work {
     test: TestRef,
-    model: EmptyModel,
+    model: Model,
     space: Space,
 }
 
-impl Model for Work {
+impl std::marker::Model for Work {
     ghost use Rattle.std.specs.Prelude.{◌≡◌};
     ghost use Rattle.candidates.specs.Candidates.{choices_of};
     ghost use Rattle.book.specs.Parts.{IsAdmitted};
@@ -82,7 +59,7 @@ pub struct WorkRef {
     work: Arc<Work>,
 }
 
-impl Model for WorkRef {
+impl std::marker::Model for WorkRef {
     ghost use Rattle.std.specs.Arc.{arc_value};
     ghost use Rattle.book.specs.Works.{Task};
     ghost use Rattle.book.specs.Codes.{coded_task};
@@ -92,22 +69,6 @@ impl Model for WorkRef {
     ghost coded = { coded_task };
 
     ghost view = { λ w. arc_value w.work };
-}
-
-impl EmptyModel {
-    /// The model that was read from these files.
-    pub fn new(files: Vec<FileVersion>) -> Self
-        ensures { result ≡ files.items }
-    {
-        EmptyModel { files }
-    }
-
-    /// The files that were read, the root first.
-    pub fn files(&self) -> &[FileVersion]
-        ensures { result.now ≡ self.now }
-    {
-        &self.files
-    }
 }
 
 impl TestRef {
@@ -139,7 +100,7 @@ impl TestRef {
 
 impl Work {
     /// The test under the model.
-    pub fn new(alloc: Global, test: TestRef, model: EmptyModel) -> Result<Self, SpaceFault>
+    pub fn new(alloc: Global, test: TestRef, model: Model) -> Result<Self, SpaceFault>
         ensures work { IfOk result (λ w. w ≡ record { test = test; model = model }) }
         ensures admitted { IfOk result (λ w. IsAdmitted w.test) }
         // A thread has too many runs, the test has too many candidates, or memory ran out.
@@ -160,7 +121,7 @@ impl Work {
     }
 
     /// The model.
-    pub fn model(&self) -> &EmptyModel
+    pub fn model(&self) -> &Model
         ensures { result.now ≡ self.now.model }
     {
         &self.model
@@ -200,13 +161,12 @@ impl WorkRef {
         &self.work
     }
 
-    /// Whether it is the same test under a model of the same files and versions.
-    #[tactic(auto, using(litmus_c::specs::Exact::litmus_exact))]
+    /// Whether it is the same test under the same model, of the same files and versions.
+    #[tactic(auto, using(litmus_c::specs::Exact::litmus_exact, cat_model::specs::Equality::assembly_exact))]
     pub fn same(&self, other: &WorkRef) -> bool
         ensures { IsTrue result ↔ (self.now ≡ other.now) }
     {
-        self.work().test() == other.work().test()
-            && same_files(self.work().model().files(), other.work().model().files())
+        self.work().test() == other.work().test() && self.work().model() == other.work().model()
     }
 
     /// The same work, kept once more.
@@ -217,27 +177,4 @@ impl WorkRef {
             work: Arc::try_clone(&self.work)?,
         })
     }
-}
-
-impl FileVersion {
-    /// Whether it is the same version of the same file.
-    fn same(&self, other: &FileVersion) -> bool
-        ensures { IsTrue result ↔ (self.now ≡ other.now) }
-    {
-        self.name == other.name && self.version == other.version
-    }
-}
-
-fn same_files(files: &[FileVersion], others: &[FileVersion]) -> bool
-    ensures { IsTrue result ↔ (files.now ≡ others.now) }
-{
-    if files.len() != others.len() {
-        return false;
-    }
-    for i in 0..files.len() {
-        if !files[i].same(&others[i]) {
-            return false;
-        }
-    }
-    true
 }
