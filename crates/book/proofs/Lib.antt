@@ -7,6 +7,5 @@ pub mod Runs
 pub mod Scenes
 pub mod Search
 pub mod Steps
-pub mod Unread
 pub mod Whole
 pub mod Written
