@@ -314,7 +314,7 @@ impl Bench {
             return Ok(Plan::refuse(Refusal::NoJob(number)));
         };
         if job.is_returned() {
-            let verdict = VerdictRef::new(alloc, job.verdict()?)?;
+            let verdict = VerdictRef::new(alloc, job.verdict(job.version())?)?;
             return Ok(Plan::keep(Reply::Verdict(verdict)));
         }
         match self.replaced(job)? {
@@ -451,7 +451,8 @@ impl Bench {
                 version,
             }));
         }
-        replaced_file(&self.cats, work.model().files())
+        let files = work.model().files();
+        replaced_file(&self.cats, files)
     }
 
     /// Does it, or nothing.

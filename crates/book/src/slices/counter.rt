@@ -70,6 +70,7 @@ impl Counter {
     }
 
     /// Counts an execution, if the work's model allows it.
+    #[tactic(auto, using(crate::proofs::Counted::weighed_allowed))]
     fn weigh(
         &mut self,
         alloc: Global,
