@@ -1,6 +1,6 @@
 -- Counts and verdicts.
 use Rattle.std.proofs.Common.{◌≡◌, ℕ, zero, suc, ◌+◌, ◌-◌, ◌≤◌, ◌^◌, List, [], ◌∷◌, ◌++◌, length, Bool, true, false, cond, not, count_by, map, Option, None, Some, unwrap_or, refl, sym, ap, ◌∙◌, subst, inl, inr, append-nil, arith}
-use Rattle.std.specs.Prelude.{slice_get, Result, Ok, Err, IfOk, ◌↔◌, ◌⊎◌}
+use Rattle.std.specs.Prelude.{slice_get, Result, Ok, Err, IfOk, fold, ◌↔◌, ◌⊎◌}
 use Rattle.std.specs.BTreeSet.{insert_key}
 use Rattle.std.specs.List.Sorted.{IsStrictlySortedBy}
 use Rattle.std.proofs.lemmas.List.Sums.{fold-append, sum_by-append}
@@ -24,7 +24,7 @@ use Rattle.book.specs.Slots.{slot_of, slot_value}
 use Rattle.book.specs.Counters.{collected, outcome_of, IsCount, IsCountOf, IsOneMore, IsWeighed}
 use Rattle.book.specs.Verdicts.{Tells, IsVerdict, IsRaised}
 use Rattle.book.specs.Works.{Task}
-use Rattle.book.proofs.Rows.{row_cmp, from_collected, in_collected, no_repeats, are_sorted}
+use Rattle.book.proofs.Rows.{row_cmp, from_collected, collected_old, in_collected, no_repeats, are_sorted}
 
 -- the slots of the places have their final values
 pub row_is : (t : Litmus) (x : Execution) (places : List Place) → map (slot_value x) (map (slot_of t) places) ≡ obs t places x
@@ -176,7 +176,7 @@ pub weighed_allowed : (t : Litmus) (items : List Clause) (places : List Place) (
     → new.positive ≡ old.positive + cond (holds_in (bindings places state) t.condition.formula) 1 0
     → new.negative ≡ old.negative + cond (holds_in (bindings places state) t.condition.formula) 0 1
     → new.states.keys ≡ insert_key row_cmp old.states.keys state
-    → ((name : Word) → IsIn name new.flags.keys ↔ (IsIn name old.flags.keys ⊎ IsIn name flags))
+    → new.flags.keys ≡ fold (λ keys name. insert_key row_cmp keys name) old.flags.keys flags
     → IsWeighed t items places x old new
 weighed_allowed t items places x state old new flags allowed raised e p n s f =
     let is : state ≡ obs t places x = e ∙ row_is t x places in
@@ -187,8 +187,15 @@ weighed_allowed t items places x state old new flags allowed raised e p n s f =
       negative = subst N is n;
       states = s ∙ ap (insert_key row_cmp old.states.keys) is;
       flags = λ name.
-          ((λ q. elim ((f name).0 q) [ inl old' ↦ inl old' | inr among ↦ inr (raised.only name among) ]),
-          (λ h. (f name).1 (elim h [ inl old' ↦ inl old' | inr r ↦ inr (raised.all name r) ])));
+          ((λ q. elim (from_collected (λ (y : Word). y) name old.flags.keys flags (let P : List Word → Type 0 = λ ks. IsIn name ks in subst P f q)) [
+            | inl before ↦ inl before
+            | inr r ↦ inr (raised.only name (let P : Word → Type 0 = λ y. IsIn y flags in subst P (sym r.2) r.1))
+          ]),
+          (λ h. let P : List Word → Type 0 = λ ks. IsIn name ks in
+          subst P (sym f) (elim h [
+            | inl before ↦ collected_old (λ (y : Word). y) name old.flags.keys flags before
+            | inr r ↦ in_collected (λ (y : Word). y) old.flags.keys flags name (raised.all name r)
+          ])));
     })
 
 found_same : (f g : ℕ → Option Execution) → ((i : ℕ) → f i ≡ g i) → (n : ℕ) → found f n ≡ found g n

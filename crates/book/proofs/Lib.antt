@@ -2,6 +2,7 @@ pub mod Bindings
 pub mod Counted
 pub mod Cuts
 pub mod Examples
+pub mod Readings
 pub mod Rows
 pub mod Runs
 pub mod Scenes

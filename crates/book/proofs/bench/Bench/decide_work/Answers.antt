@@ -26,7 +26,7 @@ returns-in-Err-TooManyRuns-clause-step c =
     let P : SpaceFault → Type 0 = λ f. IsSpaceFault c.in_ok-share.field-0 f in
     let cause : IsSpaceFault c.in_ok-share.field-0 fault = subst P c.in-Err-TooManyRuns.field-0-is c.in-Err-TooManyRuns.ensures.fault in
     let Q : ℕ → Type 0 = λ k. Step s 0 (Ask c.args.test.now c.args.cat.now) (Refused (Space (TooManyRuns k))) s in
-    rw c.refuse-in-Err-TooManyRuns.ensures (subst Q (sym c.in-Err-TooManyRuns.thread-is) (no_space s 0 c.args.test.now c.args.cat.now c.args.tree.now c.in_ok-share.field-0 c.args.model fault c.requires.open c.requires.there c.requires.model c.in_ok-share.ensures cause (λ e. cc)))
+    rw c.refuse.ensures (subst Q (sym c.in-Err-TooManyRuns.thread-is) (no_space s 0 c.args.test.now c.args.cat.now c.args.tree.now c.in_ok-share.field-0 c.args.model fault c.requires.open c.requires.there c.requires.model c.in_ok-share.ensures cause (λ e. cc)))
 
 pub returns-in-Err-TooManyCandidates-clause-step : goal.returns-in-Err-TooManyCandidates-clause-step
 returns-in-Err-TooManyCandidates-clause-step c =

@@ -1,8 +1,18 @@
 use Rattle.std.proofs.Common.{◌≡◌, None, Some, map, sym, ap, ◌∙◌, arith}
 use Rattle.candidates.specs.Candidates.{At, graph_at}
-use Rattle.book.proofs.Counted.{next_some, next_none, few_weighed}
+use Rattle.book.specs.Slots.{slot_of}
+use Rattle.book.proofs.Counted.{counted_none_yet, next_some, next_none, few_weighed}
 use Rattle.book.proofs.slices.counter.count.Goals as goal
 use Rattle.book.proofs.slices.counter.count.Goals.{in-Some+in_ok-weigh, in_default}
+
+pub loop-number-init : goal.loop-number-init
+loop-number-init c = record {
+  counted = counted_none_yet c.args.work.now.test c.args.work.now.model.items c.args.places.now (At c.args.work.now.test) c.args.from c.new-counter.result c.new-counter.ensures.positive c.new-counter.ensures.negative c.new-counter.ensures.states c.new-counter.ensures.flags;
+  few = omega (arith, c.new-counter.ensures.positive, c.new-counter.ensures.negative);
+  slots = c.in_ok-slots.ensures ∙ ap (λ t. map (slot_of t) c.args.places.now) c.test.ensures;
+  order = omega arith;
+  within = c.requires.order;
+}
 
 pub loop-number-preserved : goal.loop-number-preserved
 loop-number-preserved c =

@@ -1,7 +1,8 @@
-use Rattle.std.proofs.Common.{◌⊎◌, ℕ, List, take}
-use Rattle.std.specs.Prelude.{◌↔◌}
-use Rattle.listings.specs.Lists.{IsIn}
+use Rattle.std.proofs.Common.{◌≡◌, drop}
+use Rattle.std.specs.Prelude.{fold}
+use Rattle.std.specs.BTreeSet.{insert_key}
+use Rattle.book.proofs.Rows.{row_cmp}
 use Rattle.book.proofs.slices.counter.raise.Given as goal
 
 abbrev pub invariant-loop-name : goal.invariant-loop-name
-invariant-loop-name l = (name : List ℕ) → IsIn name l.flags.now.keys ↔ (IsIn name l.flags.entry.keys ⊎ IsIn name (take l.name-index l.names))
+invariant-loop-name l = fold (λ keys name. insert_key row_cmp keys name) l.flags.keys (drop l.name-index l.names) ≡ fold (λ keys name. insert_key row_cmp keys name) l.fn.flags.keys l.names
