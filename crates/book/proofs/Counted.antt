@@ -79,18 +79,20 @@ of_push y (z ∷ zs) x (inl e) = inl (inl e)
 of_push y (z ∷ zs) x (inr p) = elim (of_push y zs x p) [ inl q ↦ inl (inr q) | inr e ↦ inr e ]
 
 raised-push : (items : List Clause) (xs : List Execution) (x : Execution) (name : Word) → IsRaised items (xs ++ x ∷ []) name ↔ (IsRaised items xs name ⊎ Raised items x name)
-raised-push items xs x name =
-    ((λ r. elim (of_push r.0 xs x r.1) [ inl p ↦ inl (r.0, p, r.2) | inr e ↦ inr (let P : Execution → Type 0 = λ y. Raised items y name in subst P e r.2) ]),
-    (λ h. elim h [ inl r ↦ (r.0, in_front r.0 xs x r.1, r.2) | inr q ↦ (x, at_last xs x, q) ]))
+raised-push items xs x name = (
+  (λ r. elim (of_push r.0 xs x r.1) [ inl p ↦ inl (r.0, p, r.2) | inr e ↦ inr (let P : Execution → Type 0 = λ y. Raised items y name in subst P e r.2) ]),
+  (λ h. elim h [ inl r ↦ (r.0, in_front r.0 xs x r.1, r.2) | inr q ↦ (x, at_last xs x, q) ]),
+)
 
 more : (t : Litmus) (items : List Clause) (places : List Place) (xs : List Execution) (x : Execution) (old new : Counter) → IsCount t items places xs old → IsOneMore t items places x old new → IsCount t items places (xs ++ x ∷ []) new
 more t items places xs x old new h m = record {
   positive = omega (arith, m.positive, h.positive, count_by-push (has t places) xs x);
   negative = omega (arith, m.negative, h.negative, turned (has t places x) 1 0, count_by-push (λ y. not (has t places y)) xs x);
   states = m.states ∙ ap (λ rows. insert_key row_cmp rows (obs t places x)) h.states ∙ sym (fold-append (λ rows y. insert_key row_cmp rows (obs t places y)) [] xs (x ∷ []));
-  flags = λ name.
-      ((λ p. (raised-push items xs x name).1 (elim ((m.flags name).0 p) [ inl q ↦ inl ((h.flags name).0 q) | inr r ↦ inr r ])),
-      (λ r. (m.flags name).1 (elim ((raised-push items xs x name).0 r) [ inl q ↦ inl ((h.flags name).1 q) | inr p ↦ inr p ])));
+  flags = λ name. (
+    (λ p. (raised-push items xs x name).1 (elim ((m.flags name).0 p) [ inl q ↦ inl ((h.flags name).0 q) | inr r ↦ inr r ])),
+    (λ r. (m.flags name).1 (elim ((raised-push items xs x name).0 r) [ inl q ↦ inl ((h.flags name).1 q) | inr p ↦ inr p ])),
+  );
 }
 
 counted : (t : Litmus) (items : List Clause) (places : List Place) (xs : List Execution) (x : Execution) (old new : Counter) → IsCountOf t items places xs old → IsWeighed t items places x old new → IsCountOf t items places (xs ++ x ∷ []) new
@@ -182,21 +184,25 @@ weighed_allowed t items places x state old new flags allowed raised e p n s f =
     let is : state ≡ obs t places x = e ∙ row_is t x places in
     let P : List ℕ → Type 0 = λ r. new.positive ≡ old.positive + cond (holds_in (bindings places r) t.condition.formula) 1 0 in
     let N : List ℕ → Type 0 = λ r. new.negative ≡ old.negative + cond (holds_in (bindings places r) t.condition.formula) 0 1 in
-    inl (allowed, record {
-      positive = subst P is p;
-      negative = subst N is n;
-      states = s ∙ ap (insert_key row_cmp old.states.keys) is;
-      flags = λ name.
-          ((λ q. elim (from_collected (λ (y : Word). y) name old.flags.keys flags (let P : List Word → Type 0 = λ ks. IsIn name ks in subst P f q)) [
+    inl (
+      allowed,
+      record {
+        positive = subst P is p;
+        negative = subst N is n;
+        states = s ∙ ap (insert_key row_cmp old.states.keys) is;
+        flags = λ name. (
+          (λ q. elim (from_collected (λ (y : Word). y) name old.flags.keys flags (let P : List Word → Type 0 = λ ks. IsIn name ks in subst P f q)) [
             | inl before ↦ inl before
             | inr r ↦ inr (raised.only name (let P : Word → Type 0 = λ y. IsIn y flags in subst P (sym r.2) r.1))
           ]),
           (λ h. let P : List Word → Type 0 = λ ks. IsIn name ks in
-          subst P (sym f) (elim h [
-            | inl before ↦ collected_old (λ (y : Word). y) name old.flags.keys flags before
-            | inr r ↦ in_collected (λ (y : Word). y) old.flags.keys flags name (raised.all name r)
-          ])));
-    })
+              subst P (sym f) (elim h [
+                | inl before ↦ collected_old (λ (y : Word). y) name old.flags.keys flags before
+                | inr r ↦ in_collected (λ (y : Word). y) old.flags.keys flags name (raised.all name r)
+              ])),
+        );
+      },
+    )
 
 found_same : (f g : ℕ → Option Execution) → ((i : ℕ) → f i ≡ g i) → (n : ℕ) → found f n ≡ found g n
 found_same f g h zero = refl

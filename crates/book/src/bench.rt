@@ -13,9 +13,7 @@ ghost use Rattle.book.specs.Workbench.{empty, test_of, job_of, claim_of, is_clai
 use crate::jobs::Job;
 use crate::limits::Limits;
 use crate::names::{TestSlot, Tests};
-use crate::reading::{
-    is_cat_memory, is_memory, is_model_memory, model_of, read_file, read_litmus,
-};
+use crate::reading::{is_cat_memory, is_memory, is_model_memory, model_of, read_file, read_litmus};
 use crate::records::{Command, Live, Refusal, Replacement, Reply, SourceKind, Text};
 use crate::slices::{Piece, PieceResult, TestRef, VerdictRef, Work, WorkRef};
 use candidates::SpaceFault;
@@ -90,12 +88,7 @@ impl Plan {
 }
 
 /// Stores a file, or changes nothing.
-fn put_file(
-    files: &mut Files,
-    name: Name,
-    version: u32,
-    file: CatFile,
-) -> Result<(), AllocError>
+fn put_file(files: &mut Files, name: Name, version: u32, file: CatFile) -> Result<(), AllocError>
     requires { version_of name files.old < version }
     ensures ok { OnOk result (files.new ≡ store (record { name = name; version = version; file = Some file }) files.old) }
     ensures err { OnErr result (files.new ≡ files.old) }
