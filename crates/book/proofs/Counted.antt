@@ -1,6 +1,6 @@
 -- Counts and verdicts.
 use Rattle.std.proofs.Common.{◌≡◌, ℕ, zero, suc, ◌+◌, ◌-◌, ◌≤◌, ◌^◌, List, [], ◌∷◌, ◌++◌, length, Bool, true, false, cond, not, count_by, map, Option, None, Some, unwrap_or, refl, sym, ap, ◌∙◌, subst, inl, inr, append-nil, arith}
-use Rattle.std.specs.Prelude.{slice_get, Result, Ok, Err, IfOk, fold, ◌↔◌, ◌⊎◌}
+use Rattle.std.specs.Prelude.{slice_get, Result, Ok, Err, IfOk, OnOk, fold, IsTrue, ◌↔◌, ◌⊎◌}
 use Rattle.std.specs.BTreeSet.{insert_key}
 use Rattle.std.specs.List.Sorted.{IsStrictlySortedBy}
 use Rattle.std.proofs.lemmas.List.Sums.{fold-append, sum_by-append}
@@ -172,37 +172,45 @@ pub few_weighed : (t : Litmus) (items : List Clause) (places : List Place) (x : 
 few_weighed t items places x old new k h (inl w) = few (has t places x) _ _ _ _ k h w.1.positive w.1.negative
 few_weighed t items places x old new k h (inr w) = let P : Counter → Type 0 = λ c. c.positive + c.negative ≤ k + 1 in subst P (sym w.1) (omega (arith, h))
 
--- one execution is weighed
-pub weighed_allowed : (t : Litmus) (items : List Clause) (places : List Place) (x : Execution) (state : List ℕ) (old new : Counter) (flags : List Word) → Allowed items x → Lists (Raised items x) flags
+-- one execution more, from its final state and the flags that it raises
+pub one_more : (t : Litmus) (items : List Clause) (places : List Place) (x : Execution) (state : List ℕ) (old new : Counter) (flags : List Word) → Lists (Raised items x) flags
     → state ≡ map (slot_value x) (map (slot_of t) places)
     → new.positive ≡ old.positive + cond (holds_in (bindings places state) t.condition.formula) 1 0
     → new.negative ≡ old.negative + cond (holds_in (bindings places state) t.condition.formula) 0 1
     → new.states.keys ≡ insert_key row_cmp old.states.keys state
     → new.flags.keys ≡ fold (λ keys name. insert_key row_cmp keys name) old.flags.keys flags
-    → IsWeighed t items places x old new
-weighed_allowed t items places x state old new flags allowed raised e p n s f =
+    → IsOneMore t items places x old new
+one_more t items places x state old new flags raised e p n s f =
     let is : state ≡ obs t places x = e ∙ row_is t x places in
     let P : List ℕ → Type 0 = λ r. new.positive ≡ old.positive + cond (holds_in (bindings places r) t.condition.formula) 1 0 in
     let N : List ℕ → Type 0 = λ r. new.negative ≡ old.negative + cond (holds_in (bindings places r) t.condition.formula) 0 1 in
-    inl (
-      allowed,
-      record {
-        positive = subst P is p;
-        negative = subst N is n;
-        states = s ∙ ap (insert_key row_cmp old.states.keys) is;
-        flags = λ name. (
-          (λ q. elim (from_collected (λ (y : Word). y) name old.flags.keys flags (let P : List Word → Type 0 = λ ks. IsIn name ks in subst P f q)) [
+    record {
+      positive = subst P is p;
+      negative = subst N is n;
+      states = s ∙ ap (insert_key row_cmp old.states.keys) is;
+      flags = λ name.
+          ((λ q. elim (from_collected (λ (y : Word). y) name old.flags.keys flags (let P : List Word → Type 0 = λ ks. IsIn name ks in subst P f q)) [
             | inl before ↦ inl before
             | inr r ↦ inr (raised.only name (let P : Word → Type 0 = λ y. IsIn y flags in subst P (sym r.2) r.1))
           ]),
           (λ h. let P : List Word → Type 0 = λ ks. IsIn name ks in
-              subst P (sym f) (elim h [
-                | inl before ↦ collected_old (λ (y : Word). y) name old.flags.keys flags before
-                | inr r ↦ in_collected (λ (y : Word). y) old.flags.keys flags name (raised.all name r)
-              ])),
-        );
-      },
-    )
+          subst P (sym f) (elim h [
+            | inl before ↦ collected_old (λ (y : Word). y) name old.flags.keys flags before
+            | inr r ↦ in_collected (λ (y : Word). y) old.flags.keys flags name (raised.all name r)
+          ])));
+    }
+
+pub on_ok : {X E P Q : Type 0} (r : Result X E) → (P → Q) → OnOk r P → OnOk r Q
+on_ok (Ok x) f p = f p
+on_ok (Err e) f p = tt
+
+-- an execution is counted where the model allows it
+
+pub weighed_allowed : (t : Litmus) (items : List Clause) (places : List Place) (x : Execution) (old new : Counter) (allowed : Bool) → (IsTrue allowed ↔ Allowed items x) → allowed ≡ true → IsOneMore t items places x old new → IsWeighed t items places x old new
+weighed_allowed t items places x old new allowed judged is more = inl (judged.0 is, more)
+
+pub weighed_forbidden : (t : Litmus) (items : List Clause) (places : List Place) (x : Execution) (old new : Counter) (allowed : Bool) → (IsTrue allowed ↔ Allowed items x) → allowed ≡ false → new ≡ old → IsWeighed t items places x old new
+weighed_forbidden t items places x old new allowed judged is same = inr ((λ a. (let is' = judged.1 a in cc)), same)
 
 found_same : (f g : ℕ → Option Execution) → ((i : ℕ) → f i ≡ g i) → (n : ℕ) → found f n ≡ found g n
 found_same f g h zero = refl

@@ -6,9 +6,11 @@ ghost use Rattle.std.specs.Cmp.Lexicographic.{slice_cmp};
 ghost use Rattle.std.specs.Ordering.{nat_cmp};
 ghost use Rattle.conditions.specs.Conditions.{formula_of};
 ghost use Rattle.conditions.specs.States.{bindings, holds_in};
-ghost use Rattle.book.specs.Counters.{IsCountOf, IsWeighed};
+ghost use Rattle.cat_eval.specs.Judging.{Raised};
+ghost use Rattle.listings.specs.Lists.{Lists};
+ghost use Rattle.book.specs.Counters.{IsCountOf, IsOneMore, IsWeighed};
 ghost use Rattle.book.specs.Parts.{IsRange, executions_in};
-ghost use Rattle.book.specs.Slots.{slot_of};
+ghost use Rattle.book.specs.Slots.{slot_of, slot_value};
 
 use crate::slices::row::Row;
 use crate::slices::slot::{Slot, row, slots};
@@ -69,6 +71,7 @@ impl Counter {
     }
 
     /// Counts an execution, if the work's model allows it.
+    #[tactic(auto, using(crate::proofs::Counted::weighed_allowed, crate::proofs::Counted::weighed_forbidden))]
     fn weigh(
         &mut self,
         alloc: Global,
@@ -85,10 +88,28 @@ impl Counter {
         let judgement = judge(alloc, work.model(), &GraphView::of(alloc, graph)?)?;
         if judgement.allowed() {
             let state = row(alloc, slots, graph)?;
-            self.add(work.test().condition().prop(), places, state)?;
-            raise(&mut self.flags, judgement.flags())?;
+            self.include(work, places, graph, state, judgement.flags())?;
         }
         Ok(())
+    }
+
+    /// Counts an execution with this final state, which raises these flags.
+    fn include(
+        &mut self,
+        work: &Work,
+        places: &[Place],
+        graph: &Graph,
+        state: Row,
+        flags: &[Name],
+    ) -> Result<(), AllocError>
+        requires few { self.old.positive + self.old.negative < 2 ^ 64 - 1 }
+        requires state { state ≡ map (slot_value graph.now) (map (slot_of work.now.test) places.now) }
+        requires raised { Lists (Raised work.now.model.items graph.now) flags.now }
+        ensures { OnOk result
+            (IsOneMore work.now.test work.now.model.items places.now graph.now self.old self.new) }
+    {
+        self.add(work.test().condition().prop(), places, state)?;
+        raise(&mut self.flags, flags)
     }
 
     /// Counts one more final state.
