@@ -32,6 +32,7 @@ fn root_name(alloc: Global) -> Result<Name, AllocError>
 }
 
 /// The file under the root's name, at version 1.
+#[tactic(auto, unfolding(cat_model::specs::Files::entry_of, cat_model::specs::Files::place_of))]
 fn files_of(alloc: Global, root: Name, file: CatFile) -> Result<Files, AllocError>
     requires { root ≡ main_name }
     ensures { IfOk result (λ fs. fs ≡ files_with file) }
