@@ -2,11 +2,11 @@ pub mod Bindings
 pub mod Counted
 pub mod Cuts
 pub mod Examples
+pub mod Readings
 pub mod Rows
 pub mod Runs
 pub mod Scenes
 pub mod Search
 pub mod Steps
-pub mod Unread
 pub mod Whole
 pub mod Written

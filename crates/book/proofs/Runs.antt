@@ -11,7 +11,7 @@ use Rattle.book.specs.Workbench.{Workbench, empty}
 
 pub changed-limits : (s : Workbench) (change : Change) → (changed s change).limits ≡ s.limits
 changed-limits s Keep = refl
-changed-limits s (PutCat name slot) = refl
+changed-limits s (PutCat name version file) = refl
 changed-limits s (PutTest name slot) = refl
 changed-limits s (Open job) = refl
 changed-limits s (Hold claim) = refl
@@ -20,7 +20,7 @@ changed-limits s (Take number seat job part) = refl
 
 pub changed-last_job : (s : Workbench) (change : Change) → IsReady s change → (changed s change).last_job ≤ s.last_job + 1
 changed-last_job s Keep h = omega arith
-changed-last_job s (PutCat name slot) h = omega arith
+changed-last_job s (PutCat name version file) h = omega arith
 changed-last_job s (PutTest name slot) h = omega arith
 changed-last_job s (Open job) h = omega (arith, h)
 changed-last_job s (Hold claim) h = omega arith

@@ -1,9 +1,9 @@
 -- Computed examples of steps and journals.
-use Rattle.std.specs.Prelude.{◌≡◌, refl, true, [], ◌∷◌, None, codes}
+use Rattle.std.specs.Prelude.{◌≡◌, refl, true, [], ◌∷◌, codes}
 use Rattle.std.proofs.Common.{inr}
 use Rattle.book.specs.Jobs.{Slice, mark}
 use Rattle.book.specs.Step.{Step, Legal}
-use Rattle.book.specs.Workbench.{empty, is_there, model_of}
+use Rattle.book.specs.Workbench.{empty}
 use Rattle.book.specs.declared.limits.Limits.{Limits}
 use Rattle.book.specs.declared.records.Refusal.TheVariants.{NoJob, NoTest}
 use Rattle.book.specs.declared.records.Reply.TheVariants.{Nothing, Refused}
@@ -25,13 +25,6 @@ nothing_to_claim = inr (refl, (refl, refl))
 -- so this journal is legal
 pub two_calls : Legal limits (record { place = 0; seat = 3; said = Poll 1; reply = Refused (NoJob 1) } ∷ record { place = 1; seat = 4; said = Claim; reply = Nothing } ∷ [])
 two_calls = (empty limits, (refl, (empty limits, inr (refl, (refl, refl)), (refl, (empty limits, inr (refl, (refl, refl)), refl)))))
-
--- three files are built in
-pub built_in : is_there [] (codes "stdlib.cat") ≡ true
-built_in = refl
-
-pub not_built_in : model_of [] (codes "rc11.cat") ≡ None
-not_built_in = refl
 
 -- the second of two slices is returned
 pub second : (a b : Slice) → mark 1 (a ∷ b ∷ []) ≡ a ∷ record b { returned = true } ∷ []

@@ -5,13 +5,13 @@ use Rattle.std.specs.Prelude.{if◌then◌else◌, is_some, option_copied, Match
 use Rattle.std.specs.List.{find, list_any}
 use Rattle.std.proofs.Math.Seq.{drop-cons}
 use Rattle.listings.specs.Lists.{IsIn}
-use Rattle.litmus_c.specs.Tree.{Word}
-use Rattle.book.specs.declared.names.CatSlot.{CatSlot}
+use Rattle.cat_model.specs.Files.{version_of}
+use Rattle.cat_model.specs.declared.files.Entry.{Entry}
+use Rattle.cat_model.specs.declared.model.FileVersion.{FileVersion}
 use Rattle.book.specs.declared.records.Replacement.{Replacement}
 use Rattle.book.specs.declared.records.SourceKind.TheVariants.{Cat}
-use Rattle.book.specs.declared.slices.work.FileVersion.{FileVersion}
 use Rattle.book.specs.Jobs.{Job, marked}
-use Rattle.book.specs.Workbench.{job_of, marked_in, cat_version, replaced_file}
+use Rattle.book.specs.Workbench.{job_of, marked_in, replaced_file}
 
 here : {X : Type 0} (xs : List X) (i : ℕ) (x : X) → i < length xs → x ≡ get_or xs i x → drop i xs ≡ x ∷ drop (i + 1) xs
 here xs i x h e = drop-cons xs i x h ∙ rw (← e, add-one) refl
@@ -87,19 +87,19 @@ marked_in-set xs i x number slice h e b k = set_here xs i _ h ∙ sym (k ∙ ap 
 
 -- replaced files, from the front
 
-pub replaced_file-found : (cats : List (Word × CatSlot)) (fs : List FileVersion) (i : ℕ) (f : FileVersion) → i < length fs → f ≡ get_or fs i f → (cat_version cats f.name == f.version) ≡ false → replaced_file cats (drop i fs) ≡ Some (record { kind = Cat; name = f.name; version = cat_version cats f.name })
+pub replaced_file-found : (cats : List Entry) (fs : List FileVersion) (i : ℕ) (f : FileVersion) → i < length fs → f ≡ get_or fs i f → (version_of f.name cats == f.version) ≡ false → replaced_file cats (drop i fs) ≡ Some (record { kind = Cat; name = f.name; version = version_of f.name cats })
 replaced_file-found cats fs i f h e b = ap (replaced_file cats) (here fs i f h e) ∙ if_false _ _ _ b
 
-pub replaced_file-next : (cats : List (Word × CatSlot)) (fs : List FileVersion) (i : ℕ) (f : FileVersion) → i < length fs → f ≡ get_or fs i f → (cat_version cats f.name == f.version) ≡ true → replaced_file cats (drop i fs) ≡ replaced_file cats (drop (i + 1) fs)
+pub replaced_file-next : (cats : List Entry) (fs : List FileVersion) (i : ℕ) (f : FileVersion) → i < length fs → f ≡ get_or fs i f → (version_of f.name cats == f.version) ≡ true → replaced_file cats (drop i fs) ≡ replaced_file cats (drop (i + 1) fs)
 replaced_file-next cats fs i f h e b = ap (replaced_file cats) (here fs i f h e) ∙ if_true _ _ _ b
 
-any_file : (b : Bool) (cats : List (Word × CatSlot)) (r : Replacement) (fs : List FileVersion) → list_any (λ f. not (cat_version cats f.name == f.version)) fs ≡ is_some (replaced_file cats fs) → (not b || list_any (λ f. not (cat_version cats f.name == f.version)) fs) ≡ is_some (if b then replaced_file cats fs else Some r)
+any_file : (b : Bool) (cats : List Entry) (r : Replacement) (fs : List FileVersion) → list_any (λ f. not (version_of f.name cats == f.version)) fs ≡ is_some (replaced_file cats fs) → (not b || list_any (λ f. not (version_of f.name cats == f.version)) fs) ≡ is_some (if b then replaced_file cats fs else Some r)
 any_file true cats r fs e = e
 any_file false cats r fs e = refl
 
-pub any_replaced : (cats : List (Word × CatSlot)) (fs : List FileVersion) → list_any (λ f. not (cat_version cats f.name == f.version)) fs ≡ is_some (replaced_file cats fs)
+pub any_replaced : (cats : List Entry) (fs : List FileVersion) → list_any (λ f. not (version_of f.name cats == f.version)) fs ≡ is_some (replaced_file cats fs)
 any_replaced cats [] = refl
-any_replaced cats (f ∷ fs) = any_file (cat_version cats f.name == f.version) cats _ fs (any_replaced cats fs)
+any_replaced cats (f ∷ fs) = any_file (version_of f.name cats == f.version) cats _ fs (any_replaced cats fs)
 
 -- an option by cases
 pub match_same : {X : Type 0} (o r : Option X) → o ≡ r → MatchOption o (r ≡ None) (λ x. r ≡ Some x)

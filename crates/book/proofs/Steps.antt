@@ -4,6 +4,14 @@ use Rattle.std.specs.Prelude.{slice_get}
 use Rattle.std.specs.Str.{bytes_eq}
 use Rattle.indexmap.specs.IndexMap.{insert_entry}
 use Rattle.std.specs.List.{find}
+use Rattle.cat_model.specs.Faults.{IsCause}
+use Rattle.cat_model.specs.Files.{version_of, store}
+use Rattle.cat_model.specs.Models.{Assembly}
+use Rattle.cat_model.specs.declared.fault.ModelFault.{ModelFault}
+use Rattle.cat_syntax.specs.Reads.{Reads as ReadsCat}
+use Rattle.cat_syntax.specs.Tree.{File}
+use Rattle.cat_syntax.specs.declared.fault.CatFault.{CatFault}
+use Rattle.cat_syntax.specs.declared.fault.CatFault.TheVariants as of_cat
 use Rattle.litmus_c.specs.Reads.{Reads, IsRefused}
 use Rattle.litmus_c.specs.Tree.{Word, Litmus}
 use Rattle.litmus_c.specs.declared.fault.TestFault.{TestFault}
@@ -11,46 +19,40 @@ use Rattle.litmus_c.specs.declared.fault.TestFault.TheVariants as of_test
 use Rattle.candidates.specs.Faults.{IsSpaceFault}
 use Rattle.candidates.specs.declared.fault.SpaceFault.{SpaceFault}
 use Rattle.candidates.specs.declared.fault.SpaceFault.TheVariants as of_space
-use Rattle.book.specs.CatFaults.{IsCatRefused}
 use Rattle.book.specs.Changes.{FitsJob}
 use Rattle.book.specs.Jobs as jobs
 use Rattle.book.specs.Jobs.{Slice, done, is_done, marked}
 use Rattle.book.specs.Judgements.{Judged}
 use Rattle.book.specs.Lines.{returned}
 use Rattle.book.specs.Parts.{IsAdmitted, test_size, Part, Portion}
-use Rattle.book.specs.Step.{Step, IsCat, Asks, AsksUnder, Polls, Returns, ReturnsTo, HasRange, IsOwn, ended, taken}
+use Rattle.book.specs.Step.{Step, Asks, IsModelOf, Polls, Returns, ReturnsTo, HasRange, IsOwn, ended, taken}
 use Rattle.book.specs.Verdicts.{IsVerdict}
-use Rattle.book.specs.Workbench.{Workbench, cat_version, test_of, test_version, model_of, job_of, claim_of, replaced, is_free, free_among, has_free}
+use Rattle.book.specs.Workbench.{Workbench, test_of, test_version, job_of, claim_of, replaced, is_free, free_among, has_free}
 use Rattle.book.specs.Works.{Task}
-use Rattle.book.specs.declared.names.CatSlot.{CatSlot}
-use Rattle.book.specs.declared.reading.CatFault.{CatFault}
-use Rattle.book.specs.declared.reading.CatFault.TheVariants as of_cat
 use Rattle.book.specs.declared.records.Live.{Live}
-use Rattle.book.specs.declared.records.ModelFault.TheVariants.{NoCat}
 use Rattle.book.specs.declared.records.Replacement.{Replacement}
 use Rattle.book.specs.declared.records.Refusal.TheVariants.{ReadingTest, ReadingCat, VersionsSpent, NoTest, Model, Space, JobsFull, NoJob, NoClaim, Replaced, Stranger, ClaimsSpent}
 use Rattle.book.specs.declared.records.Reply.{Reply}
 use Rattle.book.specs.declared.records.Reply.TheVariants.{Version, Job, Pending, Verdict, Piece, Nothing, Taken, Refused}
 use Rattle.book.specs.declared.records.Returned.{Returned}
 use Rattle.book.specs.declared.records.Said.TheVariants.{PutCat, PutTest, Ask, Poll, Claim, Return}
-use Rattle.book.specs.declared.slices.work.FileVersion.{FileVersion}
 use Rattle.book.proofs.Cuts.{whole_cut}
 use Rattle.book.proofs.Search.{find_is, find_none, any_is}
 
 -- putting
 
-pub cat_unread : (s : Workbench) (seat : ℕ) (name : Word) (text : List ℕ) (fault : CatFault) → s.closed ≡ false → (IsCat text → fault ≡ of_cat.NoMemory) → IsCatRefused text fault → fault ≢ of_cat.NoMemory → Step s seat (PutCat name text) (Refused (ReadingCat fault)) s
-cat_unread s seat name text fault open' only cause not = inr (open', ((λ is. not (only is)), not, cause, refl))
+pub cat_unread : (s : Workbench) (seat : ℕ) (name : Word) (text : List ℕ) (fault : CatFault) → s.closed ≡ false → ((f : File) → ReadsCat text f → fault ≡ of_cat.NoMemory) → fault ≢ of_cat.NoMemory → Step s seat (PutCat name text) (Refused (ReadingCat fault)) s
+cat_unread s seat name text fault open' only not = inr (open', ((λ f reads. not (only f reads)), not, refl))
 
-pub cat_spent : (s : Workbench) (seat : ℕ) (name n : Word) (text : List ℕ) (version : ℕ) → s.closed ≡ false → IsCat text → version ≡ cat_version s.cats name → s.limits.versions ≤ version → n ≡ name → Step s seat (PutCat name text) (Refused (VersionsSpent n)) s
-cat_spent s seat name n text version open' is v spent e = let P : ℕ → Type 0 = λ k. s.limits.versions ≤ k in inr (open', (is, subst P v spent, e, refl))
+pub cat_spent : (s : Workbench) (seat : ℕ) (name n : Word) (text : List ℕ) (f : File) (version : ℕ) → s.closed ≡ false → ReadsCat text f → version ≡ version_of name s.cats → s.limits.versions ≤ version → n ≡ name → Step s seat (PutCat name text) (Refused (VersionsSpent n)) s
+cat_spent s seat name n text f version open' reads v spent e = let P : ℕ → Type 0 = λ k. s.limits.versions ≤ k in inr (open', (f, reads, subst P v spent, e, refl))
 
-pub cat_put : (s : Workbench) (seat : ℕ) (name n m : Word) (text : List ℕ) (version : ℕ) → s.closed ≡ false → IsCat text → version ≡ cat_version s.cats name → version < s.limits.versions → n ≡ name → m ≡ name
-    → Step s seat (PutCat name text) (Version n (version + 1)) (record s { cats = insert_entry bytes_eq s.cats m (record { version = version + 1; is_loaded = true }) })
-cat_put s seat name n m text version open' is v room e f =
-    let slot : CatSlot = record { version = version + 1; is_loaded = true } in
+pub cat_put : (s : Workbench) (seat : ℕ) (name n m : Word) (text : List ℕ) (f g : File) (version : ℕ) → s.closed ≡ false → ReadsCat text f → version ≡ version_of name s.cats → version < s.limits.versions → n ≡ name → m ≡ name → g ≡ f
+    → Step s seat (PutCat name text) (Version n (version + 1)) (record s { cats = store (record { name = m; version = version + 1; file = Some g }) s.cats })
+cat_put s seat name n m text f g version open' reads v room e h same =
     let P : ℕ → Type 0 = λ k. k < s.limits.versions in
-    inr (open', (is, subst P v room, e, ap (λ k. k + 1) v, ap (λ w. let t : Workbench = record s { cats = insert_entry bytes_eq s.cats w slot } in t) f))
+    let after : Word → File → Workbench = λ x y. record s { cats = store (record { name = x; version = version + 1; file = Some y }) s.cats } in
+    inr (open', (f, reads, subst P v room, e, ap (λ k. k + 1) v, ap (λ x. after x g) h ∙ ap (after name) same))
 
 pub test_unread : (s : Workbench) (seat : ℕ) (text : List ℕ) (fault : TestFault) → s.closed ≡ false → ((t : Litmus) → Reads text t → fault ≡ of_test.NoMemory) → IsRefused text fault → fault ≢ of_test.NoMemory → Step s seat (PutTest text) (Refused (ReadingTest fault)) s
 test_unread s seat text fault open' only cause not = inr (open', ((λ t reads. not (only t reads)), not, cause, refl))
@@ -76,26 +78,25 @@ asks_by s seat test cat o reply s' open' e step = let P : Option Litmus → Type
 pub no_test : (s : Workbench) (seat : ℕ) (test cat : Word) → s.closed ≡ false → test_of s.tests test ≡ None → Step s seat (Ask test cat) (Refused (NoTest test)) s
 no_test s seat test cat open' e = asks_by s seat test cat None _ s open' e (refl, refl)
 
-asks_under : (s : Workbench) (seat : ℕ) (test cat : Word) (t : Litmus) (m : Option (List FileVersion)) (reply : Reply) (s' : Workbench) → s.closed ≡ false → test_of s.tests test ≡ Some t → model_of s.cats cat ≡ m → AsksUnder s test cat t m reply s' → Step s seat (Ask test cat) reply s'
-asks_under s seat test cat t m reply s' open' e f step = asks_by s seat test cat (Some t) reply s' open' e (let P : Option (List FileVersion) → Type 0 = λ x. AsksUnder s test cat t x reply s' in subst P (sym f) step)
+pub no_model : (s : Workbench) (seat : ℕ) (test cat : Word) (t : Litmus) (fault : ModelFault) → s.closed ≡ false → test_of s.tests test ≡ Some t → IsCause fault s.cats cat → Step s seat (Ask test cat) (Refused (Model fault)) s
+no_model s seat test cat t fault open' e cause = asks_by s seat test cat (Some t) _ s open' e (cause, refl)
 
-pub no_model : (s : Workbench) (seat : ℕ) (test cat : Word) (t : Litmus) → s.closed ≡ false → test_of s.tests test ≡ Some t → model_of s.cats cat ≡ None → Step s seat (Ask test cat) (Refused (Model (NoCat cat))) s
-no_model s seat test cat t open' e f = asks_under s seat test cat t None _ s open' e f (refl, refl)
+pub no_space : (s : Workbench) (seat : ℕ) (test cat : Word) (t u : Litmus) (m : Assembly) (fault : SpaceFault) → s.closed ≡ false → test_of s.tests test ≡ Some t → IsModelOf s.cats cat m → u ≡ t → IsSpaceFault u fault → fault ≢ of_space.NoMemory → Step s seat (Ask test cat) (Refused (Space fault)) s
+no_space s seat test cat t u m fault open' e model same cause not = asks_by s seat test cat (Some t) _ s open' e (m, model, ((let P : Litmus → Type 0 = λ v. IsSpaceFault v fault in subst P same cause), not, refl))
 
-pub no_space : (s : Workbench) (seat : ℕ) (test cat : Word) (t : Litmus) (m : List FileVersion) (fault : SpaceFault) → s.closed ≡ false → test_of s.tests test ≡ Some t → model_of s.cats cat ≡ Some m → IsSpaceFault t fault → fault ≢ of_space.NoMemory → Step s seat (Ask test cat) (Refused (Space fault)) s
-no_space s seat test cat t m fault open' e f cause not = asks_under s seat test cat t (Some m) _ s open' e f (cause, not, refl)
+pub jobs_full : (s : Workbench) (seat : ℕ) (test cat : Word) (t u : Litmus) (m : Assembly) (work : Task) → s.closed ≡ false → test_of s.tests test ≡ Some t → IsModelOf s.cats cat m → u ≡ t → work ≡ record { test = u; model = m } → IsAdmitted work.test → 256 ≤ length s.jobs → Step s seat (Ask test cat) (Refused JobsFull) s
+jobs_full s seat test cat t u m work open' e model same made admitted full =
+    let is : work.test ≡ t = ap (λ (w : Task). w.test) made ∙ same in
+    asks_by s seat test cat (Some t) _ s open' e (m, model, ((let P : Litmus → Type 0 = λ v. IsAdmitted v in subst P is admitted), full, refl))
 
-pub jobs_full : (s : Workbench) (seat : ℕ) (test cat : Word) (t : Litmus) (m : List FileVersion) → s.closed ≡ false → test_of s.tests test ≡ Some t → model_of s.cats cat ≡ Some m → IsAdmitted t → 256 ≤ length s.jobs → Step s seat (Ask test cat) (Refused JobsFull) s
-jobs_full s seat test cat t m open' e f admitted full = asks_under s seat test cat t (Some m) _ s open' e f (admitted, full, refl)
-
-pub opened : (s : Workbench) (seat : ℕ) (test cat : Word) (t : Litmus) (m : List FileVersion) (number version : ℕ) (work : Task) → s.closed ≡ false → test_of s.tests test ≡ Some t → model_of s.cats cat ≡ Some m → IsAdmitted t → length s.jobs < 256 → number ≡ s.last_job + 1 → version ≡ test_version s.tests test → work ≡ record { test = t; model = m }
+opened : (s : Workbench) (seat : ℕ) (test cat : Word) (t : Litmus) (m : Assembly) (number version : ℕ) (work : Task) → s.closed ≡ false → test_of s.tests test ≡ Some t → IsModelOf s.cats cat m → IsAdmitted t → length s.jobs < 256 → number ≡ s.last_job + 1 → version ≡ test_version s.tests test → work ≡ record { test = t; model = m }
     → Step s seat (Ask test cat) (Job number) (record s { last_job = number; jobs = s.jobs ++ record { number = number; version = version; work = work; slices = record { from = 0; to = test_size work.test; returned = false } ∷ [] } ∷ [] })
-opened s seat test cat t m number version work open' e f admitted room n v w =
+opened s seat test cat t m number version work open' e model admitted room n v w =
     let slices : List Slice = record { from = 0; to = test_size t; returned = false } ∷ [] in
     let after : ℕ → Task → Workbench = λ u x. record s { last_job = number; jobs = s.jobs ++ record { number = number; version = u; work = x; slices = record { from = 0; to = test_size x.test; returned = false } ∷ [] } ∷ [] } in
     let P : ℕ → Type 0 = λ u. Step s seat (Ask test cat) (Job number) (after u work) in
     let Q : Task → Type 0 = λ x. Step s seat (Ask test cat) (Job number) (after (test_version s.tests test) x) in
-    subst P (sym v) (subst Q (sym w) (asks_under s seat test cat t (Some m) _ _ open' e f (admitted, room, n, (slices, whole_cut (test_size t), refl))))
+    subst P (sym v) (subst Q (sym w) (asks_by s seat test cat (Some t) _ _ open' e (m, model, (admitted, room, n, (slices, whole_cut (test_size t), refl)))))
 
 -- polling
 
@@ -109,7 +110,7 @@ one_done : (job : jobs.Job) (size : ℕ) (returned : Bool) → job.slices ≡ re
 one_done job size true e = ap (λ xs. is_done (record job { slices = xs })) e
 one_done job size false e = ap (λ xs. is_done (record job { slices = xs })) e
 
-pub judged : (s : Workbench) (seat id size : ℕ) (job : jobs.Job) (v : Judged) → s.closed ≡ false → job_of s.jobs id ≡ Some job → job.slices ≡ record { from = 0; to = size; returned = true } ∷ [] → v.work ≡ job.work → v.version ≡ job.version → IsVerdict v.work.test v.outcome → Step s seat (Poll id) (Verdict v) s
+pub judged : (s : Workbench) (seat id size : ℕ) (job : jobs.Job) (v : Judged) → s.closed ≡ false → job_of s.jobs id ≡ Some job → job.slices ≡ record { from = 0; to = size; returned = true } ∷ [] → v.work ≡ job.work → v.version ≡ job.version → IsVerdict v.work.test v.work.model.items v.outcome → Step s seat (Poll id) (Verdict v) s
 judged s seat id size job v open' e one w n right = polls_by s seat id (Some job) _ s open' e (one_done job size true one, w, n, right, refl)
 
 pub poll_replaced : (s : Workbench) (seat id size : ℕ) (job : jobs.Job) (r : Replacement) → s.closed ≡ false → job_of s.jobs id ≡ Some job → job.slices ≡ record { from = 0; to = size; returned = false } ∷ [] → replaced s job ≡ Some r → Step s seat (Poll id) (Refused (Replaced r)) s
@@ -189,15 +190,12 @@ own_sole c job r own first one =
 pub fits_job : (s : Workbench) (number : ℕ) (job : jobs.Job) (r : Part) → job_of s.jobs number ≡ Some job → jobs.IsSole job.work r → FitsJob (job_of s.jobs number) r
 fits_job s number job r e h = let P : Option jobs.Job → Type 0 = λ o. FitsJob o r in subst P (sym e) h
 
-pub no_space_of : (s : Workbench) (seat : ℕ) (test cat : Word) (t u : Litmus) (m : List FileVersion) (fault : SpaceFault) → s.closed ≡ false → test_of s.tests test ≡ Some t → model_of s.cats cat ≡ Some m → u ≡ t → IsSpaceFault u fault → fault ≢ of_space.NoMemory → Step s seat (Ask test cat) (Refused (Space fault)) s
-no_space_of s seat test cat t u m fault open' e f same cause not = no_space s seat test cat t m fault open' e f (let P : Litmus → Type 0 = λ v. IsSpaceFault v fault in subst P same cause) not
-
-pub opened_job : (s : Workbench) (seat : ℕ) (test cat : Word) (t u : Litmus) (m : List FileVersion) (number version : ℕ) (work w : Task) (job : jobs.Job) → s.closed ≡ false → test_of s.tests test ≡ Some t → model_of s.cats cat ≡ Some m → u ≡ t → work ≡ record { test = u; model = m } → IsAdmitted work.test → length s.jobs < 256 → number ≡ s.last_job + 1 → version ≡ test_version s.tests test → w ≡ work
+pub opened_job : (s : Workbench) (seat : ℕ) (test cat : Word) (t u : Litmus) (m : Assembly) (number version : ℕ) (work w : Task) (job : jobs.Job) → s.closed ≡ false → test_of s.tests test ≡ Some t → IsModelOf s.cats cat m → u ≡ t → work ≡ record { test = u; model = m } → IsAdmitted work.test → length s.jobs < 256 → number ≡ s.last_job + 1 → version ≡ test_version s.tests test → w ≡ work
     → job ≡ record { number = number; version = version; work = w; slices = record { from = 0; to = test_size w.test; returned = false } ∷ [] }
     → Step s seat (Ask test cat) (Job number) (record s { last_job = job.number; jobs = s.jobs ++ job ∷ [] })
-opened_job s seat test cat t u m number version work w job open' e f same made admitted room n v kept is =
+opened_job s seat test cat t u m number version work w job open' e model same made admitted room n v kept is =
     let P : Litmus → Type 0 = λ x. work ≡ record { test = x; model = m } in
     let made' : work ≡ record { test = t; model = m } = subst P same made in
     let A : Task → Type 0 = λ x. IsAdmitted x.test in
     let after : jobs.Job → Type 0 = λ j. Step s seat (Ask test cat) (Job number) (record s { last_job = j.number; jobs = s.jobs ++ j ∷ [] }) in
-    subst after (sym is) (opened s seat test cat t m number version w open' e f (subst A made' admitted) room n v (kept ∙ made'))
+    subst after (sym is) (opened s seat test cat t m number version w open' e model (subst A made' admitted) room n v (kept ∙ made'))

@@ -13,9 +13,7 @@ ghost use Rattle.book.specs.Workbench.{empty, test_of, job_of, claim_of, is_clai
 use crate::jobs::Job;
 use crate::limits::Limits;
 use crate::names::{TestSlot, Tests};
-use crate::reading::{
-    is_cat_memory, is_memory, is_model_memory, model_of, read_file, read_litmus,
-};
+use crate::reading::{is_cat_memory, is_memory, is_model_memory, model_of, read_file, read_litmus};
 use crate::records::{Command, Live, Refusal, Replacement, Reply, SourceKind, Text};
 use crate::slices::{Piece, PieceResult, TestRef, VerdictRef, Work, WorkRef};
 use candidates::SpaceFault;
@@ -90,12 +88,7 @@ impl Plan {
 }
 
 /// Stores a file, or changes nothing.
-fn put_file(
-    files: &mut Files,
-    name: Name,
-    version: u32,
-    file: CatFile,
-) -> Result<(), AllocError>
+fn put_file(files: &mut Files, name: Name, version: u32, file: CatFile) -> Result<(), AllocError>
     requires { version_of name files.old < version }
     ensures ok { OnOk result (files.new ≡ store (record { name = name; version = version; file = Some file }) files.old) }
     ensures err { OnErr result (files.new ≡ files.old) }
@@ -263,7 +256,7 @@ impl Bench {
     }
 
     // The test of this name is there, and so is the model of this root.
-    #[tactic(auto, using(crate::proofs::Steps::no_space_of, crate::proofs::Steps::jobs_full, crate::proofs::Steps::opened_job))]
+    #[tactic(auto, using(crate::proofs::Steps::no_space, crate::proofs::Steps::jobs_full, crate::proofs::Steps::opened_job))]
     fn decide_work(
         &self,
         alloc: Global,
@@ -314,7 +307,7 @@ impl Bench {
             return Ok(Plan::refuse(Refusal::NoJob(number)));
         };
         if job.is_returned() {
-            let verdict = VerdictRef::new(alloc, job.verdict()?)?;
+            let verdict = VerdictRef::new(alloc, job.verdict(job.version())?)?;
             return Ok(Plan::keep(Reply::Verdict(verdict)));
         }
         match self.replaced(job)? {
@@ -451,7 +444,8 @@ impl Bench {
                 version,
             }));
         }
-        replaced_file(&self.cats, work.model().files())
+        let files = work.model().files();
+        replaced_file(&self.cats, files)
     }
 
     /// Does it, or nothing.

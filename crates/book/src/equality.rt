@@ -6,9 +6,7 @@ ghost use Rattle.book.specs.EntryCodes.{coded_returned, coded_command, coded_sai
 ghost use Rattle.book.specs.LineCodes.{coded_line};
 ghost use Rattle.book.specs.Same.{same, same_equivalence, same_partial_equivalence};
 
-use crate::records::{
-    Command, Entry, Refusal, Replacement, Reply, Returned, Said, Text,
-};
+use crate::records::{Command, Entry, Refusal, Replacement, Reply, Returned, Said, Text};
 use candidates::SpaceFault;
 use cat_model::ModelFault;
 use cat_syntax::CatFault;

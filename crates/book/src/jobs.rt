@@ -108,15 +108,15 @@ impl Job {
         self.result = Some(part);
     }
 
-    /// The verdict, where all is returned.
-    pub fn verdict(&self) -> Result<Verdict, AllocError>
+    /// The verdict, where all is returned, for this version of the test.
+    pub fn verdict(&self, test_version: u32) -> Result<Verdict, AllocError>
         requires { is_done self.now ≡ true }
         ensures work { IfOk result (λ v. v.work ≡ self.now.work) }
-        ensures version { IfOk result (λ v. v.version ≡ self.now.version) }
+        ensures version { IfOk result (λ v. v.version ≡ test_version) }
         ensures right { IfOk result (λ v. IsVerdict v.work.test v.work.model.items v.outcome) }
     {
         match &self.result {
-            Some(part) => Verdict::of(&self.work, self.version, part),
+            Some(part) => Verdict::of(&self.work, test_version, part),
             None => unreachable!(),
         }
     }

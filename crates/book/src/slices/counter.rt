@@ -1,12 +1,11 @@
 //! Counts over the allowed executions at some of the numbers of a test.
 
-ghost use Rattle.std.specs.Prelude.{◌≡◌, ◌<◌, ◌≤◌, ◌+◌, ◌-◌, ◌^◌, ◌⊎◌, ◌↔◌, ℕ, List, [], length, map, IfOk, OnOk, if◌then◌else◌};
+ghost use Rattle.std.specs.Prelude.{◌≡◌, ◌<◌, ◌≤◌, ◌+◌, ◌-◌, ◌^◌, [], length, map, fold, IfOk, OnOk, if◌then◌else◌};
 ghost use Rattle.std.specs.BTreeSet.{insert_key};
 ghost use Rattle.std.specs.Cmp.Lexicographic.{slice_cmp};
 ghost use Rattle.std.specs.Ordering.{nat_cmp};
 ghost use Rattle.conditions.specs.Conditions.{formula_of};
 ghost use Rattle.conditions.specs.States.{bindings, holds_in};
-ghost use Rattle.listings.specs.Lists.{IsIn};
 ghost use Rattle.book.specs.Counters.{IsCountOf, IsWeighed};
 ghost use Rattle.book.specs.Parts.{IsRange, executions_in};
 ghost use Rattle.book.specs.Slots.{slot_of};
@@ -80,7 +79,7 @@ impl Counter {
     ) -> Result<(), AllocError>
         requires few { self.old.positive + self.old.negative < 2 ^ 64 - 1 }
         requires slots { slots.now ≡ map (slot_of work.now.test) places.now }
-        ensures weighed { OnOk result
+        ensures { OnOk result
             (IsWeighed work.now.test work.now.model.items places.now graph.now self.old self.new) }
     {
         let judgement = judge(alloc, work.model(), &GraphView::of(alloc, graph)?)?;
@@ -117,7 +116,7 @@ impl Counter {
 
 /// Adds the names that aren't there.
 fn raise(flags: &mut BTreeSet<Name>, names: &[Name]) -> Result<(), AllocError>
-    ensures { OnOk result ((name : List ℕ) → IsIn name flags.new.keys ↔ (IsIn name flags.old.keys ⊎ IsIn name names.now)) }
+    ensures { OnOk result (flags.new.keys ≡ fold (λ keys name. insert_key (slice_cmp nat_cmp) keys name) flags.old.keys names.now) }
 {
     for name in names {
         flags.insert(name.copy()?)?;

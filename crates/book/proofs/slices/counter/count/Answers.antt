@@ -1,30 +1,35 @@
 use Rattle.std.proofs.Common.{◌≡◌, None, Some, map, sym, ap, ◌∙◌, arith}
-use Rattle.conditions.specs.Conditions.{formula_of}
 use Rattle.candidates.specs.Candidates.{At, graph_at}
-use Rattle.book.specs.Slots.{slot_of, slot_value}
-use Rattle.book.proofs.Counted.{next_some, next_none, few}
+use Rattle.book.specs.Slots.{slot_of}
+use Rattle.book.proofs.Counted.{counted_none_yet, next_some, next_none, few_weighed}
 use Rattle.book.proofs.slices.counter.count.Goals as goal
-use Rattle.book.proofs.slices.counter.count.Goals.{in-Some+in_ok-state+in_ok-add, in_default}
+use Rattle.book.proofs.slices.counter.count.Goals.{in-Some+in_ok-weigh, in_default}
+
+pub loop-number-init : goal.loop-number-init
+loop-number-init c = record {
+  counted = counted_none_yet c.args.work.now.test c.args.work.now.model.items c.args.places.now (At c.args.work.now.test) c.args.from c.new-counter.result c.new-counter.ensures.positive c.new-counter.ensures.negative c.new-counter.ensures.states c.new-counter.ensures.flags;
+  few = omega (arith, c.new-counter.ensures.positive, c.new-counter.ensures.negative);
+  slots = c.in_ok-slots.ensures ∙ ap (λ t. map (slot_of t) c.args.places.now) c.test.ensures;
+  order = omega arith;
+  within = c.requires.order;
+}
 
 pub loop-number-preserved : goal.loop-number-preserved
 loop-number-preserved c =
     let inv = c.loop-number.invariant in
     let t = c.args.work.now.test in
+    let items = c.args.work.now.model.items in
     record {
       counted = elim c.match-branch-3.branch [
-        | in-Some+in_ok-state+in_ok-add w ↦
+        | in-Some+in_ok-weigh w ↦
             let is : At t c.loop-number.number ≡ Some w.in-Some.graph = sym (c.in_ok-graph.ensures ∙ ap (λ s. graph_at s c.loop-number.number) c.space-space.ensures.space) ∙ w.in-Some.is in
-            let formula : formula_of w.prop.result.now ≡ t.condition.formula = w.prop.ensures ∙ ap (λ k. k.formula) w.condition.ensures ∙ ap (λ u. u.condition.formula) c.test-test.ensures in
-            let slots : w.deref.result.now ≡ map (slot_of t) c.args.places.now = w.deref.ensures.value ∙ inv.slots in
-            let added = rw formula at w.in_ok-add.ensures in
-            rw w.counter-is (next_some t c.args.places.now (At t) c.args.from c.loop-number.number w.in-Some.graph w.in_ok-state.state _ _ inv.order inv.counted is
-            (w.in_ok-state.ensures ∙ ap (map (slot_value w.in-Some.graph)) slots) added.positive added.negative added.states)
+            rw w.counter-is (next_some t items c.args.places.now (At t) c.args.from c.loop-number.number w.in-Some.graph _ _ inv.order inv.counted is w.in_ok-weigh.ensures)
         | in_default w ↦
             let is : At t c.loop-number.number ≡ None = sym (c.in_ok-graph.ensures ∙ ap (λ s. graph_at s c.loop-number.number) c.space-space.ensures.space) ∙ w.in_default.is in
-            next_none t c.args.places.now (At t) c.args.from c.loop-number.number _ _ inv.order inv.counted is w.counter-is
+            next_none t items c.args.places.now (At t) c.args.from c.loop-number.number _ _ inv.order inv.counted is w.counter-is
       ];
       few = elim c.match-branch-3.branch [
-        | in-Some+in_ok-state+in_ok-add w ↦ rw w.counter-is (few _ _ _ _ _ _ inv.few w.in_ok-add.ensures.positive w.in_ok-add.ensures.negative)
+        | in-Some+in_ok-weigh w ↦ rw w.counter-is (few_weighed t items c.args.places.now w.in-Some.graph _ _ _ inv.few w.in_ok-weigh.ensures)
         | in_default w ↦ rw w.counter-is (omega arith)
       ];
       slots = inv.slots;
