@@ -7,7 +7,7 @@ pub returns-in-ReadingCat : goal.returns-in-ReadingCat
 returns-in-ReadingCat g c = rw c.in-ReadingCat.is c.write_reading_cat.ensures
 
 pub returns-in-Model : goal.returns-in-Model
-returns-in-Model g c = rw c.in-Model.is c.write_model_fault.ensures
+returns-in-Model g c = rw c.in-Model.is c.write_model.ensures
 
 pub returns-in-JobsFull : goal.returns-in-JobsFull
 returns-in-JobsFull g c = rw c.in-JobsFull.is c.write_bytes-in-JobsFull.ensures
