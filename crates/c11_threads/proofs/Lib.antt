@@ -1,5 +1,6 @@
 pub mod Examples
 pub mod Reaching
+pub mod Quiet
 pub mod Few
 pub mod Kept
 pub mod RunLists

@@ -33,7 +33,7 @@ pub still_fault : (k room most n m : ℕ) (e : RunFault) → most + n ≤ room +
 still_fault k room most n m (TooManyRuns j) l h = (h.0, omega (arith, h.1, l))
 still_fault k room most n m NoMemory l h = h
 
-drop_first : {A : Type 0} (a : A) (xs : List A) (i : ℕ) → i < length xs → a ≡ get_or xs i a → drop i xs ≡ a ∷ drop (i + 1) xs
+pub drop_first : {A : Type 0} (a : A) (xs : List A) (i : ℕ) → i < length xs → a ≡ get_or xs i a → drop i xs ≡ a ∷ drop (i + 1) xs
 drop_first a xs i l e = rw add-one (drop-cons xs i a l ∙ ap (λ y. y ∷ drop (suc i) xs) (sym e))
 
 -- Each way has an end.

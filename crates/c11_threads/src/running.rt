@@ -47,8 +47,8 @@ fn statements(test: &Test, thread: usize) -> &[Statement]
 }
 
 /// The runs that end so.
-fn runs_from(alloc: Global, ends: &[Progress]) -> Result<Vec<Run>, AllocError>
-    ensures { IfOk result (λ v. v.items ≡ map run_of ends.now) }
+fn runs_from(alloc: Global, ends: Vec<Progress>) -> Result<Vec<Run>, AllocError>
+    ensures { IfOk result (λ v. v.items ≡ map run_of ends.items) }
 {
     let mut runs = Vec::new(alloc);
     for end in ends {
@@ -75,5 +75,5 @@ pub fn runs(alloc: Global, test: &Test, thread: usize) -> Result<Vec<Run>, RunFa
         from,
         MOST_RUNS,
     )?;
-    Ok(runs_from(alloc, &ends)?)
+    Ok(runs_from(alloc, ends)?)
 }

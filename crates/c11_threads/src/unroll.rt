@@ -1,6 +1,6 @@
 //! The runs of a thread, unrolled choice by choice.
 
-ghost use Rattle.std.specs.Prelude.{◌≡◌, ◌++◌, ◌<◌, ◌≤◌, ◌∷◌, [], length, map, IfOk, IfErr, OnOk, None, Some};
+ghost use Rattle.std.specs.Prelude.{◌≡◌, ◌++◌, ◌<◌, ◌≤◌, ◌∷◌, [], length, map, IfOk, IfErr, OnOk, IsTrue, None, Some};
 ghost use Rattle.std.specs.List.{flat_map};
 ghost use Rattle.litmus_c.specs.Tree.{term_of, action_of, right_of, declared_of, step_of, steps_of};
 ghost use Rattle.events.specs.declared.event.Access.TheVariants.{Fence};
@@ -8,6 +8,7 @@ ghost use Rattle.c11_threads.specs.Contents.{place_of, nothing};
 ghost use Rattle.c11_threads.specs.Runs.{after, next_read};
 ghost use Rattle.c11_threads.specs.Unrolled.{giving, event, accesses, reading, perhaps, event_runs, read_runs, given_at, call_runs, right_runs, declare_runs, declares_runs, step_runs, steps_runs};
 ghost use Rattle.c11_threads.specs.Faults.{IsFaultAt};
+ghost use Rattle.c11_threads.specs.Resting.{DoesNothing, DoNothing};
 
 use crate::content::{Content, content_of, joined, place_of};
 use crate::fault::RunFault;
@@ -101,6 +102,35 @@ fn read_one(
     }
     end.give(register, content);
     Ok(end)
+}
+
+/// Whether a statement does nothing, wherever it stands.
+#[cycle(resting)]
+fn does_nothing(statement: &Statement) -> bool
+    ensures { IsTrue result → DoesNothing (step_of statement.now) }
+{
+    match statement {
+        Statement::Empty => true,
+        Statement::Block(statements) => do_nothing(statements.as_slice()),
+        Statement::If(_, first, second) => match second {
+            Some(second) => does_nothing(first) && does_nothing(second),
+            None => does_nothing(first),
+        },
+        _ => false,
+    }
+}
+
+/// Whether each of the statements does nothing.
+#[cycle(resting)]
+fn do_nothing(statements: &[Statement]) -> bool
+    ensures { IsTrue result → DoNothing (steps_of statements.now) }
+{
+    for statement in statements {
+        if !does_nothing(statement) {
+            return false;
+        }
+    }
+    true
 }
 
 impl Setting<'_> {
@@ -353,6 +383,7 @@ impl Setting<'_> {
     }
 
     /// Performs a statement after each of the ways. Each that still waits has an end, which leaves so much less room.
+    /// A statement that does nothing leaves the ways as they are.
     #[cycle(performing)]
     fn perform_each(
         &self,
@@ -367,6 +398,9 @@ impl Setting<'_> {
         ensures done { IfOk result (λ v. (v.items ≡ flat_map (step_runs (step_of statement.now) self.now ctrl.now) starts.items) × (length v.items ≤ most)) }
         ensures fault { IfErr result (IsFaultAt self.now.thread most (length (flat_map (step_runs (step_of statement.now) self.now ctrl.now) starts.items))) }
     {
+        if does_nothing(statement) {
+            return Ok(starts);
+        }
         let mut ends = Vec::new(alloc);
         let mut waiting = starts.len();
         for from in starts {

@@ -3,6 +3,7 @@ use Rattle.std.specs.Vec.Iter.{into_iter_items}
 use Rattle.std.proofs.lemmas.Result.{err_from_is_err_and}
 use Rattle.litmus_c.specs.Tree.{step_of}
 use Rattle.c11_threads.specs.Unrolled.{step_runs}
+use Rattle.c11_threads.proofs.Quiet.{quiet_each}
 use Rattle.c11_threads.proofs.Turns.{some_step, way_fault, further, turned, turn_fault}
 use Rattle.c11_threads.proofs.unroll.Setting.+performing.Goals as goal
 
@@ -37,3 +38,9 @@ perform_each-returns-in_err-more-clause-fault n c =
     let waiting = at.waiting - 1 in
     rw (p.1, p.2) (way_fault (step_runs a s c.args.ctrl.now) (some_step a s c.requires.values c.args.ctrl.now) s.thread (c.args.most - c.len.result - waiting) c.args.most waiting (into_iter_items at.from-iterator) rest c.in-Some.from
     at.ends.items _ c.in_err-more.field-0.0 steps at.invariant.is (omega (arith, at.invariant.waiting, short)) (omega (arith, at.invariant.within, at.invariant.waiting, short, c.len.ensures)) c.in_err-more.ensures.fault)
+
+pub perform_each-returns-then-does_nothing-clause-done : goal.perform_each-returns-then-does_nothing-clause-done
+perform_each-returns-then-does_nothing-clause-done n c = (
+  quiet_each (step_runs (step_of c.args.statement.now) c.args.self.now c.args.ctrl.now) c.args.starts.items (c.does_nothing.ensures c.if-does_nothing.true c.args.self.now c.args.ctrl.now),
+  c.requires.most,
+)
