@@ -1,16 +1,16 @@
 //! Choices of one run of each thread, and how many candidates have the runs of a choice.
 
-ghost use Rattle.std.specs.Prelude.{◌≡◌, ◌++◌, ◌<◌, ◌≤◌, ◌+◌, ◌*◌, ◌^◌, ℕ, List, length, map, count_by, sum_by, IfOk, MatchOption};
+ghost use Rattle.std.specs.Prelude.{◌≡◌, ◌++◌, ◌<◌, ◌≤◌, ◌+◌, ◌*◌, ◌^◌, ℕ, List, length, map, count_by, sum_by, IfOk};
 ghost use Rattle.listings.specs.Lists.{IsIn, sum_of, factorial};
 ghost use Rattle.events.specs.Executions.{ThreadRun, writes_to};
 ghost use Rattle.candidates.specs.Executions.{block};
 ghost use Rattle.candidates.specs.Candidates.{IsCapped, choice, choices, count_choices, candidate, Choices, candidate_at};
 ghost use Rattle.candidates.specs.Bounds.{reads_from, AreWithin, event_count};
-ghost use Rattle.candidates.specs.Marks.{AreMarks};
+ghost use Rattle.candidates.specs.Marks.{AreMarks, IsTally};
 
 use crate::capped::{capped_factorial, capped_power, capped_product};
 use crate::fault::MOST_CANDIDATES;
-use crate::mark::{Mark, add_mark, nearest, stride};
+use crate::mark::{Mark, Tally, add_mark, nearest, stride};
 use events::{Event, Run};
 use std::alloc::{AllocError, Global};
 use std::marker::Model;
@@ -129,13 +129,6 @@ pub(crate) fn count_choices(threads: &[RunList]) -> Option<u64>
     Some(product)
 }
 
-/// How many candidates there are, and marks on the way over them.
-#[derive(Drop)]
-pub(crate) struct Tally {
-    pub(crate) size: u64,
-    pub(crate) marks: Vec<Mark>,
-}
-
 /// How many candidates there are, with marks, if they are at most the limit.
 pub(crate) fn total(
     alloc: Global,
@@ -145,7 +138,7 @@ pub(crate) fn total(
 ) -> Result<Option<Tally>, AllocError>
     requires count { count ≡ count_choices threads.now }
     requires within { (i : ℕ) → i < count_choices threads.now → AreWithin locations (choice threads.now i) }
-    ensures { IfOk result (λ o. MatchOption o (MOST_CANDIDATES < sum_of (block locations) (choices threads.now)) (λ t. (t.size ≡ sum_of (block locations) (choices threads.now)) × (t.size ≤ MOST_CANDIDATES) × AreMarks locations threads.now t.marks.items)) }
+    ensures { IfOk result (IsTally locations threads.now) }
 {
     let stride = stride(count);
     let mut size: u64 = 0;

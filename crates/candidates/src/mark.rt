@@ -15,6 +15,13 @@ pub(crate) struct Mark {
     pub(crate) before: u64,
 }
 
+/// How many candidates there are, and marks on the way over them.
+#[derive(Drop)]
+pub(crate) struct Tally {
+    pub(crate) size: u64,
+    pub(crate) marks: Vec<Mark>,
+}
+
 /// How far the marks of so many choices stand apart, so that there are at most `MOST_MARKS`.
 pub(crate) fn stride(count: u64) -> u64
     ensures { 1 ≤ result }

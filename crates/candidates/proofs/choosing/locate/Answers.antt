@@ -6,8 +6,8 @@ use Rattle.candidates.proofs.Caps.{capped_is_some, capped_unwrapped}
 use Rattle.candidates.proofs.Steps.{block_below, block_positive, stops, goes_on, still_below, none_left, mark_at, from_mark}
 use Rattle.candidates.proofs.choosing.locate.Goals as goal
 
-pub loop-choice-initial : goal.loop-choice-initial
-loop-choice-initial c =
+pub loop-choice-init : goal.loop-choice-init
+loop-choice-init c =
     let threads = c.args.threads.now in
     let init = c.args.init.now in
     let m = c.nearest-from.result in

@@ -32,7 +32,7 @@ loop-number-preserved c =
       capped = omega (arith, c.if-more-size.false, c.loop-number.invariant.capped);
       within = omega (arith, c.loop-number-test.true);
       marks = marks_more c.args.locations threads c.loop-number.marks.items c.add_mark.new.marks.items (record { choice = i; before = c.loop-number.size })
-          c.loop-number.invariant.marks (record { within = omega (arith, l); whole = c.loop-number.invariant.is }) c.in_ok.ensures;
+          c.loop-number.invariant.marks (record { within = omega (arith, l); whole = c.loop-number.invariant.is }) c.in_ok-add_mark.ensures;
     }
 
 pub returns : goal.returns
