@@ -1,6 +1,5 @@
 pub mod Examples
 pub mod Reaching
-pub mod Quiet
 pub mod Few
 pub mod Kept
 pub mod RunLists

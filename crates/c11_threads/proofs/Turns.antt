@@ -1,12 +1,16 @@
 -- Ways that are taken part by part.
-use Rattle.std.proofs.Common.{◌≡◌, ℕ, suc, ◌+◌, ◌≤◌, ◌<◌, List, [], ◌∷◌, ◌++◌, length, map, get_or, drop, drop-cons, add-one, refl, sym, ◌∙◌, ap, arith, append_assoc, append-nil, Option, None, Some, Bool, true, false, if◌then◌else◌, length-append}
+use Rattle.std.proofs.Common.{◌≡◌, ℕ, suc, ◌+◌, ◌≤◌, ◌<◌, List, [], ◌∷◌, ◌++◌, length, map, get_or, drop, drop-cons, add-one, refl, sym, ◌∙◌, ap, arith, append_assoc, append-nil, Option, None, Some, Bool, true, false, if◌then◌else◌, length-append, Vec}
 use Rattle.std.proofs.lemmas.List.{drop_all, length-map}
 use Rattle.std.proofs.lemmas.Grind.{flat_map-append}
+use Rattle.std.specs.Global.{Global}
 use Rattle.std.specs.List.{flat_map}
 use Rattle.relations.specs.Events.{EventSet}
 use Rattle.litmus_c.specs.declared.tree.Declarator.{Declarator}
 use Rattle.litmus_c.specs.declared.tree.Statement.{Statement}
-use Rattle.litmus_c.specs.Tree.{Word, Action, load, store, exchange, fence, Right, computed, plain_read, value_of, Declared, Step, empty, block, declare, assign, plain_write, perform, if_only, if_else, Steps, no_steps, in_turn, step_of, steps_of, declared_of}
+use Rattle.litmus_c.specs.declared.tree.Statement.TheVariants.{Empty as Empty', Block as Block', rolls-Empty, rolls-Block}
+use Rattle.litmus_c.specs.declared.tree.Statement.TheOpen.{Statement-F}
+use Rattle.litmus_c.specs.declared.tree.Statement.TheFolds.{fold-roll-Statement}
+use Rattle.litmus_c.specs.Tree.{Word, Action, load, store, exchange, fence, Right, computed, plain_read, value_of, Declared, Step, empty, block, declare, assign, plain_write, perform, if_only, if_else, Steps, no_steps, in_turn, layer, step_of, steps_of, declared_of}
 use Rattle.c11_threads.specs.declared.fault.RunFault.{RunFault}
 use Rattle.c11_threads.specs.declared.fault.RunFault.TheVariants.{TooManyRuns, NoMemory}
 use Rattle.c11_threads.specs.Faults.{IsFaultAt}
@@ -25,6 +29,17 @@ flat_map_one : (ps : List Progress) → flat_map (λ p. p ∷ []) ps ≡ ps
 flat_map_one [] = refl
 flat_map_one (p ∷ ps) = ap (λ (qs : List Progress). p ∷ qs) (flat_map_one ps)
 
+-- An empty statement leaves the ways as they are, and a block takes them through its statements.
+pub after_empty : (s : Setting) (c : EventSet) (a : Statement) (ps : List Progress) → a ≡ Empty' → ps ≡ flat_map (step_runs (step_of a) s c) ps
+after_empty s c a ps e =
+    let f : step_of a ≡ empty = ap step_of (e ∙ sym rolls-Empty) ∙ fold-roll-Statement Step layer Statement-F.Empty in
+    sym (ap (λ (b : Step). flat_map (step_runs b s c) ps) f ∙ flat_map_one ps)
+
+pub in_block : (s : Setting) (c : EventSet) (a : Statement) (inside : List Statement) (all : Vec Statement Global) → a ≡ Block' all → inside ≡ all.items → steps_runs (steps_of inside) s c ≡ step_runs (step_of a) s c
+in_block s c a inside all e f =
+    let g : step_of a ≡ block (steps_of all.items) = ap step_of (e ∙ sym (rolls-Block all)) ∙ fold-roll-Statement Step layer (Statement-F.Block all) in
+    ap (λ (as' : List Statement). steps_runs (steps_of as') s c) f ∙ ap (λ (b : Step). step_runs b s c) (sym g)
+
 flat_map_alone : (f : Ways) (p : Progress) → flat_map f (p ∷ []) ≡ f p
 flat_map_alone f p = append-nil (f p)
 
@@ -33,7 +48,7 @@ pub still_fault : (k room most n m : ℕ) (e : RunFault) → most + n ≤ room +
 still_fault k room most n m (TooManyRuns j) l h = (h.0, omega (arith, h.1, l))
 still_fault k room most n m NoMemory l h = h
 
-pub drop_first : {A : Type 0} (a : A) (xs : List A) (i : ℕ) → i < length xs → a ≡ get_or xs i a → drop i xs ≡ a ∷ drop (i + 1) xs
+drop_first : {A : Type 0} (a : A) (xs : List A) (i : ℕ) → i < length xs → a ≡ get_or xs i a → drop i xs ≡ a ∷ drop (i + 1) xs
 drop_first a xs i l e = rw add-one (drop-cons xs i a l ∙ ap (λ y. y ∷ drop (suc i) xs) (sym e))
 
 -- Each way has an end.

@@ -1,7 +1,6 @@
 pub mod Bounds
 pub mod Contents
 pub mod Faults
-pub mod Resting
 pub mod RunExamples
 pub mod Runs
 pub mod Unrolled

@@ -68,7 +68,7 @@ pub fn runs(alloc: Global, test: &Test, thread: usize) -> Result<Vec<Run>, RunFa
     let values = test.values(alloc)?;
     let setting = within(test, thread, &values);
     let from = start(alloc, test, thread)?;
-    let ends = setting.perform_all(
+    let ends = setting.perform_from(
         alloc,
         &no_places(),
         statements(test, thread),

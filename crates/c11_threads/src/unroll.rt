@@ -1,6 +1,6 @@
 //! The runs of a thread, unrolled choice by choice.
 
-ghost use Rattle.std.specs.Prelude.{◌≡◌, ◌++◌, ◌<◌, ◌≤◌, ◌∷◌, [], length, map, IfOk, IfErr, OnOk, IsTrue, None, Some};
+ghost use Rattle.std.specs.Prelude.{◌≡◌, ◌++◌, ◌<◌, ◌≤◌, ◌∷◌, [], length, map, IfOk, IfErr, OnOk, None, Some};
 ghost use Rattle.std.specs.List.{flat_map};
 ghost use Rattle.litmus_c.specs.Tree.{term_of, action_of, right_of, declared_of, step_of, steps_of};
 ghost use Rattle.events.specs.declared.event.Access.TheVariants.{Fence};
@@ -8,7 +8,6 @@ ghost use Rattle.c11_threads.specs.Contents.{place_of, nothing};
 ghost use Rattle.c11_threads.specs.Runs.{after, next_read};
 ghost use Rattle.c11_threads.specs.Unrolled.{giving, event, accesses, reading, perhaps, event_runs, read_runs, given_at, call_runs, right_runs, declare_runs, declares_runs, step_runs, steps_runs};
 ghost use Rattle.c11_threads.specs.Faults.{IsFaultAt};
-ghost use Rattle.c11_threads.specs.Resting.{DoesNothing, DoNothing};
 
 use crate::content::{Content, content_of, joined, place_of};
 use crate::fault::RunFault;
@@ -102,35 +101,6 @@ fn read_one(
     }
     end.give(register, content);
     Ok(end)
-}
-
-/// Whether a statement does nothing, wherever it stands.
-#[cycle(resting)]
-fn does_nothing(statement: &Statement) -> bool
-    ensures { IsTrue result → DoesNothing (step_of statement.now) }
-{
-    match statement {
-        Statement::Empty => true,
-        Statement::Block(statements) => do_nothing(statements.as_slice()),
-        Statement::If(_, first, second) => match second {
-            Some(second) => does_nothing(first) && does_nothing(second),
-            None => does_nothing(first),
-        },
-        _ => false,
-    }
-}
-
-/// Whether each of the statements does nothing.
-#[cycle(resting)]
-fn do_nothing(statements: &[Statement]) -> bool
-    ensures { IsTrue result → DoNothing (steps_of statements.now) }
-{
-    for statement in statements {
-        if !does_nothing(statement) {
-            return false;
-        }
-    }
-    true
 }
 
 impl Setting<'_> {
@@ -354,7 +324,7 @@ impl Setting<'_> {
         match statement {
             Statement::Empty => Ok(single(alloc, from)?),
             Statement::Block(statements) => {
-                self.perform_all(alloc, ctrl, statements.as_slice(), from, most)
+                self.perform_from(alloc, ctrl, statements.as_slice(), from, most)
             }
             Statement::Declare(declarators) => {
                 self.declare_all(alloc, ctrl, declarators.as_slice(), from, most)
@@ -382,8 +352,35 @@ impl Setting<'_> {
         }
     }
 
-    /// Performs a statement after each of the ways. Each that still waits has an end, which leaves so much less room.
-    /// A statement that does nothing leaves the ways as they are.
+    /// Performs a statement after each of the ways by itself. Each that still waits has an end, which leaves so much
+    /// less room.
+    #[cycle(performing)]
+    fn perform_apart(
+        &self,
+        alloc: Global,
+        ctrl: &Set,
+        statement: &Statement,
+        starts: Vec<Progress>,
+        most: usize,
+    ) -> Result<Vec<Progress>, RunFault>
+        requires values { 1 ≤ length self.now.values }
+        requires most { length starts.items ≤ most }
+        ensures done { IfOk result (λ v. (v.items ≡ flat_map (step_runs (step_of statement.now) self.now ctrl.now) starts.items) × (length v.items ≤ most)) }
+        ensures fault { IfErr result (IsFaultAt self.now.thread most (length (flat_map (step_runs (step_of statement.now) self.now ctrl.now) starts.items))) }
+    {
+        let mut ends = Vec::new(alloc);
+        let mut waiting = starts.len();
+        for from in starts {
+            waiting -= 1;
+            let room = most - ends.len() - waiting;
+            let mut more = self.perform(alloc, ctrl, statement, from, room)?;
+            ends.append(&mut more)?;
+        }
+        Ok(ends)
+    }
+
+    /// Performs a statement after each of the ways. An empty one leaves them as they are, and a block takes them
+    /// together through its statements.
     #[cycle(performing)]
     fn perform_each(
         &self,
@@ -398,23 +395,40 @@ impl Setting<'_> {
         ensures done { IfOk result (λ v. (v.items ≡ flat_map (step_runs (step_of statement.now) self.now ctrl.now) starts.items) × (length v.items ≤ most)) }
         ensures fault { IfErr result (IsFaultAt self.now.thread most (length (flat_map (step_runs (step_of statement.now) self.now ctrl.now) starts.items))) }
     {
-        if does_nothing(statement) {
-            return Ok(starts);
+        match statement {
+            Statement::Empty => Ok(starts),
+            Statement::Block(statements) => {
+                self.perform_all(alloc, ctrl, statements.as_slice(), starts, most)
+            }
+            _ => self.perform_apart(alloc, ctrl, statement, starts, most),
         }
-        let mut ends = Vec::new(alloc);
-        let mut waiting = starts.len();
-        for from in starts {
-            waiting -= 1;
-            let room = most - ends.len() - waiting;
-            let mut more = self.perform(alloc, ctrl, statement, from, room)?;
-            ends.append(&mut more)?;
+    }
+
+    /// Performs statements after each of the ways, one after another, each under the same tests.
+    #[cycle(performing)]
+    fn perform_all(
+        &self,
+        alloc: Global,
+        ctrl: &Set,
+        statements: &[Statement],
+        starts: Vec<Progress>,
+        most: usize,
+    ) -> Result<Vec<Progress>, RunFault>
+        requires values { 1 ≤ length self.now.values }
+        requires most { length starts.items ≤ most }
+        ensures done { IfOk result (λ v. (v.items ≡ flat_map (steps_runs (steps_of statements.now) self.now ctrl.now) starts.items) × (length v.items ≤ most)) }
+        ensures fault { IfErr result (IsFaultAt self.now.thread most (length (flat_map (steps_runs (steps_of statements.now) self.now ctrl.now) starts.items))) }
+    {
+        let mut ends = starts;
+        for statement in statements {
+            ends = self.perform_each(alloc, ctrl, statement, ends, most)?;
         }
         Ok(ends)
     }
 
-    /// Performs statements, one after another, each under the same tests.
+    /// The ways on of statements.
     #[cycle(performing)]
-    pub(crate) fn perform_all(
+    pub(crate) fn perform_from(
         &self,
         alloc: Global,
         ctrl: &Set,
@@ -427,10 +441,6 @@ impl Setting<'_> {
         ensures done { IfOk result (λ v. (v.items ≡ steps_runs (steps_of statements.now) self.now ctrl.now from) × (length v.items ≤ most)) }
         ensures fault { IfErr result (IsFaultAt self.now.thread most (length (steps_runs (steps_of statements.now) self.now ctrl.now from))) }
     {
-        let mut ends = single(alloc, from)?;
-        for statement in statements {
-            ends = self.perform_each(alloc, ctrl, statement, ends, most)?;
-        }
-        Ok(ends)
+        self.perform_all(alloc, ctrl, statements, single(alloc, from)?, most)
     }
 }

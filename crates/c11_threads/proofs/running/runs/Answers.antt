@@ -6,8 +6,8 @@ use Rattle.c11_threads.proofs.RunLists.{some_values}
 use Rattle.c11_threads.proofs.Whole.{unrolled, as_runs, all_listed, run_fault}
 use Rattle.c11_threads.proofs.running.runs.Goals as goal
 
-pub perform_all-requires-clause-values : goal.perform_all-requires-clause-values
-perform_all-requires-clause-values c =
+pub perform_from-requires-clause-values : goal.perform_from-requires-clause-values
+perform_from-requires-clause-values c =
     let P : Setting → Type 0 = λ s. 1 ≤ length s.values in
     subst P (sym c.within-setting.ensures) (some_values c.args.test.now)
 
