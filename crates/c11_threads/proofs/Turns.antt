@@ -40,9 +40,6 @@ in_block s c a inside all e f =
     let g : step_of a ≡ block (steps_of all.items) = ap step_of (e ∙ sym (rolls-Block all)) ∙ fold-roll-Statement Step layer (Statement-F.Block all) in
     ap (λ (as' : List Statement). steps_runs (steps_of as') s c) f ∙ ap (λ (b : Step). step_runs b s c) (sym g)
 
-flat_map_alone : (f : Ways) (p : Progress) → flat_map f (p ∷ []) ≡ f p
-flat_map_alone f p = append-nil (f p)
-
 -- More ways than there is room for are more than are wanted, where the others take what is left.
 pub still_fault : (k room most n m : ℕ) (e : RunFault) → most + n ≤ room + m → IsFaultAt k room n e → IsFaultAt k most m e
 still_fault k room most n m (TooManyRuns j) l h = (h.0, omega (arith, h.1, l))
@@ -117,10 +114,6 @@ turn s c statements i a ends l is =
 pub turned : (s : Setting) (c : EventSet) (statements : List Statement) (i : ℕ) (ends : List Progress) → length statements ≤ i → flat_map (steps_runs (steps_of (drop i statements)) s c) ends ≡ ends
 turned s c statements i ends l = ap (λ (as' : List Statement). flat_map (steps_runs (steps_of as') s c) ends) (drop_all i statements l) ∙ flat_map_one ends
 
--- At the start there is one way.
-pub at_start : (s : Setting) (c : EventSet) (statements : List Statement) (from : Progress) (ends : List Progress) → ends ≡ from ∷ [] → flat_map (steps_runs (steps_of statements) s c) ends ≡ steps_runs (steps_of statements) s c from
-at_start s c statements from ends e = ap (flat_map (steps_runs (steps_of statements) s c)) e ∙ flat_map_alone (steps_runs (steps_of statements) s c) from
-
 pub further : (s : Setting) (c : EventSet) (statements : List Statement) (i : ℕ) (a : Statement) (ends next all : List Progress) → i < length statements → a ≡ get_or statements i a → next ≡ flat_map (step_runs (step_of a) s c) ends → flat_map (steps_runs (steps_of (drop i statements)) s c) ends ≡ all → flat_map (steps_runs (steps_of (drop (i + 1) statements)) s c) next ≡ all
 further s c statements i a ends next all l is done whole =
     ap (flat_map (steps_runs (steps_of (drop (i + 1) statements)) s c)) done
@@ -143,9 +136,6 @@ declare_turn s c ds i d ends l is =
 
 pub declares_turned : (s : Setting) (c : EventSet) (ds : List Declarator) (i : ℕ) (ends : List Progress) → length ds ≤ i → flat_map (declares_runs s c (map declared_of (drop i ds))) ends ≡ ends
 declares_turned s c ds i ends l = ap (λ (es : List Declarator). flat_map (declares_runs s c (map declared_of es)) ends) (drop_all i ds l) ∙ flat_map_one ends
-
-pub declares_at_start : (s : Setting) (c : EventSet) (ds : List Declarator) (from : Progress) (ends : List Progress) → ends ≡ from ∷ [] → flat_map (declares_runs s c (map declared_of ds)) ends ≡ declares_runs s c (map declared_of ds) from
-declares_at_start s c ds from ends e = ap (flat_map (declares_runs s c (map declared_of ds))) e ∙ flat_map_alone (declares_runs s c (map declared_of ds)) from
 
 pub declared_further : (s : Setting) (c : EventSet) (ds : List Declarator) (i : ℕ) (d : Declarator) (ends next all : List Progress) → i < length ds → d ≡ get_or ds i d → next ≡ flat_map (declare_runs s c (declared_of d).register (declared_of d).value) ends → flat_map (declares_runs s c (map declared_of (drop i ds))) ends ≡ all → flat_map (declares_runs s c (map declared_of (drop (i + 1) ds))) next ≡ all
 declared_further s c ds i d ends next all l is done whole =
