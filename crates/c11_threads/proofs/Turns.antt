@@ -1,12 +1,16 @@
 -- Ways that are taken part by part.
-use Rattle.std.proofs.Common.{◌≡◌, ℕ, suc, ◌+◌, ◌≤◌, ◌<◌, List, [], ◌∷◌, ◌++◌, length, map, get_or, drop, drop-cons, add-one, refl, sym, ◌∙◌, ap, arith, append_assoc, append-nil, Option, None, Some, Bool, true, false, if◌then◌else◌, length-append}
+use Rattle.std.proofs.Common.{◌≡◌, ℕ, suc, ◌+◌, ◌≤◌, ◌<◌, List, [], ◌∷◌, ◌++◌, length, map, get_or, drop, drop-cons, add-one, refl, sym, ◌∙◌, ap, arith, append_assoc, append-nil, Option, None, Some, Bool, true, false, if◌then◌else◌, length-append, Vec}
 use Rattle.std.proofs.lemmas.List.{drop_all, length-map}
 use Rattle.std.proofs.lemmas.Grind.{flat_map-append}
+use Rattle.std.specs.Global.{Global}
 use Rattle.std.specs.List.{flat_map}
 use Rattle.relations.specs.Events.{EventSet}
 use Rattle.litmus_c.specs.declared.tree.Declarator.{Declarator}
 use Rattle.litmus_c.specs.declared.tree.Statement.{Statement}
-use Rattle.litmus_c.specs.Tree.{Word, Action, load, store, exchange, fence, Right, computed, plain_read, value_of, Declared, Step, empty, block, declare, assign, plain_write, perform, if_only, if_else, Steps, no_steps, in_turn, step_of, steps_of, declared_of}
+use Rattle.litmus_c.specs.declared.tree.Statement.TheVariants.{Empty as Empty', Block as Block', rolls-Empty, rolls-Block}
+use Rattle.litmus_c.specs.declared.tree.Statement.TheOpen.{Statement-F}
+use Rattle.litmus_c.specs.declared.tree.Statement.TheFolds.{fold-roll-Statement}
+use Rattle.litmus_c.specs.Tree.{Word, Action, load, store, exchange, fence, Right, computed, plain_read, value_of, Declared, Step, empty, block, declare, assign, plain_write, perform, if_only, if_else, Steps, no_steps, in_turn, layer, step_of, steps_of, declared_of}
 use Rattle.c11_threads.specs.declared.fault.RunFault.{RunFault}
 use Rattle.c11_threads.specs.declared.fault.RunFault.TheVariants.{TooManyRuns, NoMemory}
 use Rattle.c11_threads.specs.Faults.{IsFaultAt}
@@ -25,8 +29,16 @@ flat_map_one : (ps : List Progress) → flat_map (λ p. p ∷ []) ps ≡ ps
 flat_map_one [] = refl
 flat_map_one (p ∷ ps) = ap (λ (qs : List Progress). p ∷ qs) (flat_map_one ps)
 
-flat_map_alone : (f : Ways) (p : Progress) → flat_map f (p ∷ []) ≡ f p
-flat_map_alone f p = append-nil (f p)
+-- An empty statement leaves the ways as they are, and a block takes them through its statements.
+pub after_empty : (s : Setting) (c : EventSet) (a : Statement) (ps : List Progress) → a ≡ Empty' → ps ≡ flat_map (step_runs (step_of a) s c) ps
+after_empty s c a ps e =
+    let f : step_of a ≡ empty = ap step_of (e ∙ sym rolls-Empty) ∙ fold-roll-Statement Step layer Statement-F.Empty in
+    sym (ap (λ (b : Step). flat_map (step_runs b s c) ps) f ∙ flat_map_one ps)
+
+pub in_block : (s : Setting) (c : EventSet) (a : Statement) (inside : List Statement) (all : Vec Statement Global) → a ≡ Block' all → inside ≡ all.items → steps_runs (steps_of inside) s c ≡ step_runs (step_of a) s c
+in_block s c a inside all e f =
+    let g : step_of a ≡ block (steps_of all.items) = ap step_of (e ∙ sym (rolls-Block all)) ∙ fold-roll-Statement Step layer (Statement-F.Block all) in
+    ap (λ (as' : List Statement). steps_runs (steps_of as') s c) f ∙ ap (λ (b : Step). step_runs b s c) (sym g)
 
 -- More ways than there is room for are more than are wanted, where the others take what is left.
 pub still_fault : (k room most n m : ℕ) (e : RunFault) → most + n ≤ room + m → IsFaultAt k room n e → IsFaultAt k most m e
@@ -102,10 +114,6 @@ turn s c statements i a ends l is =
 pub turned : (s : Setting) (c : EventSet) (statements : List Statement) (i : ℕ) (ends : List Progress) → length statements ≤ i → flat_map (steps_runs (steps_of (drop i statements)) s c) ends ≡ ends
 turned s c statements i ends l = ap (λ (as' : List Statement). flat_map (steps_runs (steps_of as') s c) ends) (drop_all i statements l) ∙ flat_map_one ends
 
--- At the start there is one way.
-pub at_start : (s : Setting) (c : EventSet) (statements : List Statement) (from : Progress) (ends : List Progress) → ends ≡ from ∷ [] → flat_map (steps_runs (steps_of statements) s c) ends ≡ steps_runs (steps_of statements) s c from
-at_start s c statements from ends e = ap (flat_map (steps_runs (steps_of statements) s c)) e ∙ flat_map_alone (steps_runs (steps_of statements) s c) from
-
 pub further : (s : Setting) (c : EventSet) (statements : List Statement) (i : ℕ) (a : Statement) (ends next all : List Progress) → i < length statements → a ≡ get_or statements i a → next ≡ flat_map (step_runs (step_of a) s c) ends → flat_map (steps_runs (steps_of (drop i statements)) s c) ends ≡ all → flat_map (steps_runs (steps_of (drop (i + 1) statements)) s c) next ≡ all
 further s c statements i a ends next all l is done whole =
     ap (flat_map (steps_runs (steps_of (drop (i + 1) statements)) s c)) done
@@ -128,9 +136,6 @@ declare_turn s c ds i d ends l is =
 
 pub declares_turned : (s : Setting) (c : EventSet) (ds : List Declarator) (i : ℕ) (ends : List Progress) → length ds ≤ i → flat_map (declares_runs s c (map declared_of (drop i ds))) ends ≡ ends
 declares_turned s c ds i ends l = ap (λ (es : List Declarator). flat_map (declares_runs s c (map declared_of es)) ends) (drop_all i ds l) ∙ flat_map_one ends
-
-pub declares_at_start : (s : Setting) (c : EventSet) (ds : List Declarator) (from : Progress) (ends : List Progress) → ends ≡ from ∷ [] → flat_map (declares_runs s c (map declared_of ds)) ends ≡ declares_runs s c (map declared_of ds) from
-declares_at_start s c ds from ends e = ap (flat_map (declares_runs s c (map declared_of ds))) e ∙ flat_map_alone (declares_runs s c (map declared_of ds)) from
 
 pub declared_further : (s : Setting) (c : EventSet) (ds : List Declarator) (i : ℕ) (d : Declarator) (ends next all : List Progress) → i < length ds → d ≡ get_or ds i d → next ≡ flat_map (declare_runs s c (declared_of d).register (declared_of d).value) ends → flat_map (declares_runs s c (map declared_of (drop i ds))) ends ≡ all → flat_map (declares_runs s c (map declared_of (drop (i + 1) ds))) next ≡ all
 declared_further s c ds i d ends next all l is done whole =

@@ -114,11 +114,11 @@ impl Progress {
         }
     }
 
-    /// The run that ends here.
-    pub(crate) fn run(&self, alloc: Global) -> Result<Run, AllocError>
-        ensures { IfOk result (λ r. r ≡ run_of self.now) }
+    /// The run that ends here. It takes over the events.
+    pub(crate) fn run(self, alloc: Global) -> Result<Run, AllocError>
+        ensures { IfOk result (λ r. r ≡ run_of self) }
     {
-        let events = copy_events(alloc, &self.events)?;
-        Ok(Run::new(events, values_of(alloc, &self.registers)?))
+        let registers = values_of(alloc, &self.registers)?;
+        Ok(Run::new(self.events, registers))
     }
 }

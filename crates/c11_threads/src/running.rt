@@ -47,8 +47,8 @@ fn statements(test: &Test, thread: usize) -> &[Statement]
 }
 
 /// The runs that end so.
-fn runs_from(alloc: Global, ends: &[Progress]) -> Result<Vec<Run>, AllocError>
-    ensures { IfOk result (λ v. v.items ≡ map run_of ends.now) }
+fn runs_from(alloc: Global, ends: Vec<Progress>) -> Result<Vec<Run>, AllocError>
+    ensures { IfOk result (λ v. v.items ≡ map run_of ends.items) }
 {
     let mut runs = Vec::new(alloc);
     for end in ends {
@@ -68,12 +68,12 @@ pub fn runs(alloc: Global, test: &Test, thread: usize) -> Result<Vec<Run>, RunFa
     let values = test.values(alloc)?;
     let setting = within(test, thread, &values);
     let from = start(alloc, test, thread)?;
-    let ends = setting.perform_all(
+    let ends = setting.perform_from(
         alloc,
         &no_places(),
         statements(test, thread),
         from,
         MOST_RUNS,
     )?;
-    Ok(runs_from(alloc, &ends)?)
+    Ok(runs_from(alloc, ends)?)
 }

@@ -324,7 +324,7 @@ impl Setting<'_> {
         match statement {
             Statement::Empty => Ok(single(alloc, from)?),
             Statement::Block(statements) => {
-                self.perform_all(alloc, ctrl, statements.as_slice(), from, most)
+                self.perform_from(alloc, ctrl, statements.as_slice(), from, most)
             }
             Statement::Declare(declarators) => {
                 self.declare_all(alloc, ctrl, declarators.as_slice(), from, most)
@@ -352,9 +352,10 @@ impl Setting<'_> {
         }
     }
 
-    /// Performs a statement after each of the ways. Each that still waits has an end, which leaves so much less room.
+    /// Performs a statement after each of the ways by itself. Each that still waits has an end, which leaves so much
+    /// less room.
     #[cycle(performing)]
-    fn perform_each(
+    fn perform_apart(
         &self,
         alloc: Global,
         ctrl: &Set,
@@ -378,9 +379,56 @@ impl Setting<'_> {
         Ok(ends)
     }
 
-    /// Performs statements, one after another, each under the same tests.
+    /// Performs a statement after each of the ways. An empty one leaves them as they are, and a block takes them
+    /// together through its statements.
     #[cycle(performing)]
-    pub(crate) fn perform_all(
+    fn perform_each(
+        &self,
+        alloc: Global,
+        ctrl: &Set,
+        statement: &Statement,
+        starts: Vec<Progress>,
+        most: usize,
+    ) -> Result<Vec<Progress>, RunFault>
+        requires values { 1 ≤ length self.now.values }
+        requires most { length starts.items ≤ most }
+        ensures done { IfOk result (λ v. (v.items ≡ flat_map (step_runs (step_of statement.now) self.now ctrl.now) starts.items) × (length v.items ≤ most)) }
+        ensures fault { IfErr result (IsFaultAt self.now.thread most (length (flat_map (step_runs (step_of statement.now) self.now ctrl.now) starts.items))) }
+    {
+        match statement {
+            Statement::Empty => Ok(starts),
+            Statement::Block(statements) => {
+                self.perform_all(alloc, ctrl, statements.as_slice(), starts, most)
+            }
+            _ => self.perform_apart(alloc, ctrl, statement, starts, most),
+        }
+    }
+
+    /// Performs statements after each of the ways, one after another, each under the same tests.
+    #[cycle(performing)]
+    fn perform_all(
+        &self,
+        alloc: Global,
+        ctrl: &Set,
+        statements: &[Statement],
+        starts: Vec<Progress>,
+        most: usize,
+    ) -> Result<Vec<Progress>, RunFault>
+        requires values { 1 ≤ length self.now.values }
+        requires most { length starts.items ≤ most }
+        ensures done { IfOk result (λ v. (v.items ≡ flat_map (steps_runs (steps_of statements.now) self.now ctrl.now) starts.items) × (length v.items ≤ most)) }
+        ensures fault { IfErr result (IsFaultAt self.now.thread most (length (flat_map (steps_runs (steps_of statements.now) self.now ctrl.now) starts.items))) }
+    {
+        let mut ends = starts;
+        for statement in statements {
+            ends = self.perform_each(alloc, ctrl, statement, ends, most)?;
+        }
+        Ok(ends)
+    }
+
+    /// The ways on of statements.
+    #[cycle(performing)]
+    pub(crate) fn perform_from(
         &self,
         alloc: Global,
         ctrl: &Set,
@@ -393,10 +441,6 @@ impl Setting<'_> {
         ensures done { IfOk result (λ v. (v.items ≡ steps_runs (steps_of statements.now) self.now ctrl.now from) × (length v.items ≤ most)) }
         ensures fault { IfErr result (IsFaultAt self.now.thread most (length (steps_runs (steps_of statements.now) self.now ctrl.now from))) }
     {
-        let mut ends = single(alloc, from)?;
-        for statement in statements {
-            ends = self.perform_each(alloc, ctrl, statement, ends, most)?;
-        }
-        Ok(ends)
+        self.perform_all(alloc, ctrl, statements, single(alloc, from)?, most)
     }
 }

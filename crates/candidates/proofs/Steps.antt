@@ -1,6 +1,7 @@
 -- A walk step by step, and the sums on its way.
-use Rattle.std.proofs.Common.{◌≡◌, ℕ, zero, suc, ◌+◌, ◌-◌, ◌*◌, ◌<◌, ◌≤◌, List, [], ◌∷◌, length, drop, get_or, drop-cons, add-one, refl, sym, ◌∙◌, ap, inl, inr, arith}
+use Rattle.std.proofs.Common.{◌≡◌, ℕ, zero, suc, ◌+◌, ◌-◌, ◌*◌, ◌<◌, ◌≤◌, ◌⊎◌, List, [], ◌∷◌, ◌++◌, length, drop, get_or, drop-cons, add-one, refl, sym, ◌∙◌, ap, subst, inl, inr, arith}
 use Rattle.std.proofs.lemmas.List.{drop_all}
+use Rattle.std.proofs.lemmas.List.Elements.{All-push}
 use Rattle.std.proofs.Math.Nat.{mul-le-mul_left}
 use Rattle.events.specs.Executions.{ThreadRun, Execution}
 use Rattle.listings.specs.Lists.{IsIn, product_by, sum_of, tabulate}
@@ -8,6 +9,9 @@ use Rattle.listings.specs.Numbered.{walk}
 use Rattle.listings.proofs.Walks.{walks_here, walks_on}
 use Rattle.candidates.specs.Executions.{reads, block}
 use Rattle.candidates.specs.Candidates.{choice, choices, count_choices, count_sources, candidate, no_execution}
+use Rattle.listings.proofs.Listings.{place_of}
+use Rattle.candidates.specs.declared.mark.Mark.{Mark}
+use Rattle.candidates.specs.Marks.{IsMark, AreMarks, IsFrom}
 use Rattle.candidates.proofs.Caps.{length_tabulate, get_or_tabulate, capped_further, product_drop, ways_below, product_positive, sources_positive}
 
 drop_tabulate : {X : Type 0} (n : ℕ) (f : ℕ → X) (i : ℕ) → i < n → drop i (tabulate n f) ≡ f i ∷ drop (i + 1) (tabulate n f)
@@ -24,6 +28,20 @@ sum_drop size [] zero = omega arith
 sum_drop size [] (suc i) = omega arith
 sum_drop size (a ∷ rest) zero = omega arith
 sum_drop size (a ∷ rest) (suc i) = omega (arith, sum_drop size rest i)
+
+-- The walk can start at a later one, with the sizes before it taken off.
+walk_from : {A X : Type 0} (size : A → ℕ) (at : A → ℕ → X) (none : X) (as' : List A) (k before i : ℕ) → before + sum_of size (drop k as') ≡ sum_of size as' → before ≤ i → walk size at none (drop k as') (i - before) ≡ walk size at none as' i
+walk_from size at none [] zero before i e l = refl
+walk_from size at none [] (suc k) before i e l = refl
+walk_from size at none (a ∷ rest) zero before i e l = let z : i - before ≡ i = omega (arith, e) in ap (walk size at none (a ∷ rest)) z
+walk_from size at none (a ∷ rest) (suc k) before i e l =
+    let h : size a ≤ before = omega (arith, e, sum_drop size rest k) in
+    let f : before - size a + sum_of size (drop k rest) ≡ sum_of size rest = omega (arith, e, h) in
+    let m : before - size a ≤ i - size a = omega (arith, h, l) in
+    let g : i - before ≡ i - size a - (before - size a) = omega (arith, h, l) in
+    ap (walk size at none (drop k rest)) g
+    ∙ walk_from size at none rest k (before - size a) (i - size a) f m
+    ∙ sym (walks_on size at none a rest i (omega (arith, h, l)))
 
 -- with i of the n choices passed
 rest_sum : (locations : ℕ) (threads : List (List ThreadRun)) (i : ℕ) → i < count_choices threads → sum_of (block locations) (drop i (choices threads)) ≡ block locations (choice threads i) + sum_of (block locations) (drop (i + 1) (choices threads))
@@ -45,6 +63,22 @@ pub goes_on : (init : List ℕ) (threads : List (List ThreadRun)) (i rest : ℕ)
 goes_on init threads i rest l h =
     sym (ap (λ left. Walk init left rest) (drop_tabulate (count_choices threads) (choice threads) i l)
     ∙ walks_on (block (length init)) (candidate init) no_execution (choice threads i) (drop (i + 1) (choices threads)) rest h)
+
+-- From a mark the walk goes on as from the start.
+pub from_mark : (init : List ℕ) (threads : List (List ThreadRun)) (m : Mark) (i : ℕ) → IsMark (length init) threads m → m.before ≤ i → Walk init (drop m.choice (choices threads)) (i - m.before) ≡ Walk init (choices threads) i
+from_mark init threads m i h l = walk_from (block (length init)) (candidate init) no_execution (choices threads) m.choice m.before i h.whole l
+
+pub mark_at : (locations : ℕ) (threads : List (List ThreadRun)) (marks : List Mark) (m : Mark) → AreMarks locations threads marks → IsFrom marks m → IsMark locations threads m
+mark_at locations threads marks m h f = elim f [
+  | inl e ↦ (let P : Mark → Type 0 = IsMark locations threads in subst P (sym e) (record { within = omega arith; whole = omega arith }))
+  | inr n ↦ (let at = place_of marks m m n in let P : Mark → Type 0 = IsMark locations threads in subst P at.2 (h at.0 m at.1))
+]
+
+-- one mark more, or none
+pub marks_more : (locations : ℕ) (threads : List (List ThreadRun)) (marks more : List Mark) (m : Mark) → AreMarks locations threads marks → IsMark locations threads m → (more ≡ marks) ⊎ (more ≡ marks ++ m ∷ []) → AreMarks locations threads more
+marks_more locations threads marks more m h p o =
+    let P : List Mark → Type 0 = AreMarks locations threads in
+    elim o [ inl e ↦ subst P (sym e) h | inr e ↦ subst P (sym e) (All-push (IsMark locations threads) marks m h p) ]
 
 pub still_below : (locations : ℕ) (threads : List (List ThreadRun)) (i rest : ℕ) → i < count_choices threads → block locations (choice threads i) ≤ rest → rest < sum_of (block locations) (drop i (choices threads)) → rest - block locations (choice threads i) < sum_of (block locations) (drop (i + 1) (choices threads))
 still_below locations threads i rest l h k = omega (arith, rest_sum locations threads i l, h, k)

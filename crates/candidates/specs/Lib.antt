@@ -2,3 +2,4 @@ pub mod Bounds
 pub mod Candidates
 pub mod Executions
 pub mod Faults
+pub mod Marks

@@ -1,14 +1,16 @@
 //! Choices of one run of each thread, and how many candidates have the runs of a choice.
 
-ghost use Rattle.std.specs.Prelude.{◌≡◌, ◌++◌, ◌<◌, ◌≤◌, ◌+◌, ◌*◌, ◌^◌, ℕ, List, length, map, count_by, sum_by, IfOk, MatchOption};
+ghost use Rattle.std.specs.Prelude.{◌≡◌, ◌++◌, ◌<◌, ◌≤◌, ◌+◌, ◌*◌, ◌^◌, ℕ, List, length, map, count_by, sum_by, IfOk};
 ghost use Rattle.listings.specs.Lists.{IsIn, sum_of, factorial};
 ghost use Rattle.events.specs.Executions.{ThreadRun, writes_to};
 ghost use Rattle.candidates.specs.Executions.{block};
 ghost use Rattle.candidates.specs.Candidates.{IsCapped, choice, choices, count_choices, candidate, Choices, candidate_at};
 ghost use Rattle.candidates.specs.Bounds.{reads_from, AreWithin, event_count};
+ghost use Rattle.candidates.specs.Marks.{AreMarks, IsTally};
 
 use crate::capped::{capped_factorial, capped_power, capped_product};
 use crate::fault::MOST_CANDIDATES;
+use crate::mark::{Mark, Tally, add_mark, nearest, stride};
 use events::{Event, Run};
 use std::alloc::{AllocError, Global};
 use std::marker::Model;
@@ -127,21 +129,35 @@ pub(crate) fn count_choices(threads: &[RunList]) -> Option<u64>
     Some(product)
 }
 
-/// How many candidates there are, if that is at most the limit.
-pub(crate) fn total(threads: &[RunList], locations: usize, count: u64) -> Option<u64>
+/// How many candidates there are, with marks, if they are at most the limit.
+pub(crate) fn total(
+    alloc: Global,
+    threads: &[RunList],
+    locations: usize,
+    count: u64,
+) -> Result<Option<Tally>, AllocError>
     requires count { count ≡ count_choices threads.now }
     requires within { (i : ℕ) → i < count_choices threads.now → AreWithin locations (choice threads.now i) }
-    ensures { IsCapped MOST_CANDIDATES (sum_of (block locations) (choices threads.now)) result }
+    ensures { IfOk result (IsTally locations threads.now) }
 {
+    let stride = stride(count);
     let mut size: u64 = 0;
+    let mut marks = Vec::new(alloc);
     for number in 0..count {
-        let more = block(threads, locations, number)?;
+        let mark = Mark {
+            choice: number,
+            before: size,
+        };
+        add_mark(&mut marks, mark, stride)?;
+        let Some(more) = block(threads, locations, number) else {
+            return Ok(None);
+        };
         if more > MOST_CANDIDATES - size {
-            return None;
+            return Ok(None);
         }
         size += more;
     }
-    Some(size)
+    Ok(Some(Tally { size, marks }))
 }
 
 /// The choice with this number.
@@ -171,8 +187,15 @@ pub(crate) struct Position {
     pub(crate) rest: u64,
 }
 
-/// Where the candidate with this number is: passes over the choices before its own.
-pub(crate) fn locate(threads: &[RunList], init: &[u32], count: u64, number: u64) -> Position
+/// Where the candidate with this number is: passes over the choices between the mark before it and its own.
+pub(crate) fn locate(
+    threads: &[RunList],
+    init: &[u32],
+    marks: &[Mark],
+    count: u64,
+    number: u64,
+) -> Position
+    requires marks { AreMarks (length init.now) threads.now marks.now }
     requires count { count ≡ count_choices threads.now }
     requires within { (i : ℕ) → i < count_choices threads.now → AreWithin (length init.now) (choice threads.now i) }
     requires size { sum_of (block (length init.now)) (choices threads.now) ≤ MOST_CANDIDATES }
@@ -181,8 +204,9 @@ pub(crate) fn locate(threads: &[RunList], init: &[u32], count: u64, number: u64)
     ensures rest { result.rest < block (length init.now) (choice threads.now result.choice) }
     ensures found { candidate_at (record { init = init.now; threads = threads.now }) number ≡ candidate init.now (choice threads.now result.choice) result.rest }
 {
-    let mut rest = number;
-    for choice in 0..count {
+    let from = nearest(marks, number);
+    let mut rest = number - from.before;
+    for choice in from.choice..count {
         let size = block(threads, init.len(), choice).unwrap();
         if rest < size {
             return Position { choice, rest };

@@ -6,6 +6,7 @@ mod capped;
 mod choosing;
 mod fault;
 pub mod laws;
+mod mark;
 mod space;
 
 pub use fault::SpaceFault;

@@ -7,12 +7,14 @@ ghost use Rattle.candidates.specs.Candidates.{choice, count_choices, choices_of,
 ghost use Rattle.c11_threads.specs.Unrolled.{runs_of};
 ghost use Rattle.candidates.specs.Faults.{HaveFewRuns, IsSpaceFault};
 ghost use Rattle.candidates.specs.Bounds.{AreWithin};
+ghost use Rattle.candidates.specs.Marks.{AreMarks};
 ghost use Rattle.events.specs.Executions.{ThreadRun};
 ghost use Rattle.listings.specs.Lists.{IsIn};
 
 use crate::assembly::assemble;
 use crate::choosing::{RunList, choice, count_choices, locate, total};
 use crate::fault::{MOST_CANDIDATES, SpaceFault};
+use crate::mark::Mark;
 use c11_threads::{initial_value, runs};
 use conditions::Place;
 use events::Graph;
@@ -20,26 +22,28 @@ use litmus_c::Test;
 use std::alloc::{AllocError, Global};
 use std::marker::Model;
 
-/// The numbered candidates of a test. It holds the runs of each thread, and no candidate.
+/// The numbered candidates of a test. It holds the runs of each thread and marks, and no candidate.
 #[derive(Drop)]
 pub struct Space {
     init: Vec<u32>,
     threads: Vec<RunList>,
     choices: u64,
     size: u64,
+    marks: Vec<Mark>,
 }
 
 impl Model for Space {
     ghost use Rattle.std.specs.Prelude.{◌≡◌, ◌≤◌, ◌<◌, ℕ, length};
     ghost use Rattle.candidates.specs.Candidates.{Choices, count_choices, choice, size_of};
     ghost use Rattle.candidates.specs.Bounds.{AreWithin};
+    ghost use Rattle.candidates.specs.Marks.{AreMarks};
     ghost use Rattle.candidates.specs.declared.fault.TheConstants.{MOST_CANDIDATES};
 
     ghost Value = { Choices };
 
     ghost view = { λ s. record { init = s.init.items; threads = s.threads.items } };
 
-    ghost invariant = { λ s. record { choices : s.choices ≡ count_choices s.threads.items; size : s.size ≡ size_of (record { init = s.init.items; threads = s.threads.items }); most : s.size ≤ MOST_CANDIDATES; within : (i : ℕ) → i < count_choices s.threads.items → AreWithin (length s.init.items) (choice s.threads.items i) } };
+    ghost invariant = { λ s. record { choices : s.choices ≡ count_choices s.threads.items; size : s.size ≡ size_of (record { init = s.init.items; threads = s.threads.items }); most : s.size ≤ MOST_CANDIDATES; within : (i : ℕ) → i < count_choices s.threads.items → AreWithin (length s.init.items) (choice s.threads.items i); marks : AreMarks (length s.init.items) s.threads.items s.marks.items } };
 }
 
 /// The initial value of each location of a test.
@@ -74,16 +78,18 @@ fn numbered(
     alloc: Global,
     threads: &[RunList],
     init: &[u32],
+    marks: &[Mark],
     choices: u64,
     number: u64,
 ) -> Result<Option<Graph>, AllocError>
+    requires marks { AreMarks (length init.now) threads.now marks.now }
     requires choices { choices ≡ count_choices threads.now }
     requires within { (i : ℕ) → i < count_choices threads.now → AreWithin (length init.now) (choice threads.now i) }
     requires size { size_of (record { init = init.now; threads = threads.now }) ≤ MOST_CANDIDATES }
     requires number { number < size_of (record { init = init.now; threads = threads.now }) }
     ensures { IfOk result (λ g. g ≡ graph_at (record { init = init.now; threads = threads.now }) number) }
 {
-    let position = locate(threads, init, choices, number);
+    let position = locate(threads, init, marks, choices, number);
     let runs = choice(alloc, threads, position.choice)?;
     assemble(alloc, init, runs, position.rest)
 }
@@ -105,14 +111,15 @@ impl Space {
         let Some(choices) = count_choices(&threads) else {
             return Err(SpaceFault::TooManyCandidates);
         };
-        let Some(size) = total(&threads, init.len(), choices) else {
+        let Some(tally) = total(alloc, &threads, init.len(), choices)? else {
             return Err(SpaceFault::TooManyCandidates);
         };
         Ok(Space {
             init,
             threads,
             choices,
-            size,
+            size: tally.size,
+            marks: tally.marks,
         })
     }
 
@@ -124,11 +131,18 @@ impl Space {
     }
 
     /// The candidate with this number, where it is an execution. It passes over the choices of runs
-    /// before its own.
+    /// between the mark before it and its own.
     pub fn graph(&self, alloc: Global, number: u64) -> Result<Option<Graph>, AllocError>
         requires { number < size_of self.now }
         ensures { IfOk result (λ g. g ≡ graph_at self.now number) }
     {
-        numbered(alloc, &self.threads, &self.init, self.choices, number)
+        numbered(
+            alloc,
+            &self.threads,
+            &self.init,
+            &self.marks,
+            self.choices,
+            number,
+        )
     }
 }

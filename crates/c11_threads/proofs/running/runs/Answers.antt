@@ -1,4 +1,4 @@
-use Rattle.std.proofs.Common.{◌∙◌, ◌≤◌, ap, sym, subst, length}
+use Rattle.std.proofs.Common.{◌≤◌, ap, sym, subst, length}
 use Rattle.std.proofs.lemmas.Result.{err_from_is_err_and}
 use Rattle.litmus_c.specs.Tree.{steps_of}
 use Rattle.c11_threads.specs.Unrolled.{Setting}
@@ -6,8 +6,8 @@ use Rattle.c11_threads.proofs.RunLists.{some_values}
 use Rattle.c11_threads.proofs.Whole.{unrolled, as_runs, all_listed, run_fault}
 use Rattle.c11_threads.proofs.running.runs.Goals as goal
 
-pub perform_all-requires-clause-values : goal.perform_all-requires-clause-values
-perform_all-requires-clause-values c =
+pub perform_from-requires-clause-values : goal.perform_from-requires-clause-values
+perform_from-requires-clause-values c =
     let P : Setting → Type 0 = λ s. 1 ≤ length s.values in
     subst P (sym c.within-setting.ensures) (some_values c.args.test.now)
 
@@ -24,4 +24,4 @@ returns-clause-each c =
     let t = c.args.test.now in
     let k = c.args.thread in
     let e = unrolled t k c.within-setting.result c.no_places.result (steps_of c.statements.result.now) c.in_ok-from.from c.within-setting.ensures c.no_places.ensures c.statements.ensures c.in_ok-from.ensures in
-    all_listed t k c.in_ok-runs_from.field-0.items (as_runs t k c.in_ok-runs_from.field-0.items c.deref-2.result.now _ (c.in_ok-runs_from.ensures) (c.deref-2.ensures.value ∙ c.in_ok-ends.ensures.done.0) e)
+    all_listed t k c.in_ok-runs_from.field-0.items (as_runs t k c.in_ok-runs_from.field-0.items c.in_ok-ends.ends.items _ c.in_ok-runs_from.ensures c.in_ok-ends.ensures.done.0 e)

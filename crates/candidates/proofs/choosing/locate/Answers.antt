@@ -3,8 +3,20 @@ use Rattle.candidates.specs.declared.fault.TheConstants.{MOST_CANDIDATES}
 use Rattle.candidates.specs.Executions.{block}
 use Rattle.candidates.specs.Candidates.{choice, count_choices}
 use Rattle.candidates.proofs.Caps.{capped_is_some, capped_unwrapped}
-use Rattle.candidates.proofs.Steps.{block_below, block_positive, stops, goes_on, still_below, none_left}
+use Rattle.candidates.proofs.Steps.{block_below, block_positive, stops, goes_on, still_below, none_left, mark_at, from_mark}
 use Rattle.candidates.proofs.choosing.locate.Goals as goal
+
+pub loop-choice-init : goal.loop-choice-init
+loop-choice-init c =
+    let threads = c.args.threads.now in
+    let init = c.args.init.now in
+    let m = c.nearest-from.result in
+    let h = mark_at (length init) threads c.args.marks.now m c.requires.marks c.nearest-from.ensures.from in
+    record {
+      is = from_mark init threads m c.args.number h c.nearest-from.ensures.before;
+      below = omega (arith, h.whole, c.nearest-from.ensures.before, c.requires.number);
+      within = omega (arith, h.within, c.requires.count);
+    }
 
 pub unwrap-size-requires : goal.unwrap-size-requires
 unwrap-size-requires c =

@@ -1,22 +1,24 @@
-use Rattle.std.proofs.Common.{◌≡◌, ◌∷◌, ◌∙◌, ◌-◌, length, ap, sym, arith}
+use Rattle.std.proofs.Common.{◌≡◌, ◌∷◌, ◌∙◌, ◌-◌, ◌≤◌, length, ap, sym, subst, arith, IfOk, IfErr}
+use Rattle.std.specs.List.{flat_map}
 use Rattle.std.specs.Vec.Iter.{into_iter_items}
 use Rattle.std.proofs.lemmas.Result.{err_from_is_err_and}
 use Rattle.litmus_c.specs.Tree.{step_of}
 use Rattle.c11_threads.specs.Unrolled.{step_runs}
-use Rattle.c11_threads.proofs.Turns.{some_step, way_fault, further, turned, turn_fault}
+use Rattle.c11_threads.specs.Faults.{IsFaultAt}
+use Rattle.c11_threads.proofs.Turns.{Ways, some_step, way_fault, further, turned, turn_fault, after_empty, in_block}
 use Rattle.c11_threads.proofs.unroll.Setting.+performing.Goals as goal
 
-pub perform_all-returns-in_err-ends-2-clause-fault : goal.perform_all-returns-in_err-ends-2-clause-fault
-perform_all-returns-in_err-ends-2-clause-fault n c =
-    let p = err_from_is_err_and c.from_residual-in_err-ends-2.result c.from_residual-in_err-ends-2.ensures.1 in
-    rw (p.1, p.2) (turn_fault c.args.self.now c.args.most c.requires.values c.args.ctrl.now c.args.statements.now c.loop-statement.statement-index c.statement-item.result c.loop-statement.ends.items _ c.in_err-ends-2.field-0.0
-    c.loop-statement-test.true c.statement-item.is c.loop-statement.invariant.is c.in_err-ends-2.ensures.fault)
+pub perform_all-returns-in_err-ends-clause-fault : goal.perform_all-returns-in_err-ends-clause-fault
+perform_all-returns-in_err-ends-clause-fault n c =
+    let p = err_from_is_err_and c.from_residual.result c.from_residual.ensures.1 in
+    rw (p.1, p.2) (turn_fault c.args.self.now c.args.most c.requires.values c.args.ctrl.now c.args.statements.now c.loop-statement.statement-index c.statement-item.result c.loop-statement.ends.items _ c.in_err-ends.field-0.0
+    c.loop-statement-test.true c.statement-item.is c.loop-statement.invariant.is c.in_err-ends.ensures.fault)
 
 pub perform_all-loop-statement-preserved : goal.perform_all-loop-statement-preserved
 perform_all-loop-statement-preserved n c = record {
-  is = further c.args.self.now c.args.ctrl.now c.args.statements.now c.loop-statement.statement-index c.statement-item.result c.loop-statement.ends.items c.in_ok-ends-2.ends.items _
-      c.loop-statement-test.true c.statement-item.is c.in_ok-ends-2.ensures.done.0 c.loop-statement.invariant.is;
-  within = c.in_ok-ends-2.ensures.done.1;
+  is = further c.args.self.now c.args.ctrl.now c.args.statements.now c.loop-statement.statement-index c.statement-item.result c.loop-statement.ends.items c.in_ok-ends.ends.items _
+      c.loop-statement-test.true c.statement-item.is c.in_ok-ends.ensures.done.0 c.loop-statement.invariant.is;
+  within = c.in_ok-ends.ensures.done.1;
 }
 
 pub perform_all-returns-clause-done : goal.perform_all-returns-clause-done
@@ -25,8 +27,8 @@ perform_all-returns-clause-done n c = (
   c.loop-statement.invariant.within,
 )
 
-pub perform_each-returns-in_err-more-clause-fault : goal.perform_each-returns-in_err-more-clause-fault
-perform_each-returns-in_err-more-clause-fault n c =
+pub perform_apart-returns-in_err-more-clause-fault : goal.perform_apart-returns-in_err-more-clause-fault
+perform_apart-returns-in_err-more-clause-fault n c =
     let p = err_from_is_err_and c.from_residual.result c.from_residual.ensures.1 in
     let s = c.args.self.now in
     let a = step_of c.args.statement.now in
@@ -37,3 +39,17 @@ perform_each-returns-in_err-more-clause-fault n c =
     let waiting = at.waiting - 1 in
     rw (p.1, p.2) (way_fault (step_runs a s c.args.ctrl.now) (some_step a s c.requires.values c.args.ctrl.now) s.thread (c.args.most - c.len.result - waiting) c.args.most waiting (into_iter_items at.from-iterator) rest c.in-Some.from
     at.ends.items _ c.in_err-more.field-0.0 steps at.invariant.is (omega (arith, at.invariant.waiting, short)) (omega (arith, at.invariant.within, at.invariant.waiting, short, c.len.ensures)) c.in_err-more.ensures.fault)
+
+pub perform_each-returns-in-Empty-clause-done : goal.perform_each-returns-in-Empty-clause-done
+perform_each-returns-in-Empty-clause-done n c =
+    (after_empty c.args.self.now c.args.ctrl.now c.args.statement.now c.args.starts.items c.in-Empty.is, c.requires.most)
+
+pub perform_each-returns-in-Block-clause-done : goal.perform_each-returns-in-Block-clause-done
+perform_each-returns-in-Block-clause-done n c =
+    let P : Ways → Type 0 = λ f. IfOk c.perform_all.result (λ v. (v.items ≡ flat_map f c.args.starts.items) × (length v.items ≤ c.args.most)) in
+    subst P (in_block c.args.self.now c.args.ctrl.now c.args.statement.now c.as_slice.result.now c.in-Block.statements c.in-Block.is c.as_slice.ensures.value) c.perform_all.ensures.done
+
+pub perform_each-returns-in-Block-clause-fault : goal.perform_each-returns-in-Block-clause-fault
+perform_each-returns-in-Block-clause-fault n c =
+    let P : Ways → Type 0 = λ f. IfErr c.perform_all.result (IsFaultAt c.args.self.now.thread c.args.most (length (flat_map f c.args.starts.items))) in
+    subst P (in_block c.args.self.now c.args.ctrl.now c.args.statement.now c.as_slice.result.now c.in-Block.statements c.in-Block.is c.as_slice.ensures.value) c.perform_all.ensures.fault

@@ -7,12 +7,12 @@ use Rattle.c11_threads.proofs.unroll.Setting.+performing.Given as goal
 
 abbrev pub invariant-perform_all-loop-statement : goal.invariant-perform_all-loop-statement
 invariant-perform_all-loop-statement l = record {
-  is : flat_map (steps_runs (steps_of (drop l.statement-index l.statements)) l.self l.ctrl) l.ends.items ≡ steps_runs (steps_of l.statements) l.self l.ctrl l.fn.from;
+  is : flat_map (steps_runs (steps_of (drop l.statement-index l.statements)) l.self l.ctrl) l.ends.items ≡ flat_map (steps_runs (steps_of l.statements) l.self l.ctrl) l.fn.starts.items;
   within : length l.ends.items ≤ l.most;
 }
 
-abbrev pub invariant-perform_each-loop-from : goal.invariant-perform_each-loop-from
-invariant-perform_each-loop-from l = record {
+abbrev pub invariant-perform_apart-loop-from : goal.invariant-perform_apart-loop-from
+invariant-perform_apart-loop-from l = record {
   is : l.ends.items ++ flat_map (step_runs (step_of l.statement) l.self l.ctrl) (into_iter_items l.from-iterator) ≡ flat_map (step_runs (step_of l.statement) l.self l.ctrl) l.fn.starts.items;
   within : length l.ends.items + l.waiting ≤ l.most;
   waiting : l.waiting ≡ length (into_iter_items l.from-iterator);
