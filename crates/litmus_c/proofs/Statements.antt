@@ -4,7 +4,7 @@ use Rattle.std.specs.Prelude.{◌++◌, Option, Some, None, Result, Ok, Err}
 use Rattle.descent.specs.Reading.{match_option, ◌>>=◌, repeated}
 use Rattle.descent.proofs.Tools.{bind_ok, cases_of, none_or_some, moved, Yields, Shows}
 use Rattle.descent.proofs.Turns.{repeated-keeps, repeated-more, items-more, Arrives, last, next}
-use Rattle.litmus_c.specs.declared.symbol.Operation.{Operation}
+use Rattle.litmus_c.specs.declared.atomics.Operation.{Operation}
 use Rattle.litmus_c.specs.declared.symbol.Symbol.{Symbol}
 use Rattle.litmus_c.specs.declared.symbol.Symbol.TheVariants.{Fixed, Call, Name}
 use Rattle.litmus_c.specs.declared.symbol.Terminal.{Terminal}

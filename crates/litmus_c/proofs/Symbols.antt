@@ -5,7 +5,7 @@ use Rattle.std.specs.Str.{bytes_eq}
 use Rattle.std.proofs.lemmas.Slice.Eq.{bytes_eq-Decides}
 use Rattle.descent.specs.Reading.{required}
 use Rattle.descent.proofs.Tools.{bind_ok, required_ok, moved, moved_look, chosen, cases_of}
-use Rattle.litmus_c.specs.declared.symbol.Operation.{Operation}
+use Rattle.litmus_c.specs.declared.atomics.Operation.{Operation}
 use Rattle.litmus_c.specs.declared.symbol.Symbol.{Symbol}
 use Rattle.litmus_c.specs.declared.symbol.Symbol.TheVariants.{Fixed, Call, Name, Number, Word as head_word, Foreign, Other}
 use Rattle.litmus_c.specs.declared.symbol.Terminal.{Terminal}
