@@ -1,6 +1,6 @@
 -- Orders, calls and right sides: what is read is in the grammar, and what is in the grammar is read.
-use Rattle.std.proofs.Common.{◌≡◌, ℕ, zero, suc, ◌<◌, List, [], ◌∷◌, ◌⊎◌, length, sym, subst, arith, inl, inr, refl, ap, ◌∙◌, rules}
-use Rattle.std.specs.Prelude.{Bool, true, false, ◌||◌, Some, None, Ok, Err, if◌then◌else◌}
+use Rattle.std.proofs.Common.{◌≡◌, ℕ, zero, suc, ◌<◌, List, [], ◌∷◌, ◌⊎◌, length, sym, subst, arith, inl, inr, refl, ap, ◌∙◌, rules, tests}
+use Rattle.std.specs.Prelude.{Bool, true, false, ◌||◌, ◌==◌, Some, None, Ok, Err, if◌then◌else◌}
 use Rattle.std.specs.List.{list_any}
 use Rattle.descent.specs.Reading.{match_option, ◌>>=◌, required}
 use Rattle.descent.proofs.Tools.{bind_ok, required_ok, cases_of, chosen, moved, moved_look, Yields}
@@ -85,22 +85,28 @@ last_order_shorter (last_order d m) = omega arith
 
 -- what closes a call
 
+some_orders : (p : Order) (os : List Order) → (length (p ∷ os) == 0) ≡ false
+some_orders p os = search (rules, tests)
+
+pub closing-some : (p : Order) (os : List Order) (ts : List Symbol) → closing_at (p ∷ os) ts ≡ (expected Comma ts >>= λ y. last_order_at (p ∷ os) y.1)
+unfolding closing_at
+closing-some p os ts = rw (some_orders p os)
+
 closing-sound : (os : List Order) → Sound (closing_at os) (IsClosing os)
 unfolding closing_at
 closing-sound [] ts rest a e =
     let y = bind_ok (expected RightParen ts) _ _ e in
     moved (λ l t. IsClosing [] ts l t) y.2 (subst (λ l. IsClosing [] l y.0.1 Sc) (sym (expected-ok RightParen ts y.0.1 y.0.0 y.1)) closing_sc)
 closing-sound (p ∷ os) ts rest a e =
-    let y = bind_ok (expected Comma ts) _ _ e in
+    let y = bind_ok (expected Comma ts) (λ y. last_order_at (p ∷ os) y.1) (a, rest) (sym (closing-some p os ts) ∙ e) in
     subst (λ l. IsClosing (p ∷ os) l rest a) (sym (expected-ok Comma ts y.0.1 y.0.0 y.1)) (closing_order (last_order-sound (p ∷ os) y.0.1 rest a y.2))
 
 none-last : {ts rest : List Symbol} {o : Order} → IsLastOrder [] ts rest o → ⊥
 none-last (last_order d m) = absurd m
 
 closing_order-first : (os : List Order) {ts rest : List Symbol} {o : Order} → IsLastOrder os ts rest o → Yields (closing_at os) (Fixed Comma ∷ ts) rest o
-unfolding closing_at
 closing_order-first [] d = absurd (none-last d)
-closing_order-first (p ∷ os) {ts} d = record { is = rw (expected-first Comma ts, (last_order-first d).is) }
+closing_order-first (p ∷ os) {ts} d = record { is = rw (closing-some p os (Fixed Comma ∷ ts), expected-first Comma ts, (last_order-first d).is) }
 
 closing_sc-first : (rest : List Symbol) → Yields (closing_at []) (Fixed RightParen ∷ rest) rest Sc
 unfolding closing_at
@@ -235,8 +241,8 @@ operation-sound c n ts rest a e = effect-sound c (effect_of c) refl n ts rest a 
 -- the call of a word has a value where the word's row says so
 
 never_valued : (c d : Operation) (f : Effect) → effect_of d ≡ f → is_valued f ≡ false → d ≡ c → has_value c ≡ true → ⊥
-never_valued c d f k no same h =
-    let yes : has_value d ≡ true = subst (λ (b : Operation). has_value b ≡ true) (sym same) h in
+never_valued c d f k lacks same h =
+    let given : has_value d ≡ true = subst (λ (b : Operation). has_value b ≡ true) (sym same) h in
     let also : has_value d ≡ is_valued f = ap is_valued k in
     cc
 
@@ -328,7 +334,7 @@ call-complete (call_fence {n} {c} {ts = ts} k o) = record { word = c; behind = F
 -- the word of a call that has a value
 
 valued_by : (c d : Operation) (f : Effect) → effect_of d ≡ f → is_valued f ≡ true → d ≡ c → has_value c ≡ true
-valued_by c d f k yes same = subst (λ (b : Operation). has_value b ≡ true) same (ap is_valued k ∙ yes)
+valued_by c d f k has same = subst (λ (b : Operation). has_value b ≡ true) same (ap is_valued k ∙ has)
 
 valued : {n : ℕ} {us rest : List Symbol} {a : Action} → IsCall n us rest a → HasValue a → (c : Operation) (ts : List Symbol) → us ≡ Call c ∷ ts → has_value c ≡ true
 valued (call_load {c = d} k o) h c ts e = let same : d ≡ c = cc in valued_by c d loads k refl same

@@ -26,7 +26,7 @@ use Rattle.litmus_c.specs.Misordered.{IsMisordered, misordered_load, misordered_
 use Rattle.litmus_c.specs.Reading.{Reading, Cause, syntax, misordered, after, expected, unless, name_at, number_look, number_at, before_name, call_word, open_at, location_at, register_at, place_at, bare, bound_at, behind_type, entry_at, ends_entry, entry_behind, entries_at, kind_at, behind_volatile, parameter_behind, parameters_more, parameters_at, parameters_closed, parameter_list_at, operator_at, Terms, unary_with, next_operand, operands, level_with, terms_below, expression_at, is_among, order_at, last_order_at, closing_at, located_at, target_at, valued_at, load_at, store_at, exchange_at, fence_at, effect_at, operation_at, value_at, computed_at, plain_at, right_at, declarator_at, declarators_more, declarators_at, assignment_at, write_at, declaration_at, performed_at, simple_at, closed_at, Inside, else_with, if_with, block_with, step_with, steps_more, steps_with, inside, step_at, steps_at, names_thread, thread_name_at, thread_at, threads_more, threads_at, ends_place, place_behind, places_at, bracketed_at, listed_at, equation_at, Propositions, denial, plain_atomic_at, denied_with, enclosed_with, atomic_with, conjunction_more, conjunction_with, or_more, or_with, proposition_with, propositions_below, kind_of_at, condition_at, word_at, language_at, end_at, initial_at, test_at}
 use Rattle.litmus_c.specs.Symbols.{looked_up}
 use Rattle.litmus_c.specs.Tree.{Word, Term, number, held, denied, Action, load, store, exchange, fence, Right, computed, plain_read, value_of, Declared, Step, empty, block, declare, assign, plain_write, perform, if_only, if_else, Steps, no_steps, followed}
-use Rattle.litmus_c.proofs.Calls.{in-among, located-sound, valued-sound}
+use Rattle.litmus_c.proofs.Calls.{in-among, closing-some, located-sound, valued-sound}
 use Rattle.litmus_c.proofs.Expressions.{operator-some}
 use Rattle.litmus_c.proofs.Ordered.{Tail, tail_here, tail_later, tail_behind, tail_first, Carries, kept, Ordered, fair_ok, fair_syntax, fair_deep, fair_bind, fair_match, fair_if, fair_behind, fair_made, takes_after, fair_take, fair_expected, fair_name, fair_number, fair_open, fair_repeated}
 use Rattle.litmus_c.proofs.Symbols.{number_look-some, call_word-some, before_name-same, unless-same, name-ok, expected-ok, open-ok}
@@ -136,8 +136,8 @@ record IsOtherBehind (os : List Order) (ts : List Symbol) : Type 0 where
 fair_closing : {X : Type 0} (os : List Order) (ts : List Symbol) → (IsOtherBehind os ts → X) → Ordered (λ _. X) ts (closing_at os ts)
 unfolding closing_at
 fair_closing [] ts q = fair_made kept _ (fair_expected RightParen ts)
-fair_closing (p ∷ os) ts q = fair_bind kept (fair_expected Comma ts) (λ y is. fair_last kept (p ∷ os) y.1 (λ b.
-    q (record { some = λ e. absurd (cc); inside = y.1; comma = expected-ok Comma ts y.1 y.0 is; other = b })))
+fair_closing {X} (p ∷ os) ts q = subst (λ (o : Reading Order). Ordered (λ _. X) ts o) (sym (closing-some p os ts)) (fair_bind kept (fair_expected Comma ts) (λ y is. fair_last kept (p ∷ os) y.1 (λ b.
+    q (record { some = λ e. absurd (cc); inside = y.1; comma = expected-ok Comma ts y.1 y.0 is; other = b }))))
 
 -- Calls.
 
