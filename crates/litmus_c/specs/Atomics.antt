@@ -22,8 +22,8 @@ pub data Effect : Type 0 where
   exchanges : Effect
   fences : Effect
 
--- A call: its word, what it does, and the orders of which its last argument is one. Where there are none,
--- it has no such argument, and its order is sc.
+-- A call: its word, what it does, and the orders that it takes as its last argument. One that takes none
+-- has no such argument, and its order is sc.
 pub record Row : Type 0 where
   pub word : Word
   pub does : Effect

@@ -124,7 +124,7 @@ mutual
 abbrev pub IsExpression : ℕ → List Symbol → List Symbol → Term → Type 0
 IsExpression n ts rest a = IsLevel 3 n ts rest a
 
--- Calls. specs/Atomics.antt has the row of each.
+-- Calls. Each is a row of specs/Atomics.antt.
 
 -- w names the order o
 abbrev pub IsOrder : Word → Order → Type 0
@@ -134,12 +134,12 @@ IsOrder w o = looked_up orders w ≡ Some o
 pub data IsLastOrder (os : List Order) : List Symbol → List Symbol → Order → Type 0 where
   last_order : {w : Word} {o : Order} {rest : List Symbol} → IsOrder w o → IsIn o os → IsLastOrder os (Name w ∷ Fixed RightParen ∷ rest) rest o
 
--- ")" where there are no such orders, and the order is sc; else "," order ")"
+-- the end of a call that takes these orders: ")" where it takes none, and its order is sc, or "," order ")"
 pub data IsClosing : List Order → List Symbol → List Symbol → Order → Type 0 where
   closing_sc : {rest : List Symbol} → IsClosing [] (Fixed RightParen ∷ rest) rest Sc
   closing_order : {os : List Order} {o : Order} {ts rest : List Symbol} → IsLastOrder os ts rest o → IsClosing os (Fixed Comma ∷ ts) rest o
 
--- a call, by its row
+-- a call: its word, and in parentheses its location and value, by what it does, and its order
 pub data IsCall : ℕ → List Symbol → List Symbol → Action → Type 0 where
   call_load : {n : ℕ} {c : Operation} {x : Word} {o : Order} {ts rest : List Symbol} → effect_of c ≡ loads → IsClosing (accepted c) ts rest o →
       IsCall (suc n) (Call c ∷ Fixed LeftParen ∷ Name x ∷ ts) rest (load x o)

@@ -279,7 +279,7 @@ valued_at n ts = do
   e ← expression_at x.0.1 x.1
   Ok ((x.0.0, e.0), e.1)
 
--- the end of a call: a closing parenthesis, in front of it one of these orders, if there are any
+-- the end of a call that takes these orders: a closing parenthesis, and in front of it an order, if it takes any
 unfoldable pub closing_at : List Order → List Symbol → Reading Order
 closing_at os ts = if length os == 0 then (expected RightParen ts >>= λ y. Ok (Sc, y.1)) else (expected Comma ts >>= λ y. last_order_at os y.1)
 

@@ -12,8 +12,8 @@ use crate::tree::{Call, Expression, RightSide};
 use events::Order;
 use wb_text::Name;
 
-/// The orders that a row says.
-macro_rules! taken {
+/// The orders that the call of a row writes.
+macro_rules! written {
     (sc) => { &[] };
     (all) => { orders!(listed()) };
     ([$($order:ident),*]) => { &[$(Order::$order),*] };
@@ -28,7 +28,7 @@ macro_rules! listed {
 macro_rules! read {
     (($reader:ident, $operation:ident, $nesting:ident) $($call:ident: $word:literal, $reads:ident, $takes:tt, $valued:literal;)*) => {
         match $operation {
-            $(Operation::$call => $reader.$reads(taken!($takes), $nesting),)*
+            $(Operation::$call => $reader.$reads(written!($takes), $nesting),)*
         }
     };
 }
@@ -68,7 +68,7 @@ impl<'a> Reader<'a> {
         Ok(order)
     }
 
-    /// The end of a call: ")", or "," order ")" where the call takes orders.
+    /// The end of a call: "," order ")", or ")" alone where none is accepted, and the order is `sc`.
     #[tactic(auto, unfolding(crate::specs::Reading::closing_at))]
     fn closing(&mut self, accepted: &[Order]) -> Result<Order, SyntaxFault>
         ensures { Gives (λ o. o) result self.new.rest.now (closing_at accepted.now self.old.rest.now) }
