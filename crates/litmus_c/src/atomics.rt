@@ -1,7 +1,7 @@
 //! The calls of C's atomics that a test has, and their orders: a row for each. (ISO/IEC 9899:2011, 7.17.)
 
 ghost use Rattle.std.specs.Prelude.{◌≡◌};
-ghost use Rattle.litmus_c.specs.Atomics.{calls, orders, has_value};
+ghost use Rattle.litmus_c.specs.Atomics.{calls, orders, accepted, has_value};
 ghost use Rattle.litmus_c.specs.Symbols.{looked_up};
 
 use events::Order;
@@ -19,8 +19,8 @@ pub enum Operation {
 }
 
 /// Hands the table of calls to a macro, behind what that macro is given. A row has the call, its word, the method of
-/// `Reader` that reads its arguments, the orders that it takes, and whether it has a value. A call that takes `sc`
-/// alone has no argument for its order.
+/// `Reader` that reads its arguments, the orders that it takes, and whether it has a value. `sc`: it has no argument
+/// for its order.
 macro_rules! calls {
     ($act:ident $given:tt) => {
         $act! { $given
@@ -48,7 +48,7 @@ macro_rules! orders {
     };
 }
 
-pub(crate) use {calls, orders};
+pub(crate) use calls;
 
 /// The call of the row that spells these bytes.
 macro_rules! call_spelled {
@@ -66,6 +66,27 @@ macro_rules! order_spelled {
             return Some(Order::$order);
         })*
     };
+}
+
+/// The orders that the call's row says.
+macro_rules! taken {
+    (($operation:ident) $($call:ident: $word:literal, $reads:ident, $takes:tt, $valued:literal;)*) => {
+        match $operation {
+            $(Operation::$call => written!($takes),)*
+        }
+    };
+}
+
+/// The orders that a row lists as its call's last argument.
+macro_rules! written {
+    (sc) => { &[] };
+    (all) => { orders!(listed()) };
+    ([$($order:ident),*]) => { &[$(Order::$order),*] };
+}
+
+/// The orders of all rows.
+macro_rules! listed {
+    (() $($order:ident: $word:literal;)*) => { &[$(Order::$order),*] };
 }
 
 /// What the call's row says of its value.
@@ -91,6 +112,13 @@ pub fn order_named(bytes: &[u8]) -> Option<Order>
 {
     orders!(order_spelled(bytes));
     None
+}
+
+/// The orders that a call takes as its last argument. One that takes none has no such argument, and its order is `sc`.
+pub fn accepted(operation: Operation) -> &'static [Order]
+    ensures { result.now ≡ accepted operation }
+{
+    calls!(taken(operation))
 }
 
 /// Whether a call has a value.

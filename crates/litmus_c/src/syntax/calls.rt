@@ -4,7 +4,7 @@ ghost use Rattle.std.specs.Prelude.{◌≡◌};
 ghost use Rattle.litmus_c.specs.Reading.{Gives, order_at, last_order_at, closing_at, located_at, target_at, valued_at, load_at, store_at, exchange_at, fence_at, operation_at, is_among, value_at, computed_at, plain_at, right_at};
 ghost use Rattle.litmus_c.specs.Tree.{term_of, action_of, right_of};
 
-use crate::atomics::{Operation, calls, has_value, order_named, orders};
+use crate::atomics::{Operation, accepted, calls, has_value, order_named};
 use crate::symbol::Terminal;
 use crate::syntax::Reader;
 use crate::syntax_fault::SyntaxFault;
@@ -12,23 +12,14 @@ use crate::tree::{Call, Expression, RightSide};
 use events::Order;
 use wb_text::Name;
 
-/// The orders that the call of a row writes.
-macro_rules! written {
-    (sc) => { &[] };
-    (all) => { orders!(listed()) };
-    ([$($order:ident),*]) => { &[$(Order::$order),*] };
-}
-
-/// The order of each row.
-macro_rules! listed {
-    (() $($order:ident: $word:literal;)*) => { &[$(Order::$order),*] };
-}
-
-/// What the row of the call reads.
+/// What the method of the call's row reads.
 macro_rules! read {
-    (($reader:ident, $operation:ident, $nesting:ident) $($call:ident: $word:literal, $reads:ident, $takes:tt, $valued:literal;)*) => {
+    (
+        ($reader:ident, $operation:ident, $nesting:ident)
+        $($call:ident: $word:literal, $reads:ident, $takes:tt, $valued:literal;)*
+    ) => {
         match $operation {
-            $(Operation::$call => $reader.$reads(written!($takes), $nesting),)*
+            $(Operation::$call => $reader.$reads(accepted($operation), $nesting),)*
         }
     };
 }
