@@ -1,9 +1,8 @@
 -- Orders, calls and right sides: what is read is in the grammar, and what is in the grammar is read.
-use Rattle.std.proofs.Common.{◌≡◌, ℕ, zero, suc, ◌<◌, List, [], ◌∷◌, ◌⊎◌, length, sym, subst, arith, inl, inr, refl, ap, ◌∙◌, rules, tests}
+use Rattle.std.proofs.Common.{◌≡◌, ℕ, suc, ◌<◌, List, [], ◌∷◌, ◌⊎◌, length, sym, subst, arith, inl, inr, refl, ap, ◌∙◌, rules, tests}
 use Rattle.std.specs.Prelude.{Bool, true, false, ◌||◌, ◌==◌, Some, None, Ok, Err, if◌then◌else◌}
-use Rattle.std.specs.List.{list_any}
-use Rattle.descent.specs.Reading.{match_option, ◌>>=◌, required}
-use Rattle.descent.proofs.Tools.{bind_ok, required_ok, cases_of, chosen, moved, moved_look, Yields}
+use Rattle.descent.specs.Reading.{◌>>=◌, required}
+use Rattle.descent.proofs.Tools.{bind_ok, required_ok, cases_of, chosen, moved, Yields}
 use Rattle.events.specs.contracts.event.OrderPartialEq.TheImpl.{ghosts as order_equality}
 use Rattle.events.specs.declared.event.Order.{Order}
 use Rattle.events.specs.declared.event.Order.TheVariants.{Sc}
@@ -14,8 +13,8 @@ use Rattle.litmus_c.specs.declared.symbol.Symbol.TheVariants.{Fixed, Call, Name}
 use Rattle.litmus_c.specs.declared.symbol.Terminal.{Terminal}
 use Rattle.litmus_c.specs.declared.symbol.Terminal.TheVariants.{LeftParen, RightParen, Comma, Star}
 use Rattle.litmus_c.specs.Atomics.{orders, Effect, loads, stores, exchanges, fences, effect_of, accepted, is_valued, has_value}
-use Rattle.litmus_c.specs.Grammar.{IsExpression, level_unary, level_tighter, level_joined, IsLevel, IsUnary, unary_denied, unary_paren, unary_name, unary_number, IsOrder, IsLastOrder, last_order, IsClosing, closing_sc, closing_order, IsCall, call_load, call_store, call_exchange, call_fence, HasValue, load_has, exchange_has, IsRight, right_computed, right_read, right_call}
-use Rattle.litmus_c.specs.Reading.{Reading, syntax, misordered, after, expected, unless, name_at, call_word, before_name, open_at, expression_at, is_among, order_at, last_order_at, closing_at, located_at, target_at, valued_at, load_at, store_at, exchange_at, fence_at, effect_at, operation_at, value_at, computed_at, plain_at, right_at}
+use Rattle.litmus_c.specs.Grammar.{IsExpression, level_unary, level_tighter, level_joined, IsLevel, IsUnary, unary_denied, unary_paren, unary_name, unary_number, IsLastOrder, last_order, IsClosing, closing_sc, closing_order, IsCall, call_load, call_store, call_exchange, call_fence, HasValue, load_has, exchange_has, IsRight, right_computed, right_read, right_call}
+use Rattle.litmus_c.specs.Reading.{syntax, misordered, after, expected, name_at, call_word, open_at, expression_at, is_among, order_at, last_order_at, closing_at, located_at, target_at, valued_at, load_at, store_at, exchange_at, fence_at, effect_at, operation_at, value_at, computed_at, plain_at, right_at}
 use Rattle.litmus_c.specs.Symbols.{looked_up}
 use Rattle.litmus_c.specs.Tree.{Word, Term, Action, load, store, exchange, fence, Right, computed, plain_read, value_of}
 use Rattle.litmus_c.proofs.Expressions.{Ends, level_shorter, expression-sound, expression-complete, paren-ends, comma-ends}

@@ -1,6 +1,6 @@
 -- Expressions, calls and right sides: where reading gives `deep`, something nests too deep.
 use Rattle.std.proofs.Common.{◌≡◌, ℕ, zero, suc, List, ◌∷◌, sym, subst, inl, inr, refl}
-use Rattle.std.specs.Prelude.{true, ◌==◌, length, Option, Some, None, Ok, Err, if◌then◌else◌}
+use Rattle.std.specs.Prelude.{◌==◌, length, Option, Some, None, Ok, Err, if◌then◌else◌}
 use Rattle.descent.specs.Reading.{◌>>=◌, required}
 use Rattle.descent.proofs.Tools.{bind_ok, chosen, moved}
 use Rattle.events.specs.declared.event.Order.{Order}

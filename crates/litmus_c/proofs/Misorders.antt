@@ -1,34 +1,29 @@
 -- Where reading a test gives `misordered`, a call in it has an order that it does not take.
-use Rattle.std.proofs.Common.{◌≡◌, ◌≢◌, ℕ, zero, suc, List, [], ◌∷◌, refl, sym, subst, ap, ◌∙◌, inl, inr}
-use Rattle.std.specs.Prelude.{◌++◌, map, length, Bool, true, false, Option, Some, None, Result, Ok, Err, if◌then◌else◌, codes}
+use Rattle.std.proofs.Common.{◌≡◌, ◌≢◌, ℕ, zero, suc, List, [], ◌∷◌, refl, sym, subst, inl, inr}
+use Rattle.std.specs.Prelude.{length, false, Option, Some, None, Result, Ok, Err, codes}
 use Rattle.std.specs.Str.{bytes_eq}
-use Rattle.descent.specs.Reading.{Look, match_option, ◌>>=◌, required, repeated}
+use Rattle.descent.specs.Reading.{Look, match_option, required}
 use Rattle.descent.proofs.Tools.{bind_ok, bind_err, required_ok, cases_of, chosen, moved}
 use Rattle.events.specs.declared.event.Order.{Order}
 use Rattle.listings.specs.Lists.{IsIn}
 use Rattle.conditions.specs.declared.place.Binding.{Binding}
 use Rattle.conditions.specs.declared.place.Place.{Place}
 use Rattle.conditions.specs.declared.place.Place.TheVariants.{Reg, Loc}
-use Rattle.conditions.specs.declared.condition.Kind.{Kind}
-use Rattle.conditions.specs.declared.condition.Kind.TheVariants as kinds
-use Rattle.conditions.specs.Conditions.{Formula, truth, falsehood, equals, negation, conjunction, disjunction, implication, Condition}
 use Rattle.litmus_c.specs.declared.atomics.Operation.{Operation}
 use Rattle.litmus_c.specs.declared.symbol.Symbol.{Symbol}
 use Rattle.litmus_c.specs.declared.symbol.Symbol.TheVariants.{Fixed, Call, Name, Number, Word as head_word}
-use Rattle.litmus_c.specs.declared.symbol.Terminal.{Terminal}
 use Rattle.litmus_c.specs.declared.symbol.Terminal.TheVariants.{Int, AtomicInt, Volatile, If, Else, True, False, Exists, Forall, Not, Locations, LeftParen, RightParen, LeftBrace, RightBrace, LeftBracket, RightBracket, Semicolon, Colon, Comma, Assign, Star, Tilde, Bang, And, Or, Arrow}
-use Rattle.litmus_c.specs.declared.tree.LocationKind.TheVariants.{Atomic, Plain}
 use Rattle.litmus_c.specs.declared.tree.Parameter.{Parameter}
 use Rattle.litmus_c.specs.Atomics.{orders, Effect, loads, stores, exchanges, fences, effect_of, accepted, TakesValue, store_takes, exchange_takes, has_value}
-use Rattle.litmus_c.specs.Drafts.{Listing, Written, is_parameter}
+use Rattle.litmus_c.specs.Drafts.{Listing, is_parameter}
 use Rattle.litmus_c.specs.Grammar.{IsExpression, IsOrder}
-use Rattle.litmus_c.specs.Misordered.{IsMisordered, misordered_load, misordered_value, misordered_fence, HasMisordered, misordered_first, misordered_later}
-use Rattle.litmus_c.specs.Reading.{Reading, Cause, syntax, misordered, after, expected, unless, name_at, number_look, number_at, before_name, call_word, open_at, location_at, register_at, place_at, bare, bound_at, behind_type, entry_at, ends_entry, entry_behind, entries_at, kind_at, behind_volatile, parameter_behind, parameters_more, parameters_at, parameters_closed, parameter_list_at, operator_at, Terms, unary_with, next_operand, operands, level_with, terms_below, expression_at, is_among, order_at, last_order_at, closing_at, located_at, target_at, valued_at, load_at, store_at, exchange_at, fence_at, effect_at, operation_at, value_at, computed_at, plain_at, right_at, declarator_at, declarators_more, declarators_at, assignment_at, write_at, declaration_at, performed_at, simple_at, closed_at, Inside, else_with, if_with, block_with, step_with, steps_more, steps_with, inside, step_at, steps_at, names_thread, thread_name_at, thread_at, threads_more, threads_at, ends_place, place_behind, places_at, bracketed_at, listed_at, equation_at, Propositions, denial, plain_atomic_at, denied_with, enclosed_with, atomic_with, conjunction_more, conjunction_with, or_more, or_with, proposition_with, propositions_below, kind_of_at, condition_at, word_at, language_at, end_at, initial_at, test_at}
+use Rattle.litmus_c.specs.Misordered.{misordered_load, misordered_value, misordered_fence, HasMisordered, misordered_first, misordered_later}
+use Rattle.litmus_c.specs.Reading.{Reading, Cause, syntax, misordered, after, unless, name_at, number_look, before_name, call_word, open_at, location_at, register_at, place_at, bare, bound_at, behind_type, entry_at, ends_entry, entry_behind, entries_at, kind_at, behind_volatile, parameter_behind, parameters_more, parameters_at, parameters_closed, parameter_list_at, operator_at, Terms, unary_with, next_operand, operands, level_with, terms_below, expression_at, is_among, order_at, last_order_at, closing_at, located_at, target_at, valued_at, load_at, store_at, exchange_at, fence_at, effect_at, operation_at, value_at, computed_at, plain_at, right_at, declarator_at, declarators_more, declarators_at, assignment_at, write_at, declaration_at, performed_at, simple_at, closed_at, Inside, else_with, if_with, block_with, step_with, steps_more, steps_with, inside, names_thread, thread_name_at, thread_at, threads_more, threads_at, ends_place, place_behind, places_at, bracketed_at, listed_at, equation_at, Propositions, denial, plain_atomic_at, denied_with, enclosed_with, atomic_with, conjunction_more, conjunction_with, or_more, or_with, proposition_with, propositions_below, kind_of_at, condition_at, word_at, language_at, end_at, initial_at, test_at}
 use Rattle.litmus_c.specs.Symbols.{looked_up}
-use Rattle.litmus_c.specs.Tree.{Word, Term, number, held, denied, Action, load, store, exchange, fence, Right, computed, plain_read, value_of, Declared, Step, empty, block, declare, assign, plain_write, perform, if_only, if_else, Steps, no_steps, followed}
+use Rattle.litmus_c.specs.Tree.{Word, Term, number, held, denied, Declared, Step, Steps, no_steps}
 use Rattle.litmus_c.proofs.Calls.{in-among, closing-some, located-sound, valued-sound}
 use Rattle.litmus_c.proofs.Expressions.{operator-some}
-use Rattle.litmus_c.proofs.Ordered.{Tail, tail_here, tail_later, tail_behind, tail_first, Carries, kept, Ordered, fair_ok, fair_syntax, fair_deep, fair_bind, fair_match, fair_if, fair_behind, fair_made, takes_after, fair_take, fair_expected, fair_name, fair_number, fair_open, fair_repeated}
+use Rattle.litmus_c.proofs.Ordered.{Tail, tail_here, tail_later, tail_first, Carries, kept, Ordered, fair_ok, fair_syntax, fair_deep, fair_bind, fair_match, fair_if, fair_behind, fair_made, takes_after, fair_take, fair_expected, fair_name, fair_number, fair_open, fair_repeated}
 use Rattle.litmus_c.proofs.Symbols.{number_look-some, call_word-some, before_name-same, unless-same, name-ok, expected-ok, open-ok}
 
 -- Expressions have no calls.

@@ -2,7 +2,7 @@
 -- IsX n ts rest a says that the symbols ts begin with the X a, which nests at most n deep, and that the symbols
 -- rest follow it. Each of these nests one deeper than what it stands in: the inside of parentheses and of a block,
 -- the operand of `!`, `~` and `not`, an arm of an `if`, and the right side of `=>`.
-use Rattle.std.specs.Prelude.{◌≡◌, ◌≢◌, ℕ, List, [], ◌∷◌, ◌++◌, length, Option, Some, None, codes}
+use Rattle.std.specs.Prelude.{◌≡◌, ◌≢◌, ℕ, List, [], ◌∷◌, ◌++◌, length, Some, None, codes}
 use Rattle.std.specs.Fmt.{decimal}
 use Rattle.std.proofs.Common.{zero, suc}
 use Rattle.listings.specs.Lists.{IsIn}
