@@ -1,22 +1,21 @@
 -- Orders, calls and right sides: what is read is in the grammar, and what is in the grammar is read.
-use Rattle.std.proofs.Common.{◌≡◌, ℕ, zero, suc, ◌<◌, List, [], ◌∷◌, ◌⊎◌, length, sym, subst, arith, inl, inr, refl, ap, ◌∙◌, rules}
-use Rattle.std.specs.Prelude.{Bool, true, false, ◌||◌, Some, None, Ok, Err, if◌then◌else◌}
-use Rattle.std.specs.List.{list_any}
-use Rattle.descent.specs.Reading.{match_option, ◌>>=◌, required}
-use Rattle.descent.proofs.Tools.{bind_ok, required_ok, cases_of, chosen, moved, moved_look, Yields}
+use Rattle.std.proofs.Common.{◌≡◌, ℕ, suc, ◌<◌, List, [], ◌∷◌, ◌⊎◌, length, sym, subst, arith, inl, inr, refl, ap, ◌∙◌, rules, tests}
+use Rattle.std.specs.Prelude.{Bool, true, false, ◌||◌, ◌==◌, Some, None, Ok, Err, if◌then◌else◌}
+use Rattle.descent.specs.Reading.{◌>>=◌, required}
+use Rattle.descent.proofs.Tools.{bind_ok, required_ok, cases_of, chosen, moved, Yields}
 use Rattle.events.specs.contracts.event.OrderPartialEq.TheImpl.{ghosts as order_equality}
 use Rattle.events.specs.declared.event.Order.{Order}
 use Rattle.events.specs.declared.event.Order.TheVariants.{Sc}
 use Rattle.listings.specs.Lists.{IsIn}
-use Rattle.litmus_c.specs.declared.symbol.Operation.{Operation}
-use Rattle.litmus_c.specs.declared.symbol.Operation.TheVariants.{Load, LoadExplicit, Store, StoreExplicit, Exchange, ExchangeExplicit, Fence}
+use Rattle.litmus_c.specs.declared.atomics.Operation.{Operation}
 use Rattle.litmus_c.specs.declared.symbol.Symbol.{Symbol}
 use Rattle.litmus_c.specs.declared.symbol.Symbol.TheVariants.{Fixed, Call, Name}
 use Rattle.litmus_c.specs.declared.symbol.Terminal.{Terminal}
 use Rattle.litmus_c.specs.declared.symbol.Terminal.TheVariants.{LeftParen, RightParen, Comma, Star}
-use Rattle.litmus_c.specs.Grammar.{IsExpression, level_unary, level_tighter, level_joined, IsLevel, IsUnary, unary_denied, unary_paren, unary_name, unary_number, IsOrder, load_orders, store_orders, all_orders, IsLastOrder, last_order, IsCall, call_load, call_load_explicit, call_store, call_store_explicit, call_exchange, call_exchange_explicit, call_fence, HasValue, load_has, exchange_has, IsRight, right_computed, right_read, right_call}
-use Rattle.litmus_c.specs.Reading.{Reading, syntax, misordered, after, expected, unless, name_at, call_word, before_name, open_at, expression_at, is_among, order_at, last_order_at, located_at, target_at, valued_at, stored_at, load_at, load_explicit_at, store_at, store_explicit_at, exchange_at, exchange_explicit_at, fence_at, operation_at, has_value, value_at, computed_at, plain_at, right_at}
-use Rattle.litmus_c.specs.Symbols.{orders, looked_up}
+use Rattle.litmus_c.specs.Atomics.{orders, Effect, loads, stores, exchanges, fences, effect_of, accepted, is_valued, has_value}
+use Rattle.litmus_c.specs.Grammar.{IsExpression, level_unary, level_tighter, level_joined, IsLevel, IsUnary, unary_denied, unary_paren, unary_name, unary_number, IsLastOrder, last_order, IsClosing, closing_sc, closing_order, IsCall, call_load, call_store, call_exchange, call_fence, HasValue, load_has, exchange_has, IsRight, right_computed, right_read, right_call}
+use Rattle.litmus_c.specs.Reading.{syntax, misordered, after, expected, name_at, call_word, open_at, expression_at, is_among, order_at, last_order_at, closing_at, located_at, target_at, valued_at, load_at, store_at, exchange_at, fence_at, effect_at, operation_at, value_at, computed_at, plain_at, right_at}
+use Rattle.litmus_c.specs.Symbols.{looked_up}
 use Rattle.litmus_c.specs.Tree.{Word, Term, Action, load, store, exchange, fence, Right, computed, plain_read, value_of}
 use Rattle.litmus_c.proofs.Expressions.{Ends, level_shorter, expression-sound, expression-complete, paren-ends, comma-ends}
 use Rattle.litmus_c.proofs.Sounds.{Sound}
@@ -83,14 +82,56 @@ last_order-first {os} (last_order {w} {o} {rest} d m) = record { is = rw (d, in-
 last_order_shorter : {os : List Order} {ts rest : List Symbol} {o : Order} → IsLastOrder os ts rest o → length rest < length ts
 last_order_shorter (last_order d m) = omega arith
 
+-- what closes a call
+
+some_orders : (p : Order) (os : List Order) → (length (p ∷ os) == 0) ≡ false
+some_orders p os = search (rules, tests)
+
+pub closing-some : (p : Order) (os : List Order) (ts : List Symbol) → closing_at (p ∷ os) ts ≡ (expected Comma ts >>= λ y. last_order_at (p ∷ os) y.1)
+unfolding closing_at
+closing-some p os ts = rw (some_orders p os)
+
+closing-sound : (os : List Order) → Sound (closing_at os) (IsClosing os)
+unfolding closing_at
+closing-sound [] ts rest a e =
+    let y = bind_ok (expected RightParen ts) _ _ e in
+    moved (λ l t. IsClosing [] ts l t) y.2 (subst (λ l. IsClosing [] l y.0.1 Sc) (sym (expected-ok RightParen ts y.0.1 y.0.0 y.1)) closing_sc)
+closing-sound (p ∷ os) ts rest a e =
+    let y = bind_ok (expected Comma ts) (λ y. last_order_at (p ∷ os) y.1) (a, rest) (sym (closing-some p os ts) ∙ e) in
+    subst (λ l. IsClosing (p ∷ os) l rest a) (sym (expected-ok Comma ts y.0.1 y.0.0 y.1)) (closing_order (last_order-sound (p ∷ os) y.0.1 rest a y.2))
+
+none-last : {ts rest : List Symbol} {o : Order} → IsLastOrder [] ts rest o → ⊥
+none-last (last_order d m) = absurd m
+
+closing_order-first : (os : List Order) {ts rest : List Symbol} {o : Order} → IsLastOrder os ts rest o → Yields (closing_at os) (Fixed Comma ∷ ts) rest o
+closing_order-first [] d = absurd (none-last d)
+closing_order-first (p ∷ os) {ts} d = record { is = rw (closing-some p os (Fixed Comma ∷ ts), expected-first Comma ts, (last_order-first d).is) }
+
+closing_sc-first : (rest : List Symbol) → Yields (closing_at []) (Fixed RightParen ∷ rest) rest Sc
+unfolding closing_at
+closing_sc-first rest = record { is = rw (expected-first RightParen rest) }
+
+closing-first : {os : List Order} {ts rest : List Symbol} {o : Order} → IsClosing os ts rest o → Yields (closing_at os) ts rest o
+closing-first (closing_sc {rest}) = closing_sc-first rest
+closing-first (closing_order {os} d) = closing_order-first os d
+
+closing_shorter : {os : List Order} {ts rest : List Symbol} {o : Order} → IsClosing os ts rest o → length rest < length ts
+closing_shorter closing_sc = omega arith
+closing_shorter (closing_order d) = omega (arith, last_order_shorter d)
+
+-- an expression ends where a call is closed
+closing-ends : {os : List Order} {ts rest : List Symbol} {o : Order} → IsClosing os ts rest o → Ends 3 ts
+closing-ends (closing_sc {rest}) = paren-ends 3 rest
+closing-ends (closing_order {ts = ts} d) = comma-ends 3 ts
+
 -- arguments
 
 -- an opening parenthesis and a location, which leave m levels
-record IsLocated (n : ℕ) (ts rest : List Symbol) (x : Word × ℕ) : Type 0 where
-  level : n ≡ suc x.1
-  front : ts ≡ Fixed LeftParen ∷ Name x.0 ∷ rest
+pub record IsLocated (n : ℕ) (ts rest : List Symbol) (x : Word × ℕ) : Type 0 where
+  pub level : n ≡ suc x.1
+  pub front : ts ≡ Fixed LeftParen ∷ Name x.0 ∷ rest
 
-located-sound : (n : ℕ) → Sound (located_at n) (IsLocated n)
+pub located-sound : (n : ℕ) → Sound (located_at n) (IsLocated n)
 unfolding located_at
 located-sound n ts rest a e =
     let m = bind_ok (open_at n ts) _ _ e in
@@ -130,7 +171,7 @@ pub record IsValued (n : ℕ) (ts rest : List Symbol) (v : Word × Term) : Type 
   pub front : ts ≡ Fixed LeftParen ∷ Name v.0 ∷ Fixed Comma ∷ from
   pub value : IsExpression inner from rest v.1
 
-valued-sound : (n : ℕ) → Sound (valued_at n) (IsValued n)
+pub valued-sound : (n : ℕ) → Sound (valued_at n) (IsValued n)
 unfolding valued_at
 valued-sound n ts rest a e =
     let x = bind_ok (target_at n ts) _ _ e in
@@ -142,18 +183,7 @@ valued-first : (n : ℕ) (x : Word) {ts rest : List Symbol} {e : Term} → IsExp
 unfolding valued_at
 valued-first n x {ts} d ends = record { is = rw (target-first n x ts, (expression-complete d ends).is) }
 
-pub stored-sound : (n : ℕ) → Sound (stored_at n) (λ ts rest v. IsValued n ts (Fixed Comma ∷ rest) v)
-unfolding stored_at
-stored-sound n ts rest a e =
-    let v = bind_ok (valued_at n ts) _ _ e in
-    let y = bind_ok (expected Comma v.0.1) _ _ v.2 in
-    moved (λ l t. IsValued n ts (Fixed Comma ∷ l) t) y.2 (subst (λ l. IsValued n ts l v.0.0) (expected-ok Comma v.0.1 y.0.1 y.0.0 y.1) (valued-sound n ts v.0.1 v.0.0 v.1))
-
-stored-first : (n : ℕ) (x : Word) {ts rest : List Symbol} {e : Term} → IsExpression n ts (Fixed Comma ∷ rest) e → Yields (stored_at (suc n)) (Fixed LeftParen ∷ Name x ∷ Fixed Comma ∷ ts) rest (x, e)
-unfolding stored_at
-stored-first n x {rest = rest} d = record { is = rw ((valued-first n x d (comma-ends 3 rest)).is, expected-first Comma rest) }
-
--- calls, a row for each
+-- calls, by what they do
 
 -- what stands behind the word of a call
 abbrev Behind : Operation → ℕ → List Symbol → List Symbol → Action → Type 0
@@ -165,86 +195,61 @@ placed c n m ts us rest a e f d =
     let P : ℕ → List Symbol → Type 0 = λ k l. Behind c k l rest a in
     subst (λ k. P k ts) (sym e) (subst (λ l. P (suc m) l) (sym f) d)
 
-load-sound : (n : ℕ) → Sound (load_at n) (Behind Load n)
+load-sound : (c : Operation) → effect_of c ≡ loads → (n : ℕ) → Sound (load_at (accepted c) n) (Behind c n)
 unfolding load_at
-load-sound n ts rest a e =
+load-sound c k n ts rest a e =
     let x = bind_ok (located_at n ts) _ _ e in
-    let y = bind_ok (expected RightParen x.0.1) _ _ x.2 in
+    let o = bind_ok (closing_at (accepted c) x.0.1) _ _ x.2 in
     let d = located-sound n ts x.0.1 x.0.0 x.1 in
-    let b : ts ≡ Fixed LeftParen ∷ Name x.0.0.0 ∷ x.0.1 = d.front in
-    let c : x.0.1 ≡ Fixed RightParen ∷ y.0.1 = expected-ok RightParen x.0.1 y.0.1 y.0.0 y.1 in
-    let same : ts ≡ Fixed LeftParen ∷ Name x.0.0.0 ∷ Fixed RightParen ∷ y.0.1 = cc in
-    moved (λ l t. Behind Load n ts l t) y.2 (placed Load n x.0.0.1 ts _ y.0.1 _ d.level same call_load)
+    moved (λ l t. Behind c n ts l t) o.2 (placed c n x.0.0.1 ts _ o.0.1 _ d.level d.front (call_load k (closing-sound (accepted c) x.0.1 o.0.1 o.0.0 o.1)))
 
-load_explicit-sound : (n : ℕ) → Sound (load_explicit_at n) (Behind LoadExplicit n)
-unfolding load_explicit_at
-load_explicit-sound n ts rest a e =
-    let x = bind_ok (target_at n ts) _ _ e in
-    let o = bind_ok (last_order_at load_orders x.0.1) _ _ x.2 in
-    let d = target-sound n ts x.0.1 x.0.0 x.1 in
-    moved (λ l t. Behind LoadExplicit n ts l t) o.2 (placed LoadExplicit n x.0.0.1 ts _ o.0.1 _ d.level d.front (call_load_explicit (last_order-sound load_orders x.0.1 o.0.1 o.0.0 o.1)))
-
-store-sound : (n : ℕ) → Sound (store_at n) (Behind Store n)
+store-sound : (c : Operation) → effect_of c ≡ stores → (n : ℕ) → Sound (store_at (accepted c) n) (Behind c n)
 unfolding store_at
-store-sound n ts rest a e =
+store-sound c k n ts rest a e =
     let v = bind_ok (valued_at n ts) _ _ e in
-    let y = bind_ok (expected RightParen v.0.1) _ _ v.2 in
+    let o = bind_ok (closing_at (accepted c) v.0.1) _ _ v.2 in
     let d = valued-sound n ts v.0.1 v.0.0 v.1 in
-    moved (λ l t. Behind Store n ts l t) y.2 (placed Store n d.inner ts _ y.0.1 _ d.level d.front
-    (call_store (subst (λ l. IsExpression d.inner d.from l v.0.0.1) (expected-ok RightParen v.0.1 y.0.1 y.0.0 y.1) d.value)))
+    moved (λ l t. Behind c n ts l t) o.2 (placed c n d.inner ts _ o.0.1 _ d.level d.front (call_store k d.value (closing-sound (accepted c) v.0.1 o.0.1 o.0.0 o.1)))
 
-store_explicit-sound : (n : ℕ) → Sound (store_explicit_at n) (Behind StoreExplicit n)
-unfolding store_explicit_at
-store_explicit-sound n ts rest a e =
-    let v = bind_ok (stored_at n ts) _ _ e in
-    let o = bind_ok (last_order_at store_orders v.0.1) _ _ v.2 in
-    let d = stored-sound n ts v.0.1 v.0.0 v.1 in
-    moved (λ l t. Behind StoreExplicit n ts l t) o.2 (placed StoreExplicit n d.inner ts _ o.0.1 _ d.level d.front (call_store_explicit d.value (last_order-sound store_orders v.0.1 o.0.1 o.0.0 o.1)))
-
-exchange-sound : (n : ℕ) → Sound (exchange_at n) (Behind Exchange n)
+exchange-sound : (c : Operation) → effect_of c ≡ exchanges → (n : ℕ) → Sound (exchange_at (accepted c) n) (Behind c n)
 unfolding exchange_at
-exchange-sound n ts rest a e =
+exchange-sound c k n ts rest a e =
     let v = bind_ok (valued_at n ts) _ _ e in
-    let y = bind_ok (expected RightParen v.0.1) _ _ v.2 in
+    let o = bind_ok (closing_at (accepted c) v.0.1) _ _ v.2 in
     let d = valued-sound n ts v.0.1 v.0.0 v.1 in
-    moved (λ l t. Behind Exchange n ts l t) y.2 (placed Exchange n d.inner ts _ y.0.1 _ d.level d.front
-    (call_exchange (subst (λ l. IsExpression d.inner d.from l v.0.0.1) (expected-ok RightParen v.0.1 y.0.1 y.0.0 y.1) d.value)))
+    moved (λ l t. Behind c n ts l t) o.2 (placed c n d.inner ts _ o.0.1 _ d.level d.front (call_exchange k d.value (closing-sound (accepted c) v.0.1 o.0.1 o.0.0 o.1)))
 
-exchange_explicit-sound : (n : ℕ) → Sound (exchange_explicit_at n) (Behind ExchangeExplicit n)
-unfolding exchange_explicit_at
-exchange_explicit-sound n ts rest a e =
-    let v = bind_ok (stored_at n ts) _ _ e in
-    let o = bind_ok (last_order_at all_orders v.0.1) _ _ v.2 in
-    let d = stored-sound n ts v.0.1 v.0.0 v.1 in
-    moved (λ l t. Behind ExchangeExplicit n ts l t) o.2 (placed ExchangeExplicit n d.inner ts _ o.0.1 _ d.level d.front (call_exchange_explicit d.value (last_order-sound all_orders v.0.1 o.0.1 o.0.0 o.1)))
-
-fence-sound : (n : ℕ) → Sound (fence_at n) (Behind Fence n)
+fence-sound : (c : Operation) → effect_of c ≡ fences → (n : ℕ) → Sound (fence_at (accepted c) n) (Behind c n)
 unfolding fence_at
-fence-sound n ts rest a e =
+fence-sound c k n ts rest a e =
     let m = bind_ok (open_at n ts) _ _ e in
-    let o = bind_ok (last_order_at all_orders m.0.1) _ _ m.2 in
+    let o = bind_ok (last_order_at (accepted c) m.0.1) _ _ m.2 in
     let p = open-ok n m.0.0 ts m.0.1 m.1 in
-    moved (λ l t. Behind Fence n ts l t) o.2 (placed Fence n m.0.0 ts _ o.0.1 _ p.0 p.1 (call_fence (last_order-sound all_orders m.0.1 o.0.1 o.0.0 o.1)))
+    moved (λ l t. Behind c n ts l t) o.2 (placed c n m.0.0 ts _ o.0.1 _ p.0 p.1 (call_fence k (last_order-sound (accepted c) m.0.1 o.0.1 o.0.0 o.1)))
+
+effect-sound : (c : Operation) (f : Effect) → effect_of c ≡ f → (n : ℕ) → Sound (effect_at f (accepted c) n) (Behind c n)
+effect-sound c loads k n ts rest a e = load-sound c k n ts rest a e
+effect-sound c stores k n ts rest a e = store-sound c k n ts rest a e
+effect-sound c exchanges k n ts rest a e = exchange-sound c k n ts rest a e
+effect-sound c fences k n ts rest a e = fence-sound c k n ts rest a e
 
 pub operation-sound : (c : Operation) (n : ℕ) → Sound (operation_at c n) (Behind c n)
 unfolding operation_at
-operation-sound Load n ts rest a e = load-sound n ts rest a e
-operation-sound LoadExplicit n ts rest a e = load_explicit-sound n ts rest a e
-operation-sound Store n ts rest a e = store-sound n ts rest a e
-operation-sound StoreExplicit n ts rest a e = store_explicit-sound n ts rest a e
-operation-sound Exchange n ts rest a e = exchange-sound n ts rest a e
-operation-sound ExchangeExplicit n ts rest a e = exchange_explicit-sound n ts rest a e
-operation-sound Fence n ts rest a e = fence-sound n ts rest a e
+operation-sound c n ts rest a e = effect-sound c (effect_of c) refl n ts rest a e
 
--- a call that has a value by its word has one
+-- the call of a word has a value where the word's row says so
+
+never_valued : (c d : Operation) (f : Effect) → effect_of d ≡ f → is_valued f ≡ false → d ≡ c → has_value c ≡ true → ⊥
+never_valued c d f k lacks same h =
+    let given : has_value d ≡ true = subst (λ (b : Operation). has_value b ≡ true) (sym same) h in
+    let also : has_value d ≡ is_valued f = ap is_valued k in
+    cc
+
 called : (c : Operation) {n : ℕ} {us rest : List Symbol} {a : Action} → IsCall n us rest a → (ts : List Symbol) → us ≡ Call c ∷ ts → has_value c ≡ true → HasValue a
-called c call_load ts e h = load_has
-called c (call_load_explicit o) ts e h = load_has
-called c (call_store d) ts e h = let same : Store ≡ c = cc in absurd (let f : has_value Store ≡ true = subst (λ (b : Operation). has_value b ≡ true) (sym same) h in cc)
-called c (call_store_explicit d o) ts e h = let same : StoreExplicit ≡ c = cc in absurd (let f : has_value StoreExplicit ≡ true = subst (λ (b : Operation). has_value b ≡ true) (sym same) h in cc)
-called c (call_exchange d) ts e h = exchange_has
-called c (call_exchange_explicit d o) ts e h = exchange_has
-called c (call_fence o) ts e h = let same : Fence ≡ c = cc in absurd (let f : has_value Fence ≡ true = subst (λ (b : Operation). has_value b ≡ true) (sym same) h in cc)
+called c (call_load k o) ts e h = load_has
+called c (call_store {c = d} k v o) ts e h = let same : d ≡ c = cc in absurd (never_valued c d stores k refl same h)
+called c (call_exchange k v o) ts e h = exchange_has
+called c (call_fence {c = d} k o) ts e h = let same : d ≡ c = cc in absurd (never_valued c d fences k refl same h)
 
 value-sound : (c : Operation) (n : ℕ) → Sound (value_at c n) (λ ts rest v. IsRight n (Call c ∷ ts) rest v)
 unfolding value_at
@@ -278,13 +283,10 @@ right-sound n ts rest v e =
 -- Each takes a symbol.
 
 pub call_shorter : {n : ℕ} {ts rest : List Symbol} {a : Action} → IsCall n ts rest a → length rest < length ts
-call_shorter call_load = omega arith
-call_shorter (call_load_explicit o) = omega (arith, last_order_shorter o)
-call_shorter (call_store d) = omega (arith, level_shorter d)
-call_shorter (call_store_explicit d o) = omega (arith, level_shorter d, last_order_shorter o)
-call_shorter (call_exchange d) = omega (arith, level_shorter d)
-call_shorter (call_exchange_explicit d o) = omega (arith, level_shorter d, last_order_shorter o)
-call_shorter (call_fence o) = omega (arith, last_order_shorter o)
+call_shorter (call_load k o) = omega (arith, closing_shorter o)
+call_shorter (call_store k d o) = omega (arith, level_shorter d, closing_shorter o)
+call_shorter (call_exchange k d o) = omega (arith, level_shorter d, closing_shorter o)
+call_shorter (call_fence k o) = omega (arith, last_order_shorter o)
 
 pub right_shorter : {n : ℕ} {ts rest : List Symbol} {v : Right} → IsRight n ts rest v → length rest < length ts
 right_shorter (right_computed d) = level_shorter d
@@ -300,25 +302,44 @@ pub record CallsFirst (n : ℕ) (ts rest : List Symbol) (a : Action) : Type 0 wh
   pub front : ts ≡ Call word ∷ behind
   pub reads : operation_at word n behind ≡ Ok (a, rest)
 
+operation-by : (c : Operation) (f : Effect) → effect_of c ≡ f → (n : ℕ) (ts : List Symbol) → operation_at c n ts ≡ effect_at f (accepted c) n ts
+unfolding operation_at
+operation-by c f k n ts = ap (λ g. effect_at g (accepted c) n ts) k
+
+load-first : (os : List Order) (n : ℕ) (x : Word) {ts rest : List Symbol} {o : Order} → IsClosing os ts rest o → load_at os (suc n) (Fixed LeftParen ∷ Name x ∷ ts) ≡ Ok (load x o, rest)
+unfolding load_at
+load-first os n x {ts} o = rw (located-first n x ts, (closing-first o).is)
+
+store-first : (os : List Order) (n : ℕ) (x : Word) {ts us rest : List Symbol} {e : Term} {o : Order} → IsExpression n ts us e → IsClosing os us rest o →
+    store_at os (suc n) (Fixed LeftParen ∷ Name x ∷ Fixed Comma ∷ ts) ≡ Ok (store x e o, rest)
+unfolding store_at
+store-first os n x d o = rw ((valued-first n x d (closing-ends o)).is, (closing-first o).is)
+
+exchange-first : (os : List Order) (n : ℕ) (x : Word) {ts us rest : List Symbol} {e : Term} {o : Order} → IsExpression n ts us e → IsClosing os us rest o →
+    exchange_at os (suc n) (Fixed LeftParen ∷ Name x ∷ Fixed Comma ∷ ts) ≡ Ok (exchange x e o, rest)
+unfolding exchange_at
+exchange-first os n x d o = rw ((valued-first n x d (closing-ends o)).is, (closing-first o).is)
+
+fence-first : (os : List Order) (n : ℕ) {ts rest : List Symbol} {o : Order} → IsLastOrder os ts rest o → fence_at os (suc n) (Fixed LeftParen ∷ ts) ≡ Ok (fence o, rest)
+unfolding fence_at
+fence-first os n {ts} o = rw (open-first n ts, (last_order-first o).is)
+
 pub call-complete : {n : ℕ} {ts rest : List Symbol} {a : Action} → IsCall n ts rest a → CallsFirst n ts rest a
-unfolding operation_at load_at load_explicit_at store_at store_explicit_at exchange_at exchange_explicit_at fence_at
-call-complete (call_load {n} {x} {rest}) = record { word = Load; behind = Fixed LeftParen ∷ Name x ∷ Fixed RightParen ∷ rest; front = refl; reads = rw (located-first n x (Fixed RightParen ∷ rest), expected-first RightParen rest) }
-call-complete (call_load_explicit {n} {x} {ts = ts} o) = record { word = LoadExplicit; behind = Fixed LeftParen ∷ Name x ∷ Fixed Comma ∷ ts; front = refl; reads = rw (target-first n x ts, (last_order-first o).is) }
-call-complete (call_store {n} {x} {ts = ts} {rest} d) = record { word = Store; behind = Fixed LeftParen ∷ Name x ∷ Fixed Comma ∷ ts; front = refl; reads = rw ((valued-first n x d (paren-ends 3 rest)).is, expected-first RightParen rest) }
-call-complete (call_store_explicit {n} {x} {ts = ts} d o) = record { word = StoreExplicit; behind = Fixed LeftParen ∷ Name x ∷ Fixed Comma ∷ ts; front = refl; reads = rw ((stored-first n x d).is, (last_order-first o).is) }
-call-complete (call_exchange {n} {x} {ts = ts} {rest} d) = record { word = Exchange; behind = Fixed LeftParen ∷ Name x ∷ Fixed Comma ∷ ts; front = refl; reads = rw ((valued-first n x d (paren-ends 3 rest)).is, expected-first RightParen rest) }
-call-complete (call_exchange_explicit {n} {x} {ts = ts} d o) = record { word = ExchangeExplicit; behind = Fixed LeftParen ∷ Name x ∷ Fixed Comma ∷ ts; front = refl; reads = rw ((stored-first n x d).is, (last_order-first o).is) }
-call-complete (call_fence {n} {ts = ts} o) = record { word = Fence; behind = Fixed LeftParen ∷ ts; front = refl; reads = rw (open-first n ts, (last_order-first o).is) }
+call-complete (call_load {n} {c} {x} {ts = ts} k o) = record { word = c; behind = Fixed LeftParen ∷ Name x ∷ ts; front = refl; reads = operation-by c loads k (suc n) _ ∙ load-first (accepted c) n x o }
+call-complete (call_store {n} {c} {x} {ts = ts} k d o) = record { word = c; behind = Fixed LeftParen ∷ Name x ∷ Fixed Comma ∷ ts; front = refl; reads = operation-by c stores k (suc n) _ ∙ store-first (accepted c) n x d o }
+call-complete (call_exchange {n} {c} {x} {ts = ts} k d o) = record { word = c; behind = Fixed LeftParen ∷ Name x ∷ Fixed Comma ∷ ts; front = refl; reads = operation-by c exchanges k (suc n) _ ∙ exchange-first (accepted c) n x d o }
+call-complete (call_fence {n} {c} {ts = ts} k o) = record { word = c; behind = Fixed LeftParen ∷ ts; front = refl; reads = operation-by c fences k (suc n) _ ∙ fence-first (accepted c) n o }
 
 -- the word of a call that has a value
+
+valued_by : (c d : Operation) (f : Effect) → effect_of d ≡ f → is_valued f ≡ true → d ≡ c → has_value c ≡ true
+valued_by c d f k has same = subst (λ (b : Operation). has_value b ≡ true) same (ap is_valued k ∙ has)
+
 valued : {n : ℕ} {us rest : List Symbol} {a : Action} → IsCall n us rest a → HasValue a → (c : Operation) (ts : List Symbol) → us ≡ Call c ∷ ts → has_value c ≡ true
-valued call_load h c ts e = let same : Load ≡ c = cc in rw (← same) refl
-valued (call_load_explicit o) h c ts e = let same : LoadExplicit ≡ c = cc in rw (← same) refl
-valued (call_store d) h c ts e = elim h [ ]
-valued (call_store_explicit d o) h c ts e = elim h [ ]
-valued (call_fence o) h c ts e = elim h [ ]
-valued (call_exchange d) h c ts e = let same : Exchange ≡ c = cc in rw (← same) refl
-valued (call_exchange_explicit d o) h c ts e = let same : ExchangeExplicit ≡ c = cc in rw (← same) refl
+valued (call_load {c = d} k o) h c ts e = let same : d ≡ c = cc in valued_by c d loads k refl same
+valued (call_store k v o) h c ts e = elim h [ ]
+valued (call_exchange {c = d} k v o) h c ts e = let same : d ≡ c = cc in valued_by c d exchanges k refl same
+valued (call_fence k o) h c ts e = elim h [ ]
 
 -- an expression begins with a name, a number, `!` or `(`
 record IsOperandFirst (ts : List Symbol) : Type 0 where

@@ -1,26 +1,24 @@
 -- What is in the grammar is read.
-use Rattle.std.proofs.Common.{◌≡◌, ℕ, zero, suc, List, [], ◌∷◌, refl, subst, sym, ap, ◌∙◌, length, inl, inr}
-use Rattle.std.specs.Prelude.{◌++◌, Bool, true, false, ◌||◌, Option, Some, None, Ok, Err, if◌then◌else◌, codes}
+use Rattle.std.proofs.Common.{◌≡◌, ℕ, List, [], ◌∷◌, refl, subst, sym, ◌∙◌, length, inl, inr}
+use Rattle.std.specs.Prelude.{◌++◌, true, false, None, Ok, codes}
 use Rattle.std.specs.Fmt.{decimal}
 use Rattle.std.specs.Str.{bytes_eq}
-use Rattle.descent.specs.Reading.{match_option, ◌>>=◌, required, repeated}
 use Rattle.descent.proofs.Tools.{Yields, Shows, moved}
 use Rattle.descent.proofs.Turns.{Arrives, last, next}
-use Rattle.listings.specs.Lists.{IsIn}
 use Rattle.conditions.specs.declared.place.Binding.{Binding}
 use Rattle.conditions.specs.declared.place.Place.{Place}
-use Rattle.conditions.specs.declared.place.Place.TheVariants.{Reg, Loc}
+use Rattle.conditions.specs.declared.place.Place.TheVariants.{Loc}
 use Rattle.conditions.specs.declared.condition.Kind.{Kind}
 use Rattle.litmus_c.specs.declared.symbol.Symbol.{Symbol}
 use Rattle.litmus_c.specs.declared.symbol.Symbol.TheVariants.{Fixed, Name, Number, Word as head_word}
 use Rattle.litmus_c.specs.declared.symbol.Terminal.{Terminal}
-use Rattle.litmus_c.specs.declared.symbol.Terminal.TheVariants.{Volatile, Locations, LeftParen, RightParen, LeftBrace, RightBrace, Semicolon, Comma, Assign, Star}
+use Rattle.litmus_c.specs.declared.symbol.Terminal.TheVariants.{Volatile, Locations, RightParen, LeftBrace, RightBrace, Semicolon, Comma, Assign, Star}
 use Rattle.litmus_c.specs.declared.tree.LocationKind.{LocationKind}
 use Rattle.litmus_c.specs.declared.tree.Parameter.{Parameter}
 use Rattle.conditions.specs.Conditions.{Condition}
 use Rattle.litmus_c.specs.Drafts.{Listing, Written, is_parameter}
-use Rattle.litmus_c.specs.Grammar.{IsLocation, location_name, location_bracket, IsPlace, place_register, place_location, IsType, type_int, type_atomic, IsUntyped, untyped_zero, untyped_value, IsEntry, entry_untyped, entry_typed, IsEntries, entries_none, entries_one, entries_empty, entries_more, HasKind, kind_atomic, kind_plain, IsParameter, parameter_typed, parameter_volatile, IsNew, IsParameters, parameters_one, parameters_more as parameters_and, IsParameterList, list_none, list_some, IsThread, thread_body, IsThreads, threads_one, threads_more as threads_and, IsListed, listed_none, listed_some, denies_tilde, denies_not, IsKind, kind_exists, kind_not_exists, kind_forall, IsCondition, condition_of, IsWritten, written, Spells}
-use Rattle.litmus_c.specs.Reading.{Reading, syntax, after, expected, name_at, number_look, before_name, place_at, bare, bound_at, behind_type, entry_at, ends_entry, entry_behind, entries_at, kind_at, behind_volatile, parameter_behind, parameters_more, parameters_at, parameters_closed, parameter_list_at, thread_name_at, thread_at, threads_more, threads_at, word_at, language_at, end_at, initial_at, test_at}
+use Rattle.litmus_c.specs.Grammar.{location_name, location_bracket, IsPlace, place_register, place_location, IsType, type_int, type_atomic, IsUntyped, untyped_zero, untyped_value, IsEntry, entry_untyped, entry_typed, IsEntries, entries_none, entries_one, entries_empty, entries_more, HasKind, kind_atomic, kind_plain, IsParameter, parameter_typed, parameter_volatile, IsNew, IsParameters, parameters_one, parameters_more as parameters_and, IsParameterList, list_none, list_some, IsThread, thread_body, IsThreads, threads_one, threads_more as threads_and, IsListed, listed_none, listed_some, denies_tilde, denies_not, IsKind, kind_exists, kind_not_exists, kind_forall, IsCondition, condition_of, IsWritten, written, Spells}
+use Rattle.litmus_c.specs.Reading.{Reading, syntax, after, expected, name_at, before_name, place_at, bare, bound_at, behind_type, entry_at, ends_entry, entry_behind, entries_at, kind_at, behind_volatile, parameter_behind, parameters_more, parameters_at, parameters_closed, parameter_list_at, thread_name_at, thread_at, threads_more, threads_at, word_at, language_at, end_at, initial_at, test_at}
 use Rattle.litmus_c.specs.Tree.{Word}
 use Rattle.litmus_c.proofs.Levels.{entries_turn_takes, parameters_turn_takes, threads_turn_takes}
 use Rattle.litmus_c.proofs.Places.{place-complete, number-first, listed-complete}

@@ -1,18 +1,18 @@
 -- Expressions, calls and right sides: where reading gives `deep`, something nests too deep.
-use Rattle.std.proofs.Common.{◌≡◌, ℕ, zero, suc, List, ◌∷◌, sym, subst, inl, inr}
-use Rattle.std.specs.Prelude.{true, Option, Some, None, Ok, Err, if◌then◌else◌}
+use Rattle.std.proofs.Common.{◌≡◌, ℕ, zero, suc, List, ◌∷◌, sym, subst, inl, inr, refl}
+use Rattle.std.specs.Prelude.{◌==◌, length, Option, Some, None, Ok, Err, if◌then◌else◌}
 use Rattle.descent.specs.Reading.{◌>>=◌, required}
 use Rattle.descent.proofs.Tools.{bind_ok, chosen, moved}
 use Rattle.events.specs.declared.event.Order.{Order}
-use Rattle.litmus_c.specs.declared.symbol.Operation.{Operation}
-use Rattle.litmus_c.specs.declared.symbol.Operation.TheVariants.{Load, LoadExplicit, Store, StoreExplicit, Exchange, ExchangeExplicit, Fence}
+use Rattle.litmus_c.specs.declared.atomics.Operation.{Operation}
 use Rattle.litmus_c.specs.declared.symbol.Symbol.{Symbol}
 use Rattle.litmus_c.specs.declared.symbol.Symbol.TheVariants.{Fixed, Call, Name, Number}
 use Rattle.litmus_c.specs.declared.symbol.Terminal.TheVariants.{LeftParen, RightParen, Comma, Star, Bang}
-use Rattle.litmus_c.specs.Depth.{DeepLevel, deep_unary, deep_tighter, deep_joined, DeepUnary, deep_operand, deep_not, deep_paren, DeepExpression, TakesValue, store_takes, store_explicit_takes, exchange_takes, exchange_explicit_takes, GivesValue, load_gives, load_explicit_gives, exchange_gives, exchange_explicit_gives, DeepCall, deep_call, deep_value, DeepRight, deep_computed, deep_given}
-use Rattle.litmus_c.specs.Grammar.{IsLevel, level_tighter, level_joined, load_orders, store_orders, all_orders}
-use Rattle.litmus_c.specs.Reading.{syntax, deep, misordered, after, call_word, open_at, Terms, operator_at, unary_with, next_operand, operands, level_with, terms_below, expression_at, is_among, order_at, last_order_at, located_at, target_at, valued_at, stored_at, load_at, load_explicit_at, store_at, store_explicit_at, exchange_at, exchange_explicit_at, fence_at, operation_at, has_value, value_at, computed_at, plain_at, right_at}
-use Rattle.litmus_c.specs.Symbols.{orders, looked_up}
+use Rattle.litmus_c.specs.Atomics.{orders, Effect, loads, stores, exchanges, fences, effect_of, accepted, TakesValue, store_takes, exchange_takes, has_value}
+use Rattle.litmus_c.specs.Depth.{DeepLevel, deep_unary, deep_tighter, deep_joined, DeepUnary, deep_operand, deep_not, deep_paren, DeepExpression, DeepCall, deep_call, deep_value, DeepRight, deep_computed, deep_given}
+use Rattle.litmus_c.specs.Grammar.{IsLevel, level_tighter, level_joined}
+use Rattle.litmus_c.specs.Reading.{syntax, deep, misordered, after, call_word, open_at, Terms, operator_at, unary_with, next_operand, operands, level_with, terms_below, expression_at, is_among, order_at, last_order_at, closing_at, located_at, target_at, valued_at, load_at, store_at, exchange_at, fence_at, effect_at, operation_at, value_at, computed_at, plain_at, right_at}
+use Rattle.litmus_c.specs.Symbols.{looked_up}
 use Rattle.litmus_c.proofs.Calls.{target-sound}
 use Rattle.litmus_c.proofs.DeepTools.{Shallow, fine_ok, fine_syntax, fine_misordered, fine_bind, fine_if, fine_expected, fine_name, fine_made, first, either, chosen_deep, repeated_deep, open_deep}
 use Rattle.litmus_c.proofs.Expressions.{operator-some, level_is}
@@ -83,6 +83,10 @@ fine_last_order : (os : List Order) (ts : List Symbol) → Shallow (last_order_a
 unfolding last_order_at
 fine_last_order os ts = fine_bind (fine_order os ts) (λ o. fine_made _ (fine_expected RightParen o.1))
 
+fine_closing : (os : List Order) (ts : List Symbol) → Shallow (closing_at os ts)
+unfolding closing_at
+fine_closing os ts = fine_if (length os == 0) (fine_made _ (fine_expected RightParen ts)) (fine_bind (fine_expected Comma ts) (λ y. fine_last_order os y.1))
+
 -- no level is left for the parentheses of a call
 closed_call : (c : Operation) (n : ℕ) (ts : List Symbol) → open_at n ts ≡ Err deep → DeepCall c (suc n) ts
 closed_call c n ts e =
@@ -109,66 +113,41 @@ valued_deep c takes n ts e =
     (λ g. subst (λ m. P m ts) (sym d.level) (subst (λ l. P (suc x.0.1) l) (sym d.front) (deep_value takes (expression_deep x.0.1 x.1 g))))
     (λ v. fine_ok _))
 
-stored_deep : (c : Operation) → TakesValue c → (n : ℕ) (ts : List Symbol) → stored_at n ts ≡ Err deep → DeepCall c (suc n) ts
-unfolding stored_at
-stored_deep c takes n ts e = first (valued_at n ts) e (valued_deep c takes n ts) (λ v. fine_made _ (fine_expected Comma v.1))
+-- Calls, by what they do.
 
--- Calls, a row for each.
-
-load_deep : (n : ℕ) (ts : List Symbol) → load_at n ts ≡ Err deep → DeepCall Load (suc n) ts
+load_deep : (c : Operation) (n : ℕ) (ts : List Symbol) → load_at (accepted c) n ts ≡ Err deep → DeepCall c (suc n) ts
 unfolding load_at
-load_deep n ts e = first (located_at n ts) e (located_deep Load n ts) (λ x. fine_made _ (fine_expected RightParen x.1))
+load_deep c n ts e = first (located_at n ts) e (located_deep c n ts) (λ x. fine_made _ (fine_closing (accepted c) x.1))
 
-load_explicit_deep : (n : ℕ) (ts : List Symbol) → load_explicit_at n ts ≡ Err deep → DeepCall LoadExplicit (suc n) ts
-unfolding load_explicit_at
-load_explicit_deep n ts e = first (target_at n ts) e (target_deep LoadExplicit n ts) (λ x. fine_made _ (fine_last_order load_orders x.1))
-
-store_deep : (n : ℕ) (ts : List Symbol) → store_at n ts ≡ Err deep → DeepCall Store (suc n) ts
+store_deep : (c : Operation) → effect_of c ≡ stores → (n : ℕ) (ts : List Symbol) → store_at (accepted c) n ts ≡ Err deep → DeepCall c (suc n) ts
 unfolding store_at
-store_deep n ts e = first (valued_at n ts) e (valued_deep Store store_takes n ts) (λ v. fine_made _ (fine_expected RightParen v.1))
+store_deep c k n ts e = first (valued_at n ts) e (valued_deep c (store_takes k) n ts) (λ v. fine_made _ (fine_closing (accepted c) v.1))
 
-store_explicit_deep : (n : ℕ) (ts : List Symbol) → store_explicit_at n ts ≡ Err deep → DeepCall StoreExplicit (suc n) ts
-unfolding store_explicit_at
-store_explicit_deep n ts e = first (stored_at n ts) e (stored_deep StoreExplicit store_explicit_takes n ts) (λ v. fine_made _ (fine_last_order store_orders v.1))
-
-exchange_deep : (n : ℕ) (ts : List Symbol) → exchange_at n ts ≡ Err deep → DeepCall Exchange (suc n) ts
+exchange_deep : (c : Operation) → effect_of c ≡ exchanges → (n : ℕ) (ts : List Symbol) → exchange_at (accepted c) n ts ≡ Err deep → DeepCall c (suc n) ts
 unfolding exchange_at
-exchange_deep n ts e = first (valued_at n ts) e (valued_deep Exchange exchange_takes n ts) (λ v. fine_made _ (fine_expected RightParen v.1))
+exchange_deep c k n ts e = first (valued_at n ts) e (valued_deep c (exchange_takes k) n ts) (λ v. fine_made _ (fine_closing (accepted c) v.1))
 
-exchange_explicit_deep : (n : ℕ) (ts : List Symbol) → exchange_explicit_at n ts ≡ Err deep → DeepCall ExchangeExplicit (suc n) ts
-unfolding exchange_explicit_at
-exchange_explicit_deep n ts e = first (stored_at n ts) e (stored_deep ExchangeExplicit exchange_explicit_takes n ts) (λ v. fine_made _ (fine_last_order all_orders v.1))
-
-fence_deep : (n : ℕ) (ts : List Symbol) → fence_at n ts ≡ Err deep → DeepCall Fence (suc n) ts
+fence_deep : (c : Operation) (n : ℕ) (ts : List Symbol) → fence_at (accepted c) n ts ≡ Err deep → DeepCall c (suc n) ts
 unfolding fence_at
-fence_deep n ts e = first (open_at n ts) e (closed_call Fence n ts) (λ m. fine_made _ (fine_last_order all_orders m.1))
+fence_deep c n ts e = first (open_at n ts) e (closed_call c n ts) (λ m. fine_made _ (fine_last_order (accepted c) m.1))
+
+effect_deep : (c : Operation) (f : Effect) → effect_of c ≡ f → (n : ℕ) (ts : List Symbol) → effect_at f (accepted c) n ts ≡ Err deep → DeepCall c (suc n) ts
+effect_deep c loads k n ts e = load_deep c n ts e
+effect_deep c stores k n ts e = store_deep c k n ts e
+effect_deep c exchanges k n ts e = exchange_deep c k n ts e
+effect_deep c fences k n ts e = fence_deep c n ts e
 
 pub operation_deep : (c : Operation) (n : ℕ) (ts : List Symbol) → operation_at c n ts ≡ Err deep → DeepCall c (suc n) ts
 unfolding operation_at
-operation_deep Load n ts e = load_deep n ts e
-operation_deep LoadExplicit n ts e = load_explicit_deep n ts e
-operation_deep Store n ts e = store_deep n ts e
-operation_deep StoreExplicit n ts e = store_explicit_deep n ts e
-operation_deep Exchange n ts e = exchange_deep n ts e
-operation_deep ExchangeExplicit n ts e = exchange_explicit_deep n ts e
-operation_deep Fence n ts e = fence_deep n ts e
+operation_deep c n ts e = effect_deep c (effect_of c) refl n ts e
 
 -- Right sides.
-
-gives : (c : Operation) → has_value c ≡ true → GivesValue c
-gives Load e = load_gives
-gives LoadExplicit e = load_explicit_gives
-gives Store e = absurd (cc)
-gives StoreExplicit e = absurd (cc)
-gives Exchange e = exchange_gives
-gives ExchangeExplicit e = exchange_explicit_gives
-gives Fence e = absurd (cc)
 
 value_deep : (c : Operation) (n : ℕ) (ts : List Symbol) → value_at c n ts ≡ Err deep → DeepRight (suc n) (Call c ∷ ts)
 unfolding value_at
 value_deep c n ts e =
     elim (chosen (has_value c) _ _ _ e) [
-      | inl g ↦ deep_given (gives c g.0) (first (operation_at c n ts) g.1 (operation_deep c n ts) (λ a. fine_ok _))
+      | inl g ↦ deep_given g.0 (first (operation_at c n ts) g.1 (operation_deep c n ts) (λ a. fine_ok _))
       | inr g ↦ absurd (fine_syntax.never g.1)
     ]
 

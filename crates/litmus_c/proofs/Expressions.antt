@@ -1,5 +1,5 @@
 -- Expressions: what is read is in the grammar, and what is in the grammar is read.
-use Rattle.std.proofs.Common.{◌≡◌, ℕ, zero, suc, ◌<◌, ◌≤◌, List, [], ◌∷◌, ◌⊎◌, length, sym, subst, arith, inl, inr, refl, ap}
+use Rattle.std.proofs.Common.{◌≡◌, ℕ, zero, suc, ◌<◌, List, ◌∷◌, length, subst, arith, inl, inr, refl, ap}
 use Rattle.std.specs.Prelude.{Some, None, Ok}
 use Rattle.descent.specs.Reading.{match_option, ◌>>=◌, repeated}
 use Rattle.descent.proofs.Tools.{bind_ok, cases_of, moved, moved_look, Yields, Shows}
@@ -11,10 +11,10 @@ use Rattle.litmus_c.specs.declared.symbol.Symbol.TheVariants.{Fixed, Name, Numbe
 use Rattle.litmus_c.specs.declared.symbol.Terminal.{Terminal}
 use Rattle.litmus_c.specs.declared.symbol.Terminal.TheVariants.{LeftParen, RightParen, Semicolon, Comma, Bang, EqualEqual, BangEqual, AndAnd, OrOr}
 use Rattle.litmus_c.specs.Grammar.{joined, Joins, joins_equal, joins_unequal, joins_both, joins_either, IsLevel, level_unary, level_tighter, level_joined, IsUnary, unary_denied, unary_paren, unary_name, unary_number, IsExpression}
-use Rattle.litmus_c.specs.Reading.{Reading, syntax, after, expected, sign, operator_at, Terms, unary_with, next_operand, operands, level_with, terms_below, expression_at}
+use Rattle.litmus_c.specs.Reading.{syntax, after, expected, sign, operator_at, Terms, unary_with, next_operand, operands, level_with, terms_below, expression_at}
 use Rattle.litmus_c.specs.Tree.{Word, Term, number, held, denied}
 use Rattle.litmus_c.proofs.Sounds.{Sound, Deeper, deeper}
-use Rattle.litmus_c.proofs.Symbols.{after-some, after-first, expected-ok, expected-first}
+use Rattle.litmus_c.proofs.Symbols.{after-some, expected-ok, expected-first}
 
 -- each takes a symbol
 

@@ -1,8 +1,7 @@
 -- From the symbols of a text to the test that it spells.
-use Rattle.std.proofs.Common.{◌≡◌, ◌<◌, ◌≤◌, ℕ, List, [], sym, ◌∙◌, ap, subst, refl, arith}
-use Rattle.std.specs.Prelude.{Result, Ok, Err, IfOk, OnOk, IfErr, MatchResult, length, true, false, Contains}
+use Rattle.std.proofs.Common.{◌≡◌, ℕ, List, [], sym, ◌∙◌, ap, subst, refl, arith}
+use Rattle.std.specs.Prelude.{Result, Ok, Err, IfOk, OnOk, IfErr, MatchResult, Contains}
 use Rattle.std.proofs.lemmas.Bool.{false≢true}
-use Rattle.descent.proofs.Tools.{moved}
 use Rattle.wb_text.specs.Faults.{HasCause}
 use Rattle.wb_text.specs.Tokens.{IsTokenList}
 use Rattle.wb_text.specs.declared.fault.TextFault.{TextFault}
@@ -10,13 +9,12 @@ use Rattle.wb_text.specs.declared.fault.TextFault.TheVariants as text_faults
 use Rattle.wb_text.specs.declared.token.Dialect.TheVariants as dialects
 use Rattle.wb_text.specs.declared.token.Token.{Token}
 use Rattle.conditions.specs.declared.place.Binding.{Binding}
-use Rattle.litmus_c.specs.declared.draft.Draft.{Draft}
 use Rattle.litmus_c.specs.declared.fault.TestFault.{TestFault}
 use Rattle.litmus_c.specs.declared.fault.TestFault.TheVariants.{Text, Syntax, BadOrder, UnknownName, PlainOnAtomic, AtomicOnPlain, Unsupported, TooDeep, TooManyThreads, TooManyLocations, TooManyEvents, TooManyValues, NoMemory}
 use Rattle.litmus_c.specs.declared.symbol.Symbol.{Symbol}
 use Rattle.litmus_c.specs.declared.symbol.Symbol.TheVariants.{Foreign}
 use Rattle.litmus_c.specs.Depth.{NestsTooDeep}
-use Rattle.litmus_c.specs.Drafts.{Written, written_of}
+use Rattle.litmus_c.specs.Drafts.{Written}
 use Rattle.litmus_c.specs.Grammar.{Spells}
 use Rattle.litmus_c.specs.Misordered.{HasMisordered}
 use Rattle.litmus_c.specs.Reading.{Cause, syntax, deep, misordered, Reading, GivesTest, text_refusal, test_at}

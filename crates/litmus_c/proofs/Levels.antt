@@ -1,12 +1,11 @@
 -- What the loops use: no turn gives a symbol back, and what one turn does.
 use Rattle.std.proofs.Common.{◌≡◌, ℕ, ◌<◌, ◌≤◌, List, [], ◌∷◌, length, arith, ap, map, refl, inl, inr, suc}
-use Rattle.std.specs.Prelude.{Some, None, Ok, ◌++◌}
+use Rattle.std.specs.Prelude.{Some, Ok, ◌++◌}
 use Rattle.descent.specs.Reading.{match_option, ◌>>=◌, repeated}
 use Rattle.descent.proofs.Tools.{bind_ok, moved}
 use Rattle.descent.proofs.Turns.{repeated-more, items-more}
 use Rattle.conditions.specs.declared.place.Binding.{Binding}
 use Rattle.litmus_c.specs.declared.symbol.Symbol.{Symbol}
-use Rattle.litmus_c.specs.declared.symbol.Terminal.{Terminal}
 use Rattle.litmus_c.specs.declared.symbol.Terminal.TheVariants.{Semicolon, Comma}
 use Rattle.litmus_c.specs.declared.tree.Parameter.{Parameter}
 use Rattle.litmus_c.specs.Drafts.{Listing, listing_of}
@@ -14,7 +13,7 @@ use Rattle.litmus_c.specs.declared.draft.Body.{Body}
 use Rattle.litmus_c.specs.Reading.{syntax, after, before_name, entry_behind, parameter_behind, parameters_more, thread_at, threads_more}
 use Rattle.litmus_c.proofs.Shorter.{entry_shorter, parameter_shorter, thread_shorter}
 use Rattle.litmus_c.proofs.Sound.{entry_behind-sound, parameter-sound, thread-sound}
-use Rattle.litmus_c.proofs.Symbols.{after-some, after_takes, before_name-same}
+use Rattle.litmus_c.proofs.Symbols.{after_takes, before_name-same}
 
 entry_behind_takes : (bs cs : List Binding) (ts rest : List Symbol) → entry_behind bs ts ≡ Ok (cs, rest) → length rest ≤ length ts
 entry_behind_takes bs cs ts rest e =

@@ -1,35 +1,30 @@
 -- Where reading a test gives `misordered`, a call in it has an order that it does not take.
-use Rattle.std.proofs.Common.{◌≡◌, ℕ, zero, suc, List, [], ◌∷◌, refl, sym, subst, ap, ◌∙◌, inl, inr}
-use Rattle.std.specs.Prelude.{◌++◌, map, length, Bool, true, false, Option, Some, None, Result, Ok, Err, if◌then◌else◌, codes}
+use Rattle.std.proofs.Common.{◌≡◌, ◌≢◌, ℕ, zero, suc, List, [], ◌∷◌, refl, sym, subst, inl, inr}
+use Rattle.std.specs.Prelude.{length, false, Option, Some, None, Result, Ok, Err, codes}
 use Rattle.std.specs.Str.{bytes_eq}
-use Rattle.descent.specs.Reading.{Look, match_option, ◌>>=◌, required, repeated}
+use Rattle.descent.specs.Reading.{Look, match_option, required}
 use Rattle.descent.proofs.Tools.{bind_ok, bind_err, required_ok, cases_of, chosen, moved}
 use Rattle.events.specs.declared.event.Order.{Order}
 use Rattle.listings.specs.Lists.{IsIn}
 use Rattle.conditions.specs.declared.place.Binding.{Binding}
 use Rattle.conditions.specs.declared.place.Place.{Place}
 use Rattle.conditions.specs.declared.place.Place.TheVariants.{Reg, Loc}
-use Rattle.conditions.specs.declared.condition.Kind.{Kind}
-use Rattle.conditions.specs.declared.condition.Kind.TheVariants as kinds
-use Rattle.conditions.specs.Conditions.{Formula, truth, falsehood, equals, negation, conjunction, disjunction, implication, Condition}
-use Rattle.litmus_c.specs.declared.symbol.Operation.{Operation}
-use Rattle.litmus_c.specs.declared.symbol.Operation.TheVariants.{Load, LoadExplicit, Store, StoreExplicit, Exchange, ExchangeExplicit, Fence}
+use Rattle.litmus_c.specs.declared.atomics.Operation.{Operation}
 use Rattle.litmus_c.specs.declared.symbol.Symbol.{Symbol}
 use Rattle.litmus_c.specs.declared.symbol.Symbol.TheVariants.{Fixed, Call, Name, Number, Word as head_word}
-use Rattle.litmus_c.specs.declared.symbol.Terminal.{Terminal}
 use Rattle.litmus_c.specs.declared.symbol.Terminal.TheVariants.{Int, AtomicInt, Volatile, If, Else, True, False, Exists, Forall, Not, Locations, LeftParen, RightParen, LeftBrace, RightBrace, LeftBracket, RightBracket, Semicolon, Colon, Comma, Assign, Star, Tilde, Bang, And, Or, Arrow}
-use Rattle.litmus_c.specs.declared.tree.LocationKind.TheVariants.{Atomic, Plain}
 use Rattle.litmus_c.specs.declared.tree.Parameter.{Parameter}
-use Rattle.litmus_c.specs.Drafts.{Listing, Written, is_parameter}
-use Rattle.litmus_c.specs.Grammar.{IsExpression, IsOrder, load_orders, store_orders, all_orders}
-use Rattle.litmus_c.specs.Misordered.{IsMisordered, misordered_load, misordered_store, HasMisordered, misordered_first, misordered_later}
-use Rattle.litmus_c.specs.Reading.{Reading, Cause, syntax, misordered, after, expected, unless, name_at, number_look, number_at, before_name, call_word, open_at, location_at, register_at, place_at, bare, bound_at, behind_type, entry_at, ends_entry, entry_behind, entries_at, kind_at, behind_volatile, parameter_behind, parameters_more, parameters_at, parameters_closed, parameter_list_at, operator_at, Terms, unary_with, next_operand, operands, level_with, terms_below, expression_at, is_among, order_at, last_order_at, located_at, target_at, valued_at, stored_at, load_at, load_explicit_at, store_at, store_explicit_at, exchange_at, exchange_explicit_at, fence_at, operation_at, has_value, value_at, computed_at, plain_at, right_at, declarator_at, declarators_more, declarators_at, assignment_at, write_at, declaration_at, performed_at, simple_at, closed_at, Inside, else_with, if_with, block_with, step_with, steps_more, steps_with, inside, step_at, steps_at, names_thread, thread_name_at, thread_at, threads_more, threads_at, ends_place, place_behind, places_at, bracketed_at, listed_at, equation_at, Propositions, denial, plain_atomic_at, denied_with, enclosed_with, atomic_with, conjunction_more, conjunction_with, or_more, or_with, proposition_with, propositions_below, kind_of_at, condition_at, word_at, language_at, end_at, initial_at, test_at}
-use Rattle.litmus_c.specs.Symbols.{orders, looked_up}
-use Rattle.litmus_c.specs.Tree.{Word, Term, number, held, denied, Action, load, store, exchange, fence, Right, computed, plain_read, value_of, Declared, Step, empty, block, declare, assign, plain_write, perform, if_only, if_else, Steps, no_steps, followed}
-use Rattle.litmus_c.proofs.Calls.{in-among, target-sound, stored-sound}
+use Rattle.litmus_c.specs.Atomics.{orders, Effect, loads, stores, exchanges, fences, effect_of, accepted, TakesValue, store_takes, exchange_takes, has_value}
+use Rattle.litmus_c.specs.Drafts.{Listing, is_parameter}
+use Rattle.litmus_c.specs.Grammar.{IsExpression, IsOrder}
+use Rattle.litmus_c.specs.Misordered.{misordered_load, misordered_value, misordered_fence, HasMisordered, misordered_first, misordered_later}
+use Rattle.litmus_c.specs.Reading.{Reading, Cause, syntax, misordered, after, unless, name_at, number_look, before_name, call_word, open_at, location_at, register_at, place_at, bare, bound_at, behind_type, entry_at, ends_entry, entry_behind, entries_at, kind_at, behind_volatile, parameter_behind, parameters_more, parameters_at, parameters_closed, parameter_list_at, operator_at, Terms, unary_with, next_operand, operands, level_with, terms_below, expression_at, is_among, order_at, last_order_at, closing_at, located_at, target_at, valued_at, load_at, store_at, exchange_at, fence_at, effect_at, operation_at, value_at, computed_at, plain_at, right_at, declarator_at, declarators_more, declarators_at, assignment_at, write_at, declaration_at, performed_at, simple_at, closed_at, Inside, else_with, if_with, block_with, step_with, steps_more, steps_with, inside, names_thread, thread_name_at, thread_at, threads_more, threads_at, ends_place, place_behind, places_at, bracketed_at, listed_at, equation_at, Propositions, denial, plain_atomic_at, denied_with, enclosed_with, atomic_with, conjunction_more, conjunction_with, or_more, or_with, proposition_with, propositions_below, kind_of_at, condition_at, word_at, language_at, end_at, initial_at, test_at}
+use Rattle.litmus_c.specs.Symbols.{looked_up}
+use Rattle.litmus_c.specs.Tree.{Word, Term, number, held, denied, Declared, Step, Steps, no_steps}
+use Rattle.litmus_c.proofs.Calls.{in-among, closing-some, located-sound, valued-sound}
 use Rattle.litmus_c.proofs.Expressions.{operator-some}
-use Rattle.litmus_c.proofs.Ordered.{Tail, tail_here, tail_later, tail_behind, tail_first, Carries, kept, Ordered, fair_ok, fair_syntax, fair_deep, fair_bind, fair_match, fair_if, fair_behind, fair_made, takes_after, fair_take, fair_expected, fair_name, fair_number, fair_open, fair_repeated}
-use Rattle.litmus_c.proofs.Symbols.{number_look-some, call_word-some, before_name-same, unless-same, name-ok}
+use Rattle.litmus_c.proofs.Ordered.{Tail, tail_here, tail_later, tail_first, Carries, kept, Ordered, fair_ok, fair_syntax, fair_deep, fair_bind, fair_match, fair_if, fair_behind, fair_made, takes_after, fair_take, fair_expected, fair_name, fair_number, fair_open, fair_repeated}
+use Rattle.litmus_c.proofs.Symbols.{number_look-some, call_word-some, before_name-same, unless-same, name-ok, expected-ok, open-ok}
 
 -- Expressions have no calls.
 
@@ -82,10 +77,6 @@ module _ {Q : List Symbol → Type 0} (c : Carries Q) where
   unfolding valued_at
   fair_valued n ts = fair_bind c (fair_target n ts) (λ x is. fair_made c (λ e. (x.0.0, e.0)) (fair_expression x.0.1 x.1))
 
-  fair_stored : (n : ℕ) (ts : List Symbol) → Ordered Q ts (stored_at n ts)
-  unfolding stored_at
-  fair_stored n ts = fair_bind c (fair_valued n ts) (λ v is. fair_made c (λ _. v.0) (fair_expected Comma v.1))
-
 -- Orders.
 
 -- an order stands in front, and is none of these
@@ -130,74 +121,76 @@ fair_last : {Q : List Symbol → Type 0} (c : Carries Q) (os : List Order) (ts :
 unfolding last_order_at
 fair_last c os ts q = fair_bind c (fair_order os ts q) (λ o is. fair_made c (λ _. o.0) (fair_expected RightParen o.1))
 
-looked_in : {A : Type 0} (rows : List (Word × A)) (w : Word) (a : A) → looked_up rows w ≡ Some a → IsIn a (map (λ r. r.1) rows)
-looked_in [] w a e = absurd (cc)
-looked_in (r ∷ rows) w a e = elim (chosen (bytes_eq w r.0) _ _ _ e) [
-  | inl g ↦ inl (let h = g.1 in cc)
-  | inr g ↦ inr (looked_in rows w a g.1)
-]
+-- behind a comma an order stands in front, and is none of these, of which there are some
+record IsOtherBehind (os : List Order) (ts : List Symbol) : Type 0 where
+  some : os ≢ []
+  inside : List Symbol
+  comma : ts ≡ Fixed Comma ∷ inside
+  other : IsOther os inside
 
-fair_any : {Q : List Symbol → Type 0} (c : Carries Q) (ts : List Symbol) → Ordered Q ts (last_order_at all_orders ts)
-fair_any c ts = fair_last c all_orders ts (λ b. absurd (b.none (looked_in orders b.word b.order b.names)))
+fair_closing : {X : Type 0} (os : List Order) (ts : List Symbol) → (IsOtherBehind os ts → X) → Ordered (λ _. X) ts (closing_at os ts)
+unfolding closing_at
+fair_closing [] ts q = fair_made kept _ (fair_expected RightParen ts)
+fair_closing {X} (p ∷ os) ts q = subst (λ (o : Reading Order). Ordered (λ _. X) ts o) (sym (closing-some p os ts)) (fair_bind kept (fair_expected Comma ts) (λ y is. fair_last kept (p ∷ os) y.1 (λ b.
+    q (record { some = λ e. absurd (cc); inside = y.1; comma = expected-ok Comma ts y.1 y.0 is; other = b }))))
 
 -- Calls.
 
-load_misordered : (n : ℕ) (ts rest : List Symbol) (x : Word × ℕ) → target_at n ts ≡ Ok (x, rest) → IsOther load_orders rest → HasMisordered (Call LoadExplicit ∷ ts)
-load_misordered n ts rest x e b =
-    let d = target-sound n ts rest x e in
-    let a : ts ≡ Fixed LeftParen ∷ Name x.0 ∷ Fixed Comma ∷ rest = d.front in
-    let f : rest ≡ Name b.word ∷ b.behind = b.front in
-    let same : Call LoadExplicit ∷ ts ≡ Call LoadExplicit ∷ Fixed LeftParen ∷ Name x.0 ∷ Fixed Comma ∷ Name b.word ∷ b.behind = (cc) in
-    subst HasMisordered (sym same) (misordered_first (misordered_load b.names b.none))
+load_misordered : (c : Operation) → effect_of c ≡ loads → (n : ℕ) (ts rest : List Symbol) (x : Word × ℕ) → located_at n ts ≡ Ok (x, rest) → IsOtherBehind (accepted c) rest → HasMisordered (Call c ∷ ts)
+load_misordered c k n ts rest x e b =
+    let d = located-sound n ts rest x e in
+    let a1 : ts ≡ Fixed LeftParen ∷ Name x.0 ∷ rest = d.front in
+    let a2 : rest ≡ Fixed Comma ∷ b.inside = b.comma in
+    let a3 : b.inside ≡ Name b.other.word ∷ b.other.behind = b.other.front in
+    let same : Call c ∷ ts ≡ Call c ∷ Fixed LeftParen ∷ Name x.0 ∷ Fixed Comma ∷ Name b.other.word ∷ b.other.behind = (cc) in
+    subst HasMisordered (sym same) (misordered_first (misordered_load k b.some b.other.names b.other.none))
 
-store_misordered : (n : ℕ) (ts rest : List Symbol) (v : Word × Term) → stored_at n ts ≡ Ok (v, rest) → IsOther store_orders rest → HasMisordered (Call StoreExplicit ∷ ts)
-store_misordered n ts rest v e b =
-    let d = stored-sound n ts rest v e in
-    let a : ts ≡ Fixed LeftParen ∷ Name v.0 ∷ Fixed Comma ∷ d.from = d.front in
-    let same : Call StoreExplicit ∷ ts ≡ Call StoreExplicit ∷ Fixed LeftParen ∷ Name v.0 ∷ Fixed Comma ∷ d.from = (cc) in
-    subst HasMisordered (sym same) (misordered_first (misordered_store (subst (λ l. IsExpression d.inner d.from (Fixed Comma ∷ l) v.1) b.front d.value) b.names b.none))
+value_misordered : (c : Operation) → TakesValue c → (n : ℕ) (ts rest : List Symbol) (v : Word × Term) → valued_at n ts ≡ Ok (v, rest) → IsOtherBehind (accepted c) rest → HasMisordered (Call c ∷ ts)
+value_misordered c k n ts rest v e b =
+    let d = valued-sound n ts rest v e in
+    let a1 : ts ≡ Fixed LeftParen ∷ Name v.0 ∷ Fixed Comma ∷ d.from = d.front in
+    let a2 : rest ≡ Fixed Comma ∷ b.inside = b.comma in
+    let a3 : b.inside ≡ Name b.other.word ∷ b.other.behind = b.other.front in
+    let behind : rest ≡ Fixed Comma ∷ Name b.other.word ∷ b.other.behind = (cc) in
+    let same : Call c ∷ ts ≡ Call c ∷ Fixed LeftParen ∷ Name v.0 ∷ Fixed Comma ∷ d.from = (cc) in
+    subst HasMisordered (sym same) (misordered_first (misordered_value k b.some (subst (λ l. IsExpression d.inner d.from l v.1) behind d.value) b.other.names b.other.none))
+
+fence_misordered : (c : Operation) → effect_of c ≡ fences → (n m : ℕ) (ts rest : List Symbol) → open_at n ts ≡ Ok (m, rest) → IsOther (accepted c) rest → HasMisordered (Call c ∷ ts)
+fence_misordered c k n m ts rest e b =
+    let a1 : ts ≡ Fixed LeftParen ∷ rest = (open-ok n m ts rest e).1 in
+    let a2 : rest ≡ Name b.word ∷ b.behind = b.front in
+    let same : Call c ∷ ts ≡ Call c ∷ Fixed LeftParen ∷ Name b.word ∷ b.behind = (cc) in
+    subst HasMisordered (sym same) (misordered_first (misordered_fence k b.names b.none))
 
 -- what an operation's arguments tell is told of its word and them
 abbrev Within : Operation → List Symbol → List Symbol → Type 0
 Within c ts = λ _. HasMisordered (Call c ∷ ts)
 
-fair_load : (n : ℕ) (ts : List Symbol) → Ordered (Within Load ts) ts (load_at n ts)
+fair_load : (c : Operation) → effect_of c ≡ loads → (n : ℕ) (ts : List Symbol) → Ordered (Within c ts) ts (load_at (accepted c) n ts)
 unfolding load_at
-fair_load n ts = fair_bind kept (fair_located kept n ts) (λ x is. fair_made kept _ (fair_expected RightParen x.1))
+fair_load c k n ts = fair_bind kept (fair_located kept n ts) (λ x is. fair_made kept _ (fair_closing (accepted c) x.1 (load_misordered c k n ts x.1 x.0 is)))
 
-fair_load_explicit : (n : ℕ) (ts : List Symbol) → Ordered (Within LoadExplicit ts) ts (load_explicit_at n ts)
-unfolding load_explicit_at
-fair_load_explicit n ts = fair_bind kept (fair_target kept n ts) (λ x is. fair_made kept _ (fair_last kept load_orders x.1 (load_misordered n ts x.1 x.0 is)))
-
-fair_store : (n : ℕ) (ts : List Symbol) → Ordered (Within Store ts) ts (store_at n ts)
+fair_store : (c : Operation) → TakesValue c → (n : ℕ) (ts : List Symbol) → Ordered (Within c ts) ts (store_at (accepted c) n ts)
 unfolding store_at
-fair_store n ts = fair_bind kept (fair_valued kept n ts) (λ v is. fair_made kept _ (fair_expected RightParen v.1))
+fair_store c k n ts = fair_bind kept (fair_valued kept n ts) (λ v is. fair_made kept _ (fair_closing (accepted c) v.1 (value_misordered c k n ts v.1 v.0 is)))
 
-fair_store_explicit : (n : ℕ) (ts : List Symbol) → Ordered (Within StoreExplicit ts) ts (store_explicit_at n ts)
-unfolding store_explicit_at
-fair_store_explicit n ts = fair_bind kept (fair_stored kept n ts) (λ v is. fair_made kept _ (fair_last kept store_orders v.1 (store_misordered n ts v.1 v.0 is)))
-
-fair_exchange : (n : ℕ) (ts : List Symbol) → Ordered (Within Exchange ts) ts (exchange_at n ts)
+fair_exchange : (c : Operation) → TakesValue c → (n : ℕ) (ts : List Symbol) → Ordered (Within c ts) ts (exchange_at (accepted c) n ts)
 unfolding exchange_at
-fair_exchange n ts = fair_bind kept (fair_valued kept n ts) (λ v is. fair_made kept _ (fair_expected RightParen v.1))
+fair_exchange c k n ts = fair_bind kept (fair_valued kept n ts) (λ v is. fair_made kept _ (fair_closing (accepted c) v.1 (value_misordered c k n ts v.1 v.0 is)))
 
-fair_exchange_explicit : (n : ℕ) (ts : List Symbol) → Ordered (Within ExchangeExplicit ts) ts (exchange_explicit_at n ts)
-unfolding exchange_explicit_at
-fair_exchange_explicit n ts = fair_bind kept (fair_stored kept n ts) (λ v is. fair_made kept _ (fair_any kept v.1))
-
-fair_fence : (n : ℕ) (ts : List Symbol) → Ordered (Within Fence ts) ts (fence_at n ts)
+fair_fence : (c : Operation) → effect_of c ≡ fences → (n : ℕ) (ts : List Symbol) → Ordered (Within c ts) ts (fence_at (accepted c) n ts)
 unfolding fence_at
-fair_fence n ts = fair_bind kept (fair_open kept n ts) (λ m is. fair_made kept _ (fair_any kept m.1))
+fair_fence c k n ts = fair_bind kept (fair_open kept n ts) (λ m is. fair_made kept _ (fair_last kept (accepted c) m.1 (fence_misordered c k n m.0 ts m.1 is)))
+
+fair_effect : (c : Operation) (f : Effect) → effect_of c ≡ f → (n : ℕ) (ts : List Symbol) → Ordered (Within c ts) ts (effect_at f (accepted c) n ts)
+fair_effect c loads k n ts = fair_load c k n ts
+fair_effect c stores k n ts = fair_store c (store_takes k) n ts
+fair_effect c exchanges k n ts = fair_exchange c (exchange_takes k) n ts
+fair_effect c fences k n ts = fair_fence c k n ts
 
 fair_operation : (c : Operation) (n : ℕ) (ts : List Symbol) → Ordered (Within c ts) ts (operation_at c n ts)
 unfolding operation_at
-fair_operation Load n ts = fair_load n ts
-fair_operation LoadExplicit n ts = fair_load_explicit n ts
-fair_operation Store n ts = fair_store n ts
-fair_operation StoreExplicit n ts = fair_store_explicit n ts
-fair_operation Exchange n ts = fair_exchange n ts
-fair_operation ExchangeExplicit n ts = fair_exchange_explicit n ts
-fair_operation Fence n ts = fair_fence n ts
+fair_operation c n ts = fair_effect c (effect_of c) refl n ts
 
 fair_value : (c : Operation) (n : ℕ) (ts : List Symbol) → Ordered (Within c ts) ts (value_at c n ts)
 unfolding value_at

@@ -1,10 +1,10 @@
 -- Where reading gives `misordered`, a call has an order that it does not take. Tools: what is read stands in front.
-use Rattle.std.proofs.Common.{◌≡◌, ℕ, zero, suc, List, [], ◌∷◌, refl, sym, subst, inl, inr}
+use Rattle.std.proofs.Common.{◌≡◌, ℕ, zero, suc, List, ◌∷◌, refl, sym, subst, inl, inr}
 use Rattle.std.specs.Prelude.{length, Bool, true, false, Some, None, Ok, Err, if◌then◌else◌}
 use Rattle.descent.specs.Reading.{Look, match_option, ◌>>=◌, required, turns, repeated}
 use Rattle.descent.proofs.Tools.{bind_ok, bind_err, moved}
 use Rattle.litmus_c.specs.declared.symbol.Symbol.{Symbol}
-use Rattle.litmus_c.specs.declared.symbol.Symbol.TheVariants.{Fixed, Name}
+use Rattle.litmus_c.specs.declared.symbol.Symbol.TheVariants.{Name}
 use Rattle.litmus_c.specs.declared.symbol.Terminal.{Terminal}
 use Rattle.litmus_c.specs.declared.symbol.Terminal.TheVariants.{LeftParen}
 use Rattle.litmus_c.specs.Reading.{Reading, syntax, deep, misordered, after, expected, name_at, number_look, number_at, opened, open_at}

@@ -1,17 +1,15 @@
 -- Places, and lists of them.
-use Rattle.std.proofs.Common.{◌≡◌, ℕ, ◌<◌, ◌≤◌, List, [], ◌∷◌, ◌⊎◌, inl, inr, refl, subst, sym, ap, ◌∙◌, length, arith}
-use Rattle.std.specs.Prelude.{◌++◌, true, false, Some, None, Ok, Err, if◌then◌else◌}
+use Rattle.std.proofs.Common.{◌≡◌, ℕ, ◌<◌, ◌≤◌, List, [], ◌∷◌, ◌⊎◌, inl, inr, refl, subst, sym, ap, length, arith}
+use Rattle.std.specs.Prelude.{◌++◌, true, false, Some, None, Ok}
 use Rattle.descent.specs.Reading.{match_option, ◌>>=◌, repeated}
 use Rattle.descent.proofs.Tools.{bind_ok, cases_of, chosen, moved, Yields, Shows}
 use Rattle.descent.proofs.Turns.{repeated-keeps, repeated-more, Arrives, last, next}
 use Rattle.conditions.specs.declared.place.Place.{Place}
-use Rattle.conditions.specs.declared.place.Place.TheVariants.{Reg, Loc}
 use Rattle.litmus_c.specs.declared.symbol.Symbol.{Symbol}
 use Rattle.litmus_c.specs.declared.symbol.Symbol.TheVariants.{Fixed, Name, Number}
-use Rattle.litmus_c.specs.declared.symbol.Terminal.{Terminal}
 use Rattle.litmus_c.specs.declared.symbol.Terminal.TheVariants.{Locations, LeftBracket, RightBracket, Semicolon, Colon}
 use Rattle.litmus_c.specs.Grammar.{IsLocation, location_name, location_bracket, IsPlace, place_register, place_location, IsPlaces, places_none, places_one, places_empty, places_more, IsListed, listed_none, listed_some}
-use Rattle.litmus_c.specs.Reading.{Reading, syntax, after, expected, name_at, number_look, number_at, location_at, register_at, place_at, ends_place, place_behind, places_at, bracketed_at, listed_at}
+use Rattle.litmus_c.specs.Reading.{syntax, after, expected, name_at, number_look, number_at, location_at, register_at, place_at, ends_place, place_behind, places_at, bracketed_at, listed_at}
 use Rattle.litmus_c.specs.Tree.{Word}
 use Rattle.litmus_c.proofs.Sounds.{Sound}
 use Rattle.litmus_c.proofs.Symbols.{after-some, after-first, after_takes, expected-ok, expected-first, name-ok, name-not, number_look-some}

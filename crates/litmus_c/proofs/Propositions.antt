@@ -1,18 +1,18 @@
 -- Conditions: what is read is in the grammar, and what is in the grammar is read.
-use Rattle.std.proofs.Common.{◌≡◌, ℕ, zero, suc, ◌<◌, ◌≤◌, List, [], ◌∷◌, length, sym, subst, arith, inl, inr, refl, ap, ◌∙◌}
-use Rattle.std.specs.Prelude.{Some, None, Ok, Err}
+use Rattle.std.proofs.Common.{◌≡◌, ℕ, zero, suc, ◌<◌, List, ◌∷◌, length, sym, subst, arith, inl, inr, refl, ap, ◌∙◌}
+use Rattle.std.specs.Prelude.{Some, None, Ok}
 use Rattle.descent.specs.Reading.{match_option, ◌>>=◌, repeated}
-use Rattle.descent.proofs.Tools.{bind_ok, cases_of, none_or_some, moved, moved_look, Yields, Shows}
+use Rattle.descent.proofs.Tools.{bind_ok, cases_of, moved, moved_look, Yields, Shows}
 use Rattle.descent.proofs.Turns.{repeated-keeps, items-more, Arrives, last, next}
 use Rattle.conditions.specs.declared.place.Place.{Place}
 use Rattle.conditions.specs.declared.condition.Kind.{Kind}
 use Rattle.conditions.specs.Conditions.{Formula, truth, falsehood, equals, negation, conjunction, disjunction, implication, Condition}
 use Rattle.litmus_c.specs.declared.symbol.Symbol.{Symbol}
-use Rattle.litmus_c.specs.declared.symbol.Symbol.TheVariants.{Fixed, Name, Number}
+use Rattle.litmus_c.specs.declared.symbol.Symbol.TheVariants.{Fixed, Number}
 use Rattle.litmus_c.specs.declared.symbol.Terminal.{Terminal}
 use Rattle.litmus_c.specs.declared.symbol.Terminal.TheVariants.{True, False, Exists, Forall, Not, LeftParen, RightParen, Assign, Tilde, And, Or, Arrow}
-use Rattle.litmus_c.specs.Grammar.{IsLocation, location_name, location_bracket, IsPlace, place_register, place_location, Denies, denies_tilde, denies_not, IsProposition, proposition_or, proposition_implies, IsOr, or_conjunction, or_or, IsConjunction, conjunction_atomic, conjunction_and, IsAtomic, atomic_denied, atomic_paren, atomic_true, atomic_false, atomic_equals, IsKind, kind_exists, kind_not_exists, kind_forall, IsCondition, condition_of}
-use Rattle.litmus_c.specs.Reading.{Reading, syntax, after, expected, number_at, place_at, equation_at, Propositions, denial, plain_atomic_at, denied_with, enclosed_with, atomic_with, conjunction_more, conjunction_with, or_more, or_with, proposition_with, propositions_below, kind_of_at, condition_at}
+use Rattle.litmus_c.specs.Grammar.{location_name, location_bracket, IsPlace, place_register, place_location, Denies, denies_tilde, denies_not, IsProposition, proposition_or, proposition_implies, IsOr, or_conjunction, or_or, IsConjunction, conjunction_atomic, conjunction_and, IsAtomic, atomic_denied, atomic_paren, atomic_true, atomic_false, atomic_equals, IsKind, kind_exists, kind_not_exists, kind_forall, IsCondition, condition_of}
+use Rattle.litmus_c.specs.Reading.{syntax, after, expected, number_at, place_at, equation_at, Propositions, denial, plain_atomic_at, denied_with, enclosed_with, atomic_with, conjunction_more, conjunction_with, or_more, or_with, proposition_with, propositions_below, kind_of_at, condition_at}
 use Rattle.litmus_c.proofs.Places.{place-sound, place-complete, place_shorter, number-first}
 use Rattle.litmus_c.proofs.Sounds.{Sound, Deeper, deeper}
 use Rattle.litmus_c.proofs.Symbols.{after-some, after-first, after_takes, expected-ok, expected-first, number-ok}

@@ -1,5 +1,5 @@
 -- Rows of statements that are compared one by one.
-use Rattle.std.proofs.Common.{◌≡◌, ◌≢◌, ℕ, List, [], ◌∷◌, ◌++◌, map, refl, ap, sym, ◌∙◌, suc}
+use Rattle.std.proofs.Common.{◌≡◌, ◌≢◌, List, [], ◌∷◌, ◌++◌, map, refl, ap, ◌∙◌, suc}
 use Rattle.std.specs.Prelude.{length, Bool, false, true, ◌&&◌}
 use Rattle.litmus_c.specs.declared.tree.Statement.{Statement}
 use Rattle.litmus_c.specs.Equality.{same_step, same_steps}

@@ -1,13 +1,11 @@
 -- What is read is in the grammar.
-use Rattle.std.proofs.Common.{◌≡◌, ℕ, zero, suc, List, [], ◌∷◌, ◌⊎◌, inl, inr, refl, subst, sym, ap, ◌∙◌, length}
-use Rattle.std.specs.Prelude.{◌++◌, Bool, true, false, ◌||◌, Option, Some, None, Ok, Err, if◌then◌else◌, codes}
+use Rattle.std.proofs.Common.{◌≡◌, ℕ, suc, List, [], ◌∷◌, ◌⊎◌, inl, inr, refl, subst, sym, ap, ◌∙◌, length}
+use Rattle.std.specs.Prelude.{◌++◌, Bool, true, false, ◌||◌, Ok, Err, if◌then◌else◌, codes}
 use Rattle.std.specs.Fmt.{decimal}
-use Rattle.std.specs.List.{list_any}
 use Rattle.std.specs.Str.{bytes_eq}
-use Rattle.descent.specs.Reading.{match_option, ◌>>=◌, repeated}
+use Rattle.descent.specs.Reading.{◌>>=◌}
 use Rattle.descent.proofs.Tools.{bind_ok, cases_of, none_or_some, moved, chosen}
 use Rattle.descent.proofs.Turns.{repeated-keeps}
-use Rattle.listings.specs.Lists.{IsIn}
 use Rattle.conditions.specs.declared.place.Binding.{Binding}
 use Rattle.conditions.specs.declared.place.Place.{Place}
 use Rattle.conditions.specs.declared.place.Place.TheVariants.{Reg, Loc}
@@ -17,11 +15,10 @@ use Rattle.litmus_c.specs.declared.symbol.Terminal.{Terminal}
 use Rattle.litmus_c.specs.declared.symbol.Terminal.TheVariants.{Int, AtomicInt, Volatile, LeftParen, RightParen, LeftBrace, RightBrace, Semicolon, Comma, Assign, Star}
 use Rattle.litmus_c.specs.declared.tree.LocationKind.{LocationKind}
 use Rattle.litmus_c.specs.declared.tree.Parameter.{Parameter}
-use Rattle.conditions.specs.Conditions.{Condition}
-use Rattle.litmus_c.specs.Drafts.{Listing, Written, is_parameter}
-use Rattle.litmus_c.specs.Grammar.{IsLocation, IsPlace, place_register, place_location, IsType, type_int, type_atomic, IsUntyped, untyped_zero, untyped_value, IsEntry, entry_untyped, entry_typed, IsEntries, entries_none, entries_one, entries_empty, entries_more, HasKind, kind_atomic, kind_plain, IsParameter, parameter_typed, parameter_volatile, IsNew, IsParameters, parameters_one, parameters_more as parameters_and, IsParameterList, list_none, list_some, IsSteps, IsThread, thread_body, IsThreads, threads_one, threads_more as threads_and, IsCondition, IsWritten, written}
+use Rattle.litmus_c.specs.Drafts.{is_parameter}
+use Rattle.litmus_c.specs.Grammar.{IsLocation, IsPlace, place_register, place_location, type_int, type_atomic, IsUntyped, untyped_zero, untyped_value, IsEntry, entry_untyped, entry_typed, IsEntries, entries_none, entries_one, entries_empty, entries_more, HasKind, kind_atomic, kind_plain, IsParameter, parameter_typed, parameter_volatile, IsNew, IsParameters, parameters_one, parameters_more as parameters_and, IsParameterList, list_none, list_some, IsThread, thread_body, IsThreads, threads_one, threads_more as threads_and, IsCondition, IsWritten, written}
 use Rattle.litmus_c.specs.Reading.{Reading, syntax, after, expected, name_at, number_at, before_name, open_at, place_at, bare, bound_at, behind_type, entry_at, ends_entry, entry_behind, entries_at, kind_at, behind_volatile, parameter_behind, parameters_more, parameters_at, parameters_closed, parameter_list_at, steps_at, names_thread, thread_name_at, thread_at, threads_more, threads_at, listed_at, condition_at, word_at, language_at, end_at, initial_at, test_at}
-use Rattle.litmus_c.specs.Tree.{Word, Steps}
+use Rattle.litmus_c.specs.Tree.{Word}
 use Rattle.litmus_c.proofs.Places.{place-sound, listed-sound}
 use Rattle.litmus_c.proofs.Propositions.{condition-sound}
 use Rattle.litmus_c.proofs.Sounds.{Sound}

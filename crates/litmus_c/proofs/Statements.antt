@@ -1,15 +1,15 @@
 -- Statements: what is read is in the grammar, and what is in the grammar is read.
-use Rattle.std.proofs.Common.{◌≡◌, ℕ, zero, suc, ◌<◌, ◌≤◌, List, [], ◌∷◌, ◌⊎◌, length, sym, subst, arith, inl, inr, refl, ap, ◌∙◌}
+use Rattle.std.proofs.Common.{◌≡◌, ℕ, zero, suc, ◌<◌, ◌≤◌, List, [], ◌∷◌, length, sym, subst, arith, inl, inr, refl, ap, ◌∙◌}
 use Rattle.std.specs.Prelude.{◌++◌, Option, Some, None, Result, Ok, Err}
 use Rattle.descent.specs.Reading.{match_option, ◌>>=◌, repeated}
 use Rattle.descent.proofs.Tools.{bind_ok, cases_of, none_or_some, moved, Yields, Shows}
 use Rattle.descent.proofs.Turns.{repeated-keeps, repeated-more, items-more, Arrives, last, next}
-use Rattle.litmus_c.specs.declared.symbol.Operation.{Operation}
+use Rattle.litmus_c.specs.declared.atomics.Operation.{Operation}
 use Rattle.litmus_c.specs.declared.symbol.Symbol.{Symbol}
 use Rattle.litmus_c.specs.declared.symbol.Symbol.TheVariants.{Fixed, Call, Name}
 use Rattle.litmus_c.specs.declared.symbol.Terminal.{Terminal}
 use Rattle.litmus_c.specs.declared.symbol.Terminal.TheVariants.{Int, If, Else, LeftParen, RightParen, LeftBrace, RightBrace, Semicolon, Comma, Assign, Star}
-use Rattle.litmus_c.specs.Grammar.{IsExpression, IsCall, IsRight, IsDeclarator, declarator_bare, declarator_value, IsDeclarators, declarators_one, declarators_more as declarators_and, IsSimple, simple_declare, simple_assign, simple_write, simple_perform, NotNext, IsStep, step_empty, step_block, step_simple, step_if, step_else, IsSteps, steps_none, steps_more as steps_and}
+use Rattle.litmus_c.specs.Grammar.{IsExpression, IsDeclarator, declarator_bare, declarator_value, IsDeclarators, declarators_one, declarators_more as declarators_and, IsSimple, simple_declare, simple_assign, simple_write, simple_perform, NotNext, IsStep, step_empty, step_block, step_simple, step_if, step_else, IsSteps, steps_none, steps_more as steps_and}
 use Rattle.litmus_c.specs.Reading.{Reading, Cause, syntax, deep, misordered, Gives, after, expected, unless, name_at, before_name, call_word, expression_at, operation_at, right_at, declarator_at, declarators_more, declarators_at, assignment_at, write_at, declaration_at, performed_at, simple_at, closed_at, Inside, else_with, if_with, block_with, step_with, steps_more, steps_with, inside, step_at, steps_at}
 use Rattle.litmus_c.specs.declared.syntax_fault.SyntaxFault.{SyntaxFault}
 use Rattle.litmus_c.specs.declared.syntax_fault.SyntaxFault.TheVariants.{Syntax, BadOrder, TooDeep, NoMemory}

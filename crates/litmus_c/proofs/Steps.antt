@@ -1,5 +1,5 @@
 -- A branch as a tree, and a row of statements part by part.
-use Rattle.std.proofs.Common.{◌≡◌, ℕ, List, [], ◌∷◌, ◌++◌, map, ap, sym, refl, ◌∙◌, Box}
+use Rattle.std.proofs.Common.{◌≡◌, List, [], ◌∷◌, ◌++◌, map, ap, sym, refl, ◌∙◌, Box}
 use Rattle.std.specs.Prelude.{Some, None, sum_by, ◌+◌, ◌&&◌}
 use Rattle.std.specs.List.{flat_map, list_all}
 use Rattle.std.proofs.lemmas.List.Sums.{sum_by-cons}
@@ -15,7 +15,7 @@ use Rattle.litmus_c.specs.declared.tree.Parameter.{Parameter}
 use Rattle.litmus_c.specs.Limits.{step_events, steps_events}
 use Rattle.litmus_c.specs.Rules.{step_registers, steps_registers, step_keeps, steps_keep}
 use Rattle.litmus_c.specs.Values.{step_constants, steps_constants}
-use Rattle.litmus_c.specs.Tree.{Word, Step, if_only, if_else, Steps, no_steps, in_turn, row, followed, term_of, declared_of, layer, step_of, steps_of}
+use Rattle.litmus_c.specs.Tree.{Word, Step, if_only, if_else, in_turn, followed, term_of, declared_of, layer, step_of, steps_of}
 
 pub only_if : (c : Expression) (a : Box Statement Global) → step_of (If' c a None) ≡ if_only (term_of c) (step_of a.value)
 only_if c a = ap step_of (sym (rolls-If c a None)) ∙ fold-roll-Statement Step layer (Statement-F.If c a None)

@@ -1,16 +1,15 @@
 -- Single symbols.
-use Rattle.std.proofs.Common.{◌≡◌, ◌≢◌, ℕ, suc, zero, List, [], ◌∷◌, ◌⊎◌, inl, inr, refl, sym, subst, arith, rules, ap, ◌∙◌, ◌<◌, length}
-use Rattle.std.specs.Prelude.{Bool, true, false, Option, Some, None, Ok, Err, if◌then◌else◌, codes}
+use Rattle.std.proofs.Common.{◌≡◌, ℕ, suc, zero, List, [], ◌∷◌, inl, inr, refl, sym, subst, arith, rules, ap, ◌∙◌, ◌<◌, length}
+use Rattle.std.specs.Prelude.{true, false, Some, None, Ok}
 use Rattle.std.specs.Str.{bytes_eq}
 use Rattle.std.proofs.lemmas.Slice.Eq.{bytes_eq-Decides}
-use Rattle.descent.specs.Reading.{required}
 use Rattle.descent.proofs.Tools.{bind_ok, required_ok, moved, moved_look, chosen, cases_of}
-use Rattle.litmus_c.specs.declared.symbol.Operation.{Operation}
+use Rattle.litmus_c.specs.declared.atomics.Operation.{Operation}
 use Rattle.litmus_c.specs.declared.symbol.Symbol.{Symbol}
 use Rattle.litmus_c.specs.declared.symbol.Symbol.TheVariants.{Fixed, Call, Name, Number, Word as head_word, Foreign, Other}
 use Rattle.litmus_c.specs.declared.symbol.Terminal.{Terminal}
 use Rattle.litmus_c.specs.declared.symbol.Terminal.TheVariants.{LeftParen}
-use Rattle.litmus_c.specs.Reading.{syntax, deep, Reading, terminal_eq, after, expected, unless, name_at, number_look, number_at, call_word, before_name, opened, open_at, word_at}
+use Rattle.litmus_c.specs.Reading.{syntax, terminal_eq, after, expected, unless, name_at, number_look, number_at, call_word, before_name, opened, open_at, word_at}
 use Rattle.litmus_c.specs.Tree.{Word}
 
 pub bytes_eq-true : (x y : Word) → bytes_eq x y ≡ true → x ≡ y

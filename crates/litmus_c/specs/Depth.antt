@@ -3,7 +3,7 @@
 -- before this place is by the grammar and nests less deep, and what stands behind it is left open. The start of the X
 -- nests 0 deep. Each opening parenthesis, `!`, `~`, `not`, block, arm of an `if` and right side of `=>` is one deeper
 -- than what it stands in; a chain of one connective is no level.
-use Rattle.std.specs.Prelude.{ℕ, List, ◌∷◌, ◌++◌, length, codes}
+use Rattle.std.specs.Prelude.{◌≡◌, ℕ, List, ◌∷◌, ◌++◌, length, true, codes}
 use Rattle.std.specs.Fmt.{decimal}
 use Rattle.std.proofs.Common.{zero, suc}
 use Rattle.conditions.specs.declared.condition.Kind.{Kind}
@@ -11,13 +11,13 @@ use Rattle.conditions.specs.declared.place.Binding.{Binding}
 use Rattle.conditions.specs.declared.place.Place.{Place}
 use Rattle.conditions.specs.Conditions.{Formula}
 use Rattle.litmus_c.specs.declared.operator.Operator.{Operator}
-use Rattle.litmus_c.specs.declared.symbol.Operation.{Operation}
-use Rattle.litmus_c.specs.declared.symbol.Operation.TheVariants.{Load, LoadExplicit, Store, StoreExplicit, Exchange, ExchangeExplicit}
+use Rattle.litmus_c.specs.declared.atomics.Operation.{Operation}
 use Rattle.litmus_c.specs.declared.symbol.Symbol.{Symbol}
 use Rattle.litmus_c.specs.declared.symbol.Symbol.TheVariants.{Fixed, Call, Name, Word as head_word}
 use Rattle.litmus_c.specs.declared.symbol.Terminal.{Terminal}
 use Rattle.litmus_c.specs.declared.symbol.Terminal.TheVariants.{Int, If, Else, LeftParen, RightParen, LeftBrace, RightBrace, Comma, Assign, Star, Bang, And, Or, Arrow}
 use Rattle.litmus_c.specs.declared.tree.Parameter.{Parameter}
+use Rattle.litmus_c.specs.Atomics.{TakesValue, has_value}
 use Rattle.litmus_c.specs.Drafts.{Listing}
 use Rattle.litmus_c.specs.Grammar.{IsEntries, IsParameterList, Joins, IsLevel, IsExpression, IsDeclarators, IsStep, IsSteps, IsThreads, IsListed, Denies, IsOr, IsConjunction, IsKind}
 use Rattle.litmus_c.specs.Tree.{Word, Term, Declared, Step, Steps}
@@ -42,20 +42,6 @@ DeepExpression n ts = DeepLevel 3 n ts
 
 -- Calls.
 
--- the calls that take a value
-pub data TakesValue : Operation → Type 0 where
-  store_takes : TakesValue Store
-  store_explicit_takes : TakesValue StoreExplicit
-  exchange_takes : TakesValue Exchange
-  exchange_explicit_takes : TakesValue ExchangeExplicit
-
--- the calls that give a value
-pub data GivesValue : Operation → Type 0 where
-  load_gives : GivesValue Load
-  load_explicit_gives : GivesValue LoadExplicit
-  exchange_gives : GivesValue Exchange
-  exchange_explicit_gives : GivesValue ExchangeExplicit
-
 -- behind the word of a call: in its parentheses, or in the value that it takes
 pub data DeepCall : Operation → ℕ → List Symbol → Type 0 where
   deep_call : {c : Operation} {ts : List Symbol} → DeepCall c (suc zero) (Fixed LeftParen ∷ ts)
@@ -63,7 +49,7 @@ pub data DeepCall : Operation → ℕ → List Symbol → Type 0 where
 
 pub data DeepRight : ℕ → List Symbol → Type 0 where
   deep_computed : {n : ℕ} {ts : List Symbol} → DeepExpression n ts → DeepRight n ts
-  deep_given : {c : Operation} {n : ℕ} {ts : List Symbol} → GivesValue c → DeepCall c n ts → DeepRight n (Call c ∷ ts)
+  deep_given : {c : Operation} {n : ℕ} {ts : List Symbol} → has_value c ≡ true → DeepCall c n ts → DeepRight n (Call c ∷ ts)
 
 -- Statements.
 

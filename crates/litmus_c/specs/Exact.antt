@@ -1,6 +1,6 @@
 -- Each test of equality is true exactly of equal trees, and so is an equivalence.
-use Rattle.std.specs.Prelude.{◌≡◌, ℕ, ◌&&◌, Bool, true, false, List, Option, None, Some, refl}
-use Rattle.std.proofs.Common.{◌∙◌, sym, ap, rules}
+use Rattle.std.specs.Prelude.{◌≡◌, List, Option, None, Some, refl}
+use Rattle.std.proofs.Common.{◌∙◌, ap, rules}
 use Rattle.std.specs.Bool.{Decides}
 use Rattle.std.specs.Cmp.{IsEquivalence, on_equiv}
 use Rattle.std.specs.Cmp.Lexicographic.{pointwise, pointwise_decides}

@@ -2,12 +2,12 @@
 -- IsX n ts rest a says that the symbols ts begin with the X a, which nests at most n deep, and that the symbols
 -- rest follow it. Each of these nests one deeper than what it stands in: the inside of parentheses and of a block,
 -- the operand of `!`, `~` and `not`, an arm of an `if`, and the right side of `=>`.
-use Rattle.std.specs.Prelude.{◌≡◌, ◌≢◌, ℕ, List, [], ◌∷◌, ◌++◌, length, Option, Some, None, codes}
+use Rattle.std.specs.Prelude.{◌≡◌, ◌≢◌, ℕ, List, [], ◌∷◌, ◌++◌, length, Some, None, codes}
 use Rattle.std.specs.Fmt.{decimal}
 use Rattle.std.proofs.Common.{zero, suc}
 use Rattle.listings.specs.Lists.{IsIn}
 use Rattle.events.specs.declared.event.Order.{Order}
-use Rattle.events.specs.declared.event.Order.TheVariants.{Rlx, Acq, Rel, AcqRel, Sc}
+use Rattle.events.specs.declared.event.Order.TheVariants.{Sc}
 use Rattle.conditions.specs.declared.place.Binding.{Binding}
 use Rattle.conditions.specs.declared.place.Place.{Place}
 use Rattle.conditions.specs.declared.place.Place.TheVariants.{Reg, Loc}
@@ -16,7 +16,7 @@ use Rattle.conditions.specs.declared.condition.Kind.TheVariants as kinds
 use Rattle.conditions.specs.Conditions.{Formula, truth, falsehood, equals, negation, conjunction, disjunction, implication, Condition}
 use Rattle.litmus_c.specs.declared.operator.Operator.{Operator}
 use Rattle.litmus_c.specs.declared.operator.Operator.TheVariants as operators
-use Rattle.litmus_c.specs.declared.symbol.Operation.TheVariants.{Load, LoadExplicit, Store, StoreExplicit, Exchange, ExchangeExplicit, Fence}
+use Rattle.litmus_c.specs.declared.atomics.Operation.{Operation}
 use Rattle.litmus_c.specs.declared.symbol.Symbol.{Symbol}
 use Rattle.litmus_c.specs.declared.symbol.Symbol.TheVariants.{Fixed, Call, Name, Number, Word as head_word}
 use Rattle.litmus_c.specs.declared.symbol.Terminal.{Terminal}
@@ -24,8 +24,9 @@ use Rattle.litmus_c.specs.declared.symbol.Terminal.TheVariants.{Int, AtomicInt, 
 use Rattle.litmus_c.specs.declared.tree.LocationKind.{LocationKind}
 use Rattle.litmus_c.specs.declared.tree.LocationKind.TheVariants.{Atomic, Plain}
 use Rattle.litmus_c.specs.declared.tree.Parameter.{Parameter}
+use Rattle.litmus_c.specs.Atomics.{orders, loads, stores, exchanges, fences, effect_of, accepted}
 use Rattle.litmus_c.specs.Drafts.{Listing, Written}
-use Rattle.litmus_c.specs.Symbols.{orders, looked_up}
+use Rattle.litmus_c.specs.Symbols.{looked_up}
 use Rattle.litmus_c.specs.Tree.{Word, Term, number, held, denied, equal, unequal, both, either, Action, load, store, exchange, fence, Right, computed, plain_read, value_of, Declared, Step, empty, block, declare, assign, plain_write, perform, if_only, if_else, Steps, no_steps, followed}
 
 -- Places and the initial state.
@@ -123,41 +124,31 @@ mutual
 abbrev pub IsExpression : ℕ → List Symbol → List Symbol → Term → Type 0
 IsExpression n ts rest a = IsLevel 3 n ts rest a
 
--- Calls. The table of ISO C11, 7.17.7 and 7.17.4: each word, its arguments, and the orders that it takes.
+-- Calls. Each is a row of specs/Atomics.antt.
 
 -- w names the order o
 abbrev pub IsOrder : Word → Order → Type 0
 IsOrder w o = looked_up orders w ≡ Some o
 
-abbrev pub load_orders : List Order
-load_orders = Rlx ∷ Acq ∷ Sc ∷ []
-
-abbrev pub store_orders : List Order
-store_orders = Rlx ∷ Rel ∷ Sc ∷ []
-
-abbrev pub all_orders : List Order
-all_orders = Rlx ∷ Acq ∷ Rel ∷ AcqRel ∷ Sc ∷ []
-
 -- order ")", with an order of these
 pub data IsLastOrder (os : List Order) : List Symbol → List Symbol → Order → Type 0 where
   last_order : {w : Word} {o : Order} {rest : List Symbol} → IsOrder w o → IsIn o os → IsLastOrder os (Name w ∷ Fixed RightParen ∷ rest) rest o
 
--- a call; the short forms have the order sc
+-- the end of a call that takes these orders: ")" where it takes none, and its order is sc, or "," order ")"
+pub data IsClosing : List Order → List Symbol → List Symbol → Order → Type 0 where
+  closing_sc : {rest : List Symbol} → IsClosing [] (Fixed RightParen ∷ rest) rest Sc
+  closing_order : {os : List Order} {o : Order} {ts rest : List Symbol} → IsLastOrder os ts rest o → IsClosing os (Fixed Comma ∷ ts) rest o
+
+-- a call: its word, and in parentheses its location and value, by what it does, and its order
 pub data IsCall : ℕ → List Symbol → List Symbol → Action → Type 0 where
-  call_load : {n : ℕ} {x : Word} {rest : List Symbol} →
-      IsCall (suc n) (Call Load ∷ Fixed LeftParen ∷ Name x ∷ Fixed RightParen ∷ rest) rest (load x Sc)
-  call_load_explicit : {n : ℕ} {x : Word} {o : Order} {ts rest : List Symbol} → IsLastOrder load_orders ts rest o →
-      IsCall (suc n) (Call LoadExplicit ∷ Fixed LeftParen ∷ Name x ∷ Fixed Comma ∷ ts) rest (load x o)
-  call_store : {n : ℕ} {x : Word} {e : Term} {ts rest : List Symbol} → IsExpression n ts (Fixed RightParen ∷ rest) e →
-      IsCall (suc n) (Call Store ∷ Fixed LeftParen ∷ Name x ∷ Fixed Comma ∷ ts) rest (store x e Sc)
-  call_store_explicit : {n : ℕ} {x : Word} {e : Term} {o : Order} {ts us rest : List Symbol} → IsExpression n ts (Fixed Comma ∷ us) e → IsLastOrder store_orders us rest o →
-      IsCall (suc n) (Call StoreExplicit ∷ Fixed LeftParen ∷ Name x ∷ Fixed Comma ∷ ts) rest (store x e o)
-  call_exchange : {n : ℕ} {x : Word} {e : Term} {ts rest : List Symbol} → IsExpression n ts (Fixed RightParen ∷ rest) e →
-      IsCall (suc n) (Call Exchange ∷ Fixed LeftParen ∷ Name x ∷ Fixed Comma ∷ ts) rest (exchange x e Sc)
-  call_exchange_explicit : {n : ℕ} {x : Word} {e : Term} {o : Order} {ts us rest : List Symbol} → IsExpression n ts (Fixed Comma ∷ us) e → IsLastOrder all_orders us rest o →
-      IsCall (suc n) (Call ExchangeExplicit ∷ Fixed LeftParen ∷ Name x ∷ Fixed Comma ∷ ts) rest (exchange x e o)
-  call_fence : {n : ℕ} {o : Order} {ts rest : List Symbol} → IsLastOrder all_orders ts rest o →
-      IsCall (suc n) (Call Fence ∷ Fixed LeftParen ∷ ts) rest (fence o)
+  call_load : {n : ℕ} {c : Operation} {x : Word} {o : Order} {ts rest : List Symbol} → effect_of c ≡ loads → IsClosing (accepted c) ts rest o →
+      IsCall (suc n) (Call c ∷ Fixed LeftParen ∷ Name x ∷ ts) rest (load x o)
+  call_store : {n : ℕ} {c : Operation} {x : Word} {e : Term} {o : Order} {ts us rest : List Symbol} → effect_of c ≡ stores → IsExpression n ts us e → IsClosing (accepted c) us rest o →
+      IsCall (suc n) (Call c ∷ Fixed LeftParen ∷ Name x ∷ Fixed Comma ∷ ts) rest (store x e o)
+  call_exchange : {n : ℕ} {c : Operation} {x : Word} {e : Term} {o : Order} {ts us rest : List Symbol} → effect_of c ≡ exchanges → IsExpression n ts us e → IsClosing (accepted c) us rest o →
+      IsCall (suc n) (Call c ∷ Fixed LeftParen ∷ Name x ∷ Fixed Comma ∷ ts) rest (exchange x e o)
+  call_fence : {n : ℕ} {c : Operation} {o : Order} {ts rest : List Symbol} → effect_of c ≡ fences → IsLastOrder (accepted c) ts rest o →
+      IsCall (suc n) (Call c ∷ Fixed LeftParen ∷ ts) rest (fence o)
 
 -- the calls that have a value
 pub data HasValue : Action → Type 0 where

@@ -1,3 +1,4 @@
+pub mod Atomics
 pub mod Codes
 pub mod Depth
 pub mod Drafts

@@ -1,7 +1,7 @@
 -- Reading as functions on lists of symbols: one definition for each function of `Reader`.
 -- The grammar does not rest on this file: it says what the private functions give, and proofs/ leads
 -- from it to the grammar, in both directions.
-use Rattle.std.specs.Prelude.{ℕ, ◌+◌, List, [], ◌∷◌, ◌++◌, length, Bool, true, false, Option, Some, None, Result, Ok, Err, ◌≡◌, if◌then◌else◌, codes, Contains}
+use Rattle.std.specs.Prelude.{ℕ, List, [], ◌∷◌, ◌++◌, length, Bool, true, false, Some, None, Result, Ok, Err, ◌≡◌, ◌==◌, if◌then◌else◌, codes, Contains}
 use Rattle.std.specs.Fmt.{decimal}
 use Rattle.std.specs.List.{list_any}
 use Rattle.std.specs.Str.{bytes_eq}
@@ -21,10 +21,9 @@ use Rattle.conditions.specs.Conditions.{Formula, truth, falsehood, equals, negat
 use Rattle.litmus_c.specs.contracts.symbol.TerminalPartialEq.TheImpl.{ghosts}
 use Rattle.litmus_c.specs.declared.operator.Operator.{Operator}
 use Rattle.litmus_c.specs.declared.operator.Operator.TheVariants as operators
-use Rattle.litmus_c.specs.declared.symbol.Operation.{Operation}
-use Rattle.litmus_c.specs.declared.symbol.Operation.TheVariants.{Load, LoadExplicit, Store, StoreExplicit, Exchange, ExchangeExplicit, Fence}
+use Rattle.litmus_c.specs.declared.atomics.Operation.{Operation}
 use Rattle.litmus_c.specs.declared.symbol.Symbol.{Symbol}
-use Rattle.litmus_c.specs.declared.symbol.Symbol.TheVariants.{Fixed, Call, Name, Number, Word as head_word, Foreign, Other}
+use Rattle.litmus_c.specs.declared.symbol.Symbol.TheVariants.{Fixed, Call, Name, Number, Word as head_word, Foreign}
 use Rattle.litmus_c.specs.declared.symbol.Terminal.{Terminal}
 use Rattle.litmus_c.specs.declared.symbol.Terminal.TheVariants.{Int, AtomicInt, Volatile, If, Else, True, False, Exists, Forall, Not, Locations, LeftParen, RightParen, LeftBrace, RightBrace, LeftBracket, RightBracket, Semicolon, Colon, Comma, Assign, Star, Tilde, Bang, EqualEqual, BangEqual, AndAnd, OrOr, And, Or, Arrow}
 use Rattle.litmus_c.specs.declared.fault.TestFault.{TestFault}
@@ -36,8 +35,9 @@ use Rattle.litmus_c.specs.declared.tree.LocationKind.TheVariants.{Atomic, Plain}
 use Rattle.litmus_c.specs.declared.tree.Parameter.{Parameter}
 use Rattle.litmus_c.specs.declared.draft.Draft.{Draft}
 use Rattle.litmus_c.specs.Drafts.{Listing, Written, written_of, is_parameter}
-use Rattle.litmus_c.specs.Grammar.{joined, load_orders, store_orders, all_orders}
-use Rattle.litmus_c.specs.Symbols.{orders, looked_up}
+use Rattle.litmus_c.specs.Atomics.{orders, Effect, loads, stores, exchanges, fences, effect_of, accepted, has_value}
+use Rattle.litmus_c.specs.Grammar.{joined}
+use Rattle.litmus_c.specs.Symbols.{looked_up}
 use Rattle.litmus_c.specs.Tree.{Word, Term, number, held, denied, Action, load, store, exchange, fence, Right, computed, plain_read, value_of, Declared, Step, empty, block, declare, assign, plain_write, perform, if_only, if_else, Steps, no_steps, followed}
 
 -- why there is no reading
@@ -279,75 +279,44 @@ valued_at n ts = do
   e ← expression_at x.0.1 x.1
   Ok ((x.0.0, e.0), e.1)
 
--- and a comma
-unfoldable pub stored_at : ℕ → List Symbol → Reading (Word × Term)
-stored_at n ts = do
-  v ← valued_at n ts
-  y ← expected Comma v.1
-  Ok (v.0, y.1)
+-- the end of a call that takes these orders: a closing parenthesis, and in front of it an order, if it takes any
+unfoldable pub closing_at : List Order → List Symbol → Reading Order
+closing_at os ts = if length os == 0 then (expected RightParen ts >>= λ y. Ok (Sc, y.1)) else (expected Comma ts >>= λ y. last_order_at os y.1)
 
--- what stands behind the word of each call
+-- what stands behind the word of a call that takes these orders
 
-unfoldable pub load_at : ℕ → List Symbol → Reading Action
-load_at n ts = do
+unfoldable pub load_at : List Order → ℕ → List Symbol → Reading Action
+load_at os n ts = do
   x ← located_at n ts
-  y ← expected RightParen x.1
-  Ok (load x.0.0 Sc, y.1)
-
-unfoldable pub load_explicit_at : ℕ → List Symbol → Reading Action
-load_explicit_at n ts = do
-  x ← target_at n ts
-  o ← last_order_at load_orders x.1
+  o ← closing_at os x.1
   Ok (load x.0.0 o.0, o.1)
 
-unfoldable pub store_at : ℕ → List Symbol → Reading Action
-store_at n ts = do
+unfoldable pub store_at : List Order → ℕ → List Symbol → Reading Action
+store_at os n ts = do
   v ← valued_at n ts
-  y ← expected RightParen v.1
-  Ok (store v.0.0 v.0.1 Sc, y.1)
-
-unfoldable pub store_explicit_at : ℕ → List Symbol → Reading Action
-store_explicit_at n ts = do
-  v ← stored_at n ts
-  o ← last_order_at store_orders v.1
+  o ← closing_at os v.1
   Ok (store v.0.0 v.0.1 o.0, o.1)
 
-unfoldable pub exchange_at : ℕ → List Symbol → Reading Action
-exchange_at n ts = do
+unfoldable pub exchange_at : List Order → ℕ → List Symbol → Reading Action
+exchange_at os n ts = do
   v ← valued_at n ts
-  y ← expected RightParen v.1
-  Ok (exchange v.0.0 v.0.1 Sc, y.1)
-
-unfoldable pub exchange_explicit_at : ℕ → List Symbol → Reading Action
-exchange_explicit_at n ts = do
-  v ← stored_at n ts
-  o ← last_order_at all_orders v.1
+  o ← closing_at os v.1
   Ok (exchange v.0.0 v.0.1 o.0, o.1)
 
-unfoldable pub fence_at : ℕ → List Symbol → Reading Action
-fence_at n ts = do
+unfoldable pub fence_at : List Order → ℕ → List Symbol → Reading Action
+fence_at os n ts = do
   m ← open_at n ts
-  o ← last_order_at all_orders m.1
+  o ← last_order_at os m.1
   Ok (fence o.0, o.1)
 
-unfoldable pub operation_at : Operation → ℕ → List Symbol → Reading Action
-operation_at Load n ts = load_at n ts
-operation_at LoadExplicit n ts = load_explicit_at n ts
-operation_at Store n ts = store_at n ts
-operation_at StoreExplicit n ts = store_explicit_at n ts
-operation_at Exchange n ts = exchange_at n ts
-operation_at ExchangeExplicit n ts = exchange_explicit_at n ts
-operation_at Fence n ts = fence_at n ts
+abbrev pub effect_at : Effect → List Order → ℕ → List Symbol → Reading Action
+effect_at loads os n ts = load_at os n ts
+effect_at stores os n ts = store_at os n ts
+effect_at exchanges os n ts = exchange_at os n ts
+effect_at fences os n ts = fence_at os n ts
 
--- whether a call has a value
-abbrev pub has_value : Operation → Bool
-has_value Load = true
-has_value LoadExplicit = true
-has_value Store = false
-has_value StoreExplicit = false
-has_value Exchange = true
-has_value ExchangeExplicit = true
-has_value Fence = false
+unfoldable pub operation_at : Operation → ℕ → List Symbol → Reading Action
+operation_at c n ts = effect_at (effect_of c) (accepted c) n ts
 
 -- a call that has a value, behind its word
 unfoldable pub value_at : Operation → ℕ → List Symbol → Reading Right

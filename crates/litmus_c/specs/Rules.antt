@@ -1,5 +1,5 @@
 -- The test that the written parts make, and the rules and limits that it keeps. (herd7 manual, C litmus tests.)
-use Rattle.std.specs.Prelude.{◌≡◌, ℕ, zero, suc, ◌+◌, ◌≤◌, ◌<◌, ◌==◌, List, [], ◌∷◌, ◌++◌, map, length, fold, sum_by, Bool, true, false, not, ◌&&◌, if◌then◌else◌, Option, Some, None, slice_get}
+use Rattle.std.specs.Prelude.{◌≡◌, ℕ, suc, ◌+◌, ◌≤◌, ◌<◌, ◌==◌, List, [], ◌∷◌, ◌++◌, map, length, fold, sum_by, Bool, true, false, not, ◌&&◌, if◌then◌else◌, Option, Some, None, slice_get}
 use Rattle.std.specs.List.{flat_map, list_any, list_all}
 use Rattle.std.specs.Str.{bytes_eq}
 use Rattle.conditions.specs.declared.place.Binding.{Binding}
@@ -14,7 +14,7 @@ use Rattle.litmus_c.specs.declared.rules.Rule.TheVariants.{Names, PlainAccess, A
 use Rattle.litmus_c.specs.declared.tree.LocationKind.{LocationKind}
 use Rattle.litmus_c.specs.declared.tree.LocationKind.TheVariants.{Atomic, Plain}
 use Rattle.litmus_c.specs.declared.tree.Parameter.{Parameter}
-use Rattle.conditions.specs.Conditions.{Formula, truth, falsehood, equals, negation, conjunction, disjunction, implication, Condition}
+use Rattle.conditions.specs.Conditions.{Formula, truth, falsehood, equals, negation, conjunction, disjunction, implication}
 use Rattle.litmus_c.specs.Drafts.{Listing, Written, is_parameter}
 use Rattle.litmus_c.specs.Limits.{program_events}
 use Rattle.litmus_c.specs.Symbols.{is_one_of}

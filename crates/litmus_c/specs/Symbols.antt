@@ -7,14 +7,12 @@ use Rattle.wb_text.specs.Numbers.{decimal_value}
 use Rattle.wb_text.specs.declared.token.Token.{Token}
 use Rattle.wb_text.specs.declared.token.TokenKind.{TokenKind}
 use Rattle.wb_text.specs.declared.token.TokenKind.TheVariants as kinds
-use Rattle.events.specs.declared.event.Order.{Order}
-use Rattle.events.specs.declared.event.Order.TheVariants.{Rlx, Acq, Rel, AcqRel, Sc}
-use Rattle.litmus_c.specs.declared.symbol.Operation.{Operation}
-use Rattle.litmus_c.specs.declared.symbol.Operation.TheVariants.{Load, LoadExplicit, Store, StoreExplicit, Exchange, ExchangeExplicit, Fence}
+use Rattle.litmus_c.specs.declared.atomics.Operation.{Operation}
 use Rattle.litmus_c.specs.declared.symbol.Symbol.{Symbol}
 use Rattle.litmus_c.specs.declared.symbol.Symbol.TheVariants.{Fixed, Call, Name, Number, Word as head_word, Foreign, Other}
 use Rattle.litmus_c.specs.declared.symbol.Terminal.{Terminal}
 use Rattle.litmus_c.specs.declared.symbol.Terminal.TheVariants.{Int, AtomicInt, Volatile, If, Else, True, False, Exists, Forall, Not, Locations, LeftParen, RightParen, LeftBrace, RightBrace, LeftBracket, RightBracket, Semicolon, Colon, Comma, Assign, Star, Tilde, Bang, EqualEqual, BangEqual, AndAnd, OrOr, And, Or, Arrow}
+use Rattle.litmus_c.specs.Atomics.{calls, orders}
 use Rattle.litmus_c.specs.Tree.{Word}
 
 -- what stands beside the first word of the table that is w
@@ -35,20 +33,6 @@ words =
     (codes "int", Int) ∷ (codes "atomic_int", AtomicInt) ∷ (codes "volatile", Volatile) ∷ (codes "if", If) ∷ (codes "else", Else) ∷
     (codes "true", True) ∷ (codes "false", False) ∷ (codes "exists", Exists) ∷ (codes "forall", Forall) ∷ (codes "not", Not) ∷
     (codes "locations", Locations) ∷ []
-
--- the calls of ISO C11, 7.17.7 and 7.17.4
-abbrev pub calls : List (Word × Operation)
-calls =
-    (codes "atomic_load", Load) ∷ (codes "atomic_load_explicit", LoadExplicit) ∷
-    (codes "atomic_store", Store) ∷ (codes "atomic_store_explicit", StoreExplicit) ∷
-    (codes "atomic_exchange", Exchange) ∷ (codes "atomic_exchange_explicit", ExchangeExplicit) ∷
-    (codes "atomic_thread_fence", Fence) ∷ []
-
--- the orders of ISO C11, 7.17.3, without consume
-abbrev pub orders : List (Word × Order)
-orders =
-    (codes "memory_order_relaxed", Rlx) ∷ (codes "memory_order_acquire", Acq) ∷ (codes "memory_order_release", Rel) ∷
-    (codes "memory_order_acq_rel", AcqRel) ∷ (codes "memory_order_seq_cst", Sc) ∷ []
 
 -- words of C and of the kernel that no test has
 abbrev pub foreign_words : List Word

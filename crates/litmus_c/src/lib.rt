@@ -1,6 +1,7 @@
 //! C litmus tests: their trees, and the reader.
 #![tactic(auto)]
 
+mod atomics;
 mod draft;
 mod fault;
 pub mod laws;

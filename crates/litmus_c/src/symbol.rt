@@ -3,9 +3,9 @@
 ghost use Rattle.std.specs.Prelude.{◌≡◌, IfOk, MatchOption, length, All, true, false};
 ghost use Rattle.wb_text.specs.Numbers.{decimal_value};
 ghost use Rattle.wb_text.specs.Tokens.{IsWithin};
-ghost use Rattle.litmus_c.specs.Symbols.{looked_up, signs, words, calls, orders, foreign_words, is_one_of, is_foreign_order, is_foreign_call, is_foreign, is_name, is_number, name_symbol, symbol_by, is_opened, symbols_of};
+ghost use Rattle.litmus_c.specs.Symbols.{looked_up, signs, words, foreign_words, is_one_of, is_foreign_order, is_foreign_call, is_foreign, is_name, is_number, name_symbol, symbol_by, is_opened, symbols_of};
 
-use events::Order;
+use crate::atomics::{Operation, call_named, order_named};
 use std::alloc::{AllocError, Global};
 use wb_text::{Name, NameFault, Token, TokenKind, decimal};
 
@@ -47,18 +47,6 @@ pub enum Terminal {
     Or,
     /// `=>`
     Arrow,
-}
-
-/// A call of C's atomics.
-#[derive(Clone, Copy, Debug, PartialEq, Eq)]
-pub enum Operation {
-    Load,
-    LoadExplicit,
-    Store,
-    StoreExplicit,
-    Exchange,
-    ExchangeExplicit,
-    Fence,
 }
 
 /// What a token is in the grammar of tests.
@@ -114,27 +102,6 @@ fn word(bytes: &[u8]) -> Option<Terminal>
         b"if" => Terminal::If, b"else" => Terminal::Else, b"true" => Terminal::True, b"false" => Terminal::False,
         b"exists" => Terminal::Exists, b"forall" => Terminal::Forall, b"not" => Terminal::Not,
         b"locations" => Terminal::Locations);
-    None
-}
-
-/// The call of this name.
-fn call_named(bytes: &[u8]) -> Option<Operation>
-    ensures { result ≡ looked_up calls bytes.now }
-{
-    looked_up!(bytes: b"atomic_load" => Operation::Load, b"atomic_load_explicit" => Operation::LoadExplicit,
-        b"atomic_store" => Operation::Store, b"atomic_store_explicit" => Operation::StoreExplicit,
-        b"atomic_exchange" => Operation::Exchange, b"atomic_exchange_explicit" => Operation::ExchangeExplicit,
-        b"atomic_thread_fence" => Operation::Fence);
-    None
-}
-
-/// The order of this name.
-pub fn order_named(bytes: &[u8]) -> Option<Order>
-    ensures { result ≡ looked_up orders bytes.now }
-{
-    looked_up!(bytes: b"memory_order_relaxed" => Order::Rlx, b"memory_order_acquire" => Order::Acq,
-        b"memory_order_release" => Order::Rel, b"memory_order_acq_rel" => Order::AcqRel,
-        b"memory_order_seq_cst" => Order::Sc);
     None
 }
 

@@ -13,8 +13,9 @@ ghost use Rattle.litmus_c.specs.Drafts.{is_parameter, listing_of, written_of};
 ghost use Rattle.litmus_c.specs.declared.tree.Parameter.{Parameter};
 ghost use Rattle.litmus_c.specs.Reading.{Gives, GivesAll, after, expected, name_at, number_look, number_at, call_word, before_name, open_at, location_at, register_at, place_at, bound_at, behind_type, entry_at, ends_entry, entry_behind, entries_at, kind_at, behind_volatile, parameter_behind, parameters_more, parameters_at, parameters_closed, parameter_list_at, names_thread, thread_name_at, thread_at, threads_at, ends_place, place_behind, places_at, listed_at, word_at, language_at, end_at, initial_at, test_at};
 
+use crate::atomics::Operation;
 use crate::draft::{Body, Draft};
-use crate::symbol::{Operation, Symbol, Terminal};
+use crate::symbol::{Symbol, Terminal};
 use crate::syntax_fault::SyntaxFault;
 use crate::tree::{LocationKind, Parameter};
 use conditions::{Binding, Place};

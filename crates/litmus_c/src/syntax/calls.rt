@@ -1,28 +1,27 @@
 //! Calls of C's atomics, and what a register is given.
 
 ghost use Rattle.std.specs.Prelude.{◌≡◌};
-ghost use Rattle.litmus_c.specs.Grammar.{load_orders, store_orders, all_orders};
-ghost use Rattle.litmus_c.specs.Reading.{Gives, order_at, last_order_at, located_at, target_at, valued_at, stored_at, load_at, load_explicit_at, store_at, store_explicit_at, exchange_at, exchange_explicit_at, fence_at, operation_at, has_value, is_among, value_at, computed_at, plain_at, right_at};
+ghost use Rattle.litmus_c.specs.Reading.{Gives, order_at, last_order_at, closing_at, located_at, target_at, valued_at, load_at, store_at, exchange_at, fence_at, operation_at, is_among, value_at, computed_at, plain_at, right_at};
 ghost use Rattle.litmus_c.specs.Tree.{term_of, action_of, right_of};
 
-use crate::symbol::{Operation, Terminal, order_named};
+use crate::atomics::{Operation, accepted, calls, has_value, order_named};
+use crate::symbol::Terminal;
 use crate::syntax::Reader;
 use crate::syntax_fault::SyntaxFault;
 use crate::tree::{Call, Expression, RightSide};
 use events::Order;
 use wb_text::Name;
 
-/// Whether a call has a value.
-fn has_value(operation: Operation) -> bool
-    ensures { result ≡ has_value operation }
-{
-    match operation {
-        Operation::Load
-        | Operation::LoadExplicit
-        | Operation::Exchange
-        | Operation::ExchangeExplicit => true,
-        Operation::Store | Operation::StoreExplicit | Operation::Fence => false,
-    }
+/// What the method of the call's row reads.
+macro_rules! read {
+    (
+        ($reader:ident, $operation:ident, $nesting:ident)
+        $($call:ident: $word:literal, $reads:ident, $takes:tt, $valued:literal;)*
+    ) => {
+        match $operation {
+            $(Operation::$call => $reader.$reads(accepted($operation), $nesting),)*
+        }
+    };
 }
 
 /// Whether the order is one of these.
@@ -60,6 +59,19 @@ impl<'a> Reader<'a> {
         Ok(order)
     }
 
+    /// The end of a call: "," order ")", or ")" alone where none is accepted, and the order is `sc`.
+    #[tactic(auto, unfolding(crate::specs::Reading::closing_at))]
+    fn closing(&mut self, accepted: &[Order]) -> Result<Order, SyntaxFault>
+        ensures { Gives (λ o. o) result self.new.rest.now (closing_at accepted.now self.old.rest.now) }
+    {
+        if accepted.is_empty() {
+            self.expect(Terminal::RightParen)?;
+            return Ok(Order::Sc);
+        }
+        self.expect(Terminal::Comma)?;
+        self.last_order(accepted)
+    }
+
     /// "(" name, which answers how deep what follows may nest.
     #[tactic(auto, unfolding(crate::specs::Reading::located_at))]
     fn located(&mut self, nesting: u32) -> Result<(Name, u32), SyntaxFault>
@@ -90,88 +102,39 @@ impl<'a> Reader<'a> {
         Ok((location, value))
     }
 
-    /// "(" name "," expression ","
-    #[tactic(auto, unfolding(crate::specs::Reading::stored_at))]
-    fn stored(&mut self, nesting: u32) -> Result<(Name, Expression), SyntaxFault>
-        ensures { Gives (λ v. (v.0, term_of v.1)) result self.new.rest.now (stored_at nesting self.old.rest.now) }
-    {
-        let stored = self.valued(nesting)?;
-        self.expect(Terminal::Comma)?;
-        Ok(stored)
-    }
-
     #[tactic(auto, unfolding(crate::specs::Reading::load_at))]
-    fn load(&mut self, nesting: u32) -> Result<Call, SyntaxFault>
-        ensures { Gives action_of result self.new.rest.now (load_at nesting self.old.rest.now) }
+    fn load(&mut self, accepted: &[Order], nesting: u32) -> Result<Call, SyntaxFault>
+        ensures { Gives action_of result self.new.rest.now (load_at accepted.now nesting self.old.rest.now) }
     {
         let (location, _) = self.located(nesting)?;
-        self.expect(Terminal::RightParen)?;
-        Ok(Call::Load(location, Order::Sc))
-    }
-
-    #[tactic(auto, unfolding(crate::specs::Reading::load_explicit_at))]
-    fn load_explicit(&mut self, nesting: u32) -> Result<Call, SyntaxFault>
-        ensures { Gives action_of result self.new.rest.now (load_explicit_at nesting self.old.rest.now) }
-    {
-        let (location, _) = self.target(nesting)?;
-        let order = self.last_order(&[Order::Rlx, Order::Acq, Order::Sc])?;
+        let order = self.closing(accepted)?;
         Ok(Call::Load(location, order))
     }
 
     #[tactic(auto, unfolding(crate::specs::Reading::store_at))]
-    fn store(&mut self, nesting: u32) -> Result<Call, SyntaxFault>
-        ensures { Gives action_of result self.new.rest.now (store_at nesting self.old.rest.now) }
+    fn store(&mut self, accepted: &[Order], nesting: u32) -> Result<Call, SyntaxFault>
+        ensures { Gives action_of result self.new.rest.now (store_at accepted.now nesting self.old.rest.now) }
     {
         let (location, value) = self.valued(nesting)?;
-        self.expect(Terminal::RightParen)?;
-        Ok(Call::Store(location, value, Order::Sc))
-    }
-
-    #[tactic(auto, unfolding(crate::specs::Reading::store_explicit_at))]
-    fn store_explicit(&mut self, nesting: u32) -> Result<Call, SyntaxFault>
-        ensures { Gives action_of result self.new.rest.now (store_explicit_at nesting self.old.rest.now) }
-    {
-        let (location, value) = self.stored(nesting)?;
-        let order = self.last_order(&[Order::Rlx, Order::Rel, Order::Sc])?;
+        let order = self.closing(accepted)?;
         Ok(Call::Store(location, value, order))
     }
 
     #[tactic(auto, unfolding(crate::specs::Reading::exchange_at))]
-    fn exchange(&mut self, nesting: u32) -> Result<Call, SyntaxFault>
-        ensures { Gives action_of result self.new.rest.now (exchange_at nesting self.old.rest.now) }
+    fn exchange(&mut self, accepted: &[Order], nesting: u32) -> Result<Call, SyntaxFault>
+        ensures { Gives action_of result self.new.rest.now (exchange_at accepted.now nesting self.old.rest.now) }
     {
         let (location, value) = self.valued(nesting)?;
-        self.expect(Terminal::RightParen)?;
-        Ok(Call::Exchange(location, value, Order::Sc))
-    }
-
-    #[tactic(auto, unfolding(crate::specs::Reading::exchange_explicit_at))]
-    fn exchange_explicit(&mut self, nesting: u32) -> Result<Call, SyntaxFault>
-        ensures { Gives action_of result self.new.rest.now (exchange_explicit_at nesting self.old.rest.now) }
-    {
-        let (location, value) = self.stored(nesting)?;
-        let order = self.last_order(&[
-            Order::Rlx,
-            Order::Acq,
-            Order::Rel,
-            Order::AcqRel,
-            Order::Sc,
-        ])?;
+        let order = self.closing(accepted)?;
         Ok(Call::Exchange(location, value, order))
     }
 
     #[tactic(auto, unfolding(crate::specs::Reading::fence_at))]
-    fn fence(&mut self, nesting: u32) -> Result<Call, SyntaxFault>
-        ensures { Gives action_of result self.new.rest.now (fence_at nesting self.old.rest.now) }
+    fn fence(&mut self, accepted: &[Order], nesting: u32) -> Result<Call, SyntaxFault>
+        ensures { Gives action_of result self.new.rest.now (fence_at accepted.now nesting self.old.rest.now) }
     {
         let _ = self.open(nesting)?;
-        let order = self.last_order(&[
-            Order::Rlx,
-            Order::Acq,
-            Order::Rel,
-            Order::AcqRel,
-            Order::Sc,
-        ])?;
+        let order = self.last_order(accepted)?;
         Ok(Call::Fence(order))
     }
 
@@ -184,15 +147,7 @@ impl<'a> Reader<'a> {
     ) -> Result<Call, SyntaxFault>
         ensures { Gives action_of result self.new.rest.now (operation_at operation nesting self.old.rest.now) }
     {
-        match operation {
-            Operation::Load => self.load(nesting),
-            Operation::LoadExplicit => self.load_explicit(nesting),
-            Operation::Store => self.store(nesting),
-            Operation::StoreExplicit => self.store_explicit(nesting),
-            Operation::Exchange => self.exchange(nesting),
-            Operation::ExchangeExplicit => self.exchange_explicit(nesting),
-            Operation::Fence => self.fence(nesting),
-        }
+        calls!(read(self, operation, nesting))
     }
 
     /// What stands behind the word of a call that has a value. `position` is the word's.

@@ -1,5 +1,4 @@
-use Rattle.std.proofs.Common.{◌≡◌, List, map, reverse}
-use Rattle.conditions.specs.declared.place.Binding.{Binding}
+use Rattle.std.proofs.Common.{◌≡◌, map, reverse}
 use Rattle.conditions.specs.declared.place.Place.{Place}
 use Rattle.conditions.specs.Equality.{same_place}
 use Rattle.indexmap.specs.IndexSet.{contains}

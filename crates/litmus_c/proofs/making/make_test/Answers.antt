@@ -1,13 +1,9 @@
-use Rattle.std.proofs.Common.{◌≡◌, ◌≤◌, ◌<◌, ◌+◌, List, [], arith, ap, ◌∙◌, length, map, rules, sym}
-use Rattle.std.specs.Prelude.{◌&&◌, true, sum_by}
-use Rattle.std.specs.List.{flat_map, list_all}
+use Rattle.std.proofs.Common.{◌≡◌, ◌≤◌, ◌<◌, List, [], arith, ap, ◌∙◌, length, map, rules}
+use Rattle.std.specs.List.{flat_map}
 use Rattle.conditions.specs.declared.place.Binding.{Binding}
 use Rattle.litmus_c.specs.declared.draft.Body.{Body}
 use Rattle.litmus_c.specs.Drafts.{listing_of, written_of}
-use Rattle.litmus_c.specs.Limits.{program_events, IsTest}
-use Rattle.litmus_c.specs.Rules.{lasting, with_names, place_locations, parameter_names, locations_of, programs_of, litmus_of, KeepsRules}
-use Rattle.litmus_c.specs.Tree.{Program, Word}
-use Rattle.litmus_c.specs.Values.{values_among}
+use Rattle.litmus_c.specs.Rules.{lasting, with_names, place_locations, parameter_names, locations_of, programs_of}
 use Rattle.std.proofs.lemmas.Result.{err_from_is_err_and}
 use Rattle.litmus_c.proofs.Kept.{kept_rules, made_test, names_cause}
 use Rattle.litmus_c.proofs.Names.{programs_len, map_len}

@@ -1,4 +1,4 @@
-use Rattle.std.proofs.Common.{◌≡◌, ◌+◌, ◌*◌, ◌≤◌, length}
+use Rattle.std.proofs.Common.{◌≡◌, ◌+◌, ◌*◌, length}
 use Rattle.descent.specs.Reading.{repeated}
 use Rattle.litmus_c.specs.Tree.{term_of}
 use Rattle.litmus_c.specs.Reading.{syntax, operator_at, next_operand, operands, level_with, terms_below}

@@ -1,4 +1,4 @@
-use Rattle.std.proofs.Common.{◌≡◌, List, [], drop, ap, sym, ◌∙◌}
+use Rattle.std.proofs.Common.{List, [], ap, sym, ◌∙◌}
 use Rattle.std.proofs.lemmas.List.{drop_all}
 use Rattle.litmus_c.specs.Rules.{with_names}
 use Rattle.litmus_c.specs.Tree.{Word}

@@ -1,4 +1,3 @@
-use Rattle.std.proofs.Common.{◌≡◌}
 use Rattle.litmus_c.specs.Exact.{declared_exact}
 use Rattle.litmus_c.specs.Tree.{declared_of}
 use Rattle.litmus_c.proofs.tree.equality.DeclaratorPartialEq.eq.Goals as goal
