@@ -8,10 +8,10 @@ use Rattle.litmus_c.specs.declared.fault.TestFault.{TestFault}
 use Rattle.litmus_c.specs.declared.fault.TestFault.TheVariants as of_test
 use Rattle.candidates.specs.declared.fault.SpaceFault.{SpaceFault}
 use Rattle.candidates.specs.declared.fault.SpaceFault.TheVariants as of_space
-use Rattle.book.specs.declared.reading.CatFault.{CatFault}
-use Rattle.book.specs.declared.reading.CatFault.TheVariants as of_cat
-use Rattle.book.specs.declared.records.ModelFault.{ModelFault}
-use Rattle.book.specs.declared.records.ModelFault.TheVariants.{NoCat}
+use Rattle.cat_syntax.specs.declared.fault.CatFault.{CatFault}
+use Rattle.cat_syntax.specs.declared.fault.CatFault.TheVariants as of_cat
+use Rattle.cat_model.specs.declared.fault.ModelFault.{ModelFault}
+use Rattle.cat_model.specs.declared.fault.ModelFault.TheVariants as of_model
 use Rattle.book.specs.declared.records.Replacement.{Replacement}
 use Rattle.book.specs.declared.records.SourceKind.{SourceKind}
 use Rattle.book.specs.declared.records.SourceKind.TheVariants as kinds
@@ -53,7 +53,21 @@ test_fault_text of_test.NoMemory = codes "NoMemory"
 abbrev pub cat_fault_text : CatFault → List ℕ
 cat_fault_text (of_cat.Text f) = named (codes "51 Text ") (text_fault_text f)
 cat_fault_text (of_cat.Syntax offset) = numbered (codes "52 Syntax ") offset
+cat_fault_text (of_cat.Unsupported word) = named (codes "53 Unsupported ") word
+cat_fault_text of_cat.TooDeep = codes "54 TooDeep"
+cat_fault_text of_cat.TooLarge = codes "55 TooLarge"
 cat_fault_text of_cat.NoMemory = codes "NoMemory"
+
+abbrev pub model_fault_text : ModelFault → List ℕ
+model_fault_text (of_model.NoCat name) = named (codes "61 NoCat ") name
+model_fault_text (of_model.NoInclude name) = named (codes "62 NoInclude ") name
+model_fault_text (of_model.IncludeCycle name) = named (codes "63 IncludeCycle ") name
+model_fault_text (of_model.Unbound name) = named (codes "64 Unbound ") name
+model_fault_text (of_model.WrongSort name) = named (codes "65 WrongSort ") name
+model_fault_text (of_model.NotMonotone name) = named (codes "66 NotMonotone ") name
+model_fault_text of_model.FlagWithoutName = codes "67 FlagWithoutName"
+model_fault_text of_model.ModelTooLarge = codes "68 ModelTooLarge"
+model_fault_text of_model.NoMemory = codes "NoMemory"
 
 abbrev pub space_fault_text : SpaceFault → List ℕ
 space_fault_text (of_space.TooManyRuns thread) = numbered (codes "31 TooManyRuns ") thread
@@ -70,7 +84,7 @@ abbrev pub space_text : SpaceFault → List ℕ
 space_text f = codes "75 Space " ++ space_fault_text f
 
 abbrev pub model_text : ModelFault → List ℕ
-model_text (NoCat name) = named (codes "74 Model 61 NoCat ") name
+model_text f = codes "74 Model " ++ model_fault_text f
 
 abbrev pub kind_text : SourceKind → List ℕ
 kind_text kinds.Test = codes "test"

@@ -1,13 +1,13 @@
 -- The printed replies of a book.
 use Rattle.std.specs.Prelude.{ℕ, List, ◌++◌, codes, decimal}
 use Rattle.std.specs.List.{flat_map}
+use Rattle.cat_model.specs.declared.model.FileVersion.{FileVersion}
 use Rattle.litmus_c.specs.Tree.{Word}
 use Rattle.book.specs.Judgements.{Judged}
 use Rattle.book.specs.Parts.{Portion}
 use Rattle.book.specs.Texts as summaries
 use Rattle.book.specs.declared.records.Reply.{Reply}
 use Rattle.book.specs.declared.records.Reply.TheVariants.{Version, Job, Pending, Verdict, Piece, Nothing, Taken, Refused}
-use Rattle.book.specs.declared.slices.work.FileVersion.{FileVersion}
 use Rattle.bench.specs.Refusals.{refusal_text}
 
 abbrev pub version_text : Word → ℕ → List ℕ
@@ -43,7 +43,7 @@ abbrev pub outcome_text : Judged → List ℕ
 outcome_text v = summaries.Text v.outcome
 
 abbrev pub verdict_text : Judged → List ℕ
-verdict_text v = heading_text v ++ flat_map file_text v.work.model ++ codes "\n" ++ outcome_text v
+verdict_text v = heading_text v ++ flat_map file_text v.work.model.files ++ codes "\n" ++ outcome_text v
 
 -- The text of a reply.
 abbrev pub reply_text : Reply → List ℕ

@@ -5,6 +5,7 @@ mod answer;
 mod block;
 mod fault;
 mod lines;
+mod main_file;
 mod one;
 mod options;
 mod order;

@@ -5,8 +5,10 @@ ghost use Rattle.book.specs.Writing.{Writes};
 ghost use Rattle.bench.specs.Refusals as texts;
 
 use crate::parts::{write_bytes, write_parts};
-use book::{CatFault, ModelFault, Refusal, Replacement, SourceKind};
+use book::{Refusal, Replacement, SourceKind};
 use candidates::SpaceFault;
+use cat_model::ModelFault;
+use cat_syntax::CatFault;
 use itoa::Buffer;
 use litmus_c::TestFault;
 use wb_text::{Failed, Name, Sink, TextFault};
@@ -27,9 +29,9 @@ fn write_cause<W: Sink>(refusal: &Refusal, writer: &mut W) -> Result<(), Failed>
     match refusal {
         Refusal::Closed => write_bytes(b"71 Closed", writer),
         Refusal::ReadingTest(fault) => write_reading_test(fault, writer),
-        Refusal::ReadingCat(fault) => write_reading_cat(*fault, writer),
+        Refusal::ReadingCat(fault) => write_reading_cat(fault, writer),
         Refusal::NoTest(name) => write_named(b"73 NoTest ", name, writer),
-        Refusal::Model(fault) => write_model_fault(fault, writer),
+        Refusal::Model(fault) => write_model(fault, writer),
         Refusal::Space(fault) => write_space(*fault, writer),
         Refusal::JobsFull => write_bytes(b"76 JobsFull", writer),
         Refusal::NoJob(job) => write_numbered(b"77 NoJob ", *job as usize, writer),
@@ -39,22 +41,6 @@ fn write_cause<W: Sink>(refusal: &Refusal, writer: &mut W) -> Result<(), Failed>
         Refusal::VersionsSpent(name) => write_named(b"81 VersionsSpent ", name, writer),
         Refusal::ClaimsSpent => write_bytes(b"82 ClaimsSpent", writer),
     }
-}
-
-/// The name of the file that isn't there.
-fn missing_file(fault: &ModelFault) -> &Name
-    ensures { fault.now ≡ ModelFault.NoCat result.now }
-{
-    match fault {
-        ModelFault::NoCat(name) => name,
-    }
-}
-
-fn write_model_fault<W: Sink>(fault: &ModelFault, writer: &mut W) -> Result<(), Failed>
-    ensures { Writes W.held W.has_failed writer.old writer.new result (texts.model_text fault.now) }
-{
-    let missing = missing_file(fault);
-    write_named(b"74 Model 61 NoCat ", missing, writer)
 }
 
 /// Writes a name behind its words.
@@ -120,20 +106,46 @@ fn write_test_fault<W: Sink>(fault: &TestFault, writer: &mut W) -> Result<(), Fa
     }
 }
 
-fn write_reading_cat<W: Sink>(fault: CatFault, writer: &mut W) -> Result<(), Failed>
-    ensures { Writes W.held W.has_failed writer.old writer.new result (texts.reading_cat_text fault) }
+fn write_reading_cat<W: Sink>(fault: &CatFault, writer: &mut W) -> Result<(), Failed>
+    ensures { Writes W.held W.has_failed writer.old writer.new result (texts.reading_cat_text fault.now) }
 {
     write_bytes(b"72 Reading ", writer)?;
     write_cat_fault(fault, writer)
 }
 
-fn write_cat_fault<W: Sink>(fault: CatFault, writer: &mut W) -> Result<(), Failed>
-    ensures { Writes W.held W.has_failed writer.old writer.new result (texts.cat_fault_text fault) }
+fn write_cat_fault<W: Sink>(fault: &CatFault, writer: &mut W) -> Result<(), Failed>
+    ensures { Writes W.held W.has_failed writer.old writer.new result (texts.cat_fault_text fault.now) }
 {
     match fault {
-        CatFault::Text(fault) => write_text_fault(b"51 Text ", fault, writer),
-        CatFault::Syntax(offset) => write_numbered(b"52 Syntax ", offset, writer),
+        CatFault::Text(fault) => write_text_fault(b"51 Text ", *fault, writer),
+        CatFault::Syntax(offset) => write_numbered(b"52 Syntax ", *offset, writer),
+        CatFault::Unsupported(word) => write_named(b"53 Unsupported ", word, writer),
+        CatFault::TooDeep => write_bytes(b"54 TooDeep", writer),
+        CatFault::TooLarge => write_bytes(b"55 TooLarge", writer),
         CatFault::NoMemory => write_bytes(b"NoMemory", writer),
+    }
+}
+
+fn write_model<W: Sink>(fault: &ModelFault, writer: &mut W) -> Result<(), Failed>
+    ensures { Writes W.held W.has_failed writer.old writer.new result (texts.model_text fault.now) }
+{
+    write_bytes(b"74 Model ", writer)?;
+    write_model_fault(fault, writer)
+}
+
+fn write_model_fault<W: Sink>(fault: &ModelFault, writer: &mut W) -> Result<(), Failed>
+    ensures { Writes W.held W.has_failed writer.old writer.new result (texts.model_fault_text fault.now) }
+{
+    match fault {
+        ModelFault::NoCat(name) => write_named(b"61 NoCat ", name, writer),
+        ModelFault::NoInclude(name) => write_named(b"62 NoInclude ", name, writer),
+        ModelFault::IncludeCycle(name) => write_named(b"63 IncludeCycle ", name, writer),
+        ModelFault::Unbound(name) => write_named(b"64 Unbound ", name, writer),
+        ModelFault::WrongSort(name) => write_named(b"65 WrongSort ", name, writer),
+        ModelFault::NotMonotone(name) => write_named(b"66 NotMonotone ", name, writer),
+        ModelFault::FlagWithoutName => write_bytes(b"67 FlagWithoutName", writer),
+        ModelFault::ModelTooLarge => write_bytes(b"68 ModelTooLarge", writer),
+        ModelFault::NoMemory => write_bytes(b"NoMemory", writer),
     }
 }
 
