@@ -3,7 +3,7 @@
 use crate::fault::ServeFault;
 use crate::options::Options;
 use crate::serve::serve;
-use crate::tests::STORE_BUFFERING;
+use crate::tests::{STORE_BUFFERING, STORE_BUFFERING_SUMMARY};
 use book::Limits;
 use std::alloc::Global;
 use std::test::Fail;
@@ -169,6 +169,120 @@ fn replaced_file(rt: HostRuntime) -> Result<(), Fail> {
     Ok(())
 }
 
+/// An included file that is put again, with equal text, replaces the job.
+const INCLUDED: &[u8] = b"0 cat base.cat
+let com = rf | co | fr
+.
+0 cat sc.cat
+include \"base.cat\"
+acyclic po | com as sc
+.
+0 test
+C SB {}
+P0 (atomic_int* x, atomic_int* y) {
+  atomic_store_explicit(x, 1, memory_order_relaxed);
+  int r0 = atomic_load_explicit(y, memory_order_relaxed);
+}
+P1 (atomic_int* x, atomic_int* y) {
+  atomic_store_explicit(y, 1, memory_order_relaxed);
+  int r0 = atomic_load_explicit(x, memory_order_relaxed);
+}
+exists (0:r0=0 /\\ 1:r0=0)
+.
+0 ask SB sc.cat
+1 claim
+0 cat base.cat
+let com = rf | co | fr
+.
+1 return 1
+1 return 1
+0 poll 1
+0 ask SB sc.cat
+1 claim
+1 return 2
+0 poll 2
+";
+
+const INCLUDED_ANSWERS: &[u8] = b"version base.cat 1
+version sc.cat 1
+version SB 1
+job 1
+piece 1 job 1 slice 0 from 0 to 16
+version base.cat 2
+refused 79 Replaced cat base.cat 2
+refused 78 NoClaim 1
+refused 79 Replaced cat base.cat 2
+job 2
+piece 2 job 2 slice 0 from 0 to 16
+taken 1 1
+verdict SB 1 sc.cat 1 base.cat 2
+Test SB Allowed
+States 3
+0:r0=0; 1:r0=1;
+0:r0=1; 1:r0=0;
+0:r0=1; 1:r0=1;
+No
+Witnesses
+Positive: 0 Negative: 3
+Condition exists (0:r0=0 /\\ 1:r0=0)
+Observation SB Never 0 3
+finish ok 13
+";
+
+#[test]
+fn script_replaced(rt: HostRuntime) -> Result<(), Fail> {
+    let (outcome, writer) = answer(rt.alloc(), INCLUDED, WIDE, false, 1000)?;
+    assert_eq!(rt; outcome, Ok(()));
+    assert_eq!(rt; writer.bytes(), INCLUDED_ANSWERS);
+    Ok(())
+}
+
+#[test]
+fn a_built_in_model(rt: HostRuntime) -> Result<(), Fail> {
+    let alloc = rt.alloc();
+    let lines: [&[u8]; 7] = [
+        b"0 test",
+        b"SB",
+        b".",
+        b"0 ask SB rc11.cat",
+        b"1 claim",
+        b"1 return 1",
+        b"0 poll 1",
+    ];
+    let mut wanted = Vec::from_slice(
+        alloc,
+        b"version SB 1\njob 1\npiece 1 job 1 slice 0 from 0 to 16\ntaken 1 1\nverdict SB 1 rc11.cat 0\n",
+    )?;
+    wanted.extend_from_slice(STORE_BUFFERING_SUMMARY)?;
+    wanted.extend_from_slice(b"finish ok 5\n")?;
+    let (outcome, writer) = answer(alloc, &script(alloc, &lines)?, WIDE, false, 1000)?;
+    assert_eq!(rt; outcome, Ok(()));
+    assert_eq!(rt; writer.bytes(), wanted.as_slice());
+    Ok(())
+}
+
+#[test]
+fn a_model_is_refused(rt: HostRuntime) -> Result<(), Fail> {
+    let alloc = rt.alloc();
+    let lines: [&[u8]; 8] = [
+        b"0 test",
+        b"SB",
+        b".",
+        b"0 ask SB a.cat",
+        b"0 cat a.cat",
+        b"include \"b.cat\"",
+        b".",
+        b"0 ask SB a.cat",
+    ];
+    let (outcome, writer) = answer(alloc, &script(alloc, &lines)?, WIDE, false, 1000)?;
+    assert_eq!(rt; outcome, Ok(()));
+    assert_eq!(rt;
+        writer.bytes(),
+        b"version SB 1\nrefused 74 Model 61 NoCat a.cat\nversion a.cat 1\nrefused 74 Model 62 NoInclude b.cat\nfinish ok 4\n".as_slice()
+    );
+    Ok(())
+}
+
 #[test]
 fn a_piece_is_returned_twice(rt: HostRuntime) -> Result<(), Fail> {
     let alloc = rt.alloc();
@@ -201,7 +315,7 @@ fn refusals(rt: HostRuntime) -> Result<(), Fail> {
         ),
         (
             b"0 cat a.cat\nlet\n.\n",
-            b"refused 72 Reading 52 Syntax 0\nfinish ok 1\n",
+            b"refused 72 Reading 52 Syntax 4\nfinish ok 1\n",
         ),
         (b"0 ask SB a.cat\n", b"refused 73 NoTest SB\nfinish ok 1\n"),
         (b"0 poll 0\n", b"refused 77 NoJob 0\nfinish ok 1\n"),
