@@ -326,7 +326,8 @@ exists (0:r0=5 /\\ 0:r1=7 /\\ [y]=3)
 ";
 
 /// examples/teaching.script
-const TEACHING_SCRIPT: &[u8] = b"# A session, 0, puts a model and a test, and asks for the verdict under two models.
+const TEACHING_SCRIPT: &[u8] =
+    b"# A session, 0, puts a model and a test, and asks for the verdict under two models.
 0 cat sc.cat
 \"Sequential consistency\"
 (* An execution is one interleaving of the threads, in which each read sees the last write. *)
@@ -474,11 +475,7 @@ fn says(
 }
 
 /// Whether the summary of a test begins and ends so under each model.
-fn all_say(
-    alloc: Global,
-    test: &[u8],
-    rows: &[(&[u8], &[u8], &[u8])],
-) -> Result<bool, AllocError> {
+fn all_say(alloc: Global, test: &[u8], rows: &[(&[u8], &[u8], &[u8])]) -> Result<bool, AllocError> {
     for (cat, start, end) in rows {
         if !says(alloc, test, cat, start, end)? {
             return Ok(false);
@@ -546,15 +543,15 @@ Observation SB Sometimes 1 3
 
 #[test]
 fn sb_sc(rt: HostRuntime) -> Result<(), Fail> {
-    let start = b"Test SB+sc Allowed
+    let start: &[u8] = b"Test SB+sc Allowed
 States 3
-".as_slice();
-    let end = b"No
+";
+    let end: &[u8] = b"No
 Witnesses
 Positive: 0 Negative: 3
 Condition exists (0:r0=0 /\\ 1:r0=0)
 Observation SB+sc Never 0 3
-".as_slice();
+";
     let rows = [
         (RC11, start, end),
         (SEQUENTIAL, start, end),
@@ -566,15 +563,15 @@ Observation SB+sc Never 0 3
 
 #[test]
 fn sb_fences(rt: HostRuntime) -> Result<(), Fail> {
-    let start = b"Test SB+fences Allowed
+    let start: &[u8] = b"Test SB+fences Allowed
 States 3
-".as_slice();
-    let end = b"No
+";
+    let end: &[u8] = b"No
 Witnesses
 Positive: 0 Negative: 3
 Condition exists (0:r0=0 /\\ 1:r0=0)
 Observation SB+fences Never 0 3
-".as_slice();
+";
     let rows = [
         (RC11, start, end),
         (SEQUENTIAL, start, end),
@@ -674,15 +671,15 @@ Observation MP+rel Never 0 3
 
 #[test]
 fn mp_rel_acq(rt: HostRuntime) -> Result<(), Fail> {
-    let start = b"Test MP+rel+acq Allowed
+    let start: &[u8] = b"Test MP+rel+acq Allowed
 States 3
-".as_slice();
-    let end = b"No
+";
+    let end: &[u8] = b"No
 Witnesses
 Positive: 0 Negative: 3
 Condition exists (1:r0=1 /\\ 1:r1=0)
 Observation MP+rel+acq Never 0 3
-".as_slice();
+";
     let rows = [
         (RC11, start, end),
         (SEQUENTIAL, start, end),
@@ -694,15 +691,15 @@ Observation MP+rel+acq Never 0 3
 
 #[test]
 fn lb(rt: HostRuntime) -> Result<(), Fail> {
-    let start = b"Test LB Allowed
+    let start: &[u8] = b"Test LB Allowed
 States 3
-".as_slice();
-    let end = b"No
+";
+    let end: &[u8] = b"No
 Witnesses
 Positive: 0 Negative: 3
 Condition exists (0:r0=1 /\\ 1:r0=1)
 Observation LB Never 0 3
-".as_slice();
+";
     let rows = [
         (RC11, start, end),
         (SEQUENTIAL, start, end),
@@ -758,15 +755,15 @@ Observation IRIW Never 0 15
 
 #[test]
 fn iriw_sc(rt: HostRuntime) -> Result<(), Fail> {
-    let start = b"Test IRIW+sc Allowed
+    let start: &[u8] = b"Test IRIW+sc Allowed
 States 15
-".as_slice();
-    let end = b"No
+";
+    let end: &[u8] = b"No
 Witnesses
 Positive: 0 Negative: 15
 Condition exists (2:r0=1 /\\ 2:r1=0 /\\ 3:r0=1 /\\ 3:r1=0)
 Observation IRIW+sc Never 0 15
-".as_slice();
+";
     let rows = [
         (RC11, start, end),
         (SEQUENTIAL, start, end),
@@ -822,15 +819,15 @@ Observation 2+2W Never 0 3
 
 #[test]
 fn corr(rt: HostRuntime) -> Result<(), Fail> {
-    let start = b"Test CoRR Allowed
+    let start: &[u8] = b"Test CoRR Allowed
 States 3
-".as_slice();
-    let end = b"No
+";
+    let end: &[u8] = b"No
 Witnesses
 Positive: 0 Negative: 3
 Condition exists (1:r0=1 /\\ 1:r1=0)
 Observation CoRR Never 0 3
-".as_slice();
+";
     let rows = [
         (RC11, start, end),
         (SEQUENTIAL, start, end),
@@ -887,15 +884,15 @@ Observation race Never 0 3
 
 #[test]
 fn race_free(rt: HostRuntime) -> Result<(), Fail> {
-    let start = b"Test race-free Allowed
+    let start: &[u8] = b"Test race-free Allowed
 States 2
-".as_slice();
-    let end = b"No
+";
+    let end: &[u8] = b"No
 Witnesses
 Positive: 0 Negative: 2
 Condition exists (1:r0=1 /\\ 1:r1=0)
 Observation race-free Never 0 2
-".as_slice();
+";
     let rows = [
         (RC11, start, end),
         (SEQUENTIAL, start, end),
@@ -907,15 +904,15 @@ Observation race-free Never 0 2
 
 #[test]
 fn rs(rt: HostRuntime) -> Result<(), Fail> {
-    let start = b"Test RS Allowed
+    let start: &[u8] = b"Test RS Allowed
 States 9
-".as_slice();
-    let end = b"No
+";
+    let end: &[u8] = b"No
 Witnesses
 Positive: 0 Negative: 9
 Condition exists (1:r0=1 /\\ 2:r0=2 /\\ 2:r1=0)
 Observation RS Never 0 9
-".as_slice();
+";
     let rows = [
         (RC11, start, end),
         (SEQUENTIAL, start, end),
@@ -971,15 +968,15 @@ Observation RS+load+store Never 0 13
 
 #[test]
 fn rs_same(rt: HostRuntime) -> Result<(), Fail> {
-    let start = b"Test RS+same Allowed
+    let start: &[u8] = b"Test RS+same Allowed
 States 4
-".as_slice();
-    let end = b"No
+";
+    let end: &[u8] = b"No
 Witnesses
 Positive: 0 Negative: 4
 Condition exists (1:r0=2 /\\ 1:r1=0)
 Observation RS+same Never 0 4
-".as_slice();
+";
     let rows = [
         (RC11, start, end),
         (SEQUENTIAL, start, end),
@@ -991,15 +988,15 @@ Observation RS+same Never 0 4
 
 #[test]
 fn swap(rt: HostRuntime) -> Result<(), Fail> {
-    let start = b"Test swap Allowed
+    let start: &[u8] = b"Test swap Allowed
 States 2
-".as_slice();
-    let end = b"No
+";
+    let end: &[u8] = b"No
 Witnesses
 Positive: 0 Negative: 2
 Condition exists (0:r0=0 /\\ 1:r0=0)
 Observation swap Never 0 2
-".as_slice();
+";
     let rows = [
         (RC11, start, end),
         (SEQUENTIAL, start, end),
@@ -1011,15 +1008,15 @@ Observation swap Never 0 2
 
 #[test]
 fn initial(rt: HostRuntime) -> Result<(), Fail> {
-    let start = b"Test initial Allowed
+    let start: &[u8] = b"Test initial Allowed
 States 1
-".as_slice();
-    let end = b"Ok
+";
+    let end: &[u8] = b"Ok
 Witnesses
 Positive: 1 Negative: 0
 Condition exists (0:r0=5 /\\ 0:r1=7 /\\ [y]=3)
 Observation initial Always 1 0
-".as_slice();
+";
     let rows = [
         (RC11, start, end),
         (SEQUENTIAL, start, end),
