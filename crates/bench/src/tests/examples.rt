@@ -83,6 +83,21 @@ P1 (atomic_int* x, atomic_int* y) {
 exists (0:r0=0 /\\ 1:r0=0)
 ";
 
+/// examples/SB+forall.litmus
+const STORE_BUFFERING_ALL: &[u8] = b"C SB+forall
+Store buffering asked the other way round: does each execution end with at least one 1?
+{}
+P0 (atomic_int* x, atomic_int* y) {
+  atomic_store_explicit(x, 1, memory_order_relaxed);
+  int r0 = atomic_load_explicit(y, memory_order_relaxed);
+}
+P1 (atomic_int* x, atomic_int* y) {
+  atomic_store_explicit(y, 1, memory_order_relaxed);
+  int r0 = atomic_load_explicit(x, memory_order_relaxed);
+}
+forall (0:r0=1 \\/ 1:r0=1)
+";
+
 /// examples/MP.litmus
 const MESSAGE: &[u8] = b"C MP
 Message passing: the second thread sees the flag, and not the message.
@@ -578,6 +593,50 @@ Observation SB+fences Never 0 3
         (BUFFERS, start, end),
     ];
     assert!(rt; all_say(rt.alloc(), STORE_BUFFERING_FENCES, &rows)?);
+    Ok(())
+}
+
+#[test]
+fn sb_forall(rt: HostRuntime) -> Result<(), Fail> {
+    let rows: [(&[u8], &[u8], &[u8]); 3] = [
+        (
+            RC11,
+            b"Test SB+forall Required
+States 4
+",
+            b"No
+Witnesses
+Positive: 3 Negative: 1
+Condition forall (0:r0=1 \\/ 1:r0=1)
+Observation SB+forall Sometimes 3 1
+",
+        ),
+        (
+            SEQUENTIAL,
+            b"Test SB+forall Required
+States 3
+",
+            b"Ok
+Witnesses
+Positive: 3 Negative: 0
+Condition forall (0:r0=1 \\/ 1:r0=1)
+Observation SB+forall Always 3 0
+",
+        ),
+        (
+            BUFFERS,
+            b"Test SB+forall Required
+States 4
+",
+            b"No
+Witnesses
+Positive: 3 Negative: 1
+Condition forall (0:r0=1 \\/ 1:r0=1)
+Observation SB+forall Sometimes 3 1
+",
+        ),
+    ];
+    assert!(rt; all_say(rt.alloc(), STORE_BUFFERING_ALL, &rows)?);
     Ok(())
 }
 
