@@ -1177,13 +1177,13 @@ Observation race Sometimes 1 3
 }
 
 #[test]
-fn teaching_script(rt: HostRuntime) -> Result<(), Fail> {
+fn script_teaching(rt: HostRuntime) -> Result<(), Fail> {
     assert!(rt; answers(rt.alloc(), TEACHING_SCRIPT, TEACHING_ANSWERS)?);
     Ok(())
 }
 
 #[test]
-fn versions_script(rt: HostRuntime) -> Result<(), Fail> {
+fn script_versions(rt: HostRuntime) -> Result<(), Fail> {
     assert!(rt; answers(rt.alloc(), VERSIONS_SCRIPT, VERSIONS_ANSWERS)?);
     Ok(())
 }
