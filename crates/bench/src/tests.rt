@@ -1,5 +1,6 @@
 //! Tests of what no clause says, and of each call once.
 
+mod examples;
 mod models;
 mod rows;
 mod scripts;
