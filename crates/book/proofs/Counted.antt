@@ -188,16 +188,17 @@ one_more t items places x state old new flags raised e p n s f =
       positive = subst P is p;
       negative = subst N is n;
       states = s ∙ ap (insert_key row_cmp old.states.keys) is;
-      flags = λ name.
-          ((λ q. elim (from_collected (λ (y : Word). y) name old.flags.keys flags (let P : List Word → Type 0 = λ ks. IsIn name ks in subst P f q)) [
-            | inl before ↦ inl before
-            | inr r ↦ inr (raised.only name (let P : Word → Type 0 = λ y. IsIn y flags in subst P (sym r.2) r.1))
-          ]),
-          (λ h. let P : List Word → Type 0 = λ ks. IsIn name ks in
-          subst P (sym f) (elim h [
-            | inl before ↦ collected_old (λ (y : Word). y) name old.flags.keys flags before
-            | inr r ↦ in_collected (λ (y : Word). y) old.flags.keys flags name (raised.all name r)
-          ])));
+      flags = λ name. (
+        (λ q. elim (from_collected (λ (y : Word). y) name old.flags.keys flags (let P : List Word → Type 0 = λ ks. IsIn name ks in subst P f q)) [
+          | inl before ↦ inl before
+          | inr r ↦ inr (raised.only name (let P : Word → Type 0 = λ y. IsIn y flags in subst P (sym r.2) r.1))
+        ]),
+        (λ h. let P : List Word → Type 0 = λ ks. IsIn name ks in
+            subst P (sym f) (elim h [
+              | inl before ↦ collected_old (λ (y : Word). y) name old.flags.keys flags before
+              | inr r ↦ in_collected (λ (y : Word). y) old.flags.keys flags name (raised.all name r)
+            ])),
+      );
     }
 
 pub on_ok : {X E P Q : Type 0} (r : Result X E) → (P → Q) → OnOk r P → OnOk r Q
