@@ -1,5 +1,5 @@
 -- The orders of a script, and what answers them.
-use Rattle.std.specs.Prelude.{◌≡◌, ℕ, List}
+use Rattle.std.specs.Prelude.{◌≡◌}
 use Rattle.book.specs.Lines.{Line}
 use Rattle.book.specs.declared.records.Returned.{Returned}
 use Rattle.book.specs.declared.records.Said.{Said}

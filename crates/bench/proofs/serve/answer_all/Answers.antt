@@ -1,5 +1,5 @@
 use Rattle.std.proofs.Common.{[], ◌∷◌, ◌++◌, ◌∙◌}
-use Rattle.bench.specs.Serving.{Call, calls_text}
+use Rattle.bench.specs.Serving.{Call}
 use Rattle.bench.proofs.Served.{grown, written, written_partly, tells_part}
 use Rattle.bench.proofs.serve.answer_all.Goals as goal
 
