@@ -7,7 +7,7 @@
 ghost use Rattle.std.specs.Prelude.{◌<◌};
 
 use super::*;
-use crate::slices::{PieceResult, evaluate};
+use crate::slices::evaluate;
 use std::alloc::{AllocError, Global};
 use std::sync::Arc;
 use std::test::Fail;
@@ -101,23 +101,22 @@ fn ask(alloc: Global, book: &mut Book, test: &[u8]) -> Result<Arc<Entry>, Fail> 
     )
 }
 
-/// The result of the piece that an entry gives.
-fn result_of(alloc: Global, entry: &Entry) -> Result<PieceResult, Fail> {
-    match entry.reply() {
-        Reply::Piece(piece) => match evaluate(alloc, piece) {
-            Ok(part) => Ok(part),
-            Err(_) => Ok(evaluate(alloc, piece)?),
-        },
-        _ => Err(Fail::new("no piece")),
+/// Evaluates the piece that an entry gives, and returns the result.
+fn give(alloc: Global, book: &mut Book, entry: &Entry) -> Result<Arc<Entry>, Fail> {
+    let Reply::Piece(piece) = entry.reply() else {
+        return Err(Fail::new("no piece"));
+    };
+    match evaluate(alloc, piece) {
+        Ok(part) => call(book, 0, Command::Return(part)),
+        Err(_) => call(book, 0, Command::Return(evaluate(alloc, piece)?)),
     }
 }
 
-/// Puts a test, asks for it, claims it and evaluates the piece.
-fn claimed(alloc: Global, book: &mut Book, bytes: &[u8], test: &[u8]) -> Result<PieceResult, Fail> {
+/// Puts a test, asks for it and claims its piece.
+fn claimed(alloc: Global, book: &mut Book, bytes: &[u8], test: &[u8]) -> Result<Arc<Entry>, Fail> {
     put_test(alloc, book, bytes)?;
     ask(alloc, book, test)?;
-    let entry = call(book, 0, Command::Claim)?;
-    result_of(alloc, &entry)
+    call(book, 0, Command::Claim)
 }
 
 fn is_stranger(entry: &Entry) -> bool {
@@ -138,9 +137,9 @@ fn stranger(rt: HostRuntime) -> Result<(), Fail> {
     let own = claimed(alloc, &mut book, SB, b"SB")?;
     let mut other = new_book(alloc, limits(20, 10, 10))?;
     let foreign = claimed(alloc, &mut other, EMPTY, b"E")?;
-    let entry = call(&mut book, 0, Command::Return(foreign))?;
+    let entry = give(alloc, &mut book, &foreign)?;
     assert!(rt; is_stranger(&entry));
-    let entry = call(&mut book, 0, Command::Return(own))?;
+    let entry = give(alloc, &mut book, &own)?;
     assert!(rt; is_taken(&entry));
     Ok(())
 }
@@ -242,22 +241,21 @@ fn put_base(alloc: Global, book: &mut Book) -> Result<(), Fail> {
     Ok(())
 }
 
-/// Asks for SB under the model, and evaluates its piece.
-fn judged(alloc: Global, book: &mut Book) -> Result<PieceResult, Fail> {
+/// Asks for SB under the model, and claims its piece.
+fn asked(alloc: Global, book: &mut Book) -> Result<Arc<Entry>, Fail> {
+    put_model(alloc, book)?;
+    put_test(alloc, book, SB)?;
     let ask = Command::Ask(name(alloc, b"SB")?, name(alloc, b"sc.cat")?);
     call(book, 0, ask)?;
-    let entry = call(book, 1, Command::Claim)?;
-    result_of(alloc, &entry)
+    call(book, 0, Command::Claim)
 }
 
 #[test]
 fn a_verdict_under_a_model(rt: HostRuntime) -> Result<(), Fail> {
     let alloc = rt.alloc();
     let mut book = new_book(alloc, limits(20, 10, 10))?;
-    put_model(alloc, &mut book)?;
-    put_test(alloc, &mut book, SB)?;
-    let part = judged(alloc, &mut book)?;
-    let entry = call(&mut book, 1, Command::Return(part))?;
+    let piece = asked(alloc, &mut book)?;
+    let entry = give(alloc, &mut book, &piece)?;
     assert!(rt; is_taken(&entry));
     let entry = call(&mut book, 0, Command::Poll(1))?;
     assert!(rt; is_verdict(&entry, 0, 3));
@@ -268,11 +266,9 @@ fn a_verdict_under_a_model(rt: HostRuntime) -> Result<(), Fail> {
 fn an_included_file_put_again(rt: HostRuntime) -> Result<(), Fail> {
     let alloc = rt.alloc();
     let mut book = new_book(alloc, limits(20, 10, 10))?;
-    put_model(alloc, &mut book)?;
-    put_test(alloc, &mut book, SB)?;
-    let part = judged(alloc, &mut book)?;
+    let piece = asked(alloc, &mut book)?;
     put_base(alloc, &mut book)?;
-    let entry = call(&mut book, 1, Command::Return(part))?;
+    let entry = give(alloc, &mut book, &piece)?;
     assert!(rt; is_replaced(&entry));
     Ok(())
 }
