@@ -202,11 +202,16 @@ fn handed_back(book: &mut Book, text: Text) -> Option<Text> {
 #[test]
 fn a_full_journal_hands_the_command_back(rt: HostRuntime) -> Result<(), Fail> {
     let alloc = rt.alloc();
-    let mut book = new_book(alloc, limits(1, 1, 10))?;
-    put_test(alloc, &mut book, SB)?;
+    let mut book = new_book(alloc, limits(3, 1, 10))?;
+    let first = put_test(alloc, &mut book, SB)?;
+    assert!(rt; has_version(&first, 1));
+    let second = put_test(alloc, &mut book, SB)?;
+    assert!(rt; are_versions_spent(&second));
+    let third = put_test(alloc, &mut book, SB)?;
+    assert!(rt; are_versions_spent(&third));
     let back = handed_back(&mut book, text(alloc, SB)?);
     assert!(rt; back.is_some_and(|text| text.bytes() == SB));
-    assert_eq!(rt; book.journal().len(), 1);
+    assert_eq!(rt; book.journal().len(), 3);
     Ok(())
 }
 
@@ -220,9 +225,14 @@ fn is_verdict(entry: &Entry, positive: u64, negative: u64) -> bool {
     }
 }
 
-fn is_replaced(entry: &Entry) -> bool {
+/// Whether this cat file was put again, and has this version now.
+fn is_replaced_file(entry: &Entry, name: &[u8], version: u32) -> bool {
     match entry.reply() {
-        Reply::Refused(refusal) => matches!(refusal, Refusal::Replaced(_)),
+        Reply::Refused(Refusal::Replaced(replacement)) => {
+            replacement.kind == SourceKind::Cat
+                && replacement.name.bytes() == name
+                && replacement.version == version
+        }
         _ => false,
     }
 }
@@ -269,6 +279,20 @@ fn an_included_file_put_again(rt: HostRuntime) -> Result<(), Fail> {
     let piece = asked(alloc, &mut book)?;
     put_base(alloc, &mut book)?;
     let entry = give(alloc, &mut book, &piece)?;
-    assert!(rt; is_replaced(&entry));
+    assert!(rt; is_replaced_file(&entry, b"base.cat", 2));
+    Ok(())
+}
+
+#[test]
+fn a_built_in_file_hidden(rt: HostRuntime) -> Result<(), Fail> {
+    let alloc = rt.alloc();
+    let mut book = new_book(alloc, limits(4, 1, 10))?;
+    put_test(alloc, &mut book, SB)?;
+    ask(alloc, &mut book, b"SB")?;
+    let put = Command::PutCat(name(alloc, b"stdlib.cat")?, text(alloc, b"")?);
+    let entry = call(&mut book, 0, put)?;
+    assert!(rt; has_version(&entry, 1));
+    let entry = call(&mut book, 0, Command::Poll(1))?;
+    assert!(rt; is_replaced_file(&entry, b"stdlib.cat", 1));
     Ok(())
 }
