@@ -13,6 +13,3 @@ pub use graph::{Coherence, Graph};
 pub use named::{RelName, SetName};
 pub use run::Run;
 pub use view::GraphView;
-
-#[cfg(test)]
-mod tests;

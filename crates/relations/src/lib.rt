@@ -10,6 +10,3 @@ mod set;
 
 pub use rel::Rel;
 pub use set::Set;
-
-#[cfg(test)]
-mod tests;

@@ -20,6 +20,3 @@ pub use number::decimal;
 pub use sink::{MemSink, Sink, WriteSink, give_all};
 pub use source::{MemSource, ReadSource, Source, read_up_to};
 pub use token::{Dialect, Token, TokenKind, tokens};
-
-#[cfg(test)]
-mod tests;

@@ -1,5 +1,5 @@
 use Rattle.std.proofs.Common.{◌≡◌}
-use Rattle.relations.proofs.tests.plain.relation.Given as goal
+use Rattle.base_tests.proofs.sets.plain.relation.Given as goal
 
 abbrev pub invariant-loop-i : goal.invariant-loop-i
 invariant-loop-i l = l.r.count ≡ l.count

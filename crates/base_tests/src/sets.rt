@@ -1,7 +1,7 @@
 mod plain;
 
-use crate::{Rel, Set};
 use plain::{chain, compare, compare_sets, relation, set};
+use relations::{Rel, Set};
 
 #[test]
 fn closures(rt: HostRuntime) {

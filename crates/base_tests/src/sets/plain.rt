@@ -2,7 +2,7 @@
 
 ghost use Rattle.std.specs.Prelude.{◌≤◌};
 
-use crate::{Rel, Set};
+use relations::{Rel, Set};
 use std::process::Abort;
 
 /// Is the pair in? Beyond the count there is none.

@@ -3,7 +3,7 @@
 ghost use Rattle.std.specs.Prelude.{◌≡◌, ◌+◌, ◌≤◌, ◌↔◌, IsTrue, All, length, sum_by, MatchOption};
 ghost use Rattle.events.specs.Executions.{IsNamed};
 
-use crate::{
+use events::{
     Access, Coherence, Event, EventId, Graph, GraphView, Order, RelName, Run, SetName, no_places,
 };
 use relations::{Rel, Set};

@@ -1,8 +1,8 @@
 mod graphs;
 
-use crate::Access::{ExRead, ExWrite, Fence, Read, Write};
-use crate::EventId::{Initial, Own};
-use crate::{Coherence, EventId, Graph, GraphView, Order, RelName, Run, SetName, no_places};
+use events::Access::{ExRead, ExWrite, Fence, Read, Write};
+use events::EventId::{Initial, Own};
+use events::{Coherence, EventId, Graph, GraphView, Order, RelName, Run, SetName, no_places};
 use graphs::{event, graph, has_relations, has_sets};
 use relations::Set;
 use std::alloc::{AllocError, Global};

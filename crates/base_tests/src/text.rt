@@ -1,14 +1,12 @@
 //! Tests of what no clause says, and of each call once.
 
-use crate::fault::{Failed, NameFault, ReadFault, TextFault};
-use crate::name::Name;
-use crate::number::decimal;
-use crate::sink::{MemSink, Sink, WriteSink, give_all};
-use crate::source::{MemSource, ReadSource, Source, read_up_to};
-use crate::token::{Dialect, Token, TokenKind, tokens};
 use std::io;
 use std::io::{ErrorKind, Read, Write};
 use std::test::Fail;
+use wb_text::{
+    Dialect, Failed, MemSink, MemSource, Name, NameFault, ReadFault, ReadSource, Sink, Source,
+    TextFault, Token, TokenKind, WriteSink, decimal, give_all, read_up_to, tokens,
+};
 
 fn token(kind: TokenKind, from: usize, to: usize) -> Token {
     Token { kind, from, to }
