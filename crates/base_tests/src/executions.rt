@@ -1,4 +1,4 @@
-mod graphs;
+pub mod graphs;
 
 use events::Access::{ExRead, ExWrite, Fence, Read, Write};
 use events::EventId::{Initial, Own};
@@ -9,7 +9,7 @@ use std::alloc::{AllocError, Global};
 use std::test::Fail;
 
 /// SB: each thread writes 1 to its own location and reads the other's, from the write that is given.
-fn store_buffering(
+pub fn store_buffering(
     alloc: Global,
     values: [u32; 2],
     sources: [EventId; 2],

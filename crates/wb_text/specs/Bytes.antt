@@ -1,4 +1,4 @@
--- Classes of bytes.
+-- Classes of bytes. (ISO/IEC 9899:2011, 5.2.1 and 6.4.2; herd7 manual, the cat language: identifiers may have `.` and `-`.)
 use Rattle.std.specs.Prelude.{ℕ, Bool, false, ◌||◌, ◌==◌, not, List, [], ◌∷◌}
 use Rattle.std.specs.Char.{is_ascii_digit, is_ascii_alphabetic, is_ascii_alphanumeric}
 use Rattle.wb_text.specs.declared.byte.Class.{Class}

@@ -1,4 +1,5 @@
--- Blanks and comments. A relation `.. text rest` says what text begins with, and that rest follows.
+-- Blanks and comments. A relation `.. text rest` says what text begins with, and that rest follows. (ISO/IEC 9899:2011, 6.4.9, for `//` and
+-- `/* */`; herd7 manual for `(* *)`, which nest as in OCaml.)
 use Rattle.std.specs.Prelude.{◌≡◌, ℕ, ◌<◌, Bool, true, false, ◌||◌, ◌==◌, not, List, ◌∷◌, ◌++◌, length, drop, codes, refl}
 use Rattle.std.specs.List.{AllPass, position_or_len}
 use Rattle.wb_text.specs.declared.token.Dialect.{Dialect}

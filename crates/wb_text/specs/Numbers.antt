@@ -1,4 +1,4 @@
--- Decimal numbers.
+-- Decimal numbers. (ISO/IEC 9899:2011, 6.4.4.1: decimal constants.)
 use Rattle.std.specs.Prelude.{◌≡◌, ℕ, ◌+◌, ◌*◌, ◌-◌, ◌<◌, List, length, fold, All, true, codes, refl}
 use Rattle.wb_text.specs.Bytes.{is_digit}
 

@@ -1,4 +1,4 @@
--- The signs of the two languages, and which of them a text begins with.
+-- The signs of the two languages, and which of them a text begins with. (ISO/IEC 9899:2011, 6.4.6; herd7 manual, litmus tests and the cat language.)
 use Rattle.std.specs.Prelude.{ℕ, Bool, List, [], ◌∷◌, codes, nat_eq}
 use Rattle.std.specs.List.{starts_with}
 use Rattle.wb_text.specs.declared.token.Dialect.{Dialect}

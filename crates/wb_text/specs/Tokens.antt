@@ -1,4 +1,4 @@
--- Token lists of a text.
+-- Token lists of a text: the longest token each time, as in ISO/IEC 9899:2011, 6.4. The head of a test by the herd7 manual, litmus tests.
 use Rattle.std.specs.Prelude.{◌≡◌, ◌≢◌, ℕ, ◌+◌, ◌-◌, ◌<◌, ◌≤◌, true, false, ◌==◌, not, List, [], ◌∷◌, ◌++◌, length, take, drop, slice_index, codes, All}
 use Rattle.std.specs.Str.{byte}
 use Rattle.std.specs.List.{AllPass, Contains}
