@@ -2,7 +2,7 @@
 use Rattle.std.specs.Prelude.{ℕ, List, [], ◌∷◌, take, Option, Some, codes}
 use Rattle.std.specs.Io.KnownBytes.{Appends}
 use Rattle.wb_text.specs.Memory.{AppendsFront}
-use Rattle.litmus_c.specs.Tree.{Litmus, Word}
+use Rattle.litmus_tree.specs.Tree.{Litmus, Word}
 use Rattle.litmus_c.specs.Reads.{Reads, IsRefused}
 use Rattle.cat_syntax.specs.Reads.{Reads as ReadsCat}
 use Rattle.cat_syntax.specs.Tree.{File}

@@ -1,7 +1,7 @@
 -- The printed refusals of a book: the number, the name and the fields, parted by spaces. A refusal that holds another
 -- fault has that one's number, name and fields behind its own name.
 use Rattle.std.specs.Prelude.{ℕ, List, ◌++◌, codes, decimal}
-use Rattle.litmus_c.specs.Tree.{Word}
+use Rattle.litmus_tree.specs.Tree.{Word}
 use Rattle.wb_text.specs.declared.fault.TextFault.{TextFault}
 use Rattle.wb_text.specs.declared.fault.TextFault.TheVariants as of_text
 use Rattle.litmus_c.specs.declared.fault.TestFault.{TestFault}

@@ -2,7 +2,7 @@
 use Rattle.std.specs.Prelude.{ℕ, List, ◌++◌, codes, decimal}
 use Rattle.std.specs.List.{flat_map}
 use Rattle.cat_model.specs.declared.model.FileVersion.{FileVersion}
-use Rattle.litmus_c.specs.Tree.{Word}
+use Rattle.litmus_tree.specs.Tree.{Word}
 use Rattle.book.specs.Judgements.{Judged}
 use Rattle.book.specs.Parts.{Portion}
 use Rattle.book.specs.Texts as summaries

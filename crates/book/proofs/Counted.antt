@@ -11,7 +11,7 @@ use Rattle.cat_syntax.specs.Tree.{Clause}
 use Rattle.listings.specs.Lists.{IsIn, NoRepeats, Lists}
 use Rattle.conditions.specs.declared.place.Place.{Place}
 use Rattle.conditions.specs.declared.place.Place.TheVariants.{Reg, Loc}
-use Rattle.litmus_c.specs.Tree.{Litmus, Word}
+use Rattle.litmus_tree.specs.Tree.{Litmus, Word}
 use Rattle.conditions.specs.States.{bindings, holds_in, AreObserved}
 use Rattle.candidates.specs.Candidates.{At, Choices, Counting, choices_of, found, size_of, some_of}
 use Rattle.candidates.specs.Executions.{IsSize}

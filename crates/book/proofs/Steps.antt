@@ -13,7 +13,7 @@ use Rattle.cat_syntax.specs.Tree.{File}
 use Rattle.cat_syntax.specs.declared.fault.CatFault.{CatFault}
 use Rattle.cat_syntax.specs.declared.fault.CatFault.TheVariants as of_cat
 use Rattle.litmus_c.specs.Reads.{Reads, IsRefused}
-use Rattle.litmus_c.specs.Tree.{Word, Litmus}
+use Rattle.litmus_tree.specs.Tree.{Word, Litmus}
 use Rattle.litmus_c.specs.declared.fault.TestFault.{TestFault}
 use Rattle.litmus_c.specs.declared.fault.TestFault.TheVariants as of_test
 use Rattle.candidates.specs.Faults.{IsSpaceFault}

@@ -3,7 +3,7 @@ use Rattle.std.specs.Prelude.{refl, ℕ, Bool, List}
 use Rattle.std.specs.Coded.{Coded, code_by, coded×, coded_list, coded_ℕ, coded_bool}
 use Rattle.cat_model.specs.FileCodes.{coded_entries}
 use Rattle.cat_model.specs.declared.files.Entry.{Entry}
-use Rattle.litmus_c.specs.Tree.{Word}
+use Rattle.litmus_tree.specs.Tree.{Word}
 use Rattle.book.specs.JobCodes.{coded_job}
 use Rattle.book.specs.Jobs.{Job}
 use Rattle.book.specs.Kept.{Kept}

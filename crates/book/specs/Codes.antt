@@ -4,8 +4,8 @@ use Rattle.std.specs.Coded.{Coded, code_by, coded×, coded_list, coded_ℕ}
 use Rattle.cat_model.specs.Models.{Assembly, coded_assembly}
 use Rattle.conditions.specs.Conditions.{Condition}
 use Rattle.conditions.specs.Codes.{coded_condition}
-use Rattle.litmus_c.specs.Codes.{coded_litmus}
-use Rattle.litmus_c.specs.Tree.{Litmus}
+use Rattle.litmus_tree.specs.Codes.{coded_litmus}
+use Rattle.litmus_tree.specs.Tree.{Litmus}
 use Rattle.conditions.specs.contracts.place.Place.{the_row as place_row}
 use Rattle.conditions.specs.declared.place.Place.{Place}
 use Rattle.book.specs.Judgements.{Results, Judged}

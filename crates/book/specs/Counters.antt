@@ -8,7 +8,7 @@ use Rattle.cat_syntax.specs.Tree.{Clause}
 use Rattle.events.specs.Executions.{Execution}
 use Rattle.listings.specs.Lists.{IsIn}
 use Rattle.conditions.specs.declared.place.Place.{Place}
-use Rattle.litmus_c.specs.Tree.{Litmus, Word}
+use Rattle.litmus_tree.specs.Tree.{Litmus, Word}
 use Rattle.book.specs.declared.slices.counter.Counter.{Counter}
 use Rattle.book.specs.Finals.{obs, has}
 use Rattle.book.specs.Outcomes.{Outcome}

@@ -6,7 +6,7 @@ use Rattle.events.specs.declared.event.EventId.TheVariants.{Initial}
 use Rattle.events.specs.Executions.{Execution}
 use Rattle.conditions.specs.declared.place.Place.{Place}
 use Rattle.conditions.specs.declared.place.Place.TheVariants.{Reg, Loc}
-use Rattle.litmus_c.specs.Tree.{Litmus}
+use Rattle.litmus_tree.specs.Tree.{Litmus}
 use Rattle.conditions.specs.States.{bindings, holds_in}
 use Rattle.c11_threads.specs.Contents.{place_of}
 use Rattle.c11_threads.specs.Runs.{thread_of}

@@ -1,6 +1,6 @@
 -- What a verdict says of a test.
 use Rattle.std.specs.Prelude.{ℕ, List, Bool}
-use Rattle.litmus_c.specs.Tree.{Word}
+use Rattle.litmus_tree.specs.Tree.{Word}
 use Rattle.conditions.specs.Conditions.{Formula}
 use Rattle.conditions.specs.States.{answers_ok}
 use Rattle.conditions.specs.declared.condition.Kind.{Kind}

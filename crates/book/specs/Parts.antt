@@ -3,7 +3,7 @@ use Rattle.std.specs.Prelude.{◌≡◌, ℕ, ◌+◌, ◌-◌, ◌≤◌, ◌^�
 use Rattle.cat_eval.specs.Judging.{Allowed}
 use Rattle.cat_syntax.specs.Tree.{Clause}
 use Rattle.events.specs.Executions.{Execution}
-use Rattle.litmus_c.specs.Tree.{Litmus}
+use Rattle.litmus_tree.specs.Tree.{Litmus}
 use Rattle.candidates.specs.Candidates.{At, found, choices_of, size_of}
 use Rattle.candidates.specs.Executions.{IsSize}
 use Rattle.candidates.specs.Faults.{HaveFewRuns}

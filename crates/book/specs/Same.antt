@@ -14,7 +14,7 @@ use Rattle.conditions.specs.Equality.{same_place, same_formula, same_kind}
 use Rattle.conditions.specs.Exact.{both, by_parts, equivalence, place_exact, kind_exact, formula_exact}
 use Rattle.conditions.specs.declared.condition.Kind.{Kind}
 use Rattle.conditions.specs.declared.place.Place.{Place}
-use Rattle.litmus_c.specs.Tree.{Word}
+use Rattle.litmus_tree.specs.Tree.{Word}
 use Rattle.book.specs.Outcomes.{Outcome}
 
 abbrev same_code : Gv → Gv → Bool

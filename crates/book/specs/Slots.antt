@@ -3,7 +3,7 @@ use Rattle.std.specs.Prelude.{ℕ}
 use Rattle.events.specs.Executions.{Execution}
 use Rattle.conditions.specs.declared.place.Place.{Place}
 use Rattle.conditions.specs.declared.place.Place.TheVariants.{Reg, Loc}
-use Rattle.litmus_c.specs.Tree.{Litmus}
+use Rattle.litmus_tree.specs.Tree.{Litmus}
 use Rattle.c11_threads.specs.Contents.{place_of}
 use Rattle.c11_threads.specs.Runs.{thread_of}
 use Rattle.book.specs.declared.slices.slot.Slot.{Slot}

@@ -2,7 +2,7 @@
 -- sorting are this project's.)
 use Rattle.std.specs.Prelude.{ℕ, List, [], ◌++◌, length, map, Bool, true, false, ◌==◌, ◌||◌, if◌then◌else◌, codes, decimal}
 use Rattle.std.specs.List.{flat_map, join_with_byte, zip}
-use Rattle.litmus_c.specs.Tree.{Word}
+use Rattle.litmus_tree.specs.Tree.{Word}
 use Rattle.conditions.specs.Conditions.{Formula, truth, falsehood, equals, negation, conjunction, disjunction, implication}
 use Rattle.conditions.specs.declared.condition.Kind.{Kind}
 use Rattle.conditions.specs.declared.condition.Kind.TheVariants.{Exists, NotExists, Forall}

@@ -5,7 +5,7 @@ use Rattle.cat_eval.specs.Judging.{Allowed, Raised}
 use Rattle.cat_syntax.specs.Tree.{Clause}
 use Rattle.events.specs.Executions.{Execution}
 use Rattle.listings.specs.Lists.{IsIn, Lists}
-use Rattle.litmus_c.specs.Tree.{Litmus, Word}
+use Rattle.litmus_tree.specs.Tree.{Litmus, Word}
 use Rattle.conditions.specs.States.{AreObserved}
 use Rattle.candidates.specs.Executions.{IsExecution}
 use Rattle.book.specs.Finals.{obs, has}

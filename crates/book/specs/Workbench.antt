@@ -7,7 +7,7 @@ use Rattle.std.specs.Str.{bytes_eq}
 use Rattle.cat_model.specs.Files.{version_of}
 use Rattle.cat_model.specs.declared.files.Entry.{Entry}
 use Rattle.cat_model.specs.declared.model.FileVersion.{FileVersion}
-use Rattle.litmus_c.specs.Tree.{Word, Litmus}
+use Rattle.litmus_tree.specs.Tree.{Word, Litmus}
 use Rattle.book.specs.Jobs.{Job, Slice, marked}
 use Rattle.book.specs.declared.limits.Limits.{Limits}
 use Rattle.book.specs.declared.names.TestSlot.{TestSlot}

@@ -26,7 +26,7 @@ pub struct Tests {
 
 impl Model for Tests {
     ghost use Rattle.std.specs.Prelude.{List};
-    ghost use Rattle.litmus_c.specs.Tree.{Word};
+    ghost use Rattle.litmus_tree.specs.Tree.{Word};
     ghost use Rattle.book.specs.declared.names.TestSlot.{TestSlot};
 
     ghost Value = { List (Word × TestSlot) };

@@ -2,7 +2,7 @@
 
 ghost use Rattle.std.specs.Prelude.{◌≡◌, ◌≢◌, IfOk, IfErr, MatchBool};
 ghost use Rattle.litmus_c.specs.Reads.{Reads, IsRefused};
-ghost use Rattle.litmus_c.specs.Tree.{Litmus};
+ghost use Rattle.litmus_tree.specs.Tree.{Litmus};
 ghost use Rattle.litmus_c.specs.declared.fault.TestFault.TheVariants as of_test;
 ghost use Rattle.cat_syntax.specs.Reads.{Reads as ReadsCat};
 ghost use Rattle.cat_syntax.specs.Tree.{File};

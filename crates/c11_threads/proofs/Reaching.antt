@@ -8,7 +8,7 @@ use Rattle.events.specs.declared.event.Event.{Event}
 use Rattle.events.specs.declared.event.Order.TheVariants.{Na}
 use Rattle.events.specs.Executions.{ThreadRun, no_places, is_read}
 use Rattle.listings.specs.Lists.{StandsAt}
-use Rattle.litmus_c.specs.Tree.{Word, Term, number, held, denied, equal, unequal, both, either, Action, load, store, exchange, fence, Right, computed, plain_read, value_of, Declared, Step, empty, block, declare, assign, plain_write, perform, if_only, if_else, Steps, no_steps, in_turn, Litmus}
+use Rattle.litmus_tree.specs.Tree.{Word, Term, number, held, denied, equal, unequal, both, either, Action, load, store, exchange, fence, Right, computed, plain_read, value_of, Declared, Step, empty, block, declare, assign, plain_write, perform, if_only, if_else, Steps, no_steps, in_turn, Litmus}
 use Rattle.c11_threads.specs.declared.content.Content.{Content}
 use Rattle.c11_threads.specs.Contents.{place_of, joined, nothing, is_true, reads_in}
 use Rattle.c11_threads.specs.Runs.{Progress, after, holding, next_read, Site, thread_of, names, given_by, inside, reads_from, writes_into, fences, Calls, Gives, Assigns, Declares, DeclaresAll, Branches, Performs, PerformsAll, body, initial_content, start}

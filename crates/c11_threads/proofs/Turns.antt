@@ -5,12 +5,12 @@ use Rattle.std.proofs.lemmas.Grind.{flat_map-append}
 use Rattle.std.specs.Global.{Global}
 use Rattle.std.specs.List.{flat_map}
 use Rattle.relations.specs.Events.{EventSet}
-use Rattle.litmus_c.specs.declared.tree.Declarator.{Declarator}
-use Rattle.litmus_c.specs.declared.tree.Statement.{Statement}
-use Rattle.litmus_c.specs.declared.tree.Statement.TheVariants.{Empty as Empty', Block as Block', rolls-Empty, rolls-Block}
-use Rattle.litmus_c.specs.declared.tree.Statement.TheOpen.{Statement-F}
-use Rattle.litmus_c.specs.declared.tree.Statement.TheFolds.{fold-roll-Statement}
-use Rattle.litmus_c.specs.Tree.{Word, Action, load, store, exchange, fence, Right, computed, plain_read, value_of, Declared, Step, empty, block, declare, assign, plain_write, perform, if_only, if_else, Steps, no_steps, in_turn, layer, step_of, steps_of, declared_of}
+use Rattle.litmus_tree.specs.declared.tree.Declarator.{Declarator}
+use Rattle.litmus_tree.specs.declared.tree.Statement.{Statement}
+use Rattle.litmus_tree.specs.declared.tree.Statement.TheVariants.{Empty as Empty', Block as Block', rolls-Empty, rolls-Block}
+use Rattle.litmus_tree.specs.declared.tree.Statement.TheOpen.{Statement-F}
+use Rattle.litmus_tree.specs.declared.tree.Statement.TheFolds.{fold-roll-Statement}
+use Rattle.litmus_tree.specs.Tree.{Word, Action, load, store, exchange, fence, Right, computed, plain_read, value_of, Declared, Step, empty, block, declare, assign, plain_write, perform, if_only, if_else, Steps, no_steps, in_turn, layer, step_of, steps_of, declared_of}
 use Rattle.c11_threads.specs.declared.fault.RunFault.{RunFault}
 use Rattle.c11_threads.specs.declared.fault.RunFault.TheVariants.{TooManyRuns, NoMemory}
 use Rattle.c11_threads.specs.Faults.{IsFaultAt}

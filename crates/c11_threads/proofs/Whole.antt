@@ -4,7 +4,7 @@ use Rattle.std.proofs.lemmas.List.{length-map}
 use Rattle.relations.specs.Events.{EventSet}
 use Rattle.events.specs.Executions.{ThreadRun, no_places}
 use Rattle.listings.specs.Lists.{Lists}
-use Rattle.litmus_c.specs.Tree.{Steps, Litmus}
+use Rattle.litmus_tree.specs.Tree.{Steps, Litmus}
 use Rattle.c11_threads.specs.declared.fault.RunFault.{RunFault}
 use Rattle.c11_threads.specs.declared.fault.RunFault.TheVariants.{TooManyRuns, NoMemory}
 use Rattle.c11_threads.specs.Runs.{Progress, IsRun, thread_of, start, run_of}

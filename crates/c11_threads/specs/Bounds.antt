@@ -5,7 +5,7 @@ use Rattle.events.specs.declared.event.Access.TheVariants.{Fence}
 use Rattle.events.specs.declared.event.Event.{Event}
 use Rattle.events.specs.Executions.{ThreadRun, is_read}
 use Rattle.listings.specs.Lists.{StandsAt}
-use Rattle.litmus_c.specs.Tree.{Litmus}
+use Rattle.litmus_tree.specs.Tree.{Litmus}
 use Rattle.litmus_c.specs.Limits.{program_events, ProgramNames}
 use Rattle.litmus_c.specs.Values.{InDom}
 use Rattle.c11_threads.specs.Runs.{thread_of, IsRun}

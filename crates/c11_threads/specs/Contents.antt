@@ -6,7 +6,7 @@ use Rattle.relations.specs.Tables.{place}
 use Rattle.relations.specs.Events.{EventSet, event_set}
 use Rattle.events.specs.Executions.{no_places}
 use Rattle.c11_threads.specs.declared.content.Content.{Content}
-use Rattle.litmus_c.specs.Tree.{Word, Term, number, held, denied, equal, unequal, both, either}
+use Rattle.litmus_tree.specs.Tree.{Word, Term, number, held, denied, equal, unequal, both, either}
 
 -- the first place of the name among the names
 abbrev pub place_of : Word → List Word → ℕ

@@ -2,7 +2,7 @@
 use Rattle.std.specs.Prelude.{◌≡◌, ℕ, ◌<◌, List, length}
 use Rattle.events.specs.Executions.{ThreadRun}
 use Rattle.listings.specs.Lists.{Lists}
-use Rattle.litmus_c.specs.Tree.{Litmus}
+use Rattle.litmus_tree.specs.Tree.{Litmus}
 use Rattle.c11_threads.specs.declared.fault.RunFault.{RunFault}
 use Rattle.c11_threads.specs.declared.fault.RunFault.TheVariants as of_runs
 use Rattle.c11_threads.specs.Runs.{IsRun}

@@ -12,7 +12,7 @@ use Rattle.events.specs.declared.event.Order.TheVariants.{Rlx, AcqRel, Sc}
 use Rattle.events.specs.Executions.{ThreadRun, no_places}
 use Rattle.conditions.specs.declared.condition.Kind.TheVariants.{Exists}
 use Rattle.conditions.specs.Conditions.{truth}
-use Rattle.litmus_c.specs.Tree.{Word, number, held, load, store, exchange, value_of, assign, perform, if_only, Steps, no_steps, in_turn, Litmus}
+use Rattle.litmus_tree.specs.Tree.{Word, number, held, load, store, exchange, value_of, assign, perform, if_only, Steps, no_steps, in_turn, Litmus}
 use Rattle.c11_threads.specs.Contents.{just}
 use Rattle.c11_threads.specs.Unrolled.{runs_of}
 

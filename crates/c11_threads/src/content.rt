@@ -2,7 +2,7 @@
 
 ghost use Rattle.std.specs.Prelude.{◌≡◌, ◌↔◌, IsTrue};
 ghost use Rattle.relations.specs.Events.{Has};
-ghost use Rattle.litmus_c.specs.Tree.{term_of};
+ghost use Rattle.litmus_tree.specs.Tree.{term_of};
 ghost use Rattle.c11_threads.specs.Contents.{place_of, just, joined, nothing, truth, content, content_in};
 
 use events::no_places;

@@ -13,6 +13,3 @@ pub use content::Content;
 pub use fault::{MOST_RUNS, RunFault};
 pub use initial::initial_value;
 pub use running::runs;
-
-#[cfg(test)]
-mod tests;

@@ -3,7 +3,7 @@
 ghost use Rattle.std.specs.Prelude.{◌≡◌, ◌<◌, ◌≤◌, ◌∷◌, [], length, map, IfOk, IfErr};
 ghost use Rattle.listings.specs.Lists.{Lists};
 ghost use Rattle.litmus_c.specs.Values.{values_of};
-ghost use Rattle.litmus_c.specs.Tree.{steps_of};
+ghost use Rattle.litmus_tree.specs.Tree.{steps_of};
 ghost use Rattle.c11_threads.specs.Runs.{IsRun, thread_of, start, run_of};
 ghost use Rattle.c11_threads.specs.Unrolled.{setting_of, runs_of};
 ghost use Rattle.c11_threads.specs.Faults.{IsRunFault};

@@ -2,7 +2,7 @@
 
 ghost use Rattle.std.specs.Prelude.{◌≡◌, ◌++◌, ◌<◌, ◌≤◌, ◌∷◌, [], length, map, IfOk, IfErr, OnOk, None, Some};
 ghost use Rattle.std.specs.List.{flat_map};
-ghost use Rattle.litmus_c.specs.Tree.{term_of, action_of, right_of, declared_of, step_of, steps_of};
+ghost use Rattle.litmus_tree.specs.Tree.{term_of, action_of, right_of, declared_of, step_of, steps_of};
 ghost use Rattle.events.specs.declared.event.Access.TheVariants.{Fence};
 ghost use Rattle.c11_threads.specs.Contents.{place_of, nothing};
 ghost use Rattle.c11_threads.specs.Runs.{after, next_read};

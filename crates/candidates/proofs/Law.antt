@@ -14,7 +14,7 @@ use Rattle.listings.proofs.Listings.{by_list, listed}
 use Rattle.listings.proofs.Arrangements.{IsArrangement, by_arrange}
 use Rattle.listings.proofs.Walks.{OfSome, IsKeyed, by_walk}
 use Rattle.listings.proofs.Sums.{same_sums}
-use Rattle.litmus_c.specs.Tree.{Litmus}
+use Rattle.litmus_tree.specs.Tree.{Litmus}
 use Rattle.candidates.specs.Executions.{initial_values}
 use Rattle.c11_threads.specs.Runs.{IsRun}
 use Rattle.candidates.specs.Executions.{IsExecution, IsSize, IsChoice, IsCoherence, Writes, reads, later_writes, upto, block}

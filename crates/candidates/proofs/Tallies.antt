@@ -5,7 +5,7 @@ use Rattle.std.proofs.lemmas.Bool.{cases_lt}
 use Rattle.events.specs.Executions.{Execution}
 use Rattle.listings.specs.Lists.{IsIn, NoRepeats, Lists}
 use Rattle.listings.proofs.Listings.{in_append, in_left, in_right, once_append}
-use Rattle.litmus_c.specs.Tree.{Litmus}
+use Rattle.litmus_tree.specs.Tree.{Litmus}
 use Rattle.candidates.specs.Executions.{IsExecution}
 use Rattle.candidates.specs.Candidates.{At, IsNumberedBy, found, some_of, Counting}
 use Rattle.candidates.proofs.Law.{numbering}

@@ -8,7 +8,7 @@ use Rattle.events.specs.declared.event.Order.TheVariants.{NoOrder}
 use Rattle.events.specs.Executions.{ThreadRun, Execution, no_places}
 use Rattle.listings.specs.Lists.{Lists, sum_of, product_by, factorial, tabulate}
 use Rattle.listings.specs.Numbered.{digits, arrange, walk}
-use Rattle.litmus_c.specs.Tree.{Litmus}
+use Rattle.litmus_tree.specs.Tree.{Litmus}
 use Rattle.c11_threads.specs.Unrolled.{runs_of}
 use Rattle.candidates.specs.Executions.{initial_values, IsExecution, IsSize, reads, later_writes, upto, block}
 

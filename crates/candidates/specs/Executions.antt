@@ -9,7 +9,7 @@ use Rattle.events.specs.Executions.{ThreadRun, Execution, is_read, writes_to}
 use Rattle.listings.specs.Lists.{Lists, StandsAt, ForEach, product_by, sum_of, factorial, tabulate}
 use Rattle.conditions.specs.declared.place.Place.TheVariants.{Loc}
 use Rattle.conditions.specs.States.{value_at}
-use Rattle.litmus_c.specs.Tree.{Litmus}
+use Rattle.litmus_tree.specs.Tree.{Litmus}
 use Rattle.c11_threads.specs.Runs.{IsRun}
 
 -- the initial value of each location

@@ -1,6 +1,6 @@
 -- When a test's candidates aren't numbered.
 use Rattle.std.specs.Prelude.{ℕ, ◌<◌, ◌≤◌, ◌^◌, length}
-use Rattle.litmus_c.specs.Tree.{Litmus}
+use Rattle.litmus_tree.specs.Tree.{Litmus}
 use Rattle.c11_threads.specs.declared.fault.RunFault.{RunFault}
 use Rattle.c11_threads.specs.declared.fault.RunFault.TheVariants as of_runs
 use Rattle.candidates.specs.declared.fault.SpaceFault.{SpaceFault}

@@ -11,6 +11,3 @@ mod space;
 
 pub use fault::SpaceFault;
 pub use space::Space;
-
-#[cfg(test)]
-mod tests;

@@ -13,6 +13,3 @@ pub use observing::observed;
 pub use place::{Binding, Place};
 pub use prop::Prop;
 pub use state::{State, holds, ok_of};
-
-#[cfg(test)]
-mod tests;

@@ -7,12 +7,12 @@ use Rattle.std.proofs.lemmas.List.{length-map, take-map}
 use Rattle.std.proofs.lemmas.List.Sums.{sum_by_more_le}
 use Rattle.std.proofs.Math.ListN.{get_or-map}
 use Rattle.litmus_c.specs.declared.rules.Rule.{Rule}
-use Rattle.litmus_c.specs.declared.tree.Declarator.{Declarator}
-use Rattle.litmus_c.specs.declared.tree.Parameter.{Parameter}
-use Rattle.litmus_c.specs.declared.tree.Statement.{Statement}
+use Rattle.litmus_tree.specs.declared.tree.Declarator.{Declarator}
+use Rattle.litmus_tree.specs.declared.tree.Parameter.{Parameter}
+use Rattle.litmus_tree.specs.declared.tree.Statement.{Statement}
 use Rattle.litmus_c.specs.Limits.{optional_events, step_events}
 use Rattle.litmus_c.specs.Rules.{declared_keeps, step_keeps, steps_keep}
-use Rattle.litmus_c.specs.Tree.{Word, declared_of, step_of, steps_of}
+use Rattle.litmus_tree.specs.Tree.{Word, declared_of, step_of, steps_of}
 use Rattle.litmus_c.proofs.Steps.{row_keeps}
 
 pub all_declared : (k : Rule) (ps : List Parameter) (rs : List Word) (ds : List Declarator) → list_all (declared_keeps k ps rs) (map declared_of ds) ≡ list_all (λ d. declared_keeps k ps rs (declared_of d)) ds

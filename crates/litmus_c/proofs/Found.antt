@@ -11,37 +11,34 @@ use Rattle.wb_text.specs.declared.token.Token.{Token}
 use Rattle.conditions.specs.declared.place.Binding.{Binding}
 use Rattle.litmus_c.specs.declared.fault.TestFault.{TestFault}
 use Rattle.litmus_c.specs.declared.fault.TestFault.TheVariants.{Text, Syntax, BadOrder, UnknownName, PlainOnAtomic, AtomicOnPlain, Unsupported, TooDeep, TooManyThreads, TooManyLocations, TooManyEvents, TooManyValues, NoMemory}
-use Rattle.litmus_c.specs.declared.symbol.Symbol.{Symbol}
-use Rattle.litmus_c.specs.declared.symbol.Symbol.TheVariants.{Foreign}
-use Rattle.litmus_c.specs.Depth.{NestsTooDeep}
-use Rattle.litmus_c.specs.Drafts.{Written}
-use Rattle.litmus_c.specs.Grammar.{Spells}
-use Rattle.litmus_c.specs.Misordered.{HasMisordered}
-use Rattle.litmus_c.specs.Reading.{Cause, syntax, deep, misordered, Reading, GivesTest, text_refusal, test_at}
-use Rattle.litmus_c.specs.Reads.{IsWrittenIn, HasNoTest, IsTooDeep, IsMisorderedIn, LeavesOut, IsRefused, IsUnwritten, Reads}
+use Rattle.litmus_syntax.specs.declared.symbol.Symbol.{Symbol}
+use Rattle.litmus_syntax.specs.declared.symbol.Symbol.TheVariants.{Foreign}
+use Rattle.litmus_syntax.specs.Depth.{NestsTooDeep}
+use Rattle.litmus_syntax.specs.Drafts.{Written}
+use Rattle.litmus_syntax.specs.Grammar.{Spells}
+use Rattle.litmus_syntax.specs.Misordered.{HasMisordered}
+use Rattle.litmus_syntax.specs.Unspelled.{SpellsNone}
+use Rattle.litmus_c.specs.Reads.{IsWrittenIn, HasNoTest, IsTooDeep, IsMisorderedIn, LeavesOut, IsRefused, IsUnspelled, IsUnwritten, Reads, text_refusal}
 use Rattle.litmus_c.specs.Rules.{litmus_of, KeepsRules, Explains}
-use Rattle.litmus_c.specs.Symbols.{symbols_of}
-use Rattle.litmus_c.specs.Tree.{Word, Litmus}
-use Rattle.litmus_c.proofs.Complete.{test-complete, one_reading, same}
-use Rattle.litmus_c.proofs.Deep.{test_deep}
-use Rattle.litmus_c.proofs.Misorders.{test_misordered}
-use Rattle.litmus_c.proofs.Sound.{test-sound}
+use Rattle.litmus_syntax.specs.Symbols.{symbols_of}
+use Rattle.litmus_tree.specs.Tree.{Word, Litmus}
+use Rattle.litmus_syntax.proofs.Complete.{one_reading}
 
--- what was read is written in the text
+-- what is spelled is written in the text
 pub written_in : (text : List ℕ) (ts : List Token) (symbols : List Symbol) (w : Written) → IsTokenList dialects.Litmus text ts → symbols ≡ symbols_of text ts →
-    test_at 32 symbols ≡ Ok (w, []) → IsWrittenIn text w
-written_in text ts symbols w list is e = record {
+    Spells symbols w → IsWrittenIn text w
+written_in text ts symbols w list is s = record {
   tokens = ts;
   is_list = list;
-  spelled = (let P : List Symbol → Type 0 = λ l. Spells l w in subst P is (test-sound 32 symbols [] w e).0);
+  spelled = (let P : List Symbol → Type 0 = λ l. Spells l w in subst P is s);
 }
 
--- what is written in the text is read, where these are its tokens
-pub read_of : (text : List ℕ) (ts : List Token) (symbols : List Symbol) (w : Written) → symbols ≡ symbols_of text ts → (d : IsWrittenIn text w) → ts ≡ d.tokens → test_at 32 symbols ≡ Ok (w, [])
-read_of text ts symbols w is d e =
+-- what is written in the text is spelled, where these are its tokens
+pub spelled_of : (text : List ℕ) (ts : List Token) (symbols : List Symbol) (w : Written) → symbols ≡ symbols_of text ts → (d : IsWrittenIn text w) → ts ≡ d.tokens → Spells symbols w
+spelled_of text ts symbols w is d e =
     let P : List Symbol → Type 0 = λ l. Spells l w in
     let f : List Token → List Symbol = λ l. symbols_of text l in
-    test-complete (subst P (sym (is ∙ ap f e)) d.spelled) refl
+    subst P (sym (is ∙ ap f e)) d.spelled
 
 -- a refusal of a test that keeps the rules is for want of memory
 pub no_cause : (es : List Binding) (t : Litmus) (e : TestFault) → KeepsRules es t → Explains es t e → e ≡ NoMemory
@@ -58,26 +55,6 @@ no_cause es t (Unsupported w) k h = absurd h
 no_cause es t PlainOnAtomic k h = absurd (false≢true (sym h ∙ k.plain))
 no_cause es t AtomicOnPlain k h = absurd (false≢true (sym h ∙ k.atomic))
 no_cause es t TooDeep k h = absurd h
-
--- a refusal by the grammar, where there is a test, is for want of memory
-pub no_fault : (e : TestFault) (w : Written) (ts : List Symbol) → GivesTest ts (Err e) (test_at 32 ts) → test_at 32 ts ≡ Ok (w, []) → e ≡ NoMemory
-no_fault NoMemory w ts g e = refl
-no_fault (Syntax p) w ts g e = absurd (cc)
-no_fault BadOrder w ts g e = absurd (cc)
-no_fault (Unsupported x) w ts g e = let h = g.0 in absurd (cc)
-no_fault TooDeep w ts g e = absurd (cc)
-no_fault (Text f) w ts g e = absurd g
-no_fault UnknownName w ts g e = absurd g
-no_fault PlainOnAtomic w ts g e = absurd g
-no_fault AtomicOnPlain w ts g e = absurd g
-no_fault TooManyThreads w ts g e = absurd g
-no_fault TooManyLocations w ts g e = absurd g
-no_fault TooManyEvents w ts g e = absurd g
-no_fault TooManyValues w ts g e = absurd g
-
--- what was read is what is written
-pub read_same : (v w : Written) (ts : List Symbol) → test_at 32 ts ≡ Ok (v, []) → test_at 32 ts ≡ Ok (w, []) → v ≡ w
-read_same v w ts d e = same (sym d ∙ e)
 
 -- no text has two tests
 pub one_of : (text : List ℕ) → ((ts us : List Token) → IsTokenList dialects.Litmus text ts → IsTokenList dialects.Litmus text us → ts ≡ us) →
@@ -113,54 +90,35 @@ text_cause text text_faults.OpenString h = h
 text_cause text text_faults.NumberTooBig h = h
 text_cause text text_faults.TooLong h = h
 
-no_test : (text : List ℕ) (ts : List Token) (symbols : List Symbol) (e : Cause) → symbols ≡ symbols_of text ts → ((us : List Token) → IsTokenList dialects.Litmus text us → ts ≡ us) →
-    ◌≡◌ {A = Reading Written} (test_at 32 symbols) (Err e) → HasNoTest text
-no_test text ts symbols e is unique fails w d =
-    let reads : test_at 32 symbols ≡ Ok (w, []) = read_of text ts symbols w is d (unique d.tokens d.is_list) in
-    cc
+module _ (text : List ℕ) (ts : List Token) (symbols : List Symbol) (list : IsTokenList dialects.Litmus text ts) (is : symbols ≡ symbols_of text ts)
+    (unique : (us : List Token) → IsTokenList dialects.Litmus text us → ts ≡ us) where
 
-too_deep : (text : List ℕ) (ts : List Token) (symbols : List Symbol) → IsTokenList dialects.Litmus text ts → symbols ≡ symbols_of text ts → ((us : List Token) → IsTokenList dialects.Litmus text us → ts ≡ us) →
-    test_at 32 symbols ≡ Err deep → IsTooDeep text
-too_deep text ts symbols list is unique fails = record {
-  none = no_test text ts symbols deep is unique fails;
-  tokens = ts;
-  is_list = list;
-  nests = (let P : List Symbol → Type 0 = λ l. NestsTooDeep l in subst P is (test_deep 32 symbols fails));
-}
+  no_test : SpellsNone symbols → HasNoTest text
+  no_test none w d = none w (spelled_of text ts symbols w is d (unique d.tokens d.is_list))
 
-bad_order : (text : List ℕ) (ts : List Token) (symbols : List Symbol) → IsTokenList dialects.Litmus text ts → symbols ≡ symbols_of text ts → ((us : List Token) → IsTokenList dialects.Litmus text us → ts ≡ us) →
-    test_at 32 symbols ≡ Err misordered → IsMisorderedIn text
-bad_order text ts symbols list is unique fails = record {
-  none = no_test text ts symbols misordered is unique fails;
-  tokens = ts;
-  is_list = list;
-  stands = (let P : List Symbol → Type 0 = λ l. HasMisordered l in subst P is (test_misordered 32 symbols fails));
-}
+  too_deep : SpellsNone symbols × NestsTooDeep symbols → IsTooDeep text
+  too_deep h = record { none = no_test h.0; tokens = ts; is_list = list; nests = (let P : List Symbol → Type 0 = λ l. NestsTooDeep l in subst P is h.1) }
 
-left_out : (text : List ℕ) (ts : List Token) (symbols : List Symbol) (x : Word) → IsTokenList dialects.Litmus text ts → symbols ≡ symbols_of text ts → ((us : List Token) → IsTokenList dialects.Litmus text us → ts ≡ us) →
-    test_at 32 symbols ≡ Err syntax → Contains symbols (Foreign x) → LeavesOut text x
-left_out text ts symbols x list is unique fails there = record {
-  none = no_test text ts symbols syntax is unique fails;
-  tokens = ts;
-  is_list = list;
-  stands = (let P : List Symbol → Type 0 = λ l. Contains l (Foreign x) in subst P is there);
-}
+  bad_order : SpellsNone symbols × HasMisordered symbols → IsMisorderedIn text
+  bad_order h = record { none = no_test h.0; tokens = ts; is_list = list; stands = (let P : List Symbol → Type 0 = λ l. HasMisordered l in subst P is h.1) }
 
-pub draft_cause : (text : List ℕ) (ts : List Token) (symbols : List Symbol) (e : TestFault) → IsTokenList dialects.Litmus text ts → symbols ≡ symbols_of text ts →
-    ((us : List Token) → IsTokenList dialects.Litmus text us → ts ≡ us) → GivesTest symbols (Err e) (test_at 32 symbols) → IsUnwritten text e
-draft_cause text ts symbols NoMemory list is unique g = tt
-draft_cause text ts symbols (Syntax p) list is unique g = no_test text ts symbols syntax is unique g
-draft_cause text ts symbols BadOrder list is unique g = bad_order text ts symbols list is unique g
-draft_cause text ts symbols (Unsupported x) list is unique g = left_out text ts symbols x list is unique g.0 g.1
-draft_cause text ts symbols TooDeep list is unique g = too_deep text ts symbols list is unique g
-draft_cause text ts symbols (Text f) list is unique g = absurd g
-draft_cause text ts symbols UnknownName list is unique g = absurd g
-draft_cause text ts symbols PlainOnAtomic list is unique g = absurd g
-draft_cause text ts symbols AtomicOnPlain list is unique g = absurd g
-draft_cause text ts symbols TooManyThreads list is unique g = absurd g
-draft_cause text ts symbols TooManyLocations list is unique g = absurd g
-draft_cause text ts symbols TooManyEvents list is unique g = absurd g
-draft_cause text ts symbols TooManyValues list is unique g = absurd g
+  left_out : (x : Word) → SpellsNone symbols × Contains symbols (Foreign x) → LeavesOut text x
+  left_out x h = record { none = no_test h.0; tokens = ts; is_list = list; stands = (let P : List Symbol → Type 0 = λ l. Contains l (Foreign x) in subst P is h.1) }
+
+  pub draft_cause : (e : TestFault) → IsUnspelled symbols e → IsUnwritten text e
+  draft_cause NoMemory g = tt
+  draft_cause (Syntax p) g = no_test g
+  draft_cause BadOrder g = bad_order g
+  draft_cause (Unsupported x) g = left_out x g
+  draft_cause TooDeep g = too_deep g
+  draft_cause (Text f) g = absurd g
+  draft_cause UnknownName g = absurd g
+  draft_cause PlainOnAtomic g = absurd g
+  draft_cause AtomicOnPlain g = absurd g
+  draft_cause TooManyThreads g = absurd g
+  draft_cause TooManyLocations g = absurd g
+  draft_cause TooManyEvents g = absurd g
+  draft_cause TooManyValues g = absurd g
 
 pub unwritten_cause : (text : List ℕ) (e : TestFault) → IsUnwritten text e → IsRefused text e
 unwritten_cause text NoMemory h = h

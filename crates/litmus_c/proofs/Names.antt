@@ -3,13 +3,13 @@ use Rattle.std.proofs.Common.{◌≡◌, ℕ, suc, ◌+◌, ◌<◌, ◌≤◌, 
 use Rattle.std.specs.Prelude.{Bool, true, false, if◌then◌else◌}
 use Rattle.std.specs.List.{flat_map}
 use Rattle.conditions.specs.declared.place.Binding.{Binding}
-use Rattle.litmus_c.specs.declared.draft.Body.{Body}
+use Rattle.litmus_syntax.specs.declared.draft.Body.{Body}
 use Rattle.litmus_c.specs.declared.fault.TestFault.{TestFault}
 use Rattle.litmus_c.specs.declared.fault.TestFault.TheVariants.{Text, Syntax, BadOrder, UnknownName, PlainOnAtomic, AtomicOnPlain, Unsupported, TooDeep, TooManyThreads, TooManyLocations, TooManyEvents, TooManyValues, NoMemory}
-use Rattle.litmus_c.specs.Drafts.{Listing, listing_of}
-use Rattle.litmus_c.specs.Rules.{with_name, with_names, program_of, programs_of, ExplainsLocations}
-use Rattle.litmus_c.specs.Symbols.{is_one_of}
-use Rattle.litmus_c.specs.Tree.{Word}
+use Rattle.litmus_syntax.specs.Drafts.{Listing, listing_of}
+use Rattle.litmus_c.specs.Rules.{program_of, programs_of, ExplainsLocations}
+use Rattle.litmus_tree.specs.Names.{is_one_of, with_name, with_names}
+use Rattle.litmus_tree.specs.Tree.{Word}
 
 test : (b : Bool) → (b ≡ true) ⊎ (b ≡ false)
 test true = inl refl

@@ -1,15 +1,4 @@
-pub mod Atomics
-pub mod Codes
-pub mod Depth
-pub mod Drafts
-pub mod Equality
-pub mod Exact
-pub mod Grammar
 pub mod Limits
-pub mod Misordered
-pub mod Reading
 pub mod Reads
 pub mod Rules
-pub mod Symbols
-pub mod Tree
 pub mod Values

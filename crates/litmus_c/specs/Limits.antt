@@ -1,6 +1,6 @@
 -- The limits and the names of a test.
 use Rattle.std.specs.Prelude.{ℕ, ◌+◌, ◌≤◌, List, length, sum_by, Contains, Option, None, Some, All, max}
-use Rattle.litmus_c.specs.Tree.{Word, Term, number, held, denied, equal, unequal, both, either, Action, load, store, exchange, fence, Right, computed, plain_read, value_of, Step, empty, block, declare, assign, plain_write, perform, if_only, if_else, Steps, no_steps, in_turn, Program, Litmus}
+use Rattle.litmus_tree.specs.Tree.{Word, Term, number, held, denied, equal, unequal, both, either, Action, load, store, exchange, fence, Right, computed, plain_read, value_of, Step, empty, block, declare, assign, plain_write, perform, if_only, if_else, Steps, no_steps, in_turn, Program, Litmus}
 
 -- How many events a statement has, on its longest way: an exchange reads and writes, and an `if` counts by the arm
 -- that has more. A plain access is one event, as a call is.

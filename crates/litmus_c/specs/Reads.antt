@@ -4,16 +4,20 @@ use Rattle.wb_text.specs.Faults.{HasCause}
 use Rattle.wb_text.specs.Tokens.{IsTokenList}
 use Rattle.wb_text.specs.declared.token.Dialect.TheVariants as dialects
 use Rattle.wb_text.specs.declared.token.Token.{Token}
+use Rattle.wb_text.specs.declared.fault.TextFault.{TextFault}
+use Rattle.wb_text.specs.declared.fault.TextFault.TheVariants as text_faults
 use Rattle.litmus_c.specs.declared.fault.TestFault.{TestFault}
 use Rattle.litmus_c.specs.declared.fault.TestFault.TheVariants.{Text, Syntax, BadOrder, UnknownName, PlainOnAtomic, AtomicOnPlain, Unsupported, TooDeep, TooManyThreads, TooManyLocations, TooManyEvents, TooManyValues, NoMemory}
-use Rattle.litmus_c.specs.Depth.{NestsTooDeep}
-use Rattle.litmus_c.specs.Drafts.{Written}
-use Rattle.litmus_c.specs.Grammar.{Spells}
-use Rattle.litmus_c.specs.Misordered.{HasMisordered}
+use Rattle.litmus_syntax.specs.Depth.{NestsTooDeep}
+use Rattle.litmus_syntax.specs.Drafts.{Written}
+use Rattle.litmus_syntax.specs.Grammar.{Spells}
+use Rattle.litmus_syntax.specs.Misordered.{HasMisordered}
 use Rattle.litmus_c.specs.Rules.{litmus_of, KeepsRules, Explains}
-use Rattle.litmus_c.specs.declared.symbol.Symbol.TheVariants.{Foreign}
-use Rattle.litmus_c.specs.Symbols.{symbols_of}
-use Rattle.litmus_c.specs.Tree.{Word, Litmus}
+use Rattle.litmus_syntax.specs.declared.symbol.Symbol.{Symbol}
+use Rattle.litmus_syntax.specs.declared.symbol.Symbol.TheVariants.{Foreign}
+use Rattle.litmus_syntax.specs.Unspelled.{SpellsNone}
+use Rattle.litmus_syntax.specs.Symbols.{symbols_of}
+use Rattle.litmus_tree.specs.Tree.{Word, Litmus}
 
 -- The text has these tokens, and their symbols are the written test by the grammar.
 pub record IsWrittenIn (text : List ℕ) (w : Written) : Type 0 where
@@ -82,3 +86,17 @@ IsUnwritten text BadOrder = IsMisorderedIn text
 IsUnwritten text (Unsupported w) = LeavesOut text w
 IsUnwritten text TooDeep = IsTooDeep text
 IsUnwritten text e = ⊥
+
+-- The same of the symbols alone.
+abbrev pub IsUnspelled : List Symbol → TestFault → Type 0
+IsUnspelled ts NoMemory = Unit {0}
+IsUnspelled ts (Syntax n) = SpellsNone ts
+IsUnspelled ts BadOrder = SpellsNone ts × HasMisordered ts
+IsUnspelled ts (Unsupported w) = SpellsNone ts × Contains ts (Foreign w)
+IsUnspelled ts TooDeep = SpellsNone ts × NestsTooDeep ts
+IsUnspelled ts e = ⊥
+
+-- the refusal that a fault of the text is
+abbrev pub text_refusal : TextFault → TestFault
+text_refusal text_faults.NoMemory = NoMemory
+text_refusal f = Text f

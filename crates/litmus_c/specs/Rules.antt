@@ -8,27 +8,18 @@ use Rattle.conditions.specs.declared.place.Place.TheVariants.{Reg, Loc}
 use Rattle.conditions.specs.contracts.place.PlacePartialEq.TheImpl.{ghosts as place_equality}
 use Rattle.litmus_c.specs.declared.fault.TestFault.{TestFault}
 use Rattle.litmus_c.specs.declared.fault.TestFault.TheVariants.{Text, Syntax, BadOrder, UnknownName, PlainOnAtomic, AtomicOnPlain, Unsupported, TooDeep, TooManyThreads, TooManyLocations, TooManyEvents, TooManyValues, NoMemory}
-use Rattle.litmus_c.specs.contracts.tree.LocationKindPartialEq.TheImpl.{ghosts as kind_equality}
+use Rattle.litmus_tree.specs.contracts.tree.LocationKindPartialEq.TheImpl.{ghosts as kind_equality}
 use Rattle.litmus_c.specs.declared.rules.Rule.{Rule}
 use Rattle.litmus_c.specs.declared.rules.Rule.TheVariants.{Names, PlainAccess, AtomicAccess}
-use Rattle.litmus_c.specs.declared.tree.LocationKind.{LocationKind}
-use Rattle.litmus_c.specs.declared.tree.LocationKind.TheVariants.{Atomic, Plain}
-use Rattle.litmus_c.specs.declared.tree.Parameter.{Parameter}
+use Rattle.litmus_tree.specs.declared.tree.LocationKind.{LocationKind}
+use Rattle.litmus_tree.specs.declared.tree.LocationKind.TheVariants.{Atomic, Plain}
+use Rattle.litmus_tree.specs.declared.tree.Parameter.{Parameter}
 use Rattle.conditions.specs.Conditions.{Formula, truth, falsehood, equals, negation, conjunction, disjunction, implication}
-use Rattle.litmus_c.specs.Drafts.{Listing, Written, is_parameter}
+use Rattle.litmus_syntax.specs.Drafts.{Listing, Written, is_parameter}
 use Rattle.litmus_c.specs.Limits.{program_events}
-use Rattle.litmus_c.specs.Symbols.{is_one_of}
-use Rattle.litmus_c.specs.Tree.{Word, Term, number, held, denied, equal, unequal, both, either, Action, load, store, exchange, fence, Right, computed, plain_read, value_of, Declared, Step, empty, block, declare, assign, plain_write, perform, if_only, if_else, Steps, no_steps, in_turn, Program, Litmus}
+use Rattle.litmus_tree.specs.Names.{is_one_of, with_names}
+use Rattle.litmus_tree.specs.Tree.{Word, Term, number, held, denied, equal, unequal, both, either, Action, load, store, exchange, fence, Right, computed, plain_read, value_of, Declared, Step, empty, block, declare, assign, plain_write, perform, if_only, if_else, Steps, no_steps, in_turn, Program, Litmus}
 use Rattle.litmus_c.specs.Values.{values_of}
-
--- Names, once each where they first stand.
-
-abbrev pub with_name : List Word → Word → List Word
-with_name xs x = if is_one_of xs x then xs else xs ++ x ∷ []
-
--- xs, and then each of ys that isn't there yet
-abbrev pub with_names : List Word → List Word → List Word
-with_names xs ys = fold with_name xs ys
 
 -- The initial state.
 

@@ -3,7 +3,7 @@ use Rattle.std.specs.Prelude.{◌≡◌, ℕ, ◌⊎◌, List, [], ◌∷◌, �
 use Rattle.std.specs.List.{flat_map, list_any}
 use Rattle.conditions.specs.declared.place.Binding.{Binding}
 use Rattle.listings.specs.Lists.{IsIn}
-use Rattle.litmus_c.specs.Tree.{Term, number, held, denied, equal, unequal, both, either, Action, load, store, exchange, fence, Right, computed, plain_read, value_of, Step, empty, block, declare, assign, plain_write, perform, if_only, if_else, Steps, no_steps, in_turn, Program, Litmus}
+use Rattle.litmus_tree.specs.Tree.{Term, number, held, denied, equal, unequal, both, either, Action, load, store, exchange, fence, Right, computed, plain_read, value_of, Step, empty, block, declare, assign, plain_write, perform, if_only, if_else, Steps, no_steps, in_turn, Program, Litmus}
 
 -- Constants in order, those of an arm that is never taken among them.
 

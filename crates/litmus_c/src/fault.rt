@@ -68,7 +68,7 @@ impl<T: Drop> From<AllocFailed<T>> for TestFault {
 }
 
 impl From<TextFault> for TestFault {
-    ghost use Rattle.litmus_c.specs.Reading.{text_refusal};
+    ghost use Rattle.litmus_c.specs.Reads.{text_refusal};
 
     ghost from_gives = { λ f e. e ≡ text_refusal f };
 

@@ -2,21 +2,22 @@
 
 ghost use Rattle.std.specs.Prelude.{◌≡◌, ◌≤◌, ◌<◌, ◌+◌, ◌&&◌, [], ℕ, List, map, length, sum_by, IfOk, IfErr, OnOk, true};
 ghost use Rattle.std.specs.List.{flat_map, list_all};
-ghost use Rattle.litmus_c.specs.Drafts.{listing_of, written_of};
+ghost use Rattle.litmus_syntax.specs.Drafts.{listing_of, written_of};
 ghost use Rattle.litmus_c.specs.Limits.{program_events};
 ghost use Rattle.litmus_c.specs.declared.fault.TestFault.TheVariants.{TooManyEvents};
-ghost use Rattle.litmus_c.specs.Rules.{with_name, with_names, lasting, place_locations, parameter_names, locations_of, place_registers, step_registers, steps_registers, registers_of, program_of, programs_of, litmus_of, entry_is_fair, program_keeps, places_are_there, names_hold, formula_is_fair, KeepsRules, Explains, ExplainsNames, ExplainsLocations, ExplainsValues};
+ghost use Rattle.litmus_c.specs.Rules.{lasting, place_locations, parameter_names, locations_of, place_registers, step_registers, steps_registers, registers_of, program_of, programs_of, litmus_of, entry_is_fair, program_keeps, places_are_there, names_hold, formula_is_fair, KeepsRules, Explains, ExplainsNames, ExplainsLocations, ExplainsValues};
+ghost use Rattle.litmus_tree.specs.Names.{with_name, with_names};
 ghost use Rattle.litmus_c.specs.Values.{values_among};
-ghost use Rattle.litmus_c.specs.Tree.{declared_of, step_of, steps_of};
+ghost use Rattle.litmus_tree.specs.Tree.{declared_of, step_of, steps_of};
 ghost use Rattle.litmus_c.specs.declared.rules.Rule.TheVariants.{Names, PlainAccess, AtomicAccess};
 
-use crate::draft::{Body, Draft};
+use litmus_syntax::{Body, Draft};
 use crate::fault::TestFault;
 use crate::rules::{
     Rule, after_threads, entry_is_fair, formula_is_fair, is_one_of, places_are_there, program_keeps,
 };
 use crate::test::Test;
-use crate::tree::{Declarator, Parameter, Statement, Thread};
+use litmus_tree::{Declarator, Parameter, Statement, Thread};
 use crate::values::{ValuesFault, values_among};
 use conditions::{Binding, Cond, Place};
 use indexmap::IndexSet;
@@ -159,7 +160,7 @@ fn note_declarators(
 
 /// Adds the registers that a statement declares or assigns.
 #[cycle(noting)]
-#[tactic(auto, using(crate::proofs::Names::names_append, crate::proofs::Steps::only_if, crate::proofs::Steps::if_and_else))]
+#[tactic(auto, using(crate::proofs::Names::names_append, litmus_tree::proofs::Steps::only_if, litmus_tree::proofs::Steps::if_and_else))]
 fn note_statement(registers: &mut IndexSet<Name>, statement: &Statement) -> Result<(), AllocError>
     ensures { OnOk result (registers.new.keys ≡ with_names registers.old.keys (step_registers (step_of statement.now))) }
 {

@@ -1,20 +1,17 @@
 //! The reader.
 
 ghost use Rattle.std.specs.Prelude.{◌≡◌, IfOk, IfErr, IfSome, MatchResult, Contains, length};
-ghost use Rattle.litmus_c.specs.Drafts.{Written, written_of};
-ghost use Rattle.litmus_c.specs.Reading.{GivesTest, test_at};
-ghost use Rattle.litmus_c.specs.Reads.{IsWrittenIn, IsRefused, IsUnwritten, Reads};
-ghost use Rattle.litmus_c.specs.Tree.{Litmus};
-ghost use Rattle.litmus_c.specs.declared.symbol.Symbol.TheVariants.{Foreign};
+ghost use Rattle.litmus_c.specs.Reads.{IsWrittenIn, IsUnspelled, IsRefused, IsUnwritten, Reads};
 ghost use Rattle.litmus_c.specs.declared.fault.TestFault.TheVariants.{NoMemory};
+ghost use Rattle.litmus_syntax.specs.Drafts.{Written, written_of};
+ghost use Rattle.litmus_syntax.specs.Grammar.{Spells};
+ghost use Rattle.litmus_syntax.specs.declared.symbol.Symbol.TheVariants.{Foreign};
+ghost use Rattle.litmus_tree.specs.Tree.{Litmus};
 
-use crate::draft::Draft;
 use crate::fault::TestFault;
 use crate::making::make_test;
-use crate::symbol::{Symbol, symbols};
-use crate::syntax::read_draft;
-use crate::syntax_fault::SyntaxFault;
 use crate::test::Test;
+use litmus_syntax::{Draft, Symbol, SyntaxFault, read_draft, symbols};
 use std::alloc::{AllocError, Global};
 use wb_text::{Dialect, Name, Token, tokens};
 
@@ -50,7 +47,9 @@ fn draft_of(
     end: usize,
 ) -> Result<Draft, TestFault>
     requires { length symbols.now ≡ length tokens.now }
-    ensures { GivesTest symbols.now result (test_at 32 symbols.now) }
+    ensures found { IfOk result (λ d. Spells symbols.now (written_of d)) }
+    ensures only { (w : Written) → Spells symbols.now w → MatchResult result (λ d. written_of d ≡ w) (λ e. e ≡ NoMemory) }
+    ensures cause { IfErr result (λ e. IsUnspelled symbols.now e) }
 {
     match read_draft(alloc, tokens, symbols, end) {
         Ok(draft) => Ok(draft),

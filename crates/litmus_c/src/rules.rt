@@ -3,13 +3,13 @@
 ghost use Rattle.std.specs.Prelude.{◌≡◌, ◌≤◌, ◌-◌, map, length, SomeIff, sum_by};
 ghost use Rattle.std.specs.List.{list_all, list_any};
 ghost use Rattle.conditions.specs.Conditions.{formula_of};
-ghost use Rattle.litmus_c.specs.Drafts.{is_parameter};
+ghost use Rattle.litmus_syntax.specs.Drafts.{is_parameter};
 ghost use Rattle.litmus_c.specs.Limits.{action_events, optional_events, right_events, step_events, steps_events, program_events};
 ghost use Rattle.litmus_c.specs.Rules.{is_given, entry_is_fair, is_of, has_other_kind, may_read, may_give, may_call, may_access, term_keeps, action_keeps, right_keeps, declared_keeps, step_keeps, steps_keep, program_keeps, place_is_there, formula_is_fair};
-ghost use Rattle.litmus_c.specs.Symbols.{is_one_of};
-ghost use Rattle.litmus_c.specs.Tree.{term_of, action_of, right_of, declared_of, step_of, steps_of};
+ghost use Rattle.litmus_tree.specs.Names.{is_one_of};
+ghost use Rattle.litmus_tree.specs.Tree.{term_of, action_of, right_of, declared_of, step_of, steps_of};
 
-use crate::tree::{
+use litmus_tree::{
     Call, Declarator, Expression, LocationKind, Parameter, RightSide, Statement, Thread,
 };
 use conditions::{Place, Prop};
@@ -198,7 +198,7 @@ impl<'a> Scope<'a> {
     }
 
     #[cycle(keeping)]
-    #[tactic(auto, using(crate::proofs::Steps::only_if, crate::proofs::Steps::if_and_else))]
+    #[tactic(auto, using(litmus_tree::proofs::Steps::only_if, litmus_tree::proofs::Steps::if_and_else))]
     fn step_keeps(&self, statement: &Statement) -> bool
         ensures { result ≡ step_keeps self.now.rule self.now.thread.now.parameters self.now.thread.now.registers (step_of statement.now) }
     {
@@ -320,7 +320,7 @@ fn after_declarators(room: usize, declarators: &[Declarator]) -> Option<usize>
 
 /// What is left of `room` events after those of a statement, on its longest way.
 #[cycle(events)]
-#[tactic(auto, using(crate::proofs::Steps::only_if, crate::proofs::Steps::if_and_else))]
+#[tactic(auto, using(litmus_tree::proofs::Steps::only_if, litmus_tree::proofs::Steps::if_and_else))]
 fn after_statement(room: usize, statement: &Statement) -> Option<usize>
     ensures { SomeIff result (step_events (step_of statement.now) ≤ room) (room - step_events (step_of statement.now)) }
 {

@@ -6,7 +6,7 @@ ghost use Rattle.litmus_c.specs.Limits.{IsTest};
 mod copying;
 mod equality;
 
-use crate::tree::Thread;
+use litmus_tree::Thread;
 use conditions::{Binding, Cond, Place};
 use std::marker::Model;
 use wb_text::Name;
@@ -23,8 +23,8 @@ pub struct Test {
 }
 
 impl Model for Test {
-    ghost use Rattle.litmus_c.specs.Tree.{Litmus};
-    ghost use Rattle.litmus_c.specs.Codes.{coded_litmus};
+    ghost use Rattle.litmus_tree.specs.Tree.{Litmus};
+    ghost use Rattle.litmus_tree.specs.Codes.{coded_litmus};
 
     ghost Value = { Litmus };
 

@@ -3,12 +3,12 @@
 ghost use Rattle.std.specs.Prelude.{◌≡◌, ◌<◌, ◌≤◌, ◌∷◌, [], length, map, IfOk, IfErr, OnOk};
 ghost use Rattle.std.specs.List.{flat_map};
 ghost use Rattle.listings.specs.Lists.{Lists};
-ghost use Rattle.litmus_c.specs.Tree.{term_of, action_of, right_of, declared_of, step_of, steps_of};
+ghost use Rattle.litmus_tree.specs.Tree.{term_of, action_of, right_of, declared_of, step_of, steps_of};
 ghost use Rattle.litmus_c.specs.Values.{term_constants, action_constants, right_constants, optional_constants, step_constants, steps_constants, program_constants, with_value, with_values, values_among, values_of, IsValue, InDom};
 ghost use Rattle.litmus_c.specs.declared.values.ValuesFault.TheVariants.{TooMany};
 
 use crate::test::Test;
-use crate::tree::{Call, Declarator, Expression, RightSide, Statement, Thread};
+use litmus_tree::{Call, Declarator, Expression, RightSide, Statement, Thread};
 use conditions::Binding;
 use std::alloc::{AllocError, AllocFailed, Global};
 

@@ -19,8 +19,8 @@ pub struct TestRef {
 
 impl std::marker::Model for TestRef {
     ghost use Rattle.std.specs.Arc.{arc_value};
-    ghost use Rattle.litmus_c.specs.Tree.{Litmus};
-    ghost use Rattle.litmus_c.specs.Codes.{coded_litmus};
+    ghost use Rattle.litmus_tree.specs.Tree.{Litmus};
+    ghost use Rattle.litmus_tree.specs.Codes.{coded_litmus};
 
     ghost Value = { Litmus };
 
@@ -162,7 +162,7 @@ impl WorkRef {
     }
 
     /// Whether it is the same test under the same model, of the same files and versions.
-    #[tactic(auto, using(litmus_c::specs::Exact::litmus_exact, cat_model::specs::Equality::assembly_exact))]
+    #[tactic(auto, using(litmus_tree::specs::Exact::litmus_exact, cat_model::specs::Equality::assembly_exact))]
     pub fn same(&self, other: &WorkRef) -> bool
         ensures { IsTrue result ↔ (self.now ≡ other.now) }
     {

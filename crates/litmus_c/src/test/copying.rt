@@ -3,7 +3,7 @@
 ghost use Rattle.std.specs.Prelude.{◌≡◌, IfOk};
 
 use crate::test::Test;
-use crate::tree::Thread;
+use litmus_tree::Thread;
 use conditions::{Binding, Place};
 use std::alloc::{AllocError, Global};
 use wb_text::Name;

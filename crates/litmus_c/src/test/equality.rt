@@ -2,8 +2,8 @@
 
 ghost use Rattle.std.specs.Prelude.{◌≡◌, ◌↔◌, IsTrue};
 ghost use Rattle.std.specs.Cmp.{partial_equiv_from_equiv};
-ghost use Rattle.litmus_c.specs.Equality.{same_litmus};
-ghost use Rattle.litmus_c.specs.Exact.{litmus_equivalence};
+ghost use Rattle.litmus_tree.specs.Equality.{same_litmus};
+ghost use Rattle.litmus_tree.specs.Exact.{litmus_equivalence};
 
 use crate::test::Test;
 
@@ -12,7 +12,7 @@ impl PartialEq for Test {
 
     ghost laws = { partial_equiv_from_equiv litmus_equivalence };
 
-    #[tactic(auto, using(crate::specs::Exact::litmus_exact))]
+    #[tactic(auto, using(litmus_tree::specs::Exact::litmus_exact))]
     fn eq(&self, other: &Test) -> bool
         ensures value { result ≡ same_litmus self.now other.now }
         ensures exact { IsTrue result ↔ (self.now ≡ other.now) }

@@ -1,6 +1,6 @@
 use Rattle.std.proofs.Common.{sym, subst}
 use Rattle.litmus_c.specs.Reads.{Reads}
-use Rattle.litmus_c.specs.Tree.{Litmus}
+use Rattle.litmus_tree.specs.Tree.{Litmus}
 use Rattle.bench.proofs.Answered.{test_refusal, cat_refusal, model_refusal, space_refusal}
 use Rattle.bench.proofs.one.judge.Goals as goal
 

@@ -1,6 +1,6 @@
 use Rattle.std.proofs.Common.{◌≤◌, ap, sym, subst, length}
 use Rattle.std.proofs.lemmas.Result.{err_from_is_err_and}
-use Rattle.litmus_c.specs.Tree.{steps_of}
+use Rattle.litmus_tree.specs.Tree.{steps_of}
 use Rattle.c11_threads.specs.Unrolled.{Setting}
 use Rattle.c11_threads.proofs.RunLists.{some_values}
 use Rattle.c11_threads.proofs.Whole.{unrolled, as_runs, all_listed, run_fault}

@@ -1,6 +1,7 @@
 use Rattle.std.proofs.Common.{◌≡◌, drop}
-use Rattle.litmus_c.specs.Rules.{with_names, steps_registers}
-use Rattle.litmus_c.specs.Tree.{steps_of}
+use Rattle.litmus_c.specs.Rules.{steps_registers}
+use Rattle.litmus_tree.specs.Names.{with_names}
+use Rattle.litmus_tree.specs.Tree.{steps_of}
 use Rattle.litmus_c.proofs.making.+noting.Given as goal
 
 -- what is left to note gives what all of it gives

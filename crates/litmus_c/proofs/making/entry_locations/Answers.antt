@@ -1,7 +1,8 @@
 use Rattle.std.proofs.Common.{◌≤◌, [], arith, ap, length}
 use Rattle.std.specs.List.{flat_map}
 use Rattle.std.proofs.lemmas.Result.{err_from_is_err_and}
-use Rattle.litmus_c.specs.Rules.{with_names, place_locations}
+use Rattle.litmus_c.specs.Rules.{place_locations}
+use Rattle.litmus_tree.specs.Names.{with_names}
 use Rattle.litmus_c.proofs.Names.{at_least, explained}
 use Rattle.litmus_c.proofs.making.entry_locations.Goals as goal
 

@@ -1,6 +1,7 @@
 use Rattle.std.proofs.Common.{◌≡◌, ◌≤◌, [], drop, length}
 use Rattle.std.specs.List.{flat_map}
-use Rattle.litmus_c.specs.Rules.{with_names, place_locations}
+use Rattle.litmus_c.specs.Rules.{place_locations}
+use Rattle.litmus_tree.specs.Names.{with_names}
 use Rattle.litmus_c.proofs.making.entry_locations.Given as goal
 
 -- what is left to note gives what all of it gives

@@ -1,6 +1,7 @@
 use Rattle.std.proofs.Common.{◌≡◌, [], drop}
 use Rattle.std.specs.List.{flat_map}
-use Rattle.litmus_c.specs.Rules.{with_names, place_registers}
+use Rattle.litmus_c.specs.Rules.{place_registers}
+use Rattle.litmus_tree.specs.Names.{with_names}
 use Rattle.litmus_c.proofs.making.entry_registers.Given as goal
 
 -- what is left to note gives what all of it gives

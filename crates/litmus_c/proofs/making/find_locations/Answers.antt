@@ -1,8 +1,9 @@
 use Rattle.std.proofs.Common.{◌≤◌, [], arith, ap, length, map}
 use Rattle.std.specs.List.{flat_map}
 use Rattle.std.proofs.lemmas.Result.{err_from_is_err_and}
-use Rattle.litmus_c.specs.Drafts.{listing_of}
-use Rattle.litmus_c.specs.Rules.{with_names, place_locations, parameter_names}
+use Rattle.litmus_syntax.specs.Drafts.{listing_of}
+use Rattle.litmus_c.specs.Rules.{place_locations, parameter_names}
+use Rattle.litmus_tree.specs.Names.{with_names}
 use Rattle.litmus_c.proofs.Names.{at_least_of, explained, first_longer}
 use Rattle.litmus_c.proofs.making.find_locations.Goals as goal
 

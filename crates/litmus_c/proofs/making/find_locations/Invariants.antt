@@ -1,7 +1,8 @@
 use Rattle.std.proofs.Common.{◌≡◌, ◌≤◌, [], drop, length, map}
 use Rattle.std.specs.List.{flat_map}
-use Rattle.litmus_c.specs.Drafts.{listing_of}
-use Rattle.litmus_c.specs.Rules.{with_names, place_locations, parameter_names}
+use Rattle.litmus_syntax.specs.Drafts.{listing_of}
+use Rattle.litmus_c.specs.Rules.{place_locations, parameter_names}
+use Rattle.litmus_tree.specs.Names.{with_names}
 use Rattle.litmus_c.proofs.making.find_locations.Given as goal
 
 -- what is left to note gives what all of it gives

@@ -1,9 +1,10 @@
 use Rattle.std.proofs.Common.{◌≡◌, ◌≤◌, ◌<◌, List, [], arith, ap, ◌∙◌, length, map, rules}
 use Rattle.std.specs.List.{flat_map}
 use Rattle.conditions.specs.declared.place.Binding.{Binding}
-use Rattle.litmus_c.specs.declared.draft.Body.{Body}
-use Rattle.litmus_c.specs.Drafts.{listing_of, written_of}
-use Rattle.litmus_c.specs.Rules.{lasting, with_names, place_locations, parameter_names, locations_of, programs_of}
+use Rattle.litmus_syntax.specs.declared.draft.Body.{Body}
+use Rattle.litmus_syntax.specs.Drafts.{listing_of, written_of}
+use Rattle.litmus_c.specs.Rules.{lasting, place_locations, parameter_names, locations_of, programs_of}
+use Rattle.litmus_tree.specs.Names.{with_names}
 use Rattle.std.proofs.lemmas.Result.{err_from_is_err_and}
 use Rattle.litmus_c.proofs.Kept.{kept_rules, made_test, names_cause}
 use Rattle.litmus_c.proofs.Names.{programs_len, map_len}

@@ -1,5 +1,5 @@
 use Rattle.std.proofs.Common.{◌≡◌, map}
-use Rattle.litmus_c.specs.Drafts.{listing_of}
+use Rattle.litmus_syntax.specs.Drafts.{listing_of}
 use Rattle.litmus_c.specs.Rules.{programs_of}
 use Rattle.litmus_c.proofs.making.make_threads.Given as goal
 

@@ -1,6 +1,6 @@
 use Rattle.std.proofs.Common.{◌≡◌, drop, map}
-use Rattle.litmus_c.specs.Rules.{with_names}
-use Rattle.litmus_c.specs.Tree.{declared_of}
+use Rattle.litmus_tree.specs.Names.{with_names}
+use Rattle.litmus_tree.specs.Tree.{declared_of}
 use Rattle.litmus_c.proofs.making.note_declarators.Given as goal
 
 -- what is left to note gives what all of it gives

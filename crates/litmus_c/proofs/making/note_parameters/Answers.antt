@@ -1,6 +1,6 @@
 use Rattle.std.proofs.Common.{◌≤◌, arith, ap, length, map}
 use Rattle.std.proofs.lemmas.Result.{err_from_is_err_and}
-use Rattle.litmus_c.specs.Rules.{with_name, with_names}
+use Rattle.litmus_tree.specs.Names.{with_name, with_names}
 use Rattle.litmus_c.proofs.Names.{at_least_with, explained}
 use Rattle.litmus_c.proofs.making.note_parameters.Goals as goal
 

@@ -1,5 +1,5 @@
 use Rattle.std.proofs.Common.{◌≡◌, ◌≤◌, drop, length, map}
-use Rattle.litmus_c.specs.Rules.{with_names}
+use Rattle.litmus_tree.specs.Names.{with_names}
 use Rattle.litmus_c.proofs.making.note_parameters.Given as goal
 
 -- what is left to note gives what all of it gives

@@ -1,5 +1,5 @@
 use Rattle.std.proofs.lemmas.Result.{err_from_is_err_and}
-use Rattle.litmus_c.specs.Drafts.{written_of}
+use Rattle.litmus_syntax.specs.Drafts.{written_of}
 use Rattle.litmus_c.proofs.Found.{test_found, test_only, unwritten_cause, rule_cause}
 use Rattle.litmus_c.proofs.reading.read_test.Goals as goal
 

@@ -1,13 +1,13 @@
 use Rattle.std.proofs.Common.{◌≡◌, List, length, sym, ap, ◌∙◌}
 use Rattle.std.proofs.lemmas.Result.{err_from_is_err_and}
 use Rattle.wb_text.specs.declared.token.Token.{Token}
-use Rattle.litmus_c.specs.declared.symbol.Symbol.{Symbol}
-use Rattle.litmus_c.specs.Drafts.{written_of}
-use Rattle.litmus_c.specs.Reading.{text_refusal}
-use Rattle.litmus_c.specs.Symbols.{symbols_of}
-use Rattle.litmus_c.proofs.Found.{written_in, read_of, no_fault, read_same, text_cause, draft_cause}
-use Rattle.litmus_c.proofs.Spelled.{symbols_len}
+use Rattle.litmus_c.specs.Reads.{text_refusal}
+use Rattle.litmus_c.proofs.Found.{written_in, spelled_of, text_cause, draft_cause}
 use Rattle.litmus_c.proofs.reading.read_text.Goals as goal
+use Rattle.litmus_syntax.specs.declared.symbol.Symbol.{Symbol}
+use Rattle.litmus_syntax.specs.Drafts.{written_of}
+use Rattle.litmus_syntax.specs.Symbols.{symbols_of}
+use Rattle.litmus_syntax.proofs.Spelled.{symbols_len}
 
 pub returns-in_err-tokens-clause-only : goal.returns-in_err-tokens-clause-only
 returns-in_err-tokens-clause-only c = λ w d.
@@ -20,22 +20,20 @@ returns-in_err-draft-clause-only c = λ w d.
     let f : List Token → List Symbol = λ l. symbols_of c.args.text.now l in
     let is : c.as_slice-3.result.now ≡ f c.in_ok-tokens.tokens.items = c.as_slice-3.ensures.value ∙ c.in_ok-symbols.ensures ∙ ap f c.as_slice.ensures.value in
     let same : c.in_ok-tokens.tokens.items ≡ d.tokens = c.in_ok-tokens.ensures.only d.tokens d.is_list in
-    rw (p.1, p.2) (no_fault c.in_err-draft.field-0.0 w c.as_slice-3.result.now c.in_err-draft.ensures
-    (read_of c.args.text.now c.in_ok-tokens.tokens.items c.as_slice-3.result.now w is d same))
+    rw (p.1, p.2) (c.in_err-draft.ensures.only w (spelled_of c.args.text.now c.in_ok-tokens.tokens.items c.as_slice-3.result.now w is d same))
 
 pub returns-clause-found : goal.returns-clause-found
 returns-clause-found c =
     let f : List Token → List Symbol = λ l. symbols_of c.args.text.now l in
     let is : c.as_slice-3.result.now ≡ f c.in_ok-tokens.tokens.items = c.as_slice-3.ensures.value ∙ c.in_ok-symbols.ensures ∙ ap f c.as_slice.ensures.value in
-    written_in c.args.text.now c.in_ok-tokens.tokens.items c.as_slice-3.result.now (written_of c.in_ok-draft.draft) c.in_ok-tokens.ensures.found is c.in_ok-draft.ensures
+    written_in c.args.text.now c.in_ok-tokens.tokens.items c.as_slice-3.result.now (written_of c.in_ok-draft.draft) c.in_ok-tokens.ensures.found is c.in_ok-draft.ensures.found
 
 pub returns-clause-only : goal.returns-clause-only
 returns-clause-only c = λ w d.
     let f : List Token → List Symbol = λ l. symbols_of c.args.text.now l in
     let is : c.as_slice-3.result.now ≡ f c.in_ok-tokens.tokens.items = c.as_slice-3.ensures.value ∙ c.in_ok-symbols.ensures ∙ ap f c.as_slice.ensures.value in
     let same : c.in_ok-tokens.tokens.items ≡ d.tokens = c.in_ok-tokens.ensures.only d.tokens d.is_list in
-    read_same (written_of c.in_ok-draft.draft) w c.as_slice-3.result.now c.in_ok-draft.ensures
-    (read_of c.args.text.now c.in_ok-tokens.tokens.items c.as_slice-3.result.now w is d same)
+    c.in_ok-draft.ensures.only w (spelled_of c.args.text.now c.in_ok-tokens.tokens.items c.as_slice-3.result.now w is d same)
 
 pub returns-in_err-tokens-clause-cause : goal.returns-in_err-tokens-clause-cause
 returns-in_err-tokens-clause-cause c =
@@ -47,7 +45,7 @@ returns-in_err-draft-clause-cause c =
     let p = err_from_is_err_and c.from_residual-in_err-draft.result c.from_residual-in_err-draft.ensures.1 in
     let f : List Token → List Symbol = λ l. symbols_of c.args.text.now l in
     let is : c.as_slice-3.result.now ≡ f c.in_ok-tokens.tokens.items = c.as_slice-3.ensures.value ∙ c.in_ok-symbols.ensures ∙ ap f c.as_slice.ensures.value in
-    rw (p.1, p.2) (draft_cause c.args.text.now c.in_ok-tokens.tokens.items c.as_slice-3.result.now c.in_err-draft.field-0.0 c.in_ok-tokens.ensures.found is c.in_ok-tokens.ensures.only c.in_err-draft.ensures)
+    rw (p.1, p.2) (draft_cause c.args.text.now c.in_ok-tokens.tokens.items c.as_slice-3.result.now c.in_ok-tokens.ensures.found is c.in_ok-tokens.ensures.only c.in_err-draft.field-0.0 c.in_err-draft.ensures.cause)
 
 pub draft_of-requires : goal.draft_of-requires
 draft_of-requires c =

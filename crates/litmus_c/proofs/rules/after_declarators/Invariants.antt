@@ -1,6 +1,6 @@
 use Rattle.std.proofs.Common.{◌≡◌, ◌+◌, take, map, sum_by}
 use Rattle.litmus_c.specs.Limits.{optional_events}
-use Rattle.litmus_c.specs.Tree.{declared_of}
+use Rattle.litmus_tree.specs.Tree.{declared_of}
 use Rattle.litmus_c.proofs.rules.after_declarators.Given as goal
 
 abbrev pub invariant-loop-declarator : goal.invariant-loop-declarator

@@ -1,6 +1,6 @@
 use Rattle.std.proofs.Common.{◌≡◌, arith, ap, sym, ◌∙◌, length, drop, ◌+◌}
 use Rattle.std.proofs.lemmas.Result.{err_from_is_err_and}
-use Rattle.litmus_c.specs.Tree.{term_of, step_of, steps_of}
+use Rattle.litmus_tree.specs.Tree.{term_of, step_of, steps_of}
 use Rattle.litmus_c.specs.Values.{term_constants, step_constants, steps_constants, with_values}
 use Rattle.litmus_c.proofs.Distinct.{next_steps, at_least_steps, branch_only_first, branch_else_first, branch_else_second}
 use Rattle.litmus_c.proofs.values.+constants.Goals as goal

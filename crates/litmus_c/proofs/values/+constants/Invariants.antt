@@ -1,5 +1,5 @@
 use Rattle.std.proofs.Common.{◌≡◌, ◌≤◌, drop, length}
-use Rattle.litmus_c.specs.Tree.{steps_of}
+use Rattle.litmus_tree.specs.Tree.{steps_of}
 use Rattle.litmus_c.specs.Values.{steps_constants, with_values}
 use Rattle.litmus_c.proofs.values.+constants.Given as goal
 

@@ -1,7 +1,7 @@
 use Rattle.std.proofs.Common.{arith, ap, length, sym, ◌∙◌, drop, map, ◌+◌}
 use Rattle.std.specs.List.{flat_map}
 use Rattle.std.proofs.lemmas.Result.{err_from_is_err_and}
-use Rattle.litmus_c.specs.Tree.{declared_of}
+use Rattle.litmus_tree.specs.Tree.{declared_of}
 use Rattle.litmus_c.specs.Values.{optional_constants, with_values}
 use Rattle.litmus_c.proofs.Distinct.{next_of, at_least_of}
 use Rattle.litmus_c.proofs.values.add_declarators.Goals as goal

@@ -1,6 +1,6 @@
 use Rattle.std.proofs.Common.{◌≡◌, ◌≤◌, map, drop, length}
 use Rattle.std.specs.List.{flat_map}
-use Rattle.litmus_c.specs.Tree.{declared_of}
+use Rattle.litmus_tree.specs.Tree.{declared_of}
 use Rattle.litmus_c.specs.Values.{optional_constants, with_values}
 use Rattle.litmus_c.proofs.values.add_declarators.Given as goal
 

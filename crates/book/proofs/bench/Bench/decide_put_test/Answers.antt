@@ -1,6 +1,6 @@
 use Rattle.std.proofs.Common.{◌≡◌, ℕ, List, subst}
 use Rattle.litmus_c.specs.Reads.{Reads, IsRefused}
-use Rattle.litmus_c.specs.Tree.{Litmus}
+use Rattle.litmus_tree.specs.Tree.{Litmus}
 use Rattle.litmus_c.specs.declared.fault.TestFault.TheVariants.{NoMemory}
 use Rattle.book.proofs.Steps.{test_unread}
 use Rattle.book.proofs.bench.Bench.decide_put_test.Goals as goal

@@ -2,7 +2,7 @@ use Rattle.std.proofs.Common.{◌≡◌, ◌∷◌, ◌∙◌, ◌-◌, ◌≤�
 use Rattle.std.specs.List.{flat_map}
 use Rattle.std.specs.Vec.Iter.{into_iter_items}
 use Rattle.std.proofs.lemmas.Result.{err_from_is_err_and}
-use Rattle.litmus_c.specs.Tree.{step_of}
+use Rattle.litmus_tree.specs.Tree.{step_of}
 use Rattle.c11_threads.specs.Unrolled.{step_runs}
 use Rattle.c11_threads.specs.Faults.{IsFaultAt}
 use Rattle.c11_threads.proofs.Turns.{Ways, some_step, way_fault, further, turned, turn_fault, after_empty, in_block}

@@ -1,6 +1,6 @@
 use Rattle.std.proofs.Common.{◌≡◌, ◌≤◌, drop, length, map}
 use Rattle.std.specs.List.{flat_map}
-use Rattle.litmus_c.specs.Tree.{declared_of}
+use Rattle.litmus_tree.specs.Tree.{declared_of}
 use Rattle.c11_threads.specs.Unrolled.{declares_runs}
 use Rattle.c11_threads.proofs.unroll.Setting.declare_all.Given as goal
 

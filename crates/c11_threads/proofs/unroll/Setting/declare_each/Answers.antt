@@ -1,7 +1,7 @@
 use Rattle.std.proofs.Common.{◌≡◌, ◌∷◌, ◌-◌, length, ap, arith}
 use Rattle.std.specs.Vec.Iter.{into_iter_items}
 use Rattle.std.proofs.lemmas.Result.{err_from_is_err_and}
-use Rattle.litmus_c.specs.Tree.{declared_of}
+use Rattle.litmus_tree.specs.Tree.{declared_of}
 use Rattle.c11_threads.specs.Unrolled.{declare_runs}
 use Rattle.c11_threads.proofs.Turns.{some_declare, way_fault}
 use Rattle.c11_threads.proofs.unroll.Setting.declare_each.Goals as goal

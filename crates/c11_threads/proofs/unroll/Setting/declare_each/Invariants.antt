@@ -1,7 +1,7 @@
 use Rattle.std.proofs.Common.{◌≡◌, ◌++◌, ◌+◌, ◌≤◌, length}
 use Rattle.std.specs.List.{flat_map}
 use Rattle.std.specs.Vec.Iter.{into_iter_items, into_iter_len}
-use Rattle.litmus_c.specs.Tree.{declared_of}
+use Rattle.litmus_tree.specs.Tree.{declared_of}
 use Rattle.c11_threads.specs.Unrolled.{declare_runs}
 use Rattle.c11_threads.proofs.unroll.Setting.declare_each.Given as goal
 

@@ -1,6 +1,6 @@
 use Rattle.std.proofs.Common.{◌≡◌, drop}
 use Rattle.litmus_c.specs.Rules.{steps_keep}
-use Rattle.litmus_c.specs.Tree.{steps_of}
+use Rattle.litmus_tree.specs.Tree.{steps_of}
 use Rattle.litmus_c.proofs.rules.Scope.+keeping.Given as goal
 
 -- what is left to try decides of all

@@ -1,5 +1,5 @@
 use Rattle.std.proofs.Common.{subst}
-use Rattle.litmus_c.specs.Tree.{Litmus}
+use Rattle.litmus_tree.specs.Tree.{Litmus}
 use Rattle.candidates.specs.Faults.{IsSpaceFault}
 use Rattle.book.proofs.Counted.{admitted}
 use Rattle.book.proofs.slices.work.Work.new.Goals as goal

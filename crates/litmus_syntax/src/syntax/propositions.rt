@@ -1,0 +1,135 @@
+//! Conditions.
+
+ghost use Rattle.std.specs.Prelude.{◌≡◌, Some, None, MatchBool};
+ghost use Rattle.conditions.specs.Conditions.{formula_of};
+ghost use Rattle.litmus_syntax.specs.Reading.{Gives, equation_at, denial, plain_atomic_at, denied_with, enclosed_with, atomic_with, conjunction_with, or_with, proposition_with, propositions_below, kind_of_at, condition_at};
+
+use crate::symbol::Terminal;
+use crate::syntax::Reader;
+use crate::syntax_fault::SyntaxFault;
+use conditions::{Cond, Kind, Prop};
+
+impl<'a> Reader<'a> {
+    /// place "=" number
+    #[tactic(auto, unfolding(crate::specs::Reading::equation_at))]
+    fn equation(&mut self) -> Result<Prop, SyntaxFault>
+        ensures { Gives formula_of result self.new.rest.now (equation_at self.old.rest.now) }
+    {
+        let place = self.place()?;
+        self.expect(Terminal::Assign)?;
+        Ok(Prop::Equals(place, self.number()?))
+    }
+
+    /// Takes "~" or "not".
+    #[tactic(auto, unfolding(crate::specs::Reading::denial))]
+    fn take_denial(&mut self) -> bool
+        ensures { MatchBool result (denial self.old.rest.now ≡ Some (tt, self.new.rest.now)) ((denial self.old.rest.now ≡ None) × (self.new.rest.now ≡ self.old.rest.now)) }
+    {
+        if self.take(Terminal::Tilde) {
+            return true;
+        }
+        self.take(Terminal::Not)
+    }
+
+    /// "true" | "false" | place "=" number
+    #[tactic(auto, unfolding(crate::specs::Reading::plain_atomic_at))]
+    fn plain_atomic(&mut self) -> Result<Prop, SyntaxFault>
+        ensures { Gives formula_of result self.new.rest.now (plain_atomic_at self.old.rest.now) }
+    {
+        if self.take(Terminal::True) {
+            return Ok(Prop::True);
+        }
+        if self.take(Terminal::False) {
+            return Ok(Prop::False);
+        }
+        self.equation()
+    }
+
+    /// atomic := ("~" | "not") atomic | "(" proposition ")" | "true" | "false" | place "=" number
+    #[cycle(propositions)]
+    #[tactic(auto, unfolding(crate::specs::Reading::atomic_with, crate::specs::Reading::denied_with, crate::specs::Reading::enclosed_with, crate::specs::Reading::propositions_below))]
+    fn atomic(&mut self, nesting: u32) -> Result<Prop, SyntaxFault>
+        ensures { Gives formula_of result self.new.rest.now (atomic_with (propositions_below nesting) self.old.rest.now) }
+    {
+        if self.take_denial() {
+            let nesting = self.deeper(nesting)?;
+            let denied = self.atomic(nesting)?;
+            return Ok(Prop::Not(Box::new(self.alloc, denied)?));
+        }
+        if !self.take(Terminal::LeftParen) {
+            return self.plain_atomic();
+        }
+        let nesting = self.deeper(nesting)?;
+        let inner = self.proposition(nesting)?;
+        self.expect(Terminal::RightParen)?;
+        Ok(inner)
+    }
+
+    /// conjunction := atomic {"/\" atomic}
+    #[cycle(propositions)]
+    #[tactic(auto, unfolding(crate::specs::Reading::conjunction_with), using(crate::proofs::Propositions::conjunction_turn, crate::proofs::Propositions::atomic_takes, crate::proofs::Symbols::after_takes))]
+    fn conjunction(&mut self, nesting: u32) -> Result<Prop, SyntaxFault>
+        ensures { Gives formula_of result self.new.rest.now (conjunction_with (propositions_below nesting) self.old.rest.now) }
+    {
+        let mut left = self.atomic(nesting)?;
+        while self.take(Terminal::And) {
+            let right = self.atomic(nesting)?;
+            left = Prop::And(Box::new(self.alloc, left)?, Box::new(self.alloc, right)?);
+        }
+        Ok(left)
+    }
+
+    /// or := conjunction {"\/" conjunction}
+    #[cycle(propositions)]
+    #[tactic(auto, unfolding(crate::specs::Reading::or_with), using(crate::proofs::Propositions::or_turn, crate::proofs::Propositions::conjunction_takes, crate::proofs::Symbols::after_takes))]
+    fn disjunction(&mut self, nesting: u32) -> Result<Prop, SyntaxFault>
+        ensures { Gives formula_of result self.new.rest.now (or_with (propositions_below nesting) self.old.rest.now) }
+    {
+        let mut left = self.conjunction(nesting)?;
+        while self.take(Terminal::Or) {
+            let right = self.conjunction(nesting)?;
+            left = Prop::Or(Box::new(self.alloc, left)?, Box::new(self.alloc, right)?);
+        }
+        Ok(left)
+    }
+
+    /// proposition := or ["=>" proposition]
+    #[cycle(propositions)]
+    #[tactic(auto, unfolding(crate::specs::Reading::proposition_with, crate::specs::Reading::propositions_below))]
+    fn proposition(&mut self, nesting: u32) -> Result<Prop, SyntaxFault>
+        ensures { Gives formula_of result self.new.rest.now (proposition_with (propositions_below nesting) self.old.rest.now) }
+    {
+        let left = self.disjunction(nesting)?;
+        if !self.take(Terminal::Arrow) {
+            return Ok(left);
+        }
+        let nesting = self.deeper(nesting)?;
+        let right = self.proposition(nesting)?;
+        Ok(Prop::Implies(Box::new(self.alloc, left)?, Box::new(self.alloc, right)?))
+    }
+
+    /// kind := "exists" | ("~" | "not") "exists" | "forall"
+    #[tactic(auto, unfolding(crate::specs::Reading::kind_of_at))]
+    fn kind_of(&mut self) -> Result<Kind, SyntaxFault>
+        ensures { Gives (λ k. k) result self.new.rest.now (kind_of_at self.old.rest.now) }
+    {
+        if self.take(Terminal::Forall) {
+            return Ok(Kind::Forall);
+        }
+        if self.take_denial() {
+            self.expect(Terminal::Exists)?;
+            return Ok(Kind::NotExists);
+        }
+        self.expect(Terminal::Exists)?;
+        Ok(Kind::Exists)
+    }
+
+    /// condition := kind proposition
+    #[tactic(auto, unfolding(crate::specs::Reading::condition_at))]
+    pub(super) fn condition(&mut self, nesting: u32) -> Result<Cond, SyntaxFault>
+        ensures { Gives (λ c. c) result self.new.rest.now (condition_at nesting self.old.rest.now) }
+    {
+        let kind = self.kind_of()?;
+        Ok(Cond::new(kind, self.proposition(nesting)?))
+    }
+}

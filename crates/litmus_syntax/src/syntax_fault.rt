@@ -1,0 +1,37 @@
+//! Why symbols are no test.
+
+ghost use Rattle.std.specs.Prelude.{◌≡◌};
+
+use std::alloc::{AllocError, AllocFailed};
+
+/// Why the grammar has no test of these symbols.
+#[derive(Clone, Copy, Debug, Drop, PartialEq, Eq)]
+pub enum SyntaxFault {
+    /// The offset of the first token that the grammar doesn't take, or the text's length where more is wanted.
+    Syntax(usize),
+    /// A call with an order that it doesn't take.
+    BadOrder,
+    /// Something nests more than `NESTING` deep.
+    TooDeep,
+    NoMemory,
+}
+
+impl From<AllocError> for SyntaxFault {
+    ghost use Rattle.litmus_syntax.specs.declared.syntax_fault.SyntaxFault.TheVariants.{NoMemory};
+
+    ghost from_gives = { λ _ e. e ≡ NoMemory };
+
+    fn from(_error: AllocError) -> Self {
+        SyntaxFault::NoMemory
+    }
+}
+
+impl<T: Drop> From<AllocFailed<T>> for SyntaxFault {
+    ghost use Rattle.litmus_syntax.specs.declared.syntax_fault.SyntaxFault.TheVariants.{NoMemory};
+
+    ghost from_gives = { λ _ e. e ≡ NoMemory };
+
+    fn from(_error: AllocFailed<T>) -> Self {
+        SyntaxFault::NoMemory
+    }
+}

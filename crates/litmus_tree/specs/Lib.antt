@@ -1,0 +1,5 @@
+pub mod Codes
+pub mod Equality
+pub mod Exact
+pub mod Names
+pub mod Tree

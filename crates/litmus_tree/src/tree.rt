@@ -1,0 +1,149 @@
+//! The tree of a thread.
+
+ghost use Rattle.std.specs.Prelude.{◌≡◌};
+ghost use Rattle.litmus_tree.specs.Names.{is_one_of};
+ghost use Rattle.litmus_tree.specs.Tree.{steps_of};
+
+mod copying;
+mod equality;
+
+use events::Order;
+use indexmap::IndexSet;
+use std::marker::Model;
+use wb_text::Name;
+
+/// How a parameter's type lets its location be accessed.
+#[derive(Clone, Copy, Debug, PartialEq, Eq)]
+pub enum LocationKind {
+    /// `atomic_int*`: by atomic calls alone.
+    Atomic,
+    /// `int*`: by plain reads and writes alone.
+    Plain,
+}
+
+/// A parameter, which names its location.
+#[derive(Drop)]
+pub struct Parameter {
+    pub name: Name,
+    pub kind: LocationKind,
+}
+
+/// An expression. Each operator gives 0 or 1.
+#[derive(Drop)]
+pub enum Expression {
+    Number(u32),
+    /// The value that a register holds.
+    Register(Name),
+    Not(Box<Expression>),
+    Equal(Box<Expression>, Box<Expression>),
+    Unequal(Box<Expression>, Box<Expression>),
+    And(Box<Expression>, Box<Expression>),
+    Or(Box<Expression>, Box<Expression>),
+}
+
+/// A call of an atomic operation: the location first, the order last. A short form, as `atomic_load(x)`, is
+/// the explicit one with `memory_order_seq_cst`.
+#[derive(Drop)]
+pub enum Call {
+    Load(Name, Order),
+    Store(Name, Expression, Order),
+    Exchange(Name, Expression, Order),
+    Fence(Order),
+}
+
+/// What a register is given.
+#[derive(Drop)]
+pub enum RightSide {
+    /// The value of an expression.
+    Value(Expression),
+    /// A plain read of a location.
+    Read(Name),
+    /// The value of a call that has one: a load, or an exchange.
+    Call(Call),
+}
+
+/// A register that is declared. Without a value it gets 0.
+#[derive(Drop)]
+pub struct Declarator {
+    pub register: Name,
+    pub value: Option<RightSide>,
+}
+
+/// A statement.
+#[derive(Drop)]
+pub enum Statement {
+    Empty,
+    Block(Vec<Statement>),
+    Declare(Vec<Declarator>),
+    Assign(Name, RightSide),
+    /// A plain write to a location.
+    Write(Name, Expression),
+    /// A call whose value, if it has one, is dropped.
+    Perform(Call),
+    /// A test, the statement where it isn't 0, and the one behind `else`.
+    If(Expression, Box<Statement>, Option<Box<Statement>>),
+}
+
+/// A thread. Contracts see its program.
+#[derive(Drop)]
+pub struct Thread {
+    parameters: Vec<Parameter>,
+    statements: Vec<Statement>,
+    registers: IndexSet<Name>,
+}
+
+impl Model for Thread {
+    ghost use Rattle.litmus_tree.specs.Codes.{coded_program};
+    ghost use Rattle.litmus_tree.specs.Tree.{Program, steps_of};
+
+    ghost Value = { Program };
+
+    ghost coded = { coded_program };
+
+    ghost view = { λ t. record { parameters = t.parameters.items; steps = steps_of t.statements.items; registers = t.registers.keys } };
+}
+
+impl Thread {
+    /// A thread of these parts.
+    pub fn new(
+        parameters: Vec<Parameter>,
+        statements: Vec<Statement>,
+        registers: IndexSet<Name>,
+    ) -> Self
+        ensures { result ≡ record { parameters = parameters.items; steps = steps_of statements.items; registers = registers.keys } }
+    {
+        Thread {
+            parameters,
+            statements,
+            registers,
+        }
+    }
+
+    /// The parameters, in order.
+    pub fn parameters(&self) -> &[Parameter]
+        ensures { result.now ≡ self.now.parameters }
+    {
+        &self.parameters
+    }
+
+    /// The statements, in order.
+    pub fn statements(&self) -> &[Statement]
+        ensures { steps_of result.now ≡ self.now.steps }
+    {
+        &self.statements
+    }
+
+    /// All its registers: those of the initial state, and then those that it declares or assigns, once each.
+    pub fn registers(&self) -> &[Name]
+        ensures { result.now ≡ self.now.registers }
+    {
+        self.registers.as_slice()
+    }
+
+    /// Whether this is one of its registers. It looks at no list of them.
+    pub fn has_register(&self, name: &Name) -> bool
+        ensures { result ≡ is_one_of self.now.registers name.now }
+    {
+        self.registers.contains(name)
+    }
+}
