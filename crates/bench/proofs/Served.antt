@@ -10,7 +10,7 @@ use Rattle.book.specs.Lines.{Line}
 use Rattle.book.specs.Step.{Legal}
 use Rattle.book.specs.Workbench.{empty}
 use Rattle.book.specs.declared.limits.Limits.{Limits}
-use Rattle.book.proofs.Written.{front_of}
+use Rattle.report.proofs.Written.{front_of}
 use Rattle.bench.specs.Serving.{Call, answer_text, entry_of, calls_text, entries_of, finish_text, bad_line_text, Closes, Tells, IsServed}
 use Rattle.bench.specs.declared.fault.ServeFault.{ServeFault}
 use Rattle.bench.specs.declared.fault.ServeFault.TheVariants as faults

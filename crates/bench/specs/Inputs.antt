@@ -12,10 +12,10 @@ use Rattle.cat_model.specs.declared.files.Entry.{Entry}
 use Rattle.candidates.specs.Faults.{IsSpaceFault}
 use Rattle.bench.specs.declared.one.OneFault.{OneFault}
 use Rattle.bench.specs.declared.one.OneFault.TheVariants.{Read, Test, Cat, Model, Space, Write, NoMemory}
-use Rattle.book.specs.Outcomes.{Outcome}
+use Rattle.slices.specs.Outcomes.{Outcome}
 use Rattle.book.specs.Step.{IsModelOf}
-use Rattle.book.specs.Verdicts.{IsVerdict}
-use Rattle.book.specs.Texts.{Text}
+use Rattle.slices.specs.Verdicts.{IsVerdict}
+use Rattle.report.specs.Texts.{Text}
 
 -- what is read of an input: at most one byte more than a text may have
 abbrev pub text_of : List ℕ → List ℕ

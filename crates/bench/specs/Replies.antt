@@ -3,9 +3,9 @@ use Rattle.std.specs.Prelude.{ℕ, List, ◌++◌, codes, decimal}
 use Rattle.std.specs.List.{flat_map}
 use Rattle.cat_model.specs.declared.model.FileVersion.{FileVersion}
 use Rattle.litmus_tree.specs.Tree.{Word}
-use Rattle.book.specs.Judgements.{Judged}
-use Rattle.book.specs.Parts.{Portion}
-use Rattle.book.specs.Texts as summaries
+use Rattle.slices.specs.Judgements.{Judged}
+use Rattle.slices.specs.Parts.{Portion}
+use Rattle.report.specs.Texts as summaries
 use Rattle.book.specs.declared.records.Reply.{Reply}
 use Rattle.book.specs.declared.records.Reply.TheVariants.{Version, Job, Pending, Verdict, Piece, Nothing, Taken, Refused}
 use Rattle.bench.specs.Refusals.{refusal_text}

@@ -6,8 +6,8 @@ ghost use Rattle.wb_text.specs.Memory.{LosesAtMost};
 ghost use Rattle.bench.specs.Inputs.{text_of, HasOutcome, Summarizes, SummarizesPartly, IsRefusal, IsFaultOf};
 
 use crate::main_file::model_of;
-use book::report::{WriteFault, write_summary};
-use book::slices::{TestRef, Verdict, Work, WorkRef};
+use report::{WriteFault, write_summary};
+use slices::{TestRef, Verdict, Work, WorkRef};
 use candidates::SpaceFault;
 use cat_model::ModelFault;
 use cat_syntax::{CatFault, read_cat};

@@ -1,7 +1,7 @@
 //! Bytes in several parts.
 
 ghost use Rattle.std.specs.List.{flat_map};
-ghost use Rattle.book.specs.Writing.{Writes};
+ghost use Rattle.report.specs.Writing.{Writes};
 
 use wb_text::{Failed, Sink, give_all};
 

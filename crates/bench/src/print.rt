@@ -2,15 +2,15 @@
 
 ghost use Rattle.std.specs.Prelude.{◌≡◌, ◌++◌, length, IfSome, codes, decimal};
 ghost use Rattle.std.specs.List.{flat_map};
-ghost use Rattle.book.specs.Writing.{Writes};
+ghost use Rattle.report.specs.Writing.{Writes};
 ghost use Rattle.bench.specs.Replies as texts;
 ghost use Rattle.bench.specs.Serving.{answer_text, finish_text, bad_line_text, not_taken_text};
 
 use crate::answer::Answer;
 use crate::parts::write_parts;
 use crate::refusal::write_refusal;
-use book::report::{WriteFault, write_summary};
-use book::slices::{Piece, Verdict};
+use report::{WriteFault, write_summary};
+use slices::{Piece, Verdict};
 use book::{Refused, Reply};
 use cat_model::FileVersion;
 use itoa::Buffer;

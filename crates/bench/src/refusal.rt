@@ -1,7 +1,7 @@
 //! The printed refusals of a book.
 
 ghost use Rattle.std.specs.Prelude.{◌≡◌};
-ghost use Rattle.book.specs.Writing.{Writes};
+ghost use Rattle.report.specs.Writing.{Writes};
 ghost use Rattle.bench.specs.Refusals as texts;
 
 use crate::parts::{write_bytes, write_parts};

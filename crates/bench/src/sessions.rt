@@ -9,7 +9,7 @@ ghost use Rattle.bench.specs.Serving.{entry_of};
 
 use crate::answer::{Answer, EntryRef};
 use crate::order::{Order, Request};
-use book::slices::{Piece, evaluate};
+use slices::{Piece, evaluate};
 use book::{Book, Command, Limits, Refused, Reply};
 use std::alloc::{AllocError, Global};
 

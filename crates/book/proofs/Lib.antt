@@ -1,12 +1,6 @@
-pub mod Bindings
-pub mod Counted
 pub mod Cuts
-pub mod Examples
 pub mod Readings
-pub mod Rows
 pub mod Runs
 pub mod Scenes
 pub mod Search
 pub mod Steps
-pub mod Whole
-pub mod Written

@@ -22,13 +22,13 @@ use Rattle.candidates.specs.declared.fault.SpaceFault.TheVariants as of_space
 use Rattle.book.specs.Changes.{FitsJob}
 use Rattle.book.specs.Jobs as jobs
 use Rattle.book.specs.Jobs.{Slice, done, is_done, marked}
-use Rattle.book.specs.Judgements.{Judged}
+use Rattle.slices.specs.Judgements.{Judged}
 use Rattle.book.specs.Lines.{returned}
-use Rattle.book.specs.Parts.{IsAdmitted, test_size, Part, Portion}
+use Rattle.slices.specs.Parts.{IsAdmitted, test_size, Part, Portion}
 use Rattle.book.specs.Step.{Step, Asks, IsModelOf, Polls, Returns, ReturnsTo, HasRange, IsOwn, ended, taken}
-use Rattle.book.specs.Verdicts.{IsVerdict}
+use Rattle.slices.specs.Verdicts.{IsVerdict}
 use Rattle.book.specs.Workbench.{Workbench, test_of, test_version, job_of, claim_of, replaced, is_free, free_among, has_free}
-use Rattle.book.specs.Works.{Task}
+use Rattle.slices.specs.Works.{Task}
 use Rattle.book.specs.declared.records.Live.{Live}
 use Rattle.book.specs.declared.records.Replacement.{Replacement}
 use Rattle.book.specs.declared.records.Refusal.TheVariants.{ReadingTest, ReadingCat, VersionsSpent, NoTest, Model, Space, JobsFull, NoJob, NoClaim, Replaced, Stranger, ClaimsSpent}

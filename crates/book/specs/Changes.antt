@@ -4,7 +4,7 @@ use Rattle.std.specs.Str.{bytes_eq}
 use Rattle.indexmap.specs.IndexMap.{insert_entry}
 use Rattle.cat_model.specs.Files.{version_of, store}
 use Rattle.book.specs.Jobs.{Job, IsSole}
-use Rattle.book.specs.Parts.{Part}
+use Rattle.slices.specs.Parts.{Part}
 use Rattle.book.specs.Step.{ended, taken}
 use Rattle.book.specs.Workbench.{Workbench, job_of}
 use Rattle.book.specs.declared.bench.Change.{Change}

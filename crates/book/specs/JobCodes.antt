@@ -1,9 +1,9 @@
 -- Codes of jobs and workbenches, by which the prover tells values apart. No contract rests on them.
 use Rattle.std.specs.Prelude.{refl, ℕ, Bool, List}
 use Rattle.std.specs.Coded.{Coded, code_by, coded×, coded_list, coded_ℕ, coded_bool}
-use Rattle.book.specs.Codes.{coded_task}
+use Rattle.slices.specs.Codes.{coded_task}
 use Rattle.book.specs.Jobs.{Slice, Job}
-use Rattle.book.specs.Works.{Task}
+use Rattle.slices.specs.Works.{Task}
 
 abbrev pub coded_slice : Coded Slice
 coded_slice = code_by (ℕ × (ℕ × Bool)) (coded× coded_ℕ (coded× coded_ℕ coded_bool)) (λ x. (x.from, (x.to, x.returned))) (λ p. record { from = p.0; to = p.1.0; returned = p.1.1 }) (λ _. refl)

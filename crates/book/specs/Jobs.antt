@@ -1,8 +1,8 @@
 -- Jobs.
 use Rattle.std.specs.Prelude.{◌≡◌, ℕ, zero, suc, Bool, true, List, [], ◌∷◌, count_by}
 use Rattle.std.specs.List.{list_all}
-use Rattle.book.specs.Parts.{Part, IsOver, test_size}
-use Rattle.book.specs.Works.{Task}
+use Rattle.slices.specs.Parts.{Part, IsOver, test_size}
+use Rattle.slices.specs.Works.{Task}
 
 -- A slice of a job: its numbers run from `from` to `to - 1`.
 pub record Slice : Type 0 where

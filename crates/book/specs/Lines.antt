@@ -1,6 +1,6 @@
 -- An entry of the journal, as contracts see it, and which replies go with which command.
 use Rattle.std.specs.Prelude.{ℕ, Bool, true, false}
-use Rattle.book.specs.Parts.{Part, Portion}
+use Rattle.slices.specs.Parts.{Part, Portion}
 use Rattle.book.specs.declared.records.Command.{Command}
 use Rattle.book.specs.declared.records.Command.TheVariants as commands
 use Rattle.book.specs.declared.records.Returned.{Returned}

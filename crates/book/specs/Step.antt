@@ -21,8 +21,8 @@ use Rattle.litmus_c.specs.declared.fault.TestFault.TheVariants as of_test
 use Rattle.candidates.specs.Faults.{IsSpaceFault}
 use Rattle.candidates.specs.declared.fault.SpaceFault.TheVariants as of_space
 use Rattle.book.specs.Lines.{Line}
-use Rattle.book.specs.Parts.{IsAdmitted, test_size}
-use Rattle.book.specs.Verdicts.{IsVerdict}
+use Rattle.slices.specs.Parts.{IsAdmitted, test_size}
+use Rattle.slices.specs.Verdicts.{IsVerdict}
 use Rattle.book.specs.Jobs as jobs
 use Rattle.book.specs.Jobs.{Slice, done, is_done}
 use Rattle.book.specs.Workbench.{Workbench, empty, test_version, test_of, job_of, claim_of, is_claim, replaced, is_free, any_free, marked_in}

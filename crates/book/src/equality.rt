@@ -4,13 +4,14 @@ ghost use Rattle.std.specs.Prelude.{◌≡◌, ◌↔◌, IsTrue};
 ghost use Rattle.std.specs.Str.{bytes_eq};
 ghost use Rattle.book.specs.EntryCodes.{coded_returned, coded_command, coded_said, coded_replacement, coded_refusal, coded_reply};
 ghost use Rattle.book.specs.LineCodes.{coded_line};
-ghost use Rattle.book.specs.Same.{same, same_equivalence, same_partial_equivalence};
+ghost use Rattle.slices.specs.Same.{same, same_equivalence, same_partial_equivalence};
 
 use crate::records::{Command, Entry, Refusal, Replacement, Reply, Returned, Said, Text};
 use candidates::SpaceFault;
 use cat_model::ModelFault;
 use cat_syntax::CatFault;
 use litmus_c::TestFault;
+use slices::{Piece, PieceResult, VerdictRef};
 
 impl PartialEq for Text {
     ghost use Rattle.std.proofs.Common.{rules};
@@ -189,7 +190,7 @@ impl Command {
             },
             Command::Claim => matches!(other, Command::Claim),
             Command::Return(part) => match other {
-                Command::Return(other) => part.is_same(other),
+                Command::Return(other) => PieceResult::eq(part, other),
                 _ => false,
             },
         }
@@ -304,11 +305,11 @@ impl Reply {
                 _ => false,
             },
             Reply::Verdict(part) => match other {
-                Reply::Verdict(other) => part.is_same(other),
+                Reply::Verdict(other) => VerdictRef::eq(part, other),
                 _ => false,
             },
             Reply::Piece(part) => match other {
-                Reply::Piece(other) => part.is_same(other),
+                Reply::Piece(other) => Piece::eq(part, other),
                 _ => false,
             },
             Reply::Nothing => matches!(other, Reply::Nothing),

@@ -1,12 +1,12 @@
 //! Jobs.
 
 ghost use Rattle.std.specs.Prelude.{◌≡◌, ◌↔◌, ◌∷◌, [], true, false, IfOk, IsTrue, slice_get};
-ghost use Rattle.book.specs.Parts.{IsRange, test_size};
+ghost use Rattle.slices.specs.Parts.{IsRange, test_size};
 ghost use Rattle.book.specs.Step.{HasRange};
-ghost use Rattle.book.specs.Verdicts.{IsVerdict};
+ghost use Rattle.slices.specs.Verdicts.{IsVerdict};
 ghost use Rattle.book.specs.Jobs.{HasOneSlice, IsSole, is_done, marked};
 
-use crate::slices::{Piece, PieceResult, Verdict, WorkRef};
+use slices::{Piece, PieceResult, Verdict, WorkRef};
 use std::alloc::AllocError;
 use std::marker::Model;
 
@@ -22,7 +22,7 @@ pub struct Job {
 
 impl Model for Job {
     ghost use Rattle.std.specs.Prelude.{◌∷◌, [], IfSome, is_some};
-    ghost use Rattle.book.specs.Parts.{test_size};
+    ghost use Rattle.slices.specs.Parts.{test_size};
     ghost use Rattle.book.specs.JobCodes.{coded_job};
     ghost use Rattle.book.specs.Jobs.{Job, IsSole};
 

@@ -1,4 +1,4 @@
-//! Evaluations of tests, their printed summaries, and the book of jobs.
+//! The book of jobs, with the journal of every call.
 #![tactic(auto)]
 
 mod bench;
@@ -9,8 +9,6 @@ mod limits;
 mod names;
 mod reading;
 mod records;
-pub mod report;
-pub mod slices;
 
 pub use bench::{Bench, Change, Plan};
 pub use jobs::Job;
@@ -20,6 +18,3 @@ pub use names::{TestSlot, Tests};
 pub use records::{
     Command, Entry, Live, Refusal, Replacement, Reply, Returned, Said, SourceKind, Text,
 };
-
-#[cfg(test)]
-mod tests;

@@ -4,7 +4,7 @@ ghost use Rattle.std.specs.Prelude.{◌≡◌, true, IfOk};
 ghost use Rattle.std.specs.Arc.{arc_value};
 ghost use Rattle.book.specs.Lines.{answers, seen, returned};
 
-use crate::slices::{Piece, PieceResult, VerdictRef, WorkRef};
+use slices::{Piece, PieceResult, VerdictRef, WorkRef};
 use candidates::SpaceFault;
 use cat_model::ModelFault;
 use cat_syntax::CatFault;

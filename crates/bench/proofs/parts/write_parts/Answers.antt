@@ -1,5 +1,5 @@
 use Rattle.std.proofs.Common.{[]}
-use Rattle.book.proofs.Written.{exit, flat_map-at}
+use Rattle.report.proofs.Written.{exit, flat_map-at}
 use Rattle.bench.proofs.parts.write_parts.Goals as goal
 
 pub returns-in_err-write_bytes : goal.returns-in_err-write_bytes

@@ -1,5 +1,5 @@
 use Rattle.bench.specs.Replies.{file_text}
-use Rattle.book.proofs.Written.{exit, flat_map-item}
+use Rattle.report.proofs.Written.{exit, flat_map-item}
 use Rattle.bench.proofs.print.write_files.Goals as goal
 
 pub returns-in_err-write_file : goal.returns-in_err-write_file

@@ -1,6 +1,6 @@
 use Rattle.std.proofs.Common.{[], refl}
 use Rattle.std.proofs.KnownBytes.{Appends-nil}
-use Rattle.book.proofs.Written.{exit, after}
+use Rattle.report.proofs.Written.{exit, after}
 use Rattle.bench.specs.Replies.{claim_text, range_text}
 use Rattle.bench.proofs.print.write_piece.Goals as goal
 

@@ -1,7 +1,7 @@
 use Rattle.std.proofs.Common.{◌≡◌, ℕ, List, [], ◌++◌, codes, append_assoc, refl}
 use Rattle.std.proofs.KnownBytes.{Appends-nil, Appends-trans}
 use Rattle.std.specs.List.{flat_map}
-use Rattle.book.proofs.Written.{exit, after}
+use Rattle.report.proofs.Written.{exit, after}
 use Rattle.bench.specs.Replies.{heading_text, file_text, outcome_text}
 use Rattle.bench.proofs.print.write_verdict.Goals as goal
 

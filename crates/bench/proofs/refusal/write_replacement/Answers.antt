@@ -1,5 +1,5 @@
 use Rattle.std.proofs.Common.{◌≡◌, ℕ, List, ◌++◌, codes, decimal, append_assoc, append-nil}
-use Rattle.book.proofs.Written.{same}
+use Rattle.report.proofs.Written.{same}
 use Rattle.bench.specs.Refusals.{kind_text}
 use Rattle.bench.proofs.refusal.write_replacement.Goals as goal
 

@@ -1,6 +1,6 @@
 use Rattle.std.proofs.Common.{[], refl, codes}
 use Rattle.std.proofs.KnownBytes.{Appends-nil}
-use Rattle.book.proofs.Written.{exit, after}
+use Rattle.report.proofs.Written.{exit, after}
 use Rattle.bench.specs.Refusals.{space_fault_text}
 use Rattle.bench.proofs.refusal.write_space.Goals as goal
 

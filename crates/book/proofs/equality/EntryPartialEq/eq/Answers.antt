@@ -1,5 +1,5 @@
 use Rattle.book.specs.LineCodes.{coded_line}
-use Rattle.book.specs.Same.{one_test}
+use Rattle.slices.specs.Same.{one_test}
 use Rattle.book.proofs.equality.EntryPartialEq.eq.Goals as goal
 
 pub returns-clause-value : goal.returns-clause-value

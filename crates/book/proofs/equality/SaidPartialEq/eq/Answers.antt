@@ -1,5 +1,5 @@
 use Rattle.book.specs.EntryCodes.{coded_said}
-use Rattle.book.specs.Same.{one_test}
+use Rattle.slices.specs.Same.{one_test}
 use Rattle.book.proofs.equality.SaidPartialEq.eq.Goals as goal
 
 pub returns-clause-value : goal.returns-clause-value

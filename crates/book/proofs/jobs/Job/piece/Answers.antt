@@ -1,8 +1,8 @@
 use Rattle.std.proofs.Common.{◌≡◌, ℕ, ◌∙◌, ap, refl, subst}
 use Rattle.std.specs.Prelude.{is_some}
 use Rattle.book.specs.Jobs.{Job, HasOneSlice}
-use Rattle.book.specs.Parts.{Portion, test_size}
-use Rattle.book.specs.Works.{Task}
+use Rattle.slices.specs.Parts.{Portion, test_size}
+use Rattle.slices.specs.Works.{Task}
 use Rattle.book.proofs.jobs.Job.piece.Goals as goal
 
 pub returns-clause-one : goal.returns-clause-one

@@ -1,6 +1,0 @@
-use Rattle.book.specs.Codes.{coded_outcome}
-use Rattle.book.specs.Same.{one_test}
-use Rattle.book.proofs.slices.equality.FindingPartialEq.eq.Goals as goal
-
-pub returns-clause-value : goal.returns-clause-value
-returns-clause-value c = one_test coded_outcome c.args.self.now c.args.other.now c.is_same.result c.is_same.ensures

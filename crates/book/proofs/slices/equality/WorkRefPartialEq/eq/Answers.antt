@@ -1,6 +1,0 @@
-use Rattle.book.specs.Codes.{coded_task}
-use Rattle.book.specs.Same.{one_test}
-use Rattle.book.proofs.slices.equality.WorkRefPartialEq.eq.Goals as goal
-
-pub returns-clause-value : goal.returns-clause-value
-returns-clause-value c = one_test coded_task c.args.self.now c.args.other.now c.same.result c.same.ensures

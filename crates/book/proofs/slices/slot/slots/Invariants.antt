@@ -1,6 +1,0 @@
-use Rattle.std.proofs.Common.{◌≡◌, map, take}
-use Rattle.book.specs.Slots.{slot_of}
-use Rattle.book.proofs.slices.slot.slots.Given as goal
-
-abbrev pub invariant-loop-place : goal.invariant-loop-place
-invariant-loop-place l = l.slots.items ≡ map (slot_of l.test) (take l.place-index l.places)

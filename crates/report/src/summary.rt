@@ -1,0 +1,348 @@
+//! The printed summary of a verdict.
+
+ghost use Rattle.std.specs.Prelude.{◌≡◌, ◌++◌, ◌∷◌, [], List, IfOk, OnErr, OnOk, true, length, codes, decimal, ◌||◌};
+ghost use Rattle.std.specs.Io.KnownBytes.{Appends};
+ghost use Rattle.std.specs.List.{flat_map};
+ghost use Rattle.conditions.specs.Conditions.{formula_of};
+ghost use Rattle.wb_text.specs.Memory.{AppendsFront};
+ghost use Rattle.report.specs.Writing.{Writes};
+ghost use Rattle.report.specs.Texts as texts;
+
+use slices::{Finding, Row, Verdict};
+use conditions::{Kind, Place, Prop};
+use itoa::Buffer;
+use thiserror::Error;
+use wb_text::{Failed, Name, Sink, give_all};
+
+/// Why a summary was not written whole.
+#[derive(Clone, Copy, Debug, Drop, PartialEq, Eq, Error)]
+pub enum WriteFault {
+    /// The writer failed.
+    #[error("95 Write")]
+    Write,
+}
+
+/// Writes the summary, or a front part of it where the writer fails. It takes no memory.
+pub fn write_summary<W: Sink>(verdict: &Verdict, writer: &mut W) -> Result<(), WriteFault>
+    ensures written { OnOk result (Appends (W.held writer.old) (W.held writer.new) (texts.Text verdict.now.outcome)) }
+    ensures part { OnErr result (AppendsFront (W.held writer.old) (W.held writer.new) (texts.Text verdict.now.outcome)) }
+    ensures marked { OnErr result (W.has_failed writer.new ≡ true) }
+{
+    match write_lines(verdict.finding(), writer) {
+        Ok(()) => Ok(()),
+        Err(Failed) => Err(WriteFault::Write),
+    }
+}
+
+fn write_lines<W: Sink>(finding: &Finding, writer: &mut W) -> Result<(), Failed>
+    ensures { Writes W.held W.has_failed writer.old writer.new result (texts.Text finding.now) }
+{
+    write_name(finding, writer)?;
+    write_count(finding, writer)?;
+    write_states(finding.places(), finding.states(), writer)?;
+    write_answer(finding, writer)?;
+    write_bytes(b"Witnesses\n", writer)?;
+    write_counts(finding, writer)?;
+    write_flags(finding.flags(), writer)?;
+    write_condition(finding, writer)?;
+    write_observation(finding, writer)
+}
+
+fn write_name<W: Sink>(finding: &Finding, writer: &mut W) -> Result<(), Failed>
+    ensures { Writes W.held W.has_failed writer.old writer.new result
+        (texts.name_line finding.now) }
+{
+    let kind = kind_text(finding.kind());
+    write_parts(
+        &[b"Test ", finding.name().bytes(), b" ", kind, b"\n"],
+        writer,
+    )
+}
+
+fn write_count<W: Sink>(finding: &Finding, writer: &mut W) -> Result<(), Failed>
+    ensures { Writes W.held W.has_failed writer.old writer.new result
+        (texts.count_line finding.now) }
+{
+    let mut count = Buffer::new();
+    let count = count.format(finding.states().len()).as_bytes();
+    write_parts(&[b"States ", count, b"\n"], writer)
+}
+
+fn write_states<W: Sink>(places: &[Place], states: &[Row], writer: &mut W) -> Result<(), Failed>
+    ensures { Writes W.held W.has_failed writer.old writer.new result
+        (flat_map (texts.state_line places.now) states.now) }
+{
+    for state in states {
+        write_state(places, state.values(), writer)?;
+    }
+    Ok(())
+}
+
+/// Writes the line of a state.
+fn write_state<W: Sink>(places: &[Place], values: &[u32], writer: &mut W) -> Result<(), Failed>
+    ensures { Writes W.held W.has_failed writer.old writer.new result
+        (texts.state_line places.now values.now) }
+{
+    let mut separator: &[u8] = b"";
+    for (place, value) in places.iter().zip(values) {
+        write_binding(separator, place, *value, writer)?;
+        separator = b" ";
+    }
+    write_bytes(b"\n", writer)
+}
+
+/// Writes a place and its value behind a separator.
+fn write_binding<W: Sink>(
+    separator: &[u8],
+    place: &Place,
+    value: u32,
+    writer: &mut W,
+) -> Result<(), Failed>
+    ensures { Writes W.held W.has_failed writer.old writer.new result
+        (separator.now ++ texts.binding_text (place.now, value)) }
+{
+    write_bytes(separator, writer)?;
+    write_atom(place, value, writer)?;
+    write_bytes(b";", writer)
+}
+
+fn write_answer<W: Sink>(finding: &Finding, writer: &mut W) -> Result<(), Failed>
+    ensures { Writes W.held W.has_failed writer.old writer.new result
+        (texts.answer_line finding.now) }
+{
+    write_bytes(if finding.ok() { b"Ok\n" } else { b"No\n" }, writer)
+}
+
+fn write_counts<W: Sink>(finding: &Finding, writer: &mut W) -> Result<(), Failed>
+    ensures { Writes W.held W.has_failed writer.old writer.new result
+        (texts.counts_line finding.now) }
+{
+    let mut positive = Buffer::new();
+    let positive = positive.format(finding.positive()).as_bytes();
+    let mut negative = Buffer::new();
+    let negative = negative.format(finding.negative()).as_bytes();
+    write_parts(
+        &[b"Positive: ", positive, b" Negative: ", negative, b"\n"],
+        writer,
+    )
+}
+
+fn write_flags<W: Sink>(flags: &[Name], writer: &mut W) -> Result<(), Failed>
+    ensures { Writes W.held W.has_failed writer.old writer.new result
+        (flat_map texts.flag_line flags.now) }
+{
+    for flag in flags {
+        write_flag(flag, writer)?;
+    }
+    Ok(())
+}
+
+fn write_flag<W: Sink>(flag: &Name, writer: &mut W) -> Result<(), Failed>
+    ensures { Writes W.held W.has_failed writer.old writer.new result (texts.flag_line flag.now) }
+{
+    write_parts(&[b"Flag ", flag.bytes(), b"\n"], writer)
+}
+
+fn write_condition<W: Sink>(finding: &Finding, writer: &mut W) -> Result<(), Failed>
+    ensures { Writes W.held W.has_failed writer.old writer.new result
+        (texts.condition_line finding.now) }
+{
+    write_parts(
+        &[b"Condition ", quantifier_text(finding.kind()), b" ("],
+        writer,
+    )?;
+    write_prop(finding.prop(), writer)?;
+    write_bytes(b")\n", writer)
+}
+
+fn write_observation<W: Sink>(finding: &Finding, writer: &mut W) -> Result<(), Failed>
+    ensures { Writes W.held W.has_failed writer.old writer.new result
+        (texts.observation_line finding.now) }
+{
+    let mut positive = Buffer::new();
+    let positive = positive.format(finding.positive()).as_bytes();
+    let mut negative = Buffer::new();
+    let negative = negative.format(finding.negative()).as_bytes();
+    let name = finding.name().bytes();
+    let word = finding.word().as_bytes();
+    write_parts(
+        &[
+            b"Observation ",
+            name,
+            b" ",
+            word,
+            b" ",
+            positive,
+            b" ",
+            negative,
+            b"\n",
+        ],
+        writer,
+    )
+}
+
+fn kind_text<'a>(kind: Kind) -> &'a [u8]
+    ensures { result.now ≡ texts.kind_text kind }
+{
+    match kind {
+        Kind::Exists => b"Allowed",
+        Kind::NotExists => b"Forbidden",
+        Kind::Forall => b"Required",
+    }
+}
+
+fn quantifier_text(kind: Kind) -> &'static [u8]
+    ensures { result.now ≡ texts.quantifier_text kind }
+{
+    match kind {
+        Kind::Exists => b"exists",
+        Kind::NotExists => b"~exists",
+        Kind::Forall => b"forall",
+    }
+}
+
+/// Writes a proposition, in parentheses unless it stands bare.
+#[cycle(propositions)]
+fn write_operand<W: Sink>(prop: &Prop, bare: bool, writer: &mut W) -> Result<(), Failed>
+    ensures { Writes W.held W.has_failed writer.old writer.new result
+        (texts.operand bare (texts.formula_text (formula_of prop.now))) }
+{
+    write_bytes(opening(bare), writer)?;
+    write_prop(prop, writer)?;
+    write_bytes(closing(bare), writer)
+}
+
+#[cycle(propositions)]
+fn write_prop<W: Sink>(prop: &Prop, writer: &mut W) -> Result<(), Failed>
+    ensures { Writes W.held W.has_failed writer.old writer.new result
+        (texts.formula_text (formula_of prop.now)) }
+{
+    match prop {
+        Prop::True => write_bytes(b"true", writer),
+        Prop::False => write_bytes(b"false", writer),
+        Prop::Equals(place, value) => write_atom(place, *value, writer),
+        Prop::Not(operand) => {
+            write_bytes(b"~", writer)?;
+            write_operand(operand, is_simple(operand), writer)
+        }
+        Prop::And(left, right) => {
+            let left_is_bare = is_simple_or_conjunction(left);
+            write_infix(
+                left,
+                left_is_bare,
+                b" /\\ ",
+                right,
+                is_simple(right),
+                writer,
+            )
+        }
+        Prop::Or(left, right) => {
+            let left_is_bare = is_simple_or_disjunction(left);
+            write_infix(
+                left,
+                left_is_bare,
+                b" \\/ ",
+                right,
+                is_simple(right),
+                writer,
+            )
+        }
+        Prop::Implies(left, right) => {
+            let right_is_bare = is_simple_or_implication(right);
+            write_infix(left, is_simple(left), b" => ", right, right_is_bare, writer)
+        }
+    }
+}
+
+/// Writes two operands with their connective between them.
+#[cycle(propositions)]
+fn write_infix<W: Sink>(
+    left: &Prop,
+    left_is_bare: bool,
+    sign: &[u8],
+    right: &Prop,
+    right_is_bare: bool,
+    writer: &mut W,
+) -> Result<(), Failed>
+    ensures { Writes W.held W.has_failed writer.old writer.new result
+        (texts.operand left_is_bare (texts.formula_text (formula_of left.now)) ++ sign.now
+        ++ texts.operand right_is_bare (texts.formula_text (formula_of right.now))) }
+{
+    write_operand(left, left_is_bare, writer)?;
+    write_bytes(sign, writer)?;
+    write_operand(right, right_is_bare, writer)
+}
+
+fn opening<'a>(bare: bool) -> &'a [u8]
+    ensures { result.now ≡ texts.opening bare }
+{
+    if bare { b"" } else { b"(" }
+}
+
+fn closing<'a>(bare: bool) -> &'a [u8]
+    ensures { result.now ≡ texts.closing bare }
+{
+    if bare { b"" } else { b")" }
+}
+
+/// Whether a proposition is an atom or a negation.
+fn is_simple(prop: &Prop) -> bool
+    ensures { result ≡ texts.is_simple (formula_of prop.now) }
+{
+    matches!(
+        prop,
+        Prop::True | Prop::False | Prop::Equals(..) | Prop::Not(_)
+    )
+}
+
+fn is_simple_or_conjunction(prop: &Prop) -> bool
+    ensures { result ≡ (texts.is_simple (formula_of prop.now) || texts.is_conjunction (formula_of prop.now)) }
+{
+    is_simple(prop) || matches!(prop, Prop::And(..))
+}
+
+fn is_simple_or_disjunction(prop: &Prop) -> bool
+    ensures { result ≡ (texts.is_simple (formula_of prop.now) || texts.is_disjunction (formula_of prop.now)) }
+{
+    is_simple(prop) || matches!(prop, Prop::Or(..))
+}
+
+fn is_simple_or_implication(prop: &Prop) -> bool
+    ensures { result ≡ (texts.is_simple (formula_of prop.now) || texts.is_implication (formula_of prop.now)) }
+{
+    is_simple(prop) || matches!(prop, Prop::Implies(..))
+}
+
+fn write_atom<W: Sink>(place: &Place, value: u32, writer: &mut W) -> Result<(), Failed>
+    ensures { Writes W.held W.has_failed writer.old writer.new result
+        (texts.atom_text place.now value) }
+{
+    let mut number = Buffer::new();
+    let value = number.format(value).as_bytes();
+    match place {
+        Place::Reg(thread, name) => {
+            let mut number = Buffer::new();
+            let thread = number.format(*thread).as_bytes();
+            write_parts(&[thread, b":", name.bytes(), b"=", value], writer)
+        }
+        Place::Loc(name) => write_parts(&[b"[", name.bytes(), b"]=", value], writer),
+    }
+}
+
+/// Hands the parts to the writer, one after another.
+fn write_parts<W: Sink>(parts: &[&[u8]], writer: &mut W) -> Result<(), Failed>
+    ensures { Writes W.held W.has_failed writer.old writer.new result
+        (flat_map (λ p. p.now) parts.now) }
+{
+    for part in parts {
+        write_bytes(part, writer)?;
+    }
+    Ok(())
+}
+
+/// Hands the bytes to the writer.
+fn write_bytes<W: Sink>(bytes: &[u8], writer: &mut W) -> Result<(), Failed>
+    ensures { Writes W.held W.has_failed writer.old writer.new result bytes.now }
+{
+    give_all(writer, bytes)
+}

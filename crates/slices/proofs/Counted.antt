@@ -1,0 +1,319 @@
+-- Counts and verdicts.
+use Rattle.std.proofs.Common.{◌≡◌, ℕ, zero, suc, ◌+◌, ◌-◌, ◌≤◌, ◌^◌, List, [], ◌∷◌, ◌++◌, length, Bool, true, false, cond, not, count_by, map, Option, None, Some, unwrap_or, refl, sym, ap, ◌∙◌, subst, inl, inr, append-nil, arith}
+use Rattle.std.specs.Prelude.{slice_get, Result, Ok, Err, IfOk, OnOk, fold, IsTrue, ◌↔◌, ◌⊎◌}
+use Rattle.std.specs.BTreeSet.{insert_key}
+use Rattle.std.specs.List.Sorted.{IsStrictlySortedBy}
+use Rattle.std.proofs.lemmas.List.Sums.{fold-append, sum_by-append}
+use Rattle.events.specs.declared.event.EventId.{EventId}
+use Rattle.events.specs.Executions.{Execution}
+use Rattle.cat_eval.specs.Judging.{Allowed, Raised}
+use Rattle.cat_syntax.specs.Tree.{Clause}
+use Rattle.listings.specs.Lists.{IsIn, NoRepeats, Lists}
+use Rattle.conditions.specs.declared.place.Place.{Place}
+use Rattle.conditions.specs.declared.place.Place.TheVariants.{Reg, Loc}
+use Rattle.litmus_tree.specs.Tree.{Litmus, Word}
+use Rattle.conditions.specs.States.{bindings, holds_in, AreObserved}
+use Rattle.candidates.specs.Candidates.{At, Choices, Counting, choices_of, found, size_of, some_of}
+use Rattle.candidates.specs.Executions.{IsSize}
+use Rattle.candidates.specs.Faults.{HaveFewRuns}
+use Rattle.slices.specs.declared.counter.Counter.{Counter}
+use Rattle.slices.specs.Finals.{final, obs, has, last_or}
+use Rattle.slices.specs.Outcomes.{Outcome}
+use Rattle.slices.specs.Parts.{AreThose, at_end, taken, passed, IsAdmitted, IsOver, IsPart, Part, executions_in, test_size}
+use Rattle.slices.specs.Slots.{slot_of, slot_value}
+use Rattle.slices.specs.Counters.{collected, outcome_of, IsCount, IsCountOf, IsOneMore, IsWeighed}
+use Rattle.slices.specs.Verdicts.{Tells, IsVerdict, IsRaised}
+use Rattle.slices.specs.Works.{Task}
+use Rattle.slices.proofs.Rows.{row_cmp, from_collected, collected_old, in_collected, no_repeats, are_sorted}
+
+-- the slots of the places have their final values
+pub row_is : (t : Litmus) (x : Execution) (places : List Place) → map (slot_value x) (map (slot_of t) places) ≡ obs t places x
+row_is t x [] = refl
+row_is t x (Reg k r ∷ places) = ap (λ l. final t x (Reg k r) ∷ l) (row_is t x places)
+row_is t x (Loc y ∷ places) = ap (λ l. final t x (Loc y) ∷ l) (row_is t x places)
+
+-- one execution more
+
+step_some : (at : ℕ → Option Execution) (n : ℕ) (x : Execution) → at n ≡ Some x → found at (n + 1) ≡ found at n ++ x ∷ []
+step_some at n x e =
+    let next : n + 1 ≡ suc n = omega arith in
+    ap (found at) next ∙ ap (λ o. found at n ++ some_of o) e
+
+step_none : (at : ℕ → Option Execution) (n : ℕ) → at n ≡ None → found at (n + 1) ≡ found at n
+step_none at n e =
+    let next : n + 1 ≡ suc n = omega arith in
+    ap (found at) next ∙ ap (λ o. found at n ++ some_of o) e ∙ append-nil (found at n)
+
+count_by-push : {X : Type 0} (p : X → Bool) (xs : List X) (x : X) → count_by p (xs ++ x ∷ []) ≡ count_by p xs + cond (p x) 1 0
+count_by-push p xs x = omega (arith, sum_by-append (λ y. cond (p y) 1 0) xs (x ∷ []))
+
+turned : (b : Bool) (m n : ℕ) → cond (not b) m n ≡ cond b n m
+turned true m n = refl
+turned false m n = refl
+
+-- those of a list and one more
+
+those-push : {X : Type 0} {P : X → Type 0} {xs ys : List X} (x : X) → P x → AreThose P xs ys → AreThose P (xs ++ x ∷ []) (ys ++ x ∷ [])
+those-push x p at_end = taken p at_end
+those-push x p (taken q h) = taken q (those-push x p h)
+those-push x p (passed q h) = passed q (those-push x p h)
+
+those-pass : {X : Type 0} {P : X → Type 0} {xs ys : List X} (x : X) → ¬ P x → AreThose P xs ys → AreThose P (xs ++ x ∷ []) ys
+those-pass x p at_end = passed p at_end
+those-pass x p (taken q h) = taken q (those-pass x p h)
+those-pass x p (passed q h) = passed q (those-pass x p h)
+
+in_front : {X : Type 0} (y : X) (xs : List X) (x : X) → IsIn y xs → IsIn y (xs ++ x ∷ [])
+in_front y [] x p = absurd p
+in_front y (z ∷ zs) x (inl e) = inl e
+in_front y (z ∷ zs) x (inr p) = inr (in_front y zs x p)
+
+at_last : {X : Type 0} (xs : List X) (x : X) → IsIn x (xs ++ x ∷ [])
+at_last [] x = inl refl
+at_last (z ∷ zs) x = inr (at_last zs x)
+
+of_push : {X : Type 0} (y : X) (xs : List X) (x : X) → IsIn y (xs ++ x ∷ []) → IsIn y xs ⊎ (y ≡ x)
+of_push y [] x (inl e) = inr e
+of_push y [] x (inr p) = absurd p
+of_push y (z ∷ zs) x (inl e) = inl (inl e)
+of_push y (z ∷ zs) x (inr p) = elim (of_push y zs x p) [ inl q ↦ inl (inr q) | inr e ↦ inr e ]
+
+raised-push : (items : List Clause) (xs : List Execution) (x : Execution) (name : Word) → IsRaised items (xs ++ x ∷ []) name ↔ (IsRaised items xs name ⊎ Raised items x name)
+raised-push items xs x name = (
+  (λ r. elim (of_push r.0 xs x r.1) [ inl p ↦ inl (r.0, p, r.2) | inr e ↦ inr (let P : Execution → Type 0 = λ y. Raised items y name in subst P e r.2) ]),
+  (λ h. elim h [ inl r ↦ (r.0, in_front r.0 xs x r.1, r.2) | inr q ↦ (x, at_last xs x, q) ]),
+)
+
+more : (t : Litmus) (items : List Clause) (places : List Place) (xs : List Execution) (x : Execution) (old new : Counter) → IsCount t items places xs old → IsOneMore t items places x old new → IsCount t items places (xs ++ x ∷ []) new
+more t items places xs x old new h m = record {
+  positive = omega (arith, m.positive, h.positive, count_by-push (has t places) xs x);
+  negative = omega (arith, m.negative, h.negative, turned (has t places x) 1 0, count_by-push (λ y. not (has t places y)) xs x);
+  states = m.states ∙ ap (λ rows. insert_key row_cmp rows (obs t places x)) h.states ∙ sym (fold-append (λ rows y. insert_key row_cmp rows (obs t places y)) [] xs (x ∷ []));
+  flags = λ name. (
+    (λ p. (raised-push items xs x name).1 (elim ((m.flags name).0 p) [ inl q ↦ inl ((h.flags name).0 q) | inr r ↦ inr r ])),
+    (λ r. (m.flags name).1 (elim ((raised-push items xs x name).0 r) [ inl q ↦ inl ((h.flags name).1 q) | inr p ↦ inr p ])),
+  );
+}
+
+counted : (t : Litmus) (items : List Clause) (places : List Place) (xs : List Execution) (x : Execution) (old new : Counter) → IsCountOf t items places xs old → IsWeighed t items places x old new → IsCountOf t items places (xs ++ x ∷ []) new
+counted t items places xs x old new h (inl w) = record {
+  executions = h.executions ++ x ∷ [];
+  those = those-push x w.0 h.those;
+  count = more t items places h.executions x old new h.count w.1;
+}
+counted t items places xs x old new h (inr w) = record {
+  executions = h.executions;
+  those = those-pass x w.0 h.those;
+  count = let Q : Counter → Type 0 = λ v. IsCount t items places h.executions v in subst Q (sym w.1) h.count;
+}
+
+counted_some : (t : Litmus) (items : List Clause) (places : List Place) (at : ℕ → Option Execution) (n : ℕ) (x : Execution) (old new : Counter) → IsCountOf t items places (found at n) old → at n ≡ Some x → IsWeighed t items places x old new → IsCountOf t items places (found at (n + 1)) new
+counted_some t items places at n x old new h is w =
+    let P : List Execution → Type 0 = λ xs. IsCountOf t items places xs new in
+    subst P (sym (step_some at n x is)) (counted t items places (found at n) x old new h w)
+
+counted_none : (t : Litmus) (items : List Clause) (places : List Place) (at : ℕ → Option Execution) (n : ℕ) (old new : Counter) → IsCountOf t items places (found at n) old → at n ≡ None → new ≡ old → IsCountOf t items places (found at (n + 1)) new
+counted_none t items places at n old new h is e =
+    let P : List Execution → Type 0 = λ xs. IsCountOf t items places xs new in
+    let Q : Counter → Type 0 = λ v. IsCountOf t items places (found at n) v in
+    subst P (sym (step_none at n is)) (subst Q (sym e) h)
+
+pub few : (b : Bool) (p n p' n' k : ℕ) → p + n ≤ k → p' ≡ p + cond b 1 0 → n' ≡ n + cond b 0 1 → p' + n' ≤ k + 1
+few true p n p' n' k h e f = omega arith
+few false p n p' n' k h e f = omega arith
+
+-- the last of a list
+
+pub last_is : (w v : EventId) (vs : List EventId) → unwrap_or (slice_get (v ∷ vs) (length vs)) w ≡ last_or w (v ∷ vs)
+last_is w v [] = refl
+last_is w v (u ∷ us) = last_is w u us
+
+pub last_of : (w : EventId) (vs : List EventId) → unwrap_or (slice_get vs (length vs - 1)) w ≡ last_or w vs
+last_of w [] = refl
+last_of w (v ∷ vs) =
+    let less : length (v ∷ vs) - 1 ≡ length vs = omega arith in
+    ap (λ n. unwrap_or (slice_get (v ∷ vs) n) w) less ∙ last_is w v vs
+
+-- the numbers of a range
+
+pub next_some : (t : Litmus) (items : List Clause) (places : List Place) (at : ℕ → Option Execution) (from n : ℕ) (x : Execution) (old new : Counter) → from ≤ n → IsCountOf t items places (found (λ i. at (from + i)) (n - from)) old → at n ≡ Some x → IsWeighed t items places x old new → IsCountOf t items places (found (λ i. at (from + i)) (n + 1 - from)) new
+next_some t items places at from n x old new le h is w =
+    let here : from + (n - from) ≡ n = omega arith in
+    let more : n + 1 - from ≡ (n - from) + 1 = omega arith in
+    let P : ℕ → Type 0 = λ k. IsCountOf t items places (found (λ i. at (from + i)) k) new in
+    subst P (sym more) (counted_some t items places (λ i. at (from + i)) (n - from) x old new h (ap at here ∙ is) w)
+
+pub next_none : (t : Litmus) (items : List Clause) (places : List Place) (at : ℕ → Option Execution) (from n : ℕ) (old new : Counter) → from ≤ n → IsCountOf t items places (found (λ i. at (from + i)) (n - from)) old → at n ≡ None → new ≡ old → IsCountOf t items places (found (λ i. at (from + i)) (n + 1 - from)) new
+next_none t items places at from n old new le h is e =
+    let here : from + (n - from) ≡ n = omega arith in
+    let more : n + 1 - from ≡ (n - from) + 1 = omega arith in
+    let P : ℕ → Type 0 = λ k. IsCountOf t items places (found (λ i. at (from + i)) k) new in
+    subst P (sym more) (counted_none t items places (λ i. at (from + i)) (n - from) old new h (ap at here ∙ is) e)
+
+none_yet : (at : ℕ → Option Execution) (from : ℕ) → found at (from - from) ≡ []
+none_yet at from =
+    let none : from - from ≡ 0 = omega arith in
+    ap (found at) none
+
+none_in : {X : Type 0} (x : X) (ks : List X) → ks ≡ [] → ¬ IsIn x ks
+none_in {X} x ks e p = let P : List X → Type 0 = λ l. IsIn x l in absurd (subst P e p)
+
+pub counted_none_yet : (t : Litmus) (items : List Clause) (places : List Place) (at : ℕ → Option Execution) (from : ℕ) (new : Counter) → new.positive ≡ 0 → new.negative ≡ 0 → new.states.keys ≡ [] → new.flags.keys ≡ [] → IsCountOf t items places (found (λ i. at (from + i)) (from - from)) new
+counted_none_yet t items places at from new p n s f =
+    let P : List Execution → Type 0 = λ xs. IsCountOf t items places xs new in
+    subst P (sym (none_yet (λ i. at (from + i)) from)) (record {
+      executions = [];
+      those = at_end;
+      count = record { positive = p; negative = n; states = s; flags = λ name. ((λ q. absurd (none_in name _ f q)), (λ r. absurd r.1)) };
+    })
+
+-- how much one execution adds to both counts
+pub few_weighed : (t : Litmus) (items : List Clause) (places : List Place) (x : Execution) (old new : Counter) (k : ℕ) → old.positive + old.negative ≤ k → IsWeighed t items places x old new → new.positive + new.negative ≤ k + 1
+few_weighed t items places x old new k h (inl w) = few (has t places x) _ _ _ _ k h w.1.positive w.1.negative
+few_weighed t items places x old new k h (inr w) = let P : Counter → Type 0 = λ c. c.positive + c.negative ≤ k + 1 in subst P (sym w.1) (omega (arith, h))
+
+-- one execution more, from its final state and the flags that it raises
+pub one_more : (t : Litmus) (items : List Clause) (places : List Place) (x : Execution) (state : List ℕ) (old new : Counter) (flags : List Word) → Lists (Raised items x) flags
+    → state ≡ map (slot_value x) (map (slot_of t) places)
+    → new.positive ≡ old.positive + cond (holds_in (bindings places state) t.condition.formula) 1 0
+    → new.negative ≡ old.negative + cond (holds_in (bindings places state) t.condition.formula) 0 1
+    → new.states.keys ≡ insert_key row_cmp old.states.keys state
+    → new.flags.keys ≡ fold (λ keys name. insert_key row_cmp keys name) old.flags.keys flags
+    → IsOneMore t items places x old new
+one_more t items places x state old new flags raised e p n s f =
+    let is : state ≡ obs t places x = e ∙ row_is t x places in
+    let P : List ℕ → Type 0 = λ r. new.positive ≡ old.positive + cond (holds_in (bindings places r) t.condition.formula) 1 0 in
+    let N : List ℕ → Type 0 = λ r. new.negative ≡ old.negative + cond (holds_in (bindings places r) t.condition.formula) 0 1 in
+    record {
+      positive = subst P is p;
+      negative = subst N is n;
+      states = s ∙ ap (insert_key row_cmp old.states.keys) is;
+      flags = λ name. (
+        (λ q. elim (from_collected (λ (y : Word). y) name old.flags.keys flags (let P : List Word → Type 0 = λ ks. IsIn name ks in subst P f q)) [
+          | inl before ↦ inl before
+          | inr r ↦ inr (raised.only name (let P : Word → Type 0 = λ y. IsIn y flags in subst P (sym r.2) r.1))
+        ]),
+        (λ h. let P : List Word → Type 0 = λ ks. IsIn name ks in
+            subst P (sym f) (elim h [
+              | inl before ↦ collected_old (λ (y : Word). y) name old.flags.keys flags before
+              | inr r ↦ in_collected (λ (y : Word). y) old.flags.keys flags name (raised.all name r)
+            ])),
+      );
+    }
+
+pub on_ok : {X E P Q : Type 0} (r : Result X E) → (P → Q) → OnOk r P → OnOk r Q
+on_ok (Ok x) f p = f p
+on_ok (Err e) f p = tt
+
+-- an execution is counted where the model allows it
+
+pub weighed_allowed : (t : Litmus) (items : List Clause) (places : List Place) (x : Execution) (old new : Counter) (allowed : Bool) → (IsTrue allowed ↔ Allowed items x) → allowed ≡ true → IsOneMore t items places x old new → IsWeighed t items places x old new
+weighed_allowed t items places x old new allowed judged is more = inl (judged.0 is, more)
+
+pub weighed_forbidden : (t : Litmus) (items : List Clause) (places : List Place) (x : Execution) (old new : Counter) (allowed : Bool) → (IsTrue allowed ↔ Allowed items x) → allowed ≡ false → new ≡ old → IsWeighed t items places x old new
+weighed_forbidden t items places x old new allowed judged is same = inr ((λ a. (let is' = judged.1 a in cc)), same)
+
+found_same : (f g : ℕ → Option Execution) → ((i : ℕ) → f i ≡ g i) → (n : ℕ) → found f n ≡ found g n
+found_same f g h zero = refl
+found_same f g h (suc n) = ap (λ xs. xs ++ some_of (f n)) (found_same f g h n) ∙ ap (λ o. found g n ++ some_of o) (h n)
+
+-- the executions at all numbers
+pub all_numbers : (t : Litmus) (n : ℕ) → executions_in t 0 n ≡ found (At t) n
+all_numbers t n =
+    let here : n - 0 ≡ n = omega arith in
+    let shift : (i : ℕ) → At t (0 + i) ≡ At t i = λ i. (let e : 0 + i ≡ i = omega arith in ap (At t) e) in
+    ap (found (λ i. At t (0 + i))) here ∙ found_same (λ i. At t (0 + i)) (At t) shift n
+
+-- the outcome of a count
+
+pub tells : (t : Litmus) (items : List Clause) (xs : List Execution) (places : List Place) (counter : Counter) (v : Outcome) → IsCount t items places xs counter → AreObserved t.condition t.listed places
+    → v ≡ outcome_of t places counter
+    → IsStrictlySortedBy row_cmp v.states
+    → IsStrictlySortedBy row_cmp v.flags
+    → Tells t items xs v
+tells t items xs places counter v h observed e sorted in_order =
+    let outcome = outcome_of t places counter in
+    let S : Outcome → Type 0 = λ o. IsStrictlySortedBy row_cmp o.states in
+    let F : Outcome → Type 0 = λ o. IsStrictlySortedBy row_cmp o.flags in
+    let states = subst S e sorted in
+    let flags = subst F e in_order in
+    let rows = h.states in
+    let told : Tells t items xs outcome = record {
+      name = refl;
+      kind = refl;
+      formula = refl;
+      places = observed;
+      positive = h.positive;
+      negative = h.negative;
+      states = record {
+        once = no_repeats counter.states.keys states;
+        only = λ s p. elim (from_collected (obs t places) s [] xs (let P : List (List ℕ) → Type 0 = λ ks. IsIn s ks in subst P rows p)) [ inl q ↦ absurd q | inr q ↦ q ];
+        all = λ s q. let P : List (List ℕ) → Type 0 = λ ks. IsIn s ks in subst P (sym rows) (let Q : List ℕ → Type 0 = λ r. IsIn r (collected t places xs) in subst Q (sym q.2) (in_collected (obs t places) [] xs q.0 q.1));
+      };
+      sorted = are_sorted counter.states.keys states;
+      flags = record { once = no_repeats counter.flags.keys flags; only = λ name p. (h.flags name).0 p; all = λ name r. (h.flags name).1 r };
+      in_order = are_sorted counter.flags.keys flags;
+    } in
+    let T : Outcome → Type 0 = λ o. Tells t items xs o in subst T (sym e) told
+
+-- those of a list without repeats
+
+only_those : {X : Type 0} {P : X → Type 0} {xs ys : List X} (x : X) → AreThose P xs ys → IsIn x ys → IsIn x xs × P x
+only_those x at_end p = absurd p
+only_those {X} {P} x (taken q h) (inl e) = (inl e, subst P (sym e) q)
+only_those x (taken q h) (inr p) = let r = only_those x h p in (inr r.0, r.1)
+only_those x (passed q h) p = let r = only_those x h p in (inr r.0, r.1)
+
+all_those : {X : Type 0} {P : X → Type 0} {xs ys : List X} (x : X) → AreThose P xs ys → IsIn x xs → P x → IsIn x ys
+all_those x at_end p is = absurd p
+all_those x (taken q h) (inl e) is = inl e
+all_those x (taken q h) (inr p) is = inr (all_those x h p is)
+all_those {X} {P} x (passed q h) (inl e) is = absurd (q (subst P e is))
+all_those x (passed q h) (inr p) is = all_those x h p is
+
+once_those : {X : Type 0} {P : X → Type 0} {xs ys : List X} → AreThose P xs ys → NoRepeats xs → NoRepeats ys
+once_those at_end n = tt
+once_those (taken {x} q h) n = ((λ p. n.0 (only_those x h p).0), once_those h n.1)
+once_those (passed q h) n = once_those h n.1
+
+lists_those : {X : Type 0} {P Q : X → Type 0} {xs ys : List X} → Lists P xs → AreThose Q xs ys → Lists (λ x. P x × Q x) ys
+lists_those l h = record {
+  once = once_those h l.once;
+  only = λ x p. let r = only_those x h p in (l.only x r.0, r.1);
+  all = λ x r. all_those x h (l.all x r.0) r.1;
+}
+
+-- the outcome over all numbers is a verdict
+pub verdict_of : (t : Litmus) (items : List Clause) (from to : ℕ) (v : Outcome) → Counting → IsAdmitted t → from ≡ 0 → to ≡ test_size t → IsPart t items from to v → IsVerdict t items v
+verdict_of t items from to v counting admitted first last part =
+    let all = counting t (test_size t) admitted.size in
+    let F : ℕ → Type 0 = λ k. AreThose (Allowed items) (executions_in t k to) part.0 in
+    let L : ℕ → Type 0 = λ k. AreThose (Allowed items) (executions_in t 0 k) part.0 in
+    let T : List Execution → Type 0 = λ xs. AreThose (Allowed items) xs part.0 in
+    (part.0, lists_those all (subst T (all_numbers t (test_size t)) (subst L last (subst F first part.1))), part.2)
+
+-- what a test's space says of the test
+pub admitted : (t u : Litmus) (s : Choices) → u ≡ t → s ≡ choices_of u → IsSize u (size_of s) × (size_of s ≤ 2 ^ 32) → HaveFewRuns u → (s ≡ choices_of t) × IsAdmitted t
+admitted t u s e is size runs =
+    let P : Litmus → Type 0 = λ v. (s ≡ choices_of v) × IsAdmitted v in
+    let S : Choices → Type 0 = λ c. IsSize u (size_of c) × (size_of c ≤ 2 ^ 32) in
+    let sized = subst S is size in
+    subst P e (is, record { runs = runs; size = sized.0; few = sized.1 })
+
+-- a result over all numbers of a work gives a verdict
+pub over_verdict : (w : Task) (r : Part) (v : Outcome) → Counting → IsAdmitted w.test → IsOver w r → IsPart r.piece.work.test r.piece.work.model.items r.piece.from r.piece.to r.found → v ≡ r.found → IsVerdict w.test w.model.items v
+over_verdict w r v counting admitted over part e =
+    let P : Task → Type 0 = λ u. IsPart u.test u.model.items r.piece.from r.piece.to r.found in
+    let V : Outcome → Type 0 = λ o. IsVerdict w.test w.model.items o in
+    subst V (sym e) (verdict_of w.test w.model.items r.piece.from r.piece.to r.found counting admitted over.first over.last (subst P over.same part))
+
+-- what is found at the numbers of a range
+pub finds : {E : Type 0} (w : Task) (t : Litmus) (from to : ℕ) (places : List Place) (counter : Counter) (r : Result Outcome E) → t ≡ w.test → IsCountOf w.test w.model.items places (executions_in w.test from to) counter → AreObserved t.condition t.listed places
+    → IfOk r (λ v. v ≡ outcome_of w.test places counter)
+    → IfOk r (λ v. IsStrictlySortedBy row_cmp v.states)
+    → IfOk r (λ v. IsStrictlySortedBy row_cmp v.flags)
+    → IfOk r (IsPart w.test w.model.items from to)
+finds w t from to places counter (Ok v) e h observed value sorted in_order =
+    let P : Litmus → Type 0 = λ u. AreObserved u.condition u.listed places in
+    (h.executions, h.those, tells w.test w.model.items h.executions places counter v h.count (subst P e observed) value sorted in_order)
+finds w t from to places counter (Err x) e h observed value sorted in_order = tt

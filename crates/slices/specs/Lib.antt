@@ -1,0 +1,10 @@
+pub mod Codes
+pub mod Counters
+pub mod Finals
+pub mod Judgements
+pub mod Outcomes
+pub mod Parts
+pub mod Same
+pub mod Slots
+pub mod Verdicts
+pub mod Works

@@ -1,0 +1,61 @@
+-- What is found at some of the numbers of a test.
+use Rattle.std.specs.Prelude.{◌≡◌, ℕ, ◌+◌, ◌-◌, ◌≤◌, ◌^◌, List, [], ◌∷◌}
+use Rattle.cat_eval.specs.Judging.{Allowed}
+use Rattle.cat_syntax.specs.Tree.{Clause}
+use Rattle.events.specs.Executions.{Execution}
+use Rattle.litmus_tree.specs.Tree.{Litmus}
+use Rattle.candidates.specs.Candidates.{At, found, choices_of, size_of}
+use Rattle.candidates.specs.Executions.{IsSize}
+use Rattle.candidates.specs.Faults.{HaveFewRuns}
+use Rattle.slices.specs.Outcomes.{Outcome}
+use Rattle.slices.specs.Verdicts.{Tells}
+use Rattle.slices.specs.Works.{Task}
+
+-- how many numbers a test has
+abbrev pub test_size : Litmus → ℕ
+test_size t = size_of (choices_of t)
+
+-- The runs of each thread are few, and so are the numbers.
+pub record IsAdmitted (t : Litmus) : Type 0 where
+  pub runs : HaveFewRuns t
+  pub size : IsSize t (test_size t)
+  pub few : test_size t ≤ 2 ^ 32
+
+-- the executions at the numbers from `from` to `to - 1`
+abbrev pub executions_in : Litmus → ℕ → ℕ → List Execution
+executions_in t from to = found (λ i. At t (from + i)) (to - from)
+
+-- ys are those of xs that have P, in their order
+pub data AreThose {X : Type 0} (P : X → Type 0) : (xs ys : List X) → Type 0 where
+  at_end : AreThose P [] []
+  taken : {x : X} {xs ys : List X} → P x → AreThose P xs ys → AreThose P (x ∷ xs) (x ∷ ys)
+  passed : {x : X} {xs ys : List X} → ¬ P x → AreThose P xs ys → AreThose P (x ∷ xs) ys
+
+-- The outcome is right for the executions at the numbers from `from` to `to - 1` that a model of these items allows.
+abbrev pub IsPart : Litmus → List Clause → ℕ → ℕ → Outcome → Type 0
+IsPart t items from to v = (xs : List Execution) × AreThose (Allowed items) (executions_in t from to) xs × Tells t items xs v
+
+-- A slice of a job's numbers, given under a claim.
+pub record Portion : Type 0 where
+  pub claim : ℕ
+  pub job : ℕ
+  pub slice : ℕ
+  pub from : ℕ
+  pub to : ℕ
+  pub work : Task
+
+-- What is found of it.
+pub record Part : Type 0 where
+  pub piece : Portion
+  pub found : Outcome
+
+-- The range lies within the test's numbers.
+pub record IsRange (t : Litmus) (from to : ℕ) : Type 0 where
+  pub order : from ≤ to
+  pub within : to ≤ test_size t
+
+-- The result is over all numbers of the work.
+pub record IsOver (work : Task) (r : Part) : Type 0 where
+  pub same : r.piece.work ≡ work
+  pub first : r.piece.from ≡ 0
+  pub last : r.piece.to ≡ test_size work.test

@@ -1,0 +1,146 @@
+//! Counts over the allowed executions at some of the numbers of a test.
+
+ghost use Rattle.std.specs.Prelude.{◌≡◌, ◌<◌, ◌≤◌, ◌+◌, ◌-◌, ◌^◌, [], length, map, fold, IfOk, OnOk, if◌then◌else◌};
+ghost use Rattle.std.specs.BTreeSet.{insert_key};
+ghost use Rattle.std.specs.Cmp.Lexicographic.{slice_cmp};
+ghost use Rattle.std.specs.Ordering.{nat_cmp};
+ghost use Rattle.conditions.specs.Conditions.{formula_of};
+ghost use Rattle.conditions.specs.States.{bindings, holds_in};
+ghost use Rattle.cat_eval.specs.Judging.{Raised};
+ghost use Rattle.listings.specs.Lists.{Lists};
+ghost use Rattle.slices.specs.Counters.{IsCountOf, IsOneMore, IsWeighed};
+ghost use Rattle.slices.specs.Parts.{IsRange, executions_in};
+ghost use Rattle.slices.specs.Slots.{slot_of, slot_value};
+
+use crate::row::Row;
+use crate::slot::{Slot, row, slots};
+use crate::work::Work;
+use cat_eval::judge;
+use conditions::{Place, Prop, State, holds};
+use events::{Graph, GraphView};
+use std::alloc::{AllocError, Global};
+use std::collections::BTreeSet;
+use wb_text::Name;
+
+/// How many final states have a proposition and how many have it not, which states there are, and which flags were raised.
+#[derive(Drop)]
+pub struct Counter {
+    pub positive: u64,
+    pub negative: u64,
+    pub states: BTreeSet<Row>,
+    pub flags: BTreeSet<Name>,
+}
+
+/// Counts the allowed executions at the numbers from `from` to `to - 1`, one candidate at a time.
+pub fn count(
+    alloc: Global,
+    work: &Work,
+    places: &[Place],
+    from: u64,
+    to: u64,
+) -> Result<Counter, AllocError>
+    requires { IsRange work.now.test from to }
+    ensures { IfOk result
+        (IsCountOf work.now.test work.now.model.items places.now (executions_in work.now.test from to)) }
+{
+    let space = work.space();
+    let slots = slots(alloc, work.test(), places)?;
+    let mut counter = Counter::new(alloc);
+    for number in from..to {
+        if let Some(graph) = space.graph(alloc, number)? {
+            counter.weigh(alloc, work, places, &slots, &graph)?;
+        }
+    }
+    Ok(counter)
+}
+
+impl Counter {
+    /// A count of no state.
+    fn new(alloc: Global) -> Self
+        ensures positive { result.positive ≡ 0 }
+        ensures negative { result.negative ≡ 0 }
+        ensures states { result.states.keys ≡ [] }
+        ensures flags { result.flags.keys ≡ [] }
+    {
+        Counter {
+            positive: 0,
+            negative: 0,
+            states: BTreeSet::new(alloc),
+            flags: BTreeSet::new(alloc),
+        }
+    }
+
+    /// Counts an execution, if the work's model allows it.
+    #[tactic(auto, using(crate::proofs::Counted::weighed_allowed, crate::proofs::Counted::weighed_forbidden))]
+    fn weigh(
+        &mut self,
+        alloc: Global,
+        work: &Work,
+        places: &[Place],
+        slots: &[Slot],
+        graph: &Graph,
+    ) -> Result<(), AllocError>
+        requires few { self.old.positive + self.old.negative < 2 ^ 64 - 1 }
+        requires slots { slots.now ≡ map (slot_of work.now.test) places.now }
+        ensures { OnOk result
+            (IsWeighed work.now.test work.now.model.items places.now graph.now self.old self.new) }
+    {
+        let judgement = judge(alloc, work.model(), &GraphView::of(alloc, graph)?)?;
+        if judgement.allowed() {
+            let state = row(alloc, slots, graph)?;
+            self.include(work, places, graph, state, judgement.flags())?;
+        }
+        Ok(())
+    }
+
+    /// Counts an execution with this final state, which raises these flags.
+    fn include(
+        &mut self,
+        work: &Work,
+        places: &[Place],
+        graph: &Graph,
+        state: Row,
+        flags: &[Name],
+    ) -> Result<(), AllocError>
+        requires few { self.old.positive + self.old.negative < 2 ^ 64 - 1 }
+        requires state { state ≡ map (slot_value graph.now) (map (slot_of work.now.test) places.now) }
+        requires raised { Lists (Raised work.now.model.items graph.now) flags.now }
+        ensures { OnOk result
+            (IsOneMore work.now.test work.now.model.items places.now graph.now self.old self.new) }
+    {
+        self.add(work.test().condition().prop(), places, state)?;
+        raise(&mut self.flags, flags)
+    }
+
+    /// Counts one more final state.
+    fn add(&mut self, prop: &Prop, places: &[Place], state: Row) -> Result<(), AllocError>
+        requires few { self.old.positive + self.old.negative < 2 ^ 64 - 1 }
+        requires whole { length places.now ≡ length state }
+        ensures positive { let has = holds_in (bindings places.now state) (formula_of prop.now) in
+            OnOk result (self.new.positive ≡ self.old.positive + (if has then 1 else 0)) }
+        ensures negative { let has = holds_in (bindings places.now state) (formula_of prop.now) in
+            OnOk result (self.new.negative ≡ self.old.negative + (if has then 0 else 1)) }
+        ensures states { OnOk result
+            (self.new.states.keys ≡ insert_key (slice_cmp nat_cmp) self.old.states.keys state) }
+        ensures flags { self.new.flags ≡ self.old.flags }
+    {
+        let has = holds(prop, &State::new(places, state.values()));
+        self.states.insert(state)?;
+        if has {
+            self.positive += 1;
+        } else {
+            self.negative += 1;
+        }
+        Ok(())
+    }
+}
+
+/// Adds the names that aren't there.
+fn raise(flags: &mut BTreeSet<Name>, names: &[Name]) -> Result<(), AllocError>
+    ensures { OnOk result (flags.new.keys ≡ fold (λ keys name. insert_key (slice_cmp nat_cmp) keys name) flags.old.keys names.now) }
+{
+    for name in names {
+        flags.insert(name.copy()?)?;
+    }
+    Ok(())
+}

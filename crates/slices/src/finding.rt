@@ -1,0 +1,200 @@
+//! What is found of executions.
+
+ghost use Rattle.std.specs.Prelude.{◌≡◌, IfOk};
+ghost use Rattle.std.specs.Cmp.Lexicographic.{slice_cmp};
+ghost use Rattle.std.specs.List.Sorted.{IsStrictlySortedBy};
+ghost use Rattle.std.specs.Ordering.{nat_cmp};
+ghost use Rattle.conditions.specs.Conditions.{formula_of};
+ghost use Rattle.slices.specs.Counters.{outcome_of};
+ghost use Rattle.slices.specs.Outcomes.{is_ok};
+ghost use Rattle.slices.specs.Outcomes.{word};
+
+use crate::counter::Counter;
+use crate::row::Row;
+use crate::work::WorkRef;
+use conditions::{Kind, Place, Prop, ok_of};
+use std::alloc::{AllocError, Global};
+use std::marker::Model;
+use std::sync::Arc;
+use wb_text::Name;
+
+/// What is found of some executions of a work's test: of those that the work's model allows.
+#[derive(Drop)]
+pub struct Finding {
+    work: WorkRef,
+    places: Vec<Place>,
+    positive: u64,
+    negative: u64,
+    states: Vec<Row>,
+    flags: Vec<Name>,
+}
+
+impl Model for Finding {
+    ghost use Rattle.slices.specs.Outcomes.{Outcome};
+    ghost use Rattle.slices.specs.Codes.{coded_outcome};
+
+    ghost Value = { Outcome };
+
+    ghost coded = { coded_outcome };
+
+    ghost view = { λ v. record {
+      name = v.work.test.name;
+      kind = v.work.test.condition.kind;
+      formula = v.work.test.condition.formula;
+      places = v.places.items;
+      positive = v.positive;
+      negative = v.negative;
+      states = v.states.items;
+      flags = v.flags.items;
+    } };
+}
+
+/// A finding that is kept more than once. Contracts see the finding.
+#[derive(Drop)]
+pub struct FindingRef {
+    finding: Arc<Finding>,
+}
+
+impl Model for FindingRef {
+    ghost use Rattle.std.specs.Arc.{arc_value};
+    ghost use Rattle.slices.specs.Outcomes.{Outcome};
+    ghost use Rattle.slices.specs.Codes.{coded_outcome};
+
+    ghost Value = { Outcome };
+
+    ghost coded = { coded_outcome };
+
+    ghost view = { λ f. arc_value f.finding };
+}
+
+impl FindingRef {
+    /// Keeps a finding.
+    pub fn new(alloc: Global, finding: Finding) -> Result<Self, AllocError>
+        ensures { IfOk result (λ f. f ≡ finding) }
+    {
+        Ok(FindingRef {
+            finding: Arc::new(alloc, finding)?,
+        })
+    }
+
+    /// The finding.
+    pub fn finding(&self) -> &Finding
+        ensures { result.now ≡ self.now }
+    {
+        &self.finding
+    }
+
+    /// The same finding, kept once more.
+    pub fn share(&self) -> Result<Self, AllocError>
+        ensures { IfOk result (λ f. f ≡ self.now) }
+    {
+        Ok(FindingRef {
+            finding: Arc::try_clone(&self.finding)?,
+        })
+    }
+}
+
+impl Finding {
+    /// What a count of a work's test says.
+    pub(crate) fn new(
+        alloc: Global,
+        work: WorkRef,
+        places: Vec<Place>,
+        counter: Counter,
+    ) -> Result<Self, AllocError>
+        ensures value { IfOk result (λ v. v ≡ outcome_of work.test places.items counter) }
+        ensures sorted { IfOk result (λ v. IsStrictlySortedBy (slice_cmp nat_cmp) v.states) }
+        ensures in_order { IfOk result (λ v. IsStrictlySortedBy (slice_cmp nat_cmp) v.flags) }
+    {
+        let Counter {
+            positive,
+            negative,
+            states,
+            flags,
+        } = counter;
+        Ok(Finding {
+            work,
+            places,
+            positive,
+            negative,
+            states: states.into_iter().collect(alloc)?,
+            flags: flags.into_iter().collect(alloc)?,
+        })
+    }
+
+    /// The name of the test.
+    pub fn name(&self) -> &Name
+        ensures { result.now ≡ self.now.name }
+    {
+        self.work.work().test().name()
+    }
+
+    /// What the test asks.
+    pub fn kind(&self) -> Kind
+        ensures { result ≡ self.now.kind }
+    {
+        self.work.work().test().condition().kind()
+    }
+
+    /// The proposition that it asks for.
+    pub fn prop(&self) -> &Prop
+        ensures { formula_of result.now ≡ self.now.formula }
+    {
+        self.work.work().test().condition().prop()
+    }
+
+    /// The observed places, in order.
+    pub fn places(&self) -> &[Place]
+        ensures { result.now ≡ self.now.places }
+    {
+        &self.places
+    }
+
+    /// How many executions have the proposition.
+    pub fn positive(&self) -> u64
+        ensures { result ≡ self.now.positive }
+    {
+        self.positive
+    }
+
+    /// How many executions don't have it.
+    pub fn negative(&self) -> u64
+        ensures { result ≡ self.now.negative }
+    {
+        self.negative
+    }
+
+    /// The final states, once each, in order.
+    pub fn states(&self) -> &[Row]
+        ensures { result.now ≡ self.now.states }
+    {
+        &self.states
+    }
+
+    /// The names of the flags that were raised, once each, in order of their bytes.
+    pub fn flags(&self) -> &[Name]
+        ensures { result.now ≡ self.now.flags }
+    {
+        &self.flags
+    }
+
+    /// Whether the answer to the test's question is yes.
+    pub fn ok(&self) -> bool
+        ensures { result ≡ is_ok self.now }
+    {
+        ok_of(self.kind(), self.positive, self.negative)
+    }
+
+    /// How often the proposition was seen: `Never`, `Always` or `Sometimes`.
+    pub fn word(&self) -> &str
+        ensures { result.now ≡ word self.now }
+    {
+        if self.positive == 0 {
+            "Never"
+        } else if self.negative == 0 {
+            "Always"
+        } else {
+            "Sometimes"
+        }
+    }
+}

@@ -1,0 +1,19 @@
+//! The evaluation of a test: works, pieces of their numbers, results, tallies and verdicts.
+#![tactic(auto)]
+
+mod counter;
+mod equality;
+mod finding;
+mod piece;
+mod row;
+mod slot;
+mod tally;
+mod verdict;
+mod work;
+
+pub use finding::{Finding, FindingRef};
+pub use piece::{Piece, PieceResult, evaluate};
+pub use row::Row;
+pub use tally::Tally;
+pub use verdict::{Verdict, VerdictRef};
+pub use work::{TestRef, Work, WorkRef};

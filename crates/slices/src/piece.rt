@@ -1,0 +1,185 @@
+//! Pieces of a work's numbers, and what is found of them.
+
+ghost use Rattle.std.specs.Prelude.{◌≡◌, IfOk};
+ghost use Rattle.slices.specs.Parts.{IsPart, IsRange};
+
+use crate::counter::count;
+use crate::finding::{Finding, FindingRef};
+use crate::work::WorkRef;
+use conditions::observed;
+use std::alloc::{AllocError, Global};
+use std::marker::Model;
+
+/// The numbers from `from` to `to - 1` of a work, as a slice of a job, given under a claim.
+#[derive(Drop)]
+pub struct Piece {
+    claim: u32,
+    job: u32,
+    slice: u16,
+    from: u64,
+    to: u64,
+    work: WorkRef,
+}
+
+impl Model for Piece {
+    ghost use Rattle.slices.specs.Codes.{coded_portion};
+    ghost use Rattle.slices.specs.Parts.{Portion, IsRange};
+
+    ghost Value = { Portion };
+
+    ghost coded = { coded_portion };
+
+    ghost view = { λ p. record { claim = p.claim; job = p.job; slice = p.slice; from = p.from; to = p.to; work = p.work } };
+
+    ghost invariant = { λ p. IsRange p.work.test p.from p.to };
+}
+
+/// What is found of a piece: it is right for the piece's work and range.
+#[derive(Drop)]
+pub struct PieceResult {
+    piece: Piece,
+    found: FindingRef,
+}
+
+impl Model for PieceResult {
+    ghost use Rattle.slices.specs.Codes.{coded_part};
+    ghost use Rattle.slices.specs.Parts.{Part, IsPart};
+
+    ghost Value = { Part };
+
+    ghost coded = { coded_part };
+
+    ghost view = { λ r. record { piece = r.piece; found = r.found } };
+
+    ghost invariant = { λ r. IsPart r.piece.work.test r.piece.work.model.items r.piece.from r.piece.to r.found };
+}
+
+/// Evaluates the numbers of a piece, one after another, under the model of its work.
+pub fn evaluate(alloc: Global, piece: &Piece) -> Result<PieceResult, AllocError>
+    ensures { IfOk result (λ r. r.piece ≡ piece.now) }
+{
+    let piece = piece.share()?;
+    let finding = find(alloc, &piece.work, piece.from, piece.to)?;
+    let found = FindingRef::new(alloc, finding)?;
+    Ok(PieceResult::new(piece, found))
+}
+
+/// What is found at the numbers from `from` to `to - 1` of a work.
+fn find(alloc: Global, work: &WorkRef, from: u64, to: u64) -> Result<Finding, AllocError>
+    requires { IsRange work.now.test from to }
+    ensures { IfOk result (IsPart work.now.test work.now.model.items from to) }
+{
+    let test = work.work().test();
+    let places = observed(alloc, test.condition(), test.listed())?;
+    let counter = count(alloc, work.work(), &places, from, to)?;
+    Finding::new(alloc, work.share()?, places, counter)
+}
+
+impl Piece {
+    /// The piece with these fields.
+    pub fn new(claim: u32, job: u32, slice: u16, from: u64, to: u64, work: WorkRef) -> Self
+        requires { IsRange work.test from to }
+        ensures { result ≡ record { claim = claim; job = job; slice = slice; from = from; to = to; work = work } }
+    {
+        Piece {
+            claim,
+            job,
+            slice,
+            from,
+            to,
+            work,
+        }
+    }
+
+    /// The number of the claim under which it was given.
+    pub fn claim(&self) -> u32
+        ensures { result ≡ self.now.claim }
+    {
+        self.claim
+    }
+
+    /// The number of the job.
+    pub fn job(&self) -> u32
+        ensures { result ≡ self.now.job }
+    {
+        self.job
+    }
+
+    /// The slice of the job.
+    pub fn slice(&self) -> u16
+        ensures { result ≡ self.now.slice }
+    {
+        self.slice
+    }
+
+    /// The first number.
+    pub fn from(&self) -> u64
+        ensures { result ≡ self.now.from }
+    {
+        self.from
+    }
+
+    /// The number behind the last.
+    pub fn to(&self) -> u64
+        ensures { result ≡ self.now.to }
+    {
+        self.to
+    }
+
+    /// The work.
+    pub fn work(&self) -> &WorkRef
+        ensures work { result.now ≡ self.now.work }
+        ensures range { IsRange self.now.work.test self.now.from self.now.to }
+    {
+        &self.work
+    }
+
+    /// The same piece again.
+    pub fn share(&self) -> Result<Self, AllocError>
+        ensures { IfOk result (λ p. p ≡ self.now) }
+    {
+        Ok(Piece {
+            claim: self.claim,
+            job: self.job,
+            slice: self.slice,
+            from: self.from,
+            to: self.to,
+            work: self.work.share()?,
+        })
+    }
+}
+
+impl PieceResult {
+    pub(crate) fn new(piece: Piece, found: FindingRef) -> Self
+        requires { IsPart piece.work.test piece.work.model.items piece.from piece.to found }
+        ensures { result ≡ record { piece = piece; found = found } }
+    {
+        PieceResult { piece, found }
+    }
+
+    /// The piece that was evaluated.
+    pub fn piece(&self) -> &Piece
+        ensures { result.now ≡ self.now.piece }
+    {
+        &self.piece
+    }
+
+    /// What is found of it.
+    pub fn found(&self) -> &FindingRef
+        ensures found { result.now ≡ self.now.found }
+        ensures right { let piece = self.now.piece in
+            IsPart piece.work.test piece.work.model.items piece.from piece.to self.now.found }
+    {
+        &self.found
+    }
+
+    /// The same result again.
+    pub fn share(&self) -> Result<Self, AllocError>
+        ensures { IfOk result (λ r. r ≡ self.now) }
+    {
+        Ok(PieceResult {
+            piece: self.piece.share()?,
+            found: self.found.share()?,
+        })
+    }
+}

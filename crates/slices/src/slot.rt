@@ -1,0 +1,109 @@
+//! Where the final values of observed places stand in an execution.
+
+ghost use Rattle.std.specs.Prelude.{◌≡◌, IfOk, map};
+ghost use Rattle.c11_threads.specs.Contents.{place_of};
+ghost use Rattle.candidates.specs.Candidates.{write_value};
+ghost use Rattle.slices.specs.Finals.{final_location};
+ghost use Rattle.slices.specs.Slots.{slot_of, slot_value};
+
+use crate::row::Row;
+use conditions::Place;
+use events::{EventId, Graph};
+use litmus_c::Test;
+use std::alloc::{AllocError, Global};
+use wb_text::Name;
+
+/// Where a place's value stands: in the run of a thread, at the place of the register among its registers, or
+/// in the coherence order of a location, by the place of its name among the locations.
+#[derive(Clone, Copy)]
+pub enum Slot {
+    Register(usize, usize),
+    Location(usize),
+}
+
+/// Where the values of the places stand.
+pub fn slots(alloc: Global, test: &Test, places: &[Place]) -> Result<Vec<Slot>, AllocError>
+    ensures { IfOk result (λ v. v.items ≡ map (slot_of test.now) places.now) }
+{
+    let mut slots = Vec::with_capacity(alloc, places.len())?;
+    for place in places {
+        slots.push(Slot::of(test, place))?;
+    }
+    Ok(slots)
+}
+
+/// The values in an execution.
+pub fn row(alloc: Global, slots: &[Slot], graph: &Graph) -> Result<Row, AllocError>
+    ensures { IfOk result (λ r. r ≡ map (slot_value graph.now) slots.now) }
+{
+    let mut values = Vec::with_capacity(alloc, slots.len())?;
+    for slot in slots {
+        values.push(slot.value_in(graph))?;
+    }
+    Ok(Row::new(values))
+}
+
+impl Slot {
+    fn of(test: &Test, place: &Place) -> Slot
+        ensures { result ≡ slot_of test.now place.now }
+    {
+        match place {
+            Place::Reg(thread, name) => match test.threads().get(*thread) {
+                Some(program) => Slot::Register(*thread, place_of(program.registers(), name)),
+                None => Slot::Register(*thread, 0),
+            },
+            Place::Loc(name) => Slot::Location(place_of(test.locations(), name)),
+        }
+    }
+
+    fn value_in(self, graph: &Graph) -> u32
+        ensures { result ≡ slot_value graph.now self }
+    {
+        match self {
+            Slot::Register(thread, register) => match graph.runs().get(thread) {
+                Some(run) => run.registers().get(register).copied().unwrap_or(0),
+                None => 0,
+            },
+            Slot::Location(location) => final_location(graph, location),
+        }
+    }
+}
+
+/// The value of the last write in the coherence order of a location.
+fn final_location(graph: &Graph, location: usize) -> u32
+    ensures { result ≡ final_location graph.now location }
+{
+    let initial = EventId::Initial(location);
+    match graph.co().get(location) {
+        Some(order) => write_value(graph, order.writes().last().copied().unwrap_or(initial)),
+        None => write_value(graph, initial),
+    }
+}
+
+/// The value that a write writes.
+fn write_value(graph: &Graph, write: EventId) -> u32
+    ensures { result ≡ write_value graph.now.init graph.now.runs write }
+{
+    match write {
+        EventId::Initial(location) => graph.init().get(location).copied().unwrap_or(0),
+        EventId::Own(thread, place) => match graph.runs().get(thread) {
+            Some(run) => match run.events().get(place) {
+                Some(event) => event.value,
+                None => 0,
+            },
+            None => 0,
+        },
+    }
+}
+
+/// The first place of a name.
+fn place_of(names: &[Name], name: &Name) -> usize
+    ensures { result ≡ place_of name.now names.now }
+{
+    for (place, other) in names.iter().enumerate() {
+        if other == name {
+            return place;
+        }
+    }
+    names.len()
+}

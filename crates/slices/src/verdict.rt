@@ -1,0 +1,136 @@
+//! Verdicts.
+
+ghost use Rattle.std.specs.Prelude.{◌≡◌, IfOk};
+ghost use Rattle.slices.specs.Outcomes.{is_ok};
+ghost use Rattle.slices.specs.Parts.{IsOver};
+ghost use Rattle.slices.specs.Outcomes.{word};
+ghost use Rattle.slices.specs.Verdicts.{IsVerdict};
+
+use crate::finding::{Finding, FindingRef};
+use crate::piece::PieceResult;
+use crate::work::WorkRef;
+use candidates::laws;
+use cat_model::FileVersion;
+use std::alloc::{AllocError, Global};
+use std::marker::Model;
+use std::sync::Arc;
+
+/// The verdict on a work: it is right for the work's test under its model.
+#[derive(Drop)]
+pub struct Verdict {
+    work: WorkRef,
+    version: u32,
+    found: FindingRef,
+}
+
+impl Model for Verdict {
+    ghost use Rattle.slices.specs.Codes.{coded_judged};
+    ghost use Rattle.slices.specs.Judgements.{Judged};
+    ghost use Rattle.slices.specs.Verdicts.{IsVerdict};
+
+    ghost Value = { Judged };
+
+    ghost coded = { coded_judged };
+
+    ghost view = { λ v. record { work = v.work; version = v.version; outcome = v.found } };
+
+    ghost invariant = { λ v. IsVerdict v.work.test v.work.model.items v.found };
+}
+
+/// A verdict that is kept more than once. Contracts see the verdict.
+#[derive(Drop)]
+pub struct VerdictRef {
+    verdict: Arc<Verdict>,
+}
+
+impl Model for VerdictRef {
+    ghost use Rattle.std.specs.Arc.{arc_value};
+    ghost use Rattle.slices.specs.Codes.{coded_judged};
+    ghost use Rattle.slices.specs.Judgements.{Judged};
+
+    ghost Value = { Judged };
+
+    ghost coded = { coded_judged };
+
+    ghost view = { λ v. arc_value v.verdict };
+}
+
+impl VerdictRef {
+    /// Keeps a verdict.
+    pub fn new(alloc: Global, verdict: Verdict) -> Result<Self, AllocError>
+        ensures value { IfOk result (λ v. v ≡ verdict) }
+    {
+        Ok(VerdictRef {
+            verdict: Arc::new(alloc, verdict)?,
+        })
+    }
+
+    /// The verdict.
+    pub fn verdict(&self) -> &Verdict
+        ensures { result.now ≡ self.now }
+    {
+        &self.verdict
+    }
+}
+
+impl Verdict {
+    /// What a result over all numbers of a work says.
+    pub fn of(work: &WorkRef, version: u32, part: &PieceResult) -> Result<Self, AllocError>
+        requires { IsOver work.now part.now }
+        ensures work { IfOk result (λ v. v.work ≡ work.now) }
+        ensures version { IfOk result (λ v. v.version ≡ version) }
+        ensures outcome { IfOk result (λ v. v.outcome ≡ part.now.found) }
+        ensures right { IfOk result (λ v. IsVerdict v.work.test v.work.model.items v.outcome) }
+    {
+        laws::counting();
+        let _size = work.work().size();
+        Ok(Verdict {
+            work: work.share()?,
+            version,
+            found: part.found().share()?,
+        })
+    }
+
+    /// The work that was judged.
+    pub fn work(&self) -> &WorkRef
+        ensures { result.now ≡ self.now.work }
+    {
+        &self.work
+    }
+
+    /// The version of the test.
+    pub fn version(&self) -> u32
+        ensures { result ≡ self.now.version }
+    {
+        self.version
+    }
+
+    /// The files of the model, with their versions.
+    pub fn files(&self) -> &[FileVersion]
+        ensures { result.now ≡ self.now.work.model.files }
+    {
+        self.work.work().model().files()
+    }
+
+    /// What is found over all allowed executions, each counted once.
+    pub fn finding(&self) -> &Finding
+        ensures outcome { result.now ≡ self.now.outcome }
+        ensures right { IsVerdict self.now.work.test self.now.work.model.items self.now.outcome }
+    {
+        self.found.finding()
+    }
+
+    /// Whether the answer to the test's question is yes.
+    pub fn ok(&self) -> bool
+        ensures { result ≡ is_ok self.now.outcome }
+    {
+        self.found.finding().ok()
+    }
+
+    /// How often the proposition was seen: `Never`, `Always` or `Sometimes`.
+    pub fn word(&self) -> &str
+        ensures { result.now ≡ word self.now.outcome }
+    {
+        self.found.finding().word()
+    }
+}

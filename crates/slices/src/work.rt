@@ -1,0 +1,180 @@
+//! What is evaluated: a test under a model.
+
+ghost use Rattle.std.specs.Prelude.{◌≡◌, ◌↔◌, IsTrue, IfOk, IfErr};
+ghost use Rattle.candidates.specs.Candidates.{choices_of};
+ghost use Rattle.candidates.specs.Faults.{IsSpaceFault};
+ghost use Rattle.slices.specs.Parts.{IsAdmitted, test_size};
+
+use candidates::{Space, SpaceFault};
+use cat_model::Model;
+use litmus_c::Test;
+use std::alloc::{AllocError, Global};
+use std::sync::Arc;
+
+/// A test that is kept more than once. Contracts see the test.
+#[derive(Drop)]
+pub struct TestRef {
+    test: Arc<Test>,
+}
+
+impl std::marker::Model for TestRef {
+    ghost use Rattle.std.specs.Arc.{arc_value};
+    ghost use Rattle.litmus_tree.specs.Tree.{Litmus};
+    ghost use Rattle.litmus_tree.specs.Codes.{coded_litmus};
+
+    ghost Value = { Litmus };
+
+    ghost coded = { coded_litmus };
+
+    ghost view = { λ t. arc_value t.test };
+}
+
+/// A test under a model. It holds the numbered candidates of the test, so that a piece of them can be evaluated.
+#[derive(Drop)]
+pub struct Work {
+    test: TestRef,
+    model: Model,
+    space: Space,
+}
+
+impl std::marker::Model for Work {
+    ghost use Rattle.std.specs.Prelude.{◌≡◌};
+    ghost use Rattle.candidates.specs.Candidates.{choices_of};
+    ghost use Rattle.slices.specs.Parts.{IsAdmitted};
+    ghost use Rattle.slices.specs.Works.{Task};
+    ghost use Rattle.slices.specs.Codes.{coded_task};
+
+    ghost Value = { Task };
+
+    ghost coded = { coded_task };
+
+    ghost view = { λ w. record { test = w.test; model = w.model } };
+
+    ghost invariant = { λ w. (w.space ≡ choices_of w.test) × IsAdmitted w.test };
+}
+
+/// A work that is kept more than once. Contracts see the work.
+#[derive(Drop)]
+pub struct WorkRef {
+    work: Arc<Work>,
+}
+
+impl std::marker::Model for WorkRef {
+    ghost use Rattle.std.specs.Arc.{arc_value};
+    ghost use Rattle.slices.specs.Works.{Task};
+    ghost use Rattle.slices.specs.Codes.{coded_task};
+
+    ghost Value = { Task };
+
+    ghost coded = { coded_task };
+
+    ghost view = { λ w. arc_value w.work };
+}
+
+impl TestRef {
+    /// Keeps a test.
+    pub fn new(alloc: Global, test: Test) -> Result<Self, AllocError>
+        ensures { IfOk result (λ t. t ≡ test) }
+    {
+        Ok(TestRef {
+            test: Arc::new(alloc, test)?,
+        })
+    }
+
+    /// The test.
+    pub fn test(&self) -> &Test
+        ensures { result.now ≡ self.now }
+    {
+        &self.test
+    }
+
+    /// The same test, kept once more.
+    pub fn share(&self) -> Result<Self, AllocError>
+        ensures { IfOk result (λ t. t ≡ self.now) }
+    {
+        Ok(TestRef {
+            test: Arc::try_clone(&self.test)?,
+        })
+    }
+}
+
+impl Work {
+    /// The test under the model.
+    pub fn new(alloc: Global, test: TestRef, model: Model) -> Result<Self, SpaceFault>
+        ensures work { IfOk result (λ w. w ≡ record { test = test; model = model }) }
+        ensures admitted { IfOk result (λ w. IsAdmitted w.test) }
+        // A thread has too many runs, the test has too many candidates, or memory ran out.
+        ensures fault { IfErr result (IsSpaceFault test) }
+    {
+        let tree = test.test();
+        match Space::new(alloc, tree) {
+            Ok(space) => Ok(Work { test, model, space }),
+            Err(fault) => Err(fault),
+        }
+    }
+
+    /// The test.
+    pub fn test(&self) -> &Test
+        ensures { result.now ≡ self.now.test }
+    {
+        self.test.test()
+    }
+
+    /// The model.
+    pub fn model(&self) -> &Model
+        ensures { result.now ≡ self.now.model }
+    {
+        &self.model
+    }
+
+    /// How many numbers the test has.
+    pub fn size(&self) -> u64
+        ensures size { result ≡ test_size self.now.test }
+        ensures admitted { IsAdmitted self.now.test }
+    {
+        self.space.size()
+    }
+
+    /// The numbered candidates of the test.
+    pub fn space(&self) -> &Space
+        ensures space { result.now ≡ choices_of self.now.test }
+        ensures admitted { IsAdmitted self.now.test }
+    {
+        &self.space
+    }
+}
+
+impl WorkRef {
+    /// Keeps a work.
+    pub fn new(alloc: Global, work: Work) -> Result<Self, AllocError>
+        ensures { IfOk result (λ w. w ≡ work) }
+    {
+        Ok(WorkRef {
+            work: Arc::new(alloc, work)?,
+        })
+    }
+
+    /// The work.
+    pub fn work(&self) -> &Work
+        ensures { result.now ≡ self.now }
+    {
+        &self.work
+    }
+
+    /// Whether it is the same test under the same model, of the same files and versions.
+    #[tactic(auto, using(litmus_tree::specs::Exact::litmus_exact, cat_model::specs::Equality::assembly_exact))]
+    pub fn same(&self, other: &WorkRef) -> bool
+        ensures { IsTrue result ↔ (self.now ≡ other.now) }
+    {
+        self.work().test() == other.work().test() && self.work().model() == other.work().model()
+    }
+
+    /// The same work, kept once more.
+    pub fn share(&self) -> Result<Self, AllocError>
+        ensures { IfOk result (λ w. w ≡ self.now) }
+    {
+        Ok(WorkRef {
+            work: Arc::try_clone(&self.work)?,
+        })
+    }
+}
