@@ -1,24 +1,8 @@
 //! Runs a script of litmus tests over a book, or evaluates one test.
 #![tactic(auto)]
 
-mod answer;
-mod block;
-mod fault;
-mod lines;
-mod main_file;
-mod one;
-mod options;
-mod order;
-mod parts;
-mod print;
-mod refusal;
-mod script;
-mod serve;
-mod sessions;
-
-use crate::fault::ServeFault;
-use crate::one::OneFault;
-use crate::options::{Options, Task, read_task};
+use one_test::{OneFault, one};
+use scripts::{Options, ServeFault, Task, read_task, serve};
 use std::io::BufWriter;
 use std::process::ExitCode;
 use std::{env, io};
@@ -52,7 +36,7 @@ fn main(rt: HostRuntime) -> ExitCode {
 fn serve_script(rt: &(impl Input + Print + AllocGlobal), options: &Options) -> ExitCode {
     let mut reader = ReadSource::new(rt.reader());
     let mut writer = WriteSink::new(io::writer(rt));
-    match serve::serve(rt.alloc(), &mut reader, &mut writer, options) {
+    match serve(rt.alloc(), &mut reader, &mut writer, options) {
         Ok(()) => ExitCode::SUCCESS,
         Err(ServeFault::BadLine(_)) => ExitCode::from(BAD),
         Err(_) => ExitCode::FAILURE,
@@ -77,12 +61,9 @@ fn summarize(rt: &(impl Input + Print + AllocGlobal)) -> Result<(), OneFault> {
     };
     let mut reader = ReadSource::new(rt.reader());
     let mut writer = WriteSink::new(buffer);
-    one::one(rt.alloc(), &mut reader, b"", 1, &mut writer)?;
+    one(rt.alloc(), &mut reader, b"", 1, &mut writer)?;
     match writer.flush() {
         Ok(()) => Ok(()),
         Err(_) => Err(OneFault::Write),
     }
 }
-
-#[cfg(test)]
-mod tests;

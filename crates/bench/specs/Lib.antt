@@ -1,7 +1,0 @@
-pub mod Faults
-pub mod Inputs
-pub mod Lines
-pub mod Orders
-pub mod Refusals
-pub mod Replies
-pub mod Serving

@@ -1,0 +1,18 @@
+//! Tests that cross crates: worked rows of `one` under models, scripts, the texts of `examples/`, and calls that are refused
+//! memory. They stand here so that the crates that they test are proved once.
+#![tactic(auto)]
+
+#[cfg(test)]
+mod alone;
+#[cfg(test)]
+mod calls;
+#[cfg(test)]
+mod examples;
+#[cfg(test)]
+mod models;
+#[cfg(test)]
+mod rows;
+#[cfg(test)]
+mod served;
+#[cfg(test)]
+mod words;

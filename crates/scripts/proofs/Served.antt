@@ -1,0 +1,105 @@
+-- Answers one after another, and what stands behind them.
+use Rattle.std.proofs.Common.{◌≡◌, ◌≢◌, ℕ, List, [], ◌∷◌, ◌++◌, length, Option, Result, Ok, Err, inl, inr, refl, sym, ap, ◌∙◌, subst, append_assoc, append-nil}
+use Rattle.std.specs.Prelude.{IfErr, IsErrAnd}
+use Rattle.std.specs.Io.KnownBytes.{Appends}
+use Rattle.std.specs.List.{flat_map}
+use Rattle.std.proofs.KnownBytes.{Appends-trans, Appends-nil}
+use Rattle.std.proofs.lemmas.Grind.{flat_map-append}
+use Rattle.wb_text.specs.Memory.{AppendsFront}
+use Rattle.book.specs.Lines.{Line}
+use Rattle.book.specs.Step.{Legal}
+use Rattle.book.specs.Workbench.{empty}
+use Rattle.book.specs.declared.limits.Limits.{Limits}
+use Rattle.report.proofs.Written.{front_of}
+use Rattle.scripts.specs.Serving.{Call, answer_text, entry_of, calls_text, entries_of, finish_text, bad_line_text, Closes, Tells, IsServed}
+use Rattle.scripts.specs.declared.fault.ServeFault.{ServeFault}
+use Rattle.scripts.specs.declared.fault.ServeFault.TheVariants as faults
+
+flat_map-last : {X Y : Type 0} (f : X → List Y) (xs : List X) (x : X) → flat_map f (xs ++ x ∷ []) ≡ flat_map f xs ++ f x
+flat_map-last f xs x = flat_map-append f xs (x ∷ []) ∙ ap (λ l. flat_map f xs ++ l) (append-nil (f x))
+
+-- one answer more
+
+pub grown : (start mid new : List Line) (calls : List Call) (c : Call) → mid ≡ start ++ entries_of calls → new ≡ mid ++ entry_of c.answer → new ≡ start ++ entries_of (calls ++ c ∷ [])
+grown start mid new calls c done more =
+    more ∙ ap (λ l. l ++ entry_of c.answer) done ∙ append_assoc start (entries_of calls) (entry_of c.answer) ∙ ap (λ l. start ++ l) (sym (flat_map-last (λ d. entry_of d.answer) calls c))
+
+pub written : (old mid new : Option (List ℕ)) (calls : List Call) (c : Call) → Appends old mid (calls_text calls) → Appends mid new (answer_text c.answer) → Appends old new (calls_text (calls ++ c ∷ []))
+written old mid new calls c done more =
+    let P : List ℕ → Type 0 = λ l. Appends old new l in
+    subst P (sym (flat_map-last (λ d. answer_text d.answer) calls c)) (Appends-trans old mid new (calls_text calls) (answer_text c.answer) done more)
+
+pub written_partly : (old mid new : Option (List ℕ)) (calls : List Call) (c : Call) → Appends old mid (calls_text calls) → AppendsFront mid new (answer_text c.answer) → AppendsFront old new (calls_text (calls ++ c ∷ []))
+written_partly old mid new calls c done more =
+    front_of old mid new (calls_text calls) (answer_text c.answer) [] (calls_text (calls ++ c ∷ [])) done more
+    (flat_map-last (λ d. answer_text d.answer) calls c ∙ ap (λ l. calls_text calls ++ l) (sym (append-nil (answer_text c.answer))))
+
+-- the result of a call that doesn't write
+
+pub tells_whole : {A : Type 0} (old new : Option (List ℕ)) (r : Result A ServeFault) (text : List ℕ) → IfErr r (λ e. e ≢ faults.Write) → Appends old new text → Tells old new r text
+tells_whole old new (Ok done) text other w = w
+tells_whole old new (Err faults.Read) text other w = w
+tells_whole old new (Err faults.Write) text other w = absurd (other refl)
+tells_whole old new (Err (faults.BadLine line)) text other w = w
+tells_whole old new (Err faults.NoMemory) text other w = w
+
+pub tells_part : {A : Type 0} (old new : Option (List ℕ)) (r : Result A ServeFault) (text : List ℕ) → IsErrAnd r (λ e. e ≡ faults.Write) → AppendsFront old new text → Tells old new r text
+tells_part old new (Ok done) text is part = absurd is
+tells_part old new (Err faults.Read) text is part = cc
+tells_part old new (Err faults.Write) text is part = part
+tells_part old new (Err (faults.BadLine line)) text is part = cc
+tells_part old new (Err faults.NoMemory) text is part = cc
+
+-- where the writer fails at what stands behind the calls
+
+pub closes_finish : {A : Type 0} (n : ℕ) (r : Result A ServeFault) → IsErrAnd r (λ e. e ≡ faults.Write) → Closes n r (finish_text n)
+closes_finish n (Ok done) is = absurd is
+closes_finish n (Err faults.Read) is = cc
+closes_finish n (Err faults.Write) is = inr (inl refl)
+closes_finish n (Err (faults.BadLine line)) is = cc
+closes_finish n (Err faults.NoMemory) is = cc
+
+pub closes_bad_line : {A : Type 0} (n line : ℕ) (r : Result A ServeFault) → IsErrAnd r (λ e. e ≡ faults.Write) → Closes n r (bad_line_text line)
+closes_bad_line n line (Ok done) is = absurd is
+closes_bad_line n line (Err faults.Read) is = cc
+closes_bad_line n line (Err faults.Write) is = inr (inr (line, refl))
+closes_bad_line n line (Err (faults.BadLine other)) is = cc
+closes_bad_line n line (Err faults.NoMemory) is = cc
+
+-- the whole, from its parts
+pub served : {A : Type 0} (limits kept : Limits) (journal : List Line) (calls : List Call) (old new : Option (List ℕ)) (r : Result A ServeFault) (n : ℕ) (closing : List ℕ)
+    → Legal kept journal → kept ≡ limits → journal ≡ entries_of calls → n ≡ length journal → Closes n r closing → Tells old new r (calls_text calls ++ closing) → IsServed limits old new r
+served limits kept journal calls old new r n closing legal same made count closes told =
+    let P : Limits → Type 0 = λ l. Legal l (entries_of calls) in
+    let Q : List Line → Type 0 = λ l. Legal kept l in
+    let C : ℕ → Type 0 = λ m. Closes m r closing in
+    record {
+      calls = calls;
+      legal = subst P same (subst Q made legal);
+      closing = closing;
+      closes = subst C (count ∙ ap length made) closes;
+      told = told;
+    }
+
+-- nothing stands behind the answers
+pub tells_nothing_more : {A : Type 0} (old new : Option (List ℕ)) (r : Result A ServeFault) (text : List ℕ) → Tells old new r text → Tells old new r (text ++ [])
+tells_nothing_more old new r text t = let P : List ℕ → Type 0 = λ l. Tells old new r l in subst P (sym (append-nil text)) t
+
+pub front_behind : (old mid new : Option (List ℕ)) (text closing : List ℕ) → Appends old mid text → AppendsFront mid new closing → AppendsFront old new (text ++ closing)
+front_behind old mid new text closing done part =
+    front_of old mid new text closing [] (text ++ closing) done part (ap (λ l. text ++ l) (sym (append-nil closing)))
+
+-- no memory for the script or the book
+pub unserved : {A : Type 0} (limits : Limits) (held : Option (List ℕ)) (r : Result A ServeFault) → IsErrAnd r (λ e. e ≡ faults.NoMemory) → IsServed limits held held r
+unserved limits held (Ok done) is = absurd is
+unserved limits held (Err faults.NoMemory) is = record { calls = []; legal = (empty limits, refl); closing = []; closes = refl; told = Appends-nil held }
+unserved limits held (Err faults.Read) is = cc
+unserved limits held (Err faults.Write) is = cc
+unserved limits held (Err (faults.BadLine line)) is = cc
+
+-- told by the same result
+pub told_as : {A : Type 0} (old new : Option (List ℕ)) (r : Result A ServeFault) (fault known : ServeFault) (text : List ℕ) → r ≡ Err fault → fault ≡ known → Tells old new r text → Tells {A = A} old new (Err known) text
+told_as {A} old new r fault known text e same t =
+    let P : Result A ServeFault → Type 0 = λ q. Tells old new q text in
+    let Q : ServeFault → Type 0 = λ f. Tells {A = A} old new (Err f) text in
+    subst Q same (subst P e t)

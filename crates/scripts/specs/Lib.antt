@@ -1,0 +1,5 @@
+pub mod Lines
+pub mod Orders
+pub mod Refusals
+pub mod Replies
+pub mod Serving

@@ -1,0 +1,75 @@
+-- What becomes of a script.
+use Rattle.std.specs.Prelude.{◌≡◌, ℕ, List, [], ◌∷◌, ◌++◌, length, Option, Result, Ok, Err, codes, decimal, ◌⊎◌}
+use Rattle.std.specs.Io.KnownBytes.{Appends}
+use Rattle.std.specs.List.{flat_map}
+use Rattle.wb_text.specs.Memory.{AppendsFront}
+use Rattle.book.specs.Lines.{Line}
+use Rattle.book.specs.Step.{Legal}
+use Rattle.book.specs.declared.kept.Refused.{Refused}
+use Rattle.book.specs.declared.kept.Refused.TheVariants.{JournalFull, NoMemory}
+use Rattle.book.specs.declared.limits.Limits.{Limits}
+use Rattle.scripts.specs.Orders.{Answers}
+use Rattle.scripts.specs.Replies.{reply_text}
+use Rattle.scripts.specs.declared.answer.Answer.{Answer}
+use Rattle.scripts.specs.declared.answer.Answer.TheVariants.{Made, NotTaken}
+use Rattle.scripts.specs.declared.order.Order.{Order}
+use Rattle.scripts.specs.declared.fault.ServeFault.{ServeFault}
+use Rattle.scripts.specs.declared.fault.ServeFault.TheVariants as faults
+
+abbrev pub not_taken_text : Refused → List ℕ
+not_taken_text JournalFull = codes "not taken JournalFull\n"
+not_taken_text NoMemory = codes "not taken NoMemory\n"
+
+-- What is written of an answer: the reply of the entry that was made, or that none was.
+abbrev pub answer_text : Answer → List ℕ
+answer_text (Made line) = reply_text line.reply
+answer_text (NotTaken why) = not_taken_text why
+
+-- the entry that was made, if any
+abbrev pub entry_of : Answer → List Line
+entry_of (Made line) = line ∷ []
+entry_of (NotTaken why) = []
+
+-- A call of a script: what was asked, and what answered it.
+pub record Call : Type 0 where
+  pub order : Order
+  pub answer : Answer
+  pub fits : Answers order answer
+
+-- the entries that calls made
+abbrev pub entries_of : List Call → List Line
+entries_of calls = flat_map (λ c. entry_of c.answer) calls
+
+-- what is written of calls, one after another
+abbrev pub calls_text : List Call → List ℕ
+calls_text calls = flat_map (λ c. answer_text c.answer) calls
+
+abbrev pub finish_text : ℕ → List ℕ
+finish_text entries = codes "finish ok " ++ decimal entries ++ codes "\n"
+
+abbrev pub bad_line_text : ℕ → List ℕ
+bad_line_text line = codes "bad line " ++ decimal line ++ codes "\n"
+
+-- What is to stand behind the calls: the number of entries at the end of the script, a bad line, or nothing.
+abbrev pub Closes : {A : Type 0} → ℕ → Result A ServeFault → List ℕ → Type 0
+Closes entries (Ok done) text = text ≡ finish_text entries
+Closes entries (Err (faults.BadLine line)) text = text ≡ bad_line_text line
+Closes entries (Err faults.Write) text = (text ≡ []) ⊎ ((text ≡ finish_text entries) ⊎ ((line : ℕ) × (text ≡ bad_line_text line)))
+Closes entries (Err faults.Read) text = text ≡ []
+Closes entries (Err faults.NoMemory) text = text ≡ []
+
+-- The writer was given the text; where it failed, a front part of it.
+abbrev pub Tells : {A : Type 0} → Option (List ℕ) → Option (List ℕ) → Result A ServeFault → List ℕ → Type 0
+Tells old new (Ok done) text = Appends old new text
+Tells old new (Err faults.Write) text = AppendsFront old new text
+Tells old new (Err faults.Read) text = Appends old new text
+Tells old new (Err (faults.BadLine line)) text = Appends old new text
+Tells old new (Err faults.NoMemory) text = Appends old new text
+
+-- Calls made the journal of a book with these limits, and this was written of them.
+pub record IsServed {A : Type 0} (limits : Limits) (old new : Option (List ℕ)) (result : Result A ServeFault) : Type 0 where
+  pub calls : List Call
+  pub legal : Legal limits (entries_of calls)
+  pub closing : List ℕ
+  pub closes : Closes (length (entries_of calls)) result closing
+  pub told : Tells old new result (calls_text calls ++ closing)

@@ -1,0 +1,66 @@
+//! From a script to the replies of a book.
+
+ghost use Rattle.std.specs.Prelude.{◌≡◌, ◌++◌, List, true, Err};
+ghost use Rattle.scripts.specs.Serving.{Call, IsServed, Tells, entries_of, calls_text};
+
+use crate::fault::ServeFault;
+use crate::lines::MOST_LINES;
+use crate::options::Options;
+use crate::print::{give_answer, write_bad_line, write_finish};
+use crate::script::Script;
+use crate::sessions::{NoPiece, Sessions};
+use std::alloc::Global;
+use wb_text::{Sink, Source};
+
+/// Reads a script line by line, makes its calls on a book, and writes what becomes of each before it reads on.
+pub fn serve<R: Source, W: Sink>(
+    alloc: Global,
+    reader: &mut R,
+    writer: &mut W,
+    options: &Options,
+) -> Result<(), ServeFault>
+    // What is written is what answered the calls that made a legal journal, and then its length or that a line is bad.
+    ensures served { IsServed options.now.limits (W.held writer.old) (W.held writer.new) result }
+    ensures write { result ≡ Err ServeFault.Write → W.has_failed writer.new ≡ true }
+{
+    let mut script = Script::new(alloc)?;
+    let mut sessions = Sessions::new(alloc, options.limits)?;
+    let outcome = answer_all(alloc, &mut script, reader, &mut sessions, writer);
+    let entries = sessions.entry_count();
+    match outcome {
+        Ok(()) => Ok(write_finish(entries, writer)?),
+        Err(ServeFault::BadLine(line)) => {
+            write_bad_line(line, writer)?;
+            Err(ServeFault::BadLine(line))
+        }
+        Err(ServeFault::Read) => Err(ServeFault::Read),
+        Err(ServeFault::Write) => Err(ServeFault::Write),
+        Err(ServeFault::NoMemory) => Err(ServeFault::NoMemory),
+    }
+}
+
+/// Writes what becomes of each order of a script.
+fn answer_all<R: Source, W: Sink>(
+    alloc: Global,
+    script: &mut Script,
+    reader: &mut R,
+    sessions: &mut Sessions,
+    writer: &mut W,
+) -> Result<(), ServeFault>
+    ensures told { (calls : List Call)
+        × (sessions.new.book.journal ≡ sessions.old.book.journal ++ entries_of calls)
+        × Tells (W.held writer.old) (W.held writer.new) result (calls_text calls) }
+    ensures limits { sessions.new.book.limits ≡ sessions.old.book.limits }
+    ensures write { result ≡ Err ServeFault.Write → W.has_failed writer.new ≡ true }
+{
+    for _ in 0..=MOST_LINES {
+        let Some(order) = script.next(reader)? else {
+            return Ok(());
+        };
+        match sessions.call(order) {
+            Ok(answer) => give_answer(alloc, &answer, writer)?,
+            Err(NoPiece) => return Err(ServeFault::BadLine(script.line_count())),
+        }
+    }
+    Err(ServeFault::Read)
+}
