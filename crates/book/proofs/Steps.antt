@@ -25,7 +25,8 @@ use Rattle.book.specs.Jobs.{Slice, done, is_done, marked}
 use Rattle.slices.specs.Judgements.{Judged}
 use Rattle.book.specs.Lines.{returned}
 use Rattle.slices.specs.Parts.{IsAdmitted, test_size, Part, Portion}
-use Rattle.book.specs.Step.{Step, Asks, IsModelOf, Polls, Returns, ReturnsTo, HasRange, IsOwn, ended, taken}
+use Rattle.book.specs.Step.{Step, Asks, Polls, Returns, ReturnsTo, HasRange, IsOwn, ended, taken}
+use Rattle.slices.specs.Works.{IsModelOf}
 use Rattle.slices.specs.Verdicts.{IsVerdict}
 use Rattle.book.specs.Workbench.{Workbench, test_of, test_version, job_of, claim_of, replaced, is_free, free_among, has_free}
 use Rattle.slices.specs.Works.{Task}

@@ -5,13 +5,9 @@ use Rattle.std.specs.List.{list_all}
 use Rattle.std.specs.Str.{bytes_eq}
 use Rattle.indexmap.specs.IndexMap.{insert_entry}
 use Rattle.listings.specs.Lists.{IsIn}
-use Rattle.cat_model.specs.Closure.{IsClosure}
 use Rattle.cat_model.specs.Faults.{IsCause}
 use Rattle.cat_model.specs.Files.{version_of, store}
 use Rattle.cat_model.specs.Models.{Assembly}
-use Rattle.cat_model.specs.Scopes.{IsModel}
-use Rattle.cat_model.specs.declared.fault.ModelFault.{ModelFault}
-use Rattle.cat_model.specs.declared.files.Entry.{Entry}
 use Rattle.cat_syntax.specs.Reads.{Reads as ReadsCat}
 use Rattle.cat_syntax.specs.Tree.{File}
 use Rattle.cat_syntax.specs.declared.fault.CatFault.TheVariants as of_cat
@@ -23,6 +19,7 @@ use Rattle.candidates.specs.declared.fault.SpaceFault.TheVariants as of_space
 use Rattle.book.specs.Lines.{Line}
 use Rattle.slices.specs.Parts.{IsAdmitted, test_size}
 use Rattle.slices.specs.Verdicts.{IsVerdict}
+use Rattle.slices.specs.Works.{IsModelOf}
 use Rattle.book.specs.Jobs as jobs
 use Rattle.book.specs.Jobs.{Slice, done, is_done}
 use Rattle.book.specs.Workbench.{Workbench, empty, test_version, test_of, job_of, claim_of, is_claim, replaced, is_free, any_free, marked_in}
@@ -62,13 +59,6 @@ pub record IsCut (n : ℕ) (slices : List Slice) : Type 0 where
   pub fresh : list_all (λ x. not x.returned) slices ≡ true
   pub within : list_all (λ x. nat_le x.from x.to && nat_le x.to n) slices ≡ true
   pub once : (i : ℕ) → i < n → count_by (has_number i) slices ≡ 1
-
--- The files give this model at the root: its items with every include in place and the files that were read, and no cause
--- to refuse it stands.
-pub record IsModelOf (cats : List Entry) (root : Word) (m : Assembly) : Type 0 where
-  pub closure : IsClosure cats root m.items m.files
-  pub model : IsModel m.items
-  pub sound : (fault : ModelFault) → ¬ IsCause fault cats root
 
 abbrev pub AsksFor : Workbench → Word → Litmus → Assembly → Reply → Workbench → Type 0
 AsksFor s test t m (Refused (Space fault)) s' = IsSpaceFault t fault × (fault ≢ of_space.NoMemory) × (s' ≡ s)

@@ -6,7 +6,8 @@ ghost use Rattle.book.specs.Changes.{changed, IsReady, FitsJob};
 ghost use Rattle.book.specs.Jobs.{HasOneSlice};
 ghost use Rattle.book.specs.Lines.{answers, seen, returned, shown};
 ghost use Rattle.cat_model.specs.Files.{version_of, store};
-ghost use Rattle.book.specs.Step.{Step, others, IsOwn, IsModelOf};
+ghost use Rattle.book.specs.Step.{Step, others, IsOwn};
+ghost use Rattle.slices.specs.Works.{IsModelOf};
 ghost use Rattle.book.specs.declared.records.Said.{Said};
 ghost use Rattle.book.specs.Workbench.{empty, test_of, job_of, claim_of, is_claim, is_claimed, is_replaced, replaced, replaced_file, has_free, marked_in};
 

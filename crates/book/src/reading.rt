@@ -9,7 +9,7 @@ ghost use Rattle.cat_syntax.specs.Tree.{File};
 ghost use Rattle.cat_syntax.specs.declared.fault.CatFault.TheVariants as of_cat;
 ghost use Rattle.cat_model.specs.Faults.{IsCause};
 ghost use Rattle.cat_model.specs.declared.fault.ModelFault.TheVariants as of_model;
-ghost use Rattle.book.specs.Step.{IsModelOf};
+ghost use Rattle.slices.specs.Works.{IsModelOf};
 
 use cat_model::{Files, Model, ModelFault, resolve};
 use cat_syntax::{CatFault, CatFile, read_cat};

@@ -13,7 +13,7 @@ use Rattle.candidates.specs.Faults.{IsSpaceFault}
 use Rattle.one_test.specs.declared.summary.OneFault.{OneFault}
 use Rattle.one_test.specs.declared.summary.OneFault.TheVariants.{Read, Test, Cat, Model, Space, Write, NoMemory}
 use Rattle.slices.specs.Outcomes.{Outcome}
-use Rattle.book.specs.Step.{IsModelOf}
+use Rattle.slices.specs.Works.{IsModelOf}
 use Rattle.slices.specs.Verdicts.{IsVerdict}
 use Rattle.report.specs.Texts.{Text}
 

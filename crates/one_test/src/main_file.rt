@@ -3,7 +3,7 @@
 ghost use Rattle.std.specs.Prelude.{◌≡◌, ◌⊎◌, IfOk, IfErr};
 ghost use Rattle.cat_model.specs.Faults.{IsCause};
 ghost use Rattle.cat_model.specs.declared.fault.ModelFault.TheVariants as of_model;
-ghost use Rattle.book.specs.Step.{IsModelOf};
+ghost use Rattle.slices.specs.Works.{IsModelOf};
 ghost use Rattle.one_test.specs.Inputs.{main_name, files_with};
 
 use cat_model::{Files, Model, ModelFault, resolve};

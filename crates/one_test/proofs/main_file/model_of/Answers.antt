@@ -7,7 +7,7 @@ use Rattle.cat_model.specs.Scopes.{IsModel}
 use Rattle.cat_model.specs.declared.fault.ModelFault.{ModelFault}
 use Rattle.cat_model.specs.declared.files.Entry.{Entry}
 use Rattle.cat_syntax.specs.Tree.{Word}
-use Rattle.book.specs.Step.{IsModelOf}
+use Rattle.slices.specs.Works.{IsModelOf}
 use Rattle.one_test.proofs.main_file.model_of.Goals as goal
 
 resolved : (es : List Entry) (root : Word) (r : Result Assembly ModelFault) → IfOk r (λ m. IsClosure es root m.items m.files × IsModel m.items) → OnOk r ((e : ModelFault) → ¬ IsCause e es root) → IfOk r (IsModelOf es root)
