@@ -4,12 +4,12 @@ use Rattle.std.specs.List.{All}
 use Rattle.events.specs.declared.event.Event.{Event}
 use Rattle.events.specs.declared.event.EventId.{EventId}
 use Rattle.events.specs.declared.event.EventId.TheVariants.{Initial, Own}
-use Rattle.events.specs.Executions.{ThreadRun, is_read, IsNamed, IsGraph}
+use Rattle.events.specs.Executions.{ThreadRun, is_read, IsNamed, IsGraph, empty_run}
 use Rattle.listings.specs.Lists.{IsIn, StandsAt, ForEach, tabulate}
 use Rattle.listings.proofs.Listings.{in_get_or}
 use Rattle.c11_threads.specs.Bounds.{IsPlaced}
 use Rattle.candidates.specs.Executions.{Writes, IsCoherence, reads, block}
-use Rattle.candidates.specs.Candidates.{no_run, candidate, write_value}
+use Rattle.candidates.specs.Candidates.{candidate, write_value}
 use Rattle.candidates.specs.Bounds.{AreWithin}
 use Rattle.std.proofs.lemmas.List.Elements.{All-nil, All-cons, All-head, All-tail, All-append}
 use Rattle.candidates.proofs.ByLocation.{placed_read}
@@ -25,7 +25,7 @@ named : (init : List ℕ) (runs : List ThreadRun) (w : EventId) (x v : ℕ) → 
 named init runs (Initial y) x v l h = omega (arith, l, h.0)
 named init runs (Own k p) x v l h =
     let P : ThreadRun → Type 0 = λ run. p < length run.events in
-    (stands_below runs k h.0 h.2, subst P (sym (stands_get runs k no_run h.0 h.2)) (stands_below h.0.events p h.1 h.3))
+    (stands_below runs k h.0 h.2, subst P (sym (stands_get runs k empty_run h.0 h.2)) (stands_below h.0.events p h.1 h.3))
 
 each : {X : Type 0} (P : X → Type 0) (xs : List X) → ((x : X) → IsIn x xs → P x) → All P xs
 each P xs h k d l = h _ (in_get_or xs k d l)

@@ -6,7 +6,7 @@ use Rattle.std.proofs.lemmas.Bool.{eqb-true, eq-eqb, false≢true}
 use Rattle.events.specs.declared.event.Event.{Event}
 use Rattle.events.specs.declared.event.EventId.{EventId}
 use Rattle.events.specs.declared.event.EventId.TheVariants.{Initial}
-use Rattle.events.specs.Executions.{ThreadRun, Execution}
+use Rattle.events.specs.Executions.{ThreadRun, Execution, empty_run}
 use Rattle.listings.specs.Lists.{IsIn, NoRepeats, Lists, ForEach, sum_of}
 use Rattle.listings.specs.Numbered.{IsNumbered}
 use Rattle.listings.proofs.Numberings.{IsPairing, pairs, mapped, by_digits, cons_tail}
@@ -18,7 +18,7 @@ use Rattle.litmus_tree.specs.Tree.{Litmus}
 use Rattle.candidates.specs.Executions.{initial_values}
 use Rattle.c11_threads.specs.Runs.{IsRun}
 use Rattle.candidates.specs.Executions.{IsExecution, IsSize, IsChoice, IsCoherence, Writes, reads, later_writes, upto, block}
-use Rattle.candidates.specs.Candidates.{Choices, choices_of, no_run, choice, count_choices, choices, sources, count_sources, source_at, count_orders, order_at, candidate, no_execution, candidate_at, write_value, agree, is_consistent, graph_at, size_of, Numbering}
+use Rattle.candidates.specs.Candidates.{Choices, choices_of, choice, count_choices, choices, sources, count_sources, source_at, count_orders, order_at, candidate, no_execution, candidate_at, write_value, agree, is_consistent, graph_at, size_of, Numbering}
 use Rattle.c11_threads.specs.Unrolled.{runs_of}
 use Rattle.c11_threads.proofs.RunLists.{lists_runs_of}
 use Rattle.candidates.proofs.Writing.{value_is, sources_in, in_sources, once_later, once_sources}
@@ -39,7 +39,7 @@ once_of t (k ∷ threads) runs h = elim h [
 
 -- The choices of one run per thread are numbered by digits.
 choices_numbered : (t : Litmus) → IsNumbered (ForEach IsFrom (choices_of t).threads) (count_choices (choices_of t).threads) (choice (choices_of t).threads)
-choices_numbered t = by_digits (choices_of t).threads (λ runs h. by_list runs no_run (itself runs (once_of t (upto (length t.threads)) runs h)))
+choices_numbered t = by_digits (choices_of t).threads (λ runs h. by_list runs empty_run (itself runs (once_of t (upto (length t.threads)) runs h)))
 
 to_choice : (t : Litmus) (threads : List ℕ) (runs : List ThreadRun) → ForEach IsFrom (map (runs_of t) threads) runs → ForEach (IsRun t) threads runs
 to_choice t [] [] h = tt

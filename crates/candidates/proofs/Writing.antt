@@ -3,11 +3,12 @@ use Rattle.std.proofs.Common.{◌≡◌, ℕ, zero, suc, ◌+◌, ◌⊎◌, Lis
 use Rattle.events.specs.declared.event.Event.{Event}
 use Rattle.events.specs.declared.event.EventId.{EventId}
 use Rattle.events.specs.declared.event.EventId.TheVariants.{Initial, Own}
-use Rattle.events.specs.Executions.{ThreadRun, writes_to}
+use Rattle.events.specs.Executions.{ThreadRun, writes_to, empty_run}
 use Rattle.listings.specs.Lists.{IsIn, NoRepeats, StandsAt}
 use Rattle.listings.proofs.Listings.{in_append, in_left, in_right, once_append}
 use Rattle.candidates.specs.Executions.{Writes, writes_from, writes_from_thread, later_writes}
-use Rattle.candidates.specs.Candidates.{sources, write_value, no_run, no_event}
+use Rattle.candidates.specs.Candidates.{sources, write_value}
+use Rattle.events.specs.Named.{no_event}
 
 -- w is the event p + q of thread k, where the event e at place q of events writes to x.
 abbrev pub WritesFrom : ℕ → ℕ → ℕ → List Event → EventId → Type 0
@@ -140,7 +141,7 @@ stands_get (y ∷ xs) (suc i) d x s = stands_get xs i d x s
 pub value_is : (init : List ℕ) (runs : List ThreadRun) (w : EventId) (x v : ℕ) → Writes init runs w x v → write_value init runs w ≡ v
 value_is init runs (Initial y) x v h = ap (λ n. get_or init n 0) h.0 ∙ sym h.1
 value_is init runs (Own k p) x v h =
-    ap (λ (r : ThreadRun). (get_or r.events p no_event).value) (stands_get runs k no_run h.0 h.2)
+    ap (λ (r : ThreadRun). (get_or r.events p no_event).value) (stands_get runs k empty_run h.0 h.2)
     ∙ ap (λ (e : Event). e.value) (stands_get h.0.events p no_event h.1 h.3) ∙ sym h.5
 
 pub sources_in : (init : List ℕ) (runs : List ThreadRun) (w : EventId) (x v : ℕ) → Writes init runs w x v → IsIn w (sources runs x)

@@ -1,11 +1,10 @@
 -- The numbering of candidates that this crate fixes: of the runs of a thread, of the choices of runs, of rf and of co.
 use Rattle.std.specs.Prelude.{◌≡◌, ℕ, zero, suc, ◌/◌, ◌%◌, ◌<◌, ◌≤◌, List, [], ◌∷◌, ◌++◌, length, map, slice_index_or, Bool, true, if◌then◌else◌, ◌==◌, ◌&&◌, Option, None, Some, IfSome}
-use Rattle.events.specs.declared.event.Access.TheVariants.{Read}
 use Rattle.events.specs.declared.event.Event.{Event}
 use Rattle.events.specs.declared.event.EventId.{EventId}
 use Rattle.events.specs.declared.event.EventId.TheVariants.{Initial, Own}
-use Rattle.events.specs.declared.event.Order.TheVariants.{NoOrder}
-use Rattle.events.specs.Executions.{ThreadRun, Execution, no_places}
+use Rattle.events.specs.Executions.{ThreadRun, Execution, empty_run}
+use Rattle.events.specs.Named.{no_event}
 use Rattle.listings.specs.Lists.{Lists, sum_of, product_by, factorial, tabulate}
 use Rattle.listings.specs.Numbered.{digits, arrange, walk}
 use Rattle.litmus_tree.specs.Tree.{Litmus}
@@ -20,11 +19,8 @@ pub record Choices : Type 0 where
 abbrev pub choices_of : Litmus → Choices
 choices_of t = record { init = initial_values t; threads = map (runs_of t) (upto (length t.threads)) }
 
-abbrev pub no_run : ThreadRun
-no_run = record { events = []; registers = [] }
-
 abbrev pub run_at : List ThreadRun → ℕ → ThreadRun
-run_at runs i = slice_index_or runs i no_run
+run_at runs i = slice_index_or runs i empty_run
 
 -- one run of each thread, by the digits of i
 abbrev pub choice : List (List ThreadRun) → ℕ → List ThreadRun
@@ -69,9 +65,6 @@ no_execution = record { init = []; runs = []; rf = []; co = [] }
 
 abbrev pub candidate_at : Choices → ℕ → Execution
 candidate_at s i = walk (block (length s.init)) (candidate s.init) no_execution (choices s.threads) i
-
-abbrev pub no_event : Event
-no_event = record { thread = 0; access = Read; loc = 0; value = 0; order = NoOrder; data_from = no_places; ctrl_from = no_places }
 
 -- the value that a write writes
 abbrev pub write_value : List ℕ → List ThreadRun → EventId → ℕ

@@ -18,7 +18,7 @@ use Rattle.litmus_syntax.specs.Drafts.{Written}
 use Rattle.litmus_syntax.specs.Grammar.{Spells}
 use Rattle.litmus_syntax.specs.Misordered.{HasMisordered}
 use Rattle.litmus_syntax.specs.Unspelled.{SpellsNone}
-use Rattle.litmus_c.specs.Reads.{IsWrittenIn, HasNoTest, IsTooDeep, IsMisorderedIn, LeavesOut, IsRefused, IsUnspelled, IsUnwritten, Reads, text_refusal}
+use Rattle.litmus_c.specs.Reads.{IsWrittenIn, HasNoTest, IsTooDeep, IsMisorderedIn, LeavesOut, IsRefused, SpellNoTest, IsUnwritten, Reads, text_refusal}
 use Rattle.litmus_c.specs.Rules.{litmus_of, KeepsRules, Explains}
 use Rattle.litmus_syntax.specs.Symbols.{symbols_of}
 use Rattle.litmus_tree.specs.Tree.{Word, Litmus}
@@ -105,7 +105,7 @@ module _ (text : List ℕ) (ts : List Token) (symbols : List Symbol) (list : IsT
   left_out : (x : Word) → SpellsNone symbols × Contains symbols (Foreign x) → LeavesOut text x
   left_out x h = record { none = no_test h.0; tokens = ts; is_list = list; stands = (let P : List Symbol → Type 0 = λ l. Contains l (Foreign x) in subst P is h.1) }
 
-  pub draft_cause : (e : TestFault) → IsUnspelled symbols e → IsUnwritten text e
+  pub draft_cause : (e : TestFault) → SpellNoTest symbols e → IsUnwritten text e
   draft_cause NoMemory g = tt
   draft_cause (Syntax p) g = no_test g
   draft_cause BadOrder g = bad_order g

@@ -21,7 +21,7 @@ use Rattle.litmus_tree.specs.Tree.{Word, Term, number, held, denied, equal, uneq
 use Rattle.litmus_c.specs.Values.{values_among}
 use Rattle.litmus_c.proofs.Names.{programs_len}
 use Rattle.litmus_syntax.proofs.Spelled.{and_parts, true_or_false}
-use Rattle.litmus_syntax.proofs.Symbols.{bytes_eq-true, bytes_eq-refl}
+use Rattle.litmus_syntax.proofs.SingleSymbols.{bytes_eq-true, bytes_eq-refl}
 
 or_right : (a b : Bool) → b ≡ true → (a || b) ≡ true
 or_right true b h = refl

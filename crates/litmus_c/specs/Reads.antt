@@ -87,14 +87,14 @@ IsUnwritten text (Unsupported w) = LeavesOut text w
 IsUnwritten text TooDeep = IsTooDeep text
 IsUnwritten text e = ⊥
 
--- The same of the symbols alone.
-abbrev pub IsUnspelled : List Symbol → TestFault → Type 0
-IsUnspelled ts NoMemory = Unit {0}
-IsUnspelled ts (Syntax n) = SpellsNone ts
-IsUnspelled ts BadOrder = SpellsNone ts × HasMisordered ts
-IsUnspelled ts (Unsupported w) = SpellsNone ts × Contains ts (Foreign w)
-IsUnspelled ts TooDeep = SpellsNone ts × NestsTooDeep ts
-IsUnspelled ts e = ⊥
+-- The symbols spell no test, and this refusal says why.
+abbrev pub SpellNoTest : List Symbol → TestFault → Type 0
+SpellNoTest ts NoMemory = Unit {0}
+SpellNoTest ts (Syntax n) = SpellsNone ts
+SpellNoTest ts BadOrder = SpellsNone ts × HasMisordered ts
+SpellNoTest ts (Unsupported w) = SpellsNone ts × Contains ts (Foreign w)
+SpellNoTest ts TooDeep = SpellsNone ts × NestsTooDeep ts
+SpellNoTest ts e = ⊥
 
 -- the refusal that a fault of the text is
 abbrev pub text_refusal : TextFault → TestFault

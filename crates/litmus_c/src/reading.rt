@@ -1,7 +1,7 @@
 //! The reader.
 
 ghost use Rattle.std.specs.Prelude.{◌≡◌, IfOk, IfErr, IfSome, MatchResult, Contains, length};
-ghost use Rattle.litmus_c.specs.Reads.{IsWrittenIn, IsUnspelled, IsRefused, IsUnwritten, Reads};
+ghost use Rattle.litmus_c.specs.Reads.{IsWrittenIn, SpellNoTest, IsRefused, IsUnwritten, Reads};
 ghost use Rattle.litmus_c.specs.declared.fault.TestFault.TheVariants.{NoMemory};
 ghost use Rattle.litmus_syntax.specs.Drafts.{Written, written_of};
 ghost use Rattle.litmus_syntax.specs.Grammar.{Spells};
@@ -49,7 +49,7 @@ fn draft_of(
     requires { length symbols.now ≡ length tokens.now }
     ensures found { IfOk result (λ d. Spells symbols.now (written_of d)) }
     ensures only { (w : Written) → Spells symbols.now w → MatchResult result (λ d. written_of d ≡ w) (λ e. e ≡ NoMemory) }
-    ensures cause { IfErr result (λ e. IsUnspelled symbols.now e) }
+    ensures cause { IfErr result (λ e. SpellNoTest symbols.now e) }
 {
     match read_draft(alloc, tokens, symbols, end) {
         Ok(draft) => Ok(draft),

@@ -19,7 +19,7 @@ use Rattle.litmus_syntax.specs.Symbols.{looked_up}
 use Rattle.litmus_tree.specs.Tree.{Word, Term, Action, load, store, exchange, fence, Right, computed, plain_read, value_of}
 use Rattle.litmus_syntax.proofs.Expressions.{Ends, level_shorter, expression-sound, expression-complete, paren-ends, comma-ends}
 use Rattle.litmus_syntax.proofs.Sounds.{Sound}
-use Rattle.litmus_syntax.proofs.Symbols.{after-some, after-first, expected-ok, expected-first, name-ok, open-ok, open-first, call_word-some}
+use Rattle.litmus_syntax.proofs.SingleSymbols.{after-some, after-first, expected-ok, expected-first, name-ok, open-ok, open-first, call_word-some}
 
 -- orders
 

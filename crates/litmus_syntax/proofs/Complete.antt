@@ -25,7 +25,7 @@ use Rattle.litmus_syntax.proofs.Places.{place-complete, number-first, listed-com
 use Rattle.litmus_syntax.proofs.Propositions.{EndsFormula, condition-complete}
 use Rattle.litmus_syntax.proofs.Spelled.{true_or_false}
 use Rattle.litmus_syntax.proofs.Statements.{steps-complete}
-use Rattle.litmus_syntax.proofs.Symbols.{bytes_eq-refl, bytes_eq-true, after-first, expected-first, open-first}
+use Rattle.litmus_syntax.proofs.SingleSymbols.{bytes_eq-refl, bytes_eq-true, after-first, expected-first, open-first}
 
 -- The initial state.
 

@@ -19,7 +19,7 @@ use Rattle.litmus_syntax.proofs.DeepStatements.{threads_deep}
 use Rattle.litmus_syntax.proofs.DeepTools.{Shallow, fine_ok, fine_syntax, fine_bind, fine_match, fine_if, fine_repeated, fine_expected, fine_number, fine_made, later, first, either}
 use Rattle.litmus_syntax.proofs.Places.{listed-sound}
 use Rattle.litmus_syntax.proofs.Sound.{entries-sound, threads-sound}
-use Rattle.litmus_syntax.proofs.Symbols.{bytes_eq-true, expected-ok, word-ok}
+use Rattle.litmus_syntax.proofs.SingleSymbols.{bytes_eq-true, expected-ok, word-ok}
 
 -- The initial state.
 

@@ -17,7 +17,7 @@ use Rattle.litmus_syntax.proofs.Calls.{target-sound}
 use Rattle.litmus_syntax.proofs.DeepTools.{Shallow, fine_ok, fine_syntax, fine_misordered, fine_bind, fine_if, fine_expected, fine_name, fine_made, first, either, chosen_deep, repeated_deep, open_deep}
 use Rattle.litmus_syntax.proofs.Expressions.{operator-some, level_is}
 use Rattle.litmus_syntax.proofs.Sounds.{Sound}
-use Rattle.litmus_syntax.proofs.Symbols.{call_word-some}
+use Rattle.litmus_syntax.proofs.SingleSymbols.{call_word-some}
 
 -- Expressions.
 

@@ -13,7 +13,7 @@ use Rattle.litmus_syntax.specs.Reading.{deep, after, number_look, location_at, r
 use Rattle.litmus_syntax.proofs.DeepTools.{Shallow, fine_ok, fine_bind, fine_match, fine_expected, fine_name, fine_number, fine_made, later, first, either, chosen_deep, repeated_deep}
 use Rattle.litmus_syntax.proofs.Propositions.{denial-some, atomic_is, conjunction_is, or_is, kind-sound}
 use Rattle.litmus_syntax.proofs.Sounds.{Sound}
-use Rattle.litmus_syntax.proofs.Symbols.{after-some}
+use Rattle.litmus_syntax.proofs.SingleSymbols.{after-some}
 
 -- Places.
 

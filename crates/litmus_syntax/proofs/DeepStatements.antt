@@ -18,7 +18,7 @@ use Rattle.litmus_syntax.proofs.DeepTools.{Shallow, fine_ok, fine_syntax, fine_b
 use Rattle.litmus_syntax.proofs.Sound.{parameter_list-sound, thread-sound}
 use Rattle.litmus_syntax.proofs.Sounds.{Deeper, deeper}
 use Rattle.litmus_syntax.proofs.Statements.{declarator-sound, SoundInside, inside-sound, step_is}
-use Rattle.litmus_syntax.proofs.Symbols.{bytes_eq-true, after-some, expected-ok, unless-same, name-ok, call_word-some, before_name-same}
+use Rattle.litmus_syntax.proofs.SingleSymbols.{bytes_eq-true, after-some, expected-ok, unless-same, name-ok, call_word-some, before_name-same}
 
 -- Simple statements.
 

@@ -8,7 +8,7 @@ use Rattle.litmus_syntax.specs.declared.symbol.Symbol.TheVariants.{Fixed, Name}
 use Rattle.litmus_syntax.specs.declared.symbol.Terminal.{Terminal}
 use Rattle.litmus_syntax.specs.declared.symbol.Terminal.TheVariants.{LeftParen}
 use Rattle.litmus_syntax.specs.Reading.{Reading, syntax, deep, misordered, after, expected, name_at, number_look, number_at, opened, open_at}
-use Rattle.litmus_syntax.proofs.Symbols.{expected-ok}
+use Rattle.litmus_syntax.proofs.SingleSymbols.{expected-ok}
 
 -- What opens no level is never too deep. A record, so that antt finds its arguments.
 pub record Shallow {A : Type 0} (o : Reading A) : Type 0 where

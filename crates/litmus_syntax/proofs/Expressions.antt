@@ -14,7 +14,7 @@ use Rattle.litmus_syntax.specs.Grammar.{joined, Joins, joins_equal, joins_unequa
 use Rattle.litmus_syntax.specs.Reading.{syntax, after, expected, sign, operator_at, Terms, unary_with, next_operand, operands, level_with, terms_below, expression_at}
 use Rattle.litmus_tree.specs.Tree.{Word, Term, number, held, denied}
 use Rattle.litmus_syntax.proofs.Sounds.{Sound, Deeper, deeper}
-use Rattle.litmus_syntax.proofs.Symbols.{after-some, expected-ok, expected-first}
+use Rattle.litmus_syntax.proofs.SingleSymbols.{after-some, expected-ok, expected-first}
 
 -- each takes a symbol
 

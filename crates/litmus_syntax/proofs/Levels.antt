@@ -13,7 +13,7 @@ use Rattle.litmus_syntax.specs.declared.draft.Body.{Body}
 use Rattle.litmus_syntax.specs.Reading.{syntax, after, before_name, entry_behind, parameter_behind, parameters_more, thread_at, threads_more}
 use Rattle.litmus_syntax.proofs.Shorter.{entry_shorter, parameter_shorter, thread_shorter}
 use Rattle.litmus_syntax.proofs.Sound.{entry_behind-sound, parameter-sound, thread-sound}
-use Rattle.litmus_syntax.proofs.Symbols.{after_takes, before_name-same}
+use Rattle.litmus_syntax.proofs.SingleSymbols.{after_takes, before_name-same}
 
 entry_behind_takes : (bs cs : List Binding) (ts rest : List Symbol) → entry_behind bs ts ≡ Ok (cs, rest) → length rest ≤ length ts
 entry_behind_takes bs cs ts rest e =

@@ -17,5 +17,5 @@ pub mod Sound
 pub mod Sounds
 pub mod Spelled
 pub mod Statements
-pub mod Symbols
+pub mod SingleSymbols
 pub mod Unspelled

@@ -24,7 +24,7 @@ use Rattle.litmus_tree.specs.Tree.{Word, Term, number, held, denied, Declared, S
 use Rattle.litmus_syntax.proofs.Calls.{in-among, closing-some, located-sound, valued-sound}
 use Rattle.litmus_syntax.proofs.Expressions.{operator-some}
 use Rattle.litmus_syntax.proofs.Ordered.{Tail, tail_here, tail_later, tail_first, Carries, kept, Ordered, fair_ok, fair_syntax, fair_deep, fair_bind, fair_match, fair_if, fair_behind, fair_made, takes_after, fair_take, fair_expected, fair_name, fair_number, fair_open, fair_repeated}
-use Rattle.litmus_syntax.proofs.Symbols.{number_look-some, call_word-some, before_name-same, unless-same, name-ok, expected-ok, open-ok}
+use Rattle.litmus_syntax.proofs.SingleSymbols.{number_look-some, call_word-some, before_name-same, unless-same, name-ok, expected-ok, open-ok}
 
 -- Expressions have no calls.
 

@@ -8,7 +8,7 @@ use Rattle.litmus_syntax.specs.declared.symbol.Symbol.TheVariants.{Name}
 use Rattle.litmus_syntax.specs.declared.symbol.Terminal.{Terminal}
 use Rattle.litmus_syntax.specs.declared.symbol.Terminal.TheVariants.{LeftParen}
 use Rattle.litmus_syntax.specs.Reading.{Reading, syntax, deep, misordered, after, expected, name_at, number_look, number_at, opened, open_at}
-use Rattle.litmus_syntax.proofs.Symbols.{after-some, number_look-some}
+use Rattle.litmus_syntax.proofs.SingleSymbols.{after-some, number_look-some}
 
 -- what is left of symbols
 pub data Tail : List Symbol → List Symbol → Type 0 where

@@ -12,7 +12,7 @@ use Rattle.litmus_syntax.specs.Grammar.{IsLocation, location_name, location_brac
 use Rattle.litmus_syntax.specs.Reading.{syntax, after, expected, name_at, number_look, number_at, location_at, register_at, place_at, ends_place, place_behind, places_at, bracketed_at, listed_at}
 use Rattle.litmus_tree.specs.Tree.{Word}
 use Rattle.litmus_syntax.proofs.Sounds.{Sound}
-use Rattle.litmus_syntax.proofs.Symbols.{after-some, after-first, after_takes, expected-ok, expected-first, name-ok, name-not, number_look-some}
+use Rattle.litmus_syntax.proofs.SingleSymbols.{after-some, after-first, after_takes, expected-ok, expected-first, name-ok, name-not, number_look-some}
 
 pub location_shorter : {ts rest : List Symbol} {x : Word} → IsLocation ts rest x → length rest < length ts
 location_shorter location_name = omega arith

@@ -15,7 +15,7 @@ use Rattle.litmus_syntax.specs.Grammar.{location_name, location_bracket, IsPlace
 use Rattle.litmus_syntax.specs.Reading.{syntax, after, expected, number_at, place_at, equation_at, Propositions, denial, plain_atomic_at, denied_with, enclosed_with, atomic_with, conjunction_more, conjunction_with, or_more, or_with, proposition_with, propositions_below, kind_of_at, condition_at}
 use Rattle.litmus_syntax.proofs.Places.{place-sound, place-complete, place_shorter, number-first}
 use Rattle.litmus_syntax.proofs.Sounds.{Sound, Deeper, deeper}
-use Rattle.litmus_syntax.proofs.Symbols.{after-some, after-first, after_takes, expected-ok, expected-first, number-ok}
+use Rattle.litmus_syntax.proofs.SingleSymbols.{after-some, after-first, after_takes, expected-ok, expected-first, number-ok}
 
 -- each takes a symbol
 

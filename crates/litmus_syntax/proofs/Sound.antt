@@ -23,7 +23,7 @@ use Rattle.litmus_syntax.proofs.Places.{place-sound, listed-sound}
 use Rattle.litmus_syntax.proofs.Propositions.{condition-sound}
 use Rattle.litmus_syntax.proofs.Sounds.{Sound}
 use Rattle.litmus_syntax.proofs.Statements.{steps_are}
-use Rattle.litmus_syntax.proofs.Symbols.{bytes_eq-true, bytes_eq-false, after-some, expected-ok, name-ok, number-ok, word-ok, before_name-same, open-ok}
+use Rattle.litmus_syntax.proofs.SingleSymbols.{bytes_eq-true, bytes_eq-false, after-some, expected-ok, name-ok, number-ok, word-ok, before_name-same, open-ok}
 
 -- The initial state.
 

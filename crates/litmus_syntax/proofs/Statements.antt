@@ -17,7 +17,7 @@ use Rattle.litmus_tree.specs.Tree.{Word, Term, Action, Right, Declared, Step, em
 use Rattle.litmus_syntax.proofs.Calls.{operation-sound, right-sound, call_shorter, right_shorter, call-complete, right-complete, after-call, call_word-first}
 use Rattle.litmus_syntax.proofs.Expressions.{Ends, level_shorter, expression-sound, expression-complete, paren-ends, comma-ends, semicolon-ends}
 use Rattle.litmus_syntax.proofs.Sounds.{Sound, Deeper, deeper}
-use Rattle.litmus_syntax.proofs.Symbols.{after-some, after-first, after_takes, after-none, expected-ok, expected-first, unless-same, name-ok, name-not, call_word-some, before_name-same}
+use Rattle.litmus_syntax.proofs.SingleSymbols.{after-some, after-first, after_takes, after-none, expected-ok, expected-first, unless-same, name-ok, name-not, call_word-some, before_name-same}
 
 -- Declarations.
 

@@ -29,7 +29,7 @@ impl<'a> Reader<'a> {
         })
     }
 
-    #[tactic(auto, unfolding(crate::specs::Reading::declarators_more), using(crate::proofs::Steps::declared_push))]
+    #[tactic(auto, unfolding(crate::specs::Reading::declarators_more), using(litmus_tree::proofs::Steps::declared_push))]
     fn declarator_into(
         &mut self,
         declarators: &mut Vec<Declarator>,
@@ -116,7 +116,7 @@ impl<'a> Reader<'a> {
 
     /// The rest of an if: "(" expression ")" statement ["else" statement]
     #[cycle(statements)]
-    #[tactic(auto, unfolding(crate::specs::Reading::if_with, crate::specs::Reading::else_with, crate::specs::Reading::inside), using(crate::proofs::Steps::only_if, crate::proofs::Steps::if_and_else))]
+    #[tactic(auto, unfolding(crate::specs::Reading::if_with, crate::specs::Reading::else_with, crate::specs::Reading::inside), using(litmus_tree::proofs::Steps::only_if, litmus_tree::proofs::Steps::if_and_else))]
     fn branch(&mut self, nesting: u32) -> Result<Statement, SyntaxFault>
         ensures { Gives step_of result self.new.rest.now (if_with (inside nesting) self.old.rest.now) }
     {
@@ -153,7 +153,7 @@ impl<'a> Reader<'a> {
 
     /// Statements up to a brace, and the brace.
     #[cycle(statements)]
-    #[tactic(auto, unfolding(crate::specs::Reading::steps_with, crate::specs::Reading::unless, crate::specs::Reading::expected), using(crate::proofs::Statements::steps_turn, crate::proofs::Statements::step_takes, crate::proofs::Steps::pushed))]
+    #[tactic(auto, unfolding(crate::specs::Reading::steps_with, crate::specs::Reading::unless, crate::specs::Reading::expected), using(crate::proofs::Statements::steps_turn, crate::proofs::Statements::step_takes, litmus_tree::proofs::Steps::pushed))]
     pub(super) fn statements(&mut self, nesting: u32) -> Result<Vec<Statement>, SyntaxFault>
         ensures { Gives (λ v. steps_of v.items) result self.new.rest.now (steps_at nesting self.old.rest.now) }
     {
