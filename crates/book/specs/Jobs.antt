@@ -17,11 +17,11 @@ pub record Job : Type 0 where
   pub work : Task
   pub slices : List Slice
 
--- the slices returned
-
+-- how many slices are returned
 abbrev pub done : Job → ℕ
 done job = count_by (λ x. x.returned) job.slices
 
+-- all are
 abbrev pub is_done : Job → Bool
 is_done job = list_all (λ x. x.returned) job.slices
 
@@ -31,6 +31,7 @@ mark i [] = []
 mark zero (x ∷ xs) = record x { returned = true } ∷ xs
 mark (suc i) (x ∷ xs) = x ∷ mark i xs
 
+-- the job with that slice returned
 abbrev pub marked : ℕ → Job → Job
 marked i job = record job { slices = mark i job.slices }
 

@@ -11,6 +11,7 @@ use Rattle.book.specs.declared.records.Refusal.TheVariants.{Closed, ReadingTest,
 use Rattle.book.specs.declared.records.Reply.{Reply}
 use Rattle.book.specs.declared.records.Reply.TheVariants.{Version, Job, Pending, Verdict, Piece, Nothing, Taken, Refused}
 
+-- An entry: its place in the journal, the seat of the session, the command as it was seen, and the reply.
 pub record Line : Type 0 where
   pub place : ℕ
   pub seat : ℕ
@@ -18,7 +19,6 @@ pub record Line : Type 0 where
   pub reply : Reply
 
 -- what is seen of a result: its claim, slice, range and work
-
 abbrev pub shown : Portion → Returned
 shown p = record { claim = p.claim; slice = p.slice; from = p.from; to = p.to; work = p.work }
 

@@ -32,6 +32,7 @@ use Rattle.book.specs.declared.records.Refusal.TheVariants.{Closed, ReadingTest,
 use Rattle.book.specs.declared.records.Reply.{Reply}
 use Rattle.book.specs.declared.records.Reply.TheVariants.{Version, Job, Pending, Verdict, Piece, Nothing, Taken, Refused}
 
+-- A put of a cat file stores the tree of its text at the next version.
 abbrev pub PutsCat : Workbench → Word → List ℕ → Reply → Workbench → Type 0
 PutsCat s name text (Refused (ReadingCat fault)) s' = ((f : File) → ¬ ReadsCat text f) × (fault ≢ of_cat.NoMemory) × (s' ≡ s)
 PutsCat s name text (Refused (VersionsSpent n)) s' = (f : File) × ReadsCat text f × (s.limits.versions ≤ version_of name s.cats) × (n ≡ name) × (s' ≡ s)
@@ -40,6 +41,7 @@ PutsCat s name text (Version n v) s' =
     × (s' ≡ record s { cats = store (record { name = name; version = v; file = Some f }) s.cats })
 PutsCat s name text reply s' = ⊥
 
+-- So does a put of a test, whose name stands in its text.
 abbrev pub PutsTest : Workbench → List ℕ → Reply → Workbench → Type 0
 PutsTest s text (Refused (ReadingTest fault)) s' = ((t : Litmus) → ¬ Reads text t) × (fault ≢ of_test.NoMemory) × IsRefused text fault × (s' ≡ s)
 PutsTest s text (Refused (VersionsSpent n)) s' = (t : Litmus) × Reads text t × (s.limits.versions ≤ test_version s.tests t.name) × (n ≡ t.name) × (s' ≡ s)
@@ -60,6 +62,7 @@ pub record IsCut (n : ℕ) (slices : List Slice) : Type 0 where
   pub within : list_all (λ x. nat_le x.from x.to && nat_le x.to n) slices ≡ true
   pub once : (i : ℕ) → i < n → count_by (has_number i) slices ≡ 1
 
+-- A job of this test under this model, at the next number, with any cut.
 abbrev pub AsksFor : Workbench → Word → Litmus → Assembly → Reply → Workbench → Type 0
 AsksFor s test t m (Refused (Space fault)) s' = IsSpaceFault t fault × (fault ≢ of_space.NoMemory) × (s' ≡ s)
 AsksFor s test t m (Refused JobsFull) s' = IsAdmitted t × (256 ≤ length s.jobs) × (s' ≡ s)
@@ -117,6 +120,8 @@ HasRange (Some x) from to = (x.from ≡ from) × (x.to ≡ to)
 abbrev pub IsOwn : Live → jobs.Job → Returned → Type 0
 IsOwn c job r = (r.slice ≡ c.slice) × HasRange (slice_get job.slices r.slice) r.from r.to × (r.work ≡ job.work)
 
+-- A return under this claim to its job: taken, it ends the claim and marks the slice; so much is returned then. A replaced
+-- job ends the claim, too.
 abbrev pub ReturnsTo : Workbench → ℕ → Returned → Live → Option jobs.Job → Reply → Workbench → Type 0
 ReturnsTo s seat r c None (Refused (NoClaim n)) s' = (n ≡ r.claim) × (s' ≡ s)
 ReturnsTo s seat r c (Some job) (Refused (Replaced x)) s' = (replaced s job ≡ Some x) × (s' ≡ ended s r.claim seat)
@@ -132,6 +137,7 @@ Returns s seat r None (Refused (NoClaim n)) s' = (n ≡ r.claim) × (s' ≡ s)
 Returns s seat r None reply s' = ⊥
 Returns s seat r (Some c) reply s' = ReturnsTo s seat r c (job_of s.jobs c.job) reply s'
 
+-- a command to a book that is not closed
 abbrev pub OpenStep : Workbench → ℕ → Said → Reply → Workbench → Type 0
 OpenStep s seat (PutCat name text) reply s' = PutsCat s name text reply s'
 OpenStep s seat (PutTest text) reply s' = PutsTest s text reply s'

@@ -69,7 +69,7 @@ impl Model for FindingRef {
 
 impl FindingRef {
     /// Keeps a finding.
-    pub fn new(alloc: Global, finding: Finding) -> Result<Self, AllocError>
+    pub(crate) fn new(alloc: Global, finding: Finding) -> Result<Self, AllocError>
         ensures { IfOk result (λ f. f ≡ finding) }
     {
         Ok(FindingRef {
