@@ -61,3 +61,10 @@ abbrev pub IsFaultOf : List ℕ → List ℕ → OneFault → Type 0
 IsFaultOf text cat Read = Unit {0}
 IsFaultOf text cat Write = Unit {0}
 IsFaultOf text cat e = IsRefusal text cat e
+
+-- A fault of the texts, and not of the reader, the writer or memory.
+abbrev pub IsOfTexts : OneFault → Type 0
+IsOfTexts Read = ⊥
+IsOfTexts Write = ⊥
+IsOfTexts NoMemory = ⊥
+IsOfTexts e = Unit {0}

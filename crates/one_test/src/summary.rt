@@ -1,9 +1,9 @@
 //! From the bytes of a test and of a model to a summary.
 
-ghost use Rattle.std.specs.Prelude.{◌≡◌, true, Err, IfSome, IfOk, IfErr, OnOk};
+ghost use Rattle.std.specs.Prelude.{◌≡◌, ◌↔◌, true, Err, IfSome, IfOk, IfErr, OnOk};
 ghost use Rattle.std.specs.Io.KnownBytes.{Keeps};
 ghost use Rattle.wb_text.specs.Memory.{LosesAtMost};
-ghost use Rattle.one_test.specs.Inputs.{text_of, HasOutcome, Summarizes, SummarizesPartly, IsRefusal, IsFaultOf};
+ghost use Rattle.one_test.specs.Inputs.{text_of, HasOutcome, Summarizes, SummarizesPartly, IsRefusal, IsFaultOf, IsOfTexts};
 
 use crate::main_file::model_of;
 use report::{WriteFault, write_summary};
@@ -94,7 +94,9 @@ fn judge(alloc: Global, text: &[u8], cat: &[u8]) -> Result<Verdict, OneFault>
 
 impl OneFault {
     /// Whether the input or the cat text is refused: as a test, as a model, or by the space of the candidates.
-    pub fn is_refusal(&self) -> bool {
+    pub fn is_refusal(&self) -> bool
+        ensures { (result ≡ true) ↔ IsOfTexts self.now }
+    {
         matches!(
             self,
             OneFault::Test(_) | OneFault::Cat(_) | OneFault::Model(_) | OneFault::Space(_)

@@ -9,6 +9,8 @@ mod calls;
 #[cfg(test)]
 mod examples;
 #[cfg(test)]
+mod growth;
+#[cfg(test)]
 mod models;
 #[cfg(test)]
 mod rows;

@@ -3,3 +3,4 @@ pub mod Orders
 pub mod Refusals
 pub mod Replies
 pub mod Serving
+pub mod Spelled

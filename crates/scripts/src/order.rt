@@ -1,6 +1,7 @@
 //! What the lines of a script ask.
 
-ghost use Rattle.std.specs.Prelude.{◌<◌, IfOk};
+ghost use Rattle.std.specs.Prelude.{◌≡◌, ◌<◌, ◌+◌, ◌∷◌, ◌++◌, IfOk, MatchOption, codes, decimal};
+ghost use Rattle.scripts.specs.Spelled.{Spells, Says, Requests};
 
 use book::Text;
 use itoa::Buffer;
@@ -44,7 +45,8 @@ pub enum LineFault {
 
 /// The seat and the head that a line spells.
 pub fn read_head(alloc: Global, line: &[u8]) -> Result<(u8, Head), LineFault>
-    ensures { IfOk result (λ r. r.0 < 8) }
+    ensures seat { IfOk result (λ r. r.0 < 8) }
+    ensures spelled { IfOk result (λ r. Spells line.now r.0 r.1) }
 {
     let (seat, rest) = read_seat(line)?;
     let head = match split_word(rest) {
@@ -56,7 +58,8 @@ pub fn read_head(alloc: Global, line: &[u8]) -> Result<(u8, Head), LineFault>
 
 /// A seat, 0 to 7, and what stands behind it and a space.
 fn read_seat(line: &[u8]) -> Result<(u8, &[u8]), LineFault>
-    ensures { IfOk result (λ r. r.0 < 8) }
+    ensures seat { IfOk result (λ r. r.0 < 8) }
+    ensures rest { IfOk result (λ r. line.now ≡ (48 + r.0) ∷ 32 ∷ r.1.now) }
 {
     if line.len() < 2 {
         return Err(LineFault::Bad);
@@ -69,7 +72,9 @@ fn read_seat(line: &[u8]) -> Result<(u8, &[u8]), LineFault>
 }
 
 /// A head of one word.
-fn read_word(word: &[u8]) -> Result<Head, LineFault> {
+fn read_word(word: &[u8]) -> Result<Head, LineFault>
+    ensures { IfOk result (Says word.now) }
+{
     if word == b"test".as_slice() {
         Ok(Head::Test)
     } else if word == b"claim".as_slice() {
@@ -80,7 +85,9 @@ fn read_word(word: &[u8]) -> Result<Head, LineFault> {
 }
 
 /// A head of a word and what stands behind it and a space.
-fn read_words(alloc: Global, word: &[u8], rest: &[u8]) -> Result<Head, LineFault> {
+fn read_words(alloc: Global, word: &[u8], rest: &[u8]) -> Result<Head, LineFault>
+    ensures { IfOk result (Says (word.now ++ (codes " " ++ rest.now))) }
+{
     if word == b"cat".as_slice() {
         Ok(Head::Cat(read_name(alloc, rest)?))
     } else if word == b"ask".as_slice() {
@@ -95,14 +102,18 @@ fn read_words(alloc: Global, word: &[u8], rest: &[u8]) -> Result<Head, LineFault
 }
 
 /// Two names with a space between.
-fn read_ask(alloc: Global, rest: &[u8]) -> Result<Request, LineFault> {
+fn read_ask(alloc: Global, rest: &[u8]) -> Result<Request, LineFault>
+    ensures { IfOk result (Requests (codes "ask " ++ rest.now)) }
+{
     let (test, Some(cat)) = split_word(rest) else {
         return Err(LineFault::Bad);
     };
     Ok(Request::Ask(read_name(alloc, test)?, read_name(alloc, cat)?))
 }
 
-fn read_name(alloc: Global, bytes: &[u8]) -> Result<Name, LineFault> {
+fn read_name(alloc: Global, bytes: &[u8]) -> Result<Name, LineFault>
+    ensures { IfOk result (λ name. name ≡ bytes.now) }
+{
     match Name::new(alloc, bytes) {
         Ok(name) => Ok(name),
         Err(NameFault::BadName) => Err(LineFault::Bad),
@@ -111,7 +122,9 @@ fn read_name(alloc: Global, bytes: &[u8]) -> Result<Name, LineFault> {
 }
 
 /// A number below 2^32 as it is printed: in decimal, with no leading zero.
-fn read_number(bytes: &[u8]) -> Result<u32, LineFault> {
+fn read_number(bytes: &[u8]) -> Result<u32, LineFault>
+    ensures { IfOk result (λ number. bytes.now ≡ decimal number) }
+{
     let number = value(bytes);
     let mut buffer = Buffer::new();
     if buffer.format(number).as_bytes() == bytes {
@@ -132,7 +145,9 @@ fn value(bytes: &[u8]) -> u32 {
 }
 
 /// The first word of a line, and what stands behind it and a space.
-fn split_word(line: &[u8]) -> (&[u8], Option<&[u8]>) {
+fn split_word(line: &[u8]) -> (&[u8], Option<&[u8]>)
+    ensures { MatchOption result.1 (line.now ≡ result.0.now) (λ rest. line.now ≡ result.0.now ++ (codes " " ++ rest.now)) }
+{
     match memchr(b' ', line) {
         Some(place) => (&line[..place], Some(&line[place + 1..])),
         None => (line, None),
