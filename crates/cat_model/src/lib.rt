@@ -23,6 +23,3 @@ pub use model::{FileVersion, Model};
 pub use named::Named;
 pub use resolving::resolve;
 pub use sort::Sort;
-
-#[cfg(test)]
-mod tests;

@@ -17,6 +17,3 @@ pub use fault::CatFault;
 pub use file::{CatFile, Title};
 pub use reading::read_cat;
 pub use tree::{Binding, Check, CheckKind, Element, Expression, Item};
-
-#[cfg(test)]
-mod tests;

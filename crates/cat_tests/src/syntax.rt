@@ -1,4 +1,7 @@
-use super::*;
+//! What texts are read as, and equality and copies of what is read.
+
+use crate::texts::{RC11, repeated};
+use cat_syntax::{CatFile, Expression, Item, read_cat};
 use std::alloc::{AllocError, Global};
 use std::test::Fail;
 
@@ -48,74 +51,55 @@ fn reads_as(alloc: Global, text: &str, wanted: &str) -> Result<bool, AllocError>
     Ok(found.as_str() == wanted)
 }
 
+/// Whether each text is `let r = ..` with the expression beside it, or with the fault beside it.
+fn all_read_as(alloc: Global, rows: &[(&str, &str)]) -> Result<bool, AllocError> {
+    for (text, wanted) in rows {
+        if !reads_as(alloc, text, wanted)? {
+            return Ok(false);
+        }
+    }
+    Ok(true)
+}
+
 #[test]
 fn operators_and_levels(rt: HostRuntime) -> Result<(), Fail> {
-    let alloc = rt.alloc();
-    assert!(rt; reads_as(alloc, "let r = a \\ b \\ c", "((a-b)-c)")?);
-    assert!(rt; reads_as(alloc, "let r = a ; b ; c", "(a;(b;c))")?);
-    assert!(rt; reads_as(alloc, "let r = a | b ; c | d", "(a|((b;c)|d))")?);
-    assert!(rt;
-        reads_as(
-            alloc,
-            "let r = a | b ; c \\ d & e * f",
-            "(a|(b;(c-(d&(exf)))))"
-        )?
-    );
-    assert!(rt; reads_as(alloc, "let r = W * R * F", "((WxR)xF)")?);
-    assert!(rt; reads_as(alloc, "let r = ~a* ; b+?^-1", "(~((a)*);(((b)+)?)^-1)")?);
-    assert!(rt; reads_as(alloc, "let r = a* * b", "((a)*xb)")?);
-    assert!(rt; reads_as(alloc, "let r = a* ~empty 0", "(a)*")?);
-    assert!(rt; reads_as(alloc, "let r = a * ~b", "(ax~(b))")?);
-    assert!(rt;
-        reads_as(
-            alloc,
+    let rows = [
+        ("let r = a \\ b \\ c", "((a-b)-c)"),
+        ("let r = a ; b ; c", "(a;(b;c))"),
+        ("let r = a | b ; c | d", "(a|((b;c)|d))"),
+        ("let r = a | b ; c \\ d & e * f", "(a|(b;(c-(d&(exf)))))"),
+        ("let r = W * R * F", "((WxR)xF)"),
+        ("let r = ~a* ; b+?^-1", "(~((a)*);(((b)+)?)^-1)"),
+        ("let r = a* * b", "((a)*xb)"),
+        ("let r = a* ~empty 0", "(a)*"),
+        ("let r = a * ~b", "(ax~(b))"),
+        (
             "let r = domain(a) | range(b) | [{}] | 0 | _",
-            "(domain(a)|(range(b)|(id({})|(0|_))))"
-        )?
-    );
+            "(domain(a)|(range(b)|(id({})|(0|_))))",
+        ),
+    ];
+    assert!(rt; all_read_as(rt.alloc(), &rows)?);
     Ok(())
 }
 
 #[test]
 fn faults(rt: HostRuntime) -> Result<(), Fail> {
-    let alloc = rt.alloc();
-    assert!(rt; reads_as(alloc, "let r = a and r = b", "52 Syntax 14")?);
-    assert!(rt; reads_as(alloc, "let r = a)", "52 Syntax 9")?);
-    assert!(rt; reads_as(alloc, "let r =", "52 Syntax 7")?);
-    assert!(rt; reads_as(alloc, "let _ = a", "52 Syntax 4")?);
-    assert!(rt; reads_as(alloc, "let r = 1", "52 Syntax 8")?);
-    assert!(rt; reads_as(alloc, "let r = f(a)", "53 Unsupported f")?);
-    assert!(rt; reads_as(alloc, "let r = a and r (x) = b", "52 Syntax 14")?);
-    assert!(rt; reads_as(alloc, "let r = a ++ b", "53 Unsupported ++")?);
-    assert!(rt; reads_as(alloc, "let r = if a", "53 Unsupported if")?);
-    assert!(rt; reads_as(alloc, "include \"a b\"", "52 Syntax 8")?);
-    assert!(rt; reads_as(alloc, "(* (* *)", "51 Text 3 OpenComment")?);
+    let rows = [
+        ("let r = a and r = b", "52 Syntax 14"),
+        ("let r = a)", "52 Syntax 9"),
+        ("let r =", "52 Syntax 7"),
+        ("let _ = a", "52 Syntax 4"),
+        ("let r = 1", "52 Syntax 8"),
+        ("let r = f(a)", "53 Unsupported f"),
+        ("let r = a and r (x) = b", "52 Syntax 14"),
+        ("let r = a ++ b", "53 Unsupported ++"),
+        ("let r = if a", "53 Unsupported if"),
+        ("include \"a b\"", "52 Syntax 8"),
+        ("(* (* *)", "51 Text 3 OpenComment"),
+    ];
+    assert!(rt; all_read_as(rt.alloc(), &rows)?);
     Ok(())
 }
-
-/// The built-in model after RC11.
-const RC11: &str = "RC11
-let sb = po | (IW * (_ \\ IW))
-let rb = rf^-1 ; co
-let eco = (rf | (co | rb))+
-let rel = REL | (ACQ_REL | SC)
-let acq = ACQ | (ACQ_REL | SC)
-let rs = [W] ; ((sb & loc)? ; ([W & A] ; (rf ; rmw)*))
-let sw = [rel] ; (([F] ; sb)? ; (rs ; (rf ; ([R & A] ; ((sb ; [F])? ; [acq])))))
-let hb = (sb | sw)+
-irreflexive (hb ; eco?) as coherence
-empty (rmw & (rb ; co)) as atomicity
-acyclic (sb | rf) as no-thin-air
-let sbx = sb \\ loc
-let scb = sb | ((sbx ; (hb ; sbx)) | ((hb & loc) | (co | rb)))
-let fsc = [F & SC]
-let base = ([SC] | (fsc ; hb?)) ; (scb ; ([SC] | (hb? ; fsc)))
-let fence = fsc ; ((hb | (hb ; (eco ; hb))) ; fsc)
-acyclic (base | fence) as sc
-let conflict = (((W * M) | (M * W)) & loc) \\ id
-let race = conflict \\ ((A * A) | (hb | hb^-1))
-flag ~empty race as data-race
-";
 
 /// What is answered: a tree, or a fault.
 fn answer(alloc: Global, text: &[u8]) -> Result<String, AllocError> {
@@ -125,68 +109,76 @@ fn answer(alloc: Global, text: &[u8]) -> Result<String, AllocError> {
     }
 }
 
-#[test]
-fn prefixes_of_rc11(rt: HostRuntime) -> Result<(), Fail> {
-    let alloc = rt.alloc();
-    let text = RC11.as_bytes();
-    let whole = answer(alloc, text)?;
-    assert!(rt; whole.as_str() == "a tree");
+/// Whether each prefix of a text is a tree or a fault of a text.
+fn all_prefixes_are_answered(alloc: Global, text: &[u8]) -> Result<bool, AllocError> {
     for end in 0..text.len() {
         let answered = answer(alloc, &text[..end])?;
-        assert!(rt; answered.as_str() == "a tree" || answered.as_str().starts_with("5"));
+        if answered.as_str() != "a tree" && !answered.as_str().starts_with("5") {
+            return Ok(false);
+        }
     }
+    Ok(true)
+}
+
+#[test]
+fn prefixes_of_rc11(rt: HostRuntime) -> Result<(), Fail> {
+    let text = RC11.as_bytes();
+    let whole = answer(rt.alloc(), text)?;
+    assert!(rt; whole.as_str() == "a tree");
+    assert!(rt; all_prefixes_are_answered(rt.alloc(), text)?);
     Ok(())
 }
 
-/// A text, then a part some times, then an end.
-fn repeated(
+/// Whether a text of a start, a part some times and an end is answered so.
+fn repeats_to(
     alloc: Global,
     start: &str,
-    part: &str,
-    times: usize,
+    (part, times): (&str, usize),
     end: &str,
-) -> Result<String, AllocError> {
-    let mut text = String::from_str(alloc, start)?;
-    for _ in 0..times {
-        text.push_str(part)?;
-    }
-    text.push_str(end)?;
-    Ok(text)
-}
-
-/// Whether a text is answered so.
-fn answers(alloc: Global, text: &String, wanted: &str) -> Result<bool, AllocError> {
+    wanted: &str,
+) -> Result<bool, AllocError> {
+    let text = repeated(alloc, start, part, times, end)?;
     let answered = answer(alloc, text.as_bytes())?;
     Ok(answered.as_str() == wanted)
 }
 
 #[test]
-fn limits(rt: HostRuntime) -> Result<(), Fail> {
-    let alloc = rt.alloc();
-    let deep = repeated(alloc, "empty ", "(", 64, "0")?;
-    let deep = repeated(alloc, deep.as_str(), ")", 64, "")?;
-    assert!(rt; answers(alloc, &deep, "a tree")?);
-    let deeper = repeated(alloc, "empty ", "(", 65, "0")?;
-    assert!(rt; answers(alloc, &deeper, "54 TooDeep")?);
-    let large = repeated(alloc, "empty rf", " | rf", 2_047, "")?;
-    assert!(rt; answers(alloc, &large, "a tree")?);
-    let larger = repeated(alloc, "empty rf", " | rf", 2_048, ")")?;
-    assert!(rt; answers(alloc, &larger, "55 TooLarge")?);
-    let faulty = repeated(alloc, "empty rf", " | rf", 2_046, " | )")?;
-    assert!(rt; answers(alloc, &faulty, "52 Syntax 10241")?);
-    let shown = repeated(alloc, "empty rf", " | rf", 2_047, " show )")?;
-    assert!(rt; answers(alloc, &shown, "52 Syntax 10249")?);
+fn deep_models(rt: HostRuntime) -> Result<(), Fail> {
+    let closed = repeated(rt.alloc(), "0", ")", 64, "")?;
+    let end = closed.as_str();
+    assert!(rt; repeats_to(rt.alloc(), "empty ", ("(", 64), end, "a tree")?);
+    assert!(rt; repeats_to(rt.alloc(), "empty ", ("(", 65), "0", "54 TooDeep")?);
     Ok(())
 }
 
 #[test]
+fn large_models(rt: HostRuntime) -> Result<(), Fail> {
+    let rows = [
+        (2_047, "", "a tree"),
+        (2_048, ")", "55 TooLarge"),
+        (2_046, " | )", "52 Syntax 10241"),
+        (2_047, " show )", "52 Syntax 10249"),
+    ];
+    for (times, end, wanted) in rows {
+        assert!(rt; repeats_to(rt.alloc(), "empty rf", (" | rf", times), end, wanted)?);
+    }
+    Ok(())
+}
+
+/// The model that a text spells.
+fn read(alloc: Global, text: &str) -> Result<CatFile, Fail> {
+    Ok(
+        read_cat(alloc, text.as_bytes())
+            .ok()
+            .ok_or("the text is a model")?,
+    )
+}
+
+#[test]
 fn items(rt: HostRuntime) -> Result<(), Fail> {
-    let alloc = rt.alloc();
     let text =
         "\"a title\" let rec r = r and s = r include \"b.cat\" flag ~empty r as none show r as a, s unshow r, s";
-    let file = read_cat(alloc, text.as_bytes())
-        .ok()
-        .ok_or("the text is a model")?;
+    let file = read(rt.alloc(), text)?;
     assert_eq!(rt; file.items().len(), 5);
     let title = file.title().ok_or("there is a title")?;
     assert!(rt; title.bytes() == b"a title".as_slice());
@@ -195,32 +187,45 @@ fn items(rt: HostRuntime) -> Result<(), Fail> {
 
 /// Whether two texts are equal models.
 fn are_equal(alloc: Global, text: &str, other: &str) -> Result<bool, Fail> {
-    let file = read_cat(alloc, text.as_bytes())
-        .ok()
-        .ok_or("the text is a model")?;
-    let other = read_cat(alloc, other.as_bytes())
-        .ok()
-        .ok_or("the other text is a model")?;
+    let file = read(alloc, text)?;
+    let other = read(alloc, other)?;
     Ok(file == other)
+}
+
+/// Whether each pair of texts is a pair of equal models.
+fn all_equal(alloc: Global, pairs: &[(&str, &str)]) -> Result<bool, Fail> {
+    for (text, other) in pairs {
+        if !are_equal(alloc, text, other)? {
+            return Ok(false);
+        }
+    }
+    Ok(true)
+}
+
+/// Whether each pair of texts is a pair of unequal models.
+fn all_unequal(alloc: Global, pairs: &[(&str, &str)]) -> Result<bool, Fail> {
+    for (text, other) in pairs {
+        if are_equal(alloc, text, other)? {
+            return Ok(false);
+        }
+    }
+    Ok(true)
 }
 
 #[test]
 fn equal_models(rt: HostRuntime) -> Result<(), Fail> {
-    let alloc = rt.alloc();
-    for (text, other) in [
+    let pairs = [
         ("T flag ~empty r as none", "\"T\" flag ~ empty (r) as none"),
         ("let a = r ; s | t", "let a = (r ; s) | t"),
-    ] {
-        assert!(rt; are_equal(alloc, text, other)?);
-    }
+    ];
+    assert!(rt; all_equal(rt.alloc(), &pairs)?);
     Ok(())
 }
 
 #[test]
 fn unequal_models(rt: HostRuntime) -> Result<(), Fail> {
-    let alloc = rt.alloc();
     let check = "T flag ~empty r as none";
-    for (text, other) in [
+    let pairs = [
         (check, "flag ~empty r as none"),
         (check, "U flag ~empty r as none"),
         (check, "T ~empty r as none"),
@@ -237,25 +242,30 @@ fn unequal_models(rt: HostRuntime) -> Result<(), Fail> {
         ("show a as b", "show a"),
         ("unshow a, b", "unshow a"),
         ("include \"a\"", "include \"b\""),
-    ] {
-        assert!(rt; !are_equal(alloc, text, other)?);
-    }
+    ];
+    assert!(rt; all_unequal(rt.alloc(), &pairs)?);
     Ok(())
+}
+
+/// Whether the copy of each item is equal to it.
+fn copies_are_equal(items: &[Item]) -> Result<bool, AllocError> {
+    for item in items {
+        let copy = item.copy()?;
+        if copy != *item {
+            return Ok(false);
+        }
+    }
+    Ok(true)
 }
 
 #[test]
 fn copies(rt: HostRuntime) -> Result<(), Fail> {
-    let alloc = rt.alloc();
     let text =
         "T let rec r = a | b ; c \\ d & W * R and s = ~(r+) let t = r* | r? | r^-1 | domain(r) | range(r) | [W] | 0 | {} | _ include \"b.cat\" flag ~empty r as none acyclic s show r as a, s unshow r, s";
-    let file = read_cat(alloc, text.as_bytes())
-        .ok()
-        .ok_or("the text is a model")?;
+    let file = read(rt.alloc(), text)?;
     let copy = file.copy()?;
     assert!(rt; copy == file);
     assert_eq!(rt; copy.items().len(), 7);
-    for item in file.items() {
-        assert!(rt; item.copy()? == *item);
-    }
+    assert!(rt; copies_are_equal(file.items())?);
     Ok(())
 }

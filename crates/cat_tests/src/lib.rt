@@ -1,0 +1,13 @@
+//! Tests of the cat crates, by their public items alone.
+#![tactic(auto)]
+
+#[cfg(test)]
+mod judging;
+#[cfg(test)]
+mod loading;
+#[cfg(test)]
+mod model;
+#[cfg(test)]
+mod syntax;
+#[cfg(test)]
+mod texts;
