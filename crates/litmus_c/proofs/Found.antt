@@ -92,7 +92,6 @@ text_cause text text_faults.TooLong h = h
 
 module _ (text : List ℕ) (ts : List Token) (symbols : List Symbol) (list : IsTokenList dialects.Litmus text ts) (is : symbols ≡ symbols_of text ts)
     (unique : (us : List Token) → IsTokenList dialects.Litmus text us → ts ≡ us) where
-
   no_test : SpellsNone symbols → HasNoTest text
   no_test none w d = none w (spelled_of text ts symbols w is d (unique d.tokens d.is_list))
 
