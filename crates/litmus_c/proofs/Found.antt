@@ -1,5 +1,5 @@
 -- From the symbols of a text to the test that it spells.
-use Rattle.std.proofs.Common.{◌≡◌, ℕ, List, [], sym, ◌∙◌, ap, subst, refl, arith}
+use Rattle.std.proofs.Common.{◌≡◌, ℕ, List, sym, ◌∙◌, ap, subst, refl, arith}
 use Rattle.std.specs.Prelude.{Result, Ok, Err, IfOk, OnOk, IfErr, MatchResult, Contains}
 use Rattle.std.proofs.lemmas.Bool.{false≢true}
 use Rattle.wb_text.specs.Faults.{HasCause}
