@@ -12,7 +12,7 @@ use Rattle.litmus_tree.specs.declared.tree.Expression.{Expression}
 use Rattle.litmus_tree.specs.declared.tree.Statement.{Statement}
 use Rattle.litmus_tree.specs.declared.tree.Statement.TheVariants.{If as If'}
 use Rattle.litmus_tree.specs.Tree.{Program, term_of, step_of, steps_of}
-use Rattle.litmus_c.proofs.Steps.{only_if, if_and_else}
+use Rattle.litmus_tree.proofs.Steps.{only_if, if_and_else}
 use Rattle.litmus_c.specs.Values.{term_constants, step_constants, steps_constants, constants_among, IsValue, with_value, with_values, values_among}
 
 test : (b : Bool) → (b ≡ true) ⊎ (b ≡ false)

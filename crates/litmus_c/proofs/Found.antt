@@ -1,5 +1,5 @@
 -- From the symbols of a text to the test that it spells.
-use Rattle.std.proofs.Common.{◌≡◌, ℕ, List, [], sym, ◌∙◌, ap, subst, refl, arith}
+use Rattle.std.proofs.Common.{◌≡◌, ℕ, List, sym, ◌∙◌, ap, subst, refl, arith}
 use Rattle.std.specs.Prelude.{Result, Ok, Err, IfOk, OnOk, IfErr, MatchResult, Contains}
 use Rattle.std.proofs.lemmas.Bool.{false≢true}
 use Rattle.wb_text.specs.Faults.{HasCause}
@@ -92,7 +92,6 @@ text_cause text text_faults.TooLong h = h
 
 module _ (text : List ℕ) (ts : List Token) (symbols : List Symbol) (list : IsTokenList dialects.Litmus text ts) (is : symbols ≡ symbols_of text ts)
     (unique : (us : List Token) → IsTokenList dialects.Litmus text us → ts ≡ us) where
-
   no_test : SpellsNone symbols → HasNoTest text
   no_test none w d = none w (spelled_of text ts symbols w is d (unique d.tokens d.is_list))
 

@@ -11,16 +11,16 @@ ghost use Rattle.litmus_c.specs.Values.{values_among};
 ghost use Rattle.litmus_tree.specs.Tree.{declared_of, step_of, steps_of};
 ghost use Rattle.litmus_c.specs.declared.rules.Rule.TheVariants.{Names, PlainAccess, AtomicAccess};
 
-use litmus_syntax::{Body, Draft};
 use crate::fault::TestFault;
 use crate::rules::{
     Rule, after_threads, entry_is_fair, formula_is_fair, is_one_of, places_are_there, program_keeps,
 };
 use crate::test::Test;
-use litmus_tree::{Declarator, Parameter, Statement, Thread};
 use crate::values::{ValuesFault, values_among};
 use conditions::{Binding, Cond, Place};
 use indexmap::IndexSet;
+use litmus_syntax::{Body, Draft};
+use litmus_tree::{Declarator, Parameter, Statement, Thread};
 use std::alloc::{AllocError, Global};
 use wb_text::Name;
 

@@ -9,10 +9,10 @@ ghost use Rattle.litmus_c.specs.Rules.{is_given, entry_is_fair, is_of, has_other
 ghost use Rattle.litmus_tree.specs.Names.{is_one_of};
 ghost use Rattle.litmus_tree.specs.Tree.{term_of, action_of, right_of, declared_of, step_of, steps_of};
 
+use conditions::{Place, Prop};
 use litmus_tree::{
     Call, Declarator, Expression, LocationKind, Parameter, RightSide, Statement, Thread,
 };
-use conditions::{Place, Prop};
 use wb_text::Name;
 
 /// Whether a parameter has this name.

@@ -6,8 +6,8 @@ ghost use Rattle.litmus_c.specs.Limits.{IsTest};
 mod copying;
 mod equality;
 
-use litmus_tree::Thread;
 use conditions::{Binding, Cond, Place};
+use litmus_tree::Thread;
 use std::marker::Model;
 use wb_text::Name;
 

@@ -8,8 +8,8 @@ ghost use Rattle.litmus_c.specs.Values.{term_constants, action_constants, right_
 ghost use Rattle.litmus_c.specs.declared.values.ValuesFault.TheVariants.{TooMany};
 
 use crate::test::Test;
-use litmus_tree::{Call, Declarator, Expression, RightSide, Statement, Thread};
 use conditions::Binding;
+use litmus_tree::{Call, Declarator, Expression, RightSide, Statement, Thread};
 use std::alloc::{AllocError, AllocFailed, Global};
 
 /// Why there is no list of values.

@@ -1,5 +1,5 @@
 -- From what reading gives to the grammar.
-use Rattle.std.proofs.Common.{◌≡◌, ℕ, List, [], refl, sym, ◌∙◌}
+use Rattle.std.proofs.Common.{◌≡◌, List, [], refl, sym, ◌∙◌}
 use Rattle.std.specs.Prelude.{Result, Ok, Err, IfOk, IfErr, MatchResult}
 use Rattle.descent.proofs.Tools.{moved}
 use Rattle.litmus_syntax.specs.declared.draft.Draft.{Draft}

@@ -1,7 +1,7 @@
 //! A test as it is written, before its names are looked up.
 
-use litmus_tree::{Parameter, Statement};
 use conditions::{Binding, Cond, Place};
+use litmus_tree::{Parameter, Statement};
 use wb_text::Name;
 
 /// A thread as it is written.

@@ -20,9 +20,9 @@ use crate::atomics::Operation;
 use crate::draft::{Body, Draft};
 use crate::symbol::{Symbol, Terminal};
 use crate::syntax_fault::SyntaxFault;
-use litmus_tree::{LocationKind, Parameter};
 use conditions::{Binding, Place};
 use indexmap::IndexSet;
+use litmus_tree::{LocationKind, Parameter};
 use std::alloc::{AllocError, Global};
 use wb_text::{Name, Token};
 

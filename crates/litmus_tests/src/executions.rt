@@ -1,5 +1,5 @@
-use candidates::{Space, SpaceFault};
 use c11_threads::runs;
+use candidates::{Space, SpaceFault};
 use litmus_c::read_test;
 use std::alloc::Global;
 use std::test::Fail;

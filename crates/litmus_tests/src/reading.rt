@@ -1,5 +1,5 @@
-use litmus_c::{Expression, RightSide, Statement, Test, TestFault, read_test};
 use conditions::{Kind, Place};
+use litmus_c::{Expression, RightSide, Statement, Test, TestFault, read_test};
 use std::alloc::Global;
 use std::test::Fail;
 use wb_text::{Name, TextFault};

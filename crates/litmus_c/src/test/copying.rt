@@ -3,8 +3,8 @@
 ghost use Rattle.std.specs.Prelude.{◌≡◌, IfOk};
 
 use crate::test::Test;
-use litmus_tree::Thread;
 use conditions::{Binding, Place};
+use litmus_tree::Thread;
 use std::alloc::{AllocError, Global};
 use wb_text::Name;
 

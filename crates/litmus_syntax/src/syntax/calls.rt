@@ -8,8 +8,8 @@ use crate::atomics::{Operation, accepted, calls, has_value, order_named};
 use crate::symbol::Terminal;
 use crate::syntax::Reader;
 use crate::syntax_fault::SyntaxFault;
-use litmus_tree::{Call, Expression, RightSide};
 use events::Order;
+use litmus_tree::{Call, Expression, RightSide};
 use wb_text::Name;
 
 /// What the method of the call's row reads.
