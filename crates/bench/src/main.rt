@@ -1,6 +1,7 @@
 //! Runs a script of litmus tests over a book, or evaluates one test.
 #![tactic(auto)]
 
+use clap::error::ErrorKind;
 use one_test::{OneFault, one};
 use scripts::{Options, ServeFault, Task, read_task, serve};
 use std::io::BufWriter;
@@ -14,21 +15,30 @@ const BAD: u8 = 2;
 /// Ends with 0, with 2 where the words, a line of the script or the test is bad, and with 1 where reading, writing or
 /// memory fails.
 fn main(rt: HostRuntime) -> ExitCode {
-    let alloc = rt.alloc();
     let words: Vec<String> = match env::args(&rt) {
-        Ok(words) => match words.collect(alloc) {
+        Ok(words) => match words.collect(rt.alloc()) {
             Ok(words) => words,
-            Err(_) => return ExitCode::from(BAD),
+            Err(_) => return ExitCode::FAILURE,
         },
-        Err(_) => return ExitCode::from(BAD),
+        Err(error) if error.kind() == io::ErrorKind::OutOfMemory => return ExitCode::FAILURE,
+        Err(_) => return reject_bytes(&rt),
     };
-    match read_task(alloc, words.as_slice()) {
+    match read_task(rt.alloc(), words.as_slice()) {
         Ok(Task::Alone) => evaluate_one(&rt),
         Ok(Task::Script(options)) => serve_script(&rt, &options),
+        Err(error) if error.kind() == ErrorKind::OutOfMemory => ExitCode::FAILURE,
         Err(error) => match error.print(&rt) {
             Ok(()) => ExitCode::from(error.exit_code() as u8),
             Err(_) => ExitCode::FAILURE,
         },
+    }
+}
+
+/// Says that a word isn't UTF-8.
+fn reject_bytes(rt: &impl Eprint) -> ExitCode {
+    match eprintln!(rt; "error: a word of the command line is not UTF-8") {
+        Ok(()) => ExitCode::from(BAD),
+        Err(_) => ExitCode::FAILURE,
     }
 }
 

@@ -153,10 +153,10 @@ fn one_refusals(rt: HostRuntime) -> Result<(), Fail> {
 #[test]
 fn one_space(rt: HostRuntime) -> Result<(), Fail> {
     let test: &[u8] = b"C E {} P0 (atomic_int* x) {
-  r = atomic_load(x); r = atomic_load(x); r = atomic_load(x); r = atomic_load(x); r = atomic_load(x); r = atomic_load(x); r = atomic_load(x);
-  r = atomic_load(x); r = atomic_load(x); r = atomic_load(x); r = atomic_load(x); r = atomic_load(x); r = atomic_load(x);
+  atomic_store(x, 1); atomic_store(x, 1); atomic_store(x, 1); atomic_store(x, 1); atomic_store(x, 1); atomic_store(x, 1); atomic_store(x, 1);
+  atomic_store(x, 1); atomic_store(x, 1); atomic_store(x, 1); atomic_store(x, 1); atomic_store(x, 1); atomic_store(x, 1);
 } exists true";
-    assert!(rt; refuses(rt.alloc(), test, b"", "31 TooManyRuns 0")?);
+    assert!(rt; refuses(rt.alloc(), test, b"", "41 TooManyCandidates")?);
     Ok(())
 }
 

@@ -1,7 +1,8 @@
 -- What a line of a script says, without its line feed.
-use Rattle.std.specs.Prelude.{◌≡◌, ℕ, ◌+◌, List, ◌∷◌, ◌++◌, codes, decimal}
+use Rattle.std.specs.Prelude.{◌≡◌, ◌⊎◌, ℕ, ◌+◌, List, [], ◌∷◌, ◌++◌, codes, decimal}
 use Rattle.scripts.specs.declared.order.Head.{Head}
 use Rattle.scripts.specs.declared.order.Head.TheVariants.{Cat, Test, Whole}
+use Rattle.scripts.specs.declared.order.Order.{Order}
 use Rattle.scripts.specs.declared.order.Request.{Request}
 use Rattle.scripts.specs.declared.order.Request.TheVariants.{PutCat, PutTest, Ask, Poll, Claim, Return}
 
@@ -23,3 +24,18 @@ Says words (Whole request) = Requests words request
 -- A line is the digit of a seat, a space, and words.
 abbrev pub Spells : List ℕ → ℕ → Head → Type 0
 Spells line seat head = (words : List ℕ) × (line ≡ (48 + seat) ∷ 32 ∷ words) × Says words head
+
+-- The request of a head, with whatever text follows.
+abbrev pub IsOf : Head → Request → Type 0
+IsOf (Cat name) (PutCat other text) = other ≡ name
+IsOf Test (PutTest text) = Unit {0}
+IsOf (Whole asked) request = request ≡ asked
+IsOf head request = ⊥
+
+-- an order whose first line is this
+abbrev pub Begins : List ℕ → Order → Type 0
+Begins line order = (head : Head) × Spells line order.seat head × IsOf head order.request
+
+-- A line that nothing is done for: it is empty, or a remark.
+abbrev pub IsSkipped : List ℕ → Type 0
+IsSkipped line = (line ≡ []) ⊎ ((remark : List ℕ) × (line ≡ 35 ∷ remark))

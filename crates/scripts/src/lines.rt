@@ -1,6 +1,7 @@
 //! The lines of a script.
 
-ghost use Rattle.std.specs.Prelude.{◌≡◌, ◌≤◌, ◌≢◌, IfErr};
+ghost use Rattle.std.specs.Prelude.{◌≡◌, ◌≤◌, ◌≢◌, ◌++◌, ℕ, List, [], Ok, Err, true, false, IfErr, codes};
+ghost use Rattle.std.specs.Io.KnownBytes.{IsAtEnd};
 ghost use Rattle.scripts.specs.declared.fault.ServeFault.TheVariants as faults;
 
 use crate::block::Block;
@@ -34,18 +35,24 @@ impl Lines {
     }
 
     /// The line, without its line feed and a carriage return before that.
-    pub fn line(&self) -> &[u8] {
+    pub fn line(&self) -> &[u8]
+        ensures { result.now ≡ self.now.line.items }
+    {
         &self.line
     }
 
     /// How many lines were read.
-    pub fn count(&self) -> u32 {
+    pub fn count(&self) -> u32
+        ensures { result ≡ self.now.count }
+    {
         self.count
     }
 
     /// Goes to the next line, and answers whether there is one.
     pub fn next<R: Source>(&mut self, reader: &mut R) -> Result<bool, ServeFault>
         ensures fault { IfErr result (λ e. e ≢ faults.Write) }
+        ensures line { (n : ℕ) → result ≡ Err (faults.BadLine n) → n ≡ self.new.count }
+        ensures end { result ≡ Ok false → IsAtEnd (R.left reader.new) }
     {
         if self.is_at_end(reader)? {
             return Ok(false);
@@ -64,6 +71,8 @@ impl Lines {
     /// Whether no byte is left.
     fn is_at_end<R: Source>(&mut self, reader: &mut R) -> Result<bool, ServeFault>
         ensures fault { IfErr result (λ e. e ≡ faults.Read) }
+        ensures count { self.new.count ≡ self.old.count }
+        ensures end { result ≡ Ok true → IsAtEnd (R.left reader.new) }
     {
         match self.block.fill(reader) {
             Ok(()) => Ok(self.block.rest().is_empty()),
@@ -75,6 +84,7 @@ impl Lines {
     /// line is too long.
     fn read_line<R: Source>(&mut self, reader: &mut R) -> Result<bool, ServeFault>
         ensures fault { IfErr result (λ e. e ≢ faults.Write) }
+        ensures line { (n : ℕ) → result ≡ Err (faults.BadLine n) → n ≡ self.new.count }
     {
         for _ in 0..=MOST_BYTES {
             if self.is_at_end(reader)? {
@@ -92,7 +102,12 @@ impl Lines {
     }
 
     /// Adds what the block has before a line feed to the line, and answers whether the feed stood there.
-    fn take_part(&mut self) -> Result<bool, AllocError> {
+    fn take_part(&mut self) -> Result<bool, AllocError>
+        ensures fed { result ≡ Ok true → (part : List ℕ) × (self.new.line.items ≡ self.old.line.items ++ part)
+            × (self.old.block ≡ part ++ (codes "\n" ++ self.new.block)) }
+        ensures whole { result ≡ Ok false → (self.new.line.items ≡ self.old.line.items ++ self.old.block) × (self.new.block ≡ []) }
+        ensures count { self.new.count ≡ self.old.count }
+    {
         let rest = self.block.rest();
         match memchr(b'\n', rest) {
             Some(place) => {

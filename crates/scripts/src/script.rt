@@ -1,6 +1,8 @@
 //! The orders of a script.
 
-ghost use Rattle.std.specs.Prelude.{◌≡◌, ◌<◌, ◌≤◌, ◌≢◌, IfOk, IfErr, IfSome, vec_len};
+ghost use Rattle.std.specs.Prelude.{◌≡◌, ◌↔◌, ◌<◌, ◌≤◌, ◌≢◌, ◌++◌, ◌-◌, ℕ, true, Err, IfOk, IfErr, IfSome, IfNone, OnOk, length, take, vec_len};
+ghost use Rattle.scripts.specs.Spelled.{Begins, IsSkipped};
+ghost use Rattle.std.specs.Io.KnownBytes.{IsAtEnd};
 ghost use Rattle.scripts.specs.declared.fault.ServeFault.TheVariants as faults;
 
 use crate::fault::ServeFault;
@@ -30,14 +32,18 @@ impl Script {
     }
 
     /// How many lines were read.
-    pub fn line_count(&self) -> u32 {
+    pub fn line_count(&self) -> u32
+        ensures { result ≡ self.now.lines.count }
+    {
         self.lines.count()
     }
 
     /// The next order, if there is one.
     pub fn next<R: Source>(&mut self, reader: &mut R) -> Result<Option<Order>, ServeFault>
         ensures seat { IfOk result (λ next. IfSome next (λ order. order.seat < 8)) }
+        ensures end { IfOk result (λ next. IfNone next (IsAtEnd (R.left reader.new))) }
         ensures fault { IfErr result (λ e. e ≢ faults.Write) }
+        ensures line { (n : ℕ) → result ≡ Err (faults.BadLine n) → n ≡ self.new.lines.count }
     {
         for _ in 0..=MOST_LINES {
             if !self.lines.next(reader)? {
@@ -53,7 +59,9 @@ impl Script {
     /// The order that begins with the line.
     fn order<R: Source>(&mut self, reader: &mut R) -> Result<Order, ServeFault>
         ensures seat { IfOk result (λ order. order.seat < 8) }
+        ensures begins { IfOk result (Begins self.old.lines.line.items) }
         ensures fault { IfErr result (λ e. e ≢ faults.Write) }
+        ensures line { (n : ℕ) → result ≡ Err (faults.BadLine n) → n ≡ self.new.lines.count }
     {
         let (seat, head) = match read_head(self.alloc, self.lines.line()) {
             Ok(head) => head,
@@ -71,6 +79,7 @@ impl Script {
     /// The text that follows: its lines up to a line `.` alone.
     fn text<R: Source>(&mut self, reader: &mut R) -> Result<Text, ServeFault>
         ensures fault { IfErr result (λ e. e ≢ faults.Write) }
+        ensures line { (n : ℕ) → result ≡ Err (faults.BadLine n) → n ≡ self.new.lines.count }
     {
         let mut bytes = Vec::new(self.alloc);
         for _ in 0..=MOST_LINES {
@@ -88,12 +97,16 @@ impl Script {
 }
 
 /// Whether a line outside texts is empty or a remark.
-fn is_skipped(line: &[u8]) -> bool {
+fn is_skipped(line: &[u8]) -> bool
+    ensures { (result ≡ true) ↔ IsSkipped line.now }
+{
     line.is_empty() || line.first() == Some(&b'#')
 }
 
 /// Adds as many of the bytes as a text keeps.
-fn add_front(text: &mut Vec<u8>, bytes: &[u8]) -> Result<(), AllocError> {
+fn add_front(text: &mut Vec<u8>, bytes: &[u8]) -> Result<(), AllocError>
+    ensures { OnOk result (text.new.items ≡ text.old.items ++ take (65537 - length text.old.items) bytes.now) }
+{
     let room = MOST_BYTES.saturating_sub(text.len());
     text.extend_from_slice(&bytes[..bytes.len().min(room)])
 }
