@@ -21,4 +21,4 @@ pub returns-in-Err-clause-only : goal.returns-in-Err-clause-only
 returns-in-Err-clause-only c = λ f d h.
     c.refusal.ensures.memory
     (only_of c.args.symbols.now c.file.new.self.rest.now (Err c.in-Err.fault) f d
-        (subst (λ r. Gives {X = File} {A = File} (λ f. f) r c.file.new.self.rest.now (file_at c.args.symbols.now)) c.in-Err.is c.file.ensures))
+    (subst (λ r. Gives {X = File} {A = File} (λ f. f) r c.file.new.self.rest.now (file_at c.args.symbols.now)) c.in-Err.is c.file.ensures))
