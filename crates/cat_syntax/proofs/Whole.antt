@@ -6,7 +6,6 @@ use Rattle.wb_text.specs.declared.fault.TextFault.{TextFault}
 use Rattle.wb_text.specs.declared.fault.TextFault.TheVariants as texts
 use Rattle.wb_text.specs.declared.token.Dialect.TheVariants.{Cat}
 use Rattle.wb_text.specs.declared.token.Token.{Token}
-use Rattle.wb_text.specs.Faults.{HasCause}
 use Rattle.wb_text.specs.Tokens.{IsTokenList}
 use Rattle.cat_syntax.specs.Faults.{cause_of}
 use Rattle.cat_syntax.specs.declared.counting.Context.TheVariants.{Naming}
