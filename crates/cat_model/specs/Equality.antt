@@ -1,14 +1,14 @@
 -- The test that `==` makes of models; it is true exactly of equal models.
-use Rattle.std.specs.Prelude.{◌≡◌, ◌&&◌, Bool, ◌==◌, true, false, List, ℕ, refl}
-use Rattle.std.proofs.Common.{◌∙◌, sym, ap}
-use Rattle.std.specs.Bool.{Decides, one_answer}
+use Rattle.std.specs.Prelude.{◌≡◌, ◌&&◌, Bool, ◌==◌, List, ℕ}
+use Rattle.std.proofs.Common.{◌∙◌, ap}
+use Rattle.std.specs.Bool.{Decides}
 use Rattle.std.specs.Cmp.{IsEquivalence}
 use Rattle.std.specs.Cmp.Lexicographic.{pointwise, pointwise_decides}
 use Rattle.std.specs.Str.{bytes_eq}
 use Rattle.std.proofs.lemmas.Bool.Decides.{Decides-eqb}
 use Rattle.std.proofs.lemmas.Slice.Eq.{bytes_eq-Decides}
 use Rattle.cat_syntax.specs.Equality.{same_clause}
-use Rattle.cat_syntax.specs.Exact.{clause_exact}
+use Rattle.cat_syntax.specs.Exact.{both, by_parts, equivalence, clause_exact}
 use Rattle.cat_syntax.specs.Tree.{Word, Clause}
 use Rattle.cat_model.specs.Models.{Assembly}
 use Rattle.cat_model.specs.declared.model.FileVersion.{FileVersion}
@@ -18,13 +18,6 @@ same_version a b = bytes_eq a.name b.name && (a.version == b.version)
 
 abbrev pub same_assembly : Assembly → Assembly → Bool
 same_assembly a b = pointwise same_clause a.items b.items && pointwise same_version a.files b.files
-
-both : {P Q : Type 0} (r s : Bool) → Decides r P → Decides s Q → Decides (r && s) (P × Q)
-both true s p q = (λ h. (p.0 refl, q.0 h), λ h. q.1 h.1)
-both false s p q = (λ h. cc, λ h. p.1 h.0)
-
-by_parts : {P Q : Type 0} (r : Bool) → Decides r P → (P → Q) → (Q → P) → Decides r Q
-by_parts r d to from = (λ h. to (d.0 h), λ q. d.1 (from q))
 
 abbrev at_version : Word → ℕ → FileVersion
 at_version x v = record { name = x; version = v }
@@ -42,15 +35,8 @@ assembly_exact a b =
     by_parts _ (both _ _ (pointwise_decides clause_exact a.items b.items) (pointwise_decides version_exact a.files b.files))
     (λ h. ap (λ is. assembly is a.files) h.0 ∙ ap (assembly b.items) h.1) (λ e. (ap (λ c. c.items) e, ap (λ c. c.files) e))
 
-equivalence : {K : Type 0} (E : K → K → Bool) → ((a b : K) → Decides (E a b) (a ≡ b)) → IsEquivalence E
-equivalence E exact = record {
-  refl = λ x. (exact x x).1 refl;
-  symm = λ x y. one_answer _ _ (exact x y) (by_parts _ (exact y x) sym sym);
-  congr = λ x y z h. ap (λ w. E w z) ((exact x y).0 h);
-}
-
 pub version_equivalence : IsEquivalence same_version
-version_equivalence = equivalence same_version version_exact
+version_equivalence = equivalence (λ v. v) same_version version_exact
 
 pub assembly_equivalence : IsEquivalence same_assembly
-assembly_equivalence = equivalence same_assembly assembly_exact
+assembly_equivalence = equivalence (λ a. a) same_assembly assembly_exact

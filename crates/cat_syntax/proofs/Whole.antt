@@ -1,24 +1,31 @@
 -- The whole of the symbols.
-use Rattle.std.proofs.Common.{◌≡◌, ◌≤◌, List, [], refl, sym, ◌∙◌, ap, arith}
-use Rattle.std.specs.Prelude.{Result, Ok, Err, IfOk, MatchResult}
+use Rattle.std.proofs.Common.{◌≡◌, ℕ, ◌≤◌, List, [], length, refl, sym, ◌∙◌, ap, subst, arith}
+use Rattle.std.specs.Prelude.{Result, Ok, Err, IfOk, IfErr, MatchResult}
 use Rattle.std.specs.Result.{IsErrAnd}
 use Rattle.wb_text.specs.declared.fault.TextFault.{TextFault}
 use Rattle.wb_text.specs.declared.fault.TextFault.TheVariants as texts
+use Rattle.wb_text.specs.declared.token.Dialect.TheVariants.{Cat}
+use Rattle.wb_text.specs.declared.token.Token.{Token}
+use Rattle.wb_text.specs.Tokens.{IsTokenList}
 use Rattle.cat_syntax.specs.Faults.{cause_of}
 use Rattle.cat_syntax.specs.declared.counting.Context.TheVariants.{Naming}
 use Rattle.cat_syntax.specs.declared.fault.CatFault.{CatFault}
 use Rattle.cat_syntax.specs.declared.fault.CatFault.TheVariants.{Text, Syntax, Unsupported, TooDeep, TooLarge, NoMemory}
+use Rattle.cat_syntax.specs.declared.syntax_fault.SyntaxFault.{SyntaxFault}
+use Rattle.cat_syntax.specs.declared.syntax_fault.SyntaxFault.TheVariants as faults
 use Rattle.cat_syntax.specs.declared.symbol.Symbol.{Symbol}
 use Rattle.cat_syntax.specs.Counting.{weight}
 use Rattle.cat_syntax.specs.Items.{IsFile}
 use Rattle.cat_syntax.specs.Nodes.{nodes}
 use Rattle.cat_syntax.specs.Reading.{Reading, Gives, file_at}
+use Rattle.cat_syntax.specs.Reads.{Reads, IsRefused, Tells}
+use Rattle.cat_syntax.specs.Symbols.{symbols_of}
 use Rattle.cat_syntax.specs.Tree.{File}
 use Rattle.cat_syntax.proofs.Weights.{file-weight}
 use Rattle.cat_syntax.proofs.ItemsSound.{file-sound}
 use Rattle.cat_syntax.proofs.ItemsComplete.{file-complete}
 
-pub found_of : (ss rest : List Symbol) (r : Result File CatFault) → weight Naming ss ≤ 4096 → Gives {X = File} {A = File} (λ f. f) r rest (file_at ss) → IfOk r (λ f. IsFile ss f × (nodes f ≤ 4096))
+pub found_of : (ss rest : List Symbol) (r : Result File SyntaxFault) → weight Naming ss ≤ 4096 → Gives {X = File} {A = File} (λ f. f) r rest (file_at ss) → IfOk r (λ f. IsFile ss f × (nodes f ≤ 4096))
 found_of ss rest (Ok f) h g =
     let d = file-sound ss rest f g in
     (d, omega (arith, file-weight ss f d))
@@ -33,14 +40,13 @@ same-file ss rest f g d e =
 not-refused : (ss : List Symbol) (f : File) → IsFile ss f → file_at ss ≡ Err tt → ⊥
 not-refused ss f d e = let g = file-complete ss f d in cc
 
-pub only_of : (ss rest : List Symbol) (r : Result File CatFault) (f : File) → IsFile ss f → Gives {X = File} {A = File} (λ g. g) r rest (file_at ss) → MatchResult r (λ g. g ≡ f) (λ e. e ≡ NoMemory)
+-- symbols that are a model are read as it, unless memory ran out
+pub only_of : (ss rest : List Symbol) (r : Result File SyntaxFault) (f : File) → IsFile ss f → Gives {X = File} {A = File} (λ g. g) r rest (file_at ss) → MatchResult r (λ g. g ≡ f) (λ e. e ≡ faults.NoMemory)
 only_of ss rest (Ok g) f d h = same-file ss rest f g d h
-only_of ss rest (Err NoMemory) f d h = refl
-only_of ss rest (Err (Text e)) f d h = absurd (not-refused ss f d h)
-only_of ss rest (Err (Syntax e)) f d h = absurd (not-refused ss f d h)
-only_of ss rest (Err (Unsupported e)) f d h = absurd (not-refused ss f d h)
-only_of ss rest (Err TooDeep) f d h = absurd (not-refused ss f d h)
-only_of ss rest (Err TooLarge) f d h = absurd (not-refused ss f d h)
+only_of ss rest (Err faults.NoMemory) f d h = refl
+only_of ss rest (Err faults.Unexpected) f d h = absurd (not-refused ss f d h)
+only_of ss rest (Err faults.BoundTwice) f d h = absurd (not-refused ss f d h)
+only_of ss rest (Err faults.TooDeep) f d h = absurd (not-refused ss f d h)
 
 pub small_of : (ss : List Symbol) (f : File) → IsFile ss f → nodes f ≤ 4096 → weight Naming ss ≤ 4096
 small_of ss f d h = omega (arith, file-weight ss f d)
@@ -49,3 +55,22 @@ small_of ss f d h = omega (arith, file-weight ss f d)
 pub no_memory : (r : Result File CatFault) (e : TextFault) (f : File) → IsErrAnd r (λ g. g ≡ cause_of e) → e ≡ texts.NoMemory → MatchResult r (λ g. g ≡ f) (λ g. g ≡ NoMemory)
 no_memory (Ok g) e f h same = absurd h
 no_memory (Err g) e f h same = h ∙ ap cause_of same
+
+-- a refusal that tells of the symbols stands, since a model would have been read
+refused_of : (text : List ℕ) (ts : List Token) (e : CatFault) → IsTokenList Cat text ts → Tells e (symbols_of text ts) ts (length text) → ((f : File) → Reads text f → e ≡ NoMemory) → IsRefused text e
+refused_of text ts NoMemory list told only = tt
+refused_of text ts (Text f) list told only = absurd told
+refused_of text ts (Syntax n) list told only = record { tokens = ts; is_list = list; none = λ f d. let e = only f d in cc; told = told }
+refused_of text ts (Unsupported w) list told only = record { tokens = ts; is_list = list; none = λ f d. let e = only f d in cc; told = told }
+refused_of text ts TooDeep list told only = record { tokens = ts; is_list = list; none = λ f d. let e = only f d in cc; told = told }
+refused_of text ts TooLarge list told only = record { tokens = ts; is_list = list; none = λ f d. let e = only f d in cc; told = told }
+
+refused_in : (text : List ℕ) (ts : List Token) (r : Result File CatFault) → IsTokenList Cat text ts → IfErr r (λ e. Tells e (symbols_of text ts) ts (length text)) →
+    ((f : File) → Reads text f → MatchResult r (λ g. g ≡ f) (λ e. e ≡ NoMemory)) → IfErr r (λ e. IsRefused text e)
+refused_in text ts (Ok g) list told only = tt
+refused_in text ts (Err e) list told only = refused_of text ts e list told only
+
+pub refused : (text : List ℕ) (ts us : List Token) (ss : List Symbol) (r : Result File CatFault) → IsTokenList Cat text ts → ss ≡ symbols_of text ts → us ≡ ts →
+    IfErr r (λ e. Tells e ss us (length text)) → ((f : File) → Reads text f → MatchResult r (λ g. g ≡ f) (λ e. e ≡ NoMemory)) → IfErr r (λ e. IsRefused text e)
+refused text ts us ss r list p q told only =
+    refused_in text ts r list (subst (λ u. IfErr r (λ e. Tells e (symbols_of text ts) u (length text))) q (subst (λ s. IfErr r (λ e. Tells e s us (length text))) p told)) only

@@ -15,12 +15,13 @@ use Rattle.cat_syntax.specs.declared.tree.Element.{Element}
 use Rattle.cat_syntax.specs.declared.tree.Expression.{Expression}
 use Rattle.cat_syntax.specs.declared.tree.Item.{Item}
 
-both : {P Q : Type 0} (r s : Bool) → Decides r P → Decides s Q → Decides (r && s) (P × Q)
+-- a test of two values
+pub both : {P Q : Type 0} (r s : Bool) → Decides r P → Decides s Q → Decides (r && s) (P × Q)
 both true s p q = (λ h. (p.0 refl, q.0 h), λ h. q.1 h.1)
 both false s p q = (λ h. cc, λ h. p.1 h.0)
 
 -- a test of what two values are made of
-by_parts : {P Q : Type 0} (r : Bool) → Decides r P → (P → Q) → (Q → P) → Decides r Q
+pub by_parts : {P Q : Type 0} (r : Bool) → Decides r P → (P → Q) → (Q → P) → Decides r Q
 by_parts r d to from = (λ h. to (d.0 h), λ q. d.1 (from q))
 
 pub term_exact : (a b : Term) → Decides (same_term a b) (a ≡ b)
@@ -86,7 +87,7 @@ pub file_exact : (a b : File) → Decides (same_file a b) (a ≡ b)
 file_exact a b = by_parts _ (both _ _ (alias_exact a.title b.title) (pointwise_decides clause_exact a.items b.items)) (λ h. ap (λ x. file x a.items) h.0 ∙ ap (file b.title) h.1) (λ e. (ap (λ c. c.title) e, ap (λ c. c.items) e))
 
 -- a test that is true exactly of values with one tree
-equivalence : {K L : Type 0} (tree : L → K) (E : K → K → Bool) → ((a b : K) → Decides (E a b) (a ≡ b)) → IsEquivalence (λ a b. E (tree a) (tree b))
+pub equivalence : {K L : Type 0} (tree : L → K) (E : K → K → Bool) → ((a b : K) → Decides (E a b) (a ≡ b)) → IsEquivalence (λ a b. E (tree a) (tree b))
 equivalence tree E exact = record {
   refl = λ x. (exact (tree x) (tree x)).1 refl;
   symm = λ x y. one_answer _ _ (exact (tree x) (tree y)) (by_parts _ (exact (tree y) (tree x)) sym sym);

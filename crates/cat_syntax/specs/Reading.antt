@@ -5,8 +5,8 @@ use Rattle.std.specs.Prelude.{ℕ, List, [], ◌∷◌, ◌++◌, length, Bool, 
 use Rattle.std.proofs.Common.{zero, suc}
 use Rattle.descent.specs.Reading.{Read, Look, match_option, ◌>>=◌, required, repeated}
 use Rattle.cat_syntax.specs.contracts.symbol.TerminalPartialEq.TheImpl.{ghosts}
-use Rattle.cat_syntax.specs.declared.fault.CatFault.{CatFault}
-use Rattle.cat_syntax.specs.declared.fault.CatFault.TheVariants.{NoMemory}
+use Rattle.cat_syntax.specs.declared.syntax_fault.SyntaxFault.{SyntaxFault}
+use Rattle.cat_syntax.specs.declared.syntax_fault.SyntaxFault.TheVariants.{NoMemory}
 use Rattle.cat_syntax.specs.declared.operator.Infix.{Infix}
 use Rattle.cat_syntax.specs.declared.operator.Infix.TheVariants.{Union, Sequence, Difference, Intersection, Product}
 use Rattle.cat_syntax.specs.declared.operator.Postfix.{Postfix}
@@ -27,12 +27,12 @@ abbrev pub Reading : Type 0 → Type 0
 Reading A = Read Symbol (Unit {0}) A
 
 -- the fault is want of memory, or else P
-abbrev pub OrNoMemory : CatFault → Type 0 → Type 0
+abbrev pub OrNoMemory : SyntaxFault → Type 0 → Type 0
 OrNoMemory NoMemory P = Unit {0}
 OrNoMemory _ P = P
 
 -- What a function returned, seen by view, and the symbols that it left are what reading gives, unless memory ran out.
-abbrev pub Gives : {X A : Type 0} → (X → A) → Result X CatFault → List Symbol → Reading A → Type 0
+abbrev pub Gives : {X A : Type 0} → (X → A) → Result X SyntaxFault → List Symbol → Reading A → Type 0
 Gives view (Ok x) rest read = read ≡ Ok (view x, rest)
 Gives view (Err e) rest read = OrNoMemory e (read ≡ Err tt)
 

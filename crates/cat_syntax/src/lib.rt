@@ -11,6 +11,7 @@ pub mod laws;
 mod operator;
 mod reading;
 mod symbol;
+mod syntax_fault;
 mod tree;
 
 pub use fault::CatFault;

@@ -1,12 +1,13 @@
 //! The reader: recursive descent over the symbols of a text.
 
-ghost use Rattle.std.specs.Prelude.{◌≡◌, ◌≤◌, List, drop, length, Some, None, Ok, Err, IfOk, IfErr, MatchBool, MatchResult};
+ghost use Rattle.std.specs.Prelude.{◌≡◌, ◌<◌, ◌≤◌, List, drop, length, Some, None, Ok, Err, IfOk, IfErr, MatchBool, MatchResult};
 ghost use Rattle.std.proofs.Common.{suc};
 ghost use Rattle.cat_syntax.specs.Items.{IsFile};
-ghost use Rattle.cat_syntax.specs.Reads.{Reads};
+ghost use Rattle.cat_syntax.specs.Reads.{Reads, IsRefused, IsOffset, Tells};
 ghost use Rattle.cat_syntax.specs.Nodes.{nodes};
 ghost use Rattle.cat_syntax.specs.Tree.{File};
 ghost use Rattle.cat_syntax.specs.declared.fault.CatFault.TheVariants.{NoMemory};
+ghost use Rattle.cat_syntax.specs.declared.syntax_fault.SyntaxFault.TheVariants.{NoMemory as NoSpace};
 ghost use Rattle.cat_syntax.specs.Reading.{Gives, after, expected, name_at};
 
 mod expressions;
@@ -16,50 +17,24 @@ use crate::counting::excess;
 use crate::fault::CatFault;
 use crate::file::CatFile;
 use crate::symbol::{Symbol, Terminal, symbols};
+use crate::syntax_fault::SyntaxFault;
 use std::alloc::Global;
 use wb_text::{Dialect, Name, Token, tokens};
 
-/// The symbols that are not yet read, beside all tokens of the text.
+/// The symbols that are not yet read. At a fault, the first of them is the symbol that it is about.
 #[derive(Drop)]
 struct Reader<'a> {
     alloc: Global,
     rest: &'a [Symbol<'a>],
-    tokens: &'a [Token],
-    end: usize,
-    ghost within: { length rest.now ≤ length tokens.now },
 }
 
 impl<'a> Reader<'a> {
-    /// The place of the next symbol among all.
-    fn position(&self) -> usize {
-        self.tokens.len() - self.rest.len()
-    }
-
-    /// The offset of the next token, or the text's length at its end.
-    fn offset(&self) -> usize {
-        match self.tokens.get(self.position()) {
-            Some(token) => token.from,
-            None => self.end,
-        }
-    }
-
-    /// The fault where nothing takes the next symbol.
-    fn unexpected(&self) -> CatFault {
-        match self.rest.first() {
-            Some(Symbol::Unsupported(word)) => match word.name(self.alloc) {
-                Ok(name) => CatFault::Unsupported(name),
-                Err(_) => CatFault::NoMemory,
-            },
-            _ => CatFault::Syntax(self.offset()),
-        }
-    }
-
     /// What may nest in something that may nest `nesting` deep.
-    fn deeper(&self, nesting: u32) -> Result<u32, CatFault>
+    fn deeper(&self, nesting: u32) -> Result<u32, SyntaxFault>
         ensures ok { IfOk result (λ n. nesting ≡ suc n) }
         ensures err { IfErr result (λ e. nesting ≡ 0) }
     {
-        nesting.checked_sub(1).ok_or(CatFault::TooDeep)
+        nesting.checked_sub(1).ok_or(SyntaxFault::TooDeep)
     }
 
     /// Whether this terminal comes next.
@@ -95,19 +70,19 @@ impl<'a> Reader<'a> {
 
     /// Takes this terminal.
     #[tactic(auto, unfolding(crate::specs::Reading::expected))]
-    fn expect(&mut self, terminal: Terminal) -> Result<(), CatFault>
+    fn expect(&mut self, terminal: Terminal) -> Result<(), SyntaxFault>
         ensures { Gives (λ _. tt) result self.new.rest.now (expected terminal self.old.rest.now) }
     {
         if self.take(terminal) {
             Ok(())
         } else {
-            Err(self.unexpected())
+            Err(SyntaxFault::Unexpected)
         }
     }
 
     /// Takes a name.
     #[tactic(auto, unfolding(crate::specs::Reading::name_at))]
-    fn name(&mut self) -> Result<Name, CatFault>
+    fn name(&mut self) -> Result<Name, SyntaxFault>
         ensures { Gives (λ x. x) result self.new.rest.now (name_at self.old.rest.now) }
     {
         match self.rest {
@@ -117,33 +92,75 @@ impl<'a> Reader<'a> {
                     self.rest = rest;
                     Ok(name)
                 }
-                _ => Err(self.unexpected()),
+                _ => Err(SyntaxFault::Unexpected),
             },
-            [] => Err(self.unexpected()),
+            [] => Err(SyntaxFault::Unexpected),
         }
     }
 }
 
-/// The fault of symbols of which the one at `place` is the first of a node too many: what stands up to there comes first.
-fn fault_up_to<'a>(
+/// The offset of the token at a place, or the text's length behind the last.
+fn offset_at(tokens: &[Token], end: usize, place: usize) -> usize
+    ensures { IsOffset result tokens.now end }
+{
+    match tokens.get(place) {
+        Some(token) => token.from,
+        None => end,
+    }
+}
+
+/// The refusal of a text for a fault at one of its symbols.
+fn refusal<'a>(
+    alloc: Global,
+    symbols: &[Symbol<'a>],
+    tokens: &[Token],
+    end: usize,
+    fault: SyntaxFault,
+    place: usize,
+) -> CatFault
+    ensures told { Tells result symbols.now tokens.now end }
+    ensures memory { fault ≡ NoSpace → result ≡ NoMemory }
+{
+    match fault {
+        SyntaxFault::Unexpected => match symbols.get(place) {
+            Some(Symbol::Unsupported(word)) => match word.name(alloc) {
+                Ok(name) => CatFault::Unsupported(name),
+                Err(_) => CatFault::NoMemory,
+            },
+            _ => CatFault::Syntax(offset_at(tokens, end, place)),
+        },
+        SyntaxFault::BoundTwice => CatFault::Syntax(offset_at(tokens, end, place)),
+        SyntaxFault::TooDeep => CatFault::TooDeep,
+        SyntaxFault::NoMemory => CatFault::NoMemory,
+    }
+}
+
+/// The refusal of symbols of which the one at `place` is the first of a node too many: a fault up to there comes first.
+fn refusal_up_to<'a>(
     alloc: Global,
     symbols: &'a [Symbol<'a>],
-    tokens: &'a [Token],
+    tokens: &[Token],
     end: usize,
     place: usize,
 ) -> CatFault
-    requires { length symbols.now ≡ length tokens.now }
+    requires { 4096 < length tokens.now }
+    ensures { Tells result symbols.now tokens.now end }
 {
+    // The node's symbol, and what a reader looks at behind it.
+    let shown = symbols.len().min(place.saturating_add(3));
     let mut reader = Reader {
         alloc,
-        rest: symbols,
-        tokens,
-        end,
+        rest: &symbols[..shown],
     };
     match reader.file() {
-        Err(CatFault::NoMemory) => CatFault::NoMemory,
-        Err(fault) if reader.position() <= place => fault,
-        _ => CatFault::TooLarge,
+        Ok(_) => CatFault::TooLarge,
+        Err(fault) => {
+            let stopped = shown.saturating_sub(reader.rest.len());
+            if stopped > place {
+                return CatFault::TooLarge;
+            }
+            refusal(alloc, symbols, tokens, end, fault, stopped)
+        }
     }
 }
 
@@ -151,25 +168,28 @@ fn fault_up_to<'a>(
 fn read_symbols<'a>(
     alloc: Global,
     symbols: &'a [Symbol<'a>],
-    tokens: &'a [Token],
+    tokens: &[Token],
     end: usize,
 ) -> Result<CatFile, CatFault>
     requires { length symbols.now ≡ length tokens.now }
     ensures found { IfOk result (λ f. IsFile symbols.now f × (nodes f ≤ 4096)) }
     ensures only { (f : File) → IsFile symbols.now f → nodes f ≤ 4096 → MatchResult result (λ g. g ≡ f) (λ e. e ≡ NoMemory) }
+    ensures told { IfErr result (λ e. Tells e symbols.now tokens.now end) }
 {
     if let Some(place) = excess(symbols) {
-        // The node's symbol, and what a reader looks at behind it.
-        let shown = symbols.len().min(place.saturating_add(3));
-        return Err(fault_up_to(alloc, &symbols[..shown], &tokens[..shown], end, place));
+        return Err(refusal_up_to(alloc, symbols, tokens, end, place));
     }
     let mut reader = Reader {
         alloc,
         rest: symbols,
-        tokens,
-        end,
     };
-    reader.file()
+    match reader.file() {
+        Ok(file) => Ok(file),
+        Err(fault) => {
+            let place = symbols.len().saturating_sub(reader.rest.len());
+            Err(refusal(alloc, symbols, tokens, end, fault, place))
+        }
+    }
 }
 
 /// Reads a text as a model.
@@ -182,6 +202,8 @@ pub fn read_cat(alloc: Global, text: &[u8]) -> Result<CatFile, CatFault>
     ensures found { IfOk result (λ f. Reads text.now f) }
     // A model that the text spells is read, as the one that it is, unless memory runs out.
     ensures only { (f : File) → Reads text.now f → MatchResult result (λ g. g ≡ f) (λ e. e ≡ NoMemory) }
+    // Each refusal comes only where its cause stands.
+    ensures cause { IfErr result (λ e. IsRefused text.now e) }
 {
     let tokens = tokens(alloc, text, Dialect::Cat)?;
     let symbols = symbols(alloc, text, &tokens)?;

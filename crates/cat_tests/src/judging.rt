@@ -25,7 +25,7 @@ fn event(thread: usize, access: Access, loc: usize, value: u32, order: Order) ->
 ///
 /// Events 0 and 1 are the initial writes of x and y, 2 and 3 the write of x and the read of y of P0, 4 and 5 the write of
 /// y and the read of x of P1. So po is (2,3) (4,5), rf (1,3) (0,5), co (0,2) (1,4), and fr (3,4) (5,2).
-fn store_buffering(alloc: Global, order: Order) -> Result<Graph, AllocError> {
+pub fn store_buffering(alloc: Global, order: Order) -> Result<Graph, AllocError> {
     let first = vec![in alloc;
         event(0, Access::Write, 0, 1, order),
         event(0, Access::Read, 1, 0, order),
@@ -57,7 +57,7 @@ fn is_among(names: &[Name], wanted: &str) -> bool {
 }
 
 /// Whether these are the names, in any order.
-fn are_names(names: &[Name], wanted: &[&str]) -> bool {
+pub fn are_names(names: &[Name], wanted: &[&str]) -> bool {
     for name in wanted {
         if !is_among(names, name) {
             return false;

@@ -5,10 +5,10 @@ ghost use Rattle.cat_syntax.specs.Tree.{Term, term_of};
 ghost use Rattle.cat_syntax.specs.Grammar.{joined, begins_operand as operand_next, begins_check as check_next};
 ghost use Rattle.cat_syntax.specs.Reading.{Gives, Takes, applied, infix_at, associates_left as is_left, postfix_at, enclosed_with, primary_with, postfix_with, unary_with, left, right, level_with, below, expression_at};
 
-use crate::fault::CatFault;
 use crate::operator::{Infix, Postfix};
 use crate::reading::Reader;
 use crate::symbol::{Symbol, Terminal};
+use crate::syntax_fault::SyntaxFault;
 use crate::tree::Expression;
 use std::alloc::{AllocError, Global};
 
@@ -140,7 +140,7 @@ impl<'a> Reader<'a> {
     /// level 0 := unary; level k + 1 := level k {operator of level k} level k
     #[cycle(expressions)]
     #[tactic(auto, unfolding(crate::specs::Reading::level_with))]
-    fn level(&mut self, level: u32, nesting: u32) -> Result<Expression, CatFault>
+    fn level(&mut self, level: u32, nesting: u32) -> Result<Expression, SyntaxFault>
         ensures { Gives term_of result self.new.rest.now (level_with (below nesting) level self.old.rest.now) }
     {
         let Some(tighter) = level.checked_sub(1) else {
@@ -156,7 +156,7 @@ impl<'a> Reader<'a> {
     /// Operands of a level, joined from the left.
     #[cycle(expressions)]
     #[tactic(auto, unfolding(crate::specs::Reading::left), using(crate::proofs::Levels::left_more, crate::proofs::Levels::level_takes, crate::proofs::Levels::infix_takes))]
-    fn left(&mut self, level: u32, nesting: u32) -> Result<Expression, CatFault>
+    fn left(&mut self, level: u32, nesting: u32) -> Result<Expression, SyntaxFault>
         ensures { Gives term_of result self.new.rest.now (left (infix_at level) (level_with (below nesting) level) self.old.rest.now) }
     {
         let mut left = self.level(level, nesting)?;
@@ -170,7 +170,7 @@ impl<'a> Reader<'a> {
     /// Operands of a level, joined from the right.
     #[cycle(expressions)]
     #[tactic(auto, using(crate::proofs::Levels::right_more, crate::proofs::Levels::level_takes, crate::proofs::Levels::infix_takes))]
-    fn right(&mut self, level: u32, nesting: u32) -> Result<Expression, CatFault>
+    fn right(&mut self, level: u32, nesting: u32) -> Result<Expression, SyntaxFault>
         ensures { Gives term_of result self.new.rest.now (right (infix_at level) (level_with (below nesting) level) self.old.rest.now) }
     {
         let left = self.level(level, nesting)?;
@@ -184,7 +184,7 @@ impl<'a> Reader<'a> {
     /// unary := "~" unary | postfix
     #[cycle(expressions)]
     #[tactic(auto, unfolding(crate::specs::Reading::unary_with, crate::specs::Reading::below))]
-    fn unary(&mut self, nesting: u32) -> Result<Expression, CatFault>
+    fn unary(&mut self, nesting: u32) -> Result<Expression, SyntaxFault>
         ensures { Gives term_of result self.new.rest.now (unary_with (below nesting) self.old.rest.now) }
     {
         let [first, rest @ ..] = self.rest else {
@@ -204,7 +204,7 @@ impl<'a> Reader<'a> {
     /// postfix := primary {"+" | "*" | "?" | "^-1"}
     #[cycle(expressions)]
     #[tactic(auto, unfolding(crate::specs::Reading::postfix_with), using(crate::proofs::Levels::postfix_more, crate::proofs::Levels::postfix_takes))]
-    fn postfix(&mut self, nesting: u32) -> Result<Expression, CatFault>
+    fn postfix(&mut self, nesting: u32) -> Result<Expression, SyntaxFault>
         ensures { Gives term_of result self.new.rest.now (postfix_with (below nesting) self.old.rest.now) }
     {
         let mut operand = self.primary(nesting)?;
@@ -217,11 +217,11 @@ impl<'a> Reader<'a> {
     /// primary := name | "_" | "0" | "{" "}" | "(" level 5 ")" | "[" level 5 "]" | ("domain" | "range") "(" level 5 ")"
     #[cycle(expressions)]
     #[tactic(auto, unfolding(crate::specs::Reading::primary_with))]
-    fn primary(&mut self, nesting: u32) -> Result<Expression, CatFault>
+    fn primary(&mut self, nesting: u32) -> Result<Expression, SyntaxFault>
         ensures { Gives term_of result self.new.rest.now (primary_with (below nesting) self.old.rest.now) }
     {
         let [first, rest @ ..] = self.rest else {
-            return Err(self.unexpected());
+            return Err(SyntaxFault::Unexpected);
         };
         match first {
             Symbol::Name(spelling) => {
@@ -259,7 +259,7 @@ impl<'a> Reader<'a> {
                 let relation = self.enclosed(Terminal::LeftParen, Terminal::RightParen, nesting)?;
                 Ok(Expression::Range(Box::new(self.alloc, relation)?))
             }
-            _ => Err(self.unexpected()),
+            _ => Err(SyntaxFault::Unexpected),
         }
     }
 
@@ -271,11 +271,11 @@ impl<'a> Reader<'a> {
         opening: Terminal,
         closing: Terminal,
         nesting: u32,
-    ) -> Result<Expression, CatFault>
+    ) -> Result<Expression, SyntaxFault>
         ensures { Gives term_of result self.new.rest.now (enclosed_with (below nesting) opening closing self.old.rest.now) }
     {
         if !self.sees(opening) {
-            return Err(self.unexpected());
+            return Err(SyntaxFault::Unexpected);
         }
         let nesting = self.deeper(nesting)?;
         self.expect(opening)?;
@@ -286,7 +286,7 @@ impl<'a> Reader<'a> {
 
     /// An expression.
     #[tactic(auto, unfolding(crate::specs::Reading::expression_at))]
-    pub fn expression(&mut self) -> Result<Expression, CatFault>
+    pub fn expression(&mut self) -> Result<Expression, SyntaxFault>
         ensures { Gives term_of result self.new.rest.now (expression_at self.old.rest.now) }
     {
         self.level(LEVELS, NESTING)

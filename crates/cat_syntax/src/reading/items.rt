@@ -7,10 +7,10 @@ ghost use Rattle.cat_syntax.specs.Tree.{bound_of, shown_of, check_of, clause_of,
 ghost use Rattle.cat_syntax.specs.Reading.{Gives, alias_at, repeats as name_repeats, new_name_at, binding_at, group_at, element_at, kind_at, check_with, check_at, quoted_at, separated, name_at, item_at, title_at, items_at, file_at, unless_end};
 ghost use Rattle.cat_syntax.specs.declared.symbol.Terminal.TheVariants.{And, Comma};
 
-use crate::fault::CatFault;
 use crate::file::{CatFile, Title};
 use crate::reading::Reader;
 use crate::symbol::{Spelling, Symbol, Terminal};
+use crate::syntax_fault::SyntaxFault;
 use crate::tree::{Binding, Check, CheckKind, Element, Item};
 use wb_text::Name;
 
@@ -26,7 +26,7 @@ fn is_bound(bindings: &[Binding], name: &Spelling) -> bool
 impl<'a> Reader<'a> {
     /// ["as" name]
     #[tactic(auto, unfolding(crate::specs::Reading::alias_at))]
-    fn alias(&mut self) -> Result<Option<Name>, CatFault>
+    fn alias(&mut self) -> Result<Option<Name>, SyntaxFault>
         ensures { Gives (λ x. x) result self.new.rest.now (alias_at self.old.rest.now) }
     {
         if self.take(Terminal::As) {
@@ -53,18 +53,18 @@ impl<'a> Reader<'a> {
 
     /// A name that is not bound.
     #[tactic(auto, unfolding(crate::specs::Reading::new_name_at))]
-    fn new_name(&mut self, bound: &[Binding]) -> Result<Name, CatFault>
+    fn new_name(&mut self, bound: &[Binding]) -> Result<Name, SyntaxFault>
         ensures { Gives (λ x. x) result self.new.rest.now (new_name_at (map bound_of bound.now) self.old.rest.now) }
     {
         if self.repeats(bound) {
-            return Err(CatFault::Syntax(self.offset()));
+            return Err(SyntaxFault::BoundTwice);
         }
         self.name()
     }
 
     /// name "=" expression, where the name is not bound
     #[tactic(auto, unfolding(crate::specs::Reading::binding_at))]
-    fn binding(&mut self, bound: &[Binding]) -> Result<Binding, CatFault>
+    fn binding(&mut self, bound: &[Binding]) -> Result<Binding, SyntaxFault>
         ensures { Gives bound_of result self.new.rest.now (binding_at (map bound_of bound.now) self.old.rest.now) }
     {
         let name = self.new_name(bound)?;
@@ -75,7 +75,7 @@ impl<'a> Reader<'a> {
 
     /// binding {"and" binding}
     #[tactic(auto, unfolding(crate::specs::Reading::separated), using(crate::proofs::Lists::bindings_more, crate::proofs::Lists::bounds_push, crate::proofs::Lists::after_takes, crate::proofs::Lists::binding_takes))]
-    fn bindings(&mut self) -> Result<Vec<Binding>, CatFault>
+    fn bindings(&mut self) -> Result<Vec<Binding>, SyntaxFault>
         ensures { Gives (λ v. map bound_of v.items) result self.new.rest.now (separated And binding_at self.old.rest.now) }
     {
         let mut bindings = Vec::new(self.alloc);
@@ -90,7 +90,7 @@ impl<'a> Reader<'a> {
 
     /// What stands behind `let`: ["rec"] bindings
     #[tactic(auto, unfolding(crate::specs::Reading::group_at))]
-    fn group(&mut self) -> Result<Item, CatFault>
+    fn group(&mut self) -> Result<Item, SyntaxFault>
         ensures { Gives clause_of result self.new.rest.now (group_at self.old.rest.now) }
     {
         if self.take(Terminal::Rec) {
@@ -102,7 +102,7 @@ impl<'a> Reader<'a> {
 
     /// expression ["as" name]
     #[tactic(auto, unfolding(crate::specs::Reading::element_at))]
-    fn element(&mut self) -> Result<Element, CatFault>
+    fn element(&mut self) -> Result<Element, SyntaxFault>
         ensures { Gives shown_of result self.new.rest.now (element_at self.old.rest.now) }
     {
         let expression = self.expression()?;
@@ -112,7 +112,7 @@ impl<'a> Reader<'a> {
 
     /// element {"," element}
     #[tactic(auto, unfolding(crate::specs::Reading::separated), using(crate::proofs::Lists::elements_more, crate::proofs::Lists::shown_push, crate::proofs::Lists::after_takes, crate::proofs::Lists::element_takes))]
-    fn elements(&mut self) -> Result<Vec<Element>, CatFault>
+    fn elements(&mut self) -> Result<Vec<Element>, SyntaxFault>
         ensures { Gives (λ v. map shown_of v.items) result self.new.rest.now (separated Comma (λ _. element_at) self.old.rest.now) }
     {
         let mut elements = Vec::new(self.alloc);
@@ -127,7 +127,7 @@ impl<'a> Reader<'a> {
 
     /// name {"," name}
     #[tactic(auto, unfolding(crate::specs::Reading::separated), using(crate::proofs::Lists::names_more, crate::proofs::Lists::after_takes, crate::proofs::Lists::name_takes))]
-    fn names(&mut self) -> Result<Vec<Name>, CatFault>
+    fn names(&mut self) -> Result<Vec<Name>, SyntaxFault>
         ensures { Gives (λ v. v.items) result self.new.rest.now (separated Comma (λ _. name_at) self.old.rest.now) }
     {
         let mut names = Vec::new(self.alloc);
@@ -142,17 +142,17 @@ impl<'a> Reader<'a> {
 
     /// "acyclic" | "irreflexive" | "empty"
     #[tactic(auto, unfolding(crate::specs::Reading::kind_at))]
-    fn check_kind(&mut self) -> Result<CheckKind, CatFault>
+    fn check_kind(&mut self) -> Result<CheckKind, SyntaxFault>
         ensures { Gives (λ k. k) result self.new.rest.now (kind_at self.old.rest.now) }
     {
         let [first, rest @ ..] = self.rest else {
-            return Err(self.unexpected());
+            return Err(SyntaxFault::Unexpected);
         };
         let kind = match first {
             Symbol::Fixed(Terminal::Acyclic) => CheckKind::Acyclic,
             Symbol::Fixed(Terminal::Irreflexive) => CheckKind::Irreflexive,
             Symbol::Fixed(Terminal::Empty) => CheckKind::Empty,
-            _ => return Err(self.unexpected()),
+            _ => return Err(SyntaxFault::Unexpected),
         };
         self.rest = rest;
         Ok(kind)
@@ -160,7 +160,7 @@ impl<'a> Reader<'a> {
 
     /// ["flag"] ["~"] kind expression ["as" name]
     #[tactic(auto, unfolding(crate::specs::Reading::check_at, crate::specs::Reading::check_with, crate::specs::Reading::optional_at))]
-    fn check(&mut self) -> Result<Check, CatFault>
+    fn check(&mut self) -> Result<Check, SyntaxFault>
         ensures { Gives check_of result self.new.rest.now (check_at self.old.rest.now) }
     {
         let flag = self.take(Terminal::Flag);
@@ -179,11 +179,11 @@ impl<'a> Reader<'a> {
 
     /// A quoted text that is a name.
     #[tactic(auto, unfolding(crate::specs::Reading::quoted_at))]
-    fn quoted(&mut self) -> Result<Name, CatFault>
+    fn quoted(&mut self) -> Result<Name, SyntaxFault>
         ensures { Gives (λ x. x) result self.new.rest.now (quoted_at self.old.rest.now) }
     {
         let [first, rest @ ..] = self.rest else {
-            return Err(self.unexpected());
+            return Err(SyntaxFault::Unexpected);
         };
         match first {
             Symbol::Quoted(quotation) => match Spelling::new(quotation.bytes()) {
@@ -192,14 +192,14 @@ impl<'a> Reader<'a> {
                     self.rest = rest;
                     Ok(name)
                 }
-                None => Err(self.unexpected()),
+                None => Err(SyntaxFault::Unexpected),
             },
-            _ => Err(self.unexpected()),
+            _ => Err(SyntaxFault::Unexpected),
         }
     }
 
     #[tactic(auto, unfolding(crate::specs::Reading::item_at))]
-    fn item(&mut self) -> Result<Item, CatFault>
+    fn item(&mut self) -> Result<Item, SyntaxFault>
         ensures { Gives clause_of result self.new.rest.now (item_at self.old.rest.now) }
     {
         if self.take(Terminal::Let) {
@@ -217,7 +217,7 @@ impl<'a> Reader<'a> {
 
     /// [name | quoted]
     #[tactic(auto, unfolding(crate::specs::Reading::title_at))]
-    fn title(&mut self) -> Result<Option<Title>, CatFault>
+    fn title(&mut self) -> Result<Option<Title>, SyntaxFault>
         ensures { Gives (λ t. t) result self.new.rest.now (title_at self.old.rest.now) }
     {
         let [first, rest @ ..] = self.rest else {
@@ -234,7 +234,7 @@ impl<'a> Reader<'a> {
 
     /// {item}, up to the end
     #[tactic(auto, unfolding(crate::specs::Reading::items_at, crate::specs::Reading::unless_end), using(crate::proofs::Lists::items_more, crate::proofs::Lists::item_takes, crate::proofs::Lists::clauses_push))]
-    fn items(&mut self) -> Result<Vec<Item>, CatFault>
+    fn items(&mut self) -> Result<Vec<Item>, SyntaxFault>
         ensures { Gives (λ v. map clause_of v.items) result self.new.rest.now (items_at self.old.rest.now) }
     {
         let mut items = Vec::new(self.alloc);
@@ -247,7 +247,7 @@ impl<'a> Reader<'a> {
 
     /// file := [name | quoted] {item}
     #[tactic(auto, unfolding(crate::specs::Reading::file_at))]
-    pub fn file(&mut self) -> Result<CatFile, CatFault>
+    pub fn file(&mut self) -> Result<CatFile, SyntaxFault>
         ensures { Gives (λ f. f) result self.new.rest.now (file_at self.old.rest.now) }
     {
         let title = self.title()?;

@@ -2,7 +2,7 @@ use Rattle.std.proofs.Common.{◌≡◌, sym, subst, ◌∙◌, ap}
 use Rattle.wb_text.specs.declared.fault.TextFault.TheVariants as texts
 use Rattle.cat_syntax.specs.Items.{IsFile}
 use Rattle.cat_syntax.specs.Symbols.{symbols_of}
-use Rattle.cat_syntax.proofs.Whole.{no_memory}
+use Rattle.cat_syntax.proofs.Whole.{no_memory, refused}
 use Rattle.cat_syntax.proofs.reading.read_cat.Goals as goal
 
 pub returns-in_err-tokens-clause-only : goal.returns-in_err-tokens-clause-only
@@ -16,3 +16,9 @@ returns-clause-only c = λ f d.
     let same : c.deref-2.result.now ≡ symbols_of c.args.text.now d.tokens =
     c.deref-2.ensures.value ∙ c.in_ok-symbols.ensures ∙ ap (symbols_of c.args.text.now) (c.deref.ensures.value ∙ list) in
     c.read_symbols.ensures.only f (subst (λ l. IsFile l f) (sym same) d.spelled) d.at_most
+
+pub returns-clause-cause : goal.returns-clause-cause
+returns-clause-cause c =
+    refused c.args.text.now c.in_ok-tokens.tokens.items c.deref-3.result.now c.deref-2.result.now c.read_symbols.result c.in_ok-tokens.ensures.found
+    (c.deref-2.ensures.value ∙ c.in_ok-symbols.ensures ∙ ap (symbols_of c.args.text.now) c.deref.ensures.value) c.deref-3.ensures.value
+    c.read_symbols.ensures.told (returns-clause-only c)
