@@ -16,10 +16,10 @@ use crate::limits::Limits;
 use crate::names::{TestSlot, Tests};
 use crate::reading::{is_cat_memory, is_memory, is_model_memory, model_of, read_file, read_litmus};
 use crate::records::{Command, Live, Refusal, Replacement, Reply, SourceKind, Text};
-use slices::{Piece, PieceResult, TestRef, VerdictRef, Work, WorkRef};
 use candidates::SpaceFault;
 use cat_model::{FileVersion, Files, Model};
 use cat_syntax::CatFile;
+use slices::{Piece, PieceResult, TestRef, VerdictRef, Work, WorkRef};
 use std::alloc::{AllocError, Global};
 use wb_text::Name;
 

@@ -5,8 +5,8 @@ ghost use Rattle.std.specs.Str.{bytes_eq};
 ghost use Rattle.indexmap.specs.IndexMap.{insert_entry};
 ghost use Rattle.book.specs.Workbench.{test_version, test_of};
 
-use slices::TestRef;
 use indexmap::IndexMap;
+use slices::TestRef;
 use std::alloc::{AllocError, Global};
 use std::marker::Model;
 use wb_text::Name;

@@ -4,11 +4,11 @@ ghost use Rattle.std.specs.Prelude.{◌≡◌, true, IfOk};
 ghost use Rattle.std.specs.Arc.{arc_value};
 ghost use Rattle.book.specs.Lines.{answers, seen, returned};
 
-use slices::{Piece, PieceResult, VerdictRef, WorkRef};
 use candidates::SpaceFault;
 use cat_model::ModelFault;
 use cat_syntax::CatFault;
 use litmus_c::TestFault;
+use slices::{Piece, PieceResult, VerdictRef, WorkRef};
 use std::alloc::{AllocError, Global};
 use std::marker::Model;
 use std::sync::Arc;

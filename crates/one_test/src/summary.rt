@@ -6,12 +6,12 @@ ghost use Rattle.wb_text.specs.Memory.{LosesAtMost};
 ghost use Rattle.one_test.specs.Inputs.{text_of, HasOutcome, Summarizes, SummarizesPartly, IsRefusal, IsFaultOf, IsOfTexts};
 
 use crate::main_file::model_of;
-use report::{WriteFault, write_summary};
-use slices::{TestRef, Verdict, Work, WorkRef};
 use candidates::SpaceFault;
 use cat_model::ModelFault;
 use cat_syntax::{CatFault, read_cat};
 use litmus_c::{TestFault, read_test};
+use report::{WriteFault, write_summary};
+use slices::{TestRef, Verdict, Work, WorkRef};
 use std::alloc::{AllocError, Global};
 use thiserror::Error;
 use wb_text::{ReadFault, Sink, Source, read_up_to};

@@ -8,9 +8,9 @@ ghost use Rattle.wb_text.specs.Memory.{AppendsFront};
 ghost use Rattle.report.specs.Writing.{Writes};
 ghost use Rattle.report.specs.Texts as texts;
 
-use slices::{Finding, Row, Verdict};
 use conditions::{Kind, Place, Prop};
 use itoa::Buffer;
+use slices::{Finding, Row, Verdict};
 use thiserror::Error;
 use wb_text::{Failed, Name, Sink, give_all};
 

@@ -9,11 +9,11 @@ ghost use Rattle.scripts.specs.Serving.{answer_text, finish_text, bad_line_text,
 use crate::answer::Answer;
 use crate::parts::write_parts;
 use crate::refusal::write_refusal;
-use report::{WriteFault, write_summary};
-use slices::{Piece, Verdict};
 use book::{Refused, Reply};
 use cat_model::FileVersion;
 use itoa::Buffer;
+use report::{WriteFault, write_summary};
+use slices::{Piece, Verdict};
 use std::alloc::Global;
 use wb_text::{Failed, MemSink, Name, Sink, give_all};
 

@@ -9,8 +9,8 @@ ghost use Rattle.scripts.specs.Serving.{entry_of};
 
 use crate::answer::{Answer, EntryRef};
 use crate::order::{Order, Request};
-use slices::{Piece, evaluate};
 use book::{Book, Command, Limits, Refused, Reply};
+use slices::{Piece, evaluate};
 use std::alloc::{AllocError, Global};
 
 /// A piece that a claim gave: the number of the claim, and the place of its entry in the journal.
