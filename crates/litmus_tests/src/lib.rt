@@ -5,8 +5,6 @@
 #[cfg(test)]
 mod executions;
 #[cfg(test)]
-mod growth;
-#[cfg(test)]
 mod reading;
 #[cfg(test)]
 mod runs;
