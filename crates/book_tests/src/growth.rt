@@ -2,14 +2,13 @@
 //! then gets its own answer.
 
 ghost use Rattle.std.specs.Prelude.{◌≡◌, IfOk};
-ghost use Rattle.slices.specs.Judgements.{IsWhole};
 ghost use Rattle.slices.specs.Parts.{IsOver, test_size};
 
 use crate::scene::{SB, name, text};
 use book::{Command, Said};
 use cat_model::{Files, Model, resolve};
 use litmus_c::read_test;
-use slices::{Piece, PieceResult, Tally, TestRef, Verdict, VerdictRef, Work, WorkRef, evaluate};
+use slices::{Piece, PieceResult, TestRef, Verdict, VerdictRef, Work, WorkRef, evaluate};
 use std::alloc::{AllocError, Global};
 use std::test::Fail;
 
@@ -126,46 +125,9 @@ fn copies(rt: HostRuntime) -> Result<(), Fail> {
     Ok(())
 }
 
-/// The tally of the whole. A result that is refused comes back, and the tally has none.
-fn whole_tally(alloc: Global, work: WorkRef) -> Result<Tally, AllocError>
-    ensures { IfOk result IsWhole }
-{
-    let part = whole_part(alloc, &work)?;
-    let mut tally = Tally::new(alloc, work);
-    match tally.merge(part) {
-        Ok(()) => Ok(tally),
-        Err((part, AllocError)) => {
-            if !tally.parts().is_empty() || !is_found(&part) {
-                return Err(AllocError);
-            }
-            match tally.merge(part) {
-                Ok(()) => Ok(tally),
-                Err(_) => Err(AllocError),
-            }
-        }
-    }
-}
-
-/// The verdict of a tally, which stays as it is.
-fn verdict_of(alloc: Global, work: WorkRef) -> Result<Verdict, AllocError> {
-    let tally = whole_tally(alloc, work)?;
-    match tally.verdict(5) {
-        Ok(verdict) => Ok(verdict),
-        Err(AllocError) => tally.verdict(5),
-    }
-}
-
 /// Whether this is the verdict on SB under no constraint, for this version of the test.
 fn is_judged(verdict: &Verdict, version: u32) -> bool {
     verdict.version() == version && verdict.ok() && verdict.word() == "Sometimes"
-}
-
-#[test]
-fn tallies(rt: HostRuntime) -> Result<(), Fail> {
-    let alloc = rt.alloc();
-    let verdict = verdict_of(alloc, work_ref(alloc)?)?;
-    assert!(rt; is_judged(&verdict, 5));
-    Ok(())
 }
 
 fn judged(alloc: Global, work: &WorkRef) -> Result<Verdict, AllocError> {
