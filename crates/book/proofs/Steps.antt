@@ -9,7 +9,7 @@ use Rattle.cat_model.specs.Files.{version_of, store}
 use Rattle.cat_model.specs.Models.{Assembly}
 use Rattle.cat_model.specs.declared.fault.ModelFault.{ModelFault}
 use Rattle.cat_syntax.specs.Reads.{Reads as ReadsCat}
-use Rattle.cat_syntax.specs.Tree.{File}
+use Rattle.cat_tree.specs.Tree.{File}
 use Rattle.cat_syntax.specs.declared.fault.CatFault.{CatFault}
 use Rattle.cat_syntax.specs.declared.fault.CatFault.TheVariants as of_cat
 use Rattle.litmus_c.specs.Reads.{Reads, IsRefused}

@@ -5,7 +5,7 @@ ghost use Rattle.litmus_c.specs.Reads.{Reads, IsRefused};
 ghost use Rattle.litmus_tree.specs.Tree.{Litmus};
 ghost use Rattle.litmus_c.specs.declared.fault.TestFault.TheVariants as of_test;
 ghost use Rattle.cat_syntax.specs.Reads.{Reads as ReadsCat};
-ghost use Rattle.cat_syntax.specs.Tree.{File};
+ghost use Rattle.cat_tree.specs.Tree.{File};
 ghost use Rattle.cat_syntax.specs.declared.fault.CatFault.TheVariants as of_cat;
 ghost use Rattle.cat_model.specs.Faults.{IsCause};
 ghost use Rattle.cat_model.specs.declared.fault.ModelFault.TheVariants as of_model;

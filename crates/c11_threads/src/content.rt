@@ -6,7 +6,7 @@ ghost use Rattle.litmus_tree.specs.Tree.{term_of};
 ghost use Rattle.c11_threads.specs.Contents.{place_of, just, joined, nothing, truth, content, content_in};
 
 use events::no_places;
-use litmus_c::Expression;
+use litmus_tree::Expression;
 use relations::Set;
 use wb_text::Name;
 

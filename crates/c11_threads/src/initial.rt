@@ -12,7 +12,7 @@ use crate::content::Content;
 use conditions::{Binding, Place};
 use events::no_places;
 use indexmap::IndexMap;
-use litmus_c::Test;
+use litmus_test::Test;
 use std::alloc::{AllocError, Global};
 
 /// The value that an initial state gives a place.

@@ -13,7 +13,7 @@ use crate::content::{Content, content_of, joined, place_of};
 use crate::fault::RunFault;
 use crate::progress::Progress;
 use events::{Access, Event, Order, no_places};
-use litmus_c::{Call, Declarator, Expression, RightSide, Statement};
+use litmus_tree::{Call, Declarator, Expression, RightSide, Statement};
 use relations::Set;
 use std::alloc::{AllocError, Global};
 use std::marker::Model;

@@ -5,7 +5,7 @@ use Rattle.std.proofs.lemmas.Bool.{cases_lt}
 use Rattle.std.proofs.lemmas.List.{drop_all}
 use Rattle.events.specs.Executions.{ThreadRun, Execution}
 use Rattle.listings.specs.Lists.{IsIn, sum_of}
-use Rattle.litmus_c.specs.Limits.{IsTest}
+use Rattle.litmus_test.specs.Limits.{IsTest}
 use Rattle.litmus_tree.specs.Tree.{Litmus}
 use Rattle.c11_threads.specs.declared.fault.RunFault.{RunFault}
 use Rattle.c11_threads.specs.declared.fault.RunFault.TheVariants.{TooManyRuns, NoMemory}

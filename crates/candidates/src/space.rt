@@ -18,7 +18,7 @@ use crate::mark::Mark;
 use c11_threads::{initial_value, runs};
 use conditions::Place;
 use events::Graph;
-use litmus_c::Test;
+use litmus_test::Test;
 use std::alloc::{AllocError, Global};
 use std::marker::Model;
 

@@ -6,7 +6,7 @@ use Rattle.std.proofs.lemmas.Bool.{false≢true}
 use Rattle.std.proofs.lemmas.Slice.Eq.{bytes_eq-Decides}
 use Rattle.listings.specs.Lists.{IsIn, NoRepeats}
 use Rattle.listings.proofs.Listings.{in_append, in_left, in_right, once_append}
-use Rattle.cat_syntax.specs.Tree.{Word}
+use Rattle.cat_tree.specs.Tree.{Word}
 
 either : (a b : Bool) → (a || b) ≡ true → (a ≡ true) ⊎ (b ≡ true)
 either true b e = inl refl

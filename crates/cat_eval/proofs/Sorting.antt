@@ -3,7 +3,7 @@ use Rattle.std.proofs.Common.{◌≡◌, ℕ, ◌⊎◌, Option, Some, sym, ◌�
 use Rattle.relations.specs.Events.{Has}
 use Rattle.relations.specs.Relation.{In}
 use Rattle.relations.specs.Algebra.{Through, Chain, Domain, Range}
-use Rattle.cat_syntax.specs.Tree.{Word, Term, union, sequence, difference, intersection, product, complement, plus, star, optional, inverse, domain, range, identity, name, empty_relation, empty_set, universe}
+use Rattle.cat_tree.specs.Tree.{Word, Term, union, sequence, difference, intersection, product, complement, plus, star, optional, inverse, domain, range, identity, name, empty_relation, empty_set, universe}
 use Rattle.cat_model.specs.Sorts.{Scope, HasSort, sort_of_name}
 use Rattle.cat_model.specs.declared.sort.Sort.{Sort}
 use Rattle.cat_model.specs.declared.sort.Sort.TheVariants.{Set, Relation}

@@ -4,8 +4,8 @@ use Rattle.std.proofs.lemmas.Bool.{false≢true}
 use Rattle.std.proofs.lemmas.List.Elements.{All-nil, All-cons, All-head}
 use Rattle.relations.specs.Relation.{Relation, In, relation}
 use Rattle.relations.specs.TableFacts.{cell_square, square_below, square_again}
-use Rattle.cat_syntax.specs.declared.tree.CheckKind.TheVariants.{Acyclic}
-use Rattle.cat_syntax.specs.Tree.{Word, Bound, name, check}
+use Rattle.cat_tree.specs.declared.tree.CheckKind.TheVariants.{Acyclic}
+use Rattle.cat_tree.specs.Tree.{Word, Bound, name, check}
 use Rattle.cat_eval.specs.declared.value.Value.{Value}
 use Rattle.cat_eval.specs.declared.value.Value.TheVariants.{Pairs}
 use Rattle.cat_eval.specs.declared.value.Entry.{Entry}

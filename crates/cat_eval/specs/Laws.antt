@@ -1,6 +1,6 @@
 -- Laws of the definitions.
 use Rattle.std.specs.Prelude.{◌≡◌, List}
-use Rattle.cat_syntax.specs.Tree.{Term, Bound}
+use Rattle.cat_tree.specs.Tree.{Term, Bound}
 use Rattle.events.specs.Executions.{Execution}
 use Rattle.events.specs.Named.{event_count}
 use Rattle.cat_eval.specs.declared.value.Value.{Value}

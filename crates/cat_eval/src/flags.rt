@@ -4,7 +4,7 @@ ghost use Rattle.std.specs.Prelude.{◌≡◌, ◌↔◌, ◌⊎◌, OnOk, OnErr
 ghost use Rattle.std.specs.List.{list_any};
 ghost use Rattle.std.specs.Str.{bytes_eq};
 ghost use Rattle.listings.specs.Lists.{IsIn, NoRepeats};
-ghost use Rattle.cat_syntax.specs.Tree.{Word};
+ghost use Rattle.cat_tree.specs.Tree.{Word};
 
 use std::alloc::AllocError;
 use wb_text::Name;

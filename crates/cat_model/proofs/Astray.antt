@@ -7,7 +7,7 @@ use Rattle.std.proofs.lemmas.Map.Views.{list_any-from_Contains}
 use Rattle.std.proofs.Common.{rules}
 use Rattle.std.specs.Cmp.{IsEquivalence}
 use Rattle.std.specs.Cmp.Rules.{comparing}
-use Rattle.cat_syntax.specs.Tree.{Word, Clause, include, File}
+use Rattle.cat_tree.specs.Tree.{Word, Clause, include, File}
 use Rattle.cat_model.proofs.Sorting.{contains_nothing, contains_one}
 use Rattle.cat_model.specs.Closure.{IsPath, IsOwn, is_on, root_count, Expands, done, own, included}
 use Rattle.cat_model.specs.Faults.{IsAstray}

@@ -2,9 +2,9 @@
 use Rattle.std.proofs.Common.{◌≡◌, List, map, Bool, IsTrue, ◌↔◌, sym}
 use Rattle.std.specs.Cmp.Derive.Mapped.{pointwise-map}
 use Rattle.std.specs.Cmp.Lexicographic.{pointwise}
-use Rattle.cat_syntax.specs.Equality.{same_clause}
-use Rattle.cat_syntax.specs.Tree.{clause_of}
-use Rattle.cat_syntax.specs.declared.tree.Item.{Item}
+use Rattle.cat_tree.specs.Equality.{same_clause}
+use Rattle.cat_tree.specs.Tree.{clause_of}
+use Rattle.cat_tree.specs.declared.tree.Item.{Item}
 use Rattle.cat_model.specs.Equality.{same_assembly, assembly_exact}
 use Rattle.cat_model.specs.Models.{Assembly}
 

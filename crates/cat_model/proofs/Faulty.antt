@@ -3,8 +3,8 @@ use Rattle.std.proofs.Common.{◌≡◌, ℕ, ◌+◌, ◌<◌, List, [], ◌∷
 use Rattle.std.proofs.lemmas.List.{take_more, take-append-drop}
 use Rattle.std.specs.List.{Contains, All}
 use Rattle.std.proofs.lemmas.List.Elements.{All-map}
-use Rattle.cat_syntax.specs.declared.tree.Binding.{Binding}
-use Rattle.cat_syntax.specs.Tree.{Word, Bound, Clause, bind, bind_recursively, term_of, bound_of}
+use Rattle.cat_tree.specs.declared.tree.Binding.{Binding}
+use Rattle.cat_tree.specs.Tree.{Word, Bound, Clause, bind, bind_recursively, term_of, bound_of}
 use Rattle.cat_model.proofs.Listed.{contains_map}
 use Rattle.cat_model.proofs.Ordered.{lead-push}
 use Rattle.cat_model.specs.Faults.{IsBound, IsItemFault, IsFaulty}

@@ -4,8 +4,8 @@ use Rattle.std.specs.List.{list_any, Contains, All}
 use Rattle.std.specs.Str.{bytes_eq}
 use Rattle.std.proofs.lemmas.List.{take_all, get_or-map, length-map}
 use Rattle.std.proofs.lemmas.List.Elements.{All-more}
-use Rattle.cat_syntax.specs.declared.tree.Binding.{Binding}
-use Rattle.cat_syntax.specs.Tree.{Word, bound_of}
+use Rattle.cat_tree.specs.declared.tree.Binding.{Binding}
+use Rattle.cat_tree.specs.Tree.{Word, bound_of}
 use Rattle.cat_model.specs.Closure.{is_on}
 use Rattle.cat_model.proofs.Sorting.{contains_nothing}
 use Rattle.cat_model.proofs.Ordered.{in_cons, contains_first, contains_later}

@@ -4,7 +4,7 @@ use Rattle.std.specs.List.{list_any}
 use Rattle.std.specs.Str.{bytes_eq}
 use Rattle.std.proofs.lemmas.List.Folds.{list_any-append}
 use Rattle.std.proofs.lemmas.Slice.Eq.{bytes_eq-Decides}
-use Rattle.cat_syntax.specs.Tree.{Word}
+use Rattle.cat_tree.specs.Tree.{Word}
 use Rattle.cat_model.specs.Closure.{once, versioned}
 use Rattle.cat_model.specs.Walks.{note, note_all}
 use Rattle.cat_model.specs.declared.files.Entry.{Entry}

@@ -2,8 +2,7 @@
 use Rattle.std.proofs.Common.{◌≡◌, List, [], ◌∷◌, ◌++◌, Some, true, false, map, refl, sym, ◌∙◌, inl, inr, ◌⊎◌, subst, ap, IsSome}
 use Rattle.std.specs.List.{Contains, All}
 use Rattle.std.proofs.lemmas.List.Elements.{Contains-append_cases, Contains-append_left, Contains-append_right, Contains-push, All-contains}
-use Rattle.cat_syntax.specs.Items.{is_bound}
-use Rattle.cat_syntax.specs.Tree.{Word, Term, Bound, Clause, bind, bind_recursively, check, include, show, unshow, File}
+use Rattle.cat_tree.specs.Tree.{Word, Term, Bound, Clause, bind, bind_recursively, check, include, show, unshow, File, is_bound}
 use Rattle.cat_model.proofs.Sorting.{one_sort, sorted_bound, contains_nothing, contains_one}
 use Rattle.cat_model.specs.Closure.{IsOwn, Expands, done, own, included, IsClosure, once, versioned}
 use Rattle.cat_model.specs.Faults.{IsCause, IsAstray, IsItemFault, IsFaulty, IsUnbound, IsMissorted, IsDenied, IsNameless}

@@ -8,7 +8,7 @@ use Rattle.cat_model.specs.Named.{named_of, sort_of_named}
 use Rattle.cat_model.specs.Sorts.{Scope, sort_of_name}
 use Rattle.cat_model.specs.declared.scope.Sorted.{Sorted}
 use Rattle.cat_model.specs.declared.sort.Sort.{Sort}
-use Rattle.cat_syntax.specs.Tree.{Word}
+use Rattle.cat_tree.specs.Tree.{Word}
 
 -- the sort of the first binding of a name, if there is one
 first : List Sorted → Word → Option Sort

@@ -10,7 +10,7 @@ use Rattle.std.proofs.lemmas.Option.{slice_get_past}
 use Rattle.std.proofs.lemmas.Slice.Eq.{bytes_eq-Decides}
 use Rattle.cat_model.specs.Files.{place_of, entry_of, loaded, loaded_in, store, store_at}
 use Rattle.cat_model.specs.declared.files.Entry.{Entry}
-use Rattle.cat_syntax.specs.Tree.{Word}
+use Rattle.cat_tree.specs.Tree.{Word}
 
 unplaced : (b : Bool) (i : ℕ) → cond b (Some i) None ≡ None → b ≡ false
 unplaced true i h = cc

@@ -8,8 +8,8 @@ use Rattle.std.proofs.lemmas.List.{take_more, take-append-drop, length-map}
 use Rattle.cat_model.proofs.Listed.{told}
 use Rattle.std.specs.declared.alloc.Global.{Global}
 use Rattle.std.specs.declared.vec.Vec.{Vec}
-use Rattle.cat_syntax.specs.declared.tree.Item.{Item}
-use Rattle.cat_syntax.specs.Tree.{Word, Clause, bind, bind_recursively, check, include, show, unshow, File, clause_of}
+use Rattle.cat_tree.specs.declared.tree.Item.{Item}
+use Rattle.cat_tree.specs.Tree.{Word, Clause, bind, bind_recursively, check, include, show, unshow, File, clause_of}
 use Rattle.cat_model.specs.Closure.{IsPath, IsOwn, is_on, count, sum_in}
 use Rattle.cat_model.specs.Faults.{IsAstray}
 use Rattle.cat_model.specs.Files.{file_of}

@@ -1,9 +1,9 @@
 -- The walk from the root.
 use Rattle.std.proofs.Common.{◌≡◌, ◌≤◌, List, [], ◌∷◌, ◌++◌, Some, map, refl, sym, ◌∙◌, ap, subst, arith, append-nil}
 use Rattle.std.specs.List.{All}
-use Rattle.cat_syntax.specs.declared.tree.Item.{Item}
-use Rattle.cat_syntax.specs.declared.tree.Item.TheVariants as variants
-use Rattle.cat_syntax.specs.Tree.{Word, File, clause_of}
+use Rattle.cat_tree.specs.declared.tree.Item.{Item}
+use Rattle.cat_tree.specs.declared.tree.Item.TheVariants as variants
+use Rattle.cat_tree.specs.Tree.{Word, File, clause_of}
 use Rattle.cat_model.proofs.Astray.{expands-walked, own-walked, none-astray}
 use Rattle.cat_model.proofs.Noted.{noted}
 use Rattle.cat_model.specs.Closure.{IsOwn, IsClosure, root_count, sum_in, count}

@@ -2,7 +2,7 @@
 use Rattle.std.specs.Prelude.{◌≡◌, ℕ, zero, suc, ◌+◌, List, [], ◌∷◌, ◌++◌, Bool, Option, Some, None, map, filter, not, if◌then◌else◌}
 use Rattle.std.specs.List.{Contains, list_any, sum_by}
 use Rattle.std.specs.Str.{bytes_eq}
-use Rattle.cat_syntax.specs.Tree.{Word, Clause, bind, bind_recursively, check, include, show, unshow, File}
+use Rattle.cat_tree.specs.Tree.{Word, Clause, bind, bind_recursively, check, include, show, unshow, File}
 use Rattle.cat_model.specs.Files.{file_of, version_of}
 use Rattle.cat_model.specs.declared.files.Entry.{Entry}
 use Rattle.cat_model.specs.declared.model.FileVersion.{FileVersion}

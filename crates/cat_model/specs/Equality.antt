@@ -7,9 +7,9 @@ use Rattle.std.specs.Cmp.Lexicographic.{pointwise, pointwise_decides}
 use Rattle.std.specs.Str.{bytes_eq}
 use Rattle.std.proofs.lemmas.Bool.Decides.{Decides-eqb}
 use Rattle.std.proofs.lemmas.Slice.Eq.{bytes_eq-Decides}
-use Rattle.cat_syntax.specs.Equality.{same_clause}
-use Rattle.cat_syntax.specs.Exact.{both, by_parts, equivalence, clause_exact}
-use Rattle.cat_syntax.specs.Tree.{Word, Clause}
+use Rattle.cat_tree.specs.Equality.{same_clause}
+use Rattle.cat_tree.specs.Exact.{both, by_parts, equivalence, clause_exact}
+use Rattle.cat_tree.specs.Tree.{Word, Clause}
 use Rattle.cat_model.specs.Models.{Assembly}
 use Rattle.cat_model.specs.declared.model.FileVersion.{FileVersion}
 

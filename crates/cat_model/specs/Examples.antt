@@ -1,7 +1,7 @@
 -- Examples, computed.
 use Rattle.std.specs.Prelude.{◌≡◌, [], ◌∷◌, codes, refl, Some, None, false}
-use Rattle.cat_syntax.specs.declared.tree.CheckKind.TheVariants.{Acyclic}
-use Rattle.cat_syntax.specs.Tree.{name, union, product, difference, plus, bind, check}
+use Rattle.cat_tree.specs.declared.tree.CheckKind.TheVariants.{Acyclic}
+use Rattle.cat_tree.specs.Tree.{name, union, product, difference, plus, bind, check}
 use Rattle.cat_model.specs.Named.{named_of, written, spelling_of}
 use Rattle.cat_model.specs.Sorts.{HasSort, sort_of_name, denied_names}
 use Rattle.cat_model.specs.Scopes.{IsModel}

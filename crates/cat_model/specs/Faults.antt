@@ -1,10 +1,9 @@
 -- When a model is refused.
 use Rattle.std.specs.Prelude.{◌≡◌, ◌<◌, ◌⊎◌, List, [], ◌∷◌, ◌++◌, true, None, length, codes, map, IsSome, All, ◌≢◌}
 use Rattle.std.specs.List.{Contains}
-use Rattle.cat_syntax.specs.declared.tree.CheckKind.{CheckKind}
-use Rattle.cat_syntax.specs.declared.tree.CheckKind.TheVariants.{Acyclic, Irreflexive, Empty}
-use Rattle.cat_syntax.specs.Items.{is_bound}
-use Rattle.cat_syntax.specs.Tree.{Word, Term, Bound, Clause, bind, bind_recursively, check, include, show, unshow}
+use Rattle.cat_tree.specs.declared.tree.CheckKind.{CheckKind}
+use Rattle.cat_tree.specs.declared.tree.CheckKind.TheVariants.{Acyclic, Irreflexive, Empty}
+use Rattle.cat_tree.specs.Tree.{Word, Term, Bound, Clause, bind, bind_recursively, check, include, show, unshow, is_bound}
 use Rattle.cat_model.specs.Closure.{IsPath, IsClosure, root_count}
 use Rattle.cat_model.specs.Files.{file_of}
 use Rattle.cat_model.specs.Sorts.{Scope, HasSort, sort_of_name, names, denied_names}

@@ -2,7 +2,7 @@
 -- file was removed; beside them the built-in files.
 use Rattle.std.specs.Prelude.{ℕ, List, [], ◌∷◌, ◌++◌, Option, Some, None, codes, if◌then◌else◌, find, position, slice_set}
 use Rattle.std.specs.Str.{bytes_eq}
-use Rattle.cat_syntax.specs.Tree.{Word, File}
+use Rattle.cat_tree.specs.Tree.{Word, File}
 use Rattle.cat_model.specs.Rc11.{rc11}
 use Rattle.cat_model.specs.declared.files.Entry.{Entry}
 

@@ -1,8 +1,8 @@
 -- Models: items with the files that they come from.
 use Rattle.std.specs.Prelude.{List, refl}
 use Rattle.std.specs.Coded.{Coded, code_by, coded×, coded_list}
-use Rattle.cat_syntax.specs.Codes.{coded_clause}
-use Rattle.cat_syntax.specs.Tree.{Clause}
+use Rattle.cat_tree.specs.Codes.{coded_clause}
+use Rattle.cat_tree.specs.Tree.{Clause}
 use Rattle.cat_model.specs.contracts.model.FileVersion.{the_row as file_row}
 use Rattle.cat_model.specs.declared.model.FileVersion.{FileVersion}
 

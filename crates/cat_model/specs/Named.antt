@@ -4,7 +4,7 @@ use Rattle.std.specs.Prelude.{List, [], ◌∷◌, Option, Some, codes, find, if
 use Rattle.std.specs.Str.{bytes_eq}
 use Rattle.events.specs.declared.named.SetName.TheVariants as sets
 use Rattle.events.specs.declared.named.RelName.TheVariants as rels
-use Rattle.cat_syntax.specs.Tree.{Word}
+use Rattle.cat_tree.specs.Tree.{Word}
 use Rattle.cat_model.specs.declared.named.Named.{Named}
 use Rattle.cat_model.specs.declared.named.Named.TheVariants.{Set, Rel}
 use Rattle.cat_model.specs.declared.sort.Sort.{Sort}

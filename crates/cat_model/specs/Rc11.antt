@@ -1,7 +1,7 @@
 -- The built-in model rc11.cat, this project's own text after RC11. (Lahav, Vafeiadis, Kang, Hur, Dreyer 2017: Repairing sequential consistency in C/C++11.)
 use Rattle.std.specs.Prelude.{List, [], ◌∷◌, Some, codes, false, true}
-use Rattle.cat_syntax.specs.declared.tree.CheckKind.TheVariants.{Acyclic, Irreflexive, Empty}
-use Rattle.cat_syntax.specs.Tree.{Word, Term, union, sequence, difference, intersection, product, plus, star, optional, inverse, identity, name, universe, Clause, bind, check, File}
+use Rattle.cat_tree.specs.declared.tree.CheckKind.TheVariants.{Acyclic, Irreflexive, Empty}
+use Rattle.cat_tree.specs.Tree.{Word, Term, union, sequence, difference, intersection, product, plus, star, optional, inverse, identity, name, universe, Clause, bind, check, File}
 
 -- a | b, a ; b, a \ b, a & b and a * b
 infixr 10 ◌∪◌

@@ -1,6 +1,6 @@
 -- The trees that literals of the program's text stand for.
 use Rattle.std.specs.Prelude.{[], ◌∷◌, Some, true, false}
-use Rattle.cat_syntax.specs.Tree.{Term, union, sequence, difference, intersection, product, plus, star, optional, inverse, identity, name, universe, Clause, bind, check}
+use Rattle.cat_tree.specs.Tree.{Term, union, sequence, difference, intersection, product, plus, star, optional, inverse, identity, name, universe, Clause, bind, check}
 use Rattle.cat_model.specs.declared.sketch.Sketch.{Sketch, Name, Universe, Union', Sequence', Difference', Intersection', Product', Plus', Star', Optional', Inverse', Identity'}
 use Rattle.cat_model.specs.declared.sketch.Line.{Line}
 use Rattle.cat_model.specs.declared.sketch.Line.TheVariants as lines

@@ -2,7 +2,7 @@
 use Rattle.std.specs.Prelude.{◌≡◌, ℕ, ◌+◌, ◌-◌, ◌<◌, ◌≤◌, ◌⊎◌, List, [], ◌∷◌, ◌++◌, Some, false, length, map, if◌then◌else◌, IsSome}
 use Rattle.std.specs.List.{list_any, sum_by}
 use Rattle.std.specs.Str.{bytes_eq}
-use Rattle.cat_syntax.specs.Tree.{Word, Clause, include, File, clause_of}
+use Rattle.cat_tree.specs.Tree.{Word, Clause, include, File, clause_of}
 use Rattle.cat_model.specs.Closure.{IsPath, IsOwn, is_on, versioned, count}
 use Rattle.cat_model.specs.Faults.{IsAstray}
 use Rattle.cat_model.specs.Files.{file_of}

@@ -3,8 +3,7 @@
 ghost use Rattle.std.specs.Prelude.{◌≡◌, ◌≢◌, ◌⊎◌, ◌↔◌, List, map, None, Ok, All, OnOk, IfOk, IfErr, IsTrue, true, false};
 ghost use Rattle.std.specs.List.{Contains, list_any};
 ghost use Rattle.std.specs.Str.{bytes_eq};
-ghost use Rattle.cat_syntax.specs.Items.{is_bound as is_bound_in};
-ghost use Rattle.cat_syntax.specs.Tree.{Word, Bound, Clause, term_of, bound_of, check_of, clause_of, bind as let_clause, bind_recursively};
+ghost use Rattle.cat_tree.specs.Tree.{Word, Bound, Clause, term_of, bound_of, check_of, clause_of, bind as let_clause, bind_recursively, is_bound as is_bound_in};
 ghost use Rattle.cat_model.specs.Closure.{IsOwn};
 ghost use Rattle.cat_model.specs.Faults.{IsBound, IsItemFault, IsFaulty, word_of};
 ghost use Rattle.cat_model.specs.Scopes.{Bind, recursive, IsMonotone, IsTestable, Follows, IsModel};
@@ -18,7 +17,7 @@ use crate::scope::Scope;
 use crate::sort::Sort;
 use crate::typing::{denied_names, has_sort, names, sort_of};
 use crate::words::word;
-use cat_syntax::{Binding, Check, CheckKind, Expression, Item};
+use cat_tree::{Binding, Check, CheckKind, Expression, Item};
 use std::alloc::{AllocError, Global};
 use wb_text::Name;
 

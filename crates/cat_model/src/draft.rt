@@ -3,7 +3,7 @@
 ghost use Rattle.std.specs.Prelude.{◌≤◌};
 
 use crate::model::FileVersion;
-use cat_syntax::Item;
+use cat_tree::Item;
 
 /// The items that are put in place so far, the files read, and how many items that counts for.
 #[derive(Drop)]

@@ -5,7 +5,7 @@ ghost use Rattle.cat_model.specs.Files.{built_in, place_of, entry_of, version_of
 ghost use Rattle.cat_model.specs.Rc11.{rc11 as rc11_tree};
 
 use crate::rc11_text::rc11;
-use cat_syntax::CatFile;
+use cat_tree::CatFile;
 use std::alloc::{AllocError, Global};
 use std::marker::Model;
 use wb_text::Name;

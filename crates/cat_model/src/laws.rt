@@ -1,7 +1,7 @@
 //! Laws of models. They have no effect.
 
 ghost use Rattle.std.specs.Prelude.{◌≡◌, List};
-ghost use Rattle.cat_syntax.specs.Tree.{Word, Clause};
+ghost use Rattle.cat_tree.specs.Tree.{Word, Clause};
 ghost use Rattle.cat_model.specs.Closure.{IsClosure};
 ghost use Rattle.cat_model.specs.Faults.{IsFaulty};
 ghost use Rattle.cat_model.specs.Scopes.{IsModel};

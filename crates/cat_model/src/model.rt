@@ -1,10 +1,10 @@
 //! A model that is ready to judge executions.
 
 ghost use Rattle.std.specs.Prelude.{◌≡◌, map, IfOk};
-ghost use Rattle.cat_syntax.specs.Tree.{clause_of};
+ghost use Rattle.cat_tree.specs.Tree.{clause_of};
 ghost use Rattle.cat_model.specs.Scopes.{IsModel};
 
-use cat_syntax::Item;
+use cat_tree::Item;
 use std::alloc::AllocError;
 use wb_text::Name;
 
@@ -54,7 +54,7 @@ impl std::marker::Model for Model {
     ghost coded = { coded_assembly };
 
     ghost use Rattle.std.specs.Prelude.{map};
-    ghost use Rattle.cat_syntax.specs.Tree.{clause_of};
+    ghost use Rattle.cat_tree.specs.Tree.{clause_of};
     ghost use Rattle.cat_model.specs.Scopes.{IsModel};
 
     ghost view = { λ m. record { items = map clause_of m.items.items; files = m.files.items } };

@@ -1,7 +1,7 @@
 //! The built-in model `rc11.cat`.
 
 ghost use Rattle.std.specs.Prelude.{◌≡◌, map, IfOk};
-ghost use Rattle.cat_syntax.specs.Tree.{clause_of};
+ghost use Rattle.cat_tree.specs.Tree.{clause_of};
 ghost use Rattle.cat_model.specs.Rc11.{rc11 as rc11_tree};
 ghost use Rattle.cat_model.specs.Sketches.{line_of};
 
@@ -10,7 +10,7 @@ use crate::sketch::Sketch::{
     Union, Universe,
 };
 use crate::sketch::{Line, item};
-use cat_syntax::{CatFile, CheckKind, Item, Title};
+use cat_tree::{CatFile, CheckKind, Item, Title};
 use std::alloc::{AllocError, Global};
 
 const RC11: [Line; 20] = [

@@ -1,11 +1,11 @@
 //! Items as literals, and the trees that they stand for.
 
 ghost use Rattle.std.specs.Prelude.{◌≡◌, Some, IfOk};
-ghost use Rattle.cat_syntax.specs.Tree.{term_of, clause_of};
+ghost use Rattle.cat_tree.specs.Tree.{term_of, clause_of};
 ghost use Rattle.cat_model.specs.Sketches.{sketched, line_of};
 
 use crate::words::word;
-use cat_syntax::{Binding, Check, CheckKind, Expression, Item};
+use cat_tree::{Binding, Check, CheckKind, Expression, Item};
 use std::alloc::{AllocError, Global};
 
 /// An expression that the program's text holds.

@@ -1,13 +1,13 @@
 //! Names and sorts of expressions.
 
 ghost use Rattle.std.specs.Prelude.{◌≡◌, ◌++◌, map, OnOk, MatchOption, IsTrue, ◌↔◌};
-ghost use Rattle.cat_syntax.specs.Tree.{term_of, bound_of};
+ghost use Rattle.cat_tree.specs.Tree.{term_of, bound_of};
 ghost use Rattle.cat_model.specs.Sorts.{HasSort, names as names_in, denied_names as denied_in};
 ghost use Rattle.cat_model.specs.declared.sort.Sort.{Sort as Kind};
 
 use crate::scope::Scope;
 use crate::sort::Sort;
-use cat_syntax::Expression;
+use cat_tree::Expression;
 use std::alloc::AllocError;
 use wb_text::Name;
 

@@ -3,7 +3,7 @@
 ghost use Rattle.std.specs.Prelude.{◌≡◌, ◌≤◌, ◌+◌, [], ◌∷◌, ◌++◌, List, map, OnOk, IfErr, IfOk, All, ◌⊎◌};
 ghost use Rattle.std.specs.List.{Contains, list_any};
 ghost use Rattle.std.specs.Str.{bytes_eq};
-ghost use Rattle.cat_syntax.specs.Tree.{Clause, clause_of, include as include_clause};
+ghost use Rattle.cat_tree.specs.Tree.{Clause, clause_of, include as include_clause};
 ghost use Rattle.cat_model.specs.Closure.{IsOwn, IsClosure};
 ghost use Rattle.cat_model.specs.Faults.{IsAstray};
 ghost use Rattle.cat_model.specs.Walks.{Grows, Places, IsWalkFault, IsHere, counts_for};
@@ -14,7 +14,7 @@ use crate::draft::Draft;
 use crate::fault::ModelFault;
 use crate::files::Files;
 use crate::model::FileVersion;
-use cat_syntax::Item;
+use cat_tree::Item;
 use std::alloc::{AllocError, Global};
 use wb_text::Name;
 

@@ -8,10 +8,10 @@ use Rattle.cat_syntax.specs.declared.symbol.Symbol.{Symbol}
 use Rattle.cat_syntax.specs.declared.symbol.Symbol.TheVariants.{Fixed, Name, Quoted}
 use Rattle.cat_syntax.specs.declared.symbol.Terminal.{Terminal}
 use Rattle.cat_syntax.specs.declared.symbol.Terminal.TheVariants.{Let, Rec, And, Acyclic, Irreflexive, Empty, As, Flag, Show, Unshow, Include, Comma, Equals, Tilde}
-use Rattle.cat_syntax.specs.declared.tree.CheckKind.{CheckKind}
-use Rattle.cat_syntax.specs.Tree.{Word, Bound, Shown, Clause, include, File}
+use Rattle.cat_tree.specs.declared.tree.CheckKind.{CheckKind}
+use Rattle.cat_tree.specs.Tree.{Word, Bound, Shown, Clause, include, File, is_bound}
 use Rattle.cat_syntax.specs.Symbols.{is_name}
-use Rattle.cat_syntax.specs.Items.{IsExpression, AreSeparated, one, more, IsOptional, absent, present, IsNamed, named, IsAlias, no_alias, alias, IsBinding, binding, IsElement, element, Checks, checks_acyclic, checks_irreflexive, checks_empty, is_bound, BindOnce, IsItem, item_let, item_rec, item_check, item_include, item_show, item_unshow, AreItems, no_items, more_items, IsFile, untitled, title_name, title_quoted}
+use Rattle.cat_syntax.specs.Items.{IsExpression, AreSeparated, one, more, IsOptional, absent, present, IsNamed, named, IsAlias, no_alias, alias, IsBinding, binding, IsElement, element, Checks, checks_acyclic, checks_irreflexive, checks_empty, BindOnce, IsItem, item_let, item_rec, item_check, item_include, item_show, item_unshow, AreItems, no_items, more_items, IsFile, untitled, title_name, title_quoted}
 use Rattle.cat_syntax.specs.Reading.{Reading, after, expected, name_at, expression_at, push_item, separated, alias_at, repeats, new_name_at, binding_at, group_at, element_at, optional_at, kind_at, check_with, check_at, quoted_at, item_at, unless_end, title_at, items_at, file_at}
 use Rattle.cat_syntax.proofs.Symbols.{after-some, expected-ok, name-ok}
 use Rattle.cat_syntax.proofs.Names.{name_is}

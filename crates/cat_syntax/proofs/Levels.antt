@@ -8,7 +8,7 @@ use Rattle.descent.proofs.Turns.{repeated-more}
 use Rattle.cat_syntax.specs.declared.operator.Infix.{Infix}
 use Rattle.cat_syntax.specs.declared.operator.Postfix.{Postfix}
 use Rattle.cat_syntax.specs.declared.symbol.Symbol.{Symbol}
-use Rattle.cat_syntax.specs.Tree.{Term}
+use Rattle.cat_tree.specs.Tree.{Term}
 use Rattle.cat_syntax.specs.Grammar.{joined}
 use Rattle.cat_syntax.specs.Reading.{Reading, after, infix_at, postfix_at, applied_at, next_operand, chain_right, right, level_with, below}
 use Rattle.cat_syntax.proofs.Symbols as symbols

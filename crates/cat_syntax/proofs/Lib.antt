@@ -6,7 +6,6 @@ pub mod Sound
 pub mod Levels
 pub mod ItemsSound
 pub mod Lists
-pub mod Equal
 pub mod Complete
 pub mod ItemsComplete
 pub mod Weights

@@ -8,10 +8,10 @@ use Rattle.descent.proofs.Turns.{repeated-more}
 use Rattle.cat_syntax.specs.declared.symbol.Symbol.{Symbol}
 use Rattle.cat_syntax.specs.declared.symbol.Terminal.{Terminal}
 use Rattle.cat_syntax.specs.declared.symbol.Terminal.TheVariants.{And, Comma, Equals}
-use Rattle.cat_syntax.specs.declared.tree.Binding.{Binding}
-use Rattle.cat_syntax.specs.declared.tree.Element.{Element}
-use Rattle.cat_syntax.specs.declared.tree.Item.{Item}
-use Rattle.cat_syntax.specs.Tree.{Word, Term, Bound, Shown, Clause, bound_of, shown_of, clause_of}
+use Rattle.cat_tree.specs.declared.tree.Binding.{Binding}
+use Rattle.cat_tree.specs.declared.tree.Element.{Element}
+use Rattle.cat_tree.specs.declared.tree.Item.{Item}
+use Rattle.cat_tree.specs.Tree.{Word, Term, Bound, Shown, Clause, bound_of, shown_of, clause_of}
 use Rattle.cat_syntax.specs.Reading.{Reading, after, expected, name_at, new_name_at, binding_at, element_at, item_at, push_item, unless_end, expression_at}
 use Rattle.cat_syntax.proofs.Symbols as symbols
 use Rattle.cat_syntax.proofs.ItemsSound as sound

@@ -5,12 +5,12 @@ use Rattle.cat_syntax.specs.declared.symbol.Symbol.TheVariants.{Name, Unsupporte
 use Rattle.cat_syntax.specs.Reading.{repeats}
 use Rattle.std.proofs.lemmas.Slice.Eq.{bytes_eq-Decides}
 use Rattle.std.specs.List.{list_any}
-use Rattle.cat_syntax.specs.declared.tree.Binding.{Binding}
+use Rattle.cat_tree.specs.declared.tree.Binding.{Binding}
 use Rattle.cat_syntax.proofs.Symbols.{bool_cases}
 use Rattle.std.specs.Prelude.{Bool, ◌||◌}
 use Rattle.std.specs.Str.{bytes_eq}
-use Rattle.cat_syntax.specs.Tree.{Word, Bound, bound_of}
-use Rattle.cat_syntax.specs.Items.{is_bound, BindOnce}
+use Rattle.cat_tree.specs.Tree.{Word, Bound, bound_of, is_bound}
+use Rattle.cat_syntax.specs.Items.{BindOnce}
 
 or-neither : (a b : Bool) → (a || b) ≡ false → (a ≡ false) × (b ≡ false)
 or-neither true b e = absurd (cc)

@@ -8,7 +8,7 @@ use Rattle.cat_syntax.specs.declared.symbol.Symbol.{Symbol}
 use Rattle.cat_syntax.specs.declared.symbol.Symbol.TheVariants.{Fixed, Name}
 use Rattle.cat_syntax.specs.declared.symbol.Terminal.{Terminal}
 use Rattle.cat_syntax.specs.declared.symbol.Terminal.TheVariants.{Domain, Range, Underscore, Zero, LeftParen, RightParen, LeftBracket, RightBracket, LeftBrace, RightBrace, Star, Tilde, Plus, Question, Inverse}
-use Rattle.cat_syntax.specs.Tree.{Term, complement, domain, range, identity}
+use Rattle.cat_tree.specs.Tree.{Term, complement, domain, range, identity}
 use Rattle.cat_syntax.specs.Grammar.{begins_operand, IsLevel, level_unary, level_tighter, level_left, level_right, IsUnary, unary_complement, unary_postfix, IsPostfix, postfix_primary, postfix_plus, postfix_star, postfix_optional, postfix_inverse, IsPrimary, primary_name, primary_universe, primary_empty_relation, primary_empty_set, primary_paren, primary_identity, primary_domain, primary_range}
 use Rattle.cat_syntax.specs.Reading.{Reading, expected, infix_at, associates_left, postfix_at, applied, applied_at, next_operand, chain_right, right, left, Inner, enclosed_with, primary_with, postfix_with, unary_with, level_with, below}
 use Rattle.cat_syntax.proofs.Symbols.{bool_cases, expected-ok, infix-some, joins-left, joins-right, if-none}

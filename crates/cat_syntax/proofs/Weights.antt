@@ -10,8 +10,8 @@ use Rattle.cat_syntax.specs.declared.symbol.Symbol.{Symbol}
 use Rattle.cat_syntax.specs.declared.symbol.Symbol.TheVariants.{Fixed, Name, Quoted}
 use Rattle.cat_syntax.specs.declared.symbol.Terminal.{Terminal}
 use Rattle.cat_syntax.specs.declared.symbol.Terminal.TheVariants.{And, Comma, Flag, Tilde}
-use Rattle.cat_syntax.specs.declared.tree.CheckKind.{CheckKind}
-use Rattle.cat_syntax.specs.Tree.{Word, Term, Bound, Shown, Clause, File}
+use Rattle.cat_tree.specs.declared.tree.CheckKind.{CheckKind}
+use Rattle.cat_tree.specs.Tree.{Word, Term, Bound, Shown, Clause, File}
 use Rattle.cat_syntax.specs.Nodes.{term_nodes, clause_nodes, nodes}
 use Rattle.cat_syntax.specs.Counting.{cost, context_after, weight}
 use Rattle.cat_syntax.specs.Grammar.{joined, JoinsLeft, joins_product, joins_difference, JoinsRight, joins_intersection, joins_sequence, joins_union, IsLevel, level_unary, level_tighter, level_left, level_right, IsUnary, unary_complement, unary_postfix, IsPostfix, postfix_primary, postfix_plus, postfix_star, postfix_optional, postfix_inverse, IsPrimary, primary_name, primary_universe, primary_empty_relation, primary_empty_set, primary_paren, primary_identity, primary_domain, primary_range}

@@ -20,7 +20,7 @@ use Rattle.cat_syntax.specs.Nodes.{nodes}
 use Rattle.cat_syntax.specs.Reading.{Reading, Gives, file_at}
 use Rattle.cat_syntax.specs.Reads.{Reads, IsRefused, Tells}
 use Rattle.cat_syntax.specs.Symbols.{symbols_of}
-use Rattle.cat_syntax.specs.Tree.{File}
+use Rattle.cat_tree.specs.Tree.{File}
 use Rattle.cat_syntax.proofs.Weights.{file-weight}
 use Rattle.cat_syntax.proofs.ItemsSound.{file-sound}
 use Rattle.cat_syntax.proofs.ItemsComplete.{file-complete}

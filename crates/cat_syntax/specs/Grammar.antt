@@ -9,7 +9,7 @@ use Rattle.cat_syntax.specs.declared.symbol.Symbol.{Symbol}
 use Rattle.cat_syntax.specs.declared.symbol.Symbol.TheVariants.{Fixed, Name, Unsupported}
 use Rattle.cat_syntax.specs.declared.symbol.Terminal.{Terminal}
 use Rattle.cat_syntax.specs.declared.symbol.Terminal.TheVariants.{Acyclic, Irreflexive, Empty, Domain, Range, Underscore, Zero, LeftParen, RightParen, LeftBracket, RightBracket, LeftBrace, RightBrace, Bar, Semicolon, Backslash, Ampersand, Star, Tilde, Plus, Question, Inverse}
-use Rattle.cat_syntax.specs.Tree.{Term, union, sequence, difference, intersection, product, complement, plus, star, optional, inverse, domain, range, identity, name, empty_relation, empty_set, universe}
+use Rattle.cat_tree.specs.Tree.{Term, union, sequence, difference, intersection, product, complement, plus, star, optional, inverse, domain, range, identity, name, empty_relation, empty_set, universe}
 
 -- what an operator makes of its operands
 abbrev pub joined : Infix → Term → Term → Term

@@ -1,16 +1,14 @@
 -- The grammar of models. (herd7 manual, the cat language: instructions.)
 -- Each family says that the symbols ts begin with a part of a model, and that rest follows it.
 use Rattle.std.specs.Prelude.{◌≡◌, List, [], ◌∷◌, Bool, true, false, Option, Some, None}
-use Rattle.std.specs.List.{list_any}
-use Rattle.std.specs.Str.{bytes_eq}
 use Rattle.wb_text.specs.Names.{IsName}
 use Rattle.cat_syntax.specs.declared.symbol.Symbol.{Symbol}
 use Rattle.cat_syntax.specs.declared.symbol.Symbol.TheVariants.{Fixed, Name, Quoted}
 use Rattle.cat_syntax.specs.declared.symbol.Terminal.{Terminal}
 use Rattle.cat_syntax.specs.declared.symbol.Terminal.TheVariants.{Let, Rec, And, Acyclic, Irreflexive, Empty, As, Flag, Show, Unshow, Include, Comma, Equals, Tilde}
-use Rattle.cat_syntax.specs.declared.tree.CheckKind.{CheckKind}
-use Rattle.cat_syntax.specs.declared.tree.CheckKind.TheVariants as kinds
-use Rattle.cat_syntax.specs.Tree.{Word, Term, Bound, Shown, Clause, bind, bind_recursively, check, include, show, unshow, File}
+use Rattle.cat_tree.specs.declared.tree.CheckKind.{CheckKind}
+use Rattle.cat_tree.specs.declared.tree.CheckKind.TheVariants as kinds
+use Rattle.cat_tree.specs.Tree.{Word, Term, Bound, Shown, Clause, bind, bind_recursively, check, include, show, unshow, File, is_bound}
 use Rattle.cat_syntax.specs.Grammar.{IsLevel}
 
 -- an expression, which nests at most 64 deep
@@ -49,10 +47,6 @@ pub data Checks : Terminal → CheckKind → Type 0 where
   checks_acyclic : Checks Acyclic kinds.Acyclic
   checks_irreflexive : Checks Irreflexive kinds.Irreflexive
   checks_empty : Checks Empty kinds.Empty
-
--- whether x is among the names that are bound
-abbrev pub is_bound : List Bound → Word → Bool
-is_bound bs x = list_any (λ b. bytes_eq b.name x) bs
 
 -- no name is bound twice
 abbrev pub BindOnce : List Bound → Type 0

@@ -1,6 +1,4 @@
 pub mod Faults
-pub mod Codes
-pub mod Tree
 pub mod Grammar
 pub mod Items
 pub mod Reading
@@ -8,5 +6,3 @@ pub mod Symbols
 pub mod Nodes
 pub mod Counting
 pub mod Reads
-pub mod Equality
-pub mod Exact

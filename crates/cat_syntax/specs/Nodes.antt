@@ -1,6 +1,6 @@
 -- How large a model is. (The limit is 4,096 nodes.)
 use Rattle.std.specs.Prelude.{ℕ, ◌+◌, sum_by, length}
-use Rattle.cat_syntax.specs.Tree.{Term, union, sequence, difference, intersection, product, complement, plus, star, optional, inverse, domain, range, identity, name, empty_relation, empty_set, universe, Clause, bind, bind_recursively, check, include, show, unshow, File}
+use Rattle.cat_tree.specs.Tree.{Term, union, sequence, difference, intersection, product, complement, plus, star, optional, inverse, domain, range, identity, name, empty_relation, empty_set, universe, Clause, bind, bind_recursively, check, include, show, unshow, File}
 
 -- each operator, name and constant is a node
 abbrev pub term_nodes : Term → ℕ

@@ -15,11 +15,10 @@ use Rattle.cat_syntax.specs.declared.symbol.Symbol.{Symbol}
 use Rattle.cat_syntax.specs.declared.symbol.Symbol.TheVariants.{Fixed, Name, Quoted, Unsupported}
 use Rattle.cat_syntax.specs.declared.symbol.Terminal.{Terminal}
 use Rattle.cat_syntax.specs.declared.symbol.Terminal.TheVariants.{Let, Rec, And, Acyclic, Irreflexive, Empty, As, Flag, Show, Unshow, Include, Comma, Equals, Domain, Range, Underscore, Zero, LeftParen, RightParen, LeftBracket, RightBracket, LeftBrace, RightBrace, Bar, Semicolon, Backslash, Ampersand, Star, Tilde, Plus, Question, Inverse}
-use Rattle.cat_syntax.specs.declared.tree.CheckKind.{CheckKind}
-use Rattle.cat_syntax.specs.declared.tree.CheckKind.TheVariants as kinds
-use Rattle.cat_syntax.specs.Items.{is_bound}
+use Rattle.cat_tree.specs.declared.tree.CheckKind.{CheckKind}
+use Rattle.cat_tree.specs.declared.tree.CheckKind.TheVariants as kinds
 use Rattle.cat_syntax.specs.Symbols.{is_name}
-use Rattle.cat_syntax.specs.Tree.{Bound, Shown, Clause, bind, bind_recursively, check, include, show, unshow, File, Word, Term, plus, star, optional, inverse, complement, domain, range, identity, name, empty_relation, empty_set, universe}
+use Rattle.cat_tree.specs.Tree.{Bound, Shown, Clause, bind, bind_recursively, check, include, show, unshow, File, Word, Term, plus, star, optional, inverse, complement, domain, range, identity, name, empty_relation, empty_set, universe, is_bound}
 use Rattle.cat_syntax.specs.Grammar.{joined, begins_operand}
 
 -- a value and the symbols behind it, or no reading

@@ -11,7 +11,7 @@ use Rattle.cat_syntax.specs.declared.symbol.Symbol.TheVariants as symbols
 use Rattle.cat_syntax.specs.Items.{IsFile}
 use Rattle.cat_syntax.specs.Nodes.{nodes}
 use Rattle.cat_syntax.specs.Symbols.{symbols_of}
-use Rattle.cat_syntax.specs.Tree.{File}
+use Rattle.cat_tree.specs.Tree.{File}
 
 -- The symbols of the text's tokens are the model by the grammar, and it has at most 4,096 nodes.
 pub record Reads (text : List ℕ) (f : File) : Type 0 where

@@ -1,20 +1,15 @@
-//! Models in the cat language: their trees and the reader.
+//! The reader of models in the cat language.
 #![tactic(auto)]
 
-mod copying;
 mod counting;
-mod equality;
 mod fault;
-mod file;
 mod foreign;
 pub mod laws;
 mod operator;
 mod reading;
 mod symbol;
 mod syntax_fault;
-mod tree;
 
+pub use cat_tree::{Binding, CatFile, Check, CheckKind, Element, Expression, Item, Title};
 pub use fault::CatFault;
-pub use file::{CatFile, Title};
 pub use reading::read_cat;
-pub use tree::{Binding, Check, CheckKind, Element, Expression, Item};

@@ -5,7 +5,7 @@ ghost use Rattle.std.proofs.Common.{suc};
 ghost use Rattle.cat_syntax.specs.Items.{IsFile};
 ghost use Rattle.cat_syntax.specs.Reads.{Reads, IsRefused, IsOffset, Tells};
 ghost use Rattle.cat_syntax.specs.Nodes.{nodes};
-ghost use Rattle.cat_syntax.specs.Tree.{File};
+ghost use Rattle.cat_tree.specs.Tree.{File};
 ghost use Rattle.cat_syntax.specs.declared.fault.CatFault.TheVariants.{NoMemory};
 ghost use Rattle.cat_syntax.specs.declared.syntax_fault.SyntaxFault.TheVariants.{NoMemory as NoSpace};
 ghost use Rattle.cat_syntax.specs.Reading.{Gives, after, expected, name_at};
@@ -15,10 +15,10 @@ mod items;
 
 use crate::counting::excess;
 use crate::fault::CatFault;
-use crate::file::CatFile;
 use crate::symbol::{Symbol, Terminal, symbols};
 use crate::syntax_fault::SyntaxFault;
 use std::alloc::Global;
+use cat_tree::CatFile;
 use wb_text::{Dialect, Name, Token, tokens};
 
 /// The symbols that are not yet read. At a fault, the first of them is the symbol that it is about.

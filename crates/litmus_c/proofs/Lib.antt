@@ -1,4 +1,3 @@
-pub mod Distinct
 pub mod Fair
 pub mod Found
 pub mod Kept

@@ -1,27 +1,18 @@
 -- What is said of a row of statements is said of each.
-use Rattle.std.proofs.Common.{◌≡◌, List, [], ◌∷◌, ◌++◌, map, ap, sym, refl, ◌∙◌}
+use Rattle.std.proofs.Common.{◌≡◌, List, [], ◌∷◌, map, ap, sym, refl, ◌∙◌}
 use Rattle.std.specs.Prelude.{sum_by, ◌+◌, ◌&&◌}
-use Rattle.std.specs.List.{flat_map, list_all}
+use Rattle.std.specs.List.{list_all}
 use Rattle.std.proofs.lemmas.List.Sums.{sum_by-cons}
 use Rattle.litmus_tree.specs.declared.tree.Statement.{Statement}
 use Rattle.litmus_tree.specs.declared.tree.Parameter.{Parameter}
 use Rattle.litmus_c.specs.declared.rules.Rule.{Rule}
-use Rattle.litmus_c.specs.Limits.{step_events, steps_events}
-use Rattle.litmus_c.specs.Rules.{step_registers, steps_registers, step_keeps, steps_keep}
-use Rattle.litmus_c.specs.Values.{step_constants, steps_constants}
+use Rattle.litmus_test.specs.Limits.{step_events, steps_events}
+use Rattle.litmus_c.specs.Rules.{step_keeps, steps_keep}
 use Rattle.litmus_tree.specs.Tree.{Word, step_of, steps_of}
 
 pub row_events : (ss : List Statement) → steps_events (steps_of ss) ≡ sum_by step_events (map step_of ss)
 row_events [] = refl
 row_events (s ∷ ss) = ap (λ n. step_events (step_of s) + n) (row_events ss) ∙ sym (sum_by-cons step_events (step_of s) (map step_of ss))
-
-pub row_constants : (ss : List Statement) → steps_constants (steps_of ss) ≡ flat_map step_constants (map step_of ss)
-row_constants [] = refl
-row_constants (s ∷ ss) = ap (λ l. step_constants (step_of s) ++ l) (row_constants ss)
-
-pub row_registers : (ss : List Statement) → steps_registers (steps_of ss) ≡ flat_map step_registers (map step_of ss)
-row_registers [] = refl
-row_registers (s ∷ ss) = ap (λ l. step_registers (step_of s) ++ l) (row_registers ss)
 
 pub row_keeps : (k : Rule) (ps : List Parameter) (rs : List Word) (ss : List Statement) → steps_keep k ps rs (steps_of ss) ≡ list_all (step_keeps k ps rs) (map step_of ss)
 row_keeps k ps rs [] = refl

@@ -1,4 +1,2 @@
-pub mod Limits
 pub mod Reads
 pub mod Rules
-pub mod Values

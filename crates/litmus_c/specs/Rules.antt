@@ -16,10 +16,10 @@ use Rattle.litmus_tree.specs.declared.tree.LocationKind.TheVariants.{Atomic, Pla
 use Rattle.litmus_tree.specs.declared.tree.Parameter.{Parameter}
 use Rattle.conditions.specs.Conditions.{Formula, truth, falsehood, equals, negation, conjunction, disjunction, implication}
 use Rattle.litmus_syntax.specs.Drafts.{Listing, Written, is_parameter}
-use Rattle.litmus_c.specs.Limits.{program_events}
+use Rattle.litmus_test.specs.Limits.{program_events}
 use Rattle.litmus_tree.specs.Names.{is_one_of, with_names}
 use Rattle.litmus_tree.specs.Tree.{Word, Term, number, held, denied, equal, unequal, both, either, Action, load, store, exchange, fence, Right, computed, plain_read, value_of, Declared, Step, empty, block, declare, assign, plain_write, perform, if_only, if_else, Steps, no_steps, in_turn, Program, Litmus}
-use Rattle.litmus_c.specs.Values.{values_of}
+use Rattle.litmus_test.specs.Values.{values_of}
 
 -- The initial state.
 

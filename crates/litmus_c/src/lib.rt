@@ -6,13 +6,10 @@ pub mod laws;
 mod making;
 mod reading;
 mod rules;
-mod test;
-mod values;
 
 pub use fault::TestFault;
+pub use litmus_test::Test;
 pub use litmus_tree::{
     Call, Declarator, Expression, LocationKind, Parameter, RightSide, Statement, Thread,
 };
 pub use reading::read_test;
-pub use test::Test;
-pub use values::{ValuesFault, values_among};

@@ -3,11 +3,11 @@
 ghost use Rattle.std.specs.Prelude.{◌≡◌, ◌≤◌, ◌<◌, ◌+◌, ◌&&◌, [], ℕ, List, map, length, sum_by, IfOk, IfErr, OnOk, true};
 ghost use Rattle.std.specs.List.{flat_map, list_all};
 ghost use Rattle.litmus_syntax.specs.Drafts.{listing_of, written_of};
-ghost use Rattle.litmus_c.specs.Limits.{program_events};
+ghost use Rattle.litmus_test.specs.Limits.{program_events};
 ghost use Rattle.litmus_c.specs.declared.fault.TestFault.TheVariants.{TooManyEvents};
 ghost use Rattle.litmus_c.specs.Rules.{lasting, place_locations, parameter_names, locations_of, place_registers, step_registers, steps_registers, registers_of, program_of, programs_of, litmus_of, entry_is_fair, program_keeps, places_are_there, names_hold, formula_is_fair, KeepsRules, Explains, ExplainsNames, ExplainsLocations, ExplainsValues};
 ghost use Rattle.litmus_tree.specs.Names.{with_name, with_names};
-ghost use Rattle.litmus_c.specs.Values.{values_among};
+ghost use Rattle.litmus_test.specs.Values.{values_among};
 ghost use Rattle.litmus_tree.specs.Tree.{declared_of, step_of, steps_of};
 ghost use Rattle.litmus_c.specs.declared.rules.Rule.TheVariants.{Names, PlainAccess, AtomicAccess};
 
@@ -15,11 +15,10 @@ use crate::fault::TestFault;
 use crate::rules::{
     Rule, after_threads, entry_is_fair, formula_is_fair, is_one_of, places_are_there, program_keeps,
 };
-use crate::test::Test;
-use crate::values::{ValuesFault, values_among};
 use conditions::{Binding, Cond, Place};
 use indexmap::IndexSet;
 use litmus_syntax::{Body, Draft};
+use litmus_test::{Test, ValuesFault, values_among};
 use litmus_tree::{Declarator, Parameter, Statement, Thread};
 use std::alloc::{AllocError, Global};
 use wb_text::Name;

@@ -10,8 +10,8 @@ ghost use Rattle.litmus_tree.specs.Tree.{Litmus};
 
 use crate::fault::TestFault;
 use crate::making::make_test;
-use crate::test::Test;
 use litmus_syntax::{Draft, Symbol, SyntaxFault, read_draft, symbols};
+use litmus_test::Test;
 use std::alloc::{AllocError, Global};
 use wb_text::{Dialect, Name, Token, tokens};
 

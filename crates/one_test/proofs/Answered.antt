@@ -9,7 +9,7 @@ use Rattle.litmus_c.specs.Reads.{Reads, IsRefused}
 use Rattle.litmus_c.specs.declared.fault.TestFault.{TestFault}
 use Rattle.litmus_c.specs.declared.fault.TestFault.TheVariants as of_test
 use Rattle.cat_syntax.specs.Reads.{Reads as ReadsCat}
-use Rattle.cat_syntax.specs.Tree.{File}
+use Rattle.cat_tree.specs.Tree.{File}
 use Rattle.cat_syntax.specs.declared.fault.CatFault.{CatFault}
 use Rattle.cat_syntax.specs.declared.fault.CatFault.TheVariants as of_cat
 use Rattle.cat_model.specs.Faults.{IsCause}

@@ -5,7 +5,7 @@ use Rattle.wb_text.specs.Memory.{AppendsFront}
 use Rattle.litmus_tree.specs.Tree.{Litmus, Word}
 use Rattle.litmus_c.specs.Reads.{Reads, IsRefused}
 use Rattle.cat_syntax.specs.Reads.{Reads as ReadsCat}
-use Rattle.cat_syntax.specs.Tree.{File}
+use Rattle.cat_tree.specs.Tree.{File}
 use Rattle.cat_model.specs.Faults.{IsCause}
 use Rattle.cat_model.specs.Models.{Assembly}
 use Rattle.cat_model.specs.declared.files.Entry.{Entry}

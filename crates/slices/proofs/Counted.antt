@@ -7,7 +7,7 @@ use Rattle.std.proofs.lemmas.List.Sums.{fold-append, sum_by-append}
 use Rattle.events.specs.declared.event.EventId.{EventId}
 use Rattle.events.specs.Executions.{Execution}
 use Rattle.cat_eval.specs.Judging.{Allowed, Raised}
-use Rattle.cat_syntax.specs.Tree.{Clause}
+use Rattle.cat_tree.specs.Tree.{Clause}
 use Rattle.listings.specs.Lists.{IsIn, NoRepeats, Lists}
 use Rattle.conditions.specs.declared.place.Place.{Place}
 use Rattle.conditions.specs.declared.place.Place.TheVariants.{Reg, Loc}

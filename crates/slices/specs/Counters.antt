@@ -4,7 +4,7 @@ use Rattle.std.specs.BTreeSet.{insert_key}
 use Rattle.std.specs.Cmp.Lexicographic.{slice_cmp}
 use Rattle.std.specs.Ordering.{nat_cmp}
 use Rattle.cat_eval.specs.Judging.{Allowed, Raised}
-use Rattle.cat_syntax.specs.Tree.{Clause}
+use Rattle.cat_tree.specs.Tree.{Clause}
 use Rattle.events.specs.Executions.{Execution}
 use Rattle.listings.specs.Lists.{IsIn}
 use Rattle.conditions.specs.declared.place.Place.{Place}

@@ -1,7 +1,7 @@
 -- What is found at some of the numbers of a test.
 use Rattle.std.specs.Prelude.{◌≡◌, ℕ, ◌+◌, ◌-◌, ◌≤◌, ◌^◌, List, [], ◌∷◌}
 use Rattle.cat_eval.specs.Judging.{Allowed}
-use Rattle.cat_syntax.specs.Tree.{Clause}
+use Rattle.cat_tree.specs.Tree.{Clause}
 use Rattle.events.specs.Executions.{Execution}
 use Rattle.litmus_tree.specs.Tree.{Litmus}
 use Rattle.candidates.specs.Candidates.{At, found, choices_of, size_of}

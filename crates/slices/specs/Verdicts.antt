@@ -2,7 +2,7 @@
 -- (herd7 manual, the cat language: checks and flags; Alglave, Maranget and Tautschnig, Herding cats, 2014, section 4.)
 use Rattle.std.specs.Prelude.{◌≡◌, ℕ, ◌<◌, ◌⊎◌, List, [], ◌∷◌, not, count_by}
 use Rattle.cat_eval.specs.Judging.{Allowed, Raised}
-use Rattle.cat_syntax.specs.Tree.{Clause}
+use Rattle.cat_tree.specs.Tree.{Clause}
 use Rattle.events.specs.Executions.{Execution}
 use Rattle.listings.specs.Lists.{IsIn, Lists}
 use Rattle.litmus_tree.specs.Tree.{Litmus, Word}

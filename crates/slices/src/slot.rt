@@ -9,7 +9,7 @@ ghost use Rattle.slices.specs.Slots.{slot_of, slot_value};
 use crate::row::Row;
 use conditions::Place;
 use events::{EventId, Graph};
-use litmus_c::Test;
+use litmus_test::Test;
 use std::alloc::{AllocError, Global};
 use wb_text::Name;
 

@@ -7,7 +7,7 @@ ghost use Rattle.slices.specs.Parts.{IsAdmitted, test_size};
 
 use candidates::{Space, SpaceFault};
 use cat_model::Model;
-use litmus_c::Test;
+use litmus_test::Test;
 use std::alloc::{AllocError, Global};
 use std::sync::Arc;
 

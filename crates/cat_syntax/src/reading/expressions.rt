@@ -1,7 +1,7 @@
 //! Expressions, by a table of levels of operators.
 
 ghost use Rattle.std.specs.Prelude.{◌≡◌, ℕ, List, IfOk};
-ghost use Rattle.cat_syntax.specs.Tree.{Term, term_of};
+ghost use Rattle.cat_tree.specs.Tree.{Term, term_of};
 ghost use Rattle.cat_syntax.specs.Grammar.{joined, begins_operand as operand_next, begins_check as check_next};
 ghost use Rattle.cat_syntax.specs.Reading.{Gives, Takes, applied, infix_at, associates_left as is_left, postfix_at, enclosed_with, primary_with, postfix_with, unary_with, left, right, level_with, below, expression_at};
 
@@ -9,7 +9,7 @@ use crate::operator::{Infix, Postfix};
 use crate::reading::Reader;
 use crate::symbol::{Symbol, Terminal};
 use crate::syntax_fault::SyntaxFault;
-use crate::tree::Expression;
+use cat_tree::Expression;
 use std::alloc::{AllocError, Global};
 
 /// How deep an expression may nest.

@@ -3,15 +3,14 @@
 ghost use Rattle.std.specs.Prelude.{◌≡◌, List, map, option_map, Option};
 ghost use Rattle.std.specs.List.{list_any};
 ghost use Rattle.std.specs.Str.{bytes_eq};
-ghost use Rattle.cat_syntax.specs.Tree.{bound_of, shown_of, check_of, clause_of, File};
+ghost use Rattle.cat_tree.specs.Tree.{bound_of, shown_of, check_of, clause_of, File};
 ghost use Rattle.cat_syntax.specs.Reading.{Gives, alias_at, repeats as name_repeats, new_name_at, binding_at, group_at, element_at, kind_at, check_with, check_at, quoted_at, separated, name_at, item_at, title_at, items_at, file_at, unless_end};
 ghost use Rattle.cat_syntax.specs.declared.symbol.Terminal.TheVariants.{And, Comma};
 
-use crate::file::{CatFile, Title};
 use crate::reading::Reader;
 use crate::symbol::{Spelling, Symbol, Terminal};
 use crate::syntax_fault::SyntaxFault;
-use crate::tree::{Binding, Check, CheckKind, Element, Item};
+use cat_tree::{Binding, CatFile, Check, CheckKind, Element, Item, Title};
 use wb_text::Name;
 
 /// Whether a name is among those that are bound.

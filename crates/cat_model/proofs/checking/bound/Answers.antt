@@ -1,5 +1,5 @@
 use Rattle.std.proofs.Common.{inr, ap}
-use Rattle.cat_syntax.specs.Tree.{bound_of}
+use Rattle.cat_tree.specs.Tree.{bound_of}
 use Rattle.cat_model.specs.declared.fault.ModelFault.TheVariants.{WrongSort}
 use Rattle.cat_model.proofs.Listed.{contains_at}
 use Rattle.cat_model.proofs.checking.bound.Goals as goal

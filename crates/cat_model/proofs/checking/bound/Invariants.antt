@@ -1,5 +1,5 @@
 use Rattle.std.proofs.Common.{map, drop}
-use Rattle.cat_syntax.specs.Tree.{bound_of}
+use Rattle.cat_tree.specs.Tree.{bound_of}
 use Rattle.cat_model.specs.Scopes.{Bind}
 use Rattle.cat_model.specs.Sorts.{Scope}
 use Rattle.cat_model.proofs.checking.bound.Given as goal

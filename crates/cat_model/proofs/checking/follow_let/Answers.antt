@@ -1,6 +1,6 @@
 use Rattle.std.proofs.Common.{inl, inr, map}
 use Rattle.std.proofs.lemmas.Result.{err_from_is_err_and, IfErr-weaker}
-use Rattle.cat_syntax.specs.Tree.{bound_of}
+use Rattle.cat_tree.specs.Tree.{bound_of}
 use Rattle.cat_model.proofs.Faulty.{unbound_let, missorted_let}
 use Rattle.cat_model.proofs.checking.follow_let.Goals as goal
 

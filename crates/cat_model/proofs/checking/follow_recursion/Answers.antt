@@ -1,6 +1,6 @@
 use Rattle.std.proofs.Common.{inl, inr, map}
 use Rattle.std.proofs.lemmas.Result.{err_from_is_err_and}
-use Rattle.cat_syntax.specs.Tree.{bound_of}
+use Rattle.cat_tree.specs.Tree.{bound_of}
 use Rattle.cat_model.proofs.Faulty.{unbound_rec, missorted_rec}
 use Rattle.cat_model.proofs.checking.follow_recursion.Goals as goal
 

@@ -1,6 +1,6 @@
 use Rattle.std.proofs.Common.{inl, inr}
 use Rattle.std.proofs.lemmas.Result.{err_from_is_err_and}
-use Rattle.cat_syntax.specs.Tree.{term_of, bound_of}
+use Rattle.cat_tree.specs.Tree.{term_of, bound_of}
 use Rattle.cat_model.specs.Faults.{IsBound}
 use Rattle.cat_model.proofs.Listed.{all_more, all_end, contains_at}
 use Rattle.cat_model.proofs.checking.require_all_bound.Goals as goal

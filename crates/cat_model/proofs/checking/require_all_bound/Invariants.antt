@@ -1,5 +1,5 @@
 use Rattle.std.proofs.Common.{take, All}
-use Rattle.cat_syntax.specs.Tree.{term_of}
+use Rattle.cat_tree.specs.Tree.{term_of}
 use Rattle.cat_model.specs.Faults.{IsBound}
 use Rattle.cat_model.proofs.checking.require_all_bound.Given as goal
 

@@ -3,7 +3,7 @@ use Rattle.std.proofs.lemmas.Grind.{common_steps}
 use Rattle.std.proofs.lemmas.List.Elements.{All-contains}
 use Rattle.std.specs.List.{All}
 use Rattle.std.proofs.Common.{subst}
-use Rattle.cat_syntax.specs.Tree.{term_of}
+use Rattle.cat_tree.specs.Tree.{term_of}
 use Rattle.cat_model.specs.Sorts.{names, sort_of_name}
 use Rattle.cat_model.proofs.Listed.{all_more_map, all_end_map, gathered, told}
 use Rattle.cat_model.proofs.checking.require_bound.Goals as goal

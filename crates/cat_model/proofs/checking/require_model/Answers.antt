@@ -1,7 +1,7 @@
 use Rattle.std.proofs.Common.{inl, inr, map}
 use Rattle.std.proofs.lemmas.List.Elements.{All-contains}
 use Rattle.std.proofs.lemmas.Result.{err_from_is_err_and}
-use Rattle.cat_syntax.specs.Tree.{clause_of}
+use Rattle.cat_tree.specs.Tree.{clause_of}
 use Rattle.cat_model.proofs.Faulty.{faulty_at, lead_more}
 use Rattle.cat_model.proofs.Listed.{contains_at, at_map, long_map}
 use Rattle.cat_model.specs.Closure.{IsOwn}

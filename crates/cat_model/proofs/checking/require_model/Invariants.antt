@@ -1,5 +1,5 @@
 use Rattle.std.proofs.Common.{[], map, take}
-use Rattle.cat_syntax.specs.Tree.{clause_of}
+use Rattle.cat_tree.specs.Tree.{clause_of}
 use Rattle.cat_model.specs.Scopes.{Lead}
 use Rattle.cat_model.proofs.checking.require_model.Given as goal
 

@@ -1,8 +1,7 @@
 use Rattle.std.proofs.Common.{◌≡◌, inl, inr, map, false}
 use Rattle.std.proofs.lemmas.Result.{err_from_is_err_and}
 use Rattle.std.specs.List.{All}
-use Rattle.cat_syntax.specs.Items.{is_bound}
-use Rattle.cat_syntax.specs.Tree.{Bound, bound_of}
+use Rattle.cat_tree.specs.Tree.{Bound, bound_of, is_bound}
 use Rattle.cat_model.specs.Sorts.{denied_names}
 use Rattle.cat_model.proofs.Listed.{all_more_map, all_end_map, contains_at}
 use Rattle.cat_model.proofs.checking.require_monotone.Goals as goal

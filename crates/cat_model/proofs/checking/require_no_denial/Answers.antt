@@ -1,7 +1,6 @@
 use Rattle.std.proofs.Common.{◌≡◌, ◌∙◌, sym, ap, subst, inr, map, false}
 use Rattle.std.specs.List.{All}
-use Rattle.cat_syntax.specs.Items.{is_bound}
-use Rattle.cat_syntax.specs.Tree.{Word, term_of, bound_of}
+use Rattle.cat_tree.specs.Tree.{Word, term_of, bound_of, is_bound}
 use Rattle.cat_model.specs.Sorts.{denied_names}
 use Rattle.cat_model.specs.declared.fault.ModelFault.TheVariants.{NotMonotone}
 use Rattle.std.specs.List.{Contains}

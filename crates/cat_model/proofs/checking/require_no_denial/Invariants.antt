@@ -1,6 +1,5 @@
 use Rattle.std.proofs.Common.{◌≡◌, map, take, false, All}
-use Rattle.cat_syntax.specs.Items.{is_bound}
-use Rattle.cat_syntax.specs.Tree.{bound_of}
+use Rattle.cat_tree.specs.Tree.{bound_of, is_bound}
 use Rattle.cat_model.proofs.checking.require_no_denial.Given as goal
 
 abbrev pub invariant-loop-name : goal.invariant-loop-name

@@ -1,5 +1,5 @@
 use Rattle.std.proofs.Common.{◌≡◌, map, drop}
-use Rattle.cat_syntax.specs.Tree.{bound_of}
+use Rattle.cat_tree.specs.Tree.{bound_of}
 use Rattle.cat_model.specs.Scopes.{recursive}
 use Rattle.cat_model.proofs.checking.with_relations.Given as goal
 

@@ -1,5 +1,5 @@
 use Rattle.std.proofs.Common.{map, subst}
-use Rattle.cat_syntax.specs.Tree.{clause_of}
+use Rattle.cat_tree.specs.Tree.{clause_of}
 use Rattle.cat_model.proofs.Ordered.{no-cause}
 use Rattle.cat_model.specs.Scopes.{IsModel}
 use Rattle.cat_model.proofs.resolving.resolve.Goals as goal

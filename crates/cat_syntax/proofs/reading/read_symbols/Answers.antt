@@ -1,6 +1,6 @@
 use Rattle.std.proofs.Common.{Ok, Err, subst, arith}
 use Rattle.cat_syntax.specs.Reading.{Gives, file_at}
-use Rattle.cat_syntax.specs.Tree.{File}
+use Rattle.cat_tree.specs.Tree.{File}
 use Rattle.cat_syntax.proofs.Whole.{found_of, only_of, small_of}
 use Rattle.cat_syntax.proofs.reading.read_symbols.Goals as goal
 

@@ -6,7 +6,7 @@ use Rattle.cat_model.specs.Models.{Assembly}
 use Rattle.cat_model.specs.Scopes.{IsModel}
 use Rattle.cat_model.specs.declared.fault.ModelFault.{ModelFault}
 use Rattle.cat_model.specs.declared.files.Entry.{Entry}
-use Rattle.cat_syntax.specs.Tree.{Word}
+use Rattle.cat_tree.specs.Tree.{Word}
 use Rattle.slices.specs.Works.{IsModelOf}
 use Rattle.one_test.proofs.main_file.model_of.Goals as goal
 

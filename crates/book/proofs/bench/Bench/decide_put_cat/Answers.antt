@@ -1,6 +1,6 @@
 use Rattle.std.proofs.Common.{◌≡◌, ℕ, List, subst}
 use Rattle.cat_syntax.specs.Reads.{Reads}
-use Rattle.cat_syntax.specs.Tree.{File}
+use Rattle.cat_tree.specs.Tree.{File}
 use Rattle.cat_syntax.specs.declared.fault.CatFault.TheVariants.{NoMemory}
 use Rattle.book.proofs.Steps.{cat_unread}
 use Rattle.book.proofs.bench.Bench.decide_put_cat.Goals as goal

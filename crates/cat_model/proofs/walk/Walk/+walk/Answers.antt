@@ -1,7 +1,7 @@
 use Rattle.std.proofs.Common.{◌≡◌, ◌<◌, ◌≤◌, ◌∙◌, ◌∷◌, [], ◌+◌, Some, true, false, sym, subst, refl, map, length, arith, rules, IsSome}
 use Rattle.std.proofs.lemmas.List.{length-map}
 use Rattle.std.proofs.lemmas.Result.{err_from_is_err_and, on_ok_weaker, IfErr-weaker}
-use Rattle.cat_syntax.specs.Tree.{include, clause_of}
+use Rattle.cat_tree.specs.Tree.{include, clause_of}
 use Rattle.cat_model.proofs.Listed.{told, on_path, at_map, long_map}
 use Rattle.cat_model.proofs.Whole.{own_item}
 use Rattle.cat_model.proofs.Walking.{cycle-here, deep-here, here-inside, fault_full, counts-some, place_include, fault_include, place_own, counts-own, places-none, fault_item, places_more, here_call, length_call, places_call, fault_call, short}

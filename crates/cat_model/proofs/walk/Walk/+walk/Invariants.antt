@@ -1,5 +1,5 @@
 use Rattle.std.proofs.Common.{◌*◌, ◌-◌, map, take, length}
-use Rattle.cat_syntax.specs.Tree.{clause_of}
+use Rattle.cat_tree.specs.Tree.{clause_of}
 use Rattle.cat_model.specs.Walks.{Places}
 use Rattle.cat_model.proofs.walk.Walk.+walk.Given as goal
 

@@ -1,6 +1,6 @@
 use Rattle.std.proofs.Common.{◌≡◌, ◌+◌, ◌*◌, ◌≤◌, length}
 use Rattle.descent.specs.Reading.{repeated}
-use Rattle.cat_syntax.specs.Tree.{term_of}
+use Rattle.cat_tree.specs.Tree.{term_of}
 use Rattle.cat_syntax.specs.Reading.{infix_at, postfix_at, applied_at, next_operand, left, postfix_with, level_with, below}
 use Rattle.cat_syntax.proofs.reading.Reader.+expressions.Given as goal
 

@@ -1,7 +1,7 @@
 use Rattle.std.proofs.Common.{◌≡◌, map, length}
 use Rattle.descent.specs.Reading.{repeated}
 use Rattle.cat_syntax.specs.declared.symbol.Terminal.TheVariants.{And}
-use Rattle.cat_syntax.specs.Tree.{bound_of}
+use Rattle.cat_tree.specs.Tree.{bound_of}
 use Rattle.cat_syntax.specs.Reading.{after, push_item, separated, binding_at}
 use Rattle.cat_syntax.proofs.reading.Reader.bindings.Given as goal
 

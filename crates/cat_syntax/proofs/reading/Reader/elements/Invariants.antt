@@ -1,7 +1,7 @@
 use Rattle.std.proofs.Common.{◌≡◌, map, length}
 use Rattle.descent.specs.Reading.{repeated}
 use Rattle.cat_syntax.specs.declared.symbol.Terminal.TheVariants.{Comma}
-use Rattle.cat_syntax.specs.Tree.{shown_of}
+use Rattle.cat_tree.specs.Tree.{shown_of}
 use Rattle.cat_syntax.specs.Reading.{after, push_item, separated, element_at}
 use Rattle.cat_syntax.proofs.reading.Reader.elements.Given as goal
 

@@ -1,6 +1,6 @@
 use Rattle.std.proofs.Common.{◌≡◌, map, length}
 use Rattle.descent.specs.Reading.{repeated}
-use Rattle.cat_syntax.specs.Tree.{clause_of}
+use Rattle.cat_tree.specs.Tree.{clause_of}
 use Rattle.cat_syntax.specs.Reading.{push_item, item_at, items_at, unless_end}
 use Rattle.cat_syntax.proofs.reading.Reader.items.Given as goal
 

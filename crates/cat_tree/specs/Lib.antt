@@ -1,0 +1,4 @@
+pub mod Codes
+pub mod Equality
+pub mod Exact
+pub mod Tree

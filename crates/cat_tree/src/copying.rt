@@ -1,0 +1,154 @@
+//! Second values that are equal. What a copy owns comes from the allocators that its first has.
+
+ghost use Rattle.std.specs.Prelude.{◌≡◌, IfOk, map};
+ghost use Rattle.cat_tree.specs.Tree.{term_of, bound_of, shown_of, check_of, clause_of};
+
+use crate::tree::{Binding, Check, Element, Expression, Item};
+use std::alloc::AllocError;
+use wb_text::Name;
+
+impl Expression {
+    /// A second expression that is equal. Each box is made where its first lies.
+    #[cycle(copying)]
+    pub fn copy(&self) -> Result<Expression, AllocError>
+        ensures { IfOk result (λ e. term_of e ≡ term_of self.now) }
+    {
+        match self {
+            Expression::Union(a, b) => Ok(Expression::Union(boxed_copy(a)?, boxed_copy(b)?)),
+            Expression::Sequence(a, b) => Ok(Expression::Sequence(boxed_copy(a)?, boxed_copy(b)?)),
+            Expression::Difference(a, b) => {
+                Ok(Expression::Difference(boxed_copy(a)?, boxed_copy(b)?))
+            }
+            Expression::Intersection(a, b) => {
+                Ok(Expression::Intersection(boxed_copy(a)?, boxed_copy(b)?))
+            }
+            Expression::Product(a, b) => Ok(Expression::Product(boxed_copy(a)?, boxed_copy(b)?)),
+            Expression::Complement(a) => Ok(Expression::Complement(boxed_copy(a)?)),
+            Expression::Plus(a) => Ok(Expression::Plus(boxed_copy(a)?)),
+            Expression::Star(a) => Ok(Expression::Star(boxed_copy(a)?)),
+            Expression::Optional(a) => Ok(Expression::Optional(boxed_copy(a)?)),
+            Expression::Inverse(a) => Ok(Expression::Inverse(boxed_copy(a)?)),
+            Expression::Domain(a) => Ok(Expression::Domain(boxed_copy(a)?)),
+            Expression::Range(a) => Ok(Expression::Range(boxed_copy(a)?)),
+            Expression::Identity(a) => Ok(Expression::Identity(boxed_copy(a)?)),
+            Expression::Name(name) => Ok(Expression::Name(name.copy()?)),
+            Expression::EmptyRelation => Ok(Expression::EmptyRelation),
+            Expression::EmptySet => Ok(Expression::EmptySet),
+            Expression::Universe => Ok(Expression::Universe),
+        }
+    }
+}
+
+/// A box of an equal expression, from the same allocator. It isn't inlined, which keeps the stack that a long chain of
+/// operators takes small.
+#[cycle(copying)]
+#[inline(never)]
+fn boxed_copy(first: &Box<Expression>) -> Result<Box<Expression>, AllocError>
+    ensures { IfOk result (λ b. term_of b.value ≡ term_of first.now.value) }
+{
+    Ok(Box::new(*Box::allocator(first), first.copy()?)?)
+}
+
+fn alias_copy(first: &Option<Name>) -> Result<Option<Name>, AllocError>
+    ensures { IfOk result (λ n. n ≡ first.now) }
+{
+    match first {
+        Some(name) => Ok(Some(name.copy()?)),
+        None => Ok(None),
+    }
+}
+
+impl Binding {
+    /// A second binding that is equal.
+    pub fn copy(&self) -> Result<Binding, AllocError>
+        ensures { IfOk result (λ b. bound_of b ≡ bound_of self.now) }
+    {
+        Ok(Binding {
+            name: self.name.copy()?,
+            value: self.value.copy()?,
+        })
+    }
+}
+
+impl Check {
+    /// A second check that is equal.
+    pub fn copy(&self) -> Result<Check, AllocError>
+        ensures { IfOk result (λ c. check_of c ≡ check_of self.now) }
+    {
+        Ok(Check {
+            flag: self.flag,
+            negated: self.negated,
+            kind: self.kind,
+            expression: self.expression.copy()?,
+            name: alias_copy(&self.name)?,
+        })
+    }
+}
+
+impl Element {
+    /// A second element that is equal.
+    pub fn copy(&self) -> Result<Element, AllocError>
+        ensures { IfOk result (λ e. shown_of e ≡ shown_of self.now) }
+    {
+        Ok(Element {
+            expression: self.expression.copy()?,
+            name: alias_copy(&self.name)?,
+        })
+    }
+}
+
+fn bindings_copy(first: &Vec<Binding>) -> Result<Vec<Binding>, AllocError>
+    ensures { IfOk result (λ v. map bound_of v.items ≡ map bound_of first.now.items) }
+{
+    let mut copies = Vec::new(*first.allocator());
+    for binding in first {
+        copies.push(binding.copy()?)?;
+    }
+    Ok(copies)
+}
+
+fn elements_copy(first: &Vec<Element>) -> Result<Vec<Element>, AllocError>
+    ensures { IfOk result (λ v. map shown_of v.items ≡ map shown_of first.now.items) }
+{
+    let mut copies = Vec::new(*first.allocator());
+    for element in first {
+        copies.push(element.copy()?)?;
+    }
+    Ok(copies)
+}
+
+fn names_copy(first: &Vec<Name>) -> Result<Vec<Name>, AllocError>
+    ensures { IfOk result (λ v. v.items ≡ first.now.items) }
+{
+    let mut copies = Vec::new(*first.allocator());
+    for name in first {
+        copies.push(name.copy()?)?;
+    }
+    Ok(copies)
+}
+
+impl Item {
+    /// A second item that is equal.
+    pub fn copy(&self) -> Result<Item, AllocError>
+        ensures { IfOk result (λ i. clause_of i ≡ clause_of self.now) }
+    {
+        match self {
+            Item::Let(bindings) => Ok(Item::Let(bindings_copy(bindings)?)),
+            Item::LetRec(bindings) => Ok(Item::LetRec(bindings_copy(bindings)?)),
+            Item::Check(check) => Ok(Item::Check(check.copy()?)),
+            Item::Include(name) => Ok(Item::Include(name.copy()?)),
+            Item::Show(elements) => Ok(Item::Show(elements_copy(elements)?)),
+            Item::Unshow(names) => Ok(Item::Unshow(names_copy(names)?)),
+        }
+    }
+}
+
+pub fn items_copy(first: &Vec<Item>) -> Result<Vec<Item>, AllocError>
+    ensures { IfOk result (λ v. map clause_of v.items ≡ map clause_of first.now.items) }
+{
+    let mut copies = Vec::new(*first.allocator());
+    for item in first {
+        copies.push(item.copy()?)?;
+    }
+    Ok(copies)
+}

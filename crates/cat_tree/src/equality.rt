@@ -1,0 +1,160 @@
+//! Equality: true exactly of equal trees.
+
+use crate::tree::{Binding, Check, Element, Expression, Item};
+
+impl PartialEq for Expression {
+    ghost use Rattle.std.specs.Prelude.{◌≡◌, ◌↔◌, IsTrue};
+    ghost use Rattle.std.specs.Cmp.{partial_equiv_from_equiv};
+    ghost use Rattle.cat_tree.specs.Tree.{term_of};
+    ghost use Rattle.cat_tree.specs.Equality.{same_term};
+    ghost use Rattle.cat_tree.specs.Exact.{expression_equivalence};
+
+    ghost eq = { λ a b. same_term (term_of a) (term_of b) };
+
+    ghost laws = { partial_equiv_from_equiv expression_equivalence };
+
+    fn eq(&self, other: &Expression) -> bool
+        ensures value { result ≡ same_term (term_of self.now) (term_of other.now) }
+        ensures exact { IsTrue result ↔ (term_of self.now ≡ term_of other.now) }
+    {
+        match (self, other) {
+            (Expression::Union(a, b), Expression::Union(c, d))
+            | (Expression::Sequence(a, b), Expression::Sequence(c, d))
+            | (Expression::Difference(a, b), Expression::Difference(c, d))
+            | (Expression::Intersection(a, b), Expression::Intersection(c, d))
+            | (Expression::Product(a, b), Expression::Product(c, d)) => { **a == **c && **b == **d }
+            (Expression::Complement(a), Expression::Complement(b))
+            | (Expression::Plus(a), Expression::Plus(b))
+            | (Expression::Star(a), Expression::Star(b))
+            | (Expression::Optional(a), Expression::Optional(b))
+            | (Expression::Inverse(a), Expression::Inverse(b))
+            | (Expression::Domain(a), Expression::Domain(b))
+            | (Expression::Range(a), Expression::Range(b))
+            | (Expression::Identity(a), Expression::Identity(b)) => **a == **b,
+            (Expression::Name(a), Expression::Name(b)) => a == b,
+            (Expression::EmptyRelation, Expression::EmptyRelation)
+            | (Expression::EmptySet, Expression::EmptySet)
+            | (Expression::Universe, Expression::Universe) => true,
+            _ => false,
+        }
+    }
+}
+
+impl Eq for Expression {
+    ghost use Rattle.cat_tree.specs.Exact.{expression_equivalence};
+
+    ghost laws = { expression_equivalence };
+}
+
+impl PartialEq for Binding {
+    ghost use Rattle.std.specs.Prelude.{◌≡◌, ◌↔◌, IsTrue};
+    ghost use Rattle.std.specs.Cmp.{partial_equiv_from_equiv};
+    ghost use Rattle.cat_tree.specs.Tree.{bound_of};
+    ghost use Rattle.cat_tree.specs.Equality.{same_bound};
+    ghost use Rattle.cat_tree.specs.Exact.{binding_equivalence};
+
+    ghost eq = { λ a b. same_bound (bound_of a) (bound_of b) };
+
+    ghost laws = { partial_equiv_from_equiv binding_equivalence };
+
+    fn eq(&self, other: &Binding) -> bool
+        ensures value { result ≡ same_bound (bound_of self.now) (bound_of other.now) }
+        ensures exact { IsTrue result ↔ (bound_of self.now ≡ bound_of other.now) }
+    {
+        self.name == other.name && self.value == other.value
+    }
+}
+
+impl Eq for Binding {
+    ghost use Rattle.cat_tree.specs.Exact.{binding_equivalence};
+
+    ghost laws = { binding_equivalence };
+}
+
+impl PartialEq for Check {
+    ghost use Rattle.std.specs.Prelude.{◌≡◌, ◌↔◌, IsTrue};
+    ghost use Rattle.std.specs.Cmp.{partial_equiv_from_equiv};
+    ghost use Rattle.cat_tree.specs.Tree.{check_of};
+    ghost use Rattle.cat_tree.specs.Equality.{same_clause};
+    ghost use Rattle.cat_tree.specs.Exact.{check_equivalence};
+
+    ghost eq = { λ a b. same_clause (check_of a) (check_of b) };
+
+    ghost laws = { partial_equiv_from_equiv check_equivalence };
+
+    fn eq(&self, other: &Check) -> bool
+        ensures value { result ≡ same_clause (check_of self.now) (check_of other.now) }
+        ensures exact { IsTrue result ↔ (check_of self.now ≡ check_of other.now) }
+    {
+        self.flag == other.flag
+            && self.negated == other.negated
+            && self.kind == other.kind
+            && self.expression == other.expression
+            && self.name == other.name
+    }
+}
+
+impl Eq for Check {
+    ghost use Rattle.cat_tree.specs.Exact.{check_equivalence};
+
+    ghost laws = { check_equivalence };
+}
+
+impl PartialEq for Element {
+    ghost use Rattle.std.specs.Prelude.{◌≡◌, ◌↔◌, IsTrue};
+    ghost use Rattle.std.specs.Cmp.{partial_equiv_from_equiv};
+    ghost use Rattle.cat_tree.specs.Tree.{shown_of};
+    ghost use Rattle.cat_tree.specs.Equality.{same_shown};
+    ghost use Rattle.cat_tree.specs.Exact.{element_equivalence};
+
+    ghost eq = { λ a b. same_shown (shown_of a) (shown_of b) };
+
+    ghost laws = { partial_equiv_from_equiv element_equivalence };
+
+    fn eq(&self, other: &Element) -> bool
+        ensures value { result ≡ same_shown (shown_of self.now) (shown_of other.now) }
+        ensures exact { IsTrue result ↔ (shown_of self.now ≡ shown_of other.now) }
+    {
+        self.expression == other.expression && self.name == other.name
+    }
+}
+
+impl Eq for Element {
+    ghost use Rattle.cat_tree.specs.Exact.{element_equivalence};
+
+    ghost laws = { element_equivalence };
+}
+
+impl PartialEq for Item {
+    ghost use Rattle.std.specs.Prelude.{◌≡◌, ◌↔◌, IsTrue};
+    ghost use Rattle.std.specs.Cmp.{partial_equiv_from_equiv};
+    ghost use Rattle.cat_tree.specs.Tree.{clause_of};
+    ghost use Rattle.cat_tree.specs.Equality.{same_clause};
+    ghost use Rattle.cat_tree.specs.Exact.{item_equivalence};
+
+    ghost eq = { λ a b. same_clause (clause_of a) (clause_of b) };
+
+    ghost laws = { partial_equiv_from_equiv item_equivalence };
+
+    #[tactic(auto, using(crate::proofs::Equal::bounds_told, crate::proofs::Equal::shown_told))]
+    fn eq(&self, other: &Item) -> bool
+        ensures value { result ≡ same_clause (clause_of self.now) (clause_of other.now) }
+        ensures exact { IsTrue result ↔ (clause_of self.now ≡ clause_of other.now) }
+    {
+        match (self, other) {
+            (Item::Let(a), Item::Let(b)) => a == b,
+            (Item::LetRec(a), Item::LetRec(b)) => a == b,
+            (Item::Check(a), Item::Check(b)) => a == b,
+            (Item::Include(a), Item::Include(b)) => a == b,
+            (Item::Show(a), Item::Show(b)) => a == b,
+            (Item::Unshow(a), Item::Unshow(b)) => a == b,
+            _ => false,
+        }
+    }
+}
+
+impl Eq for Item {
+    ghost use Rattle.cat_tree.specs.Exact.{item_equivalence};
+
+    ghost laws = { item_equivalence };
+}

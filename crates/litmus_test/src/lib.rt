@@ -1,0 +1,8 @@
+//! Litmus tests within their limits, and their values.
+#![tactic(auto)]
+
+mod test;
+mod values;
+
+pub use test::Test;
+pub use values::{ValuesFault, values_among};
