@@ -5,7 +5,7 @@ use Rattle.book.specs.declared.bench.Change.TheVariants.{Keep, PutCat, PutTest, 
 use Rattle.book.specs.declared.limits.Limits.{Limits}
 use Rattle.book.specs.Changes.{changed, IsReady}
 use Rattle.book.specs.Kept.{IsKept}
-use Rattle.book.specs.Lines.{Line}
+use Rattle.journal.specs.Lines.{Line}
 use Rattle.book.specs.Step.{Step, LeadsFrom}
 use Rattle.book.specs.Workbench.{Workbench, empty}
 

@@ -5,9 +5,9 @@ use Rattle.book.specs.Jobs.{Slice, mark}
 use Rattle.book.specs.Step.{Step, Legal}
 use Rattle.book.specs.Workbench.{empty}
 use Rattle.book.specs.declared.limits.Limits.{Limits}
-use Rattle.book.specs.declared.records.Refusal.TheVariants.{NoJob, NoTest}
-use Rattle.book.specs.declared.records.Reply.TheVariants.{Nothing, Refused}
-use Rattle.book.specs.declared.records.Said.TheVariants.{Ask, Poll, Claim}
+use Rattle.journal.specs.declared.records.Refusal.TheVariants.{NoJob, NoTest}
+use Rattle.journal.specs.declared.records.Reply.TheVariants.{Nothing, Refused}
+use Rattle.journal.specs.declared.records.Said.TheVariants.{Ask, Poll, Claim}
 
 abbrev pub limits : Limits
 limits = record { journal = 2; versions = 1; claims = 1 }

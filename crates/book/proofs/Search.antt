@@ -8,8 +8,8 @@ use Rattle.listings.specs.Lists.{IsIn}
 use Rattle.cat_model.specs.Files.{version_of}
 use Rattle.cat_model.specs.declared.files.Entry.{Entry}
 use Rattle.cat_model.specs.declared.model.FileVersion.{FileVersion}
-use Rattle.book.specs.declared.records.Replacement.{Replacement}
-use Rattle.book.specs.declared.records.SourceKind.TheVariants.{Cat}
+use Rattle.journal.specs.declared.records.Replacement.{Replacement}
+use Rattle.journal.specs.declared.records.SourceKind.TheVariants.{Cat}
 use Rattle.book.specs.Jobs.{Job, marked}
 use Rattle.book.specs.Workbench.{job_of, marked_in, replaced_file}
 

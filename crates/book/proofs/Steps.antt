@@ -23,20 +23,20 @@ use Rattle.book.specs.Changes.{FitsJob}
 use Rattle.book.specs.Jobs as jobs
 use Rattle.book.specs.Jobs.{Slice, done, is_done, marked}
 use Rattle.slices.specs.Judgements.{Judged}
-use Rattle.book.specs.Lines.{returned}
+use Rattle.journal.specs.Lines.{returned}
 use Rattle.slices.specs.Parts.{IsAdmitted, test_size, Part, Portion}
 use Rattle.book.specs.Step.{Step, Asks, Polls, Returns, ReturnsTo, HasRange, IsOwn, ended, taken}
 use Rattle.slices.specs.Works.{IsModelOf}
 use Rattle.slices.specs.Verdicts.{IsVerdict}
 use Rattle.book.specs.Workbench.{Workbench, test_of, test_version, job_of, claim_of, replaced, is_free, free_among, has_free}
 use Rattle.slices.specs.Works.{Task}
-use Rattle.book.specs.declared.records.Live.{Live}
-use Rattle.book.specs.declared.records.Replacement.{Replacement}
-use Rattle.book.specs.declared.records.Refusal.TheVariants.{ReadingTest, ReadingCat, VersionsSpent, NoTest, Model, Space, JobsFull, NoJob, NoClaim, Replaced, Stranger, ClaimsSpent}
-use Rattle.book.specs.declared.records.Reply.{Reply}
-use Rattle.book.specs.declared.records.Reply.TheVariants.{Version, Job, Pending, Verdict, Piece, Nothing, Taken, Refused}
-use Rattle.book.specs.declared.records.Returned.{Returned}
-use Rattle.book.specs.declared.records.Said.TheVariants.{PutCat, PutTest, Ask, Poll, Claim, Return}
+use Rattle.book.specs.declared.live.Live.{Live}
+use Rattle.journal.specs.declared.records.Replacement.{Replacement}
+use Rattle.journal.specs.declared.records.Refusal.TheVariants.{ReadingTest, ReadingCat, VersionsSpent, NoTest, Model, Space, JobsFull, NoJob, NoClaim, Replaced, Stranger, ClaimsSpent}
+use Rattle.journal.specs.declared.records.Reply.{Reply}
+use Rattle.journal.specs.declared.records.Reply.TheVariants.{Version, Job, Pending, Verdict, Piece, Nothing, Taken, Refused}
+use Rattle.journal.specs.declared.records.Returned.{Returned}
+use Rattle.journal.specs.declared.records.Said.TheVariants.{PutCat, PutTest, Ask, Poll, Claim, Return}
 use Rattle.book.proofs.Cuts.{whole_cut}
 use Rattle.book.proofs.Search.{find_is, find_none, any_is}
 

@@ -7,15 +7,15 @@ use Rattle.litmus_tree.specs.Tree.{Word}
 use Rattle.book.specs.JobCodes.{coded_job}
 use Rattle.book.specs.Jobs.{Job}
 use Rattle.book.specs.Kept.{Kept}
-use Rattle.book.specs.LineCodes.{coded_line}
-use Rattle.book.specs.Lines.{Line}
+use Rattle.journal.specs.LineCodes.{coded_line}
+use Rattle.journal.specs.Lines.{Line}
 use Rattle.book.specs.Workbench.{Workbench}
 use Rattle.book.specs.contracts.limits.Limits.{the_row as limits_row}
 use Rattle.book.specs.NameCodes.{coded_tests}
-use Rattle.book.specs.contracts.records.Live.{the_row as live_row}
+use Rattle.book.specs.contracts.live.Live.{the_row as live_row}
 use Rattle.book.specs.declared.limits.Limits.{Limits}
 use Rattle.book.specs.declared.names.TestSlot.{TestSlot}
-use Rattle.book.specs.declared.records.Live.{Live}
+use Rattle.book.specs.declared.live.Live.{Live}
 
 abbrev pub coded_workbench : Coded Workbench
 coded_workbench =

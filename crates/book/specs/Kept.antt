@@ -2,7 +2,7 @@
 use Rattle.std.specs.Prelude.{◌≡◌, ◌≤◌, List, map, length}
 use Rattle.std.specs.Arc.{arc_value}
 use Rattle.std.specs.declared.sync.Arc.{Arc}
-use Rattle.book.specs.Lines.{Line}
+use Rattle.journal.specs.Lines.{Line}
 use Rattle.book.specs.Step.{Leads}
 use Rattle.book.specs.Workbench.{Workbench}
 use Rattle.book.specs.declared.limits.Limits.{Limits}

@@ -1,11 +1,8 @@
 pub mod BenchCodes
 pub mod Changes
-pub mod EntryCodes
 pub mod JobCodes
 pub mod Jobs
 pub mod Kept
-pub mod LineCodes
-pub mod Lines
 pub mod NameCodes
 pub mod Step
 pub mod Workbench

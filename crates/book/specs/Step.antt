@@ -16,7 +16,7 @@ use Rattle.litmus_tree.specs.Tree.{Word, Litmus}
 use Rattle.litmus_c.specs.declared.fault.TestFault.TheVariants as of_test
 use Rattle.candidates.specs.Faults.{IsSpaceFault}
 use Rattle.candidates.specs.declared.fault.SpaceFault.TheVariants as of_space
-use Rattle.book.specs.Lines.{Line}
+use Rattle.journal.specs.Lines.{Line}
 use Rattle.slices.specs.Parts.{IsAdmitted, test_size}
 use Rattle.slices.specs.Verdicts.{IsVerdict}
 use Rattle.slices.specs.Works.{IsModelOf}
@@ -24,13 +24,13 @@ use Rattle.book.specs.Jobs as jobs
 use Rattle.book.specs.Jobs.{Slice, done, is_done}
 use Rattle.book.specs.Workbench.{Workbench, empty, test_version, test_of, job_of, claim_of, is_claim, replaced, is_free, any_free, marked_in}
 use Rattle.book.specs.declared.limits.Limits.{Limits}
-use Rattle.book.specs.declared.records.Live.{Live}
-use Rattle.book.specs.declared.records.Returned.{Returned}
-use Rattle.book.specs.declared.records.Said.{Said}
-use Rattle.book.specs.declared.records.Said.TheVariants.{PutCat, PutTest, Ask, Poll, Claim, Return}
-use Rattle.book.specs.declared.records.Refusal.TheVariants.{Closed, ReadingTest, ReadingCat, NoTest, Model, Space, JobsFull, NoJob, NoClaim, Replaced, Stranger, VersionsSpent, ClaimsSpent}
-use Rattle.book.specs.declared.records.Reply.{Reply}
-use Rattle.book.specs.declared.records.Reply.TheVariants.{Version, Job, Pending, Verdict, Piece, Nothing, Taken, Refused}
+use Rattle.book.specs.declared.live.Live.{Live}
+use Rattle.journal.specs.declared.records.Returned.{Returned}
+use Rattle.journal.specs.declared.records.Said.{Said}
+use Rattle.journal.specs.declared.records.Said.TheVariants.{PutCat, PutTest, Ask, Poll, Claim, Return}
+use Rattle.journal.specs.declared.records.Refusal.TheVariants.{Closed, ReadingTest, ReadingCat, NoTest, Model, Space, JobsFull, NoJob, NoClaim, Replaced, Stranger, VersionsSpent, ClaimsSpent}
+use Rattle.journal.specs.declared.records.Reply.{Reply}
+use Rattle.journal.specs.declared.records.Reply.TheVariants.{Version, Job, Pending, Verdict, Piece, Nothing, Taken, Refused}
 
 -- A put of a cat file stores the tree of its text at the next version.
 abbrev pub PutsCat : Workbench → Word → List ℕ → Reply → Workbench → Type 0

@@ -11,9 +11,9 @@ use Rattle.litmus_tree.specs.Tree.{Word, Litmus}
 use Rattle.book.specs.Jobs.{Job, Slice, marked}
 use Rattle.book.specs.declared.limits.Limits.{Limits}
 use Rattle.book.specs.declared.names.TestSlot.{TestSlot}
-use Rattle.book.specs.declared.records.Live.{Live}
-use Rattle.book.specs.declared.records.Replacement.{Replacement}
-use Rattle.book.specs.declared.records.SourceKind.TheVariants.{Test, Cat}
+use Rattle.book.specs.declared.live.Live.{Live}
+use Rattle.journal.specs.declared.records.Replacement.{Replacement}
+use Rattle.journal.specs.declared.records.SourceKind.TheVariants.{Test, Cat}
 
 -- Tests and cat files stand by name, in first-loaded order, each with its version and its tree or nothing. The built-in
 -- cat files are there beside them, each at version 0.

@@ -4,21 +4,22 @@ ghost use Rattle.std.specs.Prelude.{◌≡◌, ◌↔◌, ◌<◌, ◌+◌, ◌^
 ghost use Rattle.std.specs.List.{find};
 ghost use Rattle.book.specs.Changes.{changed, IsReady, FitsJob};
 ghost use Rattle.book.specs.Jobs.{HasOneSlice};
-ghost use Rattle.book.specs.Lines.{answers, seen, returned, shown};
+ghost use Rattle.journal.specs.Lines.{answers, seen, returned, shown};
 ghost use Rattle.cat_model.specs.Files.{version_of, store};
 ghost use Rattle.book.specs.Step.{Step, others, IsOwn};
 ghost use Rattle.slices.specs.Works.{IsModelOf};
-ghost use Rattle.book.specs.declared.records.Said.{Said};
+ghost use Rattle.journal.specs.declared.records.Said.{Said};
 ghost use Rattle.book.specs.Workbench.{empty, test_of, job_of, claim_of, is_claim, is_claimed, is_replaced, replaced, replaced_file, has_free, marked_in};
 
 use crate::jobs::Job;
 use crate::limits::Limits;
+use crate::live::Live;
 use crate::names::{TestSlot, Tests};
 use crate::reading::{is_cat_memory, is_memory, is_model_memory, model_of, read_file, read_litmus};
-use crate::records::{Command, Live, Refusal, Replacement, Reply, SourceKind, Text};
 use candidates::SpaceFault;
 use cat_model::{FileVersion, Files, Model};
 use cat_syntax::CatFile;
+use journal::{Command, Refusal, Replacement, Reply, SourceKind, Text};
 use slices::{Piece, PieceResult, TestRef, VerdictRef, Work, WorkRef};
 use std::alloc::{AllocError, Global};
 use wb_text::Name;

@@ -3,13 +3,13 @@
 ghost use Rattle.std.specs.Prelude.{◌≡◌, ◌<◌, ◌≤◌, ◌+◌, ◌^◌, ◌∷◌, ◌++◌, [], length, IfOk, IfErr, OnOk, OnErr};
 ghost use Rattle.std.specs.Arc.{arc_value};
 ghost use Rattle.book.specs.Kept.{lines, IsKept};
-ghost use Rattle.book.specs.Lines.{seen};
+ghost use Rattle.journal.specs.Lines.{seen};
 ghost use Rattle.book.specs.Step.{Legal, Step};
 ghost use Rattle.book.specs.Workbench.{empty};
 
 use crate::bench::{Bench, Plan};
 use crate::limits::Limits;
-use crate::records::{Command, Entry};
+use journal::{Command, Entry};
 use std::alloc::{AllocError, Global};
 use std::marker::Model;
 use std::sync::Arc;

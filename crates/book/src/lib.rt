@@ -2,19 +2,19 @@
 #![tactic(auto)]
 
 mod bench;
-mod equality;
 mod jobs;
 mod kept;
 mod limits;
+mod live;
 mod names;
 mod reading;
-mod records;
 
 pub use bench::{Bench, Change, Plan};
 pub use jobs::Job;
+pub use journal::{
+    Command, Entry, Refusal, Replacement, Reply, Returned, Said, SourceKind, Text,
+};
 pub use kept::{Book, Refused};
 pub use limits::Limits;
+pub use live::Live;
 pub use names::{TestSlot, Tests};
-pub use records::{
-    Command, Entry, Live, Refusal, Replacement, Reply, Returned, Said, SourceKind, Text,
-};

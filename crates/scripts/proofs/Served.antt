@@ -6,14 +6,14 @@ use Rattle.std.specs.List.{flat_map}
 use Rattle.std.proofs.KnownBytes.{Appends-trans, Appends-nil}
 use Rattle.std.proofs.lemmas.Grind.{flat_map-append}
 use Rattle.wb_text.specs.Memory.{AppendsFront}
-use Rattle.book.specs.Lines.{Line}
+use Rattle.journal.specs.Lines.{Line}
 use Rattle.book.specs.Step.{Legal}
 use Rattle.book.specs.Workbench.{empty}
 use Rattle.book.specs.declared.limits.Limits.{Limits}
 use Rattle.report.proofs.Written.{front_of}
 use Rattle.scripts.specs.Serving.{Call, answer_text, entry_of, calls_text, entries_of, finish_text, bad_line_text, Closes, Tells, IsServed}
-use Rattle.scripts.specs.declared.fault.ServeFault.{ServeFault}
-use Rattle.scripts.specs.declared.fault.ServeFault.TheVariants as faults
+use Rattle.orders.specs.declared.fault.ServeFault.{ServeFault}
+use Rattle.orders.specs.declared.fault.ServeFault.TheVariants as faults
 
 flat_map-last : {X Y : Type 0} (f : X → List Y) (xs : List X) (x : X) → flat_map f (xs ++ x ∷ []) ≡ flat_map f xs ++ f x
 flat_map-last f xs x = flat_map-append f xs (x ∷ []) ∙ ap (λ l. flat_map f xs ++ l) (append-nil (f x))

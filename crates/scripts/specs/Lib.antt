@@ -1,6 +1,4 @@
-pub mod Lines
 pub mod Orders
 pub mod Refusals
 pub mod Replies
 pub mod Serving
-pub mod Spelled

@@ -1,14 +1,14 @@
 -- The orders of a script, and what answers them.
 use Rattle.std.specs.Prelude.{◌≡◌}
-use Rattle.book.specs.Lines.{Line}
-use Rattle.book.specs.declared.records.Returned.{Returned}
-use Rattle.book.specs.declared.records.Said.{Said}
-use Rattle.book.specs.declared.records.Said.TheVariants as said_of
+use Rattle.journal.specs.Lines.{Line}
+use Rattle.journal.specs.declared.records.Returned.{Returned}
+use Rattle.journal.specs.declared.records.Said.{Said}
+use Rattle.journal.specs.declared.records.Said.TheVariants as said_of
 use Rattle.scripts.specs.declared.answer.Answer.{Answer}
 use Rattle.scripts.specs.declared.answer.Answer.TheVariants.{Made, NotTaken}
-use Rattle.scripts.specs.declared.order.Order.{Order}
-use Rattle.scripts.specs.declared.order.Request.{Request}
-use Rattle.scripts.specs.declared.order.Request.TheVariants.{PutCat, PutTest, Ask, Poll, Claim, Return}
+use Rattle.orders.specs.declared.order.Order.{Order}
+use Rattle.orders.specs.declared.order.Request.{Request}
+use Rattle.orders.specs.declared.order.Request.TheVariants.{PutCat, PutTest, Ask, Poll, Claim, Return}
 
 -- The command that a request makes. Which result is returned of a piece is left open.
 abbrev pub Asks : Request → Said → Type 0

@@ -12,11 +12,11 @@ use Rattle.cat_syntax.specs.declared.fault.CatFault.{CatFault}
 use Rattle.cat_syntax.specs.declared.fault.CatFault.TheVariants as of_cat
 use Rattle.cat_model.specs.declared.fault.ModelFault.{ModelFault}
 use Rattle.cat_model.specs.declared.fault.ModelFault.TheVariants as of_model
-use Rattle.book.specs.declared.records.Replacement.{Replacement}
-use Rattle.book.specs.declared.records.SourceKind.{SourceKind}
-use Rattle.book.specs.declared.records.SourceKind.TheVariants as kinds
-use Rattle.book.specs.declared.records.Refusal.{Refusal}
-use Rattle.book.specs.declared.records.Refusal.TheVariants.{Closed, ReadingTest, ReadingCat, NoTest, Model, Space, JobsFull, NoJob, NoClaim, Replaced, Stranger, VersionsSpent, ClaimsSpent}
+use Rattle.journal.specs.declared.records.Replacement.{Replacement}
+use Rattle.journal.specs.declared.records.SourceKind.{SourceKind}
+use Rattle.journal.specs.declared.records.SourceKind.TheVariants as kinds
+use Rattle.journal.specs.declared.records.Refusal.{Refusal}
+use Rattle.journal.specs.declared.records.Refusal.TheVariants.{Closed, ReadingTest, ReadingCat, NoTest, Model, Space, JobsFull, NoJob, NoClaim, Replaced, Stranger, VersionsSpent, ClaimsSpent}
 
 abbrev pub text_fault_text : TextFault → List ℕ
 text_fault_text of_text.NotAscii = codes "1 NotAscii"

@@ -6,8 +6,8 @@ use Rattle.litmus_tree.specs.Tree.{Word}
 use Rattle.slices.specs.Judgements.{Judged}
 use Rattle.slices.specs.Parts.{Portion}
 use Rattle.report.specs.Texts as summaries
-use Rattle.book.specs.declared.records.Reply.{Reply}
-use Rattle.book.specs.declared.records.Reply.TheVariants.{Version, Job, Pending, Verdict, Piece, Nothing, Taken, Refused}
+use Rattle.journal.specs.declared.records.Reply.{Reply}
+use Rattle.journal.specs.declared.records.Reply.TheVariants.{Version, Job, Pending, Verdict, Piece, Nothing, Taken, Refused}
 use Rattle.scripts.specs.Refusals.{refusal_text}
 
 abbrev pub version_text : Word → ℕ → List ℕ

@@ -3,7 +3,7 @@ use Rattle.std.specs.Prelude.{◌≡◌, ℕ, List, [], ◌∷◌, ◌++◌, len
 use Rattle.std.specs.Io.KnownBytes.{Appends}
 use Rattle.std.specs.List.{flat_map}
 use Rattle.wb_text.specs.Memory.{AppendsFront}
-use Rattle.book.specs.Lines.{Line}
+use Rattle.journal.specs.Lines.{Line}
 use Rattle.book.specs.Step.{Legal}
 use Rattle.book.specs.declared.kept.Refused.{Refused}
 use Rattle.book.specs.declared.kept.Refused.TheVariants.{JournalFull, NoMemory}
@@ -12,9 +12,9 @@ use Rattle.scripts.specs.Orders.{Answers}
 use Rattle.scripts.specs.Replies.{reply_text}
 use Rattle.scripts.specs.declared.answer.Answer.{Answer}
 use Rattle.scripts.specs.declared.answer.Answer.TheVariants.{Made, NotTaken}
-use Rattle.scripts.specs.declared.order.Order.{Order}
-use Rattle.scripts.specs.declared.fault.ServeFault.{ServeFault}
-use Rattle.scripts.specs.declared.fault.ServeFault.TheVariants as faults
+use Rattle.orders.specs.declared.order.Order.{Order}
+use Rattle.orders.specs.declared.fault.ServeFault.{ServeFault}
+use Rattle.orders.specs.declared.fault.ServeFault.TheVariants as faults
 
 abbrev pub not_taken_text : Refused → List ℕ
 not_taken_text JournalFull = codes "not taken JournalFull\n"

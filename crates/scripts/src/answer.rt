@@ -15,8 +15,8 @@ pub struct EntryRef {
 
 impl Model for EntryRef {
     ghost use Rattle.std.specs.Arc.{arc_value};
-    ghost use Rattle.book.specs.Lines.{Line};
-    ghost use Rattle.book.specs.LineCodes.{coded_line};
+    ghost use Rattle.journal.specs.Lines.{Line};
+    ghost use Rattle.journal.specs.LineCodes.{coded_line};
 
     ghost Value = { Line };
 

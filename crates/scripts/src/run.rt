@@ -3,12 +3,10 @@
 ghost use Rattle.std.specs.Prelude.{◌≡◌, ◌++◌, List, true, Err};
 ghost use Rattle.scripts.specs.Serving.{Call, IsServed, Tells, entries_of, calls_text};
 
-use crate::fault::ServeFault;
-use crate::lines::MOST_LINES;
 use crate::options::Options;
 use crate::print::{give_answer, write_bad_line, write_finish};
-use crate::script::Script;
 use crate::sessions::{NoPiece, Sessions};
+use orders::{MOST_LINES, Script, ServeFault};
 use std::alloc::Global;
 use wb_text::{Sink, Source};
 

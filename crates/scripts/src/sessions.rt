@@ -1,15 +1,15 @@
 //! The sessions of a script over one book.
 
 ghost use Rattle.std.specs.Prelude.{◌≡◌, ◌<◌, ◌+◌, ◌≤◌, ◌++◌, [], length, IfOk, IfSome, OnErr};
-ghost use Rattle.book.specs.Lines.{seen};
+ghost use Rattle.journal.specs.Lines.{seen};
 ghost use Rattle.book.specs.Step.{Legal};
-ghost use Rattle.book.specs.declared.records.Said.{Said};
+ghost use Rattle.journal.specs.declared.records.Said.{Said};
 ghost use Rattle.scripts.specs.Orders.{Asks, Answers, IfMade};
 ghost use Rattle.scripts.specs.Serving.{entry_of};
 
 use crate::answer::{Answer, EntryRef};
-use crate::order::{Order, Request};
 use book::{Book, Command, Limits, Refused, Reply};
+use orders::{Order, Request};
 use slices::{Piece, evaluate};
 use std::alloc::{AllocError, Global};
 

@@ -1,7 +1,7 @@
 use Rattle.std.proofs.Common.{◌≡◌, rules, ◌++◌, ◌∙◌, ap, refl, [], inl, Ok, Err}
 use Rattle.std.proofs.KnownBytes.{Appends-trans}
 use Rattle.scripts.specs.Serving.{entries_of, calls_text, finish_text, bad_line_text}
-use Rattle.scripts.specs.declared.fault.ServeFault.TheVariants as faults
+use Rattle.orders.specs.declared.fault.ServeFault.TheVariants as faults
 use Rattle.scripts.proofs.Served.{served, unserved, tells_part, closes_finish, closes_bad_line, front_behind, tells_nothing_more, told_as}
 use Rattle.scripts.proofs.run.serve.Goals as goal
 

@@ -1,9 +1,9 @@
 use Rattle.std.proofs.Common.{◌≡◌, ℕ, ◌∙◌, ◌<◌, ◌+◌, length, arith, subst, sym, ap}
 use Rattle.std.proofs.lemmas.Grind.{common_steps}
 use Rattle.book.specs.Step.{Step}
-use Rattle.book.specs.declared.records.Refusal.TheVariants.{Space}
-use Rattle.book.specs.declared.records.Reply.TheVariants.{Refused}
-use Rattle.book.specs.declared.records.Said.TheVariants.{Ask}
+use Rattle.journal.specs.declared.records.Refusal.TheVariants.{Space}
+use Rattle.journal.specs.declared.records.Reply.TheVariants.{Refused}
+use Rattle.journal.specs.declared.records.Said.TheVariants.{Ask}
 use Rattle.book.specs.Workbench.{Workbench, test_version}
 use Rattle.candidates.specs.Faults.{IsSpaceFault}
 use Rattle.candidates.specs.declared.fault.SpaceFault.{SpaceFault}

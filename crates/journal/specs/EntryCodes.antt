@@ -1,0 +1,32 @@
+-- Codes of commands and replies, by which the prover tells values apart. No contract rests on them.
+use Rattle.std.specs.Coded.{Coded}
+use Rattle.journal.specs.contracts.records.Command.{the_row as command_row}
+use Rattle.journal.specs.contracts.records.Refusal.{the_row as refusal_row}
+use Rattle.journal.specs.contracts.records.Replacement.{the_row as replacement_row}
+use Rattle.journal.specs.contracts.records.Reply.{the_row as reply_row}
+use Rattle.journal.specs.contracts.records.Returned.{the_row as returned_row}
+use Rattle.journal.specs.contracts.records.Said.{the_row as said_row}
+use Rattle.journal.specs.declared.records.Command.{Command}
+use Rattle.journal.specs.declared.records.Refusal.{Refusal}
+use Rattle.journal.specs.declared.records.Replacement.{Replacement}
+use Rattle.journal.specs.declared.records.Reply.{Reply}
+use Rattle.journal.specs.declared.records.Returned.{Returned}
+use Rattle.journal.specs.declared.records.Said.{Said}
+
+abbrev pub coded_command : Coded Command
+coded_command = command_row.coded
+
+abbrev pub coded_said : Coded Said
+coded_said = said_row.coded
+
+abbrev pub coded_returned : Coded Returned
+coded_returned = returned_row.coded
+
+abbrev pub coded_reply : Coded Reply
+coded_reply = reply_row.coded
+
+abbrev pub coded_refusal : Coded Refusal
+coded_refusal = refusal_row.coded
+
+abbrev pub coded_replacement : Coded Replacement
+coded_replacement = replacement_row.coded

@@ -1,0 +1,3 @@
+pub mod EntryCodes
+pub mod LineCodes
+pub mod Lines

@@ -1,0 +1,14 @@
+//! Scripts: their lines, and the orders that these spell.
+#![tactic(auto)]
+
+mod block;
+mod fault;
+mod lines;
+mod order;
+mod script;
+
+pub use block::Block;
+pub use fault::ServeFault;
+pub use lines::{Lines, MOST_LINES};
+pub use order::{Head, LineFault, Order, Request, read_head};
+pub use script::Script;

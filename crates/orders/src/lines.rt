@@ -1,0 +1,126 @@
+//! The lines of a script.
+
+ghost use Rattle.std.specs.Prelude.{◌≡◌, ◌≤◌, ◌≢◌, ◌++◌, ℕ, List, [], Ok, Err, true, false, IfErr, codes};
+ghost use Rattle.std.specs.Io.KnownBytes.{IsAtEnd};
+ghost use Rattle.orders.specs.declared.fault.ServeFault.TheVariants as faults;
+
+use crate::block::Block;
+use crate::fault::ServeFault;
+use memchr::memchr;
+use std::alloc::{AllocError, Global};
+use wb_text::Source;
+
+/// The most bytes of a line, without its line feed.
+const MOST_BYTES: usize = 65_536;
+
+/// The most lines of a script.
+pub const MOST_LINES: u32 = 1_000_000;
+
+/// The lines of a script, one after another.
+#[derive(Drop)]
+pub struct Lines {
+    block: Block,
+    line: Vec<u8>,
+    count: u32,
+}
+
+impl Lines {
+    /// No line yet.
+    pub fn new(alloc: Global) -> Result<Self, AllocError> {
+        Ok(Lines {
+            block: Block::new(alloc)?,
+            line: Vec::new(alloc),
+            count: 0,
+        })
+    }
+
+    /// The line, without its line feed and a carriage return before that.
+    pub fn line(&self) -> &[u8]
+        ensures { result.now ≡ self.now.line.items }
+    {
+        &self.line
+    }
+
+    /// How many lines were read.
+    pub fn count(&self) -> u32
+        ensures { result ≡ self.now.count }
+    {
+        self.count
+    }
+
+    /// Goes to the next line, and answers whether there is one.
+    pub fn next<R: Source>(&mut self, reader: &mut R) -> Result<bool, ServeFault>
+        ensures fault { IfErr result (λ e. e ≢ faults.Write) }
+        ensures line { (n : ℕ) → result ≡ Err (faults.BadLine n) → n ≡ self.new.count }
+        ensures end { result ≡ Ok false → IsAtEnd (R.left reader.new) }
+    {
+        if self.is_at_end(reader)? {
+            return Ok(false);
+        }
+        if self.count >= MOST_LINES {
+            return Err(ServeFault::Read);
+        }
+        self.count += 1;
+        self.line.clear();
+        if self.read_line(reader)? && self.line.ends_with(b"\r") {
+            self.line.pop();
+        }
+        Ok(true)
+    }
+
+    /// Whether no byte is left.
+    fn is_at_end<R: Source>(&mut self, reader: &mut R) -> Result<bool, ServeFault>
+        ensures fault { IfErr result (λ e. e ≡ faults.Read) }
+        ensures count { self.new.count ≡ self.old.count }
+        ensures end { result ≡ Ok true → IsAtEnd (R.left reader.new) }
+    {
+        match self.block.fill(reader) {
+            Ok(()) => Ok(self.block.rest().is_empty()),
+            Err(_) => Err(ServeFault::Read),
+        }
+    }
+
+    /// Adds bytes to the line up to a line feed or the end, and answers whether the feed stood there. It stops where the
+    /// line is too long.
+    fn read_line<R: Source>(&mut self, reader: &mut R) -> Result<bool, ServeFault>
+        ensures fault { IfErr result (λ e. e ≢ faults.Write) }
+        ensures line { (n : ℕ) → result ≡ Err (faults.BadLine n) → n ≡ self.new.count }
+    {
+        for _ in 0..=MOST_BYTES {
+            if self.is_at_end(reader)? {
+                return Ok(false);
+            }
+            let is_fed = self.take_part()?;
+            if self.line.len() > MOST_BYTES {
+                return Err(ServeFault::BadLine(self.count));
+            }
+            if is_fed {
+                return Ok(true);
+            }
+        }
+        Err(ServeFault::BadLine(self.count))
+    }
+
+    /// Adds what the block has before a line feed to the line, and answers whether the feed stood there.
+    fn take_part(&mut self) -> Result<bool, AllocError>
+        ensures fed { result ≡ Ok true → (part : List ℕ) × (self.new.line.items ≡ self.old.line.items ++ part)
+            × (self.old.block ≡ part ++ (codes "\n" ++ self.new.block)) }
+        ensures whole { result ≡ Ok false → (self.new.line.items ≡ self.old.line.items ++ self.old.block) × (self.new.block ≡ []) }
+        ensures count { self.new.count ≡ self.old.count }
+    {
+        let rest = self.block.rest();
+        match memchr(b'\n', rest) {
+            Some(place) => {
+                self.line.extend_from_slice(&rest[..place])?;
+                self.block.skip(place + 1);
+                Ok(true)
+            }
+            None => {
+                let count = rest.len();
+                self.line.extend_from_slice(rest)?;
+                self.block.skip(count);
+                Ok(false)
+            }
+        }
+    }
+}

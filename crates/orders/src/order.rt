@@ -1,0 +1,155 @@
+//! What the lines of a script ask.
+
+ghost use Rattle.std.specs.Prelude.{◌≡◌, ◌<◌, ◌+◌, ◌∷◌, ◌++◌, IfOk, MatchOption, codes, decimal};
+ghost use Rattle.orders.specs.Spelled.{Spells, Says, Requests};
+
+use itoa::Buffer;
+use journal::Text;
+use memchr::memchr;
+use std::alloc::Global;
+use wb_text::{Name, NameFault};
+
+/// What a session of a script asks.
+#[derive(Drop)]
+pub enum Request {
+    PutCat(Name, Text),
+    PutTest(Text),
+    Ask(Name, Name),
+    Poll(u32),
+    Claim,
+    /// To evaluate the piece of this claim and to return the result.
+    Return(u32),
+}
+
+/// A request with the seat of the session that asks.
+#[derive(Drop)]
+pub struct Order {
+    pub seat: u8,
+    pub request: Request,
+}
+
+/// What a line says: a request, or one whose text follows.
+#[derive(Drop)]
+pub enum Head {
+    Cat(Name),
+    Test,
+    Whole(Request),
+}
+
+/// Why a line says nothing.
+#[derive(Clone, Copy, Debug, Drop, PartialEq, Eq)]
+pub enum LineFault {
+    Bad,
+    NoMemory,
+}
+
+/// The seat and the head that a line spells.
+pub fn read_head(alloc: Global, line: &[u8]) -> Result<(u8, Head), LineFault>
+    ensures seat { IfOk result (λ r. r.0 < 8) }
+    ensures spelled { IfOk result (λ r. Spells line.now r.0 r.1) }
+{
+    let (seat, rest) = read_seat(line)?;
+    let head = match split_word(rest) {
+        (word, None) => read_word(word)?,
+        (word, Some(rest)) => read_words(alloc, word, rest)?,
+    };
+    Ok((seat, head))
+}
+
+/// A seat, 0 to 7, and what stands behind it and a space.
+fn read_seat(line: &[u8]) -> Result<(u8, &[u8]), LineFault>
+    ensures seat { IfOk result (λ r. r.0 < 8) }
+    ensures rest { IfOk result (λ r. line.now ≡ (48 + r.0) ∷ 32 ∷ r.1.now) }
+{
+    if line.len() < 2 {
+        return Err(LineFault::Bad);
+    }
+    let digit = line[0];
+    if digit < b'0' || digit > b'7' || line[1] != b' ' {
+        return Err(LineFault::Bad);
+    }
+    Ok((digit - b'0', &line[2..]))
+}
+
+/// A head of one word.
+fn read_word(word: &[u8]) -> Result<Head, LineFault>
+    ensures { IfOk result (Says word.now) }
+{
+    if word == b"test".as_slice() {
+        Ok(Head::Test)
+    } else if word == b"claim".as_slice() {
+        Ok(Head::Whole(Request::Claim))
+    } else {
+        Err(LineFault::Bad)
+    }
+}
+
+/// A head of a word and what stands behind it and a space.
+fn read_words(alloc: Global, word: &[u8], rest: &[u8]) -> Result<Head, LineFault>
+    ensures { IfOk result (Says (word.now ++ (codes " " ++ rest.now))) }
+{
+    if word == b"cat".as_slice() {
+        Ok(Head::Cat(read_name(alloc, rest)?))
+    } else if word == b"ask".as_slice() {
+        Ok(Head::Whole(read_ask(alloc, rest)?))
+    } else if word == b"poll".as_slice() {
+        Ok(Head::Whole(Request::Poll(read_number(rest)?)))
+    } else if word == b"return".as_slice() {
+        Ok(Head::Whole(Request::Return(read_number(rest)?)))
+    } else {
+        Err(LineFault::Bad)
+    }
+}
+
+/// Two names with a space between.
+fn read_ask(alloc: Global, rest: &[u8]) -> Result<Request, LineFault>
+    ensures { IfOk result (Requests (codes "ask " ++ rest.now)) }
+{
+    let (test, Some(cat)) = split_word(rest) else {
+        return Err(LineFault::Bad);
+    };
+    Ok(Request::Ask(read_name(alloc, test)?, read_name(alloc, cat)?))
+}
+
+fn read_name(alloc: Global, bytes: &[u8]) -> Result<Name, LineFault>
+    ensures { IfOk result (λ name. name ≡ bytes.now) }
+{
+    match Name::new(alloc, bytes) {
+        Ok(name) => Ok(name),
+        Err(NameFault::BadName) => Err(LineFault::Bad),
+        Err(NameFault::NoMemory) => Err(LineFault::NoMemory),
+    }
+}
+
+/// A number below 2^32 as it is printed: in decimal, with no leading zero.
+fn read_number(bytes: &[u8]) -> Result<u32, LineFault>
+    ensures { IfOk result (λ number. bytes.now ≡ decimal number) }
+{
+    let number = value(bytes);
+    let mut buffer = Buffer::new();
+    if buffer.format(number).as_bytes() == bytes {
+        Ok(number)
+    } else {
+        Err(LineFault::Bad)
+    }
+}
+
+/// The value of decimal digits, as far as it is below 2^32.
+fn value(bytes: &[u8]) -> u32 {
+    let mut number = 0u32;
+    for byte in bytes {
+        let digit = u32::from(byte.wrapping_sub(b'0'));
+        number = number.wrapping_mul(10).wrapping_add(digit);
+    }
+    number
+}
+
+/// The first word of a line, and what stands behind it and a space.
+fn split_word(line: &[u8]) -> (&[u8], Option<&[u8]>)
+    ensures { MatchOption result.1 (line.now ≡ result.0.now) (λ rest. line.now ≡ result.0.now ++ (codes " " ++ rest.now)) }
+{
+    match memchr(b' ', line) {
+        Some(place) => (&line[..place], Some(&line[place + 1..])),
+        None => (line, None),
+    }
+}

@@ -1,0 +1,112 @@
+//! The orders of a script.
+
+ghost use Rattle.std.specs.Prelude.{◌≡◌, ◌↔◌, ◌<◌, ◌≤◌, ◌≢◌, ◌++◌, ◌-◌, ℕ, true, Err, IfOk, IfErr, IfSome, IfNone, OnOk, length, take, vec_len};
+ghost use Rattle.orders.specs.Spelled.{Begins, IsSkipped};
+ghost use Rattle.std.specs.Io.KnownBytes.{IsAtEnd};
+ghost use Rattle.orders.specs.declared.fault.ServeFault.TheVariants as faults;
+
+use crate::fault::ServeFault;
+use crate::lines::{Lines, MOST_LINES};
+use crate::order::{Head, LineFault, Order, Request, read_head};
+use journal::Text;
+use std::alloc::{AllocError, Global};
+use wb_text::Source;
+
+/// The most bytes that are kept of a text: one more than a text may have.
+const MOST_BYTES: usize = 65_537;
+
+/// A script, whose orders are read one after another.
+#[derive(Drop)]
+pub struct Script {
+    alloc: Global,
+    lines: Lines,
+}
+
+impl Script {
+    /// A script of which nothing is read.
+    pub fn new(alloc: Global) -> Result<Self, AllocError> {
+        Ok(Script {
+            alloc,
+            lines: Lines::new(alloc)?,
+        })
+    }
+
+    /// How many lines were read.
+    pub fn line_count(&self) -> u32
+        ensures { result ≡ self.now.lines.count }
+    {
+        self.lines.count()
+    }
+
+    /// The next order, if there is one.
+    pub fn next<R: Source>(&mut self, reader: &mut R) -> Result<Option<Order>, ServeFault>
+        ensures seat { IfOk result (λ next. IfSome next (λ order. order.seat < 8)) }
+        ensures end { IfOk result (λ next. IfNone next (IsAtEnd (R.left reader.new))) }
+        ensures fault { IfErr result (λ e. e ≢ faults.Write) }
+        ensures line { (n : ℕ) → result ≡ Err (faults.BadLine n) → n ≡ self.new.lines.count }
+    {
+        for _ in 0..=MOST_LINES {
+            if !self.lines.next(reader)? {
+                return Ok(None);
+            }
+            if !is_skipped(self.lines.line()) {
+                return Ok(Some(self.order(reader)?));
+            }
+        }
+        Err(ServeFault::Read)
+    }
+
+    /// The order that begins with the line.
+    fn order<R: Source>(&mut self, reader: &mut R) -> Result<Order, ServeFault>
+        ensures seat { IfOk result (λ order. order.seat < 8) }
+        ensures begins { IfOk result (Begins self.old.lines.line.items) }
+        ensures fault { IfErr result (λ e. e ≢ faults.Write) }
+        ensures line { (n : ℕ) → result ≡ Err (faults.BadLine n) → n ≡ self.new.lines.count }
+    {
+        let (seat, head) = match read_head(self.alloc, self.lines.line()) {
+            Ok(head) => head,
+            Err(LineFault::Bad) => return Err(ServeFault::BadLine(self.lines.count())),
+            Err(LineFault::NoMemory) => return Err(ServeFault::NoMemory),
+        };
+        let request = match head {
+            Head::Cat(name) => Request::PutCat(name, self.text(reader)?),
+            Head::Test => Request::PutTest(self.text(reader)?),
+            Head::Whole(request) => request,
+        };
+        Ok(Order { seat, request })
+    }
+
+    /// The text that follows: its lines up to a line `.` alone.
+    fn text<R: Source>(&mut self, reader: &mut R) -> Result<Text, ServeFault>
+        ensures fault { IfErr result (λ e. e ≢ faults.Write) }
+        ensures line { (n : ℕ) → result ≡ Err (faults.BadLine n) → n ≡ self.new.lines.count }
+    {
+        let mut bytes = Vec::new(self.alloc);
+        for _ in 0..=MOST_LINES {
+            if !self.lines.next(reader)? {
+                return Err(ServeFault::BadLine(self.lines.count()));
+            }
+            if self.lines.line() == b".".as_slice() {
+                return Ok(Text::new(self.alloc, bytes)?);
+            }
+            add_front(&mut bytes, self.lines.line())?;
+            add_front(&mut bytes, b"\n")?;
+        }
+        Err(ServeFault::Read)
+    }
+}
+
+/// Whether a line outside texts is empty or a remark.
+fn is_skipped(line: &[u8]) -> bool
+    ensures { (result ≡ true) ↔ IsSkipped line.now }
+{
+    line.is_empty() || line.first() == Some(&b'#')
+}
+
+/// Adds as many of the bytes as a text keeps.
+fn add_front(text: &mut Vec<u8>, bytes: &[u8]) -> Result<(), AllocError>
+    ensures { OnOk result (text.new.items ≡ text.old.items ++ take (65537 - length text.old.items) bytes.now) }
+{
+    let room = MOST_BYTES.saturating_sub(text.len());
+    text.extend_from_slice(&bytes[..bytes.len().min(room)])
+}
