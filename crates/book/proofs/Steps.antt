@@ -8,7 +8,7 @@ use Rattle.cat_model.specs.Faults.{IsCause}
 use Rattle.cat_model.specs.Files.{version_of, store}
 use Rattle.cat_model.specs.Models.{Assembly}
 use Rattle.cat_model.specs.declared.fault.ModelFault.{ModelFault}
-use Rattle.cat_syntax.specs.Reads.{Reads as ReadsCat}
+use Rattle.cat_syntax.specs.Reads.{Reads as ReadsCat, IsRefused as IsRefusedCat}
 use Rattle.cat_tree.specs.Tree.{File}
 use Rattle.cat_syntax.specs.declared.fault.CatFault.{CatFault}
 use Rattle.cat_syntax.specs.declared.fault.CatFault.TheVariants as of_cat
@@ -42,8 +42,8 @@ use Rattle.book.proofs.Search.{find_is, find_none, any_is}
 
 -- putting
 
-pub cat_unread : (s : Workbench) (seat : ℕ) (name : Word) (text : List ℕ) (fault : CatFault) → s.closed ≡ false → ((f : File) → ReadsCat text f → fault ≡ of_cat.NoMemory) → fault ≢ of_cat.NoMemory → Step s seat (PutCat name text) (Refused (ReadingCat fault)) s
-cat_unread s seat name text fault open' only not = inr (open', ((λ f reads. not (only f reads)), not, refl))
+pub cat_unread : (s : Workbench) (seat : ℕ) (name : Word) (text : List ℕ) (fault : CatFault) → s.closed ≡ false → ((f : File) → ReadsCat text f → fault ≡ of_cat.NoMemory) → IsRefusedCat text fault → fault ≢ of_cat.NoMemory → Step s seat (PutCat name text) (Refused (ReadingCat fault)) s
+cat_unread s seat name text fault open' only cause not = inr (open', ((λ f reads. not (only f reads)), not, cause, refl))
 
 pub cat_spent : (s : Workbench) (seat : ℕ) (name n : Word) (text : List ℕ) (f : File) (version : ℕ) → s.closed ≡ false → ReadsCat text f → version ≡ version_of name s.cats → s.limits.versions ≤ version → n ≡ name → Step s seat (PutCat name text) (Refused (VersionsSpent n)) s
 cat_spent s seat name n text f version open' reads v spent e = let P : ℕ → Type 0 = λ k. s.limits.versions ≤ k in inr (open', (f, reads, subst P v spent, e, refl))

@@ -8,7 +8,7 @@ use Rattle.listings.specs.Lists.{IsIn}
 use Rattle.cat_model.specs.Faults.{IsCause}
 use Rattle.cat_model.specs.Files.{version_of, store}
 use Rattle.cat_model.specs.Models.{Assembly}
-use Rattle.cat_syntax.specs.Reads.{Reads as ReadsCat}
+use Rattle.cat_syntax.specs.Reads.{Reads as ReadsCat, IsRefused as IsRefusedCat}
 use Rattle.cat_tree.specs.Tree.{File}
 use Rattle.cat_syntax.specs.declared.fault.CatFault.TheVariants as of_cat
 use Rattle.litmus_c.specs.Reads.{Reads, IsRefused}
@@ -34,7 +34,7 @@ use Rattle.journal.specs.declared.records.Reply.TheVariants.{Version, Job, Pendi
 
 -- A put of a cat file stores the tree of its text at the next version.
 abbrev pub PutsCat : Workbench → Word → List ℕ → Reply → Workbench → Type 0
-PutsCat s name text (Refused (ReadingCat fault)) s' = ((f : File) → ¬ ReadsCat text f) × (fault ≢ of_cat.NoMemory) × (s' ≡ s)
+PutsCat s name text (Refused (ReadingCat fault)) s' = ((f : File) → ¬ ReadsCat text f) × (fault ≢ of_cat.NoMemory) × IsRefusedCat text fault × (s' ≡ s)
 PutsCat s name text (Refused (VersionsSpent n)) s' = (f : File) × ReadsCat text f × (s.limits.versions ≤ version_of name s.cats) × (n ≡ name) × (s' ≡ s)
 PutsCat s name text (Version n v) s' =
     (f : File) × ReadsCat text f × (version_of name s.cats < s.limits.versions) × (n ≡ name) × (v ≡ version_of name s.cats + 1)

@@ -4,7 +4,7 @@ ghost use Rattle.std.specs.Prelude.{◌≡◌, ◌≢◌, IfOk, IfErr, MatchBool
 ghost use Rattle.litmus_c.specs.Reads.{Reads, IsRefused};
 ghost use Rattle.litmus_tree.specs.Tree.{Litmus};
 ghost use Rattle.litmus_c.specs.declared.fault.TestFault.TheVariants as of_test;
-ghost use Rattle.cat_syntax.specs.Reads.{Reads as ReadsCat};
+ghost use Rattle.cat_syntax.specs.Reads.{Reads as ReadsCat, IsRefused as IsRefusedCat};
 ghost use Rattle.cat_tree.specs.Tree.{File};
 ghost use Rattle.cat_syntax.specs.declared.fault.CatFault.TheVariants as of_cat;
 ghost use Rattle.cat_model.specs.Faults.{IsCause};
@@ -31,6 +31,8 @@ pub fn read_litmus(alloc: Global, text: &[u8]) -> Result<Test, TestFault>
 pub fn read_file(alloc: Global, text: &[u8]) -> Result<CatFile, CatFault>
     ensures found { IfOk result (ReadsCat text.now) }
     ensures only { IfErr result (λ e. (f : File) → ReadsCat text.now f → e ≡ of_cat.NoMemory) }
+    // Each refusal comes only where its cause stands.
+    ensures cause { IfErr result (λ e. IsRefusedCat text.now e) }
 {
     read_cat(alloc, text)
 }

@@ -1,6 +1,8 @@
 //! The printed summary of a verdict.
 #![tactic(auto)]
 
+mod parts;
 mod summary;
 
+pub use parts::{write_bytes, write_parts};
 pub use summary::{WriteFault, write_summary};

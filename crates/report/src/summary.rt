@@ -8,11 +8,12 @@ ghost use Rattle.wb_text.specs.Memory.{AppendsFront};
 ghost use Rattle.report.specs.Writing.{Writes};
 ghost use Rattle.report.specs.Texts as texts;
 
+use crate::parts::{write_bytes, write_parts};
 use conditions::{Kind, Place, Prop};
 use itoa::Buffer;
 use slices::{Finding, Row, Verdict};
 use thiserror::Error;
-use wb_text::{Failed, Name, Sink, give_all};
+use wb_text::{Failed, Name, Sink};
 
 /// Why a summary was not written whole.
 #[derive(Clone, Copy, Debug, Drop, PartialEq, Eq, Error)]
@@ -327,22 +328,4 @@ fn write_atom<W: Sink>(place: &Place, value: u32, writer: &mut W) -> Result<(), 
         }
         Place::Loc(name) => write_parts(&[b"[", name.bytes(), b"]=", value], writer),
     }
-}
-
-/// Hands the parts to the writer, one after another.
-fn write_parts<W: Sink>(parts: &[&[u8]], writer: &mut W) -> Result<(), Failed>
-    ensures { Writes W.held W.has_failed writer.old writer.new result
-        (flat_map (λ p. p.now) parts.now) }
-{
-    for part in parts {
-        write_bytes(part, writer)?;
-    }
-    Ok(())
-}
-
-/// Hands the bytes to the writer.
-fn write_bytes<W: Sink>(bytes: &[u8], writer: &mut W) -> Result<(), Failed>
-    ensures { Writes W.held W.has_failed writer.old writer.new result bytes.now }
-{
-    give_all(writer, bytes)
 }

@@ -3,7 +3,6 @@
 
 mod answer;
 mod options;
-mod parts;
 mod print;
 mod refusal;
 mod run;

@@ -7,12 +7,11 @@ ghost use Rattle.scripts.specs.Replies as texts;
 ghost use Rattle.scripts.specs.Serving.{answer_text, finish_text, bad_line_text, not_taken_text};
 
 use crate::answer::Answer;
-use crate::parts::write_parts;
 use crate::refusal::write_refusal;
 use book::{Refused, Reply};
 use cat_model::FileVersion;
 use itoa::Buffer;
-use report::{WriteFault, write_summary};
+use report::{WriteFault, write_parts, write_summary};
 use slices::{Piece, Verdict};
 use std::alloc::Global;
 use wb_text::{Failed, MemSink, Name, Sink, give_all};

@@ -4,13 +4,13 @@ ghost use Rattle.std.specs.Prelude.{◌≡◌};
 ghost use Rattle.report.specs.Writing.{Writes};
 ghost use Rattle.scripts.specs.Refusals as texts;
 
-use crate::parts::{write_bytes, write_parts};
 use book::{Refusal, Replacement, SourceKind};
 use candidates::SpaceFault;
 use cat_model::ModelFault;
 use cat_syntax::CatFault;
 use itoa::Buffer;
 use litmus_c::TestFault;
+use report::{write_bytes, write_parts};
 use wb_text::{Failed, Name, Sink, TextFault};
 
 /// Writes the line of a refusal.

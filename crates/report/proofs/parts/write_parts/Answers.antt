@@ -1,6 +1,6 @@
 use Rattle.std.proofs.Common.{[]}
 use Rattle.report.proofs.Written.{exit, flat_map-at}
-use Rattle.report.proofs.summary.write_parts.Goals as goal
+use Rattle.report.proofs.parts.write_parts.Goals as goal
 
 pub returns-in_err-write_bytes : goal.returns-in_err-write_bytes
 returns-in_err-write_bytes g c =
