@@ -1,7 +1,38 @@
--- What of a script is still to be read.
-use Rattle.std.specs.Prelude.{ℕ, List, Option}
-use Rattle.std.specs.Io.KnownBytes.{prepend_known}
+-- The lines of a script, and what of it is still to be read.
+use Rattle.std.specs.Prelude.{◌≡◌, ◌≢◌, ◌⊎◌, ◌++◌, ℕ, List, Option, codes}
+use Rattle.std.specs.List.{All}
+use Rattle.std.specs.Io.KnownBytes.{prepend_known, Consumes, IsAtEnd}
 
 -- The bytes that are still to be read: those of a block, and then those that the reader has left.
 abbrev pub ahead : List ℕ → Option (List ℕ) → Option (List ℕ)
 ahead block left = prepend_known block left
+
+-- no byte is a line feed
+abbrev pub IsUnbroken : List ℕ → Type 0
+IsUnbroken bytes = All (λ byte. byte ≢ 10) bytes
+
+-- no carriage return ends the line
+abbrev pub HasNoReturn : List ℕ → Type 0
+HasNoReturn line = (front : List ℕ) → line ≢ front ++ codes "\r"
+
+-- a carriage return at the end is taken off
+abbrev pub IsTrimmed : List ℕ → List ℕ → Type 0
+IsTrimmed line trimmed = ((trimmed ≡ line) × HasNoReturn line) ⊎ (line ≡ trimmed ++ codes "\r")
+
+-- Unbroken bytes came to the line, and what was ahead has lost them and the bytes that end them.
+pub record Grows (before after : Option (List ℕ)) (old new ending : List ℕ) : Type 0 where
+  pub part : List ℕ
+  pub unbroken : IsUnbroken part
+  pub grown : new ≡ old ++ part
+  pub taken : Consumes before after (part ++ ending)
+
+-- The next line: what was ahead has lost it and its end, which is a line feed, a carriage return and a line feed, or
+-- the end of the script.
+pub data Gives (before after : Option (List ℕ)) (line : List ℕ) : Type 0 where
+  fed : HasNoReturn line → Consumes before after (line ++ codes "\n") → Gives before after line
+  returned : Consumes before after (line ++ codes "\r\n") → Gives before after line
+  last : Consumes before after line → IsAtEnd after → Gives before after line
+
+pub record IsNextLine (before after : Option (List ℕ)) (line : List ℕ) : Type 0 where
+  pub unbroken : IsUnbroken line
+  pub given : Gives before after line

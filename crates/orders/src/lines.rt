@@ -1,7 +1,8 @@
 //! The lines of a script.
 
 ghost use Rattle.std.specs.Prelude.{◌≡◌, ◌≤◌, ◌≢◌, ◌++◌, ℕ, List, [], Ok, Err, true, false, IfErr, codes};
-ghost use Rattle.std.specs.Io.KnownBytes.{IsAtEnd};
+ghost use Rattle.std.specs.Io.KnownBytes.{IsAtEnd, Keeps};
+ghost use Rattle.orders.specs.Lines.{ahead, IsUnbroken, IsTrimmed, Grows, IsNextLine};
 ghost use Rattle.orders.specs.declared.fault.ServeFault.TheVariants as faults;
 
 use crate::block::Block;
@@ -52,7 +53,11 @@ impl Lines {
     pub fn next<R: Source>(&mut self, reader: &mut R) -> Result<bool, ServeFault>
         ensures fault { IfErr result (λ e. e ≢ faults.Write) }
         ensures line { (n : ℕ) → result ≡ Err (faults.BadLine n) → n ≡ self.new.count }
+        // The line is the next of what was ahead, or nothing was.
+        ensures next { result ≡ Ok true → IsNextLine (ahead self.old.block (R.left reader.old)) (ahead self.new.block (R.left reader.new)) self.new.line.items }
         ensures end { result ≡ Ok false → IsAtEnd (R.left reader.new) }
+        ensures none { result ≡ Ok false → self.new.block ≡ [] }
+        ensures kept { result ≡ Ok false → Keeps (ahead self.old.block (R.left reader.old)) (ahead self.new.block (R.left reader.new)) }
     {
         if self.is_at_end(reader)? {
             return Ok(false);
@@ -62,17 +67,31 @@ impl Lines {
         }
         self.count += 1;
         self.line.clear();
-        if self.read_line(reader)? && self.line.ends_with(b"\r") {
-            self.line.pop();
+        if self.read_line(reader)? {
+            self.trim();
         }
         Ok(true)
+    }
+
+    /// Takes a carriage return off the end of the line.
+    fn trim(&mut self)
+        ensures trimmed { IsTrimmed self.old.line.items self.new.line.items }
+        ensures block { self.new.block ≡ self.old.block }
+        ensures count { self.new.count ≡ self.old.count }
+    {
+        if self.line.ends_with(b"\r") {
+            self.line.pop();
+        }
     }
 
     /// Whether no byte is left.
     fn is_at_end<R: Source>(&mut self, reader: &mut R) -> Result<bool, ServeFault>
         ensures fault { IfErr result (λ e. e ≡ faults.Read) }
         ensures count { self.new.count ≡ self.old.count }
+        ensures line { self.new.line ≡ self.old.line }
+        ensures kept { Keeps (ahead self.old.block (R.left reader.old)) (ahead self.new.block (R.left reader.new)) }
         ensures end { result ≡ Ok true → IsAtEnd (R.left reader.new) }
+        ensures none { result ≡ Ok true → self.new.block ≡ [] }
     {
         match self.block.fill(reader) {
             Ok(()) => Ok(self.block.rest().is_empty()),
@@ -85,6 +104,9 @@ impl Lines {
     fn read_line<R: Source>(&mut self, reader: &mut R) -> Result<bool, ServeFault>
         ensures fault { IfErr result (λ e. e ≢ faults.Write) }
         ensures line { (n : ℕ) → result ≡ Err (faults.BadLine n) → n ≡ self.new.count }
+        ensures fed { result ≡ Ok true → Grows (ahead self.old.block (R.left reader.old)) (ahead self.new.block (R.left reader.new)) self.old.line.items self.new.line.items (codes "\n") }
+        ensures last { result ≡ Ok false → Grows (ahead self.old.block (R.left reader.old)) (ahead self.new.block (R.left reader.new)) self.old.line.items self.new.line.items []
+            × IsAtEnd (ahead self.new.block (R.left reader.new)) }
     {
         for _ in 0..=MOST_BYTES {
             if self.is_at_end(reader)? {
@@ -103,9 +125,9 @@ impl Lines {
 
     /// Adds what the block has before a line feed to the line, and answers whether the feed stood there.
     fn take_part(&mut self) -> Result<bool, AllocError>
-        ensures fed { result ≡ Ok true → (part : List ℕ) × (self.new.line.items ≡ self.old.line.items ++ part)
+        ensures fed { result ≡ Ok true → (part : List ℕ) × IsUnbroken part × (self.new.line.items ≡ self.old.line.items ++ part)
             × (self.old.block ≡ part ++ (codes "\n" ++ self.new.block)) }
-        ensures whole { result ≡ Ok false → (self.new.line.items ≡ self.old.line.items ++ self.old.block) × (self.new.block ≡ []) }
+        ensures whole { result ≡ Ok false → IsUnbroken self.old.block × (self.new.line.items ≡ self.old.line.items ++ self.old.block) × (self.new.block ≡ []) }
         ensures count { self.new.count ≡ self.old.count }
     {
         let rest = self.block.rest();

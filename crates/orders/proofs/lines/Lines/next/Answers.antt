@@ -1,0 +1,15 @@
+use Rattle.std.proofs.Common.{◌≡◌, List, ℕ, sym, ap, subst, ◌∙◌, Ok, codes}
+use Rattle.orders.specs.Lines.{ahead, Grows, IsNextLine}
+use Rattle.orders.proofs.Taken.{fed_line}
+use Rattle.orders.proofs.lines.Lines.next.Goals as goal
+
+pub returns-then-branch-2-clause-next : goal.returns-then-branch-2-clause-next
+returns-then-branch-2-clause-next g c _ =
+    let before = ahead c.args.self.now.block (g.R.Source.left c.args.reader.now) in
+    let filled = ahead c.is_at_end.new.self.block (g.R.Source.left c.is_at_end.new.reader) in
+    let left = g.R.Source.left c.read_line.new.reader in
+    let raw = c.read_line.new.self.line.items in
+    let line = c.trim.new.self.line.items in
+    let gathered = subst (λ old. Grows filled (ahead c.read_line.new.self.block left) old raw (codes "\n")) c.clear.ensures.items (c.read_line.ensures.fed (c.in_ok-read_line.was ∙ ap Ok c.if-branch-2.true)) in
+    let next = fed_line before filled (ahead c.read_line.new.self.block left) raw line c.is_at_end.ensures.kept gathered c.trim.ensures.trimmed in
+    subst (λ block. IsNextLine before (ahead block left) line) (sym c.trim.ensures.block) next

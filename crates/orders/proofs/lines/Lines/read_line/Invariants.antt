@@ -1,0 +1,10 @@
+use Rattle.std.proofs.Common.{◌≡◌, []}
+use Rattle.orders.specs.Lines.{ahead, Grows}
+use Rattle.orders.proofs.lines.Lines.read_line.Given as goal
+
+-- what came to the line so far
+abbrev pub invariant-loop : goal.invariant-loop
+invariant-loop g l = record {
+  grows : Grows (ahead l.initial.self.block (g.R.Source.left l.initial.reader)) (ahead l.self.block (g.R.Source.left l.reader)) l.initial.self.line.items l.self.line.items [];
+  count : l.self.count ≡ l.initial.self.count;
+}
