@@ -1,6 +1,6 @@
 //! The lines of a script.
 
-ghost use Rattle.std.specs.Prelude.{◌≡◌, ◌≤◌, ◌≢◌, ◌++◌, ℕ, List, [], Ok, Err, true, false, IfErr, codes};
+ghost use Rattle.std.specs.Prelude.{◌≡◌, ◌≤◌, ◌≢◌, ◌++◌, ℕ, List, [], Ok, Err, true, false, IfOk, IfErr, codes};
 ghost use Rattle.std.specs.Io.KnownBytes.{IsAtEnd, Keeps};
 ghost use Rattle.orders.specs.Lines.{ahead, IsUnbroken, IsTrimmed, Grows, IsNextLine};
 ghost use Rattle.orders.specs.declared.fault.ServeFault.TheVariants as faults;
@@ -27,7 +27,9 @@ pub struct Lines {
 
 impl Lines {
     /// No line yet.
-    pub fn new(alloc: Global) -> Result<Self, AllocError> {
+    pub fn new(alloc: Global) -> Result<Self, AllocError>
+        ensures { IfOk result (λ lines. lines.block ≡ []) }
+    {
         Ok(Lines {
             block: Block::new(alloc)?,
             line: Vec::new(alloc),

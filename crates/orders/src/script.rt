@@ -1,6 +1,8 @@
 //! The orders of a script.
 
-ghost use Rattle.std.specs.Prelude.{◌≡◌, ◌↔◌, ◌<◌, ◌≤◌, ◌≢◌, ◌++◌, ◌-◌, ℕ, true, Err, IfOk, IfErr, IfSome, IfNone, OnOk, length, take, vec_len};
+ghost use Rattle.std.specs.Prelude.{◌≡◌, [], ◌↔◌, ◌<◌, ◌≤◌, ◌≢◌, ◌++◌, ◌-◌, ℕ, true, Err, IfOk, IfErr, IfSome, IfNone, OnOk, length, take, vec_len, codes};
+ghost use Rattle.orders.specs.Lines.{ahead};
+ghost use Rattle.orders.specs.Scripts.{IsText, IsFollowed, IsNextOrder, IsSpent};
 ghost use Rattle.orders.specs.Spelled.{Begins, IsSkipped};
 ghost use Rattle.std.specs.Io.KnownBytes.{IsAtEnd};
 ghost use Rattle.orders.specs.declared.fault.ServeFault.TheVariants as faults;
@@ -24,7 +26,9 @@ pub struct Script {
 
 impl Script {
     /// A script of which nothing is read.
-    pub fn new(alloc: Global) -> Result<Self, AllocError> {
+    pub fn new(alloc: Global) -> Result<Self, AllocError>
+        ensures { IfOk result (λ script. script.lines.block ≡ []) }
+    {
         Ok(Script {
             alloc,
             lines: Lines::new(alloc)?,
@@ -41,6 +45,9 @@ impl Script {
     /// The next order, if there is one.
     pub fn next<R: Source>(&mut self, reader: &mut R) -> Result<Option<Order>, ServeFault>
         ensures seat { IfOk result (λ next. IfSome next (λ order. order.seat < 8)) }
+        // It is the next of what was ahead, or none is left.
+        ensures next { IfOk result (λ next. IfSome next (IsNextOrder (ahead self.old.lines.block (R.left reader.old)) (ahead self.new.lines.block (R.left reader.new)))) }
+        ensures spent { IfOk result (λ next. IfNone next (IsSpent (ahead self.old.lines.block (R.left reader.old)) (ahead self.new.lines.block (R.left reader.new)))) }
         ensures end { IfOk result (λ next. IfNone next (IsAtEnd (R.left reader.new))) }
         ensures fault { IfErr result (λ e. e ≢ faults.Write) }
         ensures line { (n : ℕ) → result ≡ Err (faults.BadLine n) → n ≡ self.new.lines.count }
@@ -60,6 +67,7 @@ impl Script {
     fn order<R: Source>(&mut self, reader: &mut R) -> Result<Order, ServeFault>
         ensures seat { IfOk result (λ order. order.seat < 8) }
         ensures begins { IfOk result (Begins self.old.lines.line.items) }
+        ensures followed { IfOk result (λ order. IsFollowed (ahead self.old.lines.block (R.left reader.old)) (ahead self.new.lines.block (R.left reader.new)) order.request) }
         ensures fault { IfErr result (λ e. e ≢ faults.Write) }
         ensures line { (n : ℕ) → result ≡ Err (faults.BadLine n) → n ≡ self.new.lines.count }
     {
@@ -78,6 +86,7 @@ impl Script {
 
     /// The text that follows: its lines up to a line `.` alone.
     fn text<R: Source>(&mut self, reader: &mut R) -> Result<Text, ServeFault>
+        ensures text { IfOk result (IsText (ahead self.old.lines.block (R.left reader.old)) (ahead self.new.lines.block (R.left reader.new))) }
         ensures fault { IfErr result (λ e. e ≢ faults.Write) }
         ensures line { (n : ℕ) → result ≡ Err (faults.BadLine n) → n ≡ self.new.lines.count }
     {
@@ -86,7 +95,7 @@ impl Script {
             if !self.lines.next(reader)? {
                 return Err(ServeFault::BadLine(self.lines.count()));
             }
-            if self.lines.line() == b".".as_slice() {
+            if is_last(self.lines.line()) {
                 return Ok(Text::new(self.alloc, bytes)?);
             }
             add_front(&mut bytes, self.lines.line())?;
@@ -101,6 +110,13 @@ fn is_skipped(line: &[u8]) -> bool
     ensures { (result ≡ true) ↔ IsSkipped line.now }
 {
     line.is_empty() || line.first() == Some(&b'#')
+}
+
+/// Whether a line ends a text.
+fn is_last(line: &[u8]) -> bool
+    ensures { (result ≡ true) ↔ (line.now ≡ codes ".") }
+{
+    line == b".".as_slice()
 }
 
 /// Adds as many of the bytes as a text keeps.

@@ -1,0 +1,59 @@
+-- Which orders a script spells. What is ahead before and after is told where the reader tells its bytes.
+use Rattle.std.specs.Prelude.{◌≡◌, ◌≢◌, ◌++◌, ◌∷◌, [], ℕ, List, Option, take, codes}
+use Rattle.std.specs.Io.KnownBytes.{IsAtEnd, Keeps}
+use Rattle.orders.specs.Lines.{IsNextLine}
+use Rattle.orders.specs.Spelled.{Begins, IsSkipped}
+use Rattle.orders.specs.declared.order.Order.{Order}
+use Rattle.orders.specs.declared.order.Request.{Request}
+use Rattle.orders.specs.declared.order.Request.TheVariants.{PutCat, PutTest, Ask, Poll, Claim, Return}
+
+-- lines that nothing is done for
+pub data AreSkipped (before : Option (List ℕ)) : Option (List ℕ) → Type 0 where
+  no_line : AreSkipped before before
+  next_line : {mid after : Option (List ℕ)} {line : List ℕ} → AreSkipped before mid → IsNextLine mid after line → IsSkipped line → AreSkipped before after
+
+-- lines of a text, each with a line feed behind it
+pub data AreOfText (before : Option (List ℕ)) : Option (List ℕ) → List ℕ → Type 0 where
+  no_text : AreOfText before before []
+  next_of_text : {mid after : Option (List ℕ)} {text line : List ℕ} → AreOfText before mid text → IsNextLine mid after line → line ≢ codes "."
+      → AreOfText before after (text ++ (line ++ codes "\n"))
+
+-- A text: the lines up to a line `.`. Of a longer one its first 65,537 bytes are kept.
+pub record IsText (before after : Option (List ℕ)) (text : List ℕ) : Type 0 where
+  pub end : Option (List ℕ)
+  pub whole : List ℕ
+  pub lines : AreOfText before end whole
+  pub closed : IsNextLine end after (codes ".")
+  pub kept : text ≡ take 65537 whole
+
+-- what stands behind the first line of an order
+abbrev pub IsFollowed : Option (List ℕ) → Option (List ℕ) → Request → Type 0
+IsFollowed before after (PutCat name text) = IsText before after text
+IsFollowed before after (PutTest text) = IsText before after text
+IsFollowed before after (Ask test cat) = after ≡ before
+IsFollowed before after (Poll job) = after ≡ before
+IsFollowed before after Claim = after ≡ before
+IsFollowed before after (Return claim) = after ≡ before
+
+-- The next order: lines that are skipped, its first line, and its text.
+pub record IsNextOrder (before after : Option (List ℕ)) (order : Order) : Type 0 where
+  pub start : Option (List ℕ)
+  pub behind : Option (List ℕ)
+  pub line : List ℕ
+  pub skipped : AreSkipped before start
+  pub first : IsNextLine start behind line
+  pub begins : Begins line order
+  pub followed : IsFollowed behind after order.request
+
+-- No order is left: the rest are lines that are skipped.
+pub record IsSpent (before after : Option (List ℕ)) : Type 0 where
+  pub end : Option (List ℕ)
+  pub skipped : AreSkipped before end
+  pub kept : Keeps end after
+  pub at_end : IsAtEnd after
+
+-- the orders of a script, one after another
+pub data AreOrders (before : Option (List ℕ)) : Option (List ℕ) → List Order → Type 0 where
+  no_order : AreOrders before before []
+  next_order : {mid after : Option (List ℕ)} {orders : List Order} {order : Order} → AreOrders before mid orders → IsNextOrder mid after order
+      → AreOrders before after (orders ++ order ∷ [])
