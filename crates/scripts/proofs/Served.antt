@@ -1,17 +1,20 @@
 -- Answers one after another, and what stands behind them.
-use Rattle.std.proofs.Common.{◌≡◌, ◌≢◌, ℕ, List, [], ◌∷◌, ◌++◌, length, Option, Result, Ok, Err, inl, inr, refl, sym, ap, ◌∙◌, subst, append_assoc, append-nil}
+use Rattle.std.proofs.Common.{◌≡◌, ◌≢◌, ℕ, List, [], ◌∷◌, ◌++◌, length, map, Option, Result, Ok, Err, inl, inr, refl, sym, ap, ◌∙◌, subst, append_assoc, append-nil}
 use Rattle.std.specs.Prelude.{IfErr, IsErrAnd}
 use Rattle.std.specs.Io.KnownBytes.{Appends}
 use Rattle.std.specs.List.{flat_map}
-use Rattle.std.proofs.KnownBytes.{Appends-trans, Appends-nil}
+use Rattle.std.proofs.KnownBytes.{Appends-trans, Appends-nil, prepend_known-nil}
+use Rattle.orders.specs.Lines.{ahead}
+use Rattle.orders.specs.Scripts.{AreOrders, IsNextOrder, no_order, next_order}
 use Rattle.std.proofs.lemmas.Grind.{flat_map-append}
+use Rattle.std.proofs.lemmas.List.{map-append}
 use Rattle.wb_text.specs.Memory.{AppendsFront}
 use Rattle.journal.specs.Lines.{Line}
 use Rattle.book.specs.Step.{Legal}
 use Rattle.book.specs.Workbench.{empty}
 use Rattle.book.specs.declared.limits.Limits.{Limits}
 use Rattle.report.proofs.Written.{front_of}
-use Rattle.scripts.specs.Serving.{Call, answer_text, entry_of, calls_text, entries_of, finish_text, bad_line_text, Closes, Tells, IsServed}
+use Rattle.scripts.specs.Serving.{Call, answer_text, entry_of, calls_text, entries_of, finish_text, bad_line_text, Closes, Tells, IsRead, IsServed}
 use Rattle.orders.specs.declared.fault.ServeFault.{ServeFault}
 use Rattle.orders.specs.declared.fault.ServeFault.TheVariants as faults
 
@@ -33,6 +36,25 @@ pub written_partly : (old mid new : Option (List ℕ)) (calls : List Call) (c : 
 written_partly old mid new calls c done more =
     front_of old mid new (calls_text calls) (answer_text c.answer) [] (calls_text (calls ++ c ∷ [])) done more
     (flat_map-last (λ d. answer_text d.answer) calls c ∙ ap (λ l. calls_text calls ++ l) (sym (append-nil (answer_text c.answer))))
+
+-- the calls ask what was ordered
+
+pub ordered : (script mid end : Option (List ℕ)) (calls : List Call) (c : Call) → AreOrders script mid (map (λ d. d.order) calls) → IsNextOrder mid end c.order → AreOrders script end (map (λ d. d.order) (calls ++ c ∷ []))
+ordered script mid end calls c done next =
+    subst (λ orders. AreOrders script end orders) (sym (map-append (λ d. d.order) calls (c ∷ []))) (next_order done next)
+
+-- a script that is not done to its end
+pub read_at_err : {A : Type 0} {script end : Option (List ℕ)} (P : ServeFault → Type 0) (r : Result A ServeFault) (calls : List Call) → IsErrAnd r P → AreOrders script end (map (λ c. c.order) calls) → IsRead script r calls
+read_at_err P (Ok done) calls is orders = absurd is
+read_at_err {end} P (Err e) calls is orders = record { end = end; orders = orders; spent = tt }
+
+-- the same of a script of which nothing is taken yet
+pub from_start : {A : Type 0} {block : List ℕ} (left : Option (List ℕ)) (r : Result A ServeFault) (calls : List Call) → block ≡ [] → IsRead (ahead block left) r calls → IsRead left r calls
+from_start left r calls empty h = subst (λ script. IsRead script r calls) (ap (λ b. ahead b left) empty ∙ prepend_known-nil left) h
+
+-- and by another result that is none
+pub still_read : {A B : Type 0} {script : Option (List ℕ)} {r : Result A ServeFault} (P : ServeFault → Type 0) (s : Result B ServeFault) (calls : List Call) → IsErrAnd s P → IsRead script r calls → IsRead script s calls
+still_read P s calls is h = read_at_err P s calls is h.orders
 
 -- the result of a call that doesn't write
 
@@ -67,14 +89,15 @@ closes_bad_line n line (Err (faults.BadLine other)) is = cc
 closes_bad_line n line (Err faults.NoMemory) is = cc
 
 -- the whole, from its parts
-pub served : {A : Type 0} (limits kept : Limits) (journal : List Line) (calls : List Call) (old new : Option (List ℕ)) (r : Result A ServeFault) (n : ℕ) (closing : List ℕ)
-    → Legal kept journal → kept ≡ limits → journal ≡ entries_of calls → n ≡ length journal → Closes n r closing → Tells old new r (calls_text calls ++ closing) → IsServed limits old new r
-served limits kept journal calls old new r n closing legal same made count closes told =
+pub served : {A : Type 0} (limits kept : Limits) (journal : List Line) (calls : List Call) (script old new : Option (List ℕ)) (r : Result A ServeFault) (n : ℕ) (closing : List ℕ)
+    → Legal kept journal → kept ≡ limits → journal ≡ entries_of calls → n ≡ length journal → Closes n r closing → Tells old new r (calls_text calls ++ closing) → IsRead script r calls → IsServed limits script old new r
+served limits kept journal calls script old new r n closing legal same made count closes told read =
     let P : Limits → Type 0 = λ l. Legal l (entries_of calls) in
     let Q : List Line → Type 0 = λ l. Legal kept l in
     let C : ℕ → Type 0 = λ m. Closes m r closing in
     record {
       calls = calls;
+      read = read;
       legal = subst P same (subst Q made legal);
       closing = closing;
       closes = subst C (count ∙ ap length made) closes;
@@ -90,12 +113,12 @@ front_behind old mid new text closing done part =
     front_of old mid new text closing [] (text ++ closing) done part (ap (λ l. text ++ l) (sym (append-nil closing)))
 
 -- no memory for the script or the book
-pub unserved : {A : Type 0} (limits : Limits) (held : Option (List ℕ)) (r : Result A ServeFault) → IsErrAnd r (λ e. e ≡ faults.NoMemory) → IsServed limits held held r
-unserved limits held (Ok done) is = absurd is
-unserved limits held (Err faults.NoMemory) is = record { calls = []; legal = (empty limits, refl); closing = []; closes = refl; told = Appends-nil held }
-unserved limits held (Err faults.Read) is = cc
-unserved limits held (Err faults.Write) is = cc
-unserved limits held (Err (faults.BadLine line)) is = cc
+pub unserved : {A : Type 0} (limits : Limits) (script held : Option (List ℕ)) (r : Result A ServeFault) → IsErrAnd r (λ e. e ≡ faults.NoMemory) → IsServed limits script held held r
+unserved limits script held (Ok done) is = absurd is
+unserved limits script held (Err faults.NoMemory) is = record { calls = []; read = record { end = script; orders = no_order; spent = tt }; legal = (empty limits, refl); closing = []; closes = refl; told = Appends-nil held }
+unserved limits script held (Err faults.Read) is = cc
+unserved limits script held (Err faults.Write) is = cc
+unserved limits script held (Err (faults.BadLine line)) is = cc
 
 -- told by the same result
 pub told_as : {A : Type 0} (old new : Option (List ℕ)) (r : Result A ServeFault) (fault known : ServeFault) (text : List ℕ) → r ≡ Err fault → fault ≡ known → Tells old new r text → Tells {A = A} old new (Err known) text

@@ -1,5 +1,5 @@
 -- What becomes of a script.
-use Rattle.std.specs.Prelude.{◌≡◌, ℕ, List, [], ◌∷◌, ◌++◌, length, Option, Result, Ok, Err, codes, decimal, ◌⊎◌}
+use Rattle.std.specs.Prelude.{◌≡◌, ℕ, List, [], ◌∷◌, ◌++◌, length, map, Option, Result, Ok, Err, OnOk, codes, decimal, ◌⊎◌}
 use Rattle.std.specs.Io.KnownBytes.{Appends}
 use Rattle.std.specs.List.{flat_map}
 use Rattle.wb_text.specs.Memory.{AppendsFront}
@@ -12,6 +12,7 @@ use Rattle.scripts.specs.Orders.{Answers}
 use Rattle.scripts.specs.Replies.{reply_text}
 use Rattle.scripts.specs.declared.answer.Answer.{Answer}
 use Rattle.scripts.specs.declared.answer.Answer.TheVariants.{Made, NotTaken}
+use Rattle.orders.specs.Scripts.{AreOrders, IsSpent}
 use Rattle.orders.specs.declared.order.Order.{Order}
 use Rattle.orders.specs.declared.fault.ServeFault.{ServeFault}
 use Rattle.orders.specs.declared.fault.ServeFault.TheVariants as faults
@@ -66,9 +67,16 @@ Tells old new (Err faults.Read) text = Appends old new text
 Tells old new (Err (faults.BadLine line)) text = Appends old new text
 Tells old new (Err faults.NoMemory) text = Appends old new text
 
--- Calls made the journal of a book with these limits, and this was written of them.
-pub record IsServed {A : Type 0} (limits : Limits) (old new : Option (List ℕ)) (result : Result A ServeFault) : Type 0 where
+-- The calls ask what a script orders, one after another, and all that it orders where it is done to its end.
+pub record IsRead {A : Type 0} (script : Option (List ℕ)) (result : Result A ServeFault) (calls : List Call) : Type 0 where
+  pub end : Option (List ℕ)
+  pub orders : AreOrders script end (map (λ c. c.order) calls)
+  pub spent : OnOk result ((rest : Option (List ℕ)) × IsSpent end rest)
+
+-- A script's calls made the journal of a book with these limits, and this was written of them.
+pub record IsServed {A : Type 0} (limits : Limits) (script old new : Option (List ℕ)) (result : Result A ServeFault) : Type 0 where
   pub calls : List Call
+  pub read : IsRead script result calls
   pub legal : Legal limits (entries_of calls)
   pub closing : List ℕ
   pub closes : Closes (length (entries_of calls)) result closing

@@ -1,7 +1,9 @@
 //! From a script to the replies of a book.
 
-ghost use Rattle.std.specs.Prelude.{◌≡◌, ◌++◌, List, true, Err};
-ghost use Rattle.scripts.specs.Serving.{Call, IsServed, Tells, entries_of, calls_text};
+ghost use Rattle.std.specs.Prelude.{◌≡◌, ◌++◌, List, true, Err, OnOk};
+ghost use Rattle.scripts.specs.Serving.{Call, IsRead, IsServed, Tells, entries_of, calls_text};
+ghost use Rattle.orders.specs.Lines.{ahead};
+ghost use Rattle.std.specs.Io.KnownBytes.{IsAtEnd};
 
 use crate::options::Options;
 use crate::print::{give_answer, write_bad_line, write_finish};
@@ -17,8 +19,10 @@ pub fn serve<R: Source, W: Sink>(
     writer: &mut W,
     options: &Options,
 ) -> Result<(), ServeFault>
-    // What is written is what answered the calls that made a legal journal, and then its length or that a line is bad.
-    ensures served { IsServed options.now.limits (W.held writer.old) (W.held writer.new) result }
+    // The calls are those of the script, in their order. What is written is what answered them, and then the length of the
+    // legal journal that they made, or that a line is bad.
+    ensures served { IsServed options.now.limits (R.left reader.old) (W.held writer.old) (W.held writer.new) result }
+    ensures end { OnOk result (IsAtEnd (R.left reader.new)) }
     ensures write { result ≡ Err ServeFault.Write → W.has_failed writer.new ≡ true }
 {
     let mut script = Script::new(alloc)?;
@@ -47,7 +51,9 @@ fn answer_all<R: Source, W: Sink>(
 ) -> Result<(), ServeFault>
     ensures told { (calls : List Call)
         × (sessions.new.book.journal ≡ sessions.old.book.journal ++ entries_of calls)
-        × Tells (W.held writer.old) (W.held writer.new) result (calls_text calls) }
+        × Tells (W.held writer.old) (W.held writer.new) result (calls_text calls)
+        × IsRead (ahead script.old.lines.block (R.left reader.old)) result calls }
+    ensures end { OnOk result (IsAtEnd (R.left reader.new)) }
     ensures limits { sessions.new.book.limits ≡ sessions.old.book.limits }
     ensures write { result ≡ Err ServeFault.Write → W.has_failed writer.new ≡ true }
 {
