@@ -242,6 +242,19 @@ fn find_lasting(alloc: Global, entries: &[Binding]) -> Result<Vec<Binding>, Allo
     Ok(kept)
 }
 
+/// The thread with this number that a body makes, with its registers.
+fn make_thread(
+    alloc: Global,
+    number: usize,
+    entries: &[Binding],
+    body: Body,
+) -> Result<Thread, AllocError>
+    ensures { IfOk result (λ t. t ≡ program_of number entries.now (listing_of body)) }
+{
+    let registers = find_registers(alloc, number, entries, body.statements.as_slice())?;
+    Ok(Thread::new(body.parameters, body.statements, registers))
+}
+
 /// The threads, with their registers.
 #[tactic(auto, using(crate::proofs::Names::programs_push, crate::proofs::Names::programs_len, crate::proofs::Names::map_len))]
 fn make_threads(
@@ -253,8 +266,7 @@ fn make_threads(
 {
     let mut threads = Vec::new(alloc);
     for body in bodies {
-        let registers = find_registers(alloc, threads.len(), entries, body.statements.as_slice())?;
-        threads.push(Thread::new(body.parameters, body.statements, registers))?;
+        threads.push(make_thread(alloc, threads.len(), entries, body)?)?;
     }
     Ok(threads)
 }
