@@ -110,8 +110,7 @@ impl<'a> Reader<'a> {
         ensures { Gives step_of result self.new.rest.now (closed_at nesting self.old.rest.now) }
     {
         let statement = self.simple(nesting)?;
-        self.expect(Terminal::Semicolon)?;
-        Ok(statement)
+        self.expect(Terminal::Semicolon).and(Ok(statement))
     }
 
     /// The rest of an if: "(" expression ")" statement ["else" statement]
@@ -123,7 +122,7 @@ impl<'a> Reader<'a> {
         self.expect(Terminal::LeftParen)?;
         let nesting = self.deeper(nesting)?;
         let test = self.expression(nesting)?;
-        self.expect(Terminal::RightParen)?;
+        let test = self.expect(Terminal::RightParen).and(Ok(test))?;
         let arm = Box::new(self.alloc, self.statement(nesting)?)?;
         if !self.take(Terminal::Else) {
             return Ok(Statement::If(test, arm, None));
