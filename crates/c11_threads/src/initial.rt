@@ -64,6 +64,24 @@ fn initial_content(
     })
 }
 
+/// What the registers of a thread hold at its start, by the values of the places.
+fn contents_by(
+    alloc: Global,
+    test: &Test,
+    thread: usize,
+    state: &IndexMap<Place, u32>,
+) -> Result<Vec<Content>, AllocError>
+    requires thread { thread < length test.now.threads }
+    requires state { (p : Place) → unwrap_or (get same_place state.now p) 0 ≡ value_at test.now.initial p }
+    ensures { IfOk result (λ v. v.items ≡ initial_contents test.now thread) }
+{
+    let mut contents = Vec::new(alloc);
+    for name in test.threads()[thread].registers() {
+        contents.push(initial_content(state, thread, name)?)?;
+    }
+    Ok(contents)
+}
+
 /// What the registers of a thread hold at its start.
 pub(crate) fn initial_contents(
     alloc: Global,
@@ -74,9 +92,5 @@ pub(crate) fn initial_contents(
     ensures { IfOk result (λ v. v.items ≡ initial_contents test.now thread) }
 {
     let state = initial_state(alloc, test.initial())?;
-    let mut contents = Vec::new(alloc);
-    for name in test.threads()[thread].registers() {
-        contents.push(initial_content(&state, thread, name)?)?;
-    }
-    Ok(contents)
+    contents_by(alloc, test, thread, &state)
 }
