@@ -122,7 +122,7 @@ impl<'a> Reader<'a> {
         self.expect(Terminal::LeftParen)?;
         let nesting = self.deeper(nesting)?;
         let test = self.expression(nesting)?;
-        let test = self.expect(Terminal::RightParen).and(Ok(test))?;
+        self.expect(Terminal::RightParen)?;
         let arm = Box::new(self.alloc, self.statement(nesting)?)?;
         if !self.take(Terminal::Else) {
             return Ok(Statement::If(test, arm, None));
