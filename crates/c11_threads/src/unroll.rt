@@ -40,7 +40,9 @@ impl<'a> Model for Setting<'a> {
 fn single(alloc: Global, end: Progress) -> Result<Vec<Progress>, AllocError>
     ensures { IfOk result (λ v. v.items ≡ end ∷ []) }
 {
-    Ok(vec![in alloc; end]?)
+    let mut ends = Vec::new(alloc);
+    ends.push(end)?;
+    Ok(ends)
 }
 
 /// The way on that gives the content to the register.

@@ -1,6 +1,8 @@
 //! From a test as it is written to the test that it means.
 
-ghost use Rattle.std.specs.Prelude.{◌≡◌, ◌≤◌, ◌<◌, ◌+◌, ◌&&◌, [], ℕ, List, map, length, sum_by, IfOk, IfErr, OnOk, true};
+ghost use Rattle.std.specs.Prelude.{◌≡◌, ◌≤◌, ◌<◌, ◌+◌, ◌&&◌, ◌||◌, ◌∷◌, [], ℕ, List, map, length, not, reverse, sum_by, if◌then◌else◌, IfOk, IfErr, OnOk, true};
+ghost use Rattle.conditions.specs.Equality.{same_place};
+ghost use Rattle.indexmap.specs.IndexSet.{contains};
 ghost use Rattle.std.specs.List.{flat_map, list_all};
 ghost use Rattle.litmus_syntax.specs.Drafts.{listing_of, written_of};
 ghost use Rattle.litmus_test.specs.Limits.{program_events};
@@ -204,6 +206,29 @@ fn find_registers(
     Ok(registers)
 }
 
+/// Adds a place that an entry gives, and tells whether no later entry gives it.
+fn note_given(given: &mut IndexSet<Place>, place: &Place) -> Result<bool, AllocError>
+    ensures last { IfOk result (λ b. b ≡ not (contains same_place given.old place.now)) }
+    ensures given { OnOk result ((p : Place) → contains same_place given.new p ≡ (same_place place.now p || contains same_place given.old p)) }
+{
+    Ok(given.insert(place.copy()?)?)
+}
+
+/// Keeps an entry in front of those that are kept in reverse, unless a later one gives its place.
+fn keep_entry(
+    given: &mut IndexSet<Place>,
+    kept: &mut Vec<Binding>,
+    entry: &Binding,
+) -> Result<(), AllocError>
+    ensures given { OnOk result ((p : Place) → contains same_place given.new p ≡ (same_place entry.now.place p || contains same_place given.old p)) }
+    ensures kept { OnOk result (reverse kept.new.items ≡ (if contains same_place given.old entry.now.place then reverse kept.old.items else entry.now ∷ reverse kept.old.items)) }
+{
+    if note_given(given, &entry.place)? {
+        kept.push(entry.copy()?)?;
+    }
+    Ok(())
+}
+
 /// The entries that hold: of two for one place the later.
 fn find_lasting(alloc: Global, entries: &[Binding]) -> Result<Vec<Binding>, AllocError>
     ensures { IfOk result (λ v. v.items ≡ lasting entries.now) }
@@ -211,12 +236,23 @@ fn find_lasting(alloc: Global, entries: &[Binding]) -> Result<Vec<Binding>, Allo
     let mut later = IndexSet::new(alloc);
     let mut kept = Vec::new(alloc);
     for entry in entries.iter().rev() {
-        if later.insert(entry.place.copy()?)? {
-            kept.push(entry.copy()?)?;
-        }
+        keep_entry(&mut later, &mut kept, entry)?;
     }
     kept.reverse();
     Ok(kept)
+}
+
+/// The thread with this number that a body makes, with its registers.
+fn make_thread(
+    alloc: Global,
+    number: usize,
+    entries: &[Binding],
+    body: Body,
+) -> Result<Thread, AllocError>
+    ensures { IfOk result (λ t. t ≡ program_of number entries.now (listing_of body)) }
+{
+    let registers = find_registers(alloc, number, entries, body.statements.as_slice())?;
+    Ok(Thread::new(body.parameters, body.statements, registers))
 }
 
 /// The threads, with their registers.
@@ -230,8 +266,7 @@ fn make_threads(
 {
     let mut threads = Vec::new(alloc);
     for body in bodies {
-        let registers = find_registers(alloc, threads.len(), entries, body.statements.as_slice())?;
-        threads.push(Thread::new(body.parameters, body.statements, registers))?;
+        threads.push(make_thread(alloc, threads.len(), entries, body)?)?;
     }
     Ok(threads)
 }

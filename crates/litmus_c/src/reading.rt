@@ -63,6 +63,16 @@ fn draft_of(
     }
 }
 
+/// The word of a symbol, if it is one that the language leaves out.
+fn foreign(symbol: &Symbol) -> Result<Option<Name>, AllocError>
+    ensures { IfOk result (λ o. IfSome o (λ w. symbol.now ≡ Foreign w)) }
+{
+    match symbol {
+        Symbol::Foreign(word) => Ok(Some(word.copy()?)),
+        _ => Ok(None),
+    }
+}
+
 /// The word at an offset, if it is one that the language leaves out.
 fn foreign_at(
     tokens: &[Token],
@@ -73,10 +83,7 @@ fn foreign_at(
 {
     for (token, symbol) in tokens.iter().zip(symbols) {
         if token.from == offset {
-            return match symbol {
-                Symbol::Foreign(word) => Ok(Some(word.copy()?)),
-                _ => Ok(None),
-            };
+            return foreign(symbol);
         }
     }
     Ok(None)

@@ -1,9 +1,9 @@
 //! The terminal symbols of the grammar of tests.
 
-ghost use Rattle.std.specs.Prelude.{◌≡◌, IfOk, MatchOption, length, All, true, false};
+ghost use Rattle.std.specs.Prelude.{◌≡◌, IfOk, MatchOption, length, drop, All, true, false};
 ghost use Rattle.wb_text.specs.Numbers.{decimal_value};
 ghost use Rattle.wb_text.specs.Tokens.{IsWithin};
-ghost use Rattle.litmus_syntax.specs.Symbols.{looked_up, signs, words, foreign_words, is_foreign_order, is_foreign_call, is_foreign, is_name, is_number, name_symbol, symbol_by, is_opened, symbols_of};
+ghost use Rattle.litmus_syntax.specs.Symbols.{looked_up, signs, words, foreign_words, is_foreign_order, is_foreign_call, is_foreign, is_name, is_number, name_symbol, symbol_by, spelling, is_opened, symbols_of};
 ghost use Rattle.litmus_tree.specs.Names.{is_one_of};
 
 use crate::atomics::{Operation, call_named, order_named};
@@ -84,25 +84,48 @@ macro_rules! is_one_of {
     };
 }
 
+/// The sign of these bytes, the brackets first.
 fn sign(bytes: &[u8]) -> Option<Terminal>
     ensures { result ≡ looked_up signs bytes.now }
 {
     looked_up!(bytes: b"(" => Terminal::LeftParen, b")" => Terminal::RightParen, b"{" => Terminal::LeftBrace,
-        b"}" => Terminal::RightBrace, b"[" => Terminal::LeftBracket, b"]" => Terminal::RightBracket,
-        b";" => Terminal::Semicolon, b":" => Terminal::Colon, b"," => Terminal::Comma, b"=" => Terminal::Assign,
-        b"*" => Terminal::Star, b"~" => Terminal::Tilde, b"!" => Terminal::Bang, b"==" => Terminal::EqualEqual,
-        b"!=" => Terminal::BangEqual, b"&&" => Terminal::AndAnd, b"||" => Terminal::OrOr, b"/\\" => Terminal::And,
-        b"\\/" => Terminal::Or, b"=>" => Terminal::Arrow);
+        b"}" => Terminal::RightBrace, b"[" => Terminal::LeftBracket, b"]" => Terminal::RightBracket);
+    mark(bytes)
+}
+
+/// A sign that is no bracket, those of one character first.
+fn mark(bytes: &[u8]) -> Option<Terminal>
+    ensures { result ≡ looked_up (drop 6 signs) bytes.now }
+{
+    looked_up!(bytes: b";" => Terminal::Semicolon, b":" => Terminal::Colon, b"," => Terminal::Comma,
+        b"=" => Terminal::Assign, b"*" => Terminal::Star, b"~" => Terminal::Tilde, b"!" => Terminal::Bang);
+    long_mark(bytes)
+}
+
+/// A sign of two characters.
+fn long_mark(bytes: &[u8]) -> Option<Terminal>
+    ensures { result ≡ looked_up (drop 13 signs) bytes.now }
+{
+    looked_up!(bytes: b"==" => Terminal::EqualEqual, b"!=" => Terminal::BangEqual, b"&&" => Terminal::AndAnd,
+        b"||" => Terminal::OrOr, b"/\\" => Terminal::And, b"\\/" => Terminal::Or, b"=>" => Terminal::Arrow);
     None
 }
 
+/// The reserved word of these bytes, those of statements first.
 fn word(bytes: &[u8]) -> Option<Terminal>
     ensures { result ≡ looked_up words bytes.now }
 {
     looked_up!(bytes: b"int" => Terminal::Int, b"atomic_int" => Terminal::AtomicInt, b"volatile" => Terminal::Volatile,
-        b"if" => Terminal::If, b"else" => Terminal::Else, b"true" => Terminal::True, b"false" => Terminal::False,
-        b"exists" => Terminal::Exists, b"forall" => Terminal::Forall, b"not" => Terminal::Not,
-        b"locations" => Terminal::Locations);
+        b"if" => Terminal::If, b"else" => Terminal::Else);
+    condition_word(bytes)
+}
+
+/// A reserved word of conditions and of the places that they list.
+fn condition_word(bytes: &[u8]) -> Option<Terminal>
+    ensures { result ≡ looked_up (drop 5 words) bytes.now }
+{
+    looked_up!(bytes: b"true" => Terminal::True, b"false" => Terminal::False, b"exists" => Terminal::Exists,
+        b"forall" => Terminal::Forall, b"not" => Terminal::Not, b"locations" => Terminal::Locations);
     None
 }
 
@@ -219,6 +242,21 @@ fn is_opened(text: &[u8], tokens: &[Token]) -> bool
     }
 }
 
+/// What a token is in the grammar, where `behind` are the tokens behind it.
+fn read_symbol(
+    alloc: Global,
+    text: &[u8],
+    token: &Token,
+    behind: &[Token],
+) -> Result<Symbol, AllocError>
+    requires first { IsWithin (length text.now) token.now }
+    requires rest { All (IsWithin (length text.now)) behind.now }
+    ensures { IfOk result (λ s. s ≡ symbol_by token.now.kind (is_opened text.now behind.now) (spelling text.now token.now)) }
+{
+    let called = is_opened(text, behind);
+    spelled(alloc, token.kind, called, &text[token.from..token.to])
+}
+
 /// What the tokens of a text are in the grammar, in order.
 #[tactic(auto, using(crate::proofs::Spelled::first_within, crate::proofs::Spelled::rest_within))]
 pub fn symbols(alloc: Global, text: &[u8], tokens: &[Token]) -> Result<Vec<Symbol>, AllocError>
@@ -228,8 +266,7 @@ pub fn symbols(alloc: Global, text: &[u8], tokens: &[Token]) -> Result<Vec<Symbo
     let mut symbols = Vec::new(alloc);
     let mut rest = tokens;
     while let Some((token, behind)) = rest.split_first() {
-        let called = is_opened(text, behind);
-        symbols.push(spelled(alloc, token.kind, called, &text[token.from..token.to])?)?;
+        symbols.push(read_symbol(alloc, text, token, behind)?)?;
         rest = behind;
     }
     Ok(symbols)

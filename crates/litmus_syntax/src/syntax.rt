@@ -508,14 +508,13 @@ impl<'a> Reader<'a> {
         let bodies = self.threads(nesting)?;
         let listed = self.listed()?;
         let condition = self.condition(nesting)?;
-        self.end()?;
-        Ok(Draft {
+        self.end().and(Ok(Draft {
             name,
             entries,
             bodies,
             listed,
             condition,
-        })
+        }))
     }
 }
 

@@ -129,8 +129,7 @@ impl<'a> Reader<'a> {
                 let nesting = self.deeper(nesting)?;
                 self.rest = rest;
                 let inner = self.level(LEVELS, nesting)?;
-                self.expect(Terminal::RightParen)?;
-                Ok(inner)
+                self.expect(Terminal::RightParen).and(Ok(inner))
             }
             _ => Err(SyntaxFault::Syntax(self.position())),
         }

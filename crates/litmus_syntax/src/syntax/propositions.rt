@@ -1,6 +1,6 @@
 //! Conditions.
 
-ghost use Rattle.std.specs.Prelude.{◌≡◌, Some, None, MatchBool};
+ghost use Rattle.std.specs.Prelude.{◌≡◌, Some, None, MatchBool, IfOk};
 ghost use Rattle.conditions.specs.Conditions.{formula_of};
 ghost use Rattle.litmus_syntax.specs.Reading.{Gives, equation_at, denial, plain_atomic_at, denied_with, enclosed_with, atomic_with, conjunction_with, or_with, proposition_with, propositions_below, kind_of_at, condition_at};
 
@@ -8,6 +8,14 @@ use crate::symbol::Terminal;
 use crate::syntax::Reader;
 use crate::syntax_fault::SyntaxFault;
 use conditions::{Cond, Kind, Prop};
+use std::alloc::{AllocError, Global};
+
+/// Both operands, each in a box.
+fn boxed(alloc: Global, left: Prop, right: Prop) -> Result<(Box<Prop>, Box<Prop>), AllocError>
+    ensures { IfOk result (λ p. (p.0.value ≡ left) × (p.1.value ≡ right)) }
+{
+    Ok((Box::new(alloc, left)?, Box::new(alloc, right)?))
+}
 
 impl<'a> Reader<'a> {
     /// place "=" number
@@ -61,8 +69,7 @@ impl<'a> Reader<'a> {
         }
         let nesting = self.deeper(nesting)?;
         let inner = self.proposition(nesting)?;
-        self.expect(Terminal::RightParen)?;
-        Ok(inner)
+        self.expect(Terminal::RightParen).and(Ok(inner))
     }
 
     /// conjunction := atomic {"/\" atomic}
@@ -74,7 +81,8 @@ impl<'a> Reader<'a> {
         let mut left = self.atomic(nesting)?;
         while self.take(Terminal::And) {
             let right = self.atomic(nesting)?;
-            left = Prop::And(Box::new(self.alloc, left)?, Box::new(self.alloc, right)?);
+            let (first, second) = boxed(self.alloc, left, right)?;
+            left = Prop::And(first, second);
         }
         Ok(left)
     }
@@ -88,7 +96,8 @@ impl<'a> Reader<'a> {
         let mut left = self.conjunction(nesting)?;
         while self.take(Terminal::Or) {
             let right = self.conjunction(nesting)?;
-            left = Prop::Or(Box::new(self.alloc, left)?, Box::new(self.alloc, right)?);
+            let (first, second) = boxed(self.alloc, left, right)?;
+            left = Prop::Or(first, second);
         }
         Ok(left)
     }
@@ -105,7 +114,8 @@ impl<'a> Reader<'a> {
         }
         let nesting = self.deeper(nesting)?;
         let right = self.proposition(nesting)?;
-        Ok(Prop::Implies(Box::new(self.alloc, left)?, Box::new(self.alloc, right)?))
+        let (first, second) = boxed(self.alloc, left, right)?;
+        Ok(Prop::Implies(first, second))
     }
 
     /// kind := "exists" | ("~" | "not") "exists" | "forall"

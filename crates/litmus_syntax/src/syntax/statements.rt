@@ -110,8 +110,7 @@ impl<'a> Reader<'a> {
         ensures { Gives step_of result self.new.rest.now (closed_at nesting self.old.rest.now) }
     {
         let statement = self.simple(nesting)?;
-        self.expect(Terminal::Semicolon)?;
-        Ok(statement)
+        self.expect(Terminal::Semicolon).and(Ok(statement))
     }
 
     /// The rest of an if: "(" expression ")" statement ["else" statement]

@@ -18,9 +18,9 @@ impl Test {
             name: self.name.copy()?,
             initial: copy_bindings(alloc, &self.initial)?,
             threads: copy_threads(alloc, &self.threads)?,
-            condition: self.condition.copy()?,
             listed: copy_places(alloc, &self.listed)?,
             locations: copy_names(alloc, &self.locations)?,
+            condition: self.condition.copy()?,
         })
     }
 }

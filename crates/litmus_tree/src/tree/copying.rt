@@ -92,14 +92,12 @@ impl Declarator {
     pub fn copy(&self) -> Result<Declarator, AllocError>
         ensures { IfOk result (λ d. declared_of d ≡ declared_of self.now) }
     {
+        let register = self.register.copy()?;
         let value = match &self.value {
             Some(value) => Some(value.copy()?),
             None => None,
         };
-        Ok(Declarator {
-            register: self.register.copy()?,
-            value,
-        })
+        Ok(Declarator { register, value })
     }
 }
 
@@ -128,13 +126,14 @@ impl Statement {
             }
             Statement::Perform(call) => Ok(Statement::Perform(call.copy()?)),
             Statement::If(test, arm, None) => {
-                Ok(Statement::If(test.copy()?, boxed_statement(arm)?, None))
+                let arm = boxed_statement(arm)?;
+                Ok(Statement::If(test.copy()?, arm, None))
             }
-            Statement::If(test, arm, Some(other)) => Ok(two_armed(
-                test.copy()?,
-                boxed_statement(arm)?,
-                boxed_statement(other)?,
-            )),
+            Statement::If(test, arm, Some(other)) => {
+                let arm = boxed_statement(arm)?;
+                let other = boxed_statement(other)?;
+                Ok(two_armed(test.copy()?, arm, other))
+            }
         }
     }
 }
