@@ -34,7 +34,10 @@ impl<'a> Reader<'a> {
         ensures ok { IfOk result (λ n. nesting ≡ suc n) }
         ensures err { IfErr result (λ e. nesting ≡ 0) }
     {
-        nesting.checked_sub(1).ok_or(SyntaxFault::TooDeep)
+        if nesting == 0 {
+            return Err(SyntaxFault::TooDeep);
+        }
+        Ok(nesting - 1)
     }
 
     /// Whether this terminal comes next.
