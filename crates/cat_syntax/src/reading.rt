@@ -17,8 +17,8 @@ use crate::counting::excess;
 use crate::fault::CatFault;
 use crate::symbol::{Symbol, Terminal, symbols};
 use crate::syntax_fault::SyntaxFault;
-use std::alloc::Global;
 use cat_tree::CatFile;
+use std::alloc::Global;
 use wb_text::{Dialect, Name, Token, tokens};
 
 /// The symbols that are not yet read. At a fault, the first of them is the symbol that it is about.

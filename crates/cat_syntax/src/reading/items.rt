@@ -155,21 +155,14 @@ impl<'a> Reader<'a> {
         let [first, rest @ ..] = self.rest else {
             return Err(SyntaxFault::Unexpected);
         };
-        match first {
-            Symbol::Fixed(Terminal::Acyclic) => {
-                self.rest = rest;
-                Ok(CheckKind::Acyclic)
-            }
-            Symbol::Fixed(Terminal::Irreflexive) => {
-                self.rest = rest;
-                Ok(CheckKind::Irreflexive)
-            }
-            Symbol::Fixed(Terminal::Empty) => {
-                self.rest = rest;
-                Ok(CheckKind::Empty)
-            }
-            _ => Err(SyntaxFault::Unexpected),
-        }
+        let kind = match first {
+            Symbol::Fixed(Terminal::Acyclic) => CheckKind::Acyclic,
+            Symbol::Fixed(Terminal::Irreflexive) => CheckKind::Irreflexive,
+            Symbol::Fixed(Terminal::Empty) => CheckKind::Empty,
+            _ => return Err(SyntaxFault::Unexpected),
+        };
+        self.rest = rest;
+        Ok(kind)
     }
 
     /// ["flag"] ["~"] kind expression ["as" name]
