@@ -160,12 +160,17 @@ fn is_put(alloc: Global, files: &Files, bytes: &[u8]) -> Result<bool, Fail> {
     Ok(files.is_loaded(&name) && files.version(&name) == 1)
 }
 
+/// Whether the two files of `two_files` are put, and no third.
+fn two_are_put(alloc: Global, files: &Files) -> Result<bool, Fail> {
+    let base = is_put(alloc, files, b"base.cat")?;
+    let root = is_put(alloc, files, b"root.cat")?;
+    Ok(base && root && files.name_at(2).is_none())
+}
+
 #[test]
 fn putting(rt: HostRuntime) -> Result<(), Fail> {
     let files = two_files(rt.alloc())?;
-    assert!(rt; is_put(rt.alloc(), &files, b"base.cat")?);
-    assert!(rt; is_put(rt.alloc(), &files, b"root.cat")?);
-    assert!(rt; files.name_at(2).is_none());
+    assert!(rt; two_are_put(rt.alloc(), &files)?);
     Ok(())
 }
 

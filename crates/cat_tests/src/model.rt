@@ -173,8 +173,11 @@ fn names_in_order_of_first_put(rt: HostRuntime) -> Result<(), Fail> {
 
 /// Takes a file away, if it is loaded and a version is left.
 fn remove(files: &mut Files, name: &Name) -> bool {
+    if !files.is_loaded(name) {
+        return false;
+    }
     let version = files.version(name);
-    if !files.is_loaded(name) || version == u32::MAX {
+    if version == u32::MAX {
         return false;
     }
     files.remove(name, version + 1);
