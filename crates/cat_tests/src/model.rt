@@ -160,14 +160,22 @@ fn is_at(files: &Files, place: usize, wanted: &str) -> bool {
     }
 }
 
+/// Whether these are the names that were put, in order.
+fn names_are(files: &Files, wanted: &[&str]) -> bool {
+    for (place, name) in wanted.iter().enumerate() {
+        if !is_at(files, place, name) {
+            return false;
+        }
+    }
+    files.name_at(wanted.len()).is_none()
+}
+
 #[test]
 fn names_in_order_of_first_put(rt: HostRuntime) -> Result<(), Fail> {
     let empty = "empty 0";
     let texts = [("b.cat", empty), ("a.cat", empty), ("b.cat", empty)];
     let files = loaded(rt.alloc(), &texts)?;
-    assert!(rt; is_at(&files, 0, "b.cat"));
-    assert!(rt; is_at(&files, 1, "a.cat"));
-    assert!(rt; files.name_at(2).is_none());
+    assert!(rt; names_are(&files, &["b.cat", "a.cat"]));
     Ok(())
 }
 
