@@ -54,7 +54,6 @@ fn names_of_both<'a>(
 }
 
 /// Adds the names that stand under a complement or to the right of a difference, from left to right.
-#[cycle(denying)]
 pub fn denied_names<'a>(
     expression: &'a Expression,
     found: &mut Vec<&'a Name>,
@@ -67,10 +66,22 @@ pub fn denied_names<'a>(
             denied_names(a, found)?;
             names(b, found)
         }
-        Expression::Union(a, b) => denied_names_of_both(a, b, found),
-        Expression::Sequence(a, b) => denied_names_of_both(a, b, found),
-        Expression::Intersection(a, b) => denied_names_of_both(a, b, found),
-        Expression::Product(a, b) => denied_names_of_both(a, b, found),
+        Expression::Union(a, b) => {
+            denied_names(a, found)?;
+            denied_names(b, found)
+        }
+        Expression::Sequence(a, b) => {
+            denied_names(a, found)?;
+            denied_names(b, found)
+        }
+        Expression::Intersection(a, b) => {
+            denied_names(a, found)?;
+            denied_names(b, found)
+        }
+        Expression::Product(a, b) => {
+            denied_names(a, found)?;
+            denied_names(b, found)
+        }
         Expression::Plus(a) => denied_names(a, found),
         Expression::Star(a) => denied_names(a, found),
         Expression::Optional(a) => denied_names(a, found),
@@ -83,19 +94,6 @@ pub fn denied_names<'a>(
         Expression::EmptySet => Ok(()),
         Expression::Universe => Ok(()),
     }
-}
-
-/// Adds the names of two expressions that stand so, first those of the left one.
-#[cycle(denying)]
-fn denied_names_of_both<'a>(
-    a: &'a Expression,
-    b: &'a Expression,
-    found: &mut Vec<&'a Name>,
-) -> Result<(), AllocError>
-    ensures { OnOk result (map (λ x. x.now) found.new.items ≡ map (λ x. x.now) found.old.items ++ (denied_in (term_of a.now) ++ denied_in (term_of b.now))) }
-{
-    denied_names(a, found)?;
-    denied_names(b, found)
 }
 
 /// Whether an expression has this sort.
