@@ -35,42 +35,34 @@ pub enum Line {
 }
 
 /// The expression, node by node.
+#[cycle(drawing)]
 pub fn expression(alloc: Global, sketch: &Sketch) -> Result<Expression, AllocError>
     ensures { IfOk result (λ e. term_of e ≡ sketched sketch.now) }
 {
     match sketch {
         Sketch::Name(name) => Ok(Expression::Name(word(alloc, name)?)),
         Sketch::Universe => Ok(Expression::Universe),
-        Sketch::Union(a, b) => Ok(Expression::Union(
-            Box::new(alloc, expression(alloc, a)?)?,
-            Box::new(alloc, expression(alloc, b)?)?,
-        )),
-        Sketch::Sequence(a, b) => Ok(Expression::Sequence(
-            Box::new(alloc, expression(alloc, a)?)?,
-            Box::new(alloc, expression(alloc, b)?)?,
-        )),
-        Sketch::Difference(a, b) => {
-            Ok(Expression::Difference(
-                Box::new(alloc, expression(alloc, a)?)?,
-                Box::new(alloc, expression(alloc, b)?)?,
-            ))
-        }
+        Sketch::Union(a, b) => Ok(Expression::Union(boxed(alloc, a)?, boxed(alloc, b)?)),
+        Sketch::Sequence(a, b) => Ok(Expression::Sequence(boxed(alloc, a)?, boxed(alloc, b)?)),
+        Sketch::Difference(a, b) => Ok(Expression::Difference(boxed(alloc, a)?, boxed(alloc, b)?)),
         Sketch::Intersection(a, b) => {
-            Ok(Expression::Intersection(
-                Box::new(alloc, expression(alloc, a)?)?,
-                Box::new(alloc, expression(alloc, b)?)?,
-            ))
+            Ok(Expression::Intersection(boxed(alloc, a)?, boxed(alloc, b)?))
         }
-        Sketch::Product(a, b) => Ok(Expression::Product(
-            Box::new(alloc, expression(alloc, a)?)?,
-            Box::new(alloc, expression(alloc, b)?)?,
-        )),
-        Sketch::Plus(a) => Ok(Expression::Plus(Box::new(alloc, expression(alloc, a)?)?)),
-        Sketch::Star(a) => Ok(Expression::Star(Box::new(alloc, expression(alloc, a)?)?)),
-        Sketch::Optional(a) => Ok(Expression::Optional(Box::new(alloc, expression(alloc, a)?)?)),
-        Sketch::Inverse(a) => Ok(Expression::Inverse(Box::new(alloc, expression(alloc, a)?)?)),
-        Sketch::Identity(a) => Ok(Expression::Identity(Box::new(alloc, expression(alloc, a)?)?)),
+        Sketch::Product(a, b) => Ok(Expression::Product(boxed(alloc, a)?, boxed(alloc, b)?)),
+        Sketch::Plus(a) => Ok(Expression::Plus(boxed(alloc, a)?)),
+        Sketch::Star(a) => Ok(Expression::Star(boxed(alloc, a)?)),
+        Sketch::Optional(a) => Ok(Expression::Optional(boxed(alloc, a)?)),
+        Sketch::Inverse(a) => Ok(Expression::Inverse(boxed(alloc, a)?)),
+        Sketch::Identity(a) => Ok(Expression::Identity(boxed(alloc, a)?)),
     }
+}
+
+/// A box of the expression.
+#[cycle(drawing)]
+fn boxed(alloc: Global, sketch: &Sketch) -> Result<Box<Expression>, AllocError>
+    ensures { IfOk result (λ b. term_of b.value ≡ sketched sketch.now) }
+{
+    Ok(Box::new(alloc, expression(alloc, sketch)?)?)
 }
 
 fn check(

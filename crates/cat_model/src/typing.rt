@@ -12,6 +12,7 @@ use std::alloc::AllocError;
 use wb_text::Name;
 
 /// Adds the names of an expression, from left to right.
+#[cycle(naming)]
 pub fn names<'a>(expression: &'a Expression, found: &mut Vec<&'a Name>) -> Result<(), AllocError>
     ensures { OnOk result (map (λ x. x.now) found.new.items ≡ map (λ x. x.now) found.old.items ++ names_in (term_of expression.now)) }
 {
@@ -20,26 +21,11 @@ pub fn names<'a>(expression: &'a Expression, found: &mut Vec<&'a Name>) -> Resul
             found.push(name)?;
             Ok(())
         }
-        Expression::Union(a, b) => {
-            names(a, found)?;
-            names(b, found)
-        }
-        Expression::Sequence(a, b) => {
-            names(a, found)?;
-            names(b, found)
-        }
-        Expression::Difference(a, b) => {
-            names(a, found)?;
-            names(b, found)
-        }
-        Expression::Intersection(a, b) => {
-            names(a, found)?;
-            names(b, found)
-        }
-        Expression::Product(a, b) => {
-            names(a, found)?;
-            names(b, found)
-        }
+        Expression::Union(a, b) => names_of_both(a, b, found),
+        Expression::Sequence(a, b) => names_of_both(a, b, found),
+        Expression::Difference(a, b) => names_of_both(a, b, found),
+        Expression::Intersection(a, b) => names_of_both(a, b, found),
+        Expression::Product(a, b) => names_of_both(a, b, found),
         Expression::Complement(a) => names(a, found),
         Expression::Plus(a) => names(a, found),
         Expression::Star(a) => names(a, found),
@@ -52,6 +38,19 @@ pub fn names<'a>(expression: &'a Expression, found: &mut Vec<&'a Name>) -> Resul
         Expression::EmptySet => Ok(()),
         Expression::Universe => Ok(()),
     }
+}
+
+/// Adds the names of two expressions, first those of the left one.
+#[cycle(naming)]
+fn names_of_both<'a>(
+    a: &'a Expression,
+    b: &'a Expression,
+    found: &mut Vec<&'a Name>,
+) -> Result<(), AllocError>
+    ensures { OnOk result (map (λ x. x.now) found.new.items ≡ map (λ x. x.now) found.old.items ++ (names_in (term_of a.now) ++ names_in (term_of b.now))) }
+{
+    names(a, found)?;
+    names(b, found)
 }
 
 /// Adds the names that stand under a complement or to the right of a difference, from left to right.

@@ -17,8 +17,8 @@ use crate::counting::excess;
 use crate::fault::CatFault;
 use crate::symbol::{Symbol, Terminal, symbols};
 use crate::syntax_fault::SyntaxFault;
-use std::alloc::Global;
 use cat_tree::CatFile;
+use std::alloc::Global;
 use wb_text::{Dialect, Name, Token, tokens};
 
 /// The symbols that are not yet read. At a fault, the first of them is the symbol that it is about.
@@ -34,7 +34,10 @@ impl<'a> Reader<'a> {
         ensures ok { IfOk result (λ n. nesting ≡ suc n) }
         ensures err { IfErr result (λ e. nesting ≡ 0) }
     {
-        nesting.checked_sub(1).ok_or(SyntaxFault::TooDeep)
+        if nesting == 0 {
+            return Err(SyntaxFault::TooDeep);
+        }
+        Ok(nesting - 1)
     }
 
     /// Whether this terminal comes next.

@@ -75,25 +75,41 @@ fn item_copy(item: &Item) -> Result<Item, AllocError> {
     }
 }
 
+fn item_is_copied(item: &Item) -> Result<bool, AllocError> {
+    let copy = item_copy(item)?;
+    Ok(copy == *item)
+}
+
 fn items_are_copied(items: &[Item]) -> Result<bool, AllocError> {
     for item in items {
-        let copy = item_copy(item)?;
-        if copy != *item {
+        if !item_is_copied(item)? {
             return Ok(false);
         }
     }
     Ok(true)
 }
 
+/// Whether a file's copy is equal to it, and to another that was read from the same text.
+fn file_is_copied(file: &CatFile, again: &CatFile) -> Result<bool, AllocError> {
+    let copy = file_copy(file)?;
+    Ok(copy == *file && copy == *again)
+}
+
+fn text_is_copied(alloc: Global, text: &str) -> Result<bool, Fail> {
+    let file = read(alloc, text)?;
+    let again = read(alloc, text)?;
+    Ok(file_is_copied(&file, &again)?)
+}
+
+fn items_of_text_are_copied(alloc: Global, text: &str) -> Result<bool, Fail> {
+    let file = read(alloc, text)?;
+    Ok(items_are_copied(file.items())?)
+}
+
 #[test]
 fn copying(rt: HostRuntime) -> Result<(), Fail> {
-    let alloc = rt.alloc();
-    let file = read(alloc, TEXT)?;
-    let copy = file_copy(&file)?;
-    assert!(rt; copy == file);
-    let again = read(alloc, TEXT)?;
-    assert!(rt; copy == again);
-    assert!(rt; items_are_copied(file.items())?);
+    assert!(rt; text_is_copied(rt.alloc(), TEXT)?);
+    assert!(rt; items_of_text_are_copied(rt.alloc(), TEXT)?);
     Ok(())
 }
 
@@ -138,16 +154,23 @@ fn two_files(alloc: Global) -> Result<Files, Fail> {
     Ok(files)
 }
 
+/// Whether a file is loaded at its first version.
+fn is_put(alloc: Global, files: &Files, bytes: &[u8]) -> Result<bool, Fail> {
+    let name = name(alloc, bytes)?;
+    Ok(files.is_loaded(&name) && files.version(&name) == 1)
+}
+
+/// Whether the two files of `two_files` are put, and no third.
+fn two_are_put(alloc: Global, files: &Files) -> Result<bool, Fail> {
+    let base = is_put(alloc, files, b"base.cat")?;
+    let root = is_put(alloc, files, b"root.cat")?;
+    Ok(base && root && files.name_at(2).is_none())
+}
+
 #[test]
 fn putting(rt: HostRuntime) -> Result<(), Fail> {
-    let alloc = rt.alloc();
-    let files = two_files(alloc)?;
-    for bytes in [b"base.cat".as_slice(), b"root.cat".as_slice()] {
-        let name = name(alloc, bytes)?;
-        assert!(rt; files.is_loaded(&name));
-        assert_eq!(rt; files.version(&name), 1);
-    }
-    assert!(rt; files.name_at(2).is_none());
+    let files = two_files(rt.alloc())?;
+    assert!(rt; two_are_put(rt.alloc(), &files)?);
     Ok(())
 }
 
@@ -159,12 +182,16 @@ fn model(alloc: Global, files: &Files, root: &Name) -> Result<Model, Fail> {
     }
 }
 
-#[test]
-fn resolving(rt: HostRuntime) -> Result<(), Fail> {
-    let alloc = rt.alloc();
+/// The model of the root of `two_files`.
+fn two_files_model(alloc: Global) -> Result<Model, Fail> {
     let files = two_files(alloc)?;
     let root = name(alloc, b"root.cat")?;
-    let model = model(alloc, &files, &root)?;
+    model(alloc, &files, &root)
+}
+
+#[test]
+fn resolving(rt: HostRuntime) -> Result<(), Fail> {
+    let model = two_files_model(rt.alloc())?;
     assert_eq!(rt; model.items().len(), 23);
     assert_eq!(rt; model.files().len(), 3);
     Ok(())
@@ -179,22 +206,26 @@ fn unbound(alloc: Global, files: &Files, root: &Name) -> Result<Option<Name>, Fa
     }
 }
 
+/// The name of which a root is refused as unbound.
+fn unbound_at_last(alloc: Global, files: &Files, root: &Name) -> Result<Name, Fail> {
+    let told = match unbound(alloc, files, root)? {
+        Some(told) => Some(told),
+        None => unbound(alloc, files, root)?,
+    };
+    Ok(told.ok_or("refused once more")?)
+}
+
+/// The name of which a root of this text is refused as unbound.
+fn unbound_in(alloc: Global, text: &str) -> Result<Name, Fail> {
+    let mut files = new_files(alloc)?;
+    put(alloc, &mut files, b"root.cat", text)?;
+    let root = name(alloc, b"root.cat")?;
+    unbound_at_last(alloc, &files, &root)
+}
+
 #[test]
 fn resolving_a_fault(rt: HostRuntime) -> Result<(), Fail> {
-    let alloc = rt.alloc();
-    let mut files = new_files(alloc)?;
-    put(
-        alloc,
-        &mut files,
-        b"root.cat",
-        "include \"rc11.cat\" let r = po | later",
-    )?;
-    let root = name(alloc, b"root.cat")?;
-    let told = match unbound(alloc, &files, &root)? {
-        Some(told) => Some(told),
-        None => unbound(alloc, &files, &root)?,
-    };
-    let told = told.ok_or("refused once more")?;
+    let told = unbound_in(rt.alloc(), "include \"rc11.cat\" let r = po | later")?;
     assert!(rt; told.bytes() == b"later".as_slice());
     Ok(())
 }
@@ -206,15 +237,23 @@ fn model_copy(model: &Model) -> Result<Model, AllocError> {
     }
 }
 
+/// Whether a model's copy is equal to a second model of the same files.
+fn model_is_copied(first: &Model, second: &Model) -> Result<bool, AllocError> {
+    let copy = model_copy(first)?;
+    Ok(copy == *second)
+}
+
+fn models_are_copied(alloc: Global, files: &Files, root: &Name) -> Result<bool, Fail> {
+    let first = model(alloc, files, root)?;
+    let second = model(alloc, files, root)?;
+    Ok(model_is_copied(&first, &second)?)
+}
+
 #[test]
 fn copying_a_model(rt: HostRuntime) -> Result<(), Fail> {
-    let alloc = rt.alloc();
-    let files = two_files(alloc)?;
-    let root = name(alloc, b"root.cat")?;
-    let first = model(alloc, &files, &root)?;
-    let second = model(alloc, &files, &root)?;
-    let copy = model_copy(&first)?;
-    assert!(rt; copy == second);
+    let files = two_files(rt.alloc())?;
+    let root = name(rt.alloc(), b"root.cat")?;
+    assert!(rt; models_are_copied(rt.alloc(), &files, &root)?);
     Ok(())
 }
 
@@ -239,15 +278,21 @@ fn judged(alloc: Global, model: &Model, view: &GraphView) -> Result<Judgement, A
     }
 }
 
-#[test]
-fn judging(rt: HostRuntime) -> Result<(), Fail> {
-    let alloc = rt.alloc();
-    let files = two_files(alloc)?;
-    let root = name(alloc, b"root.cat")?;
-    let model = model(alloc, &files, &root)?;
+/// What a model says of store buffering with plain accesses.
+fn plain_judged(alloc: Global, model: &Model) -> Result<Judgement, AllocError> {
     let graph = graph(alloc, Order::Na)?;
     let view = view(alloc, &graph)?;
-    let judgement = judged(alloc, &model, &view)?;
+    judged(alloc, model, &view)
+}
+
+fn two_files_judged(alloc: Global) -> Result<Judgement, Fail> {
+    let model = two_files_model(alloc)?;
+    Ok(plain_judged(alloc, &model)?)
+}
+
+#[test]
+fn judging(rt: HostRuntime) -> Result<(), Fail> {
+    let judgement = two_files_judged(rt.alloc())?;
     assert!(rt; !judgement.allowed());
     assert!(rt; are_names(judgement.flags(), &["data-race", "read"]));
     Ok(())

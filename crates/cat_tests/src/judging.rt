@@ -1,7 +1,7 @@
 //! What models say of executions that are made by hand.
 
 use crate::loading::model;
-use cat_eval::judge;
+use cat_eval::{Judgement, judge};
 use events::EventId::{Initial, Own};
 use events::{Access, Coherence, Event, Graph, GraphView, Order, Run, no_places};
 use std::alloc::{AllocError, Global};
@@ -66,6 +66,12 @@ pub fn are_names(names: &[Name], wanted: &[&str]) -> bool {
     names.len() == wanted.len()
 }
 
+/// What the model of a text says of an execution.
+fn judged(alloc: Global, view: &GraphView, text: &str) -> Result<Judgement, Fail> {
+    let model = model(alloc, text)?;
+    Ok(judge(alloc, &model, view)?)
+}
+
 /// Whether the model of a text says this of an execution.
 fn says(
     alloc: Global,
@@ -74,21 +80,30 @@ fn says(
     allowed: bool,
     flags: &[&str],
 ) -> Result<bool, Fail> {
-    let model = model(alloc, text)?;
-    let judgement = judge(alloc, &model, view)?;
+    let judgement = judged(alloc, view, text)?;
     Ok(judgement.allowed() == allowed && are_names(judgement.flags(), flags))
+}
+
+/// Whether each text allows or forbids an execution, and flags nothing.
+fn all_say_of(
+    alloc: Global,
+    view: &GraphView,
+    allowed: bool,
+    texts: &[&str],
+) -> Result<bool, Fail> {
+    for text in texts {
+        if !says(alloc, view, text, allowed, &[])? {
+            return Ok(false);
+        }
+    }
+    Ok(true)
 }
 
 /// Whether each text allows or forbids store buffering of this order, and flags nothing.
 fn all_say(alloc: Global, order: Order, allowed: bool, texts: &[&str]) -> Result<bool, Fail> {
     let graph = store_buffering(alloc, order)?;
     let view = GraphView::of(alloc, &graph)?;
-    for text in texts {
-        if !says(alloc, &view, text, allowed, &[])? {
-            return Ok(false);
-        }
-    }
-    Ok(true)
+    all_say_of(alloc, &view, allowed, texts)
 }
 
 #[test]
@@ -152,16 +167,25 @@ fn orders_of_rc11(rt: HostRuntime) -> Result<(), Fail> {
     Ok(())
 }
 
-/// Whether the model of each text says this of store buffering with plain accesses.
-fn all_flag(alloc: Global, rows: &[(&str, bool, &[&str])]) -> Result<bool, Fail> {
-    let graph = store_buffering(alloc, Order::Na)?;
-    let view = GraphView::of(alloc, &graph)?;
+/// Whether the model of each text says this of an execution.
+fn all_flag_of(
+    alloc: Global,
+    view: &GraphView,
+    rows: &[(&str, bool, &[&str])],
+) -> Result<bool, Fail> {
     for (text, allowed, flags) in rows {
-        if !says(alloc, &view, text, *allowed, flags)? {
+        if !says(alloc, view, text, *allowed, flags)? {
             return Ok(false);
         }
     }
     Ok(true)
+}
+
+/// Whether the model of each text says this of store buffering with plain accesses.
+fn all_flag(alloc: Global, rows: &[(&str, bool, &[&str])]) -> Result<bool, Fail> {
+    let graph = store_buffering(alloc, Order::Na)?;
+    let view = GraphView::of(alloc, &graph)?;
+    all_flag_of(alloc, &view, rows)
 }
 
 #[test]

@@ -32,13 +32,14 @@ pub fn loaded(alloc: Global, texts: &[(&str, &str)]) -> Result<Files, Fail> {
     Ok(files)
 }
 
+/// The model of a root.
+pub fn resolved(alloc: Global, files: &Files, root: &str) -> Result<Model, Fail> {
+    let root = named(alloc, root)?;
+    Ok(resolve(alloc, files, &root).ok().ok_or("a model")?)
+}
+
 /// The model of one text, which may include the built-in files.
 pub fn model(alloc: Global, text: &str) -> Result<Model, Fail> {
     let files = loaded(alloc, &[("main.cat", text)])?;
-    let root = named(alloc, "main.cat")?;
-    Ok(
-        resolve(alloc, &files, &root)
-            .ok()
-            .ok_or("a model of the text")?,
-    )
+    resolved(alloc, &files, "main.cat")
 }

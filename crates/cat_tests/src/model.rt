@@ -1,27 +1,40 @@
 //! What files are put together to.
 
-use crate::loading::{loaded, named, put};
+use crate::loading::{loaded, named, put, resolved};
 use crate::texts::{RC11, repeated};
-use cat_model::{Files, resolve};
-use cat_syntax::read_cat;
-use std::alloc::Global;
+use cat_model::{FileVersion, Files, Model, resolve};
+use cat_syntax::{CatFile, read_cat};
+use std::alloc::{AllocError, Global};
 use std::test::Fail;
 use wb_text::Name;
 
-/// What `resolve` answers, as text: the files with their versions, or the fault.
+/// Adds a file with its version.
+fn show_file(alloc: Global, text: &mut String, file: &FileVersion) -> Result<(), AllocError> {
+    let shown = format!(in alloc; " {} {}", file.name, file.version)?;
+    text.push_str(shown.as_str())
+}
+
+/// A model as text: how many items it has, and the files with their versions.
+fn shown(alloc: Global, model: &Model) -> Result<String, AllocError> {
+    let mut text = format!(in alloc; "{}", model.items().len())?;
+    for file in model.files() {
+        show_file(alloc, &mut text, file)?;
+    }
+    Ok(text)
+}
+
+/// What `resolve` answers, as text: the model, or the fault.
+fn resolved_text(alloc: Global, files: &Files, root: &Name) -> Result<String, AllocError> {
+    match resolve(alloc, files, root) {
+        Ok(model) => shown(alloc, &model),
+        Err(fault) => format!(in alloc; "{fault}"),
+    }
+}
+
+/// What `resolve` answers for a root that is written so, as text.
 fn answer(alloc: Global, files: &Files, root: &str) -> Result<String, Fail> {
     let root = named(alloc, root)?;
-    match resolve(alloc, files, &root) {
-        Ok(model) => {
-            let mut text = format!(in alloc; "{}", model.items().len())?;
-            for file in model.files() {
-                let shown = format!(in alloc; " {} {}", file.name, file.version)?;
-                text.push_str(shown.as_str())?;
-            }
-            Ok(text)
-        }
-        Err(fault) => Ok(format!(in alloc; "{fault}")?),
-    }
+    Ok(resolved_text(alloc, files, &root)?)
 }
 
 /// Whether `resolve` answers this for a root.
@@ -92,19 +105,27 @@ fn flags_and_includes(rt: HostRuntime) -> Result<(), Fail> {
     Ok(())
 }
 
+/// Whether `resolve` answers so for each root.
+fn all_answer(alloc: Global, files: &Files, rows: &[(&str, &str)]) -> Result<bool, Fail> {
+    for (root, wanted) in rows {
+        if !answers(alloc, files, root, wanted)? {
+            return Ok(false);
+        }
+    }
+    Ok(true)
+}
+
 #[test]
 fn files_beforehand(rt: HostRuntime) -> Result<(), Fail> {
-    let alloc = rt.alloc();
-    let files = Files::new(alloc)?;
-    for (root, wanted) in [
+    let rows = [
         ("none.cat", "61 NoCat none.cat"),
         ("rc11.cat", "20 rc11.cat 0"),
         ("stdlib.cat", "0 stdlib.cat 0"),
         ("cos.cat", "0 cos.cat 0"),
         ("c11_cos.cat", "0 c11_cos.cat 0"),
-    ] {
-        assert!(rt; answers(alloc, &files, root, wanted)?);
-    }
+    ];
+    let files = Files::new(rt.alloc())?;
+    assert!(rt; all_answer(rt.alloc(), &files, &rows)?);
     Ok(())
 }
 
@@ -131,27 +152,52 @@ fn versions(rt: HostRuntime) -> Result<(), Fail> {
     Ok(())
 }
 
+/// Whether the name at a place is written so.
+fn is_at(files: &Files, place: usize, wanted: &str) -> bool {
+    match files.name_at(place) {
+        Some(name) => name.bytes() == wanted.as_bytes(),
+        None => false,
+    }
+}
+
+/// Whether these are the names that were put, in order.
+fn names_are(files: &Files, wanted: &[&str]) -> bool {
+    for (place, name) in wanted.iter().enumerate() {
+        if !is_at(files, place, name) {
+            return false;
+        }
+    }
+    files.name_at(wanted.len()).is_none()
+}
+
 #[test]
 fn names_in_order_of_first_put(rt: HostRuntime) -> Result<(), Fail> {
     let empty = "empty 0";
     let texts = [("b.cat", empty), ("a.cat", empty), ("b.cat", empty)];
     let files = loaded(rt.alloc(), &texts)?;
-    for (place, wanted) in [(0, b"b.cat".as_slice()), (1, b"a.cat".as_slice())] {
-        let name = files.name_at(place).ok_or("a name")?;
-        assert!(rt; name.bytes() == wanted);
-    }
-    assert!(rt; files.name_at(2).is_none());
+    assert!(rt; names_are(&files, &["b.cat", "a.cat"]));
     Ok(())
 }
 
 /// Takes a file away, if it is loaded and a version is left.
 fn remove(files: &mut Files, name: &Name) -> bool {
+    if !files.is_loaded(name) {
+        return false;
+    }
     let version = files.version(name);
-    if !files.is_loaded(name) || version == u32::MAX {
+    if version == u32::MAX {
         return false;
     }
     files.remove(name, version + 1);
     true
+}
+
+/// Whether a file can be taken away, and then not once more.
+fn is_removed_once(alloc: Global, files: &mut Files, name: &str) -> Result<bool, Fail> {
+    let name = named(alloc, name)?;
+    let first = remove(files, &name);
+    let second = remove(files, &name);
+    Ok(first && !second)
 }
 
 #[test]
@@ -159,21 +205,23 @@ fn built_in_files_are_hidden(rt: HostRuntime) -> Result<(), Fail> {
     let alloc = rt.alloc();
     let mut files = loaded(alloc, &[("rc11.cat", "acyclic po")])?;
     assert!(rt; answers(alloc, &files, "rc11.cat", "1 rc11.cat 1")?);
-    let name = named(alloc, "rc11.cat")?;
-    assert!(rt; remove(&mut files, &name));
-    assert!(rt; !remove(&mut files, &name));
+    assert!(rt; is_removed_once(alloc, &mut files, "rc11.cat")?);
     assert!(rt; answers(alloc, &files, "rc11.cat", "20 rc11.cat 2")?);
     Ok(())
+}
+
+/// Puts a file that includes another, both told by their numbers.
+fn put_link(alloc: Global, files: &mut Files, from: u32, to: u32) -> Result<(), Fail> {
+    let name = format!(in alloc; "f{from}.cat")?;
+    let text = format!(in alloc; "include \"f{to}.cat\"")?;
+    put(alloc, files, name.as_str(), text.as_str())
 }
 
 /// Files f1.cat to f17.cat, of which each includes the next.
 fn chained(alloc: Global) -> Result<Files, Fail> {
     let mut files = Files::new(alloc)?;
     for i in 1..17 {
-        let name = format!(in alloc; "f{i}.cat")?;
-        let next = i + 1;
-        let text = format!(in alloc; "include \"f{next}.cat\"")?;
-        put(alloc, &mut files, name.as_str(), text.as_str())?;
+        put_link(alloc, &mut files, i, i + 1)?;
     }
     put(alloc, &mut files, "f17.cat", "empty 0")?;
     Ok(files)
@@ -188,24 +236,25 @@ fn seventeen_files_on_a_path(rt: HostRuntime) -> Result<(), Fail> {
 
 #[test]
 fn sixteen_files_on_a_path(rt: HostRuntime) -> Result<(), Fail> {
-    let alloc = rt.alloc();
-    let files = chained(alloc)?;
-    let root = named(alloc, "f2.cat")?;
-    let model = resolve(alloc, &files, &root).ok().ok_or("a model")?;
+    let files = chained(rt.alloc())?;
+    let model = resolved(rt.alloc(), &files, "f2.cat")?;
     assert_eq!(rt; model.files().len(), 16);
     Ok(())
 }
 
-#[test]
-fn many_items(rt: HostRuntime) -> Result<(), Fail> {
-    let alloc = rt.alloc();
+/// Whether `resolve` answers this for some checks and two includes of a file with 2,000 checks.
+fn many_are(alloc: Global, times: usize, wanted: &str) -> Result<bool, Fail> {
     let included = repeated(alloc, "", "empty 0 ", 2_000, "")?;
     let end = "include \"b.cat\" include \"b.cat\"";
-    for (times, wanted) in [(94, "4094 root.cat 1 b.cat 1"), (95, "68 ModelTooLarge")] {
-        let root = repeated(alloc, "", "empty 0 ", times, end)?;
-        let texts = [("b.cat", included.as_str()), ("root.cat", root.as_str())];
-        assert!(rt; together(alloc, &texts, "root.cat", wanted)?);
-    }
+    let root = repeated(alloc, "", "empty 0 ", times, end)?;
+    let texts = [("b.cat", included.as_str()), ("root.cat", root.as_str())];
+    together(alloc, &texts, "root.cat", wanted)
+}
+
+#[test]
+fn many_items(rt: HostRuntime) -> Result<(), Fail> {
+    assert!(rt; many_are(rt.alloc(), 94, "4094 root.cat 1 b.cat 1")?);
+    assert!(rt; many_are(rt.alloc(), 95, "68 ModelTooLarge")?);
     Ok(())
 }
 
@@ -219,13 +268,24 @@ fn files_that_include_each_other(rt: HostRuntime) -> Result<(), Fail> {
     Ok(())
 }
 
+/// Whether a file is what a text is read as.
+fn is_read_from(alloc: Global, file: &CatFile, text: &str) -> bool {
+    match read_cat(alloc, text.as_bytes()) {
+        Ok(read) => *file == read,
+        Err(_) => false,
+    }
+}
+
+/// Whether a name stands for what a text is read as.
+fn holds_text(alloc: Global, files: &Files, name: &str, text: &str) -> Result<bool, Fail> {
+    let name = named(alloc, name)?;
+    let file = files.get(&name).ok_or("a file")?;
+    Ok(is_read_from(alloc, file, text))
+}
+
 #[test]
 fn rc11_is_its_text(rt: HostRuntime) -> Result<(), Fail> {
-    let alloc = rt.alloc();
-    let files = Files::new(alloc)?;
-    let name = named(alloc, "rc11.cat")?;
-    let built_in = files.get(&name).ok_or("a built-in file")?;
-    let read = read_cat(alloc, RC11.as_bytes()).ok().ok_or("a model")?;
-    assert!(rt; *built_in == read);
+    let files = Files::new(rt.alloc())?;
+    assert!(rt; holds_text(rt.alloc(), &files, "rc11.cat", RC11)?);
     Ok(())
 }

@@ -247,11 +247,16 @@ fn unequal_models(rt: HostRuntime) -> Result<(), Fail> {
     Ok(())
 }
 
+/// Whether the copy of an item is equal to it.
+fn copy_is_equal(item: &Item) -> Result<bool, AllocError> {
+    let copy = item.copy()?;
+    Ok(copy == *item)
+}
+
 /// Whether the copy of each item is equal to it.
 fn copies_are_equal(items: &[Item]) -> Result<bool, AllocError> {
     for item in items {
-        let copy = item.copy()?;
-        if copy != *item {
+        if !copy_is_equal(item)? {
             return Ok(false);
         }
     }

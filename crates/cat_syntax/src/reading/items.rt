@@ -1,6 +1,6 @@
 //! Items and whole models.
 
-ghost use Rattle.std.specs.Prelude.{◌≡◌, List, map, option_map, Option};
+ghost use Rattle.std.specs.Prelude.{◌≡◌, List, map, option_map, Option, IfOk};
 ghost use Rattle.std.specs.List.{list_any};
 ghost use Rattle.std.specs.Str.{bytes_eq};
 ghost use Rattle.cat_tree.specs.Tree.{bound_of, shown_of, check_of, clause_of, File};
@@ -11,6 +11,7 @@ use crate::reading::Reader;
 use crate::symbol::{Spelling, Symbol, Terminal};
 use crate::syntax_fault::SyntaxFault;
 use cat_tree::{Binding, CatFile, Check, CheckKind, Element, Item, Title};
+use std::alloc::{AllocError, Global};
 use wb_text::Name;
 
 /// Whether a name is among those that are bound.
@@ -20,6 +21,13 @@ fn is_bound(bindings: &[Binding], name: &Spelling) -> bool
     bindings
         .iter()
         .any(|binding| binding.name.bytes() == name.bytes())
+}
+
+/// A title of these bytes.
+fn titled(alloc: Global, bytes: &[u8]) -> Result<Title, AllocError>
+    ensures { IfOk result (λ t. t ≡ bytes.now) }
+{
+    Ok(Title::new(Vec::from_slice(alloc, bytes)?))
 }
 
 impl<'a> Reader<'a> {
@@ -222,13 +230,19 @@ impl<'a> Reader<'a> {
         let [first, rest @ ..] = self.rest else {
             return Ok(None);
         };
-        let bytes = match first {
-            Symbol::Name(name) => Vec::from_slice(self.alloc, name.bytes())?,
-            Symbol::Quoted(quotation) => Vec::from_slice(self.alloc, quotation.bytes())?,
-            _ => return Ok(None),
-        };
-        self.rest = rest;
-        Ok(Some(Title::new(bytes)))
+        match first {
+            Symbol::Name(name) => {
+                let title = titled(self.alloc, name.bytes())?;
+                self.rest = rest;
+                Ok(Some(title))
+            }
+            Symbol::Quoted(quotation) => {
+                let title = titled(self.alloc, quotation.bytes())?;
+                self.rest = rest;
+                Ok(Some(title))
+            }
+            _ => Ok(None),
+        }
     }
 
     /// {item}, up to the end
