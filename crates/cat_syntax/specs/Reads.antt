@@ -1,8 +1,9 @@
 -- Which model a text spells, and why a text is refused. (herd7 manual, the cat language.)
-use Rattle.std.specs.Prelude.{◌≡◌, ℕ, ◌<◌, ◌≤◌, ◌⊎◌, List, length, Contains}
+use Rattle.std.specs.Prelude.{◌≡◌, ℕ, ◌<◌, ◌≤◌, List, length, Contains}
 use Rattle.wb_text.specs.Faults.{HasCause}
 use Rattle.wb_text.specs.declared.token.Dialect.TheVariants.{Cat}
 use Rattle.wb_text.specs.declared.token.Token.{Token}
+use Rattle.wb_text.specs.Offsets.{IsOffset}
 use Rattle.wb_text.specs.Tokens.{IsTokenList}
 use Rattle.cat_syntax.specs.declared.fault.CatFault.{CatFault}
 use Rattle.cat_syntax.specs.declared.fault.CatFault.TheVariants.{Text, Syntax, Unsupported, TooDeep, TooLarge, NoMemory}
@@ -19,10 +20,6 @@ pub record Reads (text : List ℕ) (f : File) : Type 0 where
   pub is_list : IsTokenList Cat text tokens
   pub spelled : IsFile (symbols_of text tokens) f
   pub at_most : nodes f ≤ 4096
-
--- n is where a token begins, or the end of the text
-abbrev pub IsOffset : ℕ → List Token → ℕ → Type 0
-IsOffset n tokens end = (n ≡ end) ⊎ ((t : Token) × Contains tokens t × (n ≡ t.from))
 
 -- what a refusal tells of the symbols of a text
 abbrev pub Tells : CatFault → List Symbol → List Token → (end : ℕ) → Type 0

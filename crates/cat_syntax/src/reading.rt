@@ -3,7 +3,7 @@
 ghost use Rattle.std.specs.Prelude.{◌≡◌, ◌<◌, ◌≤◌, List, drop, length, Some, None, Ok, Err, IfOk, IfErr, MatchBool, MatchResult};
 ghost use Rattle.std.proofs.Common.{suc};
 ghost use Rattle.cat_syntax.specs.Items.{IsFile};
-ghost use Rattle.cat_syntax.specs.Reads.{Reads, IsRefused, IsOffset, Tells};
+ghost use Rattle.cat_syntax.specs.Reads.{Reads, IsRefused, Tells};
 ghost use Rattle.cat_syntax.specs.Nodes.{nodes};
 ghost use Rattle.cat_tree.specs.Tree.{File};
 ghost use Rattle.cat_syntax.specs.declared.fault.CatFault.TheVariants.{NoMemory};
@@ -19,7 +19,7 @@ use crate::symbol::{Symbol, Terminal, symbols};
 use crate::syntax_fault::SyntaxFault;
 use cat_tree::CatFile;
 use std::alloc::Global;
-use wb_text::{Dialect, Name, Token, tokens};
+use wb_text::{Dialect, Name, Token, offset_at, tokens};
 
 /// The symbols that are not yet read. At a fault, the first of them is the symbol that it is about.
 #[derive(Drop)]
@@ -99,16 +99,6 @@ impl<'a> Reader<'a> {
             },
             [] => Err(SyntaxFault::Unexpected),
         }
-    }
-}
-
-/// The offset of the token at a place, or the text's length behind the last.
-fn offset_at(tokens: &[Token], end: usize, place: usize) -> usize
-    ensures { IsOffset result tokens.now end }
-{
-    match tokens.get(place) {
-        Some(token) => token.from,
-        None => end,
     }
 }
 

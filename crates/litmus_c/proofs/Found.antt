@@ -1,8 +1,9 @@
 -- From the symbols of a text to the test that it spells.
-use Rattle.std.proofs.Common.{◌≡◌, ℕ, List, sym, ◌∙◌, ap, subst, refl, arith}
+use Rattle.std.proofs.Common.{◌≡◌, ℕ, List, length, sym, ◌∙◌, ap, subst, refl, arith}
 use Rattle.std.specs.Prelude.{Result, Ok, Err, IfOk, OnOk, IfErr, MatchResult, Contains}
 use Rattle.std.proofs.lemmas.Bool.{false≢true}
 use Rattle.wb_text.specs.Faults.{HasCause}
+use Rattle.wb_text.specs.Offsets.{IsOffset}
 use Rattle.wb_text.specs.Tokens.{IsTokenList}
 use Rattle.wb_text.specs.declared.fault.TextFault.{TextFault}
 use Rattle.wb_text.specs.declared.fault.TextFault.TheVariants as text_faults
@@ -18,7 +19,7 @@ use Rattle.litmus_syntax.specs.Drafts.{Written}
 use Rattle.litmus_syntax.specs.Grammar.{Spells}
 use Rattle.litmus_syntax.specs.Misordered.{HasMisordered}
 use Rattle.litmus_syntax.specs.Unspelled.{SpellsNone}
-use Rattle.litmus_c.specs.Reads.{IsWrittenIn, HasNoTest, IsTooDeep, IsMisorderedIn, LeavesOut, IsRefused, SpellNoTest, IsUnwritten, Reads, text_refusal}
+use Rattle.litmus_c.specs.Reads.{IsWrittenIn, HasNoTest, IsNoTestAt, IsTooDeep, IsMisorderedIn, LeavesOut, IsRefused, SpellNoTest, IsUnwritten, Reads, text_refusal}
 use Rattle.litmus_c.specs.Rules.{litmus_of, KeepsRules, Explains}
 use Rattle.litmus_syntax.specs.Symbols.{symbols_of}
 use Rattle.litmus_tree.specs.Tree.{Word, Litmus}
@@ -104,9 +105,12 @@ module _ (text : List ℕ) (ts : List Token) (symbols : List Symbol) (list : IsT
   left_out : (x : Word) → SpellsNone symbols × Contains symbols (Foreign x) → LeavesOut text x
   left_out x h = record { none = no_test h.0; tokens = ts; is_list = list; stands = (let P : List Symbol → Type 0 = λ l. Contains l (Foreign x) in subst P is h.1) }
 
-  pub draft_cause : (e : TestFault) → SpellNoTest symbols e → IsUnwritten text e
+  not_at : (n : ℕ) → SpellsNone symbols × IsOffset n ts (length text) → IsNoTestAt text n
+  not_at n h = record { none = no_test h.0; tokens = ts; is_list = list; stands = h.1 }
+
+  pub draft_cause : (e : TestFault) → SpellNoTest symbols ts (length text) e → IsUnwritten text e
   draft_cause NoMemory g = tt
-  draft_cause (Syntax p) g = no_test g
+  draft_cause (Syntax n) g = not_at n g
   draft_cause BadOrder g = bad_order g
   draft_cause (Unsupported x) g = left_out x g
   draft_cause TooDeep g = too_deep g

@@ -1,6 +1,7 @@
 -- Which test a text spells.
-use Rattle.std.specs.Prelude.{◌≡◌, ℕ, List, Contains}
+use Rattle.std.specs.Prelude.{◌≡◌, ℕ, List, length, Contains}
 use Rattle.wb_text.specs.Faults.{HasCause}
+use Rattle.wb_text.specs.Offsets.{IsOffset}
 use Rattle.wb_text.specs.Tokens.{IsTokenList}
 use Rattle.wb_text.specs.declared.token.Dialect.TheVariants as dialects
 use Rattle.wb_text.specs.declared.token.Token.{Token}
@@ -36,6 +37,13 @@ pub record Reads (text : List ℕ) (t : Litmus) : Type 0 where
 abbrev pub HasNoTest : List ℕ → Type 0
 HasNoTest text = (w : Written) → ¬ IsWrittenIn text w
 
+-- no test is written in the text, and n is where a token begins, or the end of the text
+pub record IsNoTestAt (text : List ℕ) (n : ℕ) : Type 0 where
+  pub none : HasNoTest text
+  pub tokens : List Token
+  pub is_list : IsTokenList dialects.Litmus text tokens
+  pub stands : IsOffset n tokens (length text)
+
 -- no test is written in the text, and something in it nests more than 32 deep
 pub record IsTooDeep (text : List ℕ) : Type 0 where
   pub none : HasNoTest text
@@ -65,7 +73,7 @@ BreaksRule text e = (w : Written) × IsWrittenIn text w × Explains w.entries (l
 abbrev pub IsRefused : List ℕ → TestFault → Type 0
 IsRefused text NoMemory = Unit {0}
 IsRefused text (Text f) = HasCause dialects.Litmus text f
-IsRefused text (Syntax n) = HasNoTest text
+IsRefused text (Syntax n) = IsNoTestAt text n
 IsRefused text TooDeep = IsTooDeep text
 IsRefused text BadOrder = IsMisorderedIn text
 IsRefused text (Unsupported w) = LeavesOut text w
@@ -81,20 +89,20 @@ IsRefused text TooManyValues = BreaksRule text TooManyValues
 abbrev pub IsUnwritten : List ℕ → TestFault → Type 0
 IsUnwritten text NoMemory = Unit {0}
 IsUnwritten text (Text f) = HasCause dialects.Litmus text f
-IsUnwritten text (Syntax n) = HasNoTest text
+IsUnwritten text (Syntax n) = IsNoTestAt text n
 IsUnwritten text BadOrder = IsMisorderedIn text
 IsUnwritten text (Unsupported w) = LeavesOut text w
 IsUnwritten text TooDeep = IsTooDeep text
 IsUnwritten text e = ⊥
 
 -- The symbols spell no test, and this refusal says why.
-abbrev pub SpellNoTest : List Symbol → TestFault → Type 0
-SpellNoTest ts NoMemory = Unit {0}
-SpellNoTest ts (Syntax n) = SpellsNone ts
-SpellNoTest ts BadOrder = SpellsNone ts × HasMisordered ts
-SpellNoTest ts (Unsupported w) = SpellsNone ts × Contains ts (Foreign w)
-SpellNoTest ts TooDeep = SpellsNone ts × NestsTooDeep ts
-SpellNoTest ts e = ⊥
+abbrev pub SpellNoTest : List Symbol → List Token → (end : ℕ) → TestFault → Type 0
+SpellNoTest ts tokens end NoMemory = Unit {0}
+SpellNoTest ts tokens end (Syntax n) = SpellsNone ts × IsOffset n tokens end
+SpellNoTest ts tokens end BadOrder = SpellsNone ts × HasMisordered ts
+SpellNoTest ts tokens end (Unsupported w) = SpellsNone ts × Contains ts (Foreign w)
+SpellNoTest ts tokens end TooDeep = SpellsNone ts × NestsTooDeep ts
+SpellNoTest ts tokens end e = ⊥
 
 -- the refusal that a fault of the text is
 abbrev pub text_refusal : TextFault → TestFault

@@ -1,6 +1,6 @@
 //! The reader.
 
-ghost use Rattle.std.specs.Prelude.{◌≡◌, IfOk, IfErr, IfSome, MatchResult, Contains, length};
+ghost use Rattle.std.specs.Prelude.{◌≡◌, IfOk, IfErr, IfSome, MatchResult, Contains};
 ghost use Rattle.litmus_c.specs.Reads.{IsWrittenIn, SpellNoTest, IsRefused, IsUnwritten, Reads};
 ghost use Rattle.litmus_c.specs.declared.fault.TestFault.TheVariants.{NoMemory};
 ghost use Rattle.litmus_syntax.specs.Drafts.{Written, written_of};
@@ -13,7 +13,7 @@ use crate::making::make_test;
 use litmus_syntax::{Draft, Symbol, SyntaxFault, read_draft, symbols};
 use litmus_test::Test;
 use std::alloc::{AllocError, Global};
-use wb_text::{Dialect, Name, Token, tokens};
+use wb_text::{Dialect, Name, Token, offset_at, tokens};
 
 /// Reads a text as a test.
 pub fn read_test(alloc: Global, text: &[u8]) -> Result<Test, TestFault>
@@ -46,16 +46,15 @@ fn draft_of(
     symbols: &[Symbol],
     end: usize,
 ) -> Result<Draft, TestFault>
-    requires { length symbols.now ≡ length tokens.now }
     ensures found { IfOk result (λ d. Spells symbols.now (written_of d)) }
     ensures only { (w : Written) → Spells symbols.now w → MatchResult result (λ d. written_of d ≡ w) (λ e. e ≡ NoMemory) }
-    ensures cause { IfErr result (λ e. SpellNoTest symbols.now e) }
+    ensures cause { IfErr result (λ e. SpellNoTest symbols.now tokens.now end e) }
 {
-    match read_draft(alloc, tokens, symbols, end) {
+    match read_draft(alloc, symbols) {
         Ok(draft) => Ok(draft),
-        Err(SyntaxFault::Syntax(offset)) => match foreign_at(tokens, symbols, offset)? {
+        Err(SyntaxFault::Syntax(place)) => match foreign_at(symbols, place)? {
             Some(word) => Err(TestFault::Unsupported(word)),
-            None => Err(TestFault::Syntax(offset)),
+            None => Err(TestFault::Syntax(offset_at(tokens, end, place))),
         },
         Err(SyntaxFault::BadOrder) => Err(TestFault::BadOrder),
         Err(SyntaxFault::TooDeep) => Err(TestFault::TooDeep),
@@ -73,18 +72,12 @@ fn foreign(symbol: &Symbol) -> Result<Option<Name>, AllocError>
     }
 }
 
-/// The word at an offset, if it is one that the language leaves out.
-fn foreign_at(
-    tokens: &[Token],
-    symbols: &[Symbol],
-    offset: usize,
-) -> Result<Option<Name>, AllocError>
+/// The word at a place, if it is one that the language leaves out.
+fn foreign_at(symbols: &[Symbol], place: usize) -> Result<Option<Name>, AllocError>
     ensures { IfOk result (λ o. IfSome o (λ w. Contains symbols.now (Foreign w))) }
 {
-    for (token, symbol) in tokens.iter().zip(symbols) {
-        if token.from == offset {
-            return foreign(symbol);
-        }
+    match symbols.get(place) {
+        Some(symbol) => foreign(symbol),
+        None => Ok(None),
     }
-    Ok(None)
 }

@@ -24,7 +24,7 @@ use conditions::{Binding, Place};
 use indexmap::IndexSet;
 use litmus_tree::{LocationKind, Parameter};
 use std::alloc::{AllocError, Global};
-use wb_text::{Name, Token};
+use wb_text::Name;
 
 /// How deep the parts of a test may nest.
 const NESTING: u32 = 32;
@@ -34,20 +34,15 @@ const NESTING: u32 = 32;
 pub struct Reader<'a> {
     alloc: Global,
     rest: &'a [Symbol],
-    /// All tokens, of which `rest` has the last.
-    tokens: &'a [Token],
-    /// The length of the text.
-    end: usize,
-    ghost within: { length rest.now ≤ length tokens.now },
+    /// How many there are in all.
+    count: usize,
+    ghost within: { length rest.now ≤ count },
 }
 
 impl<'a> Reader<'a> {
-    /// The offset of the next token, or the text's length.
+    /// The place of the next symbol, or how many there are.
     fn position(&self) -> usize {
-        match self.tokens.get(self.tokens.len() - self.rest.len()) {
-            Some(token) => token.from,
-            None => self.end,
-        }
+        self.count - self.rest.len()
     }
 
     /// What may nest in something that may nest `nesting` deep.
@@ -526,14 +521,8 @@ fn names_thread(alloc: Global, name: &[u8], number: usize) -> Result<bool, Alloc
     Ok(name == expected.as_bytes())
 }
 
-/// The test that the symbols spell. `end` is the length of the text.
-pub fn read_draft(
-    alloc: Global,
-    tokens: &[Token],
-    symbols: &[Symbol],
-    end: usize,
-) -> Result<Draft, SyntaxFault>
-    requires { length symbols.now ≡ length tokens.now }
+/// The test that the symbols spell.
+pub fn read_draft(alloc: Global, symbols: &[Symbol]) -> Result<Draft, SyntaxFault>
     ensures found { IfOk result (λ d. Spells symbols.now (written_of d)) }
     ensures only { (w : Written) → Spells symbols.now w → MatchResult result (λ d. written_of d ≡ w) (λ e. e ≡ NoMemory) }
     ensures cause { IfErr result (λ e. IsUnspelled symbols.now e) }
@@ -541,8 +530,7 @@ pub fn read_draft(
     let mut reader = Reader {
         alloc,
         rest: symbols,
-        tokens,
-        end,
+        count: symbols.len(),
     };
     reader.test(NESTING)
 }

@@ -4,5 +4,6 @@ pub mod Gaps
 pub mod Memory
 pub mod Names
 pub mod Numbers
+pub mod Offsets
 pub mod Signs
 pub mod Tokens

@@ -1,13 +1,12 @@
-use Rattle.std.proofs.Common.{◌≡◌, List, length, sym, ap, ◌∙◌}
+use Rattle.std.proofs.Common.{◌≡◌, List, length, sym, ap, subst, ◌∙◌}
 use Rattle.std.proofs.lemmas.Result.{err_from_is_err_and}
 use Rattle.wb_text.specs.declared.token.Token.{Token}
-use Rattle.litmus_c.specs.Reads.{text_refusal}
+use Rattle.litmus_c.specs.Reads.{SpellNoTest, text_refusal}
 use Rattle.litmus_c.proofs.Found.{written_in, spelled_of, text_cause, draft_cause}
 use Rattle.litmus_c.proofs.reading.read_text.Goals as goal
 use Rattle.litmus_syntax.specs.declared.symbol.Symbol.{Symbol}
 use Rattle.litmus_syntax.specs.Drafts.{written_of}
 use Rattle.litmus_syntax.specs.Symbols.{symbols_of}
-use Rattle.litmus_syntax.proofs.Spelled.{symbols_len}
 
 pub returns-in_err-tokens-clause-only : goal.returns-in_err-tokens-clause-only
 returns-in_err-tokens-clause-only c = λ w d.
@@ -45,10 +44,4 @@ returns-in_err-draft-clause-cause c =
     let p = err_from_is_err_and c.from_residual-in_err-draft.result c.from_residual-in_err-draft.ensures.1 in
     let f : List Token → List Symbol = λ l. symbols_of c.args.text.now l in
     let is : c.as_slice-3.result.now ≡ f c.in_ok-tokens.tokens.items = c.as_slice-3.ensures.value ∙ c.in_ok-symbols.ensures ∙ ap f c.as_slice.ensures.value in
-    rw (p.1, p.2) (draft_cause c.args.text.now c.in_ok-tokens.tokens.items c.as_slice-3.result.now c.in_ok-tokens.ensures.found is c.in_ok-tokens.ensures.only c.in_err-draft.field-0.0 c.in_err-draft.ensures.cause)
-
-pub draft_of-requires : goal.draft_of-requires
-draft_of-requires c =
-    let f : List Token → List Symbol = λ l. symbols_of c.args.text.now l in
-    let is : c.as_slice-3.result.now ≡ f c.as_slice-2.result.now = c.as_slice-3.ensures.value ∙ c.in_ok-symbols.ensures ∙ ap f (c.as_slice.ensures.value ∙ sym c.as_slice-2.ensures.value) in
-    ap length is ∙ symbols_len c.args.text.now c.as_slice-2.result.now
+    rw (p.1, p.2) (draft_cause c.args.text.now c.in_ok-tokens.tokens.items c.as_slice-3.result.now c.in_ok-tokens.ensures.found is c.in_ok-tokens.ensures.only c.in_err-draft.field-0.0 (subst (λ l. SpellNoTest c.as_slice-3.result.now l (length c.args.text.now) c.in_err-draft.field-0.0) c.as_slice-2.ensures.value c.in_err-draft.ensures.cause))
