@@ -7,7 +7,7 @@ use c11_threads::{RunFault, runs};
 use candidates::{Space, SpaceFault};
 use events::{Access, Graph, Order, Run};
 use litmus_c::{Test, TestFault, read_test};
-use std::alloc::{AllocError, Global};
+use std::alloc::Global;
 use std::test::Fail;
 
 /// A call's answer, made again once where it was refused so.
@@ -82,7 +82,7 @@ fn are_25(runs: &[Run]) -> bool {
         && reads_first(runs.get(24), 4, Order::Sc)
 }
 
-/// It reads one of five values, and then one of five again, into `b` or, where it read 0, into `a`.
+/// The thread reads one of five values, and then one of five again, into `b` or, where it read 0, into `a`.
 #[test]
 fn runs_of_a_thread(rt: HostRuntime) -> Result<(), Fail> {
     let runs = runs_of(rt.alloc(), TEXT, 0)?;

@@ -57,10 +57,10 @@ fn counts(
 #[test]
 fn sizes(rt: HostRuntime) -> Result<(), Fail> {
     let load = "r = atomic_load_explicit(x, memory_order_relaxed);\n";
-    let many = Err(RunFault::TooManyRuns(0));
+    let too_many = Err(RunFault::TooManyRuns(0));
     for (times, last, count) in [
         (12, "", Ok(4096)),
-        (12, "r = atomic_load(x);\n", many),
+        (12, "r = atomic_load(x);\n", too_many),
         (0, ";", Ok(1)),
     ] {
         assert!(rt; counts(rt.alloc(), (load, times), last, count)?);
