@@ -12,7 +12,7 @@ use litmus_syntax::{Draft, Symbol, SyntaxFault, Terminal, read_draft, symbols};
 use litmus_test::{ValuesFault, values_among};
 use std::alloc::{AllocError, Global};
 use std::test::Fail;
-use wb_text::{Dialect, TextFault, Token, tokens};
+use wb_text::{Dialect, TextFault, tokens};
 
 /// A call's answer, made again once where it was refused so.
 macro_rules! again {
@@ -332,19 +332,8 @@ fn reading_a_word_left_out(rt: HostRuntime) {
 }
 
 /// The test that the symbols spell.
-fn draft_of(
-    alloc: Global,
-    tokens: &[Token],
-    symbols: &[Symbol],
-    end: usize,
-) -> Result<Draft, Fail> {
-    if symbols.len() != tokens.len() {
-        return Err(Fail::new("a symbol for each token"));
-    }
-    match again!(
-        SyntaxFault::NoMemory,
-        read_draft(alloc, tokens, symbols, end)
-    ) {
+fn draft_of(alloc: Global, symbols: &[Symbol]) -> Result<Draft, Fail> {
+    match again!(SyntaxFault::NoMemory, read_draft(alloc, symbols)) {
         Ok(draft) => Ok(draft),
         Err(_) => Err(Fail::new("the symbols spell a test")),
     }
@@ -365,7 +354,7 @@ fn symbols_and_drafts(rt: HostRuntime) -> Result<(), Fail> {
     let tokens = again!(TextFault::NoMemory, tokens(alloc, text, Dialect::Litmus))?;
     let symbols = again!(_, symbols(alloc, text, &tokens))?;
     assert!(rt; matches!(symbols.get(2), Some(Symbol::Fixed(Terminal::LeftBrace))));
-    let draft = draft_of(alloc, &tokens, &symbols, text.len())?;
+    let draft = draft_of(alloc, &symbols)?;
     assert!(rt; is_draft(&draft));
     Ok(())
 }
