@@ -11,9 +11,7 @@ mod reading;
 
 pub use bench::{Bench, Change, Plan};
 pub use jobs::Job;
-pub use journal::{
-    Command, Entry, Refusal, Replacement, Reply, Returned, Said, SourceKind, Text,
-};
+pub use journal::{Command, Entry, Refusal, Replacement, Reply, Returned, Said, SourceKind, Text};
 pub use kept::{Book, Refused};
 pub use limits::Limits;
 pub use live::Live;

@@ -4,6 +4,4 @@
 mod equality;
 mod records;
 
-pub use records::{
-    Command, Entry, Refusal, Replacement, Reply, Returned, Said, SourceKind, Text,
-};
+pub use records::{Command, Entry, Refusal, Replacement, Reply, Returned, Said, SourceKind, Text};
