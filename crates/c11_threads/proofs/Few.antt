@@ -6,6 +6,7 @@ use Rattle.std.proofs.lemmas.List.Sums.{sum_by-cons}
 use Rattle.std.proofs.lemmas.Slice.Eq.{bytes_eq-Decides}
 use Rattle.std.specs.List.{sum_by, All, Contains}
 use Rattle.std.specs.Str.{bytes_eq}
+use Rattle.std.proofs.lemmas.Bool.{cases_Bool}
 use Rattle.events.specs.declared.event.Access.TheVariants.{Read, Write, ExRead, ExWrite}
 use Rattle.events.specs.declared.event.Event.{Event}
 use Rattle.events.specs.declared.event.Order.TheVariants.{Na}
@@ -16,10 +17,6 @@ use Rattle.c11_threads.specs.declared.content.Content.{Content}
 use Rattle.c11_threads.specs.Contents.{place_of, is_true}
 use Rattle.c11_threads.specs.Runs.{Progress, after, Site, thread_of, names, given_by, inside, reads_from, writes_into, fences, Calls, Gives, Assigns, Declares, DeclaresAll, Branches, Performs, PerformsAll, body, start}
 use Rattle.c11_threads.specs.Bounds.{IsPlaced, AreFew, Bounding}
-
-test : (b : Bool) → (b ≡ true) ⊎ (b ≡ false)
-test true = inl refl
-test false = inr refl
 
 place_yes : (w name : Word) (names : List Word) → bytes_eq name w ≡ true → place_of w (name ∷ names) ≡ 0
 place_yes w name names h = rw h refl
@@ -32,7 +29,7 @@ place_below w [] k l e = absurd (omega (arith, l))
 place_below w (name ∷ names) zero l e =
     let t : bytes_eq name w ≡ true = (bytes_eq-Decides name w).1 e in
     omega (arith, place_yes w name names t)
-place_below w (name ∷ names) (suc k) l e = elim (test (bytes_eq name w)) [
+place_below w (name ∷ names) (suc k) l e = elim (cases_Bool (bytes_eq name w)) [
   | inl t ↦ omega (arith, place_yes w name names t)
   | inr f ↦ omega (arith, place_no w name names f, place_below w names k (omega (arith, l)) e)
 ]

@@ -1,6 +1,6 @@
 -- Sets of places, told by what is in them.
 use Rattle.std.proofs.Common.{◌≡◌, ℕ, ◌+◌, ◌<◌, ◌≤◌, ◌⊎◌, refl, sym, ◌∙◌, ap, subst, inl, inr, arith, Bool, true, false, ◌==◌, ◌||◌}
-use Rattle.std.proofs.lemmas.Bool.{eqb-true, eq-eqb, false≢true, cases_lt}
+use Rattle.std.proofs.lemmas.Bool.{or_cases, cases_Bool, eqb-true, eq-eqb, false≢true, cases_lt}
 use Rattle.relations.specs.Tables.{place}
 use Rattle.relations.specs.TableFacts.{place_line, line_below, line_again, same_line}
 use Rattle.relations.specs.Events.{EventSet, Has, IsExactlySet, IsCanonicalSet, event_set}
@@ -33,12 +33,8 @@ is_just p s h = is_made (λ i. i == p) (λ i. Has no_places i ⊎ (i ≡ p)) s
     (λ i l m. inr (eqb-true i p m))
     h
 
-tested : (b : Bool) → (b ≡ true) ⊎ (b ≡ false)
-tested true = inl refl
-tested false = inr refl
-
 not_equal : (i p : ℕ) → i < 64 → 64 ≤ p → (i == p) ≡ false
-not_equal i p l m = elim (tested (i == p)) [ inl t ↦ absurd (omega (arith, eqb-true i p t)) | inr f ↦ f ]
+not_equal i p l m = elim (cases_Bool (i == p)) [ inl t ↦ absurd (omega (arith, eqb-true i p t)) | inr f ↦ f ]
 
 pub past_just : (p : ℕ) → 64 ≤ p → no_places ≡ just p
 unfolding no_places just
@@ -48,10 +44,6 @@ or_in : (a b : Bool) → (a ≡ true) ⊎ (b ≡ true) → (a || b) ≡ true
 or_in true b h = refl
 or_in false b h = elim h [ inl e ↦ absurd (false≢true e) | inr e ↦ e ]
 
-in_or : (a b : Bool) → (a || b) ≡ true → (a ≡ true) ⊎ (b ≡ true)
-in_or true b h = inl refl
-in_or false b h = inr h
-
 -- Both sets, as far as place n.
 abbrev pub Joins : EventSet → EventSet → ℕ → ℕ → Type 0
 Joins s t n i = (i < n) × (Has s i ⊎ Has t i)
@@ -60,7 +52,7 @@ pub is_joined : (s t u : EventSet) (n : ℕ) → 64 ≤ n → IsExactlySet 64 (J
 unfolding joined
 is_joined s t u n l h = is_made (λ i. place s.members i || place t.members i) (Joins s t n) u
     (λ i m. or_in (place s.members i) (place t.members i) m.1)
-    (λ i b m. (omega (arith, b, l), in_or (place s.members i) (place t.members i) m))
+    (λ i b m. (omega (arith, b, l), or_cases (place s.members i) (place t.members i) m))
     h
 
 pub none_count : no_places.count ≡ 64
@@ -114,4 +106,4 @@ unfolding joined
 in_joined s t i h =
     let f : ℕ → Bool = λ j. place s.members j || place t.members j in
     let b : i < 64 = line_below 64 f i h in
-    in_or (place s.members i) (place t.members i) (sym (place_line 64 f i b) ∙ h)
+    or_cases (place s.members i) (place t.members i) (sym (place_line 64 f i b) ∙ h)

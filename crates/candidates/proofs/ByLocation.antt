@@ -4,7 +4,7 @@ use Rattle.std.proofs.Math.Nat.{mul_assoc, mul-one, pow-zero, pow-suc, one-le-po
 use Rattle.std.proofs.lemmas.Nat.{pow-add}
 use Rattle.std.proofs.lemmas.List.Elements.{All-head, All-tail}
 use Rattle.std.proofs.lemmas.List.Sums.{sum_by-cons, count_by-le-length}
-use Rattle.std.proofs.lemmas.Bool.{eqb-true, eq-eqb, false≢true}
+use Rattle.std.proofs.lemmas.Bool.{cases_Bool, eqb-true, eq-eqb, false≢true}
 use Rattle.std.specs.List.{sum_by, count_by, All}
 use Rattle.events.specs.declared.event.Event.{Event}
 use Rattle.events.specs.Executions.{ThreadRun, is_read, writes_to}
@@ -14,10 +14,6 @@ use Rattle.candidates.specs.Executions.{reads, writes_from, writes_from_thread, 
 use Rattle.candidates.specs.Bounds.{reads_from, event_count}
 use Rattle.candidates.specs.Candidates.{choice, run_at}
 use Rattle.candidates.proofs.Caps.{factor_le, factorial_positive}
-
-test : (b : Bool) → (b ≡ true) ⊎ (b ≡ false)
-test true = inl refl
-test false = inr refl
 
 pub product_append : {A : Type 0} (s : A → ℕ) (xs ys : List A) → product_by s (xs ++ ys) ≡ product_by s xs * product_by s ys
 product_append s [] ys = omega arith
@@ -71,7 +67,7 @@ at_here : (e : Event) → is_read e.access ≡ true → once_at e e.loc ≡ 1
 at_here e h = rw (h, eq-eqb e.loc e.loc refl) refl
 
 at_other : (e : Event) (x : ℕ) → x ≢ e.loc → once_at e x ≡ 0
-at_other e x ne = elim (test (reads_from x e)) [
+at_other e x ne = elim (cases_Bool (reads_from x e)) [
   | inl t ↦ absurd (ne (sym (eqb-true e.loc x (and_right (is_read e.access) (e.loc == x) t))))
   | inr t ↦ rw t refl
 ]
@@ -102,7 +98,7 @@ events_by_location f n (e ∷ es) h =
     let more : (x : ℕ) → f x ^ count_by (reads_from x) (e ∷ es) ≡ f x ^ (once_at e x + count_by (reads_from x) es) = λ x. ap (λ k. f x ^ k) (sum_by-cons (λ a. cond (reads_from x a) 1 0) e es) in
     let s : product_by (λ x. f x ^ count_by (reads_from x) (e ∷ es)) (upto n) ≡ product_by (λ x. f x ^ once_at e x) (upto n) * p =
     product_same (λ x. f x ^ count_by (reads_from x) (e ∷ es)) (λ x. f x ^ (once_at e x + count_by (reads_from x) es)) more (upto n) ∙ split f (once_at e) (λ x. count_by (reads_from x) es) n in
-    elim (test (is_read e.access)) [
+    elim (cases_Bool (is_read e.access)) [
       | inl t ↦ ap (product_by (λ r. f r.loc)) (filter_yes e es t) ∙ ap (λ k. f e.loc * k) rest ∙ sym (s ∙ ap (λ k. k * p) (one_read f n e (placed_read n e (All-head (IsPlaced n) e es h) t) t))
       | inr t ↦ ap (product_by (λ r. f r.loc)) (filter_no e es t) ∙ rest ∙ sym (s ∙ ap (λ k. k * p) (no_read f n e t) ∙ one_times p)
     ]
@@ -143,7 +139,7 @@ count_no x e es h = sum_by-cons (λ a. cond (writes_to x a) 1 0) e es ∙ counte
 
 count_writes : (x k p : ℕ) (es : List Event) → length (writes_from x k p es) ≡ count_by (writes_to x) es
 count_writes x k p [] = refl
-count_writes x k p (e ∷ es) = elim (test (writes_to x e)) [
+count_writes x k p (e ∷ es) = elim (cases_Bool (writes_to x e)) [
   | inl t ↦ writes_yes x k p e es t ∙ ap (λ n. 1 + n) (count_writes x k (suc p) es) ∙ sym (count_yes x e es t)
   | inr t ↦ writes_no x k p e es t ∙ ap (λ n. 0 + n) (count_writes x k (suc p) es) ∙ sym (count_no x e es t)
 ]

@@ -12,6 +12,7 @@ use Rattle.candidates.specs.Executions.{Writes, IsCoherence, reads, block}
 use Rattle.candidates.specs.Candidates.{candidate, write_value}
 use Rattle.candidates.specs.Bounds.{AreWithin}
 use Rattle.std.proofs.lemmas.List.Elements.{All-nil, All-cons, All-head, All-tail, All-append}
+use Rattle.std.proofs.lemmas.Bool.{cases_Bool}
 use Rattle.candidates.proofs.ByLocation.{placed_read}
 use Rattle.candidates.proofs.Law.{CanRead, block_numbered}
 use Rattle.candidates.proofs.Writing.{in_sources, stands_get}
@@ -30,10 +31,6 @@ named init runs (Own k p) x v l h =
 each : {X : Type 0} (P : X → Type 0) (xs : List X) → ((x : X) → IsIn x xs → P x) → All P xs
 each P xs h k d l = h _ (in_get_or xs k d l)
 
-test : (b : Bool) → (b ≡ true) ⊎ (b ≡ false)
-test true = inl refl
-test false = inr refl
-
 filter_yes : (e : Event) (es : List Event) → is_read e.access ≡ true → e ∷ filter (λ e. is_read e.access) es ≡ filter (λ e. is_read e.access) (e ∷ es)
 filter_yes e es h = rw h refl
 
@@ -48,7 +45,7 @@ some_at n [] h = All-nil (IsAt n)
 some_at n (e ∷ es) h =
     let P : List Event → Type 0 = All (IsAt n) in
     let rest = some_at n es (All-tail (IsPlaced n) e es h) in
-    elim (test (is_read e.access)) [
+    elim (cases_Bool (is_read e.access)) [
       | inl t ↦ subst P (filter_yes e es t) (All-cons (IsAt n) e (filter (λ e. is_read e.access) es) (placed_read n e (All-head (IsPlaced n) e es h) t) rest)
       | inr t ↦ subst P (filter_no e es t) rest
     ]

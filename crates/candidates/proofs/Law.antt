@@ -2,7 +2,7 @@
 use Rattle.std.proofs.Common.{◌≡◌, ℕ, ◌<◌, ◌⊎◌, List, [], ◌∷◌, length, map, refl, sym, ◌∙◌, ap, subst, inl, inr, Bool, true, false, ◌==◌, ◌&&◌, Option, None, Some}
 use Rattle.std.specs.Prelude.{IfSome}
 use Rattle.std.proofs.lemmas.List.{length-map}
-use Rattle.std.proofs.lemmas.Bool.{eqb-true, eq-eqb, false≢true}
+use Rattle.std.proofs.lemmas.Bool.{and_parts, cases_Bool, eqb-true, eq-eqb, false≢true}
 use Rattle.events.specs.declared.event.Event.{Event}
 use Rattle.events.specs.declared.event.EventId.{EventId}
 use Rattle.events.specs.declared.event.EventId.TheVariants.{Initial}
@@ -125,10 +125,6 @@ candidates_numbered t =
     by_walk no_execution (choices s.threads) (one_choice s.init) (lists_choices t).once (λ runs h. block_numbered s.init runs)
 
 -- Where the values agree, a candidate is an execution, and an execution is a candidate whose values agree.
-and_true : (a b : Bool) → (a && b) ≡ true → (a ≡ true) × (b ≡ true)
-and_true true b h = (refl, h)
-and_true false b h = absurd (false≢true h)
-
 true_and : (a b : Bool) → a ≡ true → b ≡ true → (a && b) ≡ true
 true_and a b h k = rw (h, k) refl
 
@@ -137,7 +133,7 @@ agreeing init runs [] [] f h = tt
 agreeing init runs [] (w ∷ ws) f h = f
 agreeing init runs (r ∷ rs) [] f h = f
 agreeing init runs (r ∷ rs) (w ∷ ws) f h =
-    let a = and_true (write_value init runs w == r.value) (agree init runs rs ws) h in
+    let a = and_parts (write_value init runs w == r.value) (agree init runs rs ws) h in
     let P : ℕ → Type 0 = λ v. Writes init runs w r.loc v in
     (subst P (eqb-true (write_value init runs w) r.value a.0) (in_sources init runs w r.loc f.0), agreeing init runs rs ws f.1 a.1)
 
@@ -183,10 +179,6 @@ size_is t = ap (λ n. sum_of (block n) (choices (choices_of t).threads)) (as_man
 pub sized : (t : Litmus) → IsSize t (size_of (choices_of t))
 sized t = (choices (choices_of t).threads, lists_choices t, size_is t)
 
-test : (b : Bool) → (b ≡ true) ⊎ (b ≡ false)
-test true = inl refl
-test false = inr refl
-
 pub shown : (s : Choices) (i : ℕ) → is_consistent (candidate_at s i) ≡ true → graph_at s i ≡ Some (candidate_at s i)
 shown s i h = rw h refl
 
@@ -200,7 +192,7 @@ none_some : {X : Type 0} (x : X) → None ≡ Some x → ⊥
 none_some x e = cc
 
 stands : (s : Choices) (i : ℕ) (x : Execution) → graph_at s i ≡ Some x → candidate_at s i ≡ x
-stands s i x h = elim (test (is_consistent (candidate_at s i))) [
+stands s i x h = elim (cases_Bool (is_consistent (candidate_at s i))) [
   | inl t ↦ some_same _ _ (sym (shown s i t) ∙ h)
   | inr f ↦ absurd (none_some x (sym (hidden s i f) ∙ h))
 ]
@@ -214,7 +206,7 @@ numbering t n size =
     let q : IsNumbered (OfTest t) n (candidate_at s) = subst N total p in
     record {
       only = λ i l. (let G : Option Execution → Type 0 = λ g. IfSome g (IsExecution t) in
-          elim (test (is_consistent (candidate_at s i))) [
+          elim (cases_Bool (is_consistent (candidate_at s i))) [
             | inl h ↦ subst G (sym (shown s i h)) (to_execution t (candidate_at s i) (q.only i l) h)
             | inr h ↦ subst G (sym (hidden s i h)) tt
           ]);

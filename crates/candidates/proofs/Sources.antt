@@ -1,17 +1,13 @@
 -- What the reads read from, one read after another.
 use Rattle.std.proofs.Common.{◌≡◌, ◌≢◌, ℕ, suc, ◌+◌, ◌<◌, ◌/◌, ◌%◌, ◌⊎◌, List, ◌∷◌, length, get_or, drop, drop-cons, add-one, refl, sym, ◌∙◌, ap, inl, inr, Bool, true, false, ◌==◌, ◌&&◌}
-use Rattle.std.proofs.lemmas.Bool.{eqb-true, eq-eqb}
+use Rattle.std.proofs.lemmas.Bool.{cases_Bool, eqb-true, eq-eqb}
 use Rattle.events.specs.declared.event.Event.{Event}
 use Rattle.events.specs.Executions.{ThreadRun}
 use Rattle.listings.specs.Numbered.{digits}
 use Rattle.candidates.specs.Candidates.{count_sources, source_at, write_value, agree}
 
-test : (b : Bool) → (b ≡ true) ⊎ (b ≡ false)
-test true = inl refl
-test false = inr refl
-
 different : (a b : ℕ) → a ≢ b → (a == b) ≡ false
-different a b ne = elim (test (a == b)) [ inl t ↦ absurd (ne (eqb-true a b t)) | inr f ↦ f ]
+different a b ne = elim (cases_Bool (a == b)) [ inl t ↦ absurd (ne (eqb-true a b t)) | inr f ↦ f ]
 
 next : (rs : List Event) (i : ℕ) (r : Event) → i < length rs → r ≡ get_or rs i r → drop i rs ≡ r ∷ drop (i + 1) rs
 next rs i r l e = rw (add-one, drop-cons rs i r) (ap (λ (x : Event). x ∷ drop (suc i) rs) (sym e))

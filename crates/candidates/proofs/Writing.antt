@@ -1,5 +1,6 @@
 -- The writes to a location are listed, and each has its value.
 use Rattle.std.proofs.Common.{◌≡◌, ℕ, zero, suc, ◌+◌, ◌⊎◌, List, [], ◌∷◌, get_or, refl, sym, ◌∙◌, ap, subst, inl, inr, arith, Bool, true, false}
+use Rattle.std.proofs.lemmas.Bool.{cases_Bool}
 use Rattle.events.specs.declared.event.Event.{Event}
 use Rattle.events.specs.declared.event.EventId.{EventId}
 use Rattle.events.specs.declared.event.EventId.TheVariants.{Initial, Own}
@@ -14,10 +15,6 @@ use Rattle.events.specs.Named.{no_event}
 abbrev pub WritesFrom : ℕ → ℕ → ℕ → List Event → EventId → Type 0
 WritesFrom x k p events w = (q : ℕ) × (e : Event) × StandsAt events q e × (writes_to x e ≡ true) × (w ≡ Own k (p + q))
 
-test : (b : Bool) → (b ≡ true) ⊎ (b ≡ false)
-test true = inl refl
-test false = inr refl
-
 writes_head : (x k p : ℕ) (e : Event) (events : List Event) → writes_to x e ≡ true → writes_from x k p (e ∷ events) ≡ Own k p ∷ writes_from x k (suc p) events
 writes_head x k p e events h = rw h refl
 
@@ -31,7 +28,7 @@ in_writes : (x k p : ℕ) (events : List Event) (w : EventId) → IsIn w (writes
 in_writes x k p [] w h = absurd h
 in_writes x k p (e ∷ events) w h =
     let P : List EventId → Type 0 = λ ws. IsIn w ws in
-    elim (test (writes_to x e)) [
+    elim (cases_Bool (writes_to x e)) [
       | inl t ↦ elim (subst P (writes_head x k p e events t) h) [
         | inl f ↦ (0, e, refl, t, f ∙ ap (λ n. Own k n) (let g : p ≡ p + 0 = omega arith in g))
         | inr m ↦ further x k p e events w (in_writes x k (suc p) events w m)
@@ -49,7 +46,7 @@ writes_in x k p (e ∷ events) (suc q) f s u =
     let Q : ℕ → Type 0 = λ n. IsIn (Own k n) (writes_from x k (suc p) events) in
     let m = subst Q (let g : suc p + q ≡ p + suc q = omega arith in g) (writes_in x k (suc p) events q f s u) in
     let P : List EventId → Type 0 = λ ws. IsIn (Own k (p + suc q)) ws in
-    elim (test (writes_to x e)) [
+    elim (cases_Bool (writes_to x e)) [
       | inl t ↦ subst P (sym (writes_head x k p e events t)) (inr m)
       | inr t ↦ subst P (sym (writes_skip x k p e events t)) m
     ]
@@ -74,7 +71,7 @@ once_writes : (x k p : ℕ) (events : List Event) → NoRepeats (writes_from x k
 once_writes x k p [] = tt
 once_writes x k p (e ∷ events) =
     let P : List EventId → Type 0 = NoRepeats in
-    elim (test (writes_to x e)) [
+    elim (cases_Bool (writes_to x e)) [
       | inl t ↦ subst P (sym (writes_head x k p e events t)) (
         λ h. (let f = in_writes x k (suc p) events (Own k p) h in
             let g : p ≡ suc p + f.0 = same_place k p k (suc p + f.0) f.4 in absurd (omega (arith, g))),

@@ -3,7 +3,7 @@ use Rattle.std.proofs.Common.{◌≡◌, ℕ, ◌⊎◌, List, [], ◌∷◌, �
 use Rattle.std.specs.Option.{option_or}
 use Rattle.std.specs.Str.{bytes_eq}
 use Rattle.std.specs.List.{All}
-use Rattle.std.proofs.lemmas.Bool.{false≢true}
+use Rattle.std.proofs.lemmas.Bool.{cases_Bool, false≢true}
 use Rattle.std.proofs.lemmas.List.{reverse-append}
 use Rattle.std.proofs.lemmas.List.Folds.{find-append}
 use Rattle.std.proofs.lemmas.List.Elements.{All-head, All-tail}
@@ -15,10 +15,6 @@ use Rattle.cat_eval.specs.declared.value.Entry.{Entry}
 use Rattle.cat_eval.specs.Meaning.{With, Under}
 use Rattle.cat_eval.specs.Steps.{IsOver, sort_of, scope_of, latest}
 use Rattle.cat_eval.proofs.Sorting.{Fits}
-
-bool_cases : (b : Bool) → (b ≡ true) ⊎ (b ≡ false)
-bool_cases true = inl refl
-bool_cases false = inr refl
 
 mapped_or : (a b : Option Entry) → option_map (λ e. e.value) (option_or a b) ≡ option_or (option_map (λ e. e.value) a) (option_map (λ e. e.value) b)
 mapped_or None b = refl
@@ -100,7 +96,7 @@ with_fits : (E : Word → Value → Type 0) (s : Scope) (e : Entry) → Fits E s
 with_fits E s e f = record {
   fits = λ x v h. elim h [
     | inl m ↦ (let t : bytes_eq e.name x ≡ true = (bytes_eq-Decides e.name x).1 (sym m.0) in rw t (ap (λ w. Some (sort_of w)) (sym m.1)))
-    | inr m ↦ elim (bool_cases (bytes_eq e.name x)) [
+    | inr m ↦ elim (cases_Bool (bytes_eq e.name x)) [
       | inl t ↦ absurd (m.0 (is_name x e.name t))
       | inr t ↦ rw t (f.fits x v m.1)
     ]

@@ -2,15 +2,11 @@
 use Rattle.std.proofs.Common.{◌≡◌, ◌⊎◌, ◌↔◌, List, [], ◌∷◌, ◌++◌, Bool, true, false, ◌||◌, refl, sym, ◌∙◌, subst, inl, inr}
 use Rattle.std.specs.Str.{bytes_eq}
 use Rattle.std.specs.List.{list_any}
-use Rattle.std.proofs.lemmas.Bool.{false≢true}
+use Rattle.std.proofs.lemmas.Bool.{or_cases, false≢true}
 use Rattle.std.proofs.lemmas.Slice.Eq.{bytes_eq-Decides}
 use Rattle.listings.specs.Lists.{IsIn, NoRepeats}
 use Rattle.listings.proofs.Listings.{in_append, in_left, in_right, once_append}
 use Rattle.cat_tree.specs.Tree.{Word}
-
-either : (a b : Bool) → (a || b) ≡ true → (a ≡ true) ⊎ (b ≡ true)
-either true b e = inl refl
-either false b e = inr e
 
 or_right : (a b : Bool) → b ≡ true → (a || b) ≡ true
 or_right true b e = refl
@@ -22,7 +18,7 @@ or_left false b e = absurd (false≢true e)
 
 is_in : (xs : List Word) (x : Word) → list_any (λ y. bytes_eq y x) xs ≡ true → IsIn x xs
 is_in [] x e = absurd (false≢true e)
-is_in (y ∷ xs) x e = elim (either (bytes_eq y x) (list_any (λ y. bytes_eq y x) xs) e) [
+is_in (y ∷ xs) x e = elim (or_cases (bytes_eq y x) (list_any (λ y. bytes_eq y x) xs) e) [
   | inl t ↦ inl (sym ((bytes_eq-Decides y x).0 t))
   | inr t ↦ inr (is_in xs x t)
 ]

@@ -4,23 +4,20 @@ use Rattle.std.specs.List.{list_any}
 use Rattle.std.specs.Str.{bytes_eq}
 use Rattle.std.proofs.lemmas.List.Folds.{list_any-append}
 use Rattle.std.proofs.lemmas.Slice.Eq.{bytes_eq-Decides}
+use Rattle.std.proofs.lemmas.Bool.{cases_Bool}
 use Rattle.cat_tree.specs.Tree.{Word}
 use Rattle.cat_model.specs.Closure.{once, versioned}
 use Rattle.cat_model.specs.Walks.{note, note_all}
 use Rattle.cat_model.specs.declared.files.Entry.{Entry}
 use Rattle.cat_model.specs.declared.model.FileVersion.{FileVersion}
 
-pub split : (b : Bool) → (b ≡ true) ⊎ (b ≡ false)
-split true = inl refl
-split false = inr refl
-
 filter-twice : (p q r : Word → Bool) → ((y : Word) → r y ≡ (p y && q y)) → (ys : List Word) → filter p (filter q ys) ≡ filter r ys
 filter-twice p q r h [] = refl
 filter-twice p q r h (y ∷ ys) =
     let i = filter-twice p q r h ys in
-    elim (split (q y)) [
-      | inl t ↦ elim (split (p y)) [ inl u ↦ rw (h y, t, u) (ap (λ (us : List Word). y ∷ us) i) | inr u ↦ rw (h y, t, u) i ]
-      | inr t ↦ elim (split (p y)) [ inl u ↦ rw (h y, t, u) i | inr u ↦ rw (h y, t, u) i ]
+    elim (cases_Bool (q y)) [
+      | inl t ↦ elim (cases_Bool (p y)) [ inl u ↦ rw (h y, t, u) (ap (λ (us : List Word). y ∷ us) i) | inr u ↦ rw (h y, t, u) i ]
+      | inr t ↦ elim (cases_Bool (p y)) [ inl u ↦ rw (h y, t, u) i | inr u ↦ rw (h y, t, u) i ]
     ]
 
 filter-all : (p : Word → Bool) → ((y : Word) → p y ≡ true) → (ys : List Word) → filter p ys ≡ ys
@@ -42,18 +39,18 @@ in-map es (s ∷ seen) x = ap (λ b. bytes_eq s x || b) (in-map es seen x)
 old-again : (seen : List Word) (x y : Word) → is_in seen x ≡ true → unseen seen y ≡ (unseen seen y && not (bytes_eq x y))
 unfolding is_in unseen
 old-again seen x y t =
-    elim (split (bytes_eq x y)) [
+    elim (cases_Bool (bytes_eq x y)) [
       | inl e ↦ (let same : x ≡ y = (bytes_eq-Decides x y).0 e in let seen_y : list_any (λ s. bytes_eq s y) seen ≡ true = ap (λ z. list_any (λ s. bytes_eq s z) seen) (sym same) ∙ t in rw seen_y refl)
-      | inr e ↦ rw e (elim (split (list_any (λ s. bytes_eq s y) seen)) [ inl u ↦ rw u refl | inr u ↦ rw u refl ])
+      | inr e ↦ rw e (elim (cases_Bool (list_any (λ s. bytes_eq s y) seen)) [ inl u ↦ rw u refl | inr u ↦ rw u refl ])
     ]
 
 one-more : (seen : List Word) (x y : Word) → unseen (seen ++ x ∷ []) y ≡ (unseen seen y && not (bytes_eq x y))
 unfolding is_in unseen
 one-more seen x y =
     rw (list_any-append (λ s. bytes_eq s y) seen (x ∷ []))
-    (elim (split (list_any (λ s. bytes_eq s y) seen)) [
+    (elim (cases_Bool (list_any (λ s. bytes_eq s y) seen)) [
       | inl u ↦ rw u refl
-      | inr u ↦ rw u (elim (split (bytes_eq x y)) [ inl e ↦ rw e refl | inr e ↦ rw e refl ])
+      | inr u ↦ rw u (elim (cases_Bool (bytes_eq x y)) [ inl e ↦ rw e refl | inr e ↦ rw e refl ])
     ])
 
 map-push : (es : List Entry) (seen : List Word) (x : Word) → map (versioned es) seen ++ versioned es x ∷ [] ≡ map (versioned es) (seen ++ x ∷ [])
@@ -70,7 +67,7 @@ noted-from : (es : List Entry) (seen xs : List Word) → note_all es (map (versi
 unfolding is_in unseen
 noted-from es seen [] = ap (map (versioned es)) (sym (append-nil seen))
 noted-from es seen (x ∷ xs) =
-    elim (split (list_any (λ s. bytes_eq s x) seen)) [
+    elim (cases_Bool (list_any (λ s. bytes_eq s x) seen)) [
       | inl t ↦ ap (λ fs. note_all es fs xs) (note-old es seen x t) ∙ (noted-from es seen xs
           ∙ rw t (ap (λ us. map (versioned es) (seen ++ us)) (sym (filter-twice (unseen seen) (λ y. not (bytes_eq x y)) (unseen seen) (λ y. old-again seen x y t) (once xs)))))
       | inr t ↦ ap (λ fs. note_all es fs xs) (note-new es seen x t) ∙ (noted-from es (seen ++ x ∷ []) xs

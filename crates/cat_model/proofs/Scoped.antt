@@ -3,7 +3,7 @@ use Rattle.std.proofs.Common.{◌≡◌, List, [], ◌∷◌, Option, Some, None
 use Rattle.std.specs.List.{find}
 use Rattle.std.specs.Option.{option_or}
 use Rattle.std.specs.Str.{bytes_eq}
-use Rattle.cat_model.proofs.Noted.{split}
+use Rattle.std.proofs.lemmas.Bool.{cases_Bool}
 use Rattle.cat_model.specs.Named.{named_of, sort_of_named}
 use Rattle.cat_model.specs.Sorts.{Scope, sort_of_name}
 use Rattle.cat_model.specs.declared.scope.Sorted.{Sorted}
@@ -17,7 +17,7 @@ first bs x = option_map (λ b. b.sort) (find (λ b. bytes_eq b.name.now x) bs)
 scoped : (bs : List Sorted) (x : Word) → sort_of_name (map (λ b. (b.name.now, b.sort)) bs) x ≡ option_or (first bs x) (option_map sort_of_named (named_of x))
 unfolding first
 scoped [] x = refl
-scoped (b ∷ bs) x = elim (split (bytes_eq b.name.now x)) [ inl t ↦ rw t refl | inr f ↦ rw f (scoped bs x) ]
+scoped (b ∷ bs) x = elim (cases_Bool (bytes_eq b.name.now x)) [ inl t ↦ rw t refl | inr f ↦ rw f (scoped bs x) ]
 
 pub scoped-some : (s : Scope) (bs ds : List Sorted) (x : Word) (k : Sort) → map (λ b. (b.name.now, b.sort)) (reverse bs) ≡ s → ds ≡ bs →
     Some k ≡ option_map (λ b. b.sort) (find (λ b. bytes_eq b.name.now x) (reverse ds)) → Some k ≡ sort_of_name s x

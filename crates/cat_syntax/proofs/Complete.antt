@@ -1,6 +1,7 @@
 -- Expressions that are in the grammar are read.
 use Rattle.std.proofs.Common.{◌≡◌, ℕ, zero, suc, ◌<◌, ◌≤◌, List, [], ◌∷◌, true, false, refl, ap, sym, ◌∙◌, arith, inl, inr}
 use Rattle.std.specs.Prelude.{None, Ok}
+use Rattle.std.proofs.lemmas.Bool.{cases_Bool}
 use Rattle.descent.proofs.Tools.{Yields, Shows}
 use Rattle.descent.proofs.Turns.{Arrives, last, next}
 use Rattle.cat_syntax.specs.declared.operator.Infix.{Infix}
@@ -13,7 +14,7 @@ use Rattle.cat_syntax.specs.declared.symbol.Terminal.TheVariants.{Let, And, Acyc
 use Rattle.cat_tree.specs.Tree.{Term, complement, domain, range, identity, name, empty_relation, empty_set, universe}
 use Rattle.cat_syntax.specs.Grammar.{joined, begins_check, begins_operand, JoinsLeft, joins_product, joins_difference, JoinsRight, joins_intersection, joins_sequence, joins_union, IsLevel, level_unary, level_tighter, level_left, level_right, IsUnary, unary_complement, unary_postfix, IsPostfix, postfix_primary, postfix_plus, postfix_star, postfix_optional, postfix_inverse, IsPrimary, primary_name, primary_universe, primary_empty_relation, primary_empty_set, primary_paren, primary_identity, primary_domain, primary_range}
 use Rattle.cat_syntax.specs.Reading.{Reading, terminal_eq, after, infix_at, associates_left, postfix_at, applied, applied_at, next_operand, right, left, Inner, enclosed_with, primary_with, postfix_with, unary_with, level_with, below}
-use Rattle.cat_syntax.proofs.Symbols.{bool_cases, expected-first}
+use Rattle.cat_syntax.proofs.Symbols.{expected-first}
 use Rattle.cat_syntax.proofs.Levels.{left_shorter, postfix_shorter, right_more}
 
 -- what stands next is no operator below level k, and none that stands behind its operand
@@ -337,7 +338,7 @@ two-right n k {ts} {mid} y j z =
 
 level-one : (n k : ℕ) {ts rest : List Symbol} {a : Term} → Yields (level_with (below n) k) ts rest a → Ends (suc k) rest → Yields (level_with (below n) (suc k)) ts rest a
 level-one n k y ends =
-    elim (bool_cases (associates_left k)) [
+    elim (cases_Bool (associates_left k)) [
       | inl h ↦ last-left n k (first-left n k y) h (ends.none_between k (omega arith))
       | inr h ↦ one-right n k y h (ends.none_between k (omega arith))
     ]

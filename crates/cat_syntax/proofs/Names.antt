@@ -1,30 +1,26 @@
 -- The test of a name.
 use Rattle.std.proofs.Common.{◌≡◌, ℕ, List, length, true, false, get_or, refl}
-use Rattle.std.proofs.lemmas.Bool.{leb-true, le-leb}
+use Rattle.std.proofs.lemmas.Bool.{and_parts, leb-true, le-leb}
 use Rattle.std.proofs.lemmas.List.Sums.{AllPass-from_list_all, list_all-from_AllPass}
 use Rattle.std.specs.Prelude.{nat_le, ◌&&◌, Bool}
 use Rattle.std.specs.List.{list_all}
 use Rattle.wb_text.specs.Names.{IsName, IsPrintable}
 use Rattle.cat_syntax.specs.Symbols.{is_printable, is_name}
 
-and-both : (a b : Bool) → (a && b) ≡ true → (a ≡ true) × (b ≡ true)
-and-both true b e = (refl, e)
-and-both false b e = absurd (cc)
-
 both-and : (a b : Bool) → a ≡ true → b ≡ true → (a && b) ≡ true
 both-and true b e f = f
 both-and false b e f = absurd (cc)
 
 printable-is : (b : ℕ) → is_printable b ≡ true → IsPrintable b
-printable-is b e = let h = and-both (nat_le 33 b) (nat_le b 126) e in (leb-true 33 b h.0, leb-true b 126 h.1)
+printable-is b e = let h = and_parts (nat_le 33 b) (nat_le b 126) e in (leb-true 33 b h.0, leb-true b 126 h.1)
 
 printable-of : (b : ℕ) → IsPrintable b → is_printable b ≡ true
 printable-of b h = both-and (nat_le 33 b) (nat_le b 126) (le-leb 33 b h.0) (le-leb b 126 h.1)
 
 pub name_is : (x : List ℕ) → is_name x ≡ true → IsName x
 name_is x e =
-    let h = and-both (nat_le 1 (length x) && nat_le (length x) 64) (list_all is_printable x) e in
-    let i = and-both (nat_le 1 (length x)) (nat_le (length x) 64) h.0 in
+    let h = and_parts (nat_le 1 (length x) && nat_le (length x) 64) (list_all is_printable x) e in
+    let i = and_parts (nat_le 1 (length x)) (nat_le (length x) 64) h.0 in
     record {
       nonempty = leb-true 1 (length x) i.0;
       at_most = leb-true (length x) 64 i.1;

@@ -6,15 +6,11 @@ use Rattle.cat_syntax.specs.Reading.{repeats}
 use Rattle.std.proofs.lemmas.Slice.Eq.{bytes_eq-Decides}
 use Rattle.std.specs.List.{list_any}
 use Rattle.cat_tree.specs.declared.tree.Binding.{Binding}
-use Rattle.cat_syntax.proofs.Symbols.{bool_cases}
 use Rattle.std.specs.Prelude.{Bool, ◌||◌}
 use Rattle.std.specs.Str.{bytes_eq}
+use Rattle.std.proofs.lemmas.Bool.{or_parts, cases_Bool}
 use Rattle.cat_tree.specs.Tree.{Word, Bound, bound_of, is_bound}
 use Rattle.cat_syntax.specs.Items.{BindOnce}
-
-or-neither : (a b : Bool) → (a || b) ≡ false → (a ≡ false) × (b ≡ false)
-or-neither true b e = absurd (cc)
-or-neither false b e = (refl, e)
 
 neither-or : (a b : Bool) → a ≡ false → b ≡ false → (a || b) ≡ false
 neither-or true b e f = absurd (cc)
@@ -23,12 +19,12 @@ neither-or false b e f = f
 bound-push : (bs : List Bound) (b : Bound) (x : Word) → is_bound bs x ≡ false → bytes_eq b.name x ≡ false → is_bound (bs ++ b ∷ []) x ≡ false
 bound-push [] b x e f = neither-or (bytes_eq b.name x) false f refl
 bound-push (c ∷ bs) b x e f =
-    let h = or-neither (bytes_eq c.name x) (is_bound bs x) e in
+    let h = or_parts (bytes_eq c.name x) (is_bound bs x) e in
     neither-or (bytes_eq c.name x) (is_bound (bs ++ b ∷ []) x) h.0 (bound-push bs b x h.1 f)
 
 eq-swap : (a b : Word) → bytes_eq a b ≡ false → bytes_eq b a ≡ false
 eq-swap a b e =
-    elim (bool_cases (bytes_eq b a)) [
+    elim (cases_Bool (bytes_eq b a)) [
       | inl h ↦
           let same : b ≡ a = (bytes_eq-Decides b a).0 h in
           let back : bytes_eq a b ≡ true = (bytes_eq-Decides a b).1 (sym same) in
@@ -39,12 +35,12 @@ eq-swap a b e =
 pub once-push : (bs : List Bound) (b : Bound) → BindOnce bs → is_bound bs b.name ≡ false → BindOnce (bs ++ b ∷ [])
 once-push [] b k e = (refl, tt)
 once-push (c ∷ bs) b k e =
-    let h = or-neither (bytes_eq c.name b.name) (is_bound bs b.name) e in
+    let h = or_parts (bytes_eq c.name b.name) (is_bound bs b.name) e in
     (bound-push bs b c.name k.0 (eq-swap c.name b.name h.0), once-push bs b k.1 h.1)
 
 later-free : (cs : List Bound) (b : Bound) (bs : List Bound) (x : Word) → is_bound (cs ++ b ∷ bs) x ≡ false → bytes_eq b.name x ≡ false
-later-free [] b bs x e = (or-neither (bytes_eq b.name x) (is_bound bs x) e).0
-later-free (c ∷ cs) b bs x e = later-free cs b bs x (or-neither (bytes_eq c.name x) (is_bound (cs ++ b ∷ bs) x) e).1
+later-free [] b bs x e = (or_parts (bytes_eq b.name x) (is_bound bs x) e).0
+later-free (c ∷ cs) b bs x e = later-free cs b bs x (or_parts (bytes_eq c.name x) (is_bound (cs ++ b ∷ bs) x) e).1
 
 -- what is bound behind a list is not bound in it
 pub once-fresh : (cs : List Bound) (b : Bound) (bs : List Bound) → BindOnce (cs ++ b ∷ bs) → is_bound cs b.name ≡ false

@@ -1,6 +1,7 @@
 -- Expressions that are read are in the grammar.
 use Rattle.std.proofs.Common.{◌≡◌, ℕ, zero, suc, ◌<◌, List, ◌∷◌, length, true, false, sym, subst, arith, inl, inr}
 use Rattle.std.specs.Prelude.{Some, Ok}
+use Rattle.std.proofs.lemmas.Bool.{cases_Bool}
 use Rattle.descent.proofs.Tools.{bind_ok, cases_of, moved, moved_look}
 use Rattle.descent.proofs.Turns.{repeated-keeps}
 use Rattle.cat_syntax.specs.declared.operator.Postfix.{Postfix}
@@ -11,7 +12,7 @@ use Rattle.cat_syntax.specs.declared.symbol.Terminal.TheVariants.{Domain, Range,
 use Rattle.cat_tree.specs.Tree.{Term, complement, domain, range, identity}
 use Rattle.cat_syntax.specs.Grammar.{begins_operand, IsLevel, level_unary, level_tighter, level_left, level_right, IsUnary, unary_complement, unary_postfix, IsPostfix, postfix_primary, postfix_plus, postfix_star, postfix_optional, postfix_inverse, IsPrimary, primary_name, primary_universe, primary_empty_relation, primary_empty_set, primary_paren, primary_identity, primary_domain, primary_range}
 use Rattle.cat_syntax.specs.Reading.{Reading, expected, infix_at, associates_left, postfix_at, applied, applied_at, next_operand, chain_right, right, left, Inner, enclosed_with, primary_with, postfix_with, unary_with, level_with, below}
-use Rattle.cat_syntax.proofs.Symbols.{bool_cases, expected-ok, infix-some, joins-left, joins-right, if-none}
+use Rattle.cat_syntax.proofs.Symbols.{expected-ok, infix-some, joins-left, joins-right, if-none}
 
 -- each level takes a symbol
 
@@ -165,7 +166,7 @@ module _ (n : ℕ) (r : Inner) (inner : SoundInner n r) where
   unfolding level_with
   level-sound zero ts rest a e = level_unary (unary-sound ts rest a e)
   level-sound (suc k) ts rest a e =
-      elim (bool_cases (associates_left k)) [
+      elim (cases_Bool (associates_left k)) [
         | inl h ↦ left-sound k h (level-sound k) ts rest a (rw h at e)
         | inr h ↦ right-sound k h (level-sound k) ts rest a (rw h at e)
       ]

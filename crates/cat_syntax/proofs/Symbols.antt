@@ -1,6 +1,7 @@
 -- Single symbols.
 use Rattle.std.proofs.Common.{◌≡◌, ℕ, zero, suc, ◌<◌, List, ◌∷◌, length, true, false, refl, ap, subst, arith, rules, ◌⊎◌, inl, inr}
 use Rattle.std.specs.Prelude.{Bool, Option, Some, None, Ok, if◌then◌else◌}
+use Rattle.std.proofs.lemmas.Bool.{cases_Bool}
 use Rattle.descent.proofs.Tools.{required_ok, cases_of, moved_look}
 use Rattle.cat_syntax.specs.declared.operator.Infix.{Infix}
 use Rattle.cat_syntax.specs.declared.operator.Postfix.{Postfix}
@@ -10,10 +11,6 @@ use Rattle.cat_syntax.specs.declared.symbol.Terminal.{Terminal}
 use Rattle.cat_syntax.specs.declared.symbol.Terminal.TheVariants.{Bar, Semicolon, Backslash, Ampersand, Star, Plus, Question, Inverse}
 use Rattle.cat_syntax.specs.Grammar.{JoinsLeft, joins_product, joins_difference, JoinsRight, joins_intersection, joins_sequence, joins_union, begins_operand}
 use Rattle.cat_syntax.specs.Reading.{terminal_eq, after, expected, name_at, sign, infix_at, associates_left, postfix_at}
-
-pub bool_cases : (b : Bool) → (b ≡ true) ⊎ (b ≡ false)
-bool_cases true = inl refl
-bool_cases false = inr refl
 
 pub terminal_eq-true : (a b : Terminal) → terminal_eq a b ≡ true → a ≡ b
 terminal_eq-true a b e = search rules

@@ -3,7 +3,7 @@ use Rattle.std.proofs.Common.{◌≡◌, ℕ, suc, ◌≤◌, ◌⊎◌, List, [
 use Rattle.std.specs.Prelude.{Bool, true, false, not, if◌then◌else◌, ◌||◌, ◌&&◌, Option, Some, None, All, Contains, sum_by, ◌+◌}
 use Rattle.std.specs.List.{flat_map, list_all}
 use Rattle.std.specs.Str.{bytes_eq}
-use Rattle.std.proofs.lemmas.Bool.{false≢true}
+use Rattle.std.proofs.lemmas.Bool.{or_cases, and_parts, cases_Bool, false≢true}
 use Rattle.std.proofs.lemmas.List.Elements.{All-cons}
 use Rattle.std.proofs.lemmas.Map.Views.{Contains-from_any}
 use Rattle.listings.specs.Lists.{IsIn}
@@ -20,16 +20,11 @@ use Rattle.litmus_tree.specs.Names.{is_one_of, with_name, with_names}
 use Rattle.litmus_tree.specs.Tree.{Word, Term, number, held, denied, equal, unequal, both, either, Action, load, store, exchange, fence, Right, computed, plain_read, value_of, Declared, Step, empty, block, declare, assign, plain_write, perform, if_only, if_else, Steps, no_steps, in_turn, Program, Litmus}
 use Rattle.litmus_test.specs.Values.{values_among}
 use Rattle.litmus_c.proofs.Names.{programs_len}
-use Rattle.litmus_syntax.proofs.Spelled.{and_parts, true_or_false}
 use Rattle.litmus_syntax.proofs.SingleSymbols.{bytes_eq-true, bytes_eq-refl}
 
 or_right : (a b : Bool) → b ≡ true → (a || b) ≡ true
 or_right true b h = refl
 or_right false b h = h
-
-or_cases : (a b : Bool) → (a || b) ≡ true → (a ≡ true) ⊎ (b ≡ true)
-or_cases true b h = inl refl
-or_cases false b h = inr h
 
 -- a name that stands in a list
 stands : (xs : List Word) (x : Word) → IsIn x xs → is_one_of xs x ≡ true
@@ -54,7 +49,7 @@ contains xs x h = Contains-from_any bytes_eq-true x xs (stands xs x h)
 kept : (xs : List Word) (y x : Word) → IsIn x xs ⊎ (x ≡ y) → IsIn x (with_name xs y)
 kept xs y x h =
     let P : Bool → Type 0 = λ b. IsIn x (if b then xs else xs ++ y ∷ []) in
-    elim (true_or_false (is_one_of xs y)) [
+    elim (cases_Bool (is_one_of xs y)) [
       | inl t ↦ subst P (sym t) (elim h [ inl a ↦ a | inr e ↦ (let Q : Word → Type 0 = λ z. IsIn z xs in subst Q (sym e) (found_in xs y t)) ])
       | inr t ↦ subst P (sym t) (elim h [ inl a ↦ in_left xs (y ∷ []) x a | inr e ↦ in_right xs (y ∷ []) x (inl e) ])
     ]

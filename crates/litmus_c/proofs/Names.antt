@@ -2,6 +2,7 @@
 use Rattle.std.proofs.Common.{◌≡◌, ℕ, suc, ◌+◌, ◌<◌, ◌≤◌, ◌⊎◌, List, [], ◌∷◌, ◌++◌, length, refl, sym, ◌∙◌, ap, subst, inl, inr, arith, drop, get_or, drop-cons, add-one, map, length-append}
 use Rattle.std.specs.Prelude.{Bool, true, false, if◌then◌else◌}
 use Rattle.std.specs.List.{flat_map}
+use Rattle.std.proofs.lemmas.Bool.{cases_Bool}
 use Rattle.conditions.specs.declared.place.Binding.{Binding}
 use Rattle.litmus_syntax.specs.declared.draft.Body.{Body}
 use Rattle.litmus_c.specs.declared.fault.TestFault.{TestFault}
@@ -11,14 +12,10 @@ use Rattle.litmus_c.specs.Rules.{program_of, programs_of, ExplainsLocations}
 use Rattle.litmus_tree.specs.Names.{is_one_of, with_name, with_names}
 use Rattle.litmus_tree.specs.Tree.{Word}
 
-test : (b : Bool) → (b ≡ true) ⊎ (b ≡ false)
-test true = inl refl
-test false = inr refl
-
 with_longer : (xs : List Word) (x : Word) → length xs ≤ length (with_name xs x)
 with_longer xs x =
     let P : Bool → Type 0 = λ b. length xs ≤ length (if b then xs else xs ++ x ∷ []) in
-    elim (test (is_one_of xs x)) [
+    elim (cases_Bool (is_one_of xs x)) [
       | inl t ↦ subst P (sym t) (omega arith)
       | inr t ↦ subst P (sym t) (omega (arith, length-append xs (x ∷ [])))
     ]

@@ -1,6 +1,7 @@
 -- Orders, calls and right sides: what is read is in the grammar, and what is in the grammar is read.
 use Rattle.std.proofs.Common.{◌≡◌, ℕ, suc, ◌<◌, List, [], ◌∷◌, ◌⊎◌, length, sym, subst, arith, inl, inr, refl, ap, ◌∙◌, rules, tests}
 use Rattle.std.specs.Prelude.{Bool, true, false, ◌||◌, ◌==◌, Some, None, Ok, Err, if◌then◌else◌}
+use Rattle.std.proofs.lemmas.Bool.{or_cases}
 use Rattle.descent.specs.Reading.{◌>>=◌, required}
 use Rattle.descent.proofs.Tools.{bind_ok, required_ok, cases_of, chosen, moved, Yields}
 use Rattle.events.specs.contracts.event.OrderPartialEq.TheImpl.{ghosts as order_equality}
@@ -28,10 +29,6 @@ order_eq-true p o e = search rules
 
 order_eq-refl : (o : Order) → order_equality.eq o o ≡ true
 order_eq-refl o = search rules
-
-or_cases : (a b : Bool) → (a || b) ≡ true → (a ≡ true) ⊎ (b ≡ true)
-or_cases true b h = inl refl
-or_cases false b h = inr h
 
 or_right : (a b : Bool) → b ≡ true → (a || b) ≡ true
 or_right true b h = refl

@@ -3,6 +3,7 @@ use Rattle.std.proofs.Common.{◌≡◌, ℕ, List, [], ◌∷◌, refl, subst, 
 use Rattle.std.specs.Prelude.{◌++◌, true, false, None, Ok, codes}
 use Rattle.std.specs.Fmt.{decimal}
 use Rattle.std.specs.Str.{bytes_eq}
+use Rattle.std.proofs.lemmas.Bool.{cases_Bool}
 use Rattle.descent.proofs.Tools.{Yields, Shows, moved}
 use Rattle.descent.proofs.Turns.{Arrives, last, next}
 use Rattle.conditions.specs.declared.place.Binding.{Binding}
@@ -23,7 +24,6 @@ use Rattle.litmus_tree.specs.Tree.{Word}
 use Rattle.litmus_syntax.proofs.Levels.{entries_turn_takes, parameters_turn_takes, threads_turn_takes}
 use Rattle.litmus_syntax.proofs.Places.{place-complete, number-first, listed-complete}
 use Rattle.litmus_syntax.proofs.Propositions.{EndsFormula, condition-complete}
-use Rattle.litmus_syntax.proofs.Spelled.{true_or_false}
 use Rattle.litmus_syntax.proofs.Statements.{steps-complete}
 use Rattle.litmus_syntax.proofs.SingleSymbols.{bytes_eq-refl, bytes_eq-true, after-first, expected-first, open-first}
 
@@ -133,7 +133,7 @@ entries-complete {rest = rest} d = last (entries-arrive d (brace-ends rest)) (no
 new-false : (ps : List Parameter) (p : Parameter) → IsNew p ps → is_parameter ps p.name ≡ false
 new-false [] p new = refl
 new-false (q ∷ ps) p new =
-    elim (true_or_false (bytes_eq q.name p.name)) [
+    elim (cases_Bool (bytes_eq q.name p.name)) [
       | inl e ↦ absurd (new q (inl refl) (bytes_eq-true q.name p.name e))
       | inr e ↦ rw (e, new-false ps p (λ r h. new r (inr h))) refl
     ]

@@ -3,6 +3,7 @@ use Rattle.std.proofs.Common.{◌≡◌, ℕ, suc, List, [], ◌∷◌, ◌⊎�
 use Rattle.std.specs.Prelude.{◌++◌, Bool, true, false, ◌||◌, Ok, Err, if◌then◌else◌, codes}
 use Rattle.std.specs.Fmt.{decimal}
 use Rattle.std.specs.Str.{bytes_eq}
+use Rattle.std.proofs.lemmas.Bool.{or_parts}
 use Rattle.descent.specs.Reading.{◌>>=◌}
 use Rattle.descent.proofs.Tools.{bind_ok, cases_of, none_or_some, moved, chosen}
 use Rattle.descent.proofs.Turns.{repeated-keeps}
@@ -107,14 +108,10 @@ entries-sound ts rest cs e =
 
 -- Parameters.
 
-or-false : (a b : Bool) → (a || b) ≡ false → (a ≡ false) × (b ≡ false)
-or-false true b e = absurd (cc)
-or-false false b e = (refl, e)
-
 new : (ps : List Parameter) (p : Parameter) → is_parameter ps p.name ≡ false → IsNew p ps
 new [] p e q h = absurd h
 new (r ∷ ps) p e q h =
-    let both = or-false (bytes_eq r.name p.name) (is_parameter ps p.name) e in
+    let both = or_parts (bytes_eq r.name p.name) (is_parameter ps p.name) e in
     elim h [
       | inl s ↦ rw s (bytes_eq-false r.name p.name both.0)
       | inr m ↦ new ps p both.1 q m

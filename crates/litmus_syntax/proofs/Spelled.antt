@@ -3,7 +3,7 @@ use Rattle.std.proofs.Common.{◌≡◌, ℕ, suc, ◌<◌, ◌≤◌, List, [],
 use Rattle.std.specs.Prelude.{Bool, true, false, not, ◌&&◌, nat_lt, nat_le, All, Option, Some, None, SomeIff, MatchOption}
 use Rattle.std.specs.Bool.{Decides}
 use Rattle.std.specs.List.{list_all}
-use Rattle.std.proofs.lemmas.Bool.{false≢true}
+use Rattle.std.proofs.lemmas.Bool.{and_parts, cases_Bool, false≢true}
 use Rattle.std.proofs.lemmas.Bool.Decides.{Decides-by_and}
 use Rattle.wb_text.specs.Bytes.{is_digit}
 use Rattle.wb_text.specs.Names.{IsName, IsPrintable}
@@ -15,14 +15,6 @@ use Rattle.litmus_syntax.specs.declared.symbol.Symbol.{Symbol}
 use Rattle.std.proofs.lemmas.List.Elements.{All-head, All-rest}
 use Rattle.litmus_syntax.specs.Symbols.{is_name, has_leading_zero, is_number, symbol_by, spelling, is_opened, symbols_of}
 use Rattle.litmus_tree.specs.Tree.{Word}
-
-pub true_or_false : (b : Bool) → (b ≡ true) ⊎ (b ≡ false)
-true_or_false true = inl refl
-true_or_false false = inr refl
-
-pub and_parts : (a b : Bool) → (a && b) ≡ true → (a ≡ true) × (b ≡ true)
-and_parts true b e = (refl, e)
-and_parts false b e = absurd (false≢true e)
 
 and_true : (a b : Bool) → a ≡ true → b ≡ true → (a && b) ≡ true
 and_true a b e f = rw (e, f)
@@ -61,7 +53,7 @@ is_name_of w e =
     record { nonempty = omega arith; at_most = le_true (length w) 64 q.1; printable = (all_printable w).0 p.1 }
 
 pub is_name_false : (w : Word) → ¬ IsName w → is_name w ≡ false
-is_name_false w h = elim (true_or_false (is_name w)) [ inl e ↦ absurd (h (is_name_of w e)) | inr e ↦ e ]
+is_name_false w h = elim (cases_Bool (is_name w)) [ inl e ↦ absurd (h (is_name_of w e)) | inr e ↦ e ]
 
 all_digits : (w : Word) → Decides (list_all is_digit w) (All (λ b. is_digit b ≡ true) w)
 all_digits = Decides-by_and is_digit (λ b. is_digit b ≡ true) (list_all is_digit) (λ b. (λ e. e, λ e. e)) refl (λ _ _. refl)
@@ -70,7 +62,7 @@ all_digits = Decides-by_and is_digit (λ b. is_digit b ≡ true) (list_all is_di
 pub number_of : (w : Word) (r : Option ℕ) → has_leading_zero w ≡ false → SomeIff r (IsDecimal w × (decimal_value w ≤ 2147483647)) (decimal_value w) →
     MatchOption r (is_number w ≡ false) (λ n. (is_number w ≡ true) × (n ≡ decimal_value w))
 number_of w None z h =
-    elim (true_or_false (is_number w)) [
+    elim (cases_Bool (is_number w)) [
       | inl e ↦
           let p = and_parts (not (has_leading_zero w) && nat_lt 0 (length w) && list_all is_digit w) (nat_le (decimal_value w) 2147483647) e in
           let q = and_parts (not (has_leading_zero w) && nat_lt 0 (length w)) (list_all is_digit w) p.0 in

@@ -1,7 +1,7 @@
 -- The values of a test are listed, and adding constants never loses a value.
 use Rattle.std.proofs.Common.{◌≡◌, ℕ, suc, ◌≤◌, ◌<◌, ◌⊎◌, List, [], ◌∷◌, ◌++◌, length, refl, sym, ◌∙◌, subst, inl, inr, arith, Bool, true, false, if◌then◌else◌, ◌==◌, ◌||◌, length-append, map, drop, get_or, drop-cons, add-one, ap, ◌+◌}
 use Rattle.std.specs.List.{list_any, flat_map}
-use Rattle.std.proofs.lemmas.Bool.{eqb-true, eq-eqb, false≢true}
+use Rattle.std.proofs.lemmas.Bool.{cases_Bool, or_cases, eqb-true, eq-eqb, false≢true}
 use Rattle.listings.specs.Lists.{IsIn, NoRepeats, Lists}
 use Rattle.listings.proofs.Listings.{in_append, in_left, in_right, once_append}
 use Rattle.conditions.specs.declared.place.Binding.{Binding}
@@ -15,17 +15,9 @@ use Rattle.litmus_tree.specs.Tree.{Program, term_of, step_of, steps_of}
 use Rattle.litmus_tree.proofs.Steps.{only_if, if_and_else}
 use Rattle.litmus_test.specs.Values.{term_constants, step_constants, steps_constants, constants_among, IsValue, with_value, with_values, values_among}
 
-test : (b : Bool) → (b ≡ true) ⊎ (b ≡ false)
-test true = inl refl
-test false = inr refl
-
-or_true : (a b : Bool) → (a || b) ≡ true → (a ≡ true) ⊎ (b ≡ true)
-or_true true b h = inl refl
-or_true false b h = inr h
-
 any_in : (vs : List ℕ) (v : ℕ) → list_any (λ w. w == v) vs ≡ true → IsIn v vs
 any_in [] v h = absurd (false≢true h)
-any_in (w ∷ vs) v h = elim (or_true (w == v) (list_any (λ u. u == v) vs) h) [ inl a ↦ inl (sym (eqb-true w v a)) | inr b ↦ inr (any_in vs v b) ]
+any_in (w ∷ vs) v h = elim (or_cases (w == v) (list_any (λ u. u == v) vs) h) [ inl a ↦ inl (sym (eqb-true w v a)) | inr b ↦ inr (any_in vs v b) ]
 
 or_left : (a b : Bool) → a ≡ true → (a || b) ≡ true
 or_left a b h = rw h refl
@@ -40,7 +32,7 @@ in_any (w ∷ vs) v h = elim h [ inl e ↦ or_left (w == v) (list_any (λ u. u =
 
 -- One value more, once.
 with_in : (vs : List ℕ) (c v : ℕ) → IsIn v (with_value vs c) → IsIn v vs ⊎ (v ≡ c)
-with_in vs c v h = elim (test (list_any (λ w. w == c) vs)) [
+with_in vs c v h = elim (cases_Bool (list_any (λ w. w == c) vs)) [
   | inl t ↦ inl (let P : Bool → Type 0 = λ b. IsIn v (if b then vs else vs ++ c ∷ []) in subst P t h)
   | inr t ↦ (let P : Bool → Type 0 = λ b. IsIn v (if b then vs else vs ++ c ∷ []) in
       elim (in_append vs (c ∷ []) v (subst P t h)) [ inl a ↦ inl a | inr b ↦ elim b [ inl e ↦ inr e | inr n ↦ absurd n ] ])
@@ -49,7 +41,7 @@ with_in vs c v h = elim (test (list_any (λ w. w == c) vs)) [
 in_with : (vs : List ℕ) (c v : ℕ) → IsIn v vs ⊎ (v ≡ c) → IsIn v (with_value vs c)
 in_with vs c v h =
     let P : Bool → Type 0 = λ b. IsIn v (if b then vs else vs ++ c ∷ []) in
-    elim (test (list_any (λ w. w == c) vs)) [
+    elim (cases_Bool (list_any (λ w. w == c) vs)) [
       | inl t ↦ subst P (sym t) (elim h [ inl a ↦ a | inr e ↦ (let Q : ℕ → Type 0 = λ u. IsIn u vs in subst Q (sym e) (any_in vs c t)) ])
       | inr t ↦ subst P (sym t) (elim h [ inl a ↦ in_left vs (c ∷ []) v a | inr e ↦ in_right vs (c ∷ []) v (inl e) ])
     ]
@@ -57,7 +49,7 @@ in_with vs c v h =
 once_with : (vs : List ℕ) (c : ℕ) → NoRepeats vs → NoRepeats (with_value vs c)
 once_with vs c o =
     let P : Bool → Type 0 = λ b. NoRepeats (if b then vs else vs ++ c ∷ []) in
-    elim (test (list_any (λ w. w == c) vs)) [
+    elim (cases_Bool (list_any (λ w. w == c) vs)) [
       | inl t ↦ subst P (sym t) o
       | inr t ↦ subst P (sym t) (once_append vs (c ∷ []) o (λ h. h, tt)
           (λ x a b. elim b [ inl e ↦ (let Q : ℕ → Type 0 = λ u. IsIn u vs in false≢true (sym t ∙ in_any vs c (subst Q e a))) | inr n ↦ n ]))
@@ -66,7 +58,7 @@ once_with vs c o =
 with_longer : (vs : List ℕ) (c : ℕ) → length vs ≤ length (with_value vs c)
 with_longer vs c =
     let P : Bool → Type 0 = λ b. length vs ≤ length (if b then vs else vs ++ c ∷ []) in
-    elim (test (list_any (λ w. w == c) vs)) [
+    elim (cases_Bool (list_any (λ w. w == c) vs)) [
       | inl t ↦ subst P (sym t) (omega arith)
       | inr t ↦ subst P (sym t) (omega (arith, length-append vs (c ∷ [])))
     ]

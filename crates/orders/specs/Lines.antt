@@ -1,5 +1,5 @@
 -- The lines of a script, and what of it is still to be read.
-use Rattle.std.specs.Prelude.{◌≡◌, ◌≢◌, ◌⊎◌, ◌++◌, ℕ, List, Option, codes}
+use Rattle.std.specs.Prelude.{◌≡◌, ◌≢◌, ◌⊎◌, ◌++◌, ◌+◌, ℕ, List, Option, codes}
 use Rattle.std.specs.List.{All}
 use Rattle.std.specs.Io.KnownBytes.{prepend_known, Consumes, IsAtEnd}
 
@@ -36,3 +36,15 @@ pub data Gives (before after : Option (List ℕ)) (line : List ℕ) : Type 0 whe
 pub record IsNextLine (before after : Option (List ℕ)) (line : List ℕ) : Type 0 where
   pub unbroken : IsUnbroken line
   pub given : Gives before after line
+
+-- Lines one after another: before them the count stood at m, and behind them it stands where each is counted once.
+pub data AreLines (before : Option (List ℕ)) (m : ℕ) : Option (List ℕ) → ℕ → Type 0 where
+  nothing_read : AreLines before m before m
+  line_read : {mid after : Option (List ℕ)} {line : List ℕ} {n : ℕ} → AreLines before m mid n → IsNextLine mid after line → AreLines before m after (n + 1)
+
+-- The line of number n is the last of lines that were read, or the one behind them.
+pub record IsAtLine (before : Option (List ℕ)) (m n : ℕ) : Type 0 where
+  pub end : Option (List ℕ)
+  pub count : ℕ
+  pub lines : AreLines before m end count
+  pub number : (n ≡ count) ⊎ (n ≡ count + 1)

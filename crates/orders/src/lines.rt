@@ -1,6 +1,6 @@
 //! The lines of a script.
 
-ghost use Rattle.std.specs.Prelude.{◌≡◌, ◌≤◌, ◌≢◌, ◌++◌, ℕ, List, [], Ok, Err, true, false, IfOk, IfErr, codes};
+ghost use Rattle.std.specs.Prelude.{◌≡◌, ◌≤◌, ◌≢◌, ◌++◌, ◌+◌, ℕ, List, [], Ok, Err, true, false, IfOk, IfErr, OnOk, codes};
 ghost use Rattle.std.specs.Io.KnownBytes.{IsAtEnd, Keeps};
 ghost use Rattle.orders.specs.Lines.{ahead, IsUnbroken, IsTrimmed, Grows, IsNextLine};
 ghost use Rattle.orders.specs.declared.fault.ServeFault.TheVariants as faults;
@@ -28,7 +28,8 @@ pub struct Lines {
 impl Lines {
     /// No line yet.
     pub fn new(alloc: Global) -> Result<Self, AllocError>
-        ensures { IfOk result (λ lines. lines.block ≡ []) }
+        ensures block { IfOk result (λ lines. lines.block ≡ []) }
+        ensures count { IfOk result (λ lines. lines.count ≡ 0) }
     {
         Ok(Lines {
             block: Block::new(alloc)?,
@@ -54,7 +55,10 @@ impl Lines {
     /// Goes to the next line, and answers whether there is one.
     pub fn next<R: Source>(&mut self, reader: &mut R) -> Result<bool, ServeFault>
         ensures fault { IfErr result (λ e. e ≢ faults.Write) }
-        ensures line { (n : ℕ) → result ≡ Err (faults.BadLine n) → n ≡ self.new.count }
+        // The number of a line is one more than that of the line before it.
+        ensures line { (n : ℕ) → result ≡ Err (faults.BadLine n) → n ≡ self.old.count + 1 }
+        ensures count { result ≡ Ok true → self.new.count ≡ self.old.count + 1 }
+        ensures still { result ≡ Ok false → self.new.count ≡ self.old.count }
         // The line is the next of what was ahead, or nothing was.
         ensures next { result ≡ Ok true → IsNextLine (ahead self.old.block (R.left reader.old)) (ahead self.new.block (R.left reader.new)) self.new.line.items }
         ensures end { result ≡ Ok false → IsAtEnd (R.left reader.new) }
@@ -105,7 +109,8 @@ impl Lines {
     /// line is too long.
     fn read_line<R: Source>(&mut self, reader: &mut R) -> Result<bool, ServeFault>
         ensures fault { IfErr result (λ e. e ≢ faults.Write) }
-        ensures line { (n : ℕ) → result ≡ Err (faults.BadLine n) → n ≡ self.new.count }
+        ensures line { (n : ℕ) → result ≡ Err (faults.BadLine n) → n ≡ self.old.count }
+        ensures count { OnOk result (self.new.count ≡ self.old.count) }
         ensures fed { result ≡ Ok true → Grows (ahead self.old.block (R.left reader.old)) (ahead self.new.block (R.left reader.new)) self.old.line.items self.new.line.items (codes "\n") }
         ensures last { result ≡ Ok false → Grows (ahead self.old.block (R.left reader.old)) (ahead self.new.block (R.left reader.new)) self.old.line.items self.new.line.items []
             × IsAtEnd (ahead self.new.block (R.left reader.new)) }

@@ -1,7 +1,7 @@
 //! The orders of a script.
 
 ghost use Rattle.std.specs.Prelude.{◌≡◌, [], ◌↔◌, ◌<◌, ◌≤◌, ◌≢◌, ◌++◌, ◌-◌, ℕ, true, Err, IfOk, IfErr, IfSome, IfNone, OnOk, length, take, vec_len, codes};
-ghost use Rattle.orders.specs.Lines.{ahead};
+ghost use Rattle.orders.specs.Lines.{ahead, AreLines, IsAtLine};
 ghost use Rattle.orders.specs.Scripts.{IsText, IsFollowed, IsNextOrder, IsSpent};
 ghost use Rattle.orders.specs.Spelled.{Begins, IsSkipped};
 ghost use Rattle.std.specs.Io.KnownBytes.{IsAtEnd};
@@ -27,7 +27,8 @@ pub struct Script {
 impl Script {
     /// A script of which nothing is read.
     pub fn new(alloc: Global) -> Result<Self, AllocError>
-        ensures { IfOk result (λ script. script.lines.block ≡ []) }
+        ensures block { IfOk result (λ script. script.lines.block ≡ []) }
+        ensures count { IfOk result (λ script. script.lines.count ≡ 0) }
     {
         Ok(Script {
             alloc,
@@ -50,7 +51,9 @@ impl Script {
         ensures spent { IfOk result (λ next. IfNone next (IsSpent (ahead self.old.lines.block (R.left reader.old)) (ahead self.new.lines.block (R.left reader.new)))) }
         ensures end { IfOk result (λ next. IfNone next (IsAtEnd (R.left reader.new))) }
         ensures fault { IfErr result (λ e. e ≢ faults.Write) }
-        ensures line { (n : ℕ) → result ≡ Err (faults.BadLine n) → n ≡ self.new.lines.count }
+        // Each line that was read is counted once.
+        ensures lines { IfOk result (λ next. IfSome next (λ _. AreLines (ahead self.old.lines.block (R.left reader.old)) self.old.lines.count (ahead self.new.lines.block (R.left reader.new)) self.new.lines.count)) }
+        ensures line { (n : ℕ) → result ≡ Err (faults.BadLine n) → IsAtLine (ahead self.old.lines.block (R.left reader.old)) self.old.lines.count n }
     {
         for _ in 0..=MOST_LINES {
             if !self.lines.next(reader)? {
@@ -69,7 +72,8 @@ impl Script {
         ensures begins { IfOk result (Begins self.old.lines.line.items) }
         ensures followed { IfOk result (λ order. IsFollowed (ahead self.old.lines.block (R.left reader.old)) (ahead self.new.lines.block (R.left reader.new)) order.request) }
         ensures fault { IfErr result (λ e. e ≢ faults.Write) }
-        ensures line { (n : ℕ) → result ≡ Err (faults.BadLine n) → n ≡ self.new.lines.count }
+        ensures lines { OnOk result (AreLines (ahead self.old.lines.block (R.left reader.old)) self.old.lines.count (ahead self.new.lines.block (R.left reader.new)) self.new.lines.count) }
+        ensures line { (n : ℕ) → result ≡ Err (faults.BadLine n) → IsAtLine (ahead self.old.lines.block (R.left reader.old)) self.old.lines.count n }
     {
         let (seat, head) = match read_head(self.alloc, self.lines.line()) {
             Ok(head) => head,
@@ -88,7 +92,8 @@ impl Script {
     fn text<R: Source>(&mut self, reader: &mut R) -> Result<Text, ServeFault>
         ensures text { IfOk result (IsText (ahead self.old.lines.block (R.left reader.old)) (ahead self.new.lines.block (R.left reader.new))) }
         ensures fault { IfErr result (λ e. e ≢ faults.Write) }
-        ensures line { (n : ℕ) → result ≡ Err (faults.BadLine n) → n ≡ self.new.lines.count }
+        ensures lines { OnOk result (AreLines (ahead self.old.lines.block (R.left reader.old)) self.old.lines.count (ahead self.new.lines.block (R.left reader.new)) self.new.lines.count) }
+        ensures line { (n : ℕ) → result ≡ Err (faults.BadLine n) → IsAtLine (ahead self.old.lines.block (R.left reader.old)) self.old.lines.count n }
     {
         let mut bytes = Vec::new(self.alloc);
         for _ in 0..=MOST_LINES {

@@ -1,5 +1,5 @@
 -- Answers one after another, and what stands behind them.
-use Rattle.std.proofs.Common.{◌≡◌, ◌≢◌, ℕ, List, [], ◌∷◌, ◌++◌, length, map, Option, Result, Ok, Err, inl, inr, refl, sym, ap, ◌∙◌, subst, append_assoc, append-nil}
+use Rattle.std.proofs.Common.{◌≡◌, ◌≢◌, ◌≤◌, ◌<◌, ℕ, List, [], ◌∷◌, ◌++◌, length, map, Option, Result, Ok, Err, inl, inr, refl, sym, ap, ◌∙◌, subst, append_assoc, append-nil}
 use Rattle.std.specs.Prelude.{IfErr, IsErrAnd}
 use Rattle.std.specs.Io.KnownBytes.{Appends}
 use Rattle.std.specs.List.{flat_map}
@@ -14,7 +14,7 @@ use Rattle.book.specs.Step.{Legal}
 use Rattle.book.specs.Workbench.{empty}
 use Rattle.book.specs.declared.limits.Limits.{Limits}
 use Rattle.report.proofs.Written.{front_of}
-use Rattle.scripts.specs.Serving.{Call, answer_text, entry_of, calls_text, entries_of, finish_text, bad_line_text, Closes, Tells, IsRead, IsServed}
+use Rattle.scripts.specs.Serving.{Call, answer_text, entry_of, calls_text, entries_of, finish_text, bad_line_text, Closes, Tells, IsRead, IsServed, SaysRoom, AllSayRoom, no_call, next_call}
 use Rattle.orders.specs.declared.fault.ServeFault.{ServeFault}
 use Rattle.orders.specs.declared.fault.ServeFault.TheVariants as faults
 
@@ -23,9 +23,15 @@ flat_map-last f xs x = flat_map-append f xs (x ∷ []) ∙ ap (λ l. flat_map f 
 
 -- one answer more
 
-pub grown : (start mid new : List Line) (calls : List Call) (c : Call) → mid ≡ start ++ entries_of calls → new ≡ mid ++ entry_of c.answer → new ≡ start ++ entries_of (calls ++ c ∷ [])
-grown start mid new calls c done more =
-    more ∙ ap (λ l. l ++ entry_of c.answer) done ∙ append_assoc start (entries_of calls) (entry_of c.answer) ∙ ap (λ l. start ++ l) (sym (flat_map-last (λ d. entry_of d.answer) calls c))
+pub grown : (mid new : List Line) (calls : List Call) (c : Call) → mid ≡ entries_of calls → new ≡ mid ++ entry_of c.answer → new ≡ entries_of (calls ++ c ∷ [])
+grown mid new calls c done more = more ∙ ap (λ l. l ++ entry_of c.answer) done ∙ sym (flat_map-last (λ d. entry_of d.answer) calls c)
+
+pub roomed : (limits kept : Limits) (journal : List Line) (calls : List Call) (c : Call) → kept ≡ limits → journal ≡ entries_of calls
+    → AllSayRoom limits.journal calls → SaysRoom kept.journal (length journal) c.answer → AllSayRoom limits.journal (calls ++ c ∷ [])
+roomed limits kept journal calls c same made done more =
+    let P : Limits → Type 0 = λ l. SaysRoom l.journal (length (entries_of calls)) c.answer in
+    let Q : List Line → Type 0 = λ j. SaysRoom kept.journal (length j) c.answer in
+    next_call done (subst P same (subst Q made more))
 
 pub written : (old mid new : Option (List ℕ)) (calls : List Call) (c : Call) → Appends old mid (calls_text calls) → Appends mid new (answer_text c.answer) → Appends old new (calls_text (calls ++ c ∷ []))
 written old mid new calls c done more =
@@ -89,16 +95,18 @@ closes_bad_line n line (Err (faults.BadLine other)) is = cc
 closes_bad_line n line (Err faults.NoMemory) is = cc
 
 -- the whole, from its parts
-pub served : {A : Type 0} (limits kept : Limits) (journal : List Line) (calls : List Call) (script old new : Option (List ℕ)) (r : Result A ServeFault) (n : ℕ) (closing : List ℕ)
-    → Legal kept journal → kept ≡ limits → journal ≡ entries_of calls → n ≡ length journal → Closes n r closing → Tells old new r (calls_text calls ++ closing) → IsRead script r calls → IsServed limits script old new r
-served limits kept journal calls script old new r n closing legal same made count closes told read =
+pub served : {A : Type 0} (limits start kept : Limits) (journal : List Line) (calls : List Call) (script old new : Option (List ℕ)) (r : Result A ServeFault) (n : ℕ) (closing : List ℕ)
+    → Legal kept journal → kept ≡ start → start ≡ limits → journal ≡ entries_of calls → AllSayRoom start.journal calls → n ≡ length journal → Closes n r closing → Tells old new r (calls_text calls ++ closing) → IsRead script r calls → IsServed limits script old new r
+served limits start kept journal calls script old new r n closing legal kept_on same made room count closes told read =
     let P : Limits → Type 0 = λ l. Legal l (entries_of calls) in
     let Q : List Line → Type 0 = λ l. Legal kept l in
+    let R : Limits → Type 0 = λ l. AllSayRoom l.journal calls in
     let C : ℕ → Type 0 = λ m. Closes m r closing in
     record {
       calls = calls;
       read = read;
-      legal = subst P same (subst Q made legal);
+      legal = subst P (kept_on ∙ same) (subst Q made legal);
+      room = subst R same room;
       closing = closing;
       closes = subst C (count ∙ ap length made) closes;
       told = told;
@@ -115,7 +123,7 @@ front_behind old mid new text closing done part =
 -- no memory for the script or the book
 pub unserved : {A : Type 0} (limits : Limits) (script held : Option (List ℕ)) (r : Result A ServeFault) → IsErrAnd r (λ e. e ≡ faults.NoMemory) → IsServed limits script held held r
 unserved limits script held (Ok done) is = absurd is
-unserved limits script held (Err faults.NoMemory) is = record { calls = []; read = record { end = script; orders = no_order; spent = tt }; legal = (empty limits, refl); closing = []; closes = refl; told = Appends-nil held }
+unserved limits script held (Err faults.NoMemory) is = record { calls = []; read = record { end = script; orders = no_order; spent = tt }; legal = (empty limits, refl); room = no_call; closing = []; closes = refl; told = Appends-nil held }
 unserved limits script held (Err faults.Read) is = cc
 unserved limits script held (Err faults.Write) is = cc
 unserved limits script held (Err (faults.BadLine line)) is = cc

@@ -1,5 +1,5 @@
 -- What becomes of a script.
-use Rattle.std.specs.Prelude.{◌≡◌, ℕ, List, [], ◌∷◌, ◌++◌, length, map, Option, Result, Ok, Err, OnOk, codes, decimal, ◌⊎◌}
+use Rattle.std.specs.Prelude.{◌≡◌, ◌<◌, ◌≤◌, ℕ, List, [], ◌∷◌, ◌++◌, length, map, Option, Result, Ok, Err, OnOk, codes, decimal, ◌⊎◌}
 use Rattle.std.specs.Io.KnownBytes.{Appends}
 use Rattle.std.specs.List.{flat_map}
 use Rattle.wb_text.specs.Memory.{AppendsFront}
@@ -41,6 +41,17 @@ pub record Call : Type 0 where
 abbrev pub entries_of : List Call → List Line
 entries_of calls = flat_map (λ c. entry_of c.answer) calls
 
+-- An answer to a call of a journal with so many entries: `JournalFull` exactly where it has as many as it may have.
+abbrev pub SaysRoom : ℕ → ℕ → Answer → Type 0
+SaysRoom most entries (Made line) = entries < most
+SaysRoom most entries (NotTaken JournalFull) = most ≤ entries
+SaysRoom most entries (NotTaken NoMemory) = entries < most
+
+-- the same of calls, one after another, of a journal that was empty
+pub data AllSayRoom (most : ℕ) : List Call → Type 0 where
+  no_call : AllSayRoom most []
+  next_call : {calls : List Call} {call : Call} → AllSayRoom most calls → SaysRoom most (length (entries_of calls)) call.answer → AllSayRoom most (calls ++ call ∷ [])
+
 -- what is written of calls, one after another
 abbrev pub calls_text : List Call → List ℕ
 calls_text calls = flat_map (λ c. answer_text c.answer) calls
@@ -78,6 +89,7 @@ pub record IsServed {A : Type 0} (limits : Limits) (script old new : Option (Lis
   pub calls : List Call
   pub read : IsRead script result calls
   pub legal : Legal limits (entries_of calls)
+  pub room : AllSayRoom limits.journal calls
   pub closing : List ℕ
   pub closes : Closes (length (entries_of calls)) result closing
   pub told : Tells old new result (calls_text calls ++ closing)

@@ -1,8 +1,8 @@
 //! From a script to the replies of a book.
 
-ghost use Rattle.std.specs.Prelude.{◌≡◌, ◌++◌, List, true, Err, OnOk};
-ghost use Rattle.scripts.specs.Serving.{Call, IsRead, IsServed, Tells, entries_of, calls_text};
-ghost use Rattle.orders.specs.Lines.{ahead};
+ghost use Rattle.std.specs.Prelude.{◌≡◌, ℕ, [], List, true, Err, OnOk};
+ghost use Rattle.scripts.specs.Serving.{Call, IsRead, IsServed, AllSayRoom, Tells, entries_of, calls_text};
+ghost use Rattle.orders.specs.Lines.{ahead, IsAtLine};
 ghost use Rattle.std.specs.Io.KnownBytes.{IsAtEnd};
 
 use crate::options::Options;
@@ -20,9 +20,11 @@ pub fn serve<R: Source, W: Sink>(
     options: &Options,
 ) -> Result<(), ServeFault>
     // The calls are those of the script, in their order. What is written is what answered them, and then the length of the
-    // legal journal that they made, or that a line is bad.
+    // legal journal that they made, or that a line is bad. A call makes no entry where the journal is full, and says so.
     ensures served { IsServed options.now.limits (R.left reader.old) (W.held writer.old) (W.held writer.new) result }
     ensures end { OnOk result (IsAtEnd (R.left reader.new)) }
+    // A bad line is told by its number.
+    ensures line { (n : ℕ) → result ≡ Err (ServeFault.BadLine n) → IsAtLine (R.left reader.old) 0 n }
     ensures write { result ≡ Err ServeFault.Write → W.has_failed writer.new ≡ true }
 {
     let mut script = Script::new(alloc)?;
@@ -41,7 +43,7 @@ pub fn serve<R: Source, W: Sink>(
     }
 }
 
-/// Writes what becomes of each order of a script.
+/// Writes what becomes of each order of a script over an empty book.
 fn answer_all<R: Source, W: Sink>(
     alloc: Global,
     script: &mut Script,
@@ -49,11 +51,15 @@ fn answer_all<R: Source, W: Sink>(
     sessions: &mut Sessions,
     writer: &mut W,
 ) -> Result<(), ServeFault>
+    requires { sessions.now.book.journal ≡ [] }
     ensures told { (calls : List Call)
-        × (sessions.new.book.journal ≡ sessions.old.book.journal ++ entries_of calls)
+        × (sessions.new.book.journal ≡ entries_of calls)
         × Tells (W.held writer.old) (W.held writer.new) result (calls_text calls)
-        × IsRead (ahead script.old.lines.block (R.left reader.old)) result calls }
+        × IsRead (ahead script.old.lines.block (R.left reader.old)) result calls
+        × AllSayRoom sessions.old.book.limits.journal calls }
     ensures end { OnOk result (IsAtEnd (R.left reader.new)) }
+    ensures line { (n : ℕ) → result ≡ Err (ServeFault.BadLine n)
+        → IsAtLine (ahead script.old.lines.block (R.left reader.old)) script.old.lines.count n }
     ensures limits { sessions.new.book.limits ≡ sessions.old.book.limits }
     ensures write { result ≡ Err ServeFault.Write → W.has_failed writer.new ≡ true }
 {

@@ -1,11 +1,11 @@
 //! The sessions of a script over one book.
 
-ghost use Rattle.std.specs.Prelude.{◌≡◌, ◌<◌, ◌+◌, ◌≤◌, ◌++◌, [], length, IfOk, IfSome, OnErr};
+ghost use Rattle.std.specs.Prelude.{◌≡◌, ◌<◌, ◌+◌, ◌≤◌, ◌++◌, [], length, IfOk, IfSome, OnErr, MatchBool};
 ghost use Rattle.journal.specs.Lines.{seen};
 ghost use Rattle.book.specs.Step.{Legal};
 ghost use Rattle.journal.specs.declared.records.Said.{Said};
 ghost use Rattle.scripts.specs.Orders.{Asks, Answers, IfMade};
-ghost use Rattle.scripts.specs.Serving.{entry_of};
+ghost use Rattle.scripts.specs.Serving.{entry_of, SaysRoom};
 
 use crate::answer::{Answer, EntryRef};
 use book::{Book, Command, Limits, Refused, Reply};
@@ -58,6 +58,7 @@ impl Sessions {
         requires { order.seat < 8 }
         ensures journal { IfOk result (λ a. self.new.book.journal ≡ self.old.book.journal ++ entry_of a) }
         ensures answer { IfOk result (Answers order) }
+        ensures room { IfOk result (SaysRoom self.old.book.limits.journal (length self.old.book.journal)) }
         ensures limits { self.new.book.limits ≡ self.old.book.limits }
         ensures same { OnErr result (self.new.book ≡ self.old.book) }
     {
@@ -76,6 +77,7 @@ impl Sessions {
         requires { seat < 8 }
         ensures journal { self.new.book.journal ≡ self.old.book.journal ++ entry_of result }
         ensures made { IfMade result (λ e. (e.seat ≡ seat) × (e.said ≡ seen command)) }
+        ensures room { SaysRoom self.old.book.limits.journal (length self.old.book.journal) result }
         ensures limits { self.new.book.limits ≡ self.old.book.limits }
         ensures given { self.new.given ≡ self.old.given }
     {
@@ -85,13 +87,26 @@ impl Sessions {
         }
     }
 
+    /// Whether the journal is as long as it may be.
+    fn is_full(&self) -> bool
+        ensures { MatchBool result
+            (self.now.book.limits.journal ≤ length self.now.book.journal)
+            (length self.now.book.journal < self.now.book.limits.journal) }
+    {
+        self.book.journal().len() >= self.book.limits().journal as usize
+    }
+
     /// Claims a piece, once there is room to keep it.
     fn claim(&mut self, seat: u8) -> Answer
         requires { seat < 8 }
         ensures journal { self.new.book.journal ≡ self.old.book.journal ++ entry_of result }
         ensures made { IfMade result (λ e. (e.seat ≡ seat) × (e.said ≡ Said.Claim)) }
+        ensures room { SaysRoom self.old.book.limits.journal (length self.old.book.journal) result }
         ensures limits { self.new.book.limits ≡ self.old.book.limits }
     {
+        if self.is_full() {
+            return Answer::NotTaken(Refused::JournalFull);
+        }
         if self.given.try_reserve(1).is_err() {
             return Answer::NotTaken(Refused::NoMemory);
         }
@@ -110,12 +125,16 @@ impl Sessions {
         requires { seat < 8 }
         ensures journal { IfOk result (λ a. self.new.book.journal ≡ self.old.book.journal ++ entry_of a) }
         ensures made { IfOk result (λ a. IfMade a (λ e. (e.seat ≡ seat) × Asks (Request.Return claim) e.said)) }
+        ensures room { IfOk result (SaysRoom self.old.book.limits.journal (length self.old.book.journal)) }
         ensures limits { self.new.book.limits ≡ self.old.book.limits }
         ensures same { OnErr result (self.new.book ≡ self.old.book) }
     {
         let Some(piece) = self.piece(claim) else {
             return Err(NoPiece);
         };
+        if self.is_full() {
+            return Ok(Answer::NotTaken(Refused::JournalFull));
+        }
         match evaluate(self.alloc, piece) {
             Ok(part) => Ok(self.apply(seat, Command::Return(part))),
             Err(AllocError) => Ok(Answer::NotTaken(Refused::NoMemory)),

@@ -3,13 +3,13 @@ use Rattle.std.proofs.Common.{◌≡◌, ℕ, ◌-◌, ◌<◌, ◌≤◌, Bool,
 use Rattle.std.specs.Prelude.{◌||◌, codes, nat_eq}
 use Rattle.std.specs.List.{position_or_len}
 use Rattle.std.proofs.lemmas.List.{take_rest}
-use Rattle.std.proofs.lemmas.Bool.{false≢true}
+use Rattle.std.proofs.lemmas.Bool.{or_cases, false≢true}
 use Rattle.wb_text.specs.declared.token.Dialect.{Dialect}
 use Rattle.wb_text.specs.declared.token.Dialect.TheVariants.{Litmus, Cat}
 use Rattle.wb_text.specs.Bytes.{begins_blank}
 use Rattle.wb_text.specs.Signs.{begins_with}
 use Rattle.wb_text.specs.Gaps.{IsNested, closed, nested, other, IsLine, IsBlock, block_closed, block_goes_on, IsComment, nesting, line, block, IsGap, none, blank, comment, opens_comment, IsOpenComment, IsGapEnd}
-use Rattle.wb_text.proofs.Texts.{first, either_or, begins_true, begins_is, range_is}
+use Rattle.wb_text.proofs.Texts.{first, begins_true, begins_is, range_is}
 
 -- two texts that are one begin with one byte
 same_first : {a b : List ℕ} → a ≡ b → first a ≡ first b
@@ -102,15 +102,15 @@ no_blank_at sign text n e = subst (λ l. begins_blank l ≡ false) (sym (begins_
 
 pub opens_no_blank : (d : Dialect) (text : List ℕ) → opens_comment d text ≡ true → begins_blank text ≡ false
 opens_no_blank Litmus text e =
-    elim (either_or (begins_with (codes "(*") text || begins_with (codes "//") text) (begins_with (codes "/*") text) e) [
-      | inl f ↦ elim (either_or (begins_with (codes "(*") text) (begins_with (codes "//") text) f) [
+    elim (or_cases (begins_with (codes "(*") text || begins_with (codes "//") text) (begins_with (codes "/*") text) e) [
+      | inl f ↦ elim (or_cases (begins_with (codes "(*") text) (begins_with (codes "//") text) f) [
         | inl g ↦ no_blank_at (codes "(*") text refl g
         | inr g ↦ no_blank_at (codes "//") text refl g
       ]
       | inr f ↦ no_blank_at (codes "/*") text refl f
     ]
 opens_no_blank Cat text e =
-    elim (either_or (begins_with (codes "(*") text) (begins_with (codes "//") text) e) [
+    elim (or_cases (begins_with (codes "(*") text) (begins_with (codes "//") text) e) [
       | inl g ↦ no_blank_at (codes "(*") text refl g
       | inr g ↦ no_blank_at (codes "//") text refl g
     ]
@@ -120,15 +120,15 @@ first_at sign text e = ap first (begins_true sign text e)
 
 pub opens_first : (d : Dialect) (text : List ℕ) → opens_comment d text ≡ true → (first text ≡ 40) ⊎ (first text ≡ 47)
 opens_first Litmus text e =
-    elim (either_or (begins_with (codes "(*") text || begins_with (codes "//") text) (begins_with (codes "/*") text) e) [
-      | inl f ↦ elim (either_or (begins_with (codes "(*") text) (begins_with (codes "//") text) f) [
+    elim (or_cases (begins_with (codes "(*") text || begins_with (codes "//") text) (begins_with (codes "/*") text) e) [
+      | inl f ↦ elim (or_cases (begins_with (codes "(*") text) (begins_with (codes "//") text) f) [
         | inl g ↦ inl (first_at (codes "(*") text g)
         | inr g ↦ inr (first_at (codes "//") text g)
       ]
       | inr f ↦ inr (first_at (codes "/*") text f)
     ]
 opens_first Cat text e =
-    elim (either_or (begins_with (codes "(*") text) (begins_with (codes "//") text) e) [
+    elim (or_cases (begins_with (codes "(*") text) (begins_with (codes "//") text) e) [
       | inl g ↦ inl (first_at (codes "(*") text g)
       | inr g ↦ inr (first_at (codes "//") text g)
     ]

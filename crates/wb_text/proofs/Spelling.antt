@@ -2,7 +2,7 @@
 use Rattle.std.proofs.Common.{◌≡◌, ℕ, zero, suc, ◌+◌, ◌<◌, ◌≤◌, Bool, true, false, inl, inr, List, [], ◌∷◌, ◌++◌, length, get_or, take, drop, not, sym, refl, ap, ◌∙◌, subst, arith, length-take-le, length-take, length-append, append_assoc, get_or-take}
 use Rattle.std.specs.Prelude.{◌==◌, ◌&&◌, nat_lt, nat_le, nat_eq, All}
 use Rattle.std.specs.List.{AllPass, Contains, list_all, prefix_len}
-use Rattle.std.proofs.lemmas.Bool.{false≢true, eq-eqb, leb-true, ltb-true, cases_lt}
+use Rattle.std.proofs.lemmas.Bool.{and_parts, false≢true, eq-eqb, leb-true, ltb-true, cases_lt}
 use Rattle.std.proofs.lemmas.List.{get_or_at, take-take, take_at}
 use Rattle.std.proofs.lemmas.List.Sums.{AllPass-from_list_all, prefix_len-le-length, prefix_len_passes, prefix_len_stops}
 use Rattle.wb_text.specs.declared.token.Dialect.{Dialect}
@@ -15,7 +15,7 @@ use Rattle.wb_text.specs.Signs.{signs}
 use Rattle.wb_text.specs.Tokens.{Spells, IsLongest}
 use Rattle.wb_text.proofs.Runs.{prefix_len-pos, start_is_part}
 use Rattle.wb_text.proofs.Quotes.{split_at, quote_length, quote_here}
-use Rattle.wb_text.proofs.Texts.{first, and_both, not_false}
+use Rattle.wb_text.proofs.Texts.{first, not_false}
 
 -- a sign is not empty, is ASCII, and begins as no other token does
 sign_test : List ℕ → Bool
@@ -37,11 +37,11 @@ pub record IsSignLike (s : List ℕ) : Type 0 where
 tested : (s : List ℕ) → sign_test s ≡ true → IsSignLike s
 unfolding sign_test
 tested s e =
-    let a = and_both (nat_lt 0 (length s)) _ e in
-    let b = and_both (not (is_name_start (get_or s 0 0))) _ a.1 in
-    let c = and_both (not (is_digit (get_or s 0 0))) _ b.1 in
-    let q = and_both (not (get_or s 0 0 == 34)) _ c.1 in
-    let r = and_both (not (is_blank (get_or s 0 0))) _ q.1 in
+    let a = and_parts (nat_lt 0 (length s)) _ e in
+    let b = and_parts (not (is_name_start (get_or s 0 0))) _ a.1 in
+    let c = and_parts (not (is_digit (get_or s 0 0))) _ b.1 in
+    let q = and_parts (not (get_or s 0 0 == 34)) _ c.1 in
+    let r = and_parts (not (is_blank (get_or s 0 0))) _ q.1 in
     record {
       nonempty = ltb-true 0 (length s) a.0;
       no_name = not_false _ b.0;

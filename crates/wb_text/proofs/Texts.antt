@@ -2,7 +2,7 @@
 use Rattle.std.proofs.Common.{◌≡◌, ℕ, zero, ◌-◌, ◌<◌, ◌≤◌, Bool, true, false, ◌⊎◌, inl, inr, List, [], ◌∷◌, ◌++◌, length, get_or, take, drop, not, sym, refl, ap, ◌∙◌, arith, nat_eq, suc, length-append, length-drop}
 use Rattle.std.proofs.lemmas.List.{take_rest}
 use Rattle.std.specs.Prelude.{◌&&◌, ◌||◌}
-use Rattle.std.proofs.lemmas.Bool.{false≢true, eqb-true, eq-eqb}
+use Rattle.std.proofs.lemmas.Bool.{and_parts, false≢true, eqb-true, eq-eqb}
 use Rattle.wb_text.specs.Bytes.{begins_blank, is_blank}
 use Rattle.wb_text.specs.Signs.{begins_with}
 
@@ -10,26 +10,14 @@ use Rattle.wb_text.specs.Signs.{begins_with}
 abbrev pub first : List ℕ → ℕ
 first text = get_or text 0 0
 
-pub and_both : (a b : Bool) → (a && b) ≡ true → (a ≡ true) × (b ≡ true)
-and_both true b e = (refl, e)
-and_both false b e = absurd (false≢true e)
-
 pub both_and : (a b : Bool) → a ≡ true → b ≡ true → (a && b) ≡ true
 both_and a b e f = rw e f
-
-pub either_or : (a b : Bool) → (a || b) ≡ true → (a ≡ true) ⊎ (b ≡ true)
-either_or true b e = inl refl
-either_or false b e = inr e
-
-pub neither_or : (a b : Bool) → (a || b) ≡ false → (a ≡ false) × (b ≡ false)
-neither_or true b e = absurd (false≢true (sym e))
-neither_or false b e = (refl, e)
 
 pub begins_true : (sign text : List ℕ) → begins_with sign text ≡ true → text ≡ sign ++ drop (length sign) text
 begins_true [] text e = refl
 begins_true (a ∷ sign) [] e = absurd (false≢true e)
 begins_true (a ∷ sign) (b ∷ text) e =
-    let p : (nat_eq a b ≡ true) × (begins_with sign text ≡ true) = and_both (nat_eq a b) (begins_with sign text) e in
+    let p : (nat_eq a b ≡ true) × (begins_with sign text ≡ true) = and_parts (nat_eq a b) (begins_with sign text) e in
     sym (ap (λ x. x ∷ text) (eqb-true a b p.0)) ∙ ap (λ l. a ∷ l) (begins_true sign text p.1)
 
 pub begins_is : (sign rest : List ℕ) → begins_with sign (sign ++ rest) ≡ true
