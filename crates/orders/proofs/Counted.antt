@@ -1,13 +1,18 @@
 -- Lines that are counted, one after another.
-use Rattle.std.proofs.Common.{◌≡◌, ◌+◌, ℕ, List, sym, subst, inl, inr}
-use Rattle.std.specs.Prelude.{Option, Result, Ok, Err, IsErrAnd}
+use Rattle.std.proofs.Common.{◌≡◌, ◌≢◌, ◌≤◌, ◌+◌, ◌++◌, ◌⊎◌, ℕ, List, [], ◌∷◌, ◌∙◌, sym, refl, subst, inl, inr, arith}
+use Rattle.std.specs.Prelude.{Option, None, Some, Result, Ok, Err, IsErrAnd}
+use Rattle.std.specs.Io.KnownBytes.{Keeps}
 use Rattle.orders.specs.declared.fault.ServeFault.{ServeFault}
 use Rattle.orders.specs.declared.fault.ServeFault.TheVariants as faults
-use Rattle.orders.specs.Lines.{IsNextLine, AreLines, nothing_read, line_read, IsAtLine}
+use Rattle.orders.specs.Lines.{ahead, IsNextLine, AreLines, nothing_read, line_read, IsAtLine, HasMore, IsTooLong}
 
 -- one line more
 pub counted : (a b c : Option (List ℕ)) (m n k : ℕ) (line : List ℕ) → AreLines a m b n → IsNextLine b c line → k ≡ n + 1 → AreLines a m c k
 counted a b c m n k line lines next count = subst (AreLines a m c) (sym count) (line_read lines next)
+
+pub grows : (a : Option (List ℕ)) (m : ℕ) (b : Option (List ℕ)) (n : ℕ) → AreLines a m b n → m ≤ n
+grows a m _ _ nothing_read = omega arith
+grows a m b _ (line_read {mid} {n = k} lines next) = let less : m ≤ k = grows a m mid k lines in omega (arith, less)
 
 -- and lines behind those
 pub joined : (a b : Option (List ℕ)) (m n : ℕ) (c : Option (List ℕ)) (k : ℕ) → AreLines a m b n → AreLines b n c k → AreLines a m c k
@@ -29,6 +34,25 @@ pub same_number : {A : Type 0} (r : Result A ServeFault) (m n : ℕ) → r ≡ E
 same_number r m n p q = cc
 
 -- the fault of a call that a result hands on
-pub handed_on : {A : Type 0} (r : Result A ServeFault) (f : ServeFault) (n : ℕ) → IsErrAnd r (λ e. e ≡ f) → r ≡ Err (faults.BadLine n) → f ≡ faults.BadLine n
-handed_on (Ok done) f n is e = absurd is
-handed_on (Err g) f n is e = cc
+pub told_on : {A : Type 0} (r : Result A ServeFault) (f e : ServeFault) → IsErrAnd r (λ g. g ≡ f) → r ≡ Err e → f ≡ e
+told_on (Ok done) f e is same = absurd is
+told_on (Err g) f e is same = cc
+
+-- a script of too many lines, seen from before some of them
+pub longer : (a b : Option (List ℕ)) (m n : ℕ) → AreLines a m b n → IsTooLong b n → IsTooLong a m
+longer a b m n lines h = record { end = h.end; count = h.count; lines = joined a b m n h.end h.count lines h.lines; most = h.most; more = h.more }
+
+pub at_its_most : {P : Type 0} (a b : Option (List ℕ)) (m n : ℕ) → AreLines a m b n → P ⊎ ((1000000 ≤ n) × HasMore b) → P ⊎ IsTooLong a m
+at_its_most a b m n lines (inl marked) = inl marked
+at_its_most a b m n lines (inr h) = inr (record { end = b; count = n; lines = lines; most = h.0; more = h.1 })
+
+pub longer_still : {P : Type 0} (a b : Option (List ℕ)) (m n : ℕ) → AreLines a m b n → P ⊎ IsTooLong b n → P ⊎ IsTooLong a m
+longer_still a b m n lines (inl marked) = inl marked
+longer_still a b m n lines (inr h) = inr (longer a b m n lines h)
+
+-- bytes of a block are bytes that follow
+pub more_ahead : (old block : List ℕ) (left next : Option (List ℕ)) → block ≢ [] → Keeps (ahead old left) (ahead block next) → HasMore (ahead old left)
+more_ahead old block None next some kept = tt
+more_ahead old block (Some xs) None some kept = absurd kept
+more_ahead old [] (Some xs) (Some ys) some kept = absurd (some refl)
+more_ahead old (b ∷ bs) (Some xs) (Some ys) some kept = λ e. (let none : b ∷ (bs ++ ys) ≡ [] = kept ∙ e in cc)

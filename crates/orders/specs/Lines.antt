@@ -1,5 +1,5 @@
 -- The lines of a script, and what of it is still to be read.
-use Rattle.std.specs.Prelude.{◌≡◌, ◌≢◌, ◌⊎◌, ◌++◌, ◌+◌, ℕ, List, Option, codes}
+use Rattle.std.specs.Prelude.{◌≡◌, ◌≢◌, ◌≤◌, ◌⊎◌, ◌++◌, ◌+◌, ℕ, List, [], Option, None, Some, codes}
 use Rattle.std.specs.List.{All}
 use Rattle.std.specs.Io.KnownBytes.{prepend_known, Consumes, IsAtEnd}
 
@@ -48,3 +48,16 @@ pub record IsAtLine (before : Option (List ℕ)) (m n : ℕ) : Type 0 where
   pub count : ℕ
   pub lines : AreLines before m end count
   pub number : (n ≡ count) ⊎ (n ≡ count + 1)
+
+-- bytes follow, where they are told
+abbrev pub HasMore : Option (List ℕ) → Type 0
+HasMore None = Unit {0}
+HasMore (Some rest) = rest ≢ []
+
+-- More lines than a script may have: 1,000,000 of them were read, and more follows.
+pub record IsTooLong (before : Option (List ℕ)) (m : ℕ) : Type 0 where
+  pub end : Option (List ℕ)
+  pub count : ℕ
+  pub lines : AreLines before m end count
+  pub most : 1000000 ≤ count
+  pub more : HasMore end

@@ -9,6 +9,6 @@ mod script;
 
 pub use block::Block;
 pub use fault::ServeFault;
-pub use lines::{Lines, MOST_LINES};
+pub use lines::Lines;
 pub use order::{Head, LineFault, Order, Request, read_head};
 pub use script::Script;

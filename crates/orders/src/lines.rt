@@ -1,8 +1,8 @@
 //! The lines of a script.
 
-ghost use Rattle.std.specs.Prelude.{◌≡◌, ◌≤◌, ◌≢◌, ◌++◌, ◌+◌, ℕ, List, [], Ok, Err, true, false, IfOk, IfErr, OnOk, codes};
+ghost use Rattle.std.specs.Prelude.{◌≡◌, ◌≤◌, ◌<◌, ◌≢◌, ◌++◌, ◌+◌, ◌⊎◌, ℕ, List, [], Ok, Err, true, false, IfOk, IfErr, OnOk, OnErr, codes};
 ghost use Rattle.std.specs.Io.KnownBytes.{IsAtEnd, Keeps};
-ghost use Rattle.orders.specs.Lines.{ahead, IsUnbroken, IsTrimmed, Grows, IsNextLine};
+ghost use Rattle.orders.specs.Lines.{ahead, IsUnbroken, IsTrimmed, Grows, IsNextLine, HasMore};
 ghost use Rattle.orders.specs.declared.fault.ServeFault.TheVariants as faults;
 
 use crate::block::Block;
@@ -15,7 +15,7 @@ use wb_text::Source;
 const MOST_BYTES: usize = 65_536;
 
 /// The most lines of a script.
-pub const MOST_LINES: u32 = 1_000_000;
+const MOST_LINES: u32 = 1_000_000;
 
 /// The lines of a script, one after another.
 #[derive(Drop)]
@@ -59,6 +59,10 @@ impl Lines {
         ensures line { (n : ℕ) → result ≡ Err (faults.BadLine n) → n ≡ self.old.count + 1 }
         ensures count { result ≡ Ok true → self.new.count ≡ self.old.count + 1 }
         ensures still { result ≡ Ok false → self.new.count ≡ self.old.count }
+        ensures room { result ≡ Ok true → self.old.count < 1000000 }
+        // Reading fails where the reader does, or where a script has too many lines.
+        ensures read { result ≡ Err faults.Read → (R.has_failed reader.new ≡ true)
+            ⊎ ((1000000 ≤ self.old.count) × HasMore (ahead self.old.block (R.left reader.old))) }
         // The line is the next of what was ahead, or nothing was.
         ensures next { result ≡ Ok true → IsNextLine (ahead self.old.block (R.left reader.old)) (ahead self.new.block (R.left reader.new)) self.new.line.items }
         ensures end { result ≡ Ok false → IsAtEnd (R.left reader.new) }
@@ -98,6 +102,8 @@ impl Lines {
         ensures kept { Keeps (ahead self.old.block (R.left reader.old)) (ahead self.new.block (R.left reader.new)) }
         ensures end { result ≡ Ok true → IsAtEnd (R.left reader.new) }
         ensures none { result ≡ Ok true → self.new.block ≡ [] }
+        ensures more { result ≡ Ok false → self.new.block ≢ [] }
+        ensures marked { OnErr result (R.has_failed reader.new ≡ true) }
     {
         match self.block.fill(reader) {
             Ok(()) => Ok(self.block.rest().is_empty()),
@@ -111,6 +117,7 @@ impl Lines {
         ensures fault { IfErr result (λ e. e ≢ faults.Write) }
         ensures line { (n : ℕ) → result ≡ Err (faults.BadLine n) → n ≡ self.old.count }
         ensures count { OnOk result (self.new.count ≡ self.old.count) }
+        ensures read { result ≡ Err faults.Read → R.has_failed reader.new ≡ true }
         ensures fed { result ≡ Ok true → Grows (ahead self.old.block (R.left reader.old)) (ahead self.new.block (R.left reader.new)) self.old.line.items self.new.line.items (codes "\n") }
         ensures last { result ≡ Ok false → Grows (ahead self.old.block (R.left reader.old)) (ahead self.new.block (R.left reader.new)) self.old.line.items self.new.line.items []
             × IsAtEnd (ahead self.new.block (R.left reader.new)) }

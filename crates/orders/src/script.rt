@@ -1,14 +1,14 @@
 //! The orders of a script.
 
-ghost use Rattle.std.specs.Prelude.{◌≡◌, [], ◌↔◌, ◌<◌, ◌≤◌, ◌≢◌, ◌++◌, ◌-◌, ℕ, true, Err, IfOk, IfErr, IfSome, IfNone, OnOk, length, take, vec_len, codes};
-ghost use Rattle.orders.specs.Lines.{ahead, AreLines, IsAtLine};
+ghost use Rattle.std.specs.Prelude.{◌≡◌, [], ◌⊎◌, ◌↔◌, ◌<◌, ◌≤◌, ◌≢◌, ◌++◌, ◌-◌, ℕ, true, Err, IfOk, IfErr, IfSome, IfNone, OnOk, length, take, vec_len, codes};
+ghost use Rattle.orders.specs.Lines.{ahead, AreLines, IsAtLine, IsTooLong};
 ghost use Rattle.orders.specs.Scripts.{IsText, IsFollowed, IsNextOrder, IsSpent};
 ghost use Rattle.orders.specs.Spelled.{Begins, IsSkipped};
 ghost use Rattle.std.specs.Io.KnownBytes.{IsAtEnd};
 ghost use Rattle.orders.specs.declared.fault.ServeFault.TheVariants as faults;
 
 use crate::fault::ServeFault;
-use crate::lines::{Lines, MOST_LINES};
+use crate::lines::Lines;
 use crate::order::{Head, LineFault, Order, Request, read_head};
 use journal::Text;
 use std::alloc::{AllocError, Global};
@@ -52,18 +52,18 @@ impl Script {
         ensures end { IfOk result (λ next. IfNone next (IsAtEnd (R.left reader.new))) }
         ensures fault { IfErr result (λ e. e ≢ faults.Write) }
         // Each line that was read is counted once.
+        ensures more { IfOk result (λ next. IfSome next (λ _. (self.old.lines.count < 1000000) × (self.old.lines.count < self.new.lines.count))) }
         ensures lines { IfOk result (λ next. IfSome next (λ _. AreLines (ahead self.old.lines.block (R.left reader.old)) self.old.lines.count (ahead self.new.lines.block (R.left reader.new)) self.new.lines.count)) }
         ensures line { (n : ℕ) → result ≡ Err (faults.BadLine n) → IsAtLine (ahead self.old.lines.block (R.left reader.old)) self.old.lines.count n }
+        ensures read { result ≡ Err faults.Read → (R.has_failed reader.new ≡ true)
+            ⊎ IsTooLong (ahead self.old.lines.block (R.left reader.old)) self.old.lines.count }
     {
-        for _ in 0..=MOST_LINES {
-            if !self.lines.next(reader)? {
-                return Ok(None);
-            }
+        while self.lines.next(reader)? {
             if !is_skipped(self.lines.line()) {
                 return Ok(Some(self.order(reader)?));
             }
         }
-        Err(ServeFault::Read)
+        Ok(None)
     }
 
     /// The order that begins with the line.
@@ -74,6 +74,8 @@ impl Script {
         ensures fault { IfErr result (λ e. e ≢ faults.Write) }
         ensures lines { OnOk result (AreLines (ahead self.old.lines.block (R.left reader.old)) self.old.lines.count (ahead self.new.lines.block (R.left reader.new)) self.new.lines.count) }
         ensures line { (n : ℕ) → result ≡ Err (faults.BadLine n) → IsAtLine (ahead self.old.lines.block (R.left reader.old)) self.old.lines.count n }
+        ensures read { result ≡ Err faults.Read → (R.has_failed reader.new ≡ true)
+            ⊎ IsTooLong (ahead self.old.lines.block (R.left reader.old)) self.old.lines.count }
     {
         let (seat, head) = match read_head(self.alloc, self.lines.line()) {
             Ok(head) => head,
@@ -94,19 +96,18 @@ impl Script {
         ensures fault { IfErr result (λ e. e ≢ faults.Write) }
         ensures lines { OnOk result (AreLines (ahead self.old.lines.block (R.left reader.old)) self.old.lines.count (ahead self.new.lines.block (R.left reader.new)) self.new.lines.count) }
         ensures line { (n : ℕ) → result ≡ Err (faults.BadLine n) → IsAtLine (ahead self.old.lines.block (R.left reader.old)) self.old.lines.count n }
+        ensures read { result ≡ Err faults.Read → (R.has_failed reader.new ≡ true)
+            ⊎ IsTooLong (ahead self.old.lines.block (R.left reader.old)) self.old.lines.count }
     {
         let mut bytes = Vec::new(self.alloc);
-        for _ in 0..=MOST_LINES {
-            if !self.lines.next(reader)? {
-                return Err(ServeFault::BadLine(self.lines.count()));
-            }
+        while self.lines.next(reader)? {
             if is_last(self.lines.line()) {
                 return Ok(Text::new(self.alloc, bytes)?);
             }
             add_front(&mut bytes, self.lines.line())?;
             add_front(&mut bytes, b"\n")?;
         }
-        Err(ServeFault::Read)
+        Err(ServeFault::BadLine(self.lines.count()))
     }
 }
 

@@ -1,10 +1,10 @@
 -- Answers one after another, and what stands behind them.
-use Rattle.std.proofs.Common.{◌≡◌, ◌≢◌, ◌≤◌, ◌<◌, ℕ, List, [], ◌∷◌, ◌++◌, length, map, Option, Result, Ok, Err, inl, inr, refl, sym, ap, ◌∙◌, subst, append_assoc, append-nil}
+use Rattle.std.proofs.Common.{◌≡◌, ◌≢◌, ◌⊎◌, ℕ, List, [], ◌∷◌, ◌++◌, length, map, Option, Result, Ok, Err, inl, inr, refl, sym, ap, ◌∙◌, subst, append_assoc, append-nil}
 use Rattle.std.specs.Prelude.{IfErr, IsErrAnd}
 use Rattle.std.specs.Io.KnownBytes.{Appends}
 use Rattle.std.specs.List.{flat_map}
 use Rattle.std.proofs.KnownBytes.{Appends-trans, Appends-nil, prepend_known-nil}
-use Rattle.orders.specs.Lines.{ahead}
+use Rattle.orders.specs.Lines.{ahead, IsAtLine, IsTooLong}
 use Rattle.orders.specs.Scripts.{AreOrders, IsNextOrder, no_order, next_order}
 use Rattle.std.proofs.lemmas.Grind.{flat_map-append}
 use Rattle.std.proofs.lemmas.List.{map-append}
@@ -31,7 +31,7 @@ pub roomed : (limits kept : Limits) (journal : List Line) (calls : List Call) (c
 roomed limits kept journal calls c same made done more =
     let P : Limits → Type 0 = λ l. SaysRoom l.journal (length (entries_of calls)) c.answer in
     let Q : List Line → Type 0 = λ j. SaysRoom kept.journal (length j) c.answer in
-    next_call done (subst P same (subst Q made more))
+    next_call c done (subst P same (subst Q made more))
 
 pub written : (old mid new : Option (List ℕ)) (calls : List Call) (c : Call) → Appends old mid (calls_text calls) → Appends mid new (answer_text c.answer) → Appends old new (calls_text (calls ++ c ∷ []))
 written old mid new calls c done more =
@@ -57,6 +57,14 @@ read_at_err {end} P (Err e) calls is orders = record { end = end; orders = order
 -- the same of a script of which nothing is taken yet
 pub from_start : {A : Type 0} {block : List ℕ} (left : Option (List ℕ)) (r : Result A ServeFault) (calls : List Call) → block ≡ [] → IsRead (ahead block left) r calls → IsRead left r calls
 from_start left r calls empty h = subst (λ script. IsRead script r calls) (ap (λ b. ahead b left) empty ∙ prepend_known-nil left) h
+
+pub line_from_start : {block : List ℕ} {count : ℕ} (left : Option (List ℕ)) (n : ℕ) → block ≡ [] → count ≡ 0 → IsAtLine (ahead block left) count n → IsAtLine left 0 n
+line_from_start {block} left n empty none h =
+    subst (λ script. IsAtLine script 0 n) (ap (λ b. ahead b left) empty ∙ prepend_known-nil left) (subst (λ m. IsAtLine (ahead block left) m n) none h)
+
+pub too_long_from_start : {P : Type 0} {block : List ℕ} {count : ℕ} (left : Option (List ℕ)) → block ≡ [] → count ≡ 0 → P ⊎ IsTooLong (ahead block left) count → P ⊎ IsTooLong left 0
+too_long_from_start {P} {block} left empty none h =
+    subst (λ script. P ⊎ IsTooLong script 0) (ap (λ b. ahead b left) empty ∙ prepend_known-nil left) (subst (λ m. P ⊎ IsTooLong (ahead block left) m) none h)
 
 -- and by another result that is none
 pub still_read : {A B : Type 0} {script : Option (List ℕ)} {r : Result A ServeFault} (P : ServeFault → Type 0) (s : Result B ServeFault) (calls : List Call) → IsErrAnd s P → IsRead script r calls → IsRead script s calls

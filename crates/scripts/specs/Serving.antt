@@ -50,7 +50,7 @@ SaysRoom most entries (NotTaken NoMemory) = entries < most
 -- the same of calls, one after another, of a journal that was empty
 pub data AllSayRoom (most : ℕ) : List Call → Type 0 where
   no_call : AllSayRoom most []
-  next_call : {calls : List Call} {call : Call} → AllSayRoom most calls → SaysRoom most (length (entries_of calls)) call.answer → AllSayRoom most (calls ++ call ∷ [])
+  next_call : {calls : List Call} (call : Call) → AllSayRoom most calls → SaysRoom most (length (entries_of calls)) call.answer → AllSayRoom most (calls ++ call ∷ [])
 
 -- what is written of calls, one after another
 abbrev pub calls_text : List Call → List ℕ

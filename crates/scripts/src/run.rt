@@ -1,14 +1,14 @@
 //! From a script to the replies of a book.
 
-ghost use Rattle.std.specs.Prelude.{◌≡◌, ℕ, [], List, true, Err, OnOk};
+ghost use Rattle.std.specs.Prelude.{◌≡◌, ◌⊎◌, ℕ, [], List, true, Err, OnOk};
 ghost use Rattle.scripts.specs.Serving.{Call, IsRead, IsServed, AllSayRoom, Tells, entries_of, calls_text};
-ghost use Rattle.orders.specs.Lines.{ahead, IsAtLine};
+ghost use Rattle.orders.specs.Lines.{ahead, IsAtLine, IsTooLong};
 ghost use Rattle.std.specs.Io.KnownBytes.{IsAtEnd};
 
 use crate::options::Options;
 use crate::print::{give_answer, write_bad_line, write_finish};
 use crate::sessions::{NoPiece, Sessions};
-use orders::{MOST_LINES, Script, ServeFault};
+use orders::{Script, ServeFault};
 use std::alloc::Global;
 use wb_text::{Sink, Source};
 
@@ -25,6 +25,8 @@ pub fn serve<R: Source, W: Sink>(
     ensures end { OnOk result (IsAtEnd (R.left reader.new)) }
     // A bad line is told by its number.
     ensures line { (n : ℕ) → result ≡ Err (ServeFault.BadLine n) → IsAtLine (R.left reader.old) 0 n }
+    // Reading fails where the reader does, or where a script has too many lines.
+    ensures read { result ≡ Err ServeFault.Read → (R.has_failed reader.new ≡ true) ⊎ IsTooLong (R.left reader.old) 0 }
     ensures write { result ≡ Err ServeFault.Write → W.has_failed writer.new ≡ true }
 {
     let mut script = Script::new(alloc)?;
@@ -60,17 +62,16 @@ fn answer_all<R: Source, W: Sink>(
     ensures end { OnOk result (IsAtEnd (R.left reader.new)) }
     ensures line { (n : ℕ) → result ≡ Err (ServeFault.BadLine n)
         → IsAtLine (ahead script.old.lines.block (R.left reader.old)) script.old.lines.count n }
+    ensures read { result ≡ Err ServeFault.Read → (R.has_failed reader.new ≡ true)
+        ⊎ IsTooLong (ahead script.old.lines.block (R.left reader.old)) script.old.lines.count }
     ensures limits { sessions.new.book.limits ≡ sessions.old.book.limits }
     ensures write { result ≡ Err ServeFault.Write → W.has_failed writer.new ≡ true }
 {
-    for _ in 0..=MOST_LINES {
-        let Some(order) = script.next(reader)? else {
-            return Ok(());
-        };
+    while let Some(order) = script.next(reader)? {
         match sessions.call(order) {
             Ok(answer) => give_answer(alloc, &answer, writer)?,
             Err(NoPiece) => return Err(ServeFault::BadLine(script.line_count())),
         }
     }
-    Err(ServeFault::Read)
+    Ok(())
 }

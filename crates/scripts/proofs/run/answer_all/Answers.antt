@@ -1,17 +1,18 @@
-use Rattle.std.proofs.Common.{[], ◌∷◌, ◌++◌, ◌∙◌, refl, subst}
+use Rattle.std.proofs.Common.{[], ◌∷◌, ◌++◌, ◌∙◌, ap, refl, subst, Err}
 use Rattle.std.specs.Prelude.{IfSome}
 use Rattle.std.proofs.KnownBytes.{Appends-nil}
 use Rattle.orders.specs.Lines.{ahead, AreLines, nothing_read}
 use Rattle.orders.specs.Scripts.{IsNextOrder, no_order}
+use Rattle.orders.specs.declared.fault.ServeFault.TheVariants as faults
 use Rattle.scripts.specs.Serving.{Call, no_call}
-use Rattle.orders.proofs.Counted.{joined}
+use Rattle.orders.proofs.Counted.{joined, later, last_line, longer_still, same_number, told_on}
 use Rattle.scripts.proofs.Served.{grown, roomed, written, written_partly, tells_part, ordered, read_at_err}
 use Rattle.scripts.proofs.run.answer_all.Goals as goal
 
 pub returns-in_err-give_answer-in-Ok-clause-told : goal.returns-in_err-give_answer-in-Ok-clause-told
 returns-in_err-give_answer-in-Ok-clause-told g c =
-    let done = c.loop.invariant.0 in
-    let before = ahead c.loop.script.lines.block (g.R.Source.left c.loop.reader) in
+    let done = c.loop-order.invariant.0 in
+    let before = ahead c.loop-order.script.lines.block (g.R.Source.left c.loop-order.reader) in
     let after = ahead c.next.new.self.lines.block (g.R.Source.left c.next.new.reader) in
     let next = subst (λ o. IfSome o (IsNextOrder before after)) c.in-Some.is c.in_ok-order.ensures.next in
     let call : Call = record { order = c.in-Some.order; answer = c.in-Ok.answer; fits = c.in-Ok.ensures.answer } in (
@@ -20,16 +21,33 @@ returns-in_err-give_answer-in-Ok-clause-told g c =
       tells_part _ _ c.from_residual-in_err-give_answer-in-Ok.result _ c.from_residual-in_err-give_answer-in-Ok.ensures.1
           (written_partly _ _ _ done.0 call done.2 c.in_err-give_answer-in-Ok.ensures.0),
       read_at_err _ c.from_residual-in_err-give_answer-in-Ok.result (done.0 ++ call ∷ []) c.from_residual-in_err-give_answer-in-Ok.ensures.1 (ordered _ before after done.0 call done.3 next),
-      roomed _ _ _ done.0 call c.loop.invariant.1 done.1 done.4 c.in-Ok.ensures.room,
+      roomed _ _ _ done.0 call c.loop-order.invariant.1 done.1 done.4 c.in-Ok.ensures.room,
     )
 
-pub loop-preserved : goal.loop-preserved
-loop-preserved g c =
-    let done = c.loop.invariant.0 in
-    let before = ahead c.loop.script.lines.block (g.R.Source.left c.loop.reader) in
+pub returns-in_err-order-clause-line : goal.returns-in_err-order-clause-line
+returns-in_err-order-clause-line g c n e =
+    later _ _ _ _ n c.loop-order.invariant.2 (c.next.ensures.line n (c.in_err-order.was ∙ ap Err (told_on c.from_residual.result c.in_err-order.field-0.0 (faults.BadLine n) c.from_residual.ensures.1 e)))
+
+pub returns-in_err-order-clause-read : goal.returns-in_err-order-clause-read
+returns-in_err-order-clause-read g c e =
+    longer_still _ _ _ _ c.loop-order.invariant.2 (c.next.ensures.read (c.in_err-order.was ∙ ap Err (told_on c.from_residual.result c.in_err-order.field-0.0 faults.Read c.from_residual.ensures.1 e)))
+
+pub returns-in-Err-clause-line : goal.returns-in-Err-clause-line
+returns-in-Err-clause-line g c n e =
+    let before = ahead c.loop-order.script.lines.block (g.R.Source.left c.loop-order.reader) in
+    let after = ahead c.next.new.self.lines.block (g.R.Source.left c.next.new.reader) in
+    let m = c.loop-order.script.lines.count in
+    let k = c.next.new.self.lines.count in
+    let lines = subst (λ o. IfSome o (λ _. AreLines before m after k)) c.in-Some.is c.in_ok-order.ensures.lines in
+    last_line _ _ _ _ n (joined _ before _ m after k c.loop-order.invariant.2 lines) (same_number (Err (faults.BadLine c.line_count.result)) c.line_count.result n refl e ∙ c.line_count.ensures)
+
+pub loop-order-preserved-in_ok-give_answer-in-Ok : goal.loop-order-preserved-in_ok-give_answer-in-Ok
+loop-order-preserved-in_ok-give_answer-in-Ok g c =
+    let done = c.loop-order.invariant.0 in
+    let before = ahead c.loop-order.script.lines.block (g.R.Source.left c.loop-order.reader) in
     let after = ahead c.next.new.self.lines.block (g.R.Source.left c.next.new.reader) in
     let next = subst (λ o. IfSome o (IsNextOrder before after)) c.in-Some.is c.in_ok-order.ensures.next in
-    let n = c.loop.script.lines.count in
+    let n = c.loop-order.script.lines.count in
     let k = c.next.new.self.lines.count in
     let lines = subst (λ o. IfSome o (λ _. AreLines before n after k)) c.in-Some.is c.in_ok-order.ensures.lines in
     let call : Call = record { order = c.in-Some.order; answer = c.in-Ok.answer; fits = c.in-Ok.ensures.answer } in (
@@ -38,11 +56,32 @@ loop-preserved g c =
         grown _ _ done.0 call done.1 c.in-Ok.ensures.journal,
         written _ _ _ done.0 call done.2 c.in_ok-give_answer-in-Ok.ensures,
         ordered _ before after done.0 call done.3 next,
-        roomed _ _ _ done.0 call c.loop.invariant.1 done.1 done.4 c.in-Ok.ensures.room,
+        roomed _ _ _ done.0 call c.loop-order.invariant.1 done.1 done.4 c.in-Ok.ensures.room,
       ),
-      c.in-Ok.ensures.limits ∙ c.loop.invariant.1,
-      joined _ before after _ _ _ c.loop.invariant.2 lines,
+      c.in-Ok.ensures.limits ∙ c.loop-order.invariant.1,
+      joined _ before _ _ after _ c.loop-order.invariant.2 lines,
     )
 
-pub loop-init : goal.loop-init
-loop-init g c = (([], c.requires, Appends-nil (g.W.Sink.held c.args.writer.now), no_order, no_call), refl, nothing_read)
+pub loop-order-preserved : goal.loop-order-preserved
+loop-order-preserved g c =
+    let done = c.loop-order.invariant.0 in
+    let before = ahead c.loop-order.script.lines.block (g.R.Source.left c.loop-order.reader) in
+    let after = ahead c.next.new.self.lines.block (g.R.Source.left c.next.new.reader) in
+    let next = subst (λ o. IfSome o (IsNextOrder before after)) c.in-Some.is c.in_ok-order.ensures.next in
+    let n = c.loop-order.script.lines.count in
+    let k = c.next.new.self.lines.count in
+    let lines = subst (λ o. IfSome o (λ _. AreLines before n after k)) c.in-Some.is c.in_ok-order.ensures.lines in
+    let call : Call = record { order = c.in-Some.order; answer = c.in-Ok.answer; fits = c.in-Ok.ensures.answer } in (
+      (
+        done.0 ++ call ∷ [],
+        grown _ _ done.0 call done.1 c.in-Ok.ensures.journal,
+        written _ _ _ done.0 call done.2 c.in_ok-give_answer-in-Ok.ensures,
+        ordered _ before after done.0 call done.3 next,
+        roomed _ _ _ done.0 call c.loop-order.invariant.1 done.1 done.4 c.in-Ok.ensures.room,
+      ),
+      c.in-Ok.ensures.limits ∙ c.loop-order.invariant.1,
+      joined _ before _ _ after _ c.loop-order.invariant.2 lines,
+    )
+
+pub loop-order-init : goal.loop-order-init
+loop-order-init g c = (([], c.requires, Appends-nil (g.W.Sink.held c.args.writer.now), no_order, no_call), refl, nothing_read)

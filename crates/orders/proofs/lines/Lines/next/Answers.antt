@@ -1,7 +1,14 @@
-use Rattle.std.proofs.Common.{◌≡◌, List, ℕ, sym, ap, subst, ◌∙◌, Ok, codes}
+use Rattle.std.proofs.Common.{◌≡◌, ◌≤◌, List, ℕ, sym, ap, subst, inr, arith, ◌∙◌, Ok, codes}
 use Rattle.orders.specs.Lines.{ahead, Grows, IsNextLine}
+use Rattle.orders.proofs.Counted.{more_ahead}
 use Rattle.orders.proofs.Taken.{fed_line}
 use Rattle.orders.proofs.lines.Lines.next.Goals as goal
+
+pub returns-then-self-ge-MOST_LINES-clause-read : goal.returns-then-self-ge-MOST_LINES-clause-read
+returns-then-self-ge-MOST_LINES-clause-read g c _ =
+    let full : 1000000 ≤ c.args.self.now.count = omega (arith, c.if-self-ge-MOST_LINES.true, c.is_at_end.ensures.count) in
+    let some = c.is_at_end.ensures.more (c.in_ok-is_at_end.was ∙ ap Ok c.if-branch.false) in
+    inr (full, more_ahead c.args.self.now.block c.is_at_end.new.self.block (g.R.Source.left c.args.reader.now) (g.R.Source.left c.is_at_end.new.reader) some c.is_at_end.ensures.kept)
 
 pub returns-then-branch-2-clause-next : goal.returns-then-branch-2-clause-next
 returns-then-branch-2-clause-next g c _ =

@@ -8,20 +8,20 @@ use Rattle.orders.proofs.script.Script.text.Goals as goal
 
 pub returns-then-is_last-clause-lines : goal.returns-then-is_last-clause-lines
 returns-then-is_last-clause-lines g c =
-    let is = c.in_ok-next.was ∙ ap Ok c.if-not-branch.false in
-    counted _ _ _ _ _ _ _ c.loop.invariant.lines (c.next.ensures.next is) (c.next.ensures.count is)
+    let is = c.in_ok-next.was ∙ ap Ok c.if-branch.true in
+    counted _ _ _ _ _ _ _ c.loop-bytes.invariant.lines (c.next.ensures.next is) (c.next.ensures.count is)
 
-pub loop-init : goal.loop-init
-loop-init g c = record { text = record { whole = []; lines = no_text; kept = c.new-bytes.ensures.items }; lines = nothing_read }
+pub loop-bytes-init : goal.loop-bytes-init
+loop-bytes-init g c = record { text = record { whole = []; lines = no_text; kept = c.new-bytes.ensures.items }; lines = nothing_read }
 
-pub loop-preserved : goal.loop-preserved
-loop-preserved g c =
-    let old = c.loop.bytes.items in
-    let is = c.in_ok-next.was ∙ ap Ok c.if-not-branch.false in
+pub loop-bytes-preserved : goal.loop-bytes-preserved
+loop-bytes-preserved g c =
+    let old = c.loop-bytes.bytes.items in
+    let is = c.in_ok-next.was ∙ ap Ok c.if-branch.true in
     let next = c.next.ensures.next is in record {
-      text = gathered _ _ _ c.next.new.self.line.items old c.add_front.new.text.items c.add_front-in-loop.new.text.items c.loop.invariant.text next
+      text = gathered _ _ _ c.next.new.self.line.items old c.add_front.new.text.items c.add_front-in-loop-bytes.new.text.items c.loop-bytes.invariant.text next
           (λ e. false≢true (sym c.if-is_last.false ∙ c.is_last.ensures.1 (c.line.ensures ∙ e)))
-          (c.in_ok-add_front.ensures ∙ ap (λ line. old ++ take (65537 - length old) line) c.line-in-loop.ensures)
+          (c.in_ok-add_front.ensures ∙ ap (λ line. old ++ take (65537 - length old) line) c.line-in-loop-bytes.ensures)
           c.in_ok-add_front-2.ensures;
-      lines = counted _ _ _ _ _ _ _ c.loop.invariant.lines next (c.next.ensures.count is);
+      lines = counted _ _ _ _ _ _ _ c.loop-bytes.invariant.lines next (c.next.ensures.count is);
     }
