@@ -34,7 +34,7 @@ pub same_number : {A : Type 0} (r : Result A ServeFault) (m n : ℕ) → r ≡ E
 same_number r m n p q = cc
 
 -- the fault of a call that a result hands on
-pub told_on : {A : Type 0} (r : Result A ServeFault) (f e : ServeFault) → IsErrAnd r (λ g. g ≡ f) → r ≡ Err e → f ≡ e
+pub told_on : {A F : Type 0} (r : Result A F) (f e : F) → IsErrAnd r (λ g. g ≡ f) → r ≡ Err e → f ≡ e
 told_on (Ok done) f e is same = absurd is
 told_on (Err g) f e is same = cc
 

@@ -1,3 +1,4 @@
 pub mod Counted
 pub mod Taken
 pub mod Texts
+pub mod Words

@@ -1,5 +1,5 @@
 -- The lines of a text, as they are gathered.
-use Rattle.std.proofs.Common.{◌≡◌, ℕ, zero, suc, List, [], ◌∷◌, ◌++◌, ◌-◌, length, take, sym, ap, refl, ◌∙◌, append_assoc, arith}
+use Rattle.std.proofs.Common.{◌≡◌, ℕ, zero, suc, List, [], ◌∷◌, ◌++◌, ◌-◌, length, take, ap, refl, ◌∙◌, append_assoc, arith}
 use Rattle.std.specs.Prelude.{◌≢◌, Option, codes}
 use Rattle.orders.specs.Lines.{IsNextLine}
 use Rattle.orders.specs.Scripts.{AreOfText, next_of_text}

@@ -1,5 +1,6 @@
 -- What a line of a script says, without its line feed.
-use Rattle.std.specs.Prelude.{◌≡◌, ◌⊎◌, ℕ, ◌+◌, List, [], ◌∷◌, ◌++◌, codes, decimal}
+use Rattle.std.specs.Prelude.{◌≡◌, ◌⊎◌, ◌<◌, ◌^◌, ℕ, ◌+◌, List, [], ◌∷◌, ◌++◌, codes, decimal}
+use Rattle.wb_text.specs.Names.{IsName}
 use Rattle.orders.specs.declared.order.Head.{Head}
 use Rattle.orders.specs.declared.order.Head.TheVariants.{Cat, Test, Whole}
 use Rattle.orders.specs.declared.order.Order.{Order}
@@ -24,6 +25,24 @@ Says words (Whole request) = Requests words request
 -- A line is the digit of a seat, a space, and words.
 abbrev pub Spells : List ℕ → ℕ → Head → Type 0
 Spells line seat head = (words : List ℕ) × (line ≡ (48 + seat) ∷ 32 ∷ words) × Says words head
+
+-- Its names are names, and its numbers below 2^32.
+abbrev pub IsSound : Request → Type 0
+IsSound (Ask test cat) = IsName test × IsName cat
+IsSound (Poll job) = job < 2 ^ 32
+IsSound Claim = Unit {0}
+IsSound (Return claim) = claim < 2 ^ 32
+IsSound (PutCat name text) = IsName name
+IsSound (PutTest text) = Unit {0}
+
+abbrev pub IsSoundHead : Head → Type 0
+IsSoundHead (Cat name) = IsName name
+IsSoundHead Test = Unit {0}
+IsSoundHead (Whole request) = IsSound request
+
+-- A bad line: no seat and no sound head is spelled by it.
+abbrev pub IsBad : List ℕ → Type 0
+IsBad line = (seat : ℕ) (head : Head) → seat < 8 → IsSoundHead head → ¬ Spells line seat head
 
 -- The request of a head, with whatever text follows.
 abbrev pub IsOf : Head → Request → Type 0

@@ -1,7 +1,10 @@
 //! What the lines of a script ask.
 
-ghost use Rattle.std.specs.Prelude.{◌≡◌, ◌<◌, ◌+◌, ◌∷◌, ◌++◌, IfOk, MatchOption, codes, decimal};
-ghost use Rattle.orders.specs.Spelled.{Spells, Says, Requests};
+ghost use Rattle.std.specs.Prelude.{◌≡◌, ◌≢◌, ◌<◌, ◌^◌, ◌+◌, ◌∷◌, ◌++◌, ℕ, List, Err, All, IfOk, IfErr, MatchOption, codes, decimal};
+ghost use Rattle.wb_text.specs.Names.{IsName};
+ghost use Rattle.orders.specs.Spelled.{Spells, Says, Requests, IsSoundHead, IsSound, IsBad};
+ghost use Rattle.orders.specs.declared.order.Head.{Head as HeadOf};
+ghost use Rattle.orders.specs.declared.order.Request.{Request as RequestOf};
 
 use itoa::Buffer;
 use journal::Text;
@@ -47,6 +50,8 @@ pub enum LineFault {
 pub fn read_head(alloc: Global, line: &[u8]) -> Result<(u8, Head), LineFault>
     ensures seat { IfOk result (λ r. r.0 < 8) }
     ensures spelled { IfOk result (λ r. Spells line.now r.0 r.1) }
+    // A line is bad only if it spells no order.
+    ensures bad { result ≡ Err LineFault.Bad → IsBad line.now }
 {
     let (seat, rest) = read_seat(line)?;
     let head = match split_word(rest) {
@@ -60,6 +65,7 @@ pub fn read_head(alloc: Global, line: &[u8]) -> Result<(u8, Head), LineFault>
 fn read_seat(line: &[u8]) -> Result<(u8, &[u8]), LineFault>
     ensures seat { IfOk result (λ r. r.0 < 8) }
     ensures rest { IfOk result (λ r. line.now ≡ (48 + r.0) ∷ 32 ∷ r.1.now) }
+    ensures bad { IfErr result (λ _. (seat : ℕ) (rest : List ℕ) → seat < 8 → line.now ≢ (48 + seat) ∷ 32 ∷ rest) }
 {
     if line.len() < 2 {
         return Err(LineFault::Bad);
@@ -73,7 +79,8 @@ fn read_seat(line: &[u8]) -> Result<(u8, &[u8]), LineFault>
 
 /// A head of one word.
 fn read_word(word: &[u8]) -> Result<Head, LineFault>
-    ensures { IfOk result (Says word.now) }
+    ensures said { IfOk result (Says word.now) }
+    ensures bad { IfErr result (λ _. (head : HeadOf) → All (λ byte. byte ≢ 32) word.now → ¬ Says word.now head) }
 {
     if word == b"test".as_slice() {
         Ok(Head::Test)
@@ -86,7 +93,9 @@ fn read_word(word: &[u8]) -> Result<Head, LineFault>
 
 /// A head of a word and what stands behind it and a space.
 fn read_words(alloc: Global, word: &[u8], rest: &[u8]) -> Result<Head, LineFault>
-    ensures { IfOk result (Says (word.now ++ (codes " " ++ rest.now))) }
+    ensures said { IfOk result (Says (word.now ++ (codes " " ++ rest.now))) }
+    ensures bad { result ≡ Err LineFault.Bad → (head : HeadOf) → IsSoundHead head → All (λ byte. byte ≢ 32) word.now
+        → ¬ Says (word.now ++ (codes " " ++ rest.now)) head }
 {
     if word == b"cat".as_slice() {
         Ok(Head::Cat(read_name(alloc, rest)?))
@@ -103,16 +112,19 @@ fn read_words(alloc: Global, word: &[u8], rest: &[u8]) -> Result<Head, LineFault
 
 /// Two names with a space between.
 fn read_ask(alloc: Global, rest: &[u8]) -> Result<Request, LineFault>
-    ensures { IfOk result (Requests (codes "ask " ++ rest.now)) }
+    ensures asked { IfOk result (Requests (codes "ask " ++ rest.now)) }
+    ensures bad { result ≡ Err LineFault.Bad → (test : List ℕ) (cat : List ℕ) → IsName test → IsName cat
+        → rest.now ≢ test ++ (codes " " ++ cat) }
 {
-    let (test, Some(cat)) = split_word(rest) else {
-        return Err(LineFault::Bad);
-    };
-    Ok(Request::Ask(read_name(alloc, test)?, read_name(alloc, cat)?))
+    match split_word(rest) {
+        (_, None) => Err(LineFault::Bad),
+        (test, Some(cat)) => Ok(Request::Ask(read_name(alloc, test)?, read_name(alloc, cat)?)),
+    }
 }
 
 fn read_name(alloc: Global, bytes: &[u8]) -> Result<Name, LineFault>
-    ensures { IfOk result (λ name. name ≡ bytes.now) }
+    ensures name { IfOk result (λ name. name ≡ bytes.now) }
+    ensures bad { result ≡ Err LineFault.Bad → ¬ IsName bytes.now }
 {
     match Name::new(alloc, bytes) {
         Ok(name) => Ok(name),
@@ -123,9 +135,15 @@ fn read_name(alloc: Global, bytes: &[u8]) -> Result<Name, LineFault>
 
 /// A number below 2^32 as it is printed: in decimal, with no leading zero.
 fn read_number(bytes: &[u8]) -> Result<u32, LineFault>
-    ensures { IfOk result (λ number. bytes.now ≡ decimal number) }
+    ensures printed { IfOk result (λ number. bytes.now ≡ decimal number) }
+    ensures bad { IfErr result (λ _. (number : ℕ) → number < 2 ^ 32 → bytes.now ≢ decimal number) }
 {
-    let number = value(bytes);
+    let Ok(text) = str::from_utf8(bytes) else {
+        return Err(LineFault::Bad);
+    };
+    let Ok(number) = text.parse::<u32>() else {
+        return Err(LineFault::Bad);
+    };
     let mut buffer = Buffer::new();
     if buffer.format(number).as_bytes() == bytes {
         Ok(number)
@@ -134,19 +152,10 @@ fn read_number(bytes: &[u8]) -> Result<u32, LineFault>
     }
 }
 
-/// The value of decimal digits, as far as it is below 2^32.
-fn value(bytes: &[u8]) -> u32 {
-    let mut number = 0u32;
-    for byte in bytes {
-        let digit = u32::from(byte.wrapping_sub(b'0'));
-        number = number.wrapping_mul(10).wrapping_add(digit);
-    }
-    number
-}
-
 /// The first word of a line, and what stands behind it and a space.
 fn split_word(line: &[u8]) -> (&[u8], Option<&[u8]>)
-    ensures { MatchOption result.1 (line.now ≡ result.0.now) (λ rest. line.now ≡ result.0.now ++ (codes " " ++ rest.now)) }
+    ensures parts { MatchOption result.1 (line.now ≡ result.0.now) (λ rest. line.now ≡ result.0.now ++ (codes " " ++ rest.now)) }
+    ensures word { All (λ byte. byte ≢ 32) result.0.now }
 {
     match memchr(b' ', line) {
         Some(place) => (&line[..place], Some(&line[place + 1..])),

@@ -1,4 +1,4 @@
-use Rattle.std.proofs.Common.{◌≡◌, ◌≤◌, List, ℕ, sym, ap, subst, inr, arith, ◌∙◌, Ok, codes}
+use Rattle.std.proofs.Common.{◌≤◌, sym, ap, subst, inr, arith, ◌∙◌, Ok, codes}
 use Rattle.orders.specs.Lines.{ahead, Grows, IsNextLine}
 use Rattle.orders.proofs.Counted.{more_ahead}
 use Rattle.orders.proofs.Taken.{fed_line}

@@ -1,4 +1,4 @@
-use Rattle.std.proofs.Common.{◌≡◌, ◌++◌, [], refl, ap, sym, ◌∙◌, Ok, codes, append-nil}
+use Rattle.std.proofs.Common.{◌++◌, [], refl, ap, sym, ◌∙◌, Ok, codes, append-nil}
 use Rattle.orders.proofs.Taken.{on}
 use Rattle.orders.proofs.lines.Lines.read_line.Goals as goal
 

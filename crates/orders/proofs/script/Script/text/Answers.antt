@@ -1,4 +1,4 @@
-use Rattle.std.proofs.Common.{◌≡◌, ◌++◌, ◌-◌, [], length, take, sym, ap, ◌∙◌, Ok, codes}
+use Rattle.std.proofs.Common.{◌++◌, ◌-◌, [], length, take, sym, ap, ◌∙◌, Ok}
 use Rattle.std.proofs.lemmas.Bool.{false≢true}
 use Rattle.orders.specs.Lines.{nothing_read}
 use Rattle.orders.specs.Scripts.{no_text}
