@@ -4,7 +4,8 @@ use Rattle.std.specs.Prelude.{Option, None, Some, Result, Ok, Err, IsErrAnd}
 use Rattle.std.specs.Io.KnownBytes.{Keeps}
 use Rattle.orders.specs.declared.fault.ServeFault.{ServeFault}
 use Rattle.orders.specs.declared.fault.ServeFault.TheVariants as faults
-use Rattle.orders.specs.Lines.{ahead, IsNextLine, AreLines, nothing_read, line_read, IsAtLine, HasMore, IsTooLong}
+use Rattle.orders.specs.Lines.{ahead, IsNextLine, AreLines, nothing_read, line_read, HasMore, IsTooLong}
+use Rattle.orders.specs.Scripts.{IsBadLine, no_head, long_line, open_text}
 
 -- one line more
 pub counted : (a b c : Option (List ℕ)) (m n k : ℕ) (line : List ℕ) → AreLines a m b n → IsNextLine b c line → k ≡ n + 1 → AreLines a m c k
@@ -19,15 +20,10 @@ pub joined : (a b : Option (List ℕ)) (m n : ℕ) (c : Option (List ℕ)) (k : 
 joined a b m n _ _ lines nothing_read = lines
 joined a b m n c _ lines (line_read {mid} {n = k} more next) = line_read (joined a b m n mid k lines more) next
 
-pub later : (a b : Option (List ℕ)) (m n k : ℕ) → AreLines a m b n → IsAtLine b n k → IsAtLine a m k
-later a b m n k lines h = record { end = h.end; count = h.count; lines = joined a b m n h.end h.count lines h.lines; number = h.number }
-
--- the number of the last line, and of the one behind it
-pub last_line : (a b : Option (List ℕ)) (m n k : ℕ) → AreLines a m b n → k ≡ n → IsAtLine a m k
-last_line a b m n k lines e = record { end = b; count = n; lines = lines; number = inl e }
-
-pub line_behind : (a b : Option (List ℕ)) (m n k : ℕ) → AreLines a m b n → k ≡ n + 1 → IsAtLine a m k
-line_behind a b m n k lines e = record { end = b; count = n; lines = lines; number = inr e }
+pub later : (a b : Option (List ℕ)) (m n k : ℕ) → AreLines a m b n → IsBadLine b n k → IsBadLine a m k
+later a b m n k lines (no_head {mid} {k = l} more next other bad e) = no_head (joined a b m n mid l lines more) next other bad e
+later a b m n k lines (long_line {end} {k = l} more long e) = long_line (joined a b m n end l lines more) long e
+later a b m n k lines (open_text {end} {k = l} more at_end e) = open_text (joined a b m n end l lines more) at_end e
 
 -- one result has one number
 pub same_number : {A : Type 0} (r : Result A ServeFault) (m n : ℕ) → r ≡ Err (faults.BadLine m) → r ≡ Err (faults.BadLine n) → n ≡ m

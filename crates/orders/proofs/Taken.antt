@@ -1,11 +1,11 @@
 -- Bytes that were ahead come to a line.
-use Rattle.std.proofs.Common.{◌≡◌, ℕ, List, [], ◌++◌, length, sym, ap, subst, ◌∙◌, inl, inr, append_assoc, append-nil}
+use Rattle.std.proofs.Common.{◌≡◌, ◌<◌, ℕ, List, [], ◌∷◌, ◌++◌, length, sym, ap, subst, ◌∙◌, inl, inr, append_assoc, append-nil}
 use Rattle.std.specs.Prelude.{◌≢◌, Option, None, Some, codes}
-use Rattle.std.specs.Io.KnownBytes.{Consumes, Keeps}
+use Rattle.std.specs.Io.KnownBytes.{Consumes, Keeps, IsAtEnd}
 use Rattle.std.proofs.KnownBytes.{Consumes-trans}
 use Rattle.std.proofs.lemmas.List.Elements.{All-append, All-take}
 use Rattle.std.proofs.Math.Seq.{take-append_seam}
-use Rattle.orders.specs.Lines.{ahead, IsUnbroken, IsTrimmed, Grows, IsNextLine, fed, returned}
+use Rattle.orders.specs.Lines.{ahead, IsUnbroken, IsTrimmed, Grows, IsNextLine, IsLong, fed, returned}
 
 -- a block loses its front
 taken : (left : Option (List ℕ)) (before after bytes : List ℕ) → before ≡ bytes ++ after → Consumes (ahead before left) (ahead after left) bytes
@@ -44,3 +44,20 @@ fed_line a b c raw line kept h (inr cut) = record {
   unbroken = front_of line (codes "\r") (subst IsUnbroken (sym h.grown ∙ cut) h.unbroken);
   given = returned (after_kept a b c (line ++ codes "\r\n") kept (subst (Consumes b c) (ap (λ l. l ++ codes "\n") (sym h.grown ∙ cut) ∙ append_assoc line (codes "\r") (codes "\n")) h.taken));
 }
+
+-- a line that grew too long
+pub too_long : (a b c : Option (List ℕ)) (line ending : List ℕ) → Keeps a b → Grows b c [] line ending → 65536 < length line → IsLong a
+too_long a b c line ending kept h long = record {
+  after = c;
+  part = h.part;
+  unbroken = h.unbroken;
+  long = subst (λ l. 65536 < length l) h.grown long;
+  taken = (ending, after_kept a b c (h.part ++ ending) kept h.taken);
+}
+
+-- nothing is ahead where nothing is behind what was kept
+pub ended : (a : Option (List ℕ)) (block : List ℕ) (left : Option (List ℕ)) → Keeps a (ahead block left) → block ≡ [] → IsAtEnd left → IsAtEnd a
+ended None block left kept none end = tt
+ended (Some xs) block None kept none end = absurd kept
+ended (Some xs) [] (Some ys) kept none end = sym kept ∙ end
+ended (Some xs) (b ∷ bs) (Some ys) kept none end = cc

@@ -1,5 +1,5 @@
 -- The lines of a script, and what of it is still to be read.
-use Rattle.std.specs.Prelude.{◌≡◌, ◌≢◌, ◌≤◌, ◌⊎◌, ◌++◌, ◌+◌, ℕ, List, [], Option, None, Some, codes}
+use Rattle.std.specs.Prelude.{◌≡◌, ◌≢◌, ◌≤◌, ◌<◌, ◌⊎◌, ◌++◌, ◌+◌, ℕ, List, [], length, Option, None, Some, codes}
 use Rattle.std.specs.List.{All}
 use Rattle.std.specs.Io.KnownBytes.{prepend_known, Consumes, IsAtEnd}
 
@@ -42,12 +42,13 @@ pub data AreLines (before : Option (List ℕ)) (m : ℕ) : Option (List ℕ) →
   nothing_read : AreLines before m before m
   line_read : {mid after : Option (List ℕ)} {line : List ℕ} {n : ℕ} → AreLines before m mid n → IsNextLine mid after line → AreLines before m after (n + 1)
 
--- The line of number n is the last of lines that were read, or the one behind them.
-pub record IsAtLine (before : Option (List ℕ)) (m n : ℕ) : Type 0 where
-  pub end : Option (List ℕ)
-  pub count : ℕ
-  pub lines : AreLines before m end count
-  pub number : (n ≡ count) ⊎ (n ≡ count + 1)
+-- A line is ahead that is longer than 65,536 bytes.
+pub record IsLong (before : Option (List ℕ)) : Type 0 where
+  pub after : Option (List ℕ)
+  pub part : List ℕ
+  pub unbroken : IsUnbroken part
+  pub long : 65536 < length part
+  pub taken : (ending : List ℕ) × Consumes before after (part ++ ending)
 
 -- bytes follow, where they are told
 abbrev pub HasMore : Option (List ℕ) → Type 0

@@ -1,8 +1,8 @@
 -- Which orders a script spells. What is ahead before and after is told where the reader tells its bytes.
-use Rattle.std.specs.Prelude.{◌≡◌, ◌≢◌, ◌++◌, ◌∷◌, [], ℕ, List, Option, take, codes}
+use Rattle.std.specs.Prelude.{◌≡◌, ◌≢◌, ◌+◌, ◌++◌, ◌∷◌, [], ℕ, List, Option, take, codes}
 use Rattle.std.specs.Io.KnownBytes.{IsAtEnd, Keeps}
-use Rattle.orders.specs.Lines.{IsNextLine}
-use Rattle.orders.specs.Spelled.{Begins, IsSkipped}
+use Rattle.orders.specs.Lines.{IsNextLine, AreLines, IsLong}
+use Rattle.orders.specs.Spelled.{Begins, IsSkipped, IsBad}
 use Rattle.orders.specs.declared.order.Order.{Order}
 use Rattle.orders.specs.declared.order.Request.{Request}
 use Rattle.orders.specs.declared.order.Request.TheVariants.{PutCat, PutTest, Ask, Poll, Claim, Return}
@@ -57,3 +57,10 @@ pub data AreOrders (before : Option (List ℕ)) : Option (List ℕ) → List Ord
   no_order : AreOrders before before []
   next_order : {mid after : Option (List ℕ)} {orders : List Order} {order : Order} → AreOrders before mid orders → IsNextOrder mid after order
       → AreOrders before after (orders ++ order ∷ [])
+
+-- The line of number n is bad: it was read and spells no order; or it is too long; or it is the last of a text that lacks
+-- its line `.`.
+pub data IsBadLine (before : Option (List ℕ)) (m n : ℕ) : Type 0 where
+  no_head : {mid after : Option (List ℕ)} {line : List ℕ} {k : ℕ} → AreLines before m mid k → IsNextLine mid after line → ¬ IsSkipped line → IsBad line → n ≡ k + 1 → IsBadLine before m n
+  long_line : {end : Option (List ℕ)} {k : ℕ} → AreLines before m end k → IsLong end → n ≡ k + 1 → IsBadLine before m n
+  open_text : {end : Option (List ℕ)} {k : ℕ} → AreLines before m end k → IsAtEnd end → n ≡ k → IsBadLine before m n

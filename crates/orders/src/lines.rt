@@ -1,8 +1,8 @@
 //! The lines of a script.
 
-ghost use Rattle.std.specs.Prelude.{◌≡◌, ◌≤◌, ◌<◌, ◌≢◌, ◌++◌, ◌+◌, ◌⊎◌, ℕ, List, [], Ok, Err, true, false, IfOk, IfErr, OnOk, OnErr, codes};
+ghost use Rattle.std.specs.Prelude.{◌≡◌, ◌≤◌, ◌<◌, ◌≢◌, ◌++◌, ◌+◌, ◌⊎◌, ℕ, List, Option, [], length, Ok, Err, true, false, IfOk, IfErr, OnOk, OnErr, codes};
 ghost use Rattle.std.specs.Io.KnownBytes.{IsAtEnd, Keeps};
-ghost use Rattle.orders.specs.Lines.{ahead, IsUnbroken, IsTrimmed, Grows, IsNextLine, HasMore};
+ghost use Rattle.orders.specs.Lines.{ahead, IsUnbroken, IsTrimmed, Grows, IsNextLine, IsLong, HasMore};
 ghost use Rattle.orders.specs.declared.fault.ServeFault.TheVariants as faults;
 
 use crate::block::Block;
@@ -56,7 +56,7 @@ impl Lines {
     pub fn next<R: Source>(&mut self, reader: &mut R) -> Result<bool, ServeFault>
         ensures fault { IfErr result (λ e. e ≢ faults.Write) }
         // The number of a line is one more than that of the line before it.
-        ensures line { (n : ℕ) → result ≡ Err (faults.BadLine n) → n ≡ self.old.count + 1 }
+        ensures line { (n : ℕ) → result ≡ Err (faults.BadLine n) → (n ≡ self.old.count + 1) × IsLong (ahead self.old.block (R.left reader.old)) }
         ensures count { result ≡ Ok true → self.new.count ≡ self.old.count + 1 }
         ensures still { result ≡ Ok false → self.new.count ≡ self.old.count }
         ensures room { result ≡ Ok true → self.old.count < 1000000 }
@@ -116,16 +116,15 @@ impl Lines {
     fn read_line<R: Source>(&mut self, reader: &mut R) -> Result<bool, ServeFault>
         ensures fault { IfErr result (λ e. e ≢ faults.Write) }
         ensures line { (n : ℕ) → result ≡ Err (faults.BadLine n) → n ≡ self.old.count }
+        ensures long { (n : ℕ) → result ≡ Err (faults.BadLine n) → (after : Option (List ℕ)) × (ending : List ℕ)
+            × Grows (ahead self.old.block (R.left reader.old)) after self.old.line.items self.new.line.items ending × (65536 < length self.new.line.items) }
         ensures count { OnOk result (self.new.count ≡ self.old.count) }
         ensures read { result ≡ Err faults.Read → R.has_failed reader.new ≡ true }
         ensures fed { result ≡ Ok true → Grows (ahead self.old.block (R.left reader.old)) (ahead self.new.block (R.left reader.new)) self.old.line.items self.new.line.items (codes "\n") }
         ensures last { result ≡ Ok false → Grows (ahead self.old.block (R.left reader.old)) (ahead self.new.block (R.left reader.new)) self.old.line.items self.new.line.items []
             × IsAtEnd (ahead self.new.block (R.left reader.new)) }
     {
-        for _ in 0..=MOST_BYTES {
-            if self.is_at_end(reader)? {
-                return Ok(false);
-            }
+        while !self.is_at_end(reader)? {
             let is_fed = self.take_part()?;
             if self.line.len() > MOST_BYTES {
                 return Err(ServeFault::BadLine(self.count));
@@ -134,7 +133,7 @@ impl Lines {
                 return Ok(true);
             }
         }
-        Err(ServeFault::BadLine(self.count))
+        Ok(false)
     }
 
     /// Adds what the block has before a line feed to the line, and answers whether the feed stood there.

@@ -12,8 +12,10 @@ use Rattle.scripts.specs.Orders.{Answers}
 use Rattle.scripts.specs.Replies.{reply_text}
 use Rattle.scripts.specs.declared.answer.Answer.{Answer}
 use Rattle.scripts.specs.declared.answer.Answer.TheVariants.{Made, NotTaken}
-use Rattle.orders.specs.Scripts.{AreOrders, IsSpent}
+use Rattle.orders.specs.Lines.{AreLines}
+use Rattle.orders.specs.Scripts.{AreOrders, IsNextOrder, IsSpent}
 use Rattle.orders.specs.declared.order.Order.{Order}
+use Rattle.orders.specs.declared.order.Request.TheVariants.{Return}
 use Rattle.orders.specs.declared.fault.ServeFault.{ServeFault}
 use Rattle.orders.specs.declared.fault.ServeFault.TheVariants as faults
 
@@ -83,6 +85,18 @@ pub record IsRead {A : Type 0} (script : Option (List ℕ)) (result : Result A S
   pub end : Option (List ℕ)
   pub orders : AreOrders script end (map (λ c. c.order) calls)
   pub spent : OnOk result ((rest : Option (List ℕ)) × IsSpent end rest)
+
+-- The line of number n is the last of an order to return a piece.
+pub record IsReturnAt (before : Option (List ℕ)) (m n : ℕ) : Type 0 where
+  pub mid : Option (List ℕ)
+  pub after : Option (List ℕ)
+  pub count : ℕ
+  pub order : Order
+  pub claim : ℕ
+  pub lines : AreLines before m mid count
+  pub next : IsNextOrder mid after order
+  pub more : AreLines mid count after n
+  pub returns : order.request ≡ Return claim
 
 -- A script's calls made the journal of a book with these limits, and this was written of them.
 pub record IsServed {A : Type 0} (limits : Limits) (script old new : Option (List ℕ)) (result : Result A ServeFault) : Type 0 where

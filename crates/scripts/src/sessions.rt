@@ -1,6 +1,6 @@
 //! The sessions of a script over one book.
 
-ghost use Rattle.std.specs.Prelude.{◌≡◌, ◌<◌, ◌+◌, ◌≤◌, ◌++◌, [], length, IfOk, IfSome, OnErr, MatchBool};
+ghost use Rattle.std.specs.Prelude.{◌≡◌, ◌<◌, ◌+◌, ◌≤◌, ◌++◌, [], length, ℕ, IfOk, IfSome, OnErr, MatchBool};
 ghost use Rattle.journal.specs.Lines.{seen};
 ghost use Rattle.book.specs.Step.{Legal};
 ghost use Rattle.journal.specs.declared.records.Said.{Said};
@@ -61,6 +61,7 @@ impl Sessions {
         ensures room { IfOk result (SaysRoom self.old.book.limits.journal (length self.old.book.journal)) }
         ensures limits { self.new.book.limits ≡ self.old.book.limits }
         ensures same { OnErr result (self.new.book ≡ self.old.book) }
+        ensures none { OnErr result ((claim : ℕ) × (order.request ≡ Request.Return claim)) }
     {
         let Order { seat, request } = order;
         match request {

@@ -1,11 +1,11 @@
-use Rattle.std.proofs.Common.{[], ◌∷◌, ◌++◌, ◌∙◌, ap, refl, subst, Err}
+use Rattle.std.proofs.Common.{[], ◌∷◌, ◌++◌, ◌∙◌, ap, inl, inr, sym, refl, subst, Err}
 use Rattle.std.specs.Prelude.{IfSome}
 use Rattle.std.proofs.KnownBytes.{Appends-nil}
 use Rattle.orders.specs.Lines.{ahead, AreLines, nothing_read}
 use Rattle.orders.specs.Scripts.{IsNextOrder, no_order}
 use Rattle.orders.specs.declared.fault.ServeFault.TheVariants as faults
 use Rattle.scripts.specs.Serving.{Call, no_call}
-use Rattle.orders.proofs.Counted.{joined, later, last_line, longer_still, same_number, told_on}
+use Rattle.orders.proofs.Counted.{joined, later, longer_still, same_number, told_on}
 use Rattle.scripts.proofs.Served.{grown, roomed, written, written_partly, tells_part, ordered, read_at_err}
 use Rattle.scripts.proofs.run.answer_all.Goals as goal
 
@@ -26,7 +26,7 @@ returns-in_err-give_answer-in-Ok-clause-told g c =
 
 pub returns-in_err-order-clause-line : goal.returns-in_err-order-clause-line
 returns-in_err-order-clause-line g c n e =
-    later _ _ _ _ n c.loop-order.invariant.2 (c.next.ensures.line n (c.in_err-order.was ∙ ap Err (told_on c.from_residual.result c.in_err-order.field-0.0 (faults.BadLine n) c.from_residual.ensures.1 e)))
+    inl (later _ _ _ _ n c.loop-order.invariant.2 (c.next.ensures.line n (c.in_err-order.was ∙ ap Err (told_on c.from_residual.result c.in_err-order.field-0.0 (faults.BadLine n) c.from_residual.ensures.1 e))))
 
 pub returns-in_err-order-clause-read : goal.returns-in_err-order-clause-read
 returns-in_err-order-clause-read g c e =
@@ -39,7 +39,19 @@ returns-in-Err-clause-line g c n e =
     let m = c.loop-order.script.lines.count in
     let k = c.next.new.self.lines.count in
     let lines = subst (λ o. IfSome o (λ _. AreLines before m after k)) c.in-Some.is c.in_ok-order.ensures.lines in
-    last_line _ _ _ _ n (joined _ before _ m after k c.loop-order.invariant.2 lines) (same_number (Err (faults.BadLine c.line_count.result)) c.line_count.result n refl e ∙ c.line_count.ensures)
+    let next = subst (λ o. IfSome o (IsNextOrder before after)) c.in-Some.is c.in_ok-order.ensures.next in
+    let number = same_number (Err (faults.BadLine c.line_count.result)) c.line_count.result n refl e ∙ c.line_count.ensures in
+    inr (record {
+      mid = before;
+      after = after;
+      count = m;
+      order = c.in-Some.order;
+      claim = c.in-Err.ensures.none.0;
+      lines = c.loop-order.invariant.2;
+      next = next;
+      more = subst (AreLines before m after) (sym number) lines;
+      returns = c.in-Err.ensures.none.1;
+    })
 
 pub loop-order-preserved-in_ok-give_answer-in-Ok : goal.loop-order-preserved-in_ok-give_answer-in-Ok
 loop-order-preserved-in_ok-give_answer-in-Ok g c =

@@ -1,7 +1,8 @@
-use Rattle.std.proofs.Common.{◌≤◌, sym, ap, subst, inr, arith, ◌∙◌, Ok, codes}
+use Rattle.std.proofs.Common.{◌≡◌, ◌≤◌, ◌+◌, sym, ap, subst, inr, arith, ◌∙◌, Ok, Err, codes}
 use Rattle.orders.specs.Lines.{ahead, Grows, IsNextLine}
-use Rattle.orders.proofs.Counted.{more_ahead}
-use Rattle.orders.proofs.Taken.{fed_line}
+use Rattle.orders.specs.declared.fault.ServeFault.TheVariants as faults
+use Rattle.orders.proofs.Counted.{more_ahead, told_on}
+use Rattle.orders.proofs.Taken.{fed_line, too_long}
 use Rattle.orders.proofs.lines.Lines.next.Goals as goal
 
 pub returns-then-self-ge-MOST_LINES-clause-read : goal.returns-then-self-ge-MOST_LINES-clause-read
@@ -9,6 +10,16 @@ returns-then-self-ge-MOST_LINES-clause-read g c _ =
     let full : 1000000 ≤ c.args.self.now.count = omega (arith, c.if-self-ge-MOST_LINES.true, c.is_at_end.ensures.count) in
     let some = c.is_at_end.ensures.more (c.in_ok-is_at_end.was ∙ ap Ok c.if-branch.false) in
     inr (full, more_ahead c.args.self.now.block c.is_at_end.new.self.block (g.R.Source.left c.args.reader.now) (g.R.Source.left c.is_at_end.new.reader) some c.is_at_end.ensures.kept)
+
+pub returns-in_err-read_line-clause-line : goal.returns-in_err-read_line-clause-line
+returns-in_err-read_line-clause-line g c n e =
+    let before = ahead c.args.self.now.block (g.R.Source.left c.args.reader.now) in
+    let filled = ahead c.is_at_end.new.self.block (g.R.Source.left c.is_at_end.new.reader) in
+    let raw = c.read_line.new.self.line.items in
+    let is = c.in_err-read_line.was ∙ ap Err (told_on c.from_residual-in_err-read_line.result c.in_err-read_line.field-0.0 (faults.BadLine n) c.from_residual-in_err-read_line.ensures.1 e) in
+    let long = c.read_line.ensures.long n is in
+    let number : n ≡ c.args.self.now.count + 1 = omega (arith, c.read_line.ensures.line n is, c.is_at_end.ensures.count) in
+    (number, too_long before filled long.0 raw long.1 c.is_at_end.ensures.kept (subst (λ old. Grows filled long.0 old raw long.1) c.clear.ensures.items long.2) long.3)
 
 pub returns-then-branch-2-clause-next : goal.returns-then-branch-2-clause-next
 returns-then-branch-2-clause-next g c _ =

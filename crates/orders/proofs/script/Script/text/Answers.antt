@@ -1,8 +1,10 @@
-use Rattle.std.proofs.Common.{◌++◌, ◌-◌, [], length, take, sym, ap, ◌∙◌, Ok}
+use Rattle.std.proofs.Common.{◌++◌, ◌-◌, [], length, take, sym, refl, ap, ◌∙◌, Ok, Err}
 use Rattle.std.proofs.lemmas.Bool.{false≢true}
 use Rattle.orders.specs.Lines.{nothing_read}
-use Rattle.orders.specs.Scripts.{no_text}
-use Rattle.orders.proofs.Counted.{counted}
+use Rattle.orders.specs.Scripts.{no_text, long_line, open_text}
+use Rattle.orders.specs.declared.fault.ServeFault.TheVariants as faults
+use Rattle.orders.proofs.Counted.{counted, same_number, told_on}
+use Rattle.orders.proofs.Taken.{ended}
 use Rattle.orders.proofs.Texts.{gathered}
 use Rattle.orders.proofs.script.Script.text.Goals as goal
 
@@ -10,6 +12,19 @@ pub returns-then-is_last-clause-lines : goal.returns-then-is_last-clause-lines
 returns-then-is_last-clause-lines g c =
     let is = c.in_ok-next.was ∙ ap Ok c.if-branch.true in
     counted _ _ _ _ _ _ _ c.loop-bytes.invariant.lines (c.next.ensures.next is) (c.next.ensures.count is)
+
+pub returns-in_err-next-clause-line : goal.returns-in_err-next-clause-line
+returns-in_err-next-clause-line g c n e =
+    let p = c.next.ensures.line n (c.in_err-next.was ∙ ap Err (told_on c.from_residual.result c.in_err-next.field-0.0 (faults.BadLine n) c.from_residual.ensures.1 e)) in
+    long_line c.loop-bytes.invariant.lines p.1 p.0
+
+pub returns-clause-line : goal.returns-clause-line
+returns-clause-line g c n e =
+    let is = c.in_ok-next.was ∙ ap Ok c.if-branch.false in
+    let number = same_number (Err (faults.BadLine c.count.result)) c.count.result n refl e in
+    open_text c.loop-bytes.invariant.lines
+    (ended _ c.next.new.self.block (g.R.Source.left c.next.new.reader) (c.next.ensures.kept is) (c.next.ensures.none is) (c.next.ensures.end is))
+    (number ∙ c.count.ensures ∙ c.next.ensures.still is)
 
 pub loop-bytes-init : goal.loop-bytes-init
 loop-bytes-init g c = record { text = record { whole = []; lines = no_text; kept = c.new-bytes.ensures.items }; lines = nothing_read }
