@@ -19,9 +19,13 @@ returns-then-len-gt-MOST_BYTES-clause-long g c n e =
     elim (cases_Bool c.in_ok-is_fed.is_fed) [
       | inl t ↦ (let p = c.take_part.ensures.fed (c.in_ok-is_fed.was ∙ ap Ok t) in
           (after, codes "\n", on _ _ left _ _ _ _ p.0 _ (codes "\n") c.loop-self.invariant.grows c.is_at_end.ensures.kept p.1 (p.2 ∙ ap (λ line. line.items ++ p.0) c.is_at_end.ensures.line) p.3, long))
-      | inr f ↦ (let p = c.take_part.ensures.whole (c.in_ok-is_fed.was ∙ ap Ok f) in
-          (after, [], on _ _ left _ _ _ _ c.is_at_end.new.self.block _ [] c.loop-self.invariant.grows c.is_at_end.ensures.kept p.0
-          (p.1 ∙ ap (λ line. line.items ++ c.is_at_end.new.self.block) c.is_at_end.ensures.line) (sym (append-nil c.is_at_end.new.self.block) ∙ ap (λ l. c.is_at_end.new.self.block ++ l) (sym p.2)), long))
+      | inr f ↦ (let p = c.take_part.ensures.whole (c.in_ok-is_fed.was ∙ ap Ok f) in (
+        after,
+        [],
+        on _ _ left _ _ _ _ c.is_at_end.new.self.block _ [] c.loop-self.invariant.grows c.is_at_end.ensures.kept p.0
+            (p.1 ∙ ap (λ line. line.items ++ c.is_at_end.new.self.block) c.is_at_end.ensures.line) (sym (append-nil c.is_at_end.new.self.block) ∙ ap (λ l. c.is_at_end.new.self.block ++ l) (sym p.2)),
+        long,
+      ))
     ]
 
 pub loop-self-preserved : goal.loop-self-preserved
