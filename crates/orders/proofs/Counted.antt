@@ -5,7 +5,7 @@ use Rattle.std.specs.Io.KnownBytes.{Keeps}
 use Rattle.orders.specs.declared.fault.ServeFault.{ServeFault}
 use Rattle.orders.specs.declared.fault.ServeFault.TheVariants as faults
 use Rattle.orders.specs.Lines.{ahead, IsNextLine, AreLines, nothing_read, line_read, HasMore, IsTooLong}
-use Rattle.orders.specs.Scripts.{IsBadLine, no_head, long_line, open_text}
+use Rattle.orders.specs.Scripts.{IsCutOff, long_line, open_text}
 
 -- one line more
 pub counted : (a b c : Option (List ℕ)) (m n k : ℕ) (line : List ℕ) → AreLines a m b n → IsNextLine b c line → k ≡ n + 1 → AreLines a m c k
@@ -20,8 +20,7 @@ pub joined : (a b : Option (List ℕ)) (m n : ℕ) (c : Option (List ℕ)) (k : 
 joined a b m n _ _ lines nothing_read = lines
 joined a b m n c _ lines (line_read {mid} {n = k} more next) = line_read (joined a b m n mid k lines more) next
 
-pub later : (a b : Option (List ℕ)) (m n k : ℕ) → AreLines a m b n → IsBadLine b n k → IsBadLine a m k
-later a b m n k lines (no_head {mid} {k = l} more next other bad e) = no_head (joined a b m n mid l lines more) next other bad e
+pub later : (a b : Option (List ℕ)) (m n k : ℕ) → AreLines a m b n → IsCutOff b n k → IsCutOff a m k
 later a b m n k lines (long_line {end} {k = l} more long e) = long_line (joined a b m n end l lines more) long e
 later a b m n k lines (open_text {end} {k = l} more at_end e) = open_text (joined a b m n end l lines more) at_end e
 

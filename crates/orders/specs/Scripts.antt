@@ -58,9 +58,12 @@ pub data AreOrders (before : Option (List ℕ)) : Option (List ℕ) → List Ord
   next_order : {mid after : Option (List ℕ)} {orders : List Order} {order : Order} → AreOrders before mid orders → IsNextOrder mid after order
       → AreOrders before after (orders ++ order ∷ [])
 
--- The line of number n is bad: it was read and spells no order; or it is too long; or it is the last of a text that lacks
--- its line `.`.
+-- The line of number n is too long, or the last of a text that lacks its line `.`.
+pub data IsCutOff (before : Option (List ℕ)) (m n : ℕ) : Type 0 where
+  long_line : {end : Option (List ℕ)} {k : ℕ} → AreLines before m end k → IsLong end → n ≡ k + 1 → IsCutOff before m n
+  open_text : {end : Option (List ℕ)} {k : ℕ} → AreLines before m end k → IsAtEnd end → n ≡ k → IsCutOff before m n
+
+-- The line of number n is bad: where an order was to begin it begins none; or it is cut off.
 pub data IsBadLine (before : Option (List ℕ)) (m n : ℕ) : Type 0 where
-  no_head : {mid after : Option (List ℕ)} {line : List ℕ} {k : ℕ} → AreLines before m mid k → IsNextLine mid after line → ¬ IsSkipped line → IsBad line → n ≡ k + 1 → IsBadLine before m n
-  long_line : {end : Option (List ℕ)} {k : ℕ} → AreLines before m end k → IsLong end → n ≡ k + 1 → IsBadLine before m n
-  open_text : {end : Option (List ℕ)} {k : ℕ} → AreLines before m end k → IsAtEnd end → n ≡ k → IsBadLine before m n
+  no_head : {mid after : Option (List ℕ)} {line : List ℕ} {k : ℕ} → AreSkipped before mid → AreLines before m mid k → IsNextLine mid after line → ¬ IsSkipped line → IsBad line → n ≡ k + 1 → IsBadLine before m n
+  cut_off : IsCutOff before m n → IsBadLine before m n

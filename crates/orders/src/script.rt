@@ -2,7 +2,7 @@
 
 ghost use Rattle.std.specs.Prelude.{◌≡◌, [], ◌⊎◌, ◌↔◌, ◌<◌, ◌≤◌, ◌≢◌, ◌++◌, ◌-◌, ℕ, true, Err, IfOk, IfErr, IfSome, IfNone, OnOk, length, take, vec_len, codes};
 ghost use Rattle.orders.specs.Lines.{ahead, AreLines, IsNextLine, IsTooLong};
-ghost use Rattle.orders.specs.Scripts.{IsText, IsFollowed, IsNextOrder, IsSpent, IsBadLine};
+ghost use Rattle.orders.specs.Scripts.{IsText, IsFollowed, IsNextOrder, IsSpent, IsBadLine, IsCutOff};
 ghost use Rattle.orders.specs.Spelled.{Begins, IsSkipped, IsBad};
 ghost use Rattle.std.specs.Io.KnownBytes.{IsAtEnd};
 ghost use Rattle.orders.specs.declared.fault.ServeFault.TheVariants as faults;
@@ -69,7 +69,7 @@ impl Script {
     /// The order that begins with the line.
     fn order<R: Source>(&mut self, reader: &mut R) -> Result<Order, ServeFault>
         ensures bad { (n : ℕ) → result ≡ Err (faults.BadLine n) → ((n ≡ self.old.lines.count) × IsBad self.old.lines.line.items)
-            ⊎ IsBadLine (ahead self.old.lines.block (R.left reader.old)) self.old.lines.count n }
+            ⊎ IsCutOff (ahead self.old.lines.block (R.left reader.old)) self.old.lines.count n }
         ensures seat { IfOk result (λ order. order.seat < 8) }
         ensures begins { IfOk result (Begins self.old.lines.line.items) }
         ensures followed { IfOk result (λ order. IsFollowed (ahead self.old.lines.block (R.left reader.old)) (ahead self.new.lines.block (R.left reader.new)) order.request) }
@@ -96,7 +96,7 @@ impl Script {
         ensures text { IfOk result (IsText (ahead self.old.lines.block (R.left reader.old)) (ahead self.new.lines.block (R.left reader.new))) }
         ensures fault { IfErr result (λ e. e ≢ faults.Write) }
         ensures lines { OnOk result (AreLines (ahead self.old.lines.block (R.left reader.old)) self.old.lines.count (ahead self.new.lines.block (R.left reader.new)) self.new.lines.count) }
-        ensures line { (n : ℕ) → result ≡ Err (faults.BadLine n) → IsBadLine (ahead self.old.lines.block (R.left reader.old)) self.old.lines.count n }
+        ensures line { (n : ℕ) → result ≡ Err (faults.BadLine n) → IsCutOff (ahead self.old.lines.block (R.left reader.old)) self.old.lines.count n }
         ensures read { result ≡ Err faults.Read → (R.has_failed reader.new ≡ true)
             ⊎ IsTooLong (ahead self.old.lines.block (R.left reader.old)) self.old.lines.count }
     {

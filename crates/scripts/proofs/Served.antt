@@ -5,7 +5,7 @@ use Rattle.std.specs.Io.KnownBytes.{Appends}
 use Rattle.std.specs.List.{flat_map}
 use Rattle.std.proofs.KnownBytes.{Appends-trans, Appends-nil, prepend_known-nil}
 use Rattle.orders.specs.Lines.{ahead, IsTooLong}
-use Rattle.orders.specs.Scripts.{AreOrders, IsNextOrder, IsBadLine, no_order, next_order}
+use Rattle.orders.specs.Scripts.{AreOrders, IsNextOrder, no_order, next_order}
 use Rattle.std.proofs.lemmas.Grind.{flat_map-append}
 use Rattle.std.proofs.lemmas.List.{map-append}
 use Rattle.wb_text.specs.Memory.{AppendsFront}
@@ -14,7 +14,7 @@ use Rattle.book.specs.Step.{Legal}
 use Rattle.book.specs.Workbench.{empty}
 use Rattle.book.specs.declared.limits.Limits.{Limits}
 use Rattle.report.proofs.Written.{front_of}
-use Rattle.scripts.specs.Serving.{Call, answer_text, entry_of, calls_text, entries_of, finish_text, bad_line_text, Closes, Tells, IsRead, IsServed, IsReturnAt, SaysRoom, AllSayRoom, no_call, next_call}
+use Rattle.scripts.specs.Serving.{Call, answer_text, entry_of, calls_text, entries_of, finish_text, bad_line_text, Closes, Tells, IsRead, IsServed, IsBadAt, IsReturnAt, SaysRoom, AllSayRoom, no_call, next_call}
 use Rattle.orders.specs.declared.fault.ServeFault.{ServeFault}
 use Rattle.orders.specs.declared.fault.ServeFault.TheVariants as faults
 
@@ -59,10 +59,10 @@ pub from_start : {A : Type 0} {block : List ℕ} (left : Option (List ℕ)) (r :
 from_start left r calls empty h = subst (λ script. IsRead script r calls) (ap (λ b. ahead b left) empty ∙ prepend_known-nil left) h
 
 pub line_from_start : {block : List ℕ} {count : ℕ} (left : Option (List ℕ)) (n : ℕ) → block ≡ [] → count ≡ 0
-    → IsBadLine (ahead block left) count n ⊎ IsReturnAt (ahead block left) count n → IsBadLine left 0 n ⊎ IsReturnAt left 0 n
+    → IsBadAt (ahead block left) count n ⊎ IsReturnAt (ahead block left) count n → IsBadAt left 0 n ⊎ IsReturnAt left 0 n
 line_from_start {block} left n empty none h =
-    subst (λ script. IsBadLine script 0 n ⊎ IsReturnAt script 0 n) (ap (λ b. ahead b left) empty ∙ prepend_known-nil left)
-    (subst (λ m. IsBadLine (ahead block left) m n ⊎ IsReturnAt (ahead block left) m n) none h)
+    subst (λ script. IsBadAt script 0 n ⊎ IsReturnAt script 0 n) (ap (λ b. ahead b left) empty ∙ prepend_known-nil left)
+    (subst (λ m. IsBadAt (ahead block left) m n ⊎ IsReturnAt (ahead block left) m n) none h)
 
 pub too_long_from_start : {P : Type 0} {block : List ℕ} {count : ℕ} (left : Option (List ℕ)) → block ≡ [] → count ≡ 0 → P ⊎ IsTooLong (ahead block left) count → P ⊎ IsTooLong left 0
 too_long_from_start {P} {block} left empty none h =

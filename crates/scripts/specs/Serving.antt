@@ -13,7 +13,7 @@ use Rattle.scripts.specs.Replies.{reply_text}
 use Rattle.scripts.specs.declared.answer.Answer.{Answer}
 use Rattle.scripts.specs.declared.answer.Answer.TheVariants.{Made, NotTaken}
 use Rattle.orders.specs.Lines.{AreLines}
-use Rattle.orders.specs.Scripts.{AreOrders, IsNextOrder, IsSpent}
+use Rattle.orders.specs.Scripts.{AreOrders, IsNextOrder, IsBadLine, IsSpent}
 use Rattle.orders.specs.declared.order.Order.{Order}
 use Rattle.orders.specs.declared.order.Request.TheVariants.{Return}
 use Rattle.orders.specs.declared.fault.ServeFault.{ServeFault}
@@ -86,14 +86,25 @@ pub record IsRead {A : Type 0} (script : Option (List ℕ)) (result : Result A S
   pub orders : AreOrders script end (map (λ c. c.order) calls)
   pub spent : OnOk result ((rest : Option (List ℕ)) × IsSpent end rest)
 
+-- The line of number n is bad, behind orders that were read.
+pub record IsBadAt (script : Option (List ℕ)) (m n : ℕ) : Type 0 where
+  pub end : Option (List ℕ)
+  pub count : ℕ
+  pub orders : List Order
+  pub read : AreOrders script end orders
+  pub lines : AreLines script m end count
+  pub bad : IsBadLine end count n
+
 -- The line of number n is the last of an order to return a piece.
-pub record IsReturnAt (before : Option (List ℕ)) (m n : ℕ) : Type 0 where
+pub record IsReturnAt (script : Option (List ℕ)) (m n : ℕ) : Type 0 where
   pub mid : Option (List ℕ)
   pub after : Option (List ℕ)
   pub count : ℕ
+  pub orders : List Order
   pub order : Order
   pub claim : ℕ
-  pub lines : AreLines before m mid count
+  pub read : AreOrders script mid orders
+  pub lines : AreLines script m mid count
   pub next : IsNextOrder mid after order
   pub more : AreLines mid count after n
   pub returns : order.request ≡ Return claim

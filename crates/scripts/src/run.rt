@@ -1,8 +1,7 @@
 //! From a script to the replies of a book.
 
 ghost use Rattle.std.specs.Prelude.{◌≡◌, ◌⊎◌, ℕ, [], List, true, Err, OnOk};
-ghost use Rattle.scripts.specs.Serving.{Call, IsRead, IsReturnAt, IsServed, AllSayRoom, Tells, entries_of, calls_text};
-ghost use Rattle.orders.specs.Scripts.{IsBadLine};
+ghost use Rattle.scripts.specs.Serving.{Call, IsBadAt, IsRead, IsReturnAt, IsServed, AllSayRoom, Tells, entries_of, calls_text};
 ghost use Rattle.orders.specs.Lines.{ahead, IsTooLong};
 ghost use Rattle.std.specs.Io.KnownBytes.{IsAtEnd};
 
@@ -25,7 +24,7 @@ pub fn serve<R: Source, W: Sink>(
     ensures served { IsServed options.now.limits (R.left reader.old) (W.held writer.old) (W.held writer.new) result }
     ensures end { OnOk result (IsAtEnd (R.left reader.new)) }
     // A bad line is told by its number: it is bad, or asks to return a piece.
-    ensures line { (n : ℕ) → result ≡ Err (ServeFault.BadLine n) → IsBadLine (R.left reader.old) 0 n ⊎ IsReturnAt (R.left reader.old) 0 n }
+    ensures line { (n : ℕ) → result ≡ Err (ServeFault.BadLine n) → IsBadAt (R.left reader.old) 0 n ⊎ IsReturnAt (R.left reader.old) 0 n }
     // Reading fails where the reader does, or where a script has too many lines.
     ensures read { result ≡ Err ServeFault.Read → (R.has_failed reader.new ≡ true) ⊎ IsTooLong (R.left reader.old) 0 }
     ensures write { result ≡ Err ServeFault.Write → W.has_failed writer.new ≡ true }
@@ -62,7 +61,7 @@ fn answer_all<R: Source, W: Sink>(
         × AllSayRoom sessions.old.book.limits.journal calls }
     ensures end { OnOk result (IsAtEnd (R.left reader.new)) }
     ensures line { (n : ℕ) → result ≡ Err (ServeFault.BadLine n)
-        → IsBadLine (ahead script.old.lines.block (R.left reader.old)) script.old.lines.count n
+        → IsBadAt (ahead script.old.lines.block (R.left reader.old)) script.old.lines.count n
         ⊎ IsReturnAt (ahead script.old.lines.block (R.left reader.old)) script.old.lines.count n }
     ensures read { result ≡ Err ServeFault.Read → (R.has_failed reader.new ≡ true)
         ⊎ IsTooLong (ahead script.old.lines.block (R.left reader.old)) script.old.lines.count }

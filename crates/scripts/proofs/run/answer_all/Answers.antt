@@ -1,11 +1,11 @@
-use Rattle.std.proofs.Common.{[], ◌∷◌, ◌++◌, ◌∙◌, ap, inl, inr, sym, refl, subst, Err}
+use Rattle.std.proofs.Common.{[], ◌∷◌, ◌++◌, ◌∙◌, ap, inl, inr, sym, refl, subst, map, Err}
 use Rattle.std.specs.Prelude.{IfSome}
 use Rattle.std.proofs.KnownBytes.{Appends-nil}
 use Rattle.orders.specs.Lines.{ahead, AreLines, nothing_read}
 use Rattle.orders.specs.Scripts.{IsNextOrder, no_order}
 use Rattle.orders.specs.declared.fault.ServeFault.TheVariants as faults
 use Rattle.scripts.specs.Serving.{Call, no_call}
-use Rattle.orders.proofs.Counted.{joined, later, longer_still, same_number, told_on}
+use Rattle.orders.proofs.Counted.{joined, longer_still, same_number, told_on}
 use Rattle.scripts.proofs.Served.{grown, roomed, written, written_partly, tells_part, ordered, read_at_err}
 use Rattle.scripts.proofs.run.answer_all.Goals as goal
 
@@ -26,7 +26,15 @@ returns-in_err-give_answer-in-Ok-clause-told g c =
 
 pub returns-in_err-order-clause-line : goal.returns-in_err-order-clause-line
 returns-in_err-order-clause-line g c n e =
-    inl (later _ _ _ _ n c.loop-order.invariant.2 (c.next.ensures.line n (c.in_err-order.was ∙ ap Err (told_on c.from_residual.result c.in_err-order.field-0.0 (faults.BadLine n) c.from_residual.ensures.1 e))))
+    let done = c.loop-order.invariant.0 in
+    inl (record {
+      end = ahead c.loop-order.script.lines.block (g.R.Source.left c.loop-order.reader);
+      count = c.loop-order.script.lines.count;
+      orders = map (λ d. d.order) done.0;
+      read = done.3;
+      lines = c.loop-order.invariant.2;
+      bad = (c.next.ensures.line n (c.in_err-order.was ∙ ap Err (told_on c.from_residual.result c.in_err-order.field-0.0 (faults.BadLine n) c.from_residual.ensures.1 e)));
+    })
 
 pub returns-in_err-order-clause-read : goal.returns-in_err-order-clause-read
 returns-in_err-order-clause-read g c e =
@@ -41,12 +49,15 @@ returns-in-Err-clause-line g c n e =
     let lines = subst (λ o. IfSome o (λ _. AreLines before m after k)) c.in-Some.is c.in_ok-order.ensures.lines in
     let next = subst (λ o. IfSome o (IsNextOrder before after)) c.in-Some.is c.in_ok-order.ensures.next in
     let number = same_number (Err (faults.BadLine c.line_count.result)) c.line_count.result n refl e ∙ c.line_count.ensures in
+    let done = c.loop-order.invariant.0 in
     inr (record {
       mid = before;
       after = after;
       count = m;
+      orders = map (λ d. d.order) done.0;
       order = c.in-Some.order;
       claim = c.in-Err.ensures.none.0;
+      read = done.3;
       lines = c.loop-order.invariant.2;
       next = next;
       more = subst (AreLines before m after) (sym number) lines;

@@ -1,7 +1,7 @@
 use Rattle.std.proofs.Common.{inl, inr, sym, ap, subst, arith, ◌∙◌, Ok, Err}
 use Rattle.std.proofs.lemmas.Bool.{false≢true}
 use Rattle.orders.specs.Lines.{nothing_read}
-use Rattle.orders.specs.Scripts.{no_line, next_line, no_head, long_line}
+use Rattle.orders.specs.Scripts.{no_line, next_line, no_head, cut_off, long_line}
 use Rattle.orders.specs.Spelled.{IsSkipped}
 use Rattle.orders.specs.declared.fault.ServeFault.TheVariants as faults
 use Rattle.orders.proofs.Counted.{counted, grows, joined, later, longer_still, told_on}
@@ -10,7 +10,7 @@ use Rattle.orders.proofs.script.Script.next.Goals as goal
 pub returns-in_err-next-clause-line : goal.returns-in_err-next-clause-line
 returns-in_err-next-clause-line g c n e =
     let p = c.next.ensures.line n (c.in_err-next.was ∙ ap Err (told_on c.from_residual.result c.in_err-next.field-0.0 (faults.BadLine n) c.from_residual.ensures.1 e)) in
-    long_line c.loop-self.invariant.lines p.1 p.0
+    cut_off (long_line c.loop-self.invariant.lines p.1 p.0)
 
 pub returns-in_err-order-clause-line : goal.returns-in_err-order-clause-line
 returns-in_err-order-clause-line g c n e =
@@ -18,8 +18,8 @@ returns-in_err-order-clause-line g c n e =
     let lines = counted _ _ _ _ _ _ _ c.loop-self.invariant.lines (c.next.ensures.next is) (c.next.ensures.count is) in
     let spelled : ¬ IsSkipped c.next.new.self.line.items = λ skipped. false≢true (sym c.if-not-is_skipped.true ∙ c.is_skipped.ensures.1 (subst IsSkipped (sym c.line.ensures) skipped)) in
     elim (c.order.ensures.bad n (c.in_err-order.was ∙ ap Err (told_on c.from_residual-in_err-order.result c.in_err-order.field-0.0 (faults.BadLine n) c.from_residual-in_err-order.ensures.1 e))) [
-      | inl p ↦ no_head c.loop-self.invariant.lines (c.next.ensures.next is) spelled p.1 (p.0 ∙ c.next.ensures.count is)
-      | inr q ↦ later _ _ _ _ n lines q
+      | inl p ↦ no_head c.loop-self.invariant.skipped c.loop-self.invariant.lines (c.next.ensures.next is) spelled p.1 (p.0 ∙ c.next.ensures.count is)
+      | inr q ↦ cut_off (later _ _ _ _ n lines q)
     ]
 
 pub returns-in_err-order-clause-read : goal.returns-in_err-order-clause-read
