@@ -1,25 +1,45 @@
 -- Answers one after another, and what stands behind them.
-use Rattle.std.proofs.Common.{◌≡◌, ◌≢◌, ◌⊎◌, ℕ, List, [], ◌∷◌, ◌++◌, length, map, Option, Result, Ok, Err, inl, inr, refl, sym, ap, ◌∙◌, subst, append-nil}
+use Rattle.std.proofs.Common.{Global, zero, suc, ◌≡◌, ◌≢◌, ◌⊎◌, ℕ, List, [], ◌∷◌, ◌++◌, length, map, Option, Result, Ok, Err, inl, inr, refl, sym, ap, ◌∙◌, subst, append-nil}
 use Rattle.std.specs.Prelude.{IfErr, IsErrAnd}
 use Rattle.std.specs.Io.KnownBytes.{Appends}
 use Rattle.std.specs.List.{flat_map}
+use native.Mathlib.Omega.{arith}
 use Rattle.std.proofs.KnownBytes.{Appends-trans, Appends-nil, prepend_known-nil}
 use Rattle.orders.specs.Lines.{ahead, IsTooLong}
 use Rattle.orders.specs.Scripts.{AreOrders, IsNextOrder, no_order, next_order}
 use Rattle.std.proofs.lemmas.Grind.{flat_map-append}
 use Rattle.std.proofs.lemmas.List.{map-append}
+use Rattle.std.proofs.lemmas.List.Elements.{All-append}
+use Rattle.std.specs.Arc.{arc_value}
+use Rattle.std.specs.declared.sync.Arc.{Arc}
+use Rattle.book.specs.Kept.{lines}
 use Rattle.wb_text.specs.Memory.{AppendsFront}
 use Rattle.journal.specs.Lines.{Line}
 use Rattle.book.specs.Step.{Legal}
 use Rattle.book.specs.Workbench.{empty}
 use Rattle.book.specs.declared.limits.Limits.{Limits}
 use Rattle.report.proofs.Written.{front_of}
-use Rattle.scripts.specs.Serving.{Call, answer_text, entry_of, calls_text, entries_of, finish_text, bad_line_text, Closes, Tells, IsRead, IsServed, IsBadAt, IsReturnAt, SaysRoom, AllSayRoom, no_call, next_call}
+use Rattle.scripts.specs.Serving.{Call, answer_text, entry_of, calls_text, entries_of, finish_text, bad_line_text, Closes, Tells, TellsBadLine, IsRead, IsServed, IsBadAt, IsReturnAt, SaysRoom, AllSayRoom, GivesPiece, GivesNone, no_call, next_call}
 use Rattle.orders.specs.declared.fault.ServeFault.{ServeFault}
 use Rattle.orders.specs.declared.fault.ServeFault.TheVariants as faults
 
 flat_map-last : {X Y : Type 0} (f : X → List Y) (xs : List X) (x : X) → flat_map f (xs ++ x ∷ []) ≡ flat_map f xs ++ f x
 flat_map-last f xs x = flat_map-append f xs (x ∷ []) ∙ ap (λ l. flat_map f xs ++ l) (append-nil (f x))
+
+only_this : (claim : ℕ) (x : Line) → ¬ GivesPiece claim x → GivesNone claim (x ∷ [])
+only_this claim x this zero d less = this
+only_this claim x this (suc k) d less = absurd (omega (arith, less))
+
+-- none of the entries gives a piece, if the last doesn't and none before it
+pub none_of_all : (claim : ℕ) (entries before : List (Arc Line Global)) (last : Arc Line Global) → entries ≡ before ++ last ∷ [] → ¬ GivesPiece claim (arc_value last)
+    → GivesNone claim (lines before) → GivesNone claim (lines entries)
+none_of_all claim entries before last split this others =
+    let whole : lines entries ≡ lines before ++ arc_value last ∷ [] = ap lines split ∙ map-append arc_value before (last ∷ []) in
+    subst (GivesNone claim) (sym whole) (All-append (λ line. ¬ GivesPiece claim line) (lines before) (arc_value last ∷ []) others (only_this claim (arc_value last) this))
+
+pub none_of_none : (claim : ℕ) (entries : List (Arc Line Global)) → length entries ≡ 0 → GivesNone claim (lines entries)
+none_of_none claim [] is_empty k d less = absurd (omega (arith, less))
+none_of_none claim (x ∷ entries) is_empty k d less = absurd (omega (arith, is_empty))
 
 -- one answer more
 
@@ -58,11 +78,31 @@ read_at_err {end} P (Err e) calls is orders = record { end = end; orders = order
 pub from_start : {A : Type 0} {block : List ℕ} (left : Option (List ℕ)) (r : Result A ServeFault) (calls : List Call) → block ≡ [] → IsRead (ahead block left) r calls → IsRead left r calls
 from_start left r calls empty h = subst (λ script. IsRead script r calls) (ap (λ b. ahead b left) empty ∙ prepend_known-nil left) h
 
-pub line_from_start : {block : List ℕ} {count : ℕ} (left : Option (List ℕ)) (n : ℕ) → block ≡ [] → count ≡ 0
-    → IsBadAt (ahead block left) count n ⊎ IsReturnAt (ahead block left) count n → IsBadAt left 0 n ⊎ IsReturnAt left 0 n
-line_from_start {block} left n empty none h =
-    subst (λ script. IsBadAt script 0 n ⊎ IsReturnAt script 0 n) (ap (λ b. ahead b left) empty ∙ prepend_known-nil left)
-    (subst (λ m. IsBadAt (ahead block left) m n ⊎ IsReturnAt (ahead block left) m n) none h)
+pub line_from_start : {A B : Type 0} {block : List ℕ} {count : ℕ} (left : Option (List ℕ)) (r : Result A ServeFault) (s : Result B ServeFault) (calls : List Call) → block ≡ [] → count ≡ 0
+    → ((n : ℕ) → s ≡ Err (faults.BadLine n) → r ≡ Err (faults.BadLine n)) → TellsBadLine (ahead block left) count r calls → TellsBadLine left 0 s calls
+line_from_start {block} left r s calls empty none same h n e =
+    subst (λ script. IsBadAt script 0 n ⊎ IsReturnAt script 0 n (entries_of calls)) (ap (λ b. ahead b left) empty ∙ prepend_known-nil left)
+    (subst (λ m. IsBadAt (ahead block left) m n ⊎ IsReturnAt (ahead block left) m n (entries_of calls)) none (h n (same n e)))
+
+-- a result that tells no line
+
+abbrev pub IsNoLine : {A : Type 0} → Result A ServeFault → Type 0
+IsNoLine (Ok done) = Unit {0}
+IsNoLine (Err faults.Read) = Unit {0}
+IsNoLine (Err faults.Write) = Unit {0}
+IsNoLine (Err faults.NoMemory) = Unit {0}
+IsNoLine (Err (faults.BadLine line)) = ⊥
+
+pub no_bad_line_at : {A : Type 0} {script : Option (List ℕ)} {m : ℕ} (r : Result A ServeFault) (calls : List Call) → IsNoLine r → TellsBadLine script m r calls
+no_bad_line_at (Ok done) calls other n e = cc
+no_bad_line_at (Err faults.Read) calls other n e = cc
+no_bad_line_at (Err faults.Write) calls other n e = cc
+no_bad_line_at (Err faults.NoMemory) calls other n e = cc
+no_bad_line_at (Err (faults.BadLine line)) calls other n e = absurd other
+
+pub no_bad_line : {A : Type 0} {script : Option (List ℕ)} {m : ℕ} (r : Result A ServeFault) (calls : List Call) → IsErrAnd r (λ e. e ≡ faults.Write) → TellsBadLine script m r calls
+no_bad_line (Ok done) calls is n e = absurd is
+no_bad_line (Err fault) calls is n e = cc
 
 pub too_long_from_start : {P : Type 0} {block : List ℕ} {count : ℕ} (left : Option (List ℕ)) → block ≡ [] → count ≡ 0 → P ⊎ IsTooLong (ahead block left) count → P ⊎ IsTooLong left 0
 too_long_from_start {P} {block} left empty none h =
@@ -106,8 +146,8 @@ closes_bad_line n line (Err faults.NoMemory) is = cc
 
 -- the whole, from its parts
 pub served : {A : Type 0} (limits start kept : Limits) (journal : List Line) (calls : List Call) (script old new : Option (List ℕ)) (r : Result A ServeFault) (n : ℕ) (closing : List ℕ)
-    → Legal kept journal → kept ≡ start → start ≡ limits → journal ≡ entries_of calls → AllSayRoom start.journal calls → n ≡ length journal → Closes n r closing → Tells old new r (calls_text calls ++ closing) → IsRead script r calls → IsServed limits script old new r
-served limits start kept journal calls script old new r n closing legal kept_on same made room count closes told read =
+    → Legal kept journal → kept ≡ start → start ≡ limits → journal ≡ entries_of calls → AllSayRoom start.journal calls → n ≡ length journal → Closes n r closing → Tells old new r (calls_text calls ++ closing) → IsRead script r calls → TellsBadLine script 0 r calls → IsServed limits script old new r
+served limits start kept journal calls script old new r n closing legal kept_on same made room count closes told read line =
     let P : Limits → Type 0 = λ l. Legal l (entries_of calls) in
     let Q : List Line → Type 0 = λ l. Legal kept l in
     let R : Limits → Type 0 = λ l. AllSayRoom l.journal calls in
@@ -117,6 +157,7 @@ served limits start kept journal calls script old new r n closing legal kept_on 
       read = read;
       legal = subst P (kept_on ∙ same) (subst Q made legal);
       room = subst R same room;
+      line = line;
       closing = closing;
       closes = subst C (count ∙ ap length made) closes;
       told = told;
@@ -133,7 +174,7 @@ front_behind old mid new text closing done part =
 -- no memory for the script or the book
 pub unserved : {A : Type 0} (limits : Limits) (script held : Option (List ℕ)) (r : Result A ServeFault) → IsErrAnd r (λ e. e ≡ faults.NoMemory) → IsServed limits script held held r
 unserved limits script held (Ok done) is = absurd is
-unserved limits script held (Err faults.NoMemory) is = record { calls = []; read = record { end = script; orders = no_order; spent = tt }; legal = (empty limits, refl); room = no_call; closing = []; closes = refl; told = Appends-nil held }
+unserved limits script held (Err faults.NoMemory) is = record { calls = []; read = record { end = script; orders = no_order; spent = tt }; legal = (empty limits, refl); room = no_call; line = λ n e. cc; closing = []; closes = refl; told = Appends-nil held }
 unserved limits script held (Err faults.Read) is = cc
 unserved limits script held (Err faults.Write) is = cc
 unserved limits script held (Err (faults.BadLine line)) is = cc

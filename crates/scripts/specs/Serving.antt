@@ -1,9 +1,11 @@
 -- What becomes of a script.
-use Rattle.std.specs.Prelude.{◌≡◌, ◌<◌, ◌≤◌, ℕ, List, [], ◌∷◌, ◌++◌, length, map, Option, Result, Ok, Err, OnOk, codes, decimal, ◌⊎◌}
+use Rattle.std.specs.Prelude.{◌≡◌, ◌<◌, ◌≤◌, ℕ, List, [], ◌∷◌, ◌++◌, length, map, All, Option, Result, Ok, Err, OnOk, codes, decimal, ◌⊎◌}
 use Rattle.std.specs.Io.KnownBytes.{Appends}
 use Rattle.std.specs.List.{flat_map}
 use Rattle.wb_text.specs.Memory.{AppendsFront}
 use Rattle.journal.specs.Lines.{Line}
+use Rattle.journal.specs.declared.records.Reply.TheVariants.{Piece}
+use Rattle.slices.specs.Parts.{Portion}
 use Rattle.book.specs.Step.{Legal}
 use Rattle.book.specs.declared.kept.Refused.{Refused}
 use Rattle.book.specs.declared.kept.Refused.TheVariants.{JournalFull, NoMemory}
@@ -95,8 +97,16 @@ pub record IsBadAt (script : Option (List ℕ)) (m n : ℕ) : Type 0 where
   pub lines : AreLines script m end count
   pub bad : IsBadLine end count n
 
--- The line of number n is the last of an order to return a piece.
-pub record IsReturnAt (script : Option (List ℕ)) (m n : ℕ) : Type 0 where
+-- The entry gives the piece of this claim.
+abbrev pub GivesPiece : ℕ → Line → Type 0
+GivesPiece claim line = (piece : Portion) × (line.reply ≡ Piece piece) × (piece.claim ≡ claim)
+
+-- None of the entries does.
+abbrev pub GivesNone : ℕ → List Line → Type 0
+GivesNone claim entries = All (λ line. ¬ GivesPiece claim line) entries
+
+-- The line of number n is the last of an order to return a piece, and none of these entries gave it.
+pub record IsReturnAt (script : Option (List ℕ)) (m n : ℕ) (entries : List Line) : Type 0 where
   pub mid : Option (List ℕ)
   pub after : Option (List ℕ)
   pub count : ℕ
@@ -108,6 +118,11 @@ pub record IsReturnAt (script : Option (List ℕ)) (m n : ℕ) : Type 0 where
   pub next : IsNextOrder mid after order
   pub more : AreLines mid count after n
   pub returns : order.request ≡ Return claim
+  pub none : GivesNone claim entries
+
+-- A line is told as bad only where it is, or asks for a piece that none of the calls gave.
+abbrev pub TellsBadLine : {A : Type 0} → Option (List ℕ) → ℕ → Result A ServeFault → List Call → Type 0
+TellsBadLine script m result calls = (n : ℕ) → result ≡ Err (faults.BadLine n) → IsBadAt script m n ⊎ IsReturnAt script m n (entries_of calls)
 
 -- A script's calls made the journal of a book with these limits, and this was written of them.
 pub record IsServed {A : Type 0} (limits : Limits) (script old new : Option (List ℕ)) (result : Result A ServeFault) : Type 0 where
@@ -115,6 +130,7 @@ pub record IsServed {A : Type 0} (limits : Limits) (script old new : Option (Lis
   pub read : IsRead script result calls
   pub legal : Legal limits (entries_of calls)
   pub room : AllSayRoom limits.journal calls
+  pub line : TellsBadLine script 0 result calls
   pub closing : List ℕ
   pub closes : Closes (length (entries_of calls)) result closing
   pub told : Tells old new result (calls_text calls ++ closing)

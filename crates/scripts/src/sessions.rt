@@ -1,31 +1,23 @@
 //! The sessions of a script over one book.
 
-ghost use Rattle.std.specs.Prelude.{◌≡◌, ◌<◌, ◌+◌, ◌≤◌, ◌++◌, [], length, ℕ, IfOk, IfSome, OnErr, MatchBool};
+ghost use Rattle.std.specs.Prelude.{◌≡◌, ◌<◌, ◌+◌, ◌≤◌, ◌++◌, [], length, ℕ, All, IfOk, OnErr, MatchBool, MatchOption};
 ghost use Rattle.journal.specs.Lines.{seen};
 ghost use Rattle.book.specs.Step.{Legal};
 ghost use Rattle.journal.specs.declared.records.Said.{Said};
 ghost use Rattle.scripts.specs.Orders.{Asks, Answers, IfMade};
-ghost use Rattle.scripts.specs.Serving.{entry_of, SaysRoom};
+ghost use Rattle.scripts.specs.Serving.{entry_of, GivesNone, GivesPiece, SaysRoom};
 
 use crate::answer::{Answer, EntryRef};
-use book::{Book, Command, Limits, Refused, Reply};
+use book::{Book, Command, Entry, Limits, Refused, Reply};
 use orders::{Order, Request};
 use slices::{Piece, evaluate};
 use std::alloc::{AllocError, Global};
 
-/// A piece that a claim gave: the number of the claim, and the place of its entry in the journal.
-#[derive(Clone, Copy, Drop)]
-struct Given {
-    claim: u32,
-    place: u32,
-}
-
-/// A book, and the pieces that its claims gave. A piece is kept to the end, so that it can be returned twice.
+/// A book that the sessions of a script share. Its journal keeps each piece to the end, so that a result can be returned twice.
 #[derive(Drop)]
 pub struct Sessions {
     alloc: Global,
     book: Book,
-    given: Vec<Given>,
 }
 
 /// A result is to be returned of a piece that no claim gave.
@@ -41,7 +33,6 @@ impl Sessions {
         Ok(Sessions {
             alloc,
             book: Book::new(alloc, limits)?,
-            given: Vec::new(alloc),
         })
     }
 
@@ -61,7 +52,7 @@ impl Sessions {
         ensures room { IfOk result (SaysRoom self.old.book.limits.journal (length self.old.book.journal)) }
         ensures limits { self.new.book.limits ≡ self.old.book.limits }
         ensures same { OnErr result (self.new.book ≡ self.old.book) }
-        ensures none { OnErr result ((claim : ℕ) × (order.request ≡ Request.Return claim)) }
+        ensures none { OnErr result ((claim : ℕ) × (order.request ≡ Request.Return claim) × GivesNone claim self.old.book.journal) }
     {
         let Order { seat, request } = order;
         match request {
@@ -69,7 +60,7 @@ impl Sessions {
             Request::PutTest(text) => Ok(self.apply(seat, Command::PutTest(text))),
             Request::Ask(test, cat) => Ok(self.apply(seat, Command::Ask(test, cat))),
             Request::Poll(job) => Ok(self.apply(seat, Command::Poll(job))),
-            Request::Claim => Ok(self.claim(seat)),
+            Request::Claim => Ok(self.apply(seat, Command::Claim)),
             Request::Return(claim) => self.return_piece(seat, claim),
         }
     }
@@ -80,7 +71,6 @@ impl Sessions {
         ensures made { IfMade result (λ e. (e.seat ≡ seat) × (e.said ≡ seen command)) }
         ensures room { SaysRoom self.old.book.limits.journal (length self.old.book.journal) result }
         ensures limits { self.new.book.limits ≡ self.old.book.limits }
-        ensures given { self.new.given ≡ self.old.given }
     {
         match self.book.apply(seat, command) {
             Ok(entry) => Answer::Made(EntryRef::new(entry)),
@@ -97,30 +87,6 @@ impl Sessions {
         self.book.journal().len() >= self.book.limits().journal as usize
     }
 
-    /// Claims a piece, once there is room to keep it.
-    fn claim(&mut self, seat: u8) -> Answer
-        requires { seat < 8 }
-        ensures journal { self.new.book.journal ≡ self.old.book.journal ++ entry_of result }
-        ensures made { IfMade result (λ e. (e.seat ≡ seat) × (e.said ≡ Said.Claim)) }
-        ensures room { SaysRoom self.old.book.limits.journal (length self.old.book.journal) result }
-        ensures limits { self.new.book.limits ≡ self.old.book.limits }
-    {
-        if self.is_full() {
-            return Answer::NotTaken(Refused::JournalFull);
-        }
-        if self.given.try_reserve(1).is_err() {
-            return Answer::NotTaken(Refused::NoMemory);
-        }
-        let answer = self.apply(seat, Command::Claim);
-        if let Some(given) = given_by(&answer) {
-            match self.given.push(given) {
-                Ok(()) => {}
-                Err(_) => unreachable!(),
-            }
-        }
-        answer
-    }
-
     /// Evaluates the piece of a claim and returns the result.
     fn return_piece(&mut self, seat: u8, claim: u32) -> Result<Answer, NoPiece>
         requires { seat < 8 }
@@ -129,6 +95,7 @@ impl Sessions {
         ensures room { IfOk result (SaysRoom self.old.book.limits.journal (length self.old.book.journal)) }
         ensures limits { self.new.book.limits ≡ self.old.book.limits }
         ensures same { OnErr result (self.new.book ≡ self.old.book) }
+        ensures none { OnErr result (GivesNone claim self.old.book.journal) }
     {
         let Some(piece) = self.piece(claim) else {
             return Err(NoPiece);
@@ -142,32 +109,27 @@ impl Sessions {
         }
     }
 
-    /// The piece that a claim gave.
+    /// The piece that a claim gave. It is looked for from the last entry back, since most pieces are returned soon.
     fn piece(&self, claim: u32) -> Option<&Piece>
-        ensures { IfSome result (λ p. p.now.claim ≡ claim) }
+        ensures { MatchOption result (GivesNone claim self.now.book.journal) (λ p. p.now.claim ≡ claim) }
     {
-        let given = self.given.iter().find(|given| given.claim == claim)?;
-        let entry = self.book.journal().get(given.place as usize)?;
-        match entry.reply() {
-            Reply::Piece(piece) if piece.claim() == claim => Some(piece),
-            _ => None,
+        let mut entries = self.book.journal();
+        while let Some((last, before)) = entries.split_last() {
+            if let Some(piece) = piece_of(last, claim) {
+                return Some(piece);
+            }
+            entries = before;
         }
+        None
     }
 }
 
-/// The piece that an answer gives.
-fn given_by(answer: &Answer) -> Option<Given> {
-    match answer {
-        Answer::Made(entry) => {
-            let entry = entry.entry();
-            match entry.reply() {
-                Reply::Piece(piece) => Some(Given {
-                    claim: piece.claim(),
-                    place: entry.place(),
-                }),
-                _ => None,
-            }
-        }
-        Answer::NotTaken(_) => None,
+/// The piece that an entry gives, if it is this claim's.
+fn piece_of(entry: &Entry, claim: u32) -> Option<&Piece>
+    ensures { MatchOption result (¬ GivesPiece claim entry.now) (λ p. p.now.claim ≡ claim) }
+{
+    match entry.reply() {
+        Reply::Piece(piece) if piece.claim() == claim => Some(piece),
+        _ => None,
     }
 }

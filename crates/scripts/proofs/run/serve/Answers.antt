@@ -1,9 +1,8 @@
-use Rattle.std.proofs.Common.{◌≡◌, ◌∙◌, rules, refl, sym, ap, [], inl, Ok, Err}
+use Rattle.std.proofs.Common.{◌≡◌, ◌∙◌, rules, refl, ap, [], inl, Ok, Err}
 use Rattle.std.proofs.KnownBytes.{Appends-trans}
 use Rattle.scripts.specs.Serving.{calls_text, finish_text, bad_line_text}
 use Rattle.orders.specs.declared.fault.ServeFault.TheVariants as faults
-use Rattle.orders.proofs.Counted.{same_number}
-use Rattle.scripts.proofs.Served.{served, unserved, from_start, line_from_start, too_long_from_start, still_read, tells_part, closes_finish, closes_bad_line, front_behind, tells_nothing_more, told_as}
+use Rattle.scripts.proofs.Served.{served, unserved, from_start, line_from_start, too_long_from_start, still_read, no_bad_line, no_bad_line_at, tells_part, closes_finish, closes_bad_line, front_behind, tells_nothing_more, told_as}
 use Rattle.scripts.proofs.run.serve.Goals as goal
 
 pub returns-in_err-script-clause-served : goal.returns-in_err-script-clause-served
@@ -21,6 +20,7 @@ returns-in_err-write_finish-in-Ok-clause-served g c =
     c.entry_count-entries.ensures.count (closes_finish c.entry_count-entries.result c.from_residual-in_err-write_finish-in-Ok.result c.from_residual-in_err-write_finish-in-Ok.ensures.1)
     (tells_part _ _ c.from_residual-in_err-write_finish-in-Ok.result _ c.from_residual-in_err-write_finish-in-Ok.ensures.1 (front_behind _ _ _ (calls_text told.0) (finish_text c.entry_count-entries.result) told.2 c.in_err-write_finish-in-Ok.ensures.0))
     (from_start (g.R.Source.left c.args.reader.now) c.from_residual-in_err-write_finish-in-Ok.result told.0 c.in_ok-script.ensures.block (still_read _ c.from_residual-in_err-write_finish-in-Ok.result told.0 c.from_residual-in_err-write_finish-in-Ok.ensures.1 told.3))
+    (no_bad_line c.from_residual-in_err-write_finish-in-Ok.result told.0 c.from_residual-in_err-write_finish-in-Ok.ensures.1)
 
 pub returns-in-Ok-clause-served : goal.returns-in-Ok-clause-served
 returns-in-Ok-clause-served g c =
@@ -31,6 +31,7 @@ returns-in-Ok-clause-served g c =
     c.entry_count-entries.ensures.count refl
     (Appends-trans _ _ _ _ _ told.2 c.in_ok-write_finish-in-Ok.ensures)
     (from_start (g.R.Source.left c.args.reader.now) (Ok tt) told.0 c.in_ok-script.ensures.block (record { end = told.3.end; orders = told.3.orders; spent = told.3.spent }))
+    (no_bad_line_at (Ok tt) told.0 tt)
 
 pub returns-in_err-write_bad_line-in-Err-BadLine-clause-served : goal.returns-in_err-write_bad_line-in-Err-BadLine-clause-served
 returns-in_err-write_bad_line-in-Err-BadLine-clause-served g c =
@@ -43,6 +44,7 @@ returns-in_err-write_bad_line-in-Err-BadLine-clause-served g c =
     c.entry_count-entries.ensures.count (closes_bad_line c.entry_count-entries.result c.in-Err-BadLine.line c.from_residual-in_err-write_bad_line-in-Err-BadLine.result c.from_residual-in_err-write_bad_line-in-Err-BadLine.ensures.1)
     (tells_part _ _ c.from_residual-in_err-write_bad_line-in-Err-BadLine.result _ c.from_residual-in_err-write_bad_line-in-Err-BadLine.ensures.1 (front_behind _ _ _ (calls_text told.0) (bad_line_text c.in-Err-BadLine.line) whole c.in_err-write_bad_line-in-Err-BadLine.ensures.0))
     (from_start (g.R.Source.left c.args.reader.now) c.from_residual-in_err-write_bad_line-in-Err-BadLine.result told.0 c.in_ok-script.ensures.block (still_read _ c.from_residual-in_err-write_bad_line-in-Err-BadLine.result told.0 c.from_residual-in_err-write_bad_line-in-Err-BadLine.ensures.1 told.3))
+    (no_bad_line c.from_residual-in_err-write_bad_line-in-Err-BadLine.result told.0 c.from_residual-in_err-write_bad_line-in-Err-BadLine.ensures.1)
 
 pub returns-in-Err-BadLine-clause-served : goal.returns-in-Err-BadLine-clause-served
 returns-in-Err-BadLine-clause-served g c =
@@ -55,6 +57,7 @@ returns-in-Err-BadLine-clause-served g c =
     c.entry_count-entries.ensures.count refl
     (Appends-trans _ _ _ _ _ whole c.in_ok-write_bad_line-in-Err-BadLine.ensures)
     (from_start (g.R.Source.left c.args.reader.now) (Err (faults.BadLine c.in-Err-BadLine.line)) told.0 c.in_ok-script.ensures.block (still_read (λ e. e ≡ e) (Err (faults.BadLine c.in-Err-BadLine.line)) told.0 refl told.3))
+    (line_from_start (g.R.Source.left c.args.reader.now) _ (Err (faults.BadLine c.in-Err-BadLine.line)) told.0 c.in_ok-script.ensures.block c.in_ok-script.ensures.count (λ n e. c.in-Err-BadLine.is ∙ ap Err fault ∙ e) told.5)
 
 pub returns-in-Err-Read-clause-served : goal.returns-in-Err-Read-clause-served
 returns-in-Err-Read-clause-served g c =
@@ -67,6 +70,7 @@ returns-in-Err-Read-clause-served g c =
     c.entry_count-entries.ensures.count refl
     (tells_nothing_more {A = Unit {0}} _ _ (Err faults.Read) (calls_text told.0) whole)
     (from_start (g.R.Source.left c.args.reader.now) (Err faults.Read) told.0 c.in_ok-script.ensures.block (still_read (λ e. e ≡ e) (Err faults.Read) told.0 refl told.3))
+    (no_bad_line_at (Err faults.Read) told.0 tt)
 
 pub returns-in-Err-Write-clause-served : goal.returns-in-Err-Write-clause-served
 returns-in-Err-Write-clause-served g c =
@@ -79,6 +83,7 @@ returns-in-Err-Write-clause-served g c =
     c.entry_count-entries.ensures.count (inl refl)
     (tells_nothing_more {A = Unit {0}} _ _ (Err faults.Write) (calls_text told.0) whole)
     (from_start (g.R.Source.left c.args.reader.now) (Err faults.Write) told.0 c.in_ok-script.ensures.block (still_read (λ e. e ≡ e) (Err faults.Write) told.0 refl told.3))
+    (no_bad_line_at (Err faults.Write) told.0 tt)
 
 pub returns-clause-served : goal.returns-clause-served
 returns-clause-served g c =
@@ -91,13 +96,7 @@ returns-clause-served g c =
     c.entry_count-entries.ensures.count refl
     (tells_nothing_more {A = Unit {0}} _ _ (Err faults.NoMemory) (calls_text told.0) whole)
     (from_start (g.R.Source.left c.args.reader.now) (Err faults.NoMemory) told.0 c.in_ok-script.ensures.block (still_read (λ e. e ≡ e) (Err faults.NoMemory) told.0 refl told.3))
-
-pub returns-in-Err-BadLine-clause-line : goal.returns-in-Err-BadLine-clause-line
-returns-in-Err-BadLine-clause-line g c n e =
-    let fault : c.in-Err-BadLine.field-0 ≡ faults.BadLine c.in-Err-BadLine.line = search rules in
-    let same = same_number (Err (faults.BadLine c.in-Err-BadLine.line)) c.in-Err-BadLine.line n refl e in
-    line_from_start (g.R.Source.left c.args.reader.now) n c.in_ok-script.ensures.block c.in_ok-script.ensures.count
-    (c.answer_all-outcome.ensures.line n (c.in-Err-BadLine.is ∙ ap Err (fault ∙ ap faults.BadLine (sym same))))
+    (no_bad_line_at (Err faults.NoMemory) told.0 tt)
 
 pub returns-in-Err-Read-clause-read : goal.returns-in-Err-Read-clause-read
 returns-in-Err-Read-clause-read g c e =
