@@ -3,144 +3,141 @@
 //! Each test passes, too, where one request for memory is refused, whichever it is: a refused call has left things as they
 //! were and is made again. So `tools/refuse-each-growth base_tests` runs them once for each request.
 
-use crate::executions::graphs::event;
-use crate::executions::store_buffering;
-use events::{Access, EventId, Graph, GraphView, Order, RelName, Run};
+use crate::executions::graphs::{event, shows};
+use crate::executions::{SEEN_OF_WEAK, WEAK};
+use crate::text::{Found, are};
+use events::{Access, Order, Run};
 use std::alloc::{AllocError, Global};
-use std::test::Fail;
-use wb_text::{Dialect, MemSink, MemSource, Name, ReadFault, Token, TokenKind, read_up_to, tokens};
+use std::process::Abort;
+use wb_text::TokenKind::{Sign, Word};
+use wb_text::{Dialect, MemSink, MemSource, Name, read_up_to, tokens};
 
-fn name(alloc: Global, bytes: &[u8]) -> Result<Name, Fail> {
-    match Name::new(alloc, bytes) {
-        Ok(name) => Ok(name),
-        Err(_) => Ok(Name::new(alloc, bytes)?),
+/// Makes the call, and makes it again if it is refused.
+macro_rules! again {
+    ($call:expr) => {
+        match $call {
+            Ok(made) => Ok(made),
+            Err(_) => $call,
+        }
+    };
+}
+
+/// Are these bytes a name?
+fn is_name(alloc: Global, bytes: &[u8]) -> bool {
+    match again!(Name::new(alloc, bytes)) {
+        Ok(name) => name.bytes() == bytes,
+        Err(_) => false,
     }
 }
 
 #[test]
-fn a_name(rt: HostRuntime) -> Result<(), Fail> {
-    let name = name(rt.alloc(), b"rc11.cat")?;
-    assert!(rt; name.bytes() == b"rc11.cat".as_slice());
-    Ok(())
+fn a_name(rt: HostRuntime) {
+    assert!(rt; is_name(rt.alloc(), b"rc11.cat"));
 }
 
-#[test]
-fn a_copied_name(rt: HostRuntime) -> Result<(), Fail> {
-    let name = name(rt.alloc(), b"SB")?;
-    let copy = match name.copy() {
-        Ok(copy) => copy,
-        Err(_) => name.copy()?,
-    };
-    assert!(rt; copy.bytes() == b"SB".as_slice());
-    Ok(())
-}
-
-fn head(alloc: Global) -> Result<Vec<Token>, Fail> {
-    match tokens(alloc, b"C SB\n{", Dialect::Litmus) {
-        Ok(found) => Ok(found),
-        Err(_) => Ok(tokens(alloc, b"C SB\n{", Dialect::Litmus)?),
+/// Has the name's copy these bytes?
+fn is_copied(name: &Name, bytes: &[u8]) -> bool {
+    match again!(name.copy()) {
+        Ok(copy) => copy.bytes() == bytes,
+        Err(_) => false,
     }
 }
 
-fn token(kind: TokenKind, from: usize, to: usize) -> Token {
-    Token { kind, from, to }
+/// Are these bytes a name, and its copy's?
+fn is_copied_name(alloc: Global, bytes: &[u8]) -> bool {
+    match again!(Name::new(alloc, bytes)) {
+        Ok(name) => is_copied(&name, bytes),
+        Err(_) => false,
+    }
 }
 
 #[test]
-fn tokens_of_a_text(rt: HostRuntime) -> Result<(), Fail> {
-    let expected = [
-        token(TokenKind::Word, 0, 1),
-        token(TokenKind::Word, 2, 4),
-        token(TokenKind::Sign, 5, 6),
-    ];
-    assert!(rt; head(rt.alloc())?.as_slice() == expected.as_slice());
-    Ok(())
+fn a_copied_name(rt: HostRuntime) {
+    assert!(rt; is_copied_name(rt.alloc(), b"SB"));
 }
 
-fn all_bytes(alloc: Global) -> Result<Vec<u8>, ReadFault> {
-    read_up_to(alloc, &mut MemSource::new(b"abcd", false), 10)
-}
-
-#[test]
-fn bytes_of_a_source(rt: HostRuntime) -> Result<(), Fail> {
-    let bytes = match all_bytes(rt.alloc()) {
-        Ok(bytes) => bytes,
-        Err(_) => all_bytes(rt.alloc())?,
-    };
-    assert!(rt; bytes.as_slice() == b"abcd".as_slice());
-    Ok(())
+/// Has the text just these tokens?
+fn has(alloc: Global, text: &[u8], expected: &[Found]) -> bool {
+    match again!(tokens(alloc, text, Dialect::Litmus)) {
+        Ok(found) => are(&found, expected),
+        Err(_) => false,
+    }
 }
 
 #[test]
-fn a_sink(rt: HostRuntime) -> Result<(), Fail> {
-    let sink = match MemSink::new(rt.alloc(), 3) {
-        Ok(sink) => sink,
-        Err(_) => MemSink::new(rt.alloc(), 3)?,
-    };
-    assert!(rt; sink.bytes().is_empty());
-    Ok(())
+fn tokens_of_a_text(rt: HostRuntime) {
+    assert!(rt;
+        has(
+            rt.alloc(),
+            b"C SB\n{",
+            &[(Word, 0, 1), (Word, 2, 4), (Sign, 5, 6)]
+        )
+    );
+}
+
+/// Are these bytes read from a source of them?
+fn is_read(alloc: Global, bytes: &[u8]) -> bool {
+    match again!(read_up_to(alloc, &mut MemSource::new(bytes, false), 10)) {
+        Ok(read) => read.as_slice() == bytes,
+        Err(_) => false,
+    }
+}
+
+#[test]
+fn bytes_of_a_source(rt: HostRuntime) {
+    assert!(rt; is_read(rt.alloc(), b"abcd"));
+}
+
+/// Does a sink begin with no bytes?
+fn begins_empty(alloc: Global) -> bool {
+    match again!(MemSink::new(alloc, 3)) {
+        Ok(sink) => sink.bytes().is_empty(),
+        Err(_) => false,
+    }
+}
+
+#[test]
+fn a_sink(rt: HostRuntime) {
+    assert!(rt; begins_empty(rt.alloc()));
 }
 
 fn pushed(run: &mut Run) -> Result<(), AllocError> {
     run.push(event(0, Access::Write, 0, 1, Order::Rlx))
 }
 
-/// A run of two events.
-fn two_events(alloc: Global) -> Result<Run, Fail> {
-    let mut run = Run::new(Vec::new(alloc), Vec::new(alloc));
-    for place in 0..2usize {
-        if pushed(&mut run).is_err() {
-            if run.events().len() != place {
-                return Err(Fail::new("a refused event is there"));
-            }
-            pushed(&mut run)?;
+/// Adds this many events. A refused one isn't there, and is added then.
+fn grow(rt: &impl Abort, run: &mut Run, count: usize) {
+    for place in 0..count {
+        if pushed(run).is_err() {
+            assert!(rt; run.events().len() == place, "a refused event is there");
+            assert!(rt; pushed(run).is_ok());
         }
     }
-    Ok(run)
 }
 
 #[test]
-fn an_event_of_a_run(rt: HostRuntime) -> Result<(), Fail> {
-    let run = two_events(rt.alloc())?;
+fn an_event_of_a_run(rt: HostRuntime) {
+    let mut run = Run::new(Vec::new(rt.alloc()), Vec::new(rt.alloc()));
+    grow(&rt, &mut run, 2);
     assert!(rt; run.events().len() == 2);
-    Ok(())
 }
 
-#[test]
-fn a_copied_run(rt: HostRuntime) -> Result<(), Fail> {
-    let run = two_events(rt.alloc())?;
-    let copy = match run.copy() {
-        Ok(copy) => copy,
-        Err(_) => run.copy()?,
-    };
-    assert!(rt; copy.events().len() == 2);
-    Ok(())
-}
-
-fn weak(alloc: Global) -> Result<Option<Graph>, AllocError> {
-    let sources = [EventId::Initial(1), EventId::Initial(0)];
-    match store_buffering(alloc, [0, 0], sources) {
-        Ok(graph) => Ok(graph),
-        Err(_) => store_buffering(alloc, [0, 0], sources),
+/// Has the run's copy this many events?
+fn is_copied_run(run: &Run, count: usize) -> bool {
+    match again!(run.copy()) {
+        Ok(copy) => copy.events().len() == count,
+        Err(_) => false,
     }
 }
 
-/// Does P0 read the initial write of y, of six events?
-fn reads_the_initial_write(alloc: Global, graph: &Graph) -> Result<bool, AllocError> {
-    let view = GraphView::of(alloc, graph)?;
-    let rf = view.rel(RelName::Rf);
-    Ok(rf.count() == 6 && rf.contains(1, 3))
+#[test]
+fn a_copied_run(rt: HostRuntime) {
+    let mut run = Run::new(Vec::new(rt.alloc()), Vec::new(rt.alloc()));
+    grow(&rt, &mut run, 2);
+    assert!(rt; is_copied_run(&run, 2));
 }
 
 #[test]
-fn a_view(rt: HostRuntime) -> Result<(), Fail> {
-    let Some(graph) = weak(rt.alloc())? else {
-        return Err(Fail::new("no graph"));
-    };
-    let reads = match reads_the_initial_write(rt.alloc(), &graph) {
-        Ok(reads) => reads,
-        Err(_) => reads_the_initial_write(rt.alloc(), &graph)?,
-    };
-    assert!(rt; reads);
-    Ok(())
+fn a_view(rt: HostRuntime) {
+    assert!(rt; again!(shows(rt.alloc(), WEAK, SEEN_OF_WEAK)) == Ok(true));
 }

@@ -1,325 +1,428 @@
 //! Tests of what no clause says, and of each call once.
 
+use Told::{Fault, NoFault, Tokens};
+use std::alloc::{AllocError, Global};
 use std::io;
 use std::io::{ErrorKind, Read, Write};
-use std::test::Fail;
+use std::process::Abort;
+use wb_text::Dialect::{Cat, Litmus};
+use wb_text::TextFault::{BadByte, NotAscii, NumberTooBig, OpenComment, OpenString, TooLong};
+use wb_text::TokenKind::{Number, Quoted, Sign, Word};
 use wb_text::{
     Dialect, Failed, MemSink, MemSource, Name, NameFault, ReadFault, ReadSource, Sink, Source,
     TextFault, Token, TokenKind, WriteSink, decimal, give_all, read_up_to, tokens,
 };
 
-fn token(kind: TokenKind, from: usize, to: usize) -> Token {
-    Token { kind, from, to }
+/// What is to be found of a token: its kind, where it starts, and where it ends.
+pub type Found = (TokenKind, usize, usize);
+
+/// What is to be told of a text: just these tokens, any tokens, or a fault.
+enum Told {
+    Tokens(&'static [Found]),
+    NoFault,
+    Fault(TextFault),
 }
 
-fn word(from: usize, to: usize) -> Token {
-    token(TokenKind::Word, from, to)
+/// A text of a dialect, and what is to be told of it.
+type Row = (Dialect, &'static [u8], Told);
+
+/// Are the tokens just those?
+pub fn are(tokens: &[Token], expected: &[Found]) -> bool {
+    if tokens.len() != expected.len() {
+        return false;
+    }
+    for (place, (kind, from, to)) in expected.iter().enumerate() {
+        let token = tokens[place];
+        if token.kind != *kind || token.from != *from || token.to != *to {
+            return false;
+        }
+    }
+    true
 }
 
-fn name(from: usize, to: usize) -> Token {
-    token(TokenKind::Name, from, to)
-}
-
-fn number(from: usize, to: usize) -> Token {
-    token(TokenKind::Number, from, to)
-}
-
-fn quoted(from: usize, to: usize) -> Token {
-    token(TokenKind::Quoted, from, to)
-}
-
-fn sign(from: usize, to: usize) -> Token {
-    token(TokenKind::Sign, from, to)
-}
-
-fn has(rt: &HostRuntime, text: &[u8], dialect: Dialect, expected: &[Token]) -> bool {
-    match tokens(rt.alloc(), text, dialect) {
-        Ok(found) => found.as_slice() == expected,
-        Err(_) => false,
+/// Is just that told of the text?
+fn is_told(alloc: Global, dialect: Dialect, text: &[u8], told: &Told) -> bool {
+    match (tokens(alloc, text, dialect), told) {
+        (Ok(found), Tokens(expected)) => are(&found, expected),
+        (Ok(_), NoFault) => true,
+        (Err(fault), Fault(expected)) => fault == *expected,
+        _ => false,
     }
 }
 
-fn litmus(rt: &HostRuntime, text: &[u8], expected: &[Token]) -> bool {
-    has(rt, text, Dialect::Litmus, expected)
+/// Fails at the first text of which something else is told.
+fn all_told(rt: &impl Abort, alloc: Global, rows: &[Row]) {
+    for (dialect, text, told) in rows {
+        assert!(rt; is_told(alloc, *dialect, text, told), "{text:?}");
+    }
 }
 
-fn cat(rt: &HostRuntime, text: &[u8], expected: &[Token]) -> bool {
-    has(rt, text, Dialect::Cat, expected)
+const HEADS: &[Row] = &[
+    (Litmus, b"", Tokens(&[])),
+    (Litmus, b" (* no run *) // here\n", Tokens(&[])),
+    (Litmus, b"C SB", Tokens(&[(Word, 0, 1), (Word, 2, 4)])),
+    (
+        Litmus,
+        b"C SB\n{}",
+        Tokens(&[(Word, 0, 1), (Word, 2, 4), (Sign, 5, 6), (Sign, 6, 7)]),
+    ),
+    (Litmus, b"C SB{}", Tokens(&[(Word, 0, 1), (Word, 2, 6)])),
+    (
+        Litmus,
+        b"(*a*)C(*b*)/*c*/ \x01 {",
+        Tokens(&[(Word, 5, 16), (Word, 17, 18), (Sign, 19, 20)]),
+    ),
+    (
+        Litmus,
+        b"C (*b*)/*c*/ SB{ {",
+        Tokens(&[(Word, 0, 1), (Word, 13, 16), (Sign, 17, 18)]),
+    ),
+];
+
+#[test]
+fn heads(rt: HostRuntime) {
+    all_told(&rt, rt.alloc(), HEADS);
 }
 
-fn fault(rt: &HostRuntime, text: &[u8], dialect: Dialect) -> Option<TextFault> {
-    match tokens(rt.alloc(), text, dialect) {
+const ONE_WORD: &[Row] = &[
+    (Litmus, b"C\nSB {", Tokens(&[(Word, 0, 1), (Sign, 5, 6)])),
+    (
+        Litmus,
+        b"C (*\n*) SB {",
+        Tokens(&[(Word, 0, 1), (Sign, 11, 12)]),
+    ),
+    (
+        Litmus,
+        b"C // SB\nSB {",
+        Tokens(&[(Word, 0, 1), (Sign, 11, 12)]),
+    ),
+    (Litmus, b"C \t\r(* *)", Tokens(&[(Word, 0, 1)])),
+    (Litmus, b"C\n\"{\" {", Tokens(&[(Word, 0, 1), (Sign, 6, 7)])),
+];
+
+#[test]
+fn one_word_on_the_line(rt: HostRuntime) {
+    all_told(&rt, rt.alloc(), ONE_WORD);
+}
+
+const INFORMATION: &[Row] = &[
+    (
+        Litmus,
+        b"C T (*{(*{*){*) \"{(*\" /*{*/ //{\"(*\n \xff } ; & {",
+        Tokens(&[(Word, 0, 1), (Word, 2, 3), (Sign, 44, 45)]),
+    ),
+    (Litmus, b"C T (* { ", Fault(OpenComment)),
+    (Litmus, b"C T /*/ { ", Fault(OpenComment)),
+    (Litmus, b"C T \" { ", Fault(OpenString)),
+];
+
+#[test]
+fn information(rt: HostRuntime) {
+    all_told(&rt, rt.alloc(), INFORMATION);
+}
+
+const BODIES: &[Row] = &[
+    (
+        Litmus,
+        b"C T {a_1 12ab \"(*\" ===",
+        Tokens(&[
+            (Word, 0, 1),
+            (Word, 2, 3),
+            (Sign, 4, 5),
+            (TokenKind::Name, 5, 8),
+            (Number, 9, 11),
+            (TokenKind::Name, 11, 13),
+            (Quoted, 14, 18),
+            (Sign, 19, 21),
+            (Sign, 21, 22),
+        ]),
+    ),
+    (
+        Litmus,
+        b"C T {=>!=!&&||/\\\\/(*)*)(x:",
+        Tokens(&[
+            (Word, 0, 1),
+            (Word, 2, 3),
+            (Sign, 4, 5),
+            (Sign, 5, 7),
+            (Sign, 7, 9),
+            (Sign, 9, 10),
+            (Sign, 10, 12),
+            (Sign, 12, 14),
+            (Sign, 14, 16),
+            (Sign, 16, 18),
+            (Sign, 23, 24),
+            (TokenKind::Name, 24, 25),
+            (Sign, 25, 26),
+        ]),
+    ),
+    (
+        Litmus,
+        b"C T {}[]);,*~/*{*///}",
+        Tokens(&[
+            (Word, 0, 1),
+            (Word, 2, 3),
+            (Sign, 4, 5),
+            (Sign, 5, 6),
+            (Sign, 6, 7),
+            (Sign, 7, 8),
+            (Sign, 8, 9),
+            (Sign, 9, 10),
+            (Sign, 10, 11),
+            (Sign, 11, 12),
+            (Sign, 12, 13),
+        ]),
+    ),
+];
+
+#[test]
+fn bodies(rt: HostRuntime) {
+    all_told(&rt, rt.alloc(), BODIES);
+}
+
+const CAT_MODELS: &[Row] = &[
+    (
+        Cat,
+        b"po-loc rf^-1;a.b++ 0(*)*)|",
+        Tokens(&[
+            (TokenKind::Name, 0, 6),
+            (TokenKind::Name, 7, 9),
+            (Sign, 9, 12),
+            (Sign, 12, 13),
+            (TokenKind::Name, 13, 16),
+            (Sign, 16, 18),
+            (Number, 19, 20),
+            (Sign, 25, 26),
+        ]),
+    ),
+    (
+        Cat,
+        b"\"x\"()[]{},=|;\\&*~+?",
+        Tokens(&[
+            (Quoted, 0, 3),
+            (Sign, 3, 4),
+            (Sign, 4, 5),
+            (Sign, 5, 6),
+            (Sign, 6, 7),
+            (Sign, 7, 8),
+            (Sign, 8, 9),
+            (Sign, 9, 10),
+            (Sign, 10, 11),
+            (Sign, 11, 12),
+            (Sign, 12, 13),
+            (Sign, 13, 14),
+            (Sign, 14, 15),
+            (Sign, 15, 16),
+            (Sign, 16, 17),
+            (Sign, 17, 18),
+            (Sign, 18, 19),
+        ]),
+    ),
+    (Cat, b"a /* b */", Fault(BadByte)),
+    (Cat, b"a ^- 1", Fault(BadByte)),
+];
+
+#[test]
+fn cat_models(rt: HostRuntime) {
+    all_told(&rt, rt.alloc(), CAT_MODELS);
+}
+
+const FAULTS: &[Row] = &[
+    (Litmus, b"C T {\xff", Fault(NotAscii)),
+    (Litmus, b"C\xc3\xa9 T {", Fault(NotAscii)),
+    (Litmus, b"C T\xff {", Fault(NotAscii)),
+    (Litmus, b"C T {#", Fault(BadByte)),
+    (Litmus, b"C T {\x01", Fault(BadByte)),
+    (Litmus, b"C T {&", Fault(BadByte)),
+    (Litmus, b"C T { /* *", Fault(OpenComment)),
+    (Cat, b"\"a\xffb\"", Fault(NotAscii)),
+    (Cat, b"(*\xff*)", NoFault),
+    (Cat, b"(* (* *) ", Fault(OpenComment)),
+    (Cat, b"(*)\xff", Fault(OpenComment)),
+    (Cat, b"\"\xff", Fault(OpenString)),
+    (Cat, b"2147483647", NoFault),
+    (Cat, b"0002147483647", NoFault),
+    (Cat, b"2147483648", Fault(NumberTooBig)),
+    (Cat, b"99999999999999999999999999 #", Fault(NumberTooBig)),
+    (Cat, b"# \xff", Fault(BadByte)),
+];
+
+#[test]
+fn faults(rt: HostRuntime) {
+    all_told(&rt, rt.alloc(), FAULTS);
+}
+
+/// Is that told of 65536 spaces and then this end?
+fn is_told_of_spaces(alloc: Global, end: &[u8], told: &Told) -> Result<bool, AllocError> {
+    let mut text = vec![in alloc; b' '; 65536]?;
+    text.extend_from_slice(end)?;
+    Ok(is_told(alloc, Cat, &text, told))
+}
+
+#[test]
+fn longest_text(rt: HostRuntime) {
+    assert!(rt;
+        is_told_of_spaces(rt.alloc(), b"", &Tokens(&[])) == Ok(true)
+            && is_told_of_spaces(rt.alloc(), b"#", &Fault(TooLong)) == Ok(true)
+    );
+}
+
+/// Bytes, and why they are no name, if they are none.
+const NAMES: [(&[u8], Option<NameFault>); 6] = [
+    (&[b'a'; 64], None),
+    (b"", Some(NameFault::BadName)),
+    (&[b'a'; 65], Some(NameFault::BadName)),
+    (b"a b", Some(NameFault::BadName)),
+    (b"a\x7f", Some(NameFault::BadName)),
+    (b"\xff", Some(NameFault::BadName)),
+];
+
+/// Why the bytes are no name, if they are none.
+fn name_fault(alloc: Global, bytes: &[u8]) -> Option<NameFault> {
+    match Name::new(alloc, bytes) {
         Ok(_) => None,
         Err(fault) => Some(fault),
     }
 }
 
-#[test]
-fn heads(rt: HostRuntime) {
-    let pair = [word(0, 1), word(2, 4)];
-    assert!(rt; litmus(&rt, b"", &[]));
-    assert!(rt; litmus(&rt, b" (* no run *) // here\n", &[]));
-    assert!(rt; litmus(&rt, b"C SB", &pair));
-    assert!(rt;
-        litmus(
-            &rt,
-            b"C SB\n{}",
-            &[word(0, 1), word(2, 4), sign(5, 6), sign(6, 7)]
-        )
-    );
-    assert!(rt; litmus(&rt, b"C SB{}", &[word(0, 1), word(2, 6)]));
-    assert!(rt;
-        litmus(
-            &rt,
-            b"(*a*)C(*b*)/*c*/ \x01 {",
-            &[word(5, 16), word(17, 18), sign(19, 20)]
-        )
-    );
-    assert!(rt;
-        litmus(
-            &rt,
-            b"C (*b*)/*c*/ SB{ {",
-            &[word(0, 1), word(13, 16), sign(17, 18)]
-        )
-    );
-}
-
-#[test]
-fn one_word_on_the_line(rt: HostRuntime) {
-    assert!(rt; litmus(&rt, b"C\nSB {", &[word(0, 1), sign(5, 6)]));
-    assert!(rt; litmus(&rt, b"C (*\n*) SB {", &[word(0, 1), sign(11, 12)]));
-    assert!(rt; litmus(&rt, b"C // SB\nSB {", &[word(0, 1), sign(11, 12)]));
-    assert!(rt; litmus(&rt, b"C \t\r(* *)", &[word(0, 1)]));
-    assert!(rt; litmus(&rt, b"C\n\"{\" {", &[word(0, 1), sign(6, 7)]));
-}
-
-#[test]
-fn information(rt: HostRuntime) {
-    let text = b"C T (*{(*{*){*) \"{(*\" /*{*/ //{\"(*\n \xff } ; & {";
-    assert!(rt; litmus(&rt, text, &[word(0, 1), word(2, 3), sign(44, 45)]));
-    assert!(rt; fault(&rt, b"C T (* { ", Dialect::Litmus) == Some(TextFault::OpenComment));
-    assert!(rt; fault(&rt, b"C T /*/ { ", Dialect::Litmus) == Some(TextFault::OpenComment));
-    assert!(rt; fault(&rt, b"C T \" { ", Dialect::Litmus) == Some(TextFault::OpenString));
-}
-
-#[test]
-fn bodies(rt: HostRuntime) {
-    assert!(rt;
-        litmus(
-            &rt,
-            b"C T {a_1 12ab \"(*\" ===",
-            &[
-                word(0, 1),
-                word(2, 3),
-                sign(4, 5),
-                name(5, 8),
-                number(9, 11),
-                name(11, 13),
-                quoted(14, 18),
-                sign(19, 21),
-                sign(21, 22),
-            ]
-        )
-    );
-    assert!(rt;
-        litmus(
-            &rt,
-            b"C T {=>!=!&&||/\\\\/(*)*)(x:",
-            &[
-                word(0, 1),
-                word(2, 3),
-                sign(4, 5),
-                sign(5, 7),
-                sign(7, 9),
-                sign(9, 10),
-                sign(10, 12),
-                sign(12, 14),
-                sign(14, 16),
-                sign(16, 18),
-                sign(23, 24),
-                name(24, 25),
-                sign(25, 26),
-            ]
-        )
-    );
-    assert!(rt;
-        litmus(
-            &rt,
-            b"C T {}[]);,*~/*{*///}",
-            &[
-                word(0, 1),
-                word(2, 3),
-                sign(4, 5),
-                sign(5, 6),
-                sign(6, 7),
-                sign(7, 8),
-                sign(8, 9),
-                sign(9, 10),
-                sign(10, 11),
-                sign(11, 12),
-                sign(12, 13),
-            ]
-        )
-    );
-}
-
-#[test]
-fn cat_models(rt: HostRuntime) {
-    assert!(rt;
-        cat(
-            &rt,
-            b"po-loc rf^-1;a.b++ 0(*)*)|",
-            &[
-                name(0, 6),
-                name(7, 9),
-                sign(9, 12),
-                sign(12, 13),
-                name(13, 16),
-                sign(16, 18),
-                number(19, 20),
-                sign(25, 26),
-            ]
-        )
-    );
-    assert!(rt;
-        cat(
-            &rt,
-            b"\"x\"()[]{},=|;\\&*~+?",
-            &[
-                quoted(0, 3),
-                sign(3, 4),
-                sign(4, 5),
-                sign(5, 6),
-                sign(6, 7),
-                sign(7, 8),
-                sign(8, 9),
-                sign(9, 10),
-                sign(10, 11),
-                sign(11, 12),
-                sign(12, 13),
-                sign(13, 14),
-                sign(14, 15),
-                sign(15, 16),
-                sign(16, 17),
-                sign(17, 18),
-                sign(18, 19),
-            ]
-        )
-    );
-    assert!(rt; fault(&rt, b"a /* b */", Dialect::Cat) == Some(TextFault::BadByte));
-    assert!(rt; fault(&rt, b"a ^- 1", Dialect::Cat) == Some(TextFault::BadByte));
-}
-
-#[test]
-fn faults(rt: HostRuntime) {
-    assert!(rt; fault(&rt, b"C T {\xff", Dialect::Litmus) == Some(TextFault::NotAscii));
-    assert!(rt; fault(&rt, b"C\xc3\xa9 T {", Dialect::Litmus) == Some(TextFault::NotAscii));
-    assert!(rt; fault(&rt, b"C T\xff {", Dialect::Litmus) == Some(TextFault::NotAscii));
-    assert!(rt; fault(&rt, b"\"a\xffb\"", Dialect::Cat) == Some(TextFault::NotAscii));
-    assert!(rt; fault(&rt, b"(*\xff*)", Dialect::Cat) == None);
-    assert!(rt; fault(&rt, b"C T {#", Dialect::Litmus) == Some(TextFault::BadByte));
-    assert!(rt; fault(&rt, b"C T {\x01", Dialect::Litmus) == Some(TextFault::BadByte));
-    assert!(rt; fault(&rt, b"C T {&", Dialect::Litmus) == Some(TextFault::BadByte));
-    assert!(rt; fault(&rt, b"(* (* *) ", Dialect::Cat) == Some(TextFault::OpenComment));
-    assert!(rt; fault(&rt, b"(*)\xff", Dialect::Cat) == Some(TextFault::OpenComment));
-    assert!(rt; fault(&rt, b"C T { /* *", Dialect::Litmus) == Some(TextFault::OpenComment));
-    assert!(rt; fault(&rt, b"\"\xff", Dialect::Cat) == Some(TextFault::OpenString));
-    assert!(rt; fault(&rt, b"2147483647", Dialect::Cat) == None);
-    assert!(rt; fault(&rt, b"0002147483647", Dialect::Cat) == None);
-    assert!(rt; fault(&rt, b"2147483648", Dialect::Cat) == Some(TextFault::NumberTooBig));
-    assert!(rt;
-        fault(&rt, b"99999999999999999999999999 #", Dialect::Cat) == Some(TextFault::NumberTooBig)
-    );
-    assert!(rt; fault(&rt, b"# \xff", Dialect::Cat) == Some(TextFault::BadByte));
-}
-
-#[test]
-fn longest_text(rt: HostRuntime) -> Result<(), Fail> {
-    let mut text = vec![in rt.alloc(); b' '; 65536]?;
-    assert!(rt; has(&rt, &text, Dialect::Cat, &[]));
-    text.push(b'#')?;
-    assert!(rt; fault(&rt, &text, Dialect::Cat) == Some(TextFault::TooLong));
-    Ok(())
-}
-
-#[test]
-fn names(rt: HostRuntime) -> Result<(), Fail> {
-    let longest = [b'a'; 64];
-    let x = Name::new(rt.alloc(), b"x")?;
-    let y = Name::new(rt.alloc(), b"y!~")?;
-    assert!(rt; Name::new(rt.alloc(), &longest).is_ok());
-    assert!(rt; x == x.copy()?);
-    assert!(rt; x != y && x < y);
-    assert_eq!(rt; x.bytes(), b"x".as_slice());
-    assert!(rt; is_bad(&rt, b""));
-    assert!(rt; is_bad(&rt, &[b'a'; 65]));
-    assert!(rt; is_bad(&rt, b"a b"));
-    assert!(rt; is_bad(&rt, b"a\x7f"));
-    assert!(rt; is_bad(&rt, b"\xff"));
-    assert_eq!(rt; format!(in rt.alloc(); "{x} {y}")?.as_str(), "x y!~");
-    Ok(())
-}
-
-fn is_bad(rt: &HostRuntime, bytes: &[u8]) -> bool {
-    match Name::new(rt.alloc(), bytes) {
-        Ok(_) => false,
-        Err(fault) => fault == NameFault::BadName,
+/// Does the name equal its copy?
+fn equals_its_copy(name: &Name) -> bool {
+    match name.copy() {
+        Ok(copy) => *name == copy,
+        Err(_) => false,
     }
 }
 
+/// Are the two names printed so?
+fn are_printed(alloc: Global, first: &Name, second: &Name, expected: &str) -> bool {
+    match format!(in alloc; "{first} {second}") {
+        Ok(text) => text.as_str() == expected,
+        Err(_) => false,
+    }
+}
+
+/// Are these `x` and `y!~`, in that order, and printed so?
+fn are_x_and_y(alloc: Global, x: &Name, y: &Name) -> bool {
+    x != y
+        && x < y
+        && x.bytes() == b"x".as_slice()
+        && equals_its_copy(x)
+        && are_printed(alloc, x, y, "x y!~")
+}
+
+/// Are `x` and `y!~` names, in that order?
+fn is_x_before_y(alloc: Global) -> Result<bool, NameFault> {
+    let x = Name::new(alloc, b"x")?;
+    let y = Name::new(alloc, b"y!~")?;
+    Ok(are_x_and_y(alloc, &x, &y))
+}
+
+#[test]
+fn names(rt: HostRuntime) {
+    assert!(rt; is_x_before_y(rt.alloc()) == Ok(true));
+}
+
+#[test]
+fn bytes_of_names(rt: HostRuntime) {
+    for (bytes, expected) in &NAMES {
+        assert!(rt; name_fault(rt.alloc(), bytes) == *expected, "{bytes:?}");
+    }
+}
+
+const NUMBERS: [(&[u8], Option<u32>); 6] = [
+    (b"0", Some(0)),
+    (b"007", Some(7)),
+    (b"2147483647", Some(2_147_483_647)),
+    (b"2147483648", None),
+    (b"", None),
+    (b"1a", None),
+];
+
 #[test]
 fn numbers(rt: HostRuntime) {
-    assert!(rt; decimal(b"0") == Some(0));
-    assert!(rt; decimal(b"007") == Some(7));
-    assert!(rt; decimal(b"2147483647") == Some(2_147_483_647));
-    assert!(rt; decimal(b"2147483648") == None);
-    assert!(rt; decimal(b"") == None);
-    assert!(rt; decimal(b"1a") == None);
+    for (digits, expected) in &NUMBERS {
+        assert!(rt; decimal(digits) == *expected, "{digits:?}");
+    }
 }
 
-#[test]
-fn sources(rt: HostRuntime) -> Result<(), Fail> {
+/// Are these the bytes that are read next, at most `limit` of them?
+fn reads<S: Source>(alloc: Global, source: &mut S, limit: usize, expected: &[u8]) -> bool {
+    match read_up_to(alloc, source, limit) {
+        Ok(bytes) => bytes.as_slice() == expected,
+        Err(_) => false,
+    }
+}
+
+/// Is the source found to have failed?
+fn fails<S: Source>(alloc: Global, source: &mut S) -> bool {
+    matches!(read_up_to(alloc, source, 1), Err(ReadFault::Failed))
+}
+
+/// Is a source in memory read in parts, up to its end?
+fn is_read_in_parts(alloc: Global) -> bool {
     let mut source = MemSource::new(b"abcde", false);
     let mut three = [0u8; 3];
-    assert!(rt; source.take(&mut three) == Ok(3));
-    assert_eq!(rt; three.as_slice(), b"abc".as_slice());
-    assert_eq!(rt;
-        read_up_to(rt.alloc(), &mut source, 9)?.as_slice(),
-        b"de".as_slice()
-    );
-    assert!(rt; source.take(&mut three) == Ok(0));
-    let mut failing = MemSource::new(b"abc", true);
-    assert_eq!(rt;
-        read_up_to(rt.alloc(), &mut failing, 3)?.as_slice(),
-        b"abc".as_slice()
-    );
-    assert!(rt; failing.take(&mut three) == Err(Failed));
-    assert!(rt;
-        matches!(
-            read_up_to(rt.alloc(), &mut failing, 1),
-            Err(ReadFault::Failed)
-        )
-    );
-    let mut reader = ReadSource::new(b"xyz".as_slice());
-    assert_eq!(rt;
-        read_up_to(rt.alloc(), &mut reader, 2)?.as_slice(),
-        b"xy".as_slice()
-    );
-    Ok(())
+    source.take(&mut three) == Ok(3)
+        && three == *b"abc"
+        && reads(alloc, &mut source, 9, b"de")
+        && source.take(&mut three) == Ok(0)
+}
+
+/// Does a source in memory fail at its end?
+fn fails_at_its_end(alloc: Global) -> bool {
+    let mut source = MemSource::new(b"abc", true);
+    let mut three = [0u8; 3];
+    reads(alloc, &mut source, 3, b"abc")
+        && source.take(&mut three) == Err(Failed)
+        && fails(alloc, &mut source)
+}
+
+/// Is a reader read, up to a limit?
+fn is_read_up_to_two(alloc: Global) -> bool {
+    let mut source = ReadSource::new(b"xyz".as_slice());
+    reads(alloc, &mut source, 2, b"xy")
 }
 
 #[test]
-fn sinks(rt: HostRuntime) -> Result<(), Fail> {
-    let mut sink = MemSink::new(rt.alloc(), 4)?;
-    assert!(rt; give_all(&mut sink, b"abc") == Ok(()));
-    assert!(rt; sink.give(b"de") == Ok(1));
-    assert!(rt; sink.give(b"") == Ok(0));
-    assert!(rt; sink.give(b"e") == Err(Failed));
-    assert_eq!(rt; sink.bytes(), b"abcd".as_slice());
-    let mut writer = WriteSink::new(Vec::new(rt.alloc()));
-    assert!(rt; give_all(&mut writer, b"abc") == Ok(()));
-    assert!(rt; writer.flush() == Ok(()));
-    Ok(())
+fn sources(rt: HostRuntime) {
+    let alloc = rt.alloc();
+    assert!(rt; is_read_in_parts(alloc) && fails_at_its_end(alloc) && is_read_up_to_two(alloc));
+}
+
+/// Bytes that are given, and what is answered.
+type Answer = (&'static [u8], Result<usize, Failed>);
+
+/// Does the sink answer so, one after the other?
+fn answers<S: Sink>(sink: &mut S, rows: &[Answer]) -> bool {
+    for (bytes, expected) in rows {
+        if sink.give(bytes) != *expected {
+            return false;
+        }
+    }
+    true
+}
+
+const UNTIL_FULL: &[Answer] = &[(b"de", Ok(1)), (b"", Ok(0)), (b"e", Err(Failed))];
+
+/// Does a sink for four bytes take four, and no fifth?
+fn takes_four(alloc: Global) -> Result<bool, AllocError> {
+    let mut sink = MemSink::new(alloc, 4)?;
+    Ok(
+        give_all(&mut sink, b"abc") == Ok(())
+            && answers(&mut sink, UNTIL_FULL)
+            && sink.bytes() == b"abcd".as_slice(),
+    )
+}
+
+/// Does a sink over a writer take bytes, and flush it?
+fn takes_and_flushes(alloc: Global) -> bool {
+    let mut sink = WriteSink::new(Vec::new(alloc));
+    give_all(&mut sink, b"abc") == Ok(()) && sink.flush() == Ok(())
+}
+
+#[test]
+fn sinks(rt: HostRuntime) {
+    assert!(rt; takes_four(rt.alloc()) == Ok(true) && takes_and_flushes(rt.alloc()));
 }
 
 /// A reader and a writer whose calls are interrupted at first, and each time after one that went well.
@@ -366,17 +469,17 @@ impl Write for Interrupted<Vec<u8>> {
     }
 }
 
+const INTERRUPTED: &[Answer] = &[(b"abc", Ok(3)), (b"de", Ok(2))];
+
+/// Does a sink over an interrupted writer take all bytes?
+fn takes_all(alloc: Global) -> bool {
+    let mut bytes = Interrupted::new(Vec::new(alloc));
+    answers(&mut WriteSink::new(&mut bytes), INTERRUPTED)
+        && bytes.inner.as_slice() == b"abcde".as_slice()
+}
+
 #[test]
-fn interruptions(rt: HostRuntime) -> Result<(), Fail> {
+fn interruptions(rt: HostRuntime) {
     let mut source = ReadSource::new(Interrupted::new(b"xyz".as_slice()));
-    assert_eq!(rt;
-        read_up_to(rt.alloc(), &mut source, 9)?.as_slice(),
-        b"xyz".as_slice()
-    );
-    let mut bytes = Interrupted::new(Vec::new(rt.alloc()));
-    let mut sink = WriteSink::new(&mut bytes);
-    assert!(rt; sink.give(b"abc") == Ok(3));
-    assert!(rt; sink.give(b"de") == Ok(2));
-    assert_eq!(rt; bytes.inner.as_slice(), b"abcde".as_slice());
-    Ok(())
+    assert!(rt; reads(rt.alloc(), &mut source, 9, b"xyz") && takes_all(rt.alloc()));
 }

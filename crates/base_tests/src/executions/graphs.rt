@@ -1,12 +1,42 @@
-//! Graphs made by hand, and what a view gives of them.
+//! Graphs made of tables, and what a view gives of them.
 
-ghost use Rattle.std.specs.Prelude.{◌≡◌, ◌+◌, ◌≤◌, ◌↔◌, IsTrue, All, length, sum_by, MatchOption};
-ghost use Rattle.events.specs.Executions.{IsNamed};
+ghost use Rattle.std.specs.Prelude.{◌≡◌, ◌+◌, ◌≤◌, ◌↔◌, IsTrue, All, length, sum_by};
+ghost use Rattle.events.specs.Executions.{IsNamed, IsGraph};
 
 use events::{
     Access, Coherence, Event, EventId, Graph, GraphView, Order, RelName, Run, SetName, no_places,
 };
 use relations::{Rel, Set};
+use std::alloc::{AllocError, Global};
+
+/// The place in its run that an event depends on, if any, and how.
+#[derive(Clone, Copy)]
+pub enum Needs {
+    Nothing,
+    Data(usize),
+    Control(usize),
+}
+
+/// An event of a table: what it does, at which location, with which value and order, and what it depends on.
+pub type Line = (Access, usize, u32, Order, Needs);
+
+/// A thread of a table: its events, and the values of its registers at the end.
+pub type Thread = (&'static [Line], &'static [u32]);
+
+/// The parts of a graph.
+pub struct Parts {
+    pub init: &'static [u32],
+    pub threads: &'static [Thread],
+    pub rf: &'static [EventId],
+    pub co: &'static [&'static [EventId]],
+}
+
+/// What a view gives: how many events there are, and the members of some sets and relations.
+pub struct Seen {
+    pub count: usize,
+    pub sets: &'static [(SetName, &'static [usize])],
+    pub relations: &'static [(RelName, &'static [(usize, usize)])],
+}
 
 /// An event that depends on nothing.
 pub fn event(thread: usize, access: Access, loc: usize, value: u32, order: Order) -> Event {
@@ -19,6 +49,55 @@ pub fn event(thread: usize, access: Access, loc: usize, value: u32, order: Order
         data_from: no_places(),
         ctrl_from: no_places(),
     }
+}
+
+/// The set of this place alone.
+fn only(place: usize) -> Set {
+    let mut places = no_places();
+    if place < places.count() {
+        places.insert(place);
+    }
+    places
+}
+
+/// The event of this line.
+fn event_of(thread: usize, line: &Line) -> Event {
+    let (access, loc, value, order, needs) = *line;
+    let mut event = event(thread, access, loc, value, order);
+    match needs {
+        Needs::Nothing => {}
+        Needs::Data(place) => event.data_from = only(place),
+        Needs::Control(place) => event.ctrl_from = only(place),
+    }
+    event
+}
+
+/// The run of the thread with this number.
+fn run_of(alloc: Global, number: usize, thread: &Thread) -> Result<Run, AllocError> {
+    let (lines, registers) = *thread;
+    let mut run = Run::new(Vec::new(alloc), Vec::from_slice(alloc, registers)?);
+    for line in lines {
+        run.push(event_of(number, line))?;
+    }
+    Ok(run)
+}
+
+/// The runs of the threads.
+fn runs_of(alloc: Global, threads: &[Thread]) -> Result<Vec<Run>, AllocError> {
+    let mut runs = Vec::new(alloc);
+    for (number, thread) in threads.iter().enumerate() {
+        runs.push(run_of(alloc, number, thread)?)?;
+    }
+    Ok(runs)
+}
+
+/// The coherence orders of these writes.
+fn orders_of(alloc: Global, orders: &[&[EventId]]) -> Result<Vec<Coherence>, AllocError> {
+    let mut co = Vec::new(alloc);
+    for writes in orders {
+        co.push(Coherence::new(Vec::from_slice(alloc, writes)?))?;
+    }
+    Ok(co)
 }
 
 /// Is there such an event?
@@ -75,17 +154,23 @@ fn are_few(init: &[u32], runs: &[Run]) -> bool
     total <= 64
 }
 
+/// Are these the parts of a graph?
+fn are_a_graphs(init: &[u32], runs: &[Run], rf: &[EventId], co: &[Coherence]) -> bool
+    ensures { IsTrue result → IsGraph (record { init = init.now; runs = runs.now; rf = rf.now; co = co.now }) }
+{
+    are_few(init, runs) && are_named(init, runs, rf) && have_named(init, runs, co)
+}
+
 /// The graph of these parts, if they are one's.
-pub fn graph(
-    init: Vec<u32>,
-    runs: Vec<Run>,
-    rf: Vec<EventId>,
-    co: Vec<Coherence>,
-) -> Option<Graph> {
-    if are_few(&init, &runs) && are_named(&init, &runs, &rf) && have_named(&init, &runs, &co) {
-        Some(Graph::new(init, runs, rf, co))
+fn graph_of(alloc: Global, parts: &Parts) -> Result<Option<Graph>, AllocError> {
+    let init = Vec::from_slice(alloc, parts.init)?;
+    let rf = Vec::from_slice(alloc, parts.rf)?;
+    let runs = runs_of(alloc, parts.threads)?;
+    let co = orders_of(alloc, parts.co)?;
+    if are_a_graphs(&init, &runs, &rf, &co) {
+        Ok(Some(Graph::new(init, runs, rf, co)))
     } else {
-        None
+        Ok(None)
     }
 }
 
@@ -112,7 +197,7 @@ fn relates_just(rel: &Rel, pairs: &[(usize, usize)]) -> bool {
 }
 
 /// Has each set just the members beside its name?
-pub fn has_sets(view: &GraphView, sets: &[(SetName, &[usize])]) -> bool {
+fn has_sets(view: &GraphView, sets: &[(SetName, &[usize])]) -> bool {
     for (name, members) in sets {
         if !has_just(&view.set(*name), members) {
             return false;
@@ -122,11 +207,24 @@ pub fn has_sets(view: &GraphView, sets: &[(SetName, &[usize])]) -> bool {
 }
 
 /// Has each relation just the pairs beside its name?
-pub fn has_relations(view: &GraphView, relations: &[(RelName, &[(usize, usize)])]) -> bool {
+fn has_relations(view: &GraphView, relations: &[(RelName, &[(usize, usize)])]) -> bool {
     for (name, pairs) in relations {
         if !relates_just(&view.rel(*name), pairs) {
             return false;
         }
     }
     true
+}
+
+/// Is that to be seen in the view?
+fn is_seen(view: &GraphView, seen: &Seen) -> bool {
+    view.count() == seen.count && has_sets(view, seen.sets) && has_relations(view, seen.relations)
+}
+
+/// Have these parts a graph, and is that to be seen in its view?
+pub fn shows(alloc: Global, parts: &Parts, seen: &Seen) -> Result<bool, AllocError> {
+    match graph_of(alloc, parts)? {
+        Some(graph) => Ok(is_seen(&GraphView::of(alloc, &graph)?, seen)),
+        None => Ok(false),
+    }
 }

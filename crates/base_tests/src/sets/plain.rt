@@ -1,9 +1,54 @@
 //! A plain, slow definition of each operation, and the comparison with the operation itself.
 
-ghost use Rattle.std.specs.Prelude.{◌≤◌};
+ghost use Rattle.std.specs.Prelude.{◌≡◌, ◌≤◌};
 
 use relations::{Rel, Set};
-use std::process::Abort;
+
+/// An operation that makes a relation of two, or of the first of two.
+#[derive(Clone, Copy)]
+enum Operation {
+    Union,
+    Inter,
+    Minus,
+    Complement,
+    Inverse,
+    Opt,
+    Seq,
+    Plus,
+    Star,
+}
+
+/// Each of them, with its name.
+const OPERATIONS: &[(Operation, &str)] = &[
+    (Operation::Union, "union"),
+    (Operation::Inter, "inter"),
+    (Operation::Minus, "minus"),
+    (Operation::Complement, "complement"),
+    (Operation::Inverse, "inverse"),
+    (Operation::Opt, "opt"),
+    (Operation::Seq, "seq"),
+    (Operation::Plus, "plus"),
+    (Operation::Star, "star"),
+];
+
+/// An operation that makes a set of two, or of the first of two.
+#[derive(Clone, Copy)]
+enum SetOperation {
+    Union,
+    Inter,
+    Minus,
+    Complement,
+    Copy,
+}
+
+/// Each of them, with its name.
+const SET_OPERATIONS: &[(SetOperation, &str)] = &[
+    (SetOperation::Union, "union"),
+    (SetOperation::Inter, "inter"),
+    (SetOperation::Minus, "minus"),
+    (SetOperation::Complement, "complement"),
+    (SetOperation::Copy, "copy"),
+];
 
 /// Is the pair in? Beyond the count there is none.
 fn related(r: &Rel, i: usize, j: usize) -> bool {
@@ -51,32 +96,6 @@ fn leads_on(r: &Rel, i: usize) -> bool {
     false
 }
 
-/// Has the relation just the pairs for which `holds` answers true?
-fn agrees<F: Fn(usize, usize) -> bool>(r: &Rel, holds: F) -> bool
-    requires { F.IsAlwaysCallable holds }
-{
-    for i in 0..r.count() {
-        for j in 0..r.count() {
-            if r.contains(i, j) != holds(i, j) {
-                return false;
-            }
-        }
-    }
-    true
-}
-
-/// Has the set just the events for which `holds` answers true?
-fn agrees_on_events<F: Fn(usize) -> bool>(s: &Set, holds: F) -> bool
-    requires { F.IsAlwaysCallable holds }
-{
-    for i in 0..s.count() {
-        if s.contains(i) != holds(i) {
-            return false;
-        }
-    }
-    true
-}
-
 /// How many pairs there are.
 pub fn pair_count(r: &Rel) -> u32 {
     let mut pairs = 0_u32;
@@ -122,29 +141,56 @@ pub fn set(count: usize, code: u32) -> Set
     s
 }
 
-/// Compares each operation on one or two relations with its plain definition.
-pub fn compare(rt: &impl Abort, r: &Rel, s: &Rel) {
-    compare_pairs(rt, r, s);
-    compare_chains(rt, r, s);
-    compare_ends(rt, r);
+/// What the operation itself makes.
+fn made(operation: Operation, r: &Rel, s: &Rel) -> Rel
+    requires { r.now.count ≡ s.now.count }
+{
+    match operation {
+        Operation::Union => r.union(s),
+        Operation::Inter => r.inter(s),
+        Operation::Minus => r.minus(s),
+        Operation::Complement => r.complement(),
+        Operation::Inverse => r.inverse(),
+        Operation::Opt => r.opt(),
+        Operation::Seq => r.seq(s),
+        Operation::Plus => r.plus(),
+        Operation::Star => r.star(),
+    }
 }
 
-fn compare_pairs(rt: &impl Abort, r: &Rel, s: &Rel) {
-    assert_eq!(rt; r.count(), s.count());
-    assert!(rt; agrees(&r.union(s), |i, j| related(r, i, j) || related(s, i, j)));
-    assert!(rt; agrees(&r.inter(s), |i, j| related(r, i, j) && related(s, i, j)));
-    assert!(rt; agrees(&r.minus(s), |i, j| related(r, i, j) && !related(s, i, j)));
-    assert!(rt; agrees(&r.complement(), |i, j| !related(r, i, j)));
-    assert!(rt; agrees(&r.inverse(), |i, j| related(r, j, i)));
-    assert!(rt; agrees(&r.opt(), |i, j| i == j || related(r, i, j)));
+/// Does its plain definition hold of the pair?
+fn holds(operation: Operation, r: &Rel, s: &Rel, i: usize, j: usize) -> bool {
+    match operation {
+        Operation::Union => related(r, i, j) || related(s, i, j),
+        Operation::Inter => related(r, i, j) && related(s, i, j),
+        Operation::Minus => related(r, i, j) && !related(s, i, j),
+        Operation::Complement => !related(r, i, j),
+        Operation::Inverse => related(r, j, i),
+        Operation::Opt => i == j || related(r, i, j),
+        Operation::Seq => through(r, s, i, j),
+        Operation::Plus => chain(r, i, j, r.count()),
+        Operation::Star => i == j || chain(r, i, j, r.count()),
+    }
 }
 
-fn compare_chains(rt: &impl Abort, r: &Rel, s: &Rel) {
+/// Has what the operation makes just the pairs for which its plain definition holds?
+fn agrees(operation: Operation, r: &Rel, s: &Rel) -> bool
+    requires { r.now.count ≡ s.now.count }
+{
+    let found = made(operation, r, s);
+    for i in 0..found.count() {
+        for j in 0..found.count() {
+            if found.contains(i, j) != holds(operation, r, s, i, j) {
+                return false;
+            }
+        }
+    }
+    true
+}
+
+/// Has the relation cycles, has it pairs of an event with itself, and is each of its pairs in the other?
+fn told_plainly(r: &Rel, s: &Rel) -> (bool, bool, bool) {
     let count = r.count();
-    assert_eq!(rt; count, s.count());
-    assert!(rt; agrees(&r.seq(s), |i, j| through(r, s, i, j)));
-    assert!(rt; agrees(&r.plus(), |i, j| chain(r, i, j, count)));
-    assert!(rt; agrees(&r.star(), |i, j| i == j || chain(r, i, j, count)));
     let mut returns = false;
     let mut reflexive = false;
     let mut within = true;
@@ -155,31 +201,131 @@ fn compare_chains(rt: &impl Abort, r: &Rel, s: &Rel) {
             within &= !related(r, i, j) || related(s, i, j);
         }
     }
-    assert_eq!(rt; r.is_acyclic(), !returns);
-    assert_eq!(rt; r.is_irreflexive(), !reflexive);
-    assert_eq!(rt; r.is_within(s), within);
-    assert_eq!(rt; r.is_empty(), pair_count(r) == 0);
+    (returns, reflexive, within)
 }
 
-fn compare_ends(rt: &impl Abort, r: &Rel) {
-    let turned = r.inverse();
-    assert!(rt; agrees_on_events(&r.domain(), |i| leads_on(r, i)));
-    assert!(rt; agrees_on_events(&r.range(), |j| leads_on(&turned, j)));
+/// Is each question about a relation answered as its plain definition answers it?
+fn is_told(r: &Rel, s: &Rel) -> bool
+    requires { r.now.count ≡ s.now.count }
+{
+    let (returns, reflexive, within) = told_plainly(r, s);
+    r.is_acyclic() != returns
+        && r.is_irreflexive() != reflexive
+        && r.is_within(s) == within
+        && r.is_empty() == (pair_count(r) == 0)
 }
 
-/// Compares each operation on one or two sets with its plain definition.
-pub fn compare_sets(rt: &impl Abort, s: &Set, t: &Set) {
-    assert_eq!(rt; s.count(), t.count());
-    assert!(rt; agrees_on_events(&s.union(t), |i| member(s, i) || member(t, i)));
-    assert!(rt; agrees_on_events(&s.inter(t), |i| member(s, i) && member(t, i)));
-    assert!(rt; agrees_on_events(&s.minus(t), |i| member(s, i) && !member(t, i)));
-    assert!(rt; agrees_on_events(&s.complement(), |i| !member(s, i)));
-    assert!(rt; agrees_on_events(&s.copy(), |i| member(s, i)));
-    assert!(rt; agrees(&s.product(t), |i, j| member(s, i) && member(t, j)));
-    assert!(rt; agrees(&s.ident(), |i, j| i == j && member(s, i)));
-    let mut some = false;
-    for i in 0..s.count() {
-        some |= member(s, i);
+/// Are just those events in the set that lead on?
+fn has_just_those_that_lead_on(found: &Set, r: &Rel) -> bool {
+    for i in 0..found.count() {
+        if found.contains(i) != leads_on(r, i) {
+            return false;
+        }
     }
-    assert_eq!(rt; s.is_empty(), !some);
+    true
+}
+
+/// Has the domain just the events that lead on, and the range just those that are led to?
+fn are_ends(r: &Rel) -> bool {
+    has_just_those_that_lead_on(&r.domain(), r)
+        && has_just_those_that_lead_on(&r.range(), &r.inverse())
+}
+
+/// The first operation on one or two relations that doesn't agree with its plain definition.
+pub fn amiss(r: &Rel, s: &Rel) -> Option<&'static str> {
+    if r.count() != s.count() {
+        return Some("two counts");
+    }
+    for (operation, name) in OPERATIONS {
+        if !agrees(*operation, r, s) {
+            return Some(*name);
+        }
+    }
+    if !is_told(r, s) {
+        return Some("a question");
+    }
+    if !are_ends(r) {
+        return Some("domain or range");
+    }
+    None
+}
+
+/// What the operation itself makes.
+fn set_made(operation: SetOperation, s: &Set, t: &Set) -> Set
+    requires { s.now.count ≡ t.now.count }
+{
+    match operation {
+        SetOperation::Union => s.union(t),
+        SetOperation::Inter => s.inter(t),
+        SetOperation::Minus => s.minus(t),
+        SetOperation::Complement => s.complement(),
+        SetOperation::Copy => s.copy(),
+    }
+}
+
+/// Does its plain definition hold of the event?
+fn holds_of_event(operation: SetOperation, s: &Set, t: &Set, i: usize) -> bool {
+    match operation {
+        SetOperation::Union => member(s, i) || member(t, i),
+        SetOperation::Inter => member(s, i) && member(t, i),
+        SetOperation::Minus => member(s, i) && !member(t, i),
+        SetOperation::Complement => !member(s, i),
+        SetOperation::Copy => member(s, i),
+    }
+}
+
+/// Has what the operation makes just the events for which its plain definition holds?
+fn agrees_on_events(operation: SetOperation, s: &Set, t: &Set) -> bool
+    requires { s.now.count ≡ t.now.count }
+{
+    let found = set_made(operation, s, t);
+    for i in 0..found.count() {
+        if found.contains(i) != holds_of_event(operation, s, t, i) {
+            return false;
+        }
+    }
+    true
+}
+
+/// Are these just the pairs of the one set with the other, and those of each event of the one with itself?
+fn are_pairs(product: &Rel, ident: &Rel, s: &Set, t: &Set) -> bool {
+    for i in 0..s.count() {
+        for j in 0..s.count() {
+            if related(product, i, j) != (member(s, i) && member(t, j))
+                || related(ident, i, j) != (i == j && member(s, i))
+            {
+                return false;
+            }
+        }
+    }
+    product.count() == s.count() && ident.count() == s.count()
+}
+
+/// Is there an event in the set?
+fn has_some(s: &Set) -> bool {
+    for i in 0..s.count() {
+        if member(s, i) {
+            return true;
+        }
+    }
+    false
+}
+
+/// The first operation on one or two sets that doesn't agree with its plain definition.
+pub fn amiss_of_sets(s: &Set, t: &Set) -> Option<&'static str> {
+    if s.count() != t.count() {
+        return Some("two counts");
+    }
+    for (operation, name) in SET_OPERATIONS {
+        if !agrees_on_events(*operation, s, t) {
+            return Some(*name);
+        }
+    }
+    if !are_pairs(&s.product(t), &s.ident(), s, t) {
+        return Some("product or ident");
+    }
+    if s.is_empty() == has_some(s) {
+        return Some("is_empty");
+    }
+    None
 }
