@@ -51,9 +51,9 @@ IsOf Test (PutTest text) = Unit {0}
 IsOf (Whole asked) request = request ≡ asked
 IsOf head request = ⊥
 
--- an order whose first line is this
+-- An order, of a seat that there is, whose first line is this.
 abbrev pub Begins : List ℕ → Order → Type 0
-Begins line order = (head : Head) × Spells line order.seat head × IsOf head order.request
+Begins line order = (head : Head) × Spells line order.seat head × IsOf head order.request × (order.seat < 8) × IsSoundHead head
 
 -- A line that nothing is done for: it is empty, or a remark.
 abbrev pub IsSkipped : List ℕ → Type 0

@@ -3,6 +3,7 @@
 
 mod block;
 mod fault;
+pub mod laws;
 mod lines;
 mod order;
 mod script;

@@ -50,6 +50,7 @@ pub enum LineFault {
 pub fn read_head(alloc: Global, line: &[u8]) -> Result<(u8, Head), LineFault>
     ensures seat { IfOk result (λ r. r.0 < 8) }
     ensures spelled { IfOk result (λ r. Spells line.now r.0 r.1) }
+    ensures sound { IfOk result (λ r. IsSoundHead r.1) }
     // A line is bad only if it spells no order.
     ensures bad { result ≡ Err LineFault.Bad → IsBad line.now }
 {
@@ -80,6 +81,7 @@ fn read_seat(line: &[u8]) -> Result<(u8, &[u8]), LineFault>
 /// A head of one word.
 fn read_word(word: &[u8]) -> Result<Head, LineFault>
     ensures said { IfOk result (Says word.now) }
+    ensures sound { IfOk result IsSoundHead }
     ensures bad { IfErr result (λ _. (head : HeadOf) → All (λ byte. byte ≢ 32) word.now → ¬ Says word.now head) }
 {
     if word == b"test".as_slice() {
@@ -94,6 +96,7 @@ fn read_word(word: &[u8]) -> Result<Head, LineFault>
 /// A head of a word and what stands behind it and a space.
 fn read_words(alloc: Global, word: &[u8], rest: &[u8]) -> Result<Head, LineFault>
     ensures said { IfOk result (Says (word.now ++ (codes " " ++ rest.now))) }
+    ensures sound { IfOk result IsSoundHead }
     ensures bad { result ≡ Err LineFault.Bad → (head : HeadOf) → IsSoundHead head → All (λ byte. byte ≢ 32) word.now
         → ¬ Says (word.now ++ (codes " " ++ rest.now)) head }
 {
@@ -113,6 +116,7 @@ fn read_words(alloc: Global, word: &[u8], rest: &[u8]) -> Result<Head, LineFault
 /// Two names with a space between.
 fn read_ask(alloc: Global, rest: &[u8]) -> Result<Request, LineFault>
     ensures asked { IfOk result (Requests (codes "ask " ++ rest.now)) }
+    ensures sound { IfOk result IsSound }
     ensures bad { result ≡ Err LineFault.Bad → (test : List ℕ) (cat : List ℕ) → IsName test → IsName cat
         → rest.now ≢ test ++ (codes " " ++ cat) }
 {
@@ -124,6 +128,7 @@ fn read_ask(alloc: Global, rest: &[u8]) -> Result<Request, LineFault>
 
 fn read_name(alloc: Global, bytes: &[u8]) -> Result<Name, LineFault>
     ensures name { IfOk result (λ name. name ≡ bytes.now) }
+    ensures sound { IfOk result IsName }
     ensures bad { result ≡ Err LineFault.Bad → ¬ IsName bytes.now }
 {
     match Name::new(alloc, bytes) {
