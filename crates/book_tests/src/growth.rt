@@ -4,13 +4,14 @@
 ghost use Rattle.std.specs.Prelude.{◌≡◌, IfOk};
 ghost use Rattle.slices.specs.Parts.{IsOver, test_size};
 
-use crate::scene::{SB, name, text};
+use crate::scene::{SB, name, put_cat};
 use book::{Command, Said};
 use cat_model::{Files, Model, resolve};
 use litmus_c::read_test;
 use slices::{Piece, PieceResult, TestRef, Verdict, VerdictRef, Work, WorkRef, evaluate};
 use std::alloc::{AllocError, Global};
 use std::test::Fail;
+use wb_text::Name;
 
 /// How many numbers SB has: two values of each of two loads, each of two writes, and one order of each location.
 const NUMBERS: u64 = 16;
@@ -29,12 +30,17 @@ fn test(alloc: Global) -> Result<TestRef, AllocError> {
     }
 }
 
-fn model_once(alloc: Global) -> Result<Model, AllocError> {
-    let files = Files::new(alloc)?;
-    match resolve(alloc, &files, &name(alloc, b"stdlib.cat")?) {
+fn resolved(alloc: Global, files: &Files, root: &Name) -> Result<Model, AllocError> {
+    match resolve(alloc, files, root) {
         Ok(model) => Ok(model),
         Err(_) => Err(AllocError),
     }
+}
+
+fn model_once(alloc: Global) -> Result<Model, AllocError> {
+    let files = Files::new(alloc)?;
+    let root = name(alloc, b"stdlib.cat")?;
+    resolved(alloc, &files, &root)
 }
 
 /// The model of no constraint.
@@ -68,11 +74,15 @@ fn work_ref(alloc: Global) -> Result<WorkRef, AllocError> {
     }
 }
 
+/// Fails with what was tried, unless it held.
+fn confirm(holds: bool, tried: &str) -> Result<(), Fail> {
+    if holds { Ok(()) } else { Err(Fail::new(tried)) }
+}
+
 #[test]
 fn works(rt: HostRuntime) -> Result<(), Fail> {
-    let work = work(rt.alloc())?;
-    assert_eq!(rt; work.size(), NUMBERS);
-    Ok(())
+    let work = work_ref(rt.alloc())?;
+    confirm(work.work().size() == NUMBERS, "how many numbers SB has")
 }
 
 /// The piece of all numbers.
@@ -102,27 +112,46 @@ fn is_found(part: &PieceResult) -> bool {
     finding.positive() == 1 && finding.negative() == 3 && finding.states().len() == 4
 }
 
-#[test]
-fn results(rt: HostRuntime) -> Result<(), Fail> {
-    let alloc = rt.alloc();
-    let part = whole_part(alloc, &work_ref(alloc)?)?;
-    assert!(rt; is_found(&part) && part.piece().to() == NUMBERS);
-    Ok(())
+/// Whether the result of all numbers has these counts.
+fn is_evaluated(alloc: Global, work: &WorkRef) -> bool {
+    match whole_part(alloc, work) {
+        Ok(part) => is_found(&part) && part.piece().to() == NUMBERS,
+        Err(AllocError) => false,
+    }
 }
 
-/// Whether each copy is its original.
-fn are_copied(part: &PieceResult) -> Result<bool, AllocError> {
-    let piece = part.piece().share()?;
-    let copy = part.share()?;
-    Ok(piece == *part.piece() && copy == *part)
+#[test]
+fn results(rt: HostRuntime) -> Result<(), Fail> {
+    let work = work_ref(rt.alloc())?;
+    confirm(is_evaluated(rt.alloc(), &work), "the result of all numbers")
+}
+
+fn is_piece_copied(piece: &Piece) -> bool {
+    match piece.share() {
+        Ok(copy) => copy == *piece,
+        Err(AllocError) => false,
+    }
+}
+
+fn is_part_copied(part: &PieceResult) -> bool {
+    match part.share() {
+        Ok(copy) => copy == *part,
+        Err(AllocError) => false,
+    }
+}
+
+/// Whether the copies of the result of all numbers and of its piece are their originals.
+fn is_copied(alloc: Global, work: &WorkRef) -> bool {
+    match whole_part(alloc, work) {
+        Ok(part) => is_piece_copied(part.piece()) && is_part_copied(&part),
+        Err(AllocError) => false,
+    }
 }
 
 #[test]
 fn copies(rt: HostRuntime) -> Result<(), Fail> {
-    let alloc = rt.alloc();
-    let part = whole_part(alloc, &work_ref(alloc)?)?;
-    assert!(rt; are_copied(&part)?);
-    Ok(())
+    let work = work_ref(rt.alloc())?;
+    confirm(is_copied(rt.alloc(), &work), "copies of the result")
 }
 
 /// Whether this is the verdict on SB under no constraint, for this version of the test.
@@ -144,12 +173,25 @@ fn kept_verdict(alloc: Global, work: &WorkRef) -> Result<VerdictRef, AllocError>
     }
 }
 
+fn is_kept(alloc: Global, work: &WorkRef) -> bool {
+    match kept_verdict(alloc, work) {
+        Ok(verdict) => is_judged(verdict.verdict(), 7),
+        Err(AllocError) => false,
+    }
+}
+
 #[test]
 fn verdicts(rt: HostRuntime) -> Result<(), Fail> {
-    let alloc = rt.alloc();
-    let verdict = kept_verdict(alloc, &work_ref(alloc)?)?;
-    assert!(rt; is_judged(verdict.verdict(), 7));
-    Ok(())
+    let work = work_ref(rt.alloc())?;
+    confirm(is_kept(rt.alloc(), &work), "the verdict on version 7")
+}
+
+/// Whether a command is shown as the put of SB as a cat file.
+fn is_put(said: &Said) -> bool {
+    match said {
+        Said::PutCat(name, text) => name.bytes() == b"a.cat".as_slice() && text.bytes() == SB,
+        _ => false,
+    }
 }
 
 /// The command as the journal shows it. What is refused leaves the command.
@@ -160,17 +202,15 @@ fn seen(command: &Command) -> Result<Said, AllocError> {
     }
 }
 
-/// Whether the command of putting SB as a cat file is shown with its name and text.
-fn is_shown(alloc: Global) -> Result<bool, AllocError> {
-    let command = Command::PutCat(name(alloc, b"a.cat")?, text(alloc, SB)?);
-    match seen(&command)? {
-        Said::PutCat(name, text) => Ok(name.bytes() == b"a.cat".as_slice() && text.bytes() == SB),
-        _ => Ok(false),
+fn is_shown(command: &Command) -> bool {
+    match seen(command) {
+        Ok(said) => is_put(&said),
+        Err(AllocError) => false,
     }
 }
 
 #[test]
 fn shown_commands(rt: HostRuntime) -> Result<(), Fail> {
-    assert!(rt; is_shown(rt.alloc())?);
-    Ok(())
+    let command = put_cat(rt.alloc(), b"a.cat", SB)?;
+    confirm(is_shown(&command), "the put of SB as a cat file")
 }

@@ -1,8 +1,8 @@
-//! What the tests share: texts, names, and calls that are made again where they are refused.
+//! Scripts of calls of a book and what is replied, and texts and names, which are made again where they are refused.
 //!
-//! No function here but `new_book` gives a book, and none drops one: each drop of a book makes a proof longer.
+//! Only `plays` and `foreign` own a book: each drop of a book makes a proof longer.
 
-use book::{Book, Command, Limits, Refusal, Reply, SourceKind, Text};
+use book::{Book, Command, Limits, Refusal, Refused, Replacement, Reply, SourceKind, Text};
 use slices::{PieceResult, evaluate};
 use std::alloc::{AllocError, Global};
 use wb_text::Name;
@@ -24,13 +24,55 @@ exists (0:r0=0 /\\ 1:r0=0)
 /// One thread that does nothing.
 pub const EMPTY: &[u8] = b"C E\n{ x; }\nP0 () {}\nexists (x=0)\n";
 
-pub const fn limits(journal: u32, versions: u32, claims: u32) -> Limits {
-    Limits {
-        journal,
-        versions,
-        claims,
-    }
+/// A step of a script. Each but the last records one entry of the journal.
+#[derive(Clone, Copy)]
+pub enum Step {
+    /// A cat file is put: its name and its text.
+    Cat(&'static [u8], &'static [u8]),
+    /// A test is put.
+    Test(&'static [u8]),
+    /// A test is asked for under a cat file.
+    Ask(&'static [u8], &'static [u8]),
+    Poll(u32),
+    Claim,
+    /// The piece that is given at this place of the journal is evaluated, and its result returned.
+    Return(usize),
+    /// A result of another book, whose first piece is of another test, is returned.
+    Foreign,
+    /// A test is put, and its text comes back since the journal, of so many entries, is full.
+    TestBack(&'static [u8], usize),
 }
+
+/// What is replied at a place of the journal.
+#[derive(Clone, Copy)]
+pub enum Answer {
+    Version(u32),
+    /// The one slice of a job is taken.
+    Taken,
+    /// A verdict with these counts of executions, with the proposition and without.
+    Verdict(u64, u64),
+    /// The result is none of claim 1.
+    Stranger,
+    VersionsSpent,
+    ClaimsSpent,
+    /// This cat file was put again, and has this version now.
+    ReplacedFile(&'static [u8], u32),
+}
+
+/// Steps from an empty book, and what they are answered at places of the journal, which are counted from 0.
+pub struct Script {
+    /// How many entries, versions and claims there may be.
+    pub limits: Limits,
+    pub steps: &'static [Step],
+    pub answers: &'static [(usize, Answer)],
+}
+
+/// Limits that no script here reaches.
+pub const WIDE: Limits = Limits {
+    journal: 20,
+    versions: 10,
+    claims: 10,
+};
 
 pub fn name(alloc: Global, bytes: &[u8]) -> Result<Name, AllocError> {
     match Name::new(alloc, bytes) {
@@ -42,7 +84,7 @@ pub fn name(alloc: Global, bytes: &[u8]) -> Result<Name, AllocError> {
     }
 }
 
-pub fn text(alloc: Global, bytes: &[u8]) -> Result<Text, AllocError> {
+fn text(alloc: Global, bytes: &[u8]) -> Result<Text, AllocError> {
     match text_once(alloc, bytes) {
         Ok(text) => Ok(text),
         Err(AllocError) => text_once(alloc, bytes),
@@ -53,61 +95,11 @@ fn text_once(alloc: Global, bytes: &[u8]) -> Result<Text, AllocError> {
     Text::new(alloc, Vec::from_slice(alloc, bytes)?)
 }
 
-pub fn new_book(alloc: Global, limits: Limits) -> Result<Book, AllocError> {
+fn new_book(alloc: Global, limits: Limits) -> Result<Book, AllocError> {
     match Book::new(alloc, limits) {
         Ok(book) => Ok(book),
         Err(AllocError) => Book::new(alloc, limits),
     }
-}
-
-/// Makes a call, and gives the place of its entry. A call that is refused for memory leaves the journal as it was and
-/// hands the command back, which then gets its own answer.
-pub fn call(book: &mut Book, command: Command) -> Result<usize, AllocError> {
-    let place = book.journal().len();
-    match book.apply(0, command) {
-        Ok(_) => Ok(place),
-        Err((command, _)) => {
-            if book.journal().len() != place {
-                return Err(AllocError);
-            }
-            match book.apply(0, command) {
-                Ok(_) => Ok(place),
-                Err(_) => Err(AllocError),
-            }
-        }
-    }
-}
-
-pub fn put_cat(
-    alloc: Global,
-    book: &mut Book,
-    file: &[u8],
-    bytes: &[u8],
-) -> Result<usize, AllocError> {
-    call(
-        book,
-        Command::PutCat(name(alloc, file)?, text(alloc, bytes)?),
-    )
-}
-
-pub fn put_test(alloc: Global, book: &mut Book, bytes: &[u8]) -> Result<usize, AllocError> {
-    call(book, Command::PutTest(text(alloc, bytes)?))
-}
-
-pub fn ask(alloc: Global, book: &mut Book, test: &[u8], cat: &[u8]) -> Result<usize, AllocError> {
-    call(book, Command::Ask(name(alloc, test)?, name(alloc, cat)?))
-}
-
-/// Puts a test, asks for it under no constraint and claims its piece.
-pub fn claimed(
-    alloc: Global,
-    book: &mut Book,
-    bytes: &[u8],
-    test: &[u8],
-) -> Result<usize, AllocError> {
-    put_test(alloc, book, bytes)?;
-    ask(alloc, book, test, b"stdlib.cat")?;
-    call(book, Command::Claim)
 }
 
 /// The reply at a place of the journal.
@@ -119,7 +111,7 @@ fn reply_at(book: &Book, place: usize) -> Option<&Reply> {
 }
 
 /// The result of the piece that a place of the journal gives.
-pub fn evaluated(alloc: Global, book: &Book, place: usize) -> Result<PieceResult, AllocError> {
+fn evaluated(alloc: Global, book: &Book, place: usize) -> Result<PieceResult, AllocError> {
     match reply_at(book, place) {
         Some(Reply::Piece(piece)) => match evaluate(alloc, piece) {
             Ok(part) => Ok(part),
@@ -129,62 +121,172 @@ pub fn evaluated(alloc: Global, book: &Book, place: usize) -> Result<PieceResult
     }
 }
 
-/// Evaluates the piece that a place of the journal gives, and returns the result.
-pub fn give(alloc: Global, book: &mut Book, place: usize) -> Result<usize, AllocError> {
-    let part = evaluated(alloc, book, place)?;
-    call(book, Command::Return(part))
+pub fn put_cat(alloc: Global, file: &[u8], bytes: &[u8]) -> Result<Command, AllocError> {
+    Ok(Command::PutCat(name(alloc, file)?, text(alloc, bytes)?))
 }
 
-pub fn is_taken(book: &Book, place: usize) -> bool {
-    matches!(reply_at(book, place), Some(Reply::Taken(1, 1)))
+fn put_test(alloc: Global, bytes: &[u8]) -> Result<Command, AllocError> {
+    Ok(Command::PutTest(text(alloc, bytes)?))
 }
 
-pub fn is_version(book: &Book, place: usize, version: u32) -> bool {
-    match reply_at(book, place) {
-        Some(Reply::Version(_, found)) => *found == version,
-        _ => false,
+fn ask(alloc: Global, test: &[u8], cat: &[u8]) -> Result<Command, AllocError> {
+    Ok(Command::Ask(name(alloc, test)?, name(alloc, cat)?))
+}
+
+fn give(alloc: Global, book: &Book, place: usize) -> Result<Command, AllocError> {
+    Ok(Command::Return(evaluated(alloc, book, place)?))
+}
+
+/// Makes a call, and gives the command that comes back where it is refused.
+fn refused(book: &mut Book, command: Command) -> Option<Command> {
+    match book.apply(0, command) {
+        Ok(_) => None,
+        Err((command, _)) => Some(command),
     }
 }
 
-/// Whether a verdict with these counts is replied.
-pub fn is_verdict(book: &Book, place: usize, positive: u64, negative: u64) -> bool {
-    match reply_at(book, place) {
-        Some(Reply::Verdict(verdict)) => {
-            let finding = verdict.verdict().finding();
-            finding.positive() == positive && finding.negative() == negative
+/// Makes a call. One that is refused for memory leaves the journal as it was and hands the command back, which then gets
+/// its own answer.
+fn call(book: &mut Book, command: Command) -> bool {
+    let place = book.journal().len();
+    match refused(book, command) {
+        None => true,
+        Some(command) => {
+            let same = book.journal().len() == place;
+            refused(book, command).is_none() && same
         }
-        _ => false,
     }
 }
 
-/// The refusal at a place of the journal.
-pub fn refusal_at(book: &Book, place: usize) -> Option<&Refusal> {
-    match reply_at(book, place) {
-        Some(Reply::Refused(refusal)) => Some(refusal),
+/// Makes the call of a command that could be made.
+fn call_made(book: &mut Book, command: Result<Command, AllocError>) -> bool {
+    match command {
+        Ok(command) => call(book, command),
+        Err(AllocError) => false,
+    }
+}
+
+/// The text that comes back where a test is put into a full journal.
+fn text_back(book: &mut Book, text: Text) -> Option<Text> {
+    match book.apply(0, Command::PutTest(text)) {
+        Err((Command::PutTest(text), Refused::JournalFull)) => Some(text),
         _ => None,
     }
 }
 
-pub fn is_stranger(book: &Book, place: usize) -> bool {
-    matches!(refusal_at(book, place), Some(Refusal::Stranger(1)))
+/// Whether the text comes back where a test is put into a full journal.
+fn comes_back(alloc: Global, book: &mut Book, bytes: &[u8]) -> bool {
+    match text(alloc, bytes) {
+        Ok(text) => match text_back(book, text) {
+            Some(text) => text.bytes() == bytes,
+            None => false,
+        },
+        Err(AllocError) => false,
+    }
 }
 
-pub fn are_versions_spent(book: &Book, place: usize) -> bool {
-    matches!(refusal_at(book, place), Some(Refusal::VersionsSpent(_)))
+/// Asks for the empty test under no constraint, claims its piece, and evaluates it.
+fn foreign_of(alloc: Global, book: &mut Book) -> Result<Command, AllocError> {
+    let claimed = call_made(book, put_test(alloc, EMPTY))
+        && call_made(book, ask(alloc, b"E", b"stdlib.cat"))
+        && call(book, Command::Claim);
+    if claimed {
+        give(alloc, book, 2)
+    } else {
+        Err(AllocError)
+    }
 }
 
-pub fn are_claims_spent(book: &Book, place: usize) -> bool {
-    matches!(refusal_at(book, place), Some(Refusal::ClaimsSpent))
+/// The return of a result of another book.
+fn foreign(alloc: Global) -> Result<Command, AllocError> {
+    match new_book(alloc, WIDE) {
+        Ok(mut book) => foreign_of(alloc, &mut book),
+        Err(AllocError) => Err(AllocError),
+    }
 }
 
-/// Whether this cat file was put again, and has this version now.
-pub fn is_replaced_file(book: &Book, place: usize, name: &[u8], version: u32) -> bool {
-    match refusal_at(book, place) {
-        Some(Refusal::Replaced(replacement)) => {
-            replacement.kind == SourceKind::Cat
-                && replacement.name.bytes() == name
-                && replacement.version == version
+/// Makes a step, and says whether that was done.
+fn make(alloc: Global, book: &mut Book, step: Step) -> bool {
+    let command = match step {
+        Step::Cat(file, bytes) => put_cat(alloc, file, bytes),
+        Step::Test(bytes) => put_test(alloc, bytes),
+        Step::Ask(test, cat) => ask(alloc, test, cat),
+        Step::Poll(job) => Ok(Command::Poll(job)),
+        Step::Claim => Ok(Command::Claim),
+        Step::Return(place) => give(alloc, book, place),
+        Step::Foreign => foreign(alloc),
+        Step::TestBack(bytes, entries) => {
+            return comes_back(alloc, book, bytes) && book.journal().len() == entries;
+        }
+    };
+    call_made(book, command)
+}
+
+fn is_replaced_file(replacement: &Replacement, name: &[u8], version: u32) -> bool {
+    replacement.kind == SourceKind::Cat
+        && replacement.name.bytes() == name
+        && replacement.version == version
+}
+
+fn is_refusal(refusal: &Refusal, answer: Answer) -> bool {
+    match (refusal, answer) {
+        (Refusal::Stranger(claim), Answer::Stranger) => *claim == 1,
+        (Refusal::VersionsSpent(_), Answer::VersionsSpent) => true,
+        (Refusal::ClaimsSpent, Answer::ClaimsSpent) => true,
+        (Refusal::Replaced(replacement), Answer::ReplacedFile(name, version)) => {
+            is_replaced_file(replacement, name, version)
         }
         _ => false,
+    }
+}
+
+fn is_reply(reply: &Reply, answer: Answer) -> bool {
+    match (reply, answer) {
+        (Reply::Version(_, found), Answer::Version(version)) => *found == version,
+        (Reply::Taken(done, all), Answer::Taken) => *done == 1 && *all == 1,
+        (Reply::Verdict(verdict), Answer::Verdict(positive, negative)) => {
+            let finding = verdict.verdict().finding();
+            finding.positive() == positive && finding.negative() == negative
+        }
+        (Reply::Refused(refusal), answer) => is_refusal(refusal, answer),
+        _ => false,
+    }
+}
+
+/// Whether a place of the journal has this answer.
+fn is_answered(book: &Book, place: usize, answer: Answer) -> bool {
+    match reply_at(book, place) {
+        Some(reply) => is_reply(reply, answer),
+        None => false,
+    }
+}
+
+fn make_all(alloc: Global, book: &mut Book, steps: &[Step]) -> bool {
+    for step in steps {
+        if !make(alloc, book, *step) {
+            return false;
+        }
+    }
+    true
+}
+
+fn are_answered(book: &Book, answers: &[(usize, Answer)]) -> bool {
+    for (place, answer) in answers {
+        if !is_answered(book, *place, *answer) {
+            return false;
+        }
+    }
+    true
+}
+
+fn plays_on(alloc: Global, book: &mut Book, script: &Script) -> bool {
+    make_all(alloc, book, script.steps) && are_answered(book, script.answers)
+}
+
+/// Whether the steps of a script can be made on an empty book, and are answered so.
+pub fn plays(alloc: Global, script: &Script) -> bool {
+    match new_book(alloc, script.limits) {
+        Ok(mut book) => plays_on(alloc, &mut book, script),
+        Err(AllocError) => false,
     }
 }
