@@ -3,114 +3,107 @@
 //!
 //! `tools/refuse-each-growth cat_tests growth::reading ..` runs these tests once for each request for memory.
 
-use crate::judging::{are_names, store_buffering};
-use cat_eval::{Judgement, judge};
+use crate::judging::{is_judged, says_of_order};
+use crate::loading::{self, has_parts};
+use crate::syntax::item_is_copied;
+use crate::texts::{EACH_KIND, confirm};
 use cat_model::{Files, Model, ModelFault, resolve};
 use cat_syntax::{CatFault, CatFile, Item, read_cat};
-use events::{Graph, GraphView, Order};
+use events::Order;
 use std::alloc::{AllocError, Global};
 use std::test::Fail;
 use wb_text::Name;
 
-/// A model with each kind of item and expression.
-const TEXT: &str =
-    "T let rec r = a | b ; c \\ d & W * R and s = ~(r+) let t = r* | r? | r^-1 | domain(r) | range(r) | [W] | 0 | {} | _ include \"b.cat\" flag ~empty r as none acyclic s show r as a, s unshow r, s";
-
-fn name(alloc: Global, bytes: &[u8]) -> Result<Name, Fail> {
-    match Name::new(alloc, bytes) {
+fn name(alloc: Global, name: &str) -> Result<Name, Fail> {
+    match Name::new(alloc, name.as_bytes()) {
         Ok(name) => Ok(name),
-        Err(_) => Ok(Name::new(alloc, bytes)?),
+        Err(_) => loading::named(alloc, name),
+    }
+}
+
+/// Reads a text once more for which memory was refused.
+fn read_again(alloc: Global, text: &str, fault: &CatFault) -> Result<CatFile, Fail> {
+    match fault {
+        CatFault::NoMemory => loading::read(alloc, text),
+        _ => Err(Fail::new("the text is a model")),
     }
 }
 
 fn read(alloc: Global, text: &str) -> Result<CatFile, Fail> {
     match read_cat(alloc, text.as_bytes()) {
         Ok(file) => Ok(file),
-        Err(CatFault::NoMemory) => Ok(read_cat(alloc, text.as_bytes())?),
-        Err(_) => Err(Fail::new("the text is a model")),
+        Err(fault) => read_again(alloc, text, &fault),
     }
 }
 
 #[test]
 fn reading(rt: HostRuntime) -> Result<(), Fail> {
-    let file = read(rt.alloc(), TEXT)?;
-    assert_eq!(rt; file.items().len(), 7);
-    let title = file.title().ok_or("there is a title")?;
-    assert!(rt; title.bytes() == b"T".as_slice());
-    Ok(())
+    let file = read(rt.alloc(), EACH_KIND)?;
+    confirm(has_parts(&file, b"T", 7), EACH_KIND)
 }
 
-/// Whether a text is refused for a word that the language leaves out, and not for want of memory.
+/// Whether a fault is a word that the language leaves out; nothing at want of memory.
+fn is_left_out(fault: &CatFault, word: &[u8]) -> Option<bool> {
+    match fault {
+        CatFault::Unsupported(name) => Some(name.bytes() == word),
+        CatFault::NoMemory => None,
+        _ => Some(false),
+    }
+}
+
+/// Whether a text is refused for a word that the language leaves out; nothing at want of memory.
 fn leaves_out(alloc: Global, text: &str, word: &[u8]) -> Option<bool> {
     match read_cat(alloc, text.as_bytes()) {
         Ok(_) => Some(false),
-        Err(CatFault::Unsupported(name)) => Some(name.bytes() == word),
-        Err(CatFault::NoMemory) => None,
-        Err(_) => Some(false),
+        Err(fault) => is_left_out(&fault, word),
     }
 }
 
 #[test]
 fn reading_a_fault(rt: HostRuntime) -> Result<(), Fail> {
-    let alloc = rt.alloc();
-    let told = match leaves_out(alloc, "let r = f(a)", b"f") {
+    let text = "let r = f(a)";
+    let told = match leaves_out(rt.alloc(), text, b"f") {
         Some(told) => Some(told),
-        None => leaves_out(alloc, "let r = f(a)", b"f"),
+        None => leaves_out(rt.alloc(), text, b"f"),
     };
-    assert!(rt; told == Some(true));
-    Ok(())
-}
-
-fn file_copy(file: &CatFile) -> Result<CatFile, AllocError> {
-    match file.copy() {
-        Ok(copy) => Ok(copy),
-        Err(_) => file.copy(),
-    }
-}
-
-fn item_copy(item: &Item) -> Result<Item, AllocError> {
-    match item.copy() {
-        Ok(copy) => Ok(copy),
-        Err(_) => item.copy(),
-    }
-}
-
-fn item_is_copied(item: &Item) -> Result<bool, AllocError> {
-    let copy = item_copy(item)?;
-    Ok(copy == *item)
-}
-
-fn items_are_copied(items: &[Item]) -> Result<bool, AllocError> {
-    for item in items {
-        if !item_is_copied(item)? {
-            return Ok(false);
-        }
-    }
-    Ok(true)
+    confirm(told == Some(true), text)
 }
 
 /// Whether a file's copy is equal to it, and to another that was read from the same text.
 fn file_is_copied(file: &CatFile, again: &CatFile) -> Result<bool, AllocError> {
-    let copy = file_copy(file)?;
+    let copy = file.copy()?;
     Ok(copy == *file && copy == *again)
 }
 
-fn text_is_copied(alloc: Global, text: &str) -> Result<bool, Fail> {
-    let file = read(alloc, text)?;
-    let again = read(alloc, text)?;
-    Ok(file_is_copied(&file, &again)?)
+fn confirm_file(file: &CatFile, again: &CatFile) -> Result<(), Fail> {
+    let copied = match file_is_copied(file, again) {
+        Ok(copied) => copied,
+        Err(_) => file_is_copied(file, again)?,
+    };
+    confirm(copied, "the file")
 }
 
-fn items_of_text_are_copied(alloc: Global, text: &str) -> Result<bool, Fail> {
-    let file = read(alloc, text)?;
-    Ok(items_are_copied(file.items())?)
+fn confirm_item(item: &Item) -> Result<(), Fail> {
+    let copied = match item_is_copied(item) {
+        Ok(copied) => copied,
+        Err(_) => item_is_copied(item)?,
+    };
+    confirm(copied, "an item")
+}
+
+/// The copies of a file and of each of its items are equal to them, and the file's to what is read again.
+fn all_is_copied(alloc: Global, file: &CatFile, text: &str) -> Result<(), Fail> {
+    for item in file.items() {
+        confirm_item(item)?;
+    }
+    let again = read(alloc, text)?;
+    confirm_file(file, &again)
 }
 
 #[test]
 fn copying(rt: HostRuntime) -> Result<(), Fail> {
-    assert!(rt; text_is_copied(rt.alloc(), TEXT)?);
-    assert!(rt; items_of_text_are_copied(rt.alloc(), TEXT)?);
-    Ok(())
+    let file = read(rt.alloc(), EACH_KIND)?;
+    all_is_copied(rt.alloc(), &file, EACH_KIND)
 }
 
 fn new_files(alloc: Global) -> Result<Files, AllocError> {
@@ -120,180 +113,202 @@ fn new_files(alloc: Global) -> Result<Files, AllocError> {
     }
 }
 
-/// Puts a text under a name that was never put. A call that is refused hands its file back and changes nothing.
-fn put(alloc: Global, files: &mut Files, bytes: &[u8], text: &str) -> Result<(), Fail> {
-    let name = name(alloc, bytes)?;
-    let file = read(alloc, text)?;
+/// Whether a file can be put once more; nothing if the refused call, which has handed it back, has changed anything.
+fn put_again(files: &mut Files, name: Name, file: CatFile) -> Option<bool> {
+    let changed = files.is_loaded(&name) || file.items().is_empty();
+    if changed || files.version(&name) != 0 {
+        return None;
+    }
+    Some(files.put(name, 1, file).is_ok())
+}
+
+/// Puts a file under a name that was never put.
+fn put_first(files: &mut Files, name: Name, file: CatFile) -> Result<(), Fail> {
     if files.version(&name) != 0 {
         return Err(Fail::new("the name is new"));
     }
-    match files.put(name, 1, file) {
-        Ok(()) => Ok(()),
-        Err((name, file, _)) => {
-            if files.version(&name) != 0 || files.is_loaded(&name) || file.items().is_empty() {
-                return Err(Fail::new("a refused call leaves things as they were"));
-            }
-            match files.put(name, 1, file) {
-                Ok(()) => Ok(()),
-                Err(_) => Err(Fail::new("refused once more")),
-            }
-        }
+    let again = match files.put(name, 1, file) {
+        Ok(()) => Some(true),
+        Err((name, file, _)) => put_again(files, name, file),
+    };
+    match again {
+        Some(true) => Ok(()),
+        Some(false) => Err(Fail::new("refused once more")),
+        None => Err(Fail::new("a refused call leaves things as they were")),
     }
 }
 
-/// Files of a root that includes two others, one of them built in.
-fn two_files(alloc: Global) -> Result<Files, Fail> {
-    let mut files = new_files(alloc)?;
-    put(alloc, &mut files, b"base.cat", "let com = rf | co | fr")?;
-    put(
-        alloc,
-        &mut files,
-        b"root.cat",
-        "include \"base.cat\" include \"rc11.cat\" flag ~empty fr as read acyclic po | com as sc",
-    )?;
-    Ok(files)
+/// Puts a text under a name that was never put.
+fn put(alloc: Global, files: &mut Files, written: &str, text: &str) -> Result<(), Fail> {
+    let name = name(alloc, written)?;
+    let file = read(alloc, text)?;
+    put_first(files, name, file)
 }
 
-/// Whether a file is loaded at its first version.
-fn is_put(alloc: Global, files: &Files, bytes: &[u8]) -> Result<bool, Fail> {
-    let name = name(alloc, bytes)?;
-    Ok(files.is_loaded(&name) && files.version(&name) == 1)
-}
-
-/// Whether the two files of `two_files` are put, and no third.
-fn two_are_put(alloc: Global, files: &Files) -> Result<bool, Fail> {
-    let base = is_put(alloc, files, b"base.cat")?;
-    let root = is_put(alloc, files, b"root.cat")?;
-    Ok(base && root && files.name_at(2).is_none())
-}
-
-#[test]
-fn putting(rt: HostRuntime) -> Result<(), Fail> {
-    let files = two_files(rt.alloc())?;
-    assert!(rt; two_are_put(rt.alloc(), &files)?);
+fn put_all(alloc: Global, files: &mut Files, texts: &[(&str, &str)]) -> Result<(), Fail> {
+    for (name, text) in texts {
+        put(alloc, files, name, text)?;
+    }
     Ok(())
 }
 
-fn model(alloc: Global, files: &Files, root: &Name) -> Result<Model, Fail> {
-    match resolve(alloc, files, root) {
-        Ok(model) => Ok(model),
-        Err(ModelFault::NoMemory) => Ok(resolve(alloc, files, root)?),
-        Err(_) => Err(Fail::new("the files give a model")),
+/// What is to hold of files whose root is `root.cat`.
+#[derive(Clone, Copy)]
+enum Fact {
+    /// Two files are loaded at their first version, and no third.
+    TwoArePut,
+    /// The root's model has so many items, and comes from so many files.
+    Counts(usize, usize),
+    /// The copy of the root's model is equal to a second model of the root.
+    IsCopied,
+    /// The root's model forbids store buffering with plain accesses, and raises these flags.
+    Forbids(&'static [&'static str]),
+    /// The root is refused for this name as unbound.
+    Unbound(&'static [u8]),
+}
+
+/// Whether a file was put first as the one of this number, and is loaded at its first version.
+fn is_put(files: &Files, place: usize, wanted: &[u8]) -> bool {
+    match files.name_at(place) {
+        Some(name) => name.bytes() == wanted && files.is_loaded(name) && files.version(name) == 1,
+        None => false,
     }
 }
 
-/// The model of the root of `two_files`.
-fn two_files_model(alloc: Global) -> Result<Model, Fail> {
-    let files = two_files(alloc)?;
-    let root = name(alloc, b"root.cat")?;
-    model(alloc, &files, &root)
+/// Whether two files are loaded at their first version, and no third.
+fn two_are_put(files: &Files) -> bool {
+    is_put(files, 0, b"base.cat") && is_put(files, 1, b"root.cat") && files.name_at(2).is_none()
+}
+
+/// Whether a fact is that a root is refused for this name as unbound.
+fn is_unbound(name: &Name, fact: Fact) -> bool {
+    match fact {
+        Fact::Unbound(bytes) => name.bytes() == bytes,
+        _ => false,
+    }
+}
+
+/// Whether a fault is the one wanted; nothing at want of memory.
+fn fault_is(fault: &ModelFault, fact: Fact) -> Option<bool> {
+    match fault {
+        ModelFault::Unbound(name) => Some(is_unbound(name, fact)),
+        ModelFault::NoMemory => None,
+        _ => Some(false),
+    }
+}
+
+/// Whether a model's copy is equal to a second model; nothing at want of memory.
+fn model_is_copied(first: &Model, second: &Model) -> Option<bool> {
+    match first.copy() {
+        Ok(copy) => Some(copy == *second),
+        Err(_) => None,
+    }
+}
+
+/// Whether a model's copy is equal to a second model of a root; nothing at want of memory.
+fn second_is_copy(alloc: Global, files: &Files, root: &Name, first: &Model) -> Option<bool> {
+    match resolve(alloc, files, root) {
+        Ok(second) => model_is_copied(first, &second),
+        Err(fault) => fault_is(&fault, Fact::IsCopied),
+    }
+}
+
+/// Whether a model's copy is equal to a second model of a root.
+fn is_copied(alloc: Global, files: &Files, root: &Name, first: &Model) -> bool {
+    match second_is_copy(alloc, files, root, first) {
+        Some(copied) => copied,
+        None => second_is_copy(alloc, files, root, first) == Some(true),
+    }
+}
+
+/// Whether a model forbids store buffering with plain accesses, and raises these flags.
+fn forbids(alloc: Global, model: &Model, flags: &[&str]) -> bool {
+    match says_of_order(alloc, model, Order::Na, false, flags) {
+        Ok(told) => told,
+        Err(_) => is_judged(alloc, model, Order::Na, false, flags),
+    }
+}
+
+/// Whether a fact holds of the model of a root.
+fn model_has(alloc: Global, files: &Files, root: &Name, model: &Model, fact: Fact) -> bool {
+    match fact {
+        Fact::Counts(items, count) => model.items().len() == items && model.files().len() == count,
+        Fact::IsCopied => is_copied(alloc, files, root, model),
+        Fact::Forbids(flags) => forbids(alloc, model, flags),
+        _ => false,
+    }
+}
+
+/// Whether a fact holds of what a root is resolved to; nothing at want of memory.
+fn resolves(alloc: Global, files: &Files, root: &Name, fact: Fact) -> Option<bool> {
+    match resolve(alloc, files, root) {
+        Ok(model) => Some(model_has(alloc, files, root, &model, fact)),
+        Err(fault) => fault_is(&fault, fact),
+    }
+}
+
+/// A fact holds of what the root is resolved to.
+fn confirm_root(alloc: Global, files: &Files, fact: Fact) -> Result<(), Fail> {
+    let root = name(alloc, "root.cat")?;
+    let told = match resolves(alloc, files, &root, fact) {
+        Some(told) => Some(told),
+        None => resolves(alloc, files, &root, fact),
+    };
+    confirm(told == Some(true), "what the root is resolved to")
+}
+
+/// A fact holds of files once these are put.
+fn put_and_confirm(
+    alloc: Global,
+    files: &mut Files,
+    texts: &[(&str, &str)],
+    fact: Fact,
+) -> Result<(), Fail> {
+    put_all(alloc, files, texts)?;
+    match fact {
+        Fact::TwoArePut => confirm(two_are_put(files), "two files"),
+        _ => confirm_root(alloc, files, fact),
+    }
+}
+
+/// A fact holds of files with these texts.
+fn confirm_files(alloc: Global, texts: &[(&str, &str)], fact: Fact) -> Result<(), Fail> {
+    let mut files = new_files(alloc)?;
+    put_and_confirm(alloc, &mut files, texts, fact)
+}
+
+/// The files of a root that includes two others, one of them built in.
+const TWO_FILES: &[(&str, &str)] = &[
+    ("base.cat", "let com = rf | co | fr"),
+    (
+        "root.cat",
+        "include \"base.cat\" include \"rc11.cat\" flag ~empty fr as read acyclic po | com as sc",
+    ),
+];
+
+#[test]
+fn putting(rt: HostRuntime) -> Result<(), Fail> {
+    confirm_files(rt.alloc(), TWO_FILES, Fact::TwoArePut)
 }
 
 #[test]
 fn resolving(rt: HostRuntime) -> Result<(), Fail> {
-    let model = two_files_model(rt.alloc())?;
-    assert_eq!(rt; model.items().len(), 23);
-    assert_eq!(rt; model.files().len(), 3);
-    Ok(())
-}
-
-/// The name of which a root is refused as unbound, or nothing at want of memory.
-fn unbound(alloc: Global, files: &Files, root: &Name) -> Result<Option<Name>, Fail> {
-    match resolve(alloc, files, root) {
-        Err(ModelFault::Unbound(name)) => Ok(Some(name)),
-        Err(ModelFault::NoMemory) => Ok(None),
-        _ => Err(Fail::new("the files give no model")),
-    }
-}
-
-/// The name of which a root is refused as unbound.
-fn unbound_at_last(alloc: Global, files: &Files, root: &Name) -> Result<Name, Fail> {
-    let told = match unbound(alloc, files, root)? {
-        Some(told) => Some(told),
-        None => unbound(alloc, files, root)?,
-    };
-    Ok(told.ok_or("refused once more")?)
-}
-
-/// The name of which a root of this text is refused as unbound.
-fn unbound_in(alloc: Global, text: &str) -> Result<Name, Fail> {
-    let mut files = new_files(alloc)?;
-    put(alloc, &mut files, b"root.cat", text)?;
-    let root = name(alloc, b"root.cat")?;
-    unbound_at_last(alloc, &files, &root)
-}
-
-#[test]
-fn resolving_a_fault(rt: HostRuntime) -> Result<(), Fail> {
-    let told = unbound_in(rt.alloc(), "include \"rc11.cat\" let r = po | later")?;
-    assert!(rt; told.bytes() == b"later".as_slice());
-    Ok(())
-}
-
-fn model_copy(model: &Model) -> Result<Model, AllocError> {
-    match model.copy() {
-        Ok(copy) => Ok(copy),
-        Err(_) => model.copy(),
-    }
-}
-
-/// Whether a model's copy is equal to a second model of the same files.
-fn model_is_copied(first: &Model, second: &Model) -> Result<bool, AllocError> {
-    let copy = model_copy(first)?;
-    Ok(copy == *second)
-}
-
-fn models_are_copied(alloc: Global, files: &Files, root: &Name) -> Result<bool, Fail> {
-    let first = model(alloc, files, root)?;
-    let second = model(alloc, files, root)?;
-    Ok(model_is_copied(&first, &second)?)
+    confirm_files(rt.alloc(), TWO_FILES, Fact::Counts(23, 3))
 }
 
 #[test]
 fn copying_a_model(rt: HostRuntime) -> Result<(), Fail> {
-    let files = two_files(rt.alloc())?;
-    let root = name(rt.alloc(), b"root.cat")?;
-    assert!(rt; models_are_copied(rt.alloc(), &files, &root)?);
-    Ok(())
-}
-
-fn graph(alloc: Global, order: Order) -> Result<Graph, AllocError> {
-    match store_buffering(alloc, order) {
-        Ok(graph) => Ok(graph),
-        Err(_) => store_buffering(alloc, order),
-    }
-}
-
-fn view<'a>(alloc: Global, graph: &'a Graph) -> Result<GraphView<'a>, AllocError> {
-    match GraphView::of(alloc, graph) {
-        Ok(view) => Ok(view),
-        Err(_) => GraphView::of(alloc, graph),
-    }
-}
-
-fn judged(alloc: Global, model: &Model, view: &GraphView) -> Result<Judgement, AllocError> {
-    match judge(alloc, model, view) {
-        Ok(judgement) => Ok(judgement),
-        Err(_) => judge(alloc, model, view),
-    }
-}
-
-/// What a model says of store buffering with plain accesses.
-fn plain_judged(alloc: Global, model: &Model) -> Result<Judgement, AllocError> {
-    let graph = graph(alloc, Order::Na)?;
-    let view = view(alloc, &graph)?;
-    judged(alloc, model, &view)
-}
-
-fn two_files_judged(alloc: Global) -> Result<Judgement, Fail> {
-    let model = two_files_model(alloc)?;
-    Ok(plain_judged(alloc, &model)?)
+    confirm_files(rt.alloc(), TWO_FILES, Fact::IsCopied)
 }
 
 #[test]
 fn judging(rt: HostRuntime) -> Result<(), Fail> {
-    let judgement = two_files_judged(rt.alloc())?;
-    assert!(rt; !judgement.allowed());
-    assert!(rt; are_names(judgement.flags(), &["data-race", "read"]));
-    Ok(())
+    confirm_files(rt.alloc(), TWO_FILES, Fact::Forbids(&["data-race", "read"]))
+}
+
+const LATER: &[(&str, &str)] = &[("root.cat", "include \"rc11.cat\" let r = po | later")];
+
+#[test]
+fn resolving_a_fault(rt: HostRuntime) -> Result<(), Fail> {
+    confirm_files(rt.alloc(), LATER, Fact::Unbound(b"later"))
 }

@@ -1,7 +1,8 @@
 //! What models say of executions that are made by hand.
 
-use crate::loading::model;
-use cat_eval::{Judgement, judge};
+use crate::loading::{Fact, all_alone};
+use cat_eval::judge;
+use cat_model::Model;
 use events::EventId::{Initial, Own};
 use events::{Access, Coherence, Event, Graph, GraphView, Order, Run, no_places};
 use std::alloc::{AllocError, Global};
@@ -25,7 +26,7 @@ fn event(thread: usize, access: Access, loc: usize, value: u32, order: Order) ->
 ///
 /// Events 0 and 1 are the initial writes of x and y, 2 and 3 the write of x and the read of y of P0, 4 and 5 the write of
 /// y and the read of x of P1. So po is (2,3) (4,5), rf (1,3) (0,5), co (0,2) (1,4), and fr (3,4) (5,2).
-pub fn store_buffering(alloc: Global, order: Order) -> Result<Graph, AllocError> {
+fn store_buffering(alloc: Global, order: Order) -> Result<Graph, AllocError> {
     let first = vec![in alloc;
         event(0, Access::Write, 0, 1, order),
         event(0, Access::Read, 1, 0, order),
@@ -57,7 +58,7 @@ fn is_among(names: &[Name], wanted: &str) -> bool {
 }
 
 /// Whether these are the names, in any order.
-pub fn are_names(names: &[Name], wanted: &[&str]) -> bool {
+fn are_names(names: &[Name], wanted: &[&str]) -> bool {
     for name in wanted {
         if !is_among(names, name) {
             return false;
@@ -66,145 +67,137 @@ pub fn are_names(names: &[Name], wanted: &[&str]) -> bool {
     names.len() == wanted.len()
 }
 
-/// What the model of a text says of an execution.
-fn judged(alloc: Global, view: &GraphView, text: &str) -> Result<Judgement, Fail> {
-    let model = model(alloc, text)?;
-    Ok(judge(alloc, &model, view)?)
-}
-
-/// Whether the model of a text says this of an execution.
+/// Whether a model says this of an execution.
 fn says(
     alloc: Global,
     view: &GraphView,
-    text: &str,
+    model: &Model,
     allowed: bool,
     flags: &[&str],
-) -> Result<bool, Fail> {
-    let judgement = judged(alloc, view, text)?;
+) -> Result<bool, AllocError> {
+    let judgement = judge(alloc, model, view)?;
     Ok(judgement.allowed() == allowed && are_names(judgement.flags(), flags))
 }
 
-/// Whether each text allows or forbids an execution, and flags nothing.
-fn all_say_of(
+fn says_of_graph(
     alloc: Global,
-    view: &GraphView,
+    graph: &Graph,
+    model: &Model,
     allowed: bool,
-    texts: &[&str],
-) -> Result<bool, Fail> {
-    for text in texts {
-        if !says(alloc, view, text, allowed, &[])? {
-            return Ok(false);
-        }
-    }
-    Ok(true)
+    flags: &[&str],
+) -> Result<bool, AllocError> {
+    let view = GraphView::of(alloc, graph)?;
+    says(alloc, &view, model, allowed, flags)
 }
 
-/// Whether each text allows or forbids store buffering of this order, and flags nothing.
-fn all_say(alloc: Global, order: Order, allowed: bool, texts: &[&str]) -> Result<bool, Fail> {
+/// Whether a model says this of store buffering of this order.
+pub fn says_of_order(
+    alloc: Global,
+    model: &Model,
+    order: Order,
+    allowed: bool,
+    flags: &[&str],
+) -> Result<bool, AllocError> {
     let graph = store_buffering(alloc, order)?;
-    let view = GraphView::of(alloc, &graph)?;
-    all_say_of(alloc, &view, allowed, texts)
+    says_of_graph(alloc, &graph, model, allowed, flags)
 }
+
+/// Whether a model is judged so of store buffering of this order.
+pub fn is_judged(
+    alloc: Global,
+    model: &Model,
+    order: Order,
+    allowed: bool,
+    flags: &[&str],
+) -> bool {
+    matches!(says_of_order(alloc, model, order, allowed, flags), Ok(true))
+}
+
+/// Store buffering of relaxed accesses is allowed.
+const ALLOWS: Fact = Fact::Says(Order::Rlx, true, &[]);
+
+/// Store buffering of relaxed accesses is forbidden.
+const FORBIDS: Fact = Fact::Says(Order::Rlx, false, &[]);
+
+const ALLOWED: &[(&str, Fact)] = &[
+    ("", ALLOWS),
+    ("acyclic rf | co | fr", ALLOWS),
+    ("~acyclic po | fr", ALLOWS),
+    ("irreflexive po ; fr", ALLOWS),
+    ("empty rmw", ALLOWS),
+    ("empty R & W empty F empty {}", ALLOWS),
+    ("empty [R] ; rf", ALLOWS),
+    ("empty domain(rf) \\ IW", ALLOWS),
+    ("empty range(rf) \\ R", ALLOWS),
+    ("empty rf \\ IW * R", ALLOWS),
+    ("empty rf & rf^-1", ALLOWS),
+    ("empty _ \\ (W | R)", ALLOWS),
+    ("acyclic po+", ALLOWS),
+    ("let fr = 0 empty fr", ALLOWS),
+    ("let po = fr and fr = po empty po & fr", ALLOWS),
+    ("let rec r = r ; po empty r", ALLOWS),
+    ("let rec r = po | r ; r irreflexive r", ALLOWS),
+    ("empty ~(_ * _)", ALLOWS),
+    ("irreflexive ~id", ALLOWS),
+    ("include \"rc11.cat\"", ALLOWS),
+];
 
 #[test]
 fn allowed(rt: HostRuntime) -> Result<(), Fail> {
-    let texts = [
-        "",
-        "acyclic rf | co | fr",
-        "~acyclic po | fr",
-        "irreflexive po ; fr",
-        "empty rmw",
-        "empty R & W empty F empty {}",
-        "empty [R] ; rf",
-        "empty domain(rf) \\ IW",
-        "empty range(rf) \\ R",
-        "empty rf \\ IW * R",
-        "empty rf & rf^-1",
-        "empty _ \\ (W | R)",
-        "acyclic po+",
-        "let fr = 0 empty fr",
-        "let po = fr and fr = po empty po & fr",
-        "let rec r = r ; po empty r",
-        "let rec r = po | r ; r irreflexive r",
-        "empty ~(_ * _)",
-        "irreflexive ~id",
-    ];
-    assert!(rt; all_say(rt.alloc(), Order::Rlx, true, &texts)?);
-    Ok(())
+    all_alone(rt.alloc(), ALLOWED)
 }
+
+const FORBIDDEN: &[(&str, Fact)] = &[
+    ("acyclic po | rf | co | fr", FORBIDS),
+    ("acyclic po | fr empty rmw", FORBIDS),
+    ("~acyclic po", FORBIDS),
+    ("irreflexive po ; fr ; po ; fr", FORBIDS),
+    ("empty fr", FORBIDS),
+    ("empty W \\ IW", FORBIDS),
+    ("empty [W] ; rf", FORBIDS),
+    ("empty domain(rf) & IW", FORBIDS),
+    ("empty rf & IW * R", FORBIDS),
+    ("irreflexive po?", FORBIDS),
+    ("irreflexive po*", FORBIDS),
+    ("irreflexive (po ; fr)+", FORBIDS),
+    ("empty fr let fr = 0", FORBIDS),
+    ("let rec r = po | r ; r empty r", FORBIDS),
+    ("let rec r = po | fr | r ; r irreflexive r", FORBIDS),
+    (
+        "let rec a = po | po ; b and b = fr ; a irreflexive a ; fr",
+        FORBIDS,
+    ),
+    ("empty ~0", FORBIDS),
+    ("acyclic ~id", FORBIDS),
+    ("include \"rc11.cat\"", Fact::Says(Order::Sc, false, &[])),
+];
 
 #[test]
 fn forbidden(rt: HostRuntime) -> Result<(), Fail> {
-    let texts = [
-        "acyclic po | rf | co | fr",
-        "acyclic po | fr empty rmw",
-        "~acyclic po",
-        "irreflexive po ; fr ; po ; fr",
-        "empty fr",
-        "empty W \\ IW",
-        "empty [W] ; rf",
-        "empty domain(rf) & IW",
-        "empty rf & IW * R",
-        "irreflexive po?",
-        "irreflexive po*",
-        "irreflexive (po ; fr)+",
-        "empty fr let fr = 0",
-        "let rec r = po | r ; r empty r",
-        "let rec r = po | fr | r ; r irreflexive r",
-        "let rec a = po | po ; b and b = fr ; a irreflexive a ; fr",
-        "empty ~0",
-        "acyclic ~id",
-    ];
-    assert!(rt; all_say(rt.alloc(), Order::Rlx, false, &texts)?);
-    Ok(())
+    all_alone(rt.alloc(), FORBIDDEN)
 }
 
-#[test]
-fn orders_of_rc11(rt: HostRuntime) -> Result<(), Fail> {
-    let texts = ["include \"rc11.cat\""];
-    assert!(rt; all_say(rt.alloc(), Order::Rlx, true, &texts)?);
-    assert!(rt; all_say(rt.alloc(), Order::Sc, false, &texts)?);
-    Ok(())
-}
-
-/// Whether the model of each text says this of an execution.
-fn all_flag_of(
-    alloc: Global,
-    view: &GraphView,
-    rows: &[(&str, bool, &[&str])],
-) -> Result<bool, Fail> {
-    for (text, allowed, flags) in rows {
-        if !says(alloc, view, text, *allowed, flags)? {
-            return Ok(false);
-        }
-    }
-    Ok(true)
-}
-
-/// Whether the model of each text says this of store buffering with plain accesses.
-fn all_flag(alloc: Global, rows: &[(&str, bool, &[&str])]) -> Result<bool, Fail> {
-    let graph = store_buffering(alloc, Order::Na)?;
-    let view = GraphView::of(alloc, &graph)?;
-    all_flag_of(alloc, &view, rows)
-}
+const FLAGS: &[(&str, Fact)] = &[
+    (
+        "flag ~empty fr as read",
+        Fact::Says(Order::Na, true, &["read"]),
+    ),
+    ("flag empty fr as none", Fact::Says(Order::Na, true, &[])),
+    (
+        "flag ~empty fr as b flag ~empty rf as a flag ~empty co as b",
+        Fact::Says(Order::Na, true, &["a", "b"]),
+    ),
+    (
+        "flag ~empty fr as read acyclic po | fr as order flag acyclic po as late",
+        Fact::Says(Order::Na, false, &["read", "late"]),
+    ),
+    (
+        "include \"rc11.cat\"",
+        Fact::Says(Order::Na, true, &["data-race"]),
+    ),
+];
 
 #[test]
 fn flags(rt: HostRuntime) -> Result<(), Fail> {
-    let rows: [(&str, bool, &[&str]); 5] = [
-        ("flag ~empty fr as read", true, &["read"]),
-        ("flag empty fr as none", true, &[]),
-        (
-            "flag ~empty fr as b flag ~empty rf as a flag ~empty co as b",
-            true,
-            &["a", "b"],
-        ),
-        (
-            "flag ~empty fr as read acyclic po | fr as order flag acyclic po as late",
-            false,
-            &["read", "late"],
-        ),
-        ("include \"rc11.cat\"", true, &["data-race"]),
-    ];
-    assert!(rt; all_flag(rt.alloc(), &rows)?);
-    Ok(())
+    all_alone(rt.alloc(), FLAGS)
 }

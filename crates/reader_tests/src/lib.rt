@@ -4,6 +4,8 @@
 #[cfg(test)]
 mod answers;
 #[cfg(test)]
+mod copies;
+#[cfg(test)]
 mod growth;
 #[cfg(test)]
 mod refusals;

@@ -8,14 +8,42 @@ const FENCE: &str = "atomic_thread_fence(memory_order_seq_cst);";
 
 const LOAD: &str = "atomic_load_explicit(x,memory_order_relaxed);";
 
-/// Fails at the first row that isn't answered by its last text. A row's text is a start, a part some times, and an end.
-fn all_repeats_answered(
+/// A text that is a start, a part some times, and an end; and its answer.
+type Repeats = (
+    &'static str,
+    &'static str,
+    usize,
+    &'static str,
+    &'static str,
+);
+
+/// Texts that nest: what stands before, what opens a level, what the last level holds, what closes a level, and what stands
+/// behind.
+type Nesting = (
+    &'static str,
+    &'static str,
+    &'static str,
+    &'static str,
+    &'static str,
+);
+
+/// Whether a text that nests so deep is answered so.
+fn nests_to(
     alloc: Global,
-    rows: &[(&'static str, &str, usize, &str, &str)],
-) -> Result<(), Fail> {
+    nesting: &Nesting,
+    depth: usize,
+    wanted: &str,
+) -> Result<bool, AllocError> {
+    let (front, open, inner, close, back) = *nesting;
+    let opened = repeated(alloc, front, open, depth, inner)?;
+    let text = repeated(alloc, opened.as_str(), close, depth, back)?;
+    is_answered(alloc, text.as_str(), wanted)
+}
+
+/// Fails at the first row that isn't answered by its last text.
+fn all_repeats_answered(alloc: Global, rows: &[Repeats]) -> Result<(), Fail> {
     for (start, part, times, end, wanted) in rows {
-        let text = repeated(alloc, start, part, *times, end)?;
-        if !is_answered(alloc, text.as_str(), wanted)? {
+        if !nests_to(alloc, &(*start, *part, *end, "", ""), *times, wanted)? {
             return Err(Fail::new(*start));
         }
     }
@@ -24,37 +52,37 @@ fn all_repeats_answered(
 
 #[test]
 fn longest_way(rt: HostRuntime) -> Result<(), Fail> {
-    let start = "C E\n{}P0(atomic_int*x){";
-    let end = "}exists true";
-    let rows = [
-        (start, FENCE, 63, end, "a test"),
-        (start, FENCE, 64, end, "21 TooManyEvents"),
+    const START: &str = "C E\n{}P0(atomic_int*x){";
+    const END: &str = "}exists true";
+    const ROWS: [Repeats; 3] = [
+        (START, FENCE, 63, END, "a test"),
+        (START, FENCE, 64, END, "21 TooManyEvents"),
         (
             "C E\n{}P0(atomic_int*x){int r;",
             "if (r) atomic_exchange(x,1); else atomic_load(x);",
             32,
-            end,
+            END,
             "21 TooManyEvents",
         ),
     ];
-    all_repeats_answered(rt.alloc(), &rows)
+    all_repeats_answered(rt.alloc(), &ROWS)
 }
 
 #[test]
 fn events(rt: HostRuntime) -> Result<(), Fail> {
-    let start = "C a\n{}P0(atomic_int*x){";
-    let end = "}exists x=0";
-    let rows = [
-        (start, LOAD, 63, end, "a test"),
-        (start, LOAD, 64, end, "21 TooManyEvents"),
+    const START: &str = "C a\n{}P0(atomic_int*x){";
+    const END: &str = "}exists x=0";
+    const ROWS: [Repeats; 2] = [
+        (START, LOAD, 63, END, "a test"),
+        (START, LOAD, 64, END, "21 TooManyEvents"),
     ];
-    all_repeats_answered(rt.alloc(), &rows)
+    all_repeats_answered(rt.alloc(), &ROWS)
 }
 
 /// Each text has two faults, of which the first is told.
 #[test]
 fn first_refusal(rt: HostRuntime) -> Result<(), Fail> {
-    let rows = [
+    const ROWS: [Repeats; 8] = [
         // of 12, 13, 17 and 18 the first from the left
         (
             "C a\n{}P0(atomic_int*x){int r=",
@@ -104,40 +132,17 @@ fn first_refusal(rt: HostRuntime) -> Result<(), Fail> {
             "22 TooManyValues",
         ),
     ];
-    all_repeats_answered(rt.alloc(), &rows)
+    all_repeats_answered(rt.alloc(), &ROWS)
 }
 
 #[test]
 fn nested_parentheses(rt: HostRuntime) -> Result<(), Fail> {
-    let closed = "x=0))))))))))))))))))))))))))))))))";
-    let rows = [
-        ("C a\n{x}P0(){}exists ", "(", 32, closed, "a test"),
-        ("C a\n{x}P0(){}exists (", "(", 32, closed, "18 TooDeep"),
+    const CLOSED: &str = "x=0))))))))))))))))))))))))))))))))";
+    const ROWS: [Repeats; 2] = [
+        ("C a\n{x}P0(){}exists ", "(", 32, CLOSED, "a test"),
+        ("C a\n{x}P0(){}exists (", "(", 32, CLOSED, "18 TooDeep"),
     ];
-    all_repeats_answered(rt.alloc(), &rows)
-}
-
-/// Texts that nest: what stands before, what opens a level, what the last level holds, what closes a level, and what stands
-/// behind.
-type Nesting = (
-    &'static str,
-    &'static str,
-    &'static str,
-    &'static str,
-    &'static str,
-);
-
-/// Whether a text that nests so deep is answered so.
-fn nests_to(
-    alloc: Global,
-    nesting: &Nesting,
-    depth: usize,
-    wanted: &str,
-) -> Result<bool, AllocError> {
-    let (front, open, inner, close, back) = *nesting;
-    let opened = repeated(alloc, front, open, depth, inner)?;
-    let text = repeated(alloc, opened.as_str(), close, depth, back)?;
-    is_answered(alloc, text.as_str(), wanted)
+    all_repeats_answered(rt.alloc(), &ROWS)
 }
 
 /// Whether each text is a test at 32 levels, and too deep at 33.
@@ -152,7 +157,7 @@ fn all_nest(alloc: Global, rows: &[Nesting]) -> Result<bool, AllocError> {
 
 #[test]
 fn each_kind_of_nesting(rt: HostRuntime) -> Result<(), Fail> {
-    let rows = [
+    const ROWS: [Nesting; 9] = [
         ("C a\n{}P0(){int r=", "(", "1", ")", ";}exists true"),
         ("C a\n{}P0(){int r=", "!", "1", "", ";}exists true"),
         ("C a\n{}P0(){", "{", "", "}", "}exists true"),
@@ -163,6 +168,6 @@ fn each_kind_of_nesting(rt: HostRuntime) -> Result<(), Fail> {
         ("C a\n{x}P0(){}exists ", "(", "x=0", ")", ""),
         ("C a\n{x}P0(){}exists ", "x=0 => ", "x=0", "", ""),
     ];
-    assert!(rt; all_nest(rt.alloc(), &rows)?);
+    assert!(rt; all_nest(rt.alloc(), &ROWS)?);
     Ok(())
 }

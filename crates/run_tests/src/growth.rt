@@ -2,23 +2,11 @@
 //! that is refused answers NoMemory, and made again it gives its own answer. So `tools/refuse-each-growth` runs the tests
 //! once for each request.
 
-use crate::texts::SB;
-use c11_threads::{RunFault, runs};
-use candidates::{Space, SpaceFault};
-use events::{Access, Graph, Order, Run};
-use litmus_c::{Test, TestFault, read_test};
+use crate::texts::{OfSpace, SB, any, ask_space, count_executions, has_runs, size};
+use candidates::SpaceFault;
+use events::{Access, Order, Run};
 use std::alloc::Global;
 use std::test::Fail;
-
-/// A call's answer, made again once where it was refused so.
-macro_rules! again {
-    ($refused:pat, $call:expr) => {
-        match $call {
-            Err($refused) => $call,
-            answer => answer,
-        }
-    };
-}
 
 const TEXT: &str = "C G
 { int x=3; 1:q=2; y }
@@ -35,33 +23,6 @@ locations [y; 0:b]
 forall ~(1:q=2 /\\ x=1) \\/ 0:a=0 => (true \\/ false)
 ";
 
-/// The answer to a text.
-fn answer_to(alloc: Global, text: &str) -> Result<Test, TestFault> {
-    again!(TestFault::NoMemory, read_test(alloc, text.as_bytes()))
-}
-
-/// The test that a text spells.
-fn test_of(alloc: Global, text: &str) -> Result<Test, Fail> {
-    match answer_to(alloc, text) {
-        Ok(test) => Ok(test),
-        Err(_) => Err(Fail::new("the text is a test")),
-    }
-}
-
-/// The runs of a thread of a test.
-fn runs_in(alloc: Global, test: &Test, thread: usize) -> Result<Vec<Run>, Fail> {
-    if thread >= test.threads().len() {
-        return Err(Fail::new("the test has this thread"));
-    }
-    Ok(again!(RunFault::NoMemory, runs(alloc, test, thread))?)
-}
-
-/// The runs of a thread of the test that a text spells.
-fn runs_of(alloc: Global, text: &str, thread: usize) -> Result<Vec<Run>, Fail> {
-    let test = test_of(alloc, text)?;
-    runs_in(alloc, &test, thread)
-}
-
 /// Whether the first event of a run reads this value by this order.
 fn reads_first(run: Option<&Run>, value: u32, order: Order) -> bool {
     let Some(run) = run else {
@@ -75,58 +36,35 @@ fn reads_first(run: Option<&Run>, value: u32, order: Order) -> bool {
     }
 }
 
-/// Whether these are 25 runs, the first of which reads 0 and the last 4.
-fn are_25(runs: &[Run]) -> bool {
-    runs.len() == 25
-        && reads_first(runs.get(0), 0, Order::Sc)
-        && reads_first(runs.get(24), 4, Order::Sc)
+/// Whether the first of 25 runs reads 0, and the last 4.
+fn read_0_to_4(runs: &[Run]) -> bool {
+    reads_first(runs.get(0), 0, Order::Sc) && reads_first(runs.get(24), 4, Order::Sc)
 }
 
 /// The thread reads one of five values, and then one of five again, into `b` or, where it read 0, into `a`.
 #[test]
 fn runs_of_a_thread(rt: HostRuntime) -> Result<(), Fail> {
-    let runs = runs_of(rt.alloc(), TEXT, 0)?;
-    assert!(rt; are_25(&runs));
+    assert!(rt; has_runs(rt.alloc(), TEXT, 0, Some(Ok(25)), read_0_to_4)?);
     Ok(())
 }
 
 #[test]
 fn runs_of_an_empty_thread(rt: HostRuntime) -> Result<(), Fail> {
-    let runs = runs_of(rt.alloc(), TEXT, 1)?;
-    assert!(rt; runs.len() == 1);
+    assert!(rt; has_runs(rt.alloc(), TEXT, 1, Some(Ok(1)), any)?);
     Ok(())
 }
 
-/// The space of the test that a text spells, or why there is none.
-fn space_of(alloc: Global, text: &str) -> Result<Result<Space, SpaceFault>, Fail> {
-    let test = test_of(alloc, text)?;
-    Ok(again!(SpaceFault::NoMemory, Space::new(alloc, &test)))
-}
-
-/// The execution of a number.
-fn graph_at(alloc: Global, space: &Space, number: u64) -> Result<Option<Graph>, Fail> {
-    if number >= space.size() {
-        return Err(Fail::new("the space has this number"));
-    }
-    Ok(again!(_, space.graph(alloc, number))?)
-}
-
-/// How many numbers of a space have an execution.
-fn count_executions(alloc: Global, space: &Space) -> Result<u64, Fail> {
-    let mut count: u64 = 0;
-    for number in 0..space.size() {
-        if graph_at(alloc, space, number)?.is_some() {
-            count = count.saturating_add(1);
-        }
-    }
-    Ok(count)
+/// Whether this number is told of the space of store buffering.
+fn tells(alloc: Global, question: OfSpace, wanted: u64) -> Result<bool, Fail>
+    requires { IsAlwaysCallable question }
+{
+    Ok(ask_space(alloc, SB, question)? == Ok(wanted))
 }
 
 #[test]
 fn spaces(rt: HostRuntime) -> Result<(), Fail> {
-    let space = space_of(rt.alloc(), SB)??;
-    assert!(rt; space.size() == 16);
-    assert!(rt; count_executions(rt.alloc(), &space)? == 4);
+    let alloc = rt.alloc();
+    assert!(rt; tells(alloc, size, 16)? && tells(alloc, count_executions, 4)?);
     Ok(())
 }
 
@@ -137,7 +75,6 @@ fn no_space(rt: HostRuntime) -> Result<(), Fail> {
         atomic_store(x,1); atomic_store(x,1); atomic_store(x,1); atomic_store(x,1); atomic_store(x,1);
         atomic_store(x,1); atomic_store(x,1); atomic_store(x,1); atomic_store(x,1); atomic_store(x,1);
         atomic_store(x,1); atomic_store(x,1); atomic_store(x,1); }exists x=0";
-    let fault = space_of(rt.alloc(), text)?.err();
-    assert!(rt; fault == Some(SpaceFault::TooManyCandidates));
+    assert!(rt; ask_space(rt.alloc(), text, size)? == Err(SpaceFault::TooManyCandidates));
     Ok(())
 }

@@ -5,68 +5,115 @@ use std::alloc::{AllocError, Global};
 use std::test::Fail;
 use wb_text::{Name, NameFault};
 
-fn register(alloc: Global, thread: usize, name: &[u8]) -> Result<Place, NameFault> {
-    Ok(Place::Reg(thread, Name::new(alloc, name)?))
+/// A place as the tests write it.
+enum Spot {
+    Register(usize, &'static [u8]),
+    Location(&'static [u8]),
 }
 
-fn location(alloc: Global, name: &[u8]) -> Result<Place, NameFault> {
-    Ok(Place::Loc(Name::new(alloc, name)?))
+fn place(alloc: Global, spot: &Spot) -> Result<Place, NameFault> {
+    match spot {
+        Spot::Register(thread, name) => Ok(Place::Reg(*thread, Name::new(alloc, name)?)),
+        Spot::Location(name) => Ok(Place::Loc(Name::new(alloc, name)?)),
+    }
 }
 
-fn not(alloc: Global, a: Prop) -> Result<Prop, AllocError> {
-    Ok(Prop::Not(Box::new(alloc, a)?))
+fn places(alloc: Global, spots: &[Spot]) -> Result<Vec<Place>, Fail> {
+    let mut places = Vec::new(alloc);
+    for spot in spots {
+        places.push(place(alloc, spot)?)?;
+    }
+    Ok(places)
 }
 
-fn and(alloc: Global, a: Prop, b: Prop) -> Result<Prop, AllocError> {
-    Ok(Prop::And(Box::new(alloc, a)?, Box::new(alloc, b)?))
+/// A proposition as the tests write it.
+enum Formula {
+    True,
+    False,
+    Equals(Spot, u32),
+    Not(&'static Formula),
+    And(&'static Formula, &'static Formula),
+    Or(&'static Formula, &'static Formula),
+    Implies(&'static Formula, &'static Formula),
 }
 
-fn or(alloc: Global, a: Prop, b: Prop) -> Result<Prop, AllocError> {
-    Ok(Prop::Or(Box::new(alloc, a)?, Box::new(alloc, b)?))
+#[cycle(building)]
+fn boxed(alloc: Global, formula: &Formula) -> Result<Box<Prop>, Fail> {
+    Ok(Box::new(alloc, prop(alloc, formula)?)?)
 }
 
-fn implies(alloc: Global, a: Prop, b: Prop) -> Result<Prop, AllocError> {
-    Ok(Prop::Implies(Box::new(alloc, a)?, Box::new(alloc, b)?))
-}
-
-/// `0:r0=a => ~(1:r0=b)`
-fn implication(alloc: Global, a: u32, b: u32) -> Result<Prop, Fail> {
-    let premise = Prop::Equals(register(alloc, 0, b"r0")?, a);
-    let refuted = Prop::Equals(register(alloc, 1, b"r0")?, b);
-    Ok(implies(alloc, premise, not(alloc, refuted)?)?)
-}
-
-/// `x=c \/ false`
-fn choice(alloc: Global, c: u32) -> Result<Prop, Fail> {
-    let equation = Prop::Equals(location(alloc, b"x")?, c);
-    Ok(or(alloc, equation, Prop::False)?)
+#[cycle(building)]
+fn prop(alloc: Global, formula: &Formula) -> Result<Prop, Fail> {
+    match formula {
+        Formula::True => Ok(Prop::True),
+        Formula::False => Ok(Prop::False),
+        Formula::Equals(spot, value) => Ok(Prop::Equals(place(alloc, spot)?, *value)),
+        Formula::Not(a) => Ok(Prop::Not(boxed(alloc, a)?)),
+        Formula::And(a, b) => Ok(Prop::And(boxed(alloc, a)?, boxed(alloc, b)?)),
+        Formula::Or(a, b) => Ok(Prop::Or(boxed(alloc, a)?, boxed(alloc, b)?)),
+        Formula::Implies(a, b) => Ok(Prop::Implies(boxed(alloc, a)?, boxed(alloc, b)?)),
+    }
 }
 
 /// `(0:r0=a => ~(1:r0=b)) /\ (x=c \/ false) /\ true`
-fn every_connective(alloc: Global, a: u32, b: u32, c: u32) -> Result<Prop, Fail> {
-    let both = and(alloc, implication(alloc, a, b)?, choice(alloc, c)?)?;
-    Ok(and(alloc, both, Prop::True)?)
+macro_rules! every_connective {
+    ($a:expr, $b:expr, $c:expr) => {
+        Formula::And(
+            &Formula::And(
+                &Formula::Implies(
+                    &Formula::Equals(Spot::Register(0, b"r0"), $a),
+                    &Formula::Not(&Formula::Equals(Spot::Register(1, b"r0"), $b)),
+                ),
+                &Formula::Or(
+                    &Formula::Equals(Spot::Location(b"x"), $c),
+                    &Formula::False,
+                ),
+            ),
+            &Formula::True,
+        )
+    };
 }
 
-/// The places of that proposition.
-fn its_places(alloc: Global) -> Result<[Place; 3], NameFault> {
-    let first = register(alloc, 0, b"r0")?;
-    let second = register(alloc, 1, b"r0")?;
-    Ok([first, second, location(alloc, b"x")?])
+const FORMULA: Formula = every_connective!(1, 2, 3);
+
+/// The same at another value of `x`.
+const OTHER: Formula = every_connective!(1, 2, 4);
+
+const AT_ZERO: Formula = every_connective!(0, 0, 0);
+
+/// What may hold of a condition.
+type Check = fn(Global, &Cond) -> Result<bool, Fail>;
+
+fn condition(alloc: Global, kind: Kind, formula: &Formula) -> Result<Cond, Fail> {
+    Ok(Cond::new(kind, prop(alloc, formula)?))
 }
 
-/// Whether a proposition holds, or doesn't, where the places have these values.
-fn is_judged(prop: &Prop, places: &[Place; 3], values: &[u32; 3], wanted: bool) -> bool {
-    holds(prop, &State::new(places, values)) == wanted
+fn confirm(alloc: Global, condition: &Cond, check: Check) -> Result<(), Fail>
+    requires { IsAlwaysCallable check }
+{
+    if check(alloc, condition)? {
+        Ok(())
+    } else {
+        Err(Fail::new("this holds of the condition"))
+    }
 }
 
-/// Whether the second place has its value there, and another place 0.
-fn has_values(places: &[Place; 3], values: &[u32; 3], other: &Place) -> bool {
-    let state = State::new(places, values);
-    state.value_of(&places[1]) == values[1] && state.value_of(other) == 0
+/// Fails where this doesn't hold of a condition.
+fn expect(alloc: Global, kind: Kind, formula: &Formula, check: Check) -> Result<(), Fail>
+    requires { IsAlwaysCallable check }
+{
+    let condition = condition(alloc, kind, formula)?;
+    confirm(alloc, &condition, check)
 }
 
-/// Values of the places, and whether the proposition holds there.
+/// The places of those propositions.
+const PLACES: [Spot; 3] = [
+    Spot::Register(0, b"r0"),
+    Spot::Register(1, b"r0"),
+    Spot::Location(b"x"),
+];
+
+/// Values of the places, and whether `FORMULA` holds there.
 const ROWS: [([u32; 3], bool); 4] = [
     ([1, 2, 3], false),
     ([1, 0, 3], true),
@@ -74,8 +121,13 @@ const ROWS: [([u32; 3], bool); 4] = [
     ([0, 2, 0], false),
 ];
 
+/// Whether a proposition holds, or doesn't, where the places have these values.
+fn is_judged(prop: &Prop, places: &[Place], values: &[u32; 3], wanted: bool) -> bool {
+    places.len() == 3 && holds(prop, &State::new(places, values)) == wanted
+}
+
 /// Whether a proposition of the places is judged so in each row.
-fn all_judged(prop: &Prop, places: &[Place; 3]) -> bool {
+fn all_judged(prop: &Prop, places: &[Place]) -> bool {
     for (values, wanted) in &ROWS {
         if !is_judged(prop, places, values, *wanted) {
             return false;
@@ -84,16 +136,27 @@ fn all_judged(prop: &Prop, places: &[Place; 3]) -> bool {
     true
 }
 
+fn judges(alloc: Global, condition: &Cond) -> Result<bool, Fail> {
+    let places = places(alloc, &PLACES)?;
+    Ok(all_judged(condition.prop(), &places))
+}
+
 #[test]
 fn judges_states(rt: HostRuntime) -> Result<(), Fail> {
-    let prop = every_connective(rt.alloc(), 1, 2, 3)?;
-    let places = its_places(rt.alloc())?;
-    assert!(rt; all_judged(&prop, &places));
-    Ok(())
+    expect(rt.alloc(), Kind::Exists, &FORMULA, judges)
+}
+
+/// Whether the second place has its value there, and another place 0.
+fn has_values(places: &[Place], values: &[u32; 3], other: &Place) -> bool {
+    if places.len() != 3 {
+        return false;
+    }
+    let state = State::new(places, values);
+    state.value_of(&places[1]) == values[1] && state.value_of(other) == 0
 }
 
 /// Whether the places have their values in each row, and another place 0.
-fn have_values(places: &[Place; 3], other: &Place) -> bool {
+fn have_values(places: &[Place], other: &Place) -> bool {
     for (values, _) in &ROWS {
         if !has_values(places, values, other) {
             return false;
@@ -102,11 +165,21 @@ fn have_values(places: &[Place; 3], other: &Place) -> bool {
     true
 }
 
+/// Whether the places have their values in each row, and `y` has 0.
+fn have_values_beside_y(alloc: Global, places: &[Place]) -> Result<bool, Fail> {
+    let other = place(alloc, &Spot::Location(b"y"))?;
+    Ok(have_values(places, &other))
+}
+
+/// Whether that holds of the places that the tests write.
+fn all_have_values(alloc: Global) -> Result<bool, Fail> {
+    let places = places(alloc, &PLACES)?;
+    have_values_beside_y(alloc, &places)
+}
+
 #[test]
 fn values_in_states(rt: HostRuntime) -> Result<(), Fail> {
-    let places = its_places(rt.alloc())?;
-    let other = location(rt.alloc(), b"y")?;
-    assert!(rt; have_values(&places, &other));
+    assert!(rt; all_have_values(rt.alloc())?);
     Ok(())
 }
 
@@ -126,72 +199,77 @@ fn answers_by_kind(rt: HostRuntime) {
     }
 }
 
-/// `a`, `1:r0`, `x`, `0:r10`, and `a` again.
-fn listed(alloc: Global) -> Result<[Place; 5], NameFault> {
-    let a = location(alloc, b"a")?;
-    let second = register(alloc, 1, b"r0")?;
-    let x = location(alloc, b"x")?;
-    let tenth = register(alloc, 0, b"r10")?;
-    Ok([a, second, x, tenth, location(alloc, b"a")?])
-}
+/// The places that are listed beside a condition.
+const LISTED: [Spot; 5] = [
+    Spot::Location(b"a"),
+    Spot::Register(1, b"r0"),
+    Spot::Location(b"x"),
+    Spot::Register(0, b"r10"),
+    Spot::Location(b"a"),
+];
 
-/// `0:r0`, `0:r10`, `1:r0`, `a` and `x`.
-fn wanted(alloc: Global) -> Result<[Place; 5], NameFault> {
-    let first = register(alloc, 0, b"r0")?;
-    let tenth = register(alloc, 0, b"r10")?;
-    let second = register(alloc, 1, b"r0")?;
-    let a = location(alloc, b"a")?;
-    Ok([first, tenth, second, a, location(alloc, b"x")?])
+/// The places where it is then observed.
+const OBSERVED: [Spot; 5] = [
+    Spot::Register(0, b"r0"),
+    Spot::Register(0, b"r10"),
+    Spot::Register(1, b"r0"),
+    Spot::Location(b"a"),
+    Spot::Location(b"x"),
+];
+
+/// Whether these are the wanted places.
+fn are_wanted(alloc: Global, found: &[Place]) -> Result<bool, Fail> {
+    let wanted = places(alloc, &OBSERVED)?;
+    Ok(found == wanted.as_slice())
 }
 
 /// Whether a condition with these listed is observed at the wanted places.
-fn observes_wanted(alloc: Global, condition: &Cond) -> Result<bool, Fail> {
-    let listed = listed(alloc)?;
-    let places = observed(alloc, condition, &listed)?;
-    let wanted = wanted(alloc)?;
-    Ok(places.as_slice() == wanted.as_slice())
+fn observes_with(alloc: Global, condition: &Cond, listed: &[Place]) -> Result<bool, Fail> {
+    let found = observed(alloc, condition, listed)?;
+    are_wanted(alloc, &found)
+}
+
+fn observes(alloc: Global, condition: &Cond) -> Result<bool, Fail> {
+    let listed = places(alloc, &LISTED)?;
+    observes_with(alloc, condition, &listed)
 }
 
 #[test]
 fn observes_each_place_once(rt: HostRuntime) -> Result<(), Fail> {
-    let condition = Cond::new(Kind::Exists, every_connective(rt.alloc(), 0, 0, 0)?);
-    assert!(rt; observes_wanted(rt.alloc(), &condition)?);
-    Ok(())
+    expect(rt.alloc(), Kind::Exists, &AT_ZERO, observes)
+}
+
+/// Whether the copy of a binding is equal to it.
+fn binding_is_copied(binding: &Binding) -> Result<bool, AllocError> {
+    let copy = binding.copy()?;
+    Ok(copy == *binding)
 }
 
 #[test]
 fn copies_of_bindings(rt: HostRuntime) -> Result<(), Fail> {
-    let binding = Binding {
-        place: register(rt.alloc(), 0, b"r0")?,
-        value: 1,
-    };
-    let copy = binding.copy()?;
-    assert!(rt; copy == binding);
+    let place = place(rt.alloc(), &Spot::Register(0, b"r0"))?;
+    assert!(rt; binding_is_copied(&Binding { place, value: 1 })?);
     Ok(())
 }
 
-/// `forall` of the proposition at these values.
-fn condition(alloc: Global, a: u32, b: u32, c: u32) -> Result<Cond, Fail> {
-    Ok(Cond::new(Kind::Forall, every_connective(alloc, a, b, c)?))
-}
-
 /// Whether the copy of a condition is equal to it.
-fn is_copied(condition: &Cond) -> Result<bool, AllocError> {
+fn is_copied(_alloc: Global, condition: &Cond) -> Result<bool, Fail> {
     let copy = condition.copy()?;
     Ok(copy == *condition)
 }
 
 #[test]
 fn copies_of_conditions(rt: HostRuntime) -> Result<(), Fail> {
-    let condition = condition(rt.alloc(), 1, 2, 3)?;
-    assert!(rt; is_copied(&condition)?);
-    Ok(())
+    expect(rt.alloc(), Kind::Forall, &FORMULA, is_copied)
+}
+
+/// Whether a condition isn't `forall` of `OTHER`.
+fn is_another(alloc: Global, first: &Cond) -> Result<bool, Fail> {
+    let second = condition(alloc, Kind::Forall, &OTHER)?;
+    Ok(*first != second)
 }
 
 #[test]
 fn other_conditions(rt: HostRuntime) -> Result<(), Fail> {
-    let first = condition(rt.alloc(), 1, 2, 3)?;
-    let second = condition(rt.alloc(), 1, 2, 4)?;
-    assert!(rt; first != second);
-    Ok(())
+    expect(rt.alloc(), Kind::Forall, &FORMULA, is_another)
 }
