@@ -2,8 +2,9 @@
 #![tactic(auto)]
 
 use clap::error::ErrorKind;
+use command_line::{Task, read_task};
 use one_test::{OneFault, one};
-use scripts::{Options, ServeFault, Task, read_task, serve};
+use scripts::{Options, ServeFault, serve};
 use std::io::BufWriter;
 use std::process::ExitCode;
 use std::{env, io};
@@ -25,7 +26,7 @@ fn main(rt: HostRuntime) -> ExitCode {
     };
     match read_task(rt.alloc(), words.as_slice()) {
         Ok(Task::Alone) => evaluate_one(&rt),
-        Ok(Task::Script(options)) => serve_script(&rt, &options),
+        Ok(Task::Script(journal)) => serve_script(&rt, &Options::with_journal(journal)),
         Err(error) if error.kind() == ErrorKind::OutOfMemory => ExitCode::FAILURE,
         Err(error) => match error.print(&rt) {
             Ok(()) => ExitCode::from(error.exit_code() as u8),

@@ -1,15 +1,15 @@
 //! The book: its state, and the journal of every call.
 
-ghost use Rattle.std.specs.Prelude.{◌≡◌, ◌<◌, ◌≤◌, ◌+◌, ◌^◌, ◌∷◌, ◌++◌, [], length, IfOk, IfErr, OnOk, OnErr};
+ghost use Rattle.std.specs.Prelude.{◌≡◌, ◌<◌, ◌≤◌, ◌+◌, ◌^◌, ◌∷◌, ◌++◌, [], length, true, IfOk, IfErr, OnOk, OnErr};
 ghost use Rattle.std.specs.Arc.{arc_value};
 ghost use Rattle.book.specs.Kept.{lines, IsKept};
-ghost use Rattle.journal.specs.Lines.{seen};
+ghost use Rattle.journal.specs.Lines.{answers, seen};
 ghost use Rattle.book.specs.Step.{Legal, Step};
 ghost use Rattle.book.specs.Workbench.{empty};
 
 use crate::bench::{Bench, Plan};
 use crate::limits::Limits;
-use journal::{Command, Entry};
+use journal::{Command, Entry, Reply};
 use std::alloc::{AllocError, Global};
 use std::marker::Model;
 use std::sync::Arc;
@@ -102,10 +102,9 @@ impl Book {
         ensures limits { self.new.limits ≡ self.old.limits }
         ensures same { OnErr result (self.new ≡ self.old) }
     {
-        let Plan { reply, change } = self.bench.decide(self.alloc, seat, command)?;
-        let entry = Arc::new(self.alloc, Entry::new(place, seat, command.seen()?, reply))?;
-        let copy = Arc::try_clone(&entry)?;
         self.journal.try_reserve(1)?;
+        let Plan { reply, change } = self.bench.decide(self.alloc, seat, command)?;
+        let (entry, copy) = shared_entry(self.alloc, place, seat, command, reply)?;
         self.bench.commit(change)?;
         match self.journal.push(copy) {
             Ok(()) => Ok(entry),
@@ -128,4 +127,26 @@ impl Book {
     {
         self.journal.as_slice()
     }
+}
+
+/// The entry of a command and its reply, for the caller and for the journal.
+fn shared_entry(
+    alloc: Global,
+    place: u32,
+    seat: u8,
+    command: &Command,
+    reply: Reply,
+) -> Result<(Arc<Entry>, Arc<Entry>), AllocError>
+    requires { answers (seen command.now) reply ≡ true }
+    ensures both { IfOk result (λ p. arc_value p.1 ≡ arc_value p.0) }
+    ensures entry { IfOk result (λ p. arc_value p.0 ≡ record {
+      place = place;
+      seat = seat;
+      said = seen command.now;
+      reply = reply;
+    }) }
+{
+    let entry = Arc::new(alloc, Entry::new(place, seat, command.seen()?, reply))?;
+    let copy = Arc::try_clone(&entry)?;
+    Ok((entry, copy))
 }

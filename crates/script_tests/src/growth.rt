@@ -5,8 +5,9 @@
 
 use crate::calls::{STORE_BUFFERING, STORE_BUFFERING_SUMMARY};
 use book::Limits;
+use command_line::{Task, read_task};
 use one_test::{OneFault, one};
-use scripts::{Options, ServeFault, Task, read_task, serve};
+use scripts::{Options, ServeFault, serve};
 use std::alloc::{AllocError, Global};
 use std::test::Fail;
 use wb_text::{MemSink, MemSource};
@@ -294,7 +295,7 @@ fn serve_refusals(rt: HostRuntime) -> Result<(), Fail> {
 fn asked(alloc: Global, words: &[String]) -> Result<u32, i32> {
     match read_task(alloc, words) {
         Ok(Task::Alone) => Ok(0),
-        Ok(Task::Script(options)) => Ok(options.limits.journal),
+        Ok(Task::Script(journal)) => Ok(journal),
         Err(error) => Err(error.exit_code()),
     }
 }

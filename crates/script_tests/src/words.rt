@@ -1,6 +1,6 @@
 //! Tests of the words of the command line.
 
-use scripts::{Task, read_task};
+use command_line::{Task, read_task};
 use std::alloc::Global;
 use std::test::Fail;
 
@@ -13,7 +13,7 @@ fn asked(alloc: Global, words: &[&str]) -> Result<Result<u32, i32>, Fail> {
     }
     Ok(match read_task(alloc, &all) {
         Ok(Task::Alone) => Ok(0),
-        Ok(Task::Script(options)) => Ok(options.limits.journal),
+        Ok(Task::Script(journal)) => Ok(journal),
         Err(error) => Err(error.exit_code()),
     })
 }

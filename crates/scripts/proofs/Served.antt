@@ -1,12 +1,12 @@
 -- Answers one after another, and what stands behind them.
 use Rattle.std.proofs.Common.{Global, zero, suc, ◌≡◌, ◌≢◌, ◌⊎◌, ℕ, List, [], ◌∷◌, ◌++◌, length, map, Option, Result, Ok, Err, inl, inr, refl, sym, ap, ◌∙◌, subst, append-nil}
-use Rattle.std.specs.Prelude.{IfErr, IsErrAnd}
+use Rattle.std.specs.Prelude.{IfErr, IsErrAnd, OnOk}
 use Rattle.std.specs.Io.KnownBytes.{Appends}
 use Rattle.std.specs.List.{flat_map}
 use native.Mathlib.Omega.{arith}
 use Rattle.std.proofs.KnownBytes.{Appends-trans, Appends-nil, prepend_known-nil}
 use Rattle.orders.specs.Lines.{ahead, IsTooLong}
-use Rattle.orders.specs.Scripts.{AreOrders, IsNextOrder, no_order, next_order}
+use Rattle.orders.specs.Scripts.{AreOrders, IsNextOrder, IsSpent, no_order, next_order}
 use Rattle.std.proofs.lemmas.Grind.{flat_map-append}
 use Rattle.std.proofs.lemmas.List.{map-append}
 use Rattle.std.proofs.lemmas.List.Elements.{All-append}
@@ -179,7 +179,22 @@ unserved limits script held (Err faults.Read) is = cc
 unserved limits script held (Err faults.Write) is = cc
 unserved limits script held (Err (faults.BadLine line)) is = cc
 
+-- how an outcome is told on
+
+pub read_on : {script : Option (List ℕ)} (r s : Result (Unit {0}) ServeFault) (calls : List Call) → OnOk s (r ≡ Ok tt) → IsRead script r calls → IsRead script s calls
+read_on r (Ok done) calls same h = record { end = h.end; orders = h.orders; spent = subst (λ q. OnOk q ((rest : Option (List ℕ)) × IsSpent h.end rest)) same h.spent }
+read_on r (Err e) calls same h = record { end = h.end; orders = h.orders; spent = tt }
+
+pub kept_fault : {A : Type 0} (r s : Result A ServeFault) (e : ServeFault) → IfErr r (λ f. (f ≡ faults.Write) ⊎ (s ≡ Err f)) → e ≢ faults.Write → r ≡ Err e → s ≡ Err e
+kept_fault (Ok done) s e told other is = cc
+kept_fault (Err f) s e (inl write) other is = absurd (other cc)
+kept_fault (Err f) s e (inr same) other is = same ∙ is
+
 -- told by the same result
+
+pub told_ok : {A : Type 0} (old new : Option (List ℕ)) (r : Result A ServeFault) (done : A) (text : List ℕ) → r ≡ Ok done → Tells old new r text → Appends old new text
+told_ok {A} old new r done text e t = let P : Result A ServeFault → Type 0 = λ q. Tells old new q text in subst P e t
+
 pub told_as : {A : Type 0} (old new : Option (List ℕ)) (r : Result A ServeFault) (fault known : ServeFault) (text : List ℕ) → r ≡ Err fault → fault ≡ known → Tells old new r text → Tells {A = A} old new (Err known) text
 told_as {A} old new r fault known text e same t =
     let P : Result A ServeFault → Type 0 = λ q. Tells old new q text in

@@ -1,4 +1,2 @@
 pub mod Orders
-pub mod Refusals
-pub mod Replies
 pub mod Serving

@@ -11,7 +11,7 @@ use Rattle.book.specs.declared.kept.Refused.{Refused}
 use Rattle.book.specs.declared.kept.Refused.TheVariants.{JournalFull, NoMemory}
 use Rattle.book.specs.declared.limits.Limits.{Limits}
 use Rattle.scripts.specs.Orders.{Answers}
-use Rattle.scripts.specs.Replies.{reply_text}
+use Rattle.replies.specs.Replies.{reply_text}
 use Rattle.scripts.specs.declared.answer.Answer.{Answer}
 use Rattle.scripts.specs.declared.answer.Answer.TheVariants.{Made, NotTaken}
 use Rattle.orders.specs.Lines.{AreLines}
@@ -81,6 +81,10 @@ Tells old new (Err faults.Write) text = AppendsFront old new text
 Tells old new (Err faults.Read) text = Appends old new text
 Tells old new (Err (faults.BadLine line)) text = Appends old new text
 Tells old new (Err faults.NoMemory) text = Appends old new text
+
+-- Behind any text that was told of reading a script, what is to stand there is told.
+abbrev pub EndsWith : {A : Type 0} → ℕ → Option (List ℕ) → Option (List ℕ) → Result A ServeFault → Result A ServeFault → Type 0
+EndsWith entries held new outcome result = (old : Option (List ℕ)) → (text : List ℕ) → Tells old held outcome text → (closing : List ℕ) × Closes entries result closing × Tells old new result (text ++ closing)
 
 -- The calls ask what a script orders, one after another, and all that it orders where it is done to its end.
 pub record IsRead {A : Type 0} (script : Option (List ℕ)) (result : Result A ServeFault) (calls : List Call) : Type 0 where

@@ -1,7 +1,7 @@
 //! From a script to the replies of a book.
 
-ghost use Rattle.std.specs.Prelude.{◌≡◌, ◌⊎◌, [], List, true, Err, OnOk};
-ghost use Rattle.scripts.specs.Serving.{Call, IsRead, IsServed, AllSayRoom, Tells, TellsBadLine, entries_of, calls_text};
+ghost use Rattle.std.specs.Prelude.{◌≡◌, ◌⊎◌, [], List, true, Ok, Err, OnOk, IfErr};
+ghost use Rattle.scripts.specs.Serving.{Call, EndsWith, IsRead, IsServed, AllSayRoom, Tells, TellsBadLine, entries_of, calls_text};
 ghost use Rattle.orders.specs.Lines.{ahead, IsTooLong};
 ghost use Rattle.std.specs.Io.KnownBytes.{IsAtEnd};
 
@@ -31,7 +31,21 @@ pub fn serve<R: Source, W: Sink>(
     let mut script = Script::new(alloc)?;
     let mut sessions = Sessions::new(alloc, options.limits)?;
     let outcome = answer_all(alloc, &mut script, reader, &mut sessions, writer);
-    let entries = sessions.entry_count();
+    conclude(outcome, sessions.entry_count(), writer)
+}
+
+/// Writes what stands behind the answers: the last line, or which line is bad.
+fn conclude<W: Sink>(
+    outcome: Result<(), ServeFault>,
+    entries: usize,
+    writer: &mut W,
+) -> Result<(), ServeFault>
+    requires { outcome ≡ Err ServeFault.Write → W.has_failed writer.now ≡ true }
+    ensures told { EndsWith entries (W.held writer.old) (W.held writer.new) outcome result }
+    ensures done { OnOk result (outcome ≡ Ok tt) }
+    ensures fault { IfErr result (λ e. (e ≡ ServeFault.Write) ⊎ (outcome ≡ Err e)) }
+    ensures write { result ≡ Err ServeFault.Write → W.has_failed writer.new ≡ true }
+{
     match outcome {
         Ok(()) => Ok(write_finish(entries, writer)?),
         Err(ServeFault::BadLine(line)) => {

@@ -1,0 +1,3 @@
+mod FlagReads
+mod JournalReads
+mod Names

@@ -1,0 +1,4 @@
+use Rattle.replies.proofs.reply.write_reply.Goals as goal
+
+pub returns-in-Verdict : goal.returns-in-Verdict
+returns-in-Verdict g c = rw c.in-Verdict.is (rw c.verdict.ensures at c.write_verdict.ensures)

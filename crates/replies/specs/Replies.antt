@@ -1,0 +1,57 @@
+-- The printed replies of a book.
+use Rattle.std.specs.Prelude.{ℕ, List, ◌++◌, codes, decimal}
+use Rattle.std.specs.List.{flat_map}
+use Rattle.cat_model.specs.declared.model.FileVersion.{FileVersion}
+use Rattle.litmus_tree.specs.Tree.{Word}
+use Rattle.slices.specs.Judgements.{Judged}
+use Rattle.slices.specs.Parts.{Portion}
+use Rattle.report.specs.Texts as summaries
+use Rattle.journal.specs.declared.records.Reply.{Reply}
+use Rattle.journal.specs.declared.records.Reply.TheVariants.{Version, Job, Pending, Verdict, Piece, Nothing, Taken, Refused}
+use Rattle.replies.specs.Refusals.{refusal_text}
+
+abbrev pub version_text : Word → ℕ → List ℕ
+version_text name n = codes "version " ++ name ++ codes " " ++ decimal n ++ codes "\n"
+
+abbrev pub job_text : ℕ → List ℕ
+job_text job = codes "job " ++ decimal job ++ codes "\n"
+
+-- how many slices of how many are done, behind a word
+abbrev pub counts_text : List ℕ → ℕ → ℕ → List ℕ
+counts_text word done total = word ++ decimal done ++ codes " " ++ decimal total ++ codes "\n"
+
+-- a piece: its claim, job and slice, and its numbers
+
+abbrev pub claim_text : Portion → List ℕ
+claim_text p = codes "piece " ++ decimal p.claim ++ codes " job " ++ decimal p.job ++ codes " slice " ++ decimal p.slice
+
+abbrev pub range_text : Portion → List ℕ
+range_text p = codes " from " ++ decimal p.from ++ codes " to " ++ decimal p.to ++ codes "\n"
+
+abbrev pub piece_text : Portion → List ℕ
+piece_text p = claim_text p ++ range_text p
+
+-- a verdict: the test and the files with their versions on one line, and then the summary
+
+abbrev pub heading_text : Judged → List ℕ
+heading_text v = codes "verdict " ++ v.work.test.name ++ codes " " ++ decimal v.version
+
+abbrev pub file_text : FileVersion → List ℕ
+file_text f = codes " " ++ f.name ++ codes " " ++ decimal f.version
+
+abbrev pub outcome_text : Judged → List ℕ
+outcome_text v = summaries.Text v.outcome
+
+abbrev pub verdict_text : Judged → List ℕ
+verdict_text v = heading_text v ++ flat_map file_text v.work.model.files ++ codes "\n" ++ outcome_text v
+
+-- The text of a reply.
+abbrev pub reply_text : Reply → List ℕ
+reply_text (Version name n) = version_text name n
+reply_text (Job job) = job_text job
+reply_text (Pending done total) = counts_text (codes "pending ") done total
+reply_text (Verdict v) = verdict_text v
+reply_text (Piece p) = piece_text p
+reply_text Nothing = codes "nothing\n"
+reply_text (Taken done total) = counts_text (codes "taken ") done total
+reply_text (Refused e) = refusal_text e

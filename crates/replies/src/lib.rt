@@ -1,0 +1,7 @@
+//! The printed text of each reply of a book.
+#![tactic(auto)]
+
+mod refusal;
+mod reply;
+
+pub use reply::write_reply;

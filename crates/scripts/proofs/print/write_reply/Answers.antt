@@ -1,4 +1,0 @@
-use Rattle.scripts.proofs.print.write_reply.Goals as goal
-
-pub returns-in-Verdict : goal.returns-in-Verdict
-returns-in-Verdict g c = rw c.in-Verdict.is (rw c.verdict.ensures at c.write_verdict.ensures)
