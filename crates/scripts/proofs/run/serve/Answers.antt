@@ -1,4 +1,3 @@
-use Rattle.std.proofs.Common.{◌≡◌, ℕ}
 use Rattle.orders.specs.declared.fault.ServeFault.TheVariants as faults
 use Rattle.scripts.proofs.Served.{served, unserved, from_start, line_from_start, too_long_from_start, read_on, kept_fault}
 use Rattle.scripts.proofs.run.serve.Goals as goal
