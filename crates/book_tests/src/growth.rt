@@ -1,14 +1,15 @@
 //! Each call of `slices` and `book` that takes memory. What is refused has left things as they were, is made again, and
 //! then gets its own answer.
 
-ghost use Rattle.std.specs.Prelude.{◌≡◌, IfOk};
+ghost use Rattle.std.specs.Prelude.{◌≡◌, [], IfOk, OnOk};
+ghost use Rattle.slices.specs.Judgements.{IsWhole};
 ghost use Rattle.slices.specs.Parts.{IsOver, test_size};
 
 use crate::scene::{SB, name, put_cat};
 use book::{Command, Said};
 use cat_model::{Files, Model, resolve};
 use litmus_c::read_test;
-use slices::{Piece, PieceResult, TestRef, Verdict, VerdictRef, Work, WorkRef, evaluate};
+use slices::{Piece, PieceResult, Tally, TestRef, Verdict, VerdictRef, Work, WorkRef, evaluate};
 use std::alloc::{AllocError, Global};
 use std::test::Fail;
 use wb_text::Name;
@@ -157,6 +158,71 @@ fn copies(rt: HostRuntime) -> Result<(), Fail> {
 /// Whether this is the verdict on SB under no constraint, for this version of the test.
 fn is_judged(verdict: &Verdict, version: u32) -> bool {
     verdict.version() == version && verdict.ok() && verdict.word() == "Sometimes"
+}
+
+/// Adds the result of all numbers to a tally.
+fn add_once(tally: &mut Tally, part: PieceResult) -> Result<(), AllocError>
+    requires work { part.piece.work ≡ tally.old.work }
+    requires none { tally.old.parts ≡ [] }
+    requires over { IsOver tally.old.work part }
+    ensures { OnOk result (IsWhole tally.new) }
+{
+    match tally.merge(part) {
+        Ok(()) => Ok(()),
+        Err((_, AllocError)) => Err(AllocError),
+    }
+}
+
+/// The same, once more where it was refused: the result comes back, and the tally still has none.
+fn add(tally: &mut Tally, part: PieceResult) -> Result<(), AllocError>
+    requires work { part.piece.work ≡ tally.old.work }
+    requires none { tally.old.parts ≡ [] }
+    requires over { IsOver tally.old.work part }
+    ensures { OnOk result (IsWhole tally.new) }
+{
+    match tally.merge(part) {
+        Ok(()) => Ok(()),
+        Err((part, AllocError)) => {
+            if tally.parts().is_empty() && is_found(&part) {
+                add_once(tally, part)
+            } else {
+                Err(AllocError)
+            }
+        }
+    }
+}
+
+/// The verdict of a tally, which stays as it is.
+fn verdict_of(tally: &Tally) -> Result<Verdict, AllocError>
+    requires { IsWhole tally.now }
+{
+    match tally.verdict(5) {
+        Ok(verdict) => Ok(verdict),
+        Err(AllocError) => tally.verdict(5),
+    }
+}
+
+fn tallied(alloc: Global, work: &WorkRef) -> Result<Verdict, AllocError> {
+    let part = whole_part(alloc, work)?;
+    let mut tally = Tally::new(alloc, work.share()?);
+    add(&mut tally, part)?;
+    verdict_of(&tally)
+}
+
+fn is_tallied(alloc: Global, work: &WorkRef) -> bool {
+    match tallied(alloc, work) {
+        Ok(verdict) => is_judged(&verdict, 5),
+        Err(AllocError) => false,
+    }
+}
+
+#[test]
+fn tallies(rt: HostRuntime) -> Result<(), Fail> {
+    let work = work_ref(rt.alloc())?;
+    confirm(
+        is_tallied(rt.alloc(), &work),
+        "the verdict of a tally on version 5",
+    )
 }
 
 fn judged(alloc: Global, work: &WorkRef) -> Result<Verdict, AllocError> {

@@ -7,6 +7,7 @@ pub mod Rc11
 pub mod Sketches
 pub mod Files
 pub mod FileCodes
+pub mod Slots
 pub mod Closure
 pub mod Faults
 pub mod Walks

@@ -1,21 +1,28 @@
 //! Files of the cat language, with their versions.
 
-ghost use Rattle.std.specs.Prelude.{◌≡◌, ◌<◌, [], true, Some, None, IfOk, OnOk, IfErr, OnErr, option_map, slice_get, is_some, position, IfSome, length};
-ghost use Rattle.cat_model.specs.Files.{built_in, place_of, entry_of, version_of, loaded, file_of, nothing, store};
+ghost use Rattle.std.specs.Prelude.{◌≡◌, ◌<◌, [], true, Some, None, IfOk, OnOk, IfErr, OnErr, option_map, slice_get, is_some};
+ghost use Rattle.cat_model.specs.Files.{built_in, version_of, loaded, file_of, nothing, store};
 ghost use Rattle.cat_model.specs.Rc11.{rc11 as rc11_tree};
 
 use crate::rc11_text::rc11;
 use cat_tree::CatFile;
+use indexmap::IndexMap;
 use std::alloc::{AllocError, Global};
 use std::marker::Model;
 use wb_text::Name;
 
-/// A name that was put, with its version and its file, or none where the file was removed.
-#[derive(Drop)]
+/// What contracts see of a name that was put: the name with its version and its file, or none where the file was removed.
 pub struct Entry {
     pub name: Name,
     pub version: u32,
     pub file: Option<CatFile>,
+}
+
+/// The version of a name and its file, or none where the file was removed.
+#[derive(Drop)]
+struct Slot {
+    version: u32,
+    file: Option<CatFile>,
 }
 
 /// The files that are there beforehand.
@@ -26,31 +33,6 @@ struct BuiltIn {
     empty: CatFile,
     ghost is_rc11: { rc11 ≡ rc11_tree },
     ghost is_empty: { empty ≡ nothing },
-}
-
-/// The place of a name.
-#[tactic(auto, unfolding(crate::specs::Files::place_of))]
-fn find_place(entries: &[Entry], name: &Name) -> Option<usize>
-    ensures value { result ≡ place_of name.now entries.now }
-    ensures within { IfSome result (λ i. i < length entries.now) }
-{
-    entries.iter().position(|entry| entry.name == *name)
-}
-
-/// The entry of a name.
-#[tactic(auto, unfolding(crate::specs::Files::entry_of))]
-fn find_entry<'a>(entries: &'a [Entry], name: &Name) -> Option<&'a Entry>
-    ensures { option_map (λ e. e.now) result ≡ entry_of name.now entries.now }
-{
-    entries.iter().find(|entry| entry.name == *name)
-}
-
-/// Takes the file of an entry away.
-fn clear(entry: &mut Entry, version: u32)
-    ensures { entry.new ≡ record { name = entry.old.name; version = version; file = None } }
-{
-    entry.version = version;
-    entry.file = None;
 }
 
 impl BuiltIn {
@@ -83,7 +65,7 @@ impl BuiltIn {
 /// `stdlib.cat`, `cos.cat` and `c11_cos.cat`. A loaded file hides a built-in one of its name.
 #[derive(Drop)]
 pub struct Files {
-    entries: Vec<Entry>,
+    slots: IndexMap<Name, Slot>,
     built_in: BuiltIn,
 }
 
@@ -94,10 +76,11 @@ impl Model for Files {
     ghost Value = { List Entry };
 
     ghost use Rattle.cat_model.specs.FileCodes.{coded_entries};
+    ghost use Rattle.cat_model.specs.Slots.{entries};
 
     ghost coded = { coded_entries };
 
-    ghost view = { λ f. f.entries.items };
+    ghost view = { λ f. entries f.slots.entries };
 }
 
 impl Files {
@@ -106,12 +89,13 @@ impl Files {
         ensures { IfOk result (λ f. f ≡ []) }
     {
         Ok(Files {
-            entries: Vec::new(alloc),
+            slots: IndexMap::new(alloc),
             built_in: BuiltIn::new(alloc)?,
         })
     }
 
     /// Stores a file under a name, at a version above its last. An `Err` changes nothing, and hands back what was given.
+    #[tactic(auto, using(crate::proofs::Stored::inserted))]
     pub fn put(
         &mut self,
         name: Name,
@@ -123,57 +107,53 @@ impl Files {
         ensures err { OnErr result (self.new ≡ self.old) }
         ensures back { IfErr result (λ e. (e.0 ≡ name) × (e.1 ≡ file)) }
     {
-        let stored = Entry {
-            name,
+        let slot = Slot {
             version,
             file: Some(file),
         };
-        match find_place(&self.entries, &stored.name) {
-            Some(i) => {
-                self.entries[i] = stored;
-                Ok(())
-            }
-            None => match self.entries.push(stored) {
-                Ok(()) => Ok(()),
-                Err(refused) => {
-                    let Entry { name, file, .. } = refused.value;
-                    match file {
-                        Some(file) => Err((name, file, AllocError)),
-                        None => unreachable!(),
-                    }
+        match self.slots.insert(name, slot) {
+            Ok(_) => Ok(()),
+            Err(refused) => {
+                let (name, slot) = refused.value;
+                match slot.file {
+                    Some(file) => Err((name, file, AllocError)),
+                    None => unreachable!(),
                 }
-            },
+            }
         }
     }
 
     /// Takes the file of a name away, at a version above its last. A built-in file of that name is seen again.
+    #[tactic(auto, using(crate::proofs::Stored::rewritten, crate::proofs::Stored::not_loaded))]
     pub fn remove(&mut self, name: &Name, version: u32)
         requires loaded { is_some (loaded name.now self.old) ≡ true }
         requires version { version_of name.now self.old < version }
         ensures { self.new ≡ store (record { name = name.now; version = version; file = None }) self.old }
     {
-        match find_place(&self.entries, name) {
-            Some(i) => clear(&mut self.entries[i], version),
-            None => {}
+        if let Some(slot) = self.slots.get_mut(name) {
+            slot.version = version;
+            slot.file = None;
         }
     }
 
     /// The version of a name: 0 if it was never put.
+    #[tactic(auto, using(crate::proofs::Stored::entry_slot))]
     pub fn version(&self, name: &Name) -> u32
         ensures { result ≡ version_of name.now self.now }
     {
-        match find_entry(&self.entries, name) {
-            Some(entry) => entry.version,
+        match self.slots.get(name) {
+            Some(slot) => slot.version,
             None => 0,
         }
     }
 
     /// Whether a file was put under this name and not removed.
+    #[tactic(auto, using(crate::proofs::Stored::entry_slot))]
     pub fn is_loaded(&self, name: &Name) -> bool
         ensures { result ≡ is_some (loaded name.now self.now) }
     {
-        match find_entry(&self.entries, name) {
-            Some(entry) => entry.file.is_some(),
+        match self.slots.get(name) {
+            Some(slot) => slot.file.is_some(),
             None => false,
         }
     }
@@ -182,18 +162,19 @@ impl Files {
     pub fn name_at(&self, place: usize) -> Option<&Name>
         ensures { option_map (λ x. x.now) result ≡ option_map (λ e. e.name) (slice_get self.now place) }
     {
-        match self.entries.get(place) {
-            Some(entry) => Some(&entry.name),
+        match self.slots.get_index(place) {
+            Some((name, _)) => Some(name),
             None => None,
         }
     }
 
     /// The file of a name, loaded or built in.
+    #[tactic(auto, using(crate::proofs::Stored::entry_slot))]
     pub fn get(&self, name: &Name) -> Option<&CatFile>
         ensures { option_map (λ f. f.now) result ≡ file_of name.now self.now }
     {
-        if let Some(entry) = find_entry(&self.entries, name) {
-            if let Some(file) = &entry.file {
+        if let Some(slot) = self.slots.get(name) {
+            if let Some(file) = &slot.file {
                 return Some(file);
             }
         }
