@@ -85,21 +85,6 @@ line_from_start {block} left r s calls empty none same h n e =
     (subst (λ m. IsBadAt (ahead block left) m n ⊎ IsReturnAt (ahead block left) m n (entries_of calls)) none (h n (same n e)))
 
 -- a result that tells no line
-
-abbrev pub IsNoLine : {A : Type 0} → Result A ServeFault → Type 0
-IsNoLine (Ok done) = Unit {0}
-IsNoLine (Err faults.Read) = Unit {0}
-IsNoLine (Err faults.Write) = Unit {0}
-IsNoLine (Err faults.NoMemory) = Unit {0}
-IsNoLine (Err (faults.BadLine line)) = ⊥
-
-pub no_bad_line_at : {A : Type 0} {script : Option (List ℕ)} {m : ℕ} (r : Result A ServeFault) (calls : List Call) → IsNoLine r → TellsBadLine script m r calls
-no_bad_line_at (Ok done) calls other n e = cc
-no_bad_line_at (Err faults.Read) calls other n e = cc
-no_bad_line_at (Err faults.Write) calls other n e = cc
-no_bad_line_at (Err faults.NoMemory) calls other n e = cc
-no_bad_line_at (Err (faults.BadLine line)) calls other n e = absurd other
-
 pub no_bad_line : {A : Type 0} {script : Option (List ℕ)} {m : ℕ} (r : Result A ServeFault) (calls : List Call) → IsErrAnd r (λ e. e ≡ faults.Write) → TellsBadLine script m r calls
 no_bad_line (Ok done) calls is n e = absurd is
 no_bad_line (Err fault) calls is n e = cc
@@ -107,10 +92,6 @@ no_bad_line (Err fault) calls is n e = cc
 pub too_long_from_start : {P : Type 0} {block : List ℕ} {count : ℕ} (left : Option (List ℕ)) → block ≡ [] → count ≡ 0 → P ⊎ IsTooLong (ahead block left) count → P ⊎ IsTooLong left 0
 too_long_from_start {P} {block} left empty none h =
     subst (λ script. P ⊎ IsTooLong script 0) (ap (λ b. ahead b left) empty ∙ prepend_known-nil left) (subst (λ m. P ⊎ IsTooLong (ahead block left) m) none h)
-
--- and by another result that is none
-pub still_read : {A B : Type 0} {script : Option (List ℕ)} {r : Result A ServeFault} (P : ServeFault → Type 0) (s : Result B ServeFault) (calls : List Call) → IsErrAnd s P → IsRead script r calls → IsRead script s calls
-still_read P s calls is h = read_at_err P s calls is h.orders
 
 -- the result of a call that doesn't write
 
