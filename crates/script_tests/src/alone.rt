@@ -1,50 +1,82 @@
 //! Tests of `one` on a test with the model that has no checks.
 
-use crate::calls::{STORE_BUFFERING, STORE_BUFFERING_SUMMARY, answer};
+use crate::calls::{
+    Answer, Case, STORE_BUFFERING, STORE_BUFFERING_SUMMARY, all_hold, answer, confirm,
+};
 use one_test::{OneFault, one};
+use std::alloc::{AllocError, Global};
 use std::test::Fail;
 use wb_text::{MemSink, MemSource};
 
-#[test]
-fn sb_relaxed(rt: HostRuntime) -> Result<(), Fail> {
-    let (outcome, writer) = answer(rt.alloc(), STORE_BUFFERING, b"", 1000)?;
-    assert_eq!(rt; outcome, Ok(()));
-    assert_eq!(rt; writer.bytes(), STORE_BUFFERING_SUMMARY);
-    Ok(())
-}
+const CASES: &[Case] = &[
+    Case {
+        name: "sb_relaxed",
+        test: STORE_BUFFERING,
+        rows: &[(&[""], Answer::Is(STORE_BUFFERING_SUMMARY))],
+    },
+    Case {
+        name: "empty_thread",
+        test: "C E\n{ x; }\nP0 () {}\nexists (x=0)\n",
+        rows: &[(
+            &[""],
+            Answer::Is(
+                "Test E Allowed\nStates 1\n[x]=0;\nOk\nWitnesses\nPositive: 1 Negative: 0\nCondition exists ([x]=0)\nObservation E Always 1 0\n",
+            ),
+        )],
+    },
+    Case {
+        name: "empty_thread_of_no_place",
+        test: "C E\n{}\nP0 () {}\nexists true\n",
+        rows: &[(
+            &[""],
+            Answer::Is(
+                "Test E Allowed\nStates 1\n\nOk\nWitnesses\nPositive: 1 Negative: 0\nCondition exists (true)\nObservation E Always 1 0\n",
+            ),
+        )],
+    },
+];
 
 #[test]
-fn empty_thread(rt: HostRuntime) -> Result<(), Fail> {
-    let text = b"C E\n{ x; }\nP0 () {}\nexists (x=0)\n";
-    let (outcome, writer) = answer(rt.alloc(), text, b"", 1000)?;
-    assert_eq!(rt; outcome, Ok(()));
-    let summary =
-        b"Test E Allowed\nStates 1\n[x]=0;\nOk\nWitnesses\nPositive: 1 Negative: 0\nCondition exists ([x]=0)\nObservation E Always 1 0\n";
-    assert_eq!(rt; writer.bytes(), summary.as_slice());
-    Ok(())
+fn whole_summaries(rt: HostRuntime) -> Result<(), Fail> {
+    all_hold(rt.alloc(), CASES)
 }
 
-#[test]
-fn a_writer_that_fails_has_a_front_part(rt: HostRuntime) -> Result<(), Fail> {
-    for room in 0..STORE_BUFFERING_SUMMARY.len() {
-        let (outcome, writer) = answer(rt.alloc(), STORE_BUFFERING, b"", room)?;
-        assert_eq!(rt; outcome, Err(OneFault::Write), "at {room}");
-        assert_eq!(rt;
-            writer.bytes(),
-            &STORE_BUFFERING_SUMMARY[..room],
-            "at {room}"
-        );
+/// Whether a writer of too little room has just the front part of the summary, with the fault that says so.
+fn has_a_front_part(alloc: Global, room: usize) -> bool {
+    match answer(alloc, STORE_BUFFERING.as_bytes(), b"", room) {
+        Ok((outcome, writer)) => {
+            outcome == Err(OneFault::Write)
+                && writer.bytes().len() == room
+                && STORE_BUFFERING_SUMMARY
+                    .as_bytes()
+                    .starts_with(writer.bytes())
+        }
+        Err(_) => false,
     }
-    Ok(())
+}
+
+#[test]
+fn a_writer_that_fails_has_a_front_part(rt: HostRuntime) {
+    let alloc = rt.alloc();
+    for room in 0..STORE_BUFFERING_SUMMARY.len() {
+        assert!(rt; has_a_front_part(alloc, room), "at {room}");
+    }
+}
+
+/// What is answered where the reader fails behind a front part, and how many bytes are then written.
+fn cut_off(alloc: Global, front: &str) -> Result<(Result<(), OneFault>, usize), AllocError> {
+    let mut reader = MemSource::new(front.as_bytes(), true);
+    let mut writer = MemSink::new(alloc, 1000)?;
+    let outcome = one(alloc, &mut reader, b"", 1, &mut writer);
+    Ok((outcome, writer.bytes().len()))
 }
 
 #[test]
 fn a_reader_that_fails_leaves_nothing(rt: HostRuntime) -> Result<(), Fail> {
-    let alloc = rt.alloc();
-    let mut reader = MemSource::new(&STORE_BUFFERING[..100], true);
-    let mut writer = MemSink::new(alloc, 1000)?;
-    let outcome = one(alloc, &mut reader, b"", 1, &mut writer);
-    assert_eq!(rt; outcome, Err(OneFault::Read));
-    assert_eq!(rt; writer.bytes().len(), 0);
-    Ok(())
+    let front =
+        "C SB\n{}\nP0 (atomic_int* x, atomic_int* y) {\n  atomic_store_explicit(x, 1, memory";
+    confirm(
+        cut_off(rt.alloc(), front)? == (Err(OneFault::Read), 0),
+        front,
+    )
 }

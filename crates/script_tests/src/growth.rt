@@ -3,8 +3,7 @@
 //!
 //! `tools/refuse-each-growth` runs these tests once for each request. Where none is refused they compare the answers alone.
 
-use crate::calls::{STORE_BUFFERING, STORE_BUFFERING_SUMMARY};
-use book::Limits;
+use crate::calls::{STORE_BUFFERING, STORE_BUFFERING_SUMMARY, WIDE, confirm, is_made_of};
 use command_line::{Task, read_task};
 use one_test::{OneFault, one};
 use scripts::{Options, ServeFault, serve};
@@ -12,14 +11,8 @@ use std::alloc::{AllocError, Global};
 use std::test::Fail;
 use wb_text::{MemSink, MemSource};
 
-const LIMITS: Limits = Limits {
-    journal: 100,
-    versions: 100,
-    claims: 100,
-};
-
-/// How a script ends, and what is then written.
-type Answers<'a> = (Result<(), ServeFault>, &'a [u8]);
+/// How a script ends, and the parts of what is then written.
+type Answers = (Result<(), ServeFault>, &'static [&'static str]);
 
 fn sink(alloc: Global) -> Result<MemSink, AllocError> {
     match MemSink::new(alloc, 1000) {
@@ -28,28 +21,42 @@ fn sink(alloc: Global) -> Result<MemSink, AllocError> {
     }
 }
 
-/// Whether a test under a model is summarized so. A call that is refused memory writes nothing, and is made again.
-fn summarizes(alloc: Global, test: &[u8], cat: &[u8], wanted: &[u8]) -> Result<bool, AllocError> {
+/// How `one` ends on a test under a model, and what is written.
+fn summary(
+    alloc: Global,
+    test: &str,
+    cat: &str,
+) -> Result<(Result<(), OneFault>, MemSink), AllocError> {
     let mut writer = sink(alloc)?;
-    if one(alloc, &mut MemSource::new(test, false), cat, 1, &mut writer)
-        == Err(OneFault::NoMemory)
-    {
-        if !writer.bytes().is_empty() {
-            return Ok(false);
-        }
-        let outcome = one(alloc, &mut MemSource::new(test, false), cat, 1, &mut writer);
-        return Ok(outcome == Ok(()) && writer.bytes() == wanted);
-    }
-    Ok(writer.bytes() == wanted)
+    let mut reader = MemSource::new(test.as_bytes(), false);
+    let outcome = one(alloc, &mut reader, cat.as_bytes(), 1, &mut writer);
+    Ok((outcome, writer))
 }
 
-/// What a test under a model is answered.
-fn fault(alloc: Global, test: &[u8], cat: &[u8]) -> Result<OneFault, Fail> {
-    let mut writer = sink(alloc)?;
-    match one(alloc, &mut MemSource::new(test, false), cat, 1, &mut writer) {
-        Ok(()) => Err(Fail::new("a summary")),
-        Err(fault) if writer.bytes().is_empty() => Ok(fault),
-        Err(_) => Err(Fail::new("a part is written")),
+/// Whether the call that is made again gives this summary.
+fn summarizes_again(alloc: Global, test: &str, cat: &str, wanted: &str) -> bool {
+    match summary(alloc, test, cat) {
+        Ok((outcome, writer)) => outcome == Ok(()) && writer.bytes() == wanted.as_bytes(),
+        Err(_) => false,
+    }
+}
+
+/// Whether a test under a model is summarized so. A call that is refused memory writes nothing, and is made again.
+fn summarizes(alloc: Global, test: &str, cat: &str, wanted: &str) -> bool {
+    match summary(alloc, test, cat) {
+        Ok((Ok(()), writer)) => writer.bytes() == wanted.as_bytes(),
+        Ok((Err(OneFault::NoMemory), writer)) => {
+            writer.bytes().is_empty() && summarizes_again(alloc, test, cat, wanted)
+        }
+        _ => false,
+    }
+}
+
+/// The fault that a test under a model is answered, where nothing is written.
+fn fault(alloc: Global, test: &str, cat: &str) -> Option<OneFault> {
+    match summary(alloc, test, cat) {
+        Ok((Err(fault), writer)) if writer.bytes().is_empty() => Some(fault),
+        _ => None,
     }
 }
 
@@ -60,55 +67,93 @@ fn shown(alloc: Global, fault: &OneFault) -> Result<String, AllocError> {
     }
 }
 
-/// Whether a test under a model is refused so. A call that is refused memory is made again.
-fn refuses(alloc: Global, test: &[u8], cat: &[u8], wanted: &str) -> Result<bool, Fail> {
-    let first = fault(alloc, test, cat)?;
-    let fault = if first == OneFault::NoMemory {
-        fault(alloc, test, cat)?
-    } else {
-        first
-    };
-    Ok(shown(alloc, &fault)?.as_str() == wanted)
+/// Whether a fault is printed so.
+fn is_shown(alloc: Global, fault: &OneFault, wanted: &str) -> bool {
+    match shown(alloc, fault) {
+        Ok(text) => text.as_str() == wanted,
+        Err(_) => false,
+    }
 }
 
-fn served(alloc: Global, script: &[u8]) -> Result<(Result<(), ServeFault>, MemSink), AllocError> {
+/// Whether the call that is made again is refused so.
+fn refuses_again(alloc: Global, test: &str, cat: &str, wanted: &str) -> bool {
+    match fault(alloc, test, cat) {
+        Some(fault) => is_shown(alloc, &fault, wanted),
+        None => false,
+    }
+}
+
+/// Whether a test under a model is refused so. A call that is refused memory is made again.
+fn refuses(alloc: Global, test: &str, cat: &str, wanted: &str) -> bool {
+    match fault(alloc, test, cat) {
+        Some(OneFault::NoMemory) => refuses_again(alloc, test, cat, wanted),
+        Some(fault) => is_shown(alloc, &fault, wanted),
+        None => false,
+    }
+}
+
+fn served(alloc: Global, script: &str) -> Result<(Result<(), ServeFault>, MemSink), AllocError> {
     let mut writer = sink(alloc)?;
-    let mut reader = MemSource::new(script, false);
-    let outcome = serve(alloc, &mut reader, &mut writer, &Options { limits: LIMITS });
+    let mut reader = MemSource::new(script.as_bytes(), false);
+    let options = Options { limits: WIDE };
+    let outcome = serve(alloc, &mut reader, &mut writer, &options);
     Ok((outcome, writer))
+}
+
+/// Whether these bytes are a front part of the parts, in whole lines.
+fn is_front_of(bytes: &[u8], parts: &[&str]) -> bool {
+    let mut rest = bytes;
+    for part in parts {
+        match rest.strip_prefix(part.as_bytes()) {
+            Some(behind) => rest = behind,
+            None => return part.as_bytes().starts_with(rest) && are_lines(bytes),
+        }
+    }
+    rest.is_empty()
 }
 
 fn are_lines(bytes: &[u8]) -> bool {
     bytes.is_empty() || bytes.ends_with(b"\n")
 }
 
+/// Whether a script ends so, with this written.
+fn is_answer(outcome: &Result<(), ServeFault>, bytes: &[u8], wanted: &Answers) -> bool {
+    let (end, answers) = wanted;
+    *end == *outcome && is_made_of(bytes, answers)
+}
+
 fn is_one_of(outcome: &Result<(), ServeFault>, bytes: &[u8], rows: &[Answers]) -> bool {
-    for (end, answers) in rows {
-        if *end == *outcome && *answers == bytes {
+    for row in rows {
+        if is_answer(outcome, bytes, row) {
             return true;
         }
     }
     false
 }
 
-/// Whether a script has its own answers or, where a line isn't taken, those of a row. A script that is refused memory as a whole has
-/// the first of its own answers, and is given again.
-fn answers(
-    alloc: Global,
-    script: &[u8],
-    own: Answers,
-    rows: &[Answers],
-) -> Result<bool, AllocError> {
-    let (outcome, writer) = served(alloc, script)?;
-    if outcome == Err(ServeFault::NoMemory) {
-        let is_front = own.1.starts_with(writer.bytes()) && are_lines(writer.bytes());
-        let (outcome, writer) = served(alloc, script)?;
-        return Ok(is_front && outcome == own.0 && writer.bytes() == own.1);
+/// Whether the script that is given again has these answers.
+fn answers_again(alloc: Global, script: &str, own: &Answers) -> bool {
+    match served(alloc, script) {
+        Ok((outcome, writer)) => is_answer(&outcome, writer.bytes(), own),
+        Err(_) => false,
     }
-    Ok(outcome == own.0 && writer.bytes() == own.1 || is_one_of(&outcome, writer.bytes(), rows))
 }
 
-const FORBIDDEN: &[u8] = b"Test SB Allowed
+/// Whether a script has its own answers or, where a line isn't taken, those of a row. A script that is refused memory as a whole has
+/// the first of its own answers, and is given again.
+fn answers(alloc: Global, script: &str, own: &Answers, rows: &[Answers]) -> bool {
+    match served(alloc, script) {
+        Ok((Err(ServeFault::NoMemory), writer)) => {
+            is_front_of(writer.bytes(), own.1) && answers_again(alloc, script, own)
+        }
+        Ok((outcome, writer)) => {
+            is_answer(&outcome, writer.bytes(), own) || is_one_of(&outcome, writer.bytes(), rows)
+        }
+        Err(_) => false,
+    }
+}
+
+const FORBIDDEN: &str = "Test SB Allowed
 States 3
 0:r0=0; 1:r0=1;
 0:r0=1; 1:r0=0;
@@ -121,48 +166,51 @@ Condition exists (0:r0=0 /\\ 1:r0=0)
 Observation SB Never 0 3
 ";
 
+/// A model with a flag and with a recursive binding.
+const KEPT: &str =
+    "include \"stdlib.cat\" let rec r = po | (r ; r) flag ~empty r as kept acyclic r | rf | co | fr";
+
 #[test]
 fn one_summary(rt: HostRuntime) -> Result<(), Fail> {
-    let cat: &[u8] =
-        b"include \"stdlib.cat\" let rec r = po | (r ; r) flag ~empty r as kept acyclic r | rf | co | fr";
-    assert!(rt; summarizes(rt.alloc(), STORE_BUFFERING, cat, FORBIDDEN)?);
-    Ok(())
+    confirm(
+        summarizes(rt.alloc(), STORE_BUFFERING, KEPT, FORBIDDEN),
+        KEPT,
+    )
 }
+
+const THIRTEEN_STORES: &str = "C E {} P0 (atomic_int* x) {
+  atomic_store(x, 1); atomic_store(x, 1); atomic_store(x, 1); atomic_store(x, 1); atomic_store(x, 1); atomic_store(x, 1); atomic_store(x, 1);
+  atomic_store(x, 1); atomic_store(x, 1); atomic_store(x, 1); atomic_store(x, 1); atomic_store(x, 1); atomic_store(x, 1);
+} exists true";
+
+/// A test and a model, and how they are refused.
+const ONE_REFUSALS: &[(&str, &str, &str)] = &[
+    (
+        "C E { 0:r0 = 1; } P0 () { while (r0) {} } exists true",
+        "",
+        "17 Unsupported while",
+    ),
+    (STORE_BUFFERING, "let f(x) = x", "53 Unsupported f"),
+    (
+        STORE_BUFFERING,
+        "include \"none.cat\"",
+        "62 NoInclude none.cat",
+    ),
+    (STORE_BUFFERING, "let r = po acyclic s", "64 Unbound s"),
+    (THIRTEEN_STORES, "", "41 TooManyCandidates"),
+];
 
 #[test]
 fn one_refusals(rt: HostRuntime) -> Result<(), Fail> {
-    let rows: [(&[u8], &[u8], &str); 4] = [
-        (
-            b"C E { 0:r0 = 1; } P0 () { while (r0) {} } exists true",
-            b"",
-            "17 Unsupported while",
-        ),
-        (STORE_BUFFERING, b"let f(x) = x", "53 Unsupported f"),
-        (
-            STORE_BUFFERING,
-            b"include \"none.cat\"",
-            "62 NoInclude none.cat",
-        ),
-        (STORE_BUFFERING, b"let r = po acyclic s", "64 Unbound s"),
-    ];
-    for (test, cat, wanted) in rows {
-        assert!(rt; refuses(rt.alloc(), test, cat, wanted)?);
+    let alloc = rt.alloc();
+    for (test, cat, wanted) in ONE_REFUSALS {
+        confirm(refuses(alloc, test, cat, wanted), wanted)?;
     }
     Ok(())
 }
 
-#[test]
-fn one_space(rt: HostRuntime) -> Result<(), Fail> {
-    let test: &[u8] = b"C E {} P0 (atomic_int* x) {
-  atomic_store(x, 1); atomic_store(x, 1); atomic_store(x, 1); atomic_store(x, 1); atomic_store(x, 1); atomic_store(x, 1); atomic_store(x, 1);
-  atomic_store(x, 1); atomic_store(x, 1); atomic_store(x, 1); atomic_store(x, 1); atomic_store(x, 1); atomic_store(x, 1);
-} exists true";
-    assert!(rt; refuses(rt.alloc(), test, b"", "41 TooManyCandidates")?);
-    Ok(())
-}
-
 /// The script of the stored run, a session's put, ask, claim, return and poll.
-const SESSION: &[u8] = b"0 cat none.cat
+const SESSION: &str = "0 cat none.cat
 .
 0 test
 C SB
@@ -184,72 +232,127 @@ exists (0:r0=0 /\\ 1:r0=0)
 0 poll 1
 ";
 
-/// The start of the answers, the line of the `return`, and the end.
-fn session(alloc: Global, lines: &[&[u8]]) -> Result<Vec<u8>, AllocError> {
-    match joined(alloc, lines) {
-        Ok(text) => Ok(text),
-        Err(_) => joined(alloc, lines),
-    }
-}
+const ASKED: &str = "version none.cat 1
+version SB 1
+job 1
+";
 
-fn joined(alloc: Global, lines: &[&[u8]]) -> Result<Vec<u8>, AllocError> {
-    let mut text = Vec::new(alloc);
-    for line in lines {
-        text.extend_from_slice(line)?;
-    }
-    Ok(text)
-}
+const DONE: &str = "pending 0 1
+piece 1 job 1 slice 0 from 0 to 16
+taken 1 1
+";
+
+const VERDICT: &str = "verdict SB 1 none.cat 1
+";
+
+const SESSION_ANSWERS: &Answers = &(
+    Ok(()),
+    &[
+        ASKED,
+        DONE,
+        VERDICT,
+        STORE_BUFFERING_SUMMARY,
+        "finish ok 7
+",
+    ],
+);
+
+/// What is answered where the first line isn't taken, and so on.
+const SESSION_LACKS: &[Answers] = &[
+    (
+        Err(ServeFault::BadLine(19)),
+        &[
+            "not taken NoMemory
+version SB 1
+refused 74 Model 61 NoCat none.cat
+refused 77 NoJob 1
+nothing
+bad line 19
+",
+        ],
+    ),
+    (
+        Err(ServeFault::BadLine(19)),
+        &[
+            "version none.cat 1
+not taken NoMemory
+refused 73 NoTest SB
+refused 77 NoJob 1
+nothing
+bad line 19
+",
+        ],
+    ),
+    (
+        Err(ServeFault::BadLine(19)),
+        &[
+            "version none.cat 1
+version SB 1
+not taken NoMemory
+refused 77 NoJob 1
+nothing
+bad line 19
+",
+        ],
+    ),
+    (
+        Ok(()),
+        &[
+            ASKED,
+            "not taken NoMemory
+piece 1 job 1 slice 0 from 0 to 16
+taken 1 1
+",
+            VERDICT,
+            STORE_BUFFERING_SUMMARY,
+            "finish ok 6
+",
+        ],
+    ),
+    (
+        Err(ServeFault::BadLine(19)),
+        &[
+            ASKED,
+            "pending 0 1
+not taken NoMemory
+bad line 19
+",
+        ],
+    ),
+    (
+        Ok(()),
+        &[
+            ASKED,
+            "pending 0 1
+piece 1 job 1 slice 0 from 0 to 16
+not taken NoMemory
+pending 0 1
+finish ok 6
+",
+        ],
+    ),
+    (
+        Ok(()),
+        &[
+            ASKED,
+            DONE,
+            "not taken NoMemory
+finish ok 6
+",
+        ],
+    ),
+];
 
 #[test]
 fn serve_session(rt: HostRuntime) -> Result<(), Fail> {
-    let alloc = rt.alloc();
-    let asked: &[u8] = b"version none.cat 1\nversion SB 1\njob 1\n";
-    let verdict: &[u8] = b"verdict SB 1 none.cat 1\n";
-    let summary = STORE_BUFFERING_SUMMARY;
-    let done: &[u8] = b"pending 0 1\npiece 1 job 1 slice 0 from 0 to 16\ntaken 1 1\n";
-    let own = session(alloc, &[asked, done, verdict, summary, b"finish ok 7\n"])?;
-    let poll = session(
-        alloc,
-        &[
-            asked,
-            b"not taken NoMemory\npiece 1 job 1 slice 0 from 0 to 16\ntaken 1 1\n",
-            verdict,
-            summary,
-            b"finish ok 6\n",
-        ],
-    )?;
-    let last = session(alloc, &[asked, done, b"not taken NoMemory\nfinish ok 6\n"])?;
-    let bad = Err(ServeFault::BadLine(19));
-    let rows: [Answers; 7] = [
-        (
-            bad,
-            b"not taken NoMemory\nversion SB 1\nrefused 74 Model 61 NoCat none.cat\nrefused 77 NoJob 1\nnothing\nbad line 19\n",
-        ),
-        (
-            bad,
-            b"version none.cat 1\nnot taken NoMemory\nrefused 73 NoTest SB\nrefused 77 NoJob 1\nnothing\nbad line 19\n",
-        ),
-        (
-            bad,
-            b"version none.cat 1\nversion SB 1\nnot taken NoMemory\nrefused 77 NoJob 1\nnothing\nbad line 19\n",
-        ),
-        (Ok(()), poll.as_slice()),
-        (
-            bad,
-            b"version none.cat 1\nversion SB 1\njob 1\npending 0 1\nnot taken NoMemory\nbad line 19\n",
-        ),
-        (
-            Ok(()),
-            b"version none.cat 1\nversion SB 1\njob 1\npending 0 1\npiece 1 job 1 slice 0 from 0 to 16\nnot taken NoMemory\npending 0 1\nfinish ok 6\n",
-        ),
-        (Ok(()), last.as_slice()),
-    ];
-    assert!(rt; answers(alloc, SESSION, (Ok(()), own.as_slice()), &rows)?);
-    Ok(())
+    confirm(
+        answers(rt.alloc(), SESSION, SESSION_ANSWERS, SESSION_LACKS),
+        SESSION,
+    )
 }
 
 /// Lines that are refused, each whatever the others are answered.
-const REFUSED: &[u8] = b"0 test
+const REFUSED: &str = "0 test
 C E { 0:r0 = 1; } P0 () { while (r0) {} } exists true
 .
 0 cat a.cat
@@ -260,35 +363,105 @@ let f(x) = x
 1 claim
 ";
 
-const REFUSALS: [&[u8]; 5] = [
-    b"refused 72 Reading 17 Unsupported while\n",
-    b"refused 72 Reading 53 Unsupported f\n",
-    b"refused 73 NoTest SB\n",
-    b"refused 77 NoJob 9\n",
-    b"nothing\n",
+const TEST_REFUSED: &str = "refused 72 Reading 17 Unsupported while
+";
+
+const CAT_REFUSED: &str = "refused 72 Reading 53 Unsupported f
+";
+
+const ASK_REFUSED: &str = "refused 73 NoTest SB
+";
+
+const POLL_REFUSED: &str = "refused 77 NoJob 9
+";
+
+const NOTHING: &str = "nothing
+";
+
+const NOT_TAKEN: &str = "not taken NoMemory
+";
+
+const FOUR_TAKEN: &str = "finish ok 4
+";
+
+const REFUSALS: &Answers = &(
+    Ok(()),
+    &[
+        TEST_REFUSED,
+        CAT_REFUSED,
+        ASK_REFUSED,
+        POLL_REFUSED,
+        NOTHING,
+        "finish ok 5
+",
+    ],
+);
+
+/// What is answered where the first line isn't taken, and so on.
+const REFUSALS_LACK: &[Answers] = &[
+    (
+        Ok(()),
+        &[
+            NOT_TAKEN,
+            CAT_REFUSED,
+            ASK_REFUSED,
+            POLL_REFUSED,
+            NOTHING,
+            FOUR_TAKEN,
+        ],
+    ),
+    (
+        Ok(()),
+        &[
+            TEST_REFUSED,
+            NOT_TAKEN,
+            ASK_REFUSED,
+            POLL_REFUSED,
+            NOTHING,
+            FOUR_TAKEN,
+        ],
+    ),
+    (
+        Ok(()),
+        &[
+            TEST_REFUSED,
+            CAT_REFUSED,
+            NOT_TAKEN,
+            POLL_REFUSED,
+            NOTHING,
+            FOUR_TAKEN,
+        ],
+    ),
+    (
+        Ok(()),
+        &[
+            TEST_REFUSED,
+            CAT_REFUSED,
+            ASK_REFUSED,
+            NOT_TAKEN,
+            NOTHING,
+            FOUR_TAKEN,
+        ],
+    ),
+    (
+        Ok(()),
+        &[
+            TEST_REFUSED,
+            CAT_REFUSED,
+            ASK_REFUSED,
+            POLL_REFUSED,
+            NOT_TAKEN,
+            FOUR_TAKEN,
+        ],
+    ),
 ];
 
 #[test]
 fn serve_refusals(rt: HostRuntime) -> Result<(), Fail> {
-    let alloc = rt.alloc();
-    let none: &[u8] = b"not taken NoMemory\n";
-    let end: &[u8] = b"finish ok 4\n";
-    let [a, b, c, d, e] = REFUSALS;
-    let own = session(alloc, &[a, b, c, d, e, b"finish ok 5\n"])?;
-    let first = session(alloc, &[none, b, c, d, e, end])?;
-    let second = session(alloc, &[a, none, c, d, e, end])?;
-    let third = session(alloc, &[a, b, none, d, e, end])?;
-    let fourth = session(alloc, &[a, b, c, none, e, end])?;
-    let fifth = session(alloc, &[a, b, c, d, none, end])?;
-    let rows: [Answers; 5] = [
-        (Ok(()), first.as_slice()),
-        (Ok(()), second.as_slice()),
-        (Ok(()), third.as_slice()),
-        (Ok(()), fourth.as_slice()),
-        (Ok(()), fifth.as_slice()),
-    ];
-    assert!(rt; answers(alloc, REFUSED, (Ok(()), own.as_slice()), &rows)?);
-    Ok(())
+    confirm(
+        answers(rt.alloc(), REFUSED, REFUSALS, REFUSALS_LACK),
+        REFUSED,
+    )
 }
 
 /// What the words ask for, with how many entries, or the status of their fault.

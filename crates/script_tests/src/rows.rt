@@ -1,8 +1,19 @@
-//! Worked rows of the whole C profile: one test of a text, with the model that has no checks.
+//! Worked rows of sizes: texts that are made of parts, each so many times.
 
-use crate::calls::{ends_with, is_refused, repeated};
+use crate::calls::{Answer, Parts, STORE_BUFFERING, confirm, is_answered, repeated};
 use std::alloc::{AllocError, Global};
 use std::test::Fail;
+
+/// A test and a cat text of parts, and what is answered.
+#[derive(Clone, Copy)]
+struct Long {
+    name: &'static str,
+    test: Parts,
+    cat: Parts,
+    answer: Answer,
+}
+
+const HEAD: (&str, usize) = ("C E\n{}\nP0 (atomic_int* x) {\n", 1);
 
 const STORE: &str = "atomic_store_explicit(x, 1, memory_order_relaxed);\n";
 
@@ -10,42 +21,83 @@ const LOAD: &str = "r0 = atomic_load_explicit(x, memory_order_relaxed);\n";
 
 const FENCE: &str = "atomic_thread_fence(memory_order_seq_cst);\n";
 
-/// A test of one thread on x that makes a statement so often.
-fn thread(alloc: Global, statement: &str, times: usize) -> Result<String, AllocError> {
-    let start = "C E\n{}\nP0 (atomic_int* x) {\n";
-    repeated(alloc, start, statement, times, "}\nexists (x=0)\n")
+const END: (&str, usize) = ("}\nexists (x=0)\n", 1);
+
+/// Tests of one thread on x that makes a statement so often.
+const SIZES: &[Long] = &[
+    Long {
+        name: "63 fences",
+        test: &[HEAD, (FENCE, 63), END],
+        cat: &[],
+        answer: Answer::Ends("Observation E Always 1 0\n"),
+    },
+    Long {
+        name: "12 loads",
+        test: &[HEAD, (LOAD, 12), END],
+        cat: &[],
+        answer: Answer::Ends("Observation E Always 1 0\n"),
+    },
+    Long {
+        name: "64 fences",
+        test: &[HEAD, (FENCE, 64), END],
+        cat: &[],
+        answer: Answer::Refused("21 TooManyEvents"),
+    },
+    Long {
+        name: "13 loads",
+        test: &[HEAD, (LOAD, 13), END],
+        cat: &[],
+        answer: Answer::Refused("31 TooManyRuns 0"),
+    },
+    Long {
+        name: "13 stores",
+        test: &[HEAD, (STORE, 13), END],
+        cat: &[],
+        answer: Answer::Refused("41 TooManyCandidates"),
+    },
+];
+
+const HOSTILE_CAT_TEXTS: &[Long] = &[
+    Long {
+        name: "65 parentheses",
+        test: &[(STORE_BUFFERING, 1)],
+        cat: &[("empty ", 1), ("(", 65)],
+        answer: Answer::Refused("54 TooDeep"),
+    },
+    Long {
+        name: "2,049 items",
+        test: &[(STORE_BUFFERING, 1)],
+        cat: &[("empty 0 ", 2049)],
+        answer: Answer::Refused("55 TooLarge"),
+    },
+    Long {
+        name: "300 includes",
+        test: &[(STORE_BUFFERING, 1)],
+        cat: &[("include \"rc11.cat\" ", 300)],
+        answer: Answer::Refused("68 ModelTooLarge"),
+    },
+];
+
+/// Whether the texts of a row are answered so.
+fn holds(alloc: Global, row: &Long) -> Result<bool, AllocError> {
+    let test = repeated(alloc, row.test)?;
+    let cat = repeated(alloc, row.cat)?;
+    Ok(is_answered(alloc, test.as_str(), cat.as_str(), row.answer))
 }
 
-#[test]
-fn empty_thread_of_no_place(rt: HostRuntime) -> Result<(), Fail> {
-    let text = "C E\n{}\nP0 () {}\nexists true\n";
-    let summary =
-        "Test E Allowed\nStates 1\n\nOk\nWitnesses\nPositive: 1 Negative: 0\nCondition exists (true)\nObservation E Always 1 0\n";
-    assert!(rt; ends_with(rt.alloc(), text, "", summary)?);
+fn all_long_hold(alloc: Global, rows: &[Long]) -> Result<(), Fail> {
+    for row in rows {
+        confirm(holds(alloc, row)?, row.name)?;
+    }
     Ok(())
 }
 
 #[test]
 fn sizes(rt: HostRuntime) -> Result<(), Fail> {
-    let alloc = rt.alloc();
-    for (statement, times) in [(FENCE, 63), (LOAD, 12)] {
-        let most = thread(alloc, statement, times)?;
-        assert!(rt; ends_with(alloc, most.as_str(), "", "Observation E Always 1 0\n")?);
-    }
-    Ok(())
+    all_long_hold(rt.alloc(), SIZES)
 }
 
 #[test]
-fn sizes_too_big(rt: HostRuntime) -> Result<(), Fail> {
-    let alloc = rt.alloc();
-    let rows = [
-        (FENCE, 64, "21 TooManyEvents"),
-        (LOAD, 13, "31 TooManyRuns 0"),
-        (STORE, 13, "41 TooManyCandidates"),
-    ];
-    for (statement, times, fault) in rows {
-        let more = thread(alloc, statement, times)?;
-        assert!(rt; is_refused(alloc, more.as_str(), "", fault)?);
-    }
-    Ok(())
+fn hostile_cat_texts(rt: HostRuntime) -> Result<(), Fail> {
+    all_long_hold(rt.alloc(), HOSTILE_CAT_TEXTS)
 }

@@ -1,40 +1,56 @@
 //! Tests of the words of the command line.
 
+use crate::calls::confirm;
 use command_line::{Task, read_task};
-use std::alloc::Global;
+use std::alloc::{AllocError, Global};
 use std::test::Fail;
 
-/// What the words behind the program's name ask for: 0 is one test, else the most entries of the journal.
-fn asked(alloc: Global, words: &[&str]) -> Result<Result<u32, i32>, Fail> {
+/// Words behind the program's name, and what they ask for: 0 is one test, else the most entries of the journal; or the status of
+/// their fault.
+const WORDS: &[(&str, &[&str], Result<u32, i32>)] = &[
+    ("no word", &[], Ok(100_000)),
+    ("least journal", &["--journal", "1"], Ok(1)),
+    ("largest journal", &["--journal=1000000"], Ok(1_000_000)),
+    ("alone", &["--alone"], Ok(0)),
+    ("help", &["--help"], Err(0)),
+    ("journal of none", &["--journal", "0"], Err(2)),
+    ("journal too large", &["--journal", "1000001"], Err(2)),
+    ("workers", &["--workers", "1"], Err(2)),
+    ("a file", &["SB"], Err(2)),
+];
+
+/// The program's name, and words behind it.
+fn called(alloc: Global, words: &[&str]) -> Result<Vec<String>, AllocError> {
     let mut all = Vec::new(alloc);
     all.push(String::from_str(alloc, "bench")?)?;
     for word in words {
         all.push(String::from_str(alloc, word)?)?;
     }
-    Ok(match read_task(alloc, &all) {
+    Ok(all)
+}
+
+/// What the words ask for.
+fn asked(alloc: Global, words: &[String]) -> Result<u32, i32> {
+    match read_task(alloc, words) {
         Ok(Task::Alone) => Ok(0),
         Ok(Task::Script(journal)) => Ok(journal),
         Err(error) => Err(error.exit_code()),
-    })
+    }
+}
+
+/// Whether the words ask for this.
+fn is_asked(alloc: Global, words: &[&str], wanted: Result<u32, i32>) -> bool {
+    match called(alloc, words) {
+        Ok(all) => asked(alloc, &all) == wanted,
+        Err(_) => false,
+    }
 }
 
 #[test]
 fn words_are_read(rt: HostRuntime) -> Result<(), Fail> {
     let alloc = rt.alloc();
-    assert_eq!(rt; asked(alloc, &[])?, Ok(100_000));
-    assert_eq!(rt; asked(alloc, &["--journal", "1"])?, Ok(1));
-    assert_eq!(rt; asked(alloc, &["--journal=1000000"])?, Ok(1_000_000));
-    assert_eq!(rt; asked(alloc, &["--alone"])?, Ok(0));
-    Ok(())
-}
-
-#[test]
-fn bad_words_have_status_two(rt: HostRuntime) -> Result<(), Fail> {
-    let alloc = rt.alloc();
-    assert_eq!(rt; asked(alloc, &["--help"])?, Err(0));
-    assert_eq!(rt; asked(alloc, &["--journal", "0"])?, Err(2));
-    assert_eq!(rt; asked(alloc, &["--journal", "1000001"])?, Err(2));
-    assert_eq!(rt; asked(alloc, &["--workers", "1"])?, Err(2));
-    assert_eq!(rt; asked(alloc, &["SB"])?, Err(2));
+    for (name, words, wanted) in WORDS {
+        confirm(is_asked(alloc, words, *wanted), name)?;
+    }
     Ok(())
 }

@@ -1,11 +1,11 @@
 //! The texts of examples/. A test reads no file, so they stand here again: tests, models and scripts byte for byte.
 
 /// The built-in model.
-pub const RC11: &[u8] = b"include \"rc11.cat\"
+pub const RC11: &str = "include \"rc11.cat\"
 ";
 
 /// examples/sc.cat
-pub const SEQUENTIAL: &[u8] = b"\"Sequential consistency\"
+pub const SEQUENTIAL: &str = "\"Sequential consistency\"
 (* An execution is one interleaving of the threads, in which each read sees the last write. *)
 let com = rf | co | fr
 acyclic po | com as sc
@@ -14,7 +14,7 @@ empty rmw & (fr ; co) as atomicity
 ";
 
 /// examples/tso.cat
-pub const BUFFERS: &[u8] = b"\"TSO\"
+pub const BUFFERS: &str = "\"TSO\"
 (* Stores wait in a buffer of their thread, and its later loads from other locations may go ahead of them. A seq_cst fence
    and an exchange wait until the buffer is empty, and a seq_cst store is followed by such a wait: x86, as compilers use it. *)
 let com = rf | co | fr
@@ -27,7 +27,7 @@ acyclic kept | fenced | locked | rfe | co | fr as tso
 ";
 
 /// examples/SB.litmus
-pub const STORE_BUFFERING: &[u8] = b"C SB
+pub const STORE_BUFFERING: &str = "C SB
 {}
 P0 (atomic_int* x, atomic_int* y) {
   atomic_store_explicit(x, 1, memory_order_relaxed);
@@ -41,7 +41,7 @@ exists (0:r0=0 /\\ 1:r0=0)
 ";
 
 /// examples/SB+sc.litmus
-pub const STORE_BUFFERING_SC: &[u8] = b"C SB+sc
+pub const STORE_BUFFERING_SC: &str = "C SB+sc
 Store buffering with seq_cst accesses: the two threads can't both miss the other's store.
 {}
 P0 (atomic_int* x, atomic_int* y) {
@@ -56,7 +56,7 @@ exists (0:r0=0 /\\ 1:r0=0)
 ";
 
 /// examples/SB+fences.litmus
-pub const STORE_BUFFERING_FENCES: &[u8] = b"C SB+fences
+pub const STORE_BUFFERING_FENCES: &str = "C SB+fences
 Store buffering with relaxed accesses and a seq_cst fence between the two of each thread.
 {}
 P0 (atomic_int* x, atomic_int* y) {
@@ -73,7 +73,7 @@ exists (0:r0=0 /\\ 1:r0=0)
 ";
 
 /// examples/SB+forall.litmus
-pub const STORE_BUFFERING_ALL: &[u8] = b"C SB+forall
+pub const STORE_BUFFERING_ALL: &str = "C SB+forall
 Store buffering asked the other way round: does each execution end with at least one 1?
 {}
 P0 (atomic_int* x, atomic_int* y) {
@@ -88,7 +88,7 @@ forall (0:r0=1 \\/ 1:r0=1)
 ";
 
 /// examples/MP.litmus
-pub const MESSAGE: &[u8] = b"C MP
+pub const MESSAGE: &str = "C MP
 Message passing: the second thread sees the flag, and not the message.
 {}
 P0 (atomic_int* x, atomic_int* y) {
@@ -103,7 +103,7 @@ exists (1:r0=1 /\\ 1:r1=0)
 ";
 
 /// examples/MP+rel.litmus
-pub const MESSAGE_RELEASED: &[u8] = b"C MP+rel
+pub const MESSAGE_RELEASED: &str = "C MP+rel
 Message passing with a release store alone: the load of the flag doesn't acquire.
 {}
 P0 (atomic_int* x, atomic_int* y) {
@@ -118,7 +118,7 @@ exists (1:r0=1 /\\ 1:r1=0)
 ";
 
 /// examples/MP+rel+acq.litmus
-pub const MESSAGE_ACQUIRED: &[u8] = b"C MP+rel+acq
+pub const MESSAGE_ACQUIRED: &str = "C MP+rel+acq
 Message passing with a release store and an acquire load of the flag: who sees the flag sees the message.
 {}
 P0 (atomic_int* x, atomic_int* y) {
@@ -133,7 +133,7 @@ exists (1:r0=1 /\\ 1:r1=0)
 ";
 
 /// examples/LB.litmus
-pub const LOAD_BUFFERING: &[u8] = b"C LB
+pub const LOAD_BUFFERING: &str = "C LB
 Load buffering: each thread reads what the other writes later.
 {}
 P0 (atomic_int* x, atomic_int* y) {
@@ -148,7 +148,7 @@ exists (0:r0=1 /\\ 1:r0=1)
 ";
 
 /// examples/IRIW.litmus
-pub const INDEPENDENT_READS: &[u8] = b"C IRIW
+pub const INDEPENDENT_READS: &str = "C IRIW
 Independent reads of independent writes: two readers see two stores in opposite orders.
 {}
 P0 (atomic_int* x) {
@@ -169,7 +169,7 @@ exists (2:r0=1 /\\ 2:r1=0 /\\ 3:r0=1 /\\ 3:r1=0)
 ";
 
 /// examples/IRIW+sc.litmus
-pub const INDEPENDENT_READS_SC: &[u8] = b"C IRIW+sc
+pub const INDEPENDENT_READS_SC: &str = "C IRIW+sc
 Independent reads of independent writes, with seq_cst accesses: all threads see the stores in one order.
 {}
 P0 (atomic_int* x) {
@@ -190,7 +190,7 @@ exists (2:r0=1 /\\ 2:r1=0 /\\ 3:r0=1 /\\ 3:r1=0)
 ";
 
 /// examples/2+2W.litmus
-pub const TWO_WRITES: &[u8] = b"C 2+2W
+pub const TWO_WRITES: &str = "C 2+2W
 Two threads write two locations in opposite orders: the final values are those of the co-last writes.
 {}
 P0 (atomic_int* x, atomic_int* y) {
@@ -205,7 +205,7 @@ exists ([x]=1 /\\ [y]=1)
 ";
 
 /// examples/CoRR.litmus
-pub const COHERENT_READS: &[u8] = b"C CoRR
+pub const COHERENT_READS: &str = "C CoRR
 Coherence of two reads: after the new value a thread can't read the old one of the same location.
 {}
 P0 (atomic_int* x) {
@@ -219,7 +219,7 @@ exists (1:r0=1 /\\ 1:r1=0)
 ";
 
 /// examples/race.litmus
-pub const PLAIN_MESSAGE: &[u8] = b"C race
+pub const PLAIN_MESSAGE: &str = "C race
 A data race: nothing orders the plain store of the message and the plain load of it.
 {}
 P0 (int* x, atomic_int* y) {
@@ -234,7 +234,7 @@ exists (1:r0=1 /\\ 1:r1=0)
 ";
 
 /// examples/race-free.litmus
-pub const GUARDED_MESSAGE: &[u8] = b"C race-free
+pub const GUARDED_MESSAGE: &str = "C race-free
 The race mended: the message is read only where the flag was seen, by an acquire load of a release store.
 {}
 P0 (int* x, atomic_int* y) {
@@ -249,7 +249,7 @@ exists (1:r0=1 /\\ 1:r1=0)
 ";
 
 /// examples/RS.litmus
-pub const RELEASE_SEQUENCE: &[u8] = b"C RS
+pub const RELEASE_SEQUENCE: &str = "C RS
 A release sequence: the exchange of P1 is relaxed, and yet who acquires from it synchronizes with the release of P0.
 {}
 P0 (atomic_int* x, atomic_int* y) {
@@ -267,7 +267,7 @@ exists (1:r0=1 /\\ 2:r0=2 /\\ 2:r1=0)
 ";
 
 /// examples/RS+load+store.litmus
-pub const BROKEN_SEQUENCE: &[u8] = b"C RS+load+store
+pub const BROKEN_SEQUENCE: &str = "C RS+load+store
 The release sequence broken: a load and a store in place of the exchange don't carry it on.
 {}
 P0 (atomic_int* x, atomic_int* y) {
@@ -286,7 +286,7 @@ exists (1:r0=1 /\\ 2:r0=2 /\\ 2:r1=0)
 ";
 
 /// examples/RS+same.litmus
-pub const OWN_SEQUENCE: &[u8] = b"C RS+same
+pub const OWN_SEQUENCE: &str = "C RS+same
 A release sequence of one thread: its later relaxed store to the same location belongs to it.
 {}
 P0 (atomic_int* x, atomic_int* y) {
@@ -302,7 +302,7 @@ exists (1:r0=2 /\\ 1:r1=0)
 ";
 
 /// examples/swap.litmus
-pub const EXCHANGES: &[u8] = b"C swap
+pub const EXCHANGES: &str = "C swap
 Two exchanges: only one of them can be the first.
 {}
 P0 (atomic_int* x) {
@@ -315,7 +315,7 @@ exists (0:r0=0 /\\ 1:r0=0)
 ";
 
 /// examples/initial.litmus
-pub const INITIAL_VALUES: &[u8] = b"C initial
+pub const INITIAL_VALUES: &str = "C initial
 An initial state: typed entries, a register, a comment, and two entries for one place, of which the later holds.
 {
   int x = 4; x = 5;   // x begins with 5
@@ -330,8 +330,8 @@ exists (0:r0=5 /\\ 0:r1=7 /\\ [y]=3)
 ";
 
 /// examples/teaching.script
-pub const TEACHING_SCRIPT: &[u8] =
-    b"# A session, 0, puts a model and a test, and asks for the verdict under two models.
+pub const TEACHING_SCRIPT: &str =
+    "# A session, 0, puts a model and a test, and asks for the verdict under two models.
 0 cat sc.cat
 \"Sequential consistency\"
 (* An execution is one interleaving of the threads, in which each read sees the last write. *)
@@ -366,7 +366,7 @@ exists (0:r0=0 /\\ 1:r0=0)
 ";
 
 /// examples/teaching.out
-pub const TEACHING_ANSWERS: &[u8] = b"version sc.cat 1
+pub const TEACHING_ANSWERS: &str = "version sc.cat 1
 version SB 1
 job 1
 job 2
@@ -401,8 +401,8 @@ finish ok 10
 ";
 
 /// examples/versions.script
-pub const VERSIONS_SCRIPT: &[u8] =
-    b"# A model of two files. The first version of common.cat forgets fr.
+pub const VERSIONS_SCRIPT: &str =
+    "# A model of two files. The first version of common.cat forgets fr.
 0 cat common.cat
 let com = rf | co
 .
@@ -439,7 +439,7 @@ let com = rf | co | fr
 ";
 
 /// examples/versions.out
-pub const VERSIONS_ANSWERS: &[u8] = b"version common.cat 1
+pub const VERSIONS_ANSWERS: &str = "version common.cat 1
 version mine.cat 1
 version SB 1
 job 1
