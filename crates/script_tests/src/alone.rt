@@ -1,7 +1,7 @@
 //! Tests of `one` on a test with the model that has no checks.
 
 use crate::calls::{
-    Answer, Case, STORE_BUFFERING, STORE_BUFFERING_SUMMARY, all_hold, answer, confirm,
+    Answer, Case, STORE_BUFFERING, STORE_BUFFERING_SUMMARY, all_hold, confirm, summarized,
 };
 use one_test::{OneFault, one};
 use std::alloc::{AllocError, Global};
@@ -43,7 +43,7 @@ fn whole_summaries(rt: HostRuntime) -> Result<(), Fail> {
 
 /// Whether a writer of too little room has just the front part of the summary, with the fault that says so.
 fn has_a_front_part(alloc: Global, room: usize) -> bool {
-    match answer(alloc, STORE_BUFFERING.as_bytes(), b"", room) {
+    match summarized(alloc, STORE_BUFFERING.as_bytes(), b"", room) {
         Ok((outcome, writer)) => {
             outcome == Err(OneFault::Write)
                 && writer.bytes().len() == room

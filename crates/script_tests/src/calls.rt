@@ -83,7 +83,7 @@ pub fn confirm(holds: bool, tried: &str) -> Result<(), Fail> {
 }
 
 /// What is answered to an input under a cat text where the writer has so much room, and what it then holds.
-pub fn answer(
+pub fn summarized(
     alloc: Global,
     input: &[u8],
     cat: &[u8],
@@ -120,7 +120,7 @@ fn is_wanted(alloc: Global, outcome: &Result<(), OneFault>, bytes: &[u8], wanted
 
 /// Whether a test under a model is answered so.
 pub fn is_answered(alloc: Global, test: &str, cat: &str, wanted: Answer) -> bool {
-    match answer(alloc, test.as_bytes(), cat.as_bytes(), 4096) {
+    match summarized(alloc, test.as_bytes(), cat.as_bytes(), 4096) {
         Ok((outcome, writer)) => is_wanted(alloc, &outcome, writer.bytes(), wanted),
         Err(_) => false,
     }
