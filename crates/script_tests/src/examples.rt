@@ -17,7 +17,7 @@ use texts::{
 /// The models that each example is judged under.
 const ALL: &[&str] = &[RC11, SEQUENTIAL, BUFFERS];
 
-const EXAMPLES: &[Case] = &[
+const OF_BUFFERING: &[Case] = &[
     Case {
         name: "sb",
         test: STORE_BUFFERING,
@@ -150,6 +150,9 @@ Observation SB+forall Sometimes 3 1
             ),
         ],
     },
+];
+
+const OF_MESSAGES: &[Case] = &[
     Case {
         name: "mp",
         test: MESSAGE,
@@ -254,6 +257,9 @@ Observation LB Never 0 3
             ),
         )],
     },
+];
+
+const OF_COHERENCE: &[Case] = &[
     Case {
         name: "iriw",
         test: INDEPENDENT_READS,
@@ -358,6 +364,9 @@ Observation CoRR Never 0 3
             ),
         )],
     },
+];
+
+const OF_RACES: &[Case] = &[
     Case {
         name: "race",
         test: PLAIN_MESSAGE,
@@ -429,6 +438,9 @@ Observation RS Never 0 9
             ),
         )],
     },
+];
+
+const OF_RELEASES: &[Case] = &[
     Case {
         name: "rs_load_store",
         test: BROKEN_SEQUENCE,
@@ -520,8 +532,28 @@ Observation initial Always 1 0
 ];
 
 #[test]
-fn examples(rt: HostRuntime) -> Result<(), Fail> {
-    all_hold(rt.alloc(), EXAMPLES)
+fn buffers_of_stores(rt: HostRuntime) -> Result<(), Fail> {
+    all_hold(rt.alloc(), OF_BUFFERING)
+}
+
+#[test]
+fn messages_and_loads(rt: HostRuntime) -> Result<(), Fail> {
+    all_hold(rt.alloc(), OF_MESSAGES)
+}
+
+#[test]
+fn orders_of_writes(rt: HostRuntime) -> Result<(), Fail> {
+    all_hold(rt.alloc(), OF_COHERENCE)
+}
+
+#[test]
+fn plain_accesses(rt: HostRuntime) -> Result<(), Fail> {
+    all_hold(rt.alloc(), OF_RACES)
+}
+
+#[test]
+fn sequences_and_exchanges(rt: HostRuntime) -> Result<(), Fail> {
+    all_hold(rt.alloc(), OF_RELEASES)
 }
 
 /// A model of each location alone.

@@ -54,10 +54,11 @@ fn summarizes(alloc: Global, test: &str, cat: &str, wanted: &str) -> bool {
 
 /// The fault that a test under a model is answered, where nothing is written.
 fn fault(alloc: Global, test: &str, cat: &str) -> Option<OneFault> {
-    match summary(alloc, test, cat) {
-        Ok((Err(fault), writer)) if writer.bytes().is_empty() => Some(fault),
-        _ => None,
+    let (outcome, writer) = summary(alloc, test, cat).ok()?;
+    if !writer.bytes().is_empty() {
+        return None;
     }
+    outcome.err()
 }
 
 fn shown(alloc: Global, fault: &OneFault) -> Result<String, AllocError> {
