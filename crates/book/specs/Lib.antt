@@ -1,8 +1,11 @@
 pub mod BenchCodes
 pub mod Changes
+pub mod Cuts
 pub mod JobCodes
 pub mod Jobs
 pub mod Kept
+pub mod Listings
 pub mod NameCodes
+pub mod Results
 pub mod Step
 pub mod Workbench
