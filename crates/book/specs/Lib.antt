@@ -1,6 +1,7 @@
 pub mod BenchCodes
 pub mod Changes
 pub mod Cuts
+pub mod Frees
 pub mod JobCodes
 pub mod Jobs
 pub mod Kept

@@ -1,5 +1,5 @@
 -- What the book lists.
-use Rattle.std.specs.Prelude.{ℕ, List, [], ◌∷◌, map, filter, length, is_some}
+use Rattle.std.specs.Prelude.{ℕ, Bool, List, [], ◌∷◌, map, filter, length, is_some}
 use Rattle.cat_model.specs.Files.{version_of, loaded}
 use Rattle.cat_model.specs.declared.files.Entry.{Entry}
 use Rattle.cat_model.specs.declared.model.FileVersion.{FileVersion}
@@ -12,12 +12,24 @@ use Rattle.book.specs.Workbench.{Workbench, test_version, test_of}
 use Rattle.book.specs.declared.names.TestSlot.{TestSlot}
 
 -- the names of tests that are loaded, in the order of their first load, each with its version
+abbrev pub test_row : List (Word × TestSlot) → Word → Loaded
+test_row tests name = record { name = name; version = test_version tests name }
+
+abbrev pub is_test : List (Word × TestSlot) → Word → Bool
+is_test tests name = is_some (test_of tests name)
+
 abbrev pub listed_tests : List (Word × TestSlot) → List Loaded
-listed_tests tests = map (λ t. record { name = t.0; version = test_version tests t.0 }) (filter (λ t. is_some (test_of tests t.0)) tests)
+listed_tests tests = map (test_row tests) (filter (is_test tests) (map (λ t. t.0) tests))
 
 -- and those of cat files; built-in files aren't among them
+abbrev pub cat_row : List Entry → Word → Loaded
+cat_row cats name = record { name = name; version = version_of name cats }
+
+abbrev pub is_cat : List Entry → Word → Bool
+is_cat cats name = is_some (loaded name cats)
+
 abbrev pub listed_cats : List Entry → List Loaded
-listed_cats cats = map (λ e. record { name = e.name; version = version_of e.name cats }) (filter (λ e. is_some (loaded e.name cats)) cats)
+listed_cats cats = map (cat_row cats) (filter (is_cat cats) (map (λ e. e.name) cats))
 
 -- the first of a model's files is its root
 abbrev pub root_of : List FileVersion → Word
