@@ -166,9 +166,9 @@ impl Job {
         ensures range { IfOk result (λ p. HasRange (slice_get self.now.slices slice) p.from p.to) }
         ensures work { IfOk result (λ p. p.work ≡ self.now.work) }
     {
-        let Slice { from, to, .. } = self.slices[slice as usize];
+        let range = self.slices[slice as usize];
         let work = self.work().share()?;
-        Ok(Piece::new(claim, self.number, slice, from, to, work))
+        Ok(Piece::new(claim, self.number, slice, range.from, range.to, work))
     }
 
     /// Whether a slice has this range.
@@ -190,12 +190,17 @@ impl Job {
         ensures err { OnErr result (self.new ≡ self.old) }
     {
         let place = part.piece().slice() as usize;
-        if self.slices[place].returned {
+        let slice = self.slices[place];
+        if slice.returned {
             return Ok(());
         }
         match self.tally.merge(part) {
             Ok(()) => {
-                self.slices[place].returned = true;
+                self.slices[place] = Slice {
+                    from: slice.from,
+                    to: slice.to,
+                    returned: true,
+                };
                 Ok(())
             }
             Err(_) => Err(AllocError),

@@ -3,7 +3,7 @@
 ghost use Rattle.std.specs.Prelude.{◌≡◌, [], None, Some, IfOk, OnOk, OnErr, MatchOption, option_map, slice_get};
 ghost use Rattle.std.specs.Str.{bytes_eq};
 ghost use Rattle.indexmap.specs.IndexMap.{insert_entry};
-ghost use Rattle.book.specs.Listings.{listed_tests};
+ghost use Rattle.book.specs.Listings.{is_test, listed_tests};
 ghost use Rattle.book.specs.Workbench.{test_version, test_of};
 
 use indexmap::IndexMap;
@@ -89,6 +89,16 @@ impl Tests {
         }
     }
 
+    /// Whether a test was put under this name and not dropped.
+    pub fn is_there(&self, name: &Name) -> bool
+        ensures { result ≡ is_test self.now name.now }
+    {
+        match self.slots.get(name) {
+            Some(slot) => slot.tree.is_some(),
+            None => false,
+        }
+    }
+
     /// The loaded tests, in the order in which their names were first put.
     #[tactic(auto, using(crate::proofs::Listed::test_there, crate::proofs::Listed::test_away, crate::proofs::Listed::no_more))]
     pub fn listed(&self, alloc: Global) -> Result<Vec<Loaded>, AllocError>
@@ -99,7 +109,7 @@ impl Tests {
             let Some(name) = self.name_at(place) else {
                 return Ok(listed);
             };
-            if self.test(name).is_some() {
+            if self.is_there(name) {
                 listed.push(Loaded {
                     name: name.copy()?,
                     version: self.version(name),

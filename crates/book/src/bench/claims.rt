@@ -1,10 +1,11 @@
 //! What is done with claims: slices are claimed, returned and given back.
 
-ghost use Rattle.std.specs.Prelude.{◌≡◌, ◌↔◌, true, false, is_some, IfOk, IfSome, IsTrue, count_by};
+ghost use Rattle.std.specs.Prelude.{◌≡◌, ◌↔◌, true, false, None, Some, IfOk, MatchOption, IsTrue, count_by, option_copied};
+ghost use Rattle.std.specs.List.{find};
 ghost use Rattle.book.specs.Changes.{changed, IsReady};
 ghost use Rattle.book.specs.Frees.{IsFreeAt, IsFreeIn};
 ghost use Rattle.book.specs.Step.{Step, IsOwn, is_of};
-ghost use Rattle.book.specs.Workbench.{is_claimed, has_free, any_free};
+ghost use Rattle.book.specs.Workbench.{is_claimed, is_free, is_replaced, has_free, any_free};
 ghost use Rattle.journal.specs.Lines.{answers, returned, shown};
 ghost use Rattle.journal.specs.declared.records.Said.{Said};
 
@@ -12,6 +13,7 @@ use crate::bench::Bench;
 use crate::jobs::Job;
 use crate::live::Live;
 use crate::plan::{Change, Plan};
+use crate::slice::Slice;
 use journal::{Refusal, Reply};
 use slices::{Piece, PieceResult};
 use std::alloc::AllocError;
@@ -97,44 +99,79 @@ impl Bench {
     }
 
     /// Whether a slice of some job is free.
-    #[tactic(auto, using(crate::proofs::Claims::is_free_in))]
+    #[tactic(auto, using(crate::proofs::Claims::any_in))]
     pub(crate) fn any_free(&self) -> bool
         ensures { result ≡ any_free self.now }
     {
-        self.free_place().is_some()
+        match self.free_place() {
+            Some(_) => true,
+            None => false,
+        }
     }
 
     /// The first job with a free slice, and its lowest free slice.
-    #[tactic(auto, using(crate::proofs::Claims::free_next, crate::proofs::Claims::free_here))]
+    #[tactic(auto, using(crate::proofs::Claims::none_in, crate::proofs::Claims::free_in, crate::proofs::Claims::found_free))]
     fn free_place(&self) -> Option<(&Job, u16)>
-        ensures any { is_some result ≡ any_free self.now }
-        ensures free { IfSome result (λ p. IsFreeIn self.now p.0.now p.1) }
+        ensures { MatchOption result (any_free self.now ≡ false) (λ p. IsFreeIn self.now p.0.now p.1) }
     {
-        for job in &self.jobs {
-            if let Some(slice) = self.free_slice(job) {
-                return Some((job, slice));
-            }
+        match self.free_job() {
+            Some(job) => match self.free_slice(job) {
+                Some(slice) => Some((job, slice)),
+                None => unreachable!(),
+            },
+            None => None,
         }
-        None
+    }
+
+    /// The first job with a free slice.
+    fn free_job(&self) -> Option<&Job>
+        ensures { MatchOption result (find (has_free self.now) self.now.jobs ≡ None)
+            (λ j. find (has_free self.now) self.now.jobs ≡ Some j.now) }
+    {
+        self.find_free_job()
+    }
+
+    fn find_free_job(&self) -> Option<&Job>
+        ensures { option_copied result ≡ find (has_free self.now) self.now.jobs }
+    {
+        self.jobs.iter().find(|job| self.has_free(job))
+    }
+
+    /// Whether a slice of a job is free.
+    #[tactic(auto, using(crate::proofs::Claims::free_has))]
+    fn has_free(&self, job: &Job) -> bool
+        ensures { result ≡ has_free self.now job.now }
+    {
+        match self.free_slice(job) {
+            Some(_) => true,
+            None => false,
+        }
     }
 
     /// The lowest free slice of a job.
-    #[tactic(auto, using(crate::proofs::Claims::none_free, crate::proofs::Claims::slice_free, crate::proofs::Claims::slice_taken))]
+    #[tactic(auto, using(crate::proofs::Claims::none_free))]
     fn free_slice(&self, job: &Job) -> Option<u16>
-        ensures any { is_some result ≡ has_free self.now job.now }
-        ensures free { IfSome result (IsFreeAt self.now job.now) }
+        ensures { MatchOption result (has_free self.now job.now ≡ false) (IsFreeAt self.now job.now) }
     {
         if self.is_replaced(job) {
             return None;
         }
         let slices = job.slices();
         for place in 0..slices.len() {
-            let slice = place as u16;
-            if !slices[place].returned && !self.is_claimed(job.number(), slice) {
-                return Some(slice);
+            if self.is_open(job, place as u16, slices[place]) {
+                return Some(place as u16);
             }
         }
         None
+    }
+
+    /// Whether a slice of a job that isn't replaced is free.
+    #[tactic(auto, using(crate::proofs::Claims::free_now, crate::proofs::Claims::returned_taken, crate::proofs::Claims::claimed_taken))]
+    fn is_open(&self, job: &Job, place: u16, slice: Slice) -> bool
+        requires { is_replaced self.now job.now ≡ false }
+        ensures { result ≡ is_free self.now job.now place slice }
+    {
+        !slice.returned && !self.is_claimed(job.number(), place)
     }
 
     /// Whether a live claim holds a slice.

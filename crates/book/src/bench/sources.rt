@@ -102,7 +102,7 @@ impl Bench {
         ensures kind { IfOk result (λ p. answers (Said.DropTest name.now) p.reply ≡ true) }
         ensures ready { IfOk result (λ p. IsReady self.now p.change) }
     {
-        if self.tests.test(name).is_none() {
+        if !self.tests.is_there(name) {
             return Ok(Plan::refuse(Refusal::NoTest(name.copy()?)));
         }
         let version = self.tests.version(name);
