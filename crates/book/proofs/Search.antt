@@ -85,6 +85,12 @@ set_here (x ∷ xs) (suc i) y h =
 pub marked_in-set : (xs : List Job) (i : ℕ) (x : Job) (number slice : ℕ) → i < length xs → x ≡ get_or xs i x → (x.number == number) ≡ true → marked_in xs number slice ≡ take i xs ++ marked_in (drop i xs) number slice → set xs i (marked slice x) ≡ marked_in xs number slice
 marked_in-set xs i x number slice h e b k = set_here xs i _ h ∙ sym (k ∙ ap (λ v. take i xs ++ v) (marked_in-found xs i x number slice h e b))
 
+-- a list with an element set to itself
+pub set_same : (xs : List Job) (i : ℕ) (x : Job) → i < length xs → x ≡ get_or xs i x → set xs i x ≡ xs
+set_same [] i x h e = absurd (omega (arith, h))
+set_same (y ∷ ys) zero x h e = ap (λ z. z ∷ ys) e
+set_same (y ∷ ys) (suc i) x h e = ap (λ zs. y ∷ zs) (set_same ys i x (omega (arith, h)) e)
+
 -- replaced files, from the front
 
 pub replaced_file-found : (cats : List Entry) (fs : List FileVersion) (i : ℕ) (f : FileVersion) → i < length fs → f ≡ get_or fs i f → (version_of f.name cats == f.version) ≡ false → replaced_file cats (drop i fs) ≡ Some (record { kind = Cat; name = f.name; version = version_of f.name cats })

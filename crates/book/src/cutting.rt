@@ -32,6 +32,7 @@ fn slice_count(size: u64) -> u16
 }
 
 /// Cuts so many numbers into slices of nearly one length.
+#[tactic(auto, using(crate::proofs::Cuts::none_begun, crate::proofs::Cuts::one_more, crate::proofs::Cuts::whole))]
 pub fn cut(alloc: Global, size: u64) -> Result<Vec<Slice>, AllocError>
     requires { size ≤ 2 ^ 32 }
     ensures { IfOk result (λ v. IsCut size v.items) }

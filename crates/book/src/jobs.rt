@@ -107,7 +107,7 @@ impl Job {
     }
 
     /// How many are returned once this one is.
-    #[tactic(auto, using(crate::proofs::Results::done_then))]
+    #[tactic(auto, using(crate::proofs::Results::get_here, crate::proofs::Results::done_then, crate::proofs::Results::done_again))]
     pub fn done_with(&self, slice: u16) -> usize
         requires { slice < length self.now.slices }
         ensures { result ≡ done (marked slice self.now) }
@@ -157,7 +157,7 @@ impl Job {
     }
 
     /// A slice, given under a claim.
-    #[tactic(auto, using(crate::proofs::Results::is_range))]
+    #[tactic(auto, using(crate::proofs::Results::get_here, crate::proofs::Results::is_range, crate::proofs::Results::has_range))]
     pub fn piece(&self, claim: u32, slice: u16) -> Result<Piece, AllocError>
         requires { slice < length self.now.slices }
         ensures claim { IfOk result (λ p. p.claim ≡ claim) }
@@ -182,7 +182,7 @@ impl Job {
     }
 
     /// Takes the result of a slice, or changes nothing. A slice that is returned keeps its first result.
-    #[tactic(auto, using(crate::proofs::Results::still_tied, crate::proofs::Results::apart, crate::proofs::Results::mark_again))]
+    #[tactic(auto, using(crate::proofs::Results::inside, crate::proofs::Results::get_here, crate::proofs::Results::range_here))]
     pub fn take(&mut self, part: PieceResult) -> Result<(), AllocError>
         requires work { part.piece.work ≡ self.old.work }
         requires range { HasRange (slice_get self.old.slices part.piece.slice) part.piece.from part.piece.to }

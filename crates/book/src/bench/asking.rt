@@ -44,7 +44,7 @@ impl Bench {
     }
 
     // The test of this name is there, and so is the model of this root.
-    #[tactic(auto, using(crate::proofs::Steps::no_space, crate::proofs::Steps::jobs_full, crate::proofs::Steps::opened_job))]
+    #[tactic(auto, using(crate::proofs::Steps::no_space, crate::proofs::Steps::jobs_full, crate::proofs::Steps::opened_job, crate::proofs::Steps::work_root))]
     fn decide_work(
         &self,
         alloc: Global,

@@ -18,6 +18,12 @@ use journal::{Refusal, Reply};
 use slices::{Piece, PieceResult};
 use std::alloc::AllocError;
 
+/// A free slice of a job.
+struct FreeSlice<'a> {
+    job: &'a Job,
+    slice: u16,
+}
+
 impl Bench {
     #[tactic(auto, using(crate::proofs::Claims::nothing, crate::proofs::Claims::claims_spent, crate::proofs::Claims::given))]
     pub(crate) fn decide_claim(&self, seat: u8) -> Result<Plan, AllocError>
@@ -26,7 +32,7 @@ impl Bench {
         ensures kind { IfOk result (λ p. answers Said.Claim p.reply ≡ true) }
         ensures ready { IfOk result (λ p. IsReady self.now p.change) }
     {
-        let Some((job, slice)) = self.free_place() else {
+        let Some(free) = self.free_place() else {
             return Ok(Plan::keep(Reply::Nothing));
         };
         if self.last_claim >= self.limits.claims {
@@ -36,11 +42,11 @@ impl Bench {
         let claim = Live {
             number,
             seat,
-            job: job.number(),
-            slice,
+            job: free.job.number(),
+            slice: free.slice,
         };
         Ok(Plan {
-            reply: Reply::Piece(job.piece(number, slice)?),
+            reply: Reply::Piece(free.job.piece(number, free.slice)?),
             change: Change::Hold(claim),
         })
     }
@@ -111,12 +117,12 @@ impl Bench {
 
     /// The first job with a free slice, and its lowest free slice.
     #[tactic(auto, using(crate::proofs::Claims::none_in, crate::proofs::Claims::free_in, crate::proofs::Claims::found_free))]
-    fn free_place(&self) -> Option<(&Job, u16)>
-        ensures { MatchOption result (any_free self.now ≡ false) (λ p. IsFreeIn self.now p.0.now p.1) }
+    fn free_place(&self) -> Option<FreeSlice<'_>>
+        ensures { MatchOption result (any_free self.now ≡ false) (λ p. IsFreeIn self.now p.job.now p.slice) }
     {
         match self.free_job() {
             Some(job) => match self.free_slice(job) {
-                Some(slice) => Some((job, slice)),
+                Some(slice) => Some(FreeSlice { job, slice }),
                 None => unreachable!(),
             },
             None => None,

@@ -17,7 +17,8 @@ returns-clause-step c =
     let room : length s.jobs < 256 = grind (arith, common_steps) in
     let number : c.self.inside.last_job + 1 ≡ s.last_job + 1 = ap (λ (x : Workbench). x.last_job + 1) c.self.view_is in
     let version : c.version-version.result ≡ test_version s.tests c.args.test.now = c.version-version.ensures ∙ ap (λ (x : Workbench). test_version x.tests c.args.test.now) c.self.view_is in
-    opened_job s 0 c.args.test.now c.args.cat.now c.args.tree.now c.in_ok-share.field-0 c.args.model (c.self.inside.last_job + 1) c.version-version.result c.in-Ok.work c.in_ok-new.field-0 c.new-3.result c.requires.open c.requires.there c.requires.model c.in_ok-share.ensures c.in-Ok.ensures.work c.in-Ok.ensures.admitted room number version c.in_ok-new.ensures c.new-3.ensures
+    opened_job s 0 c.args.test.now c.args.cat.now c.args.tree.now c.in_ok-share.field-0 c.args.model (c.self.inside.last_job + 1) c.version-version.result c.in-Ok.work c.in_ok-new.field-0 c.in_ok-job.job c.requires.open c.requires.there c.requires.model c.in_ok-share.ensures c.in-Ok.ensures.work c.in-Ok.ensures.admitted room number version c.in_ok-new.ensures
+    c.in_ok-job.ensures.number c.in_ok-job.ensures.version c.in_ok-job.ensures.work c.in_ok-job.ensures.cut
 
 pub returns-in-Err-TooManyRuns-clause-step : goal.returns-in-Err-TooManyRuns-clause-step
 returns-in-Err-TooManyRuns-clause-step c =
