@@ -4,6 +4,8 @@ use Rattle.std.specs.Prelude.{slice_get, nat_le, nat_lt, count_by, ◌&&◌}
 use Rattle.std.specs.List.{list_all}
 use Rattle.std.proofs.lemmas.Bool.{leb-true}
 use Rattle.std.proofs.lemmas.Bool.Decides.{eqb_tells}
+use Rattle.std.proofs.lemmas.List.Sums.{count_by-le-length}
+use Rattle.cat_model.specs.declared.model.FileVersion.{FileVersion}
 use Rattle.listings.specs.Lists.{IsIn}
 use Rattle.listings.proofs.Listings.{in_append, in_left, in_right}
 use Rattle.slices.specs.Parts.{IsRange, test_size}
@@ -13,6 +15,7 @@ use Rattle.slices.specs.Works.{Task}
 use Rattle.slices.specs.declared.span.Span.{Span}
 use Rattle.book.specs.Cuts.{IsCover, IsWithin}
 use Rattle.book.specs.Jobs.{Job, mark, marked, done}
+use Rattle.book.specs.Listings.{root_of}
 use Rattle.book.specs.Results.{IsReturned, IsTied, HasRoot}
 use Rattle.book.specs.Step.{IsCut, HasRange, has_number}
 use Rattle.book.specs.declared.slice.Slice.{Slice}
@@ -108,6 +111,27 @@ done_then job i x e f = count_marked job.slices i x e f
 
 pub done_again : (job : Job) (i : ℕ) (x : Slice) → slice_get job.slices i ≡ Some x → x.returned ≡ true → done (marked i job) ≡ done job
 done_again job i x e t = ap (count_by (λ (y : Slice). y.returned)) (mark_again job.slices i x e t)
+
+mark_beyond : (xs : List Slice) (i : ℕ) → slice_get xs i ≡ None → mark i xs ≡ xs
+mark_beyond [] i e = refl
+mark_beyond (y ∷ ys) zero e = cc
+mark_beyond (y ∷ ys) (suc i) e = ap (λ zs. y ∷ zs) (mark_beyond ys i e)
+
+pub done_beyond : (job : Job) (i : ℕ) → slice_get job.slices i ≡ None → done (marked i job) ≡ done job
+done_beyond job i e = ap (count_by (λ (y : Slice). y.returned)) (mark_beyond job.slices i e)
+
+pub done_few : (merged : Results) (slices : List Slice) → IsTied merged slices → count_by (λ x. x.returned) slices ≤ 256
+done_few merged slices tie = omega (arith, count_by-le-length (λ (x : Slice). x.returned) slices, tie.few)
+
+-- the root
+
+pub root_first : (fs : List FileVersion) (f : FileVersion) → slice_get fs 0 ≡ Some f → f.name ≡ root_of fs
+root_first [] f e = cc
+root_first (g ∷ fs) f e = let same : f ≡ g = cc in ap (λ (x : FileVersion). x.name) same
+
+pub some_root : (fs : List FileVersion) → HasRoot fs → slice_get fs 0 ≡ None → ⊥
+some_root [] h e = h
+some_root (f ∷ fs) h e = cc
 
 -- the numbers of the slices
 

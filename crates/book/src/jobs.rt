@@ -1,6 +1,6 @@
 //! Jobs.
 
-ghost use Rattle.std.specs.Prelude.{◌≡◌, ◌↔◌, ◌<◌, ◌≤◌, ◌+◌, true, length, IfOk, OnOk, OnErr, IsTrue, slice_get};
+ghost use Rattle.std.specs.Prelude.{◌≡◌, ◌↔◌, ◌<◌, ◌≤◌, true, length, IfOk, OnOk, OnErr, IsTrue, slice_get};
 ghost use Rattle.slices.specs.Parts.{test_size};
 ghost use Rattle.slices.specs.Verdicts.{IsVerdict};
 ghost use Rattle.book.specs.Jobs.{done, is_done, marked};
@@ -107,15 +107,19 @@ impl Job {
     }
 
     /// How many are returned once this one is.
-    #[tactic(auto, using(crate::proofs::Results::get_here, crate::proofs::Results::done_then, crate::proofs::Results::done_again))]
+    #[tactic(auto, using(crate::proofs::Results::done_few, crate::proofs::Results::done_then, crate::proofs::Results::done_again, crate::proofs::Results::done_beyond))]
     pub fn done_with(&self, slice: u16) -> usize
-        requires { slice < length self.now.slices }
         ensures { result ≡ done (marked slice self.now) }
     {
-        if self.slices[slice as usize].returned {
-            self.done()
-        } else {
-            self.done() + 1
+        match self.slices.get(slice as usize) {
+            Some(slice) => {
+                if slice.returned {
+                    self.done()
+                } else {
+                    self.done() + 1
+                }
+            }
+            None => self.done(),
         }
     }
 
@@ -134,10 +138,11 @@ impl Job {
     }
 
     /// The name of the root of its model.
+    #[tactic(auto, using(crate::proofs::Results::root_first, crate::proofs::Results::some_root))]
     pub fn root(&self) -> &Name
         ensures { result.now ≡ root_of self.now.work.model.files }
     {
-        match self.tally.work().work().model().files().first() {
+        match self.tally.work().work().model().files().get(0) {
             Some(file) => &file.name,
             None => unreachable!(),
         }
