@@ -1,6 +1,8 @@
 //! What is done with jobs: they are asked, polled, released, forgotten and listed.
 
-ghost use Rattle.std.specs.Prelude.{◌≡◌, ◌<◌, ◌+◌, ◌^◌, Some, true, false, IfOk};
+ghost use Rattle.std.specs.Prelude.{◌≡◌, ◌↔◌, ◌<◌, ◌+◌, ◌^◌, Some, true, false, IfOk, IfErr, IfSome, IsTrue};
+ghost use Rattle.candidates.specs.Faults.{IsSpaceFault};
+ghost use Rattle.slices.specs.Parts.{IsAdmitted};
 ghost use Rattle.book.specs.Changes.{changed, IsReady};
 ghost use Rattle.book.specs.Step.{Step};
 ghost use Rattle.book.specs.Workbench.{test_of};
@@ -61,7 +63,7 @@ impl Bench {
         ensures kind { IfOk result (λ p. answers (Said.Ask test.now cat.now) p.reply ≡ true) }
         ensures ready { IfOk result (λ p. IsReady self.now p.change) }
     {
-        let work = match Work::of(alloc, tree.share()?, model) {
+        let work = match self.work_of(alloc, tree, model) {
             Ok(work) => work,
             Err(SpaceFault::NoMemory) => return Err(AllocError),
             Err(SpaceFault::TooManyRuns(thread)) => {
@@ -78,11 +80,30 @@ impl Bench {
         }
         let number = self.last_job + 1;
         let version = self.tests.version(test);
-        let job = Job::new(alloc, number, version, WorkRef::new(alloc, work)?)?;
+        let job = Job::new(alloc, number, version, work)?;
         Ok(Plan {
             reply: Reply::Job(number),
             change: Change::Open(job),
         })
+    }
+
+    /// The test under the model: as a job has it, if one has it, so that such jobs share it.
+    fn work_of(&self, alloc: Global, tree: &TestRef, model: Model) -> Result<WorkRef, SpaceFault>
+        ensures work { IfOk result (λ w. w ≡ record { test = tree.now; model = model }) }
+        ensures admitted { IfOk result (λ w. IsAdmitted w.test) }
+        ensures fault { IfErr result (IsSpaceFault tree.now) }
+    {
+        match known_work(&self.jobs, tree, &model) {
+            Ok(Some(work)) => {
+                let _size = work.work().size();
+                Ok(work)
+            }
+            Ok(None) => match Work::of(alloc, tree.share()?, model) {
+                Ok(work) => Ok(WorkRef::new(alloc, work)?),
+                Err(fault) => Err(fault),
+            },
+            Err(AllocError) => Err(SpaceFault::NoMemory),
+        }
     }
 
     #[tactic(auto, using(crate::proofs::Steps::no_job, crate::proofs::Steps::judged, crate::proofs::Steps::poll_replaced, crate::proofs::Steps::pending))]
@@ -146,4 +167,28 @@ impl Bench {
     {
         Ok(Plan::keep(Reply::Listed(self.listing(alloc)?)))
     }
+}
+
+/// The work of the first of the jobs that has this test under this model.
+fn known_work(
+    jobs: &[Job],
+    tree: &TestRef,
+    model: &Model,
+) -> Result<Option<WorkRef>, AllocError>
+    ensures { IfOk result (λ o. IfSome o (λ w. w ≡ record { test = tree.now; model = model.now })) }
+{
+    for job in jobs {
+        if is_work_of(job.work(), tree, model) {
+            return Ok(Some(job.work().share()?));
+        }
+    }
+    Ok(None)
+}
+
+/// Whether a work is this test under this model, of the same files and versions.
+#[tactic(auto, using(litmus_tree::specs::Exact::litmus_exact, cat_model::specs::Equality::assembly_exact))]
+fn is_work_of(work: &WorkRef, tree: &TestRef, model: &Model) -> bool
+    ensures { IsTrue result ↔ (work.now ≡ record { test = tree.now; model = model.now }) }
+{
+    work.work().test() == tree.test() && work.work().model() == model
 }
