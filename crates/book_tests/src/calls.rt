@@ -46,6 +46,145 @@ fn spent_versions(rt: HostRuntime) {
     assert!(rt; plays(rt.alloc(), &SPENT_VERSIONS));
 }
 
+/// A dropped file's version goes on.
+const SPENT: Script = Script {
+    limits: Limits {
+        journal: 20,
+        versions: 2,
+        claims: 1,
+    },
+    steps: &[
+        Step::Cat(b"a.cat", b""),
+        Step::DropCat(b"a.cat"),
+        Step::Cat(b"a.cat", b""),
+        Step::Test(SB),
+        Step::Ask(b"SB", b"rc11.cat"),
+        Step::Claim,
+        Step::GiveBack(1),
+        Step::Claim,
+    ],
+    answers: &[
+        (0, Answer::Version(1)),
+        (1, Answer::Version(2)),
+        (2, Answer::VersionsSpent),
+        (5, Answer::Piece(0, 0, 16)),
+        (6, Answer::Done),
+        (7, Answer::ClaimsSpent),
+    ],
+};
+
+#[test]
+fn spent(rt: HostRuntime) {
+    assert!(rt; plays(rt.alloc(), &SPENT));
+}
+
+/// A slice is released and claimed again, and the late result comes back.
+const RELEASE: Script = Script {
+    limits: WIDE,
+    steps: &[
+        Step::Test(SB),
+        Step::Ask(b"SB", b"rc11.cat"),
+        Step::ClaimBy(1),
+        Step::Release(1),
+        Step::ClaimBy(2),
+        Step::ReturnBy(1, 2),
+        Step::ReturnBy(1, 4),
+        Step::ReturnBy(2, 4),
+        Step::ReturnBy(2, 4),
+        Step::Claim,
+        Step::Poll(1),
+        Step::Forget(1),
+        Step::Poll(1),
+        Step::Close,
+        Step::List,
+    ],
+    answers: &[
+        (2, Answer::Piece(0, 0, 16)),
+        (3, Answer::Freed(1)),
+        (4, Answer::Piece(0, 0, 16)),
+        (5, Answer::NoClaim(1)),
+        (6, Answer::NoClaim(2)),
+        (7, Answer::Taken),
+        (8, Answer::NoClaim(2)),
+        (9, Answer::Nothing),
+        (10, Answer::Verdict(1, 3)),
+        (11, Answer::Done),
+        (12, Answer::NoJob(1)),
+        (13, Answer::Done),
+        (14, Answer::Closed),
+    ],
+};
+
+#[test]
+fn script_release(rt: HostRuntime) {
+    assert!(rt; plays(rt.alloc(), &RELEASE));
+}
+
+/// Names are listed where they are loaded.
+const LISTED: Script = Script {
+    limits: WIDE,
+    steps: &[
+        Step::List,
+        Step::Cat(b"a.cat", b""),
+        Step::Test(SB),
+        Step::Ask(b"SB", b"a.cat"),
+        Step::List,
+        Step::DropCat(b"a.cat"),
+        Step::DropTest(b"SB"),
+        Step::List,
+        Step::DropTest(b"SB"),
+        Step::DropCat(b"rc11.cat"),
+        Step::Cat(b"a.cat", b""),
+        Step::List,
+    ],
+    answers: &[
+        (0, Answer::Listed(0, 0, 0)),
+        (4, Answer::Listed(1, 1, 1)),
+        (7, Answer::Listed(0, 0, 1)),
+        (8, Answer::NoName),
+        (9, Answer::NoName),
+        (10, Answer::Version(3)),
+        (11, Answer::Listed(0, 1, 1)),
+    ],
+};
+
+#[test]
+fn what_is_dropped_is_not_listed(rt: HostRuntime) {
+    assert!(rt; plays(rt.alloc(), &LISTED));
+}
+
+/// One thread with 12 stores to one location: 479,001,600 candidates.
+const STORES: &[u8] = b"C S {} P0 (atomic_int* x) {
+atomic_store_explicit(x, 1, memory_order_relaxed); atomic_store_explicit(x, 1, memory_order_relaxed);
+atomic_store_explicit(x, 1, memory_order_relaxed); atomic_store_explicit(x, 1, memory_order_relaxed);
+atomic_store_explicit(x, 1, memory_order_relaxed); atomic_store_explicit(x, 1, memory_order_relaxed);
+atomic_store_explicit(x, 1, memory_order_relaxed); atomic_store_explicit(x, 1, memory_order_relaxed);
+atomic_store_explicit(x, 1, memory_order_relaxed); atomic_store_explicit(x, 1, memory_order_relaxed);
+atomic_store_explicit(x, 1, memory_order_relaxed); atomic_store_explicit(x, 1, memory_order_relaxed);
+} exists (x=1)";
+
+/// Their job has 256 slices. The first runs to 479,001,600 / 256, rounded down.
+const SIZES: Script = Script {
+    limits: WIDE,
+    steps: &[
+        Step::Test(STORES),
+        Step::Ask(b"S", b"stdlib.cat"),
+        Step::Poll(1),
+        Step::Claim,
+        Step::Claim,
+    ],
+    answers: &[
+        (2, Answer::Pending(256)),
+        (3, Answer::Piece(0, 0, 1871100)),
+        (4, Answer::Piece(1, 1871100, 3742200)),
+    ],
+};
+
+#[test]
+fn sizes(rt: HostRuntime) {
+    assert!(rt; plays(rt.alloc(), &SIZES));
+}
+
 /// Two claims are made where two pieces are free.
 const SPENT_CLAIMS: Script = Script {
     limits: Limits {
