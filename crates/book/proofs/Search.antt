@@ -1,7 +1,7 @@
 -- Searches of jobs, claims and files.
-use Rattle.std.proofs.Common.{◌≡◌, ℕ, zero, suc, not, ◌||◌, ◌+◌, ◌<◌, ◌==◌, List, [], ◌∷◌, ◌++◌, Bool, true, false, cond, Option, None, Some, length, get_or, take, drop, set, refl, sym, ap, ◌∙◌, arith, add-one, inl, inr, subst}
+use Rattle.std.proofs.Common.{◌≡◌, ℕ, zero, suc, not, ◌||◌, ◌+◌, ◌<◌, ◌==◌, List, [], ◌∷◌, ◌++◌, Bool, true, false, cond, Option, None, Some, Result, Ok, Err, length, get_or, take, drop, set, refl, sym, ap, ◌∙◌, arith, add-one, inl, inr, subst}
 use denote.Ref.{Bor}
-use Rattle.std.specs.Prelude.{if◌then◌else◌, is_some, option_copied, MatchOption}
+use Rattle.std.specs.Prelude.{if◌then◌else◌, is_some, option_copied, MatchOption, OnOk, OnErr}
 use Rattle.std.specs.List.{find, list_any}
 use Rattle.std.proofs.Math.Seq.{drop-cons}
 use Rattle.listings.specs.Lists.{IsIn}
@@ -115,3 +115,13 @@ match_same (Some x) r e = sym e
 pub match_copied : {X : Type 0} (o : Option (Bor X)) (r : Option X) → option_copied o ≡ r → MatchOption o (r ≡ None) (λ x. r ≡ Some x.now)
 match_copied None r e = sym e
 match_copied (Some x) r e = sym e
+
+-- a result by cases
+
+pub on_ok : {T E A B : Type 0} (r : Result T E) → (A → B) → OnOk r A → OnOk r B
+on_ok (Ok t) f h = f h
+on_ok (Err e) f h = tt
+
+pub on_err : {T E A B : Type 0} (r : Result T E) → (A → B) → OnErr r A → OnErr r B
+on_err (Ok t) f h = tt
+on_err (Err e) f h = f h

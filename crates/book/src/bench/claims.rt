@@ -19,6 +19,7 @@ use slices::{Piece, PieceResult};
 use std::alloc::AllocError;
 
 /// A free slice of a job.
+#[derive(Clone, Copy, Drop)]
 struct FreeSlice<'a> {
     job: &'a Job,
     slice: u16,
