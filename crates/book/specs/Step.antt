@@ -1,6 +1,6 @@
 -- Which replies the book may give, and the workbench after them. A journal is legal if one workbench could have made it.
 -- Each reply is the first refusal whose cause stands, with the workbench unchanged; else it is as the command asks.
-use Rattle.std.specs.Prelude.{◌≡◌, ◌≢◌, ℕ, ◌+◌, ◌<◌, ◌≤◌, Bool, true, false, ◌&&◌, ◌==◌, not, nat_lt, nat_le, List, [], ◌∷◌, ◌++◌, length, map, filter, count_by, Option, None, Some, is_some, slice_get, ◌⊎◌}
+use Rattle.std.specs.Prelude.{◌≡◌, ◌≢◌, ℕ, ◌+◌, ◌<◌, ◌≤◌, Bool, true, false, ◌&&◌, ◌==◌, not, nat_lt, nat_le, List, [], ◌∷◌, ◌++◌, length, filter, count_by, Option, None, Some, is_some, slice_get, ◌⊎◌}
 use Rattle.std.specs.List.{list_all}
 use Rattle.std.specs.Str.{bytes_eq}
 use Rattle.indexmap.specs.IndexMap.{insert_entry}
