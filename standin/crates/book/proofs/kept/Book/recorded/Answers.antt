@@ -13,6 +13,6 @@ invariant_of-self-2 c =
     let at : c.new.result.place ≡ length journal = grind (arith, common_steps) in
     let room : length journal < c.self.inside.limits.journal = grind (arith, common_steps) in
     let step : Step c.self.inside.bench c.new.result.seat c.new.result.said c.new.result.reply c.commit.new.self =
-    rw (c.new.ensures, c.in_ok-commit.ensures.ok, c.in_ok-copy.ensures) c.in_ok-reply.ensures.step in
+    rw (c.new.ensures, c.in_ok-commit.ensures.ok, c.in_ok-seen.ensures) c.in_ok-reply.ensures.step in
     kept-push c.self.inside.limits journal _ c.self.inside.bench c.commit.new.self c.new.result c.self.invariant now at room step
     (ap (λ (s : Workbench). s.limits) c.in_ok-commit.ensures.ok ∙ changed-limits _ _)
