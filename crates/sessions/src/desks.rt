@@ -85,7 +85,7 @@ impl<L: Ledger> Model for Desk<L> {
 }
 
 /// A desk of n seats with an empty book, and a pass for each seat.
-#[tactic(auto, using(crate::proofs::Fresh::fresh_from_more))]
+#[tactic(auto, using(crate::proofs::Fresh::fresh_from_more, crate::proofs::Fresh::length_fresh))]
 pub fn open<L: Ledger>(
     alloc: Global,
     blank: Blank,
