@@ -34,7 +34,13 @@ fn name(alloc: Global, byte: u8) -> Result<Name, AllocError> {
 }
 
 // Puts a name of the seat's own, with so many numbers.
-fn put<L: Ledger, R: Wait>(rt: &R, alloc: Global, desk: &Desk<L>, pass: &mut Pass<L>, byte: u8) -> bool
+fn put<L: Ledger, R: Wait>(
+    rt: &R,
+    alloc: Global,
+    desk: &Desk<L>,
+    pass: &mut Pass<L>,
+    byte: u8,
+) -> bool
     requires { pass.old.parts ≡ 1 }
     ensures { pass.new.parts ≡ 1 }
 {
@@ -77,7 +83,13 @@ enum Session {
     Mixed,
 }
 
-fn session<L: Ledger, R: Wait>(rt: &R, alloc: Global, session: Session, desk: &Desk<L>, pass: &mut Pass<L>)
+fn session<L: Ledger, R: Wait>(
+    rt: &R,
+    alloc: Global,
+    session: Session,
+    desk: &Desk<L>,
+    pass: &mut Pass<L>,
+)
     requires { pass.old.parts ≡ 1 }
     ensures { pass.new.parts ≡ 1 }
 {
@@ -163,7 +175,10 @@ fn run<L: Ledger + Send + Sync, R: Threads + Wait + Sync>(
         receipts = receipts.saturating_add(pass.receipts().len());
     }
     let rise = passes.iter().all(|pass| rise(pass));
-    let versions = passes.iter().filter(|pass| begins_with_version(pass)).count();
+    let versions = passes
+        .iter()
+        .filter(|pass| begins_with_version(pass))
+        .count();
     Ok(Outcome {
         entries: finish(desk, passes).ok().map(|closed| closed.journal.len()),
         receipts,
@@ -190,7 +205,9 @@ fn four_passes(rt: HostRuntime) -> Result<(), Fail> {
 #[test]
 fn eight_sessions_of_mixed_calls(rt: HostRuntime) -> Result<(), Fail> {
     let outcome = eight_mixed(&rt, rt.alloc())?;
-    assert!(rt; outcome.entries == Some(outcome.receipts) && outcome.rise && outcome.receipts >= 1200);
+    assert!(rt;
+        outcome.entries == Some(outcome.receipts) && outcome.rise && outcome.receipts >= 1200
+    );
     Ok(())
 }
 
@@ -205,12 +222,13 @@ fn run_missing<L: Ledger, R: Wait>(
     let (desk, mut passes) = open::<L>(alloc, blank, WIDE, 3)?;
     drop(passes.remove(1));
     let _ = put(rt, alloc, &desk, &mut passes[1], b'a');
-    Ok(finish(desk, passes)
-        .err()
-        .map(|f| (f.cause, f.closed.journal.len(), f.closed.passes.len())))
+    Ok(finish(desk, passes).err().map(|f| (f.cause, f.closed.journal.len(), f.closed.passes.len())))
 }
 
-fn missing<R: Wait>(rt: &R, alloc: Global) -> Result<Option<(FinishCause, usize, usize)>, AllocError> {
+fn missing<R: Wait>(
+    rt: &R,
+    alloc: Global,
+) -> Result<Option<(FinishCause, usize, usize)>, AllocError> {
     run_missing::<Brand, R>(rt, alloc, Blank::new(3))
 }
 
@@ -266,7 +284,11 @@ fn is_spent<L: Ledger>(pass: &Pass<L>) -> bool {
 }
 
 // Two versions of a name, and the third spent; one claim given back, and the second spent.
-fn run_spent<L: Ledger, R: Wait>(rt: &R, alloc: Global, blank: Blank) -> Result<(bool, bool), AllocError>
+fn run_spent<L: Ledger, R: Wait>(
+    rt: &R,
+    alloc: Global,
+    blank: Blank,
+) -> Result<(bool, bool), AllocError>
     requires { (blank.name ≡ L.name) × (blank.parts ≡ L.parts) × (blank.parts ≡ 1) }
 {
     let limits = Limits {

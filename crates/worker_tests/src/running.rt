@@ -365,7 +365,12 @@ impl<'a, L: Ledger> Calls<L> for Refusing<'a, L> {
         self.desk.claim(rt, pass)
     }
 
-    fn hand_in<R: Wait>(&self, rt: &R, pass: &mut Pass<L>, found: PieceResult) -> Result<bool, Refused> {
+    fn hand_in<R: Wait>(
+        &self,
+        rt: &R,
+        pass: &mut Pass<L>,
+        found: PieceResult,
+    ) -> Result<bool, Refused> {
         if self.refuses() {
             return Err(Refused::NoMemory);
         }

@@ -30,7 +30,12 @@ pub trait Calls<L: Ledger> {
         ensures err { OnErr result (pass.new ≡ pass.old) };
 
     /// Returns what was found, and answers whether the book still stands open.
-    fn hand_in<R: Wait>(&self, rt: &R, pass: &mut Pass<L>, found: PieceResult) -> Result<bool, Refused>
+    fn hand_in<R: Wait>(
+        &self,
+        rt: &R,
+        pass: &mut Pass<L>,
+        found: PieceResult,
+    ) -> Result<bool, Refused>
         requires { pass.old.parts ≡ 1 }
         ensures ok { IfOk result (λ r. Replied pass.old pass.new (Said.Return (returned found)) (λ reply. r ≡ goes_on reply)) }
         ensures err { OnErr result (pass.new ≡ pass.old) };
@@ -57,7 +62,12 @@ impl<L: Ledger> Calls<L> for Desk<L> {
         }
     }
 
-    fn hand_in<R: Wait>(&self, rt: &R, pass: &mut Pass<L>, found: PieceResult) -> Result<bool, Refused> {
+    fn hand_in<R: Wait>(
+        &self,
+        rt: &R,
+        pass: &mut Pass<L>,
+        found: PieceResult,
+    ) -> Result<bool, Refused> {
         match self.call(rt, pass, Command::Return(found)) {
             Ok(()) => Ok(!matches!(last_entry(pass).reply(), Reply::Refused(Refusal::Closed))),
             Err((_, refused)) => Err(refused),
