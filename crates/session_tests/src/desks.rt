@@ -174,7 +174,7 @@ fn run<L: Ledger + Send + Sync, R: Threads + Wait + Sync>(
     for pass in &passes {
         receipts = receipts.saturating_add(pass.receipts().len());
     }
-    let rise = passes.iter().all(|pass| rise(pass));
+    let rising = passes.iter().all(|pass| rise(pass));
     let versions = passes
         .iter()
         .filter(|pass| begins_with_version(pass))
@@ -182,7 +182,7 @@ fn run<L: Ledger + Send + Sync, R: Threads + Wait + Sync>(
     Ok(Outcome {
         entries: finish(desk, passes).ok().map(|closed| closed.journal.len()),
         receipts,
-        rise,
+        rise: rising,
         versions,
     })
 }
@@ -238,7 +238,19 @@ fn missing_pass(rt: HostRuntime) -> Result<(), Fail> {
     Ok(())
 }
 
-// How many of four calls of one session are recorded where the journal takes three, and whether the last is refused as full.
+// Whether three claims are recorded, and a fourth is refused as the journal is full, and handed back.
+fn fills<L: Ledger, R: Wait>(rt: &R, desk: &Desk<L>, pass: &mut Pass<L>) -> bool
+    requires { pass.old.parts ≡ 1 }
+    ensures { pass.new.parts ≡ 1 }
+{
+    let first = desk.call(rt, pass, Command::Claim).is_ok();
+    let second = desk.call(rt, pass, Command::Claim).is_ok();
+    let third = desk.call(rt, pass, Command::Claim).is_ok();
+    let fourth = desk.call(rt, pass, Command::Claim);
+    first && second && third && matches!(fourth, Err((Command::Claim, Refused::JournalFull)))
+}
+
+// How many entries a journal has that takes three, and whether it was filled.
 fn run_full<L: Ledger, R: Wait>(
     rt: &R,
     alloc: Global,
@@ -252,15 +264,9 @@ fn run_full<L: Ledger, R: Wait>(
         claims: 1,
     };
     let (desk, mut passes) = open::<L>(alloc, blank, limits, 1)?;
-    let first = desk.call(rt, &mut passes[0], Command::Claim).is_ok();
-    let second = desk.call(rt, &mut passes[0], Command::Claim).is_ok();
-    let third = desk.call(rt, &mut passes[0], Command::Claim).is_ok();
-    let full = matches!(
-        desk.call(rt, &mut passes[0], Command::Claim),
-        Err((Command::Claim, Refused::JournalFull))
-    );
+    let filled = fills(rt, &desk, &mut passes[0]);
     let entries = finish(desk, passes).ok().map(|closed| closed.journal.len());
-    Ok((entries, first && second && third && full))
+    Ok((entries, filled))
 }
 
 fn full<R: Wait>(rt: &R, alloc: Global) -> Result<(Option<usize>, bool), AllocError> {
@@ -284,6 +290,25 @@ fn is_spent<L: Ledger>(pass: &Pass<L>) -> bool {
 }
 
 // Two versions of a name, and the third spent; one claim given back, and the second spent.
+fn spends<L: Ledger, R: Wait>(
+    rt: &R,
+    alloc: Global,
+    desk: &Desk<L>,
+    pass: &mut Pass<L>,
+) -> (bool, bool)
+    requires { pass.old.parts ≡ 1 }
+    ensures { pass.new.parts ≡ 1 }
+{
+    let first = put(rt, alloc, desk, pass, b'a');
+    let second = put(rt, alloc, desk, pass, b'a');
+    let third = put(rt, alloc, desk, pass, b'a');
+    let versions = is_spent(pass);
+    let _ = desk.call(rt, pass, Command::Claim);
+    let _ = desk.call(rt, pass, Command::GiveBack(1));
+    let _ = desk.call(rt, pass, Command::Claim);
+    (first && second && third && versions, is_spent(pass))
+}
+
 fn run_spent<L: Ledger, R: Wait>(
     rt: &R,
     alloc: Global,
@@ -297,15 +322,7 @@ fn run_spent<L: Ledger, R: Wait>(
         claims: 1,
     };
     let (desk, mut passes) = open::<L>(alloc, blank, limits, 1)?;
-    let first = put(rt, alloc, &desk, &mut passes[0], b'a');
-    let second = put(rt, alloc, &desk, &mut passes[0], b'a');
-    let third = put(rt, alloc, &desk, &mut passes[0], b'a');
-    let versions = is_spent(&passes[0]);
-    let _ = desk.call(rt, &mut passes[0], Command::Claim);
-    let _ = desk.call(rt, &mut passes[0], Command::GiveBack(1));
-    let _ = desk.call(rt, &mut passes[0], Command::Claim);
-    let claims = is_spent(&passes[0]);
-    Ok((first && second && third && versions, claims))
+    Ok(spends(rt, alloc, &desk, &mut passes[0]))
 }
 
 fn spent_through_a_desk<R: Wait>(rt: &R, alloc: Global) -> Result<(bool, bool), AllocError> {
