@@ -1,12 +1,13 @@
--- What is known of a relation made of a table.
-use Rattle.std.proofs.Common.{◌≡◌, ℕ, ◌<◌, ◌≤◌, ◌⊎◌, ◌↔◌, ◌+◌, ◌*◌, List, Bool, true, false, refl, sym, ◌∙◌, subst, inl, inr, arith, length, replicate, set, IsTrue}
+-- What is known of a relation made of words.
+use Rattle.std.proofs.Common.{◌≡◌, ℕ, ◌<◌, ◌≤◌, ◌⊎◌, ◌↔◌, ◌+◌, ◌/◌, ◌^◌, ◌==◌, List, Bool, true, false, refl, sym, ◌∙◌, ap, subst, inl, inr, arith, length, get_or, set, get_or-set_same, get_or-set_other, bit_and, bit_or, replicate, ◌*◌, ◌-◌, ◌%◌, ◌≢◌}
 use Rattle.std.proofs.lemmas.Bool.{false≢true, cases_eq}
 use Rattle.std.proofs.lemmas.List.{get_or-replicate}
-use Rattle.relations.specs.Tables.{cell, spot}
+use Rattle.relations.specs.Tables.{cell}
 use Rattle.relations.specs.Relation.{Relation, In, IsExactly, IsCanonical, IsWithin, relation}
 use Rattle.relations.specs.TableFacts.{cell_square, square_below, square_again}
-use Rattle.relations.specs.Equality.{pair_below}
-use Rattle.relations.proofs.Cells.{spot_written, spot_beside}
+use Rattle.relations.specs.Equality.{pair_below, one_relation}
+use Rattle.relations.specs.Words.{has_bit, bit, IsRow, BuildsRows, HasWay, Combines, CombinesRow}
+use Rattle.relations.proofs.Words.{bit_by_shift, row_or, row_one, row_told, row_at, row_way, empty_at}
 
 in_relation : (n : ℕ) (f : ℕ → ℕ → Bool) (i j : ℕ) → i < n → j < n → f i j ≡ true → In (relation n f) i j
 in_relation n f i j a b h = cell_square n f i j a b ∙ h
@@ -14,78 +15,197 @@ in_relation n f i j a b h = cell_square n f i j a b ∙ h
 of_relation : (n : ℕ) (f : ℕ → ℕ → Bool) (i j : ℕ) → i < n → j < n → In (relation n f) i j → f i j ≡ true
 of_relation n f i j a b h = sym (cell_square n f i j a b) ∙ h
 
-by_relation : (n : ℕ) (f : ℕ → ℕ → Bool) (P : ℕ → ℕ → Type 0) → ((i j : ℕ) → i < n → j < n → f i j ≡ true → P i j) → ((i j : ℕ) → i < n → j < n → P i j → f i j ≡ true) → IsExactly n P (relation n f)
-by_relation n f P only all = record {
-  count = refl;
-  only = λ i j h. (let s : (i < n) × (j < n) = square_below n f i j h in only i j s.0 s.1 (of_relation n f i j s.0 s.1 h));
-  all = λ i j a b p. in_relation n f i j a b (all i j a b p);
-  canonical = record { pairs = square_again n f };
-}
+-- A relation keeps a word for each row.
+pub row_of : (n : ℕ) (rows : List ℕ) (i : ℕ) (r : Relation) → relation n (bit rows) ≡ r → i < r.count → IsRow r.count (In r i) (get_or rows i 0)
+row_of n rows i r e =
+    let P : Relation → Type 0 = λ r. i < r.count → IsRow r.count (In r i) (get_or rows i 0) in
+    subst P e (λ a. record { only = λ j l m. in_relation n (bit rows) i j a l m; all = λ j l p. of_relation n (bit rows) i j a l p })
 
--- One truth value all over.
-spot_all : (m i j : ℕ) (b : Bool) → 4096 ≤ m → i < 64 → j < 64 → spot (replicate m b) i j ≡ b
-unfolding spot
-spot_all m i j b l p q = get_or-replicate m (64 * i + j) b false (omega arith)
-
-pub no_pair : (n m : ℕ) → n ≤ 64 → 4096 ≤ m → IsExactly n (λ i j. ⊥) (relation n (spot (replicate m false)))
-no_pair n m k l =
-    by_relation n (spot (replicate m false)) (λ i j. ⊥)
-    (λ i j a b h. false≢true (sym (spot_all m i j false l (omega arith) (omega arith)) ∙ h)) (λ i j a b p. absurd p)
-
-pub each_pair : (n m : ℕ) → n ≤ 64 → 4096 ≤ m → IsExactly n (λ i j. Unit {0}) (relation n (spot (replicate m true)))
-each_pair n m k l =
-    by_relation n (spot (replicate m true)) (λ i j. Unit {0})
-    (λ i j a b h. tt) (λ i j a b p. spot_all m i j true l (omega arith) (omega arith))
-
--- One pair more.
-inserted_in : (n : ℕ) (cells : List Bool) (i j : ℕ) → n ≤ 64 → length cells ≡ 4096 → i < n → j < n →
-    IsExactly n (λ a b. In (relation n (spot cells)) a b ⊎ ((a ≡ i) × (b ≡ j))) (relation n (spot (set cells (64 * i + j) true)))
-inserted_in n cells i j k e p q =
-    by_relation n (spot (set cells (64 * i + j) true)) (λ a b. In (relation n (spot cells)) a b ⊎ ((a ≡ i) × (b ≡ j)))
-    (λ a b s t h. elim (cases_eq a i) [
-      | inl x ↦ elim (cases_eq b j) [
-        | inl y ↦ inr (x, y)
-        | inr y ↦ inl (in_relation n (spot cells) a b s t (sym (spot_beside cells i j a b true (omega arith) (omega arith) (inr y)) ∙ h))
-      ]
-      | inr x ↦ inl (in_relation n (spot cells) a b s t (sym (spot_beside cells i j a b true (omega arith) (omega arith) (inl x)) ∙ h))
-    ])
-    (λ a b s t h. elim (cases_eq a i) [
-      | inl x ↦ elim (cases_eq b j) [
-        | inl y ↦ (let R : ℕ → Type 0 = λ u. spot (set cells (64 * i + j) true) u b ≡ true in
-            let S : ℕ → Type 0 = λ v. spot (set cells (64 * i + j) true) i v ≡ true in
-            subst R (sym x) (subst S (sym y) (spot_written cells i j true (omega arith))))
-        | inr y ↦ elim h [
-          | inl m ↦ spot_beside cells i j a b true (omega arith) (omega arith) (inr y) ∙ of_relation n (spot cells) a b s t m
-          | inr m ↦ absurd (y m.1)
-        ]
-      ]
-      | inr x ↦ elim h [
-        | inl m ↦ spot_beside cells i j a b true (omega arith) (omega arith) (inl x) ∙ of_relation n (spot cells) a b s t m
-        | inr m ↦ absurd (x m.0)
-      ]
-    ])
-
-pub inserted : (n : ℕ) (cells : List Bool) (i j : ℕ) (r : Relation) → relation n (spot cells) ≡ r → n ≤ 64 → length cells ≡ 4096 → i < r.count → j < r.count →
-    IsExactly r.count (λ a b. In r a b ⊎ ((a ≡ i) × (b ≡ j))) (relation n (spot (set cells (64 * i + j) true)))
-inserted n cells i j r e k l p q =
-    let P : Relation → Type 0 = λ r. i < r.count → j < r.count → IsExactly r.count (λ a b. In r a b ⊎ ((a ≡ i) × (b ≡ j))) (relation n (spot (set cells (64 * i + j) true))) in
-    subst P e (inserted_in n cells i j k l) p q
-
-pub contained : (n : ℕ) (cells : List Bool) (i j : ℕ) (r : Relation) → relation n (spot cells) ≡ r → i < r.count → j < r.count → (spot cells i j ≡ true) ↔ In r i j
-contained n cells i j r e p q =
-    let P : Relation → Type 0 = λ r. i < r.count → j < r.count → (spot cells i j ≡ true) ↔ In r i j in
-    subst P e (λ a b. (λ h. in_relation n (spot cells) i j a b h, λ h. of_relation n (spot cells) i j a b h)) p q
+pub contained : (n : ℕ) (rows : List ℕ) (i j : ℕ) (r : Relation) → relation n (bit rows) ≡ r → i < r.count → j < r.count → ((bit_and (get_or rows i 0 / 2 ^ j) 1 == 1) ≡ true) ↔ In r i j
+contained n rows i j r e p q =
+    let h : IsRow r.count (In r i) (get_or rows i 0) = row_of n rows i r e p in
+    let P : Bool → Type 0 = λ b. (b ≡ true) ↔ In r i j in
+    subst P (bit_by_shift (get_or rows i 0) j) (h.only j q, h.all j q)
 
 -- A relation that a type keeps has no pair beyond its count.
 pub bounded : (n : ℕ) (f : ℕ → ℕ → Bool) (r : Relation) → relation n f ≡ r → IsCanonical r
 bounded n f r e = let P : Relation → Type 0 = λ r. IsCanonical r in subst P e (record { pairs = square_again n f })
 
+-- Words that tell P row by row are the relation of P.
+pub relation_of : (n m : ℕ) (P : ℕ → ℕ → Type 0) (rows : List ℕ) → n ≡ m → ((i : ℕ) → i < m → IsRow m (P i) (get_or rows i 0)) → IsExactly m P (relation n (bit rows))
+relation_of n m P rows e h =
+    let Q : ℕ → Type 0 = λ n. IsExactly m P (relation n (bit rows)) in
+    subst Q (sym e) (record {
+      count = refl;
+      only = λ i j x. (let s : (i < m) × (j < m) = square_below m (bit rows) i j x in (h i s.0).only j s.1 (of_relation m (bit rows) i j s.0 s.1 x));
+      all = λ i j a b p. in_relation m (bit rows) i j a b ((h i a).all j b p);
+      canonical = record { pairs = square_again m (bit rows) };
+    })
+
+-- What is built by words that tell P has just the pairs of P.
+pub built : (n : ℕ) (P : ℕ → ℕ → Type 0) (r : Relation) → BuildsRows n (λ i w. IsRow n (P i) w) r → IsExactly n P r
+built n P r h = record {
+  count = h.count;
+  only = λ i j m. (let s : (i < r.count) × (j < r.count) = pair_below r i j h.canonical m in
+      let a : i < n = omega (arith, s.0, h.count) in
+      let b : j < n = omega (arith, s.1, h.count) in
+      let w : (w : ℕ) × IsRow n (P i) w × ((j : ℕ) → j < n → cell r.pairs i j ≡ has_bit w j) = h.each i a in
+      w.1.only j b (sym (w.2 j b) ∙ m));
+  all = λ i j a b p. (let w : (w : ℕ) × IsRow n (P i) w × ((j : ℕ) → j < n → cell r.pairs i j ≡ has_bit w j) = h.each i a in
+      w.2 j b ∙ w.1.all j b p);
+  canonical = h.canonical;
+}
+
+-- One word more.
+pub rows_more : (P : ℕ → ℕ → Type 0) (rows : List ℕ) (i w : ℕ) → i < length rows → P i w →
+    ((k : ℕ) → k < i → P k (get_or rows k 0)) → (k : ℕ) → k < i + 1 → P k (get_or (set rows i w) k 0)
+rows_more P rows i w l h old k m = elim (cases_eq k i) [
+  | inl d ↦ (let R : ℕ → Type 0 = λ x. P x (get_or (set rows i w) x 0) in
+      let Q : ℕ → Type 0 = λ x. P i x in subst R (sym d) (subst Q (sym (get_or-set_same rows i w 0 l)) h))
+  | inr d ↦ (let Q : ℕ → Type 0 = λ x. P k x in subst Q (sym (get_or-set_other rows i k w 0 d)) (old k (omega (arith, m, d))))
+]
+
+pub rows_beyond : (rows old : List ℕ) (i w : ℕ) → ((k : ℕ) → i ≤ k → get_or rows k 0 ≡ get_or old k 0) →
+    (k : ℕ) → i + 1 ≤ k → get_or (set rows i w) k 0 ≡ get_or old k 0
+rows_beyond rows old i w h k l = get_or-set_other rows i k w 0 (let d : k ≢ i = omega arith in d) ∙ h k (omega (arith, l))
+
+pub rows_built : (n : ℕ) (R : ℕ → ℕ → Type 0) (rows : List ℕ) → ((k : ℕ) → k < n → R k (get_or rows k 0)) → BuildsRows n R (relation n (bit rows))
+rows_built n R rows h = record {
+  count = refl;
+  each = λ i a. (get_or rows i 0, h i a, λ j b. cell_square n (bit rows) i j a b);
+  canonical = record { pairs = square_again n (bit rows) };
+}
+
+-- One row with more pairs: those to the events that a word tells.
+pub joined : (n : ℕ) (rows : List ℕ) (i w : ℕ) (P : ℕ → Type 0) (r : Relation) → relation n (bit rows) ≡ r → length rows ≡ 64 → n ≤ 64 → i < r.count → IsRow r.count P w →
+    IsExactly r.count (λ a b. In r a b ⊎ ((a ≡ i) × P b)) (relation n (bit (set rows i (bit_or (get_or rows i 0) w))))
+joined n rows i w P r e l k p h =
+    let t : n ≡ r.count = ap (λ x. x.count) e in
+    let v : ℕ = bit_or (get_or rows i 0) w in
+    relation_of n r.count (λ a b. In r a b ⊎ ((a ≡ i) × P b)) (set rows i v) t
+    (λ a s. elim (cases_eq a i) [
+      | inl d ↦ (let R : ℕ → Type 0 = λ a. IsRow r.count (λ b. In r a b ⊎ ((a ≡ i) × P b)) (get_or (set rows i v) a 0) in
+          let Q : ℕ → Type 0 = λ x. IsRow r.count (λ b. In r i b ⊎ ((i ≡ i) × P b)) x in
+          subst R (sym d) (subst Q (sym (get_or-set_same rows i v 0 (omega (arith, p, t, k, l))))
+          (row_told r.count (λ b. In r i b ⊎ P b) (λ b. In r i b ⊎ ((i ≡ i) × P b)) v
+          (λ b m x. elim x [ inl y ↦ inl y | inr y ↦ inr (refl, y) ]) (λ b m x. elim x [ inl y ↦ inl y | inr y ↦ inr y.1 ])
+          (row_or r.count (In r i) P (get_or rows i 0) w (row_of n rows i r e p) h))))
+      | inr d ↦ (let Q : ℕ → Type 0 = λ x. IsRow r.count (λ b. In r a b ⊎ ((a ≡ i) × P b)) x in
+          subst Q (sym (get_or-set_other rows i a v 0 d))
+          (row_told r.count (In r a) (λ b. In r a b ⊎ ((a ≡ i) × P b)) (get_or rows a 0)
+          (λ b m x. inl x) (λ b m x. elim x [ inl y ↦ y | inr y ↦ absurd (d y.0) ]) (row_of n rows a r e s)))
+    ])
+
+-- One pair more.
+pub inserted : (n : ℕ) (rows : List ℕ) (i j : ℕ) (r : Relation) → relation n (bit rows) ≡ r → n ≤ 64 → length rows ≡ 64 → i < r.count → j < r.count →
+    IsExactly r.count (λ a b. In r a b ⊎ ((a ≡ i) × (b ≡ j))) (relation n (bit (set rows i (bit_or (get_or rows i 0) (1 * 2 ^ j % 2 ^ 64)))))
+inserted n rows i j r e k l p q =
+    let t : n ≡ r.count = ap (λ x. x.count) e in
+    joined n rows i (1 * 2 ^ j % 2 ^ 64) (λ b. b ≡ j) r e l k p
+    (row_told r.count (λ b. j ≡ b) (λ b. b ≡ j) _ (λ b m x. sym x) (λ b m x. sym x) (row_one r.count j (omega (arith, q, t, k))))
+
+-- One row with the events of a set.
+pub joined_set : (n : ℕ) (rows : List ℕ) (i m w : ℕ) (P : ℕ → Type 0) (r : Relation) → relation n (bit rows) ≡ r → length rows ≡ 64 → n ≤ 64 → i < r.count → m ≡ r.count → IsRow m P w →
+    IsExactly r.count (λ a b. In r a b ⊎ ((a ≡ i) × P b)) (relation n (bit (set rows i (bit_or (get_or rows i 0) w))))
+joined_set n rows i m w P r e l k p q h = joined n rows i w P r e l k p (row_at r.count m P w (sym q) h)
+
 stays : (b : Bool) → ((b ≡ true → ⊥) → ⊥) → b ≡ true
 stays true f = refl
 stays false f = absurd (f (λ e. false≢true e))
 
-pub within_by : (r s d : Relation) (b : Bool) → IsCanonical r → IsExactly r.count (λ i j. In r i j × (¬ In s i j)) d → (IsTrue b ↔ ((i j : ℕ) → ¬ In d i j)) → IsTrue b ↔ IsWithin r s
-within_by r s d b t h e = (
-  λ k i j m. stays (cell s.pairs i j) (λ n. (let z : (i < r.count) × (j < r.count) = pair_below r i j t m in e.0 k i j (h.all i j z.0 z.1 (m, n)))),
-  λ f. e.1 (λ i j m. (h.only i j m).1 (f i j (h.only i j m).0)),
-)
+-- One word all over.
+pub all_over : (n m w : ℕ) (P : ℕ → Type 0) → n ≤ m → IsRow n P w → IsExactly n (λ i j. P j) (relation n (bit (replicate m w)))
+all_over n m w P l h =
+    relation_of n n (λ i j. P j) (replicate m w) refl
+    (λ i a. (let Q : ℕ → Type 0 = λ x. IsRow n P x in subst Q (sym (get_or-replicate m i w 0 (omega (arith, a, l)))) h))
+
+-- Each row with the ways through one event.
+pub passed_rows : (n middle beyond : ℕ) (old rows : List ℕ) (r : Relation) → relation n (bit old) ≡ r → middle < r.count → IsRow r.count (In r middle) beyond →
+    ((k : ℕ) → k < n → HasWay (get_or old k 0) beyond middle (get_or rows k 0)) →
+    IsExactly r.count (λ i j. In r i j ⊎ (In r i middle × In r middle j)) (relation n (bit rows))
+passed_rows n middle beyond old rows r e l g h =
+    let t : n ≡ r.count = ap (λ x. x.count) e in
+    relation_of n r.count (λ i j. In r i j ⊎ (In r i middle × In r middle j)) rows t
+    (λ i a. row_way r.count middle (In r i) (In r middle) (get_or old i 0) beyond (get_or rows i 0) l (row_of n old i r e a) g (h i (omega (arith, a, t))))
+
+pub built_at : (n m : ℕ) (P : ℕ → ℕ → Type 0) (r : Relation) → m ≡ n → BuildsRows m (λ i w. IsRow n (P i) w) r → IsExactly n P r
+built_at n m P r e h = (let Q : ℕ → Type 0 = λ m. BuildsRows m (λ i w. IsRow n (P i) w) r in built n P r (subst Q e h))
+
+pub passed_at : (n m middle beyond : ℕ) (old rows : List ℕ) (r : Relation) → relation n (bit old) ≡ r → middle < r.count → IsRow r.count (In r middle) beyond → m ≡ n →
+    ((k : ℕ) → k < n → HasWay (get_or old k 0) beyond middle (get_or rows k 0)) →
+    IsExactly r.count (λ i j. In r i j ⊎ (In r i middle × In r middle j)) (relation m (bit rows))
+passed_at n m middle beyond old rows r e l g d h =
+    let Q : ℕ → Type 0 = λ m. IsExactly r.count (λ i j. In r i j ⊎ (In r i middle × In r middle j)) (relation m (bit rows)) in
+    subst Q (sym d) (passed_rows n middle beyond old rows r e l g h)
+
+pub within_told : (m mask f : ℕ) (r s : Relation) → mask ≡ 2 ^ m - 1 → m ≡ r.count → IsCanonical r → IsRow r.count (λ j. (i : ℕ) × (In r i j × (¬ In s i j))) f →
+    ((bit_and f mask == 0) ≡ true) ↔ IsWithin r s
+within_told m mask f r s e d t h =
+    let x : ((bit_and f mask == 0) ≡ true) ↔ ((j : ℕ) → ((i : ℕ) × (In r i j × (¬ In s i j))) → ⊥) =
+    empty_at r.count m mask (λ j. (i : ℕ) × (In r i j × (¬ In s i j))) f e d (λ j p. (pair_below r p.0 j t p.1.0).1) h in (
+      λ k i j p. stays (cell s.pairs i j) (λ q. x.0 k j (i, (p, q))),
+      λ k. x.1 (λ j p. p.1.1 (k p.0 j p.1.0)),
+    )
+
+pub none_told : (m mask f : ℕ) (r : Relation) → mask ≡ 2 ^ m - 1 → m ≡ r.count → IsCanonical r → IsRow r.count (λ j. (i : ℕ) × In r i j) f →
+    ((bit_and f mask == 0) ≡ true) ↔ ((i j : ℕ) → In r i j → ⊥)
+none_told m mask f r e d t h =
+    let x : ((bit_and f mask == 0) ≡ true) ↔ ((j : ℕ) → ((i : ℕ) × In r i j) → ⊥) =
+    empty_at r.count m mask (λ j. (i : ℕ) × In r i j) f e d (λ j p. (pair_below r p.0 j t p.1).1) h in (
+      λ k i j p. x.0 k j (i, p),
+      λ k. x.1 (λ j p. k p.0 j p.1),
+    )
+
+-- ---- in place
+pub combined : (R : ℕ → ℕ → ℕ → Type 0) (P : ℕ → ℕ → Type 0) (r s t : Relation) → Combines R r s t →
+    ((i a b w : ℕ) → R a b w → IsRow r.count (In r i) a → IsRow r.count (In s i) b → IsRow r.count (P i) w) → IsExactly r.count P t
+combined R P r s t h f =
+    built r.count P t (record {
+      count = h.count;
+      each = λ i l. (let x : (a : ℕ) × (b : ℕ) × (w : ℕ) × CombinesRow R r s t i a b w = h.each i l in
+          (x.2, f i x.0 x.1 x.2 x.3.by x.3.first x.3.second, x.3.cells));
+      canonical = h.canonical;
+    })
+
+pub combines : (n m k : ℕ) (R : ℕ → ℕ → ℕ → Type 0) (a b c : List ℕ) (r s : Relation) → relation n (bit a) ≡ r → relation m (bit b) ≡ s → r.count ≡ s.count → k ≡ n →
+    ((i : ℕ) → i < n → R (get_or a i 0) (get_or b i 0) (get_or c i 0)) → Combines R r s (relation k (bit c))
+combines n m k R a b c r s e d q u h =
+    let t : n ≡ r.count = ap (λ x. x.count) e in
+    let Q : ℕ → Type 0 = λ k. Combines R r s (relation k (bit c)) in
+    subst Q (sym (u ∙ t)) (record {
+      count = refl;
+      each = λ i l. (
+        get_or a i 0,
+        get_or b i 0,
+        get_or c i 0,
+        record {
+          by = h i (omega (arith, l, t));
+          first = row_of n a i r e l;
+          second = row_at r.count s.count (In s i) (get_or b i 0) q (row_of m b i s d (omega (arith, l, q)));
+          cells = λ j p. cell_square r.count (bit c) i j l p;
+        },
+      );
+      canonical = record { pairs = square_again r.count (bit c) };
+    })
+
+pub assigned : (r s t : Relation) → IsCanonical s → r.count ≡ s.count → Combines (λ a b w. w ≡ b) r s t → t ≡ s
+assigned r s t c e h =
+    let x : IsExactly r.count (In s) t = combined (λ a b w. w ≡ b) (In s) r s t h (λ i a b w y p q. (let Q : ℕ → Type 0 = λ w. IsRow r.count (In s i) w in subst Q (sym y) q)) in
+    one_relation r.count (In s) t s x (record { count = sym e; only = λ i j m. m; all = λ i j a b m. m; canonical = c })
+
+pub combined_by : (n : ℕ) (P : ℕ → Type 0) (w v : ℕ) → w ≡ v → IsRow n P v → IsRow n P w
+combined_by n P w v e h = (let Q : ℕ → Type 0 = λ w. IsRow n P w in subst Q (sym e) h)
+
+pub through_row : (n m i w v : ℕ) (P Q : ℕ → ℕ → Type 0) → n ≡ m → IsRow n (P i) w → IsRow m (λ j. (k : ℕ) × (k < m) × (has_bit w k ≡ true) × Q k j) v →
+    IsRow n (λ j. (k : ℕ) × (k < n) × P i k × Q k j) v
+through_row n m i w v P Q e h g = record {
+  only = λ j l b. (let x : (k : ℕ) × (k < m) × (has_bit w k ≡ true) × Q k j = g.only j (omega (arith, l, e)) b in
+      let s : x.0 < n = omega (arith, x.1, e) in (x.0, s, h.only x.0 s x.2, x.3));
+  all = λ j l x. g.all j (omega (arith, l, e)) (x.0, omega (arith, x.1, e), h.all x.0 x.1 x.2, x.3);
+}
+
+pub relation_at : (n k m : ℕ) (P : ℕ → ℕ → Type 0) (rows : List ℕ) → k ≡ m → m ≡ n → ((i : ℕ) → i < n → IsRow n (P i) (get_or rows i 0)) → IsExactly n P (relation k (bit rows))
+relation_at n k m P rows d e h = relation_of k n P rows (d ∙ e) h
+
+pub rcount : (n : ℕ) (f : ℕ → ℕ → Bool) (r : Relation) → relation n f ≡ r → n ≡ r.count
+rcount n f r e = ap (λ x. x.count) e

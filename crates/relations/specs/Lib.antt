@@ -2,9 +2,9 @@ pub mod Tables
 pub mod Algebra
 pub mod Events
 pub mod Relation
-pub mod Building
 pub mod Examples
 pub mod TableFacts
 pub mod Equality
 pub mod Monotone
 pub mod Growth
+pub mod Words

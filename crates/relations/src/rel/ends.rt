@@ -1,63 +1,70 @@
-//! The sets of a relation's ends.
+//! Relations and sets: the events that one is related to, and the ends of all pairs.
 
-ghost use Rattle.std.specs.Prelude.{◌≡◌, ◌<◌, ◌↔◌, IsTrue};
-ghost use Rattle.relations.specs.Events.{IsExactlySet};
-ghost use Rattle.relations.specs.Relation.{In};
+ghost use Rattle.std.specs.Prelude.{◌≡◌, ◌<◌, ◌⊎◌};
+ghost use Rattle.relations.specs.Events.{Has, IsExactlySet};
+ghost use Rattle.relations.specs.Relation.{In, IsExactly};
 ghost use Rattle.relations.specs.Algebra.{Domain, Range};
+ghost use Rattle.relations.specs.Words.{IsRow};
 
 use crate::rel::Rel;
 use crate::set::Set;
+use crate::word::below;
 
 impl Rel {
+    /// The events to which event `i` is related.
+    pub fn after(&self, i: usize) -> Set
+        requires { i < self.now.count }
+        ensures { IsExactlySet self.now.count (In self.now i) result }
+    {
+        Set::of(self.count(), self.row(i))
+    }
+
+    /// Relates event `i` to each event of the set, too.
+    pub fn insert_all(&mut self, i: usize, to: &Set)
+        requires from { i < self.old.count }
+        requires to { to.now.count ≡ self.old.count }
+        ensures { IsExactly self.old.count (λ a b. In self.old a b ⊎ ((a ≡ i) × Has to.now b)) self.new }
+    {
+        let _ = &self.count;
+        self.rows[i] |= to.word();
+    }
+
     /// The events that are related to some event.
     pub fn domain(&self) -> Set
         ensures { IsExactlySet self.now.count (Domain (In self.now)) result }
     {
-        Set::build(
-            self.count(),
-            |i|
-                requires { i < self.now.count }
-                ensures { IsTrue result ↔ Domain (In self.entry.now) i }
-            { self.leads_from(i) },
-        )
+        Set::of(self.count(), self.sources())
     }
 
     /// The events to which some event is related.
     pub fn range(&self) -> Set
         ensures { IsExactlySet self.now.count (Range (In self.now)) result }
     {
-        Set::build(
-            self.count(),
-            |j|
-                requires { j < self.now.count }
-                ensures { IsTrue result ↔ Range (In self.entry.now) j }
-            { self.leads_to(j) },
-        )
+        Set::of(self.count(), self.targets())
     }
 
-    // Is there a pair from `i`?
-    fn leads_from(&self, i: usize) -> bool
-        requires { i < self.now.count }
-        ensures { IsTrue result ↔ Domain (In self.now) i }
+    // The events from which a pair leads.
+    fn sources(&self) -> u64
+        ensures { IsRow self.now.count (Domain (In self.now)) result }
     {
-        for j in 0..self.count() {
-            if self.contains(i, j) {
-                return true;
-            }
-        }
-        false
-    }
-
-    // Is there a pair to `j`?
-    fn leads_to(&self, j: usize) -> bool
-        requires { j < self.now.count }
-        ensures { IsTrue result ↔ Range (In self.now) j }
-    {
+        let mask = below(self.count());
+        let mut found = 0;
         for i in 0..self.count() {
-            if self.contains(i, j) {
-                return true;
+            if self.row(i) & mask != 0 {
+                found |= 1u64 << i;
             }
         }
-        false
+        found
+    }
+
+    // The events to which a pair leads.
+    pub(crate) fn targets(&self) -> u64
+        ensures { IsRow self.now.count (Range (In self.now)) result }
+    {
+        let mut found = 0;
+        for i in 0..self.count() {
+            found |= self.row(i);
+        }
+        found
     }
 }
