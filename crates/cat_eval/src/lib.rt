@@ -9,4 +9,4 @@ mod naming;
 mod rounds;
 mod value;
 
-pub use judging::{Judgement, judge};
+pub use judging::{Judgement, judge, judge_early};
