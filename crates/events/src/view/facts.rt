@@ -42,30 +42,6 @@ pub(super) fn stands_at(events: &[EventId], place: usize, event: EventId) -> boo
     place < events.len() && is_same(events[place], event)
 }
 
-/// Does the event stand at this place or later?
-fn stands_from(order: &[EventId], from: usize, event: EventId) -> bool
-    ensures { IsTrue result ↔ StandsFrom order.now from event }
-{
-    for place in from..order.len() {
-        if stands_at(order, place, event) {
-            return true;
-        }
-    }
-    false
-}
-
-/// Does the first event stand before the second in the order?
-fn stands_before(order: &[EventId], first: EventId, second: EventId) -> bool
-    ensures { IsTrue result ↔ StandsBefore order.now first second }
-{
-    for place in 0..order.len() {
-        if stands_at(order, place, first) && stands_from(order, place + 1, second) {
-            return true;
-        }
-    }
-    false
-}
-
 impl Graph {
     /// The event of a thread at this place of its run.
     #[tactic(auto, unfolding(crate::specs::Named::event_at))]
@@ -167,17 +143,5 @@ impl Graph {
                 None => false,
             },
         }
-    }
-
-    /// Does the first stand before the second in a coherence order?
-    pub(super) fn is_coherence_before(&self, first: EventId, second: EventId) -> bool
-        ensures { IsTrue result ↔ IsCoherenceBefore self.now first second }
-    {
-        for order in self.co() {
-            if stands_before(order.writes(), first, second) {
-                return true;
-            }
-        }
-        false
     }
 }

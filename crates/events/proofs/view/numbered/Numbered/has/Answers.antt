@@ -1,7 +1,7 @@
 use Rattle.std.proofs.Common.{◌≡◌, ◌∙◌, sym, ap, subst, ℕ, ◌<◌, length}
 use Rattle.events.specs.Named.{event_names, event_count}
 use Rattle.events.proofs.Standing.{stands_read, by_number}
-use Rattle.events.proofs.view.GraphView.has.Goals as goal
+use Rattle.events.proofs.view.numbered.Numbered.has.Goals as goal
 
 pub returns : goal.returns
 returns c =

@@ -3,7 +3,7 @@ use Rattle.std.specs.Prelude.{filter}
 use Rattle.events.specs.declared.event.EventId.{EventId}
 use Rattle.events.specs.Executions.{is_read}
 use Rattle.events.specs.Named.{read_names, access_of}
-use Rattle.events.proofs.view.GraphView.of.Goals as goal
+use Rattle.events.proofs.view.numbered.Numbered.of.Goals as goal
 
 pub invariant_of-result : goal.invariant_of-result
 unfolding read_names
