@@ -1,5 +1,5 @@
 -- Named relations that are made of others.
-use Rattle.std.proofs.Common.{◌≡◌, ℕ, ◌<◌, ◌⊎◌, refl, sym, ◌∙◌, ap, subst, inl, inr, arith}
+use Rattle.std.proofs.Common.{◌≡◌, ℕ, ◌<◌, refl, sym, ◌∙◌, subst, arith}
 use Rattle.relations.specs.Relation.{Relation, In, IsExactly}
 use Rattle.relations.specs.Algebra.{Through}
 use Rattle.relations.specs.Equality.{pair_below}
@@ -7,7 +7,7 @@ use Rattle.events.specs.declared.event.EventId.{EventId}
 use Rattle.events.specs.declared.named.RelName.{RelName}
 use Rattle.events.specs.declared.named.RelName.TheVariants.{Rf, Co, Fr, Int, Ext, Addr, Id}
 use Rattle.events.specs.Executions.{Execution, IsGraph, IsNamed}
-use Rattle.events.specs.Named.{event_names, event_count, IsNumber, InRel, NamedRel, ReadsFrom, ReadsBefore, IsCoherenceBefore, IsInternal}
+use Rattle.events.specs.Named.{event_names, event_count, IsNumber, InRel, NamedRel, ReadsFrom, ReadsBefore, IsCoherenceBefore}
 use Rattle.events.proofs.Adding.{one_number, of_number, has_number, number_below, all_at}
 use Rattle.events.proofs.Standing.{one_stands}
 

@@ -3,7 +3,7 @@
 ghost use Rattle.std.specs.Prelude.{◌≡◌, ◌↔◌, IsTrue, MatchOption};
 ghost use Rattle.relations.specs.Events.{Has};
 ghost use Rattle.listings.specs.Lists.{StandsAt};
-ghost use Rattle.events.specs.Named.{no_event, event_at, access_of, location_of, order_of, data_of, control_of, IsMemory, IsAtOneLocation, IsExchange, IsDependency, IsCoherenceBefore, StandsFrom, StandsBefore};
+ghost use Rattle.events.specs.Named.{no_event, event_at, access_of, location_of, order_of, data_of, control_of, IsMemory, IsAtOneLocation, IsExchange, IsDependency};
 
 use crate::event::{Access, Event, EventId, Order};
 use crate::graph::Graph;

@@ -15,7 +15,6 @@ use relations::{Rel, Set};
 use std::alloc::{AllocError, Global};
 use std::marker::Model;
 
-
 /// An execution with its events numbered.
 #[derive(Drop)]
 pub(super) struct Numbered<'a> {

@@ -1,6 +1,6 @@
 use Rattle.std.proofs.Common.{◌≡◌, ℕ, refl, subst}
 use Rattle.relations.specs.Relation.{IsExactly}
-use Rattle.events.specs.declared.named.RelName.TheVariants.{Po, Int, Ext, Loc, PoLoc, Rf, Co, Fr, Rfi, Coi, Fri, Rfe, Coe, Fre, Addr, Id}
+use Rattle.events.specs.declared.named.RelName.TheVariants.{Po, Int, Ext, Loc, PoLoc, Rf, Co, Fr, Rfi, Coi, Fri, Rfe, Coe, Fre}
 use Rattle.events.proofs.Made.{both_named, first_named, ext_named, id_named, addr_named, copied}
 use Rattle.events.proofs.view.GraphView.rel.Goals as goal
 
