@@ -13,7 +13,7 @@ pub returns-in-PoLoc : goal.returns-in-PoLoc
 returns-in-PoLoc c =
     let g = c.self.inside.numbered in
     rw c.in-PoLoc.is (copied g c.args.self.now PoLoc _ _ c.self.view_is refl
-    (both_named g Po Loc PoLoc c.self.inside.po c.self.inside.loc _ (λ d e p q. (p, q)) (λ d e p. p) c.self.invariant.po c.self.invariant.loc c.inter-in-PoLoc.ensures))
+    (both_named g Po Loc PoLoc c.self.inside.po c.self.inside.loc _ (λ d e p q. (p, q)) (λ d e p. p) c.self.invariant.po c.self.invariant.loc c.inter.ensures))
 
 pub returns-in-Rfi : goal.returns-in-Rfi
 returns-in-Rfi c =
@@ -37,7 +37,7 @@ pub returns-in-Rfe : goal.returns-in-Rfe
 returns-in-Rfe c =
     let g = c.self.inside.numbered in
     rw c.in-Rfe.is (copied g c.args.self.now Rfe _ _ c.self.view_is refl
-    (first_named g Rf Int Rfe c.self.inside.rf c.self.inside.int _ (λ d e p q. (p, q)) (λ d e p. p) c.self.invariant.rf c.self.invariant.int c.minus-in-Rfe.ensures))
+    (first_named g Rf Int Rfe c.self.inside.rf c.self.inside.int _ (λ d e p q. (p, q)) (λ d e p. p) c.self.invariant.rf c.self.invariant.int c.minus.ensures))
 
 pub returns-in-Coe : goal.returns-in-Coe
 returns-in-Coe c =
@@ -54,7 +54,7 @@ returns-in-Fre c =
 pub returns-in-Addr : goal.returns-in-Addr
 returns-in-Addr c =
     let P : ℕ → Type 0 = λ n. IsExactly n (λ i j. ⊥) c.empty.result in
-    rw c.in-Addr.is (addr_named c.args.self.now _ (subst P c.count-in-Addr.ensures.is c.empty.ensures))
+    rw c.in-Addr.is (addr_named c.args.self.now _ (subst P c.count.ensures.is c.empty.ensures))
 
 pub returns-in-Id : goal.returns-in-Id
 returns-in-Id c =
