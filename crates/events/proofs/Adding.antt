@@ -1,6 +1,7 @@
 -- Pairs of events that are added to a relation by their numbers.
-use Rattle.std.proofs.Common.{◌≡◌, ℕ, ◌+◌, ◌<◌, ◌≤◌, ◌⊎◌, List, [], ◌∷◌, length, get_or, refl, sym, ◌∙◌, subst, inl, inr, arith, zero, suc}
+use Rattle.std.proofs.Common.{◌≡◌, ℕ, ◌+◌, ◌<◌, ◌≤◌, ◌⊎◌, List, length, get_or, refl, sym, ◌∙◌, subst, inl, inr, arith}
 use Rattle.std.specs.List.{All}
+use Rattle.std.proofs.lemmas.List.Elements.{All-get_or}
 use Rattle.std.proofs.lemmas.Bool.{cases_eq}
 use Rattle.listings.specs.Lists.{StandsAt}
 use Rattle.listings.proofs.Listings.{one_place, place_of}
@@ -38,9 +39,7 @@ has_number g e h =
     (p.0, stands_or (event_names g) p.0 (Initial 0) e p.1 p.2)
 
 pub all_at : {X : Type 0} (P : X → Type 0) (xs : List X) (i : ℕ) (x : X) → All P xs → StandsAt xs i x → P x
-all_at P [] i x h s = absurd s
-all_at P (y ∷ xs) zero x h s = subst P (sym s) h.0
-all_at P (y ∷ xs) (suc i) x h s = all_at P xs i x h.1 s
+all_at P xs i x h s = subst P (stands_get xs i x x s) (All-get_or P xs i x (stands_below xs i x s) h)
 
 -- ONE PAIR, OR NONE
 
