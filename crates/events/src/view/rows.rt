@@ -15,6 +15,7 @@ use relations::{Rel, Set};
 
 impl Numbered<'_> {
     /// `rf`.
+    #[tactic(auto, using(crate::proofs::Adding::reads_begun, crate::proofs::Adding::reads_on, crate::proofs::Adding::reads_done))]
     pub(super) fn reads_from(&self) -> Rel
         ensures { IsExactly (event_count self.now) (NamedRel self.now Rf) result }
     {
@@ -26,6 +27,7 @@ impl Numbered<'_> {
     }
 
     /// `co`.
+    #[tactic(auto, using(crate::proofs::Adding::orders_begun, crate::proofs::Adding::orders_on, crate::proofs::Adding::orders_done, crate::proofs::Standing::stands_item))]
     pub(super) fn coherence(&self) -> Rel
         ensures { IsExactly (event_count self.now) (NamedRel self.now Co) result }
     {
@@ -48,6 +50,7 @@ impl Numbered<'_> {
     }
 
     // Adds the pair of the read with this number among the reads and the write that it reads from.
+    #[tactic(auto, using(crate::proofs::Adding::read_more, crate::proofs::Adding::no_read_more, crate::proofs::Standing::stands_read))]
     fn relate_read(&self, rel: &mut Rel, read: usize)
         requires count { rel.old.count ≡ event_count self.now }
         requires read { read < length (read_names self.now) }
@@ -61,6 +64,7 @@ impl Numbered<'_> {
     }
 
     // Adds the pair of two events.
+    #[tactic(auto, using(crate::proofs::Adding::pair_more, crate::proofs::Adding::nothing_more))]
     fn relate(&self, rel: &mut Rel, first: EventId, second: EventId)
         requires { rel.old.count ≡ event_count self.now }
         ensures { IsExactly (event_count self.now) (λ i j. In rel.old i j ⊎ (IsNumber self.now i first × IsNumber self.now j second)) rel.new }
@@ -74,6 +78,7 @@ impl Numbered<'_> {
     }
 
     // Adds the pairs of an order, from its last event on.
+    #[tactic(auto, using(crate::proofs::Adding::behind_begun, crate::proofs::Adding::order_begun, crate::proofs::Adding::behind_on, crate::proofs::Adding::order_on, crate::proofs::Adding::order_done, crate::proofs::Standing::stands))]
     fn relate_order(&self, rel: &mut Rel, order: &[EventId])
         requires { rel.old.count ≡ event_count self.now }
         ensures { IsExactly (event_count self.now) (λ i j. In rel.old i j ⊎ ByNumbers self.now (StandsBefore order.now) i j) rel.new }
@@ -88,6 +93,7 @@ impl Numbered<'_> {
     }
 
     // Relates an event to each of those behind it, and puts it with them.
+    #[tactic(auto, using(crate::proofs::Adding::row_more, crate::proofs::Adding::event_more, crate::proofs::Adding::nothing_more, crate::proofs::Adding::no_event_more))]
     fn relate_behind(&self, rel: &mut Rel, behind: &mut Set, event: EventId)
         requires rel { rel.old.count ≡ event_count self.now }
         requires behind { behind.old.count ≡ event_count self.now }
