@@ -13,7 +13,7 @@ use Rattle.events.specs.declared.event.EventId.TheVariants.{Initial}
 use Rattle.events.specs.declared.named.RelName.TheVariants.{Rf, Co}
 use Rattle.events.specs.Executions.{Execution, IsNamed}
 use Rattle.events.specs.Named.{event_names, event_count, read_names, IsNumber, NamedRel, StandsBefore, StandsFrom}
-use Rattle.events.specs.Rows.{ByNumbers, IsBehind, StandsBeforeFrom, IsBeforeAmong, ReadsAmong}
+use Rattle.events.specs.Rows.{ByNumbers, IsBehind, StandsBeforeFrom, IsBeforeAmong, ReadsAmong, IsReadAt}
 use Rattle.events.proofs.Numbers.{names_listed, counted}
 use Rattle.events.proofs.Standing.{stands_below, stands_get, stands_or, one_stands}
 
@@ -207,10 +207,6 @@ pub reads_begun : (n : ℕ) (g : Execution) (r : Relation) → IsExactly n (λ i
 reads_begun n g r h =
     reworded n (λ i j. ⊥) (ByNumbers g (ReadsAmong g 0)) r (λ i j x. absurd x)
     (λ i j a b x. (let y : ReadsAmong g 0 x.0 x.1 = x.4 in let z : ⊥ = omega (arith, y.1) in z)) h
-
--- the pair of the read with number m and the write that it reads from
-abbrev pub IsReadAt : Execution → ℕ → EventId → EventId → Type 0
-IsReadAt g m w r = StandsAt (read_names g) m r × StandsAt g.rf m w
 
 pub reads_on : (n : ℕ) (g : Execution) (m : ℕ) (r t : Relation) → IsExactly n (ByNumbers g (ReadsAmong g m)) r →
     IsExactly n (λ i j. In r i j ⊎ ByNumbers g (IsReadAt g m) i j) t → IsExactly n (ByNumbers g (ReadsAmong g (m + 1))) t

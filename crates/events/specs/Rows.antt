@@ -37,3 +37,7 @@ IsBeforeAmong g count d e = (x : ℕ) × (order : List EventId) × (x < count) �
 -- one of the first reads is r, and it reads from w
 abbrev pub ReadsAmong : Execution → ℕ → EventId → EventId → Type 0
 ReadsAmong g count w r = (m : ℕ) × (m < count) × StandsAt (read_names g) m r × StandsAt g.rf m w
+
+-- r is the read with this number among the reads, and it reads from w
+abbrev pub IsReadAt : Execution → ℕ → EventId → EventId → Type 0
+IsReadAt g m w r = StandsAt (read_names g) m r × StandsAt g.rf m w

@@ -5,8 +5,7 @@ ghost use Rattle.relations.specs.Events.{Has, IsExactlySet};
 ghost use Rattle.relations.specs.Relation.{In, IsExactly};
 ghost use Rattle.events.specs.declared.named.RelName.TheVariants.{Rf, Co, Fr};
 ghost use Rattle.events.specs.Named.{IsNumber, event_count, NamedRel, StandsBefore, read_names};
-ghost use Rattle.listings.specs.Lists.{StandsAt};
-ghost use Rattle.events.specs.Rows.{ByNumbers};
+ghost use Rattle.events.specs.Rows.{ByNumbers, IsReadAt};
 
 use super::facts::stands_at;
 use super::numbered::Numbered;
@@ -54,7 +53,7 @@ impl Numbered<'_> {
     fn relate_read(&self, rel: &mut Rel, read: usize)
         requires count { rel.old.count ≡ event_count self.now }
         requires read { read < length (read_names self.now) }
-        ensures { IsExactly (event_count self.now) (λ i j. In rel.old i j ⊎ ByNumbers self.now (λ w r. StandsAt (read_names self.now) read r × StandsAt self.now.rf read w) i j) rel.new }
+        ensures { IsExactly (event_count self.now) (λ i j. In rel.old i j ⊎ ByNumbers self.now (IsReadAt self.now read) i j) rel.new }
     {
         let _ = rel.count();
         let sources = self.graph.rf();
