@@ -13,16 +13,16 @@ use Rattle.conditions.specs.declared.place.Place.{Place}
 use Rattle.conditions.specs.declared.place.Place.TheVariants.{Reg, Loc}
 use Rattle.litmus_tree.specs.Tree.{Litmus, Word}
 use Rattle.conditions.specs.States.{bindings, holds_in, AreObserved}
-use Rattle.candidates.specs.Candidates.{At, Choices, Counting, choices_of, found, size_of, some_of}
+use Rattle.candidates.specs.Candidates.{At, Choices, choices_of, found, size_of, some_of}
 use Rattle.candidates.specs.Executions.{IsSize}
 use Rattle.candidates.specs.Faults.{HaveFewRuns}
 use Rattle.slices.specs.declared.counter.Counter.{Counter}
 use Rattle.slices.specs.Finals.{final, obs, has, last_or}
 use Rattle.slices.specs.Outcomes.{Outcome}
-use Rattle.slices.specs.Parts.{AreThose, at_end, taken, passed, IsAdmitted, IsOver, IsPart, Part, executions_in, test_size}
+use Rattle.slices.specs.Parts.{AreThose, at_end, taken, passed, IsAdmitted, IsPart, executions_in, test_size}
 use Rattle.slices.specs.Slots.{slot_of, slot_value}
 use Rattle.slices.specs.Counters.{collected, outcome_of, IsCount, IsCountOf, IsOneMore, IsWeighed}
-use Rattle.slices.specs.Verdicts.{Tells, IsVerdict, IsRaised}
+use Rattle.slices.specs.Verdicts.{Tells, IsRaised}
 use Rattle.slices.specs.Works.{Task}
 use Rattle.slices.proofs.Rows.{row_cmp, from_collected, collected_old, in_collected, no_repeats, are_sorted}
 
@@ -63,16 +63,16 @@ those-pass x p at_end = passed p at_end
 those-pass x p (taken q h) = taken q (those-pass x p h)
 those-pass x p (passed q h) = passed q (those-pass x p h)
 
-in_front : {X : Type 0} (y : X) (xs : List X) (x : X) → IsIn y xs → IsIn y (xs ++ x ∷ [])
+pub in_front : {X : Type 0} (y : X) (xs : List X) (x : X) → IsIn y xs → IsIn y (xs ++ x ∷ [])
 in_front y [] x p = absurd p
 in_front y (z ∷ zs) x (inl e) = inl e
 in_front y (z ∷ zs) x (inr p) = inr (in_front y zs x p)
 
-at_last : {X : Type 0} (xs : List X) (x : X) → IsIn x (xs ++ x ∷ [])
+pub at_last : {X : Type 0} (xs : List X) (x : X) → IsIn x (xs ++ x ∷ [])
 at_last [] x = inl refl
 at_last (z ∷ zs) x = inr (at_last zs x)
 
-of_push : {X : Type 0} (y : X) (xs : List X) (x : X) → IsIn y (xs ++ x ∷ []) → IsIn y xs ⊎ (y ≡ x)
+pub of_push : {X : Type 0} (y : X) (xs : List X) (x : X) → IsIn y (xs ++ x ∷ []) → IsIn y xs ⊎ (y ≡ x)
 of_push y [] x (inl e) = inr e
 of_push y [] x (inr p) = absurd p
 of_push y (z ∷ zs) x (inl e) = inl (inl e)
@@ -213,17 +213,6 @@ weighed_allowed t items places x old new allowed judged is more = inl (judged.0 
 pub weighed_forbidden : (t : Litmus) (items : List Clause) (places : List Place) (x : Execution) (old new : Counter) (allowed : Bool) → (IsTrue allowed ↔ Allowed items x) → allowed ≡ false → new ≡ old → IsWeighed t items places x old new
 weighed_forbidden t items places x old new allowed judged is same = inr ((λ a. (let is' = judged.1 a in cc)), same)
 
-found_same : (f g : ℕ → Option Execution) → ((i : ℕ) → f i ≡ g i) → (n : ℕ) → found f n ≡ found g n
-found_same f g h zero = refl
-found_same f g h (suc n) = ap (λ xs. xs ++ some_of (f n)) (found_same f g h n) ∙ ap (λ o. found g n ++ some_of o) (h n)
-
--- the executions at all numbers
-pub all_numbers : (t : Litmus) (n : ℕ) → executions_in t 0 n ≡ found (At t) n
-all_numbers t n =
-    let here : n - 0 ≡ n = omega arith in
-    let shift : (i : ℕ) → At t (0 + i) ≡ At t i = λ i. (let e : 0 + i ≡ i = omega arith in ap (At t) e) in
-    ap (found (λ i. At t (0 + i))) here ∙ found_same (λ i. At t (0 + i)) (At t) shift n
-
 -- the outcome of a count
 
 pub tells : (t : Litmus) (items : List Clause) (xs : List Execution) (places : List Place) (counter : Counter) (v : Outcome) → IsCount t items places xs counter → AreObserved t.condition t.listed places
@@ -276,36 +265,20 @@ once_those at_end n = tt
 once_those (taken {x} q h) n = ((λ p. n.0 (only_those x h p).0), once_those h n.1)
 once_those (passed q h) n = once_those h n.1
 
-lists_those : {X : Type 0} {P Q : X → Type 0} {xs ys : List X} → Lists P xs → AreThose Q xs ys → Lists (λ x. P x × Q x) ys
+pub lists_those : {X : Type 0} {P Q : X → Type 0} {xs ys : List X} → Lists P xs → AreThose Q xs ys → Lists (λ x. P x × Q x) ys
 lists_those l h = record {
   once = once_those h l.once;
   only = λ x p. let r = only_those x h p in (l.only x r.0, r.1);
   all = λ x r. all_those x h (l.all x r.0) r.1;
 }
 
--- the outcome over all numbers is a verdict
-pub verdict_of : (t : Litmus) (items : List Clause) (from to : ℕ) (v : Outcome) → Counting → IsAdmitted t → from ≡ 0 → to ≡ test_size t → IsPart t items from to v → IsVerdict t items v
-verdict_of t items from to v counting admitted first last part =
-    let all = counting t (test_size t) admitted.size in
-    let F : ℕ → Type 0 = λ k. AreThose (Allowed items) (executions_in t k to) part.0 in
-    let L : ℕ → Type 0 = λ k. AreThose (Allowed items) (executions_in t 0 k) part.0 in
-    let T : List Execution → Type 0 = λ xs. AreThose (Allowed items) xs part.0 in
-    (part.0, lists_those all (subst T (all_numbers t (test_size t)) (subst L last (subst F first part.1))), part.2)
-
 -- what a test's space says of the test
-pub admitted : (t u : Litmus) (s : Choices) → u ≡ t → s ≡ choices_of u → IsSize u (size_of s) × (size_of s ≤ 2 ^ 32) → HaveFewRuns u → (s ≡ choices_of t) × IsAdmitted t
-admitted t u s e is size runs =
-    let P : Litmus → Type 0 = λ v. (s ≡ choices_of v) × IsAdmitted v in
+pub admitted : (t u : Litmus) (s : Choices) (n : ℕ) → u ≡ t → s ≡ choices_of u → n ≡ size_of s → IsSize u (size_of s) × (size_of s ≤ 2 ^ 32) → HaveFewRuns u → (n ≡ test_size t) × IsAdmitted t
+admitted t u s n e is many size runs =
+    let P : Litmus → Type 0 = λ v. (n ≡ test_size v) × IsAdmitted v in
     let S : Choices → Type 0 = λ c. IsSize u (size_of c) × (size_of c ≤ 2 ^ 32) in
     let sized = subst S is size in
-    subst P e (is, record { runs = runs; size = sized.0; few = sized.1 })
-
--- a result over all numbers of a work gives a verdict
-pub over_verdict : (w : Task) (r : Part) (v : Outcome) → Counting → IsAdmitted w.test → IsOver w r → IsPart r.piece.work.test r.piece.work.model.items r.piece.from r.piece.to r.found → v ≡ r.found → IsVerdict w.test w.model.items v
-over_verdict w r v counting admitted over part e =
-    let P : Task → Type 0 = λ u. IsPart u.test u.model.items r.piece.from r.piece.to r.found in
-    let V : Outcome → Type 0 = λ o. IsVerdict w.test w.model.items o in
-    subst V (sym e) (verdict_of w.test w.model.items r.piece.from r.piece.to r.found counting admitted over.first over.last (subst P over.same part))
+    subst P e (many ∙ ap size_of is, record { runs = runs; size = sized.0; few = sized.1 })
 
 -- what is found at the numbers of a range
 pub finds : {E : Type 0} (w : Task) (t : Litmus) (from to : ℕ) (places : List Place) (counter : Counter) (r : Result Outcome E) → t ≡ w.test → IsCountOf w.test w.model.items places (executions_in w.test from to) counter → AreObserved t.condition t.listed places
