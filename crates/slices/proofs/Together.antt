@@ -1,5 +1,5 @@
 -- What results say together.
-use Rattle.std.proofs.Common.{◌≡◌, ℕ, ◌+◌, ◌<◌, ◌≤◌, ◌^◌, ◌⊎◌, List, [], ◌∷◌, ◌++◌, length, Bool, not, count_by, refl, sym, ap, ◌∙◌, subst, inl, inr, arith}
+use Rattle.std.proofs.Common.{◌≡◌, ℕ, ◌+◌, ◌<◌, ◌≤◌, ◌^◌, ◌⊎◌, List, [], ◌∷◌, ◌++◌, length, take, ◌-◌, Bool, not, count_by, refl, sym, ap, ◌∙◌, subst, inl, inr, arith}
 use Rattle.std.specs.Prelude.{fold, Result, Ok, Err, IfOk, ◌↔◌}
 use Rattle.std.specs.List.Sorted.{IsStrictlySortedBy}
 use Rattle.cat_tree.specs.Tree.{Clause}
@@ -17,10 +17,11 @@ use Rattle.slices.specs.declared.sum.Sum.{Sum}
 use Rattle.slices.specs.Counters.{outcome_of}
 use Rattle.slices.specs.Finals.{obs, has}
 use Rattle.slices.specs.Outcomes.{Outcome}
-use Rattle.slices.specs.Parts.{IsAdmitted, IsPart, test_size}
+use Rattle.slices.specs.Parts.{IsAdmitted, IsPart, IsRange, Part, Portion, test_size}
 use Rattle.slices.specs.Sums.{IsAdded, IsUnchanged, in_order}
-use Rattle.slices.specs.Tallies.{IsApart, IsCover, IsTally}
+use Rattle.slices.specs.Tallies.{IsApart, IsCover, IsTally, Results, span_of}
 use Rattle.slices.specs.Verdicts.{Tells, IsRaised, IsVerdict}
+use Rattle.slices.specs.Works.{Task}
 use Rattle.slices.proofs.Rows.{row_cmp, from_collected, in_collected, no_repeats, are_sorted}
 use Rattle.slices.proofs.Members.{count-append, count_most, lists_same}
 use Rattle.slices.proofs.Merging.{law_of, merged_listing, whole_listing, few_listed, within_push}
@@ -171,3 +172,52 @@ tally_verdict t u items spans sum places counter (Ok v) numbering admitted cover
         in_order = are_sorted counter.flags.keys (subst F is ordered);
       }),
     )
+
+-- what a merge knows of the result
+
+abbrev pub at_piece : Portion → Span
+at_piece p = record { from = p.from; to = p.to }
+
+pub record PartOf (w : Task) (spans : List Span) (s : Span) (v : Outcome) : Type 0 where
+  pub admitted : IsAdmitted w.test
+  pub le : s.to ≤ test_size w.test
+  pub apart : IsApart s spans
+  pub part : IsPart w.test w.model.items s.from s.to v
+
+pub part_of : (w u : Task) (now : Results) (spans : List Span) (s : Span) (r : Part) (p : Portion) (v : Outcome) → u ≡ w → IsAdmitted u.test → now.work ≡ w → now.spans ≡ spans → r.piece.work ≡ now.work → IsApart (span_of r) now.spans → p ≡ r.piece
+    → IsRange p.work.test p.from p.to → IsPart r.piece.work.test r.piece.work.model.items r.piece.from r.piece.to r.found → v ≡ r.found → s ≡ span_of r → PartOf w spans s v
+part_of w u now spans s r p v eu admitted ew es er apart ep range right ev esp =
+    let A : Task → Type 0 = λ z. IsAdmitted z.test in
+    let rp : r.piece.work ≡ w = er ∙ ew in
+    let R : Portion → Type 0 = λ z. IsRange z.work.test z.from z.to in
+    let inside : IsRange r.piece.work.test r.piece.from r.piece.to = subst R ep range in
+    let L : Task → Type 0 = λ z. r.piece.to ≤ test_size z.test in
+    let S : Span → Type 0 = λ z. z.to ≤ test_size w.test in
+    let G : List Span → Type 0 = λ z. IsApart (span_of r) z in
+    let H : Span → Type 0 = λ z. IsApart z spans in
+    let Q : Task → Type 0 = λ z. IsPart z.test z.model.items r.piece.from r.piece.to r.found in
+    let K : Outcome → Type 0 = λ z. IsPart w.test w.model.items r.piece.from r.piece.to z in
+    let J : Span → Type 0 = λ z. IsPart w.test w.model.items z.from z.to v in
+    record {
+      admitted = subst A eu admitted;
+      le = subst S (sym esp) (subst L rp inside.within);
+      apart = subst H (sym esp) (subst G es apart);
+      part = subst J (sym esp) (subst K (sym ev) (subst Q rp right));
+    }
+
+pub part_few : (w : Task) (spans : List Span) (s : Span) (v : Outcome) (sum : Sum) → Numbering → PartOf w spans s v → IsTally w.test w.model.items spans sum → (sum.positive + v.positive < 2 ^ 64) × (sum.negative + v.negative < 2 ^ 64)
+part_few w spans s v sum numbering h tally = few_together w.test w.model.items spans s sum v numbering h.admitted h.le h.apart tally h.part
+
+pub part_merged : (w : Task) (spans new : List Span) (s : Span) (v : Outcome) (sum after : Sum) → Numbering → PartOf w spans s v → IsTally w.test w.model.items spans sum → IsAdded sum v after → new ≡ spans ++ s ∷ [] → IsTally w.test w.model.items new after
+part_merged w spans new s v sum after numbering h tally added pushed = tally_merged w.test w.model.items spans new s sum after v numbering h.admitted h.le h.apart tally h.part added pushed
+
+-- the last range is taken back
+
+take_front : (xs : List Span) (x : Span) → take (length xs) (xs ++ x ∷ []) ≡ xs
+take_front [] x = refl
+take_front (y ∷ ys) x = ap (λ l. y ∷ l) (take_front ys x)
+
+pub taken_back : (n : ℕ) (xs old new : List Span) (x : Span) → old ≡ xs ++ x ∷ [] → new ≡ take (n - 1) old → n ≡ length xs + 1 → new ≡ xs
+taken_back n xs old new x pushed popped len =
+    let less : n - 1 ≡ length xs = omega (arith, len) in
+    popped ∙ ap (take (n - 1)) pushed ∙ ap (λ k. take k (xs ++ x ∷ [])) less ∙ take_front xs x

@@ -6,6 +6,7 @@ ghost use Rattle.slices.specs.Parts.{IsPart, IsRange};
 
 use crate::counter::count;
 use crate::finding::{Finding, FindingRef};
+use crate::span::Span;
 use crate::work::{Work, WorkRef};
 use candidates::Space;
 use conditions::observed;
@@ -152,6 +153,17 @@ impl Piece {
         ensures { result ≡ self.now.to }
     {
         self.to
+    }
+
+    /// Its numbers.
+    pub fn span(&self) -> Span
+        ensures value { result ≡ record { from = self.now.from; to = self.now.to } }
+        ensures range { IsRange self.now.work.test self.now.from self.now.to }
+    {
+        Span {
+            from: self.from,
+            to: self.to,
+        }
     }
 
     /// The work.

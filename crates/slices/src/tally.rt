@@ -1,6 +1,6 @@
 //! The results of a work's slices, put together.
 
-ghost use Rattle.std.specs.Prelude.{◌≡◌, ◌++◌, ◌∷◌, [], ◌×◌, ◌≤◌, IfOk, IfErr, OnOk, OnErr};
+ghost use Rattle.std.specs.Prelude.{◌≡◌, ◌++◌, ◌∷◌, ◌+◌, [], ◌<◌, ◌≤◌, IfOk, IfErr, OnOk, OnErr};
 ghost use Rattle.candidates.specs.Candidates.{choices_of};
 ghost use Rattle.slices.specs.Parts.{test_size};
 ghost use Rattle.slices.specs.Tallies.{IsApart, IsCover, IsTally, cut, span_of};
@@ -93,10 +93,7 @@ impl Tally {
         let alloc = *self.spans.allocator();
         let _size = self.work.work().size();
         let piece = part.piece();
-        let span = Span {
-            from: piece.from(),
-            to: piece.to(),
-        };
+        let span = piece.span();
         self.spans.push(span)?;
         match self.sum.add(alloc, part.found().finding()) {
             Ok(()) => Ok(()),
@@ -166,7 +163,6 @@ fn slice_of(work: &WorkRef, total: u16, slice: u16) -> Result<Piece, AllocError>
     ensures from { IfOk result (λ p. p.from ≡ cut (test_size work.now.test) total slice) }
     ensures to { IfOk result (λ p. p.to ≡ cut (test_size work.now.test) total (slice + 1)) }
 {
-    crate::laws::cuts();
     let size = work.work().size();
     let from = cut(size, total, slice);
     let to = cut(size, total, slice + 1);

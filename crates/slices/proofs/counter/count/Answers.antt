@@ -11,7 +11,7 @@ loop-number-init c = record {
   few = omega (arith, c.new-counter.ensures.positive, c.new-counter.ensures.negative);
   slots = c.in_ok-slots.ensures ∙ ap (λ t. map (slot_of t) c.args.places.now) c.test.ensures;
   order = omega arith;
-  within = c.requires.order;
+  within = c.requires.range.order;
 }
 
 pub loop-number-preserved : goal.loop-number-preserved
@@ -22,10 +22,10 @@ loop-number-preserved c =
     record {
       counted = elim c.match-branch-3.branch [
         | in-Some+in_ok-weigh w ↦
-            let is : At t c.loop-number.number ≡ Some w.in-Some.graph = sym (c.in_ok-graph.ensures ∙ ap (λ s. graph_at s c.loop-number.number) c.space-space.ensures.space) ∙ w.in-Some.is in
+            let is : At t c.loop-number.number ≡ Some w.in-Some.graph = sym (c.in_ok-graph.ensures ∙ ap (λ s. graph_at s c.loop-number.number) c.requires.space) ∙ w.in-Some.is in
             rw w.counter-is (next_some t items c.args.places.now (At t) c.args.from c.loop-number.number w.in-Some.graph _ _ inv.order inv.counted is w.in_ok-weigh.ensures)
         | in_default w ↦
-            let is : At t c.loop-number.number ≡ None = sym (c.in_ok-graph.ensures ∙ ap (λ s. graph_at s c.loop-number.number) c.space-space.ensures.space) ∙ w.in_default.is in
+            let is : At t c.loop-number.number ≡ None = sym (c.in_ok-graph.ensures ∙ ap (λ s. graph_at s c.loop-number.number) c.requires.space) ∙ w.in_default.is in
             next_none t items c.args.places.now (At t) c.args.from c.loop-number.number _ _ inv.order inv.counted is w.counter-is
       ];
       few = elim c.match-branch-3.branch [
