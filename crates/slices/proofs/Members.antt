@@ -60,10 +60,10 @@ no_longer {X} (x ∷ xs) ys once within =
 
 -- what is added to a set in the order of coming
 
-any_in : (k : List ℕ) (ks : List (List ℕ)) → list_any (bytes_eq k) ks ≡ true → IsIn k ks
 any_choice : (b : Bool) (k x : List ℕ) (xs : List (List ℕ)) → bytes_eq k x ≡ b → list_any (bytes_eq k) (x ∷ xs) ≡ true → (list_any (bytes_eq k) xs ≡ true → IsIn k xs) → IsIn k (x ∷ xs)
 any_choice true k x xs is e rest = inl ((bytes_eq-Decides k x).0 is)
 any_choice false k x xs is e rest = inr (rest (cc))
+any_in : (k : List ℕ) (ks : List (List ℕ)) → list_any (bytes_eq k) ks ≡ true → IsIn k ks
 any_in k [] e = cc
 any_in k (x ∷ xs) e = any_choice (bytes_eq k x) k x xs refl e (any_in k xs)
 

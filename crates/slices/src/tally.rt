@@ -148,8 +148,9 @@ impl Verdict {
         let mut tally = Tally::new(alloc, work.share()?)?;
         for slice in 0..total {
             let part = evaluate_in(alloc, &space, &slice_of(&work, total, slice)?)?;
-            if let Err((_, AllocError)) = tally.merge(part) {
-                return Err(AllocError);
+            match tally.merge(part) {
+                Ok(()) => {}
+                Err((_, AllocError)) => return Err(AllocError),
             }
         }
         tally.verdict(test_version)
