@@ -3,7 +3,6 @@
 
 mod atomics;
 mod draft;
-mod operator;
 mod symbol;
 mod syntax;
 mod syntax_fault;
