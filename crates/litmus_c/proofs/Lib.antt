@@ -1,3 +1,4 @@
+pub mod Chains
 pub mod Fair
 pub mod Found
 pub mod Kept

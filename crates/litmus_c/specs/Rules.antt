@@ -14,11 +14,12 @@ use Rattle.litmus_c.specs.declared.rules.Rule.TheVariants.{Names, PlainAccess, A
 use Rattle.litmus_tree.specs.declared.tree.LocationKind.{LocationKind}
 use Rattle.litmus_tree.specs.declared.tree.LocationKind.TheVariants.{Atomic, Plain}
 use Rattle.litmus_tree.specs.declared.tree.Parameter.{Parameter}
+use Rattle.conditions.specs.Conditions as chains
 use Rattle.conditions.specs.Conditions.{Formula, truth, falsehood, equals, negation, conjunction, disjunction, implication}
 use Rattle.litmus_syntax.specs.Drafts.{Listing, Written, is_parameter}
 use Rattle.litmus_test.specs.Limits.{program_events}
 use Rattle.litmus_tree.specs.Names.{is_one_of, with_names}
-use Rattle.litmus_tree.specs.Tree.{Word, Term, number, held, denied, equal, unequal, both, either, Action, load, store, exchange, fence, Right, computed, plain_read, value_of, Declared, Step, empty, block, declare, assign, plain_write, perform, if_only, if_else, Steps, no_steps, in_turn, Program, Litmus}
+use Rattle.litmus_tree.specs.Tree.{Word, Term, number, held, denied, equal, unequal, both, either, Growth, denies, joins, Action, load, store, exchange, fence, Right, computed, plain_read, value_of, Declared, Step, empty, block, declare, assign, plain_write, perform, if_only, if_else, Steps, no_steps, in_turn, Program, Litmus}
 use Rattle.litmus_test.specs.Values.{values_of}
 
 -- The initial state.
@@ -135,6 +136,11 @@ term_keeps k ps rs (unequal a b) = term_keeps k ps rs a && term_keeps k ps rs b
 term_keeps k ps rs (both a b) = term_keeps k ps rs a && term_keeps k ps rs b
 term_keeps k ps rs (either a b) = term_keeps k ps rs a && term_keeps k ps rs b
 
+-- what a link puts behind an expression
+abbrev pub growth_keeps : Rule → List Parameter → List Word → Growth → Bool
+growth_keeps k ps rs denies = true
+growth_keeps k ps rs (joins o b) = term_keeps k ps rs b
+
 abbrev pub action_keeps : Rule → List Parameter → List Word → Action → Bool
 action_keeps k ps rs (load x o) = may_call k ps rs x
 action_keeps k ps rs (store x e o) = may_call k ps rs x && term_keeps k ps rs e
@@ -184,6 +190,11 @@ formula_is_fair ps xs (negation a) = formula_is_fair ps xs a
 formula_is_fair ps xs (conjunction a b) = formula_is_fair ps xs a && formula_is_fair ps xs b
 formula_is_fair ps xs (disjunction a b) = formula_is_fair ps xs a && formula_is_fair ps xs b
 formula_is_fair ps xs (implication a b) = formula_is_fair ps xs a && formula_is_fair ps xs b
+
+-- what a link puts behind a proposition
+abbrev pub connected_is_fair : List Program → List Word → chains.Growth → Bool
+connected_is_fair ps xs chains.denies = true
+connected_is_fair ps xs (chains.joins o b) = formula_is_fair ps xs b
 
 abbrev pub places_are_there : List Program → List Word → List Place → Bool
 places_are_there ps xs qs = list_all (place_is_there ps xs) qs
