@@ -3,7 +3,7 @@
 use crate::answers::{SB, expect};
 use crate::copies::{is_another, is_copied_as, threads_are_copied};
 use conditions::{Binding, Kind, Place};
-use litmus_c::{Expression, RightSide, Statement, Test, Thread};
+use litmus_c::{Leaf, Link, Operator, RightSide, Statement, Test, Thread};
 use std::alloc::{AllocError, Global};
 use std::test::Fail;
 
@@ -69,15 +69,26 @@ enum Shape {
     Or(&'static Shape, &'static Shape),
 }
 
-/// Whether an expression is that one.
-fn is_shaped(expression: &Expression, shape: &Shape) -> bool {
-    match (expression, shape) {
-        (Expression::Number(number), Shape::Number(wanted)) => number == wanted,
-        (Expression::Register(name), Shape::Register(wanted)) => name.bytes() == *wanted,
-        (Expression::Not(a), Shape::Not(x)) => is_shaped(a, x),
-        (Expression::Equal(a, b), Shape::Equal(x, y))
-        | (Expression::And(a, b), Shape::And(x, y))
-        | (Expression::Or(a, b), Shape::Or(x, y)) => is_shaped(a, x) && is_shaped(b, y),
+fn is_leaf(leaf: &Leaf, shape: &Shape) -> bool {
+    match (leaf, shape) {
+        (Leaf::Number(number), Shape::Number(wanted)) => number == wanted,
+        (Leaf::Register(name), Shape::Register(wanted)) => name.bytes() == *wanted,
+        _ => false,
+    }
+}
+
+/// Whether a leaf and the links behind it are that expression.
+fn is_shaped(first: &Leaf, links: &[Link], shape: &Shape) -> bool {
+    let Some((last, before)) = links.split_last() else {
+        return is_leaf(first, shape);
+    };
+    match (last, shape) {
+        (Link::Not, Shape::Not(x)) => is_shaped(first, before, x),
+        (Link::Join(Operator::Equal, operand), Shape::Equal(x, y))
+        | (Link::Join(Operator::Both, operand), Shape::And(x, y))
+        | (Link::Join(Operator::Either, operand), Shape::Or(x, y)) => {
+            is_shaped(first, before, x) && is_shaped(&operand.first, &operand.rest, y)
+        }
         _ => false,
     }
 }
@@ -95,7 +106,7 @@ const BOUND: Shape = Shape::Or(
 fn binds(_alloc: Global, test: &Test) -> Result<bool, AllocError> {
     match last(test) {
         Some(Statement::Assign(_, RightSide::Value(expression))) => {
-            Ok(is_shaped(expression, &BOUND))
+            Ok(is_shaped(&expression.first, &expression.rest, &BOUND))
         }
         _ => Ok(false),
     }

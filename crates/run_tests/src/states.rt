@@ -1,6 +1,6 @@
 //! Propositions at states, the places that conditions observe, and copies.
 
-use conditions::{Binding, Cond, Kind, Place, Prop, State, holds, observed, ok_of};
+use conditions::{Atom, Binding, Cond, Connective, Kind, Place, Prop, State, holds, observed, ok_of};
 use std::alloc::{AllocError, Global};
 use std::test::Fail;
 use wb_text::{Name, NameFault};
@@ -38,20 +38,29 @@ enum Formula {
 }
 
 #[cycle(building)]
-fn boxed(alloc: Global, formula: &Formula) -> Result<Box<Prop>, Fail> {
-    Ok(Box::new(alloc, prop(alloc, formula)?)?)
+fn joined(
+    alloc: Global,
+    left: &Formula,
+    connective: Connective,
+    right: &Formula,
+) -> Result<Prop, Fail> {
+    let left = prop(alloc, left)?;
+    Ok(left.joined(connective, prop(alloc, right)?)?)
 }
 
 #[cycle(building)]
 fn prop(alloc: Global, formula: &Formula) -> Result<Prop, Fail> {
     match formula {
-        Formula::True => Ok(Prop::True),
-        Formula::False => Ok(Prop::False),
-        Formula::Equals(spot, value) => Ok(Prop::Equals(place(alloc, spot)?, *value)),
-        Formula::Not(a) => Ok(Prop::Not(boxed(alloc, a)?)),
-        Formula::And(a, b) => Ok(Prop::And(boxed(alloc, a)?, boxed(alloc, b)?)),
-        Formula::Or(a, b) => Ok(Prop::Or(boxed(alloc, a)?, boxed(alloc, b)?)),
-        Formula::Implies(a, b) => Ok(Prop::Implies(boxed(alloc, a)?, boxed(alloc, b)?)),
+        Formula::True => Ok(Prop::atom(alloc, Atom::True)),
+        Formula::False => Ok(Prop::atom(alloc, Atom::False)),
+        Formula::Equals(spot, value) => {
+            let place = place(alloc, spot)?;
+            Ok(Prop::atom(alloc, Atom::Equals(place, *value)))
+        }
+        Formula::Not(a) => Ok(prop(alloc, a)?.denied()?),
+        Formula::And(a, b) => joined(alloc, a, Connective::And, b),
+        Formula::Or(a, b) => joined(alloc, a, Connective::Or, b),
+        Formula::Implies(a, b) => joined(alloc, a, Connective::Implies, b),
     }
 }
 
