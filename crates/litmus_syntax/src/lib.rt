@@ -3,6 +3,7 @@
 
 mod atomics;
 mod draft;
+pub mod laws;
 mod symbol;
 mod syntax;
 mod syntax_fault;
