@@ -10,12 +10,12 @@ use Rattle.litmus_test.proofs.values.+expressions.Goals as goal
 pub add_links-returns-in_err-add_link-clause-fault : goal.add_links-returns-in_err-add_link-clause-fault
 add_links-returns-in_err-add_link-clause-fault t c =
     let p = err_from_is_err_and c.from_residual.result c.from_residual.ensures.1 in
-    rw (p.1, p.2) (λ e. omega (arith, c.in_err-add_link.ensures.fault e, at_least_of growth_constants growth_of c.link-item.result c.args.links.now.items c.loop-link.link-index c.loop-link.values.items c.loop-link-test.true c.link-item.is, ap length c.loop-link.invariant.rest))
+    rw (p.1, p.2) (λ e. omega (arith, c.in_err-add_link.ensures.fault e, at_least_of growth_constants growth_of c.link-item.result c.args.links.now.items c.loop-link.link-index c.loop-link.values.items (rw c.deref-link-items.ensures.value at c.loop-link-test.true) (rw c.deref-link-items.ensures.value at c.link-item.is), ap length c.loop-link.invariant.rest))
 
 pub add_links-loop-link-preserved : goal.add_links-loop-link-preserved
 add_links-loop-link-preserved t c = record {
   rest = ap (λ vs. with_values vs (flat_map growth_constants (map growth_of (drop (c.loop-link.link-index + 1) c.args.links.now.items)))) c.in_ok-add_link.ensures.done ∙
-      sym (next_of growth_constants growth_of c.link-item.result c.args.links.now.items c.loop-link.link-index c.loop-link.values.items c.loop-link-test.true c.link-item.is) ∙ c.loop-link.invariant.rest;
+      sym (next_of growth_constants growth_of c.link-item.result c.args.links.now.items c.loop-link.link-index c.loop-link.values.items (rw c.deref-link-items.ensures.value at c.loop-link-test.true) (rw c.deref-link-items.ensures.value at c.link-item.is)) ∙ c.loop-link.invariant.rest;
   within = c.in_ok-add_link.ensures.within;
 }
 
