@@ -165,8 +165,8 @@ fn link_content(
         },
         Link::Join(operator, operand) => {
             let second = content_of(names, registers, operand);
-            let holds = holds(*operator, so_far.value, second.value);
-            decided(&so_far, &second, holds)
+            let is_true = holds(*operator, so_far.value, second.value);
+            decided(&so_far, &second, is_true)
         }
     }
 }
