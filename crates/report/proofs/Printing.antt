@@ -106,12 +106,6 @@ text_is l ss = text_along (atomic l) ss ∙ ap (λ r. fronts r ss ++ formula_tex
 pub text_parts : (l : Atom) (ss : List Growth) → formula_text (along (atomic l) ss) ≡ fronts Simple ss ++ (formula_text (atomic l) ++ backs Simple ss)
 text_parts l ss = text_is l ss ∙ append_assoc (fronts Simple ss) (formula_text (atomic l)) (backs Simple ss)
 
--- a connective and its right operand in three parts
-pub operand_parts : (c s o t k : List ℕ) → c ++ s ++ (o ++ t ++ k) ≡ (c ++ (s ++ (o ++ []))) ++ (t ++ k)
-operand_parts [] [] o t k = append_assoc o t k ∙ ap (λ l. l ++ (t ++ k)) (sym (append-nil o))
-operand_parts [] (x ∷ s) o t k = ap (λ l. x ∷ l) (operand_parts [] s o t k)
-operand_parts (x ∷ c) s o t k = ap (λ l. x ∷ l) (operand_parts c s o t k)
-
 -- the roots along the links
 
 take_whole : {X : Type 0} (n : ℕ) (xs : List X) → length xs ≤ n → take n xs ≡ xs

@@ -203,13 +203,21 @@ fn write_back<W: Sink>(link: &Link, root: Root, writer: &mut W) -> Result<(), Fa
 {
     match link {
         Link::Not => write_bytes(closing(root.is_simple()), writer),
-        Link::Join(connective, operand) => write_operand(*connective, operand, root, writer),
+        Link::Join(connective, operand) => write_joined(*connective, operand, root, writer),
     }
+}
+
+/// Writes what ends a connective's left operand with this root.
+fn write_closing<W: Sink>(connective: Connective, root: Root, writer: &mut W) -> Result<(), Failed>
+    ensures { Writes W.held W.has_failed writer.old writer.new result
+        (texts.closing (chains.is_bare_left connective root)) }
+{
+    write_bytes(closing(is_bare_left(connective, root)), writer)
 }
 
 /// Writes a connective and its right operand, behind a left operand with this root.
 #[cycle(propositions)]
-fn write_operand<W: Sink>(
+fn write_joined<W: Sink>(
     connective: Connective,
     operand: &Prop,
     root: Root,
@@ -218,9 +226,18 @@ fn write_operand<W: Sink>(
     ensures { Writes W.held W.has_failed writer.old writer.new result
         (chains.joined connective (formula_of operand.now) root) }
 {
-    let bare = is_bare_right(connective, root_of(operand));
-    let before = closing(is_bare_left(connective, root));
-    write_parts(&[before, sign(connective), opening(bare)], writer)?;
-    write_prop(operand, writer)?;
+    write_closing(connective, root, writer)?;
+    write_bytes(sign(connective), writer)?;
+    write_operand(operand, is_bare_right(connective, root_of(operand)), writer)
+}
+
+/// Writes a proposition, in parentheses unless it stands bare.
+#[cycle(propositions)]
+fn write_operand<W: Sink>(prop: &Prop, bare: bool, writer: &mut W) -> Result<(), Failed>
+    ensures { Writes W.held W.has_failed writer.old writer.new result
+        (texts.operand bare (texts.formula_text (formula_of prop.now))) }
+{
+    write_bytes(opening(bare), writer)?;
+    write_prop(prop, writer)?;
     write_bytes(closing(bare), writer)
 }
