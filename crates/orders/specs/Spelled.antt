@@ -55,6 +55,16 @@ IsOf head request = ⊥
 abbrev pub Begins : List ℕ → Order → Type 0
 Begins line order = (head : Head) × Spells line order.seat head × IsOf head order.request × (order.seat < 8) × IsSoundHead head
 
+-- a head that a text follows
+abbrev pub HasText : Head → Type 0
+HasText (Cat name) = Unit {0}
+HasText Test = Unit {0}
+HasText (Whole request) = ⊥
+
+-- The first line of an order with a text, of a seat that there is.
+abbrev pub OpensText : List ℕ → Type 0
+OpensText line = (seat : ℕ) × (head : Head) × Spells line seat head × (seat < 8) × IsSoundHead head × HasText head
+
 -- A line that nothing is done for: it is empty, or a remark.
 abbrev pub IsSkipped : List ℕ → Type 0
 IsSkipped line = (line ≡ []) ⊎ ((remark : List ℕ) × (line ≡ 35 ∷ remark))

@@ -3,7 +3,7 @@
 ghost use Rattle.std.specs.Prelude.{◌≡◌, [], ◌⊎◌, ◌↔◌, ◌<◌, ◌≤◌, ◌≢◌, ◌++◌, ◌-◌, ℕ, true, Err, IfOk, IfErr, IfSome, IfNone, OnOk, length, take, vec_len, codes};
 ghost use Rattle.orders.specs.Lines.{ahead, AreLines, IsNextLine, IsTooLong};
 ghost use Rattle.orders.specs.Scripts.{IsText, IsFollowed, IsNextOrder, IsSpent, IsBadLine, IsCutOff};
-ghost use Rattle.orders.specs.Spelled.{Begins, IsSkipped, IsBad};
+ghost use Rattle.orders.specs.Spelled.{Begins, OpensText, IsSkipped, IsBad};
 ghost use Rattle.std.specs.Io.KnownBytes.{IsAtEnd};
 ghost use Rattle.orders.specs.declared.fault.ServeFault.TheVariants as faults;
 
@@ -48,7 +48,7 @@ impl Script {
         ensures seat { IfOk result (λ next. IfSome next (λ order. order.seat < 8)) }
         // It is the next of what was ahead, or none is left.
         ensures next { IfOk result (λ next. IfSome next (IsNextOrder (ahead self.old.lines.block (R.left reader.old)) (ahead self.new.lines.block (R.left reader.new)))) }
-        ensures spent { IfOk result (λ next. IfNone next (IsSpent (ahead self.old.lines.block (R.left reader.old)) (ahead self.new.lines.block (R.left reader.new)))) }
+        ensures spent { IfOk result (λ next. IfNone next (IsSpent (ahead self.old.lines.block (R.left reader.old)) self.old.lines.count (ahead self.new.lines.block (R.left reader.new)))) }
         ensures end { IfOk result (λ next. IfNone next (IsAtEnd (R.left reader.new))) }
         ensures fault { IfErr result (λ e. e ≢ faults.Write) }
         // Each line that was read is counted once.
@@ -69,7 +69,7 @@ impl Script {
     /// The order that begins with the line.
     fn order<R: Source>(&mut self, reader: &mut R) -> Result<Order, ServeFault>
         ensures bad { (n : ℕ) → result ≡ Err (faults.BadLine n) → ((n ≡ self.old.lines.count) × IsBad self.old.lines.line.items)
-            ⊎ IsCutOff (ahead self.old.lines.block (R.left reader.old)) self.old.lines.count n }
+            ⊎ (OpensText self.old.lines.line.items × IsCutOff (ahead self.old.lines.block (R.left reader.old)) self.old.lines.count n) }
         ensures seat { IfOk result (λ order. order.seat < 8) }
         ensures begins { IfOk result (Begins self.old.lines.line.items) }
         ensures followed { IfOk result (λ order. IsFollowed (ahead self.old.lines.block (R.left reader.old)) (ahead self.new.lines.block (R.left reader.new)) order.request) }

@@ -1,7 +1,9 @@
 -- The orders of a script, and what answers them.
-use Rattle.std.specs.Prelude.{◌≡◌}
-use Rattle.journal.specs.Lines.{Line}
-use Rattle.journal.specs.declared.records.Returned.{Returned}
+use Rattle.std.specs.Prelude.{◌≡◌, ℕ, List}
+use Rattle.std.specs.List.{Contains}
+use Rattle.slices.specs.Parts.{Portion}
+use Rattle.journal.specs.Lines.{Line, shown}
+use Rattle.journal.specs.declared.records.Reply.TheVariants.{Piece}
 use Rattle.journal.specs.declared.records.Said.{Said}
 use Rattle.journal.specs.declared.records.Said.TheVariants as said_of
 use Rattle.scripts.specs.declared.answer.Answer.{Answer}
@@ -10,20 +12,25 @@ use Rattle.orders.specs.declared.order.Order.{Order}
 use Rattle.orders.specs.declared.order.Request.{Request}
 use Rattle.orders.specs.declared.order.Request.TheVariants.{PutCat, PutTest, Ask, Poll, Claim, Return}
 
--- The command that a request makes. Which result is returned of a piece is left open.
-abbrev pub Asks : Request → Said → Type 0
-Asks (PutCat name text) said = said ≡ said_of.PutCat name text
-Asks (PutTest text) said = said ≡ said_of.PutTest text
-Asks (Ask test cat) said = said ≡ said_of.Ask test cat
-Asks (Poll job) said = said ≡ said_of.Poll job
-Asks Claim said = said ≡ said_of.Claim
-Asks (Return claim) said = (r : Returned) × (said ≡ said_of.Return r) × (r.claim ≡ claim)
+-- One of the entries gives this piece, under this claim.
+abbrev pub IsGiven : ℕ → Portion → List Line → Type 0
+IsGiven claim piece entries = (piece.claim ≡ claim) × ((line : Line) × Contains entries line × (line.reply ≡ Piece piece))
+
+-- The command that a request makes behind these entries. A result that is returned is of a piece that one of them gave
+-- under the claim: of its slice, its range and its work.
+abbrev pub Asks : List Line → Request → Said → Type 0
+Asks entries (PutCat name text) said = said ≡ said_of.PutCat name text
+Asks entries (PutTest text) said = said ≡ said_of.PutTest text
+Asks entries (Ask test cat) said = said ≡ said_of.Ask test cat
+Asks entries (Poll job) said = said ≡ said_of.Poll job
+Asks entries Claim said = said ≡ said_of.Claim
+Asks entries (Return claim) said = (piece : Portion) × IsGiven claim piece entries × (said ≡ said_of.Return (shown piece))
 
 -- the entry, if there is one, has P
 abbrev pub IfMade : Answer → (Line → Type 0) → Type 0
 IfMade (Made line) P = P line
 IfMade (NotTaken why) P = Unit {0}
 
--- An order is answered by an entry of its seat and its command, or by none.
-abbrev pub Answers : Order → Answer → Type 0
-Answers order answer = IfMade answer (λ line. (line.seat ≡ order.seat) × Asks order.request line.said)
+-- An order is answered, behind these entries, by an entry of its seat and its command, or by none.
+abbrev pub Answers : List Line → Order → Answer → Type 0
+Answers entries order answer = IfMade answer (λ line. (line.seat ≡ order.seat) × Asks entries order.request line.said)

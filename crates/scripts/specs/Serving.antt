@@ -39,7 +39,6 @@ entry_of (NotTaken why) = []
 pub record Call : Type 0 where
   pub order : Order
   pub answer : Answer
-  pub fits : Answers order answer
 
 -- the entries that calls made
 abbrev pub entries_of : List Call → List Line
@@ -51,10 +50,11 @@ SaysRoom most entries (Made line) = entries < most
 SaysRoom most entries (NotTaken JournalFull) = most ≤ entries
 SaysRoom most entries (NotTaken NoMemory) = entries < most
 
--- the same of calls, one after another, of a journal that was empty
-pub data AllSayRoom (most : ℕ) : List Call → Type 0 where
-  no_call : AllSayRoom most []
-  next_call : {calls : List Call} (call : Call) → AllSayRoom most calls → SaysRoom most (length (entries_of calls)) call.answer → AllSayRoom most (calls ++ call ∷ [])
+-- Calls, one after another, of a journal that was empty: each is answered behind the entries that those before it made.
+pub data AreAnswered (most : ℕ) : List Call → Type 0 where
+  no_call : AreAnswered most []
+  next_call : {calls : List Call} (call : Call) → AreAnswered most calls → Answers (entries_of calls) call.order call.answer
+      → SaysRoom most (length (entries_of calls)) call.answer → AreAnswered most (calls ++ call ∷ [])
 
 -- what is written of calls, one after another
 abbrev pub calls_text : List Call → List ℕ
@@ -86,21 +86,6 @@ Tells old new (Err faults.NoMemory) text = Appends old new text
 abbrev pub EndsWith : {A : Type 0} → ℕ → Option (List ℕ) → Option (List ℕ) → Result A ServeFault → Result A ServeFault → Type 0
 EndsWith entries held new outcome result = (old : Option (List ℕ)) → (text : List ℕ) → Tells old held outcome text → (closing : List ℕ) × Closes entries result closing × Tells old new result (text ++ closing)
 
--- The calls ask what a script orders, one after another, and all that it orders where it is done to its end.
-pub record IsRead {A : Type 0} (script : Option (List ℕ)) (result : Result A ServeFault) (calls : List Call) : Type 0 where
-  pub end : Option (List ℕ)
-  pub orders : AreOrders script end (map (λ c. c.order) calls)
-  pub spent : OnOk result ((rest : Option (List ℕ)) × IsSpent end rest)
-
--- The line of number n is bad, behind orders that were read.
-pub record IsBadAt (script : Option (List ℕ)) (m n : ℕ) : Type 0 where
-  pub end : Option (List ℕ)
-  pub count : ℕ
-  pub orders : List Order
-  pub read : AreOrders script end orders
-  pub lines : AreLines script m end count
-  pub bad : IsBadLine end count n
-
 -- The entry gives the piece of this claim.
 abbrev pub GivesPiece : ℕ → Line → Type 0
 GivesPiece claim line = (piece : Portion) × (line.reply ≡ Piece piece) × (piece.claim ≡ claim)
@@ -109,32 +94,40 @@ GivesPiece claim line = (piece : Portion) × (line.reply ≡ Piece piece) × (pi
 abbrev pub GivesNone : ℕ → List Line → Type 0
 GivesNone claim entries = All (λ line. ¬ GivesPiece claim line) entries
 
--- The line of number n is the last of an order to return a piece, and none of these entries gave it.
+-- The line of number n is the last of the next order, which is to return a piece that none of these entries gave.
+-- Before it the count of lines stood at m.
 pub record IsReturnAt (script : Option (List ℕ)) (m n : ℕ) (entries : List Line) : Type 0 where
-  pub mid : Option (List ℕ)
   pub after : Option (List ℕ)
-  pub count : ℕ
-  pub orders : List Order
   pub order : Order
   pub claim : ℕ
-  pub read : AreOrders script mid orders
-  pub lines : AreLines script m mid count
-  pub next : IsNextOrder mid after order
-  pub more : AreLines mid count after n
+  pub next : IsNextOrder script after order
+  pub lines : AreLines script m after n
   pub returns : order.request ≡ Return claim
   pub none : GivesNone claim entries
 
--- A line is told as bad only where it is, or asks for a piece that none of the calls gave.
-abbrev pub TellsBadLine : {A : Type 0} → Option (List ℕ) → ℕ → Result A ServeFault → List Call → Type 0
-TellsBadLine script m result calls = (n : ℕ) → result ≡ Err (faults.BadLine n) → IsBadAt script m n ⊎ IsReturnAt script m n (entries_of calls)
+-- What stands behind the orders that were read, of which these entries came: no order at the end of the script, or the
+-- line that is told as bad.
+abbrev pub StopsAt : {A : Type 0} → Option (List ℕ) → ℕ → Result A ServeFault → List Line → Type 0
+StopsAt script m (Ok done) entries = (rest : Option (List ℕ)) × IsSpent script m rest
+StopsAt script m (Err (faults.BadLine n)) entries = IsBadLine script m n ⊎ IsReturnAt script m n entries
+StopsAt script m (Err faults.Read) entries = Unit {0}
+StopsAt script m (Err faults.Write) entries = Unit {0}
+StopsAt script m (Err faults.NoMemory) entries = Unit {0}
+
+-- The calls ask what a script orders, one after another, up to where it stops. Before it the count of lines stood at m.
+pub record IsRead {A : Type 0} (script : Option (List ℕ)) (m : ℕ) (result : Result A ServeFault) (calls : List Call) : Type 0 where
+  pub end : Option (List ℕ)
+  pub count : ℕ
+  pub orders : AreOrders script end (map (λ c. c.order) calls)
+  pub lines : AreLines script m end count
+  pub stops : StopsAt end count result (entries_of calls)
 
 -- A script's calls made the journal of a book with these limits, and this was written of them.
 pub record IsServed {A : Type 0} (limits : Limits) (script old new : Option (List ℕ)) (result : Result A ServeFault) : Type 0 where
   pub calls : List Call
-  pub read : IsRead script result calls
+  pub read : IsRead script 0 result calls
   pub legal : Legal limits (entries_of calls)
-  pub room : AllSayRoom limits.journal calls
-  pub line : TellsBadLine script 0 result calls
+  pub answered : AreAnswered limits.journal calls
   pub closing : List ℕ
   pub closes : Closes (length (entries_of calls)) result closing
   pub told : Tells old new result (calls_text calls ++ closing)

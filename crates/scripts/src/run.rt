@@ -1,7 +1,7 @@
 //! From a script to the replies of a book.
 
 ghost use Rattle.std.specs.Prelude.{◌≡◌, ◌⊎◌, [], List, true, Ok, Err, OnOk, IfErr};
-ghost use Rattle.scripts.specs.Serving.{Call, EndsWith, IsRead, IsServed, AllSayRoom, Tells, TellsBadLine, entries_of, calls_text};
+ghost use Rattle.scripts.specs.Serving.{Call, EndsWith, IsRead, IsServed, AreAnswered, Tells, entries_of, calls_text};
 ghost use Rattle.orders.specs.Lines.{ahead, IsTooLong};
 ghost use Rattle.std.specs.Io.KnownBytes.{IsAtEnd};
 
@@ -20,8 +20,8 @@ pub fn serve<R: Source, W: Sink>(
     options: &Options,
 ) -> Result<(), ServeFault>
     // The calls are those of the script, in their order. What is written is what answered them, and then the length of the
-    // legal journal that they made, or that a line is bad: by its number one that is, or that asks to return a piece which no
-    // call before it gave. A call makes no entry where the journal is full, and says so.
+    // legal journal that they made, or that the line behind them is bad: by its number one that is, or that asks to return a
+    // piece which no call before it gave. A call makes no entry where the journal is full, and says so.
     ensures served { IsServed options.now.limits (R.left reader.old) (W.held writer.old) (W.held writer.new) result }
     ensures end { OnOk result (IsAtEnd (R.left reader.new)) }
     // Reading fails where the reader does, or where a script has too many lines.
@@ -70,9 +70,8 @@ fn answer_all<R: Source, W: Sink>(
     ensures told { (calls : List Call)
         × (sessions.new.book.journal ≡ entries_of calls)
         × Tells (W.held writer.old) (W.held writer.new) result (calls_text calls)
-        × IsRead (ahead script.old.lines.block (R.left reader.old)) result calls
-        × AllSayRoom sessions.old.book.limits.journal calls
-        × TellsBadLine (ahead script.old.lines.block (R.left reader.old)) script.old.lines.count result calls }
+        × IsRead (ahead script.old.lines.block (R.left reader.old)) script.old.lines.count result calls
+        × AreAnswered sessions.old.book.limits.journal calls }
     ensures end { OnOk result (IsAtEnd (R.left reader.new)) }
     ensures read { result ≡ Err ServeFault.Read → (R.has_failed reader.new ≡ true)
         ⊎ IsTooLong (ahead script.old.lines.block (R.left reader.old)) script.old.lines.count }

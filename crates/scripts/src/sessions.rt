@@ -4,7 +4,7 @@ ghost use Rattle.std.specs.Prelude.{◌≡◌, ◌<◌, ◌+◌, ◌≤◌, ◌+
 ghost use Rattle.journal.specs.Lines.{seen};
 ghost use Rattle.book.specs.Step.{Legal};
 ghost use Rattle.journal.specs.declared.records.Said.{Said};
-ghost use Rattle.scripts.specs.Orders.{Asks, Answers, IfMade};
+ghost use Rattle.scripts.specs.Orders.{Asks, Answers, IfMade, IsGiven};
 ghost use Rattle.scripts.specs.Serving.{entry_of, GivesNone, GivesPiece, SaysRoom};
 
 use crate::answer::{Answer, EntryRef};
@@ -48,7 +48,7 @@ impl Sessions {
     pub fn call(&mut self, order: Order) -> Result<Answer, NoPiece>
         requires { order.seat < 8 }
         ensures journal { IfOk result (λ a. self.new.book.journal ≡ self.old.book.journal ++ entry_of a) }
-        ensures answer { IfOk result (Answers order) }
+        ensures answer { IfOk result (Answers self.old.book.journal order) }
         ensures room { IfOk result (SaysRoom self.old.book.limits.journal (length self.old.book.journal)) }
         ensures limits { self.new.book.limits ≡ self.old.book.limits }
         ensures same { OnErr result (self.new.book ≡ self.old.book) }
@@ -91,7 +91,7 @@ impl Sessions {
     fn return_piece(&mut self, seat: u8, claim: u32) -> Result<Answer, NoPiece>
         requires { seat < 8 }
         ensures journal { IfOk result (λ a. self.new.book.journal ≡ self.old.book.journal ++ entry_of a) }
-        ensures made { IfOk result (λ a. IfMade a (λ e. (e.seat ≡ seat) × Asks (Request.Return claim) e.said)) }
+        ensures made { IfOk result (λ a. IfMade a (λ e. (e.seat ≡ seat) × Asks self.old.book.journal (Request.Return claim) e.said)) }
         ensures room { IfOk result (SaysRoom self.old.book.limits.journal (length self.old.book.journal)) }
         ensures limits { self.new.book.limits ≡ self.old.book.limits }
         ensures same { OnErr result (self.new.book ≡ self.old.book) }
@@ -111,7 +111,7 @@ impl Sessions {
 
     /// The piece that a claim gave. It is looked for from the last entry back, since most pieces are returned soon.
     fn piece(&self, claim: u32) -> Option<&Piece>
-        ensures { MatchOption result (GivesNone claim self.now.book.journal) (λ p. p.now.claim ≡ claim) }
+        ensures { MatchOption result (GivesNone claim self.now.book.journal) (λ p. IsGiven claim p.now self.now.book.journal) }
     {
         let mut entries = self.book.journal();
         while let Some((last, before)) = entries.split_last() {
@@ -126,7 +126,7 @@ impl Sessions {
 
 /// The piece that an entry gives, if it is this claim's.
 fn piece_of(entry: &Entry, claim: u32) -> Option<&Piece>
-    ensures { MatchOption result (¬ GivesPiece claim entry.now) (λ p. p.now.claim ≡ claim) }
+    ensures { MatchOption result (¬ GivesPiece claim entry.now) (λ p. (p.now.claim ≡ claim) × (entry.now.reply ≡ Reply.Piece p.now)) }
 {
     match entry.reply() {
         Reply::Piece(piece) if piece.claim() == claim => Some(piece),

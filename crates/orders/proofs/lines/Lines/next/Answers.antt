@@ -29,5 +29,6 @@ returns-then-branch-2-clause-next g c _ =
     let raw = c.read_line.new.self.line.items in
     let line = c.trim.new.self.line.items in
     let gathered = subst (λ old. Grows filled (ahead c.read_line.new.self.block left) old raw (codes "\n")) c.clear.ensures.items (c.read_line.ensures.fed (c.in_ok-read_line.was ∙ ap Ok c.if-branch-2.true)) in
-    let next = fed_line before filled (ahead c.read_line.new.self.block left) raw line c.is_at_end.ensures.kept gathered c.trim.ensures.trimmed in
+    let short : length raw ≤ 65536 = subst (λ r. OnOk r (length c.clear.new.self.items ≤ 65536 → length raw ≤ 65536)) c.in_ok-read_line.was c.read_line.ensures.short tt in
+    let next = fed_line before filled (ahead c.read_line.new.self.block left) raw line c.is_at_end.ensures.kept short gathered c.trim.ensures.trimmed in
     subst (λ block. IsNextLine before (ahead block left) line) (sym c.trim.ensures.block) next
