@@ -84,12 +84,12 @@ test_only text w (Err e) t d same made cause =
 
 pub text_cause : (text : List ℕ) (f : TextFault) → HasCause dialects.Litmus text f → IsUnwritten text (text_refusal f)
 text_cause text text_faults.NoMemory h = tt
-text_cause text text_faults.NotAscii h = h
-text_cause text text_faults.BadByte h = h
-text_cause text text_faults.OpenComment h = h
-text_cause text text_faults.OpenString h = h
-text_cause text text_faults.NumberTooBig h = h
-text_cause text text_faults.TooLong h = h
+text_cause text text_faults.NotAscii h = (λ e. cc, h)
+text_cause text text_faults.BadByte h = (λ e. cc, h)
+text_cause text text_faults.OpenComment h = (λ e. cc, h)
+text_cause text text_faults.OpenString h = (λ e. cc, h)
+text_cause text text_faults.NumberTooBig h = (λ e. cc, h)
+text_cause text text_faults.TooLong h = (λ e. cc, h)
 
 module _ (text : List ℕ) (ts : List Token) (symbols : List Symbol) (list : IsTokenList dialects.Litmus text ts) (is : symbols ≡ symbols_of text ts)
     (unique : (us : List Token) → IsTokenList dialects.Litmus text us → ts ≡ us) where
