@@ -1,4 +1,5 @@
 pub mod Fair
+pub mod FirstRefusal
 pub mod Found
 pub mod Kept
 pub mod Names

@@ -30,7 +30,8 @@ returns-then-branch-2-clause-next g c _ =
     let raw = c.read_line.new.self.line.items in
     let line = c.trim.new.self.line.items in
     let gathered = subst (λ old. Grows filled (ahead c.read_line.new.self.block left) old raw (codes "\n")) c.clear.ensures.items (c.read_line.ensures.fed (c.in_ok-read_line.was ∙ ap Ok c.if-branch-2.true)) in
-    let short : length raw ≤ 65536 = subst (λ r. OnOk r (length c.clear.new.self.items ≤ 65536 → length raw ≤ 65536)) c.in_ok-read_line.was c.read_line.ensures.short tt in
+    let none : length c.clear.new.self.items ≤ 65536 = omega (arith, ap length c.clear.ensures.items) in
+    let short : length raw ≤ 65536 = subst (λ r. OnOk r (length c.clear.new.self.items ≤ 65536 → length raw ≤ 65536)) c.in_ok-read_line.was c.read_line.ensures.short none in
     let next = fed_line before filled (ahead c.read_line.new.self.block left) raw line c.is_at_end.ensures.kept short gathered c.trim.ensures.trimmed in
     subst (λ block. IsNextLine before (ahead block left) line) (sym c.trim.ensures.block) next
 
@@ -42,6 +43,7 @@ returns-else-branch-2-clause-next g c _ =
     let raw = c.read_line.new.self.line.items in
     let some = c.is_at_end.ensures.more (c.in_ok-is_at_end.was ∙ ap Ok c.if-branch.false) in
     let more = more_ahead c.args.self.now.block c.is_at_end.new.self.block (g.R.Source.left c.args.reader.now) (g.R.Source.left c.is_at_end.new.reader) some c.is_at_end.ensures.kept in
-    let short : length raw ≤ 65536 = subst (λ r. OnOk r (length c.clear.new.self.items ≤ 65536 → length raw ≤ 65536)) c.in_ok-read_line.was c.read_line.ensures.short tt in
+    let none : length c.clear.new.self.items ≤ 65536 = omega (arith, ap length c.clear.ensures.items) in
+    let short : length raw ≤ 65536 = subst (λ r. OnOk r (length c.clear.new.self.items ≤ 65536 → length raw ≤ 65536)) c.in_ok-read_line.was c.read_line.ensures.short none in
     let ended = c.read_line.ensures.last (c.in_ok-read_line.was ∙ ap Ok c.if-branch-2.false) in
     last_line before filled after raw more c.is_at_end.ensures.kept short (subst (λ old. Grows filled after old raw []) c.clear.ensures.items ended.0) ended.1
