@@ -5,6 +5,8 @@
 #[cfg(test)]
 mod executions;
 #[cfg(test)]
+mod failing;
+#[cfg(test)]
 mod growth;
 #[cfg(test)]
 mod sets;
