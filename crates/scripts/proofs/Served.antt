@@ -118,7 +118,7 @@ from_start {block} left r calls empty none h =
     subst (λ script. IsRead script 0 r calls) (ap (λ b. ahead b left) empty ∙ prepend_known-nil left) (subst (λ m. IsRead (ahead block left) m r calls) none h)
 
 -- a result that tells no line
-pub no_bad_line : {A P : Type 0} (r : Result A ServeFault) → IsErrAnd r (λ e. e ≡ faults.Write) → (n : ℕ) → r ≡ Err (faults.BadLine n) → P
+pub no_bad_line : {A : Type 0} {P : ℕ → Type 0} (r : Result A ServeFault) → IsErrAnd r (λ e. e ≡ faults.Write) → (n : ℕ) → r ≡ Err (faults.BadLine n) → P n
 no_bad_line (Ok done) is n e = absurd is
 no_bad_line (Err fault) is n e = cc
 

@@ -1,6 +1,5 @@
 use Rattle.std.proofs.Common.{[], rules, subst, sym, ◌∙◌, append-nil}
-use Rattle.std.specs.Prelude.{MatchOption}
-use Rattle.scripts.specs.Serving.{GivesNone, GivesPiece}
+use Rattle.scripts.specs.Serving.{GivesNone}
 use Rattle.scripts.proofs.Served.{none_of_all, none_of_none, shorter, given}
 use Rattle.scripts.proofs.sessions.Sessions.piece.Goals as goal
 
@@ -17,8 +16,9 @@ loop-last-preserved c = (
   shorter _ c.loop-last.entries.now c.in-Some.before.now c.in-Some.last.now (search rules) c.loop-last.invariant.1,
 )
 
-pub returns-in-Some-2 : goal.returns-in-Some-2
-returns-in-Some-2 c = search rules
+pub returns-in-Some-piece_of : goal.returns-in-Some-piece_of
+returns-in-Some-piece_of c =
+    given c.args.claim c.in-Some-piece_of.piece.now _ c.loop-last.entries.now c.in-Some.before.now c.in-Some.last.now (search rules) c.loop-last.invariant.1 (search rules) (search rules)
 
 pub returns : goal.returns
 returns c = c.loop-last.invariant.0 (none_of_none c.args.claim c.loop-last.entries.now c.in_default.ensures.cases)
