@@ -106,6 +106,15 @@ stopped {end} {count} P (Err faults.Read) calls is orders lines bad = record { e
 stopped {end} {count} P (Err faults.Write) calls is orders lines bad = record { end = end; count = count; orders = orders; lines = lines; stops = tt }
 stopped {end} {count} P (Err faults.NoMemory) calls is orders lines bad = record { end = end; count = count; orders = orders; lines = lines; stops = tt }
 
+-- the same where the writer failed
+pub stopped_at_write : {A : Type 0} {script end : Option (List ℕ)} {m count : ℕ} (r : Result A ServeFault) (calls : List Call) → IsErrAnd r (λ e. e ≡ faults.Write)
+    → AreOrders script end (map (λ c. c.order) calls) → AreLines script m end count → IsRead script m r calls
+stopped_at_write (Ok done) calls is orders lines = absurd is
+stopped_at_write (Err (faults.BadLine n)) calls is orders lines = cc
+stopped_at_write {end} {count} (Err faults.Read) calls is orders lines = record { end = end; count = count; orders = orders; lines = lines; stops = tt }
+stopped_at_write {end} {count} (Err faults.Write) calls is orders lines = record { end = end; count = count; orders = orders; lines = lines; stops = tt }
+stopped_at_write {end} {count} (Err faults.NoMemory) calls is orders lines = record { end = end; count = count; orders = orders; lines = lines; stops = tt }
+
 -- a script that is done to its end
 pub done_to_its_end : {A : Type 0} {script end rest : Option (List ℕ)} {m count : ℕ} (done : A) (calls : List Call)
     → AreOrders script end (map (λ c. c.order) calls) → AreLines script m end count → IsSpent end count rest → IsRead {A = A} script m (Ok done) calls
@@ -116,11 +125,6 @@ pub from_start : {A : Type 0} {block : List ℕ} {count : ℕ} (left : Option (L
     → IsRead (ahead block left) count r calls → IsRead left 0 r calls
 from_start {block} left r calls empty none h =
     subst (λ script. IsRead script 0 r calls) (ap (λ b. ahead b left) empty ∙ prepend_known-nil left) (subst (λ m. IsRead (ahead block left) m r calls) none h)
-
--- a result that tells no line
-pub no_bad_line : {A : Type 0} {P : ℕ → Type 0} (r : Result A ServeFault) → IsErrAnd r (λ e. e ≡ faults.Write) → (n : ℕ) → r ≡ Err (faults.BadLine n) → P n
-no_bad_line (Ok done) is n e = absurd is
-no_bad_line (Err fault) is n e = cc
 
 pub too_long_from_start : {P : Type 0} {block : List ℕ} {count : ℕ} (left : Option (List ℕ)) → block ≡ [] → count ≡ 0 → P ⊎ IsTooLong (ahead block left) count → P ⊎ IsTooLong left 0
 too_long_from_start {P} {block} left empty none h =

@@ -6,7 +6,7 @@ use Rattle.orders.specs.Scripts.{IsNextOrder, no_order}
 use Rattle.orders.specs.declared.fault.ServeFault.TheVariants as faults
 use Rattle.scripts.specs.Serving.{Call, GivesNone, no_call}
 use Rattle.orders.proofs.Counted.{joined, longer_still, same_number, told_on}
-use Rattle.scripts.proofs.Served.{grown, answered, written, written_partly, tells_part, tells_whole, ordered, stopped, done_to_its_end, no_bad_line}
+use Rattle.scripts.proofs.Served.{grown, answered, written, written_partly, tells_part, tells_whole, ordered, stopped, stopped_at_write}
 use Rattle.scripts.proofs.run.answer_all.Goals as goal
 
 pub returns-in_err-give_answer-in-Ok-clause-told : goal.returns-in_err-give_answer-in-Ok-clause-told
@@ -23,9 +23,8 @@ returns-in_err-give_answer-in-Ok-clause-told g c =
       grown _ _ done.0 call done.1 c.in-Ok.ensures.journal,
       tells_part _ _ c.from_residual-in_err-give_answer-in-Ok.result _ c.from_residual-in_err-give_answer-in-Ok.ensures.1
           (written_partly _ _ _ done.0 call done.2 c.in_err-give_answer-in-Ok.ensures.0),
-      stopped _ c.from_residual-in_err-give_answer-in-Ok.result (done.0 ++ call ∷ []) c.from_residual-in_err-give_answer-in-Ok.ensures.1
-          (ordered _ before after done.0 call done.3 next) (joined _ before _ _ after _ c.loop-order.invariant.2 lines)
-          (no_bad_line c.from_residual-in_err-give_answer-in-Ok.result c.from_residual-in_err-give_answer-in-Ok.ensures.1),
+      stopped_at_write c.from_residual-in_err-give_answer-in-Ok.result (done.0 ++ call ∷ []) c.from_residual-in_err-give_answer-in-Ok.ensures.1
+          (ordered _ before after done.0 call done.3 next) (joined _ before _ _ after _ c.loop-order.invariant.2 lines),
       answered _ _ _ done.0 call c.loop-order.invariant.1 done.1 done.4 c.in-Ok.ensures.answer c.in-Ok.ensures.room,
     )
 
