@@ -1,5 +1,4 @@
 pub mod Fair
-pub mod FirstRefusal
 pub mod Found
 pub mod Kept
 pub mod Names

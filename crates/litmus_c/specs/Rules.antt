@@ -210,40 +210,27 @@ pub record KeepsRules (es : List Binding) (t : Litmus) : Type 0 where
   pub values : length (values_of t) ≤ 16
   pub events : events_of t ≤ 64
 
--- it has few threads and few locations
-pub record IsSmall (t : Litmus) : Type 0 where
-  pub threads : length t.threads ≤ 8
-  pub locations : length t.locations ≤ 8
-
--- and its names are there, and each access is to a location of its kind
-pub record IsNamed (es : List Binding) (t : Litmus) : Type 0 where
-  pub small : IsSmall t
-  pub names : names_are_there es t ≡ true
-  pub plain : list_all (program_keeps PlainAccess) t.threads ≡ true
-  pub atomic : list_all (program_keeps AtomicAccess) t.threads ≡ true
-
--- What a refusal says of the test: which rule or limit it breaks, and that it keeps those that are tried before.
+-- What a refusal says of the test.
 abbrev pub Explains : List Binding → Litmus → TestFault → Type 0
 Explains es t NoMemory = Unit {0}
 Explains es t TooManyThreads = 8 < length t.threads
-Explains es t TooManyLocations = (length t.threads ≤ 8) × (8 < length t.locations)
-Explains es t UnknownName = IsSmall t × (names_are_there es t ≡ false)
-Explains es t PlainOnAtomic = IsSmall t × (names_are_there es t ≡ true) × (list_all (program_keeps PlainAccess) t.threads ≡ false)
-Explains es t AtomicOnPlain =
-    IsSmall t × (names_are_there es t ≡ true) × (list_all (program_keeps PlainAccess) t.threads ≡ true) × (list_all (program_keeps AtomicAccess) t.threads ≡ false)
-Explains es t TooManyValues = IsNamed es t × (16 < length (values_of t))
-Explains es t TooManyEvents = IsNamed es t × (length (values_of t) ≤ 16) × (64 < events_of t)
+Explains es t TooManyLocations = 8 < length t.locations
+Explains es t UnknownName = names_are_there es t ≡ false
+Explains es t PlainOnAtomic = list_all (program_keeps PlainAccess) t.threads ≡ false
+Explains es t AtomicOnPlain = list_all (program_keeps AtomicAccess) t.threads ≡ false
+Explains es t TooManyValues = 16 < length (values_of t)
+Explains es t TooManyEvents = 64 < events_of t
 Explains es t (Text f) = ⊥
 Explains es t (Syntax n) = ⊥
 Explains es t BadOrder = ⊥
 Explains es t (Unsupported w) = ⊥
 Explains es t TooDeep = ⊥
 
--- A name that isn't there; else a plain, else an atomic access that its location doesn't take.
+-- A name that isn't there, or a plain or an atomic access that its location doesn't take.
 abbrev pub ExplainsNames : List Binding → List Program → List Word → List Place → Formula → TestFault → Type 0
 ExplainsNames es ps xs qs a UnknownName = names_hold es ps xs qs a ≡ false
-ExplainsNames es ps xs qs a PlainOnAtomic = (names_hold es ps xs qs a ≡ true) × (list_all (program_keeps PlainAccess) ps ≡ false)
-ExplainsNames es ps xs qs a AtomicOnPlain = (names_hold es ps xs qs a ≡ true) × (list_all (program_keeps PlainAccess) ps ≡ true) × (list_all (program_keeps AtomicAccess) ps ≡ false)
+ExplainsNames es ps xs qs a PlainOnAtomic = list_all (program_keeps PlainAccess) ps ≡ false
+ExplainsNames es ps xs qs a AtomicOnPlain = list_all (program_keeps AtomicAccess) ps ≡ false
 ExplainsNames es ps xs qs a e = ⊥
 
 -- More than 8 locations, or no memory.
