@@ -6,7 +6,7 @@ use Rattle.std.specs.List.{flat_map}
 use native.Mathlib.Omega.{arith}
 use Rattle.std.proofs.KnownBytes.{Appends-trans, Appends-nil, prepend_known-nil}
 use Rattle.orders.specs.Lines.{ahead, AreLines, IsTooLong, nothing_read}
-use Rattle.orders.specs.Scripts.{AreOrders, IsNextOrder, IsSpent, IsBadLine, no_order, next_order}
+use Rattle.orders.specs.Scripts.{AreOrders, IsNextOrder, IsBadLine, no_order, next_order}
 use Rattle.std.proofs.lemmas.Grind.{flat_map-append}
 use Rattle.std.proofs.lemmas.List.{map-append}
 use Rattle.std.specs.List.{Contains}
@@ -114,11 +114,6 @@ stopped_at_write (Err (faults.BadLine n)) calls is orders lines = cc
 stopped_at_write {end} {count} (Err faults.Read) calls is orders lines = record { end = end; count = count; orders = orders; lines = lines; stops = tt }
 stopped_at_write {end} {count} (Err faults.Write) calls is orders lines = record { end = end; count = count; orders = orders; lines = lines; stops = tt }
 stopped_at_write {end} {count} (Err faults.NoMemory) calls is orders lines = record { end = end; count = count; orders = orders; lines = lines; stops = tt }
-
--- a script that is done to its end
-pub done_to_its_end : {A : Type 0} {script end rest : Option (List ℕ)} {m count : ℕ} (done : A) (calls : List Call)
-    → AreOrders script end (map (λ c. c.order) calls) → AreLines script m end count → IsSpent end count rest → IsRead {A = A} script m (Ok done) calls
-done_to_its_end {end} {rest} {count} done calls orders lines spent = record { end = end; count = count; orders = orders; lines = lines; stops = (rest, spent) }
 
 -- the same of a script of which nothing is taken yet
 pub from_start : {A : Type 0} {block : List ℕ} {count : ℕ} (left : Option (List ℕ)) (r : Result A ServeFault) (calls : List Call) → block ≡ [] → count ≡ 0
