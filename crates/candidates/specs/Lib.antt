@@ -3,3 +3,4 @@ pub mod Candidates
 pub mod Executions
 pub mod Faults
 pub mod Marks
+pub mod Walks

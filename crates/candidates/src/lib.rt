@@ -8,6 +8,8 @@ mod fault;
 pub mod laws;
 mod mark;
 mod space;
+mod walk;
 
 pub use fault::SpaceFault;
 pub use space::Space;
+pub use walk::Walk;

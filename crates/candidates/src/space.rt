@@ -3,7 +3,7 @@
 ghost use Rattle.std.specs.Prelude.{◌≡◌, ◌<◌, ◌≤◌, ◌^◌, ℕ, List, length, map, IfOk, MatchResult, IfErr};
 ghost use Rattle.candidates.specs.Executions.{initial_values};
 ghost use Rattle.candidates.specs.Executions.{IsSize, upto};
-ghost use Rattle.candidates.specs.Candidates.{choice, count_choices, choices_of, size_of, graph_at};
+ghost use Rattle.candidates.specs.Candidates.{choice, count_choices, choices_of, size_of, graph_at, no_execution};
 ghost use Rattle.c11_threads.specs.Unrolled.{runs_of};
 ghost use Rattle.candidates.specs.Faults.{HaveFewRuns, IsSpaceFault};
 ghost use Rattle.candidates.specs.Bounds.{AreWithin};
@@ -15,6 +15,7 @@ use crate::assembly::assemble;
 use crate::choosing::{RunList, choice, count_choices, locate, total};
 use crate::fault::{MOST_CANDIDATES, SpaceFault};
 use crate::mark::Mark;
+use crate::walk::Walk;
 use c11_threads::{initial_value, runs};
 use conditions::Place;
 use events::Graph;
@@ -144,5 +145,14 @@ impl Space {
             self.choices,
             number,
         )
+    }
+
+    /// A walk over the executions at the numbers from `from` to `to - 1`.
+    pub fn walk(&self, alloc: Global, from: u64, to: u64) -> Result<Walk<'_>, AllocError>
+        requires order { from ≤ to }
+        requires within { to ≤ size_of self.now }
+        ensures { IfOk result (λ w. w ≡ record { space = self.now; next = from; to = to; shown = no_execution }) }
+    {
+        Walk::new(alloc, self, from, to)
     }
 }
