@@ -7,4 +7,5 @@ pub mod Sources
 pub mod Spaces
 pub mod Steps
 pub mod Tallies
+pub mod Walked
 pub mod Writing

@@ -7,6 +7,7 @@ mod choosing;
 mod fault;
 pub mod laws;
 mod mark;
+mod page;
 mod space;
 mod walk;
 

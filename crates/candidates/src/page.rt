@@ -1,0 +1,12 @@
+//! What is kept of the runs of a choice.
+
+use events::{Event, Run};
+
+/// The runs of a choice, their reads, and in how many ways these can read and the writes be ordered.
+#[derive(Drop)]
+pub(crate) struct Page {
+    pub(crate) runs: Vec<Run>,
+    pub(crate) reads: Vec<Event>,
+    pub(crate) ways: u64,
+    pub(crate) orders: u64,
+}
