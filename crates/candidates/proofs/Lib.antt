@@ -6,6 +6,7 @@ pub mod Law
 pub mod Sources
 pub mod Spaces
 pub mod Steps
+pub mod Stretches
 pub mod Tallies
 pub mod Walked
 pub mod Writing

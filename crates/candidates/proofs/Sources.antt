@@ -84,58 +84,70 @@ divided runs rs i below n r l e b c =
     let f : below ≡ p * n + 0 = omega (arith, w, mul_comm n p) in
     (ap (λ k. k / n) f ∙ div-mul-add p n 0 s, w)
 
-pub read_on : (init : List ℕ) (runs : List ThreadRun) (rs : List Event) (number i : ℕ) (rf more : List EventId) (rest below p : ℕ) (r : Event) (w : EventId) → i < length rs → r ≡ get_or rs i r → p ≡ below / count_sources runs r → w ≡ source_at runs r (rest / p) → write_value init runs w ≡ r.value → more ≡ rf ++ w ∷ [] → SoFar init runs rs number i rf rest below → SoFar init runs rs number (i + 1) more (rest % p) p
-read_on init runs rs number i rf more rest below p r w l e is src v put h =
+-- What the read at place i needs to pick its write.
+pub can_pick : (init : List ℕ) (runs : List ThreadRun) (rs : List Event) (number i : ℕ) (rf : List EventId) (rest below : ℕ) (r : Event) → i < length rs → r ≡ get_or rs i r → SoFar init runs rs number i rf rest below → (1 ≤ below / count_sources runs r) × (rest / (below / count_sources runs r) < count_sources runs r)
+can_pick init runs rs number i rf rest below r l e h =
     let n = count_sources runs r in
     let q = ways_from runs rs (i + 1) in
     let f = divided runs rs i below n r l e h.left refl in
-    let same_p : q ≡ p = sym (is ∙ f.0) in
-    let P : ℕ → Type 0 = λ q. (below ≡ n * q → IsSplit rest n q) in
+    let t : IsSplit rest n q = split rest n q (some_ways runs rs (i + 1)) (omega (arith, h.small, f.1)) in
+    let P : ℕ → Type 0 = λ m. (1 ≤ m) × (rest / m < n) in
+    subst P (sym f.0) (some_ways runs rs (i + 1), t.digit)
+
+pub read_on : (init : List ℕ) (runs : List ThreadRun) (rs : List Event) (number i : ℕ) (rf more : List EventId) (rest below k p : ℕ) (r : Event) (w : EventId) → i < length rs → r ≡ get_or rs i r → p ≡ below / count_sources runs r → k ≡ rest % (below / count_sources runs r) → w ≡ source_at runs r (rest / (below / count_sources runs r)) → write_value init runs w ≡ r.value → more ≡ rf ++ w ∷ [] → SoFar init runs rs number i rf rest below → SoFar init runs rs number (i + 1) more k p
+read_on init runs rs number i rf more rest below k p r w l e is left src v put h =
+    let n = count_sources runs r in
+    let q = ways_from runs rs (i + 1) in
+    let f = divided runs rs i below n r l e h.left refl in
     let t : IsSplit rest n q = split rest n q (some_ways runs rs (i + 1)) (omega (arith, h.small, f.1)) in
     let d = rest / q in
-    let k = rest % q in
-    let src_q : w ≡ source_at runs r d = src ∙ ap (λ m. source_at runs r (rest / m)) (sym same_p) in
+    let z = rest % q in
+    let same_p : q ≡ p = sym (is ∙ f.0) in
+    let same_k : z ≡ k = sym (left ∙ ap (λ m. rest % m) f.0) in
+    let src_q : w ≡ source_at runs r d = src ∙ ap (λ m. source_at runs r (rest / m)) f.0 in
     let yes : (write_value init runs (source_at runs r d) == r.value) ≡ true = eq-eqb _ _ (ap (write_value init runs) (sym src_q) ∙ v) in
-    let S : ℕ → Type 0 = λ m. SoFar init runs rs number (i + 1) more (rest % m) m in
-    subst S same_p (record {
+    let S : ℕ → Type 0 = λ m. SoFar init runs rs number (i + 1) more z m in
+    let T : ℕ → Type 0 = λ m. SoFar init runs rs number (i + 1) more m p in
+    subst T same_k (subst S same_p (record {
       left = refl;
       small = t.small;
       order = omega (arith, h.order, t.whole);
       most = omega (arith, h.most, h.order, t.whole, t.next, f.1);
-      is = ap (λ xs. xs ++ read_at runs (drop (i + 1) rs) k) put ∙ append_assoc rf (w ∷ []) (read_at runs (drop (i + 1) rs) k)
-          ∙ ap (λ u. rf ++ u ∷ read_at runs (drop (i + 1) rs) k) src_q
-          ∙ ap (λ xs. rf ++ xs) (sym (read_next runs rs i d k r l e t.small))
+      is = ap (λ xs. xs ++ read_at runs (drop (i + 1) rs) z) put ∙ append_assoc rf (w ∷ []) (read_at runs (drop (i + 1) rs) z)
+          ∙ ap (λ u. rf ++ u ∷ read_at runs (drop (i + 1) rs) z) src_q
+          ∙ ap (λ xs. rf ++ xs) (sym (read_next runs rs i d z r l e t.small))
           ∙ ap (λ m. rf ++ read_at runs (drop i rs) m) t.whole ∙ h.is;
       same = λ j b. (let b' : d * q + j < q * n = mul-add-lt d q j n t.digit b in
-          let at : number - k + j ≡ number - rest + (d * q + j) = omega (arith, h.order, t.whole) in
+          let at : number - z + j ≡ number - rest + (d * q + j) = omega (arith, h.order, t.whole) in
           ap (λ m. agree init runs rs (read_at runs rs m)) at
           ∙ h.same (d * q + j) (omega (arith, b', f.1, mul_comm n q))
           ∙ agree_next init runs rs i d j r l e b ∙ rw yes refl);
-    })
+    }))
 
-pub read_until : (init : List ℕ) (runs : List ThreadRun) (rs : List Event) (number i : ℕ) (rf : List EventId) (rest below p : ℕ) (r : Event) (w : EventId) → i < length rs → r ≡ get_or rs i r → p ≡ below / count_sources runs r → w ≡ source_at runs r (rest / p) → write_value init runs w ≢ r.value → SoFar init runs rs number i rf rest below → (number < number - rest % p + p) × (number - rest % p + p ≤ product_by (count_sources runs) rs) × ((m : ℕ) → number ≤ m → m < number - rest % p + p → agree init runs rs (read_at runs rs m) ≡ false)
-read_until init runs rs number i rf rest below p r w l e is src ne h =
+-- The read at place i has another value than what it would read from, and so it is up to the number at which it reads from the next.
+pub read_until : (init : List ℕ) (runs : List ThreadRun) (rs : List Event) (number i : ℕ) (rf : List EventId) (rest below k p : ℕ) (r : Event) (w : EventId) → i < length rs → r ≡ get_or rs i r → p ≡ below / count_sources runs r → k ≡ rest % (below / count_sources runs r) → w ≡ source_at runs r (rest / (below / count_sources runs r)) → write_value init runs w ≢ r.value → SoFar init runs rs number i rf rest below → (k ≤ number) × ((number < number - k + p) × (number - k + p ≤ product_by (count_sources runs) rs) × ((m : ℕ) → number ≤ m → m < number - k + p → agree init runs rs (read_at runs rs m) ≡ false))
+read_until init runs rs number i rf rest below k p r w l e is left src ne h =
     let n = count_sources runs r in
     let q = ways_from runs rs (i + 1) in
     let f = divided runs rs i below n r l e h.left refl in
-    let same_p : q ≡ p = sym (is ∙ f.0) in
     let t : IsSplit rest n q = split rest n q (some_ways runs rs (i + 1)) (omega (arith, h.small, f.1)) in
     let d = rest / q in
-    let k = rest % q in
-    let src_q : w ≡ source_at runs r d = src ∙ ap (λ m. source_at runs r (rest / m)) (sym same_p) in
+    let z = rest % q in
+    let same_p : q ≡ p = sym (is ∙ f.0) in
+    let same_k : z ≡ k = sym (left ∙ ap (λ m. rest % m) f.0) in
+    let src_q : w ≡ source_at runs r d = src ∙ ap (λ m. source_at runs r (rest / m)) f.0 in
     let no : (write_value init runs (source_at runs r d) == r.value) ≡ false = different _ _ (λ v. ne (ap (write_value init runs) src_q ∙ v)) in
-    let S : ℕ → Type 0 = λ m. (number < number - rest % m + m) × (number - rest % m + m ≤ product_by (count_sources runs) rs) × ((x : ℕ) → number ≤ x → x < number - rest % m + m → agree init runs rs (read_at runs rs x) ≡ false) in
-    subst S same_p (
-      omega (arith, t.small),
-      omega (arith, h.most, h.order, t.whole, t.next, f.1),
-      λ m a b. (let j = m - (number - k) in
-          let small : j < q = omega (arith, a, b, t.small, t.whole, h.order) in
+    (omega (arith, same_k, t.whole, h.order), (
+      omega (arith, same_k, same_p, t.small),
+      omega (arith, h.most, h.order, t.whole, t.next, f.1, same_k, same_p),
+      λ m a b. (let j = m - (number - z) in
+          let small : j < q = omega (arith, a, b, t.small, t.whole, h.order, same_k, same_p) in
           let at : m ≡ number - rest + (d * q + j) = omega (arith, h.order, t.whole, a) in
           let b' : d * q + j < q * n = mul-add-lt d q j n t.digit small in
           ap (λ x. agree init runs rs (read_at runs rs x)) at
           ∙ h.same (d * q + j) (omega (arith, b', f.1, mul_comm n q))
           ∙ agree_next init runs rs i d j r l e small ∙ rw no refl),
-    )
+    ))
 
 -- Behind the last read all have read.
 pub read_all : (init : List ℕ) (runs : List ThreadRun) (rs : List Event) (number i : ℕ) (rf : List EventId) (rest below : ℕ) → length rs ≤ i → SoFar init runs rs number i rf rest below → (rf ≡ read_at runs rs number) × (agree init runs rs rf ≡ true)

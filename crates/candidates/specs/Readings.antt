@@ -1,5 +1,5 @@
 -- What is found at a number of some runs: a reading or a candidate, or up to which number there is none.
-use Rattle.std.specs.Prelude.{◌≡◌, ℕ, ◌<◌, ◌≤◌, List, length, true, false}
+use Rattle.std.specs.Prelude.{◌≡◌, ℕ, ◌+◌, ◌<◌, ◌≤◌, List, length, true, false}
 use Rattle.events.specs.declared.event.Event.{Event}
 use Rattle.events.specs.declared.event.EventId.{EventId}
 use Rattle.events.specs.Executions.{ThreadRun}
@@ -9,9 +9,10 @@ use Rattle.candidates.specs.declared.assembly.Reading.TheVariants as of_reading
 use Rattle.candidates.specs.declared.assembly.Look.{Look}
 use Rattle.candidates.specs.declared.assembly.Look.TheVariants as of_look
 use Rattle.candidates.specs.declared.page.Page.{Page}
+use Rattle.candidates.specs.declared.page.Stretch.{Stretch}
 use Rattle.candidates.specs.declared.fault.TheConstants.{MOST_CANDIDATES}
 use Rattle.candidates.specs.Executions.{reads, block}
-use Rattle.candidates.specs.Candidates.{count_sources, source_at, digits_down, count_co, candidate, agree, is_consistent}
+use Rattle.candidates.specs.Candidates.{Choices, count_sources, source_at, digits_down, count_co, candidate, candidate_at, size_of, agree, is_consistent}
 use Rattle.candidates.specs.Bounds.{AreWithin}
 
 -- what these reads read from by number i
@@ -35,3 +36,14 @@ pub record IsPage (locations : ℕ) (p : Page) : Type 0 where
   pub reads : p.reads.items ≡ reads p.runs.items
   pub ways : p.ways ≡ product_by (count_sources p.runs.items) (reads p.runs.items)
   pub orders : p.orders ≡ count_co locations p.runs.items
+
+-- The numbers of a stretch are those of the candidates with its runs.
+pub record IsStretch (s : Choices) (b : Stretch) : Type 0 where
+  pub page : IsPage (length s.init) b.page
+  pub size : b.size ≡ block (length s.init) b.page.runs.items
+  pub most : b.first + b.size ≤ size_of s
+  pub at : (j : ℕ) → j < b.size → candidate_at s (b.first + j) ≡ candidate s.init b.page.runs.items j
+
+-- A stretch of some numbers is one of the space.
+abbrev pub MayBeStretch : Choices → Stretch → Type 0
+MayBeStretch s b = 1 ≤ b.size → IsStretch s b

@@ -1,7 +1,9 @@
 -- A walk over the executions of a space, from number to number.
 use Rattle.std.specs.Prelude.{◌≡◌, ℕ, ◌+◌, ◌<◌, ◌≤◌, Option, None, Some}
 use Rattle.events.specs.Executions.{Execution}
-use Rattle.candidates.specs.Candidates.{Choices, graph_at}
+use Rattle.candidates.specs.Candidates.{Choices, graph_at, size_of}
+use Rattle.candidates.specs.declared.assembly.Look.{Look}
+use Rattle.candidates.specs.declared.assembly.Look.TheVariants.{Found, Until}
 
 -- A walk goes on from the number `next`, and ends before the number `to`. It shows the execution that it found last.
 pub record Walking : Type 0 where
@@ -33,3 +35,8 @@ pub record IsMiss (v w : Walking) : Type 0 where
   pub step : IsStep v w v.to
   pub order : v.next ≤ v.to
   pub none : NoneFrom v.space v.next v.to
+
+-- At the number n stands the execution, or none from n to before a later number.
+abbrev pub IsVisit : Choices → ℕ → Look → Type 0
+IsVisit s n (Found x) = graph_at s n ≡ Some x
+IsVisit s n (Until m) = (n < m) × (m ≤ size_of s) × NoneFrom s n m

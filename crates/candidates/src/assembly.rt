@@ -120,6 +120,37 @@ pub(crate) enum Reading {
     Until(u64),
 }
 
+/// What a read reads from, the number that is left for the reads behind it, and in how many ways these can read.
+#[derive(Clone, Copy)]
+struct Pick {
+    source: EventId,
+    rest: u64,
+    below: u64,
+}
+
+/// What the read reads from by this number, of those by which it and the reads behind it can read.
+fn pick_source(
+    alloc: Global,
+    runs: &[Run],
+    read: &Event,
+    number: u64,
+    ways: u64,
+) -> Result<Pick, AllocError>
+    requires some { 1 ≤ ways / count_sources runs.now read.now }
+    requires digit { number / (ways / count_sources runs.now read.now) < count_sources runs.now read.now }
+    ensures source { IfOk result (λ p. p.source ≡ source_at runs.now read.now (number / (ways / count_sources runs.now read.now))) }
+    ensures rest { IfOk result (λ p. p.rest ≡ number % (ways / count_sources runs.now read.now)) }
+    ensures below { IfOk result (λ p. p.below ≡ ways / count_sources runs.now read.now) }
+{
+    let sources = sources(alloc, runs, read.loc)?;
+    let below = ways / sources.len() as u64;
+    Ok(Pick {
+        source: sources[(number / below) as usize],
+        rest: number % below,
+        below,
+    })
+}
+
 /// What each read reads from, with this number, where each has the value of what it reads from. Else up to which
 /// number a read has another value: all those numbers by which the reads up to it read from the same writes.
 fn read_from(
@@ -138,14 +169,13 @@ fn read_from(
     let mut below = ways;
     let mut rest = number;
     for read in reads {
-        let sources = sources(alloc, runs, read.loc)?;
-        below /= sources.len() as u64;
-        let source = sources[(rest / below) as usize];
-        rest %= below;
-        if write_value(init, runs, source) != read.value {
-            return Ok(Reading::Until(number - rest + below));
+        let pick = pick_source(alloc, runs, read, rest, below)?;
+        if write_value(init, runs, pick.source) != read.value {
+            return Ok(Reading::Until(number - pick.rest + pick.below));
         }
-        rf.push(source)?;
+        rf.push(pick.source)?;
+        rest = pick.rest;
+        below = pick.below;
     }
     Ok(Reading::Whole(rf))
 }

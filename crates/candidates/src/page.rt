@@ -10,3 +10,11 @@ pub(crate) struct Page {
     pub(crate) ways: u64,
     pub(crate) orders: u64,
 }
+
+/// The numbers of the candidates with the same runs, from `first` on.
+#[derive(Drop)]
+pub(crate) struct Stretch {
+    pub(crate) first: u64,
+    pub(crate) size: u64,
+    pub(crate) page: Page,
+}

@@ -1,10 +1,12 @@
 //! A walk over the executions of a space.
 
-ghost use Rattle.std.specs.Prelude.{◌≡◌, ◌<◌, ◌≤◌, IfOk, OnErr, OnOk, MatchOption, [], All};
-ghost use Rattle.events.specs.Executions.{IsGraph};
+ghost use Rattle.std.specs.Prelude.{◌≡◌, ◌+◌, ◌<◌, ◌≤◌, ◌^◌, IfOk, OnErr, OnOk, MatchOption, []};
 ghost use Rattle.candidates.specs.Candidates.{size_of, no_execution};
-ghost use Rattle.candidates.specs.Walks.{IsHit, IsMiss};
+ghost use Rattle.candidates.specs.Readings.{IsStretch, MayBeStretch};
+ghost use Rattle.candidates.specs.Walks.{IsHit, IsMiss, IsVisit};
 
+use crate::assembly::{Look, look_at};
+use crate::page::{Page, Stretch};
 use crate::space::Space;
 use events::Graph;
 use std::alloc::{AllocError, Global};
@@ -17,18 +19,20 @@ pub struct Walk<'a> {
     next: u64,
     to: u64,
     shown: Graph,
+    stretch: Stretch,
 }
 
 impl<'a> Model for Walk<'a> {
-    ghost use Rattle.std.specs.Prelude.{◌≤◌};
+    ghost use Rattle.std.specs.Prelude.{◌≤◌, ◌^◌};
     ghost use Rattle.candidates.specs.Candidates.{size_of};
+    ghost use Rattle.candidates.specs.Readings.{MayBeStretch};
     ghost use Rattle.candidates.specs.Walks.{Walking};
 
     ghost Value = { Walking };
 
     ghost view = { λ w. record { space = w.space.now; next = w.next; to = w.to; shown = w.shown } };
 
-    ghost invariant = { λ w. record { order : w.next ≤ w.to; within : w.to ≤ size_of w.space.now } };
+    ghost invariant = { λ w. record { order : w.next ≤ w.to; within : w.to ≤ size_of w.space.now; most : size_of w.space.now ≤ 2 ^ 32; first : w.stretch.first ≤ w.next; stretch : MayBeStretch w.space.now w.stretch } };
 }
 
 /// An execution of nothing.
@@ -43,19 +47,74 @@ fn nothing(alloc: Global) -> Graph
     )
 }
 
+/// A stretch of no numbers.
+fn no_stretch(alloc: Global) -> Stretch
+    ensures first { result.first ≡ 0 }
+    ensures size { result.size ≡ 0 }
+{
+    Stretch {
+        first: 0,
+        size: 0,
+        page: Page {
+            runs: Vec::new(alloc),
+            reads: Vec::new(alloc),
+            ways: 1,
+            orders: 1,
+        },
+    }
+}
+
+/// Goes to the stretch in which a number is, if it is not in the one at hand.
+fn reach(
+    alloc: Global,
+    space: &Space,
+    stretch: &mut Stretch,
+    number: u64,
+) -> Result<(), AllocError>
+    requires stretch { MayBeStretch space.now stretch.old }
+    requires first { stretch.old.first ≤ number }
+    requires number { number < size_of space.now }
+    requires most { size_of space.now ≤ 2 ^ 32 }
+    ensures stretch { OnOk result (IsStretch space.now stretch.new) }
+    ensures first { OnOk result (stretch.new.first ≤ number) }
+    ensures last { OnOk result (number < stretch.new.first + stretch.new.size) }
+    ensures same { OnErr result (stretch.new ≡ stretch.old) }
+{
+    if number >= stretch.first + stretch.size {
+        *stretch = space.stretch(alloc, number)?;
+    }
+    Ok(())
+}
+
+/// What is at a number of the stretch at hand.
+fn visit(alloc: Global, space: &Space, stretch: &Stretch, number: u64) -> Result<Look, AllocError>
+    requires stretch { IsStretch space.now stretch.now }
+    requires first { stretch.now.first ≤ number }
+    requires last { number < stretch.now.first + stretch.now.size }
+    requires most { size_of space.now ≤ 2 ^ 32 }
+    ensures { IfOk result (IsVisit space.now number) }
+{
+    match look_at(alloc, space.init(), &stretch.page, number - stretch.first)? {
+        Look::Found(graph) => Ok(Look::Found(graph)),
+        Look::Until(next) => Ok(Look::Until(stretch.first + next)),
+    }
+}
+
 impl<'a> Walk<'a> {
     /// A walk over the numbers from `from` to `to - 1`.
-    pub(crate) fn new(alloc: Global, space: &'a Space, from: u64, to: u64) -> Result<Self, AllocError>
+    pub(crate) fn new(alloc: Global, space: &'a Space, from: u64, to: u64) -> Self
         requires order { from ≤ to }
         requires within { to ≤ size_of space.now }
-        ensures { IfOk result (λ w. w ≡ record { space = space.entry.now; next = from; to = to; shown = no_execution }) }
+        requires most { size_of space.now ≤ 2 ^ 32 }
+        ensures { result ≡ record { space = space.entry.now; next = from; to = to; shown = no_execution } }
     {
-        Ok(Walk {
+        Walk {
             space,
             next: from,
             to,
             shown: nothing(alloc),
-        })
+            stretch: no_stretch(alloc),
+        }
     }
 
     /// Goes on to the next execution and gives its number, or to the end if there is none.
@@ -67,12 +126,15 @@ impl<'a> Walk<'a> {
     {
         let mut number = self.next;
         while number < self.to {
-            if let Some(graph) = self.space.graph(alloc, number)? {
-                self.shown = graph;
-                self.next = number + 1;
-                return Ok(Some(number));
+            reach(alloc, self.space, &mut self.stretch, number)?;
+            match visit(alloc, self.space, &self.stretch, number)? {
+                Look::Found(graph) => {
+                    self.shown = graph;
+                    self.next = number + 1;
+                    return Ok(Some(number));
+                }
+                Look::Until(next) => number = next,
             }
-            number += 1;
         }
         self.next = self.to;
         Ok(None)
