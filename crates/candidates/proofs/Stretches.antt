@@ -1,14 +1,34 @@
 -- What is found at the numbers of a stretch.
-use Rattle.std.proofs.Common.{◌≡◌, ℕ, ◌+◌, ◌-◌, ◌<◌, ◌≤◌, Option, None, Some, refl, sym, ◌∙◌, ap, subst, inl, inr, arith, true, false}
+use Rattle.std.proofs.Common.{◌≡◌, ℕ, ◌+◌, ◌-◌, ◌*◌, ◌<◌, ◌≤◌, List, length, Option, None, Some, refl, sym, ◌∙◌, ap, subst, inl, inr, arith, true, false}
 use Rattle.std.proofs.lemmas.Bool.{cases_lt}
-use Rattle.events.specs.Executions.{Execution}
+use Rattle.events.specs.Executions.{Execution, ThreadRun}
 use Rattle.candidates.specs.declared.assembly.Look.{Look}
 use Rattle.candidates.specs.declared.assembly.Look.TheVariants.{Found, Until}
+use Rattle.candidates.specs.declared.page.Page.{Page}
 use Rattle.candidates.specs.declared.page.Stretch.{Stretch}
+use Rattle.candidates.specs.Executions.{block}
 use Rattle.candidates.specs.Candidates.{Choices, candidate, candidate_at, graph_at, is_consistent, size_of}
-use Rattle.candidates.specs.Readings.{IsLook, IsStretch}
+use Rattle.candidates.specs.Readings.{IsLook, IsPage, IsStretch}
 use Rattle.candidates.specs.Walks.{NoneFrom, IsVisit}
 use Rattle.candidates.proofs.Law.{shown, hidden}
+
+-- The ways to read and to order are those of a block.
+pub whole_page : (n : ℕ) (p : Page) → IsPage n p → p.ways * p.orders ≡ block n p.runs.items
+whole_page n p h = rw (h.ways, h.orders) refl
+
+pub stretch_of : (s : Choices) (runs : List ThreadRun) (n first : ℕ) (b : Stretch) → n ≡ length s.init → IsPage n b.page → b.page.runs.items ≡ runs → b.first ≡ first → b.size ≡ b.page.ways * b.page.orders → first + block (length s.init) runs ≤ size_of s → ((j : ℕ) → j < block (length s.init) runs → candidate_at s (first + j) ≡ candidate s.init runs j) → IsStretch s b
+stretch_of s runs n first b same page are is size most at =
+    let P : ℕ → Type 0 = λ m. IsPage m b.page in
+    let q : IsPage (length s.init) b.page = subst P same page in
+    let w : b.size ≡ block (length s.init) b.page.runs.items = size ∙ whole_page (length s.init) b.page q in
+    let R : List ThreadRun → Type 0 = λ rs. (first + block (length s.init) rs ≤ size_of s) × ((j : ℕ) → j < block (length s.init) rs → candidate_at s (first + j) ≡ candidate s.init rs j) in
+    let k = subst R (sym are) (most, at) in
+    record {
+      page = q;
+      size = w;
+      most = omega (arith, is, w, k.0);
+      at = λ j l. ap (λ m. candidate_at s (m + j)) is ∙ k.1 j (omega (arith, l, w));
+    }
 
 -- the candidate at a number of a stretch
 at_number : (s : Choices) (b : Stretch) (n : ℕ) → IsStretch s b → b.first ≤ n → n < b.first + b.size → candidate_at s n ≡ candidate s.init b.page.runs.items (n - b.first)

@@ -4,6 +4,7 @@ use Rattle.events.specs.Executions.{Execution}
 use Rattle.candidates.specs.Candidates.{Choices, graph_at, size_of}
 use Rattle.candidates.specs.declared.assembly.Look.{Look}
 use Rattle.candidates.specs.declared.assembly.Look.TheVariants.{Found, Until}
+use Rattle.candidates.specs.declared.walk.Hit.{Hit}
 
 -- A walk goes on from the number `next`, and ends before the number `to`. It shows the execution that it found last.
 pub record Walking : Type 0 where
@@ -40,3 +41,8 @@ pub record IsMiss (v w : Walking) : Type 0 where
 abbrev pub IsVisit : Choices → ℕ → Look → Type 0
 IsVisit s n (Found x) = graph_at s n ≡ Some x
 IsVisit s n (Until m) = (n < m) × (m ≤ size_of s) × NoneFrom s n m
+
+-- The first execution from a to before b, or none.
+abbrev pub IsFind : Choices → ℕ → ℕ → Option Hit → Type 0
+IsFind s a b None = NoneFrom s a b
+IsFind s a b (Some h) = (a ≤ h.number) × (h.number < b) × NoneFrom s a h.number × (graph_at s h.number ≡ Some h.graph)

@@ -95,11 +95,8 @@ fn stretch_at(
     ensures last { IfOk result (λ s. number < s.first + s.size) }
 {
     let position = locate(threads, init, marks, choices, number);
-    let page = open_page(
-        alloc,
-        choice(alloc, threads, position.choice)?,
-        init.len(),
-    )?;
+    let runs = choice(alloc, threads, position.choice)?;
+    let page = open_page(alloc, runs, init.len())?;
     Ok(Stretch {
         first: number - position.rest,
         size: page.ways * page.orders,

@@ -3,7 +3,7 @@
 ghost use Rattle.std.specs.Prelude.{◌≡◌, ◌+◌, ◌<◌, ◌≤◌, ◌^◌, IfOk, OnErr, OnOk, MatchOption, []};
 ghost use Rattle.candidates.specs.Candidates.{size_of, no_execution};
 ghost use Rattle.candidates.specs.Readings.{IsStretch, MayBeStretch};
-ghost use Rattle.candidates.specs.Walks.{IsHit, IsMiss, IsVisit};
+ghost use Rattle.candidates.specs.Walks.{IsFind, IsHit, IsMiss, IsVisit};
 
 use crate::assembly::{Look, look_at};
 use crate::page::{Page, Stretch};
@@ -32,7 +32,7 @@ impl<'a> Model for Walk<'a> {
 
     ghost view = { λ w. record { space = w.space.now; next = w.next; to = w.to; shown = w.shown } };
 
-    ghost invariant = { λ w. record { order : w.next ≤ w.to; within : w.to ≤ size_of w.space.now; most : size_of w.space.now ≤ 2 ^ 32; first : w.stretch.first ≤ w.next; stretch : MayBeStretch w.space.now w.stretch } };
+    ghost invariant = { λ w. record { order : w.next ≤ w.to; within : w.to ≤ size_of w.space.now; most : size_of w.space.now ≤ 2 ^ 32; stretch : MayBeStretch w.space.now w.stretch } };
 }
 
 /// An execution of nothing.
@@ -72,15 +72,13 @@ fn reach(
     number: u64,
 ) -> Result<(), AllocError>
     requires stretch { MayBeStretch space.now stretch.old }
-    requires first { stretch.old.first ≤ number }
     requires number { number < size_of space.now }
-    requires most { size_of space.now ≤ 2 ^ 32 }
     ensures stretch { OnOk result (IsStretch space.now stretch.new) }
     ensures first { OnOk result (stretch.new.first ≤ number) }
     ensures last { OnOk result (number < stretch.new.first + stretch.new.size) }
     ensures same { OnErr result (stretch.new ≡ stretch.old) }
 {
-    if number >= stretch.first + stretch.size {
+    if number < stretch.first || number - stretch.first >= stretch.size {
         *stretch = space.stretch(alloc, number)?;
     }
     Ok(())
@@ -98,6 +96,38 @@ fn visit(alloc: Global, space: &Space, stretch: &Stretch, number: u64) -> Result
         Look::Found(graph) => Ok(Look::Found(graph)),
         Look::Until(next) => Ok(Look::Until(stretch.first + next)),
     }
+}
+
+/// An execution and its number.
+#[derive(Drop)]
+pub(crate) struct Hit {
+    pub(crate) number: u64,
+    pub(crate) graph: Graph,
+}
+
+/// The first execution at the numbers from `from` to `to - 1`.
+fn search(
+    alloc: Global,
+    space: &Space,
+    stretch: &mut Stretch,
+    from: u64,
+    to: u64,
+) -> Result<Option<Hit>, AllocError>
+    requires stretch { MayBeStretch space.now stretch.old }
+    requires to { to ≤ size_of space.now }
+    requires most { size_of space.now ≤ 2 ^ 32 }
+    ensures found { IfOk result (IsFind space.now from to) }
+    ensures stretch { MayBeStretch space.now stretch.new }
+{
+    let mut number = from;
+    while number < to {
+        reach(alloc, space, stretch, number)?;
+        match visit(alloc, space, stretch, number)? {
+            Look::Found(graph) => return Ok(Some(Hit { number, graph })),
+            Look::Until(next) => number = next,
+        }
+    }
+    Ok(None)
 }
 
 impl<'a> Walk<'a> {
@@ -124,20 +154,17 @@ impl<'a> Walk<'a> {
         // A walk that finds no memory stays where it was.
         ensures same { OnErr result (self.new ≡ self.old) }
     {
-        let mut number = self.next;
-        while number < self.to {
-            reach(alloc, self.space, &mut self.stretch, number)?;
-            match visit(alloc, self.space, &self.stretch, number)? {
-                Look::Found(graph) => {
-                    self.shown = graph;
-                    self.next = number + 1;
-                    return Ok(Some(number));
-                }
-                Look::Until(next) => number = next,
+        match search(alloc, self.space, &mut self.stretch, self.next, self.to)? {
+            Some(hit) => {
+                self.shown = hit.graph;
+                self.next = hit.number + 1;
+                Ok(Some(hit.number))
+            }
+            None => {
+                self.next = self.to;
+                Ok(None)
             }
         }
-        self.next = self.to;
-        Ok(None)
     }
 
     /// The execution that the walk found last, or one of nothing where it has found none yet.
