@@ -33,7 +33,7 @@ IsLook init runs i (of_look.Until n) = (i < n) × (n ≤ block (length init) run
 pub record IsPage (locations : ℕ) (p : Page) : Type 0 where
   pub within : AreWithin locations p.runs.items
   pub most : block locations p.runs.items ≤ MOST_CANDIDATES
-  pub reads : p.reads.items ≡ reads p.runs.items
+  pub reads_are : p.reads.items ≡ reads p.runs.items
   pub ways : p.ways ≡ product_by (count_sources p.runs.items) (reads p.runs.items)
   pub orders : p.orders ≡ count_co locations p.runs.items
 
