@@ -66,12 +66,13 @@ pub record IsSplit (rest n p : ℕ) : Type 0 where
 
 split : (rest n p : ℕ) → 1 ≤ p → rest < n * p → IsSplit rest n p
 split rest n p s l =
-    let d : rest / p < n = div_below rest p n s l in
+    let z : 0 < p = omega (arith, s) in
+    let d : rest / p < n = div_below rest p n z l in
     let m : (rest / p + 1) * p ≤ n * p = mul-le-mul_right p (let h : rest / p + 1 ≤ n = omega (arith, d) in h) in
     record {
       whole = omega (arith, mod-add-div' rest p);
       digit = d;
-      small = mod_below rest p s;
+      small = mod_below rest p z;
       next = omega (arith, m);
     }
 

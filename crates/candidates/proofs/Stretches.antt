@@ -36,17 +36,22 @@ at_number s b n h l m =
     let e : n ≡ b.first + (n - b.first) = omega (arith, l) in
     ap (candidate_at s) e ∙ h.at (n - b.first) (omega (arith, l, m))
 
-pub found_here : (s : Choices) (b : Stretch) (n : ℕ) (x : Execution) → IsStretch s b → b.first ≤ n → n < b.first + b.size → (x ≡ candidate s.init b.page.runs.items (n - b.first)) × (is_consistent x ≡ true) → graph_at s n ≡ Some x
-found_here s b n x h l m k =
+pub found_here : (s : Choices) (b : Stretch) (n : ℕ) (init : List ℕ) (x : Execution) → init ≡ s.init → IsStretch s b → b.first ≤ n → n < b.first + b.size → IsLook init b.page.runs.items (n - b.first) (Found x) → graph_at s n ≡ Some x
+found_here s b n init x is h l m look =
+    let P : List ℕ → Type 0 = λ vs. IsLook vs b.page.runs.items (n - b.first) (Found x) in
+    let k = subst P is look in
     let e : candidate_at s n ≡ x = at_number s b n h l m ∙ sym k.0 in
     shown s n (ap is_consistent e ∙ k.1) ∙ ap (λ (y : Execution). Some y) e
 
-pub none_here : (s : Choices) (b : Stretch) (n last : ℕ) → IsStretch s b → b.first ≤ n → n < b.first + b.size → IsLook s.init b.page.runs.items (n - b.first) (Until last) → IsVisit s n (Until (b.first + last))
-none_here s b n last h l m k = (
-  omega (arith, k.0, l),
-  omega (arith, k.1, h.size, h.most),
-  λ x a c. hidden s x (ap is_consistent (at_number s b x h (omega (arith, a, l)) (omega (arith, c, k.1, h.size))) ∙ k.2 (x - b.first) (omega (arith, a, l)) (omega (arith, c, a, l))),
-)
+pub none_here : (s : Choices) (b : Stretch) (n : ℕ) (init : List ℕ) (last : ℕ) → init ≡ s.init → IsStretch s b → b.first ≤ n → n < b.first + b.size → IsLook init b.page.runs.items (n - b.first) (Until last) → IsVisit s n (Until (b.first + last))
+none_here s b n init last is h l m look =
+    let P : List ℕ → Type 0 = λ vs. IsLook vs b.page.runs.items (n - b.first) (Until last) in
+    let k = subst P is look in
+    (
+      omega (arith, k.0, l),
+      omega (arith, k.1, h.size, h.most),
+      λ x a c. hidden s x (ap is_consistent (at_number s b x h (omega (arith, a, l)) (omega (arith, c, k.1, h.size))) ∙ k.2 (x - b.first) (omega (arith, a, l)) (omega (arith, c, a, l))),
+    )
 
 -- Where no execution stands from n on, none stands at n.
 pub nothing_at : (s : Choices) (n m : ℕ) → n < m → NoneFrom s n m → None ≡ graph_at s n

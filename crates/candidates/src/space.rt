@@ -97,11 +97,9 @@ fn stretch_at(
     let position = locate(threads, init, marks, choices, number);
     let runs = choice(alloc, threads, position.choice)?;
     let page = open_page(alloc, runs, init.len())?;
-    Ok(Stretch {
-        first: number - position.rest,
-        size: page.ways * page.orders,
-        page,
-    })
+    let first = number - position.rest;
+    let size = page.ways * page.orders;
+    Ok(Stretch { first, size, page })
 }
 
 impl Space {

@@ -10,13 +10,8 @@ pub pick_source-requires-clause-digit : goal.pick_source-requires-clause-digit
 pick_source-requires-clause-digit c =
     (can_pick c.args.init.now c.args.runs.now c.args.reads.now c.args.number c.loop-read.read-index c.loop-read.rf.items c.loop-read.rest c.loop-read.below c.read-item.result c.loop-read-test.true c.read-item.is c.loop-read.invariant).1
 
-pub overflow_sub : goal.overflow_sub
-overflow_sub c =
-    (read_until c.args.init.now c.args.runs.now c.args.reads.now c.args.number c.loop-read.read-index c.loop-read.rf.items c.loop-read.rest c.loop-read.below c.in_ok-pick.pick.rest c.in_ok-pick.pick.below c.read-item.result c.in_ok-pick.pick.source c.loop-read-test.true c.read-item.is
-    c.in_ok-pick.ensures.below c.in_ok-pick.ensures.rest c.in_ok-pick.ensures.source (λ h. c.if-write_value-read.true (c.write_value.ensures ∙ h)) c.loop-read.invariant).0
-
-pub overflow_add : goal.overflow_add
-overflow_add c =
+pub overflow_add-result : goal.overflow_add-result
+overflow_add-result c =
     let u = (read_until c.args.init.now c.args.runs.now c.args.reads.now c.args.number c.loop-read.read-index c.loop-read.rf.items c.loop-read.rest c.loop-read.below c.in_ok-pick.pick.rest c.in_ok-pick.pick.below c.read-item.result c.in_ok-pick.pick.source c.loop-read-test.true c.read-item.is
     c.in_ok-pick.ensures.below c.in_ok-pick.ensures.rest c.in_ok-pick.ensures.source (λ h. c.if-write_value-read.true (c.write_value.ensures ∙ h)) c.loop-read.invariant).1.1 in
     omega (arith, u, c.requires.ways)
