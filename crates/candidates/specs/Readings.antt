@@ -42,6 +42,7 @@ pub record IsStretch (s : Choices) (b : Stretch) : Type 0 where
   pub page : IsPage (length s.init) b.page
   pub size : b.size ≡ block (length s.init) b.page.runs.items
   pub most : b.first + b.size ≤ size_of s
+  pub small : b.first + b.size ≤ MOST_CANDIDATES
   pub at : (j : ℕ) → j < b.size → candidate_at s (b.first + j) ≡ candidate s.init b.page.runs.items j
 
 -- A stretch of some numbers is one of the space.

@@ -12,12 +12,12 @@ ghost use Rattle.candidates.specs.Readings.{IsStretch};
 ghost use Rattle.events.specs.Executions.{ThreadRun};
 ghost use Rattle.listings.specs.Lists.{IsIn};
 
-use crate::assembly::{Look, look_at, open_page};
+use crate::assembly::{Look, open_page};
 use crate::choosing::{RunList, choice, count_choices, locate, total};
 use crate::fault::{MOST_CANDIDATES, SpaceFault};
 use crate::mark::Mark;
 use crate::page::Stretch;
-use crate::walk::Walk;
+use crate::walk::{Walk, visit};
 use c11_threads::{initial_value, runs};
 use conditions::Place;
 use events::Graph;
@@ -163,12 +163,13 @@ impl Space {
     }
 
     /// The candidate with this number, where it is an execution.
+    #[tactic(auto, using(crate::proofs::Stretches::nothing_at))]
     pub fn graph(&self, alloc: Global, number: u64) -> Result<Option<Graph>, AllocError>
         requires { number < size_of self.now }
         ensures { IfOk result (λ g. g ≡ graph_at self.now number) }
     {
         let stretch = self.stretch(alloc, number)?;
-        match look_at(alloc, self.init(), &stretch.page, number - stretch.first)? {
+        match visit(alloc, self, &stretch, number)? {
             Look::Found(graph) => Ok(Some(graph)),
             Look::Until(_) => Ok(None),
         }

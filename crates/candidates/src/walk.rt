@@ -1,6 +1,6 @@
 //! A walk over the executions of a space.
 
-ghost use Rattle.std.specs.Prelude.{◌≡◌, ◌+◌, ◌<◌, ◌≤◌, ◌^◌, IfOk, OnErr, OnOk, MatchOption, []};
+ghost use Rattle.std.specs.Prelude.{◌≡◌, ◌+◌, ◌<◌, ◌≤◌, IfOk, OnErr, OnOk, MatchOption, []};
 ghost use Rattle.candidates.specs.Candidates.{size_of, no_execution};
 ghost use Rattle.candidates.specs.Readings.{IsStretch, MayBeStretch};
 ghost use Rattle.candidates.specs.Walks.{IsFind, IsHit, IsMiss, IsVisit};
@@ -23,7 +23,7 @@ pub struct Walk<'a> {
 }
 
 impl<'a> Model for Walk<'a> {
-    ghost use Rattle.std.specs.Prelude.{◌≤◌, ◌^◌};
+    ghost use Rattle.std.specs.Prelude.{◌≤◌};
     ghost use Rattle.candidates.specs.Candidates.{size_of};
     ghost use Rattle.candidates.specs.Readings.{MayBeStretch};
     ghost use Rattle.candidates.specs.Walks.{Walking};
@@ -32,7 +32,7 @@ impl<'a> Model for Walk<'a> {
 
     ghost view = { λ w. record { space = w.space.now; next = w.next; to = w.to; shown = w.shown } };
 
-    ghost invariant = { λ w. record { order : w.next ≤ w.to; within : w.to ≤ size_of w.space.now; most : size_of w.space.now ≤ 2 ^ 32; stretch : MayBeStretch w.space.now w.stretch } };
+    ghost invariant = { λ w. record { order : w.next ≤ w.to; within : w.to ≤ size_of w.space.now; stretch : MayBeStretch w.space.now w.stretch } };
 }
 
 /// An execution of nothing.
@@ -85,11 +85,15 @@ fn reach(
 }
 
 /// What is at a number of the stretch at hand.
-fn visit(alloc: Global, space: &Space, stretch: &Stretch, number: u64) -> Result<Look, AllocError>
+pub(crate) fn visit(
+    alloc: Global,
+    space: &Space,
+    stretch: &Stretch,
+    number: u64,
+) -> Result<Look, AllocError>
     requires stretch { IsStretch space.now stretch.now }
     requires first { stretch.now.first ≤ number }
     requires last { number < stretch.now.first + stretch.now.size }
-    requires most { size_of space.now ≤ 2 ^ 32 }
     ensures { IfOk result (IsVisit space.now number) }
 {
     match look_at(alloc, space.init(), &stretch.page, number - stretch.first)? {
@@ -115,7 +119,6 @@ fn search(
 ) -> Result<Option<Hit>, AllocError>
     requires stretch { MayBeStretch space.now stretch.old }
     requires to { to ≤ size_of space.now }
-    requires most { size_of space.now ≤ 2 ^ 32 }
     ensures found { IfOk result (IsFind space.now from to) }
     ensures stretch { MayBeStretch space.now stretch.new }
 {
@@ -135,8 +138,7 @@ impl<'a> Walk<'a> {
     pub(crate) fn new(alloc: Global, space: &'a Space, from: u64, to: u64) -> Self
         requires order { from ≤ to }
         requires within { to ≤ size_of space.now }
-        requires most { size_of space.now ≤ 2 ^ 32 }
-        ensures { result ≡ record { space = space.entry.now; next = from; to = to; shown = no_execution } }
+            ensures { result ≡ record { space = space.entry.now; next = from; to = to; shown = no_execution } }
     {
         Walk {
             space,

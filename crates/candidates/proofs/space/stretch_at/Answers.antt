@@ -27,7 +27,7 @@ overflow_mul-size c = omega (arith, whole_page c.len.result c.in_ok-page.page c.
 pub returns-clause-stretch : goal.returns-clause-stretch
 returns-clause-stretch c =
     stretch_of (record { init = c.args.init.now; threads = c.args.threads.now }) (choice c.args.threads.now c.locate-position.result.choice) c.len.result (c.args.number - c.locate-position.result.rest) _
-    (omega (arith, c.len.ensures)) c.in_ok-page.ensures.page (c.in_ok-page.ensures.runs ∙ c.in_ok-runs.ensures) refl refl c.locate-position.ensures.end c.locate-position.ensures.found
+    (omega (arith, c.len.ensures)) c.in_ok-page.ensures.page (c.in_ok-page.ensures.runs ∙ c.in_ok-runs.ensures) refl refl c.locate-position.ensures.end c.requires.size c.locate-position.ensures.found
 
 pub returns-clause-last : goal.returns-clause-last
 returns-clause-last c =
