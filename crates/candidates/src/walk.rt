@@ -138,7 +138,7 @@ impl<'a> Walk<'a> {
     pub(crate) fn new(alloc: Global, space: &'a Space, from: u64, to: u64) -> Self
         requires order { from ≤ to }
         requires within { to ≤ size_of space.now }
-            ensures { result ≡ record { space = space.entry.now; next = from; to = to; shown = no_execution } }
+        ensures { result ≡ record { space = space.entry.now; next = from; to = to; shown = no_execution } }
     {
         Walk {
             space,
