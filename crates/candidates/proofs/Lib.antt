@@ -3,6 +3,7 @@ pub mod ByLocation
 pub mod Caps
 pub mod Graphs
 pub mod Law
+pub mod Passing
 pub mod Sources
 pub mod Spaces
 pub mod Steps
