@@ -1,5 +1,10 @@
+pub mod Claims
+pub mod Counts
 pub mod Cuts
+pub mod Drops
+pub mod Listed
 pub mod Readings
+pub mod Results
 pub mod Runs
 pub mod Scenes
 pub mod Search

@@ -1,7 +1,7 @@
 -- A run by one step more.
 use Rattle.std.proofs.Common.{◌≡◌, ℕ, ◌+◌, ◌<◌, ◌≤◌, List, [], ◌∷◌, ◌++◌, length, refl, ◌∙◌, subst, arith, length-append}
-use Rattle.book.specs.declared.bench.Change.{Change}
-use Rattle.book.specs.declared.bench.Change.TheVariants.{Keep, PutCat, PutTest, Open, Hold, End, Take}
+use Rattle.book.specs.declared.plan.Change.{Change}
+use Rattle.book.specs.declared.plan.Change.TheVariants.{Keep, PutCat, DropCat, SetTest, Open, Forget, Release, Hold, End, Take, Close}
 use Rattle.book.specs.declared.limits.Limits.{Limits}
 use Rattle.book.specs.Changes.{changed, IsReady}
 use Rattle.book.specs.Kept.{IsKept}
@@ -12,20 +12,28 @@ use Rattle.book.specs.Workbench.{Workbench, empty}
 pub changed-limits : (s : Workbench) (change : Change) → (changed s change).limits ≡ s.limits
 changed-limits s Keep = refl
 changed-limits s (PutCat name version file) = refl
-changed-limits s (PutTest name slot) = refl
+changed-limits s (DropCat name version) = refl
+changed-limits s (SetTest name slot) = refl
 changed-limits s (Open job) = refl
+changed-limits s (Forget id) = refl
+changed-limits s (Release id) = refl
 changed-limits s (Hold claim) = refl
 changed-limits s (End number seat) = refl
 changed-limits s (Take number seat job part) = refl
+changed-limits s Close = refl
 
 pub changed-last_job : (s : Workbench) (change : Change) → IsReady s change → (changed s change).last_job ≤ s.last_job + 1
 changed-last_job s Keep h = omega arith
 changed-last_job s (PutCat name version file) h = omega arith
-changed-last_job s (PutTest name slot) h = omega arith
+changed-last_job s (DropCat name version) h = omega arith
+changed-last_job s (SetTest name slot) h = omega arith
 changed-last_job s (Open job) h = omega (arith, h)
+changed-last_job s (Forget id) h = omega arith
+changed-last_job s (Release id) h = omega arith
 changed-last_job s (Hold claim) h = omega arith
 changed-last_job s (End number seat) h = omega arith
 changed-last_job s (Take number seat job part) h = omega arith
+changed-last_job s Close h = omega arith
 
 leads-push : (place : ℕ) (s mid s' : Workbench) (journal : List Line) (line : Line) → LeadsFrom place s journal mid → line.place ≡ place + length journal → Step mid line.seat line.said line.reply s' → LeadsFrom place s (journal ++ line ∷ []) s'
 leads-push place s mid s' [] line leads at step = (at ∙ omega arith, (s', subst (λ (v : Workbench). Step v line.seat line.said line.reply s') leads step, refl))

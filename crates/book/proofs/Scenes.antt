@@ -1,10 +1,11 @@
 -- Computed examples of steps and journals.
 use Rattle.std.specs.Prelude.{◌≡◌, refl, true, [], ◌∷◌, codes}
 use Rattle.std.proofs.Common.{inr}
-use Rattle.book.specs.Jobs.{Slice, mark}
+use Rattle.book.specs.Jobs.{mark}
 use Rattle.book.specs.Step.{Step, Legal}
 use Rattle.book.specs.Workbench.{empty}
 use Rattle.book.specs.declared.limits.Limits.{Limits}
+use Rattle.book.specs.declared.slice.Slice.{Slice}
 use Rattle.journal.specs.declared.records.Refusal.TheVariants.{NoJob, NoTest}
 use Rattle.journal.specs.declared.records.Reply.TheVariants.{Nothing, Refused}
 use Rattle.journal.specs.declared.records.Said.TheVariants.{Ask, Poll, Claim}

@@ -1,7 +1,7 @@
 -- Searches of jobs, claims and files.
-use Rattle.std.proofs.Common.{◌≡◌, ℕ, zero, suc, not, ◌||◌, ◌+◌, ◌<◌, ◌==◌, List, [], ◌∷◌, ◌++◌, Bool, true, false, cond, Option, None, Some, length, get_or, take, drop, set, refl, sym, ap, ◌∙◌, arith, add-one, inl, inr, subst}
+use Rattle.std.proofs.Common.{◌≡◌, ℕ, zero, suc, not, ◌||◌, ◌+◌, ◌<◌, ◌==◌, List, [], ◌∷◌, ◌++◌, Bool, true, false, cond, Option, None, Some, Result, Ok, Err, length, get_or, take, drop, set, refl, sym, ap, ◌∙◌, arith, add-one, inl, inr, subst}
 use denote.Ref.{Bor}
-use Rattle.std.specs.Prelude.{if◌then◌else◌, is_some, option_copied, MatchOption}
+use Rattle.std.specs.Prelude.{if◌then◌else◌, is_some, option_copied, MatchOption, OnOk, OnErr}
 use Rattle.std.specs.List.{find, list_any}
 use Rattle.std.proofs.Math.Seq.{drop-cons}
 use Rattle.listings.specs.Lists.{IsIn}
@@ -13,7 +13,7 @@ use Rattle.journal.specs.declared.records.SourceKind.TheVariants.{Cat}
 use Rattle.book.specs.Jobs.{Job, marked}
 use Rattle.book.specs.Workbench.{job_of, marked_in, replaced_file}
 
-here : {X : Type 0} (xs : List X) (i : ℕ) (x : X) → i < length xs → x ≡ get_or xs i x → drop i xs ≡ x ∷ drop (i + 1) xs
+pub here : {X : Type 0} (xs : List X) (i : ℕ) (x : X) → i < length xs → x ≡ get_or xs i x → drop i xs ≡ x ∷ drop (i + 1) xs
 here xs i x h e = drop-cons xs i x h ∙ rw (← e, add-one) refl
 
 if_true : {A : Type 0} (b : Bool) (x y : A) → b ≡ true → (if b then x else y) ≡ x
@@ -85,6 +85,12 @@ set_here (x ∷ xs) (suc i) y h =
 pub marked_in-set : (xs : List Job) (i : ℕ) (x : Job) (number slice : ℕ) → i < length xs → x ≡ get_or xs i x → (x.number == number) ≡ true → marked_in xs number slice ≡ take i xs ++ marked_in (drop i xs) number slice → set xs i (marked slice x) ≡ marked_in xs number slice
 marked_in-set xs i x number slice h e b k = set_here xs i _ h ∙ sym (k ∙ ap (λ v. take i xs ++ v) (marked_in-found xs i x number slice h e b))
 
+-- a list with an element set to itself
+pub set_same : (xs : List Job) (i : ℕ) (x : Job) → i < length xs → x ≡ get_or xs i x → set xs i x ≡ xs
+set_same [] i x h e = absurd (omega (arith, h))
+set_same (y ∷ ys) zero x h e = ap (λ z. z ∷ ys) e
+set_same (y ∷ ys) (suc i) x h e = ap (λ zs. y ∷ zs) (set_same ys i x (omega (arith, h)) e)
+
 -- replaced files, from the front
 
 pub replaced_file-found : (cats : List Entry) (fs : List FileVersion) (i : ℕ) (f : FileVersion) → i < length fs → f ≡ get_or fs i f → (version_of f.name cats == f.version) ≡ false → replaced_file cats (drop i fs) ≡ Some (record { kind = Cat; name = f.name; version = version_of f.name cats })
@@ -109,3 +115,13 @@ match_same (Some x) r e = sym e
 pub match_copied : {X : Type 0} (o : Option (Bor X)) (r : Option X) → option_copied o ≡ r → MatchOption o (r ≡ None) (λ x. r ≡ Some x.now)
 match_copied None r e = sym e
 match_copied (Some x) r e = sym e
+
+-- a result by cases
+
+pub on_ok : {T E A B : Type 0} (r : Result T E) → (A → B) → OnOk r A → OnOk r B
+on_ok (Ok t) f h = f h
+on_ok (Err e) f h = tt
+
+pub on_err : {T E A B : Type 0} (r : Result T E) → (A → B) → OnErr r A → OnErr r B
+on_err (Ok t) f h = tt
+on_err (Err e) f h = f h

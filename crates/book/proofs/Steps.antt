@@ -1,11 +1,10 @@
 -- Steps of an open book, from what was looked up.
-use Rattle.std.proofs.Common.{◌≡◌, ℕ, ◌+◌, ◌<◌, ◌≤◌, ◌||◌, length, Bool, true, false, List, [], ◌∷◌, ◌++◌, Option, None, Some, refl, sym, ap, ◌∙◌, subst, inr, ◌≢◌}
-use Rattle.std.specs.Prelude.{slice_get}
+use Rattle.std.proofs.Common.{◌≡◌, ℕ, ◌+◌, ◌<◌, ◌≤◌, length, true, false, List, [], ◌∷◌, ◌++◌, Option, None, Some, refl, sym, ap, ◌∙◌, subst, inr, ◌≢◌}
 use Rattle.std.specs.Str.{bytes_eq}
 use Rattle.indexmap.specs.IndexMap.{insert_entry}
-use Rattle.std.specs.List.{find}
 use Rattle.cat_model.specs.Faults.{IsCause}
 use Rattle.cat_model.specs.Files.{version_of, store}
+use Rattle.cat_model.specs.declared.files.Entry.{Entry}
 use Rattle.cat_model.specs.Models.{Assembly}
 use Rattle.cat_model.specs.declared.fault.ModelFault.{ModelFault}
 use Rattle.cat_syntax.specs.Reads.{Reads as ReadsCat, IsRefused as IsRefusedCat}
@@ -21,24 +20,23 @@ use Rattle.candidates.specs.declared.fault.SpaceFault.{SpaceFault}
 use Rattle.candidates.specs.declared.fault.SpaceFault.TheVariants as of_space
 use Rattle.book.specs.Changes.{FitsJob}
 use Rattle.book.specs.Jobs as jobs
-use Rattle.book.specs.Jobs.{Slice, done, is_done, marked}
+use Rattle.book.specs.Jobs.{done, is_done, marked}
+use Rattle.book.specs.Results.{HasRoot}
 use Rattle.slices.specs.Judgements.{Judged}
 use Rattle.journal.specs.Lines.{returned}
-use Rattle.slices.specs.Parts.{IsAdmitted, test_size, Part, Portion}
-use Rattle.book.specs.Step.{Step, Asks, Polls, Returns, ReturnsTo, HasRange, IsOwn, ended, taken}
+use Rattle.slices.specs.Parts.{IsAdmitted, test_size, Part}
+use Rattle.book.specs.Step.{Step, Asks, Polls, Returns, ReturnsTo, IsCut, IsOwn, ended, taken}
 use Rattle.slices.specs.Works.{IsModelOf}
 use Rattle.slices.specs.Verdicts.{IsVerdict}
-use Rattle.book.specs.Workbench.{Workbench, test_of, test_version, job_of, claim_of, replaced, is_free, free_among, has_free}
+use Rattle.book.specs.Workbench.{Workbench, test_of, test_version, job_of, claim_of, replaced}
 use Rattle.slices.specs.Works.{Task}
 use Rattle.book.specs.declared.live.Live.{Live}
 use Rattle.journal.specs.declared.records.Replacement.{Replacement}
-use Rattle.journal.specs.declared.records.Refusal.TheVariants.{ReadingTest, ReadingCat, VersionsSpent, NoTest, Model, Space, JobsFull, NoJob, NoClaim, Replaced, Stranger, ClaimsSpent}
+use Rattle.journal.specs.declared.records.Refusal.TheVariants.{ReadingTest, ReadingCat, VersionsSpent, NoTest, Model, Space, JobsFull, NoJob, NoClaim, Replaced, Stranger}
 use Rattle.journal.specs.declared.records.Reply.{Reply}
-use Rattle.journal.specs.declared.records.Reply.TheVariants.{Version, Job, Pending, Verdict, Piece, Nothing, Taken, Refused}
+use Rattle.journal.specs.declared.records.Reply.TheVariants.{Version, Job, Pending, Verdict, Taken, Refused}
 use Rattle.journal.specs.declared.records.Returned.{Returned}
-use Rattle.journal.specs.declared.records.Said.TheVariants.{PutCat, PutTest, Ask, Poll, Claim, Return}
-use Rattle.book.proofs.Cuts.{whole_cut}
-use Rattle.book.proofs.Search.{find_is, find_none, any_is}
+use Rattle.journal.specs.declared.records.Said.TheVariants.{PutCat, PutTest, Ask, Poll, Return}
 
 -- putting
 
@@ -90,15 +88,6 @@ jobs_full s seat test cat t u m work open' e model same made admitted full =
     let is : work.test ≡ t = ap (λ (w : Task). w.test) made ∙ same in
     asks_by s seat test cat (Some t) _ s open' e (m, model, ((let P : Litmus → Type 0 = λ v. IsAdmitted v in subst P is admitted), full, refl))
 
-opened : (s : Workbench) (seat : ℕ) (test cat : Word) (t : Litmus) (m : Assembly) (number version : ℕ) (work : Task) → s.closed ≡ false → test_of s.tests test ≡ Some t → IsModelOf s.cats cat m → IsAdmitted t → length s.jobs < 256 → number ≡ s.last_job + 1 → version ≡ test_version s.tests test → work ≡ record { test = t; model = m }
-    → Step s seat (Ask test cat) (Job number) (record s { last_job = number; jobs = s.jobs ++ record { number = number; version = version; work = work; slices = record { from = 0; to = test_size work.test; returned = false } ∷ [] } ∷ [] })
-opened s seat test cat t m number version work open' e model admitted room n v w =
-    let slices : List Slice = record { from = 0; to = test_size t; returned = false } ∷ [] in
-    let after : ℕ → Task → Workbench = λ u x. record s { last_job = number; jobs = s.jobs ++ record { number = number; version = u; work = x; slices = record { from = 0; to = test_size x.test; returned = false } ∷ [] } ∷ [] } in
-    let P : ℕ → Type 0 = λ u. Step s seat (Ask test cat) (Job number) (after u work) in
-    let Q : Task → Type 0 = λ x. Step s seat (Ask test cat) (Job number) (after (test_version s.tests test) x) in
-    subst P (sym v) (subst Q (sym w) (asks_by s seat test cat (Some t) _ _ open' e (m, model, (admitted, room, n, (slices, whole_cut (test_size t), refl)))))
-
 -- polling
 
 polls_by : (s : Workbench) (seat id : ℕ) (o : Option jobs.Job) (reply : Reply) (s' : Workbench) → s.closed ≡ false → job_of s.jobs id ≡ o → Polls s id o reply s' → Step s seat (Poll id) reply s'
@@ -107,50 +96,14 @@ polls_by s seat id o reply s' open' e step = let P : Option jobs.Job → Type 0 
 pub no_job : (s : Workbench) (seat id : ℕ) → s.closed ≡ false → job_of s.jobs id ≡ None → Step s seat (Poll id) (Refused (NoJob id)) s
 no_job s seat id open' e = polls_by s seat id None _ s open' e (refl, refl)
 
-one_done : (job : jobs.Job) (size : ℕ) (returned : Bool) → job.slices ≡ record { from = 0; to = size; returned = returned } ∷ [] → is_done job ≡ returned
-one_done job size true e = ap (λ xs. is_done (record job { slices = xs })) e
-one_done job size false e = ap (λ xs. is_done (record job { slices = xs })) e
+pub judged : (s : Workbench) (seat id : ℕ) (job : jobs.Job) (v : Judged) → s.closed ≡ false → job_of s.jobs id ≡ Some job → is_done job ≡ true → v.work ≡ job.work → v.version ≡ job.version → IsVerdict v.work.test v.work.model.items v.outcome → Step s seat (Poll id) (Verdict v) s
+judged s seat id job v open' e whole w n right = polls_by s seat id (Some job) _ s open' e (whole, w, n, right, refl)
 
-pub judged : (s : Workbench) (seat id size : ℕ) (job : jobs.Job) (v : Judged) → s.closed ≡ false → job_of s.jobs id ≡ Some job → job.slices ≡ record { from = 0; to = size; returned = true } ∷ [] → v.work ≡ job.work → v.version ≡ job.version → IsVerdict v.work.test v.work.model.items v.outcome → Step s seat (Poll id) (Verdict v) s
-judged s seat id size job v open' e one w n right = polls_by s seat id (Some job) _ s open' e (one_done job size true one, w, n, right, refl)
+pub poll_replaced : (s : Workbench) (seat id : ℕ) (job : jobs.Job) (r : Replacement) → s.closed ≡ false → job_of s.jobs id ≡ Some job → is_done job ≡ false → replaced s job ≡ Some r → Step s seat (Poll id) (Refused (Replaced r)) s
+poll_replaced s seat id job r open' e part f = polls_by s seat id (Some job) _ s open' e (part, f, refl)
 
-pub poll_replaced : (s : Workbench) (seat id size : ℕ) (job : jobs.Job) (r : Replacement) → s.closed ≡ false → job_of s.jobs id ≡ Some job → job.slices ≡ record { from = 0; to = size; returned = false } ∷ [] → replaced s job ≡ Some r → Step s seat (Poll id) (Refused (Replaced r)) s
-poll_replaced s seat id size job r open' e one f = polls_by s seat id (Some job) _ s open' e (one_done job size false one, f, refl)
-
-pub pending : (s : Workbench) (seat id size : ℕ) (job : jobs.Job) → s.closed ≡ false → job_of s.jobs id ≡ Some job → job.slices ≡ record { from = 0; to = size; returned = false } ∷ [] → replaced s job ≡ None → Step s seat (Poll id) (Pending 0 1) s
-pending s seat id size job open' e one f =
-    let count : 0 ≡ done job = sym (ap (λ xs. done (record job { slices = xs })) one) in
-    let total : 1 ≡ length job.slices = sym (ap length one) in
-    polls_by s seat id (Some job) _ s open' e (one_done job size false one, f, count, total, refl)
-
--- claiming
-
-pub nothing : (s : Workbench) (seat : ℕ) → s.closed ≡ false → find (has_free s) s.jobs ≡ None → Step s seat Claim Nothing s
-nothing s seat open' e = inr (open', (find_none (has_free s) s.jobs e, refl))
-
-pub claims_spent : (s : Workbench) (seat : ℕ) (job : jobs.Job) → s.closed ≡ false → find (has_free s) s.jobs ≡ Some job → s.limits.claims ≤ s.last_claim → Step s seat Claim (Refused ClaimsSpent) s
-claims_spent s seat job open' e spent =
-    let found = find_is (has_free s) s.jobs job e in
-    inr (open', (any_is (has_free s) s.jobs job found.0 found.1, spent, refl))
-
-or_false : (b : Bool) → (b || false) ≡ b
-or_false true = refl
-or_false false = refl
-
-pub given : (s : Workbench) (seat number : ℕ) (job : jobs.Job) (p : Portion) → s.closed ≡ false → find (has_free s) s.jobs ≡ Some job → jobs.HasOneSlice job → s.last_claim < s.limits.claims → number ≡ s.last_claim + 1
-    → p ≡ record { claim = number; job = job.number; slice = 0; from = 0; to = test_size job.work.test; work = job.work }
-    → Step s seat Claim (Piece p) (record s { last_claim = number; live = s.live ++ record { number = number; seat = seat; job = job.number; slice = 0 } ∷ [] })
-given s seat number job p open' e has_one room n is =
-    let size = test_size job.work.test in
-    let one = has_one.1 in
-    let found = find_is (has_free s) s.jobs job e in
-    let slice : Slice = record { from = 0; to = size; returned = has_one.0 } in
-    let first : slice_get job.slices 0 ≡ Some slice = ap (λ xs. slice_get xs 0) one in
-    let free : is_free s job 0 slice ≡ true = sym (or_false (is_free s job 0 slice)) ∙ sym (ap (λ xs. free_among s job 0 xs) one) ∙ found.1 in
-    let piece : Portion = record { claim = number; job = job.number; slice = 0; from = 0; to = size; work = job.work } in
-    let same : piece ≡ record { claim = s.last_claim + 1; job = job.number; slice = 0; from = 0; to = size; work = job.work } = ap (λ k. let q : Portion = record { claim = k; job = job.number; slice = 0; from = 0; to = size; work = job.work } in q) n in
-    let P : Portion → Type 0 = λ q. Step s seat Claim (Piece q) (record s { last_claim = number; live = s.live ++ record { number = number; seat = seat; job = job.number; slice = 0 } ∷ [] }) in
-    subst P (sym is) (inr (open', (room, (job, found.0, (slice, first, free, same)), refl)))
+pub pending : (s : Workbench) (seat id d n : ℕ) (job : jobs.Job) → s.closed ≡ false → job_of s.jobs id ≡ Some job → is_done job ≡ false → replaced s job ≡ None → d ≡ done job → n ≡ length job.slices → Step s seat (Poll id) (Pending d n) s
+pending s seat id d n job open' e part f count total = polls_by s seat id (Some job) _ s open' e (part, f, count, total, refl)
 
 -- returning
 
@@ -172,31 +125,31 @@ return_replaced s seat r c job x open' e f h = returns_to s seat r c (Some job) 
 pub return_stranger : (s : Workbench) (seat : ℕ) (r : Returned) (c : Live) (job : jobs.Job) → s.closed ≡ false → claim_of s.live r.claim seat ≡ Some c → job_of s.jobs c.job ≡ Some job → replaced s job ≡ None → ¬ IsOwn c job r → Step s seat (Return r) (Refused (Stranger r.claim)) s
 return_stranger s seat r c job open' e f h not = returns_to s seat r c (Some job) _ _ open' e f (h, not, refl, refl)
 
-pub return_taken : (s : Workbench) (seat : ℕ) (r : Returned) (c : Live) (job : jobs.Job) → s.closed ≡ false → claim_of s.live r.claim seat ≡ Some c → job_of s.jobs c.job ≡ Some job → replaced s job ≡ None → IsOwn c job r → r.slice ≡ 0 → jobs.HasOneSlice job → Step s seat (Return r) (Taken 1 1) (taken s r.claim seat c.job r.slice)
-return_taken s seat r c job open' e f h own first has_one =
-    let one = has_one.1 in
-    let count : 1 ≡ done (marked r.slice job) = sym (ap (λ i. done (marked i job)) first ∙ ap (λ xs. done (marked 0 (record job { slices = xs }))) one) in
-    let total : 1 ≡ length job.slices = sym (ap length one) in
-    returns_to s seat r c (Some job) _ _ open' e f (h, own, refl, count, total)
+pub return_taken : (s : Workbench) (seat d n : ℕ) (r : Returned) (c : Live) (job : jobs.Job) → s.closed ≡ false → claim_of s.live r.claim seat ≡ Some c → job_of s.jobs c.job ≡ Some job → replaced s job ≡ None → IsOwn c job r → d ≡ done (marked r.slice job) → n ≡ length job.slices → Step s seat (Return r) (Taken d n) (taken s r.claim seat c.job r.slice)
+return_taken s seat d n r c job open' e f h own count total = returns_to s seat r c (Some job) _ _ open' e f (h, own, refl, count, total)
 
--- a result that is its claim's own is over all numbers of the job's work
-pub own_sole : (c : Live) (job : jobs.Job) (r : Part) → IsOwn c job (returned r) → r.piece.slice ≡ 0 → jobs.HasOneSlice job → jobs.IsSole job.work r
-own_sole c job r own first one =
-    let slice : Slice = record { from = 0; to = test_size job.work.test; returned = one.0 } in
-    let here : slice_get job.slices r.piece.slice ≡ Some slice = ap (slice_get job.slices) first ∙ ap (λ xs. slice_get xs 0) one.1 in
-    let P : Option Slice → Type 0 = λ o. HasRange o r.piece.from r.piece.to in
-    let range = subst P here own.1 in
-    record { over = record { same = own.2; first = sym range.0; last = sym range.1 }; slice = first }
-
-pub fits_job : (s : Workbench) (number : ℕ) (job : jobs.Job) (r : Part) → job_of s.jobs number ≡ Some job → jobs.IsSole job.work r → FitsJob (job_of s.jobs number) r
-fits_job s number job r e h = let P : Option jobs.Job → Type 0 = λ o. FitsJob o r in subst P (sym e) h
+pub fits_job : (s : Workbench) (number : ℕ) (c : Live) (job : jobs.Job) (r : Part) → job_of s.jobs number ≡ Some job → IsOwn c job (returned r) → FitsJob (job_of s.jobs number) r
+fits_job s number c job r e own = let P : Option jobs.Job → Type 0 = λ o. FitsJob o r in subst P (sym e) (record { work = own.2; range = own.1 })
 
 pub opened_job : (s : Workbench) (seat : ℕ) (test cat : Word) (t u : Litmus) (m : Assembly) (number version : ℕ) (work w : Task) (job : jobs.Job) → s.closed ≡ false → test_of s.tests test ≡ Some t → IsModelOf s.cats cat m → u ≡ t → work ≡ record { test = u; model = m } → IsAdmitted work.test → length s.jobs < 256 → number ≡ s.last_job + 1 → version ≡ test_version s.tests test → w ≡ work
-    → job ≡ record { number = number; version = version; work = w; slices = record { from = 0; to = test_size w.test; returned = false } ∷ [] }
+    → job.number ≡ number → job.version ≡ version → job.work ≡ w → IsCut (test_size w.test) job.slices
     → Step s seat (Ask test cat) (Job number) (record s { last_job = job.number; jobs = s.jobs ++ job ∷ [] })
-opened_job s seat test cat t u m number version work w job open' e model same made admitted room n v kept is =
+opened_job s seat test cat t u m number version work w job open' e model same made admitted room n v kept jn jv jw cut =
     let P : Litmus → Type 0 = λ x. work ≡ record { test = x; model = m } in
     let made' : work ≡ record { test = t; model = m } = subst P same made in
+    let is : w ≡ record { test = t; model = m } = kept ∙ made' in
     let A : Task → Type 0 = λ x. IsAdmitted x.test in
-    let after : jobs.Job → Type 0 = λ j. Step s seat (Ask test cat) (Job number) (record s { last_job = j.number; jobs = s.jobs ++ j ∷ [] }) in
-    subst after (sym is) (opened s seat test cat t m number version w open' e model (subst A made' admitted) room n v (kept ∙ made'))
+    let C : Task → Type 0 = λ x. IsCut (test_size x.test) job.slices in
+    let after : ℕ → ℕ → Task → Workbench = λ i k x. record s { last_job = i; jobs = s.jobs ++ record { number = i; version = k; work = x; slices = job.slices } ∷ [] } in
+    let same_state : after job.number job.version job.work ≡ after number (test_version s.tests test) (record { test = t; model = m }) =
+    ap (λ i. after i job.version job.work) jn ∙ ap (λ k. after number k job.work) (jv ∙ v) ∙ ap (after number (test_version s.tests test)) (jw ∙ is) in
+    asks_by s seat test cat (Some t) _ _ open' e (m, model, (subst A made' admitted, room, n, (job.slices, subst C is cut, same_state)))
+
+-- the files of a model begin with its root
+pub has_root : (cats : List Entry) (root : Word) (m : Assembly) → IsModelOf cats root m → HasRoot m.files
+has_root cats root m h = subst HasRoot (sym h.closure.files_are) tt
+
+pub work_root : (cats : List Entry) (root : Word) (u : Litmus) (m : Assembly) (work w : Task) → IsModelOf cats root m → work ≡ record { test = u; model = m } → w ≡ work → HasRoot w.model.files
+work_root cats root u m work w h made kept =
+    let P : Task → Type 0 = λ x. HasRoot x.model.files in
+    subst P (sym (kept ∙ made)) (has_root cats root m h)

@@ -1,31 +1,41 @@
 -- What a call does to the workbench.
-use Rattle.std.specs.Prelude.{◌≡◌, ◌+◌, ◌<◌, [], ◌∷◌, ◌++◌, Option, None, Some}
+use Rattle.std.specs.Prelude.{◌≡◌, ◌+◌, ◌<◌, true, [], ◌∷◌, ◌++◌, Option, None, Some, is_some, slice_get}
 use Rattle.std.specs.Str.{bytes_eq}
 use Rattle.indexmap.specs.IndexMap.{insert_entry}
-use Rattle.cat_model.specs.Files.{version_of, store}
-use Rattle.book.specs.Jobs.{Job, IsSole}
+use Rattle.cat_model.specs.Files.{version_of, loaded, store}
+use Rattle.book.specs.Jobs.{Job}
 use Rattle.slices.specs.Parts.{Part}
-use Rattle.book.specs.Step.{ended, taken}
+use Rattle.book.specs.Step.{HasRange, ended, taken, released, forgotten}
 use Rattle.book.specs.Workbench.{Workbench, job_of}
-use Rattle.book.specs.declared.bench.Change.{Change}
-use Rattle.book.specs.declared.bench.Change.TheVariants.{Keep, PutCat, PutTest, Open, Hold, End, Take}
+use Rattle.book.specs.declared.plan.Change.{Change}
+use Rattle.book.specs.declared.plan.Change.TheVariants.{Keep, PutCat, DropCat, SetTest, Open, Forget, Release, Hold, End, Take, Close}
 
 abbrev pub changed : Workbench → Change → Workbench
 changed s Keep = s
 changed s (PutCat name version file) = record s { cats = store (record { name = name; version = version; file = Some file }) s.cats }
-changed s (PutTest name slot) = record s { tests = insert_entry bytes_eq s.tests name slot }
+changed s (DropCat name version) = record s { cats = store (record { name = name; version = version; file = None }) s.cats }
+changed s (SetTest name slot) = record s { tests = insert_entry bytes_eq s.tests name slot }
 changed s (Open job) = record s { last_job = job.number; jobs = s.jobs ++ job ∷ [] }
+changed s (Forget id) = forgotten s id
+changed s (Release id) = released s id
 changed s (Hold claim) = record s { last_claim = claim.number; live = s.live ++ claim ∷ [] }
 changed s (End number seat) = ended s number seat
 changed s (Take number seat job part) = taken s number seat job part.piece.slice
+changed s Close = record s { closed = true }
+
+-- the result is of the job's work, and of a slice that it has
+pub record IsFit (job : Job) (part : Part) : Type 0 where
+  pub work : part.piece.work ≡ job.work
+  pub range : HasRange (slice_get job.slices part.piece.slice) part.piece.from part.piece.to
 
 abbrev pub FitsJob : Option Job → Part → Type 0
 FitsJob None part = ⊥
-FitsJob (Some job) part = IsSole job.work part
+FitsJob (Some job) part = IsFit job part
 
--- A taken result must be of a job that is there, and a put raises the version.
+-- A taken result must be of a job that is there, a put or a drop raises the version, and what is dropped must be there.
 abbrev pub IsReady : Workbench → Change → Type 0
 IsReady s (Take number seat job part) = FitsJob (job_of s.jobs job) part
 IsReady s (PutCat name version file) = version_of name s.cats < version
+IsReady s (DropCat name version) = (is_some (loaded name s.cats) ≡ true) × (version_of name s.cats < version)
 IsReady s (Open job) = job.number ≡ s.last_job + 1
 IsReady s _ = Unit {0}

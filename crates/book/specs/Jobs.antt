@@ -1,14 +1,8 @@
 -- Jobs.
-use Rattle.std.specs.Prelude.{◌≡◌, ℕ, zero, suc, Bool, true, List, [], ◌∷◌, count_by}
+use Rattle.std.specs.Prelude.{ℕ, zero, suc, Bool, true, List, [], ◌∷◌, count_by}
 use Rattle.std.specs.List.{list_all}
-use Rattle.slices.specs.Parts.{Part, IsOver, test_size}
 use Rattle.slices.specs.Works.{Task}
-
--- A slice of a job: its numbers run from `from` to `to - 1`.
-pub record Slice : Type 0 where
-  pub from : ℕ
-  pub to : ℕ
-  pub returned : Bool
+use Rattle.book.specs.declared.slice.Slice.{Slice}
 
 -- A job: its number, the version of its test, its work with the files and their versions, and its slices.
 pub record Job : Type 0 where
@@ -34,12 +28,3 @@ mark (suc i) (x ∷ xs) = x ∷ mark i xs
 -- the job with that slice returned
 abbrev pub marked : ℕ → Job → Job
 marked i job = record job { slices = mark i job.slices }
-
--- A result over all numbers of a work, as its one slice.
-pub record IsSole (work : Task) (r : Part) : Type 0 where
-  pub over : IsOver work r
-  pub slice : r.piece.slice ≡ 0
-
--- The job has one slice over all numbers.
-abbrev pub HasOneSlice : Job → Type 0
-HasOneSlice job = (returned : Bool) × (job.slices ≡ record { from = 0; to = test_size job.work.test; returned = returned } ∷ [])

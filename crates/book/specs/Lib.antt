@@ -1,8 +1,12 @@
 pub mod BenchCodes
 pub mod Changes
+pub mod Cuts
+pub mod Frees
 pub mod JobCodes
 pub mod Jobs
 pub mod Kept
+pub mod Listings
 pub mod NameCodes
+pub mod Results
 pub mod Step
 pub mod Workbench

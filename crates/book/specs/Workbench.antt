@@ -8,10 +8,11 @@ use Rattle.cat_model.specs.Files.{version_of}
 use Rattle.cat_model.specs.declared.files.Entry.{Entry}
 use Rattle.cat_model.specs.declared.model.FileVersion.{FileVersion}
 use Rattle.litmus_tree.specs.Tree.{Word, Litmus}
-use Rattle.book.specs.Jobs.{Job, Slice, marked}
+use Rattle.book.specs.Jobs.{Job, marked}
 use Rattle.book.specs.declared.limits.Limits.{Limits}
 use Rattle.book.specs.declared.names.TestSlot.{TestSlot}
 use Rattle.book.specs.declared.live.Live.{Live}
+use Rattle.book.specs.declared.slice.Slice.{Slice}
 use Rattle.journal.specs.declared.records.Replacement.{Replacement}
 use Rattle.journal.specs.declared.records.SourceKind.TheVariants.{Test, Cat}
 

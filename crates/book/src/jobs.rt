@@ -1,30 +1,35 @@
 //! Jobs.
 
-ghost use Rattle.std.specs.Prelude.{◌≡◌, ◌↔◌, ◌∷◌, [], true, false, IfOk, IsTrue, slice_get};
-ghost use Rattle.slices.specs.Parts.{IsRange, test_size};
-ghost use Rattle.book.specs.Step.{HasRange};
+ghost use Rattle.std.specs.Prelude.{◌≡◌, ◌↔◌, ◌<◌, ◌≤◌, true, length, IfOk, OnOk, OnErr, IsTrue, slice_get};
+ghost use Rattle.slices.specs.Parts.{test_size};
 ghost use Rattle.slices.specs.Verdicts.{IsVerdict};
-ghost use Rattle.book.specs.Jobs.{HasOneSlice, IsSole, is_done, marked};
+ghost use Rattle.book.specs.Jobs.{done, is_done, marked};
+ghost use Rattle.book.specs.Listings.{root_of, row_of};
+ghost use Rattle.book.specs.Results.{HasRoot};
+ghost use Rattle.book.specs.Step.{HasRange, IsCut};
 
-use slices::{Piece, PieceResult, Verdict, WorkRef};
-use std::alloc::AllocError;
+use crate::cutting::cut;
+use crate::slice::Slice;
+use journal::JobRow;
+use slices::{Piece, PieceResult, Tally, Verdict, WorkRef};
+use std::alloc::{AllocError, Global};
 use std::marker::Model;
+use wb_text::Name;
 
-/// A job of one slice over all numbers of its work, with the result of that slice once it is returned. Contracts see
-/// the job without the result.
+/// A job: its work is cut into slices, and the results of those that are returned are merged. Contracts see the job
+/// without the results.
 #[derive(Drop)]
 pub struct Job {
     number: u32,
     version: u32,
-    work: WorkRef,
-    result: Option<PieceResult>,
+    slices: Vec<Slice>,
+    tally: Tally,
 }
 
 impl Model for Job {
-    ghost use Rattle.std.specs.Prelude.{◌∷◌, [], IfSome, is_some};
-    ghost use Rattle.slices.specs.Parts.{test_size};
     ghost use Rattle.book.specs.JobCodes.{coded_job};
-    ghost use Rattle.book.specs.Jobs.{Job, IsSole};
+    ghost use Rattle.book.specs.Jobs.{Job};
+    ghost use Rattle.book.specs.Results.{IsTied};
 
     ghost Value = { Job };
 
@@ -33,24 +38,31 @@ impl Model for Job {
     ghost view = { λ j. record {
       number = j.number;
       version = j.version;
-      work = j.work;
-      slices = record { from = 0; to = test_size j.work.test; returned = is_some j.result } ∷ [];
+      work = j.tally.work;
+      slices = j.slices.items;
     } };
 
-    ghost invariant = { λ j. IfSome j.result (IsSole j.work) };
+    ghost invariant = { λ j. IsTied j.tally j.slices.items };
 }
 
 impl Job {
     /// The job of a work, with nothing returned.
-    pub fn new(number: u32, version: u32, work: WorkRef) -> Self
-        ensures { result ≡ record { number = number; version = version; work = work; slices = record { from = 0; to = test_size work.test; returned = false } ∷ [] } }
+    #[tactic(auto, using(crate::proofs::Results::fresh_tied))]
+    pub fn new(alloc: Global, number: u32, version: u32, work: WorkRef) -> Result<Self, AllocError>
+        requires { HasRoot work.model.files }
+        ensures number { IfOk result (λ j. j.number ≡ number) }
+        ensures version { IfOk result (λ j. j.version ≡ version) }
+        ensures work { IfOk result (λ j. j.work ≡ work) }
+        ensures cut { IfOk result (λ j. IsCut (test_size work.test) j.slices) }
     {
-        Job {
+        let slices = cut(alloc, work.work().size())?;
+        let tally = Tally::new(alloc, work)?;
+        Ok(Job {
             number,
             version,
-            work,
-            result: None,
-        }
+            slices,
+            tally,
+        })
     }
 
     /// Its number.
@@ -71,53 +83,138 @@ impl Job {
     pub fn work(&self) -> &WorkRef
         ensures { result.now ≡ self.now.work }
     {
-        &self.work
+        self.tally.work()
     }
 
-    /// Whether its slice is returned.
-    pub fn is_returned(&self) -> bool
-        ensures { self.now.slices ≡ record { from = 0; to = test_size self.now.work.test; returned = result } ∷ [] }
+    /// Its slices.
+    pub fn slices(&self) -> &[Slice]
+        ensures slices { result.now ≡ self.now.slices }
+        ensures few { length self.now.slices ≤ 256 }
     {
-        self.result.is_some()
+        &self.slices
     }
 
-    /// Its slice, given under a claim.
-    pub fn piece(&self, claim: u32) -> Result<Piece, AllocError>
-        ensures one { HasOneSlice self.now }
-        ensures piece { IfOk result (λ p. p ≡ record { claim = claim; job = self.now.number; slice = 0; from = 0; to = test_size self.now.work.test; work = self.now.work }) }
+    /// How many slices are returned.
+    pub fn done(&self) -> usize
+        ensures { result ≡ done self.now }
     {
-        let work = self.work.share()?;
-        let size = work.work().size();
-        Ok(Piece::new(claim, self.number, 0, 0, size, work))
+        self.slices.iter().filter(|slice| slice.returned).count()
+    }
+
+    /// How many are returned once this one is.
+    #[tactic(auto, using(crate::proofs::Results::done_few, crate::proofs::Results::done_then, crate::proofs::Results::done_again, crate::proofs::Results::done_beyond))]
+    pub fn done_with(&self, slice: u16) -> usize
+        ensures { result ≡ done (marked slice self.now) }
+    {
+        match self.slices.get(slice as usize) {
+            Some(slice) => {
+                if slice.returned {
+                    self.done()
+                } else {
+                    self.done() + 1
+                }
+            }
+            None => self.done(),
+        }
+    }
+
+    /// How many slices there are.
+    pub fn total(&self) -> usize
+        ensures { result ≡ length self.now.slices }
+    {
+        self.slices.len()
+    }
+
+    /// Whether all slices are returned.
+    pub fn is_done(&self) -> bool
+        ensures { result ≡ is_done self.now }
+    {
+        self.slices.iter().all(|slice| slice.returned)
+    }
+
+    /// The name of the root of its model.
+    #[tactic(auto, using(crate::proofs::Results::root_first, crate::proofs::Results::some_root))]
+    pub fn root(&self) -> &Name
+        ensures { result.now ≡ root_of self.now.work.model.files }
+    {
+        match self.tally.work().work().model().files().get(0) {
+            Some(file) => &file.name,
+            None => unreachable!(),
+        }
+    }
+
+    /// The job as it is listed.
+    pub fn row(&self) -> Result<JobRow, AllocError>
+        ensures { IfOk result (λ r. r ≡ row_of self.now) }
+    {
+        Ok(JobRow {
+            number: self.number,
+            test: self.work().work().test().name().copy()?,
+            cat: self.root().copy()?,
+            done: self.done(),
+            total: self.total(),
+        })
+    }
+
+    /// A slice, given under a claim.
+    #[tactic(auto, using(crate::proofs::Results::get_here, crate::proofs::Results::is_range, crate::proofs::Results::has_range))]
+    pub fn piece(&self, claim: u32, slice: u16) -> Result<Piece, AllocError>
+        requires { slice < length self.now.slices }
+        ensures claim { IfOk result (λ p. p.claim ≡ claim) }
+        ensures job { IfOk result (λ p. p.job ≡ self.now.number) }
+        ensures slice { IfOk result (λ p. p.slice ≡ slice) }
+        ensures range { IfOk result (λ p. HasRange (slice_get self.now.slices slice) p.from p.to) }
+        ensures work { IfOk result (λ p. p.work ≡ self.now.work) }
+    {
+        let range = self.slices[slice as usize];
+        let work = self.work().share()?;
+        Ok(Piece::new(claim, self.number, slice, range.from, range.to, work))
     }
 
     /// Whether a slice has this range.
     pub fn has_range(&self, slice: u16, from: u64, to: u64) -> bool
-        ensures range { IsTrue result ↔ HasRange (slice_get self.now.slices slice) from to }
-        ensures first { IsTrue result → slice ≡ 0 }
-        ensures one { IsTrue result → HasOneSlice self.now }
+        ensures { IsTrue result ↔ HasRange (slice_get self.now.slices slice) from to }
     {
-        slice == 0 && from == 0 && to == self.work.work().size()
+        match self.slices.get(slice as usize) {
+            Some(slice) => slice.from == from && slice.to == to,
+            None => false,
+        }
     }
 
-    /// Takes the result of its slice.
-    pub fn take(&mut self, part: PieceResult)
-        requires { IsSole self.old.work part }
-        ensures { self.new ≡ marked part.piece.slice self.old }
+    /// Takes the result of a slice, or changes nothing. A slice that is returned keeps its first result.
+    #[tactic(auto, using(crate::proofs::Results::inside, crate::proofs::Results::get_here, crate::proofs::Results::range_here))]
+    pub fn take(&mut self, part: PieceResult) -> Result<(), AllocError>
+        requires work { part.piece.work ≡ self.old.work }
+        requires range { HasRange (slice_get self.old.slices part.piece.slice) part.piece.from part.piece.to }
+        ensures ok { OnOk result (self.new ≡ marked part.piece.slice self.old) }
+        ensures err { OnErr result (self.new ≡ self.old) }
     {
-        self.result = Some(part);
+        let place = part.piece().slice() as usize;
+        let slice = self.slices[place];
+        if slice.returned {
+            return Ok(());
+        }
+        match self.tally.merge(part) {
+            Ok(()) => {
+                self.slices[place] = Slice {
+                    from: slice.from,
+                    to: slice.to,
+                    returned: true,
+                };
+                Ok(())
+            }
+            Err(_) => Err(AllocError),
+        }
     }
 
-    /// The verdict, where all is returned, for this version of the test.
-    pub fn verdict(&self, test_version: u32) -> Result<Verdict, AllocError>
+    /// The verdict, where all is returned.
+    #[tactic(auto, using(crate::proofs::Results::all_covered))]
+    pub fn verdict(&self) -> Result<Verdict, AllocError>
         requires { is_done self.now ≡ true }
         ensures work { IfOk result (λ v. v.work ≡ self.now.work) }
-        ensures version { IfOk result (λ v. v.version ≡ test_version) }
+        ensures version { IfOk result (λ v. v.version ≡ self.now.version) }
         ensures right { IfOk result (λ v. IsVerdict v.work.test v.work.model.items v.outcome) }
     {
-        match &self.result {
-            Some(part) => Verdict::of(&self.work, test_version, part),
-            None => unreachable!(),
-        }
+        self.tally.verdict(self.version)
     }
 }

@@ -2,13 +2,14 @@
 
 ghost use Rattle.std.specs.Prelude.{◌≡◌, ◌<◌, ◌≤◌, ◌+◌, ◌^◌, ◌∷◌, ◌++◌, [], length, true, IfOk, IfErr, OnOk, OnErr};
 ghost use Rattle.std.specs.Arc.{arc_value};
-ghost use Rattle.book.specs.Kept.{lines, IsKept};
+ghost use Rattle.book.specs.Kept.{lines, is_ready, IsKept};
 ghost use Rattle.journal.specs.Lines.{answers, seen};
 ghost use Rattle.book.specs.Step.{Legal, Step};
 ghost use Rattle.book.specs.Workbench.{empty};
 
-use crate::bench::{Bench, Plan};
+use crate::bench::Bench;
 use crate::limits::Limits;
+use crate::plan::Plan;
 use journal::{Command, Entry, Reply};
 use std::alloc::{AllocError, Global};
 use std::marker::Model;
@@ -126,6 +127,23 @@ impl Book {
         ensures legal { Legal self.now.limits (lines result.now) }
     {
         self.journal.as_slice()
+    }
+
+    /// The entries, once the book is no longer needed: a legal journal.
+    pub fn into_journal(self) -> Vec<Arc<Entry>>
+        ensures journal { lines result.items ≡ self.journal }
+        ensures legal { Legal self.limits (lines result.items) }
+    {
+        self.journal
+    }
+
+    /// Whether a worker has something to do: a slice is free, the book is closed or the journal is full.
+    pub fn ready(&self) -> bool
+        ensures { result ≡ is_ready self.now }
+    {
+        self.bench.any_free()
+            || self.bench.is_closed()
+            || self.limits.journal as usize <= self.journal.len()
     }
 }
 

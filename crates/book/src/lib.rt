@@ -2,17 +2,25 @@
 #![tactic(auto)]
 
 mod bench;
+mod cutting;
 mod jobs;
 mod kept;
 mod limits;
 mod live;
 mod names;
+mod plan;
 mod reading;
+mod slice;
 
-pub use bench::{Bench, Change, Plan};
+pub use bench::Bench;
 pub use jobs::Job;
-pub use journal::{Command, Entry, Refusal, Replacement, Reply, Returned, Said, SourceKind, Text};
+pub use journal::{
+    Command, Entry, JobRow, Listing, Loaded, Refusal, Replacement, Reply, Returned, Said,
+    SourceKind, Text,
+};
 pub use kept::{Book, Refused};
 pub use limits::Limits;
 pub use live::Live;
 pub use names::{TestSlot, Tests};
+pub use plan::{Change, Plan};
+pub use slice::Slice;

@@ -1,11 +1,13 @@
 //! Tests by name, in first-loaded order.
 
-ghost use Rattle.std.specs.Prelude.{◌≡◌, [], None, Some, OnOk, OnErr, MatchOption};
+ghost use Rattle.std.specs.Prelude.{◌≡◌, [], None, Some, IfOk, OnOk, OnErr, MatchOption, option_map, slice_get};
 ghost use Rattle.std.specs.Str.{bytes_eq};
 ghost use Rattle.indexmap.specs.IndexMap.{insert_entry};
+ghost use Rattle.book.specs.Listings.{is_test, listed_tests};
 ghost use Rattle.book.specs.Workbench.{test_version, test_of};
 
 use indexmap::IndexMap;
+use journal::Loaded;
 use slices::TestRef;
 use std::alloc::{AllocError, Global};
 use std::marker::Model;
@@ -75,5 +77,46 @@ impl Tests {
     {
         self.slots.insert(name, slot)?;
         Ok(())
+    }
+
+    /// The name at a place among those ever put, in order of first put.
+    fn name_at(&self, place: usize) -> Option<&Name>
+        ensures { option_map (λ x. x.now) result ≡ option_map (λ e. e.0) (slice_get self.now place) }
+    {
+        match self.slots.get_index(place) {
+            Some((name, _)) => Some(name),
+            None => None,
+        }
+    }
+
+    /// Whether a test was put under this name and not dropped.
+    pub fn is_there(&self, name: &Name) -> bool
+        ensures { result ≡ is_test self.now name.now }
+    {
+        match self.slots.get(name) {
+            Some(slot) => slot.tree.is_some(),
+            None => false,
+        }
+    }
+
+    /// The loaded tests, in the order in which their names were first put.
+    #[tactic(auto, using(crate::proofs::Listed::test_there, crate::proofs::Listed::test_away, crate::proofs::Listed::no_more))]
+    pub fn listed(&self, alloc: Global) -> Result<Vec<Loaded>, AllocError>
+        ensures { IfOk result (λ v. v.items ≡ listed_tests self.now) }
+    {
+        let mut listed = Vec::new(alloc);
+        for place in 0..usize::MAX {
+            let Some(name) = self.name_at(place) else {
+                return Ok(listed);
+            };
+            if self.is_there(name) {
+                listed.push(Loaded {
+                    name: name.copy()?,
+                    version: self.version(name),
+                })?;
+            }
+        }
+        // No memory holds so many names.
+        Err(AllocError)
     }
 }

@@ -14,7 +14,7 @@ const STRANGER: Script = Script {
         Step::Foreign,
         Step::Return(2),
     ],
-    answers: &[(3, Answer::Stranger), (4, Answer::Taken)],
+    answers: &[(3, Answer::Stranger), (4, Answer::Taken(1, 1))],
 };
 
 #[test]
@@ -46,6 +46,232 @@ fn spent_versions(rt: HostRuntime) {
     assert!(rt; plays(rt.alloc(), &SPENT_VERSIONS));
 }
 
+/// A dropped file's version goes on.
+const SPENT: Script = Script {
+    limits: Limits {
+        journal: 20,
+        versions: 2,
+        claims: 1,
+    },
+    steps: &[
+        Step::Cat(b"a.cat", b""),
+        Step::DropCat(b"a.cat"),
+        Step::Cat(b"a.cat", b""),
+        Step::Test(SB),
+        Step::Ask(b"SB", b"rc11.cat"),
+        Step::Claim,
+        Step::GiveBack(1),
+        Step::Claim,
+    ],
+    answers: &[
+        (0, Answer::Version(1)),
+        (1, Answer::Version(2)),
+        (2, Answer::VersionsSpent),
+        (5, Answer::Piece(0, 0, 16)),
+        (6, Answer::Done),
+        (7, Answer::ClaimsSpent),
+    ],
+};
+
+#[test]
+fn spent(rt: HostRuntime) {
+    assert!(rt; plays(rt.alloc(), &SPENT));
+}
+
+/// A slice is released and claimed again, and the late result comes back.
+const RELEASE: Script = Script {
+    limits: WIDE,
+    steps: &[
+        Step::Test(SB),
+        Step::Ask(b"SB", b"rc11.cat"),
+        Step::ClaimBy(1),
+        Step::Release(1),
+        Step::ClaimBy(2),
+        Step::ReturnBy(1, 2),
+        Step::ReturnBy(1, 4),
+        Step::ReturnBy(2, 4),
+        Step::ReturnBy(2, 4),
+        Step::Claim,
+        Step::Poll(1),
+        Step::Forget(1),
+        Step::Poll(1),
+        Step::Close,
+        Step::List,
+    ],
+    answers: &[
+        (2, Answer::Piece(0, 0, 16)),
+        (3, Answer::Freed(1)),
+        (4, Answer::Piece(0, 0, 16)),
+        (5, Answer::NoClaim(1)),
+        (6, Answer::NoClaim(2)),
+        (7, Answer::Taken(1, 1)),
+        (8, Answer::NoClaim(2)),
+        (9, Answer::Nothing),
+        (10, Answer::Verdict(1, 3)),
+        (11, Answer::Done),
+        (12, Answer::NoJob(1)),
+        (13, Answer::Done),
+        (14, Answer::Closed),
+    ],
+};
+
+#[test]
+fn script_release(rt: HostRuntime) {
+    assert!(rt; plays(rt.alloc(), &RELEASE));
+}
+
+/// Names are listed where they are loaded.
+const LISTED: Script = Script {
+    limits: WIDE,
+    steps: &[
+        Step::List,
+        Step::Cat(b"a.cat", b""),
+        Step::Test(SB),
+        Step::Ask(b"SB", b"a.cat"),
+        Step::List,
+        Step::DropCat(b"a.cat"),
+        Step::DropTest(b"SB"),
+        Step::List,
+        Step::DropTest(b"SB"),
+        Step::DropCat(b"rc11.cat"),
+        Step::Cat(b"a.cat", b""),
+        Step::List,
+    ],
+    answers: &[
+        (0, Answer::Listed(0, 0, 0)),
+        (4, Answer::Listed(1, 1, 1)),
+        (7, Answer::Listed(0, 0, 1)),
+        (8, Answer::NoName),
+        (9, Answer::NoName),
+        (10, Answer::Version(3)),
+        (11, Answer::Listed(0, 1, 1)),
+    ],
+};
+
+#[test]
+fn what_is_dropped_is_not_listed(rt: HostRuntime) {
+    assert!(rt; plays(rt.alloc(), &LISTED));
+}
+
+/// One thread with 12 stores to one location: 479,001,600 candidates.
+const STORES: &[u8] = b"C S {} P0 (atomic_int* x) {
+atomic_store_explicit(x, 1, memory_order_relaxed); atomic_store_explicit(x, 1, memory_order_relaxed);
+atomic_store_explicit(x, 1, memory_order_relaxed); atomic_store_explicit(x, 1, memory_order_relaxed);
+atomic_store_explicit(x, 1, memory_order_relaxed); atomic_store_explicit(x, 1, memory_order_relaxed);
+atomic_store_explicit(x, 1, memory_order_relaxed); atomic_store_explicit(x, 1, memory_order_relaxed);
+atomic_store_explicit(x, 1, memory_order_relaxed); atomic_store_explicit(x, 1, memory_order_relaxed);
+atomic_store_explicit(x, 1, memory_order_relaxed); atomic_store_explicit(x, 1, memory_order_relaxed);
+} exists (x=1)";
+
+/// Thirteen stores: 6,227,020,800 candidates.
+const MORE_STORES: &[u8] = b"C S {} P0 (atomic_int* x) {
+atomic_store_explicit(x, 1, memory_order_relaxed); atomic_store_explicit(x, 1, memory_order_relaxed);
+atomic_store_explicit(x, 1, memory_order_relaxed); atomic_store_explicit(x, 1, memory_order_relaxed);
+atomic_store_explicit(x, 1, memory_order_relaxed); atomic_store_explicit(x, 1, memory_order_relaxed);
+atomic_store_explicit(x, 1, memory_order_relaxed); atomic_store_explicit(x, 1, memory_order_relaxed);
+atomic_store_explicit(x, 1, memory_order_relaxed); atomic_store_explicit(x, 1, memory_order_relaxed);
+atomic_store_explicit(x, 1, memory_order_relaxed); atomic_store_explicit(x, 1, memory_order_relaxed);
+atomic_store_explicit(x, 1, memory_order_relaxed);
+} exists (x=1)";
+
+/// One thread with 13 loads from one location: 8,192 runs.
+const LOADS: &[u8] = b"C L {} P0 (atomic_int* x) {
+int r0 = atomic_load_explicit(x, memory_order_relaxed);
+r0 = atomic_load_explicit(x, memory_order_relaxed); r0 = atomic_load_explicit(x, memory_order_relaxed);
+r0 = atomic_load_explicit(x, memory_order_relaxed); r0 = atomic_load_explicit(x, memory_order_relaxed);
+r0 = atomic_load_explicit(x, memory_order_relaxed); r0 = atomic_load_explicit(x, memory_order_relaxed);
+r0 = atomic_load_explicit(x, memory_order_relaxed); r0 = atomic_load_explicit(x, memory_order_relaxed);
+r0 = atomic_load_explicit(x, memory_order_relaxed); r0 = atomic_load_explicit(x, memory_order_relaxed);
+r0 = atomic_load_explicit(x, memory_order_relaxed); r0 = atomic_load_explicit(x, memory_order_relaxed);
+} exists (0:r0=0)";
+
+/// The job of twelve stores has 256 slices. The first runs to 479,001,600 / 256, rounded down.
+const SIZES: Script = Script {
+    limits: WIDE,
+    steps: &[
+        Step::Test(STORES),
+        Step::Ask(b"S", b"stdlib.cat"),
+        Step::Poll(1),
+        Step::Claim,
+        Step::Claim,
+        Step::Test(MORE_STORES),
+        Step::Ask(b"S", b"stdlib.cat"),
+        Step::Test(LOADS),
+        Step::Ask(b"L", b"stdlib.cat"),
+    ],
+    answers: &[
+        (2, Answer::Pending(0, 256)),
+        (3, Answer::Piece(0, 0, 1871100)),
+        (4, Answer::Piece(1, 1871100, 3742200)),
+        (6, Answer::TooManyCandidates),
+        (8, Answer::TooManyRuns(0)),
+    ],
+};
+
+#[test]
+fn sizes(rt: HostRuntime) {
+    assert!(rt; plays(rt.alloc(), &SIZES));
+}
+
+/// Two writers, and two readers that see them in unlike orders. With 2 and 3 in registers there are four values, so that
+/// there are 4,096 candidates.
+const IRIW: &[u8] = b"C IRIW
+{ 0:r8=2; 0:r9=3; }
+P0 (atomic_int* x) {
+  atomic_store_explicit(x, 1, memory_order_release);
+}
+P1 (atomic_int* y) {
+  atomic_store_explicit(y, 1, memory_order_release);
+}
+P2 (atomic_int* x, atomic_int* y) {
+  int r0 = atomic_load_explicit(x, memory_order_acquire);
+  int r1 = atomic_load_explicit(y, memory_order_acquire);
+}
+P3 (atomic_int* x, atomic_int* y) {
+  int r0 = atomic_load_explicit(y, memory_order_acquire);
+  int r1 = atomic_load_explicit(x, memory_order_acquire);
+}
+exists (2:r0=1 /\\ 2:r1=0 /\\ 3:r0=1 /\\ 3:r1=0)
+";
+
+/// Their four slices are returned from the last to the first.
+const FOUR_SLICES: Script = Script {
+    limits: WIDE,
+    steps: &[
+        Step::Test(IRIW),
+        Step::Ask(b"IRIW", b"rc11.cat"),
+        Step::Claim,
+        Step::Claim,
+        Step::Claim,
+        Step::Claim,
+        Step::Claim,
+        Step::Return(5),
+        Step::Return(4),
+        Step::Return(3),
+        Step::Poll(1),
+        Step::Return(2),
+        Step::Poll(1),
+    ],
+    answers: &[
+        (2, Answer::Piece(0, 0, 1024)),
+        (3, Answer::Piece(1, 1024, 2048)),
+        (4, Answer::Piece(2, 2048, 3072)),
+        (5, Answer::Piece(3, 3072, 4096)),
+        (6, Answer::Nothing),
+        (7, Answer::Taken(1, 4)),
+        (8, Answer::Taken(2, 4)),
+        (9, Answer::Taken(3, 4)),
+        (10, Answer::Pending(3, 4)),
+        (11, Answer::Taken(4, 4)),
+        (12, Answer::Verdict(1, 15)),
+    ],
+};
+
+#[test]
+fn iriw(rt: HostRuntime) {
+    assert!(rt; plays(rt.alloc(), &FOUR_SLICES));
+}
+
 /// Two claims are made where two pieces are free.
 const SPENT_CLAIMS: Script = Script {
     limits: Limits {
@@ -68,7 +294,7 @@ fn spent_claims(rt: HostRuntime) {
     assert!(rt; plays(rt.alloc(), &SPENT_CLAIMS));
 }
 
-/// A test is put three times, and once more.
+/// A test is put three times, and once more: the command comes back, and the journal is as before.
 const FULL_JOURNAL: Script = Script {
     limits: Limits {
         journal: 3,
@@ -89,7 +315,7 @@ const FULL_JOURNAL: Script = Script {
 };
 
 #[test]
-fn a_full_journal_hands_the_command_back(rt: HostRuntime) {
+fn journal_full(rt: HostRuntime) {
     assert!(rt; plays(rt.alloc(), &FULL_JOURNAL));
 }
 
@@ -111,7 +337,7 @@ const VERDICT: Script = Script {
         Step::Return(4),
         Step::Poll(1),
     ],
-    answers: &[(5, Answer::Taken), (6, Answer::Verdict(0, 3))],
+    answers: &[(5, Answer::Taken(1, 1)), (6, Answer::Verdict(0, 3))],
 };
 
 #[test]

@@ -2,8 +2,8 @@
 //! then gets its own answer.
 
 ghost use Rattle.std.specs.Prelude.{◌≡◌, [], IfOk, OnOk};
-ghost use Rattle.slices.specs.Judgements.{IsWhole};
-ghost use Rattle.slices.specs.Parts.{IsOver, test_size};
+ghost use Rattle.book_tests.specs.Whole.{IsOver, IsWhole};
+ghost use Rattle.slices.specs.Parts.{test_size};
 
 use crate::scene::{SB, name, put_cat};
 use book::{Command, Said};
@@ -53,7 +53,7 @@ fn model(alloc: Global) -> Result<Model, AllocError> {
 }
 
 fn work_once(alloc: Global, test: TestRef) -> Result<Work, AllocError> {
-    match Work::new(alloc, test, model(alloc)?) {
+    match Work::of(alloc, test, model(alloc)?) {
         Ok(work) => Ok(work),
         Err(_) => Err(AllocError),
     }
@@ -161,9 +161,9 @@ fn is_judged(verdict: &Verdict, version: u32) -> bool {
 }
 
 /// Adds the result of all numbers to a tally.
+#[tactic(auto, using(crate::proofs::Tallied::none_apart, crate::proofs::Tallied::whole))]
 fn add_once(tally: &mut Tally, part: PieceResult) -> Result<(), AllocError>
-    requires work { part.piece.work ≡ tally.old.work }
-    requires none { tally.old.parts ≡ [] }
+    requires none { tally.old.spans ≡ [] }
     requires over { IsOver tally.old.work part }
     ensures { OnOk result (IsWhole tally.new) }
 {
@@ -174,16 +174,16 @@ fn add_once(tally: &mut Tally, part: PieceResult) -> Result<(), AllocError>
 }
 
 /// The same, once more where it was refused: the result comes back, and the tally still has none.
+#[tactic(auto, using(crate::proofs::Tallied::none_apart, crate::proofs::Tallied::whole))]
 fn add(tally: &mut Tally, part: PieceResult) -> Result<(), AllocError>
-    requires work { part.piece.work ≡ tally.old.work }
-    requires none { tally.old.parts ≡ [] }
+    requires none { tally.old.spans ≡ [] }
     requires over { IsOver tally.old.work part }
     ensures { OnOk result (IsWhole tally.new) }
 {
     match tally.merge(part) {
         Ok(()) => Ok(()),
         Err((part, AllocError)) => {
-            if tally.parts().is_empty() && is_found(&part) {
+            if tally.spans().is_empty() && is_found(&part) {
                 add_once(tally, part)
             } else {
                 Err(AllocError)
@@ -196,39 +196,49 @@ fn add(tally: &mut Tally, part: PieceResult) -> Result<(), AllocError>
 fn verdict_of(tally: &Tally) -> Result<Verdict, AllocError>
     requires { IsWhole tally.now }
 {
-    match tally.verdict(5) {
+    match tally.verdict(1) {
         Ok(verdict) => Ok(verdict),
-        Err(AllocError) => tally.verdict(5),
+        Err(AllocError) => tally.verdict(1),
+    }
+}
+
+/// A tally of no result.
+fn tally_of(alloc: Global, work: &WorkRef) -> Result<Tally, AllocError>
+    ensures { IfOk result (λ t. t ≡ record { work = work.now; spans = [] }) }
+{
+    match Tally::new(alloc, work.share()?) {
+        Ok(tally) => Ok(tally),
+        Err(AllocError) => Tally::new(alloc, work.share()?),
     }
 }
 
 fn tallied(alloc: Global, work: &WorkRef) -> Result<Verdict, AllocError> {
     let part = whole_part(alloc, work)?;
-    let mut tally = Tally::new(alloc, work.share()?);
+    let mut tally = tally_of(alloc, work)?;
     add(&mut tally, part)?;
     verdict_of(&tally)
 }
 
 fn is_tallied(alloc: Global, work: &WorkRef) -> bool {
     match tallied(alloc, work) {
-        Ok(verdict) => is_judged(&verdict, 5),
+        Ok(verdict) => is_judged(&verdict, 1),
         Err(AllocError) => false,
     }
 }
 
 #[test]
-fn tallies(rt: HostRuntime) -> Result<(), Fail> {
+fn sb_calls(rt: HostRuntime) -> Result<(), Fail> {
     let work = work_ref(rt.alloc())?;
     confirm(
         is_tallied(rt.alloc(), &work),
-        "the verdict of a tally on version 5",
+        "the verdict of a tally on version 1",
     )
 }
 
 fn judged(alloc: Global, work: &WorkRef) -> Result<Verdict, AllocError> {
-    match Verdict::judge(alloc, work.share()?, 7) {
+    match Verdict::judge(alloc, work.share()?, 4, 7) {
         Ok(verdict) => Ok(verdict),
-        Err(AllocError) => Verdict::judge(alloc, work.share()?, 7),
+        Err(AllocError) => Verdict::judge(alloc, work.share()?, 4, 7),
     }
 }
 

@@ -2,7 +2,10 @@
 //!
 //! Only `plays` and `foreign` own a book: each drop of a book makes a proof longer.
 
+ghost use Rattle.std.specs.Prelude.{◌<◌};
+
 use book::{Book, Command, Limits, Refusal, Refused, Replacement, Reply, SourceKind, Text};
+use candidates::SpaceFault;
 use slices::{PieceResult, evaluate};
 use std::alloc::{AllocError, Global};
 use wb_text::Name;
@@ -33,10 +36,21 @@ pub enum Step {
     Test(&'static [u8]),
     /// A test is asked for under a cat file.
     Ask(&'static [u8], &'static [u8]),
+    DropCat(&'static [u8]),
+    DropTest(&'static [u8]),
     Poll(u32),
+    Forget(u32),
+    Release(u32),
+    List,
     Claim,
+    /// A claim by another seat.
+    ClaimBy(u8),
     /// The piece that is given at this place of the journal is evaluated, and its result returned.
     Return(usize),
+    /// So is it, by another seat.
+    ReturnBy(u8, usize),
+    GiveBack(u32),
+    Close,
     /// A result of another book, whose first piece is of another test, is returned.
     Foreign,
     /// A test is put, and its text comes back since the journal, of so many entries, is full.
@@ -47,14 +61,33 @@ pub enum Step {
 #[derive(Clone, Copy)]
 pub enum Answer {
     Version(u32),
-    /// The one slice of a job is taken.
-    Taken,
+    /// A slice is taken: so many are returned then, and so many are there.
+    Taken(usize, usize),
+    /// So many slices are returned, and so many are there.
+    Pending(usize, usize),
+    /// The slice at this place, with these numbers, is given.
+    Piece(u16, u64, u64),
+    Nothing,
+    Freed(usize),
+    Done,
+    /// So many tests, cat files and jobs are listed.
+    Listed(usize, usize, usize),
+    Closed,
+    /// There is no job of this number.
+    NoJob(u32),
+    /// There is no claim of this number and seat.
+    NoClaim(u32),
+    /// There is no test, or no cat file, of the name.
+    NoName,
     /// A verdict with these counts of executions, with the proposition and without.
     Verdict(u64, u64),
     /// The result is none of claim 1.
     Stranger,
     VersionsSpent,
     ClaimsSpent,
+    /// A thread has too many runs.
+    TooManyRuns(usize),
+    TooManyCandidates,
     /// This cat file was put again, and has this version now.
     ReplacedFile(&'static [u8], u32),
 }
@@ -133,13 +166,23 @@ fn ask(alloc: Global, test: &[u8], cat: &[u8]) -> Result<Command, AllocError> {
     Ok(Command::Ask(name(alloc, test)?, name(alloc, cat)?))
 }
 
+fn drop_cat(alloc: Global, file: &[u8]) -> Result<Command, AllocError> {
+    Ok(Command::DropCat(name(alloc, file)?))
+}
+
+fn drop_test(alloc: Global, test: &[u8]) -> Result<Command, AllocError> {
+    Ok(Command::DropTest(name(alloc, test)?))
+}
+
 fn give(alloc: Global, book: &Book, place: usize) -> Result<Command, AllocError> {
     Ok(Command::Return(evaluated(alloc, book, place)?))
 }
 
 /// Makes a call, and gives the command that comes back where it is refused.
-fn refused(book: &mut Book, command: Command) -> Option<Command> {
-    match book.apply(0, command) {
+fn refused(book: &mut Book, seat: u8, command: Command) -> Option<Command>
+    requires { seat < 64 }
+{
+    match book.apply(seat, command) {
         Ok(_) => None,
         Err((command, _)) => Some(command),
     }
@@ -147,21 +190,23 @@ fn refused(book: &mut Book, command: Command) -> Option<Command> {
 
 /// Makes a call. One that is refused for memory leaves the journal as it was and hands the command back, which then gets
 /// its own answer.
-fn call(book: &mut Book, command: Command) -> bool {
+fn call(book: &mut Book, seat: u8, command: Command) -> bool
+    requires { seat < 64 }
+{
     let place = book.journal().len();
-    match refused(book, command) {
+    match refused(book, seat, command) {
         None => true,
         Some(command) => {
             let same = book.journal().len() == place;
-            refused(book, command).is_none() && same
+            refused(book, seat, command).is_none() && same
         }
     }
 }
 
 /// Makes the call of a command that could be made.
-fn call_made(book: &mut Book, command: Result<Command, AllocError>) -> bool {
+fn call_made(book: &mut Book, seat: u8, command: Result<Command, AllocError>) -> bool {
     match command {
-        Ok(command) => call(book, command),
+        Ok(command) => seat < 64 && call(book, seat, command),
         Err(AllocError) => false,
     }
 }
@@ -187,9 +232,9 @@ fn comes_back(alloc: Global, book: &mut Book, bytes: &[u8]) -> bool {
 
 /// Asks for the empty test under no constraint, claims its piece, and evaluates it.
 fn foreign_of(alloc: Global, book: &mut Book) -> Result<Command, AllocError> {
-    let claimed = call_made(book, put_test(alloc, EMPTY))
-        && call_made(book, ask(alloc, b"E", b"stdlib.cat"))
-        && call(book, Command::Claim);
+    let claimed = call_made(book, 0, put_test(alloc, EMPTY))
+        && call_made(book, 0, ask(alloc, b"E", b"stdlib.cat"))
+        && call(book, 0, Command::Claim);
     if claimed {
         give(alloc, book, 2)
     } else {
@@ -211,15 +256,27 @@ fn make(alloc: Global, book: &mut Book, step: Step) -> bool {
         Step::Cat(file, bytes) => put_cat(alloc, file, bytes),
         Step::Test(bytes) => put_test(alloc, bytes),
         Step::Ask(test, cat) => ask(alloc, test, cat),
+        Step::DropCat(file) => drop_cat(alloc, file),
+        Step::DropTest(test) => drop_test(alloc, test),
         Step::Poll(job) => Ok(Command::Poll(job)),
+        Step::Forget(job) => Ok(Command::Forget(job)),
+        Step::Release(job) => Ok(Command::Release(job)),
+        Step::List => Ok(Command::List),
         Step::Claim => Ok(Command::Claim),
+        Step::ClaimBy(seat) => return call_made(book, seat, Ok(Command::Claim)),
         Step::Return(place) => give(alloc, book, place),
+        Step::ReturnBy(seat, place) => {
+            let command = give(alloc, book, place);
+            return call_made(book, seat, command);
+        }
+        Step::GiveBack(claim) => Ok(Command::GiveBack(claim)),
+        Step::Close => Ok(Command::Close),
         Step::Foreign => foreign(alloc),
         Step::TestBack(bytes, entries) => {
             return comes_back(alloc, book, bytes) && book.journal().len() == entries;
         }
     };
-    call_made(book, command)
+    call_made(book, 0, command)
 }
 
 fn is_replaced_file(replacement: &Replacement, name: &[u8], version: u32) -> bool {
@@ -230,9 +287,18 @@ fn is_replaced_file(replacement: &Replacement, name: &[u8], version: u32) -> boo
 
 fn is_refusal(refusal: &Refusal, answer: Answer) -> bool {
     match (refusal, answer) {
+        (Refusal::Closed, Answer::Closed) => true,
+        (Refusal::NoJob(job), Answer::NoJob(number)) => *job == number,
+        (Refusal::NoClaim(claim), Answer::NoClaim(number)) => *claim == number,
+        (Refusal::NoTest(_), Answer::NoName) => true,
+        (Refusal::Model(_), Answer::NoName) => true,
         (Refusal::Stranger(claim), Answer::Stranger) => *claim == 1,
         (Refusal::VersionsSpent(_), Answer::VersionsSpent) => true,
         (Refusal::ClaimsSpent, Answer::ClaimsSpent) => true,
+        (Refusal::Space(SpaceFault::TooManyRuns(found)), Answer::TooManyRuns(thread)) => {
+            *found == thread
+        }
+        (Refusal::Space(SpaceFault::TooManyCandidates), Answer::TooManyCandidates) => true,
         (Refusal::Replaced(replacement), Answer::ReplacedFile(name, version)) => {
             is_replaced_file(replacement, name, version)
         }
@@ -243,7 +309,23 @@ fn is_refusal(refusal: &Refusal, answer: Answer) -> bool {
 fn is_reply(reply: &Reply, answer: Answer) -> bool {
     match (reply, answer) {
         (Reply::Version(_, found), Answer::Version(version)) => *found == version,
-        (Reply::Taken(done, all), Answer::Taken) => *done == 1 && *all == 1,
+        (Reply::Taken(done, all), Answer::Taken(returned, total)) => {
+            *done == returned && *all == total
+        }
+        (Reply::Pending(done, all), Answer::Pending(returned, total)) => {
+            *done == returned && *all == total
+        }
+        (Reply::Piece(piece), Answer::Piece(slice, from, to)) => {
+            piece.slice() == slice && piece.from() == from && piece.to() == to
+        }
+        (Reply::Nothing, Answer::Nothing) => true,
+        (Reply::Freed(count), Answer::Freed(claims)) => *count == claims,
+        (Reply::Done, Answer::Done) => true,
+        (Reply::Listed(listing), Answer::Listed(tests, cats, jobs)) => {
+            listing.tests().len() == tests
+                && listing.cats().len() == cats
+                && listing.jobs().len() == jobs
+        }
         (Reply::Verdict(verdict), Answer::Verdict(positive, negative)) => {
             let finding = verdict.verdict().finding();
             finding.positive() == positive && finding.negative() == negative

@@ -6,3 +6,4 @@ pub mod RunLists
 pub mod Sets
 pub mod Turns
 pub mod Whole
+pub mod Chains

@@ -6,7 +6,9 @@ use Rattle.relations.specs.Tables.{place}
 use Rattle.relations.specs.Events.{EventSet, event_set}
 use Rattle.events.specs.Executions.{no_places}
 use Rattle.c11_threads.specs.declared.content.Content.{Content}
-use Rattle.litmus_tree.specs.Tree.{Word, Term, number, held, denied, equal, unequal, both, either}
+use Rattle.litmus_tree.specs.declared.expression.Operator.{Operator}
+use Rattle.litmus_tree.specs.declared.expression.Operator.TheVariants.{Equal, Unequal, Both, Either}
+use Rattle.litmus_tree.specs.Tree.{Word, Term, number, held, denied, equal, unequal, both, either, Growth, denies, joins}
 
 -- the first place of the name among the names
 abbrev pub place_of : Word → List Word → ℕ
@@ -58,3 +60,15 @@ reads_in names registers (either a b) = joined (reads_in names registers a) (rea
 
 abbrev pub content_in : List Word → List Content → Term → Content
 content_in names registers e = record { value = value_in names registers e; reads = reads_in names registers e }
+
+-- an operator is true of two values
+abbrev pub holds : Operator → ℕ → ℕ → Bool
+holds Equal v w = v == w
+holds Unequal v w = not (v == w)
+holds Both v w = is_true v && is_true w
+holds Either v w = is_true v || is_true w
+
+-- what a link makes of what stands before it, which gives c
+abbrev pub passed : List Word → List Content → Content → Growth → Content
+passed names registers c denies = record { value = truth (not (is_true c.value)); reads = c.reads }
+passed names registers c (joins o b) = record { value = truth (holds o c.value (value_in names registers b)); reads = joined c.reads (reads_in names registers b) }

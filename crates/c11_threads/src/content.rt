@@ -2,11 +2,11 @@
 
 ghost use Rattle.std.specs.Prelude.{◌≡◌, ◌↔◌, IsTrue};
 ghost use Rattle.relations.specs.Events.{Has};
-ghost use Rattle.litmus_tree.specs.Tree.{term_of};
-ghost use Rattle.c11_threads.specs.Contents.{place_of, just, joined, nothing, truth, content, content_in};
+ghost use Rattle.litmus_tree.specs.Tree.{leaf_of, growth_of, term_of};
+ghost use Rattle.c11_threads.specs.Contents.{place_of, just, joined, nothing, truth, content, holds, content_in, passed};
 
 use events::no_places;
-use litmus_tree::Expression;
+use litmus_tree::{Expression, Leaf, Link, Operator};
 use relations::Set;
 use wb_text::Name;
 
@@ -110,42 +110,63 @@ fn decided(first: &Content, second: &Content, holds: bool) -> Content
     }
 }
 
-/// What an expression gives. Both operands of an operator are evaluated.
-pub(crate) fn content_of(names: &[Name], registers: &[Content], expression: &Expression) -> Content
-    ensures { result ≡ content_in names.now registers.now (term_of expression.now) }
+/// Whether an operator is true of two values.
+fn holds(operator: Operator, first: u32, second: u32) -> bool
+    ensures { result ≡ holds operator first second }
 {
-    match expression {
-        Expression::Number(value) => Content {
+    match operator {
+        Operator::Equal => first == second,
+        Operator::Unequal => first != second,
+        Operator::Both => first != 0 && second != 0,
+        Operator::Either => first != 0 || second != 0,
+    }
+}
+
+fn leaf_content(names: &[Name], registers: &[Content], leaf: &Leaf) -> Content
+    ensures { result ≡ content_in names.now registers.now (leaf_of leaf.now) }
+{
+    match leaf {
+        Leaf::Number(value) => Content {
             value: *value,
             reads: no_places(),
         },
-        Expression::Register(register) => held_by(names, registers, register),
-        Expression::Not(a) => {
-            let a = content_of(names, registers, a);
-            Content {
-                value: truth(a.value == 0),
-                reads: a.reads,
-            }
-        }
-        Expression::Equal(a, b) => {
-            let a = content_of(names, registers, a);
-            let b = content_of(names, registers, b);
-            decided(&a, &b, a.value == b.value)
-        }
-        Expression::Unequal(a, b) => {
-            let a = content_of(names, registers, a);
-            let b = content_of(names, registers, b);
-            decided(&a, &b, a.value != b.value)
-        }
-        Expression::And(a, b) => {
-            let a = content_of(names, registers, a);
-            let b = content_of(names, registers, b);
-            decided(&a, &b, a.value != 0 && b.value != 0)
-        }
-        Expression::Or(a, b) => {
-            let a = content_of(names, registers, a);
-            let b = content_of(names, registers, b);
-            decided(&a, &b, a.value != 0 || b.value != 0)
+        Leaf::Register(register) => held_by(names, registers, register),
+    }
+}
+
+/// What an expression gives. Both operands of an operator are evaluated. Recursion goes into right operands alone.
+#[cycle(evaluating)]
+#[tactic(auto, using(crate::proofs::Chains::content_along))]
+pub(crate) fn content_of(names: &[Name], registers: &[Content], expression: &Expression) -> Content
+    ensures { result ≡ content_in names.now registers.now (term_of expression.now) }
+{
+    let mut so_far = leaf_content(names, registers, &expression.first);
+    for link in &expression.rest {
+        so_far = link_content(names, registers, so_far, link);
+    }
+    so_far
+}
+
+/// What all up to this link gives, where what stands before it gives `so_far`.
+#[cycle(evaluating)]
+#[tactic(auto, using(litmus_tree::specs::Chains::join_is))]
+fn link_content(
+    names: &[Name],
+    registers: &[Content],
+    so_far: Content,
+    link: &Link,
+) -> Content
+    ensures { result ≡ passed names.now registers.now so_far (growth_of link.now) }
+{
+    match link {
+        Link::Not => Content {
+            value: truth(so_far.value == 0),
+            reads: so_far.reads,
+        },
+        Link::Join(operator, operand) => {
+            let second = content_of(names, registers, operand);
+            let is_true = holds(*operator, so_far.value, second.value);
+            decided(&so_far, &second, is_true)
         }
     }
 }

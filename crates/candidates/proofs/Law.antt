@@ -1,15 +1,16 @@
 -- Each execution of a test stands at exactly one number below its size.
-use Rattle.std.proofs.Common.{◌≡◌, ℕ, ◌<◌, ◌⊎◌, List, [], ◌∷◌, length, map, refl, sym, ◌∙◌, ap, subst, inl, inr, Bool, true, false, ◌==◌, ◌&&◌, Option, None, Some}
+use Rattle.std.proofs.Common.{◌≡◌, ℕ, ◌*◌, ◌<◌, List, [], ◌∷◌, length, map, arith, refl, sym, ◌∙◌, ap, subst, inl, inr, Bool, true, false, ◌==◌, ◌&&◌, Option, None, Some}
 use Rattle.std.specs.Prelude.{IfSome}
+use Rattle.std.proofs.Math.Nat.{mul_comm}
 use Rattle.std.proofs.lemmas.List.{length-map}
-use Rattle.std.proofs.lemmas.Bool.{and_parts, cases_Bool, eqb-true, eq-eqb, false≢true}
+use Rattle.std.proofs.lemmas.Bool.{and_parts, cases_Bool, eqb-true, eq-eqb}
 use Rattle.events.specs.declared.event.Event.{Event}
 use Rattle.events.specs.declared.event.EventId.{EventId}
 use Rattle.events.specs.declared.event.EventId.TheVariants.{Initial}
 use Rattle.events.specs.Executions.{ThreadRun, Execution, empty_run}
-use Rattle.listings.specs.Lists.{IsIn, NoRepeats, Lists, ForEach, sum_of}
+use Rattle.listings.specs.Lists.{IsIn, NoRepeats, Lists, ForEach, product_by, sum_of}
 use Rattle.listings.specs.Numbered.{IsNumbered}
-use Rattle.listings.proofs.Numberings.{IsPairing, pairs, mapped, by_digits, cons_tail}
+use Rattle.listings.proofs.Numberings.{IsPairing, pairs, mapped, by_digits, cons_head, cons_tail}
 use Rattle.listings.proofs.Listings.{by_list, listed}
 use Rattle.listings.proofs.Arrangements.{IsArrangement, by_arrange}
 use Rattle.listings.proofs.Walks.{OfSome, IsKeyed, by_walk}
@@ -18,7 +19,7 @@ use Rattle.litmus_tree.specs.Tree.{Litmus}
 use Rattle.candidates.specs.Executions.{initial_values}
 use Rattle.c11_threads.specs.Runs.{IsRun}
 use Rattle.candidates.specs.Executions.{IsExecution, IsSize, IsChoice, IsCoherence, Writes, reads, later_writes, upto, block}
-use Rattle.candidates.specs.Candidates.{Choices, choices_of, choice, count_choices, choices, sources, count_sources, source_at, count_orders, order_at, candidate, no_execution, candidate_at, write_value, agree, is_consistent, graph_at, size_of, Numbering}
+use Rattle.candidates.specs.Candidates.{Choices, choices_of, choice, count_choices, choices, sources, count_sources, source_at, count_orders, order_at, count_co, digits_down, candidate, no_execution, candidate_at, write_value, agree, is_consistent, graph_at, size_of, Numbering}
 use Rattle.c11_threads.specs.Unrolled.{runs_of}
 use Rattle.c11_threads.proofs.RunLists.{lists_runs_of}
 use Rattle.candidates.proofs.Writing.{value_is, sources_in, in_sources, once_later, once_sources}
@@ -98,6 +99,32 @@ taken_order init runs x (w ∷ ws) c =
 orders_numbered : (init : List ℕ) (runs : List ThreadRun) (x : ℕ) → IsNumbered (IsCoherence init runs x) (count_orders runs x) (order_at runs x)
 orders_numbered init runs x = mapped (λ ws. Initial x ∷ ws) (by_arrange (later_writes runs x) (once_later runs x)) (ordered init runs x) (taken_order init runs x) (λ a b p q e. cons_tail e)
 
+taken_cells : {A X : Type 0} (R : A → X → Type 0) (a : A) (rest : List A) (xs : List X) → ForEach R (a ∷ rest) xs → (ys : List X) × (y : X) × ForEach R rest ys × R a y × ((y ∷ ys) ≡ xs)
+taken_cells R a rest [] r = absurd r
+taken_cells R a rest (x ∷ xs) r = (xs, x, r.1, r.0, refl)
+
+-- The tails and the heads of the lists for a ∷ rest.
+cells : {A X : Type 0} (R : A → X → Type 0) (a : A) (rest : List A) → IsPairing (ForEach R rest) (R a) (ForEach R (a ∷ rest)) (λ xs x. x ∷ xs)
+cells R a rest = record {
+  made = λ xs x rs r. (r, rs);
+  taken = taken_cells R a rest;
+  same = λ xs ys x y rxs rx rys ry e. (cons_tail e, cons_head e);
+}
+
+no_cells : {A X : Type 0} (R : A → X → Type 0) (xs : List X) → ForEach R [] xs → (i : ℕ) × (i < 1) × ([] ≡ xs)
+no_cells R [] r = (0, omega arith, refl)
+no_cells R (x ∷ xs) r = absurd r
+
+pub by_digits_down : {A X : Type 0} {R : A → X → Type 0} {size : A → ℕ} {at : A → ℕ → X} (as' : List A) → ((a : A) → IsIn a as' → IsNumbered (R a) (size a) (at a)) → IsNumbered (ForEach R as') (product_by size as') (digits_down size at as')
+by_digits_down {R = R} [] each = record {
+  only = λ i l. tt;
+  all = no_cells R;
+  once = λ i j li lj e. omega arith;
+}
+by_digits_down {R = R} {size = size} {at = at} (a ∷ rest) each =
+    let N : ℕ → Type 0 = λ m. IsNumbered (ForEach R (a ∷ rest)) m (digits_down size at (a ∷ rest)) in
+    subst N (mul_comm (product_by size rest) (size a)) (pairs (by_digits_down rest (λ b h. each b (inr h))) (each a (inl refl)) (cells R a rest))
+
 -- An execution but for the values of its reads.
 pub record IsCandidate (init : List ℕ) (runs : List ThreadRun) (x : Execution) : Type 0 where
   pub init_is : x.init ≡ init
@@ -105,16 +132,18 @@ pub record IsCandidate (init : List ℕ) (runs : List ThreadRun) (x : Execution)
   pub rf : ForEach (CanRead runs) (reads runs) x.rf
   pub co : ForEach (IsCoherence init runs) (upto (length init)) x.co
 
-together : (init : List ℕ) (runs : List ThreadRun) → IsPairing (ForEach (CanRead runs) (reads runs)) (ForEach (IsCoherence init runs) (upto (length init))) (IsCandidate init runs) (λ rf co. let x : Execution = record { init = init; runs = runs; rf = rf; co = co } in x)
+together : (init : List ℕ) (runs : List ThreadRun) → IsPairing (ForEach (IsCoherence init runs) (upto (length init))) (ForEach (CanRead runs) (reads runs)) (IsCandidate init runs) (λ co rf. let x : Execution = record { init = init; runs = runs; rf = rf; co = co } in x)
 together init runs = record {
-  made = λ rf co p q. record { init_is = refl; runs_are = refl; rf = p; co = q };
-  taken = λ x c. (x.rf, x.co, c.rf, c.co, ap (λ (rs : List ThreadRun). let y : Execution = record { init = init; runs = rs; rf = x.rf; co = x.co } in y) (sym c.runs_are) ∙ ap (λ (i : List ℕ). let y : Execution = record { init = i; runs = x.runs; rf = x.rf; co = x.co } in y) (sym c.init_is));
-  same = λ a c b d pa pb pc pd e. (ap (λ (x : Execution). x.rf) e, ap (λ (x : Execution). x.co) e);
+  made = λ co rf p q. record { init_is = refl; runs_are = refl; rf = q; co = p };
+  taken = λ x c. (x.co, x.rf, c.co, c.rf, ap (λ (rs : List ThreadRun). let y : Execution = record { init = init; runs = rs; rf = x.rf; co = x.co } in y) (sym c.runs_are) ∙ ap (λ (i : List ℕ). let y : Execution = record { init = i; runs = x.runs; rf = x.rf; co = x.co } in y) (sym c.init_is));
+  same = λ a c b d pa pb pc pd e. (ap (λ (x : Execution). x.co) e, ap (λ (x : Execution). x.rf) e);
 }
 
 pub block_numbered : (init : List ℕ) (runs : List ThreadRun) → IsNumbered (IsCandidate init runs) (block (length init) runs) (candidate init runs)
 block_numbered init runs =
-    pairs (by_digits (reads runs) (λ r h. sources_numbered runs r)) (by_digits (upto (length init)) (λ x h. orders_numbered init runs x)) (together init runs)
+    let N : ℕ → Type 0 = λ m. IsNumbered (IsCandidate init runs) m (candidate init runs) in
+    let e : count_co (length init) runs * product_by (count_sources runs) (reads runs) ≡ block (length init) runs = mul_comm (count_co (length init) runs) (product_by (count_sources runs) (reads runs)) in
+    subst N e (pairs (by_digits (upto (length init)) (λ x h. orders_numbered init runs x)) (by_digits_down (reads runs) (λ r h. sources_numbered runs r)) (together init runs))
 
 one_choice : (init : List ℕ) → IsKeyed (IsCandidate init)
 one_choice init a b x p q = sym p.runs_are ∙ q.runs_are

@@ -3,8 +3,11 @@ pub mod ByLocation
 pub mod Caps
 pub mod Graphs
 pub mod Law
+pub mod Passing
 pub mod Sources
 pub mod Spaces
 pub mod Steps
+pub mod Stretches
 pub mod Tallies
+pub mod Walked
 pub mod Writing

@@ -1,10 +1,16 @@
 -- What the reads read from, one read after another.
-use Rattle.std.proofs.Common.{◌≡◌, ◌≢◌, ℕ, suc, ◌+◌, ◌<◌, ◌/◌, ◌%◌, ◌⊎◌, List, ◌∷◌, length, get_or, drop, drop-cons, add-one, refl, sym, ◌∙◌, ap, inl, inr, Bool, true, false, ◌==◌, ◌&&◌}
+use Rattle.std.proofs.Common.{◌≡◌, ◌≢◌, ℕ, suc, ◌+◌, ◌-◌, ◌*◌, ◌<◌, ◌≤◌, ◌/◌, ◌%◌, List, [], ◌∷◌, ◌++◌, length, get_or, drop, drop-cons, add-one, append_assoc, append-nil, refl, sym, ◌∙◌, ap, subst, inl, inr, arith, true, false, ◌==◌, ◌&&◌}
+use Rattle.std.proofs.lemmas.List.{drop_all}
 use Rattle.std.proofs.lemmas.Bool.{cases_Bool, eqb-true, eq-eqb}
+use Rattle.std.proofs.lemmas.Nat.{mul-add-lt, div-mul-add, mod-mul-add, div_below, mod_below}
+use Rattle.std.proofs.Math.Nat.{mod-add-div', mul_comm, mul-le-mul_right}
 use Rattle.events.specs.declared.event.Event.{Event}
+use Rattle.events.specs.declared.event.EventId.{EventId}
 use Rattle.events.specs.Executions.{ThreadRun}
-use Rattle.listings.specs.Numbered.{digits}
+use Rattle.listings.specs.Lists.{product_by}
 use Rattle.candidates.specs.Candidates.{count_sources, source_at, write_value, agree}
+use Rattle.candidates.specs.Readings.{read_at}
+use Rattle.candidates.proofs.Caps.{product_drop, product_positive, sources_positive}
 
 different : (a b : ℕ) → a ≢ b → (a == b) ≡ false
 different a b ne = elim (cases_Bool (a == b)) [ inl t ↦ absurd (ne (eqb-true a b t)) | inr f ↦ f ]
@@ -12,15 +18,144 @@ different a b ne = elim (cases_Bool (a == b)) [ inl t ↦ absurd (ne (eqb-true a
 next : (rs : List Event) (i : ℕ) (r : Event) → i < length rs → r ≡ get_or rs i r → drop i rs ≡ r ∷ drop (i + 1) rs
 next rs i r l e = rw (add-one, drop-cons rs i r) (ap (λ (x : Event). x ∷ drop (suc i) rs) (sym e))
 
--- the digit of the next read
-pub next_source : (runs : List ThreadRun) (rs : List Event) (i rest : ℕ) (r : Event) → i < length rs → r ≡ get_or rs i r → digits (count_sources runs) (source_at runs) (drop i rs) rest ≡ source_at runs r (rest % count_sources runs r) ∷ digits (count_sources runs) (source_at runs) (drop (i + 1) rs) (rest / count_sources runs r)
-next_source runs rs i rest r l e = ap (λ (xs : List Event). digits (count_sources runs) (source_at runs) xs rest) (next rs i r l e)
+-- in how many ways the reads from place i on can read
+abbrev pub ways_from : List ThreadRun → List Event → ℕ → ℕ
+ways_from runs rs i = product_by (count_sources runs) (drop i rs)
 
-next_agree : (init : List ℕ) (runs : List ThreadRun) (rs : List Event) (i rest : ℕ) (r : Event) → i < length rs → r ≡ get_or rs i r → agree init runs (drop i rs) (digits (count_sources runs) (source_at runs) (drop i rs) rest) ≡ ((write_value init runs (source_at runs r (rest % count_sources runs r)) == r.value) && agree init runs (drop (i + 1) rs) (digits (count_sources runs) (source_at runs) (drop (i + 1) rs) (rest / count_sources runs r)))
-next_agree init runs rs i rest r l e = ap (λ (xs : List Event). agree init runs xs (digits (count_sources runs) (source_at runs) xs rest)) (next rs i r l e)
+some_ways : (runs : List ThreadRun) (rs : List Event) (i : ℕ) → 1 ≤ ways_from runs rs i
+some_ways runs rs i = product_positive (count_sources runs) (sources_positive runs) (drop i rs)
 
-pub disagree : (init : List ℕ) (runs : List ThreadRun) (rs : List Event) (i rest : ℕ) (r : Event) → i < length rs → r ≡ get_or rs i r → write_value init runs (source_at runs r (rest % count_sources runs r)) ≢ r.value → agree init runs (drop i rs) (digits (count_sources runs) (source_at runs) (drop i rs) rest) ≡ false
-disagree init runs rs i rest r l e ne = next_agree init runs rs i rest r l e ∙ rw (different _ _ ne) refl
+-- The reads before place i have read from rf, which fits; the number `rest` of `below` is left for the others.
+pub record SoFar (init : List ℕ) (runs : List ThreadRun) (rs : List Event) (number i : ℕ) (rf : List EventId) (rest below : ℕ) : Type 0 where
+  pub left : below ≡ ways_from runs rs i
+  pub small : rest < below
+  pub order : rest ≤ number
+  pub most : number - rest + below ≤ ways_from runs rs 0
+  pub is : rf ++ read_at runs (drop i rs) rest ≡ read_at runs rs number
+  pub same : (j : ℕ) → j < below → agree init runs rs (read_at runs rs (number - rest + j)) ≡ agree init runs (drop i rs) (read_at runs (drop i rs) j)
 
-pub agree_so_far : (init : List ℕ) (runs : List ThreadRun) (rs : List Event) (i rest : ℕ) (r : Event) → i < length rs → r ≡ get_or rs i r → write_value init runs (source_at runs r (rest % count_sources runs r)) ≡ r.value → agree init runs (drop i rs) (digits (count_sources runs) (source_at runs) (drop i rs) rest) ≡ agree init runs (drop (i + 1) rs) (digits (count_sources runs) (source_at runs) (drop (i + 1) rs) (rest / count_sources runs r))
-agree_so_far init runs rs i rest r l e v = next_agree init runs rs i rest r l e ∙ rw (eq-eqb _ _ v) refl
+pub at_first : (init : List ℕ) (runs : List ThreadRun) (rs : List Event) (number ways : ℕ) → ways ≡ product_by (count_sources runs) rs → number < ways → SoFar init runs rs number 0 [] number ways
+at_first init runs rs number ways e l = record {
+  left = e;
+  small = l;
+  order = omega arith;
+  most = omega (arith, e);
+  is = refl;
+  same = λ j m. ap (λ n. agree init runs rs (read_at runs rs n)) (let h : number - number + j ≡ j = omega arith in h);
+}
+
+-- what the read at place i reads from, and those behind it
+read_next : (runs : List ThreadRun) (rs : List Event) (i d j : ℕ) (r : Event) → i < length rs → r ≡ get_or rs i r → j < ways_from runs rs (i + 1) → read_at runs (drop i rs) (d * ways_from runs rs (i + 1) + j) ≡ source_at runs r d ∷ read_at runs (drop (i + 1) rs) j
+read_next runs rs i d j r l e b =
+    let p = ways_from runs rs (i + 1) in
+    let q : (d * p + j) / p ≡ d = div-mul-add d p j b in
+    let m : (d * p + j) % p ≡ j = mod-mul-add d p j b in
+    ap (λ (xs : List Event). read_at runs xs (d * p + j)) (next rs i r l e) ∙ rw (q, m) refl
+
+agree_next : (init : List ℕ) (runs : List ThreadRun) (rs : List Event) (i d j : ℕ) (r : Event) → i < length rs → r ≡ get_or rs i r → j < ways_from runs rs (i + 1) → agree init runs (drop i rs) (read_at runs (drop i rs) (d * ways_from runs rs (i + 1) + j)) ≡ ((write_value init runs (source_at runs r d) == r.value) && agree init runs (drop (i + 1) rs) (read_at runs (drop (i + 1) rs) j))
+agree_next init runs rs i d j r l e b =
+    ap (λ (xs : List Event). agree init runs xs (read_at runs (drop i rs) (d * ways_from runs rs (i + 1) + j))) (next rs i r l e)
+    ∙ ap (λ (ws : List EventId). agree init runs (r ∷ drop (i + 1) rs) ws) (read_next runs rs i d j r l e b)
+
+-- how the number that is left splits
+pub record IsSplit (rest n p : ℕ) : Type 0 where
+  pub whole : rest / p * p + rest % p ≡ rest
+  pub digit : rest / p < n
+  pub small : rest % p < p
+  pub next : rest / p * p + p ≤ n * p
+
+split : (rest n p : ℕ) → 1 ≤ p → rest < n * p → IsSplit rest n p
+split rest n p s l =
+    let z : 0 < p = omega (arith, s) in
+    let d : rest / p < n = div_below rest p n z l in
+    let m : (rest / p + 1) * p ≤ n * p = mul-le-mul_right p (let h : rest / p + 1 ≤ n = omega (arith, d) in h) in
+    record {
+      whole = omega (arith, mod-add-div' rest p);
+      digit = d;
+      small = mod_below rest p z;
+      next = omega (arith, m);
+    }
+
+-- the ways of the reads behind the one at place i
+pub divided : (runs : List ThreadRun) (rs : List Event) (i below n : ℕ) (r : Event) → i < length rs → r ≡ get_or rs i r → below ≡ ways_from runs rs i → n ≡ count_sources runs r → (below / n ≡ ways_from runs rs (i + 1)) × (below ≡ n * ways_from runs rs (i + 1))
+divided runs rs i below n r l e b c =
+    let p = ways_from runs rs (i + 1) in
+    let w : below ≡ n * p = b ∙ product_drop (count_sources runs) rs i r l ∙ ap (λ (x : Event). count_sources runs x * p) (sym e) ∙ ap (λ k. k * p) (sym c) in
+    let s : 0 < n = omega (arith, c, sources_positive runs r) in
+    let f : below ≡ p * n + 0 = omega (arith, w, mul_comm n p) in
+    (ap (λ k. k / n) f ∙ div-mul-add p n 0 s, w)
+
+-- What the read at place i needs to pick its write.
+pub can_pick : (init : List ℕ) (runs : List ThreadRun) (rs : List Event) (number i : ℕ) (rf : List EventId) (rest below : ℕ) (r : Event) → i < length rs → r ≡ get_or rs i r → SoFar init runs rs number i rf rest below → (1 ≤ below / count_sources runs r) × (rest / (below / count_sources runs r) < count_sources runs r)
+can_pick init runs rs number i rf rest below r l e h =
+    let n = count_sources runs r in
+    let q = ways_from runs rs (i + 1) in
+    let f = divided runs rs i below n r l e h.left refl in
+    let t : IsSplit rest n q = split rest n q (some_ways runs rs (i + 1)) (omega (arith, h.small, f.1)) in
+    let P : ℕ → Type 0 = λ m. (1 ≤ m) × (rest / m < n) in
+    subst P (sym f.0) (some_ways runs rs (i + 1), t.digit)
+
+pub read_on : (init : List ℕ) (runs : List ThreadRun) (rs : List Event) (number i : ℕ) (rf more : List EventId) (rest below k p : ℕ) (r : Event) (w : EventId) → i < length rs → r ≡ get_or rs i r → p ≡ below / count_sources runs r → k ≡ rest % (below / count_sources runs r) → w ≡ source_at runs r (rest / (below / count_sources runs r)) → write_value init runs w ≡ r.value → more ≡ rf ++ w ∷ [] → SoFar init runs rs number i rf rest below → SoFar init runs rs number (i + 1) more k p
+read_on init runs rs number i rf more rest below k p r w l e is left src v put h =
+    let n = count_sources runs r in
+    let q = ways_from runs rs (i + 1) in
+    let f = divided runs rs i below n r l e h.left refl in
+    let t : IsSplit rest n q = split rest n q (some_ways runs rs (i + 1)) (omega (arith, h.small, f.1)) in
+    let d = rest / q in
+    let z = rest % q in
+    let same_p : q ≡ p = sym (is ∙ f.0) in
+    let same_k : z ≡ k = sym (left ∙ ap (λ m. rest % m) f.0) in
+    let src_q : w ≡ source_at runs r d = src ∙ ap (λ m. source_at runs r (rest / m)) f.0 in
+    let yes : (write_value init runs (source_at runs r d) == r.value) ≡ true = eq-eqb _ _ (ap (write_value init runs) (sym src_q) ∙ v) in
+    let S : ℕ → Type 0 = λ m. SoFar init runs rs number (i + 1) more z m in
+    let T : ℕ → Type 0 = λ m. SoFar init runs rs number (i + 1) more m p in
+    subst T same_k (subst S same_p (record {
+      left = refl;
+      small = t.small;
+      order = omega (arith, h.order, t.whole);
+      most = omega (arith, h.most, h.order, t.whole, t.next, f.1);
+      is = ap (λ xs. xs ++ read_at runs (drop (i + 1) rs) z) put ∙ append_assoc rf (w ∷ []) (read_at runs (drop (i + 1) rs) z)
+          ∙ ap (λ u. rf ++ u ∷ read_at runs (drop (i + 1) rs) z) src_q
+          ∙ ap (λ xs. rf ++ xs) (sym (read_next runs rs i d z r l e t.small))
+          ∙ ap (λ m. rf ++ read_at runs (drop i rs) m) t.whole ∙ h.is;
+      same = λ j b. (let b' : d * q + j < q * n = mul-add-lt d q j n t.digit b in
+          let at : number - z + j ≡ number - rest + (d * q + j) = omega (arith, h.order, t.whole) in
+          ap (λ m. agree init runs rs (read_at runs rs m)) at
+          ∙ h.same (d * q + j) (omega (arith, b', f.1, mul_comm n q))
+          ∙ agree_next init runs rs i d j r l e b ∙ rw yes refl);
+    }))
+
+-- The read at place i has another value than what it would read from, and so it is up to the number at which it reads from the next.
+pub read_until : (init : List ℕ) (runs : List ThreadRun) (rs : List Event) (number i : ℕ) (rf : List EventId) (rest below k p : ℕ) (r : Event) (w : EventId) → i < length rs → r ≡ get_or rs i r → p ≡ below / count_sources runs r → k ≡ rest % (below / count_sources runs r) → w ≡ source_at runs r (rest / (below / count_sources runs r)) → write_value init runs w ≢ r.value → SoFar init runs rs number i rf rest below → (k ≤ number) × ((number < number - k + p) × (number - k + p ≤ product_by (count_sources runs) rs) × ((m : ℕ) → number ≤ m → m < number - k + p → agree init runs rs (read_at runs rs m) ≡ false))
+read_until init runs rs number i rf rest below k p r w l e is left src ne h =
+    let n = count_sources runs r in
+    let q = ways_from runs rs (i + 1) in
+    let f = divided runs rs i below n r l e h.left refl in
+    let t : IsSplit rest n q = split rest n q (some_ways runs rs (i + 1)) (omega (arith, h.small, f.1)) in
+    let d = rest / q in
+    let z = rest % q in
+    let same_p : q ≡ p = sym (is ∙ f.0) in
+    let same_k : z ≡ k = sym (left ∙ ap (λ m. rest % m) f.0) in
+    let src_q : w ≡ source_at runs r d = src ∙ ap (λ m. source_at runs r (rest / m)) f.0 in
+    let no : (write_value init runs (source_at runs r d) == r.value) ≡ false = different _ _ (λ v. ne (ap (write_value init runs) src_q ∙ v)) in (
+      omega (arith, same_k, t.whole, h.order),
+      (
+        omega (arith, same_k, same_p, t.small),
+        omega (arith, h.most, h.order, t.whole, t.next, f.1, same_k, same_p),
+        λ m a b. (let j = m - (number - z) in
+            let small : j < q = omega (arith, a, b, t.small, t.whole, h.order, same_k, same_p) in
+            let at : m ≡ number - rest + (d * q + j) = omega (arith, h.order, t.whole, a) in
+            let b' : d * q + j < q * n = mul-add-lt d q j n t.digit small in
+            ap (λ x. agree init runs rs (read_at runs rs x)) at
+            ∙ h.same (d * q + j) (omega (arith, b', f.1, mul_comm n q))
+            ∙ agree_next init runs rs i d j r l e small ∙ rw no refl),
+      ),
+    )
+
+-- Behind the last read all have read.
+pub read_all : (init : List ℕ) (runs : List ThreadRun) (rs : List Event) (number i : ℕ) (rf : List EventId) (rest below : ℕ) → length rs ≤ i → SoFar init runs rs number i rf rest below → (rf ≡ read_at runs rs number) × (agree init runs rs rf ≡ true)
+read_all init runs rs number i rf rest below l h =
+    let none : drop i rs ≡ [] = drop_all i rs l in
+    let w : rf ≡ read_at runs rs number = sym (append-nil rf) ∙ ap (λ (xs : List Event). rf ++ read_at runs xs rest) (sym none) ∙ h.is in
+    let at : number - rest + rest ≡ number = omega (arith, h.order) in
+    (w, ap (agree init runs rs) w ∙ ap (λ n. agree init runs rs (read_at runs rs n)) (sym at) ∙ h.same rest h.small ∙ ap (λ (xs : List Event). agree init runs xs (read_at runs xs rest)) none)

@@ -54,19 +54,17 @@ block_below locations limit threads i l h =
 abbrev pub Walk : List ℕ → List (List ThreadRun) → ℕ → Execution
 Walk init left i = walk (block (length init)) (candidate init) no_execution left i
 
-pub stops : (init : List ℕ) (threads : List (List ThreadRun)) (i rest : ℕ) → i < count_choices threads → rest < block (length init) (choice threads i) → Walk init (drop i (choices threads)) rest ≡ candidate init (choice threads i) rest
+stops : (init : List ℕ) (threads : List (List ThreadRun)) (i rest : ℕ) → i < count_choices threads → rest < block (length init) (choice threads i) → Walk init (drop i (choices threads)) rest ≡ candidate init (choice threads i) rest
 stops init threads i rest l h =
     ap (λ left. Walk init left rest) (drop_tabulate (count_choices threads) (choice threads) i l)
     ∙ walks_here (block (length init)) (candidate init) no_execution (choice threads i) (drop (i + 1) (choices threads)) rest h
 
-pub goes_on : (init : List ℕ) (threads : List (List ThreadRun)) (i rest : ℕ) → i < count_choices threads → block (length init) (choice threads i) ≤ rest → Walk init (drop (i + 1) (choices threads)) (rest - block (length init) (choice threads i)) ≡ Walk init (drop i (choices threads)) rest
-goes_on init threads i rest l h =
-    sym (ap (λ left. Walk init left rest) (drop_tabulate (count_choices threads) (choice threads) i l)
-    ∙ walks_on (block (length init)) (candidate init) no_execution (choice threads i) (drop (i + 1) (choices threads)) rest h)
-
--- From a mark the walk goes on as from the start.
-pub from_mark : (init : List ℕ) (threads : List (List ThreadRun)) (m : Mark) (i : ℕ) → IsMark (length init) threads m → m.before ≤ i → Walk init (drop m.choice (choices threads)) (i - m.before) ≡ Walk init (choices threads) i
-from_mark init threads m i h l = walk_from (block (length init)) (candidate init) no_execution (choices threads) m.choice m.before i h.whole l
+-- What stands in the block of a choice, which begins at the number `before`.
+pub in_block : (init : List ℕ) (threads : List (List ThreadRun)) (i before : ℕ) → i < count_choices threads → before + sum_of (block (length init)) (drop i (choices threads)) ≡ sum_of (block (length init)) (choices threads) → (j : ℕ) → j < block (length init) (choice threads i) → Walk init (choices threads) (before + j) ≡ candidate init (choice threads i) j
+in_block init threads i before l whole j h =
+    let e : before + j - before ≡ j = omega arith in
+    sym (walk_from (block (length init)) (candidate init) no_execution (choices threads) i before (before + j) whole (omega arith))
+    ∙ ap (Walk init (drop i (choices threads))) e ∙ stops init threads i j l h
 
 pub mark_at : (locations : ℕ) (threads : List (List ThreadRun)) (marks : List Mark) (m : Mark) → AreMarks locations threads marks → IsFrom marks m → IsMark locations threads m
 mark_at locations threads marks m h f = elim f [
@@ -79,14 +77,6 @@ pub marks_more : (locations : ℕ) (threads : List (List ThreadRun)) (marks more
 marks_more locations threads marks more m h p o =
     let P : List Mark → Type 0 = AreMarks locations threads in
     elim o [ inl e ↦ subst P (sym e) h | inr e ↦ subst P (sym e) (All-push (IsMark locations threads) marks m h p) ]
-
-pub still_below : (locations : ℕ) (threads : List (List ThreadRun)) (i rest : ℕ) → i < count_choices threads → block locations (choice threads i) ≤ rest → rest < sum_of (block locations) (drop i (choices threads)) → rest - block locations (choice threads i) < sum_of (block locations) (drop (i + 1) (choices threads))
-still_below locations threads i rest l h k = omega (arith, rest_sum locations threads i l, h, k)
-
-pub none_left : (locations : ℕ) (threads : List (List ThreadRun)) (i rest : ℕ) → count_choices threads ≤ i → rest < sum_of (block locations) (drop i (choices threads)) → ⊥
-none_left locations threads i rest l h =
-    let e : sum_of (block locations) (drop i (choices threads)) ≡ 0 = ap (sum_of (block locations)) (end_tabulate (count_choices threads) (choice threads) i l) in
-    omega (arith, e, h)
 
 pub rest_sum_of : (locations : ℕ) (threads : List (List ThreadRun)) (i size total : ℕ) → i < count_choices threads → size + sum_of (block locations) (drop i (choices threads)) ≡ total → size + block locations (choice threads i) + sum_of (block locations) (drop (i + 1) (choices threads)) ≡ total
 rest_sum_of locations threads i size total l e = omega (arith, rest_sum locations threads i l, e)

@@ -48,16 +48,25 @@ count_orders runs x = factorial (length (later_writes runs x))
 abbrev pub order_at : List ThreadRun → ℕ → ℕ → List EventId
 order_at runs x i = Initial x ∷ arrange (later_writes runs x) i
 
-abbrev pub count_rf : List ThreadRun → ℕ
-count_rf runs = product_by (count_sources runs) (reads runs)
+abbrev pub count_co : ℕ → List ThreadRun → ℕ
+count_co locations runs = product_by (count_orders runs) (upto locations)
 
--- the candidate of these runs with this number: rf by the digits of its lower part, co by those of its higher part
+-- one value for each of as', by the digits of i, the highest first; the digit of a is below size a
+abbrev pub digits_down : {A X : Type 0} → (A → ℕ) → (A → ℕ → X) → List A → ℕ → List X
+digits_down size at [] i = []
+digits_down size at (a ∷ rest) i = at a (i / product_by size rest) ∷ digits_down size at rest (i % product_by size rest)
+
+-- what the reads read from by number i: what the first reads from is the slowest to change
+abbrev pub rf_at : List ThreadRun → ℕ → List EventId
+rf_at runs i = digits_down (count_sources runs) (source_at runs) (reads runs) i
+
+-- the candidate of these runs with this number: co by the lower part of the number, rf by the higher part
 abbrev pub candidate : List ℕ → List ThreadRun → ℕ → Execution
 candidate init runs i = record {
   init = init;
   runs = runs;
-  rf = digits (count_sources runs) (source_at runs) (reads runs) (i % count_rf runs);
-  co = digits (count_orders runs) (order_at runs) (upto (length init)) (i / count_rf runs);
+  rf = rf_at runs (i / count_co (length init) runs);
+  co = digits (count_orders runs) (order_at runs) (upto (length init)) (i % count_co (length init) runs);
 }
 
 abbrev pub no_execution : Execution

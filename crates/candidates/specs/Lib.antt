@@ -3,3 +3,5 @@ pub mod Candidates
 pub mod Executions
 pub mod Faults
 pub mod Marks
+pub mod Readings
+pub mod Walks

@@ -7,10 +7,12 @@ ghost use Rattle.listings.specs.Lists.{product_by};
 ghost use Rattle.listings.specs.Numbered.{arrange, digits};
 ghost use Rattle.candidates.specs.Bounds.{AreWithin};
 ghost use Rattle.candidates.specs.Executions.{writes_from, later_writes, reads, upto, block};
-ghost use Rattle.candidates.specs.Candidates.{sources, count_sources, source_at, count_orders, order_at, candidate, write_value, agree, is_consistent};
+ghost use Rattle.candidates.specs.Candidates.{sources, count_sources, source_at, count_orders, order_at, count_co, rf_at, candidate, write_value, agree, is_consistent};
+ghost use Rattle.candidates.specs.Readings.{IsReading, IsLook, IsPage};
 
 use crate::capped::capped_factorial;
 use crate::fault::MOST_CANDIDATES;
+use crate::page::Page;
 use events::{Coherence, Event, EventId, Graph, Run};
 use std::alloc::{AllocError, Global};
 
@@ -109,48 +111,73 @@ fn write_value(init: &[u32], runs: &[Run], write: EventId) -> u32
     }
 }
 
-/// What a read reads from, and the number that is left for the reads after it.
+/// What the reads read from, by some number.
+#[derive(Drop)]
+pub(crate) enum Reading {
+    /// Each read has the value of what it reads from.
+    Whole(Vec<EventId>),
+    /// By this number and those before it, some read has another value.
+    Until(u64),
+}
+
+/// What a read reads from, the number that is left for the reads behind it, and in how many ways these can read.
 #[derive(Clone, Copy)]
 struct Pick {
     source: EventId,
     rest: u64,
+    below: u64,
 }
 
-/// What the read reads from, with this number.
-fn pick_source(alloc: Global, runs: &[Run], read: &Event, number: u64) -> Result<Pick, AllocError>
-    ensures source { IfOk result (λ p. p.source ≡ source_at runs.now read.now (number % count_sources runs.now read.now)) }
-    ensures rest { IfOk result (λ p. p.rest ≡ number / count_sources runs.now read.now) }
+/// What the read reads from by this number, of those by which it and the reads behind it can read.
+fn pick_source(
+    alloc: Global,
+    runs: &[Run],
+    read: &Event,
+    number: u64,
+    ways: u64,
+) -> Result<Pick, AllocError>
+    requires some { 1 ≤ ways / count_sources runs.now read.now }
+    requires digit { number / (ways / count_sources runs.now read.now) < count_sources runs.now read.now }
+    ensures source { IfOk result (λ p. p.source ≡ source_at runs.now read.now (number / (ways / count_sources runs.now read.now))) }
+    ensures rest { IfOk result (λ p. p.rest ≡ number % (ways / count_sources runs.now read.now)) }
+    ensures below { IfOk result (λ p. p.below ≡ ways / count_sources runs.now read.now) }
 {
     let sources = sources(alloc, runs, read.loc)?;
-    let count = sources.len() as u64;
+    let below = ways / sources.len() as u64;
     Ok(Pick {
-        source: sources[(number % count) as usize],
-        rest: number / count,
+        source: sources[(number / below) as usize],
+        rest: number % below,
+        below,
     })
 }
 
-/// What each read reads from, with this number, where each has the value of what it reads from.
+/// What each read reads from, with this number, where each has the value of what it reads from. Else up to which
+/// number a read has another value: all those numbers by which the reads up to it read from the same writes.
 fn read_from(
     alloc: Global,
     init: &[u32],
     runs: &[Run],
     reads: &[Event],
+    ways: u64,
     number: u64,
-) -> Result<Option<Vec<EventId>>, AllocError>
-    ensures none { IfOk result (λ o. MatchOption o (agree init.now runs.now reads.now (digits (count_sources runs.now) (source_at runs.now) reads.now number) ≡ false) (λ _. Unit {0})) }
-    ensures some { IfOk result (λ o. MatchOption o (Unit {0}) (λ v. (v.items ≡ digits (count_sources runs.now) (source_at runs.now) reads.now number) × (agree init.now runs.now reads.now v.items ≡ true))) }
+) -> Result<Reading, AllocError>
+    requires ways { ways ≡ product_by (count_sources runs.now) reads.now }
+    requires number { number < ways }
+    ensures { IfOk result (IsReading init.now runs.now reads.now number) }
 {
     let mut rf = Vec::new(alloc);
+    let mut below = ways;
     let mut rest = number;
     for read in reads {
-        let pick = pick_source(alloc, runs, read, rest)?;
+        let pick = pick_source(alloc, runs, read, rest, below)?;
         if write_value(init, runs, pick.source) != read.value {
-            return Ok(None);
+            return Ok(Reading::Until(number - pick.rest + pick.below));
         }
         rf.push(pick.source)?;
         rest = pick.rest;
+        below = pick.below;
     }
-    Ok(Some(rf))
+    Ok(Reading::Whole(rf))
 }
 
 /// One order of the writes.
@@ -213,27 +240,94 @@ fn coherence(
     Ok(co)
 }
 
-/// The candidate of these runs with this number, where each read has the value of what it reads from.
-pub(crate) fn assemble(
-    alloc: Global,
-    init: &[u32],
-    runs: Vec<Run>,
-    number: u64,
-) -> Result<Option<Graph>, AllocError>
-    requires within { AreWithin (length init.now) runs.items }
-    requires most { block (length init.now) runs.items ≤ MOST_CANDIDATES }
-    requires number { number < block (length init.now) runs.items }
-    ensures none { IfOk result (λ o. MatchOption o (is_consistent (candidate init.now runs.items number) ≡ false) (λ _. Unit {0})) }
-    ensures some { IfOk result (λ o. MatchOption o (Unit {0}) (λ g. (g ≡ candidate init.now runs.items number) × (is_consistent g ≡ true))) }
+/// How many orders there are of the writes of all locations.
+fn count_all_orders(alloc: Global, runs: &[Run], locations: usize) -> Result<u64, AllocError>
+    requires { count_co locations runs.now ≤ MOST_CANDIDATES }
+    ensures { IfOk result (λ n. (n ≡ count_co locations runs.now) × (1 ≤ n)) }
+{
+    let mut product = 1;
+    for location in 0..locations {
+        product *= count_orders(alloc, runs, location)?;
+    }
+    Ok(product)
+}
+
+/// The page of these runs.
+pub(crate) fn open_page(alloc: Global, runs: Vec<Run>, locations: usize) -> Result<Page, AllocError>
+    requires within { AreWithin locations runs.items }
+    requires most { block locations runs.items ≤ MOST_CANDIDATES }
+    ensures page { IfOk result (IsPage locations) }
+    ensures runs { IfOk result (λ p. p.runs.items ≡ runs.items) }
 {
     let reads = reads(alloc, &runs)?;
     let ways = count_ways(alloc, &runs, &reads)?;
-    match read_from(alloc, init, &runs, &reads, number % ways)? {
-        Some(rf) => {
-            let co = coherence(alloc, &runs, init.len(), number / ways)?;
-            let init = Vec::from_slice(alloc, init)?;
-            Ok(Some(Graph::new(init, runs, rf, co)))
-        }
-        None => Ok(None),
+    let orders = count_all_orders(alloc, &runs, locations)?;
+    Ok(Page {
+        runs,
+        reads,
+        ways,
+        orders,
+    })
+}
+
+/// The same runs once more.
+fn copy_runs(alloc: Global, runs: &[Run]) -> Result<Vec<Run>, AllocError>
+    ensures { IfOk result (λ v. v.items ≡ runs.now) }
+{
+    let mut copies = Vec::new(alloc);
+    for run in runs {
+        copies.push(run.copy()?)?;
+    }
+    Ok(copies)
+}
+
+/// What is found at a number of some runs.
+#[derive(Drop)]
+pub(crate) enum Look {
+    /// The candidate is an execution.
+    Found(Graph),
+    /// From the number to before this one no candidate is.
+    Until(u64),
+}
+
+/// The candidate with these parts.
+fn assemble(
+    alloc: Global,
+    init: &[u32],
+    page: &Page,
+    rf: Vec<EventId>,
+    number: u64,
+) -> Result<Graph, AllocError>
+    requires page { IsPage (length init.now) page.now }
+    requires number { number < block (length init.now) page.now.runs.items }
+    requires rf { rf.items ≡ rf_at page.now.runs.items (number / page.now.orders) }
+    ensures { IfOk result (λ g. g ≡ candidate init.now page.now.runs.items number) }
+{
+    let co = coherence(alloc, &page.runs, init.len(), number % page.orders)?;
+    let values = Vec::from_slice(alloc, init)?;
+    Ok(Graph::new(values, copy_runs(alloc, &page.runs)?, rf, co))
+}
+
+/// The candidate of the page's runs with this number, where it is an execution; else up to which number none is.
+pub(crate) fn look_at(
+    alloc: Global,
+    init: &[u32],
+    page: &Page,
+    number: u64,
+) -> Result<Look, AllocError>
+    requires page { IsPage (length init.now) page.now }
+    requires number { number < block (length init.now) page.now.runs.items }
+    ensures { IfOk result (IsLook init.now page.now.runs.items number) }
+{
+    match read_from(
+        alloc,
+        init,
+        &page.runs,
+        &page.reads,
+        page.ways,
+        number / page.orders,
+    )? {
+        Reading::Whole(rf) => Ok(Look::Found(assemble(alloc, init, page, rf, number)?)),
+        Reading::Until(next) => Ok(Look::Until(next * page.orders)),
     }
 }

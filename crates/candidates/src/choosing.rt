@@ -1,6 +1,6 @@
 //! Choices of one run of each thread, and how many candidates have the runs of a choice.
 
-ghost use Rattle.std.specs.Prelude.{◌≡◌, ◌++◌, ◌<◌, ◌≤◌, ◌+◌, ◌*◌, ◌^◌, ℕ, List, length, map, count_by, sum_by, IfOk};
+ghost use Rattle.std.specs.Prelude.{◌≡◌, ◌++◌, ◌<◌, ◌≤◌, ◌+◌, ◌-◌, ◌*◌, ◌^◌, ℕ, List, length, map, count_by, sum_by, IfOk};
 ghost use Rattle.listings.specs.Lists.{IsIn, sum_of, factorial};
 ghost use Rattle.events.specs.Executions.{ThreadRun, writes_to};
 ghost use Rattle.candidates.specs.Executions.{block};
@@ -202,7 +202,9 @@ pub(crate) fn locate(
     requires number { number < sum_of (block (length init.now)) (choices threads.now) }
     ensures choice { result.choice < count_choices threads.now }
     ensures rest { result.rest < block (length init.now) (choice threads.now result.choice) }
-    ensures found { candidate_at (record { init = init.now; threads = threads.now }) number ≡ candidate init.now (choice threads.now result.choice) result.rest }
+    ensures order { result.rest ≤ number }
+    ensures end { number - result.rest + block (length init.now) (choice threads.now result.choice) ≤ sum_of (block (length init.now)) (choices threads.now) }
+    ensures found { (j : ℕ) → j < block (length init.now) (choice threads.now result.choice) → candidate_at (record { init = init.now; threads = threads.now }) (number - result.rest + j) ≡ candidate init.now (choice threads.now result.choice) j }
 {
     let from = nearest(marks, number);
     let mut rest = number - from.before;

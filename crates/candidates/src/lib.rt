@@ -7,7 +7,10 @@ mod choosing;
 mod fault;
 pub mod laws;
 mod mark;
+mod page;
 mod space;
+mod walk;
 
 pub use fault::SpaceFault;
 pub use space::Space;
+pub use walk::Walk;

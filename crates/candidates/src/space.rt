@@ -1,20 +1,23 @@
 //! The numbered candidates of a test.
 
-ghost use Rattle.std.specs.Prelude.{◌≡◌, ◌<◌, ◌≤◌, ◌^◌, ℕ, List, length, map, IfOk, MatchResult, IfErr};
+ghost use Rattle.std.specs.Prelude.{◌≡◌, ◌+◌, ◌<◌, ◌≤◌, ◌^◌, ℕ, List, length, map, IfOk, MatchResult, IfErr};
 ghost use Rattle.candidates.specs.Executions.{initial_values};
 ghost use Rattle.candidates.specs.Executions.{IsSize, upto};
-ghost use Rattle.candidates.specs.Candidates.{choice, count_choices, choices_of, size_of, graph_at};
+ghost use Rattle.candidates.specs.Candidates.{choice, count_choices, choices_of, size_of, graph_at, no_execution};
 ghost use Rattle.c11_threads.specs.Unrolled.{runs_of};
 ghost use Rattle.candidates.specs.Faults.{HaveFewRuns, IsSpaceFault};
 ghost use Rattle.candidates.specs.Bounds.{AreWithin};
 ghost use Rattle.candidates.specs.Marks.{AreMarks};
+ghost use Rattle.candidates.specs.Readings.{IsStretch};
 ghost use Rattle.events.specs.Executions.{ThreadRun};
 ghost use Rattle.listings.specs.Lists.{IsIn};
 
-use crate::assembly::assemble;
+use crate::assembly::{Look, open_page};
 use crate::choosing::{RunList, choice, count_choices, locate, total};
 use crate::fault::{MOST_CANDIDATES, SpaceFault};
 use crate::mark::Mark;
+use crate::page::Stretch;
+use crate::walk::{Walk, visit};
 use c11_threads::{initial_value, runs};
 use conditions::Place;
 use events::Graph;
@@ -73,25 +76,30 @@ fn all_runs(alloc: Global, test: &Test) -> Result<Vec<RunList>, SpaceFault>
     Ok(lists)
 }
 
-/// The candidate with this number, where it is an execution.
-fn numbered(
+/// The stretch in which a number is.
+fn stretch_at(
     alloc: Global,
     threads: &[RunList],
     init: &[u32],
     marks: &[Mark],
     choices: u64,
     number: u64,
-) -> Result<Option<Graph>, AllocError>
+) -> Result<Stretch, AllocError>
     requires marks { AreMarks (length init.now) threads.now marks.now }
     requires choices { choices ≡ count_choices threads.now }
     requires within { (i : ℕ) → i < count_choices threads.now → AreWithin (length init.now) (choice threads.now i) }
     requires size { size_of (record { init = init.now; threads = threads.now }) ≤ MOST_CANDIDATES }
     requires number { number < size_of (record { init = init.now; threads = threads.now }) }
-    ensures { IfOk result (λ g. g ≡ graph_at (record { init = init.now; threads = threads.now }) number) }
+    ensures stretch { IfOk result (IsStretch (record { init = init.now; threads = threads.now })) }
+    ensures first { IfOk result (λ s. s.first ≤ number) }
+    ensures last { IfOk result (λ s. number < s.first + s.size) }
 {
     let position = locate(threads, init, marks, choices, number);
     let runs = choice(alloc, threads, position.choice)?;
-    assemble(alloc, init, runs, position.rest)
+    let page = open_page(alloc, runs, init.len())?;
+    let first = number - position.rest;
+    let size = page.ways * page.orders;
+    Ok(Stretch { first, size, page })
 }
 
 impl Space {
@@ -130,13 +138,21 @@ impl Space {
         self.size
     }
 
-    /// The candidate with this number, where it is an execution. It passes over the choices of runs
-    /// between the mark before it and its own.
-    pub fn graph(&self, alloc: Global, number: u64) -> Result<Option<Graph>, AllocError>
-        requires { number < size_of self.now }
-        ensures { IfOk result (λ g. g ≡ graph_at self.now number) }
+    /// The initial value of each location.
+    pub(crate) fn init(&self) -> &[u32]
+        ensures { result.now ≡ self.now.init }
     {
-        numbered(
+        &self.init
+    }
+
+    /// The stretch in which a number is. It passes over the choices of runs between the mark before it and its own.
+    pub(crate) fn stretch(&self, alloc: Global, number: u64) -> Result<Stretch, AllocError>
+        requires { number < size_of self.now }
+        ensures stretch { IfOk result (IsStretch self.now) }
+        ensures first { IfOk result (λ s. s.first ≤ number) }
+        ensures last { IfOk result (λ s. number < s.first + s.size) }
+    {
+        stretch_at(
             alloc,
             &self.threads,
             &self.init,
@@ -144,5 +160,27 @@ impl Space {
             self.choices,
             number,
         )
+    }
+
+    /// The candidate with this number, where it is an execution.
+    #[tactic(auto, using(crate::proofs::Stretches::nothing_at))]
+    pub fn graph(&self, alloc: Global, number: u64) -> Result<Option<Graph>, AllocError>
+        requires { number < size_of self.now }
+        ensures { IfOk result (λ g. g ≡ graph_at self.now number) }
+    {
+        let stretch = self.stretch(alloc, number)?;
+        match visit(alloc, self, &stretch, number)? {
+            Look::Found(graph) => Ok(Some(graph)),
+            Look::Until(_) => Ok(None),
+        }
+    }
+
+    /// A walk over the executions at the numbers from `from` to `to - 1`.
+    pub fn walk(&self, alloc: Global, from: u64, to: u64) -> Result<Walk<'_>, AllocError>
+        requires order { from ≤ to }
+        requires within { to ≤ size_of self.now }
+        ensures { IfOk result (λ w. w ≡ record { space = self.now; next = from; to = to; shown = no_execution }) }
+    {
+        Ok(Walk::new(alloc, self, from, to))
     }
 }

@@ -2,6 +2,7 @@
 use Rattle.std.proofs.Common.{◌≡◌, ℕ, ◌≤◌, List, [], length, refl, sym, ◌∙◌, ap, subst, arith}
 use Rattle.std.specs.Prelude.{Result, Ok, Err, IfOk, IfErr, MatchResult}
 use Rattle.std.specs.Result.{IsErrAnd}
+use Rattle.wb_text.specs.Faults.{HasCause}
 use Rattle.wb_text.specs.declared.fault.TextFault.{TextFault}
 use Rattle.wb_text.specs.declared.fault.TextFault.TheVariants as texts
 use Rattle.wb_text.specs.declared.token.Dialect.TheVariants.{Cat}
@@ -55,6 +56,20 @@ small_of ss f d h = omega (arith, file-weight ss f d)
 pub no_memory : (r : Result File CatFault) (e : TextFault) (f : File) → IsErrAnd r (λ g. g ≡ cause_of e) → e ≡ texts.NoMemory → MatchResult r (λ g. g ≡ f) (λ g. g ≡ NoMemory)
 no_memory (Ok g) e f h same = absurd h
 no_memory (Err g) e f h same = h ∙ ap cause_of same
+
+-- a text that has no tokens
+text_cause : (text : List ℕ) (e : TextFault) → HasCause Cat text e → IsRefused text (cause_of e)
+text_cause text texts.NoMemory h = tt
+text_cause text texts.NotAscii h = (λ e. cc, h)
+text_cause text texts.BadByte h = (λ e. cc, h)
+text_cause text texts.OpenComment h = (λ e. cc, h)
+text_cause text texts.OpenString h = (λ e. cc, h)
+text_cause text texts.NumberTooBig h = (λ e. cc, h)
+text_cause text texts.TooLong h = (λ e. cc, h)
+
+pub text_refused : (text : List ℕ) (r : Result File CatFault) (e : TextFault) → IsErrAnd r (λ g. g ≡ cause_of e) → HasCause Cat text e → IfErr r (λ g. IsRefused text g)
+text_refused text (Ok f) e is h = tt
+text_refused text (Err g) e is h = subst (IsRefused text) (sym is) (text_cause text e h)
 
 -- a refusal that tells of the symbols stands, since a model would have been read
 refused_of : (text : List ℕ) (ts : List Token) (e : CatFault) → IsTokenList Cat text ts → Tells e (symbols_of text ts) ts (length text) → ((f : File) → Reads text f → e ≡ NoMemory) → IsRefused text e

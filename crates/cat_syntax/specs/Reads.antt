@@ -1,6 +1,7 @@
 -- Which model a text spells, and why a text is refused. (herd7 manual, the cat language.)
-use Rattle.std.specs.Prelude.{◌≡◌, ℕ, ◌<◌, ◌≤◌, List, length, Contains}
+use Rattle.std.specs.Prelude.{◌≡◌, ◌≢◌, ℕ, ◌<◌, ◌≤◌, List, length, Contains}
 use Rattle.wb_text.specs.Faults.{HasCause}
+use Rattle.wb_text.specs.declared.fault.TextFault.TheVariants as texts
 use Rattle.wb_text.specs.declared.token.Dialect.TheVariants.{Cat}
 use Rattle.wb_text.specs.declared.token.Token.{Token}
 use Rattle.wb_text.specs.Offsets.{IsOffset}
@@ -37,8 +38,8 @@ pub record SpellsNone (text : List ℕ) (e : CatFault) : Type 0 where
   pub none : (f : File) → ¬ Reads text f
   pub told : Tells e (symbols_of text tokens) tokens (length text)
 
--- The cause of a refusal.
+-- The cause of a refusal. Want of memory is one by itself, and none of the text.
 abbrev pub IsRefused : List ℕ → CatFault → Type 0
 IsRefused text NoMemory = Unit {0}
-IsRefused text (Text f) = HasCause Cat text f
+IsRefused text (Text f) = (f ≢ texts.NoMemory) × HasCause Cat text f
 IsRefused text e = SpellsNone text e

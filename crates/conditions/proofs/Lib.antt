@@ -1,5 +1,6 @@
 pub mod Bindings
 pub mod InOrder
+pub mod Links
 pub mod ObservedPlaces
 pub mod Places
 pub mod StateValues

@@ -11,5 +11,5 @@ mod state;
 pub use condition::{Cond, Kind};
 pub use observing::observed;
 pub use place::{Binding, Place};
-pub use prop::Prop;
+pub use prop::{Atom, Connective, Link, Prop};
 pub use state::{State, holds, ok_of};

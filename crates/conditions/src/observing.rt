@@ -1,12 +1,13 @@
 //! The places whose values are observed.
 
 ghost use Rattle.std.specs.Prelude.{◌≡◌, ◌++◌, IfOk, OnOk};
-ghost use Rattle.conditions.specs.Conditions.{formula_of};
+ghost use Rattle.conditions.specs.Chains.{mentioned_by};
+ghost use Rattle.conditions.specs.Conditions.{atomic, growth_of, formula_of};
 ghost use Rattle.conditions.specs.States.{mentioned, AreObserved};
 
 use crate::condition::Cond;
 use crate::place::Place;
-use crate::prop::Prop;
+use crate::prop::{Atom, Link, Prop};
 use std::alloc::{AllocError, Global};
 
 /// The places of the condition and of the list.
@@ -21,16 +22,38 @@ pub fn observed(alloc: Global, condition: &Cond, listed: &[Place]) -> Result<Vec
     Ok(places)
 }
 
+impl Atom {
+    fn push_mentioned(&self, places: &mut Vec<Place>) -> Result<(), AllocError>
+        ensures { OnOk result (places.new.items ≡ places.old.items ++ mentioned (atomic self.now)) }
+    {
+        match self {
+            Atom::True | Atom::False => Ok(()),
+            Atom::Equals(place, _) => Ok(places.push(place.copy()?)?),
+        }
+    }
+}
+
+/// Recursion goes into right operands alone.
+#[cycle(mentioning)]
 fn push_mentioned(prop: &Prop, places: &mut Vec<Place>) -> Result<(), AllocError>
     ensures { OnOk result (places.new.items ≡ places.old.items ++ mentioned (formula_of prop.now)) }
 {
-    match prop {
-        Prop::True | Prop::False => Ok(()),
-        Prop::Equals(place, _) => Ok(places.push(place.copy()?)?),
-        Prop::Not(a) => push_mentioned(a, places),
-        Prop::And(a, b) | Prop::Or(a, b) | Prop::Implies(a, b) => {
-            push_mentioned(a, places)?;
-            push_mentioned(b, places)
+    prop.first.push_mentioned(places)?;
+    for link in &prop.rest {
+        link.push_mentioned(places)?;
+    }
+    Ok(())
+}
+
+impl Link {
+    #[cycle(mentioning)]
+    #[tactic(auto, using(crate::specs::Chains::join_is))]
+    fn push_mentioned(&self, places: &mut Vec<Place>) -> Result<(), AllocError>
+        ensures { OnOk result (places.new.items ≡ places.old.items ++ mentioned_by (growth_of self.now)) }
+    {
+        match self {
+            Link::Not => Ok(()),
+            Link::Join(_, operand) => push_mentioned(operand, places),
         }
     }
 }

@@ -1,83 +1,102 @@
 //! Propositions over a final state.
 
 ghost use Rattle.std.specs.Prelude.{◌≡◌, IfOk};
-ghost use Rattle.conditions.specs.Conditions.{formula_of};
+ghost use Rattle.conditions.specs.Conditions.{negation, connected, grown, atomic, growth_of, formula_of};
+
+mod copying;
+mod equality;
 
 use crate::place::Place;
-use std::alloc::AllocError;
+use std::alloc::{AllocError, Global};
 
-/// A proposition. Contracts see it as its formula, apart from where it lies in memory.
+/// A connective between two propositions.
+#[derive(Clone, Copy, Debug, PartialEq, Eq)]
+pub enum Connective {
+    /// `/\`
+    And,
+    /// `\/`
+    Or,
+    /// `=>`
+    Implies,
+}
+
+/// What a proposition begins with.
 #[derive(Drop)]
-pub enum Prop {
+pub enum Atom {
     True,
     False,
     /// The place has this value.
     Equals(Place, u32),
-    Not(Box<Prop>),
-    And(Box<Prop>, Box<Prop>),
-    Or(Box<Prop>, Box<Prop>),
-    Implies(Box<Prop>, Box<Prop>),
 }
 
-impl PartialEq for Prop {
-    ghost use Rattle.std.specs.Prelude.{◌≡◌, ◌↔◌, IsTrue};
-    ghost use Rattle.std.specs.Cmp.{partial_equiv_from_equiv};
-    ghost use Rattle.conditions.specs.Conditions.{formula_of};
-    ghost use Rattle.conditions.specs.Equality.{same_formula};
-    ghost use Rattle.conditions.specs.Exact.{prop_equivalence};
-
-    ghost eq = { λ a b. same_formula (formula_of a) (formula_of b) };
-
-    ghost laws = { partial_equiv_from_equiv prop_equivalence };
-
-    fn eq(&self, other: &Prop) -> bool
-        ensures value { result ≡ same_formula (formula_of self.now) (formula_of other.now) }
-        ensures exact { IsTrue result ↔ (formula_of self.now ≡ formula_of other.now) }
-    {
-        match (self, other) {
-            (Prop::True, Prop::True) | (Prop::False, Prop::False) => true,
-            (Prop::Equals(place, value), Prop::Equals(other_place, other_value)) => {
-                place == other_place && value == other_value
-            }
-            (Prop::Not(a), Prop::Not(b)) => **a == **b,
-            (Prop::And(a, b), Prop::And(c, d)) => **a == **c && **b == **d,
-            (Prop::Or(a, b), Prop::Or(c, d)) => **a == **c && **b == **d,
-            (Prop::Implies(a, b), Prop::Implies(c, d)) => **a == **c && **b == **d,
-            _ => false,
-        }
-    }
+/// A proposition: the atom on the far left of its tree, and the links from there up to the tree's root. Contracts see it
+/// as its formula. Each formula has one value, whatever parentheses it was written with, and no recursion follows a
+/// chain of connectives: it goes into right operands alone.
+#[cycle(propositions)]
+#[derive(Drop)]
+pub struct Prop {
+    pub first: Atom,
+    pub rest: Vec<Link>,
 }
 
-impl Eq for Prop {
-    ghost use Rattle.conditions.specs.Exact.{prop_equivalence};
-
-    ghost laws = { prop_equivalence };
+/// What is done to all that stands before it.
+#[cycle(propositions)]
+#[derive(Drop)]
+pub enum Link {
+    /// `~` before it.
+    Not,
+    /// A connective, and its right operand.
+    Join(Connective, Prop),
 }
 
 impl Prop {
-    /// A second proposition that is equal. Each box is made where its first lies.
-    #[cycle(copying)]
-    pub fn copy(&self) -> Result<Prop, AllocError>
-        ensures { IfOk result (λ p. formula_of p ≡ formula_of self.now) }
+    /// An atom alone.
+    pub fn atom(alloc: Global, first: Atom) -> Prop
+        ensures { formula_of result ≡ atomic first }
     {
-        match self {
-            Prop::True => Ok(Prop::True),
-            Prop::False => Ok(Prop::False),
-            Prop::Equals(place, value) => Ok(Prop::Equals(place.copy()?, *value)),
-            Prop::Not(a) => Ok(Prop::Not(boxed_copy(a)?)),
-            Prop::And(a, b) => Ok(Prop::And(boxed_copy(a)?, boxed_copy(b)?)),
-            Prop::Or(a, b) => Ok(Prop::Or(boxed_copy(a)?, boxed_copy(b)?)),
-            Prop::Implies(a, b) => Ok(Prop::Implies(boxed_copy(a)?, boxed_copy(b)?)),
+        Prop {
+            first,
+            rest: Vec::new(alloc),
         }
     }
-}
 
-/// A box of an equal proposition, from the same allocator. It isn't inlined, which keeps the stack that a long chain
-/// of connectives takes small.
-#[cycle(copying)]
-#[inline(never)]
-fn boxed_copy(first: &Box<Prop>) -> Result<Box<Prop>, AllocError>
-    ensures { IfOk result (λ b. formula_of b.value ≡ formula_of first.now.value) }
-{
-    Ok(Box::new(*Box::allocator(first), first.copy()?)?)
+    /// One link more.
+    #[tactic(auto, using(crate::proofs::Links::formula_push))]
+    fn linked(self, link: Link) -> Result<Prop, AllocError>
+        ensures { IfOk result (λ p. formula_of p ≡ grown (formula_of self) (growth_of link)) }
+    {
+        let mut rest = self.rest;
+        rest.push(link)?;
+        Ok(Prop {
+            first: self.first,
+            rest,
+        })
+    }
+
+    /// The same, with no room for more links.
+    pub fn trimmed(self) -> Prop
+        ensures { formula_of result ≡ formula_of self }
+    {
+        let mut rest = self.rest;
+        rest.shrink_to_fit();
+        Prop {
+            first: self.first,
+            rest,
+        }
+    }
+
+    /// The proposition that a connective makes of this and of its right operand.
+    #[tactic(auto, using(crate::specs::Chains::join_is))]
+    pub fn joined(self, connective: Connective, operand: Prop) -> Result<Prop, AllocError>
+        ensures { IfOk result (λ p. formula_of p ≡ connected connective (formula_of self) (formula_of operand)) }
+    {
+        self.linked(Link::Join(connective, operand.trimmed()))
+    }
+
+    /// `~` before this.
+    pub fn denied(self) -> Result<Prop, AllocError>
+        ensures { IfOk result (λ p. formula_of p ≡ negation (formula_of self)) }
+    {
+        self.linked(Link::Not)
+    }
 }

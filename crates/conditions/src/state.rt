@@ -1,12 +1,13 @@
 //! Final states, and what holds in them.
 
 ghost use Rattle.std.specs.Prelude.{◌≡◌, length};
-ghost use Rattle.conditions.specs.Conditions.{formula_of};
+ghost use Rattle.conditions.specs.Chains.{passed};
+ghost use Rattle.conditions.specs.Conditions.{atomic, growth_of, formula_of};
 ghost use Rattle.conditions.specs.States.{bindings, value_at, holds_in, answers_ok};
 
 use crate::condition::Kind;
 use crate::place::Place;
-use crate::prop::Prop;
+use crate::prop::{Atom, Connective, Link, Prop};
 use std::marker::Model;
 
 /// A final state: some places and their values. Contracts see its bindings. A place that isn't listed has 0.
@@ -50,18 +51,45 @@ impl<'a> State<'a> {
     }
 }
 
-/// Whether the proposition holds in the state.
+impl Atom {
+    /// Whether it holds in the state.
+    fn holds(&self, state: &State) -> bool
+        ensures { result ≡ holds_in state.now (atomic self.now) }
+    {
+        match self {
+            Atom::True => true,
+            Atom::False => false,
+            Atom::Equals(place, value) => state.value_of(place) == *value,
+        }
+    }
+}
+
+/// Whether the proposition holds in the state. Recursion goes into right operands alone.
+#[cycle(holding)]
+#[tactic(auto, using(crate::specs::Chains::holds_along))]
 pub fn holds(prop: &Prop, state: &State) -> bool
     ensures { result ≡ holds_in state.now (formula_of prop.now) }
 {
-    match prop {
-        Prop::True => true,
-        Prop::False => false,
-        Prop::Equals(place, value) => state.value_of(place) == *value,
-        Prop::Not(a) => !holds(a, state),
-        Prop::And(a, b) => holds(a, state) && holds(b, state),
-        Prop::Or(a, b) => holds(a, state) || holds(b, state),
-        Prop::Implies(a, b) => !holds(a, state) || holds(b, state),
+    let mut so_far = prop.first.holds(state);
+    for link in &prop.rest {
+        so_far = link.holds(state, so_far);
+    }
+    so_far
+}
+
+impl Link {
+    /// Whether all up to this link holds, where what stands before it does or doesn't.
+    #[cycle(holding)]
+    #[tactic(auto, using(crate::specs::Chains::join_is))]
+    fn holds(&self, state: &State, so_far: bool) -> bool
+        ensures { result ≡ passed state.now so_far (growth_of self.now) }
+    {
+        match self {
+            Link::Not => !so_far,
+            Link::Join(Connective::And, operand) => so_far && holds(operand, state),
+            Link::Join(Connective::Or, operand) => so_far || holds(operand, state),
+            Link::Join(Connective::Implies, operand) => !so_far || holds(operand, state),
+        }
     }
 }
 

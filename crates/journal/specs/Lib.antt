@@ -1,3 +1,6 @@
 pub mod EntryCodes
 pub mod LineCodes
 pub mod Lines
+pub mod ListCodes
+pub mod Listed
+pub mod SameLists

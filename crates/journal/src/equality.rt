@@ -180,6 +180,14 @@ impl Command {
                 Command::PutTest(other) => part == other,
                 _ => false,
             },
+            Command::DropCat(part) => match other {
+                Command::DropCat(other) => part == other,
+                _ => false,
+            },
+            Command::DropTest(part) => match other {
+                Command::DropTest(other) => part == other,
+                _ => false,
+            },
             Command::Ask(first, second) => match other {
                 Command::Ask(other, others) => first == other && second == others,
                 _ => false,
@@ -188,11 +196,25 @@ impl Command {
                 Command::Poll(other) => part == other,
                 _ => false,
             },
+            Command::Forget(part) => match other {
+                Command::Forget(other) => part == other,
+                _ => false,
+            },
+            Command::Release(part) => match other {
+                Command::Release(other) => part == other,
+                _ => false,
+            },
+            Command::List => matches!(other, Command::List),
             Command::Claim => matches!(other, Command::Claim),
             Command::Return(part) => match other {
                 Command::Return(other) => PieceResult::eq(part, other),
                 _ => false,
             },
+            Command::GiveBack(part) => match other {
+                Command::GiveBack(other) => part == other,
+                _ => false,
+            },
+            Command::Close => matches!(other, Command::Close),
         }
     }
 }
@@ -210,6 +232,14 @@ impl Said {
                 Said::PutTest(other) => part == other,
                 _ => false,
             },
+            Said::DropCat(part) => match other {
+                Said::DropCat(other) => part == other,
+                _ => false,
+            },
+            Said::DropTest(part) => match other {
+                Said::DropTest(other) => part == other,
+                _ => false,
+            },
             Said::Ask(first, second) => match other {
                 Said::Ask(other, others) => first == other && second == others,
                 _ => false,
@@ -218,11 +248,25 @@ impl Said {
                 Said::Poll(other) => part == other,
                 _ => false,
             },
+            Said::Forget(part) => match other {
+                Said::Forget(other) => part == other,
+                _ => false,
+            },
+            Said::Release(part) => match other {
+                Said::Release(other) => part == other,
+                _ => false,
+            },
+            Said::List => matches!(other, Said::List),
             Said::Claim => matches!(other, Said::Claim),
             Said::Return(part) => match other {
                 Said::Return(other) => part.is_same(other),
                 _ => false,
             },
+            Said::GiveBack(part) => match other {
+                Said::GiveBack(other) => part == other,
+                _ => false,
+            },
+            Said::Close => matches!(other, Said::Close),
         }
     }
 }
@@ -317,6 +361,15 @@ impl Reply {
                 Reply::Taken(other, others) => first == other && second == others,
                 _ => false,
             },
+            Reply::Freed(part) => match other {
+                Reply::Freed(other) => part == other,
+                _ => false,
+            },
+            Reply::Listed(part) => match other {
+                Reply::Listed(other) => part.is_same(other),
+                _ => false,
+            },
+            Reply::Done => matches!(other, Reply::Done),
             Reply::Refused(part) => match other {
                 Reply::Refused(other) => part.is_same(other),
                 _ => false,

@@ -2,6 +2,8 @@
 #![tactic(auto)]
 
 mod equality;
+mod listing;
 mod records;
 
+pub use listing::{JobRow, Listing, Loaded};
 pub use records::{Command, Entry, Refusal, Replacement, Reply, Returned, Said, SourceKind, Text};

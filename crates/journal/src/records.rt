@@ -4,6 +4,7 @@ ghost use Rattle.std.specs.Prelude.{◌≡◌, true, IfOk};
 ghost use Rattle.std.specs.Arc.{arc_value};
 ghost use Rattle.journal.specs.Lines.{answers, seen, returned};
 
+use crate::listing::Listing;
 use candidates::SpaceFault;
 use cat_model::ModelFault;
 use cat_syntax::CatFault;
@@ -34,10 +35,17 @@ impl Model for Text {
 pub enum Command {
     PutCat(Name, Text),
     PutTest(Text),
+    DropCat(Name),
+    DropTest(Name),
     Ask(Name, Name),
     Poll(u32),
+    Forget(u32),
+    Release(u32),
+    List,
     Claim,
     Return(PieceResult),
+    GiveBack(u32),
+    Close,
 }
 
 /// A result as the journal shows it.
@@ -55,10 +63,17 @@ pub struct Returned {
 pub enum Said {
     PutCat(Name, Text),
     PutTest(Text),
+    DropCat(Name),
+    DropTest(Name),
     Ask(Name, Name),
     Poll(u32),
+    Forget(u32),
+    Release(u32),
+    List,
     Claim,
     Return(Returned),
+    GiveBack(u32),
+    Close,
 }
 
 /// What a name is of.
@@ -117,6 +132,10 @@ pub enum Reply {
     Piece(Piece),
     Nothing,
     Taken(usize, usize),
+    /// How many claims were ended.
+    Freed(usize),
+    Listed(Listing),
+    Done,
     Refused(Refusal),
 }
 
@@ -179,9 +198,16 @@ impl Command {
             Command::PutCat(name, text) => Said::PutCat(name.copy()?, text.share()?),
             Command::PutTest(text) => Said::PutTest(text.share()?),
             Command::Ask(test, cat) => Said::Ask(test.copy()?, cat.copy()?),
+            Command::DropCat(name) => Said::DropCat(name.copy()?),
+            Command::DropTest(name) => Said::DropTest(name.copy()?),
             Command::Poll(job) => Said::Poll(*job),
+            Command::Forget(job) => Said::Forget(*job),
+            Command::Release(job) => Said::Release(*job),
+            Command::List => Said::List,
             Command::Claim => Said::Claim,
             Command::Return(part) => Said::Return(Returned::of(part)?),
+            Command::GiveBack(claim) => Said::GiveBack(*claim),
+            Command::Close => Said::Close,
         })
     }
 }

@@ -45,16 +45,16 @@ spelled_of text ts symbols w is d e =
 pub no_cause : (es : List Binding) (t : Litmus) (e : TestFault) → KeepsRules es t → Explains es t e → e ≡ NoMemory
 no_cause es t NoMemory k h = refl
 no_cause es t TooManyThreads k h = absurd (omega (arith, k.threads))
-no_cause es t TooManyLocations k h = absurd (omega (arith, k.locations))
-no_cause es t UnknownName k h = absurd (false≢true (sym h ∙ k.names))
-no_cause es t TooManyValues k h = absurd (omega (arith, k.values))
-no_cause es t TooManyEvents k h = absurd (omega (arith, k.events))
+no_cause es t TooManyLocations k h = absurd (omega (arith, k.locations, h.1))
+no_cause es t UnknownName k h = absurd (false≢true (sym h.1 ∙ k.names))
+no_cause es t TooManyValues k h = absurd (omega (arith, k.values, h.1))
+no_cause es t TooManyEvents k h = absurd (omega (arith, k.events, h.2))
 no_cause es t (Text f) k h = absurd h
 no_cause es t (Syntax n) k h = absurd h
 no_cause es t BadOrder k h = absurd h
 no_cause es t (Unsupported w) k h = absurd h
-no_cause es t PlainOnAtomic k h = absurd (false≢true (sym h ∙ k.plain))
-no_cause es t AtomicOnPlain k h = absurd (false≢true (sym h ∙ k.atomic))
+no_cause es t PlainOnAtomic k h = absurd (false≢true (sym h.2 ∙ k.plain))
+no_cause es t AtomicOnPlain k h = absurd (false≢true (sym h.3 ∙ k.atomic))
 no_cause es t TooDeep k h = absurd h
 
 -- no text has two tests
@@ -84,12 +84,12 @@ test_only text w (Err e) t d same made cause =
 
 pub text_cause : (text : List ℕ) (f : TextFault) → HasCause dialects.Litmus text f → IsUnwritten text (text_refusal f)
 text_cause text text_faults.NoMemory h = tt
-text_cause text text_faults.NotAscii h = h
-text_cause text text_faults.BadByte h = h
-text_cause text text_faults.OpenComment h = h
-text_cause text text_faults.OpenString h = h
-text_cause text text_faults.NumberTooBig h = h
-text_cause text text_faults.TooLong h = h
+text_cause text text_faults.NotAscii h = (λ e. cc, h)
+text_cause text text_faults.BadByte h = (λ e. cc, h)
+text_cause text text_faults.OpenComment h = (λ e. cc, h)
+text_cause text text_faults.OpenString h = (λ e. cc, h)
+text_cause text text_faults.NumberTooBig h = (λ e. cc, h)
+text_cause text text_faults.TooLong h = (λ e. cc, h)
 
 module _ (text : List ℕ) (ts : List Token) (symbols : List Symbol) (list : IsTokenList dialects.Litmus text ts) (is : symbols ≡ symbols_of text ts)
     (unique : (us : List Token) → IsTokenList dialects.Litmus text us → ts ≡ us) where

@@ -1,5 +1,5 @@
 -- A written test that keeps the rules makes a test.
-use Rattle.std.proofs.Common.{◌≡◌, ℕ, suc, ◌≤◌, ◌⊎◌, List, [], ◌∷◌, ◌++◌, length, refl, sym, ◌∙◌, ap, subst, inl, inr, arith, map}
+use Rattle.std.proofs.Common.{◌≡◌, ℕ, suc, ◌≤◌, ◌<◌, ◌⊎◌, List, [], ◌∷◌, ◌++◌, length, refl, sym, ◌∙◌, ap, subst, inl, inr, arith, map}
 use Rattle.std.specs.Prelude.{Bool, true, false, not, if◌then◌else◌, ◌||◌, ◌&&◌, Option, Some, None, All, Contains, sum_by, ◌+◌}
 use Rattle.std.specs.List.{flat_map, list_all}
 use Rattle.std.specs.Str.{bytes_eq}
@@ -15,10 +15,10 @@ use Rattle.litmus_syntax.specs.Drafts.{Listing, Written, is_parameter}
 use Rattle.litmus_c.specs.declared.fault.TestFault.{TestFault}
 use Rattle.litmus_c.specs.declared.fault.TestFault.TheVariants.{Text, Syntax, BadOrder, UnknownName, PlainOnAtomic, AtomicOnPlain, Unsupported, TooDeep, TooManyThreads, TooManyLocations, TooManyEvents, TooManyValues, NoMemory}
 use Rattle.litmus_test.specs.Limits.{program_events, IsTest, TermNames, ActionNames, RightNames, OptionalNames, StepNames, StepsNames, ProgramNames}
-use Rattle.litmus_c.specs.Rules.{lasting, place_locations, parameter_names, locations_of, place_registers, step_registers, steps_registers, registers_of, program_of, programs_of, litmus_of, term_keeps, action_keeps, right_keeps, optional_keeps, declared_keeps, step_keeps, steps_keep, program_keeps, entry_is_fair, places_are_there, names_hold, formula_is_fair, KeepsRules, Explains, ExplainsNames}
+use Rattle.litmus_c.specs.Rules.{lasting, place_locations, parameter_names, locations_of, place_registers, step_registers, steps_registers, registers_of, program_of, programs_of, litmus_of, term_keeps, action_keeps, right_keeps, optional_keeps, declared_keeps, step_keeps, steps_keep, program_keeps, entry_is_fair, places_are_there, names_hold, formula_is_fair, KeepsRules, IsSmall, IsNamed, Explains, ExplainsNames, ExplainsLocations, ExplainsValues, events_of}
 use Rattle.litmus_tree.specs.Names.{is_one_of, with_name, with_names}
 use Rattle.litmus_tree.specs.Tree.{Word, Term, number, held, denied, equal, unequal, both, either, Action, load, store, exchange, fence, Right, computed, plain_read, value_of, Declared, Step, empty, block, declare, assign, plain_write, perform, if_only, if_else, Steps, no_steps, in_turn, Program, Litmus}
-use Rattle.litmus_test.specs.Values.{values_among}
+use Rattle.litmus_test.specs.Values.{values_among, values_of}
 use Rattle.litmus_c.proofs.Names.{programs_len}
 use Rattle.litmus_syntax.proofs.SingleSymbols.{bytes_eq-true, bytes_eq-refl}
 
@@ -200,25 +200,87 @@ pub made_test : (w : Written) (initial : List Binding) (threads : List Program) 
     IsTest (record { name = w.name; initial = initial; threads = threads; condition = w.condition; listed = w.listed; locations = locations })
 made_test w initial threads locations e f g h = subst (λ (t : Litmus). IsTest t) (sym (parts w initial threads locations e f g)) (is_test w h)
 
-explained : (w : Written) (e : TestFault) → ExplainsNames w.entries (programs_of 0 w.entries w.threads) (locations_of w) w.listed w.condition.formula e → Explains w.entries (litmus_of w) e
-explained w UnknownName h = h
-explained w PlainOnAtomic h = h
-explained w AtomicOnPlain h = h
-explained w (Text f) h = absurd h
-explained w (Syntax n) h = absurd h
-explained w BadOrder h = absurd h
-explained w (Unsupported x) h = absurd h
-explained w TooDeep h = absurd h
-explained w TooManyThreads h = absurd h
-explained w TooManyLocations h = absurd h
-explained w TooManyEvents h = absurd h
-explained w TooManyValues h = absurd h
-explained w NoMemory h = absurd h
+small_of : (w : Written) (locations : List Word) → locations ≡ locations_of w → length w.threads ≤ 8 → length locations ≤ 8 → IsSmall (litmus_of w)
+small_of w locations g few here = record {
+  threads = omega (arith, few, programs_len 0 w.entries w.threads);
+  locations = subst (λ (xs : List Word). length xs ≤ 8) g here;
+}
+
+explained : (w : Written) (e : TestFault) → IsSmall (litmus_of w) → ExplainsNames w.entries (programs_of 0 w.entries w.threads) (locations_of w) w.listed w.condition.formula e → Explains w.entries (litmus_of w) e
+explained w UnknownName s h = (s, h)
+explained w PlainOnAtomic s h = (s, h.0, h.1)
+explained w AtomicOnPlain s h = (s, h.0, h.1, h.2)
+explained w (Text f) s h = absurd h
+explained w (Syntax n) s h = absurd h
+explained w BadOrder s h = absurd h
+explained w (Unsupported x) s h = absurd h
+explained w TooDeep s h = absurd h
+explained w TooManyThreads s h = absurd h
+explained w TooManyLocations s h = absurd h
+explained w TooManyEvents s h = absurd h
+explained w TooManyValues s h = absurd h
+explained w NoMemory s h = absurd h
 
 -- what explains a refusal of names explains it of the test
 pub names_cause : (w : Written) (threads : List Program) (locations : List Word) (e : TestFault) →
-    threads ≡ programs_of 0 w.entries w.threads → locations ≡ locations_of w →
+    threads ≡ programs_of 0 w.entries w.threads → locations ≡ locations_of w → length w.threads ≤ 8 → length locations ≤ 8 →
     ExplainsNames w.entries threads locations w.listed w.condition.formula e → Explains w.entries (litmus_of w) e
-names_cause w threads locations e f g h =
+names_cause w threads locations e f g few here h =
     let P : List Program → List Word → TestFault → Type 0 = λ ps xs x. ExplainsNames w.entries ps xs w.listed w.condition.formula x in
-    explained w e (subst (λ xs. P (programs_of 0 w.entries w.threads) xs e) g (subst (λ ps. P ps locations e) f h))
+    explained w e (small_of w locations g few here) (subst (λ xs. P (programs_of 0 w.entries w.threads) xs e) g (subst (λ ps. P ps locations e) f h))
+
+-- what explains a refusal of locations explains it of the test
+pub locations_cause : (w : Written) (e : TestFault) → length w.threads ≤ 8 → ExplainsLocations (locations_of w) e → Explains w.entries (litmus_of w) e
+locations_cause w NoMemory few h = tt
+locations_cause w TooManyLocations few h = (omega (arith, few, programs_len 0 w.entries w.threads), h)
+locations_cause w UnknownName few h = absurd h
+locations_cause w PlainOnAtomic few h = absurd h
+locations_cause w AtomicOnPlain few h = absurd h
+locations_cause w (Text f) few h = absurd h
+locations_cause w (Syntax n) few h = absurd h
+locations_cause w BadOrder few h = absurd h
+locations_cause w (Unsupported x) few h = absurd h
+locations_cause w TooDeep few h = absurd h
+locations_cause w TooManyThreads few h = absurd h
+locations_cause w TooManyEvents few h = absurd h
+locations_cause w TooManyValues few h = absurd h
+
+-- names that are there, of the test from its parts
+pub named_of : (w : Written) (initial : List Binding) (threads : List Program) (locations : List Word) →
+    initial ≡ lasting w.entries → threads ≡ programs_of 0 w.entries w.threads → locations ≡ locations_of w → length w.threads ≤ 8 → length locations ≤ 8 →
+    names_hold w.entries threads locations w.listed w.condition.formula ≡ true → list_all (program_keeps PlainAccess) threads ≡ true → list_all (program_keeps AtomicAccess) threads ≡ true →
+    IsNamed w.entries (litmus_of w)
+named_of w initial threads locations e f g few here names plain atomic =
+    subst (λ (t : Litmus). IsNamed w.entries t) (parts w initial threads locations e f g) (record {
+      small = record { threads = omega (arith, few, ap length f, programs_len 0 w.entries w.threads); locations = here };
+      names = names;
+      plain = plain;
+      atomic = atomic;
+    })
+
+-- what explains a refusal of values explains it of the test
+pub values_cause : (w : Written) (initial : List Binding) (threads : List Program) (locations : List Word) (e : TestFault) →
+    initial ≡ lasting w.entries → threads ≡ programs_of 0 w.entries w.threads → locations ≡ locations_of w → IsNamed w.entries (litmus_of w) →
+    ExplainsValues (values_among initial threads) e → Explains w.entries (litmus_of w) e
+values_cause w initial threads locations NoMemory e f g named h = tt
+values_cause w initial threads locations TooManyValues e f g named h =
+    (named, subst (λ (t : Litmus). 16 < length (values_of t)) (parts w initial threads locations e f g) h)
+values_cause w initial threads locations TooManyLocations e f g named h = absurd h
+values_cause w initial threads locations UnknownName e f g named h = absurd h
+values_cause w initial threads locations PlainOnAtomic e f g named h = absurd h
+values_cause w initial threads locations AtomicOnPlain e f g named h = absurd h
+values_cause w initial threads locations (Text x) e f g named h = absurd h
+values_cause w initial threads locations (Syntax n) e f g named h = absurd h
+values_cause w initial threads locations BadOrder e f g named h = absurd h
+values_cause w initial threads locations (Unsupported x) e f g named h = absurd h
+values_cause w initial threads locations TooDeep e f g named h = absurd h
+values_cause w initial threads locations TooManyThreads e f g named h = absurd h
+values_cause w initial threads locations TooManyEvents e f g named h = absurd h
+
+-- too many events, of the test from its parts
+pub events_cause : (w : Written) (initial : List Binding) (threads : List Program) (locations : List Word) →
+    initial ≡ lasting w.entries → threads ≡ programs_of 0 w.entries w.threads → locations ≡ locations_of w → IsNamed w.entries (litmus_of w) →
+    length (values_among initial threads) ≤ 16 → 64 < length locations + sum_by program_events threads → Explains w.entries (litmus_of w) TooManyEvents
+events_cause w initial threads locations e f g named few many =
+    let is = parts w initial threads locations e f g in
+    (named, subst (λ (t : Litmus). length (values_of t) ≤ 16) is few, subst (λ (t : Litmus). 64 < events_of t) is many)

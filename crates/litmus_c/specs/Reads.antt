@@ -1,5 +1,5 @@
 -- Which test a text spells.
-use Rattle.std.specs.Prelude.{◌≡◌, ℕ, List, length, Contains}
+use Rattle.std.specs.Prelude.{◌≡◌, ◌≢◌, ℕ, List, length, Contains}
 use Rattle.wb_text.specs.Faults.{HasCause}
 use Rattle.wb_text.specs.Offsets.{IsOffset}
 use Rattle.wb_text.specs.Tokens.{IsTokenList}
@@ -69,10 +69,10 @@ pub record LeavesOut (text : List ℕ) (w : Word) : Type 0 where
 abbrev pub BreaksRule : List ℕ → TestFault → Type 0
 BreaksRule text e = (w : Written) × IsWrittenIn text w × Explains w.entries (litmus_of w) e
 
--- The cause of a refusal.
+-- The cause of a refusal. Want of memory is one by itself, and none of the text.
 abbrev pub IsRefused : List ℕ → TestFault → Type 0
 IsRefused text NoMemory = Unit {0}
-IsRefused text (Text f) = HasCause dialects.Litmus text f
+IsRefused text (Text f) = (f ≢ text_faults.NoMemory) × HasCause dialects.Litmus text f
 IsRefused text (Syntax n) = IsNoTestAt text n
 IsRefused text TooDeep = IsTooDeep text
 IsRefused text BadOrder = IsMisorderedIn text
@@ -88,7 +88,7 @@ IsRefused text TooManyValues = BreaksRule text TooManyValues
 -- The same before the rules are tried.
 abbrev pub IsUnwritten : List ℕ → TestFault → Type 0
 IsUnwritten text NoMemory = Unit {0}
-IsUnwritten text (Text f) = HasCause dialects.Litmus text f
+IsUnwritten text (Text f) = (f ≢ text_faults.NoMemory) × HasCause dialects.Litmus text f
 IsUnwritten text (Syntax n) = IsNoTestAt text n
 IsUnwritten text BadOrder = IsMisorderedIn text
 IsUnwritten text (Unsupported w) = LeavesOut text w

@@ -14,11 +14,12 @@ use Rattle.litmus_c.specs.declared.rules.Rule.TheVariants.{Names, PlainAccess, A
 use Rattle.litmus_tree.specs.declared.tree.LocationKind.{LocationKind}
 use Rattle.litmus_tree.specs.declared.tree.LocationKind.TheVariants.{Atomic, Plain}
 use Rattle.litmus_tree.specs.declared.tree.Parameter.{Parameter}
+use Rattle.conditions.specs.Conditions as chains
 use Rattle.conditions.specs.Conditions.{Formula, truth, falsehood, equals, negation, conjunction, disjunction, implication}
 use Rattle.litmus_syntax.specs.Drafts.{Listing, Written, is_parameter}
 use Rattle.litmus_test.specs.Limits.{program_events}
 use Rattle.litmus_tree.specs.Names.{is_one_of, with_names}
-use Rattle.litmus_tree.specs.Tree.{Word, Term, number, held, denied, equal, unequal, both, either, Action, load, store, exchange, fence, Right, computed, plain_read, value_of, Declared, Step, empty, block, declare, assign, plain_write, perform, if_only, if_else, Steps, no_steps, in_turn, Program, Litmus}
+use Rattle.litmus_tree.specs.Tree.{Word, Term, number, held, denied, equal, unequal, both, either, Growth, denies, joins, Action, load, store, exchange, fence, Right, computed, plain_read, value_of, Declared, Step, empty, block, declare, assign, plain_write, perform, if_only, if_else, Steps, no_steps, in_turn, Program, Litmus}
 use Rattle.litmus_test.specs.Values.{values_of}
 
 -- The initial state.
@@ -135,6 +136,11 @@ term_keeps k ps rs (unequal a b) = term_keeps k ps rs a && term_keeps k ps rs b
 term_keeps k ps rs (both a b) = term_keeps k ps rs a && term_keeps k ps rs b
 term_keeps k ps rs (either a b) = term_keeps k ps rs a && term_keeps k ps rs b
 
+-- what a link puts behind an expression
+abbrev pub growth_keeps : Rule → List Parameter → List Word → Growth → Bool
+growth_keeps k ps rs denies = true
+growth_keeps k ps rs (joins o b) = term_keeps k ps rs b
+
 abbrev pub action_keeps : Rule → List Parameter → List Word → Action → Bool
 action_keeps k ps rs (load x o) = may_call k ps rs x
 action_keeps k ps rs (store x e o) = may_call k ps rs x && term_keeps k ps rs e
@@ -185,6 +191,11 @@ formula_is_fair ps xs (conjunction a b) = formula_is_fair ps xs a && formula_is_
 formula_is_fair ps xs (disjunction a b) = formula_is_fair ps xs a && formula_is_fair ps xs b
 formula_is_fair ps xs (implication a b) = formula_is_fair ps xs a && formula_is_fair ps xs b
 
+-- what a link puts behind a proposition
+abbrev pub connected_is_fair : List Program → List Word → chains.Growth → Bool
+connected_is_fair ps xs chains.denies = true
+connected_is_fair ps xs (chains.joins o b) = formula_is_fair ps xs b
+
 abbrev pub places_are_there : List Program → List Word → List Place → Bool
 places_are_there ps xs qs = list_all (place_is_there ps xs) qs
 
@@ -210,27 +221,40 @@ pub record KeepsRules (es : List Binding) (t : Litmus) : Type 0 where
   pub values : length (values_of t) ≤ 16
   pub events : events_of t ≤ 64
 
--- What a refusal says of the test.
+-- it has few threads and few locations
+pub record IsSmall (t : Litmus) : Type 0 where
+  pub threads : length t.threads ≤ 8
+  pub locations : length t.locations ≤ 8
+
+-- and its names are there, and each access is to a location of its kind
+pub record IsNamed (es : List Binding) (t : Litmus) : Type 0 where
+  pub small : IsSmall t
+  pub names : names_are_there es t ≡ true
+  pub plain : list_all (program_keeps PlainAccess) t.threads ≡ true
+  pub atomic : list_all (program_keeps AtomicAccess) t.threads ≡ true
+
+-- What a refusal says of the test: which rule or limit it breaks, and that it keeps those that are tried before.
 abbrev pub Explains : List Binding → Litmus → TestFault → Type 0
 Explains es t NoMemory = Unit {0}
 Explains es t TooManyThreads = 8 < length t.threads
-Explains es t TooManyLocations = 8 < length t.locations
-Explains es t UnknownName = names_are_there es t ≡ false
-Explains es t PlainOnAtomic = list_all (program_keeps PlainAccess) t.threads ≡ false
-Explains es t AtomicOnPlain = list_all (program_keeps AtomicAccess) t.threads ≡ false
-Explains es t TooManyValues = 16 < length (values_of t)
-Explains es t TooManyEvents = 64 < events_of t
+Explains es t TooManyLocations = (length t.threads ≤ 8) × (8 < length t.locations)
+Explains es t UnknownName = IsSmall t × (names_are_there es t ≡ false)
+Explains es t PlainOnAtomic = IsSmall t × (names_are_there es t ≡ true) × (list_all (program_keeps PlainAccess) t.threads ≡ false)
+Explains es t AtomicOnPlain =
+    IsSmall t × (names_are_there es t ≡ true) × (list_all (program_keeps PlainAccess) t.threads ≡ true) × (list_all (program_keeps AtomicAccess) t.threads ≡ false)
+Explains es t TooManyValues = IsNamed es t × (16 < length (values_of t))
+Explains es t TooManyEvents = IsNamed es t × (length (values_of t) ≤ 16) × (64 < events_of t)
 Explains es t (Text f) = ⊥
 Explains es t (Syntax n) = ⊥
 Explains es t BadOrder = ⊥
 Explains es t (Unsupported w) = ⊥
 Explains es t TooDeep = ⊥
 
--- A name that isn't there, or a plain or an atomic access that its location doesn't take.
+-- A name that isn't there; else a plain, else an atomic access that its location doesn't take.
 abbrev pub ExplainsNames : List Binding → List Program → List Word → List Place → Formula → TestFault → Type 0
 ExplainsNames es ps xs qs a UnknownName = names_hold es ps xs qs a ≡ false
-ExplainsNames es ps xs qs a PlainOnAtomic = list_all (program_keeps PlainAccess) ps ≡ false
-ExplainsNames es ps xs qs a AtomicOnPlain = list_all (program_keeps AtomicAccess) ps ≡ false
+ExplainsNames es ps xs qs a PlainOnAtomic = (names_hold es ps xs qs a ≡ true) × (list_all (program_keeps PlainAccess) ps ≡ false)
+ExplainsNames es ps xs qs a AtomicOnPlain = (names_hold es ps xs qs a ≡ true) × (list_all (program_keeps PlainAccess) ps ≡ true) × (list_all (program_keeps AtomicAccess) ps ≡ false)
 ExplainsNames es ps xs qs a e = ⊥
 
 -- More than 8 locations, or no memory.

@@ -1,7 +1,9 @@
 //! What holds of the tests of texts.
 
-ghost use Rattle.std.specs.Prelude.{◌≡◌, ℕ, List};
-ghost use Rattle.litmus_c.specs.Reads.{Reads};
+ghost use Rattle.std.specs.Prelude.{◌≡◌, ◌≢◌, ℕ, List};
+ghost use Rattle.litmus_c.specs.Reads.{BreaksRule, Reads};
+ghost use Rattle.litmus_c.specs.declared.fault.TestFault.{TestFault};
+ghost use Rattle.litmus_c.specs.declared.fault.TestFault.TheVariants.{NoMemory};
 ghost use Rattle.litmus_tree.specs.Tree.{Litmus};
 
 use wb_text::laws::one_token_list;
@@ -9,6 +11,13 @@ use wb_text::laws::one_token_list;
 /// A text spells at most one test.
 pub fn one_test()
     ensures { (text : List ℕ) (s t : Litmus) → Reads text s → Reads text t → s ≡ t }
+{
+    one_token_list();
+}
+
+/// A test that is written in a text is refused for one rule or limit at most: of those that it breaks the first of 19, 20, 14, 15, 16, 22, 21.
+pub fn first_refusal()
+    ensures { (text : List ℕ) (e f : TestFault) → e ≢ NoMemory → f ≢ NoMemory → BreaksRule text e → BreaksRule text f → e ≡ f }
 {
     one_token_list();
 }

@@ -2,16 +2,16 @@
 
 ghost use Rattle.std.specs.Prelude.{◌≡◌, ◌≤◌, ◌-◌, map, length, SomeIff, sum_by};
 ghost use Rattle.std.specs.List.{list_all, list_any};
-ghost use Rattle.conditions.specs.Conditions.{formula_of};
+ghost use Rattle.conditions.specs.Conditions.{atomic, growth_of as formula_growth, formula_of};
 ghost use Rattle.litmus_syntax.specs.Drafts.{is_parameter};
 ghost use Rattle.litmus_test.specs.Limits.{action_events, optional_events, right_events, step_events, steps_events, program_events};
-ghost use Rattle.litmus_c.specs.Rules.{is_given, entry_is_fair, is_of, has_other_kind, may_read, may_give, may_call, may_access, term_keeps, action_keeps, right_keeps, declared_keeps, step_keeps, steps_keep, program_keeps, place_is_there, formula_is_fair};
+ghost use Rattle.litmus_c.specs.Rules.{is_given, entry_is_fair, is_of, has_other_kind, may_read, may_give, may_call, may_access, term_keeps, growth_keeps, action_keeps, right_keeps, declared_keeps, step_keeps, steps_keep, program_keeps, place_is_there, formula_is_fair, connected_is_fair};
 ghost use Rattle.litmus_tree.specs.Names.{is_one_of};
-ghost use Rattle.litmus_tree.specs.Tree.{term_of, action_of, right_of, declared_of, step_of, steps_of};
+ghost use Rattle.litmus_tree.specs.Tree.{leaf_of, growth_of, term_of, action_of, right_of, declared_of, step_of, steps_of};
 
-use conditions::{Place, Prop};
+use conditions::{Atom, Place, Prop};
 use litmus_tree::{
-    Call, Declarator, Expression, LocationKind, Parameter, RightSide, Statement, Thread,
+    Call, Declarator, Expression, Leaf, Link, LocationKind, Parameter, RightSide, Statement, Thread,
 };
 use wb_text::Name;
 
@@ -134,17 +134,43 @@ impl<'a> Scope<'a> {
         }
     }
 
+    fn leaf_keeps(&self, leaf: &Leaf) -> bool
+        ensures { result ≡ term_keeps self.now.rule self.now.thread.now.parameters self.now.thread.now.registers (leaf_of leaf.now) }
+    {
+        match leaf {
+            Leaf::Number(_) => true,
+            Leaf::Register(register) => self.may_read(register),
+        }
+    }
+
+    /// Recursion goes into right operands alone.
+    #[cycle(terms)]
     fn term_keeps(&self, expression: &Expression) -> bool
         ensures { result ≡ term_keeps self.now.rule self.now.thread.now.parameters self.now.thread.now.registers (term_of expression.now) }
     {
-        match expression {
-            Expression::Number(_) => true,
-            Expression::Register(register) => self.may_read(register),
-            Expression::Not(a) => self.term_keeps(a),
-            Expression::Equal(a, b)
-            | Expression::Unequal(a, b)
-            | Expression::And(a, b)
-            | Expression::Or(a, b) => self.term_keeps(a) && self.term_keeps(b),
+        self.leaf_keeps(&expression.first) && self.links_keep(&expression.rest)
+    }
+
+    #[cycle(terms)]
+    fn links_keep(&self, links: &Vec<Link>) -> bool
+        ensures { result ≡ list_all (growth_keeps self.now.rule self.now.thread.now.parameters self.now.thread.now.registers) (map growth_of links.now.items) }
+    {
+        for link in links {
+            if !self.link_keeps(link) {
+                return false;
+            }
+        }
+        true
+    }
+
+    #[cycle(terms)]
+    #[tactic(auto, using(litmus_tree::specs::Chains::join_is))]
+    fn link_keeps(&self, link: &Link) -> bool
+        ensures { result ≡ growth_keeps self.now.rule self.now.thread.now.parameters self.now.thread.now.registers (growth_of link.now) }
+    {
+        match link {
+            Link::Not => true,
+            Link::Join(_, operand) => self.term_keeps(operand),
         }
     }
 
@@ -263,17 +289,43 @@ pub fn places_are_there(threads: &[Thread], locations: &[Name], places: &[Place]
         .all(|place| place_is_there(threads, locations, place))
 }
 
-/// The places of a proposition are there.
+fn atom_is_fair(threads: &[Thread], locations: &[Name], atom: &Atom) -> bool
+    ensures { result ≡ formula_is_fair threads.now locations.now (atomic atom.now) }
+{
+    match atom {
+        Atom::True | Atom::False => true,
+        Atom::Equals(place, _) => place_is_there(threads, locations, place),
+    }
+}
+
+/// The places of a proposition are there. Recursion goes into right operands alone.
+#[cycle(formulas)]
 pub fn formula_is_fair(threads: &[Thread], locations: &[Name], prop: &Prop) -> bool
     ensures { result ≡ formula_is_fair threads.now locations.now (formula_of prop.now) }
 {
-    match prop {
-        Prop::True | Prop::False => true,
-        Prop::Equals(place, _) => place_is_there(threads, locations, place),
-        Prop::Not(inner) => formula_is_fair(threads, locations, inner),
-        Prop::And(left, right) | Prop::Or(left, right) | Prop::Implies(left, right) => {
-            formula_is_fair(threads, locations, left) && formula_is_fair(threads, locations, right)
+    atom_is_fair(threads, locations, &prop.first) && are_fair(threads, locations, &prop.rest)
+}
+
+#[cycle(formulas)]
+fn are_fair(threads: &[Thread], locations: &[Name], links: &Vec<conditions::Link>) -> bool
+    ensures { result ≡ list_all (connected_is_fair threads.now locations.now) (map formula_growth links.now.items) }
+{
+    for link in links {
+        if !is_fair(threads, locations, link) {
+            return false;
         }
+    }
+    true
+}
+
+#[cycle(formulas)]
+#[tactic(auto, using(conditions::specs::Chains::join_is))]
+fn is_fair(threads: &[Thread], locations: &[Name], link: &conditions::Link) -> bool
+    ensures { result ≡ connected_is_fair threads.now locations.now (formula_growth link.now) }
+{
+    match link {
+        conditions::Link::Not => true,
+        conditions::Link::Join(_, operand) => formula_is_fair(threads, locations, operand),
     }
 }
 

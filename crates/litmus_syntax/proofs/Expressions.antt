@@ -4,15 +4,15 @@ use Rattle.std.specs.Prelude.{Some, None, Ok}
 use Rattle.descent.specs.Reading.{match_option, ◌>>=◌, repeated}
 use Rattle.descent.proofs.Tools.{bind_ok, cases_of, moved, moved_look, Yields, Shows}
 use Rattle.descent.proofs.Turns.{repeated-keeps, repeated-more, Arrives, last, next}
-use Rattle.litmus_syntax.specs.declared.operator.Operator.{Operator}
-use Rattle.litmus_syntax.specs.declared.operator.Operator.TheVariants as operators
+use Rattle.litmus_tree.specs.declared.expression.Operator.{Operator}
+use Rattle.litmus_tree.specs.declared.expression.Operator.TheVariants as operators
 use Rattle.litmus_syntax.specs.declared.symbol.Symbol.{Symbol}
 use Rattle.litmus_syntax.specs.declared.symbol.Symbol.TheVariants.{Fixed, Name, Number}
 use Rattle.litmus_syntax.specs.declared.symbol.Terminal.{Terminal}
 use Rattle.litmus_syntax.specs.declared.symbol.Terminal.TheVariants.{LeftParen, RightParen, Semicolon, Comma, Bang, EqualEqual, BangEqual, AndAnd, OrOr}
-use Rattle.litmus_syntax.specs.Grammar.{joined, Joins, joins_equal, joins_unequal, joins_both, joins_either, IsLevel, level_unary, level_tighter, level_joined, IsUnary, unary_denied, unary_paren, unary_name, unary_number, IsExpression}
+use Rattle.litmus_syntax.specs.Grammar.{Joins, joins_equal, joins_unequal, joins_both, joins_either, IsLevel, level_unary, level_tighter, level_joined, IsUnary, unary_denied, unary_paren, unary_name, unary_number, IsExpression}
 use Rattle.litmus_syntax.specs.Reading.{syntax, after, expected, sign, operator_at, Terms, unary_with, next_operand, operands, level_with, terms_below, expression_at}
-use Rattle.litmus_tree.specs.Tree.{Word, Term, number, held, denied}
+use Rattle.litmus_tree.specs.Tree.{Word, Term, number, held, denied, joined}
 use Rattle.litmus_syntax.proofs.Sounds.{Sound, Deeper, deeper}
 use Rattle.litmus_syntax.proofs.SingleSymbols.{after-some, expected-ok, expected-first}
 

@@ -8,6 +8,7 @@ pub mod DeepTools
 pub mod Expressions
 pub mod Levels
 pub mod Misorders
+pub mod Operands
 pub mod Ordered
 pub mod ParameterNames
 pub mod Places

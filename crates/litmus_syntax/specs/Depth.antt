@@ -10,7 +10,7 @@ use Rattle.conditions.specs.declared.condition.Kind.{Kind}
 use Rattle.conditions.specs.declared.place.Binding.{Binding}
 use Rattle.conditions.specs.declared.place.Place.{Place}
 use Rattle.conditions.specs.Conditions.{Formula}
-use Rattle.litmus_syntax.specs.declared.operator.Operator.{Operator}
+use Rattle.litmus_tree.specs.declared.expression.Operator.{Operator}
 use Rattle.litmus_syntax.specs.declared.atomics.Operation.{Operation}
 use Rattle.litmus_syntax.specs.declared.symbol.Symbol.{Symbol}
 use Rattle.litmus_syntax.specs.declared.symbol.Symbol.TheVariants.{Fixed, Call, Name, Word as head_word}

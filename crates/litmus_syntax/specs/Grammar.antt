@@ -14,8 +14,8 @@ use Rattle.conditions.specs.declared.place.Place.TheVariants.{Reg, Loc}
 use Rattle.conditions.specs.declared.condition.Kind.{Kind}
 use Rattle.conditions.specs.declared.condition.Kind.TheVariants as kinds
 use Rattle.conditions.specs.Conditions.{Formula, truth, falsehood, equals, negation, conjunction, disjunction, implication, Condition}
-use Rattle.litmus_syntax.specs.declared.operator.Operator.{Operator}
-use Rattle.litmus_syntax.specs.declared.operator.Operator.TheVariants as operators
+use Rattle.litmus_tree.specs.declared.expression.Operator.{Operator}
+use Rattle.litmus_tree.specs.declared.expression.Operator.TheVariants as operators
 use Rattle.litmus_syntax.specs.declared.atomics.Operation.{Operation}
 use Rattle.litmus_syntax.specs.declared.symbol.Symbol.{Symbol}
 use Rattle.litmus_syntax.specs.declared.symbol.Symbol.TheVariants.{Fixed, Call, Name, Number, Word as head_word}
@@ -27,7 +27,7 @@ use Rattle.litmus_tree.specs.declared.tree.Parameter.{Parameter}
 use Rattle.litmus_syntax.specs.Atomics.{orders, loads, stores, exchanges, fences, effect_of, accepted}
 use Rattle.litmus_syntax.specs.Drafts.{Listing, Written}
 use Rattle.litmus_syntax.specs.Symbols.{looked_up}
-use Rattle.litmus_tree.specs.Tree.{Word, Term, number, held, denied, equal, unequal, both, either, Action, load, store, exchange, fence, Right, computed, plain_read, value_of, Declared, Step, empty, block, declare, assign, plain_write, perform, if_only, if_else, Steps, no_steps, followed}
+use Rattle.litmus_tree.specs.Tree.{Word, Term, number, held, denied, Action, load, store, exchange, fence, Right, computed, plain_read, value_of, Declared, Step, empty, block, declare, assign, plain_write, perform, if_only, if_else, Steps, no_steps, followed, joined}
 
 -- Places and the initial state.
 
@@ -92,12 +92,6 @@ pub data IsParameterList : ℕ → List Symbol → List Symbol → List Paramete
   list_some : {n : ℕ} {ts rest : List Symbol} {ps : List Parameter} → IsParameters ts (Fixed RightParen ∷ rest) ps → IsParameterList (suc n) (Fixed LeftParen ∷ ts) rest ps
 
 -- Expressions.
-
-abbrev pub joined : Operator → Term → Term → Term
-joined operators.Equal = equal
-joined operators.Unequal = unequal
-joined operators.Both = both
-joined operators.Either = either
 
 -- the operators of each level, the tightest first; all associate to the left
 pub data Joins : ℕ → Terminal → Operator → Type 0 where

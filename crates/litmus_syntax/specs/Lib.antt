@@ -3,6 +3,7 @@ pub mod Depth
 pub mod Drafts
 pub mod Grammar
 pub mod Misordered
+pub mod Operands
 pub mod Reading
 pub mod Symbols
 pub mod Unspelled

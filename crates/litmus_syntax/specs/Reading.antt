@@ -17,8 +17,8 @@ use Rattle.conditions.specs.declared.condition.Kind.{Kind}
 use Rattle.conditions.specs.declared.condition.Kind.TheVariants as kinds
 use Rattle.conditions.specs.Conditions.{Formula, truth, falsehood, equals, negation, conjunction, disjunction, implication, Condition}
 use Rattle.litmus_syntax.specs.contracts.symbol.TerminalPartialEq.TheImpl.{ghosts}
-use Rattle.litmus_syntax.specs.declared.operator.Operator.{Operator}
-use Rattle.litmus_syntax.specs.declared.operator.Operator.TheVariants as operators
+use Rattle.litmus_tree.specs.declared.expression.Operator.{Operator}
+use Rattle.litmus_tree.specs.declared.expression.Operator.TheVariants as operators
 use Rattle.litmus_syntax.specs.declared.atomics.Operation.{Operation}
 use Rattle.litmus_syntax.specs.declared.symbol.Symbol.{Symbol}
 use Rattle.litmus_syntax.specs.declared.symbol.Symbol.TheVariants.{Fixed, Call, Name, Number, Word as head_word}
@@ -31,9 +31,8 @@ use Rattle.litmus_tree.specs.declared.tree.LocationKind.TheVariants.{Atomic, Pla
 use Rattle.litmus_tree.specs.declared.tree.Parameter.{Parameter}
 use Rattle.litmus_syntax.specs.Drafts.{Listing, Written, is_parameter}
 use Rattle.litmus_syntax.specs.Atomics.{orders, Effect, loads, stores, exchanges, fences, effect_of, accepted, has_value}
-use Rattle.litmus_syntax.specs.Grammar.{joined}
 use Rattle.litmus_syntax.specs.Symbols.{looked_up}
-use Rattle.litmus_tree.specs.Tree.{Word, Term, number, held, denied, Action, load, store, exchange, fence, Right, computed, plain_read, value_of, Declared, Step, empty, block, declare, assign, plain_write, perform, if_only, if_else, Steps, no_steps, followed}
+use Rattle.litmus_tree.specs.Tree.{Word, Term, number, held, denied, Action, load, store, exchange, fence, Right, computed, plain_read, value_of, Declared, Step, empty, block, declare, assign, plain_write, perform, if_only, if_else, Steps, no_steps, followed, joined}
 
 -- why there is no reading
 pub data Cause : Type 0 where

@@ -3,7 +3,7 @@
 
 mod atomics;
 mod draft;
-mod operator;
+pub mod laws;
 mod symbol;
 mod syntax;
 mod syntax_fault;

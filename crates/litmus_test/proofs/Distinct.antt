@@ -8,7 +8,7 @@ use Rattle.conditions.specs.declared.place.Binding.{Binding}
 use Rattle.std.specs.Prelude.{Option, None, Some}
 use Rattle.std.specs.Global.{Global}
 use Rattle.std.proofs.Common.{Box}
-use Rattle.litmus_tree.specs.declared.tree.Expression.{Expression}
+use Rattle.litmus_tree.specs.declared.expression.Expression.{Expression}
 use Rattle.litmus_tree.specs.declared.tree.Statement.{Statement}
 use Rattle.litmus_tree.specs.declared.tree.Statement.TheVariants.{If as If'}
 use Rattle.litmus_tree.specs.Tree.{Program, term_of, step_of, steps_of}

@@ -3,7 +3,7 @@ use Rattle.std.specs.Prelude.{◌≡◌, ℕ, ◌⊎◌, List, [], ◌∷◌, �
 use Rattle.std.specs.List.{flat_map, list_any}
 use Rattle.conditions.specs.declared.place.Binding.{Binding}
 use Rattle.listings.specs.Lists.{IsIn}
-use Rattle.litmus_tree.specs.Tree.{Term, number, held, denied, equal, unequal, both, either, Action, load, store, exchange, fence, Right, computed, plain_read, value_of, Step, empty, block, declare, assign, plain_write, perform, if_only, if_else, Steps, no_steps, in_turn, Program, Litmus}
+use Rattle.litmus_tree.specs.Tree.{Term, number, held, denied, equal, unequal, both, either, Growth, denies, joins, Action, load, store, exchange, fence, Right, computed, plain_read, value_of, Step, empty, block, declare, assign, plain_write, perform, if_only, if_else, Steps, no_steps, in_turn, Program, Litmus}
 
 -- Constants in order, those of an arm that is never taken among them.
 
@@ -15,6 +15,11 @@ term_constants (equal a b) = term_constants a ++ term_constants b
 term_constants (unequal a b) = term_constants a ++ term_constants b
 term_constants (both a b) = term_constants a ++ term_constants b
 term_constants (either a b) = term_constants a ++ term_constants b
+
+-- those that a link adds to what stands before it
+abbrev pub growth_constants : Growth → List ℕ
+growth_constants denies = []
+growth_constants (joins o b) = term_constants b
 
 abbrev pub action_constants : Action → List ℕ
 action_constants (load x o) = []

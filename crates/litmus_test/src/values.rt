@@ -3,13 +3,13 @@
 ghost use Rattle.std.specs.Prelude.{◌≡◌, ◌<◌, ◌≤◌, ◌∷◌, [], length, map, IfOk, IfErr, OnOk};
 ghost use Rattle.std.specs.List.{flat_map};
 ghost use Rattle.listings.specs.Lists.{Lists};
-ghost use Rattle.litmus_tree.specs.Tree.{term_of, action_of, right_of, declared_of, step_of, steps_of};
-ghost use Rattle.litmus_test.specs.Values.{term_constants, action_constants, right_constants, optional_constants, step_constants, steps_constants, program_constants, with_value, with_values, values_among, values_of, IsValue, InDom};
+ghost use Rattle.litmus_tree.specs.Tree.{leaf_of, growth_of, term_of, action_of, right_of, declared_of, step_of, steps_of};
+ghost use Rattle.litmus_test.specs.Values.{term_constants, growth_constants, action_constants, right_constants, optional_constants, step_constants, steps_constants, program_constants, with_value, with_values, values_among, values_of, IsValue, InDom};
 ghost use Rattle.litmus_test.specs.declared.values.ValuesFault.TheVariants.{TooMany};
 
 use crate::test::Test;
 use conditions::Binding;
-use litmus_tree::{Call, Declarator, Expression, RightSide, Statement, Thread};
+use litmus_tree::{Call, Declarator, Expression, Leaf, Link, RightSide, Statement, Thread};
 use std::alloc::{AllocError, AllocFailed, Global};
 
 /// Why there is no list of values.
@@ -60,8 +60,23 @@ fn add(values: &mut Vec<u32>, value: u32, most: usize) -> Result<(), ValuesFault
     Ok(())
 }
 
-/// Adds the constants of an expression.
-#[tactic(auto, using(crate::proofs::Distinct::with_append, crate::proofs::Distinct::longer))]
+/// Adds the constant of a leaf, if it is one.
+fn add_leaf(values: &mut Vec<u32>, leaf: &Leaf, most: usize) -> Result<(), ValuesFault>
+    requires { length values.old.items ≤ most }
+    ensures done { OnOk result (values.new.items ≡ with_values values.old.items (term_constants (leaf_of leaf.now))) }
+    ensures within { OnOk result (length values.new.items ≤ most) }
+    ensures fault { IfErr result (λ e. e ≡ TooMany → most < length (with_values values.old.items (term_constants (leaf_of leaf.now)))) }
+    ensures limited { IfErr result (λ e. e ≡ TooMany → most < usize.MAX) }
+{
+    match leaf {
+        Leaf::Number(value) => add(values, *value, most),
+        Leaf::Register(_) => Ok(()),
+    }
+}
+
+/// Adds the constants of an expression. Recursion goes into right operands alone.
+#[cycle(expressions)]
+#[tactic(auto, using(crate::proofs::Terms::term_values, crate::proofs::Terms::leaf_values))]
 fn add_expression(
     values: &mut Vec<u32>,
     expression: &Expression,
@@ -73,17 +88,37 @@ fn add_expression(
     ensures fault { IfErr result (λ e. e ≡ TooMany → most < length (with_values values.old.items (term_constants (term_of expression.now)))) }
     ensures limited { IfErr result (λ e. e ≡ TooMany → most < usize.MAX) }
 {
-    match expression {
-        Expression::Number(value) => add(values, *value, most),
-        Expression::Register(_) => Ok(()),
-        Expression::Not(a) => add_expression(values, a, most),
-        Expression::Equal(a, b)
-        | Expression::Unequal(a, b)
-        | Expression::And(a, b)
-        | Expression::Or(a, b) => {
-            add_expression(values, a, most)?;
-            add_expression(values, b, most)
-        }
+    add_leaf(values, &expression.first, most)?;
+    add_links(values, &expression.rest, most)
+}
+
+/// Adds the constants of the operands behind a leaf.
+#[cycle(expressions)]
+fn add_links(values: &mut Vec<u32>, links: &Vec<Link>, most: usize) -> Result<(), ValuesFault>
+    requires { length values.old.items ≤ most }
+    ensures done { OnOk result (values.new.items ≡ with_values values.old.items (flat_map growth_constants (map growth_of links.now.items))) }
+    ensures within { OnOk result (length values.new.items ≤ most) }
+    ensures fault { IfErr result (λ e. e ≡ TooMany → most < length (with_values values.old.items (flat_map growth_constants (map growth_of links.now.items)))) }
+    ensures limited { IfErr result (λ e. e ≡ TooMany → most < usize.MAX) }
+{
+    for link in links {
+        add_link(values, link, most)?;
+    }
+    Ok(())
+}
+
+#[cycle(expressions)]
+#[tactic(auto, using(litmus_tree::specs::Chains::join_is))]
+fn add_link(values: &mut Vec<u32>, link: &Link, most: usize) -> Result<(), ValuesFault>
+    requires { length values.old.items ≤ most }
+    ensures done { OnOk result (values.new.items ≡ with_values values.old.items (growth_constants (growth_of link.now))) }
+    ensures within { OnOk result (length values.new.items ≤ most) }
+    ensures fault { IfErr result (λ e. e ≡ TooMany → most < length (with_values values.old.items (growth_constants (growth_of link.now)))) }
+    ensures limited { IfErr result (λ e. e ≡ TooMany → most < usize.MAX) }
+{
+    match link {
+        Link::Not => Ok(()),
+        Link::Join(_, operand) => add_expression(values, operand, most),
     }
 }
 

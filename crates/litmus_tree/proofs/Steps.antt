@@ -3,7 +3,7 @@ use Rattle.std.proofs.Common.{◌≡◌, List, [], ◌∷◌, ◌++◌, map, ap,
 use Rattle.std.specs.Prelude.{Some, None}
 use Rattle.std.specs.Global.{Global}
 use Rattle.litmus_tree.specs.declared.tree.Declarator.{Declarator}
-use Rattle.litmus_tree.specs.declared.tree.Expression.{Expression}
+use Rattle.litmus_tree.specs.declared.expression.Expression.{Expression}
 use Rattle.litmus_tree.specs.declared.tree.Statement.{Statement}
 use Rattle.litmus_tree.specs.declared.tree.Statement.TheVariants.{If as If', rolls-If}
 use Rattle.litmus_tree.specs.declared.tree.Statement.TheOpen.{Statement-F}

@@ -16,7 +16,7 @@ use Rattle.events.specs.declared.event.Order.{Order}
 use Rattle.litmus_tree.specs.contracts.tree.LocationKindPartialEq.TheImpl.{ghosts as kind_equality}
 use Rattle.litmus_tree.specs.declared.tree.Call as calls
 use Rattle.litmus_tree.specs.declared.tree.Declarator.{Declarator}
-use Rattle.litmus_tree.specs.declared.tree.Expression.{Expression}
+use Rattle.litmus_tree.specs.declared.expression.Expression.{Expression}
 use Rattle.litmus_tree.specs.declared.tree.LocationKind.{LocationKind}
 use Rattle.litmus_tree.specs.declared.tree.Parameter.{Parameter}
 use Rattle.litmus_tree.specs.declared.tree.RightSide.{RightSide}

@@ -1,3 +1,4 @@
+pub mod Chains
 pub mod Codes
 pub mod Equality
 pub mod Exact

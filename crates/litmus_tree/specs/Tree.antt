@@ -4,7 +4,12 @@ use Rattle.events.specs.declared.event.Order.{Order}
 use Rattle.conditions.specs.declared.place.Binding.{Binding}
 use Rattle.conditions.specs.declared.place.Place.{Place}
 use Rattle.litmus_tree.specs.declared.tree.Parameter.{Parameter}
-use Rattle.litmus_tree.specs.declared.tree.Expression.{Expression, Number, Register, Not', Equal', Unequal', And', Or'}
+use Rattle.litmus_tree.specs.declared.expression.Leaf.{Leaf}
+use Rattle.litmus_tree.specs.declared.expression.Leaf.TheVariants.{Number, Register}
+use Rattle.litmus_tree.specs.declared.expression.Operator.{Operator}
+use Rattle.litmus_tree.specs.declared.expression.Operator.TheVariants.{Equal, Unequal, Both, Either}
+use Rattle.litmus_tree.specs.declared.expression.Expression.{Expression, Expression-F}
+use Rattle.litmus_tree.specs.declared.expression.Link.{Link, Link-F, fold-Link}
 use Rattle.litmus_tree.specs.declared.tree.Call as calls
 use Rattle.litmus_tree.specs.declared.tree.Call.TheVariants.{Load, Store, Exchange, Fence}
 use Rattle.litmus_tree.specs.declared.tree.RightSide.{RightSide}
@@ -92,14 +97,45 @@ pub record Litmus : Type 0 where
 
 -- the trees of the values in memory
 
+-- An expression lies there as the leaf on the far left of its term, and the links from there up to the root.
+
+abbrev pub leaf_of : Leaf → Term
+leaf_of (Number n) = number n
+leaf_of (Register r) = held r
+
+abbrev pub joined : Operator → Term → Term → Term
+joined Equal = equal
+joined Unequal = unequal
+joined Both = both
+joined Either = either
+
+-- what a link does to the term before it
+pub data Growth : Type 0 where
+  denies : Growth
+  joins : Operator → Term → Growth
+
+abbrev pub grown : Term → Growth → Term
+grown a denies = denied a
+grown a (joins o b) = joined o a b
+
+-- the term of a, and of the links behind it: a chain is folded from the left
+abbrev pub along : Term → List Growth → Term
+along a [] = a
+along a (s ∷ ss) = along (grown a s) ss
+
+-- one level of a link, where each expression inside is seen as its term; and of an expression
+abbrev pub link_layer : Link-F Growth Term → Growth
+link_layer Link-F.Not = denies
+link_layer (Link-F.Join o b) = joins o b
+
+abbrev pub expression_layer : Expression-F Growth Term → Term
+expression_layer e = along (leaf_of e.first) e.rest.items
+
+abbrev pub growth_of : Link → Growth
+growth_of = fold-Link Growth Term link_layer expression_layer
+
 abbrev pub term_of : Expression → Term
-term_of (Number n) = number n
-term_of (Register r) = held r
-term_of (Not' p a) = denied (term_of a)
-term_of (Equal' p a q b) = equal (term_of a) (term_of b)
-term_of (Unequal' p a q b) = unequal (term_of a) (term_of b)
-term_of (And' p a q b) = both (term_of a) (term_of b)
-term_of (Or' p a q b) = either (term_of a) (term_of b)
+term_of e = along (leaf_of e.first) (map growth_of e.rest.items)
 
 abbrev pub action_of : calls.Call → Action
 action_of (Load x o) = load x o

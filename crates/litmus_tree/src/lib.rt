@@ -1,9 +1,9 @@
 //! The trees of C litmus tests: threads with their statements, their copies and their equality.
 #![tactic(auto)]
 
+mod expression;
 pub mod laws;
 mod tree;
 
-pub use tree::{
-    Call, Declarator, Expression, LocationKind, Parameter, RightSide, Statement, Thread,
-};
+pub use expression::{Expression, Leaf, Link, Operator};
+pub use tree::{Call, Declarator, LocationKind, Parameter, RightSide, Statement, Thread};

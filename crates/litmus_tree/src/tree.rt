@@ -7,6 +7,7 @@ ghost use Rattle.litmus_tree.specs.Tree.{steps_of};
 mod copying;
 mod equality;
 
+use crate::expression::Expression;
 use events::Order;
 use indexmap::IndexSet;
 use std::marker::Model;
@@ -26,19 +27,6 @@ pub enum LocationKind {
 pub struct Parameter {
     pub name: Name,
     pub kind: LocationKind,
-}
-
-/// An expression. Each operator gives 0 or 1.
-#[derive(Drop)]
-pub enum Expression {
-    Number(u32),
-    /// The value that a register holds.
-    Register(Name),
-    Not(Box<Expression>),
-    Equal(Box<Expression>, Box<Expression>),
-    Unequal(Box<Expression>, Box<Expression>),
-    And(Box<Expression>, Box<Expression>),
-    Or(Box<Expression>, Box<Expression>),
 }
 
 /// A call of an atomic operation: the location first, the order last. A short form, as `atomic_load(x)`, is

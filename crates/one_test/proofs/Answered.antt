@@ -8,7 +8,7 @@ use Rattle.litmus_tree.specs.Tree.{Litmus}
 use Rattle.litmus_c.specs.Reads.{Reads, IsRefused}
 use Rattle.litmus_c.specs.declared.fault.TestFault.{TestFault}
 use Rattle.litmus_c.specs.declared.fault.TestFault.TheVariants as of_test
-use Rattle.cat_syntax.specs.Reads.{Reads as ReadsCat}
+use Rattle.cat_syntax.specs.Reads.{Reads as ReadsCat, IsRefused as IsRefusedCat}
 use Rattle.cat_tree.specs.Tree.{File}
 use Rattle.cat_syntax.specs.declared.fault.CatFault.{CatFault}
 use Rattle.cat_syntax.specs.declared.fault.CatFault.TheVariants as of_cat
@@ -58,12 +58,12 @@ untested text cat f only cause = (λ t h. absurd (cc (only t h)), cause)
 pub test_refusal : {A : Type 0} (text cat : List ℕ) (f : TestFault) (r : Result A OneFault) → IsErrAnd r (λ e. e ≡ test_fault f) → ((t : Litmus) → Reads text t → f ≡ of_test.NoMemory) → IsRefused text f → IfErr r (IsRefusal text cat)
 test_refusal text cat f r is only cause = told text cat (test_fault f) r is (untested text cat f only cause)
 
-unread : (text cat : List ℕ) (t : Litmus) (f : CatFault) → Reads text t → ((g : File) → ReadsCat cat g → f ≡ of_cat.NoMemory) → IsRefusal text cat (cat_fault f)
-unread text cat t of_cat.NoMemory reads only = tt
-unread text cat t f reads only = (t, reads, λ g h. absurd (cc (only g h)))
+unread : (text cat : List ℕ) (t : Litmus) (f : CatFault) → Reads text t → ((g : File) → ReadsCat cat g → f ≡ of_cat.NoMemory) → IsRefusedCat cat f → IsRefusal text cat (cat_fault f)
+unread text cat t of_cat.NoMemory reads only cause = tt
+unread text cat t f reads only cause = (t, reads, ((λ g h. absurd (cc (only g h))), cause))
 
-pub cat_refusal : {A : Type 0} (text cat : List ℕ) (t : Litmus) (f : CatFault) (r : Result A OneFault) → IsErrAnd r (λ e. e ≡ cat_fault f) → Reads text t → ((g : File) → ReadsCat cat g → f ≡ of_cat.NoMemory) → IfErr r (IsRefusal text cat)
-cat_refusal text cat t f r is reads only = told text cat (cat_fault f) r is (unread text cat t f reads only)
+pub cat_refusal : {A : Type 0} (text cat : List ℕ) (t : Litmus) (f : CatFault) (r : Result A OneFault) → IsErrAnd r (λ e. e ≡ cat_fault f) → Reads text t → ((g : File) → ReadsCat cat g → f ≡ of_cat.NoMemory) → IsRefusedCat cat f → IfErr r (IsRefusal text cat)
+cat_refusal text cat t f r is reads only cause = told text cat (cat_fault f) r is (unread text cat t f reads only cause)
 
 unmodelled : (text cat : List ℕ) (t : Litmus) (g : File) (f : ModelFault) → Reads text t → ReadsCat cat g → (f ≡ of_model.NoMemory) ⊎ IsCause f (files_with g) main_name → IsRefusal text cat (model_fault f)
 unmodelled text cat t g of_model.NoMemory reads file cause = tt

@@ -4,7 +4,11 @@ use Rattle.std.specs.Io.KnownBytes.{Appends}
 use Rattle.wb_text.specs.Memory.{AppendsFront}
 use Rattle.litmus_tree.specs.Tree.{Litmus, Word}
 use Rattle.litmus_c.specs.Reads.{Reads, IsRefused}
-use Rattle.cat_syntax.specs.Reads.{Reads as ReadsCat}
+use Rattle.litmus_c.specs.declared.fault.TestFault.TheVariants as of_test
+use Rattle.cat_syntax.specs.Reads.{Reads as ReadsCat, IsRefused as IsRefusedCat}
+use Rattle.cat_syntax.specs.declared.fault.CatFault.TheVariants as of_cat
+use Rattle.cat_model.specs.declared.fault.ModelFault.TheVariants as of_model
+use Rattle.candidates.specs.declared.fault.SpaceFault.TheVariants as of_space
 use Rattle.cat_tree.specs.Tree.{File}
 use Rattle.cat_model.specs.Faults.{IsCause}
 use Rattle.cat_model.specs.Models.{Assembly}
@@ -46,11 +50,16 @@ abbrev pub SummarizesPartly : List ℕ → List ℕ → Option (List ℕ) → Op
 SummarizesPartly text cat old new = (v : Outcome) × HasOutcome text cat v × AppendsFront old new (Text v)
 
 -- Why there is no summary: the text reads as no test; or it does, and the cat text reads as no file; or both do, and the
--- file gives no model; or it gives one, and the test has too many runs or candidates. Or memory ran out.
+-- file gives no model; or it gives one, and the test has too many runs or candidates. The fault's own cause stands, and want
+-- of memory is none of these. Or memory ran out.
 abbrev pub IsRefusal : List ℕ → List ℕ → OneFault → Type 0
+IsRefusal text cat (Test of_test.NoMemory) = ⊥
 IsRefusal text cat (Test e) = ((t : Litmus) → ¬ Reads text t) × IsRefused text e
-IsRefusal text cat (Cat e) = (t : Litmus) × Reads text t × ((f : File) → ¬ ReadsCat cat f)
+IsRefusal text cat (Cat of_cat.NoMemory) = ⊥
+IsRefusal text cat (Cat e) = (t : Litmus) × Reads text t × (((f : File) → ¬ ReadsCat cat f) × IsRefusedCat cat e)
+IsRefusal text cat (Model of_model.NoMemory) = ⊥
 IsRefusal text cat (Model e) = (t : Litmus) × Reads text t × ((f : File) × ReadsCat cat f × IsCause e (files_with f) main_name)
+IsRefusal text cat (Space of_space.NoMemory) = ⊥
 IsRefusal text cat (Space e) = (t : Litmus) × Reads text t × ((m : Assembly) × GivesModel cat m × IsSpaceFault t e)
 IsRefusal text cat NoMemory = Unit {0}
 IsRefusal text cat Read = ⊥

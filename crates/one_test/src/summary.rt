@@ -1,6 +1,6 @@
 //! From the bytes of a test and of a model to a summary.
 
-ghost use Rattle.std.specs.Prelude.{◌≡◌, ◌↔◌, true, Err, IfSome, IfOk, IfErr, OnOk};
+ghost use Rattle.std.specs.Prelude.{◌≡◌, ◌≤◌, ◌↔◌, true, Err, IfSome, IfOk, IfErr, OnOk};
 ghost use Rattle.std.specs.Io.KnownBytes.{Keeps};
 ghost use Rattle.wb_text.specs.Memory.{LosesAtMost};
 ghost use Rattle.one_test.specs.Inputs.{text_of, HasOutcome, Summarizes, SummarizesPartly, IsRefusal, IsFaultOf, IsOfTexts};
@@ -11,7 +11,7 @@ use cat_model::ModelFault;
 use cat_syntax::{CatFault, read_cat};
 use litmus_c::{TestFault, read_test};
 use report::{WriteFault, write_summary};
-use slices::{TestRef, Verdict, Work, WorkRef};
+use slices::{Verdict, Work, WorkRef};
 use std::alloc::{AllocError, Global};
 use thiserror::Error;
 use wb_text::{ReadFault, Sink, Source, read_up_to};
@@ -44,8 +44,8 @@ pub enum OneFault {
     NoMemory,
 }
 
-/// Reads the whole input as one test and writes the summary of its executions that the cat text's model allows, in one
-/// slice. The cat text is the file `main.cat`, at version 1, beside the built-in files.
+/// Reads the whole input as one test and writes the summary of its executions that the cat text's model allows. They are
+/// evaluated in `total` slices, which the summary doesn't show. The cat text is the file `main.cat`, at version 1, beside the built-in files.
 ///
 /// The faults are tried in the order of `OneFault`.
 pub fn one<R: Source, W: Sink>(
@@ -55,7 +55,7 @@ pub fn one<R: Source, W: Sink>(
     total: u16,
     writer: &mut W,
 ) -> Result<(), OneFault>
-    requires one_slice { total ≡ 1 }
+    requires slices { (1 ≤ total) × (total ≤ 256) }
 
     // The input reads as a test and the cat text gives a model, and the writer got the summary of a right verdict on them.
     ensures summary { OnOk result (IfSome (R.left reader.old) (λ input.
@@ -74,22 +74,22 @@ pub fn one<R: Source, W: Sink>(
     ensures write { result ≡ Err OneFault.Write → W.has_failed writer.new ≡ true }
     ensures taken { LosesAtMost 65537 (R.left reader.old) (R.left reader.new) }
 {
-    let _ = total;
     let text = read_up_to(alloc, reader, MOST_BYTES)?;
-    let verdict = judge(alloc, &text, cat)?;
+    let verdict = judge(alloc, &text, cat, total)?;
     Ok(write_summary(&verdict, writer)?)
 }
 
 /// The verdict on the test that a text is, under the model that a cat text gives.
-fn judge(alloc: Global, text: &[u8], cat: &[u8]) -> Result<Verdict, OneFault>
+fn judge(alloc: Global, text: &[u8], cat: &[u8], total: u16) -> Result<Verdict, OneFault>
+    requires slices { (1 ≤ total) × (total ≤ 256) }
     ensures found { IfOk result (λ v. HasOutcome text.now cat.now v.outcome) }
     ensures refusal { IfErr result (IsRefusal text.now cat.now) }
 {
     let test = read_test(alloc, text)?;
     let file = read_cat(alloc, cat)?;
     let model = model_of(alloc, file)?;
-    let work = Work::new(alloc, TestRef::new(alloc, test)?, model)?;
-    Ok(Verdict::judge(alloc, WorkRef::new(alloc, work)?, 1)?)
+    let work = Work::new(alloc, test, model)?;
+    Ok(Verdict::judge(alloc, WorkRef::new(alloc, work)?, total, 1)?)
 }
 
 impl OneFault {

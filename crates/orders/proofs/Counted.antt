@@ -1,28 +1,23 @@
 -- Lines that are counted, one after another.
-use Rattle.std.proofs.Common.{◌≡◌, ◌≢◌, ◌≤◌, ◌+◌, ◌++◌, ◌⊎◌, ℕ, List, [], ◌∷◌, ◌∙◌, sym, refl, subst, inl, inr, arith}
+use Rattle.std.proofs.Common.{◌≡◌, ◌≢◌, ◌≤◌, ◌<◌, ◌+◌, ◌++◌, ◌⊎◌, ℕ, List, [], ◌∷◌, ◌∙◌, sym, refl, subst, inl, inr, arith}
 use Rattle.std.specs.Prelude.{Option, None, Some, Result, Ok, Err, IsErrAnd}
 use Rattle.std.specs.Io.KnownBytes.{Keeps}
 use Rattle.orders.specs.declared.fault.ServeFault.{ServeFault}
 use Rattle.orders.specs.declared.fault.ServeFault.TheVariants as faults
 use Rattle.orders.specs.Lines.{ahead, IsNextLine, AreLines, nothing_read, line_read, HasMore, IsTooLong}
-use Rattle.orders.specs.Scripts.{IsCutOff, long_line, open_text}
 
 -- one line more
-pub counted : (a b c : Option (List ℕ)) (m n k : ℕ) (line : List ℕ) → AreLines a m b n → IsNextLine b c line → k ≡ n + 1 → AreLines a m c k
-counted a b c m n k line lines next count = subst (AreLines a m c) (sym count) (line_read lines next)
+pub counted : (a b c : Option (List ℕ)) (m n k : ℕ) (line : List ℕ) → AreLines a m b n → n < 1000000 → IsNextLine b c line → k ≡ n + 1 → AreLines a m c k
+counted a b c m n k line lines room next count = subst (AreLines a m c) (sym count) (line_read lines room next)
 
 pub grows : (a : Option (List ℕ)) (m : ℕ) (b : Option (List ℕ)) (n : ℕ) → AreLines a m b n → m ≤ n
 grows a m _ _ nothing_read = omega arith
-grows a m b _ (line_read {mid} {n = k} lines next) = let less : m ≤ k = grows a m mid k lines in omega (arith, less)
+grows a m b _ (line_read {mid} {n = k} lines room next) = let less : m ≤ k = grows a m mid k lines in omega (arith, less)
 
 -- and lines behind those
 pub joined : (a b : Option (List ℕ)) (m n : ℕ) (c : Option (List ℕ)) (k : ℕ) → AreLines a m b n → AreLines b n c k → AreLines a m c k
 joined a b m n _ _ lines nothing_read = lines
-joined a b m n c _ lines (line_read {mid} {n = k} more next) = line_read (joined a b m n mid k lines more) next
-
-pub later : (a b : Option (List ℕ)) (m n k : ℕ) → AreLines a m b n → IsCutOff b n k → IsCutOff a m k
-later a b m n k lines (long_line {end} {k = l} more long e) = long_line (joined a b m n end l lines more) long e
-later a b m n k lines (open_text {end} {k = l} more at_end e) = open_text (joined a b m n end l lines more) at_end e
+joined a b m n c _ lines (line_read {mid} {n = k} more room next) = line_read (joined a b m n mid k lines more) room next
 
 -- one result has one number
 pub same_number : {A : Type 0} (r : Result A ServeFault) (m n : ℕ) → r ≡ Err (faults.BadLine m) → r ≡ Err (faults.BadLine n) → n ≡ m

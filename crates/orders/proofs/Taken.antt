@@ -1,11 +1,11 @@
 -- Bytes that were ahead come to a line.
-use Rattle.std.proofs.Common.{◌≡◌, ◌<◌, ℕ, List, [], ◌∷◌, ◌++◌, length, sym, ap, subst, ◌∙◌, inl, inr, append_assoc, append-nil}
+use Rattle.std.proofs.Common.{◌≡◌, ◌<◌, ◌≤◌, ◌+◌, ℕ, List, [], ◌∷◌, ◌++◌, length, sym, ap, subst, ◌∙◌, inl, inr, append_assoc, append-nil, length-append, arith}
 use Rattle.std.specs.Prelude.{◌≢◌, Option, None, Some, codes}
 use Rattle.std.specs.Io.KnownBytes.{Consumes, Keeps, IsAtEnd}
 use Rattle.std.proofs.KnownBytes.{Consumes-trans}
 use Rattle.std.proofs.lemmas.List.Elements.{All-append, All-take}
 use Rattle.std.proofs.Math.Seq.{take-append_seam}
-use Rattle.orders.specs.Lines.{ahead, IsUnbroken, IsTrimmed, Grows, IsNextLine, IsLong, fed, returned}
+use Rattle.orders.specs.Lines.{ahead, IsUnbroken, IsTrimmed, Grows, HasMore, IsNextLine, IsLong, fed, returned, last}
 
 -- a block loses its front
 taken : (left : Option (List ℕ)) (before after bytes : List ℕ) → before ≡ bytes ++ after → Consumes (ahead before left) (ahead after left) bytes
@@ -34,15 +34,27 @@ on a b left old mid new before part after ending h kept clean grown split =
 front_of : (xs ys : List ℕ) → IsUnbroken (xs ++ ys) → IsUnbroken xs
 front_of xs ys h = subst IsUnbroken (take-append_seam xs ys) (All-take (λ byte. byte ≢ 10) (length xs) (xs ++ ys) h)
 
+cut_short : (raw line : List ℕ) → raw ≡ line ++ codes "\r" → length raw ≤ 65536 → length line < 65536
+cut_short raw line cut short =
+    let lengths : length raw ≡ length line + 1 = ap length cut ∙ length-append line (codes "\r") in
+    omega (arith, short, lengths)
+
 -- the line, as it was gathered, with its line feed
-pub fed_line : (a b c : Option (List ℕ)) (raw line : List ℕ) → Keeps a b → Grows b c [] raw (codes "\n") → IsTrimmed raw line → IsNextLine a c line
-fed_line a b c raw line kept h (inl same) = record {
+pub fed_line : (a b c : Option (List ℕ)) (raw line : List ℕ) → Keeps a b → length raw ≤ 65536 → Grows b c [] raw (codes "\n") → IsTrimmed raw line → IsNextLine a c line
+fed_line a b c raw line kept short h (inl same) = record {
   unbroken = subst IsUnbroken (sym (same.0 ∙ h.grown)) h.unbroken;
-  given = fed (λ front e. same.1 front (sym same.0 ∙ e)) (after_kept a b c (line ++ codes "\n") kept (subst (λ l. Consumes b c (l ++ codes "\n")) (sym (same.0 ∙ h.grown)) h.taken));
+  given = fed (λ front e. same.1 front (sym same.0 ∙ e)) (subst (λ l. length l ≤ 65536) (sym same.0) short) (after_kept a b c (line ++ codes "\n") kept (subst (λ l. Consumes b c (l ++ codes "\n")) (sym (same.0 ∙ h.grown)) h.taken));
 }
-fed_line a b c raw line kept h (inr cut) = record {
+fed_line a b c raw line kept short h (inr cut) = record {
   unbroken = front_of line (codes "\r") (subst IsUnbroken (sym h.grown ∙ cut) h.unbroken);
-  given = returned (after_kept a b c (line ++ codes "\r\n") kept (subst (Consumes b c) (ap (λ l. l ++ codes "\n") (sym h.grown ∙ cut) ∙ append_assoc line (codes "\r") (codes "\n")) h.taken));
+  given = returned (cut_short raw line cut short) (after_kept a b c (line ++ codes "\r\n") kept (subst (Consumes b c) (ap (λ l. l ++ codes "\n") (sym h.grown ∙ cut) ∙ append_assoc line (codes "\r") (codes "\n")) h.taken));
+}
+
+-- the line with which the script ends
+pub last_line : (a b c : Option (List ℕ)) (line : List ℕ) → HasMore a → Keeps a b → length line ≤ 65536 → Grows b c [] line [] → IsAtEnd c → IsNextLine a c line
+last_line a b c line some kept short h at_end = record {
+  unbroken = subst IsUnbroken (sym h.grown) h.unbroken;
+  given = last some short (after_kept a b c line kept (subst (Consumes b c) (append-nil h.part ∙ sym h.grown) h.taken)) at_end;
 }
 
 -- a line that grew too long

@@ -1,8 +1,18 @@
 -- The lines of a text, as they are gathered.
-use Rattle.std.proofs.Common.{◌≡◌, ℕ, zero, suc, List, [], ◌∷◌, ◌++◌, ◌-◌, length, take, ap, refl, ◌∙◌, append_assoc, arith}
+use Rattle.std.proofs.Common.{◌≡◌, ◌<◌, ◌+◌, ℕ, zero, suc, List, [], ◌∷◌, ◌++◌, ◌-◌, length, take, ap, sym, subst, refl, ◌∙◌, append_assoc, arith}
 use Rattle.std.specs.Prelude.{◌≢◌, Option, codes}
-use Rattle.orders.specs.Lines.{IsNextLine}
-use Rattle.orders.specs.Scripts.{AreOfText, next_of_text}
+use Rattle.orders.specs.Lines.{AreLines, IsNextLine}
+use Rattle.orders.specs.Scripts.{AreSkipped, AreOfText, IsCutOff, IsBadLine, next_of_text, bad_text}
+use Rattle.orders.specs.Spelled.{Spells, IsSoundHead, HasText, OpensText}
+use Rattle.orders.specs.declared.order.Head.{Head}
+
+-- the first line of a text, from its head
+pub opened : (line : List ℕ) (seat : ℕ) (head other : Head) → Spells line seat head → seat < 8 → IsSoundHead head → head ≡ other → HasText other → OpensText line
+opened line seat head other spells less sound same text = (seat, head, spells, less, sound, subst HasText (sym same) text)
+
+-- the line where a text is cut off
+pub cut_text : (a b c : Option (List ℕ)) (m k l n : ℕ) (line : List ℕ) → AreSkipped a b → AreLines a m b k → IsNextLine b c line → OpensText line → l ≡ k + 1 → IsCutOff c l n → IsBadLine a m n
+cut_text a b c m k l n line skipped lines next opens count cut = bad_text skipped lines next opens (subst (λ j. IsCutOff c j n) count cut)
 
 -- what came to a text so far
 pub record Gathered (before now : Option (List ℕ)) (bytes : List ℕ) : Type 0 where

@@ -10,10 +10,11 @@ use Rattle.std.specs.List.{list_all}
 use Rattle.std.proofs.lemmas.Bool.{and_parts, false≢true}
 use Rattle.std.proofs.lemmas.List.Elements.{All-nil, All-cons, All-head, All-tail}
 use Rattle.wb_text.specs.Names.{IsName, IsPrintable}
-use Rattle.orders.specs.Spelled.{Says}
+use Rattle.orders.specs.Spelled.{Says, Requests, HasNumber, IsNumbered, IsSound, IsSoundHead}
 use Rattle.orders.specs.declared.order.Head.{Head}
 use Rattle.orders.specs.declared.order.Head.TheVariants.{Cat, Test, Whole}
-use Rattle.orders.specs.declared.order.Request.TheVariants.{PutCat, PutTest, Ask, Poll, Claim, Return}
+use Rattle.orders.specs.declared.order.Request.{Request}
+use Rattle.orders.specs.declared.order.Request.TheVariants.{PutCat, PutTest, DropCat, DropTest, Ask, Poll, Forget, Release, List as ListAll, Claim, Return, GiveBack, Close}
 
 -- no byte is a space
 abbrev pub IsWord : List ℕ → Type 0
@@ -50,44 +51,120 @@ spaceless (x ∷ a) r h = spaceless a r (All-tail (λ byte. byte ≢ 32) x (a ++
 -- the word of a head, and what stands behind it and a space
 abbrev pub Parts : List ℕ → List ℕ → Head → Type 0
 Parts word rest (Cat name) = (word ≡ codes "cat") × (rest ≡ name)
-Parts word rest Test = ⊥
+Parts word rest (Whole (DropCat name)) = (word ≡ codes "dropcat") × (rest ≡ name)
+Parts word rest (Whole (DropTest name)) = (word ≡ codes "droptest") × (rest ≡ name)
 Parts word rest (Whole (Ask test cat)) = (word ≡ codes "ask") × (rest ≡ test ++ (codes " " ++ cat))
 Parts word rest (Whole (Poll job)) = (word ≡ codes "poll") × (rest ≡ decimal job)
-Parts word rest (Whole Claim) = ⊥
+Parts word rest (Whole (Forget job)) = (word ≡ codes "forget") × (rest ≡ decimal job)
+Parts word rest (Whole (Release job)) = (word ≡ codes "release") × (rest ≡ decimal job)
 Parts word rest (Whole (Return claim)) = (word ≡ codes "return") × (rest ≡ decimal claim)
+Parts word rest (Whole (GiveBack claim)) = (word ≡ codes "back") × (rest ≡ decimal claim)
+Parts word rest Test = ⊥
+Parts word rest (Whole Claim) = ⊥
+Parts word rest (Whole ListAll) = ⊥
+Parts word rest (Whole Close) = ⊥
 Parts word rest (Whole (PutCat name text)) = ⊥
 Parts word rest (Whole (PutTest text)) = ⊥
 
 pub says_parts : (word rest : List ℕ) (head : Head) → IsWord word → Says (word ++ (codes " " ++ rest)) head → Parts word rest head
 says_parts word rest (Cat name) h e = parted word (codes "cat") rest name h (written_word (codes "cat") refl) e
-says_parts word rest Test h e = spaceless word rest (subst IsWord (sym e) (written_word (codes "test") refl))
+says_parts word rest (Whole (DropCat name)) h e = parted word (codes "dropcat") rest name h (written_word (codes "dropcat") refl) e
+says_parts word rest (Whole (DropTest name)) h e = parted word (codes "droptest") rest name h (written_word (codes "droptest") refl) e
 says_parts word rest (Whole (Ask test cat)) h e = parted word (codes "ask") rest (test ++ (codes " " ++ cat)) h (written_word (codes "ask") refl) e
 says_parts word rest (Whole (Poll job)) h e = parted word (codes "poll") rest (decimal job) h (written_word (codes "poll") refl) e
-says_parts word rest (Whole Claim) h e = spaceless word rest (subst IsWord (sym e) (written_word (codes "claim") refl))
+says_parts word rest (Whole (Forget job)) h e = parted word (codes "forget") rest (decimal job) h (written_word (codes "forget") refl) e
+says_parts word rest (Whole (Release job)) h e = parted word (codes "release") rest (decimal job) h (written_word (codes "release") refl) e
 says_parts word rest (Whole (Return claim)) h e = parted word (codes "return") rest (decimal claim) h (written_word (codes "return") refl) e
+says_parts word rest (Whole (GiveBack claim)) h e = parted word (codes "back") rest (decimal claim) h (written_word (codes "back") refl) e
+says_parts word rest Test h e = spaceless word rest (subst IsWord (sym e) (written_word (codes "test") refl))
+says_parts word rest (Whole Claim) h e = spaceless word rest (subst IsWord (sym e) (written_word (codes "claim") refl))
+says_parts word rest (Whole ListAll) h e = spaceless word rest (subst IsWord (sym e) (written_word (codes "list") refl))
+says_parts word rest (Whole Close) h e = spaceless word rest (subst IsWord (sym e) (written_word (codes "close") refl))
 says_parts word rest (Whole (PutCat name text)) h e = absurd e
 says_parts word rest (Whole (PutTest text)) h e = absurd e
 
-pub no_such_word : (word rest : List ℕ) (head : Head) → word ≢ codes "cat" → word ≢ codes "ask" → word ≢ codes "poll" → word ≢ codes "return" → ¬ Parts word rest head
-no_such_word word rest (Cat name) cat ask poll return p = cat p.0
-no_such_word word rest Test cat ask poll return p = p
-no_such_word word rest (Whole (Ask t c)) cat ask poll return p = ask p.0
-no_such_word word rest (Whole (Poll job)) cat ask poll return p = poll p.0
-no_such_word word rest (Whole Claim) cat ask poll return p = p
-no_such_word word rest (Whole (Return c)) cat ask poll return p = return p.0
-no_such_word word rest (Whole (PutCat name text)) cat ask poll return p = p
-no_such_word word rest (Whole (PutTest text)) cat ask poll return p = p
+-- a head whose word is none of these has a number
+pub no_such_word : (word rest : List ℕ) (head : Head) → word ≢ codes "cat" → word ≢ codes "ask" → word ≢ codes "dropcat" → word ≢ codes "droptest" → IsSoundHead head → IsWord word
+    → ((request : Request) → HasNumber request → IsSound request → IsWord word → ¬ Requests (word ++ (codes " " ++ rest)) request) → ¬ Says (word ++ (codes " " ++ rest)) head
+no_such_word word rest (Cat name) cat ask dropcat droptest sound h none e = cat (says_parts word rest (Cat name) h e).0
+no_such_word word rest (Whole (DropCat name)) cat ask dropcat droptest sound h none e = dropcat (says_parts word rest (Whole (DropCat name)) h e).0
+no_such_word word rest (Whole (DropTest name)) cat ask dropcat droptest sound h none e = droptest (says_parts word rest (Whole (DropTest name)) h e).0
+no_such_word word rest (Whole (Ask t c)) cat ask dropcat droptest sound h none e = ask (says_parts word rest (Whole (Ask t c)) h e).0
+no_such_word word rest (Whole (Poll job)) cat ask dropcat droptest sound h none e = none (Poll job) tt sound h e
+no_such_word word rest (Whole (Forget job)) cat ask dropcat droptest sound h none e = none (Forget job) tt sound h e
+no_such_word word rest (Whole (Release job)) cat ask dropcat droptest sound h none e = none (Release job) tt sound h e
+no_such_word word rest (Whole (Return claim)) cat ask dropcat droptest sound h none e = none (Return claim) tt sound h e
+no_such_word word rest (Whole (GiveBack claim)) cat ask dropcat droptest sound h none e = none (GiveBack claim) tt sound h e
+no_such_word word rest Test cat ask dropcat droptest sound h none e = says_parts word rest Test h e
+no_such_word word rest (Whole Claim) cat ask dropcat droptest sound h none e = says_parts word rest (Whole Claim) h e
+no_such_word word rest (Whole ListAll) cat ask dropcat droptest sound h none e = says_parts word rest (Whole ListAll) h e
+no_such_word word rest (Whole Close) cat ask dropcat droptest sound h none e = says_parts word rest (Whole Close) h e
+no_such_word word rest (Whole (PutCat name text)) cat ask dropcat droptest sound h none e = e
+no_such_word word rest (Whole (PutTest text)) cat ask dropcat droptest sound h none e = e
+
+-- a word and a number, where the number isn't printed so
+pub no_such_number : (word rest : List ℕ) (request : Request) → ((n : ℕ) → n < 4294967296 → rest ≢ decimal n) → HasNumber request → IsSound request → IsWord word
+    → ¬ Requests (word ++ (codes " " ++ rest)) request
+no_such_number word rest (Poll job) other some sound h e = other job sound (says_parts word rest (Whole (Poll job)) h e).1
+no_such_number word rest (Forget job) other some sound h e = other job sound (says_parts word rest (Whole (Forget job)) h e).1
+no_such_number word rest (Release job) other some sound h e = other job sound (says_parts word rest (Whole (Release job)) h e).1
+no_such_number word rest (Return claim) other some sound h e = other claim sound (says_parts word rest (Whole (Return claim)) h e).1
+no_such_number word rest (GiveBack claim) other some sound h e = other claim sound (says_parts word rest (Whole (GiveBack claim)) h e).1
+no_such_number word rest request other some sound h e = absurd some
+
+-- or where the word is another
+pub no_such_request : (word rest : List ℕ) (request : Request) → ((n : ℕ) (other : Request) → ¬ IsNumbered word n other) → HasNumber request → IsSound request → IsWord word
+    → ¬ Requests (word ++ (codes " " ++ rest)) request
+no_such_request word rest (Poll job) none some sound h e = none job (Poll job) ((says_parts word rest (Whole (Poll job)) h e).0, refl)
+no_such_request word rest (Forget job) none some sound h e = none job (Forget job) ((says_parts word rest (Whole (Forget job)) h e).0, refl)
+no_such_request word rest (Release job) none some sound h e = none job (Release job) ((says_parts word rest (Whole (Release job)) h e).0, refl)
+no_such_request word rest (Return claim) none some sound h e = none claim (Return claim) ((says_parts word rest (Whole (Return claim)) h e).0, refl)
+no_such_request word rest (GiveBack claim) none some sound h e = none claim (GiveBack claim) ((says_parts word rest (Whole (GiveBack claim)) h e).0, refl)
+no_such_request word rest request none some sound h e = absurd some
+
+-- what is spelled by a word and a number
+pub requested : (word rest : List ℕ) (n : ℕ) (request : Request) → rest ≡ decimal n → IsNumbered word n request → Requests (word ++ (codes " " ++ rest)) request
+requested word rest n (Poll job) printed p = rw (p.0, p.1, printed) refl
+requested word rest n (Forget job) printed p = rw (p.0, p.1, printed) refl
+requested word rest n (Release job) printed p = rw (p.0, p.1, printed) refl
+requested word rest n (Return claim) printed p = rw (p.0, p.1, printed) refl
+requested word rest n (GiveBack claim) printed p = rw (p.0, p.1, printed) refl
+requested word rest n request printed p = absurd p
+
+pub sound_number : (word : List ℕ) (n : ℕ) (request : Request) → n < 4294967296 → IsNumbered word n request → IsSound request
+sound_number word n (Poll job) small p = rw p.1 small
+sound_number word n (Forget job) small p = rw p.1 small
+sound_number word n (Release job) small p = rw p.1 small
+sound_number word n (Return claim) small p = rw p.1 small
+sound_number word n (GiveBack claim) small p = rw p.1 small
+sound_number word n request small p = absurd p
+
+-- none of the words that stand before a number
+pub unnumbered : (word : List ℕ) (n : ℕ) (request : Request) → word ≢ codes "poll" → word ≢ codes "return" → word ≢ codes "back" → word ≢ codes "release" → word ≢ codes "forget" → ¬ IsNumbered word n request
+unnumbered word n (Poll job) poll return back release forget p = poll p.0
+unnumbered word n (Forget job) poll return back release forget p = forget p.0
+unnumbered word n (Release job) poll return back release forget p = release p.0
+unnumbered word n (Return claim) poll return back release forget p = return p.0
+unnumbered word n (GiveBack claim) poll return back release forget p = back p.0
+unnumbered word n request poll return back release forget p = p
 
 -- one word alone
-pub says_word : (word : List ℕ) (head : Head) → IsWord word → word ≢ codes "test" → word ≢ codes "claim" → ¬ Says word head
-says_word word (Cat name) h test claim e = spaceless (codes "cat") name (subst IsWord e h)
-says_word word Test h test claim e = test e
-says_word word (Whole (Ask t c)) h test claim e = spaceless (codes "ask") (t ++ (codes " " ++ c)) (subst IsWord e h)
-says_word word (Whole (Poll job)) h test claim e = spaceless (codes "poll") (decimal job) (subst IsWord e h)
-says_word word (Whole Claim) h test claim e = claim e
-says_word word (Whole (Return c)) h test claim e = spaceless (codes "return") (decimal c) (subst IsWord e h)
-says_word word (Whole (PutCat name text)) h test claim e = e
-says_word word (Whole (PutTest text)) h test claim e = e
+pub says_word : (word : List ℕ) (head : Head) → IsWord word → word ≢ codes "test" → word ≢ codes "claim" → word ≢ codes "list" → word ≢ codes "close" → ¬ Says word head
+says_word word (Cat name) h test claim list close e = spaceless (codes "cat") name (subst IsWord e h)
+says_word word (Whole (DropCat name)) h test claim list close e = spaceless (codes "dropcat") name (subst IsWord e h)
+says_word word (Whole (DropTest name)) h test claim list close e = spaceless (codes "droptest") name (subst IsWord e h)
+says_word word (Whole (Ask t c)) h test claim list close e = spaceless (codes "ask") (t ++ (codes " " ++ c)) (subst IsWord e h)
+says_word word (Whole (Poll job)) h test claim list close e = spaceless (codes "poll") (decimal job) (subst IsWord e h)
+says_word word (Whole (Forget job)) h test claim list close e = spaceless (codes "forget") (decimal job) (subst IsWord e h)
+says_word word (Whole (Release job)) h test claim list close e = spaceless (codes "release") (decimal job) (subst IsWord e h)
+says_word word (Whole (Return c)) h test claim list close e = spaceless (codes "return") (decimal c) (subst IsWord e h)
+says_word word (Whole (GiveBack c)) h test claim list close e = spaceless (codes "back") (decimal c) (subst IsWord e h)
+says_word word Test h test claim list close e = test e
+says_word word (Whole Claim) h test claim list close e = claim e
+says_word word (Whole ListAll) h test claim list close e = list e
+says_word word (Whole Close) h test claim list close e = close e
+says_word word (Whole (PutCat name text)) h test claim list close e = e
+says_word word (Whole (PutTest text)) h test claim list close e = e
 
 -- two names with a space between, in one way
 pub two_names : (rest test cat first second : List ℕ) → IsWord test → IsName first → rest ≡ test ++ (codes " " ++ cat) → rest ≡ first ++ (codes " " ++ second) → (test ≡ first) × (cat ≡ second)

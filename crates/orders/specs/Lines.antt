@@ -26,21 +26,27 @@ pub record Grows (before after : Option (List ℕ)) (old new ending : List ℕ) 
   pub grown : new ≡ old ++ part
   pub taken : Consumes before after (part ++ ending)
 
+-- bytes follow, where they are told
+abbrev pub HasMore : Option (List ℕ) → Type 0
+HasMore None = Unit {0}
+HasMore (Some rest) = rest ≢ []
+
 -- The next line: what was ahead has lost it and its end, which is a line feed, a carriage return and a line feed, or
--- the end of the script.
+-- the end of the script behind at least one byte. Up to its line feed it has at most 65,536 bytes.
 pub data Gives (before after : Option (List ℕ)) (line : List ℕ) : Type 0 where
-  fed : HasNoReturn line → Consumes before after (line ++ codes "\n") → Gives before after line
-  returned : Consumes before after (line ++ codes "\r\n") → Gives before after line
-  last : Consumes before after line → IsAtEnd after → Gives before after line
+  fed : HasNoReturn line → length line ≤ 65536 → Consumes before after (line ++ codes "\n") → Gives before after line
+  returned : length line < 65536 → Consumes before after (line ++ codes "\r\n") → Gives before after line
+  last : HasMore before → length line ≤ 65536 → Consumes before after line → IsAtEnd after → Gives before after line
 
 pub record IsNextLine (before after : Option (List ℕ)) (line : List ℕ) : Type 0 where
   pub unbroken : IsUnbroken line
   pub given : Gives before after line
 
 -- Lines one after another: before them the count stood at m, and behind them it stands where each is counted once.
+-- A line is read only where fewer than 1,000,000 were.
 pub data AreLines (before : Option (List ℕ)) (m : ℕ) : Option (List ℕ) → ℕ → Type 0 where
   nothing_read : AreLines before m before m
-  line_read : {mid after : Option (List ℕ)} {line : List ℕ} {n : ℕ} → AreLines before m mid n → IsNextLine mid after line → AreLines before m after (n + 1)
+  line_read : {mid after : Option (List ℕ)} {line : List ℕ} {n : ℕ} → AreLines before m mid n → n < 1000000 → IsNextLine mid after line → AreLines before m after (n + 1)
 
 -- A line is ahead that is longer than 65,536 bytes.
 pub record IsLong (before : Option (List ℕ)) : Type 0 where
@@ -49,11 +55,6 @@ pub record IsLong (before : Option (List ℕ)) : Type 0 where
   pub unbroken : IsUnbroken part
   pub long : 65536 < length part
   pub taken : (ending : List ℕ) × Consumes before after (part ++ ending)
-
--- bytes follow, where they are told
-abbrev pub HasMore : Option (List ℕ) → Type 0
-HasMore None = Unit {0}
-HasMore (Some rest) = rest ≢ []
 
 -- More lines than a script may have: 1,000,000 of them were read, and more follows.
 pub record IsTooLong (before : Option (List ℕ)) (m : ℕ) : Type 0 where

@@ -2,10 +2,10 @@
 use Rattle.std.specs.Prelude.{◌≡◌, ◌≢◌, ◌+◌, ◌++◌, ◌∷◌, [], ℕ, List, Option, take, codes}
 use Rattle.std.specs.Io.KnownBytes.{IsAtEnd, Keeps}
 use Rattle.orders.specs.Lines.{IsNextLine, AreLines, IsLong}
-use Rattle.orders.specs.Spelled.{Begins, IsSkipped, IsBad}
+use Rattle.orders.specs.Spelled.{Begins, OpensText, IsSkipped, IsBad}
 use Rattle.orders.specs.declared.order.Order.{Order}
-use Rattle.orders.specs.declared.order.Request.{Request}
-use Rattle.orders.specs.declared.order.Request.TheVariants.{PutCat, PutTest, Ask, Poll, Claim, Return}
+use Rattle.orders.specs.declared.order.Order.TheVariants.{Call, Work}
+use Rattle.orders.specs.declared.order.Request.TheVariants.{PutCat, PutTest}
 
 -- lines that nothing is done for
 pub data AreSkipped (before : Option (List ℕ)) : Option (List ℕ) → Type 0 where
@@ -26,14 +26,12 @@ pub record IsText (before after : Option (List ℕ)) (text : List ℕ) : Type 0 
   pub closed : IsNextLine end after (codes ".")
   pub kept : text ≡ take 65537 whole
 
--- what stands behind the first line of an order
-abbrev pub IsFollowed : Option (List ℕ) → Option (List ℕ) → Request → Type 0
-IsFollowed before after (PutCat name text) = IsText before after text
-IsFollowed before after (PutTest text) = IsText before after text
-IsFollowed before after (Ask test cat) = after ≡ before
-IsFollowed before after (Poll job) = after ≡ before
-IsFollowed before after Claim = after ≡ before
-IsFollowed before after (Return claim) = after ≡ before
+-- what stands behind the first line of an order: its text, if it has one
+abbrev pub IsFollowed : Option (List ℕ) → Option (List ℕ) → Order → Type 0
+IsFollowed before after (Call seat (PutCat name text)) = IsText before after text
+IsFollowed before after (Call seat (PutTest text)) = IsText before after text
+IsFollowed before after (Call seat request) = after ≡ before
+IsFollowed before after Work = after ≡ before
 
 -- The next order: lines that are skipped, its first line, and its text.
 pub record IsNextOrder (before after : Option (List ℕ)) (order : Order) : Type 0 where
@@ -43,12 +41,14 @@ pub record IsNextOrder (before after : Option (List ℕ)) (order : Order) : Type
   pub skipped : AreSkipped before start
   pub first : IsNextLine start behind line
   pub begins : Begins line order
-  pub followed : IsFollowed behind after order.request
+  pub followed : IsFollowed behind after order
 
--- No order is left: the rest are lines that are skipped.
-pub record IsSpent (before after : Option (List ℕ)) : Type 0 where
+-- No order is left: the rest are lines that are skipped. Before them the count of lines stood at m.
+pub record IsSpent (before : Option (List ℕ)) (m : ℕ) (after : Option (List ℕ)) : Type 0 where
   pub end : Option (List ℕ)
+  pub count : ℕ
   pub skipped : AreSkipped before end
+  pub lines : AreLines before m end count
   pub kept : Keeps end after
   pub at_end : IsAtEnd after
 
@@ -58,12 +58,15 @@ pub data AreOrders (before : Option (List ℕ)) : Option (List ℕ) → List Ord
   next_order : {mid after : Option (List ℕ)} {orders : List Order} {order : Order} → AreOrders before mid orders → IsNextOrder mid after order
       → AreOrders before after (orders ++ order ∷ [])
 
--- The line of number n is too long, or the last of a text that lacks its line `.`.
+-- A text that was to begin here is cut off: the line of number n is too long, or the script ends with it, and lines of
+-- the text stand before. Before them the count of lines stood at m.
 pub data IsCutOff (before : Option (List ℕ)) (m n : ℕ) : Type 0 where
-  long_line : {end : Option (List ℕ)} {k : ℕ} → AreLines before m end k → IsLong end → n ≡ k + 1 → IsCutOff before m n
-  open_text : {end : Option (List ℕ)} {k : ℕ} → AreLines before m end k → IsAtEnd end → n ≡ k → IsCutOff before m n
+  long_line : {end : Option (List ℕ)} {text : List ℕ} {k : ℕ} → AreOfText before end text → AreLines before m end k → IsLong end → n ≡ k + 1 → IsCutOff before m n
+  open_text : {end : Option (List ℕ)} {text : List ℕ} {k : ℕ} → AreOfText before end text → AreLines before m end k → IsAtEnd end → n ≡ k → IsCutOff before m n
 
--- The line of number n is bad: where an order was to begin it begins none; or it is cut off.
+-- The line of number n is bad: behind lines that are skipped, where an order was to begin, it begins none or is too
+-- long; or the text of an order that begins there is cut off by it. Before them the count of lines stood at m.
 pub data IsBadLine (before : Option (List ℕ)) (m n : ℕ) : Type 0 where
   no_head : {mid after : Option (List ℕ)} {line : List ℕ} {k : ℕ} → AreSkipped before mid → AreLines before m mid k → IsNextLine mid after line → ¬ IsSkipped line → IsBad line → n ≡ k + 1 → IsBadLine before m n
-  cut_off : IsCutOff before m n → IsBadLine before m n
+  long_head : {mid : Option (List ℕ)} {k : ℕ} → AreSkipped before mid → AreLines before m mid k → IsLong mid → n ≡ k + 1 → IsBadLine before m n
+  bad_text : {mid after : Option (List ℕ)} {line : List ℕ} {k : ℕ} → AreSkipped before mid → AreLines before m mid k → IsNextLine mid after line → OpensText line → IsCutOff after (k + 1) n → IsBadLine before m n

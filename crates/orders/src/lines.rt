@@ -119,6 +119,7 @@ impl Lines {
         ensures long { (n : ℕ) → result ≡ Err (faults.BadLine n) → (after : Option (List ℕ)) × (ending : List ℕ)
             × Grows (ahead self.old.block (R.left reader.old)) after self.old.line.items self.new.line.items ending × (65536 < length self.new.line.items) }
         ensures count { OnOk result (self.new.count ≡ self.old.count) }
+        ensures short { OnOk result (length self.old.line.items ≤ 65536 → length self.new.line.items ≤ 65536) }
         ensures read { result ≡ Err faults.Read → R.has_failed reader.new ≡ true }
         ensures fed { result ≡ Ok true → Grows (ahead self.old.block (R.left reader.old)) (ahead self.new.block (R.left reader.new)) self.old.line.items self.new.line.items (codes "\n") }
         ensures last { result ≡ Ok false → Grows (ahead self.old.block (R.left reader.old)) (ahead self.new.block (R.left reader.new)) self.old.line.items self.new.line.items []

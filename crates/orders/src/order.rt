@@ -2,7 +2,7 @@
 
 ghost use Rattle.std.specs.Prelude.{◌≡◌, ◌≢◌, ◌<◌, ◌^◌, ◌+◌, ◌∷◌, ◌++◌, ℕ, List, Err, All, IfOk, IfErr, MatchOption, codes, decimal};
 ghost use Rattle.wb_text.specs.Names.{IsName};
-ghost use Rattle.orders.specs.Spelled.{Spells, Says, Requests, IsSoundHead, IsSound, IsBad};
+ghost use Rattle.orders.specs.Spelled.{Spells, Says, Requests, HasNumber, IsNumbered, IsSoundHead, IsSound, SpellsNone};
 ghost use Rattle.orders.specs.declared.order.Head.{Head as HeadOf};
 ghost use Rattle.orders.specs.declared.order.Request.{Request as RequestOf};
 
@@ -17,18 +17,28 @@ use wb_text::{Name, NameFault};
 pub enum Request {
     PutCat(Name, Text),
     PutTest(Text),
+    DropCat(Name),
+    DropTest(Name),
     Ask(Name, Name),
     Poll(u32),
+    Forget(u32),
+    Release(u32),
+    List,
     Claim,
     /// To evaluate the piece of this claim and to return the result.
     Return(u32),
+    /// To give back this claim.
+    GiveBack(u32),
+    Close,
 }
 
-/// A request with the seat of the session that asks.
+/// What a script orders.
 #[derive(Drop)]
-pub struct Order {
-    pub seat: u8,
-    pub request: Request,
+pub enum Order {
+    /// What the session at a seat asks.
+    Call(u8, Request),
+    /// To claim pieces and to return their results, until none is free.
+    Work,
 }
 
 /// What a line says: a request, or one whose text follows.
@@ -51,8 +61,8 @@ pub fn read_head(alloc: Global, line: &[u8]) -> Result<(u8, Head), LineFault>
     ensures seat { IfOk result (λ r. r.0 < 8) }
     ensures spelled { IfOk result (λ r. Spells line.now r.0 r.1) }
     ensures sound { IfOk result (λ r. IsSoundHead r.1) }
-    // A line is bad only if it spells no order.
-    ensures bad { result ≡ Err LineFault.Bad → IsBad line.now }
+    // It spells none only if there is none.
+    ensures bad { result ≡ Err LineFault.Bad → SpellsNone line.now }
 {
     let (seat, rest) = read_seat(line)?;
     let head = match split_word(rest) {
@@ -88,6 +98,10 @@ fn read_word(word: &[u8]) -> Result<Head, LineFault>
         Ok(Head::Test)
     } else if word == b"claim".as_slice() {
         Ok(Head::Whole(Request::Claim))
+    } else if word == b"list".as_slice() {
+        Ok(Head::Whole(Request::List))
+    } else if word == b"close".as_slice() {
+        Ok(Head::Whole(Request::Close))
     } else {
         Err(LineFault::Bad)
     }
@@ -104,12 +118,45 @@ fn read_words(alloc: Global, word: &[u8], rest: &[u8]) -> Result<Head, LineFault
         Ok(Head::Cat(read_name(alloc, rest)?))
     } else if word == b"ask".as_slice() {
         Ok(Head::Whole(read_ask(alloc, rest)?))
-    } else if word == b"poll".as_slice() {
-        Ok(Head::Whole(Request::Poll(read_number(rest)?)))
-    } else if word == b"return".as_slice() {
-        Ok(Head::Whole(Request::Return(read_number(rest)?)))
+    } else if word == b"dropcat".as_slice() {
+        Ok(Head::Whole(Request::DropCat(read_name(alloc, rest)?)))
+    } else if word == b"droptest".as_slice() {
+        Ok(Head::Whole(Request::DropTest(read_name(alloc, rest)?)))
     } else {
-        Err(LineFault::Bad)
+        Ok(Head::Whole(read_numbered(word, rest)?))
+    }
+}
+
+/// A request of a word and a number.
+fn read_numbered(word: &[u8], rest: &[u8]) -> Result<Request, LineFault>
+    ensures said { IfOk result (Requests (word.now ++ (codes " " ++ rest.now))) }
+    ensures sound { IfOk result IsSound }
+    ensures bad { IfErr result (λ _. (request : RequestOf) → HasNumber request → IsSound request → All (λ byte. byte ≢ 32) word.now
+        → ¬ Requests (word.now ++ (codes " " ++ rest.now)) request) }
+{
+    let number = read_number(rest)?;
+    match numbered(word, number) {
+        Some(request) => Ok(request),
+        None => Err(LineFault::Bad),
+    }
+}
+
+/// The request of a word, with this number.
+fn numbered(word: &[u8], number: u32) -> Option<Request>
+    ensures { MatchOption result ((other : ℕ) (request : RequestOf) → ¬ IsNumbered word.now other request) (IsNumbered word.now number) }
+{
+    if word == b"poll".as_slice() {
+        Some(Request::Poll(number))
+    } else if word == b"return".as_slice() {
+        Some(Request::Return(number))
+    } else if word == b"back".as_slice() {
+        Some(Request::GiveBack(number))
+    } else if word == b"release".as_slice() {
+        Some(Request::Release(number))
+    } else if word == b"forget".as_slice() {
+        Some(Request::Forget(number))
+    } else {
+        None
     }
 }
 

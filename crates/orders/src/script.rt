@@ -3,7 +3,7 @@
 ghost use Rattle.std.specs.Prelude.{◌≡◌, [], ◌⊎◌, ◌↔◌, ◌<◌, ◌≤◌, ◌≢◌, ◌++◌, ◌-◌, ℕ, true, Err, IfOk, IfErr, IfSome, IfNone, OnOk, length, take, vec_len, codes};
 ghost use Rattle.orders.specs.Lines.{ahead, AreLines, IsNextLine, IsTooLong};
 ghost use Rattle.orders.specs.Scripts.{IsText, IsFollowed, IsNextOrder, IsSpent, IsBadLine, IsCutOff};
-ghost use Rattle.orders.specs.Spelled.{Begins, IsSkipped, IsBad};
+ghost use Rattle.orders.specs.Spelled.{Begins, OpensText, IsSeated, IsSkipped, IsBad, IsWork, SpellsNone};
 ghost use Rattle.std.specs.Io.KnownBytes.{IsAtEnd};
 ghost use Rattle.orders.specs.declared.fault.ServeFault.TheVariants as faults;
 
@@ -45,10 +45,10 @@ impl Script {
 
     /// The next order, if there is one.
     pub fn next<R: Source>(&mut self, reader: &mut R) -> Result<Option<Order>, ServeFault>
-        ensures seat { IfOk result (λ next. IfSome next (λ order. order.seat < 8)) }
+        ensures seat { IfOk result (λ next. IfSome next IsSeated) }
         // It is the next of what was ahead, or none is left.
         ensures next { IfOk result (λ next. IfSome next (IsNextOrder (ahead self.old.lines.block (R.left reader.old)) (ahead self.new.lines.block (R.left reader.new)))) }
-        ensures spent { IfOk result (λ next. IfNone next (IsSpent (ahead self.old.lines.block (R.left reader.old)) (ahead self.new.lines.block (R.left reader.new)))) }
+        ensures spent { IfOk result (λ next. IfNone next (IsSpent (ahead self.old.lines.block (R.left reader.old)) self.old.lines.count (ahead self.new.lines.block (R.left reader.new)))) }
         ensures end { IfOk result (λ next. IfNone next (IsAtEnd (R.left reader.new))) }
         ensures fault { IfErr result (λ e. e ≢ faults.Write) }
         // Each line that was read is counted once.
@@ -69,10 +69,28 @@ impl Script {
     /// The order that begins with the line.
     fn order<R: Source>(&mut self, reader: &mut R) -> Result<Order, ServeFault>
         ensures bad { (n : ℕ) → result ≡ Err (faults.BadLine n) → ((n ≡ self.old.lines.count) × IsBad self.old.lines.line.items)
-            ⊎ IsCutOff (ahead self.old.lines.block (R.left reader.old)) self.old.lines.count n }
-        ensures seat { IfOk result (λ order. order.seat < 8) }
+            ⊎ (OpensText self.old.lines.line.items × IsCutOff (ahead self.old.lines.block (R.left reader.old)) self.old.lines.count n) }
+        ensures seat { IfOk result IsSeated }
         ensures begins { IfOk result (Begins self.old.lines.line.items) }
-        ensures followed { IfOk result (λ order. IsFollowed (ahead self.old.lines.block (R.left reader.old)) (ahead self.new.lines.block (R.left reader.new)) order.request) }
+        ensures followed { IfOk result (IsFollowed (ahead self.old.lines.block (R.left reader.old)) (ahead self.new.lines.block (R.left reader.new))) }
+        ensures fault { IfErr result (λ e. e ≢ faults.Write) }
+        ensures lines { OnOk result (AreLines (ahead self.old.lines.block (R.left reader.old)) self.old.lines.count (ahead self.new.lines.block (R.left reader.new)) self.new.lines.count) }
+        ensures read { result ≡ Err faults.Read → (R.has_failed reader.new ≡ true)
+            ⊎ IsTooLong (ahead self.old.lines.block (R.left reader.old)) self.old.lines.count }
+    {
+        if is_work(self.lines.line()) {
+            return Ok(Order::Work);
+        }
+        self.call(reader)
+    }
+
+    /// What the session asks whose line this is.
+    fn call<R: Source>(&mut self, reader: &mut R) -> Result<Order, ServeFault>
+        ensures bad { (n : ℕ) → result ≡ Err (faults.BadLine n) → ((n ≡ self.old.lines.count) × SpellsNone self.old.lines.line.items)
+            ⊎ (OpensText self.old.lines.line.items × IsCutOff (ahead self.old.lines.block (R.left reader.old)) self.old.lines.count n) }
+        ensures seat { IfOk result IsSeated }
+        ensures begins { IfOk result (Begins self.old.lines.line.items) }
+        ensures followed { IfOk result (IsFollowed (ahead self.old.lines.block (R.left reader.old)) (ahead self.new.lines.block (R.left reader.new))) }
         ensures fault { IfErr result (λ e. e ≢ faults.Write) }
         ensures lines { OnOk result (AreLines (ahead self.old.lines.block (R.left reader.old)) self.old.lines.count (ahead self.new.lines.block (R.left reader.new)) self.new.lines.count) }
         ensures read { result ≡ Err faults.Read → (R.has_failed reader.new ≡ true)
@@ -88,7 +106,7 @@ impl Script {
             Head::Test => Request::PutTest(self.text(reader)?),
             Head::Whole(request) => request,
         };
-        Ok(Order { seat, request })
+        Ok(Order::Call(seat, request))
     }
 
     /// The text that follows: its lines up to a line `.` alone.
@@ -117,6 +135,13 @@ fn is_skipped(line: &[u8]) -> bool
     ensures { (result ≡ true) ↔ IsSkipped line.now }
 {
     line.is_empty() || line.first() == Some(&b'#')
+}
+
+/// Whether a line orders to work.
+fn is_work(line: &[u8]) -> bool
+    ensures { (result ≡ true) ↔ IsWork line.now }
+{
+    line == b"work".as_slice()
 }
 
 /// Whether a line ends a text.

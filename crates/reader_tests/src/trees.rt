@@ -3,7 +3,7 @@
 use crate::answers::{SB, expect};
 use crate::copies::{is_another, is_copied_as, threads_are_copied};
 use conditions::{Binding, Kind, Place};
-use litmus_c::{Expression, RightSide, Statement, Test, Thread};
+use litmus_c::{Leaf, Link, Operator, RightSide, Statement, Test, Thread};
 use std::alloc::{AllocError, Global};
 use std::test::Fail;
 
@@ -59,43 +59,76 @@ fn last(test: &Test) -> Option<&Statement> {
     }
 }
 
-/// An expression that a test expects.
-enum Shape {
+/// A leaf that a test expects.
+enum Wanted {
     Number(u32),
     Register(&'static [u8]),
-    Not(&'static Shape),
-    Equal(&'static Shape, &'static Shape),
-    And(&'static Shape, &'static Shape),
-    Or(&'static Shape, &'static Shape),
 }
 
-/// Whether an expression is that one.
-fn is_shaped(expression: &Expression, shape: &Shape) -> bool {
-    match (expression, shape) {
-        (Expression::Number(number), Shape::Number(wanted)) => number == wanted,
-        (Expression::Register(name), Shape::Register(wanted)) => name.bytes() == *wanted,
-        (Expression::Not(a), Shape::Not(x)) => is_shaped(a, x),
-        (Expression::Equal(a, b), Shape::Equal(x, y))
-        | (Expression::And(a, b), Shape::And(x, y))
-        | (Expression::Or(a, b), Shape::Or(x, y)) => is_shaped(a, x) && is_shaped(b, y),
+/// A link that a test expects: `!`, or an operator with a leaf as its right operand.
+enum Step {
+    Not,
+    Join(Operator, Wanted),
+}
+
+fn is_leaf(leaf: &Leaf, wanted: &Wanted) -> bool {
+    match (leaf, wanted) {
+        (Leaf::Number(number), Wanted::Number(other)) => number == other,
+        (Leaf::Register(name), Wanted::Register(other)) => name.bytes() == *other,
         _ => false,
     }
 }
 
-/// `(((1==2)&&3)||(!r&&4))`
-const BOUND: Shape = Shape::Or(
-    &Shape::And(
-        &Shape::Equal(&Shape::Number(1), &Shape::Number(2)),
-        &Shape::Number(3),
-    ),
-    &Shape::And(&Shape::Not(&Shape::Register(b"r")), &Shape::Number(4)),
-);
+fn is_step(link: &Link, step: &Step) -> bool {
+    match (link, step) {
+        (Link::Not, Step::Not) => true,
+        (Link::Join(operator, operand), Step::Join(other, leaf)) => {
+            *operator == *other && operand.rest.is_empty() && is_leaf(&operand.first, leaf)
+        }
+        _ => false,
+    }
+}
+
+/// Whether the links are these steps, one by one.
+fn are_steps(links: &[Link], steps: &[Step]) -> bool {
+    if links.len() != steps.len() {
+        return false;
+    }
+    for (link, step) in links.iter().zip(steps) {
+        if !is_step(link, step) {
+            return false;
+        }
+    }
+    true
+}
+
+/// `==2`, `&&3`
+const BEFORE: [Step; 2] = [
+    Step::Join(Operator::Equal, Wanted::Number(2)),
+    Step::Join(Operator::Both, Wanted::Number(3)),
+];
+
+/// `!`, `&&4`
+const BEHIND: [Step; 2] = [Step::Not, Step::Join(Operator::Both, Wanted::Number(4))];
+
+/// Whether a leaf and the links behind it are `(((1==2)&&3)||(!r&&4))`.
+fn is_bound(first: &Leaf, links: &[Link]) -> bool {
+    match links.split_last() {
+        Some((Link::Join(Operator::Either, right), before)) => {
+            is_leaf(first, &Wanted::Number(1))
+                && are_steps(before, &BEFORE)
+                && is_leaf(&right.first, &Wanted::Register(b"r"))
+                && are_steps(&right.rest, &BEHIND)
+        }
+        _ => false,
+    }
+}
 
 /// Whether a test's first thread ends by assigning that expression.
 fn binds(_alloc: Global, test: &Test) -> Result<bool, AllocError> {
     match last(test) {
         Some(Statement::Assign(_, RightSide::Value(expression))) => {
-            Ok(is_shaped(expression, &BOUND))
+            Ok(is_bound(&expression.first, &expression.rest))
         }
         _ => Ok(false),
     }

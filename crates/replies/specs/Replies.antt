@@ -7,7 +7,8 @@ use Rattle.slices.specs.Judgements.{Judged}
 use Rattle.slices.specs.Parts.{Portion}
 use Rattle.report.specs.Texts as summaries
 use Rattle.journal.specs.declared.records.Reply.{Reply}
-use Rattle.journal.specs.declared.records.Reply.TheVariants.{Version, Job, Pending, Verdict, Piece, Nothing, Taken, Refused}
+use Rattle.journal.specs.declared.records.Reply.TheVariants.{Version, Job, Pending, Verdict, Piece, Nothing, Taken, Freed, Listed, Done, Refused}
+use Rattle.replies.specs.Listings.{listing_text}
 use Rattle.replies.specs.Refusals.{refusal_text}
 
 abbrev pub version_text : Word → ℕ → List ℕ
@@ -19,6 +20,10 @@ job_text job = codes "job " ++ decimal job ++ codes "\n"
 -- how many slices of how many are done, behind a word
 abbrev pub counts_text : List ℕ → ℕ → ℕ → List ℕ
 counts_text word done total = word ++ decimal done ++ codes " " ++ decimal total ++ codes "\n"
+
+-- how many claims ended
+abbrev pub freed_text : ℕ → List ℕ
+freed_text claims = codes "freed " ++ decimal claims ++ codes "\n"
 
 -- a piece: its claim, job and slice, and its numbers
 
@@ -54,4 +59,7 @@ reply_text (Verdict v) = verdict_text v
 reply_text (Piece p) = piece_text p
 reply_text Nothing = codes "nothing\n"
 reply_text (Taken done total) = counts_text (codes "taken ") done total
+reply_text (Freed claims) = freed_text claims
+reply_text (Listed l) = listing_text l
+reply_text Done = codes "done\n"
 reply_text (Refused e) = refusal_text e

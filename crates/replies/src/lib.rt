@@ -1,6 +1,7 @@
 //! The printed text of each reply of a book.
 #![tactic(auto)]
 
+mod listing;
 mod refusal;
 mod reply;
 

@@ -5,6 +5,7 @@ ghost use Rattle.std.specs.List.{flat_map};
 ghost use Rattle.report.specs.Writing.{Writes};
 ghost use Rattle.replies.specs.Replies as texts;
 
+use crate::listing::write_listing;
 use crate::refusal::write_refusal;
 use cat_model::FileVersion;
 use itoa::Buffer;
@@ -25,6 +26,9 @@ pub fn write_reply<W: Sink>(reply: &Reply, writer: &mut W) -> Result<(), Failed>
         Reply::Piece(piece) => write_piece(piece, writer),
         Reply::Nothing => give_all(writer, b"nothing\n"),
         Reply::Taken(done, total) => write_counts(b"taken ", *done, *total, writer),
+        Reply::Freed(claims) => write_freed(*claims, writer),
+        Reply::Listed(listing) => write_listing(listing, writer),
+        Reply::Done => give_all(writer, b"done\n"),
         Reply::Refused(refusal) => write_refusal(refusal, writer),
     }
 }
@@ -59,6 +63,14 @@ fn write_counts<W: Sink>(
     let mut total_digits = Buffer::new();
     let total_digits = total_digits.format(total).as_bytes();
     write_parts(&[word, done_digits, b" ", total_digits, b"\n"], writer)
+}
+
+fn write_freed<W: Sink>(claims: usize, writer: &mut W) -> Result<(), Failed>
+    ensures { Writes W.held W.has_failed writer.old writer.new result (texts.freed_text claims) }
+{
+    let mut number = Buffer::new();
+    let number = number.format(claims).as_bytes();
+    write_parts(&[b"freed ", number, b"\n"], writer)
 }
 
 fn write_piece<W: Sink>(piece: &Piece, writer: &mut W) -> Result<(), Failed>
@@ -99,7 +111,7 @@ fn write_verdict<W: Sink>(verdict: &Verdict, writer: &mut W) -> Result<(), Faile
     ensures { Writes W.held W.has_failed writer.old writer.new result (texts.verdict_text verdict.now) }
 {
     write_heading(verdict, writer)?;
-    write_files(verdict.files(), writer)?;
+    write_files(verdict.versions(), writer)?;
     give_all(writer, b"\n")?;
     write_outcome(verdict, writer)
 }
@@ -108,7 +120,7 @@ fn write_verdict<W: Sink>(verdict: &Verdict, writer: &mut W) -> Result<(), Faile
 fn write_heading<W: Sink>(verdict: &Verdict, writer: &mut W) -> Result<(), Failed>
     ensures { Writes W.held W.has_failed writer.old writer.new result (texts.heading_text verdict.now) }
 {
-    let name = verdict.work().work().test().name().bytes();
+    let name = verdict.name().bytes();
     let mut version = Buffer::new();
     let version = version.format(verdict.version()).as_bytes();
     write_parts(&[b"verdict ", name, b" ", version], writer)

@@ -1,3 +1,4 @@
 pub mod Bindings
 pub mod Examples
+pub mod Printing
 pub mod Written

@@ -2,6 +2,7 @@
 #![tactic(auto)]
 
 mod parts;
+mod propositions;
 mod summary;
 
 pub use parts::{write_bytes, write_parts};

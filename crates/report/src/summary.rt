@@ -1,15 +1,15 @@
 //! The printed summary of a verdict.
 
-ghost use Rattle.std.specs.Prelude.{◌≡◌, ◌++◌, ◌∷◌, [], List, IfOk, OnErr, OnOk, true, length, codes, decimal, ◌||◌};
+ghost use Rattle.std.specs.Prelude.{◌≡◌, ◌++◌, ◌∷◌, [], List, IfOk, OnErr, OnOk, true, length, codes, decimal};
 ghost use Rattle.std.specs.Io.KnownBytes.{Appends};
 ghost use Rattle.std.specs.List.{flat_map};
-ghost use Rattle.conditions.specs.Conditions.{formula_of};
 ghost use Rattle.wb_text.specs.Memory.{AppendsFront};
 ghost use Rattle.report.specs.Writing.{Writes};
 ghost use Rattle.report.specs.Texts as texts;
 
 use crate::parts::{write_bytes, write_parts};
-use conditions::{Kind, Place, Prop};
+use crate::propositions::{write_atom, write_prop};
+use conditions::{Kind, Place};
 use itoa::Buffer;
 use slices::{Finding, Row, Verdict};
 use thiserror::Error;
@@ -199,133 +199,5 @@ fn quantifier_text(kind: Kind) -> &'static [u8]
         Kind::Exists => b"exists",
         Kind::NotExists => b"~exists",
         Kind::Forall => b"forall",
-    }
-}
-
-/// Writes a proposition, in parentheses unless it stands bare.
-#[cycle(propositions)]
-fn write_operand<W: Sink>(prop: &Prop, bare: bool, writer: &mut W) -> Result<(), Failed>
-    ensures { Writes W.held W.has_failed writer.old writer.new result
-        (texts.operand bare (texts.formula_text (formula_of prop.now))) }
-{
-    write_bytes(opening(bare), writer)?;
-    write_prop(prop, writer)?;
-    write_bytes(closing(bare), writer)
-}
-
-#[cycle(propositions)]
-fn write_prop<W: Sink>(prop: &Prop, writer: &mut W) -> Result<(), Failed>
-    ensures { Writes W.held W.has_failed writer.old writer.new result
-        (texts.formula_text (formula_of prop.now)) }
-{
-    match prop {
-        Prop::True => write_bytes(b"true", writer),
-        Prop::False => write_bytes(b"false", writer),
-        Prop::Equals(place, value) => write_atom(place, *value, writer),
-        Prop::Not(operand) => {
-            write_bytes(b"~", writer)?;
-            write_operand(operand, is_simple(operand), writer)
-        }
-        Prop::And(left, right) => {
-            let left_is_bare = is_simple_or_conjunction(left);
-            write_infix(
-                left,
-                left_is_bare,
-                b" /\\ ",
-                right,
-                is_simple(right),
-                writer,
-            )
-        }
-        Prop::Or(left, right) => {
-            let left_is_bare = is_simple_or_disjunction(left);
-            write_infix(
-                left,
-                left_is_bare,
-                b" \\/ ",
-                right,
-                is_simple(right),
-                writer,
-            )
-        }
-        Prop::Implies(left, right) => {
-            let right_is_bare = is_simple_or_implication(right);
-            write_infix(left, is_simple(left), b" => ", right, right_is_bare, writer)
-        }
-    }
-}
-
-/// Writes two operands with their connective between them.
-#[cycle(propositions)]
-fn write_infix<W: Sink>(
-    left: &Prop,
-    left_is_bare: bool,
-    sign: &[u8],
-    right: &Prop,
-    right_is_bare: bool,
-    writer: &mut W,
-) -> Result<(), Failed>
-    ensures { Writes W.held W.has_failed writer.old writer.new result
-        (texts.operand left_is_bare (texts.formula_text (formula_of left.now)) ++ sign.now
-        ++ texts.operand right_is_bare (texts.formula_text (formula_of right.now))) }
-{
-    write_operand(left, left_is_bare, writer)?;
-    write_bytes(sign, writer)?;
-    write_operand(right, right_is_bare, writer)
-}
-
-fn opening<'a>(bare: bool) -> &'a [u8]
-    ensures { result.now ≡ texts.opening bare }
-{
-    if bare { b"" } else { b"(" }
-}
-
-fn closing<'a>(bare: bool) -> &'a [u8]
-    ensures { result.now ≡ texts.closing bare }
-{
-    if bare { b"" } else { b")" }
-}
-
-/// Whether a proposition is an atom or a negation.
-fn is_simple(prop: &Prop) -> bool
-    ensures { result ≡ texts.is_simple (formula_of prop.now) }
-{
-    matches!(
-        prop,
-        Prop::True | Prop::False | Prop::Equals(..) | Prop::Not(_)
-    )
-}
-
-fn is_simple_or_conjunction(prop: &Prop) -> bool
-    ensures { result ≡ (texts.is_simple (formula_of prop.now) || texts.is_conjunction (formula_of prop.now)) }
-{
-    is_simple(prop) || matches!(prop, Prop::And(..))
-}
-
-fn is_simple_or_disjunction(prop: &Prop) -> bool
-    ensures { result ≡ (texts.is_simple (formula_of prop.now) || texts.is_disjunction (formula_of prop.now)) }
-{
-    is_simple(prop) || matches!(prop, Prop::Or(..))
-}
-
-fn is_simple_or_implication(prop: &Prop) -> bool
-    ensures { result ≡ (texts.is_simple (formula_of prop.now) || texts.is_implication (formula_of prop.now)) }
-{
-    is_simple(prop) || matches!(prop, Prop::Implies(..))
-}
-
-fn write_atom<W: Sink>(place: &Place, value: u32, writer: &mut W) -> Result<(), Failed>
-    ensures { Writes W.held W.has_failed writer.old writer.new result
-        (texts.atom_text place.now value) }
-{
-    let mut number = Buffer::new();
-    let value = number.format(value).as_bytes();
-    match place {
-        Place::Reg(thread, name) => {
-            let mut number = Buffer::new();
-            let thread = number.format(*thread).as_bytes();
-            write_parts(&[thread, b":", name.bytes(), b"=", value], writer)
-        }
-        Place::Loc(name) => write_parts(&[b"[", name.bytes(), b"]=", value], writer),
     }
 }

@@ -1,6 +1,6 @@
 //! How many candidates texts have, and how many of them are executions.
 
-use crate::texts::{SB, ask_space, count_executions, repeated, size};
+use crate::texts::{SB, ask_space, count_executions, count_walked, repeated, size};
 use candidates::SpaceFault;
 use std::alloc::Global;
 use std::test::Fail;
@@ -37,6 +37,16 @@ const EXECUTIONS: [(&str, u64); 4] = [(SB, 4), (LB_DATA, 5), (EXCHANGES, 18), (B
 fn executions(rt: HostRuntime) -> Result<(), Fail> {
     for (text, count) in &EXECUTIONS {
         if ask_space(rt.alloc(), text, count_executions)? != Ok(*count) {
+            return Err(Fail::new(*text));
+        }
+    }
+    Ok(())
+}
+
+#[test]
+fn walks(rt: HostRuntime) -> Result<(), Fail> {
+    for (text, count) in &EXECUTIONS {
+        if ask_space(rt.alloc(), text, count_walked)? != Ok(*count) {
             return Err(Fail::new(*text));
         }
     }

@@ -1,6 +1,6 @@
 //! Propositions at states, the places that conditions observe, and copies.
 
-use conditions::{Binding, Cond, Kind, Place, Prop, State, holds, observed, ok_of};
+use conditions::{Atom, Binding, Cond, Connective, Kind, Place, Prop, State, holds, observed, ok_of};
 use std::alloc::{AllocError, Global};
 use std::test::Fail;
 use wb_text::{Name, NameFault};
@@ -37,21 +37,18 @@ enum Formula {
     Implies(&'static Formula, &'static Formula),
 }
 
-#[cycle(building)]
-fn boxed(alloc: Global, formula: &Formula) -> Result<Box<Prop>, Fail> {
-    Ok(Box::new(alloc, prop(alloc, formula)?)?)
-}
-
-#[cycle(building)]
 fn prop(alloc: Global, formula: &Formula) -> Result<Prop, Fail> {
     match formula {
-        Formula::True => Ok(Prop::True),
-        Formula::False => Ok(Prop::False),
-        Formula::Equals(spot, value) => Ok(Prop::Equals(place(alloc, spot)?, *value)),
-        Formula::Not(a) => Ok(Prop::Not(boxed(alloc, a)?)),
-        Formula::And(a, b) => Ok(Prop::And(boxed(alloc, a)?, boxed(alloc, b)?)),
-        Formula::Or(a, b) => Ok(Prop::Or(boxed(alloc, a)?, boxed(alloc, b)?)),
-        Formula::Implies(a, b) => Ok(Prop::Implies(boxed(alloc, a)?, boxed(alloc, b)?)),
+        Formula::True => Ok(Prop::atom(alloc, Atom::True)),
+        Formula::False => Ok(Prop::atom(alloc, Atom::False)),
+        Formula::Equals(spot, value) => {
+            let place = place(alloc, spot)?;
+            Ok(Prop::atom(alloc, Atom::Equals(place, *value)))
+        }
+        Formula::Not(a) => Ok(prop(alloc, a)?.denied()?),
+        Formula::And(a, b) => Ok(prop(alloc, a)?.joined(Connective::And, prop(alloc, b)?)?),
+        Formula::Or(a, b) => Ok(prop(alloc, a)?.joined(Connective::Or, prop(alloc, b)?)?),
+        Formula::Implies(a, b) => Ok(prop(alloc, a)?.joined(Connective::Implies, prop(alloc, b)?)?),
     }
 }
 

@@ -121,6 +121,19 @@ pub fn count_executions(alloc: Global, space: &Space) -> Result<u64, AllocError>
     Ok(count)
 }
 
+/// How many executions a walk over a space finds.
+pub fn count_walked(alloc: Global, space: &Space) -> Result<u64, AllocError> {
+    let size = space.size();
+    let mut walk = again!(_, space.walk(alloc, 0, size))?;
+    let mut count: u64 = 0;
+    for _ in 0..size {
+        if again!(_, walk.next(alloc))?.is_some() {
+            count = count.saturating_add(1);
+        }
+    }
+    Ok(count)
+}
+
 /// A text, then a part some times, then an end.
 pub fn repeated(
     alloc: Global,

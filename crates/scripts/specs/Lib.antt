@@ -1,2 +1,3 @@
 pub mod Orders
 pub mod Serving
+pub mod Working

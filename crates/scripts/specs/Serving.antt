@@ -1,5 +1,5 @@
 -- What becomes of a script.
-use Rattle.std.specs.Prelude.{◌≡◌, ◌<◌, ◌≤◌, ℕ, List, [], ◌∷◌, ◌++◌, length, map, All, Option, Result, Ok, Err, OnOk, codes, decimal, ◌⊎◌}
+use Rattle.std.specs.Prelude.{◌≡◌, ◌<◌, ◌≤◌, ◌==◌, ℕ, List, [], ◌∷◌, ◌++◌, length, map, filter, All, Option, Result, Ok, Err, codes, decimal, ◌⊎◌}
 use Rattle.std.specs.Io.KnownBytes.{Appends}
 use Rattle.std.specs.List.{flat_map}
 use Rattle.wb_text.specs.Memory.{AppendsFront}
@@ -11,12 +11,15 @@ use Rattle.book.specs.declared.kept.Refused.{Refused}
 use Rattle.book.specs.declared.kept.Refused.TheVariants.{JournalFull, NoMemory}
 use Rattle.book.specs.declared.limits.Limits.{Limits}
 use Rattle.scripts.specs.Orders.{Answers}
+use Rattle.scripts.specs.Working.{IsWork}
 use Rattle.replies.specs.Replies.{reply_text}
 use Rattle.scripts.specs.declared.answer.Answer.{Answer}
-use Rattle.scripts.specs.declared.answer.Answer.TheVariants.{Made, NotTaken}
+use Rattle.scripts.specs.declared.answer.Answer.TheVariants.{Made, NotTaken, Worked}
+use Rattle.scripts.specs.declared.answer.Counts.{Counts}
 use Rattle.orders.specs.Lines.{AreLines}
 use Rattle.orders.specs.Scripts.{AreOrders, IsNextOrder, IsBadLine, IsSpent}
 use Rattle.orders.specs.declared.order.Order.{Order}
+use Rattle.orders.specs.declared.order.Order.TheVariants.{Call as Called}
 use Rattle.orders.specs.declared.order.Request.TheVariants.{Return}
 use Rattle.orders.specs.declared.fault.ServeFault.{ServeFault}
 use Rattle.orders.specs.declared.fault.ServeFault.TheVariants as faults
@@ -25,36 +28,62 @@ abbrev pub not_taken_text : Refused → List ℕ
 not_taken_text JournalFull = codes "not taken JournalFull\n"
 not_taken_text NoMemory = codes "not taken NoMemory\n"
 
--- What is written of an answer: the reply of the entry that was made, or that none was.
+abbrev pub worked_text : Counts → List ℕ
+worked_text c = codes "worked " ++ decimal c.evaluated ++ codes " " ++ decimal c.given_back ++ codes " " ++ decimal c.refused ++ codes "\n"
+
+-- What is written of an answer: the reply of the entry that was made, or that none was; and what was done of work.
 abbrev pub answer_text : Answer → List ℕ
 answer_text (Made line) = reply_text line.reply
 answer_text (NotTaken why) = not_taken_text why
+answer_text (Worked counts) = worked_text counts
 
--- the entry that was made, if any
+-- the entry that answers a session, if any
 abbrev pub entry_of : Answer → List Line
 entry_of (Made line) = line ∷ []
 entry_of (NotTaken why) = []
+entry_of (Worked counts) = []
 
--- A call of a script: what was asked, and what answered it.
+-- An order of a script, and what answered it.
 pub record Call : Type 0 where
   pub order : Order
   pub answer : Answer
-  pub fits : Answers order answer
 
--- the entries that calls made
+-- the entries that answered sessions
 abbrev pub entries_of : List Call → List Line
 entries_of calls = flat_map (λ c. entry_of c.answer) calls
+
+-- Calls, one after another: each is answered behind the entries of sessions that answered those before it.
+pub data AreAnswered : List Call → Type 0 where
+  no_call : AreAnswered []
+  next_call : {calls : List Call} (call : Call) → AreAnswered calls → Answers (entries_of calls) call.order call.answer → AreAnswered (calls ++ call ∷ [])
+
+-- the entries of a seat
+abbrev pub of_seat : ℕ → List Line → List Line
+of_seat seat journal = filter (λ line. line.seat == seat) journal
+
+-- In the journal each session's entries are those that answered it, in their order, and the others are of work.
+pub record IsBySeat (calls : List Call) (journal : List Line) : Type 0 where
+  pub sessions : (seat : ℕ) → seat < 8 → of_seat seat journal ≡ of_seat seat (entries_of calls)
+  pub others : All (λ line. line.seat ≤ 8) journal
 
 -- An answer to a call of a journal with so many entries: `JournalFull` exactly where it has as many as it may have.
 abbrev pub SaysRoom : ℕ → ℕ → Answer → Type 0
 SaysRoom most entries (Made line) = entries < most
 SaysRoom most entries (NotTaken JournalFull) = most ≤ entries
 SaysRoom most entries (NotTaken NoMemory) = entries < most
+SaysRoom most entries (Worked counts) = Unit {0}
 
--- the same of calls, one after another, of a journal that was empty
-pub data AllSayRoom (most : ℕ) : List Call → Type 0 where
-  no_call : AllSayRoom most []
-  next_call : {calls : List Call} (call : Call) → AllSayRoom most calls → SaysRoom most (length (entries_of calls)) call.answer → AllSayRoom most (calls ++ call ∷ [])
+-- What a journal becomes by an answer.
+abbrev pub Makes : List Line → List Line → Answer → Type 0
+Makes before after (Made line) = (after ≡ before ++ line ∷ []) × (line.seat < 8)
+Makes before after (NotTaken why) = after ≡ before
+Makes before after (Worked counts) = IsWork before after counts
+
+-- A journal that was empty, and which the answers made in turn.
+pub data AreInTurn (most : ℕ) : List Call → List Line → Type 0 where
+  none_yet : AreInTurn most [] []
+  next_turn : {calls : List Call} {before after : List Line} (call : Call) → AreInTurn most calls before → SaysRoom most (length before) call.answer
+      → Makes before after call.answer → AreInTurn most (calls ++ call ∷ []) after
 
 -- what is written of calls, one after another
 abbrev pub calls_text : List Call → List ℕ
@@ -86,21 +115,6 @@ Tells old new (Err faults.NoMemory) text = Appends old new text
 abbrev pub EndsWith : {A : Type 0} → ℕ → Option (List ℕ) → Option (List ℕ) → Result A ServeFault → Result A ServeFault → Type 0
 EndsWith entries held new outcome result = (old : Option (List ℕ)) → (text : List ℕ) → Tells old held outcome text → (closing : List ℕ) × Closes entries result closing × Tells old new result (text ++ closing)
 
--- The calls ask what a script orders, one after another, and all that it orders where it is done to its end.
-pub record IsRead {A : Type 0} (script : Option (List ℕ)) (result : Result A ServeFault) (calls : List Call) : Type 0 where
-  pub end : Option (List ℕ)
-  pub orders : AreOrders script end (map (λ c. c.order) calls)
-  pub spent : OnOk result ((rest : Option (List ℕ)) × IsSpent end rest)
-
--- The line of number n is bad, behind orders that were read.
-pub record IsBadAt (script : Option (List ℕ)) (m n : ℕ) : Type 0 where
-  pub end : Option (List ℕ)
-  pub count : ℕ
-  pub orders : List Order
-  pub read : AreOrders script end orders
-  pub lines : AreLines script m end count
-  pub bad : IsBadLine end count n
-
 -- The entry gives the piece of this claim.
 abbrev pub GivesPiece : ℕ → Line → Type 0
 GivesPiece claim line = (piece : Portion) × (line.reply ≡ Piece piece) × (piece.claim ≡ claim)
@@ -109,32 +123,45 @@ GivesPiece claim line = (piece : Portion) × (line.reply ≡ Piece piece) × (pi
 abbrev pub GivesNone : ℕ → List Line → Type 0
 GivesNone claim entries = All (λ line. ¬ GivesPiece claim line) entries
 
--- The line of number n is the last of an order to return a piece, and none of these entries gave it.
+-- The line of number n is the last of the next order, which is to return a piece that none of these entries gave.
+-- Before it the count of lines stood at m.
 pub record IsReturnAt (script : Option (List ℕ)) (m n : ℕ) (entries : List Line) : Type 0 where
-  pub mid : Option (List ℕ)
   pub after : Option (List ℕ)
-  pub count : ℕ
-  pub orders : List Order
   pub order : Order
+  pub seat : ℕ
   pub claim : ℕ
-  pub read : AreOrders script mid orders
-  pub lines : AreLines script m mid count
-  pub next : IsNextOrder mid after order
-  pub more : AreLines mid count after n
-  pub returns : order.request ≡ Return claim
+  pub next : IsNextOrder script after order
+  pub lines : AreLines script m after n
+  pub returns : order ≡ Called seat (Return claim)
   pub none : GivesNone claim entries
 
--- A line is told as bad only where it is, or asks for a piece that none of the calls gave.
-abbrev pub TellsBadLine : {A : Type 0} → Option (List ℕ) → ℕ → Result A ServeFault → List Call → Type 0
-TellsBadLine script m result calls = (n : ℕ) → result ≡ Err (faults.BadLine n) → IsBadAt script m n ⊎ IsReturnAt script m n (entries_of calls)
+-- What stands behind the orders that were read, by which sessions made these entries: no order at the end of the script, or the
+-- line that is told as bad.
+abbrev pub StopsAt : {A : Type 0} → Option (List ℕ) → ℕ → Result A ServeFault → List Line → Type 0
+StopsAt script m (Ok done) entries = (rest : Option (List ℕ)) × IsSpent script m rest
+StopsAt script m (Err (faults.BadLine n)) entries = IsBadLine script m n ⊎ IsReturnAt script m n entries
+StopsAt script m (Err faults.Read) entries = Unit {0}
+StopsAt script m (Err faults.Write) entries = Unit {0}
+StopsAt script m (Err faults.NoMemory) entries = Unit {0}
 
--- A script's calls made the journal of a book with these limits, and this was written of them.
+-- The calls ask what a script orders, one after another, up to where it stops. Before it the count of lines stood at m.
+pub record IsRead {A : Type 0} (script : Option (List ℕ)) (m : ℕ) (result : Result A ServeFault) (calls : List Call) : Type 0 where
+  pub end : Option (List ℕ)
+  pub count : ℕ
+  pub orders : AreOrders script end (map (λ c. c.order) calls)
+  pub lines : AreLines script m end count
+  pub stops : StopsAt end count result (entries_of calls)
+
+-- What a script orders was answered over a book with these limits, and this was written of it. There is a legal journal, in
+-- which each session's entries are those that answered it; and the answers made it in turn.
 pub record IsServed {A : Type 0} (limits : Limits) (script old new : Option (List ℕ)) (result : Result A ServeFault) : Type 0 where
   pub calls : List Call
-  pub read : IsRead script result calls
-  pub legal : Legal limits (entries_of calls)
-  pub room : AllSayRoom limits.journal calls
-  pub line : TellsBadLine script 0 result calls
+  pub read : IsRead script 0 result calls
+  pub answered : AreAnswered calls
+  pub journal : List Line
+  pub legal : Legal limits journal
+  pub seats : IsBySeat calls journal
+  pub turns : AreInTurn limits.journal calls journal
   pub closing : List ℕ
-  pub closes : Closes (length (entries_of calls)) result closing
+  pub closes : Closes (length journal) result closing
   pub told : Tells old new result (calls_text calls ++ closing)

@@ -25,11 +25,21 @@ impl Model for EntryRef {
     ghost view = { λ e. arc_value e.entry };
 }
 
-/// What becomes of an order: an entry, or nothing.
+/// What was done of work: how many evaluations, how many claims that were given back, and how many calls that were not
+/// taken.
+#[derive(Clone, Copy, Drop)]
+pub struct Counts {
+    pub evaluated: u64,
+    pub given_back: u64,
+    pub refused: u64,
+}
+
+/// What becomes of an order: an entry or nothing, and of work what was done.
 #[derive(Drop)]
 pub enum Answer {
     Made(EntryRef),
     NotTaken(Refused),
+    Worked(Counts),
 }
 
 impl EntryRef {

@@ -6,6 +6,7 @@ mod options;
 mod print;
 mod run;
 mod sessions;
+mod work;
 
 pub use options::Options;
 pub use orders::ServeFault;

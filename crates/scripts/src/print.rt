@@ -2,9 +2,9 @@
 
 ghost use Rattle.std.specs.Prelude.{◌≡◌, length, IfSome};
 ghost use Rattle.report.specs.Writing.{Writes};
-ghost use Rattle.scripts.specs.Serving.{answer_text, finish_text, bad_line_text, not_taken_text};
+ghost use Rattle.scripts.specs.Serving.{answer_text, finish_text, bad_line_text, not_taken_text, worked_text};
 
-use crate::answer::Answer;
+use crate::answer::{Answer, Counts};
 use book::Refused;
 use itoa::Buffer;
 use replies::write_reply;
@@ -44,6 +44,7 @@ fn write_answer<W: Sink>(answer: &Answer, writer: &mut W) -> Result<(), Failed>
     match answer {
         Answer::Made(entry) => write_reply(entry.entry().reply(), writer),
         Answer::NotTaken(why) => write_not_taken(*why, writer),
+        Answer::Worked(counts) => write_worked(*counts, writer),
     }
 }
 
@@ -54,6 +55,22 @@ fn write_not_taken<W: Sink>(why: Refused, writer: &mut W) -> Result<(), Failed>
         Refused::JournalFull => give_all(writer, b"not taken JournalFull\n"),
         Refused::NoMemory => give_all(writer, b"not taken NoMemory\n"),
     }
+}
+
+/// Writes what was done of work.
+fn write_worked<W: Sink>(counts: Counts, writer: &mut W) -> Result<(), Failed>
+    ensures { Writes W.held W.has_failed writer.old writer.new result (worked_text counts) }
+{
+    let mut evaluated = Buffer::new();
+    let evaluated = evaluated.format(counts.evaluated).as_bytes();
+    let mut given_back = Buffer::new();
+    let given_back = given_back.format(counts.given_back).as_bytes();
+    let mut refused = Buffer::new();
+    let refused = refused.format(counts.refused).as_bytes();
+    let parts: [&[u8]; 7] = [
+        b"worked ", evaluated, b" ", given_back, b" ", refused, b"\n",
+    ];
+    write_parts(&parts, writer)
 }
 
 /// Writes the last line of a script that is done.

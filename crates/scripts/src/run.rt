@@ -1,7 +1,7 @@
 //! From a script to the replies of a book.
 
 ghost use Rattle.std.specs.Prelude.{◌≡◌, ◌⊎◌, [], List, true, Ok, Err, OnOk, IfErr};
-ghost use Rattle.scripts.specs.Serving.{Call, EndsWith, IsRead, IsServed, AllSayRoom, Tells, TellsBadLine, entries_of, calls_text};
+ghost use Rattle.scripts.specs.Serving.{Call, EndsWith, IsRead, IsServed, AreAnswered, AreInTurn, Tells, calls_text};
 ghost use Rattle.orders.specs.Lines.{ahead, IsTooLong};
 ghost use Rattle.std.specs.Io.KnownBytes.{IsAtEnd};
 
@@ -12,16 +12,17 @@ use orders::{Script, ServeFault};
 use std::alloc::Global;
 use wb_text::{Sink, Source};
 
-/// Reads a script line by line, makes its calls on a book, and writes what becomes of each before it reads on.
+/// Reads a script line by line, does what it orders over a book, and writes what becomes of each line before it reads on.
 pub fn serve<R: Source, W: Sink>(
     alloc: Global,
     reader: &mut R,
     writer: &mut W,
     options: &Options,
 ) -> Result<(), ServeFault>
-    // The calls are those of the script, in their order. What is written is what answered them, and then the length of the
-    // legal journal that they made, or that a line is bad: by its number one that is, or that asks to return a piece which no
-    // call before it gave. A call makes no entry where the journal is full, and says so.
+    // What the script orders is answered, in its order. What is written is these answers, and then the length of the legal
+    // journal, or that the line behind them is bad: by its number one that is, or that asks to return a piece which no claim
+    // of a session gave before. In the journal each session's entries are those that answered it. A call makes no entry
+    // where the journal is full, and says so; work claims pieces and returns their results until none is given.
     ensures served { IsServed options.now.limits (R.left reader.old) (W.held writer.old) (W.held writer.new) result }
     ensures end { OnOk result (IsAtEnd (R.left reader.new)) }
     // Reading fails where the reader does, or where a script has too many lines.
@@ -68,11 +69,10 @@ fn answer_all<R: Source, W: Sink>(
 ) -> Result<(), ServeFault>
     requires { sessions.now.book.journal ≡ [] }
     ensures told { (calls : List Call)
-        × (sessions.new.book.journal ≡ entries_of calls)
+        × AreInTurn sessions.old.book.limits.journal calls sessions.new.book.journal
         × Tells (W.held writer.old) (W.held writer.new) result (calls_text calls)
-        × IsRead (ahead script.old.lines.block (R.left reader.old)) result calls
-        × AllSayRoom sessions.old.book.limits.journal calls
-        × TellsBadLine (ahead script.old.lines.block (R.left reader.old)) script.old.lines.count result calls }
+        × IsRead (ahead script.old.lines.block (R.left reader.old)) script.old.lines.count result calls
+        × AreAnswered calls }
     ensures end { OnOk result (IsAtEnd (R.left reader.new)) }
     ensures read { result ≡ Err ServeFault.Read → (R.has_failed reader.new ≡ true)
         ⊎ IsTooLong (ahead script.old.lines.block (R.left reader.old)) script.old.lines.count }

@@ -1,13 +1,14 @@
 //! The sessions of a script over one book.
 
-ghost use Rattle.std.specs.Prelude.{◌≡◌, ◌<◌, ◌+◌, ◌≤◌, ◌++◌, [], length, ℕ, All, IfOk, OnErr, MatchBool, MatchOption};
-ghost use Rattle.journal.specs.Lines.{seen};
+ghost use Rattle.std.specs.Prelude.{◌≡◌, ◌<◌, ◌≤◌, [], length, ℕ, List, IfOk, IfErr, OnErr, MatchBool, MatchOption};
+ghost use Rattle.journal.specs.Lines.{Line, seen};
 ghost use Rattle.book.specs.Step.{Legal};
-ghost use Rattle.journal.specs.declared.records.Said.{Said};
-ghost use Rattle.scripts.specs.Orders.{Asks, Answers, IfMade};
-ghost use Rattle.scripts.specs.Serving.{entry_of, GivesNone, GivesPiece, SaysRoom};
+ghost use Rattle.orders.specs.Spelled.{IsSeated};
+ghost use Rattle.scripts.specs.Orders.{Asks, Answers, IfMade, IsGiven, by_sessions};
+ghost use Rattle.scripts.specs.Serving.{GivesNone, GivesPiece, Makes, SaysRoom};
 
 use crate::answer::{Answer, EntryRef};
+use crate::work::{WORK_SEAT, work};
 use book::{Book, Command, Entry, Limits, Refused, Reply};
 use orders::{Order, Request};
 use slices::{Piece, evaluate};
@@ -44,30 +45,41 @@ impl Sessions {
         self.book.journal().len()
     }
 
-    /// Makes the call that an order asks for.
+    /// Does what is ordered.
     pub fn call(&mut self, order: Order) -> Result<Answer, NoPiece>
-        requires { order.seat < 8 }
-        ensures journal { IfOk result (λ a. self.new.book.journal ≡ self.old.book.journal ++ entry_of a) }
-        ensures answer { IfOk result (Answers order) }
+        requires { IsSeated order }
+        ensures makes { IfOk result (Makes self.old.book.journal self.new.book.journal) }
+        ensures answer { IfOk result (Answers (by_sessions self.old.book.journal) order) }
         ensures room { IfOk result (SaysRoom self.old.book.limits.journal (length self.old.book.journal)) }
         ensures limits { self.new.book.limits ≡ self.old.book.limits }
         ensures same { OnErr result (self.new.book ≡ self.old.book) }
-        ensures none { OnErr result ((claim : ℕ) × (order.request ≡ Request.Return claim) × GivesNone claim self.old.book.journal) }
+        ensures none { OnErr result ((seat : ℕ) × (claim : ℕ) × (order ≡ Order.Call seat (Request.Return claim)) × GivesNone claim (by_sessions self.old.book.journal)) }
     {
-        let Order { seat, request } = order;
-        match request {
-            Request::PutCat(name, text) => Ok(self.apply(seat, Command::PutCat(name, text))),
-            Request::PutTest(text) => Ok(self.apply(seat, Command::PutTest(text))),
-            Request::Ask(test, cat) => Ok(self.apply(seat, Command::Ask(test, cat))),
-            Request::Poll(job) => Ok(self.apply(seat, Command::Poll(job))),
-            Request::Claim => Ok(self.apply(seat, Command::Claim)),
-            Request::Return(claim) => self.return_piece(seat, claim),
+        match order {
+            Order::Call(seat, request) => self.ask(seat, request),
+            Order::Work => Ok(Answer::Worked(work(self.alloc, &mut self.book))),
+        }
+    }
+
+    /// Makes the call that the session at a seat asks for.
+    fn ask(&mut self, seat: u8, request: Request) -> Result<Answer, NoPiece>
+        requires { seat < 8 }
+        ensures makes { IfOk result (Makes self.old.book.journal self.new.book.journal) }
+        ensures made { IfOk result (λ a. IfMade a (λ e. (e.seat ≡ seat) × Asks (by_sessions self.old.book.journal) request e.said)) }
+        ensures room { IfOk result (SaysRoom self.old.book.limits.journal (length self.old.book.journal)) }
+        ensures limits { self.new.book.limits ≡ self.old.book.limits }
+        ensures same { OnErr result (self.new.book ≡ self.old.book) }
+        ensures none { OnErr result ((claim : ℕ) × (request ≡ Request.Return claim) × GivesNone claim (by_sessions self.old.book.journal)) }
+    {
+        match command(request) {
+            Ok(command) => Ok(self.apply(seat, command)),
+            Err(claim) => self.return_piece(seat, claim),
         }
     }
 
     fn apply(&mut self, seat: u8, command: Command) -> Answer
         requires { seat < 8 }
-        ensures journal { self.new.book.journal ≡ self.old.book.journal ++ entry_of result }
+        ensures makes { Makes self.old.book.journal self.new.book.journal result }
         ensures made { IfMade result (λ e. (e.seat ≡ seat) × (e.said ≡ seen command)) }
         ensures room { SaysRoom self.old.book.limits.journal (length self.old.book.journal) result }
         ensures limits { self.new.book.limits ≡ self.old.book.limits }
@@ -90,12 +102,12 @@ impl Sessions {
     /// Evaluates the piece of a claim and returns the result.
     fn return_piece(&mut self, seat: u8, claim: u32) -> Result<Answer, NoPiece>
         requires { seat < 8 }
-        ensures journal { IfOk result (λ a. self.new.book.journal ≡ self.old.book.journal ++ entry_of a) }
-        ensures made { IfOk result (λ a. IfMade a (λ e. (e.seat ≡ seat) × Asks (Request.Return claim) e.said)) }
+        ensures makes { IfOk result (Makes self.old.book.journal self.new.book.journal) }
+        ensures made { IfOk result (λ a. IfMade a (λ e. (e.seat ≡ seat) × Asks (by_sessions self.old.book.journal) (Request.Return claim) e.said)) }
         ensures room { IfOk result (SaysRoom self.old.book.limits.journal (length self.old.book.journal)) }
         ensures limits { self.new.book.limits ≡ self.old.book.limits }
         ensures same { OnErr result (self.new.book ≡ self.old.book) }
-        ensures none { OnErr result (GivesNone claim self.old.book.journal) }
+        ensures none { OnErr result (GivesNone claim (by_sessions self.old.book.journal)) }
     {
         let Some(piece) = self.piece(claim) else {
             return Err(NoPiece);
@@ -109,9 +121,9 @@ impl Sessions {
         }
     }
 
-    /// The piece that a claim gave. It is looked for from the last entry back, since most pieces are returned soon.
+    /// The piece that a claim gave a session. It is looked for from the last entry back, since most pieces are returned soon.
     fn piece(&self, claim: u32) -> Option<&Piece>
-        ensures { MatchOption result (GivesNone claim self.now.book.journal) (λ p. p.now.claim ≡ claim) }
+        ensures { MatchOption result (GivesNone claim (by_sessions self.now.book.journal)) (λ p. IsGiven claim p.now (by_sessions self.now.book.journal)) }
     {
         let mut entries = self.book.journal();
         while let Some((last, before)) = entries.split_last() {
@@ -124,12 +136,37 @@ impl Sessions {
     }
 }
 
-/// The piece that an entry gives, if it is this claim's.
+/// The piece that an entry gives a session, if it is this claim's.
 fn piece_of(entry: &Entry, claim: u32) -> Option<&Piece>
-    ensures { MatchOption result (¬ GivesPiece claim entry.now) (λ p. p.now.claim ≡ claim) }
+    ensures { MatchOption result (entry.now.seat < 8 → ¬ GivesPiece claim entry.now) (λ p. (entry.now.seat < 8) × (p.now.claim ≡ claim) × (entry.now.reply ≡ Reply.Piece p.now)) }
 {
+    if entry.seat() >= WORK_SEAT {
+        return None;
+    }
     match entry.reply() {
         Reply::Piece(piece) if piece.claim() == claim => Some(piece),
         _ => None,
+    }
+}
+
+/// The command of a request; of one to return a piece, its claim.
+fn command(request: Request) -> Result<Command, u32>
+    ensures asks { IfOk result (λ c. (entries : List Line) → Asks entries request (seen c)) }
+    ensures returns { IfErr result (λ claim. request ≡ Request.Return claim) }
+{
+    match request {
+        Request::PutCat(name, text) => Ok(Command::PutCat(name, text)),
+        Request::PutTest(text) => Ok(Command::PutTest(text)),
+        Request::DropCat(name) => Ok(Command::DropCat(name)),
+        Request::DropTest(name) => Ok(Command::DropTest(name)),
+        Request::Ask(test, cat) => Ok(Command::Ask(test, cat)),
+        Request::Poll(job) => Ok(Command::Poll(job)),
+        Request::Forget(job) => Ok(Command::Forget(job)),
+        Request::Release(job) => Ok(Command::Release(job)),
+        Request::List => Ok(Command::List),
+        Request::Claim => Ok(Command::Claim),
+        Request::Return(claim) => Err(claim),
+        Request::GiveBack(claim) => Ok(Command::GiveBack(claim)),
+        Request::Close => Ok(Command::Close),
     }
 }

@@ -1,6 +1,7 @@
 -- Counts and verdicts.
-use Rattle.std.proofs.Common.{◌≡◌, ℕ, zero, suc, ◌+◌, ◌-◌, ◌≤◌, ◌^◌, List, [], ◌∷◌, ◌++◌, length, Bool, true, false, cond, not, count_by, map, Option, None, Some, unwrap_or, refl, sym, ap, ◌∙◌, subst, inl, inr, append-nil, arith}
-use Rattle.std.specs.Prelude.{slice_get, Result, Ok, Err, IfOk, OnOk, fold, IsTrue, ◌↔◌, ◌⊎◌}
+use Rattle.std.proofs.Common.{◌≡◌, ℕ, zero, suc, ◌+◌, ◌-◌, ◌≤◌, ◌^◌, List, [], ◌∷◌, ◌++◌, length, Bool, true, false, cond, not, count_by, map, Option, None, Some, unwrap_or, refl, sym, ap, ◌∙◌, subst, inl, inr, arith}
+use Rattle.std.specs.Option.{is_some}
+use Rattle.std.specs.Prelude.{slice_get, MatchOption, Result, Ok, Err, IfOk, OnOk, fold, IsTrue, ◌↔◌, ◌⊎◌}
 use Rattle.std.specs.BTreeSet.{insert_key}
 use Rattle.std.specs.List.Sorted.{IsStrictlySortedBy}
 use Rattle.std.proofs.lemmas.List.Sums.{fold-append, sum_by-append}
@@ -13,16 +14,18 @@ use Rattle.conditions.specs.declared.place.Place.{Place}
 use Rattle.conditions.specs.declared.place.Place.TheVariants.{Reg, Loc}
 use Rattle.litmus_tree.specs.Tree.{Litmus, Word}
 use Rattle.conditions.specs.States.{bindings, holds_in, AreObserved}
-use Rattle.candidates.specs.Candidates.{At, Choices, Counting, choices_of, found, size_of, some_of}
+use Rattle.candidates.specs.Candidates.{At, Choices, choices_of, found, size_of}
+use Rattle.candidates.specs.Walks.{Walking, IsHit, IsMiss}
+use Rattle.candidates.proofs.Walked.{found_from, found_on, found_at}
 use Rattle.candidates.specs.Executions.{IsSize}
 use Rattle.candidates.specs.Faults.{HaveFewRuns}
 use Rattle.slices.specs.declared.counter.Counter.{Counter}
 use Rattle.slices.specs.Finals.{final, obs, has, last_or}
 use Rattle.slices.specs.Outcomes.{Outcome}
-use Rattle.slices.specs.Parts.{AreThose, at_end, taken, passed, IsAdmitted, IsOver, IsPart, Part, executions_in, test_size}
+use Rattle.slices.specs.Parts.{AreThose, at_end, taken, passed, IsAdmitted, IsPart, executions_in, test_size}
 use Rattle.slices.specs.Slots.{slot_of, slot_value}
 use Rattle.slices.specs.Counters.{collected, outcome_of, IsCount, IsCountOf, IsOneMore, IsWeighed}
-use Rattle.slices.specs.Verdicts.{Tells, IsVerdict, IsRaised}
+use Rattle.slices.specs.Verdicts.{Tells, IsRaised}
 use Rattle.slices.specs.Works.{Task}
 use Rattle.slices.proofs.Rows.{row_cmp, from_collected, collected_old, in_collected, no_repeats, are_sorted}
 
@@ -33,16 +36,6 @@ row_is t x (Reg k r ∷ places) = ap (λ l. final t x (Reg k r) ∷ l) (row_is t
 row_is t x (Loc y ∷ places) = ap (λ l. final t x (Loc y) ∷ l) (row_is t x places)
 
 -- one execution more
-
-step_some : (at : ℕ → Option Execution) (n : ℕ) (x : Execution) → at n ≡ Some x → found at (n + 1) ≡ found at n ++ x ∷ []
-step_some at n x e =
-    let next : n + 1 ≡ suc n = omega arith in
-    ap (found at) next ∙ ap (λ o. found at n ++ some_of o) e
-
-step_none : (at : ℕ → Option Execution) (n : ℕ) → at n ≡ None → found at (n + 1) ≡ found at n
-step_none at n e =
-    let next : n + 1 ≡ suc n = omega arith in
-    ap (found at) next ∙ ap (λ o. found at n ++ some_of o) e ∙ append-nil (found at n)
 
 count_by-push : {X : Type 0} (p : X → Bool) (xs : List X) (x : X) → count_by p (xs ++ x ∷ []) ≡ count_by p xs + cond (p x) 1 0
 count_by-push p xs x = omega (arith, sum_by-append (λ y. cond (p y) 1 0) xs (x ∷ []))
@@ -63,16 +56,16 @@ those-pass x p at_end = passed p at_end
 those-pass x p (taken q h) = taken q (those-pass x p h)
 those-pass x p (passed q h) = passed q (those-pass x p h)
 
-in_front : {X : Type 0} (y : X) (xs : List X) (x : X) → IsIn y xs → IsIn y (xs ++ x ∷ [])
+pub in_front : {X : Type 0} (y : X) (xs : List X) (x : X) → IsIn y xs → IsIn y (xs ++ x ∷ [])
 in_front y [] x p = absurd p
 in_front y (z ∷ zs) x (inl e) = inl e
 in_front y (z ∷ zs) x (inr p) = inr (in_front y zs x p)
 
-at_last : {X : Type 0} (xs : List X) (x : X) → IsIn x (xs ++ x ∷ [])
+pub at_last : {X : Type 0} (xs : List X) (x : X) → IsIn x (xs ++ x ∷ [])
 at_last [] x = inl refl
 at_last (z ∷ zs) x = inr (at_last zs x)
 
-of_push : {X : Type 0} (y : X) (xs : List X) (x : X) → IsIn y (xs ++ x ∷ []) → IsIn y xs ⊎ (y ≡ x)
+pub of_push : {X : Type 0} (y : X) (xs : List X) (x : X) → IsIn y (xs ++ x ∷ []) → IsIn y xs ⊎ (y ≡ x)
 of_push y [] x (inl e) = inr e
 of_push y [] x (inr p) = absurd p
 of_push y (z ∷ zs) x (inl e) = inl (inl e)
@@ -107,17 +100,6 @@ counted t items places xs x old new h (inr w) = record {
   count = let Q : Counter → Type 0 = λ v. IsCount t items places h.executions v in subst Q (sym w.1) h.count;
 }
 
-counted_some : (t : Litmus) (items : List Clause) (places : List Place) (at : ℕ → Option Execution) (n : ℕ) (x : Execution) (old new : Counter) → IsCountOf t items places (found at n) old → at n ≡ Some x → IsWeighed t items places x old new → IsCountOf t items places (found at (n + 1)) new
-counted_some t items places at n x old new h is w =
-    let P : List Execution → Type 0 = λ xs. IsCountOf t items places xs new in
-    subst P (sym (step_some at n x is)) (counted t items places (found at n) x old new h w)
-
-counted_none : (t : Litmus) (items : List Clause) (places : List Place) (at : ℕ → Option Execution) (n : ℕ) (old new : Counter) → IsCountOf t items places (found at n) old → at n ≡ None → new ≡ old → IsCountOf t items places (found at (n + 1)) new
-counted_none t items places at n old new h is e =
-    let P : List Execution → Type 0 = λ xs. IsCountOf t items places xs new in
-    let Q : Counter → Type 0 = λ v. IsCountOf t items places (found at n) v in
-    subst P (sym (step_none at n is)) (subst Q (sym e) h)
-
 pub few : (b : Bool) (p n p' n' k : ℕ) → p + n ≤ k → p' ≡ p + cond b 1 0 → n' ≡ n + cond b 0 1 → p' + n' ≤ k + 1
 few true p n p' n' k h e f = omega arith
 few false p n p' n' k h e f = omega arith
@@ -134,21 +116,40 @@ last_of w (v ∷ vs) =
     let less : length (v ∷ vs) - 1 ≡ length vs = omega arith in
     ap (λ n. unwrap_or (slice_get (v ∷ vs) n) w) less ∙ last_is w v vs
 
--- the numbers of a range
+-- how much one execution adds to both counts
+pub few_weighed : (t : Litmus) (items : List Clause) (places : List Place) (x : Execution) (old new : Counter) (k : ℕ) → old.positive + old.negative ≤ k → IsWeighed t items places x old new → new.positive + new.negative ≤ k + 1
+few_weighed t items places x old new k h (inl w) = few (has t places x) _ _ _ _ k h w.1.positive w.1.negative
+few_weighed t items places x old new k h (inr w) = let P : Counter → Type 0 = λ c. c.positive + c.negative ≤ k + 1 in subst P (sym w.1) (omega (arith, h))
 
-pub next_some : (t : Litmus) (items : List Clause) (places : List Place) (at : ℕ → Option Execution) (from n : ℕ) (x : Execution) (old new : Counter) → from ≤ n → IsCountOf t items places (found (λ i. at (from + i)) (n - from)) old → at n ≡ Some x → IsWeighed t items places x old new → IsCountOf t items places (found (λ i. at (from + i)) (n + 1 - from)) new
-next_some t items places at from n x old new le h is w =
-    let here : from + (n - from) ≡ n = omega arith in
-    let more : n + 1 - from ≡ (n - from) + 1 = omega arith in
-    let P : ℕ → Type 0 = λ k. IsCountOf t items places (found (λ i. at (from + i)) k) new in
-    subst P (sym more) (counted_some t items places (λ i. at (from + i)) (n - from) x old new h (ap at here ∙ is) w)
+-- a walk over the numbers of a range
 
-pub next_none : (t : Litmus) (items : List Clause) (places : List Place) (at : ℕ → Option Execution) (from n : ℕ) (old new : Counter) → from ≤ n → IsCountOf t items places (found (λ i. at (from + i)) (n - from)) old → at n ≡ None → new ≡ old → IsCountOf t items places (found (λ i. at (from + i)) (n + 1 - from)) new
-next_none t items places at from n old new le h is e =
-    let here : from + (n - from) ≡ n = omega arith in
-    let more : n + 1 - from ≡ (n - from) + 1 = omega arith in
-    let P : ℕ → Type 0 = λ k. IsCountOf t items places (found (λ i. at (from + i)) k) new in
-    subst P (sym more) (counted_none t items places (λ i. at (from + i)) (n - from) old new h (ap at here ∙ is) e)
+-- The walk w has begun at `from`, and what it has found is counted.
+pub record IsUnderWay (t : Litmus) (items : List Clause) (places : List Place) (from to : ℕ) (w : Walking) (counter : Counter) : Type 0 where
+  pub counted : IsCountOf t items places (found_from w.space from w.next) counter
+  pub few : counter.positive + counter.negative ≤ w.next
+  pub order : from ≤ w.next
+  pub space : w.space ≡ choices_of t
+  pub to_is : w.to ≡ to
+
+pub walked_some : (t : Litmus) (items : List Clause) (places : List Place) (from to n : ℕ) (v w : Walking) (x : Execution) (old new : Counter) → IsUnderWay t items places from to v old → IsHit v w n → x ≡ w.shown → IsWeighed t items places x old new → IsUnderWay t items places from to w new
+walked_some t items places from to n v w x old new h hit is weighed =
+    let P : List Execution → Type 0 = λ xs. IsCountOf t items places xs new in
+    let W : Execution → Type 0 = λ y. IsWeighed t items places y old new in
+    let k = subst W is weighed in
+    record {
+      counted = subst P (sym (found_on from v w n h.order hit)) (counted t items places (found_from v.space from v.next) w.shown old new h.counted k);
+      few = omega (arith, few_weighed t items places w.shown old new v.next h.few k, hit.later, hit.step.next);
+      order = omega (arith, h.order, hit.later, hit.step.next);
+      space = hit.step.space ∙ h.space;
+      to_is = hit.step.to ∙ h.to_is;
+    }
+
+pub walked_none : (t : Litmus) (items : List Clause) (places : List Place) (from to : ℕ) (v w : Walking) (counter : Counter) → IsUnderWay t items places from to v counter → IsMiss v w → IsCountOf t items places (executions_in t from to) counter
+walked_none t items places from to v w counter h miss =
+    let P : Choices → Type 0 = λ s. IsCountOf t items places (found_from s from to) counter in
+    let Q : List Execution → Type 0 = λ xs. IsCountOf t items places xs counter in
+    let R : ℕ → Type 0 = λ k. IsCountOf t items places (found_from v.space from k) counter in
+    subst P h.space (subst R h.to_is (subst Q (sym (found_at from v w h.order miss)) h.counted))
 
 none_yet : (at : ℕ → Option Execution) (from : ℕ) → found at (from - from) ≡ []
 none_yet at from =
@@ -158,7 +159,7 @@ none_yet at from =
 none_in : {X : Type 0} (x : X) (ks : List X) → ks ≡ [] → ¬ IsIn x ks
 none_in {X} x ks e p = let P : List X → Type 0 = λ l. IsIn x l in absurd (subst P e p)
 
-pub counted_none_yet : (t : Litmus) (items : List Clause) (places : List Place) (at : ℕ → Option Execution) (from : ℕ) (new : Counter) → new.positive ≡ 0 → new.negative ≡ 0 → new.states.keys ≡ [] → new.flags.keys ≡ [] → IsCountOf t items places (found (λ i. at (from + i)) (from - from)) new
+counted_none_yet : (t : Litmus) (items : List Clause) (places : List Place) (at : ℕ → Option Execution) (from : ℕ) (new : Counter) → new.positive ≡ 0 → new.negative ≡ 0 → new.states.keys ≡ [] → new.flags.keys ≡ [] → IsCountOf t items places (found (λ i. at (from + i)) (from - from)) new
 counted_none_yet t items places at from new p n s f =
     let P : List Execution → Type 0 = λ xs. IsCountOf t items places xs new in
     subst P (sym (none_yet (λ i. at (from + i)) from)) (record {
@@ -167,10 +168,30 @@ counted_none_yet t items places at from new p n s f =
       count = record { positive = p; negative = n; states = s; flags = λ name. ((λ q. absurd (none_in name _ f q)), (λ r. absurd r.1)) };
     })
 
--- how much one execution adds to both counts
-pub few_weighed : (t : Litmus) (items : List Clause) (places : List Place) (x : Execution) (old new : Counter) (k : ℕ) → old.positive + old.negative ≤ k → IsWeighed t items places x old new → new.positive + new.negative ≤ k + 1
-few_weighed t items places x old new k h (inl w) = few (has t places x) _ _ _ _ k h w.1.positive w.1.negative
-few_weighed t items places x old new k h (inr w) = let P : Counter → Type 0 = λ c. c.positive + c.negative ≤ k + 1 in subst P (sym w.1) (omega (arith, h))
+-- a walk that has found nothing yet
+pub walked_none_yet : (t : Litmus) (items : List Clause) (places : List Place) (from to : ℕ) (w : Walking) (new : Counter) → w.space ≡ choices_of t → w.next ≡ from → w.to ≡ to → new.positive ≡ 0 → new.negative ≡ 0 → new.states.keys ≡ [] → new.flags.keys ≡ [] → IsUnderWay t items places from to w new
+walked_none_yet t items places from to w new space next end p n s f =
+    let P : Choices → Type 0 = λ c. IsCountOf t items places (found_from c from from) new in
+    let R : ℕ → Type 0 = λ k. IsCountOf t items places (found_from w.space from k) new in
+    record {
+      counted = subst R (sym next) (subst P (sym space) (counted_none_yet t items places (At t) from new p n s f));
+      few = omega (arith, p, n);
+      order = omega (arith, next);
+      space = space;
+      to_is = end;
+    }
+
+false_true : false ≡ true → ⊥
+false_true e = cc
+
+-- The step of a walk that found something, and of one that did not.
+pub hit_found : (v w : Walking) (o : Option ℕ) (b : Bool) → b ≡ is_some o → b ≡ true → MatchOption o (IsMiss v w) (IsHit v w) → (n : ℕ) × IsHit v w n
+hit_found v w None b e f h = absurd (false_true (sym e ∙ f))
+hit_found v w (Some n) b e f h = (n, h)
+
+pub miss_found : (v w : Walking) (o : Option ℕ) (b : Bool) → b ≡ is_some o → b ≡ false → MatchOption o (IsMiss v w) (IsHit v w) → IsMiss v w
+miss_found v w None b e f h = h
+miss_found v w (Some n) b e f h = absurd (false_true (sym f ∙ e))
 
 -- one execution more, from its final state and the flags that it raises
 pub one_more : (t : Litmus) (items : List Clause) (places : List Place) (x : Execution) (state : List ℕ) (old new : Counter) (flags : List Word) → Lists (Raised items x) flags
@@ -212,17 +233,6 @@ weighed_allowed t items places x old new allowed judged is more = inl (judged.0 
 
 pub weighed_forbidden : (t : Litmus) (items : List Clause) (places : List Place) (x : Execution) (old new : Counter) (allowed : Bool) → (IsTrue allowed ↔ Allowed items x) → allowed ≡ false → new ≡ old → IsWeighed t items places x old new
 weighed_forbidden t items places x old new allowed judged is same = inr ((λ a. (let is' = judged.1 a in cc)), same)
-
-found_same : (f g : ℕ → Option Execution) → ((i : ℕ) → f i ≡ g i) → (n : ℕ) → found f n ≡ found g n
-found_same f g h zero = refl
-found_same f g h (suc n) = ap (λ xs. xs ++ some_of (f n)) (found_same f g h n) ∙ ap (λ o. found g n ++ some_of o) (h n)
-
--- the executions at all numbers
-pub all_numbers : (t : Litmus) (n : ℕ) → executions_in t 0 n ≡ found (At t) n
-all_numbers t n =
-    let here : n - 0 ≡ n = omega arith in
-    let shift : (i : ℕ) → At t (0 + i) ≡ At t i = λ i. (let e : 0 + i ≡ i = omega arith in ap (At t) e) in
-    ap (found (λ i. At t (0 + i))) here ∙ found_same (λ i. At t (0 + i)) (At t) shift n
 
 -- the outcome of a count
 
@@ -276,36 +286,20 @@ once_those at_end n = tt
 once_those (taken {x} q h) n = ((λ p. n.0 (only_those x h p).0), once_those h n.1)
 once_those (passed q h) n = once_those h n.1
 
-lists_those : {X : Type 0} {P Q : X → Type 0} {xs ys : List X} → Lists P xs → AreThose Q xs ys → Lists (λ x. P x × Q x) ys
+pub lists_those : {X : Type 0} {P Q : X → Type 0} {xs ys : List X} → Lists P xs → AreThose Q xs ys → Lists (λ x. P x × Q x) ys
 lists_those l h = record {
   once = once_those h l.once;
   only = λ x p. let r = only_those x h p in (l.only x r.0, r.1);
   all = λ x r. all_those x h (l.all x r.0) r.1;
 }
 
--- the outcome over all numbers is a verdict
-pub verdict_of : (t : Litmus) (items : List Clause) (from to : ℕ) (v : Outcome) → Counting → IsAdmitted t → from ≡ 0 → to ≡ test_size t → IsPart t items from to v → IsVerdict t items v
-verdict_of t items from to v counting admitted first last part =
-    let all = counting t (test_size t) admitted.size in
-    let F : ℕ → Type 0 = λ k. AreThose (Allowed items) (executions_in t k to) part.0 in
-    let L : ℕ → Type 0 = λ k. AreThose (Allowed items) (executions_in t 0 k) part.0 in
-    let T : List Execution → Type 0 = λ xs. AreThose (Allowed items) xs part.0 in
-    (part.0, lists_those all (subst T (all_numbers t (test_size t)) (subst L last (subst F first part.1))), part.2)
-
 -- what a test's space says of the test
-pub admitted : (t u : Litmus) (s : Choices) → u ≡ t → s ≡ choices_of u → IsSize u (size_of s) × (size_of s ≤ 2 ^ 32) → HaveFewRuns u → (s ≡ choices_of t) × IsAdmitted t
-admitted t u s e is size runs =
-    let P : Litmus → Type 0 = λ v. (s ≡ choices_of v) × IsAdmitted v in
+pub admitted : (t u : Litmus) (s : Choices) (n : ℕ) → u ≡ t → s ≡ choices_of u → n ≡ size_of s → IsSize u (size_of s) × (size_of s ≤ 2 ^ 32) → HaveFewRuns u → (n ≡ test_size t) × IsAdmitted t
+admitted t u s n e is many size runs =
+    let P : Litmus → Type 0 = λ v. (n ≡ test_size v) × IsAdmitted v in
     let S : Choices → Type 0 = λ c. IsSize u (size_of c) × (size_of c ≤ 2 ^ 32) in
     let sized = subst S is size in
-    subst P e (is, record { runs = runs; size = sized.0; few = sized.1 })
-
--- a result over all numbers of a work gives a verdict
-pub over_verdict : (w : Task) (r : Part) (v : Outcome) → Counting → IsAdmitted w.test → IsOver w r → IsPart r.piece.work.test r.piece.work.model.items r.piece.from r.piece.to r.found → v ≡ r.found → IsVerdict w.test w.model.items v
-over_verdict w r v counting admitted over part e =
-    let P : Task → Type 0 = λ u. IsPart u.test u.model.items r.piece.from r.piece.to r.found in
-    let V : Outcome → Type 0 = λ o. IsVerdict w.test w.model.items o in
-    subst V (sym e) (verdict_of w.test w.model.items r.piece.from r.piece.to r.found counting admitted over.first over.last (subst P over.same part))
+    subst P e (many ∙ ap size_of is, record { runs = runs; size = sized.0; few = sized.1 })
 
 -- what is found at the numbers of a range
 pub finds : {E : Type 0} (w : Task) (t : Litmus) (from to : ℕ) (places : List Place) (counter : Counter) (r : Result Outcome E) → t ≡ w.test → IsCountOf w.test w.model.items places (executions_in w.test from to) counter → AreObserved t.condition t.listed places

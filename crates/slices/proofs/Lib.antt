@@ -1,3 +1,6 @@
 pub mod Counted
+pub mod Cuts
+pub mod Members
+pub mod Merging
 pub mod Rows
-pub mod Whole
+pub mod Together

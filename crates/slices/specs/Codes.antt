@@ -8,9 +8,11 @@ use Rattle.litmus_tree.specs.Codes.{coded_litmus}
 use Rattle.litmus_tree.specs.Tree.{Litmus}
 use Rattle.conditions.specs.contracts.place.Place.{the_row as place_row}
 use Rattle.conditions.specs.declared.place.Place.{Place}
-use Rattle.slices.specs.Judgements.{Results, Judged}
+use Rattle.slices.specs.Judgements.{Judged}
 use Rattle.slices.specs.Outcomes.{Outcome}
 use Rattle.slices.specs.Parts.{Portion, Part}
+use Rattle.slices.specs.Tallies.{Results}
+use Rattle.slices.specs.declared.span.Span.{Span}
 use Rattle.slices.specs.Works.{Task}
 
 abbrev pub coded_outcome : Coded Outcome
@@ -38,10 +40,13 @@ coded_part =
     code_by (Portion × Outcome) (coded× coded_portion coded_outcome)
     (λ r. (r.piece, r.found)) (λ p. record { piece = p.0; found = p.1 }) (λ _. refl)
 
+abbrev pub coded_span : Coded Span
+coded_span = code_by (ℕ × ℕ) (coded× coded_ℕ coded_ℕ) (λ s. (s.from, s.to)) (λ p. record { from = p.0; to = p.1 }) (λ _. refl)
+
 abbrev pub coded_results : Coded Results
 coded_results =
-    code_by (Task × List Part) (coded× coded_task (coded_list coded_part))
-    (λ r. (r.work, r.parts)) (λ p. record { work = p.0; parts = p.1 }) (λ _. refl)
+    code_by (Task × List Span) (coded× coded_task (coded_list coded_span))
+    (λ r. (r.work, r.spans)) (λ p. record { work = p.0; spans = p.1 }) (λ _. refl)
 
 abbrev pub coded_judged : Coded Judged
 coded_judged =

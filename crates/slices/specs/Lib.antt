@@ -6,5 +6,7 @@ pub mod Outcomes
 pub mod Parts
 pub mod Same
 pub mod Slots
+pub mod Sums
+pub mod Tallies
 pub mod Verdicts
 pub mod Works

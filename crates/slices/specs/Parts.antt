@@ -1,5 +1,5 @@
 -- What is found at some of the numbers of a test.
-use Rattle.std.specs.Prelude.{◌≡◌, ℕ, ◌+◌, ◌-◌, ◌≤◌, ◌^◌, List, [], ◌∷◌}
+use Rattle.std.specs.Prelude.{ℕ, ◌+◌, ◌-◌, ◌≤◌, ◌^◌, List, [], ◌∷◌}
 use Rattle.cat_eval.specs.Judging.{Allowed}
 use Rattle.cat_tree.specs.Tree.{Clause}
 use Rattle.events.specs.Executions.{Execution}
@@ -53,9 +53,3 @@ pub record Part : Type 0 where
 pub record IsRange (t : Litmus) (from to : ℕ) : Type 0 where
   pub order : from ≤ to
   pub within : to ≤ test_size t
-
--- The result is over all numbers of the work.
-pub record IsOver (work : Task) (r : Part) : Type 0 where
-  pub same : r.piece.work ≡ work
-  pub first : r.piece.from ≡ 0
-  pub last : r.piece.to ≡ test_size work.test

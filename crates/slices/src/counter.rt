@@ -6,6 +6,7 @@ ghost use Rattle.std.specs.Cmp.Lexicographic.{slice_cmp};
 ghost use Rattle.std.specs.Ordering.{nat_cmp};
 ghost use Rattle.conditions.specs.Conditions.{formula_of};
 ghost use Rattle.conditions.specs.States.{bindings, holds_in};
+ghost use Rattle.candidates.specs.Candidates.{choices_of};
 ghost use Rattle.cat_eval.specs.Judging.{Raised};
 ghost use Rattle.listings.specs.Lists.{Lists};
 ghost use Rattle.slices.specs.Counters.{IsCountOf, IsOneMore, IsWeighed};
@@ -15,6 +16,7 @@ ghost use Rattle.slices.specs.Slots.{slot_of, slot_value};
 use crate::row::Row;
 use crate::slot::{Slot, row, slots};
 use crate::work::Work;
+use candidates::Space;
 use cat_eval::judge;
 use conditions::{Place, Prop, State, holds};
 use events::{Graph, GraphView};
@@ -31,25 +33,25 @@ pub struct Counter {
     pub flags: BTreeSet<Name>,
 }
 
-/// Counts the allowed executions at the numbers from `from` to `to - 1`, one candidate at a time.
+/// Counts the allowed executions at the numbers from `from` to `to - 1`, one after another.
 pub fn count(
     alloc: Global,
     work: &Work,
+    space: &Space,
     places: &[Place],
     from: u64,
     to: u64,
 ) -> Result<Counter, AllocError>
-    requires { IsRange work.now.test from to }
+    requires range { IsRange work.now.test from to }
+    requires space { space.now ≡ choices_of work.now.test }
     ensures { IfOk result
         (IsCountOf work.now.test work.now.model.items places.now (executions_in work.now.test from to)) }
 {
-    let space = work.space();
     let slots = slots(alloc, work.test(), places)?;
     let mut counter = Counter::new(alloc);
-    for number in from..to {
-        if let Some(graph) = space.graph(alloc, number)? {
-            counter.weigh(alloc, work, places, &slots, &graph)?;
-        }
+    let mut walk = space.walk(alloc, from, to)?;
+    while walk.next(alloc)?.is_some() {
+        counter.weigh(alloc, work, places, &slots, walk.graph())?;
     }
     Ok(counter)
 }

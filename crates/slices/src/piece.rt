@@ -1,11 +1,14 @@
 //! Pieces of a work's numbers, and what is found of them.
 
 ghost use Rattle.std.specs.Prelude.{◌≡◌, IfOk};
+ghost use Rattle.candidates.specs.Candidates.{choices_of};
 ghost use Rattle.slices.specs.Parts.{IsPart, IsRange};
 
 use crate::counter::count;
 use crate::finding::{Finding, FindingRef};
-use crate::work::WorkRef;
+use crate::span::Span;
+use crate::work::{Work, WorkRef};
+use candidates::Space;
 use conditions::observed;
 use std::alloc::{AllocError, Global};
 use std::marker::Model;
@@ -58,20 +61,46 @@ impl Model for PieceResult {
 pub fn evaluate(alloc: Global, piece: &Piece) -> Result<PieceResult, AllocError>
     ensures { IfOk result (λ r. r.piece ≡ piece.now) }
 {
+    let space = space_of(alloc, piece.work.work())?;
+    evaluate_in(alloc, &space, piece)
+}
+
+/// The numbered candidates of a work's test.
+pub fn space_of(alloc: Global, work: &Work) -> Result<Space, AllocError>
+    ensures { IfOk result (λ s. s ≡ choices_of work.now.test) }
+{
+    match Space::new(alloc, work.test()) {
+        Ok(space) => Ok(space),
+        Err(_) => Err(AllocError),
+    }
+}
+
+/// Evaluates a piece over the candidates of its test.
+pub fn evaluate_in(alloc: Global, space: &Space, piece: &Piece) -> Result<PieceResult, AllocError>
+    requires { space.now ≡ choices_of piece.now.work.test }
+    ensures { IfOk result (λ r. r.piece ≡ piece.now) }
+{
     let piece = piece.share()?;
-    let finding = find(alloc, &piece.work, piece.from, piece.to)?;
+    let finding = find(alloc, &piece.work, space, piece.from, piece.to)?;
     let found = FindingRef::new(alloc, finding)?;
     Ok(PieceResult::new(piece, found))
 }
 
 /// What is found at the numbers from `from` to `to - 1` of a work.
-fn find(alloc: Global, work: &WorkRef, from: u64, to: u64) -> Result<Finding, AllocError>
-    requires { IsRange work.now.test from to }
+fn find(
+    alloc: Global,
+    work: &WorkRef,
+    space: &Space,
+    from: u64,
+    to: u64,
+) -> Result<Finding, AllocError>
+    requires range { IsRange work.now.test from to }
+    requires space { space.now ≡ choices_of work.now.test }
     ensures { IfOk result (IsPart work.now.test work.now.model.items from to) }
 {
     let test = work.work().test();
     let places = observed(alloc, test.condition(), test.listed())?;
-    let counter = count(alloc, work.work(), &places, from, to)?;
+    let counter = count(alloc, work.work(), space, &places, from, to)?;
     Finding::new(alloc, work.share()?, places, counter)
 }
 
@@ -124,6 +153,17 @@ impl Piece {
         ensures { result ≡ self.now.to }
     {
         self.to
+    }
+
+    /// Its numbers.
+    pub fn span(&self) -> Span
+        ensures value { result ≡ record { from = self.now.from; to = self.now.to } }
+        ensures range { IsRange self.now.work.test self.now.from self.now.to }
+    {
+        Span {
+            from: self.from,
+            to: self.to,
+        }
     }
 
     /// The work.

@@ -1,8 +1,10 @@
 //! Final states as values.
 
-ghost use Rattle.std.specs.Prelude.{◌≡◌};
+ghost use Rattle.std.specs.Prelude.{◌≡◌, IfOk};
 
+use std::alloc::AllocError;
 use std::cmp::Ordering;
+use std::hash::{Hash, Hasher};
 use std::marker::Model;
 
 /// A final state: the values at the observed places, in their order. Contracts see the values.
@@ -33,6 +35,15 @@ impl Row {
     {
         &self.values
     }
+
+    /// The same state again.
+    pub fn copy(&self) -> Result<Self, AllocError>
+        ensures { IfOk result (λ r. r ≡ self.now) }
+    {
+        Ok(Row {
+            values: self.values.clone()?,
+        })
+    }
 }
 
 impl PartialEq for Row {
@@ -54,6 +65,20 @@ impl Eq for Row {
     ghost use Rattle.std.specs.Cmp.Rules.{comparing};
 
     ghost laws = { Prim.search (comparing, rules) };
+}
+
+impl Hash for Row {
+    ghost use Rattle.std.proofs.Common.{rules};
+    ghost use Rattle.std.specs.Cmp.Rules.{hashing};
+    ghost use Rattle.std.specs.Hash as fed;
+
+    ghost hash_input = { fed.slice fed.u32 };
+
+    ghost respects_eq = { Prim.search (hashing, rules) };
+
+    fn hash<H: Hasher>(&self, state: &mut H) {
+        self.values.as_slice().hash(state);
+    }
 }
 
 /// By their values as numbers, the first place first.

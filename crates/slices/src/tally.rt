@@ -1,43 +1,56 @@
-//! The results of a job's slices, put together.
+//! The results of a work's slices, put together.
 
-ghost use Rattle.std.specs.Prelude.{◌≡◌, ◌++◌, ◌∷◌, [], IfOk, IfErr, OnOk, OnErr, length};
-ghost use Rattle.slices.specs.Judgements.{IsWhole};
-ghost use Rattle.slices.specs.Parts.{IsOver};
+ghost use Rattle.std.specs.Prelude.{◌≡◌, ◌++◌, ◌∷◌, ◌+◌, [], ◌<◌, ◌≤◌, IfOk, IfErr, OnOk, OnErr};
+ghost use Rattle.candidates.specs.Candidates.{choices_of};
+ghost use Rattle.slices.specs.Parts.{test_size};
+ghost use Rattle.slices.specs.Tallies.{IsApart, IsCover, IsTally, cut, span_of};
 ghost use Rattle.slices.specs.Verdicts.{IsVerdict};
 
-use crate::piece::{Piece, PieceResult, evaluate};
+use crate::finding::{Finding, FindingRef};
+use crate::piece::{Piece, PieceResult, evaluate_in, space_of};
+use crate::span::{Span, cut};
+use crate::sum::Sum;
 use crate::verdict::Verdict;
 use crate::work::WorkRef;
-use std::alloc::{AllocError, AllocFailed, Global};
+use candidates::laws;
+use conditions::observed;
+use std::alloc::{AllocError, Global};
 use std::marker::Model;
 
-/// The results of a work so far. It keeps them as they came.
+/// The results of a work so far: their counts, states and flags put together, and their ranges, in which no number stands
+/// twice. Contracts see the work and the ranges.
 #[derive(Drop)]
 pub struct Tally {
     work: WorkRef,
-    parts: Vec<PieceResult>,
+    spans: Vec<Span>,
+    sum: Sum,
 }
 
 impl Model for Tally {
     ghost use Rattle.slices.specs.Codes.{coded_results};
-    ghost use Rattle.slices.specs.Judgements.{Results};
+    ghost use Rattle.slices.specs.Tallies.{IsTally, Results};
 
     ghost Value = { Results };
 
     ghost coded = { coded_results };
 
-    ghost view = { λ t. record { work = t.work; parts = t.parts.items } };
+    ghost view = { λ t. record { work = t.work; spans = t.spans.items } };
+
+    ghost invariant = { λ t. IsTally t.work.test t.work.model.items t.spans.items t.sum };
 }
 
 impl Tally {
     /// A tally of no result.
-    pub fn new(alloc: Global, work: WorkRef) -> Self
-        ensures { result ≡ record { work = work; parts = [] } }
+    pub fn new(alloc: Global, work: WorkRef) -> Result<Self, AllocError>
+        ensures { IfOk result (λ t. t ≡ record { work = work; spans = [] }) }
     {
-        Tally {
+        let test = work.work().test();
+        let _places = observed(alloc, test.condition(), test.listed())?;
+        Ok(Tally {
             work,
-            parts: Vec::new(alloc),
-        }
+            spans: Vec::new(alloc),
+            sum: Sum::new(alloc),
+        })
     }
 
     /// The work.
@@ -47,55 +60,112 @@ impl Tally {
         &self.work
     }
 
-    /// The results so far.
-    pub fn parts(&self) -> &[PieceResult]
-        ensures { result.now ≡ self.now.parts }
+    /// The ranges of the results so far, in the order in which they came.
+    pub fn spans(&self) -> &[Span]
+        ensures { result.now ≡ self.now.spans }
     {
-        &self.parts
+        &self.spans
     }
 
-    /// Adds a result, or hands it back.
-    #[tactic(auto, using(crate::proofs::Whole::first_whole))]
+    /// Adds a result, or hands it back. It costs one pass over the result's own states.
     pub fn merge(&mut self, part: PieceResult) -> Result<(), (PieceResult, AllocError)>
-        requires { part.piece.work ≡ self.old.work }
+        requires work { part.piece.work ≡ self.old.work }
+        requires apart { IsApart (span_of part) self.old.spans }
         ensures merged { OnOk result
-            (self.new ≡ record self.old { parts = self.old.parts ++ part ∷ [] }) }
+            (self.new ≡ record self.old { spans = self.old.spans ++ span_of part ∷ [] }) }
         ensures same { OnErr result (self.new ≡ self.old) }
         ensures back { IfErr result (λ e. e.0 ≡ part) }
-        // The first result, where it is over all numbers, is the whole.
-        ensures whole { self.old.parts ≡ [] → IsOver self.old.work part → OnOk result (IsWhole self.new) }
     {
-        match self.parts.push(part) {
+        match self.add(&part) {
             Ok(()) => Ok(()),
-            Err(AllocFailed { value, .. }) => Err((value, AllocError)),
+            Err(AllocError) => Err((part, AllocError)),
         }
     }
 
-    /// The verdict on the work, where one result is over all its numbers.
+    fn add(&mut self, part: &PieceResult) -> Result<(), AllocError>
+        requires work { part.now.piece.work ≡ self.old.work }
+        requires apart { IsApart (span_of part.now) self.old.spans }
+        ensures merged { OnOk result
+            (self.new ≡ record self.old { spans = self.old.spans ++ span_of part.now ∷ [] }) }
+        ensures same { OnErr result (self.new ≡ self.old) }
+    {
+        laws::numbering();
+        let alloc = *self.spans.allocator();
+        let _size = self.work.work().size();
+        let piece = part.piece();
+        let span = piece.span();
+        self.spans.push(span)?;
+        match self.sum.add(alloc, part.found().finding()) {
+            Ok(()) => Ok(()),
+            Err(AllocError) => {
+                self.spans.pop();
+                Err(AllocError)
+            }
+        }
+    }
+
+    /// The verdict on the work, where the results are over all its numbers. It costs one pass over the distinct states.
     pub fn verdict(&self, test_version: u32) -> Result<Verdict, AllocError>
-        requires { IsWhole self.now }
+        requires { IsCover (test_size self.now.work.test) self.now.spans }
         ensures work { IfOk result (λ v. v.work ≡ self.now.work) }
         ensures version { IfOk result (λ v. v.version ≡ test_version) }
         ensures right { IfOk result (λ v. IsVerdict v.work.test v.work.model.items v.outcome) }
     {
-        Verdict::of(&self.work, test_version, &self.parts[0])
+        let alloc = *self.spans.allocator();
+        let found = FindingRef::new(alloc, self.finding(alloc)?)?;
+        Ok(Verdict::new(self.work.share()?, test_version, found))
+    }
+
+    /// What is found over all numbers.
+    fn finding(&self, alloc: Global) -> Result<Finding, AllocError>
+        requires { IsCover (test_size self.now.work.test) self.now.spans }
+        ensures { IfOk result (IsVerdict self.now.work.test self.now.work.model.items) }
+    {
+        laws::numbering();
+        let work = self.work.work();
+        let _size = work.size();
+        let test = work.test();
+        let places = observed(alloc, test.condition(), test.listed())?;
+        let counter = self.sum.sorted(alloc)?;
+        Finding::new(alloc, self.work.share()?, places, counter)
     }
 }
 
 impl Verdict {
-    /// The verdict on a work, whose numbers are evaluated in one piece.
-    pub fn judge(alloc: Global, work: WorkRef, test_version: u32) -> Result<Self, AllocError>
+    /// The verdict on a work, whose numbers are evaluated in so many slices, one after another.
+    pub fn judge(
+        alloc: Global,
+        work: WorkRef,
+        total: u16,
+        test_version: u32,
+    ) -> Result<Self, AllocError>
+        requires { (1 ≤ total) × (total ≤ 256) }
         ensures work { IfOk result (λ v. v.work ≡ work) }
         ensures version { IfOk result (λ v. v.version ≡ test_version) }
         ensures right { IfOk result (λ v. IsVerdict v.work.test v.work.model.items v.outcome) }
     {
-        let size = work.work().size();
-        let piece = Piece::new(1, 1, 0, 0, size, work.share()?);
-        let part = evaluate(alloc, &piece)?;
-        let mut tally = Tally::new(alloc, work);
-        match tally.merge(part) {
-            Ok(()) => tally.verdict(test_version),
-            Err((_, AllocError)) => Err(AllocError),
+        let space = space_of(alloc, work.work())?;
+        let mut tally = Tally::new(alloc, work.share()?)?;
+        for slice in 0..total {
+            let part = evaluate_in(alloc, &space, &slice_of(&work, total, slice)?)?;
+            match tally.merge(part) {
+                Ok(()) => {}
+                Err((_, AllocError)) => return Err(AllocError),
+            }
         }
+        tally.verdict(test_version)
     }
+}
+
+/// A slice of a work that is cut into so many.
+fn slice_of(work: &WorkRef, total: u16, slice: u16) -> Result<Piece, AllocError>
+    requires { slice < total }
+    ensures work { IfOk result (λ p. p.work ≡ work.now) }
+    ensures from { IfOk result (λ p. p.from ≡ cut (test_size work.now.test) total slice) }
+    ensures to { IfOk result (λ p. p.to ≡ cut (test_size work.now.test) total (slice + 1)) }
+{
+    let size = work.work().size();
+    let from = cut(size, total, slice);
+    let to = cut(size, total, slice + 1);
+    Ok(Piece::new(1, 1, slice, from, to, work.share()?))
 }

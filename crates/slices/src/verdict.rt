@@ -2,18 +2,17 @@
 
 ghost use Rattle.std.specs.Prelude.{◌≡◌, IfOk};
 ghost use Rattle.slices.specs.Outcomes.{is_ok};
-ghost use Rattle.slices.specs.Parts.{IsOver};
 ghost use Rattle.slices.specs.Outcomes.{word};
 ghost use Rattle.slices.specs.Verdicts.{IsVerdict};
 
 use crate::finding::{Finding, FindingRef};
-use crate::piece::PieceResult;
+use crate::row::Row;
 use crate::work::WorkRef;
-use candidates::laws;
 use cat_model::FileVersion;
 use std::alloc::{AllocError, Global};
 use std::marker::Model;
 use std::sync::Arc;
+use wb_text::Name;
 
 /// The verdict on a work: it is right for the work's test under its model.
 #[derive(Drop)]
@@ -74,21 +73,23 @@ impl VerdictRef {
 }
 
 impl Verdict {
-    /// What a result over all numbers of a work says.
-    pub fn of(work: &WorkRef, version: u32, part: &PieceResult) -> Result<Self, AllocError>
-        requires { IsOver work.now part.now }
-        ensures work { IfOk result (λ v. v.work ≡ work.now) }
-        ensures version { IfOk result (λ v. v.version ≡ version) }
-        ensures outcome { IfOk result (λ v. v.outcome ≡ part.now.found) }
-        ensures right { IfOk result (λ v. IsVerdict v.work.test v.work.model.items v.outcome) }
+    pub(crate) fn new(work: WorkRef, version: u32, found: FindingRef) -> Self
+        requires { IsVerdict work.test work.model.items found }
+        ensures { result ≡ record { work = work; version = version; outcome = found } }
     {
-        laws::counting();
-        let _size = work.work().size();
-        Ok(Verdict {
-            work: work.share()?,
+        Verdict {
+            work,
             version,
-            found: part.found().share()?,
-        })
+            found,
+        }
+    }
+
+    /// The name of the test.
+    pub fn name(&self) -> &Name
+        ensures name { result.now ≡ self.now.outcome.name }
+        ensures test { result.now ≡ self.now.work.test.name }
+    {
+        self.work.work().test().name()
     }
 
     /// The work that was judged.
@@ -105,8 +106,8 @@ impl Verdict {
         self.version
     }
 
-    /// The files of the model, with their versions.
-    pub fn files(&self) -> &[FileVersion]
+    /// The files of the model with their versions, the root first.
+    pub fn versions(&self) -> &[FileVersion]
         ensures { result.now ≡ self.now.work.model.files }
     {
         self.work.work().model().files()
@@ -118,6 +119,34 @@ impl Verdict {
         ensures right { IsVerdict self.now.work.test self.now.work.model.items self.now.outcome }
     {
         self.found.finding()
+    }
+
+    /// How many executions have the proposition.
+    pub fn positive(&self) -> u64
+        ensures { result ≡ self.now.outcome.positive }
+    {
+        self.found.finding().positive()
+    }
+
+    /// How many executions don't have it.
+    pub fn negative(&self) -> u64
+        ensures { result ≡ self.now.outcome.negative }
+    {
+        self.found.finding().negative()
+    }
+
+    /// The final states, once each, in order.
+    pub fn states(&self) -> &[Row]
+        ensures { result.now ≡ self.now.outcome.states }
+    {
+        self.found.finding().states()
+    }
+
+    /// The names of the flags that were raised, once each, in order of their bytes.
+    pub fn flags(&self) -> &[Name]
+        ensures { result.now ≡ self.now.outcome.flags }
+    {
+        self.found.finding().flags()
     }
 
     /// Whether the answer to the test's question is yes.

@@ -1,7 +1,6 @@
 //! What is evaluated: a test under a model.
 
 ghost use Rattle.std.specs.Prelude.{◌≡◌, ◌↔◌, IsTrue, IfOk, IfErr};
-ghost use Rattle.candidates.specs.Candidates.{choices_of};
 ghost use Rattle.candidates.specs.Faults.{IsSpaceFault};
 ghost use Rattle.slices.specs.Parts.{IsAdmitted, test_size};
 
@@ -29,18 +28,17 @@ impl std::marker::Model for TestRef {
     ghost view = { λ t. arc_value t.test };
 }
 
-/// A test under a model. It holds the numbered candidates of the test, so that a piece of them can be evaluated.
+/// A test under a model, and how many numbers the test has.
 #[derive(Drop)]
 pub struct Work {
     test: TestRef,
     model: Model,
-    space: Space,
+    size: u64,
 }
 
 impl std::marker::Model for Work {
     ghost use Rattle.std.specs.Prelude.{◌≡◌};
-    ghost use Rattle.candidates.specs.Candidates.{choices_of};
-    ghost use Rattle.slices.specs.Parts.{IsAdmitted};
+    ghost use Rattle.slices.specs.Parts.{IsAdmitted, test_size};
     ghost use Rattle.slices.specs.Works.{Task};
     ghost use Rattle.slices.specs.Codes.{coded_task};
 
@@ -50,7 +48,7 @@ impl std::marker::Model for Work {
 
     ghost view = { λ w. record { test = w.test; model = w.model } };
 
-    ghost invariant = { λ w. (w.space ≡ choices_of w.test) × IsAdmitted w.test };
+    ghost invariant = { λ w. (w.size ≡ test_size w.test) × IsAdmitted w.test };
 }
 
 /// A work that is kept more than once. Contracts see the work.
@@ -100,7 +98,20 @@ impl TestRef {
 
 impl Work {
     /// The test under the model.
-    pub fn new(alloc: Global, test: TestRef, model: Model) -> Result<Self, SpaceFault>
+    pub fn new(alloc: Global, test: Test, model: Model) -> Result<Self, SpaceFault>
+        ensures work { IfOk result (λ w. w ≡ record { test = test; model = model }) }
+        ensures admitted { IfOk result (λ w. IsAdmitted w.test) }
+        // A thread has too many runs, the test has too many candidates, or memory ran out.
+        ensures fault { IfErr result (IsSpaceFault test) }
+    {
+        match TestRef::new(alloc, test) {
+            Ok(test) => Work::of(alloc, test, model),
+            Err(AllocError) => Err(SpaceFault::NoMemory),
+        }
+    }
+
+    /// The test, which is kept elsewhere too, under the model.
+    pub fn of(alloc: Global, test: TestRef, model: Model) -> Result<Self, SpaceFault>
         ensures work { IfOk result (λ w. w ≡ record { test = test; model = model }) }
         ensures admitted { IfOk result (λ w. IsAdmitted w.test) }
         // A thread has too many runs, the test has too many candidates, or memory ran out.
@@ -108,9 +119,23 @@ impl Work {
     {
         let tree = test.test();
         match Space::new(alloc, tree) {
-            Ok(space) => Ok(Work { test, model, space }),
+            Ok(space) => {
+                let size = space.size();
+                Ok(Work { test, model, size })
+            }
             Err(fault) => Err(fault),
         }
+    }
+
+    /// The same test under another model. Its runs aren't made again.
+    pub fn like(&self, model: Model) -> Result<Self, AllocError>
+        ensures { IfOk result (λ w. w ≡ record self.now { model = model }) }
+    {
+        Ok(Work {
+            test: self.test.share()?,
+            model,
+            size: self.size,
+        })
     }
 
     /// The test.
@@ -132,15 +157,7 @@ impl Work {
         ensures size { result ≡ test_size self.now.test }
         ensures admitted { IsAdmitted self.now.test }
     {
-        self.space.size()
-    }
-
-    /// The numbered candidates of the test.
-    pub fn space(&self) -> &Space
-        ensures space { result.now ≡ choices_of self.now.test }
-        ensures admitted { IsAdmitted self.now.test }
-    {
-        &self.space
+        self.size
     }
 }
 

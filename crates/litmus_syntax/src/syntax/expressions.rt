@@ -2,38 +2,16 @@
 
 ghost use Rattle.std.specs.Prelude.{◌≡◌, Some, None, IfOk, IfSome, IfNone, MatchOption};
 ghost use Rattle.std.proofs.Common.{suc};
-ghost use Rattle.litmus_syntax.specs.Grammar.{joined};
 ghost use Rattle.litmus_syntax.specs.Reading.{Gives, operator_at, unary_with, operands, level_with, terms_below, expression_at};
 ghost use Rattle.litmus_tree.specs.Tree.{term_of};
 
-use crate::operator::Operator;
 use crate::symbol::{Symbol, Terminal};
 use crate::syntax::Reader;
 use crate::syntax_fault::SyntaxFault;
-use litmus_tree::Expression;
-use std::alloc::{AllocError, Global};
+use litmus_tree::{Expression, Leaf, Operator};
 
 /// How many levels of operators there are.
 const LEVELS: u32 = 3;
-
-/// The expression that an operator makes of its operands.
-fn join(
-    alloc: Global,
-    operator: Operator,
-    left: Expression,
-    right: Expression,
-) -> Result<Expression, AllocError>
-    ensures { IfOk result (λ e. term_of e ≡ joined operator (term_of left) (term_of right)) }
-{
-    let left = Box::new(alloc, left)?;
-    let right = Box::new(alloc, right)?;
-    Ok(match operator {
-        Operator::Equal => Expression::Equal(left, right),
-        Operator::Unequal => Expression::Unequal(left, right),
-        Operator::Both => Expression::And(left, right),
-        Operator::Either => Expression::Or(left, right),
-    })
-}
 
 impl<'a> Reader<'a> {
     /// Takes the operator of a level, if it comes next.
@@ -71,7 +49,7 @@ impl<'a> Reader<'a> {
     pub(super) fn expression(&mut self, nesting: u32) -> Result<Expression, SyntaxFault>
         ensures { Gives term_of result self.new.rest.now (expression_at nesting self.old.rest.now) }
     {
-        self.level(LEVELS, nesting)
+        Ok(self.level(LEVELS, nesting)?.trimmed())
     }
 
     /// level 0 := unary; level k + 1 := level k {operator of level k} level k
@@ -95,7 +73,7 @@ impl<'a> Reader<'a> {
         let mut left = self.level(level, nesting)?;
         while let Some(operator) = self.operator(level) {
             let right = self.level(level, nesting)?;
-            left = join(self.alloc, operator, left, right)?;
+            left = left.joined(operator, right)?;
         }
         Ok(left)
     }
@@ -113,17 +91,17 @@ impl<'a> Reader<'a> {
             Symbol::Name(register) => {
                 let register = register.copy()?;
                 self.rest = rest;
-                Ok(Expression::Register(register))
+                Ok(Expression::leaf(self.alloc, Leaf::Register(register)))
             }
             Symbol::Number(number) => {
                 self.rest = rest;
-                Ok(Expression::Number(*number))
+                Ok(Expression::leaf(self.alloc, Leaf::Number(*number)))
             }
             Symbol::Fixed(Terminal::Bang) => {
                 let nesting = self.deeper(nesting)?;
                 self.rest = rest;
                 let operand = self.unary(nesting)?;
-                Ok(Expression::Not(Box::new(self.alloc, operand)?))
+                Ok(operand.denied()?)
             }
             Symbol::Fixed(Terminal::LeftParen) => {
                 let nesting = self.deeper(nesting)?;

@@ -1,21 +1,13 @@
 //! Conditions.
 
-ghost use Rattle.std.specs.Prelude.{◌≡◌, Some, None, MatchBool, IfOk};
+ghost use Rattle.std.specs.Prelude.{◌≡◌, Some, None, MatchBool};
 ghost use Rattle.conditions.specs.Conditions.{formula_of};
 ghost use Rattle.litmus_syntax.specs.Reading.{Gives, equation_at, denial, plain_atomic_at, denied_with, enclosed_with, atomic_with, conjunction_with, or_with, proposition_with, propositions_below, kind_of_at, condition_at};
 
 use crate::symbol::Terminal;
 use crate::syntax::Reader;
 use crate::syntax_fault::SyntaxFault;
-use conditions::{Cond, Kind, Prop};
-use std::alloc::{AllocError, Global};
-
-/// Both operands, each in a box.
-fn boxed(alloc: Global, left: Prop, right: Prop) -> Result<(Box<Prop>, Box<Prop>), AllocError>
-    ensures { IfOk result (λ p. (p.0.value ≡ left) × (p.1.value ≡ right)) }
-{
-    Ok((Box::new(alloc, left)?, Box::new(alloc, right)?))
-}
+use conditions::{Atom, Cond, Connective, Kind, Prop};
 
 impl<'a> Reader<'a> {
     /// place "=" number
@@ -25,7 +17,8 @@ impl<'a> Reader<'a> {
     {
         let place = self.place()?;
         self.expect(Terminal::Assign)?;
-        Ok(Prop::Equals(place, self.number()?))
+        let value = self.number()?;
+        Ok(Prop::atom(self.alloc, Atom::Equals(place, value)))
     }
 
     /// Takes "~" or "not".
@@ -45,10 +38,10 @@ impl<'a> Reader<'a> {
         ensures { Gives formula_of result self.new.rest.now (plain_atomic_at self.old.rest.now) }
     {
         if self.take(Terminal::True) {
-            return Ok(Prop::True);
+            return Ok(Prop::atom(self.alloc, Atom::True));
         }
         if self.take(Terminal::False) {
-            return Ok(Prop::False);
+            return Ok(Prop::atom(self.alloc, Atom::False));
         }
         self.equation()
     }
@@ -61,8 +54,8 @@ impl<'a> Reader<'a> {
     {
         if self.take_denial() {
             let nesting = self.deeper(nesting)?;
-            let denied = self.atomic(nesting)?;
-            return Ok(Prop::Not(Box::new(self.alloc, denied)?));
+            let operand = self.atomic(nesting)?;
+            return Ok(operand.denied()?);
         }
         if !self.take(Terminal::LeftParen) {
             return self.plain_atomic();
@@ -81,8 +74,7 @@ impl<'a> Reader<'a> {
         let mut left = self.atomic(nesting)?;
         while self.take(Terminal::And) {
             let right = self.atomic(nesting)?;
-            let (first, second) = boxed(self.alloc, left, right)?;
-            left = Prop::And(first, second);
+            left = left.joined(Connective::And, right)?;
         }
         Ok(left)
     }
@@ -96,8 +88,7 @@ impl<'a> Reader<'a> {
         let mut left = self.conjunction(nesting)?;
         while self.take(Terminal::Or) {
             let right = self.conjunction(nesting)?;
-            let (first, second) = boxed(self.alloc, left, right)?;
-            left = Prop::Or(first, second);
+            left = left.joined(Connective::Or, right)?;
         }
         Ok(left)
     }
@@ -114,8 +105,7 @@ impl<'a> Reader<'a> {
         }
         let nesting = self.deeper(nesting)?;
         let right = self.proposition(nesting)?;
-        let (first, second) = boxed(self.alloc, left, right)?;
-        Ok(Prop::Implies(first, second))
+        Ok(left.joined(Connective::Implies, right)?)
     }
 
     /// kind := "exists" | ("~" | "not") "exists" | "forall"
@@ -140,6 +130,6 @@ impl<'a> Reader<'a> {
         ensures { Gives (λ c. c) result self.new.rest.now (condition_at nesting self.old.rest.now) }
     {
         let kind = self.kind_of()?;
-        Ok(Cond::new(kind, self.proposition(nesting)?))
+        Ok(Cond::new(kind, self.proposition(nesting)?.trimmed()))
     }
 }

@@ -3,7 +3,8 @@
 ghost use Rattle.std.specs.Prelude.{◌≡◌, map, IfOk};
 ghost use Rattle.litmus_tree.specs.Tree.{term_of, action_of, right_of, declared_of, if_else, step_of, steps_of};
 
-use crate::tree::{Call, Declarator, Expression, Parameter, RightSide, Statement, Thread};
+use crate::expression::Expression;
+use crate::tree::{Call, Declarator, Parameter, RightSide, Statement, Thread};
 use indexmap::IndexSet;
 use std::alloc::{AllocError, Global};
 use wb_text::Name;
@@ -18,42 +19,6 @@ impl Parameter {
             kind: self.kind,
         })
     }
-}
-
-impl Expression {
-    /// A second expression that is equal. Each box is made where its first lies.
-    #[cycle(copying_expressions)]
-    pub fn copy(&self) -> Result<Expression, AllocError>
-        ensures { IfOk result (λ e. term_of e ≡ term_of self.now) }
-    {
-        match self {
-            Expression::Number(number) => Ok(Expression::Number(*number)),
-            Expression::Register(register) => Ok(Expression::Register(register.copy()?)),
-            Expression::Not(a) => Ok(Expression::Not(boxed_expression(a)?)),
-            Expression::Equal(a, b) => Ok(Expression::Equal(
-                boxed_expression(a)?,
-                boxed_expression(b)?,
-            )),
-            Expression::Unequal(a, b) => Ok(Expression::Unequal(
-                boxed_expression(a)?,
-                boxed_expression(b)?,
-            )),
-            Expression::And(a, b) => {
-                Ok(Expression::And(boxed_expression(a)?, boxed_expression(b)?))
-            }
-            Expression::Or(a, b) => Ok(Expression::Or(boxed_expression(a)?, boxed_expression(b)?)),
-        }
-    }
-}
-
-/// A box of an equal expression, from the same allocator. It isn't inlined, which keeps the stack that a long chain of
-/// operators takes small.
-#[cycle(copying_expressions)]
-#[inline(never)]
-fn boxed_expression(first: &Box<Expression>) -> Result<Box<Expression>, AllocError>
-    ensures { IfOk result (λ b. term_of b.value ≡ term_of first.now.value) }
-{
-    Ok(Box::new(*Box::allocator(first), first.copy()?)?)
 }
 
 impl Call {

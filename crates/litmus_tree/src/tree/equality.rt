@@ -3,11 +3,11 @@
 ghost use Rattle.std.specs.Prelude.{◌≡◌, ◌↔◌, IsTrue, map};
 ghost use Rattle.std.specs.Cmp.{partial_equiv_from_equiv};
 ghost use Rattle.std.specs.Cmp.Lexicographic.{pointwise};
-ghost use Rattle.litmus_tree.specs.Equality.{same_parameter, same_term, same_action, same_right, same_declared, same_step, same_steps, same_program};
-ghost use Rattle.litmus_tree.specs.Exact.{parameter_equivalence, term_equivalence, action_equivalence, right_equivalence, declared_equivalence, step_equivalence, program_equivalence};
-ghost use Rattle.litmus_tree.specs.Tree.{term_of, action_of, right_of, declared_of, step_of, steps_of};
+ghost use Rattle.litmus_tree.specs.Equality.{same_parameter, same_action, same_right, same_declared, same_step, same_steps, same_program};
+ghost use Rattle.litmus_tree.specs.Exact.{parameter_equivalence, action_equivalence, right_equivalence, declared_equivalence, step_equivalence, program_equivalence};
+ghost use Rattle.litmus_tree.specs.Tree.{action_of, right_of, declared_of, step_of, steps_of};
 
-use crate::tree::{Call, Declarator, Expression, Parameter, RightSide, Statement, Thread};
+use crate::tree::{Call, Declarator, Parameter, RightSide, Statement, Thread};
 
 impl PartialEq for Parameter {
     ghost eq = { same_parameter };
@@ -25,33 +25,6 @@ impl PartialEq for Parameter {
 
 impl Eq for Parameter {
     ghost laws = { parameter_equivalence };
-}
-
-impl PartialEq for Expression {
-    ghost eq = { λ a b. same_term (term_of a) (term_of b) };
-
-    ghost laws = { partial_equiv_from_equiv term_equivalence };
-
-    #[tactic(auto, using(crate::specs::Exact::term_exact))]
-    fn eq(&self, other: &Expression) -> bool
-        ensures value { result ≡ same_term (term_of self.now) (term_of other.now) }
-        ensures exact { IsTrue result ↔ (term_of self.now ≡ term_of other.now) }
-    {
-        match (self, other) {
-            (Expression::Number(number), Expression::Number(other)) => number == other,
-            (Expression::Register(register), Expression::Register(other)) => register == other,
-            (Expression::Not(a), Expression::Not(b)) => **a == **b,
-            (Expression::Equal(a, b), Expression::Equal(c, d))
-            | (Expression::Unequal(a, b), Expression::Unequal(c, d))
-            | (Expression::And(a, b), Expression::And(c, d))
-            | (Expression::Or(a, b), Expression::Or(c, d)) => **a == **c && **b == **d,
-            _ => false,
-        }
-    }
-}
-
-impl Eq for Expression {
-    ghost laws = { term_equivalence };
 }
 
 impl PartialEq for Call {

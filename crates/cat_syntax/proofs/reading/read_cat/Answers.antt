@@ -2,7 +2,7 @@ use Rattle.std.proofs.Common.{◌≡◌, sym, subst, ◌∙◌, ap}
 use Rattle.wb_text.specs.declared.fault.TextFault.TheVariants as texts
 use Rattle.cat_syntax.specs.Items.{IsFile}
 use Rattle.cat_syntax.specs.Symbols.{symbols_of}
-use Rattle.cat_syntax.proofs.Whole.{no_memory, refused}
+use Rattle.cat_syntax.proofs.Whole.{no_memory, refused, text_refused}
 use Rattle.cat_syntax.proofs.reading.read_cat.Goals as goal
 
 pub returns-in_err-tokens-clause-only : goal.returns-in_err-tokens-clause-only
@@ -22,3 +22,6 @@ returns-clause-cause c =
     refused c.args.text.now c.in_ok-tokens.tokens.items c.deref-3.result.now c.deref-2.result.now c.read_symbols.result c.in_ok-tokens.ensures.found
     (c.deref-2.ensures.value ∙ c.in_ok-symbols.ensures ∙ ap (symbols_of c.args.text.now) c.deref.ensures.value) c.deref-3.ensures.value
     c.read_symbols.ensures.told (returns-clause-only c)
+
+pub returns-in_err-tokens-clause-cause : goal.returns-in_err-tokens-clause-cause
+returns-in_err-tokens-clause-cause c = text_refused c.args.text.now c.from_residual.result c.in_err-tokens.field-0.0 c.from_residual.ensures.1 c.in_err-tokens.ensures.cause

@@ -1,6 +1,3 @@
-use Rattle.std.proofs.Common.{sym, subst}
-use Rattle.litmus_c.specs.Reads.{Reads}
-use Rattle.litmus_tree.specs.Tree.{Litmus}
 use Rattle.one_test.proofs.Answered.{test_refusal, cat_refusal, model_refusal, space_refusal}
 use Rattle.one_test.proofs.summary.judge.Goals as goal
 
@@ -11,7 +8,7 @@ returns-in_err-test-clause-refusal c =
 pub returns-in_err-file-clause-refusal : goal.returns-in_err-file-clause-refusal
 returns-in_err-file-clause-refusal c =
     cat_refusal c.args.text.now c.args.cat.now _ _ c.from_residual-in_err-file.result c.from_residual-in_err-file.ensures.1
-    c.in_ok-test.ensures.found c.in_err-file.ensures.only
+    c.in_ok-test.ensures.found c.in_err-file.ensures.only c.in_err-file.ensures.cause
 
 pub returns-in_err-model-clause-refusal : goal.returns-in_err-model-clause-refusal
 returns-in_err-model-clause-refusal c =
@@ -20,7 +17,6 @@ returns-in_err-model-clause-refusal c =
 
 pub returns-in_err-work-clause-refusal : goal.returns-in_err-work-clause-refusal
 returns-in_err-work-clause-refusal c =
-    let P : Litmus → Type 0 = λ t. Reads c.args.text.now t in
-    space_refusal c.args.text.now c.args.cat.now c.in_ok-new.field-0 c.in_ok-model.model _ c.from_residual-in_err-work.result c.from_residual-in_err-work.ensures.1
-    (subst P (sym c.in_ok-new.ensures) c.in_ok-test.ensures.found)
+    space_refusal c.args.text.now c.args.cat.now c.in_ok-test.test c.in_ok-model.model _ c.from_residual-in_err-work.result c.from_residual-in_err-work.ensures.1
+    c.in_ok-test.ensures.found
     (c.in_ok-file.file, c.in_ok-file.ensures.found, c.in_ok-model.ensures.model) c.in_err-work.ensures.fault

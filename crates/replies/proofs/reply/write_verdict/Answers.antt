@@ -23,7 +23,7 @@ pub returns-in_err-write_files : goal.returns-in_err-write_files
 returns-in_err-write_files g c =
     let v = c.args.verdict.now in
     let files = flat_map file_text v.work.model.files in
-    let written = rw c.files.ensures at c.in_err-write_files.ensures in
+    let written = rw c.versions.ensures at c.in_err-write_files.ensures in
     exit _ _ _ _ c.from_residual-in_err-write_files.result (heading_text v) files (codes "\n" ++ outcome_text v) _ c.from_residual-in_err-write_files.ensures.0 c.in_ok-write_heading.ensures written
     (cut_first (heading_text v) files (codes "\n") (outcome_text v))
 
@@ -31,7 +31,7 @@ pub returns-in_err-give_all : goal.returns-in_err-give_all
 returns-in_err-give_all g c =
     let v = c.args.verdict.now in
     let files = flat_map file_text v.work.model.files in
-    let written = rw c.files.ensures at c.in_ok-write_files.ensures in
+    let written = rw c.versions.ensures at c.in_ok-write_files.ensures in
     exit _ _ _ _ c.from_residual-in_err-give_all.result (heading_text v ++ files) (codes "\n") (outcome_text v) _ c.from_residual-in_err-give_all.ensures.0 (Appends-trans _ _ _ _ _ c.in_ok-write_heading.ensures written)
     (c.in_err-give_all.ensures.partly, c.in_err-give_all.ensures.marked)
     (cut_third (heading_text v) files (codes "\n") (outcome_text v))
@@ -40,6 +40,6 @@ pub returns : goal.returns
 returns g c =
     let v = c.args.verdict.now in
     let files = flat_map file_text v.work.model.files in
-    let written = rw c.files.ensures at c.in_ok-write_files.ensures in
+    let written = rw c.versions.ensures at c.in_ok-write_files.ensures in
     after _ _ _ _ _ (heading_text v ++ files ++ codes "\n") (outcome_text v) _
     (Appends-trans _ _ _ _ _ (Appends-trans _ _ _ _ _ c.in_ok-write_heading.ensures written) c.in_ok-give_all.ensures.given) c.write_outcome.ensures refl

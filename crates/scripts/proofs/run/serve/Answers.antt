@@ -1,5 +1,5 @@
 use Rattle.orders.specs.declared.fault.ServeFault.TheVariants as faults
-use Rattle.scripts.proofs.Served.{served, unserved, from_start, line_from_start, too_long_from_start, read_on, kept_fault}
+use Rattle.scripts.proofs.Served.{served, unserved, from_start, too_long_from_start, read_on, kept_fault}
 use Rattle.scripts.proofs.run.serve.Goals as goal
 
 pub returns-in_err-script-clause-served : goal.returns-in_err-script-clause-served
@@ -19,9 +19,7 @@ returns-clause-served g c =
     served c.args.options.now.limits _ kept.limits kept.journal told.0 _ _ _ r c.entry_count.result closing.0 c.entry_count.ensures.legal
     c.answer_all-outcome.ensures.limits c.in_ok-sessions.ensures.limits told.1 told.4
     c.entry_count.ensures.count closing.1 closing.2
-    (from_start left r told.0 c.in_ok-script.ensures.block (read_on c.answer_all-outcome.result r told.0 end.done told.3))
-    (line_from_start left _ r told.0 c.in_ok-script.ensures.block c.in_ok-script.ensures.count
-    (λ n e. kept_fault r c.answer_all-outcome.result (faults.BadLine n) end.fault (λ w. cc) e) told.5)
+    (from_start left r told.0 c.in_ok-script.ensures.block c.in_ok-script.ensures.count (read_on c.answer_all-outcome.result r told.0 end.done end.fault told.3))
 
 pub returns-clause-read : goal.returns-clause-read
 returns-clause-read g c e =

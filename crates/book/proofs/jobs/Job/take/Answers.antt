@@ -1,6 +1,51 @@
-use Rattle.std.proofs.Common.{sym, subst}
-use Rattle.book.specs.Jobs.{Job, IsSole}
+use Rattle.std.proofs.Common.{◌≡◌, ◌∙◌, ap, sym, subst, Some}
+use Rattle.std.specs.Prelude.{slice_get}
+use Rattle.slices.specs.Parts.{Portion}
+use Rattle.slices.specs.Tallies.{span_of}
+use Rattle.book.specs.Jobs.{Job, marked}
+use Rattle.book.specs.Step.{HasRange}
+use Rattle.book.proofs.Results.{here_range, marked_again, apart, merged_tied, merged_shown}
 use Rattle.book.proofs.jobs.Job.take.Goals as goal
+use Rattle.book.proofs.jobs.Job.take.Goals.{in-Ok, in-Err}
+
+pub returns-then-slice-clause-ok : goal.returns-then-slice-clause-ok
+returns-then-slice-clause-ok c =
+    let p = c.args.part.piece in
+    let x = c.index-slice.result.now in
+    let place : c.slice-place.result ≡ p.slice = c.slice-place.ensures ∙ ap (λ (q : Portion). q.slice) c.piece.ensures in
+    let R : Job → Type 0 = λ j. HasRange (slice_get j.slices p.slice) p.from p.to in
+    let at = here_range c.self.inside.slices.items p.slice c.slice-place.result p.from p.to x place (subst R (sym c.self.view_is) c.requires.range) c.index-slice.ensures in
+    let G : Job → Type 0 = λ j. slice_get j.slices p.slice ≡ Some x in
+    marked_again c.args.self.now p.slice x (subst G c.self.view_is at.0) c.if-slice.true
+
+pub merge-requires-clause-apart : goal.merge-requires-clause-apart
+merge-requires-clause-apart c =
+    let p = c.args.part.piece in
+    let x = c.index-slice.result.now in
+    let place : c.slice-place.result ≡ p.slice = c.slice-place.ensures ∙ ap (λ (q : Portion). q.slice) c.piece.ensures in
+    let R : Job → Type 0 = λ j. HasRange (slice_get j.slices p.slice) p.from p.to in
+    let at = here_range c.self.inside.slices.items p.slice c.slice-place.result p.from p.to x place (subst R (sym c.self.view_is) c.requires.range) c.index-slice.ensures in
+    apart c.self.inside.tally c.self.inside.slices.items p.slice x (span_of c.args.part) c.self.invariant at.0 c.if-slice.false (sym at.1) (sym at.2)
 
 pub invariant_of-self : goal.invariant_of-self
-invariant_of-self c = let P : Job → Type 0 = λ j. IsSole j.work c.args.part in subst P (sym c.self.view_is) c.requires
+invariant_of-self c =
+    let p = c.args.part.piece in
+    let x = c.index-slice.result.now in
+    let place : c.slice-place.result ≡ p.slice = c.slice-place.ensures ∙ ap (λ (q : Portion). q.slice) c.piece.ensures in
+    let R : Job → Type 0 = λ j. HasRange (slice_get j.slices p.slice) p.from p.to in
+    let at = here_range c.self.inside.slices.items p.slice c.slice-place.result p.from p.to x place (subst R (sym c.self.view_is) c.requires.range) c.index-slice.ensures in
+    merged_tied c.self.inside.tally c.merge.new.self c.self.inside.slices.items p.slice c.slice-place.result x (span_of c.args.part) c.self.invariant at.0 place (sym at.1) (sym at.2) c.in-Ok.ensures.merged
+
+pub returns-clause-ok : goal.returns-clause-ok
+returns-clause-ok c =
+    let p = c.args.part.piece in
+    let x = c.index-slice.result.now in
+    let place : c.slice-place.result ≡ p.slice = c.slice-place.ensures ∙ ap (λ (q : Portion). q.slice) c.piece.ensures in
+    let R : Job → Type 0 = λ j. HasRange (slice_get j.slices p.slice) p.from p.to in
+    let at = here_range c.self.inside.slices.items p.slice c.slice-place.result p.from p.to x place (subst R (sym c.self.view_is) c.requires.range) c.index-slice.ensures in
+    elim c.match-merge.branch [
+      | in-Ok w ↦ (
+          let done : c.match-merge.self ≡ marked p.slice c.args.self.now = w.self-is ∙ merged_shown c.self.inside.number c.self.inside.version c.self.inside.tally c.merge.new.self c.self.inside.slices.items p.slice c.slice-place.result x (span_of c.args.part) at.0 place w.in-Ok.ensures.merged ∙ ap (marked p.slice) c.self.view_is in
+          rw w.result-is done)
+      | in-Err w ↦ rw w.result-is tt
+    ]

@@ -1,8 +1,9 @@
-use Rattle.std.proofs.Common.{◌≡◌, ◌≤◌, ◌+◌, sym, ap, subst, inr, arith, ◌∙◌, Ok, Err, codes}
+use Rattle.std.proofs.Common.{◌≡◌, ◌≤◌, ◌+◌, [], length, sym, ap, subst, inr, arith, ◌∙◌, Ok, Err, codes}
+use Rattle.std.specs.Prelude.{OnOk}
 use Rattle.orders.specs.Lines.{ahead, Grows, IsNextLine}
 use Rattle.orders.specs.declared.fault.ServeFault.TheVariants as faults
 use Rattle.orders.proofs.Counted.{more_ahead, told_on}
-use Rattle.orders.proofs.Taken.{fed_line, too_long}
+use Rattle.orders.proofs.Taken.{fed_line, last_line, too_long}
 use Rattle.orders.proofs.lines.Lines.next.Goals as goal
 
 pub returns-then-self-ge-MOST_LINES-clause-read : goal.returns-then-self-ge-MOST_LINES-clause-read
@@ -29,5 +30,20 @@ returns-then-branch-2-clause-next g c _ =
     let raw = c.read_line.new.self.line.items in
     let line = c.trim.new.self.line.items in
     let gathered = subst (λ old. Grows filled (ahead c.read_line.new.self.block left) old raw (codes "\n")) c.clear.ensures.items (c.read_line.ensures.fed (c.in_ok-read_line.was ∙ ap Ok c.if-branch-2.true)) in
-    let next = fed_line before filled (ahead c.read_line.new.self.block left) raw line c.is_at_end.ensures.kept gathered c.trim.ensures.trimmed in
+    let none : length c.clear.new.self.items ≤ 65536 = omega (arith, ap length c.clear.ensures.items) in
+    let short : length raw ≤ 65536 = subst (λ r. OnOk r (length c.clear.new.self.items ≤ 65536 → length raw ≤ 65536)) c.in_ok-read_line.was c.read_line.ensures.short none in
+    let next = fed_line before filled (ahead c.read_line.new.self.block left) raw line c.is_at_end.ensures.kept short gathered c.trim.ensures.trimmed in
     subst (λ block. IsNextLine before (ahead block left) line) (sym c.trim.ensures.block) next
+
+pub returns-else-branch-2-clause-next : goal.returns-else-branch-2-clause-next
+returns-else-branch-2-clause-next g c _ =
+    let before = ahead c.args.self.now.block (g.R.Source.left c.args.reader.now) in
+    let filled = ahead c.is_at_end.new.self.block (g.R.Source.left c.is_at_end.new.reader) in
+    let after = ahead c.read_line.new.self.block (g.R.Source.left c.read_line.new.reader) in
+    let raw = c.read_line.new.self.line.items in
+    let some = c.is_at_end.ensures.more (c.in_ok-is_at_end.was ∙ ap Ok c.if-branch.false) in
+    let more = more_ahead c.args.self.now.block c.is_at_end.new.self.block (g.R.Source.left c.args.reader.now) (g.R.Source.left c.is_at_end.new.reader) some c.is_at_end.ensures.kept in
+    let none : length c.clear.new.self.items ≤ 65536 = omega (arith, ap length c.clear.ensures.items) in
+    let short : length raw ≤ 65536 = subst (λ r. OnOk r (length c.clear.new.self.items ≤ 65536 → length raw ≤ 65536)) c.in_ok-read_line.was c.read_line.ensures.short none in
+    let ended = c.read_line.ensures.last (c.in_ok-read_line.was ∙ ap Ok c.if-branch-2.false) in
+    last_line before filled after raw more c.is_at_end.ensures.kept short (subst (λ old. Grows filled after old raw []) c.clear.ensures.items ended.0) ended.1

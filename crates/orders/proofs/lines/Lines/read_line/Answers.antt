@@ -35,4 +35,5 @@ loop-self-preserved g c =
       grows = on _ _ (g.R.Source.left c.is_at_end.new.reader) _ _ _ _ c.is_at_end.new.self.block _ [] c.loop-self.invariant.grows c.is_at_end.ensures.kept p.0
           (p.1 ∙ ap (λ line. line.items ++ c.is_at_end.new.self.block) c.is_at_end.ensures.line) (sym (append-nil c.is_at_end.new.self.block ∙ ap (λ l. l) refl) ∙ ap (λ l. c.is_at_end.new.self.block ++ l) (sym p.2));
       count = c.take_part.ensures.count ∙ c.is_at_end.ensures.count ∙ c.loop-self.invariant.count;
+      short = λ _. omega (arith, c.if-len-gt-MOST_BYTES.false, c.len.ensures);
     }

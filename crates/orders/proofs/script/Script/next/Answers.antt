@@ -1,32 +1,43 @@
 use Rattle.std.proofs.Common.{inl, inr, sym, ap, subst, arith, ◌∙◌, Ok, Err}
 use Rattle.std.proofs.lemmas.Bool.{false≢true}
-use Rattle.orders.specs.Lines.{nothing_read}
-use Rattle.orders.specs.Scripts.{no_line, next_line, no_head, cut_off, long_line}
+use Rattle.orders.specs.Lines.{ahead, nothing_read}
+use Rattle.orders.specs.Scripts.{no_line, next_line, no_head, long_head}
 use Rattle.orders.specs.Spelled.{IsSkipped}
 use Rattle.orders.specs.declared.fault.ServeFault.TheVariants as faults
-use Rattle.orders.proofs.Counted.{counted, grows, joined, later, longer_still, told_on}
+use Rattle.orders.proofs.Counted.{counted, grows, joined, longer_still, told_on}
+use Rattle.orders.proofs.Texts.{cut_text}
 use Rattle.orders.proofs.script.Script.next.Goals as goal
 
 pub returns-in_err-next-clause-line : goal.returns-in_err-next-clause-line
 returns-in_err-next-clause-line g c n e =
     let p = c.next.ensures.line n (c.in_err-next.was ∙ ap Err (told_on c.from_residual.result c.in_err-next.field-0.0 (faults.BadLine n) c.from_residual.ensures.1 e)) in
-    cut_off (long_line c.loop-self.invariant.lines p.1 p.0)
+    long_head c.loop-self.invariant.skipped c.loop-self.invariant.lines p.1 p.0
 
 pub returns-in_err-order-clause-line : goal.returns-in_err-order-clause-line
 returns-in_err-order-clause-line g c n e =
     let is = c.in_ok-next.was ∙ ap Ok c.if-branch.true in
-    let lines = counted _ _ _ _ _ _ _ c.loop-self.invariant.lines (c.next.ensures.next is) (c.next.ensures.count is) in
     let spelled : ¬ IsSkipped c.next.new.self.line.items = λ skipped. false≢true (sym c.if-not-is_skipped.true ∙ c.is_skipped.ensures.1 (subst IsSkipped (sym c.line.ensures) skipped)) in
     elim (c.order.ensures.bad n (c.in_err-order.was ∙ ap Err (told_on c.from_residual-in_err-order.result c.in_err-order.field-0.0 (faults.BadLine n) c.from_residual-in_err-order.ensures.1 e))) [
       | inl p ↦ no_head c.loop-self.invariant.skipped c.loop-self.invariant.lines (c.next.ensures.next is) spelled p.1 (p.0 ∙ c.next.ensures.count is)
-      | inr q ↦ cut_off (later _ _ _ _ n lines q)
+      | inr q ↦ cut_text _ _ _ _ _ c.next.new.self.count n _ c.loop-self.invariant.skipped c.loop-self.invariant.lines (c.next.ensures.next is) q.0 (c.next.ensures.count is) q.1
     ]
 
 pub returns-in_err-order-clause-read : goal.returns-in_err-order-clause-read
 returns-in_err-order-clause-read g c e =
     let is = c.in_ok-next.was ∙ ap Ok c.if-branch.true in
-    let lines = counted _ _ _ _ _ _ _ c.loop-self.invariant.lines (c.next.ensures.next is) (c.next.ensures.count is) in
+    let lines = counted _ _ _ _ _ _ _ c.loop-self.invariant.lines (c.next.ensures.room is) (c.next.ensures.next is) (c.next.ensures.count is) in
     longer_still _ _ _ _ lines (c.order.ensures.read (c.in_err-order.was ∙ ap Err (told_on c.from_residual-in_err-order.result c.in_err-order.field-0.0 faults.Read c.from_residual-in_err-order.ensures.1 e)))
+
+pub returns-then-not-is_skipped-clause-next : goal.returns-then-not-is_skipped-clause-next
+returns-then-not-is_skipped-clause-next g c = record {
+  start = ahead c.loop-self.self.lines.block (g.R.Source.left c.loop-self.reader);
+  behind = ahead c.next.new.self.block (g.R.Source.left c.next.new.reader);
+  line = c.next.new.self.line.items;
+  skipped = c.loop-self.invariant.skipped;
+  first = c.next.ensures.next (c.in_ok-next.was ∙ ap Ok c.if-branch.true);
+  begins = c.in_ok-order.ensures.begins;
+  followed = c.in_ok-order.ensures.followed;
+}
 
 pub returns-then-not-is_skipped-clause-more : goal.returns-then-not-is_skipped-clause-more
 returns-then-not-is_skipped-clause-more g c =
@@ -38,7 +49,7 @@ returns-then-not-is_skipped-clause-more g c =
 pub returns-then-not-is_skipped-clause-lines : goal.returns-then-not-is_skipped-clause-lines
 returns-then-not-is_skipped-clause-lines g c =
     let is = c.in_ok-next.was ∙ ap Ok c.if-branch.true in
-    let lines = counted _ _ _ _ _ _ _ c.loop-self.invariant.lines (c.next.ensures.next is) (c.next.ensures.count is) in
+    let lines = counted _ _ _ _ _ _ _ c.loop-self.invariant.lines (c.next.ensures.room is) (c.next.ensures.next is) (c.next.ensures.count is) in
     joined _ _ _ _ _ _ lines c.in_ok-order.ensures.lines
 
 pub loop-self-init : goal.loop-self-init
@@ -50,5 +61,5 @@ loop-self-preserved g c =
     let next = c.next.ensures.next is in
     record {
       skipped = next_line c.loop-self.invariant.skipped next (subst IsSkipped c.line.ensures (c.is_skipped.ensures.0 c.if-not-is_skipped.false));
-      lines = counted _ _ _ _ _ _ _ c.loop-self.invariant.lines next (c.next.ensures.count is);
+      lines = counted _ _ _ _ _ _ _ c.loop-self.invariant.lines (c.next.ensures.room is) next (c.next.ensures.count is);
     }

@@ -1,27 +1,14 @@
-use Rattle.std.proofs.Common.{Err, inl, inr, refl, ap, subst, ◌∙◌}
+use Rattle.std.proofs.Common.{inl, inr, sym, subst, ◌∙◌}
+use Rattle.std.proofs.lemmas.Bool.{false≢true}
 use Rattle.orders.specs.Lines.{nothing_read}
-use Rattle.orders.specs.Spelled.{IsBad}
-use Rattle.orders.specs.declared.fault.ServeFault.TheVariants as faults
-use Rattle.orders.proofs.Counted.{same_number, told_on}
-use Rattle.orders.proofs.script.Script.order.Goals.{in-Cat+in_ok-text-in-Cat, in-Test+in_ok-text-in-Test, in-Whole}
+use Rattle.orders.specs.Spelled.{IsWork}
 use Rattle.orders.proofs.script.Script.order.Goals as goal
 
-pub returns-in-Err-Bad-clause-bad : goal.returns-in-Err-Bad-clause-bad
-returns-in-Err-Bad-clause-bad g c n e =
-    let number = same_number (Err (faults.BadLine c.count.result)) c.count.result n refl e in
-    inl (number ∙ c.count.ensures, subst IsBad c.line.ensures (c.read_head.ensures.bad (c.in-Err-Bad.is ∙ ap Err c.in-Err-Bad.field-0-is)))
+pub returns-then-is_work-clause-lines : goal.returns-then-is_work-clause-lines
+returns-then-is_work-clause-lines g c = nothing_read
 
-pub returns-in_err-text-in-Cat-clause-bad : goal.returns-in_err-text-in-Cat-clause-bad
-returns-in_err-text-in-Cat-clause-bad g c n e =
-    inr (c.text.ensures.line n (c.in_err-text-in-Cat.was ∙ ap Err (told_on c.from_residual.result c.in_err-text-in-Cat.field-0.0 (faults.BadLine n) c.from_residual.ensures.1 e)))
-
-pub returns-in_err-text-in-Test-clause-bad : goal.returns-in_err-text-in-Test-clause-bad
-returns-in_err-text-in-Test-clause-bad g c n e =
-    inr (c.text-in-Test.ensures.line n (c.in_err-text-in-Test.was ∙ ap Err (told_on c.from_residual-in_err-text-in-Test.result c.in_err-text-in-Test.field-0.0 (faults.BadLine n) c.from_residual-in_err-text-in-Test.ensures.1 e)))
-
-pub returns-clause-lines : goal.returns-clause-lines
-returns-clause-lines g c = elim c.match-head.branch [
-  | in-Cat+in_ok-text-in-Cat w ↦ rw (w.self-is, w.reader-is) w.in_ok-text-in-Cat.ensures.lines
-  | in-Test+in_ok-text-in-Test w ↦ rw (w.self-is, w.reader-is) w.in_ok-text-in-Test.ensures.lines
-  | in-Whole w ↦ rw (w.self-is, w.reader-is) nothing_read
+pub returns-clause-bad : goal.returns-clause-bad
+returns-clause-bad g c n e = elim (c.call.ensures.bad n e) [
+  | inl p ↦ inl (p.0, (λ work. false≢true (sym c.if-is_work.false ∙ c.is_work.ensures.1 (subst IsWork (sym c.line.ensures) work)), p.1))
+  | inr q ↦ inr q
 ]

@@ -1,16 +1,29 @@
-use Rattle.std.proofs.Common.{◌∙◌, ap, sym}
-use Rattle.slices.specs.Parts.{IsOver, Portion, test_size}
-use Rattle.slices.specs.Judgements.{Results}
+use Rattle.std.proofs.Common.{◌≡◌, ◌∙◌, ap, arith}
+use Rattle.slices.specs.Parts.{Portion, test_size}
+use Rattle.slices.specs.Tallies.{Results}
+use Rattle.slices.specs.Works.{Task}
+use Rattle.slices.proofs.Cuts.{next_apart, next_below, next_held, all_held}
 use Rattle.slices.proofs.verdict.Verdict.judge.Goals as goal
+
+pub merge-requires-clause-apart : goal.merge-requires-clause-apart
+merge-requires-clause-apart c =
+    let first = ap (λ (p : Portion). p.from) c.in_ok-part.ensures ∙ c.in_ok-slice_of.ensures.from in
+    next_apart (test_size c.args.work.test) c.args.total c.loop-slice.slice c.in_ok-part.part c.loop-slice.tally.spans c.loop-slice.invariant.below first
+
+pub loop-slice-preserved : goal.loop-slice-preserved
+loop-slice-preserved c =
+    let n = test_size c.args.work.test in
+    let first = ap (λ (p : Portion). p.from) c.in_ok-part.ensures ∙ c.in_ok-slice_of.ensures.from in
+    let last = ap (λ (p : Portion). p.to) c.in_ok-part.ensures ∙ c.in_ok-slice_of.ensures.to in
+    let pushed = ap (λ (t : Results). t.spans) c.in-Ok.ensures.merged in
+    record {
+      same = ap (λ (t : Results). t.work) c.in-Ok.ensures.merged ∙ c.loop-slice.invariant.same;
+      below = next_below n c.args.total c.loop-slice.slice c.in_ok-part.part c.loop-slice.tally.spans c.merge.new.self.spans c.requires.0 pushed last c.loop-slice.invariant.below;
+      held = next_held n c.args.total c.loop-slice.slice c.in_ok-part.part c.loop-slice.tally.spans c.merge.new.self.spans pushed first last c.loop-slice.invariant.held;
+    }
 
 pub verdict-requires : goal.verdict-requires
 verdict-requires c =
-    let piece = c.in_ok-part.ensures ∙ c.new-piece.ensures in
-    let work = ap (λ (t : Results). t.work) c.new-tally.ensures in
-    let over : IsOver c.new-tally.result.work c.in_ok-part.part =
-    record {
-      same = ap (λ (p : Portion). p.work) piece ∙ c.in_ok-share.ensures ∙ sym work;
-      first = ap (λ (p : Portion). p.from) piece;
-      last = ap (λ (p : Portion). p.to) piece ∙ c.size-size.ensures.size ∙ ap (λ w. test_size w.test) (c.work-2.ensures ∙ sym work);
-    } in
-    c.in-Ok.ensures.whole (ap (λ (t : Results). t.parts) c.new-tally.ensures) over
+    let size : test_size c.loop-slice.tally.work.test ≡ test_size c.args.work.test = ap (λ (w : Task). test_size w.test) c.loop-slice.invariant.same in
+    let done : c.loop-slice.slice ≡ c.args.total = omega arith in
+    λ j l. all_held (test_size c.args.work.test) c.args.total c.loop-slice.slice c.loop-slice.tally.spans c.requires.0 done c.loop-slice.invariant.held j (omega (arith, size, l))

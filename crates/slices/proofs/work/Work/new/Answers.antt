@@ -1,14 +1,8 @@
 use Rattle.std.proofs.Common.{subst}
-use Rattle.litmus_tree.specs.Tree.{Litmus}
+use Rattle.std.specs.Prelude.{IfErr}
 use Rattle.candidates.specs.Faults.{IsSpaceFault}
-use Rattle.slices.proofs.Counted.{admitted}
+use Rattle.litmus_tree.specs.Tree.{Litmus}
 use Rattle.slices.proofs.work.Work.new.Goals as goal
 
-pub invariant_of-result : goal.invariant_of-result
-invariant_of-result c = admitted c.args.test c.test-tree.result.now c.in-Ok.space c.test-tree.ensures c.in-Ok.ensures.space c.in-Ok.ensures.size c.in-Ok.ensures.runs
-
-pub returns-in-Ok-clause-admitted : goal.returns-in-Ok-clause-admitted
-returns-in-Ok-clause-admitted c = (admitted c.args.test c.test-tree.result.now c.in-Ok.space c.test-tree.ensures c.in-Ok.ensures.space c.in-Ok.ensures.size c.in-Ok.ensures.runs).1
-
-pub returns-in-Err-clause-fault : goal.returns-in-Err-clause-fault
-returns-in-Err-clause-fault c = let P : Litmus → Type 0 = λ t. IsSpaceFault t c.in-Err.fault in subst P c.test-tree.ensures c.in-Err.ensures.fault
+pub returns-in-Ok-clause-fault : goal.returns-in-Ok-clause-fault
+returns-in-Ok-clause-fault c = let P : Litmus → Type 0 = λ t. IfErr c.of.result (IsSpaceFault t) in subst P c.in-Ok.ensures c.of.ensures.fault

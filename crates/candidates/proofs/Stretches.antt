@@ -1,0 +1,61 @@
+-- What is found at the numbers of a stretch.
+use Rattle.std.proofs.Common.{◌≡◌, ℕ, ◌+◌, ◌-◌, ◌*◌, ◌<◌, ◌≤◌, List, length, None, Some, refl, sym, ◌∙◌, ap, subst, inl, inr, arith}
+use Rattle.std.proofs.lemmas.Bool.{cases_lt}
+use Rattle.events.specs.Executions.{Execution, ThreadRun}
+use Rattle.candidates.specs.declared.assembly.Look.TheVariants.{Found, Until}
+use Rattle.candidates.specs.declared.page.Page.{Page}
+use Rattle.candidates.specs.declared.page.Stretch.{Stretch}
+use Rattle.candidates.specs.declared.fault.TheConstants.{MOST_CANDIDATES}
+use Rattle.candidates.specs.Executions.{block}
+use Rattle.candidates.specs.Candidates.{Choices, candidate, candidate_at, graph_at, is_consistent, size_of}
+use Rattle.candidates.specs.Readings.{IsLook, IsPage, IsStretch}
+use Rattle.candidates.specs.Walks.{NoneFrom, IsVisit}
+use Rattle.candidates.proofs.Law.{shown, hidden}
+
+-- The ways to read and to order are those of a block.
+pub whole_page : (n : ℕ) (p : Page) → IsPage n p → p.ways * p.orders ≡ block n p.runs.items
+whole_page n p h = rw (h.ways, h.orders) refl
+
+pub stretch_of : (s : Choices) (runs : List ThreadRun) (n first : ℕ) (b : Stretch) → n ≡ length s.init → IsPage n b.page → b.page.runs.items ≡ runs → b.first ≡ first → b.size ≡ b.page.ways * b.page.orders → first + block (length s.init) runs ≤ size_of s → size_of s ≤ MOST_CANDIDATES → ((j : ℕ) → j < block (length s.init) runs → candidate_at s (first + j) ≡ candidate s.init runs j) → IsStretch s b
+stretch_of s runs n first b same page are is size most small at =
+    let P : ℕ → Type 0 = λ m. IsPage m b.page in
+    let q : IsPage (length s.init) b.page = subst P same page in
+    let w : b.size ≡ block (length s.init) b.page.runs.items = size ∙ whole_page (length s.init) b.page q in
+    let R : List ThreadRun → Type 0 = λ rs. (first + block (length s.init) rs ≤ size_of s) × ((j : ℕ) → j < block (length s.init) rs → candidate_at s (first + j) ≡ candidate s.init rs j) in
+    let k = subst R (sym are) (most, at) in
+    record {
+      page = q;
+      size = w;
+      most = omega (arith, is, w, k.0);
+      small = omega (arith, is, w, k.0, small);
+      at = λ j l. ap (λ m. candidate_at s (m + j)) is ∙ k.1 j (omega (arith, l, w));
+    }
+
+-- the candidate at a number of a stretch
+at_number : (s : Choices) (b : Stretch) (n : ℕ) → IsStretch s b → b.first ≤ n → n < b.first + b.size → candidate_at s n ≡ candidate s.init b.page.runs.items (n - b.first)
+at_number s b n h l m =
+    let e : n ≡ b.first + (n - b.first) = omega (arith, l) in
+    ap (candidate_at s) e ∙ h.at (n - b.first) (omega (arith, l, m))
+
+pub found_here : (s : Choices) (b : Stretch) (n : ℕ) (init : List ℕ) (x : Execution) → init ≡ s.init → IsStretch s b → b.first ≤ n → n < b.first + b.size → IsLook init b.page.runs.items (n - b.first) (Found x) → graph_at s n ≡ Some x
+found_here s b n init x is h l m look =
+    let P : List ℕ → Type 0 = λ vs. IsLook vs b.page.runs.items (n - b.first) (Found x) in
+    let k = subst P is look in
+    let e : candidate_at s n ≡ x = at_number s b n h l m ∙ sym k.0 in
+    shown s n (ap is_consistent e ∙ k.1) ∙ ap (λ (y : Execution). Some y) e
+
+pub none_here : (s : Choices) (b : Stretch) (n : ℕ) (init : List ℕ) (last : ℕ) → init ≡ s.init → IsStretch s b → b.first ≤ n → n < b.first + b.size → IsLook init b.page.runs.items (n - b.first) (Until last) → IsVisit s n (Until (b.first + last))
+none_here s b n init last is h l m look =
+    let P : List ℕ → Type 0 = λ vs. IsLook vs b.page.runs.items (n - b.first) (Until last) in
+    let k = subst P is look in (
+      omega (arith, k.0, l),
+      omega (arith, k.1, h.size, h.most),
+      λ x a c. hidden s x (ap is_consistent (at_number s b x h (omega (arith, a, l)) (omega (arith, c, k.1, h.size))) ∙ k.2 (x - b.first) (omega (arith, a, l)) (omega (arith, c, a, l))),
+    )
+
+-- Where no execution stands from n on, none stands at n.
+pub nothing_at : (s : Choices) (n m : ℕ) → n < m → NoneFrom s n m → None ≡ graph_at s n
+nothing_at s n m l h = sym (h n (omega arith) l)
+
+pub none_further : (s : Choices) (a n m : ℕ) → NoneFrom s a n → NoneFrom s n m → NoneFrom s a m
+none_further s a n m h k x l c = elim (cases_lt x n) [ inl b ↦ h x l b | inr b ↦ k x b c ]

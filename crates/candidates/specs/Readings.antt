@@ -1,0 +1,50 @@
+-- What is found at a number of some runs: a reading or a candidate, or up to which number there is none.
+use Rattle.std.specs.Prelude.{◌≡◌, ℕ, ◌+◌, ◌<◌, ◌≤◌, List, length, true, false}
+use Rattle.events.specs.declared.event.Event.{Event}
+use Rattle.events.specs.declared.event.EventId.{EventId}
+use Rattle.events.specs.Executions.{ThreadRun}
+use Rattle.listings.specs.Lists.{product_by}
+use Rattle.candidates.specs.declared.assembly.Reading.{Reading}
+use Rattle.candidates.specs.declared.assembly.Reading.TheVariants as of_reading
+use Rattle.candidates.specs.declared.assembly.Look.{Look}
+use Rattle.candidates.specs.declared.assembly.Look.TheVariants as of_look
+use Rattle.candidates.specs.declared.page.Page.{Page}
+use Rattle.candidates.specs.declared.page.Stretch.{Stretch}
+use Rattle.candidates.specs.declared.fault.TheConstants.{MOST_CANDIDATES}
+use Rattle.candidates.specs.Executions.{reads, block}
+use Rattle.candidates.specs.Candidates.{Choices, count_sources, source_at, digits_down, count_co, candidate, candidate_at, size_of, agree, is_consistent}
+use Rattle.candidates.specs.Bounds.{AreWithin}
+
+-- what these reads read from by number i
+abbrev pub read_at : List ThreadRun → List Event → ℕ → List EventId
+read_at runs rs i = digits_down (count_sources runs) (source_at runs) rs i
+
+-- By number i each read has the value of what it reads from; or by no number from i to before n.
+abbrev pub IsReading : List ℕ → List ThreadRun → List Event → ℕ → Reading → Type 0
+IsReading init runs rs i (of_reading.Whole v) = (v.items ≡ read_at runs rs i) × (agree init runs rs v.items ≡ true)
+IsReading init runs rs i (of_reading.Until n) = (i < n) × (n ≤ product_by (count_sources runs) rs) × ((m : ℕ) → i ≤ m → m < n → agree init runs rs (read_at runs rs m) ≡ false)
+
+-- The candidate with the number i is an execution; or none from i to before n is.
+abbrev pub IsLook : List ℕ → List ThreadRun → ℕ → Look → Type 0
+IsLook init runs i (of_look.Found g) = (g ≡ candidate init runs i) × (is_consistent g ≡ true)
+IsLook init runs i (of_look.Until n) = (i < n) × (n ≤ block (length init) runs) × ((m : ℕ) → i ≤ m → m < n → is_consistent (candidate init runs m) ≡ false)
+
+-- What is kept of some runs: their reads, and in how many ways these can read and the writes be ordered.
+pub record IsPage (locations : ℕ) (p : Page) : Type 0 where
+  pub within : AreWithin locations p.runs.items
+  pub most : block locations p.runs.items ≤ MOST_CANDIDATES
+  pub reads_are : p.reads.items ≡ reads p.runs.items
+  pub ways : p.ways ≡ product_by (count_sources p.runs.items) (reads p.runs.items)
+  pub orders : p.orders ≡ count_co locations p.runs.items
+
+-- The numbers of a stretch are those of the candidates with its runs.
+pub record IsStretch (s : Choices) (b : Stretch) : Type 0 where
+  pub page : IsPage (length s.init) b.page
+  pub size : b.size ≡ block (length s.init) b.page.runs.items
+  pub most : b.first + b.size ≤ size_of s
+  pub small : b.first + b.size ≤ MOST_CANDIDATES
+  pub at : (j : ℕ) → j < b.size → candidate_at s (b.first + j) ≡ candidate s.init b.page.runs.items j
+
+-- A stretch of some numbers is one of the space.
+abbrev pub MayBeStretch : Choices → Stretch → Type 0
+MayBeStretch s b = 1 ≤ b.size → IsStretch s b

@@ -1,0 +1,144 @@
+-- The executions at the numbers of several ranges, each once.
+use Rattle.std.proofs.Common.{◌≡◌, ℕ, zero, suc, ◌+◌, ◌-◌, ◌<◌, ◌≤◌, ◌⊎◌, List, [], ◌∷◌, ◌++◌, length, Option, None, Some, refl, sym, ap, ◌∙◌, subst, inl, inr, arith}
+use Rattle.std.specs.Prelude.{IfSome}
+use Rattle.std.proofs.lemmas.Bool.{cases_lt}
+use Rattle.std.proofs.lemmas.List.{length-append}
+use Rattle.cat_eval.specs.Judging.{Allowed}
+use Rattle.cat_tree.specs.Tree.{Clause}
+use Rattle.events.specs.Executions.{Execution}
+use Rattle.listings.specs.Lists.{IsIn, NoRepeats, Lists}
+use Rattle.listings.proofs.Listings.{in_append, in_left, in_right, once_append}
+use Rattle.litmus_tree.specs.Tree.{Litmus}
+use Rattle.candidates.specs.Candidates.{At, IsNumberedBy, Numbering, found, some_of}
+use Rattle.candidates.specs.Executions.{IsExecution}
+use Rattle.slices.specs.declared.span.Span.{Span}
+use Rattle.slices.specs.Parts.{AreThose, IsAdmitted, executions_in, test_size}
+use Rattle.slices.specs.Tallies.{holds, IsHeld, IsApart, IsCover, IsAmong}
+use Rattle.slices.specs.Verdicts.{IsAllowed}
+use Rattle.slices.proofs.Counted.{in_front, at_last, of_push, lists_those}
+use Rattle.slices.proofs.Members.{lists_same, lists_append, no_longer}
+
+-- what stands at the numbers of a range
+
+in_some : (o : Option Execution) (x : Execution) → IsIn x (some_of o) → o ≡ Some x
+in_some None x h = absurd h
+in_some (Some y) x h = elim h [ inl e ↦ ap (λ (z : Execution). Some z) (sym e) | inr n ↦ absurd n ]
+
+some_in : (o : Option Execution) (x : Execution) → o ≡ Some x → IsIn x (some_of o)
+some_in o x e = let P : Option Execution → Type 0 = λ p. IsIn x (some_of p) in subst P (sym e) (inl refl)
+
+once_some : (o : Option Execution) → NoRepeats (some_of o)
+once_some None = tt
+once_some (Some y) = (λ h. h, tt)
+
+few_some : (o : Option Execution) → length (some_of o) ≤ 1
+few_some None = omega arith
+few_some (Some y) = omega arith
+
+in_found : (at : ℕ → Option Execution) (n : ℕ) (x : Execution) → IsIn x (found at n) → (i : ℕ) × (i < n) × (at i ≡ Some x)
+in_found at zero x h = absurd h
+in_found at (suc n) x h = elim (in_append (found at n) (some_of (at n)) x h) [
+  | inl a ↦ (let r = in_found at n x a in (r.0, omega (arith, r.1), r.2))
+  | inr b ↦ (n, omega arith, in_some (at n) x b)
+]
+
+last : (i n : ℕ) → i < suc n → (i < n) ⊎ (i ≡ n)
+last i n l = elim (cases_lt i n) [ inl k ↦ inl k | inr k ↦ inr (omega (arith, l, k)) ]
+
+found_in : (at : ℕ → Option Execution) (n i : ℕ) (x : Execution) → i < n → at i ≡ Some x → IsIn x (found at n)
+found_in at zero i x l e = absurd (omega (arith, l))
+found_in at (suc n) i x l e = elim (last i n l) [
+  | inl k ↦ in_left (found at n) (some_of (at n)) x (found_in at n i x k e)
+  | inr k ↦ in_right (found at n) (some_of (at n)) x (some_in (at n) x (ap at (sym k) ∙ e))
+]
+
+found_most : (at : ℕ → Option Execution) (n : ℕ) → length (found at n) ≤ n
+found_most at zero = omega arith
+found_most at (suc n) = omega (arith, found_most at n, few_some (at n), length-append (found at n) (some_of (at n)))
+
+once_found : (at : ℕ → Option Execution) (n : ℕ) → ((x : Execution) (i j : ℕ) → i < n → j < n → at i ≡ Some x → at j ≡ Some x → i ≡ j) → NoRepeats (found at n)
+once_found at zero once = tt
+once_found at (suc n) once =
+    once_append (found at n) (some_of (at n)) (once_found at n (λ x i j li lj. once x i j (omega (arith, li)) (omega (arith, lj)))) (once_some (at n))
+    (λ x a b. let r = in_found at n x a in
+    let e : r.0 ≡ n = once x r.0 n (omega (arith, r.1)) (omega arith) r.2 (in_some (at n) x b) in
+    absurd (omega (arith, e, r.1)))
+
+shifted : (from to i j : ℕ) → i < to - from → j < to - from → from + i ≡ from + j → i ≡ j
+shifted from to i j li lj e = omega (arith, e)
+
+at_shifted : (at : ℕ → Option Execution) (from i : ℕ) (x : Execution) → from ≤ i → at i ≡ Some x → at (from + (i - from)) ≡ Some x
+at_shifted at from i x le e =
+    let here : from + (i - from) ≡ i = omega (arith, le) in
+    ap at here ∙ e
+
+abbrev StandsIn : Litmus → Span → Execution → Type 0
+StandsIn t s x = (i : ℕ) × holds s i × (At t i ≡ Some x)
+
+range_listed : (t : Litmus) (n : ℕ) (s : Span) → IsNumberedBy t n (At t) → s.to ≤ n → Lists (StandsIn t s) (executions_in t s.from s.to)
+range_listed t n s law le =
+    let from = s.from in
+    let to = s.to in
+    record {
+      once = once_found (λ i. At t (from + i)) (to - from) (λ x i j li lj ei ej. shifted from to i j li lj (law.once x (from + i) (from + j) (omega (arith, li, le)) (omega (arith, lj, le)) ei ej));
+      only = λ x p. (let r = in_found (λ i. At t (from + i)) (to - from) x p in (from + r.0, (omega arith, omega (arith, r.1)), r.2));
+      all = λ x h. found_in (λ i. At t (from + i)) (to - from) (h.0 - from) x (omega (arith, h.1.0, h.1.1)) (at_shifted (At t) from h.0 x h.1.0 h.2);
+    }
+
+-- one range more
+
+pub held_push : (spans : List Span) (s : Span) (i : ℕ) → holds s i ⊎ IsHeld spans i → IsHeld (spans ++ s ∷ []) i
+held_push spans s i (inl h) = (s, at_last spans s, h)
+held_push spans s i (inr r) = (r.0, in_front r.0 spans s r.1, r.2)
+
+pub push_held : (spans : List Span) (s : Span) (i : ℕ) → IsHeld (spans ++ s ∷ []) i → holds s i ⊎ IsHeld spans i
+push_held spans s i h = elim (of_push h.0 spans s h.1) [
+  | inl p ↦ inr (h.0, p, h.2)
+  | inr e ↦ inl (let P : Span → Type 0 = λ r. holds r i in subst P e h.2)
+]
+
+pub within_push : (n : ℕ) (spans : List Span) (s : Span) → s.to ≤ n → ((r : Span) → IsIn r spans → r.to ≤ n) → (r : Span) → IsIn r (spans ++ s ∷ []) → r.to ≤ n
+within_push n spans s le within r p = elim (of_push r spans s p) [
+  | inl q ↦ within r q
+  | inr e ↦ (let P : Span → Type 0 = λ q. q.to ≤ n in subst P (sym e) le)
+]
+
+held_below : (n : ℕ) (spans : List Span) → ((s : Span) → IsIn s spans → s.to ≤ n) → (i : ℕ) → IsHeld spans i → i < n
+held_below n spans within i h = let le = within h.0 h.1 in omega (arith, le, h.2.1)
+
+-- The ranges share no number, so the lists of what stands there and is allowed, one behind the other, repeat nothing.
+pub merged_listing : (t : Litmus) (items : List Clause) (n : ℕ) (spans : List Span) (s : Span) (xs ys : List Execution) → IsNumberedBy t n (At t) → s.to ≤ n → ((r : Span) → IsIn r spans → r.to ≤ n) → IsApart s spans
+    → Lists (IsAmong t items spans) xs → AreThose (Allowed items) (executions_in t s.from s.to) ys → Lists (IsAmong t items (spans ++ s ∷ [])) (ys ++ xs)
+merged_listing t items n spans s xs ys law le within apart l those =
+    lists_same {P = λ x. (StandsIn t s x × Allowed items x) ⊎ IsAmong t items spans x} {Q = IsAmong t items (spans ++ s ∷ [])}
+    (λ x h. elim h [
+      | inl p ↦ ((p.0.0, held_push spans s p.0.0 (inl p.0.1), p.0.2), p.1)
+      | inr q ↦ ((q.0.0, held_push spans s q.0.0 (inr q.0.1), q.0.2), q.1)
+    ])
+    (λ x h. elim (push_held spans s h.0.0 h.0.1) [
+      | inl p ↦ inl ((h.0.0, p, h.0.2), h.1)
+      | inr q ↦ inr ((h.0.0, q, h.0.2), h.1)
+    ])
+    (lists_append
+    (λ x p q. (let below = held_below n spans within q.0.0 q.0.1 in
+    let same : p.0.0 ≡ q.0.0 = law.once x p.0.0 q.0.0 (omega (arith, p.0.1.1, le)) below p.0.2 q.0.2 in
+    let H : ℕ → Type 0 = λ i. IsHeld spans i in
+    apart p.0.0 p.0.1 (subst H (sym same) q.0.1)))
+    (lists_those (range_listed t n s law le) those) l)
+
+-- Where they cover all numbers, they list what the model allows.
+pub whole_listing : (t : Litmus) (items : List Clause) (n : ℕ) (spans : List Span) (xs : List Execution) → IsNumberedBy t n (At t) → ((r : Span) → IsIn r spans → r.to ≤ n) → IsCover n spans → Lists (IsAmong t items spans) xs → Lists (IsAllowed t items) xs
+whole_listing t items n spans xs law within cover l =
+    lists_same {P = IsAmong t items spans} {Q = IsAllowed t items}
+    (λ x p. (let O : Option Execution → Type 0 = λ o. IfSome o (IsExecution t) in subst O p.0.2 (law.only p.0.0 (held_below n spans within p.0.0 p.0.1)), p.1))
+    (λ x p. (let r = law.all x p.0 in ((r.0, cover r.0 r.1, r.2), p.1)))
+    l
+
+-- They are at most as many as there are numbers.
+pub few_listed : (t : Litmus) (items : List Clause) (n : ℕ) (spans : List Span) (xs : List Execution) → ((r : Span) → IsIn r spans → r.to ≤ n) → Lists (IsAmong t items spans) xs → length xs ≤ n
+few_listed t items n spans xs within l =
+    let inside = no_longer xs (found (At t) n) l.once (λ x p. let a = l.only x p in found_in (At t) n a.0.0 x (held_below n spans within a.0.0 a.0.1) a.0.2) in
+    omega (arith, inside, found_most (At t) n)
+
+pub law_of : Numbering → (t : Litmus) → IsAdmitted t → IsNumberedBy t (test_size t) (At t)
+law_of numbering t admitted = numbering t (test_size t) admitted.size

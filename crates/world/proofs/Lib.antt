@@ -1,0 +1,16 @@
+pub mod Answering
+pub mod ByNumber
+pub mod Examples
+pub mod Holds
+pub mod Keeps
+pub mod Lasting
+pub mod Lives
+pub mod Members
+pub mod Merged
+pub mod Moves
+pub mod Pasts
+pub mod Sorted
+pub mod Sources
+pub mod Spent
+pub mod Told
+pub mod Worlds

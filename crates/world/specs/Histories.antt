@@ -1,0 +1,55 @@
+-- What the entries of a legal journal say of one another.
+use Rattle.std.specs.Prelude.{◌≡◌, ℕ, List, [], ◌∷◌, ◌++◌, None, Some, map}
+use Rattle.listings.specs.Lists.{IsIn, NoRepeats}
+use Rattle.slices.specs.Judgements.{Judged}
+use Rattle.book.specs.Jobs.{Job}
+use Rattle.book.specs.Step.{IsOwn, Leads, Legal}
+use Rattle.book.specs.Workbench.{Workbench, job_of, claim_of, replaced}
+use Rattle.book.specs.declared.limits.Limits.{Limits}
+use Rattle.book.specs.declared.live.Live.{Live}
+use Rattle.journal.specs.Lines.{Line}
+use Rattle.journal.specs.declared.records.Returned.{Returned}
+use Rattle.journal.specs.declared.records.Said.{Said}
+use Rattle.journal.specs.declared.records.Said.TheVariants.{Poll, Return}
+use Rattle.journal.specs.declared.records.Reply.{Reply}
+use Rattle.journal.specs.declared.records.Reply.TheVariants.{Verdict, Taken}
+use Rattle.world.specs.World.{World, Event, Passes, beginning, slot}
+
+-- a poll of this job was replied this verdict
+abbrev pub Replied : ℕ → Judged → List Line → Type 0
+Replied id v journal = (e : Line) × IsIn e journal × (e.said ≡ Poll id) × (e.reply ≡ Verdict v)
+
+-- A verdict, once replied, never changes.
+abbrev pub VerdictsStay : Type 0
+VerdictsStay = (limits : Limits) (journal : List Line) → Legal limits journal → (id : ℕ) (v w : Judged) → Replied id v journal → Replied id w journal → v ≡ w
+
+-- Two verdicts for one version of a test under one set of file versions say the same.
+abbrev pub VersionsTell : Type 0
+VersionsTell = (limits : Limits) (journal : List Line) → Legal limits journal → (i j : ℕ) (v w : Judged) → Replied i v journal → Replied j w journal
+    → v.work.test.name ≡ w.work.test.name → v.version ≡ w.version → v.work.model.files ≡ w.work.model.files → v ≡ w
+
+-- No slice is counted twice: of a slice of a job there is one result at most.
+abbrev pub CountedOnce : Type 0
+CountedOnce = (limits : Limits) (es : List Event) (w : World) → Passes (beginning limits) es w → NoRepeats (map slot w.book.results)
+
+-- The result is of the work, slice and range of a live claim of its number and this seat, and none of the versions of its work is replaced.
+abbrev pub IsOwed : Workbench → ℕ → Returned → Type 0
+IsOwed s seat r = (c : Live) × (job : Job) × (claim_of s.live r.claim seat ≡ Some c) × (job_of s.jobs c.job ≡ Some job) × (replaced s job ≡ None) × IsOwn c job r
+
+-- No result of another work, or of a version that was replaced by then, is ever taken.
+abbrev pub OwnWork : Type 0
+OwnWork = (limits : Limits) (before after : List Line) (e : Line) (r : Returned) (d n : ℕ) → Legal limits (before ++ e ∷ after) → e.said ≡ Return r → e.reply ≡ Taken d n
+    → (s : Workbench) × Leads limits before s × IsOwed s e.seat r
+
+-- the claims under which results were taken
+abbrev pub claim_taken : Said → Reply → List ℕ
+claim_taken (Return r) (Taken d n) = r.claim ∷ []
+claim_taken said reply = []
+
+abbrev pub claims_taken : List Line → List ℕ
+claims_taken [] = []
+claims_taken (e ∷ es) = claim_taken e.said e.reply ++ claims_taken es
+
+-- Under a claim a result is taken once at most, whatever comes back, how late and how often.
+abbrev pub TakenOnce : Type 0
+TakenOnce = (limits : Limits) (journal : List Line) → Legal limits journal → NoRepeats (claims_taken journal)

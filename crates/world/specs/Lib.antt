@@ -1,0 +1,4 @@
+pub mod Examples
+pub mod Histories
+pub mod Merging
+pub mod World
