@@ -236,7 +236,11 @@ exists (2:r0=1 /\\ 2:r1=0 /\\ 3:r0=1 /\\ 3:r1=0)
 
 /// Their sixteen slices are returned from the last to the first.
 const SIXTEEN_SLICES: Script = Script {
-    limits: WIDE,
+    limits: Limits {
+        journal: 40,
+        versions: 10,
+        claims: 20,
+    },
     steps: &[
         Step::Test(IRIW),
         Step::Ask(b"IRIW", b"rc11.cat"),
