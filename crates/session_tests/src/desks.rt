@@ -1,0 +1,192 @@
+//! Sessions over one desk, each with a pass.
+
+ghost use Rattle.std.specs.Prelude.{◌≡◌};
+
+use crate::calls::{Answer, Call, SB, TEST_A, TEST_B, are_answered, make_all};
+use book::{Command, Limits, Refused};
+use sessions::{Desk, FinishCause, Pass, finish, open};
+use std::alloc::{AllocError, Global};
+use std::marker::Brand;
+use std::sync::Wait;
+use std::sync::ledger::{Blank, Ledger};
+use std::test::*;
+
+const WIDE: Limits = Limits {
+    journal: 1_000_000,
+    versions: 1_000_000,
+    claims: 1_000_000,
+};
+
+const FIRST: [Call; 4] = [
+    Call::PutTest(TEST_A),
+    Call::Ask(b"A", b"rc11.cat"),
+    Call::Claim,
+    Call::Return,
+];
+
+const SECOND: [Call; 4] = [
+    Call::PutTest(TEST_B),
+    Call::Ask(b"B", b"rc11.cat"),
+    Call::Claim,
+    Call::Return,
+];
+
+/// The places of the receipts rise.
+fn rise<L: Ledger>(pass: &Pass<L>) -> bool {
+    let mut next = 0;
+    for receipt in pass.receipts() {
+        let place = receipt.entry().place();
+        if place < next {
+            return false;
+        }
+        next = place.saturating_add(1);
+    }
+    true
+}
+
+/// Two sessions call in turn: what `finish` counts, how many calls were recorded, and whether the places of each pass's receipts rise.
+fn run_both<L: Ledger, R: Wait>(
+    rt: &R,
+    alloc: Global,
+    blank: Blank,
+) -> Result<(Option<usize>, usize, bool), AllocError>
+    requires { (blank.name ≡ L.name) × (blank.parts ≡ L.parts) × (blank.parts ≡ 2) }
+{
+    let (desk, mut passes) = open::<L>(alloc, blank, WIDE, 2)?;
+    let first = make_all(rt, alloc, &desk, &mut passes[0], &FIRST);
+    let second = make_all(rt, alloc, &desk, &mut passes[1], &SECOND);
+    let rising = passes.iter().all(|pass| rise(pass));
+    let entries = finish(desk, passes).ok().map(|closed| closed.journal.len());
+    Ok((entries, first.saturating_add(second), rising))
+}
+
+fn both<R: Wait>(rt: &R, alloc: Global) -> Result<(Option<usize>, usize, bool), AllocError> {
+    run_both::<Brand, R>(rt, alloc, Blank::new(2))
+}
+
+#[test]
+fn two_sessions_in_turn(rt: HostRuntime) -> Result<(), Fail> {
+    assert!(rt; both(&rt, rt.alloc())? == (Some(8), 8, true));
+    Ok(())
+}
+
+/// Without the pass of seat 1: the cause, the journal's length and the passes that are handed back.
+fn run_missing<L: Ledger, R: Wait>(
+    rt: &R,
+    alloc: Global,
+    blank: Blank,
+) -> Result<Option<(FinishCause, usize, usize)>, AllocError>
+    requires { (blank.name ≡ L.name) × (blank.parts ≡ L.parts) × (blank.parts ≡ 3) }
+{
+    let (desk, mut passes) = open::<L>(alloc, blank, WIDE, 3)?;
+    drop(passes.remove(1));
+    let _ = make_all(rt, alloc, &desk, &mut passes[1], &[Call::List]);
+    Ok(finish(desk, passes).err().map(|f| (f.cause, f.closed.journal.len(), f.closed.passes.len())))
+}
+
+fn missing<R: Wait>(
+    rt: &R,
+    alloc: Global,
+) -> Result<Option<(FinishCause, usize, usize)>, AllocError> {
+    run_missing::<Brand, R>(rt, alloc, Blank::new(3))
+}
+
+#[test]
+fn missing_pass(rt: HostRuntime) -> Result<(), Fail> {
+    assert!(rt; missing(&rt, rt.alloc())? == Some((FinishCause::MissingPass(1), 1, 2)));
+    Ok(())
+}
+
+/// Whether a command is refused as the journal is full, and handed back.
+fn is_full<L: Ledger, R: Wait>(rt: &R, desk: &Desk<L>, pass: &mut Pass<L>) -> bool
+    requires { pass.old.parts ≡ 1 }
+    ensures { pass.new.parts ≡ 1 }
+{
+    let answer = desk.call(rt, pass, Command::List);
+    matches!(answer, Err((Command::List, Refused::JournalFull)))
+}
+
+/// How many entries a journal has that takes three, how many calls were recorded, and whether the fourth was handed back.
+fn run_full<L: Ledger, R: Wait>(
+    rt: &R,
+    alloc: Global,
+    blank: Blank,
+) -> Result<(Option<usize>, usize, bool), AllocError>
+    requires { (blank.name ≡ L.name) × (blank.parts ≡ L.parts) × (blank.parts ≡ 1) }
+{
+    let limits = Limits {
+        journal: 3,
+        versions: 2,
+        claims: 1,
+    };
+    let (desk, mut passes) = open::<L>(alloc, blank, limits, 1)?;
+    let recorded = make_all(
+        rt,
+        alloc,
+        &desk,
+        &mut passes[0],
+        &[Call::List, Call::List, Call::List],
+    );
+    let full = is_full(rt, &desk, &mut passes[0]);
+    let entries = finish(desk, passes).ok().map(|closed| closed.journal.len());
+    Ok((entries, recorded, full))
+}
+
+fn full<R: Wait>(rt: &R, alloc: Global) -> Result<(Option<usize>, usize, bool), AllocError> {
+    run_full::<Brand, R>(rt, alloc, Blank::new(1))
+}
+
+#[test]
+fn journal_full(rt: HostRuntime) -> Result<(), Fail> {
+    assert!(rt; full(&rt, rt.alloc())? == (Some(3), 3, true));
+    Ok(())
+}
+
+/// Two versions of a file, and the third spent; one claim given back, and the second spent.
+const SPENDING: [Call; 8] = [
+    Call::PutCat(b"a.cat", b""),
+    Call::DropCat(b"a.cat"),
+    Call::PutCat(b"a.cat", b""),
+    Call::PutTest(SB),
+    Call::Ask(b"SB", b"rc11.cat"),
+    Call::Claim,
+    Call::GiveBack(1),
+    Call::Claim,
+];
+
+const SPENT: [(usize, Answer); 6] = [
+    (0, Answer::Version(b"a.cat", 1)),
+    (1, Answer::Version(b"a.cat", 2)),
+    (2, Answer::VersionsSpent(b"a.cat")),
+    (5, Answer::Piece(1)),
+    (6, Answer::Done),
+    (7, Answer::ClaimsSpent),
+];
+
+/// How many calls were recorded, and whether they were answered so.
+fn run_spent<L: Ledger, R: Wait>(
+    rt: &R,
+    alloc: Global,
+    blank: Blank,
+) -> Result<(usize, bool), AllocError>
+    requires { (blank.name ≡ L.name) × (blank.parts ≡ L.parts) × (blank.parts ≡ 1) }
+{
+    let limits = Limits {
+        journal: 20,
+        versions: 2,
+        claims: 1,
+    };
+    let (desk, mut passes) = open::<L>(alloc, blank, limits, 1)?;
+    let recorded = make_all(rt, alloc, &desk, &mut passes[0], &SPENDING);
+    Ok((recorded, are_answered(&passes[0], &SPENT)))
+}
+
+fn spent_through_a_desk<R: Wait>(rt: &R, alloc: Global) -> Result<(usize, bool), AllocError> {
+    run_spent::<Brand, R>(rt, alloc, Blank::new(1))
+}
+
+#[test]
+fn spent(rt: HostRuntime) -> Result<(), Fail> {
+    assert!(rt; spent_through_a_desk(&rt, rt.alloc())? == (8, true));
+    Ok(())
+}

@@ -1,0 +1,7 @@
+//! Tests of the desk: sessions that call in turn, the closing check, and limits met through a desk.
+#![tactic(auto)]
+
+#[cfg(test)]
+mod calls;
+#[cfg(test)]
+mod desks;
