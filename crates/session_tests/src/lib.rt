@@ -1,0 +1,5 @@
+//! Tests of the desk: sessions on real threads, the closing check, and limits met through a desk.
+#![tactic(auto)]
+
+#[cfg(test)]
+mod desks;

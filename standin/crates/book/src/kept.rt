@@ -1,0 +1,141 @@
+//! The machine with its journal.
+ghost use Rattle.std.specs.Prelude.{◌≡◌, ◌<◌, ◌≤◌, ◌∷◌, ◌++◌, [], length, IfOk, IfErr, OnOk, OnErr};
+ghost use Rattle.std.specs.Arc.{arc_value};
+ghost use Rattle.book.specs.Kept.{lines, IsKept, is_ready};
+ghost use Rattle.journal.specs.Lines.{seen};
+ghost use Rattle.book.specs.Workbench.{empty};
+ghost use Rattle.book.specs.Step.{Legal, Step};
+
+use crate::bench::{Bench, Plan};
+use crate::limits::Limits;
+use journal::{Command, Entry};
+use std::alloc::{AllocError, Global};
+use std::marker::Model;
+use std::sync::Arc;
+
+/// Why a call was not recorded.
+#[derive(Clone, Copy)]
+pub enum Refused {
+    JournalFull,
+    NoMemory,
+}
+
+/// The machine, and the journal of every call. The journal leads to the state.
+#[derive(Drop)]
+pub struct Book {
+    alloc: Global,
+    limits: Limits,
+    bench: Bench,
+    journal: Vec<Arc<Entry>>,
+}
+
+impl Model for Book {
+    ghost use Rattle.book.specs.Kept.{Kept, lines, IsKept};
+
+    ghost Value = { Kept };
+
+    ghost view = { λ b. record { limits = b.limits; journal = lines b.journal.items; state = b.bench } };
+
+    ghost invariant = { λ b. IsKept b.limits (lines b.journal.items) b.bench };
+}
+
+impl Book {
+    pub fn new(alloc: Global, limits: Limits) -> Result<Book, AllocError>
+        requires { 0 < limits.journal }
+        ensures { IfOk result (λ b. b ≡ record { limits = limits; journal = []; state = empty limits }) }
+    {
+        Ok(Book {
+            alloc,
+            limits,
+            bench: Bench::new(alloc, limits),
+            journal: Vec::with_capacity(alloc, 1)?,
+        })
+    }
+
+    /// Records a call with its reply, or changes nothing and hands the command back.
+    pub fn apply(&mut self, seat: u8, command: Command) -> Result<Arc<Entry>, (Command, Refused)>
+        requires { seat < 64 }
+        ensures journal { IfOk result (λ e. self.new.journal ≡ self.old.journal ++ arc_value e ∷ []) }
+        ensures entry { IfOk result (λ e. ((arc_value e).place ≡ length self.old.journal) × ((arc_value e).seat ≡ seat) × ((arc_value e).said ≡ seen command)) }
+        ensures step { IfOk result (λ e. Step self.old.state seat (seen command) (arc_value e).reply self.new.state) }
+        ensures limits { self.new.limits ≡ self.old.limits }
+        ensures same { OnErr result (self.new ≡ self.old) }
+        ensures back { IfErr result (λ e. e.0 ≡ command) }
+        ensures full { self.old.limits.journal ≤ length self.old.journal → IfErr result (λ e. e.1 ≡ Refused.JournalFull) }
+        ensures only { IfErr result (λ e. e.1 ≡ Refused.JournalFull → length self.old.journal ≡ self.old.limits.journal) }
+        ensures room { OnOk result (length self.old.journal < self.old.limits.journal) }
+    {
+        let place = self.journal.len();
+        if place >= self.limits.journal as usize {
+            return Err((command, Refused::JournalFull));
+        }
+        match self.recorded(place as u32, seat, &command) {
+            Ok(entry) => Ok(entry),
+            Err(AllocError) => Err((command, Refused::NoMemory)),
+        }
+    }
+
+    // All that takes memory comes first. The change and the push come last.
+    fn recorded(&mut self, place: u32, seat: u8, command: &Command) -> Result<Arc<Entry>, AllocError>
+        requires place { place ≡ length self.old.journal }
+        requires room { place < self.old.limits.journal }
+        ensures journal { IfOk result (λ e. self.new.journal ≡ self.old.journal ++ arc_value e ∷ []) }
+        ensures entry { IfOk result (λ e. ((arc_value e).place ≡ place) × ((arc_value e).seat ≡ seat) × ((arc_value e).said ≡ seen command.now)) }
+        ensures step { IfOk result (λ e. Step self.old.state seat (seen command.now) (arc_value e).reply self.new.state) }
+        ensures limits { self.new.limits ≡ self.old.limits }
+        ensures same { OnErr result (self.new ≡ self.old) }
+    {
+        let Plan { reply, change } = self.bench.decide(self.alloc, seat, command)?;
+        let entry = Arc::new(
+            self.alloc,
+            Entry::new(place, seat, command.seen(self.alloc)?, reply),
+        )?;
+        let copy = Arc::try_clone(&entry)?;
+        self.journal.try_reserve(1)?;
+        self.bench.commit(change)?;
+        match self.journal.push(copy) {
+            Ok(()) => Ok(entry),
+            Err(_) => unreachable!(),
+        }
+    }
+
+    /// Whether a name is free, the machine is closed or the journal is full.
+    pub fn ready(&self) -> bool
+        ensures { result ≡ is_ready self.now }
+    {
+        self.bench.has_free()
+            || self.bench.closed()
+            || self.journal.len() == self.limits.journal as usize
+    }
+
+    /// How many entries the journal has.
+    pub fn entry_count(&self) -> usize
+        ensures { result ≡ length self.now.journal }
+    {
+        self.journal.len()
+    }
+
+    /// What bounds the book.
+    pub fn limits(&self) -> Limits
+        ensures { result ≡ self.now.limits }
+    {
+        self.limits
+    }
+
+    /// A run of the machine that leads to its state.
+    pub fn journal(&self) -> &[Arc<Entry>]
+        ensures journal { lines result.now ≡ self.now.journal }
+        ensures kept { IsKept self.now.limits self.now.journal self.now.state }
+        ensures legal { Legal self.now.limits (lines result.now) }
+    {
+        self.journal.as_slice()
+    }
+
+    pub fn into_journal(self) -> Vec<Arc<Entry>>
+        ensures journal { lines result.items ≡ self.journal }
+        ensures kept { IsKept self.limits self.journal self.state }
+        ensures legal { Legal self.limits (lines result.items) }
+    {
+        self.journal
+    }
+}
