@@ -1,3 +1,4 @@
 pub mod Calls
 pub mod Finish
+pub mod PassCodes
 pub mod Views

@@ -24,9 +24,12 @@ pub struct Shared<L: Ledger> {
 
 impl<L: Ledger> Model for Shared<L> {
     ghost use Rattle.std.specs.Prelude.{◌≡◌, length};
+    ghost use Rattle.book.specs.BenchCodes.{coded_kept};
     ghost use Rattle.book.specs.Kept.{Kept};
 
     ghost Value = { Kept };
+
+    ghost coded = { coded_kept };
 
     ghost view = { λ s. s.book };
 

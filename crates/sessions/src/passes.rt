@@ -29,9 +29,12 @@ pub struct Receipt {
 
 impl Model for Receipt {
     ghost use Rattle.std.specs.Arc.{arc_value};
+    ghost use Rattle.journal.specs.LineCodes.{coded_line};
     ghost use Rattle.journal.specs.Lines.{Line};
 
     ghost Value = { Line };
+
+    ghost coded = { coded_line };
 
     ghost view = { λ r. arc_value r.entry };
 }
@@ -61,9 +64,12 @@ pub struct Pass<L: Ledger> {
 }
 
 impl<L: Ledger> Model for Pass<L> {
+    ghost use Rattle.sessions.specs.PassCodes.{coded_pass};
     ghost use Rattle.sessions.specs.Views.{PassView, IsPass};
 
     ghost Value = { PassView };
+
+    ghost coded = { coded_pass };
 
     ghost view = { λ p. record { seat = p.seat; receipts = p.receipts.items; counts = p.counts; parts = p.share.parts } };
 

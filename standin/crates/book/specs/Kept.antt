@@ -1,5 +1,5 @@
 -- The machine with its journal, as contracts see it.
-use Rattle.std.specs.Prelude.{◌≡◌, ◌≤◌, Bool, ◌||◌, ◌==◌, List, map, length}
+use Rattle.std.specs.Prelude.{◌≡◌, ◌≤◌, Bool, ◌||◌, nat_le, List, map, length}
 use Rattle.std.specs.Arc.{arc_value}
 use Rattle.std.specs.declared.sync.Arc.{Arc}
 use Rattle.book.specs.declared.limits.Limits.{Limits}
@@ -24,4 +24,4 @@ pub record IsKept (limits : Limits) (journal : List Line) (state : Workbench) : 
 
 -- a name is free, the machine is closed or the journal is full
 abbrev pub is_ready : Kept → Bool
-is_ready kept = (has_free kept.state || kept.state.closed) || (length kept.journal == kept.limits.journal)
+is_ready kept = (has_free kept.state || kept.state.closed) || nat_le kept.limits.journal (length kept.journal)

@@ -1,3 +1,4 @@
+pub mod BenchCodes
 pub mod Kept
 pub mod Step
 pub mod Workbench

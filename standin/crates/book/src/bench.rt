@@ -38,9 +38,12 @@ pub struct Bench {
 }
 
 impl Model for Bench {
+    ghost use Rattle.book.specs.BenchCodes.{coded_workbench};
     ghost use Rattle.book.specs.Workbench.{Workbench};
 
     ghost Value = { Workbench };
+
+    ghost coded = { coded_workbench };
 
     ghost view = { λ b. record { limits = b.limits; names = b.names.items; live = b.live.items; done = b.done.items; last = b.last; closed = b.closed } };
 }

@@ -30,9 +30,12 @@ pub struct Book {
 }
 
 impl Model for Book {
+    ghost use Rattle.book.specs.BenchCodes.{coded_kept};
     ghost use Rattle.book.specs.Kept.{Kept, lines, IsKept};
 
     ghost Value = { Kept };
+
+    ghost coded = { coded_kept };
 
     ghost view = { λ b. record { limits = b.limits; journal = lines b.journal.items; state = b.bench } };
 
@@ -41,7 +44,6 @@ impl Model for Book {
 
 impl Book {
     pub fn new(alloc: Global, limits: Limits) -> Result<Book, AllocError>
-        requires { 0 < limits.journal }
         ensures { IfOk result (λ b. b ≡ record { limits = limits; journal = []; state = empty limits }) }
     {
         Ok(Book {
@@ -105,14 +107,7 @@ impl Book {
     {
         self.bench.has_free()
             || self.bench.closed()
-            || self.journal.len() == self.limits.journal as usize
-    }
-
-    /// How many entries the journal has.
-    pub fn entry_count(&self) -> usize
-        ensures { result ≡ length self.now.journal }
-    {
-        self.journal.len()
+            || self.limits.journal as usize <= self.journal.len()
     }
 
     /// What bounds the book.
@@ -133,7 +128,6 @@ impl Book {
 
     pub fn into_journal(self) -> Vec<Arc<Entry>>
         ensures journal { lines result.items ≡ self.journal }
-        ensures kept { IsKept self.limits self.journal self.state }
         ensures legal { Legal self.limits (lines result.items) }
     {
         self.journal

@@ -1,1 +1,2 @@
+pub mod LineCodes
 pub mod Lines

@@ -74,9 +74,12 @@ pub struct Entry {
 
 impl Model for Entry {
     ghost use Rattle.std.specs.Prelude.{◌≡◌, true};
+    ghost use Rattle.journal.specs.LineCodes.{coded_line};
     ghost use Rattle.journal.specs.Lines.{Line, answers};
 
     ghost Value = { Line };
+
+    ghost coded = { coded_line };
 
     ghost view = { λ e. record { place = e.place; seat = e.seat; said = e.said; reply = e.reply } };
 
