@@ -1,10 +1,10 @@
 //! Sessions over one desk, each with a pass.
 
-ghost use Rattle.std.specs.Prelude.{◌≡◌, ◌≤◌, ◌<◌, All, OnOk, length};
+ghost use Rattle.std.specs.Prelude.{◌≡◌, ◌≤◌, ◌<◌, All};
 
-use book::{Command, Limits, Name, Refusal, Refused, Reply};
+use crate::calls::{A, Answer, B, C, Call, D, SB, are_answered, is_answered, make_all};
+use book::{Command, Limits, Refused};
 use sessions::{Desk, FinishCause, Pass, finish, open};
-use slices::{PieceResult, evaluate};
 use std::alloc::{AllocError, Global};
 use std::marker::Brand;
 use std::sync::Wait;
@@ -19,68 +19,54 @@ const WIDE: Limits = Limits {
     claims: 1_000_000,
 };
 
-// What the last claim of the pass brought, evaluated outside the lock.
-fn evaluated<L: Ledger>(alloc: Global, pass: &Pass<L>) -> Option<PieceResult> {
-    match pass.receipts().last()?.entry().reply() {
-        Reply::Piece(piece) => evaluate(alloc, piece).ok(),
-        _ => None,
-    }
-}
-
-fn name(alloc: Global, byte: u8) -> Result<Name, AllocError> {
-    let mut bytes = Vec::new(alloc);
-    bytes.push(byte)?;
-    Ok(Name::new(bytes))
-}
-
-// Puts a name of the seat's own, with so many numbers.
-fn put<L: Ledger, R: Wait>(
-    rt: &R,
-    alloc: Global,
-    desk: &Desk<L>,
-    pass: &mut Pass<L>,
-    byte: u8,
-) -> bool
-    requires { pass.old.parts ≡ 1 }
-    ensures { pass.new.parts ≡ 1 }
-{
-    match name(alloc, byte) {
-        Ok(name) => desk.call(rt, pass, Command::Put(name, 3)).is_ok(),
-        Err(_) => false,
-    }
-}
-
-// Claims, evaluates and returns what it got, if it got a piece.
-fn claim_and_return<L: Ledger, R: Wait>(rt: &R, alloc: Global, desk: &Desk<L>, pass: &mut Pass<L>)
-    requires { pass.old.parts ≡ 1 }
-    ensures { pass.new.parts ≡ 1 }
-{
-    let claimed = desk.call(rt, pass, Command::Claim).is_ok();
-    if !claimed {
-        return;
-    }
-    if let Some(found) = evaluated(alloc, pass) {
-        let _ = desk.call(rt, pass, Command::Return(found));
-    }
-}
-
-// Calls of each kind in turn, over four names.
-fn mixed<L: Ledger, R: Wait>(rt: &R, alloc: Global, desk: &Desk<L>, pass: &mut Pass<L>)
-    requires { pass.old.parts ≡ 1 }
-    ensures { pass.new.parts ≡ 1 }
-{
-    for number in 0..50u32 {
-        let _ = put(rt, alloc, desk, pass, b'a' + (number % 4) as u8);
-        claim_and_return(rt, alloc, desk, pass);
-        let _ = desk.call(rt, pass, Command::GiveBack(number));
-    }
-}
-
-// What each session of a test does.
+/// What each session of a test does.
 #[derive(Clone, Copy)]
 enum Session {
+    /// The first two put and ask for a test of their own. Each claims once, and returns what it finds of its piece.
     Once,
+    /// Calls of each kind, over four names.
     Mixed,
+}
+
+const FIRST: [Call; 4] = [Call::PutTest(A), Call::Ask(b"A", b"rc11.cat"), Call::Claim, Call::Return];
+
+const SECOND: [Call; 4] = [Call::PutTest(B), Call::Ask(b"B", b"rc11.cat"), Call::Claim, Call::Return];
+
+const OTHERS: [Call; 2] = [Call::Claim, Call::Return];
+
+const MIXED: [Call; 20] = [
+    Call::PutTest(A),
+    Call::Ask(b"A", b"stdlib.cat"),
+    Call::Claim,
+    Call::Return,
+    Call::Poll(1),
+    Call::PutTest(B),
+    Call::Ask(b"B", b"stdlib.cat"),
+    Call::Claim,
+    Call::GiveBack(1),
+    Call::Poll(2),
+    Call::PutTest(C),
+    Call::Ask(b"C", b"stdlib.cat"),
+    Call::Claim,
+    Call::Return,
+    Call::Poll(3),
+    Call::PutTest(D),
+    Call::Ask(b"D", b"stdlib.cat"),
+    Call::PutCat(b"a.cat", b""),
+    Call::DropCat(b"a.cat"),
+    Call::List,
+];
+
+/// At least 200 calls, since each round has 18 that need no piece.
+fn mixed<L: Ledger, R: Wait>(rt: &R, alloc: Global, desk: &Desk<L>, pass: &mut Pass<L>) -> usize
+    requires { pass.old.parts ≡ 1 }
+    ensures { pass.new.parts ≡ 1 }
+{
+    let mut recorded = 0usize;
+    for _ in 0..12u8 {
+        recorded = recorded.saturating_add(make_all(rt, alloc, desk, pass, &MIXED));
+    }
+    recorded
 }
 
 fn session<L: Ledger, R: Wait>(
@@ -89,23 +75,21 @@ fn session<L: Ledger, R: Wait>(
     session: Session,
     desk: &Desk<L>,
     pass: &mut Pass<L>,
-)
+) -> usize
     requires { pass.old.parts ≡ 1 }
     ensures { pass.new.parts ≡ 1 }
 {
     match session {
-        Session::Once => {
-            if pass.seat() < 2 {
-                let byte = b'a' + pass.seat();
-                let _ = put(rt, alloc, desk, pass, byte);
-            }
-            claim_and_return(rt, alloc, desk, pass);
-        }
+        Session::Once => match pass.seat() {
+            0 => make_all(rt, alloc, desk, pass, &FIRST),
+            1 => make_all(rt, alloc, desk, pass, &SECOND),
+            _ => make_all(rt, alloc, desk, pass, &OTHERS),
+        },
         Session::Mixed => mixed(rt, alloc, desk, pass),
     }
 }
 
-// A session of each pass, each on a thread of its own.
+/// A session of each pass, each on a thread of its own.
 fn all<L: Ledger + Send + Sync, R: Threads + Wait + Sync>(
     rt: &R,
     alloc: Global,
@@ -124,11 +108,13 @@ fn all<L: Ledger + Send + Sync, R: Threads + Wait + Sync>(
         &move |_, pass: &mut Pass<L>|
             requires { pass.old.parts ≡ 1 }
             ensures { pass.new.parts ≡ 1 }
-        { session(rt, alloc, what, desk, pass) },
+        {
+            let _ = session(rt, alloc, what, desk, pass);
+        },
     );
 }
 
-// The places of the receipts rise.
+/// The places of the receipts rise.
 fn rise<L: Ledger>(pass: &Pass<L>) -> bool {
     let mut next = 0;
     for receipt in pass.receipts() {
@@ -142,19 +128,22 @@ fn rise<L: Ledger>(pass: &Pass<L>) -> bool {
 }
 
 fn begins_with_version<L: Ledger>(pass: &Pass<L>) -> bool {
-    match pass.receipts().first() {
-        Some(receipt) => matches!(receipt.entry().reply(), Reply::Version(1)),
-        None => false,
+    match pass.seat() {
+        0 => is_answered(pass, 0, Answer::Version(b"A", 1)),
+        1 => is_answered(pass, 0, Answer::Version(b"B", 1)),
+        _ => false,
     }
 }
 
-// What a run came to: the entries where `finish` answers Ok, all receipts, whether those of each pass rise, and how many passes
-// begin with a first version.
+/// What a run came to.
 #[derive(Clone, Copy)]
 struct Outcome {
+    /// The entries, where `finish` answers Ok.
     entries: Option<usize>,
     receipts: usize,
+    /// Whether the places of each pass's receipts rise.
     rise: bool,
+    /// How many passes begin with the first version of their test.
     versions: usize,
 }
 
@@ -206,12 +195,12 @@ fn four_passes(rt: HostRuntime) -> Result<(), Fail> {
 fn eight_sessions_of_mixed_calls(rt: HostRuntime) -> Result<(), Fail> {
     let outcome = eight_mixed(&rt, rt.alloc())?;
     assert!(rt;
-        outcome.entries == Some(outcome.receipts) && outcome.rise && outcome.receipts >= 1200
+        outcome.entries == Some(outcome.receipts) && outcome.rise && outcome.receipts >= 1600
     );
     Ok(())
 }
 
-// Without the pass of seat 1: the cause, the journal's length and the passes that are handed back.
+/// Without the pass of seat 1: the cause, the journal's length and the passes that are handed back.
 fn run_missing<L: Ledger, R: Wait>(
     rt: &R,
     alloc: Global,
@@ -221,7 +210,7 @@ fn run_missing<L: Ledger, R: Wait>(
 {
     let (desk, mut passes) = open::<L>(alloc, blank, WIDE, 3)?;
     drop(passes.remove(1));
-    let _ = put(rt, alloc, &desk, &mut passes[1], b'a');
+    let _ = make_all(rt, alloc, &desk, &mut passes[1], &[Call::List]);
     Ok(finish(desk, passes).err().map(|f| (f.cause, f.closed.journal.len(), f.closed.passes.len())))
 }
 
@@ -238,24 +227,21 @@ fn missing_pass(rt: HostRuntime) -> Result<(), Fail> {
     Ok(())
 }
 
-// Whether three claims are recorded, and a fourth is refused as the journal is full, and handed back.
-fn fills<L: Ledger, R: Wait>(rt: &R, desk: &Desk<L>, pass: &mut Pass<L>) -> bool
+/// Whether a command is refused as the journal is full, and handed back.
+fn is_full<L: Ledger, R: Wait>(rt: &R, desk: &Desk<L>, pass: &mut Pass<L>) -> bool
     requires { pass.old.parts ≡ 1 }
     ensures { pass.new.parts ≡ 1 }
 {
-    let first = desk.call(rt, pass, Command::Claim).is_ok();
-    let second = desk.call(rt, pass, Command::Claim).is_ok();
-    let third = desk.call(rt, pass, Command::Claim).is_ok();
-    let fourth = desk.call(rt, pass, Command::Claim);
-    first && second && third && matches!(fourth, Err((Command::Claim, Refused::JournalFull)))
+    let answer = desk.call(rt, pass, Command::List);
+    matches!(answer, Err((Command::List, Refused::JournalFull)))
 }
 
-// How many entries a journal has that takes three, and whether it was filled.
+/// How many entries a journal has that takes three, how many calls were recorded, and whether the fourth was handed back.
 fn run_full<L: Ledger, R: Wait>(
     rt: &R,
     alloc: Global,
     blank: Blank,
-) -> Result<(Option<usize>, bool), AllocError>
+) -> Result<(Option<usize>, usize, bool), AllocError>
     requires { (blank.name ≡ L.name) × (blank.parts ≡ L.parts) × (blank.parts ≡ 1) }
 {
     let limits = Limits {
@@ -264,56 +250,55 @@ fn run_full<L: Ledger, R: Wait>(
         claims: 1,
     };
     let (desk, mut passes) = open::<L>(alloc, blank, limits, 1)?;
-    let filled = fills(rt, &desk, &mut passes[0]);
+    let recorded = make_all(
+        rt,
+        alloc,
+        &desk,
+        &mut passes[0],
+        &[Call::List, Call::List, Call::List],
+    );
+    let full = is_full(rt, &desk, &mut passes[0]);
     let entries = finish(desk, passes).ok().map(|closed| closed.journal.len());
-    Ok((entries, filled))
+    Ok((entries, recorded, full))
 }
 
-fn full<R: Wait>(rt: &R, alloc: Global) -> Result<(Option<usize>, bool), AllocError> {
+fn full<R: Wait>(rt: &R, alloc: Global) -> Result<(Option<usize>, usize, bool), AllocError> {
     run_full::<Brand, R>(rt, alloc, Blank::new(1))
 }
 
 #[test]
 fn journal_full(rt: HostRuntime) -> Result<(), Fail> {
-    assert!(rt; full(&rt, rt.alloc())? == (Some(3), true));
+    assert!(rt; full(&rt, rt.alloc())? == (Some(3), 3, true));
     Ok(())
 }
 
-fn is_spent<L: Ledger>(pass: &Pass<L>) -> bool {
-    match pass.receipts().last() {
-        Some(receipt) => matches!(
-            receipt.entry().reply(),
-            Reply::Refused(Refusal::VersionsSpent) | Reply::Refused(Refusal::ClaimsSpent)
-        ),
-        None => false,
-    }
-}
+/// Two versions of a file, and the third spent; one claim given back, and the second spent.
+const SPENDING: [Call; 8] = [
+    Call::PutCat(b"a.cat", b""),
+    Call::DropCat(b"a.cat"),
+    Call::PutCat(b"a.cat", b""),
+    Call::PutTest(SB),
+    Call::Ask(b"SB", b"rc11.cat"),
+    Call::Claim,
+    Call::GiveBack(1),
+    Call::Claim,
+];
 
-// Two versions of a name, and the third spent; one claim given back, and the second spent.
-fn spends<L: Ledger, R: Wait>(
-    rt: &R,
-    alloc: Global,
-    desk: &Desk<L>,
-    pass: &mut Pass<L>,
-) -> (bool, bool)
-    requires { pass.old.parts ≡ 1 }
-    ensures { pass.new.parts ≡ 1 }
-{
-    let first = put(rt, alloc, desk, pass, b'a');
-    let second = put(rt, alloc, desk, pass, b'a');
-    let third = put(rt, alloc, desk, pass, b'a');
-    let versions = is_spent(pass);
-    let _ = desk.call(rt, pass, Command::Claim);
-    let _ = desk.call(rt, pass, Command::GiveBack(1));
-    let _ = desk.call(rt, pass, Command::Claim);
-    (first && second && third && versions, is_spent(pass))
-}
+const SPENT: [(usize, Answer); 6] = [
+    (0, Answer::Version(b"a.cat", 1)),
+    (1, Answer::Version(b"a.cat", 2)),
+    (2, Answer::VersionsSpent(b"a.cat")),
+    (5, Answer::Piece(1)),
+    (6, Answer::Done),
+    (7, Answer::ClaimsSpent),
+];
 
+/// How many calls were recorded, and whether they were answered so.
 fn run_spent<L: Ledger, R: Wait>(
     rt: &R,
     alloc: Global,
     blank: Blank,
-) -> Result<(bool, bool), AllocError>
+) -> Result<(usize, bool), AllocError>
     requires { (blank.name ≡ L.name) × (blank.parts ≡ L.parts) × (blank.parts ≡ 1) }
 {
     let limits = Limits {
@@ -322,15 +307,16 @@ fn run_spent<L: Ledger, R: Wait>(
         claims: 1,
     };
     let (desk, mut passes) = open::<L>(alloc, blank, limits, 1)?;
-    Ok(spends(rt, alloc, &desk, &mut passes[0]))
+    let recorded = make_all(rt, alloc, &desk, &mut passes[0], &SPENDING);
+    Ok((recorded, are_answered(&passes[0], &SPENT)))
 }
 
-fn spent_through_a_desk<R: Wait>(rt: &R, alloc: Global) -> Result<(bool, bool), AllocError> {
+fn spent_through_a_desk<R: Wait>(rt: &R, alloc: Global) -> Result<(usize, bool), AllocError> {
     run_spent::<Brand, R>(rt, alloc, Blank::new(1))
 }
 
 #[test]
 fn spent(rt: HostRuntime) -> Result<(), Fail> {
-    assert!(rt; spent_through_a_desk(&rt, rt.alloc())? == (true, true));
+    assert!(rt; spent_through_a_desk(&rt, rt.alloc())? == (8, true));
     Ok(())
 }

@@ -1,5 +1,5 @@
 use Rattle.std.proofs.Common.{◌≡◌}
 use Rattle.session_tests.proofs.desks.mixed.Given as goal
 
-abbrev pub invariant-loop-number : goal.invariant-loop-number
-invariant-loop-number g l = l.pass.parts ≡ 1
+abbrev pub invariant-loop-i : goal.invariant-loop-i
+invariant-loop-i g l = l.pass.parts ≡ 1

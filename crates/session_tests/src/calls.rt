@@ -1,0 +1,197 @@
+//! Calls through a desk, as tests write them, and what is replied.
+
+ghost use Rattle.std.specs.Prelude.{◌≡◌};
+
+use book::{Command, Refusal, Reply, Text};
+use sessions::{Desk, Pass};
+use slices::{PieceResult, evaluate};
+use std::alloc::{AllocError, Global};
+use std::sync::Wait;
+use std::sync::ledger::Ledger;
+use wb_text::Name;
+
+/// Store buffering.
+pub const SB: &[u8] = b"C SB
+{}
+P0 (atomic_int* x, atomic_int* y) {
+  atomic_store_explicit(x, 1, memory_order_relaxed);
+  int r0 = atomic_load_explicit(y, memory_order_relaxed);
+}
+P1 (atomic_int* x, atomic_int* y) {
+  atomic_store_explicit(y, 1, memory_order_relaxed);
+  int r0 = atomic_load_explicit(x, memory_order_relaxed);
+}
+exists (0:r0=0 /\\ 1:r0=0)
+";
+
+/// Tests of four names, each with one thread that does nothing.
+pub const A: &[u8] = b"C A\n{ x; }\nP0 () {}\nexists (x=0)\n";
+pub const B: &[u8] = b"C B\n{ x; }\nP0 () {}\nexists (x=0)\n";
+pub const C: &[u8] = b"C C\n{ x; }\nP0 () {}\nexists (x=0)\n";
+pub const D: &[u8] = b"C D\n{ x; }\nP0 () {}\nexists (x=0)\n";
+
+/// A call of a session.
+#[derive(Clone, Copy)]
+pub enum Call {
+    /// A cat file is put: its name and its text.
+    PutCat(&'static [u8], &'static [u8]),
+    DropCat(&'static [u8]),
+    PutTest(&'static [u8]),
+    /// A test is asked for under a cat file.
+    Ask(&'static [u8], &'static [u8]),
+    Poll(u32),
+    List,
+    Claim,
+    /// The piece that the pass's last receipt gives is evaluated, and its result returned.
+    Return,
+    GiveBack(u32),
+}
+
+/// What is replied to a call.
+#[derive(Clone, Copy)]
+pub enum Answer {
+    /// This name has this version.
+    Version(&'static [u8], u32),
+    /// A piece is given under this claim.
+    Piece(u32),
+    Done,
+    /// This name has no version left.
+    VersionsSpent(&'static [u8]),
+    ClaimsSpent,
+}
+
+fn name(alloc: Global, bytes: &[u8]) -> Result<Name, AllocError> {
+    match Name::new(alloc, bytes) {
+        Ok(name) => Ok(name),
+        Err(_) => Err(AllocError),
+    }
+}
+
+fn text(alloc: Global, bytes: &[u8]) -> Result<Text, AllocError> {
+    Text::new(alloc, Vec::from_slice(alloc, bytes)?)
+}
+
+fn put_cat(alloc: Global, file: &[u8], bytes: &[u8]) -> Result<Command, AllocError> {
+    Ok(Command::PutCat(name(alloc, file)?, text(alloc, bytes)?))
+}
+
+fn drop_cat(alloc: Global, file: &[u8]) -> Result<Command, AllocError> {
+    Ok(Command::DropCat(name(alloc, file)?))
+}
+
+fn put_test(alloc: Global, bytes: &[u8]) -> Result<Command, AllocError> {
+    Ok(Command::PutTest(text(alloc, bytes)?))
+}
+
+fn ask(alloc: Global, test: &[u8], cat: &[u8]) -> Result<Command, AllocError> {
+    Ok(Command::Ask(name(alloc, test)?, name(alloc, cat)?))
+}
+
+/// The reply to a call of the pass, by its place among them.
+fn reply_at<L: Ledger>(pass: &Pass<L>, place: usize) -> Option<&Reply> {
+    match pass.receipts().get(place) {
+        Some(receipt) => Some(receipt.entry().reply()),
+        None => None,
+    }
+}
+
+/// What is found of the piece that the pass's last receipt gives.
+fn evaluated<L: Ledger>(alloc: Global, pass: &Pass<L>) -> Result<PieceResult, AllocError> {
+    match reply_at(pass, pass.receipts().len().saturating_sub(1)) {
+        Some(Reply::Piece(piece)) => evaluate(alloc, piece),
+        _ => Err(AllocError),
+    }
+}
+
+fn give<L: Ledger>(alloc: Global, pass: &Pass<L>) -> Result<Command, AllocError> {
+    Ok(Command::Return(evaluated(alloc, pass)?))
+}
+
+fn command_of<L: Ledger>(alloc: Global, pass: &Pass<L>, call: Call) -> Result<Command, AllocError> {
+    match call {
+        Call::PutCat(file, bytes) => put_cat(alloc, file, bytes),
+        Call::DropCat(file) => drop_cat(alloc, file),
+        Call::PutTest(bytes) => put_test(alloc, bytes),
+        Call::Ask(test, cat) => ask(alloc, test, cat),
+        Call::Poll(job) => Ok(Command::Poll(job)),
+        Call::List => Ok(Command::List),
+        Call::Claim => Ok(Command::Claim),
+        Call::Return => give(alloc, pass),
+        Call::GiveBack(claim) => Ok(Command::GiveBack(claim)),
+    }
+}
+
+/// Makes a call, and says whether it was recorded.
+pub fn made<L: Ledger, R: Wait>(
+    rt: &R,
+    alloc: Global,
+    desk: &Desk<L>,
+    pass: &mut Pass<L>,
+    call: Call,
+) -> bool
+    requires { pass.old.parts ≡ 1 }
+    ensures { pass.new.parts ≡ 1 }
+{
+    match command_of(alloc, pass, call) {
+        Ok(command) => desk.call(rt, pass, command).is_ok(),
+        Err(AllocError) => false,
+    }
+}
+
+/// Makes calls, one after another, and says how many were recorded.
+pub fn make_all<L: Ledger, R: Wait>(
+    rt: &R,
+    alloc: Global,
+    desk: &Desk<L>,
+    pass: &mut Pass<L>,
+    calls: &[Call],
+) -> usize
+    requires { pass.old.parts ≡ 1 }
+    ensures { pass.new.parts ≡ 1 }
+{
+    let mut recorded = 0usize;
+    for call in calls {
+        if made(rt, alloc, desk, pass, *call) {
+            recorded = recorded.saturating_add(1);
+        }
+    }
+    recorded
+}
+
+fn is_refusal(refusal: &Refusal, answer: Answer) -> bool {
+    match (refusal, answer) {
+        (Refusal::VersionsSpent(name), Answer::VersionsSpent(file)) => name.bytes() == file,
+        (Refusal::ClaimsSpent, Answer::ClaimsSpent) => true,
+        _ => false,
+    }
+}
+
+fn is_reply(reply: &Reply, answer: Answer) -> bool {
+    match (reply, answer) {
+        (Reply::Version(name, found), Answer::Version(file, version)) => {
+            name.bytes() == file && *found == version
+        }
+        (Reply::Piece(piece), Answer::Piece(claim)) => piece.claim() == claim,
+        (Reply::Done, Answer::Done) => true,
+        (Reply::Refused(refusal), answer) => is_refusal(refusal, answer),
+        _ => false,
+    }
+}
+
+/// Whether a call of the pass, by its place among them, was answered so.
+pub fn is_answered<L: Ledger>(pass: &Pass<L>, place: usize, answer: Answer) -> bool {
+    match reply_at(pass, place) {
+        Some(reply) => is_reply(reply, answer),
+        None => false,
+    }
+}
+
+/// Whether the calls of the pass at these places were answered so.
+pub fn are_answered<L: Ledger>(pass: &Pass<L>, answers: &[(usize, Answer)]) -> bool {
+    for (place, answer) in answers {
+        if !is_answered(pass, *place, *answer) {
+            return false;
+        }
+    }
+    true
+}
