@@ -10,7 +10,7 @@ use slices::laws::cuts;
 use std::alloc::{AllocError, Global};
 
 /// How many numbers a slice has, where that gives 1 to 256 slices.
-const NUMBERS_OF_A_SLICE: u64 = 1024;
+const NUMBERS_OF_A_SLICE: u64 = 256;
 
 /// The most slices of a job.
 const MOST_SLICES: u64 = 256;

@@ -234,9 +234,13 @@ P3 (atomic_int* x, atomic_int* y) {
 exists (2:r0=1 /\\ 2:r1=0 /\\ 3:r0=1 /\\ 3:r1=0)
 ";
 
-/// Their four slices are returned from the last to the first.
-const FOUR_SLICES: Script = Script {
-    limits: WIDE,
+/// Their sixteen slices are returned from the last to the first.
+const SIXTEEN_SLICES: Script = Script {
+    limits: Limits {
+        journal: 40,
+        versions: 10,
+        claims: 20,
+    },
     steps: &[
         Step::Test(IRIW),
         Step::Ask(b"IRIW", b"rc11.cat"),
@@ -245,6 +249,30 @@ const FOUR_SLICES: Script = Script {
         Step::Claim,
         Step::Claim,
         Step::Claim,
+        Step::Claim,
+        Step::Claim,
+        Step::Claim,
+        Step::Claim,
+        Step::Claim,
+        Step::Claim,
+        Step::Claim,
+        Step::Claim,
+        Step::Claim,
+        Step::Claim,
+        Step::Claim,
+        Step::Claim,
+        Step::Return(17),
+        Step::Return(16),
+        Step::Return(15),
+        Step::Return(14),
+        Step::Return(13),
+        Step::Return(12),
+        Step::Return(11),
+        Step::Return(10),
+        Step::Return(9),
+        Step::Return(8),
+        Step::Return(7),
+        Step::Return(6),
         Step::Return(5),
         Step::Return(4),
         Step::Return(3),
@@ -253,23 +281,47 @@ const FOUR_SLICES: Script = Script {
         Step::Poll(1),
     ],
     answers: &[
-        (2, Answer::Piece(0, 0, 1024)),
-        (3, Answer::Piece(1, 1024, 2048)),
-        (4, Answer::Piece(2, 2048, 3072)),
-        (5, Answer::Piece(3, 3072, 4096)),
-        (6, Answer::Nothing),
-        (7, Answer::Taken(1, 4)),
-        (8, Answer::Taken(2, 4)),
-        (9, Answer::Taken(3, 4)),
-        (10, Answer::Pending(3, 4)),
-        (11, Answer::Taken(4, 4)),
-        (12, Answer::Verdict(1, 15)),
+        (2, Answer::Piece(0, 0, 256)),
+        (3, Answer::Piece(1, 256, 512)),
+        (4, Answer::Piece(2, 512, 768)),
+        (5, Answer::Piece(3, 768, 1024)),
+        (6, Answer::Piece(4, 1024, 1280)),
+        (7, Answer::Piece(5, 1280, 1536)),
+        (8, Answer::Piece(6, 1536, 1792)),
+        (9, Answer::Piece(7, 1792, 2048)),
+        (10, Answer::Piece(8, 2048, 2304)),
+        (11, Answer::Piece(9, 2304, 2560)),
+        (12, Answer::Piece(10, 2560, 2816)),
+        (13, Answer::Piece(11, 2816, 3072)),
+        (14, Answer::Piece(12, 3072, 3328)),
+        (15, Answer::Piece(13, 3328, 3584)),
+        (16, Answer::Piece(14, 3584, 3840)),
+        (17, Answer::Piece(15, 3840, 4096)),
+        (18, Answer::Nothing),
+        (19, Answer::Taken(1, 16)),
+        (20, Answer::Taken(2, 16)),
+        (21, Answer::Taken(3, 16)),
+        (22, Answer::Taken(4, 16)),
+        (23, Answer::Taken(5, 16)),
+        (24, Answer::Taken(6, 16)),
+        (25, Answer::Taken(7, 16)),
+        (26, Answer::Taken(8, 16)),
+        (27, Answer::Taken(9, 16)),
+        (28, Answer::Taken(10, 16)),
+        (29, Answer::Taken(11, 16)),
+        (30, Answer::Taken(12, 16)),
+        (31, Answer::Taken(13, 16)),
+        (32, Answer::Taken(14, 16)),
+        (33, Answer::Taken(15, 16)),
+        (34, Answer::Pending(15, 16)),
+        (35, Answer::Taken(16, 16)),
+        (36, Answer::Verdict(1, 15)),
     ],
 };
 
 #[test]
 fn iriw(rt: HostRuntime) {
-    assert!(rt; plays(rt.alloc(), &FOUR_SLICES));
+    assert!(rt; plays(rt.alloc(), &SIXTEEN_SLICES));
 }
 
 /// Two claims are made where two pieces are free.

@@ -150,12 +150,7 @@ pub(crate) fn content_of(names: &[Name], registers: &[Content], expression: &Exp
 /// What all up to this link gives, where what stands before it gives `so_far`.
 #[cycle(evaluating)]
 #[tactic(auto, using(litmus_tree::specs::Chains::join_is))]
-fn link_content(
-    names: &[Name],
-    registers: &[Content],
-    so_far: Content,
-    link: &Link,
-) -> Content
+fn link_content(names: &[Name], registers: &[Content], so_far: Content, link: &Link) -> Content
     ensures { result ≡ passed names.now registers.now so_far (growth_of link.now) }
 {
     match link {

@@ -10,7 +10,7 @@ mod rules;
 pub use fault::TestFault;
 pub use litmus_test::Test;
 pub use litmus_tree::{
-    Call, Declarator, Expression, Leaf, Link, LocationKind, Operator, Parameter, RightSide, Statement,
-    Thread,
+    Call, Declarator, Expression, Leaf, Link, LocationKind, Operator, Parameter, RightSide,
+    Statement, Thread,
 };
 pub use reading::read_test;

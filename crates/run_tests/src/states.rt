@@ -1,6 +1,8 @@
 //! Propositions at states, the places that conditions observe, and copies.
 
-use conditions::{Atom, Binding, Cond, Connective, Kind, Place, Prop, State, holds, observed, ok_of};
+use conditions::{
+    Atom, Binding, Cond, Connective, Kind, Place, Prop, State, holds, observed, ok_of,
+};
 use std::alloc::{AllocError, Global};
 use std::test::Fail;
 use wb_text::{Name, NameFault};

@@ -31,16 +31,40 @@ P3 (atomic_int* x, atomic_int* y) {
 exists (2:r0=1 /\\ 2:r1=0 /\\ 3:r0=1 /\\ 3:r1=0)
 ";
 
-const FOUR_PIECES: &str = "piece 1 job 1 slice 0 from 0 to 1024
-piece 2 job 1 slice 1 from 1024 to 2048
-piece 3 job 1 slice 2 from 2048 to 3072
-piece 4 job 1 slice 3 from 3072 to 4096
+const SIXTEEN_PIECES: &str = "piece 1 job 1 slice 0 from 0 to 256
+piece 2 job 1 slice 1 from 256 to 512
+piece 3 job 1 slice 2 from 512 to 768
+piece 4 job 1 slice 3 from 768 to 1024
+piece 5 job 1 slice 4 from 1024 to 1280
+piece 6 job 1 slice 5 from 1280 to 1536
+piece 7 job 1 slice 6 from 1536 to 1792
+piece 8 job 1 slice 7 from 1792 to 2048
+piece 9 job 1 slice 8 from 2048 to 2304
+piece 10 job 1 slice 9 from 2304 to 2560
+piece 11 job 1 slice 10 from 2560 to 2816
+piece 12 job 1 slice 11 from 2816 to 3072
+piece 13 job 1 slice 12 from 3072 to 3328
+piece 14 job 1 slice 13 from 3328 to 3584
+piece 15 job 1 slice 14 from 3584 to 3840
+piece 16 job 1 slice 15 from 3840 to 4096
 nothing
-taken 1 4
-taken 2 4
-pending 2 4
-taken 3 4
-taken 4 4
+taken 1 16
+taken 2 16
+taken 3 16
+taken 4 16
+taken 5 16
+taken 6 16
+taken 7 16
+taken 8 16
+taken 9 16
+taken 10 16
+taken 11 16
+taken 12 16
+taken 13 16
+taken 14 16
+taken 15 16
+pending 15 16
+taken 16 16
 verdict IRIW 1 rc11.cat 0
 ";
 
@@ -410,9 +434,9 @@ const COMMANDS: &[Scene] = &[
             ("0 test\n", 1),
             (INDEPENDENT_READS, 1),
             (".\n0 ask IRIW rc11.cat\n", 1),
-            ("1 claim\n", 5),
+            ("1 claim\n", 17),
             (
-                "1 return 4\n1 return 3\n0 poll 1\n1 return 2\n1 return 1\n0 poll 1\n",
+                "1 return 16\n1 return 15\n1 return 14\n1 return 13\n1 return 12\n1 return 11\n1 return 10\n1 return 9\n1 return 8\n1 return 7\n1 return 6\n1 return 5\n1 return 4\n1 return 3\n1 return 2\n0 poll 1\n1 return 1\n0 poll 1\n",
                 1,
             ),
         ],
@@ -420,9 +444,9 @@ const COMMANDS: &[Scene] = &[
         end: Ok(()),
         answers: &[
             "version IRIW 1\njob 1\n",
-            FOUR_PIECES,
+            SIXTEEN_PIECES,
             ALL_STATES,
-            "finish ok 13\n",
+            "finish ok 37\n",
         ],
     },
     Scene {
@@ -439,9 +463,9 @@ const COMMANDS: &[Scene] = &[
         fails: false,
         end: Ok(()),
         answers: &[
-            "version IRIW 1\njob 1\npiece 1 job 1 slice 0 from 0 to 1024\nworked 3 0 0\nworked 0 0 0\npending 3 4\ntaken 4 4\nverdict IRIW 1 rc11.cat 0\n",
+            "version IRIW 1\njob 1\npiece 1 job 1 slice 0 from 0 to 256\nworked 15 0 0\nworked 0 0 0\npending 15 16\ntaken 16 16\nverdict IRIW 1 rc11.cat 0\n",
             ALL_STATES,
-            "finish ok 14\n",
+            "finish ok 38\n",
         ],
     },
     Scene {

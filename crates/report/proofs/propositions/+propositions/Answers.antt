@@ -30,7 +30,7 @@ write_backs-loop-link-preserved g t c =
     let P : List ℕ → Type 0 = λ l. Appends (g.W.Sink.held c.args.writer.now) (g.W.Sink.held c.write_back.new.writer) l in (
       c.root_by-root.ensures ∙ root_more c.args.links.now.items c.loop-link.link-index c.link-item.result (rw c.deref-link-items.ensures.value at c.loop-link-test.true) (rw c.deref-link-items.ensures.value at c.link-item.is),
       subst P (sym (backs_more c.args.links.now.items c.loop-link.link-index c.link-item.result (rw c.deref-link-items.ensures.value at c.loop-link-test.true) (rw c.deref-link-items.ensures.value at c.link-item.is)))
-      (Appends-trans _ _ _ _ _ c.loop-link.invariant.1 (rw c.loop-link.invariant.0 at c.in_ok-write_back.ensures)),
+          (Appends-trans _ _ _ _ _ c.loop-link.invariant.1 (rw c.loop-link.invariant.0 at c.in_ok-write_back.ensures)),
     )
 
 pub write_joined-returns-in_err-write_closing : goal.write_joined-returns-in_err-write_closing

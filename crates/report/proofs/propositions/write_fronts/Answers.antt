@@ -15,5 +15,5 @@ loop-left-preserved g c =
     let P : List ℕ → Type 0 = λ l. Appends (g.W.Sink.held c.args.writer.now) (g.W.Sink.held c.write_bytes.new.writer) l in (
       omega (arith, c.loop-left.invariant.0),
       subst P (sym (fronts_more c.args.links.now.items c.loop-left.left c.index.result.now c.loop-left-test.true c.loop-left.invariant.0 c.index.ensures))
-      (Appends-trans _ _ _ _ _ c.loop-left.invariant.1 (rw (c.front.ensures, c.root_before.ensures) at c.in_ok-write_bytes.ensures)),
+          (Appends-trans _ _ _ _ _ c.loop-left.invariant.1 (rw (c.front.ensures, c.root_before.ensures) at c.in_ok-write_bytes.ensures)),
     )
