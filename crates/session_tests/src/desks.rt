@@ -28,9 +28,19 @@ enum Session {
     Mixed,
 }
 
-const FIRST: [Call; 4] = [Call::PutTest(A), Call::Ask(b"A", b"rc11.cat"), Call::Claim, Call::Return];
+const FIRST: [Call; 4] = [
+    Call::PutTest(A),
+    Call::Ask(b"A", b"rc11.cat"),
+    Call::Claim,
+    Call::Return,
+];
 
-const SECOND: [Call; 4] = [Call::PutTest(B), Call::Ask(b"B", b"rc11.cat"), Call::Claim, Call::Return];
+const SECOND: [Call; 4] = [
+    Call::PutTest(B),
+    Call::Ask(b"B", b"rc11.cat"),
+    Call::Claim,
+    Call::Return,
+];
 
 const OTHERS: [Call; 2] = [Call::Claim, Call::Return];
 

@@ -153,11 +153,7 @@ fn held_after(held: Option<u32>, said: &Said, reply: &Reply) -> Result<Option<u3
             }
         }
         (Some(claim), Said::GiveBack(number)) => {
-            if *number == claim {
-                Ok(None)
-            } else {
-                Err(())
-            }
+            if *number == claim { Ok(None) } else { Err(()) }
         }
         _ => Err(()),
     }

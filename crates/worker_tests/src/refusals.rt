@@ -124,7 +124,10 @@ const REFUSALS: [(u64, Done); 5] = [
 #[test]
 fn refusals(rt: HostRuntime) -> Result<(), Fail> {
     for (refused, wanted) in REFUSALS {
-        assert!(rt; done_under(&rt, rt.alloc(), LIMITS, 2, refused)? == Some(wanted), "{refused}");
+        assert!(rt;
+            done_under(&rt, rt.alloc(), LIMITS, 2, refused)? == Some(wanted),
+            "{refused}"
+        );
     }
     Ok(())
 }
@@ -149,7 +152,10 @@ fn ending_at(journal: u32) -> Limits {
 fn full_journals(rt: HostRuntime) -> Result<(), Fail> {
     for (journal, wanted) in LOST {
         let limits = ending_at(journal);
-        assert!(rt; done_under(&rt, rt.alloc(), limits, 1, 0)? == Some(wanted), "{journal}");
+        assert!(rt;
+            done_under(&rt, rt.alloc(), limits, 1, 0)? == Some(wanted),
+            "{journal}"
+        );
     }
     Ok(())
 }

@@ -23,7 +23,7 @@ pub const LIMITS: Limits = Limits {
     claims: 10_000,
 };
 
-/// Independent reads of independent writes, with two values more: 4,096 numbers, in four slices.
+/// Independent reads of independent writes, with two values more: 4,096 numbers, in sixteen slices.
 const IRIW: &[u8] = b"C IRIW
 { 0:r8=2; 0:r9=3; }
 P0 (atomic_int* x) {
@@ -46,7 +46,7 @@ exists (2:r0=1 /\\ 2:r1=0 /\\ 3:r0=1 /\\ 3:r1=0)
 /// What the session beside the workers asks for.
 #[derive(Clone, Copy)]
 enum Load {
-    /// One job of four pieces.
+    /// One job of sixteen pieces.
     Iriw,
     /// So many jobs of one piece.
     Jobs(u8),
@@ -291,14 +291,14 @@ fn shows(outcome: Option<Outcome>, entries: Option<usize>, evaluated: u64) -> bo
 
 #[test]
 fn two_pieces_at_once(rt: HostRuntime) -> Result<(), Fail> {
-    assert!(rt; shows(idle_of_two(&rt, rt.alloc())?, Some(2 + 8 + 2), 4));
-    assert!(rt; shows(closed_of_two(&rt, rt.alloc())?, None, 4));
+    assert!(rt; shows(idle_of_two(&rt, rt.alloc())?, Some(2 + 32 + 2), 16));
+    assert!(rt; shows(closed_of_two(&rt, rt.alloc())?, None, 16));
     Ok(())
 }
 
 #[test]
 fn four_pieces_at_once(rt: HostRuntime) -> Result<(), Fail> {
     assert!(rt; shows(idle_of_four(&rt, rt.alloc())?, Some(25 + 48 + 4), 24));
-    assert!(rt; shows(closed_of_four(&rt, rt.alloc())?, None, 4));
+    assert!(rt; shows(closed_of_four(&rt, rt.alloc())?, None, 16));
     Ok(())
 }

@@ -50,7 +50,13 @@ fn session<L: Ledger, R: Wait + Clock>(
     requires { pass.parts ≡ 1 }
     ensures { result.parts ≡ 1 }
 {
-    let _ = made(rt, alloc, desk, &mut pass, Call::PutCat(own.file, own.model));
+    let _ = made(
+        rt,
+        alloc,
+        desk,
+        &mut pass,
+        Call::PutCat(own.file, own.model),
+    );
     let _ = made(rt, alloc, desk, &mut pass, Call::PutTest(own.text));
     let _ = made(rt, alloc, desk, &mut pass, Call::Ask(own.test, own.file));
     if let Some(job) = job_of(&pass) {
