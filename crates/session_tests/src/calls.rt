@@ -25,13 +25,13 @@ exists (0:r0=0 /\\ 1:r0=0)
 ";
 
 /// Tests of four names, each with one thread that does nothing.
-pub const A: &[u8] = b"C A\n{ x; }\nP0 () {}\nexists (x=0)\n";
+pub const TEST_A: &[u8] = b"C A\n{ x; }\nP0 () {}\nexists (x=0)\n";
 
-pub const B: &[u8] = b"C B\n{ x; }\nP0 () {}\nexists (x=0)\n";
+pub const TEST_B: &[u8] = b"C B\n{ x; }\nP0 () {}\nexists (x=0)\n";
 
-pub const C: &[u8] = b"C C\n{ x; }\nP0 () {}\nexists (x=0)\n";
+pub const TEST_C: &[u8] = b"C C\n{ x; }\nP0 () {}\nexists (x=0)\n";
 
-pub const D: &[u8] = b"C D\n{ x; }\nP0 () {}\nexists (x=0)\n";
+pub const TEST_D: &[u8] = b"C D\n{ x; }\nP0 () {}\nexists (x=0)\n";
 
 /// A call of a session.
 #[derive(Clone, Copy)]

@@ -2,7 +2,9 @@
 
 ghost use Rattle.std.specs.Prelude.{◌≡◌, ◌≤◌, ◌<◌, All};
 
-use crate::calls::{A, Answer, B, C, Call, D, SB, are_answered, is_answered, make_all};
+use crate::calls::{
+    Answer, Call, SB, TEST_A, TEST_B, TEST_C, TEST_D, are_answered, is_answered, make_all,
+};
 use book::{Command, Limits, Refused};
 use sessions::{Desk, FinishCause, Pass, finish, open};
 use std::alloc::{AllocError, Global};
@@ -29,14 +31,14 @@ enum Session {
 }
 
 const FIRST: [Call; 4] = [
-    Call::PutTest(A),
+    Call::PutTest(TEST_A),
     Call::Ask(b"A", b"rc11.cat"),
     Call::Claim,
     Call::Return,
 ];
 
 const SECOND: [Call; 4] = [
-    Call::PutTest(B),
+    Call::PutTest(TEST_B),
     Call::Ask(b"B", b"rc11.cat"),
     Call::Claim,
     Call::Return,
@@ -45,22 +47,22 @@ const SECOND: [Call; 4] = [
 const OTHERS: [Call; 2] = [Call::Claim, Call::Return];
 
 const MIXED: [Call; 20] = [
-    Call::PutTest(A),
+    Call::PutTest(TEST_A),
     Call::Ask(b"A", b"stdlib.cat"),
     Call::Claim,
     Call::Return,
     Call::Poll(1),
-    Call::PutTest(B),
+    Call::PutTest(TEST_B),
     Call::Ask(b"B", b"stdlib.cat"),
     Call::Claim,
     Call::GiveBack(1),
     Call::Poll(2),
-    Call::PutTest(C),
+    Call::PutTest(TEST_C),
     Call::Ask(b"C", b"stdlib.cat"),
     Call::Claim,
     Call::Return,
     Call::Poll(3),
-    Call::PutTest(D),
+    Call::PutTest(TEST_D),
     Call::Ask(b"D", b"stdlib.cat"),
     Call::PutCat(b"a.cat", b""),
     Call::DropCat(b"a.cat"),
