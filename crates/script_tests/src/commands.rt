@@ -519,6 +519,89 @@ const COMMANDS: &[Scene] = &[
             "refused 73 NoTest SB\nrefused 74 Model 61 NoCat rc11.cat\nversion SB 1\nversion a.cat 1\njob 1\nversion a.cat 2\nrefused 79 Replaced cat a.cat 2\ntest SB 1\njob 1 SB a.cat 0 1\nend\nrefused 74 Model 61 NoCat a.cat\nversion a.cat 3\nversion SB 2\ncat a.cat 3\njob 1 SB a.cat 0 1\nend\nfinish ok 12\n",
         ],
     },
+    Scene {
+        name: "Lost-workers-row-1",
+        limits: WIDE,
+        script: &[
+            ("0 test\n", 1),
+            (STORE_BUFFERING, 1),
+            (".\n0 ask SB rc11.cat\n1 claim\n0 test\n", 1),
+            (STORE_BUFFERING, 1),
+            (
+                ".\n0 claim\n0 release 1\n1 return 1\n0 poll 1\n0 ask SB rc11.cat\n1 claim\n1 back 2\n1 back 2\n2 claim\n0 forget 2\n2 return 3\n0 close\nwork\n",
+                1,
+            ),
+        ],
+        fails: false,
+        end: Ok(()),
+        answers: &[
+            "version SB 1\njob 1\npiece 1 job 1 slice 0 from 0 to 16\nversion SB 2\nnothing\nfreed 1\nrefused 78 NoClaim 1\nrefused 79 Replaced test SB 2\njob 2\npiece 2 job 2 slice 0 from 0 to 16\ndone\nrefused 78 NoClaim 2\npiece 3 job 2 slice 0 from 0 to 16\ndone\nrefused 78 NoClaim 3\ndone\nworked 0 0 0\nfinish ok 17\n",
+        ],
+    },
+    Scene {
+        name: "Lost-workers-row-2: a journal of 2",
+        limits: Limits {
+            journal: 2,
+            versions: 100,
+            claims: 100,
+        },
+        script: &[
+            ("0 test\n", 1),
+            (STORE_BUFFERING, 1),
+            (".\n0 ask SB rc11.cat\nwork\n", 1),
+        ],
+        fails: false,
+        end: Ok(()),
+        answers: &["version SB 1\njob 1\nworked 0 0 1\nfinish ok 2\n"],
+    },
+    Scene {
+        name: "Lost-workers-row-2: a journal of 3",
+        limits: Limits {
+            journal: 3,
+            versions: 100,
+            claims: 100,
+        },
+        script: &[
+            ("0 test\n", 1),
+            (STORE_BUFFERING, 1),
+            (".\n0 ask SB rc11.cat\nwork\n", 1),
+        ],
+        fails: false,
+        end: Ok(()),
+        answers: &["version SB 1\njob 1\nworked 1 0 2\nfinish ok 3\n"],
+    },
+    Scene {
+        name: "Lost-workers-row-2: a journal of 4",
+        limits: Limits {
+            journal: 4,
+            versions: 100,
+            claims: 100,
+        },
+        script: &[
+            ("0 test\n", 1),
+            (STORE_BUFFERING, 1),
+            (".\n0 ask SB rc11.cat\nwork\n", 1),
+        ],
+        fails: false,
+        end: Ok(()),
+        answers: &["version SB 1\njob 1\nworked 1 0 1\nfinish ok 4\n"],
+    },
+    Scene {
+        name: "Lost-workers-row-2: a journal of 5",
+        limits: Limits {
+            journal: 5,
+            versions: 100,
+            claims: 100,
+        },
+        script: &[
+            ("0 test\n", 1),
+            (STORE_BUFFERING, 1),
+            (".\n0 ask SB rc11.cat\nwork\n", 1),
+        ],
+        fails: false,
+        end: Ok(()),
+        answers: &["version SB 1\njob 1\nworked 1 0 0\nfinish ok 5\n"],
+    },
 ];
 
 #[test]
