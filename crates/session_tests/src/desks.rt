@@ -81,7 +81,7 @@ fn mixed<L: Ledger, R: Wait>(rt: &R, alloc: Global, desk: &Desk<L>, pass: &mut P
     recorded
 }
 
-fn session<L: Ledger, R: Wait>(
+fn make_session<L: Ledger, R: Wait>(
     rt: &R,
     alloc: Global,
     session: Session,
@@ -121,7 +121,7 @@ fn all<L: Ledger + Send + Sync, R: Threads + Wait + Sync>(
             requires { pass.old.parts ≡ 1 }
             ensures { pass.new.parts ≡ 1 }
         {
-            let _ = session(rt, alloc, what, desk, pass);
+            let _ = make_session(rt, alloc, what, desk, pass);
         },
     );
 }
