@@ -2,6 +2,7 @@ pub mod Bounding
 pub mod ByLocation
 pub mod Caps
 pub mod Graphs
+pub mod Grouping
 pub mod Law
 pub mod Passing
 pub mod Sources

@@ -4,7 +4,7 @@ use Rattle.listings.specs.Lists.{factorial}
 use Rattle.candidates.specs.Candidates.{IsCapped}
 use Rattle.candidates.specs.declared.fault.TheConstants.{MOST_CANDIDATES}
 use Rattle.candidates.proofs.Caps.{factor_le, factorial_positive}
-use Rattle.candidates.proofs.choosing.ways.Goals as goal
+use Rattle.candidates.proofs.counts.ways.Goals as goal
 
 pub returns-in_err-ways : goal.returns-in_err-ways
 returns-in_err-ways c =

@@ -2,7 +2,7 @@ use Rattle.std.proofs.Common.{◌≡◌, take}
 use Rattle.std.specs.List.{count_by}
 use Rattle.events.specs.Executions.{writes_to}
 use Rattle.candidates.specs.Bounds.{reads_from}
-use Rattle.candidates.proofs.choosing.count.Given as goal
+use Rattle.candidates.proofs.counts.count.Given as goal
 
 abbrev pub invariant-loop-event : goal.invariant-loop-event
 invariant-loop-event l = record {
