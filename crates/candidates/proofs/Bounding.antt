@@ -2,7 +2,7 @@
 use Rattle.std.proofs.Common.{◌≡◌, ℕ, zero, suc, ◌+◌, ◌<◌, ◌≤◌, List, [], ◌∷◌, length, map, drop, get_or, drop-cons, refl, sym, ◌∙◌, ap, subst, inl, inr, arith}
 use Rattle.std.proofs.lemmas.List.Elements.{All-nil, All-cons}
 use Rattle.std.proofs.lemmas.List.Sums.{sum_by-cons}
-use Rattle.std.proofs.lemmas.List.{length-map}
+use Rattle.candidates.proofs.Grouping.{length_mapped}
 use Rattle.std.specs.List.{sum_by, All}
 use Rattle.events.specs.Executions.{ThreadRun}
 use Rattle.listings.specs.Lists.{IsIn, ForEach, tabulate}
@@ -64,6 +64,6 @@ short_runs t p (suc n) g below runs run h m = elim h [
 
 pub short : (t : Litmus) → IsTest t → AreShort (choices_of t).threads
 short t p = record {
-  few = omega (arith, length-map (runs_of t) (upto (length t.threads)), length_tabulate (length t.threads) (λ i. i), p.threads);
+  few = omega (arith, length_mapped (runs_of t) (upto (length t.threads)), length_tabulate (length t.threads) (λ i. i), p.threads);
   short = short_runs t p (length t.threads) (λ i. i) (λ i l. l);
 }

@@ -227,7 +227,9 @@ in_spread tallies places t h m =
 pub one_above : (tally : List Counts) (tallies ts : List (List Counts)) (places : List ℕ) (rest : List (List (List Counts))) (limit : ℕ) → ArePlaces tallies places → spread tallies places ≡ ts → (t : List Counts) × IsIn t tallies × (limit < size_by (sum_tally tally t) rest) → limit < size_by tally (ts ∷ rest)
 one_above tally tallies ts places rest limit h s o =
     let P : List (List Counts) → Type 0 = λ us. limit < size_by tally (us ∷ rest) in
-    subst P s (omega (arith, o.2, member_sum (λ t. size_by (sum_tally tally t) rest) (spread tallies places) o.0 (in_spread tallies places o.0 h o.1)))
+    let g : limit < sum_of (λ t. size_by (sum_tally tally t) rest) (spread tallies places) =
+    omega (arith, o.2, member_sum (λ t. size_by (sum_tally tally t) rest) (spread tallies places) o.0 (in_spread tallies places o.0 h o.1)) in
+    subst P s g
 
 pub room_of_groups : (tally : List Counts) (tallies ts : List (List Counts)) (places : List ℕ) (rest : List (List (List Counts))) → ArePlaces tallies places → spread tallies places ≡ ts → ((t : List Counts) → IsIn t ts → HasRoom (sum_tally tally t) rest) → (t : List Counts) → IsIn t tallies → HasRoom (sum_tally tally t) rest
 room_of_groups tally tallies ts places rest h s room t m =

@@ -1,6 +1,8 @@
+pub mod Adding
 pub mod Bounding
 pub mod ByLocation
 pub mod Caps
+pub mod Descent
 pub mod Graphs
 pub mod Grouping
 pub mod Law

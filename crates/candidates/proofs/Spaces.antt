@@ -18,6 +18,10 @@ use Rattle.candidates.specs.Parts.{AreAllWithin, AreShort}
 use Rattle.candidates.proofs.Bounding.{within, short}
 use Rattle.candidates.proofs.Caps.{drop_upto, length_tabulate}
 use Rattle.candidates.proofs.Law.{sized}
+use Rattle.candidates.proofs.Grouping.{tallies_of, counted, has_room}
+use Rattle.candidates.proofs.Steps.{behind_all}
+use Rattle.candidates.specs.declared.counts.Counts.{Counts}
+use Rattle.candidates.specs.Groups.{tally_of, size_by, HasRoom}
 use Rattle.c11_threads.proofs.RunLists.{lists_runs_of}
 
 abbrev pub FewBelow : Litmus → ℕ → Type 0
@@ -61,6 +65,19 @@ within_all t lists p e =
 
 pub short_all : (t : Litmus) (lists : List (List ThreadRun)) → IsTest t → lists ≡ map (runs_of t) (upto (length t.threads)) → AreShort lists
 short_all t lists p e = let P : List (List ThreadRun) → Type 0 = AreShort in subst P (sym e) (short t p)
+
+-- What is counted by the tallies are all candidates.
+pub counted_all : (n : ℕ) (lists : List (List ThreadRun)) (tally : List Counts) (groups : List (List (List Counts))) → AreAllWithin n (choices lists) → tally ≡ tally_of n [] → groups ≡ map (tallies_of n) lists → size_by tally groups ≡ sum_of (block n) (choices lists)
+counted_all n lists tally groups w t g =
+    let P : List (List ThreadRun) → Type 0 = AreAllWithin n in
+    ap (λ (u : List Counts). size_by u groups) t ∙ ap (size_by (tally_of n [])) g
+    ∙ counted n lists [] (subst P (sym (behind_all lists)) w) ∙ ap (sum_of (block n)) (behind_all lists)
+
+pub room_all : (n : ℕ) (lists : List (List ThreadRun)) (tally : List Counts) (groups : List (List (List Counts))) → AreShort lists → tally ≡ tally_of n [] → groups ≡ map (tallies_of n) lists → HasRoom tally groups
+room_all n lists tally groups s t g =
+    let P : List Counts → Type 0 = λ u. HasRoom u groups in
+    let Q : List (List (List Counts)) → Type 0 = λ gs. HasRoom (tally_of n []) gs in
+    subst P (sym t) (subst Q (sym g) (has_room n lists s))
 
 -- Too many choices are too many candidates.
 pub too_many : (t : Litmus) → HaveFewRuns t → 2 ^ 32 < size_of (choices_of t) → HaveFewRuns t × ((n : ℕ) × IsSize t n × (2 ^ 32 < n))

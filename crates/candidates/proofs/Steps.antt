@@ -7,6 +7,7 @@ use Rattle.events.specs.Executions.{ThreadRun, Execution}
 use Rattle.listings.specs.Lists.{IsIn, sum_of}
 use Rattle.listings.specs.Numbered.{walk}
 use Rattle.listings.proofs.Walks.{walks_here, walks_on}
+use Rattle.listings.proofs.Listings.{in_right}
 use Rattle.candidates.specs.Executions.{block}
 use Rattle.candidates.specs.Candidates.{choices, candidate, no_execution}
 use Rattle.candidates.specs.Parts.{behind, IsPart}
@@ -79,3 +80,12 @@ behind_end chosen = ap (λ (c : List ThreadRun). c ∷ []) (append-nil chosen)
 
 pub behind_all : (threads : List (List ThreadRun)) → behind [] threads ≡ choices threads
 behind_all threads = map-id (choices threads)
+
+-- The choice of a part is one of the row, and its block is no larger than the row's.
+pub part_member : (n : ℕ) (row : List (List ThreadRun)) (first : ℕ) (c : List ThreadRun) → IsPart n row first (c ∷ []) → IsIn c row
+part_member n row first c p =
+    let P : List (List ThreadRun) → Type 0 = λ r. IsIn c r in
+    subst P (sym p.is) (in_right p.before ((c ∷ []) ++ p.after) c (inl refl))
+
+pub part_block : (n : ℕ) (row : List (List ThreadRun)) (first : ℕ) (c : List ThreadRun) → IsPart n row first (c ∷ []) → first + block n c ≤ sum_of (block n) row
+part_block n row first c p = omega (arith, part_end n row first (c ∷ []) p)

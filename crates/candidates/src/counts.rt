@@ -64,6 +64,53 @@ impl Model for Tally {
     ghost view = { λ t. t.counts.items };
 }
 
+/// The sums of the counts of each location.
+fn add(alloc: Global, counts: &[Counts], more: &[Counts]) -> Result<Vec<Counts>, AllocError>
+    requires small { IsSmall (sum_tally counts.now more.now) }
+    ensures { IfOk result (λ v. v.items ≡ sum_tally counts.now more.now) }
+{
+    let mut sums = Vec::new(alloc);
+    for location in 0..counts.len().min(more.len()) {
+        let one = counts[location];
+        let other = more[location];
+        sums.push(Counts {
+            reads: one.reads + other.reads,
+            writes: one.writes + other.writes,
+        })?;
+    }
+    Ok(sums)
+}
+
+/// Whether the counts of each location are the same.
+fn are_same(counts: &[Counts], others: &[Counts]) -> bool
+    ensures { result ≡ true → counts.now ≡ others.now }
+{
+    if counts.len() != others.len() {
+        return false;
+    }
+    for location in 0..counts.len() {
+        let one = counts[location];
+        let other = others[location];
+        if one.reads != other.reads || one.writes != other.writes {
+            return false;
+        }
+    }
+    true
+}
+
+/// The product of the ways at each location, if it is at most the limit.
+fn all_ways(all: &[Counts]) -> Option<u64>
+    requires small { IsSmall all.now }
+    ensures { IsCapped MOST_CANDIDATES (product_by ways_of all.now) result }
+{
+    let mut product = 1;
+    for counts in all {
+        let ways = ways(*counts)?;
+        product = capped_product(product, ways)?;
+    }
+    Some(product)
+}
+
 impl Tally {
     /// How often events read and write each location.
     pub(crate) fn new(
@@ -85,16 +132,7 @@ impl Tally {
         requires small { IsSmall (sum_tally self.now more.now) }
         ensures { IfOk result (λ t. t ≡ sum_tally self.now more.now) }
     {
-        let mut counts = Vec::new(alloc);
-        let locations = self.counts.len().min(more.counts.len());
-        for location in 0..locations {
-            let one = self.counts[location];
-            let other = more.counts[location];
-            counts.push(Counts {
-                reads: one.reads + other.reads,
-                writes: one.writes + other.writes,
-            })?;
-        }
+        let counts = add(alloc, &self.counts, &more.counts)?;
         Ok(Tally { counts })
     }
 
@@ -102,17 +140,7 @@ impl Tally {
     pub(crate) fn is_same(&self, other: &Tally) -> bool
         ensures { result ≡ true → self.now ≡ other.now }
     {
-        if self.counts.len() != other.counts.len() {
-            return false;
-        }
-        for location in 0..self.counts.len() {
-            let one = self.counts[location];
-            let two = other.counts[location];
-            if one.reads != two.reads || one.writes != two.writes {
-                return false;
-            }
-        }
-        true
+        are_same(&self.counts, &other.counts)
     }
 
     /// How many candidates have runs that read and write so often, if that is at most the limit.
@@ -120,11 +148,6 @@ impl Tally {
         requires small { IsSmall self.now }
         ensures { IsCapped MOST_CANDIDATES (product_by ways_of self.now) result }
     {
-        let mut product = 1;
-        for counts in &self.counts {
-            let ways = ways(*counts)?;
-            product = capped_product(product, ways)?;
-        }
-        Some(product)
+        all_ways(&self.counts)
     }
 }

@@ -1,0 +1,81 @@
+-- Counts of the locations, one location at a time.
+use Rattle.std.proofs.Common.{◌≡◌, ℕ, zero, suc, ◌+◌, ◌*◌, ◌<◌, ◌≤◌, ◌⊎◌, List, [], ◌∷◌, ◌++◌, append_assoc, append-nil, length, take, drop, get_or, drop-cons, add-one, refl, sym, ◌∙◌, ap, subst, inl, inr, arith}
+use Rattle.std.specs.List.{count_by}
+use Rattle.std.proofs.lemmas.List.{take_all}
+use Rattle.events.specs.declared.event.Event.{Event}
+use Rattle.events.specs.Executions.{writes_to}
+use Rattle.listings.specs.Lists.{tabulate}
+use Rattle.listings.proofs.Numberings.{cons_head, cons_tail}
+use Rattle.candidates.specs.declared.counts.Counts.{Counts}
+use Rattle.candidates.specs.Bounds.{reads_from}
+use Rattle.candidates.specs.Groups.{counts_of, tally_of, plus, sum_tally, IsFew, IsSmall}
+
+tabulate_last : {X : Type 0} (n : ℕ) (f : ℕ → X) → tabulate n f ++ f n ∷ [] ≡ tabulate (suc n) f
+tabulate_last zero f = refl
+tabulate_last {X = X} (suc n) f = ap (λ (xs : List X). f 0 ∷ xs) (tabulate_last n (λ i. f (suc i)))
+
+-- one location more
+pub tally_next : (l : ℕ) (es : List Event) (done more : List Counts) (c : Counts) → done ≡ tally_of l es → c.reads ≡ count_by (reads_from l) es → c.writes ≡ count_by (writes_to l) es → more ≡ done ++ c ∷ [] → more ≡ tally_of (l + 1) es
+tally_next l es done more c e r w m =
+    let C : ℕ → ℕ → Counts = λ a b. record { reads = a; writes = b } in
+    let same : c ≡ counts_of es l = ap (λ a. C a c.writes) r ∙ ap (λ b. C (count_by (reads_from l) es) b) w in
+    let s : suc l ≡ l + 1 = omega arith in
+    m ∙ ap (λ (cs : List Counts). cs ++ c ∷ []) e ∙ ap (λ (d : Counts). tally_of l es ++ d ∷ []) same ∙ tabulate_last l (counts_of es) ∙ ap (λ n. tally_of n es) s
+
+sum_next : (as' bs : List Counts) (i : ℕ) (d : Counts) → i < length as' → i < length bs → sum_tally (drop i as') (drop i bs) ≡ plus (get_or as' i d) (get_or bs i d) ∷ sum_tally (drop (i + 1) as') (drop (i + 1) bs)
+sum_next as' bs i d l m =
+    let n : suc i ≡ i + 1 = omega arith in
+    ap (λ (xs : List Counts). sum_tally xs (drop i bs)) (drop-cons as' i d l)
+    ∙ ap (λ (ys : List Counts). sum_tally (get_or as' i d ∷ drop (suc i) as') ys) (drop-cons bs i d m)
+    ∙ ap (λ k. plus (get_or as' i d) (get_or bs i d) ∷ sum_tally (drop k as') (drop k bs)) n
+
+pub add_next : (as' bs : List Counts) (i : ℕ) (d : Counts) (done more total : List Counts) (c : Counts) → i < length as' → i < length bs → c ≡ plus (get_or as' i d) (get_or bs i d) → more ≡ done ++ c ∷ [] → done ++ sum_tally (drop i as') (drop i bs) ≡ total → more ++ sum_tally (drop (i + 1) as') (drop (i + 1) bs) ≡ total
+add_next as' bs i d done more total c l m e g h =
+    let rest = sum_tally (drop (i + 1) as') (drop (i + 1) bs) in
+    ap (λ (xs : List Counts). xs ++ rest) g ∙ append_assoc done (c ∷ []) rest
+    ∙ ap (λ (x : Counts). done ++ x ∷ rest) e ∙ ap (λ (xs : List Counts). done ++ xs) (sym (sum_next as' bs i d l m)) ∙ h
+
+sum_nothing : (xs : List Counts) → sum_tally xs [] ≡ []
+sum_nothing [] = refl
+sum_nothing (x ∷ xs) = refl
+
+sum_over : (as' bs : List Counts) (i : ℕ) → (length as' ≤ i) ⊎ (length bs ≤ i) → sum_tally (drop i as') (drop i bs) ≡ []
+sum_over [] bs zero o = refl
+sum_over [] bs (suc i) o = refl
+sum_over (a ∷ as') [] zero o = refl
+sum_over (a ∷ as') [] (suc i) o = sum_nothing (drop i as')
+sum_over (a ∷ as') (b ∷ bs) zero o = elim o [ inl l ↦ absurd (omega (arith, l)) | inr l ↦ absurd (omega (arith, l)) ]
+sum_over (a ∷ as') (b ∷ bs) (suc i) o = sum_over as' bs i (elim o [ inl l ↦ inl (omega (arith, l)) | inr l ↦ inr (omega (arith, l)) ])
+
+pub add_end : (as' bs : List Counts) (i : ℕ) (done total : List Counts) → (length as' ≤ i) ⊎ (length bs ≤ i) → done ++ sum_tally (drop i as') (drop i bs) ≡ total → done ≡ total
+add_end as' bs i done total o e = sym (append-nil done) ∙ ap (λ (xs : List Counts). done ++ xs) (sym (sum_over as' bs i o)) ∙ e
+
+sum_get : (as' bs : List Counts) (i : ℕ) (d : Counts) → i < length as' → i < length bs → (get_or (sum_tally as' bs) i d ≡ plus (get_or as' i d) (get_or bs i d)) × (i < length (sum_tally as' bs))
+sum_get [] bs i d l m = absurd (omega (arith, l))
+sum_get (a ∷ as') [] i d l m = absurd (omega (arith, m))
+sum_get (a ∷ as') (b ∷ bs) zero d l m = (refl, omega arith)
+sum_get (a ∷ as') (b ∷ bs) (suc i) d l m = (let r = sum_get as' bs i d (omega (arith, l)) (omega (arith, m)) in (r.0, omega (arith, r.1)))
+
+pub small_sum : (as' bs : List Counts) (i : ℕ) (d : Counts) → IsSmall (sum_tally as' bs) → i < length as' → i < length bs → ((get_or as' i d).reads + (get_or bs i d).reads ≤ 512) × ((get_or as' i d).writes + (get_or bs i d).writes ≤ 512)
+small_sum as' bs i d h l m =
+    let g = sum_get as' bs i d l m in
+    let P : Counts → Type 0 = IsFew in
+    subst P g.0 (h i d g.1)
+
+pub same_next : (as' bs : List Counts) (i : ℕ) (d : Counts) → i < length as' → length as' ≡ length bs → (get_or as' i d).reads ≡ (get_or bs i d).reads → (get_or as' i d).writes ≡ (get_or bs i d).writes → take i as' ≡ take i bs → take (i + 1) as' ≡ take (i + 1) bs
+same_next [] bs i d l e r w t = absurd (omega (arith, l))
+same_next (a ∷ as') [] i d l e r w t = absurd (omega (arith, e))
+same_next (a ∷ as') (b ∷ bs) zero d l e r w t =
+    let C : ℕ → ℕ → Counts = λ x y. record { reads = x; writes = y } in
+    ap (λ x. C x a.writes ∷ []) r ∙ ap (λ y. C b.reads y ∷ []) w
+same_next (a ∷ as') (b ∷ bs) (suc i) d l e r w t =
+    let head : a ≡ b = cons_head t in
+    let tail : take i as' ≡ take i bs = cons_tail t in
+    let s : suc i + 1 ≡ suc (i + 1) = omega arith in
+    ap (λ k. take k (a ∷ as')) s
+    ∙ ap (λ (x : Counts). x ∷ take (i + 1) as') head
+    ∙ ap (λ (xs : List Counts). b ∷ xs) (same_next as' bs i d (omega (arith, l)) (omega (arith, e)) r w tail)
+    ∙ sym (ap (λ k. take k (b ∷ bs)) s)
+
+pub same_end : (as' bs : List Counts) (i : ℕ) → length as' ≤ i → length as' ≡ length bs → take i as' ≡ take i bs → as' ≡ bs
+same_end as' bs i l e t = sym (take_all i as' l) ∙ t ∙ take_all i bs (omega (arith, l, e))
