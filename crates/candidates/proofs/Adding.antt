@@ -1,14 +1,16 @@
 -- Counts of the locations, one location at a time.
-use Rattle.std.proofs.Common.{◌≡◌, ℕ, zero, suc, ◌+◌, ◌*◌, ◌<◌, ◌≤◌, ◌⊎◌, List, [], ◌∷◌, ◌++◌, append_assoc, append-nil, length, take, drop, get_or, drop-cons, add-one, refl, sym, ◌∙◌, ap, subst, inl, inr, arith}
+use Rattle.std.proofs.Common.{◌≡◌, ℕ, zero, suc, ◌+◌, ◌*◌, ◌^◌, ◌<◌, ◌≤◌, ◌⊎◌, List, [], ◌∷◌, ◌++◌, append_assoc, append-nil, length, take, drop, get_or, drop-cons, add-one, refl, sym, ◌∙◌, ap, subst, inl, inr, arith}
 use Rattle.std.specs.List.{count_by}
 use Rattle.std.proofs.lemmas.List.{take_all}
 use Rattle.events.specs.declared.event.Event.{Event}
 use Rattle.events.specs.Executions.{writes_to}
-use Rattle.listings.specs.Lists.{tabulate}
+use Rattle.listings.specs.Lists.{tabulate, factorial, sum_of}
 use Rattle.listings.proofs.Numberings.{cons_head, cons_tail}
 use Rattle.candidates.specs.declared.counts.Counts.{Counts}
 use Rattle.candidates.specs.Bounds.{reads_from}
-use Rattle.candidates.specs.Groups.{counts_of, tally_of, plus, sum_tally, IsFew, IsSmall}
+use Rattle.candidates.specs.Groups.{counts_of, tally_of, plus, sum_tally, ways_of, IsFew, IsSmall}
+use Rattle.std.proofs.Math.Nat.{one-le-pow}
+use Rattle.candidates.proofs.Caps.{factor_le, factorial_positive}
 
 tabulate_last : {X : Type 0} (n : ℕ) (f : ℕ → X) → tabulate n f ++ f n ∷ [] ≡ tabulate (suc n) f
 tabulate_last zero f = refl
@@ -39,15 +41,15 @@ sum_nothing : (xs : List Counts) → sum_tally xs [] ≡ []
 sum_nothing [] = refl
 sum_nothing (x ∷ xs) = refl
 
-sum_over : (as' bs : List Counts) (i : ℕ) → (length as' ≤ i) ⊎ (length bs ≤ i) → sum_tally (drop i as') (drop i bs) ≡ []
+sum_over : (as' bs : List Counts) (i : ℕ) → (i < length as' → length bs ≤ i) → sum_tally (drop i as') (drop i bs) ≡ []
 sum_over [] bs zero o = refl
 sum_over [] bs (suc i) o = refl
 sum_over (a ∷ as') [] zero o = refl
 sum_over (a ∷ as') [] (suc i) o = sum_nothing (drop i as')
-sum_over (a ∷ as') (b ∷ bs) zero o = elim o [ inl l ↦ absurd (omega (arith, l)) | inr l ↦ absurd (omega (arith, l)) ]
-sum_over (a ∷ as') (b ∷ bs) (suc i) o = sum_over as' bs i (elim o [ inl l ↦ inl (omega (arith, l)) | inr l ↦ inr (omega (arith, l)) ])
+sum_over (a ∷ as') (b ∷ bs) zero o = absurd (omega (arith, o (omega arith)))
+sum_over (a ∷ as') (b ∷ bs) (suc i) o = sum_over as' bs i (λ l. omega (arith, o (omega (arith, l))))
 
-pub add_end : (as' bs : List Counts) (i : ℕ) (done total : List Counts) → (length as' ≤ i) ⊎ (length bs ≤ i) → done ++ sum_tally (drop i as') (drop i bs) ≡ total → done ≡ total
+pub add_end : (as' bs : List Counts) (i : ℕ) (done total : List Counts) → (i < length as' → length bs ≤ i) → done ++ sum_tally (drop i as') (drop i bs) ≡ total → done ≡ total
 add_end as' bs i done total o e = sym (append-nil done) ∙ ap (λ (xs : List Counts). done ++ xs) (sym (sum_over as' bs i o)) ∙ e
 
 sum_get : (as' bs : List Counts) (i : ℕ) (d : Counts) → i < length as' → i < length bs → (get_or (sum_tally as' bs) i d ≡ plus (get_or as' i d) (get_or bs i d)) × (i < length (sum_tally as' bs))
@@ -79,3 +81,27 @@ same_next (a ∷ as') (b ∷ bs) (suc i) d l e r w t =
 
 pub same_end : (as' bs : List Counts) (i : ℕ) → length as' ≤ i → length as' ≡ length bs → take i as' ≡ take i bs → as' ≡ bs
 same_end as' bs i l e t = sym (take_all i as' l) ∙ t ∙ take_all i bs (omega (arith, l, e))
+
+abbrev pub nowhere : Counts
+nowhere = record { reads = 0; writes = 0 }
+
+pub some_ways : (c : Counts) → 1 ≤ ways_of c
+some_ways c =
+    let p : 1 ≤ (c.writes + 1) ^ c.reads = one-le-pow c.reads (c.writes + 1) (omega arith) in
+    omega (arith, p, factor_le ((c.writes + 1) ^ c.reads) (factorial c.writes) (factorial_positive c.writes))
+
+pub factor_positive : (p rest total : ℕ) → p * rest ≡ total → 1 ≤ total → 1 ≤ p
+factor_positive zero rest total e l = absurd (omega (arith, e, l))
+factor_positive (suc p) rest total e l = omega arith
+
+-- one part more of a sum
+pub take_on : (xs : List ℕ) (i : ℕ) → i < length xs → sum_of (λ n. n) (take (i + 1) xs) ≡ sum_of (λ n. n) (take i xs) + get_or xs i 0
+take_on [] i l = absurd (omega (arith, l))
+take_on (x ∷ xs) zero l = omega arith
+take_on (x ∷ xs) (suc i) l =
+    let s : suc i + 1 ≡ suc (i + 1) = omega arith in
+    let e : sum_of (λ n. n) (take (suc i + 1) (x ∷ xs)) ≡ x + sum_of (λ n. n) (take (i + 1) xs) = ap (λ k. sum_of (λ n. n) (take k (x ∷ xs))) s in
+    omega (arith, e, take_on xs i (omega (arith, l)))
+
+pub drop_on : (xs : List ℕ) (i : ℕ) → i < length xs → sum_of (λ n. n) (drop i xs) ≡ get_or xs i 0 + sum_of (λ n. n) (drop (i + 1) xs)
+drop_on xs i l = ap (sum_of (λ n. n)) (let e : drop i xs ≡ get_or xs i 0 ∷ drop (i + 1) xs = rw (add-one, drop-cons xs i 0) refl in e)

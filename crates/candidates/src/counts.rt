@@ -1,6 +1,6 @@
 //! How often runs read and write each location, and how many candidates have runs that do so.
 
-ghost use Rattle.std.specs.Prelude.{◌≡◌, ◌+◌, ◌*◌, ◌^◌, ◌≤◌, List, [], count_by, IfOk, true};
+ghost use Rattle.std.specs.Prelude.{◌≡◌, ◌+◌, ◌*◌, ◌^◌, ◌<◌, ◌≤◌, length, count_by, IfOk, true};
 ghost use Rattle.listings.specs.Lists.{factorial, product_by};
 ghost use Rattle.events.specs.Executions.{writes_to};
 ghost use Rattle.candidates.specs.Candidates.{IsCapped};
@@ -64,13 +64,26 @@ impl Model for Tally {
     ghost view = { λ t. t.counts.items };
 }
 
+/// How many locations both have counts of.
+fn shorter(counts: &[Counts], more: &[Counts]) -> usize
+    ensures own { result ≤ length counts.now }
+    ensures other { result ≤ length more.now }
+    ensures rest { result < length counts.now → length more.now ≤ result }
+{
+    if counts.len() < more.len() {
+        return counts.len();
+    }
+    more.len()
+}
+
 /// The sums of the counts of each location.
 fn add(alloc: Global, counts: &[Counts], more: &[Counts]) -> Result<Vec<Counts>, AllocError>
     requires small { IsSmall (sum_tally counts.now more.now) }
     ensures { IfOk result (λ v. v.items ≡ sum_tally counts.now more.now) }
 {
     let mut sums = Vec::new(alloc);
-    for location in 0..counts.len().min(more.len()) {
+    let locations = shorter(counts, more);
+    for location in 0..locations {
         let one = counts[location];
         let other = more[location];
         sums.push(Counts {

@@ -7,6 +7,5 @@ use Rattle.candidates.proofs.counts.all_ways.Given as goal
 abbrev pub invariant-loop-counts : goal.invariant-loop-counts
 invariant-loop-counts l = record {
   is : l.product * product_by ways_of (drop l.counts-index l.all) ≡ product_by ways_of l.all;
-  positive : 1 ≤ l.product;
   capped : l.product ≤ MOST_CANDIDATES;
 }
