@@ -1,5 +1,5 @@
 -- Counts of the locations, one location at a time.
-use Rattle.std.proofs.Common.{◌≡◌, ℕ, zero, suc, ◌+◌, ◌*◌, ◌^◌, ◌<◌, ◌≤◌, ◌⊎◌, List, [], ◌∷◌, ◌++◌, append_assoc, append-nil, length, take, drop, get_or, drop-cons, add-one, refl, sym, ◌∙◌, ap, subst, inl, inr, arith}
+use Rattle.std.proofs.Common.{◌≡◌, ℕ, zero, suc, ◌+◌, ◌*◌, ◌^◌, ◌<◌, ◌≤◌, ◌⊎◌, List, [], ◌∷◌, ◌++◌, append_assoc, append-nil, length, map, take, drop, get_or, drop-cons, add-one, refl, sym, ◌∙◌, ap, subst, inl, inr, arith}
 use Rattle.std.specs.List.{count_by}
 use Rattle.std.proofs.lemmas.List.{take_all}
 use Rattle.events.specs.declared.event.Event.{Event}
@@ -105,3 +105,11 @@ take_on (x ∷ xs) (suc i) l =
 
 pub drop_on : (xs : List ℕ) (i : ℕ) → i < length xs → sum_of (λ n. n) (drop i xs) ≡ get_or xs i 0 + sum_of (λ n. n) (drop (i + 1) xs)
 drop_on xs i l = ap (sum_of (λ n. n)) (let e : drop i xs ≡ get_or xs i 0 ∷ drop (i + 1) xs = rw (add-one, drop-cons xs i 0) refl in e)
+
+-- one more of a row that is mapped
+pub row_next : {A B : Type 0} (f : A → B) (xs : List A) (i : ℕ) (d : A) (done more : List B) (b : B) → i < length xs → b ≡ f (get_or xs i d) → more ≡ done ++ b ∷ [] → done ++ map f (drop i xs) ≡ map f xs → more ++ map f (drop (i + 1) xs) ≡ map f xs
+row_next {A = A} {B = B} f xs i d done more b l e m h =
+    let rest = map f (drop (i + 1) xs) in
+    let n : drop i xs ≡ get_or xs i d ∷ drop (i + 1) xs = rw (add-one, drop-cons xs i d) refl in
+    ap (λ (ys : List B). ys ++ rest) m ∙ append_assoc done (b ∷ []) rest
+    ∙ ap (λ (y : B). done ++ y ∷ rest) e ∙ ap (λ (ys : List A). done ++ map f ys) (sym n) ∙ h

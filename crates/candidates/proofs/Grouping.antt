@@ -7,7 +7,7 @@ use Rattle.std.proofs.lemmas.List.Sums.{sum_by-append, sum_by-cons, count_by-le-
 use Rattle.std.proofs.lemmas.List.Elements.{All-nil, All-cons, All-head, All-tail, All-push}
 use Rattle.std.proofs.lemmas.Bool.{cases_lt}
 use Rattle.events.specs.declared.event.Event.{Event}
-use Rattle.events.specs.Executions.{ThreadRun, writes_to}
+use Rattle.events.specs.Executions.{ThreadRun, writes_to, empty_run}
 use Rattle.listings.specs.Lists.{IsIn, product_by, sum_of, tabulate, factorial}
 use Rattle.listings.proofs.Listings.{in_get_or, place_of, in_left, in_right, in_map, map_in, flat_map_in}
 use Rattle.candidates.specs.declared.counts.Counts.{Counts}
@@ -18,6 +18,7 @@ use Rattle.candidates.specs.Groups.{counts_of, tally_of, plus, sum_tally, ways_o
 use Rattle.candidates.specs.Parts.{behind, AreAllWithin, AreShort}
 use Rattle.candidates.proofs.ByLocation.{reads_at, writes_at, ways_at, by_location, product_same}
 use Rattle.candidates.proofs.Steps.{sum_append, sum_flat, behind_step, behind_end}
+use Rattle.candidates.proofs.Adding.{row_next}
 
 -- the events of some runs
 abbrev pub events_of : List ThreadRun → List Event
@@ -242,3 +243,8 @@ room_small tally (ts ∷ rest) h = h.0
 
 pub sum_sizes : (tally : List Counts) (ts : List (List Counts)) (rest : List (List (List Counts))) (sizes : List ℕ) → sizes ≡ sizes_of tally ts rest → sum_of (λ n. n) sizes ≡ size_by tally (ts ∷ rest)
 sum_sizes tally ts rest sizes e = ap (sum_of (λ n. n)) e ∙ sum_map (λ n. n) (λ t. size_by (sum_tally tally t) rest) ts
+
+-- One run more is in its group.
+pub grouped_on : (n : ℕ) (runs : List ThreadRun) (i : ℕ) (tallies grown : List (List Counts)) (places more : List ℕ) (t : List Counts) → i < length runs → t ≡ tally_of n (get_or runs i empty_run).events → ArePlaces grown more × (spread grown more ≡ spread tallies places ++ t ∷ []) → spread tallies places ++ map (λ run. tally_of n run.events) (drop i runs) ≡ map (λ run. tally_of n run.events) runs → ArePlaces grown more × (spread grown more ++ map (λ run. tally_of n run.events) (drop (i + 1) runs) ≡ map (λ run. tally_of n run.events) runs)
+grouped_on n runs i tallies grown places more t l e k h =
+    (k.0, row_next (λ (run : ThreadRun). tally_of n run.events) runs i empty_run (spread tallies places) (spread grown more) t l e k.1 h)
