@@ -22,7 +22,7 @@ sum_flat size f (x ∷ xs) = sum_append size (f x) (flat_map f xs) ∙ ap (λ n.
 
 -- The row walks past what is before.
 walk_past : {A X : Type 0} (size : A → ℕ) (at : A → ℕ → X) (none : X) (before rest : List A) (i : ℕ) → walk size at none (before ++ rest) (sum_of size before + i) ≡ walk size at none rest i
-walk_past size at none [] rest i = refl
+walk_past size at none [] rest i = ap (walk size at none rest) (let z : 0 + i ≡ i = omega arith in z)
 walk_past size at none (a ∷ before) rest i =
     let e : sum_of size (a ∷ before) + i - size a ≡ sum_of size before + i = omega arith in
     walks_on size at none a (before ++ rest) (sum_of size (a ∷ before) + i) (omega arith)
