@@ -41,6 +41,10 @@ has_number g e h =
 pub all_at : {X : Type 0} (P : X → Type 0) (xs : List X) (i : ℕ) (x : X) → All P xs → StandsAt xs i x → P x
 all_at P xs i x h s = subst P (stands_get xs i x x s) (All-get_or P xs i x (stands_below xs i x s) h)
 
+-- a number fits a set or a relation over the events
+pub fits : (g : Execution) (e : EventId) (n i : ℕ) → n ≡ event_count g → IsNumber g i e → i < n
+fits g e n i h s = omega (arith, h, number_below g i e s)
+
 -- ONE PAIR, OR NONE
 
 pub nothing_more : (n : ℕ) (P : ℕ → ℕ → Type 0) (r : Relation) → r.count ≡ n → IsCanonical r → ((i j : ℕ) → P i j → ⊥) → IsExactly n (λ i j. In r i j ⊎ P i j) r
