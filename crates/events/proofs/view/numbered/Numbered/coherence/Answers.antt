@@ -1,5 +1,4 @@
-use Rattle.std.proofs.Common.{◌≡◌, ◌+◌, ◌∙◌, ap, refl, subst, length, arith}
-use Rattle.events.specs.Executions.{Execution}
+use Rattle.std.proofs.Common.{◌∙◌, ap, length, arith}
 use Rattle.events.specs.Named.{event_count}
 use Rattle.events.proofs.Standing.{stands_item}
 use Rattle.events.proofs.Adding.{orders_on, orders_done}

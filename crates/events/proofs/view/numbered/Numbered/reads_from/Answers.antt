@@ -1,4 +1,4 @@
-use Rattle.std.proofs.Common.{◌≡◌, ◌∙◌, ap, arith, refl, subst, length}
+use Rattle.std.proofs.Common.{◌∙◌, ap, arith, length}
 use Rattle.events.specs.Named.{event_count, read_names}
 use Rattle.events.proofs.Adding.{reads_on, reads_done}
 use Rattle.events.proofs.view.numbered.Numbered.reads_from.Goals as goal

@@ -1,4 +1,4 @@
-use Rattle.std.proofs.Common.{◌≡◌, ◌⊎◌, ◌+◌, ◌-◌, ℕ, arith, refl, subst, length, get_or}
+use Rattle.std.proofs.Common.{◌≡◌, ◌+◌, ◌-◌, ℕ, arith, refl, subst, length, get_or}
 use Rattle.listings.specs.Lists.{StandsAt}
 use Rattle.relations.specs.Events.{IsExactlySet}
 use Rattle.events.specs.Named.{event_count}
@@ -26,5 +26,5 @@ loop-place-preserved c =
       omega (arith, c.loop-place.invariant.0),
       behind_on n c.args.self.now c.args.order.now p c.loop-place.place e c.loop-place.behind c.relate_behind.new.behind q at c.loop-place.invariant.1 c.relate_behind.ensures.behind,
       order_on n c.args.self.now c.args.order.now p c.loop-place.place e c.loop-place.behind c.args.rel.now c.loop-place.rel c.relate_behind.new.rel q at c.loop-place.invariant.1
-      c.loop-place.invariant.2 c.relate_behind.ensures.rel,
+          c.loop-place.invariant.2 c.relate_behind.ensures.rel,
     )

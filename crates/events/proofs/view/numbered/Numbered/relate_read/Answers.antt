@@ -1,4 +1,4 @@
-use Rattle.std.proofs.Common.{List, ◌≡◌, ◌∙◌, ap, arith, refl, subst, length, get_or}
+use Rattle.std.proofs.Common.{List, ◌∙◌, ap, arith, refl, subst, length, get_or}
 use Rattle.events.specs.declared.event.EventId.TheVariants.{Initial}
 use Rattle.listings.specs.Lists.{StandsAt}
 use Rattle.events.specs.declared.event.EventId.{EventId}
