@@ -8,7 +8,6 @@ use crate::executions::{SEEN_OF_WEAK, WEAK};
 use crate::text::{Found, are};
 use events::{Access, Order, Run};
 use std::alloc::{AllocError, Global};
-use std::process::Abort;
 use wb_text::TokenKind::{Sign, Word};
 use wb_text::{Dialect, MemSink, MemSource, Name, read_up_to, tokens};
 
@@ -101,25 +100,12 @@ fn a_sink(rt: HostRuntime) {
     assert!(rt; begins_empty(rt.alloc()));
 }
 
-fn pushed(run: &mut Run) -> Result<(), AllocError> {
-    run.push(event(0, Access::Write, 0, 1, Order::Rlx))
-}
-
-/// Adds this many events. A refused one isn't there, and is added then.
-fn grow(rt: &impl Abort, run: &mut Run, count: usize) {
-    for place in 0..count {
-        if pushed(run).is_err() {
-            assert!(rt; run.events().len() == place, "a refused event is there");
-            assert!(rt; pushed(run).is_ok());
-        }
-    }
-}
-
-#[test]
-fn an_event_of_a_run(rt: HostRuntime) {
-    let mut run = Run::new(Vec::new(rt.alloc()), Vec::new(rt.alloc()));
-    grow(&rt, &mut run, 2);
-    assert!(rt; run.events().len() == 2);
+/// A run of two events.
+fn two_events(alloc: Global) -> Result<Run, AllocError> {
+    let mut events = Vec::new(alloc);
+    events.push(event(0, Access::Write, 0, 1, Order::Rlx))?;
+    events.push(event(0, Access::Read, 0, 1, Order::Acq))?;
+    Ok(Run::new(events, Vec::new(alloc)))
 }
 
 /// Has the run's copy this many events?
@@ -130,11 +116,17 @@ fn is_copied_run(run: &Run, count: usize) -> bool {
     }
 }
 
+/// Has the copy of a run of two events two?
+fn is_made_and_copied(alloc: Global) -> bool {
+    match again!(two_events(alloc)) {
+        Ok(run) => is_copied_run(&run, 2),
+        Err(_) => false,
+    }
+}
+
 #[test]
 fn a_copied_run(rt: HostRuntime) {
-    let mut run = Run::new(Vec::new(rt.alloc()), Vec::new(rt.alloc()));
-    grow(&rt, &mut run, 2);
-    assert!(rt; is_copied_run(&run, 2));
+    assert!(rt; is_made_and_copied(rt.alloc()));
 }
 
 #[test]

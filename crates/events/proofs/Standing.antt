@@ -1,12 +1,12 @@
 -- What stands at a place of a list.
-use Rattle.std.proofs.Common.{◌≡◌, ℕ, zero, suc, ◌+◌, ◌<◌, ◌↔◌, List, [], ◌∷◌, length, get_or, inl, inr, sym, ◌∙◌, subst, arith, IsTrue, Bool}
-use Rattle.std.proofs.lemmas.Bool.{cases_eq}
+use Rattle.std.proofs.Common.{◌≡◌, ℕ, zero, suc, ◌<◌, ◌↔◌, List, [], ◌∷◌, length, get_or, sym, ◌∙◌, subst, arith, IsTrue, Bool}
+use Rattle.std.proofs.lemmas.Bool.{}
 use Rattle.events.specs.declared.event.EventId.{EventId}
 use Rattle.events.specs.declared.named.SetName.{SetName}
 use Rattle.events.specs.declared.named.RelName.{RelName}
 use Rattle.events.specs.Executions.{Execution}
 use Rattle.listings.specs.Lists.{StandsAt}
-use Rattle.events.specs.Named.{event_names, read_names, StandsFrom, StandsBefore, SourceIsBefore, InSet, InRel, NamedSet, NamedRel}
+use Rattle.events.specs.Named.{event_names, InSet, InRel, NamedSet, NamedRel}
 
 pub stands : {X : Type 0} (xs : List X) (i : ℕ) (x : X) → i < length xs → x ≡ get_or xs i x → StandsAt xs i x
 stands [] i x l e = absurd (omega (arith, l))
@@ -57,44 +57,6 @@ by_numbers g name i j d e b s t h = (
       h.1 (subst Q (one_stands (event_names g) j n.1 e n.3 t) (subst P (one_stands (event_names g) i n.0 d n.2 s) n.4))),
 )
 
--- LOOPS THAT LOOK FOR AN EVENT
-
--- it doesn't stand at this place, so it stands after it
-pub stands_on : (order : List EventId) (i : ℕ) (e : EventId) → (StandsAt order i e → ⊥) → StandsFrom order i e → StandsFrom order (i + 1) e
-stands_on order i e out s = (
-  s.0,
-  elim (cases_eq s.0 i) [
-    | inl f ↦ (let P : ℕ → Type 0 = λ n. StandsAt order n e in absurd (out (subst P f s.2)))
-    | inr f ↦ omega (arith, f, s.1)
-  ],
-  s.2,
-)
-
-pub stands_past : (order : List EventId) (i : ℕ) (e : EventId) → ((i < length order) → ⊥) → StandsFrom order i e → ⊥
-stands_past order i e end s = end (omega (arith, s.1, stands_below order s.0 e s.2))
-
--- what holds of no number below i, and not of i, holds of none below i + 1
-pub none_more : (P : ℕ → Type 0) (i : ℕ) → ((k : ℕ) → k < i → P k → ⊥) → (P i → ⊥) → (k : ℕ) → k < i + 1 → P k → ⊥
-none_more P i before here k l p = elim (cases_eq k i) [
-  | inl e ↦ here (subst P e p)
-  | inr e ↦ before k (omega (arith, l, e)) p
-]
-
--- the first event stands at place i, and the second after it
-abbrev pub IsPair : List EventId → EventId → EventId → ℕ → Type 0
-IsPair order d e i = StandsAt order i d × StandsFrom order (i + 1) e
-
--- order x has the first event before the second
-abbrev pub HasPair : Execution → EventId → EventId → ℕ → Type 0
-HasPair g d e x = (order : List EventId) × StandsAt g.co x order × StandsBefore order d e
-
--- read m is r and reads from w
-abbrev pub IsReading : Execution → EventId → EventId → ℕ → Type 0
-IsReading g w r m = StandsAt (read_names g) m r × StandsAt g.rf m w
-
--- read m is r and reads from a write before e
-abbrev pub IsReadingBefore : Execution → EventId → EventId → ℕ → Type 0
-IsReadingBefore g r e m = StandsAt (read_names g) m r × SourceIsBefore g m e
-
+-- no number below i has P
 abbrev pub NoneBelow : ℕ → (ℕ → Type 0) → Type 0
 NoneBelow i P = (k : ℕ) → k < i → P k → ⊥

@@ -1,3 +1,4 @@
 pub mod Examples
 pub mod Executions
 pub mod Named
+pub mod Rows

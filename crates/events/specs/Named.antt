@@ -160,10 +160,6 @@ StandsBefore order d e = (a : ℕ) × StandsAt order a d × StandsFrom order (a 
 abbrev pub IsCoherenceBefore : Execution → EventId → EventId → Type 0
 IsCoherenceBefore g d e = (x : ℕ) × (order : List EventId) × StandsAt g.co x order × StandsBefore order d e
 
--- the write that rf gives the read with this number among the reads stands before e in coherence
-abbrev pub SourceIsBefore : Execution → ℕ → EventId → Type 0
-SourceIsBefore g m e = (w : EventId) × StandsAt g.rf m w × IsCoherenceBefore g w e
-
 -- r reads from a write before e in coherence: rf^-1 ; co
 abbrev pub ReadsBefore : Execution → EventId → EventId → Type 0
 ReadsBefore g r e = (w : EventId) × ReadsFrom g w r × IsCoherenceBefore g w e

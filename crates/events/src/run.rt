@@ -1,6 +1,6 @@
 //! Runs of a thread.
 
-ghost use Rattle.std.specs.Prelude.{◌≡◌, ◌++◌, ◌∷◌, [], IfOk, OnOk, OnErr, slice_set};
+ghost use Rattle.std.specs.Prelude.{◌≡◌, IfOk};
 
 use crate::event::Event;
 use std::alloc::{AllocError, Global};
@@ -52,24 +52,6 @@ impl Run {
         ensures { result.now ≡ self.now.registers }
     {
         &self.registers
-    }
-
-    /// Adds an event at the end.
-    pub fn push(&mut self, event: Event) -> Result<(), AllocError>
-        ensures pushed { OnOk result (self.new ≡ record { events = self.old.events ++ event ∷ []; registers = self.old.registers }) }
-        ensures same { OnErr result (self.new ≡ self.old) }
-    {
-        self.events.push(event)?;
-        Ok(())
-    }
-
-    /// Gives the register at this place a value. A place past the last changes nothing.
-    pub fn set(&mut self, register: usize, value: u32)
-        ensures { self.new ≡ record { events = self.old.events; registers = slice_set self.old.registers register value } }
-    {
-        if register < self.registers.len() {
-            self.registers[register] = value;
-        }
     }
 
     /// A second run like this one.

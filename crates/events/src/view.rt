@@ -1,11 +1,10 @@
 //! The named sets and relations of one execution.
 
-ghost use Rattle.std.specs.Prelude.{◌≡◌, ◌+◌, ◌<◌, ◌≤◌, ◌↔◌, IsTrue, IfOk};
+ghost use Rattle.std.specs.Prelude.{◌≡◌, ◌≤◌, IfOk};
 ghost use Rattle.relations.specs.Events.{IsExactlySet};
 ghost use Rattle.relations.specs.Relation.{IsExactly};
 ghost use Rattle.events.specs.Named.{event_count, NamedSet, NamedRel};
 
-use crate::event::EventId;
 use crate::graph::Graph;
 use crate::named::{RelName, SetName};
 use relations::{Rel, Set};
@@ -14,31 +13,38 @@ use std::marker::Model;
 
 mod facts;
 mod names;
+mod numbered;
+mod rows;
 mod table;
 
-use names::{event_names, read_names};
+use numbered::Numbered;
+use table::Pairwise;
 
 /// An execution with its events numbered: the initial writes in the order of locations, then thread by thread
 /// in program order.
 #[derive(Drop)]
 pub struct GraphView<'a> {
-    graph: &'a Graph,
-    // The events by their numbers.
-    events: Vec<EventId>,
-    // The reads among them, in the same order.
-    reads: Vec<EventId>,
+    numbered: Numbered<'a>,
+    // What several names are made of, each worked out once.
+    po: Rel,
+    int: Rel,
+    loc: Rel,
+    rf: Rel,
+    co: Rel,
+    fr: Rel,
 }
 
 impl<'a> Model for GraphView<'a> {
-    ghost use Rattle.std.specs.Prelude.{◌≡◌, ◌≤◌, length};
+    ghost use Rattle.relations.specs.Relation.{IsExactly};
     ghost use Rattle.events.specs.Executions.{Execution};
-    ghost use Rattle.events.specs.Named.{event_names, event_count, read_names};
+    ghost use Rattle.events.specs.Named.{event_count, NamedRel};
+    ghost use Rattle.events.specs.declared.named.RelName.TheVariants as names;
 
     ghost Value = { Execution };
 
-    ghost view = { λ v. v.graph.now };
+    ghost view = { λ v. v.numbered };
 
-    ghost invariant = { λ v. record { events : v.events.items ≡ event_names v.graph.now; reads : v.reads.items ≡ read_names v.graph.now; count : length v.events.items ≡ event_count v.graph.now; few : event_count v.graph.now ≤ 64 } };
+    ghost invariant = { λ v. record { po : IsExactly (event_count v.numbered) (NamedRel v.numbered names.Po) v.po; int : IsExactly (event_count v.numbered) (NamedRel v.numbered names.Int) v.int; loc : IsExactly (event_count v.numbered) (NamedRel v.numbered names.Loc) v.loc; rf : IsExactly (event_count v.numbered) (NamedRel v.numbered names.Rf) v.rf; co : IsExactly (event_count v.numbered) (NamedRel v.numbered names.Co) v.co; fr : IsExactly (event_count v.numbered) (NamedRel v.numbered names.Fr) v.fr } };
 }
 
 impl<'a> GraphView<'a> {
@@ -46,12 +52,17 @@ impl<'a> GraphView<'a> {
     pub fn of(alloc: Global, graph: &'a Graph) -> Result<Self, AllocError>
         ensures { IfOk result (λ v. v ≡ graph.entry.now) }
     {
-        let events = event_names(alloc, graph)?;
-        let reads = read_names(alloc, graph, &events)?;
+        let numbered = Numbered::of(alloc, graph)?;
+        let rf = numbered.reads_from();
+        let co = numbered.coherence();
         Ok(GraphView {
-            graph,
-            events,
-            reads,
+            po: numbered.tested(Pairwise::Po),
+            int: numbered.tested(Pairwise::Int),
+            loc: numbered.tested(Pairwise::Loc),
+            fr: numbered.from_reads(&rf, &co),
+            rf,
+            co,
+            numbered,
         })
     }
 
@@ -60,63 +71,40 @@ impl<'a> GraphView<'a> {
         ensures is { result ≡ event_count self.now }
         ensures few { event_count self.now ≤ 64 }
     {
-        self.events.len()
+        self.numbered.count()
     }
 
     /// The set of this name.
-    #[tactic(auto, using(crate::proofs::Filling::set_begun, crate::proofs::Filling::set_filled, crate::proofs::Filling::set_passed, crate::proofs::Filling::set_full))]
     pub fn set(&self, name: SetName) -> Set
         ensures { IsExactlySet (event_count self.now) (NamedSet self.now name) result }
     {
-        let mut set = Set::empty(self.count());
-        for number in 0..self.count() {
-            if self.has(name, number) {
-                set.insert(number);
-            }
-        }
-        set
+        self.numbered.set(name)
     }
 
     /// The relation of this name.
-    #[tactic(auto, using(crate::proofs::Filling::rel_begun, crate::proofs::Filling::rel_full))]
     pub fn rel(&self, name: RelName) -> Rel
         ensures { IsExactly (event_count self.now) (NamedRel self.now name) result }
     {
-        let mut rel = Rel::empty(self.count());
-        for from in 0..self.count() {
-            self.relate(&mut rel, name, from);
+        match name {
+            RelName::Po => self.po.copy(),
+            RelName::Int => self.int.copy(),
+            RelName::Ext => self.int.complement(),
+            RelName::Loc => self.loc.copy(),
+            RelName::PoLoc => self.po.inter(&self.loc),
+            RelName::Rf => self.rf.copy(),
+            RelName::Co => self.co.copy(),
+            RelName::Fr => self.fr.copy(),
+            RelName::Rfi => self.rf.inter(&self.int),
+            RelName::Coi => self.co.inter(&self.int),
+            RelName::Fri => self.fr.inter(&self.int),
+            RelName::Rfe => self.rf.minus(&self.int),
+            RelName::Coe => self.co.minus(&self.int),
+            RelName::Fre => self.fr.minus(&self.int),
+            RelName::Rmw => self.numbered.tested(Pairwise::Rmw),
+            RelName::Data => self.numbered.tested(Pairwise::Data),
+            RelName::Ctrl => self.numbered.tested(Pairwise::Ctrl),
+            RelName::Addr => Rel::empty(self.count()),
+            RelName::Id => Rel::id(self.count()),
         }
-        rel
-    }
-
-    // Puts in the pairs from this event.
-    #[tactic(auto, using(crate::proofs::Filling::row_begun, crate::proofs::Filling::row_filled, crate::proofs::Filling::row_passed, crate::proofs::Filling::row_full))]
-    fn relate(&self, rel: &mut Rel, name: RelName, from: usize)
-        requires before { IsExactly (event_count self.now) (λ i j. (i < from) × NamedRel self.now name i j) rel.old }
-        requires from { from < event_count self.now }
-        ensures { IsExactly (event_count self.now) (λ i j. (i < from + 1) × NamedRel self.now name i j) rel.new }
-    {
-        for to in 0..self.count() {
-            if self.relates(name, from, to) {
-                rel.insert(from, to);
-            }
-        }
-    }
-
-    // Is the event with this number in the set of this name?
-    fn has(&self, name: SetName, number: usize) -> bool
-        requires { number < event_count self.now }
-        ensures { IsTrue result ↔ NamedSet self.now name number }
-    {
-        self.is_in(name, self.events[number])
-    }
-
-    // Is the pair of the events with these numbers in the relation of this name?
-    fn relates(&self, name: RelName, from: usize, to: usize) -> bool
-        requires from { from < event_count self.now }
-        requires to { to < event_count self.now }
-        ensures { IsTrue result ↔ NamedRel self.now name from to }
-    {
-        self.is_related(name, self.events[from], self.events[to])
     }
 }

@@ -75,11 +75,11 @@ fn event_of(thread: usize, line: &Line) -> Event {
 /// The run of the thread with this number.
 fn run_of(alloc: Global, number: usize, thread: &Thread) -> Result<Run, AllocError> {
     let (lines, registers) = *thread;
-    let mut run = Run::new(Vec::new(alloc), Vec::from_slice(alloc, registers)?);
+    let mut events = Vec::new(alloc);
     for line in lines {
-        run.push(event_of(number, line))?;
+        events.push(event_of(number, line))?;
     }
-    Ok(run)
+    Ok(Run::new(events, Vec::from_slice(alloc, registers)?))
 }
 
 /// The runs of the threads.

@@ -3,7 +3,7 @@
 ghost use Rattle.std.specs.Prelude.{◌≡◌, ◌↔◌, IsTrue, MatchOption};
 ghost use Rattle.relations.specs.Events.{Has};
 ghost use Rattle.listings.specs.Lists.{StandsAt};
-ghost use Rattle.events.specs.Named.{no_event, event_at, access_of, location_of, order_of, data_of, control_of, IsMemory, IsAtOneLocation, IsExchange, IsDependency, IsCoherenceBefore, StandsFrom, StandsBefore};
+ghost use Rattle.events.specs.Named.{no_event, event_at, access_of, location_of, order_of, data_of, control_of, IsMemory, IsAtOneLocation, IsExchange, IsDependency};
 
 use crate::event::{Access, Event, EventId, Order};
 use crate::graph::Graph;
@@ -40,30 +40,6 @@ pub(super) fn stands_at(events: &[EventId], place: usize, event: EventId) -> boo
     ensures { IsTrue result ↔ StandsAt events.now place event }
 {
     place < events.len() && is_same(events[place], event)
-}
-
-/// Does the event stand at this place or later?
-fn stands_from(order: &[EventId], from: usize, event: EventId) -> bool
-    ensures { IsTrue result ↔ StandsFrom order.now from event }
-{
-    for place in from..order.len() {
-        if stands_at(order, place, event) {
-            return true;
-        }
-    }
-    false
-}
-
-/// Does the first event stand before the second in the order?
-fn stands_before(order: &[EventId], first: EventId, second: EventId) -> bool
-    ensures { IsTrue result ↔ StandsBefore order.now first second }
-{
-    for place in 0..order.len() {
-        if stands_at(order, place, first) && stands_from(order, place + 1, second) {
-            return true;
-        }
-    }
-    false
 }
 
 impl Graph {
@@ -167,17 +143,5 @@ impl Graph {
                 None => false,
             },
         }
-    }
-
-    /// Does the first stand before the second in a coherence order?
-    pub(super) fn is_coherence_before(&self, first: EventId, second: EventId) -> bool
-        ensures { IsTrue result ↔ IsCoherenceBefore self.now first second }
-    {
-        for order in self.co() {
-            if stands_before(order.writes(), first, second) {
-                return true;
-            }
-        }
-        false
     }
 }

@@ -1,0 +1,43 @@
+-- How the relations of an execution are worked out.
+use Rattle.std.specs.Prelude.{ℕ, ◌+◌, ◌<◌, ◌≤◌, List}
+use Rattle.listings.specs.Lists.{StandsAt}
+use Rattle.events.specs.declared.event.EventId.{EventId}
+use Rattle.events.specs.declared.named.RelName.{RelName}
+use Rattle.events.specs.declared.named.RelName.TheVariants as names
+use Rattle.events.specs.declared.view.table.Pairwise.{Pairwise}
+use Rattle.events.specs.declared.view.table.Pairwise.TheVariants.{Po, Int, Loc, Rmw, Data, Ctrl}
+use Rattle.events.specs.Executions.{Execution}
+use Rattle.events.specs.Named.{IsNumber, read_names, StandsFrom, StandsBefore}
+
+-- the name of a relation that is tested pair by pair
+abbrev pub name_of : Pairwise → RelName
+name_of Po = names.Po
+name_of Int = names.Int
+name_of Loc = names.Loc
+name_of Rmw = names.Rmw
+name_of Data = names.Data
+name_of Ctrl = names.Ctrl
+
+-- i and j are the numbers of events that P relates
+abbrev pub ByNumbers : Execution → (EventId → EventId → Type 0) → ℕ → ℕ → Type 0
+ByNumbers g P i j = (d : EventId) × (e : EventId) × IsNumber g i d × IsNumber g j e × P d e
+
+-- i is the number of an event that stands in the order at place from or later
+abbrev pub IsBehind : Execution → List EventId → ℕ → ℕ → Type 0
+IsBehind g order from i = (e : EventId) × IsNumber g i e × StandsFrom order from e
+
+-- d stands in the order at place from or later, and before e
+abbrev pub StandsBeforeFrom : List EventId → ℕ → EventId → EventId → Type 0
+StandsBeforeFrom order from d e = (a : ℕ) × (from ≤ a) × StandsAt order a d × StandsFrom order (a + 1) e
+
+-- the coherence order of one of the first locations has d before e
+abbrev pub IsBeforeAmong : Execution → ℕ → EventId → EventId → Type 0
+IsBeforeAmong g count d e = (x : ℕ) × (order : List EventId) × (x < count) × StandsAt g.co x order × StandsBefore order d e
+
+-- one of the first reads is r, and it reads from w
+abbrev pub ReadsAmong : Execution → ℕ → EventId → EventId → Type 0
+ReadsAmong g count w r = (m : ℕ) × (m < count) × StandsAt (read_names g) m r × StandsAt g.rf m w
+
+-- r is the read with this number among the reads, and it reads from w
+abbrev pub IsReadAt : Execution → ℕ → EventId → EventId → Type 0
+IsReadAt g m w r = StandsAt (read_names g) m r × StandsAt g.rf m w

@@ -1,0 +1,121 @@
+//! The relations that read-from maps and coherence orders tell, row by row.
+
+ghost use Rattle.std.specs.Prelude.{◌≡◌, ◌<◌, ◌⊎◌, ℕ, length, MatchOption};
+ghost use Rattle.relations.specs.Events.{Has, IsExactlySet};
+ghost use Rattle.relations.specs.Relation.{In, IsExactly};
+ghost use Rattle.events.specs.declared.named.RelName.TheVariants.{Rf, Co, Fr};
+ghost use Rattle.events.specs.Named.{IsNumber, event_count, NamedRel, StandsBefore, read_names};
+ghost use Rattle.events.specs.Rows.{ByNumbers, IsReadAt};
+
+use super::facts::stands_at;
+use super::numbered::Numbered;
+use crate::event::EventId;
+use relations::{Rel, Set};
+
+impl Numbered<'_> {
+    /// `rf`.
+    #[tactic(auto, using(crate::proofs::Adding::reads_begun, crate::proofs::Adding::reads_on, crate::proofs::Adding::reads_done))]
+    pub(super) fn reads_from(&self) -> Rel
+        ensures { IsExactly (event_count self.now) (NamedRel self.now Rf) result }
+    {
+        let mut rel = Rel::empty(self.count());
+        for read in 0..self.reads.len() {
+            self.relate_read(&mut rel, read);
+        }
+        rel
+    }
+
+    /// `co`.
+    #[tactic(auto, using(crate::proofs::Adding::orders_begun, crate::proofs::Adding::orders_on, crate::proofs::Adding::orders_done, crate::proofs::Standing::stands_item))]
+    pub(super) fn coherence(&self) -> Rel
+        ensures { IsExactly (event_count self.now) (NamedRel self.now Co) result }
+    {
+        let mut rel = Rel::empty(self.count());
+        for order in self.graph.co() {
+            self.relate_order(&mut rel, order.writes());
+        }
+        rel
+    }
+
+    /// `fr`: the events behind the write that a read reads from.
+    pub(super) fn from_reads(&self, rf: &Rel, co: &Rel) -> Rel
+        requires rf { IsExactly (event_count self.now) (NamedRel self.now Rf) rf.now }
+        requires co { IsExactly (event_count self.now) (NamedRel self.now Co) co.now }
+        ensures { IsExactly (event_count self.now) (NamedRel self.now Fr) result }
+    {
+        // They tell that what is read from is an event.
+        let _ = self.graph.runs();
+        rf.inverse().seq(co)
+    }
+
+    // Adds the pair of the read with this number among the reads and the write that it reads from.
+    #[tactic(auto, using(crate::proofs::Adding::read_more, crate::proofs::Adding::no_read_more, crate::proofs::Standing::stands_read))]
+    fn relate_read(&self, rel: &mut Rel, read: usize)
+        requires count { rel.old.count ≡ event_count self.now }
+        requires read { read < length (read_names self.now) }
+        ensures { IsExactly (event_count self.now) (λ i j. In rel.old i j ⊎ ByNumbers self.now (IsReadAt self.now read) i j) rel.new }
+    {
+        let _ = rel.count();
+        let sources = self.graph.rf();
+        if read < sources.len() {
+            self.relate(rel, sources[read], self.reads[read]);
+        }
+    }
+
+    // Adds the pair of two events.
+    #[tactic(auto, using(crate::proofs::Adding::pair_more, crate::proofs::Adding::nothing_more))]
+    fn relate(&self, rel: &mut Rel, first: EventId, second: EventId)
+        requires { rel.old.count ≡ event_count self.now }
+        ensures { IsExactly (event_count self.now) (λ i j. In rel.old i j ⊎ (IsNumber self.now i first × IsNumber self.now j second)) rel.new }
+    {
+        let _ = rel.count();
+        if let Some(from) = self.number_of(first) {
+            if let Some(to) = self.number_of(second) {
+                rel.insert(from, to);
+            }
+        }
+    }
+
+    // Adds the pairs of an order, from its last event on.
+    #[tactic(auto, using(crate::proofs::Adding::behind_begun, crate::proofs::Adding::order_begun, crate::proofs::Adding::behind_on, crate::proofs::Adding::order_on, crate::proofs::Adding::order_done, crate::proofs::Standing::stands))]
+    fn relate_order(&self, rel: &mut Rel, order: &[EventId])
+        requires { rel.old.count ≡ event_count self.now }
+        ensures { IsExactly (event_count self.now) (λ i j. In rel.old i j ⊎ ByNumbers self.now (StandsBefore order.now) i j) rel.new }
+    {
+        let _ = rel.count();
+        let mut behind = Set::empty(self.count());
+        let mut place = order.len();
+        while place > 0 {
+            place -= 1;
+            self.relate_behind(rel, &mut behind, order[place]);
+        }
+    }
+
+    // Relates an event to each of those behind it, and puts it with them.
+    #[tactic(auto, using(crate::proofs::Adding::row_more, crate::proofs::Adding::event_more, crate::proofs::Adding::nothing_more, crate::proofs::Adding::no_event_more))]
+    fn relate_behind(&self, rel: &mut Rel, behind: &mut Set, event: EventId)
+        requires rel { rel.old.count ≡ event_count self.now }
+        requires behind { behind.old.count ≡ event_count self.now }
+        ensures rel { IsExactly (event_count self.now) (λ i j. In rel.old i j ⊎ (IsNumber self.now i event × Has behind.old j)) rel.new }
+        ensures behind { IsExactlySet (event_count self.now) (λ j. Has behind.old j ⊎ IsNumber self.now j event) behind.new }
+    {
+        let _ = rel.count();
+        let _ = behind.count();
+        if let Some(number) = self.number_of(event) {
+            rel.insert_all(number, behind);
+            behind.insert(number);
+        }
+    }
+
+    // The number of an event.
+    fn number_of(&self, event: EventId) -> Option<usize>
+        ensures { MatchOption result ((i : ℕ) → ¬ IsNumber self.now i event) (λ i. IsNumber self.now i event) }
+    {
+        for number in 0..self.events.len() {
+            if stands_at(self.events.as_slice(), number, event) {
+                return Some(number);
+            }
+        }
+        None
+    }
+}
