@@ -1,6 +1,7 @@
 //! Judges executions under models: which checks hold, and which flags are raised.
 #![tactic(auto)]
 
+mod early;
 mod evaluation;
 mod flags;
 mod judging;
@@ -9,4 +10,5 @@ mod naming;
 mod rounds;
 mod value;
 
+pub use early::judge_early;
 pub use judging::{Judgement, judge};

@@ -234,6 +234,12 @@ weighed_allowed t items places x old new allowed judged is more = inl (judged.0 
 pub weighed_forbidden : (t : Litmus) (items : List Clause) (places : List Place) (x : Execution) (old new : Counter) (allowed : Bool) → (IsTrue allowed ↔ Allowed items x) → allowed ≡ false → new ≡ old → IsWeighed t items places x old new
 weighed_forbidden t items places x old new allowed judged is same = inr ((λ a. (let is' = judged.1 a in cc)), same)
 
+-- the flags that are told of an allowed execution are those that are raised
+pub raised_when_allowed : (items : List Clause) (x : Execution) (allowed : Bool) (flags : List Word) → (IsTrue allowed ↔ Allowed items x) → allowed ≡ true →
+    Lists (λ name. Allowed items x × Raised items x name) flags → Lists (Raised items x) flags
+raised_when_allowed items x allowed flags judged is h =
+    record { once = h.once; only = λ name m. (h.only name m).1; all = λ name r. h.all name (judged.0 is, r) }
+
 -- the outcome of a count
 
 pub tells : (t : Litmus) (items : List Clause) (xs : List Execution) (places : List Place) (counter : Counter) (v : Outcome) → IsCount t items places xs counter → AreObserved t.condition t.listed places

@@ -17,7 +17,7 @@ use crate::row::Row;
 use crate::slot::{Slot, row, slots};
 use crate::work::Work;
 use candidates::Space;
-use cat_eval::judge;
+use cat_eval::judge_early;
 use conditions::{Place, Prop, State, holds};
 use events::{Graph, GraphView};
 use std::alloc::{AllocError, Global};
@@ -73,7 +73,7 @@ impl Counter {
     }
 
     /// Counts an execution, if the work's model allows it.
-    #[tactic(auto, using(crate::proofs::Counted::weighed_allowed, crate::proofs::Counted::weighed_forbidden))]
+    #[tactic(auto, using(crate::proofs::Counted::weighed_allowed, crate::proofs::Counted::weighed_forbidden, crate::proofs::Counted::raised_when_allowed))]
     fn weigh(
         &mut self,
         alloc: Global,
@@ -87,7 +87,7 @@ impl Counter {
         ensures { OnOk result
             (IsWeighed work.now.test work.now.model.items places.now graph.now self.old self.new) }
     {
-        let judgement = judge(alloc, work.model(), &GraphView::of(alloc, graph)?)?;
+        let judgement = judge_early(alloc, work.model(), &GraphView::of(alloc, graph)?)?;
         if judgement.allowed() {
             let state = row(alloc, slots, graph)?;
             self.include(work, places, graph, state, judgement.flags())?;
