@@ -3,7 +3,7 @@ use Rattle.std.proofs.Common.{◌≡◌, ℕ, zero, suc, ◌+◌, ◌-◌, ◌<�
 use Rattle.std.specs.List.{flat_map}
 use Rattle.std.specs.Option.{IsSome}
 use Rattle.std.specs.Prelude.{MatchOption}
-use Rattle.std.proofs.lemmas.List.{drop_all}
+use Rattle.std.proofs.lemmas.List.{drop_all, get_or_default}
 use Rattle.events.specs.Executions.{ThreadRun, empty_run}
 use Rattle.listings.specs.Lists.{IsIn, sum_of}
 use Rattle.listings.proofs.Listings.{in_get_or, map_in}
@@ -144,3 +144,54 @@ get_mapped f (x ∷ xs) (suc i) a b l = get_mapped f xs i a b (omega (arith, l))
 
 pub drop_next : (threads : List (List ThreadRun)) (i : ℕ) → i < length threads → drop i threads ≡ get_or threads i [] ∷ drop (i + 1) threads
 drop_next threads i l = rw (add-one, drop-cons threads i []) refl
+
+-- The tallies of the runs of a thread, and of those of the threads behind it.
+pub tallies_here : (n : ℕ) (threads : List (List ThreadRun)) (groups : List (List (List Counts))) (i : ℕ) (here : List (List Counts)) → groups ≡ map (tallies_of n) threads → i < length threads → here ≡ get_or groups i here → here ≡ tallies_of n (get_or threads i [])
+tallies_here n threads groups i here g l h = h ∙ ap (λ gs. get_or gs i here) g ∙ get_mapped (tallies_of n) threads i [] here l
+
+pub tallies_after : (n : ℕ) (threads : List (List ThreadRun)) (groups after : List (List (List Counts))) (i : ℕ) → groups ≡ map (tallies_of n) threads → after ≡ drop (i + 1) groups → after ≡ map (tallies_of n) (drop (i + 1) threads)
+tallies_after n threads groups after i g a = a ∙ ap (λ gs. drop (i + 1) gs) g ∙ drop_mapped (tallies_of n) threads (i + 1)
+
+-- The thread that is next, and those behind it.
+pub down_at : (n : ℕ) (row : List (List ThreadRun)) (number rest : ℕ) (tally : List Counts) (chosen : List ThreadRun) (threads : List (List ThreadRun)) (i : ℕ) → i < length threads → IsDown n row number rest tally chosen (drop i threads) → IsDown n row number rest tally chosen (get_or threads i [] ∷ drop (i + 1) threads)
+down_at n row number rest tally chosen threads i l h =
+    let P : List (List ThreadRun) → Type 0 = IsDown n row number rest tally chosen in
+    subst P (drop_next threads i l) h
+
+pub room_on : (n : ℕ) (row : List (List ThreadRun)) (number rest : ℕ) (tally : List Counts) (chosen runs : List ThreadRun) (more : List (List ThreadRun)) (here : List (List Counts)) (after : List (List (List Counts))) → IsDown n row number rest tally chosen (runs ∷ more) → here ≡ tallies_of n runs → after ≡ map (tallies_of n) more → (t : List Counts) → IsIn t here → HasRoom (sum_tally tally t) after
+room_on n row number rest tally chosen runs more here after h e f t m =
+    let P : List (List Counts) → Type 0 = λ us. IsIn t us in
+    let Q : List (List (List Counts)) → Type 0 = λ gs. HasRoom (sum_tally tally t) gs in
+    subst Q (sym f) (h.room.1 t (subst P e m))
+
+pub sized_on : {V : Type 0} (n limit : ℕ) (row : List (List ThreadRun)) (number rest : ℕ) (tally : List Counts) (chosen runs : List ThreadRun) (more : List (List ThreadRun)) (here : List (List Counts)) (after : List (List (List Counts))) (P : V → Type 0) (o : Option V) → IsDown n row number rest tally chosen (runs ∷ more) → sum_of (block n) row ≤ limit → here ≡ tallies_of n runs → after ≡ map (tallies_of n) more → MatchOption o (limit < size_by tally (here ∷ after)) P → IsSome o
+sized_on n limit row number rest tally chosen runs more here after P o h l e f m =
+    let T : List (List Counts) → List (List (List Counts)) → Type 0 = λ us gs. MatchOption o (limit < size_by tally (us ∷ gs)) P in
+    let U : List (List Counts) → Type 0 = λ us. T us after in
+    let A : List (List (List Counts)) → Type 0 = T (tallies_of n runs) in
+    sized n limit row number rest tally chosen runs more P o h l (subst A f (subst U e m))
+
+pub sizes_on : (n : ℕ) (tally : List Counts) (runs : List ThreadRun) (more : List (List ThreadRun)) (here : List (List Counts)) (after : List (List (List Counts))) (sizes : List ℕ) → here ≡ tallies_of n runs → after ≡ map (tallies_of n) more → sizes ≡ sizes_of tally here after → sizes ≡ sizes_of tally (tallies_of n runs) (map (tallies_of n) more)
+sizes_on n tally runs more here after sizes e f s = s ∙ ap (λ us. sizes_of tally us after) e ∙ ap (λ gs. sizes_of tally (tallies_of n runs) gs) f
+
+-- the run at a place of a thread
+pub run_there : (threads : List (List ThreadRun)) (i d : ℕ) (list runs : List ThreadRun) (run : ThreadRun) → i < length threads → list ≡ get_or threads i list → runs ≡ list → d < length (get_or threads i []) → run ≡ get_or runs d run → run ≡ get_or (get_or threads i []) d empty_run
+run_there threads i d list runs run l e r m is =
+    is ∙ ap (λ (rs : List ThreadRun). get_or rs d run) (r ∙ e ∙ get_or_default threads i list [] l) ∙ get_or_default (get_or threads i []) d run empty_run m
+
+pub down_next : (n : ℕ) (row : List (List ThreadRun)) (number rest left : ℕ) (tally here grown : List Counts) (chosen longer runs : List ThreadRun) (more : List (List ThreadRun)) (sizes : List ℕ) (d : ℕ) (run : ThreadRun) → IsDown n row number rest tally chosen (runs ∷ more) → sizes ≡ sizes_of tally (tallies_of n runs) (map (tallies_of n) more) → d < length sizes → left < get_or sizes d 0 → rest ≡ sum_of (λ k. k) (take d sizes) + left → run ≡ get_or runs d empty_run → here ≡ tally_of n run.events → grown ≡ sum_tally tally here → longer ≡ chosen ++ run ∷ [] → IsDown n row number left grown longer more
+down_next n row number rest left tally here grown chosen longer runs more sizes d run h e l b s r t g c =
+    let T : List Counts → List ThreadRun → Type 0 = λ u rs. IsDown n row number left u rs more in
+    let at = get_or runs d empty_run in
+    let same : sum_tally tally (tally_of n at.events) ≡ grown = sym (g ∙ ap (λ u. sum_tally tally u) (t ∙ ap (λ (x : ThreadRun). tally_of n x.events) r)) in
+    let long : chosen ++ at ∷ [] ≡ longer = sym (c ∙ ap (λ (x : ThreadRun). chosen ++ x ∷ []) r) in
+    let P : List Counts → Type 0 = λ u. T u (chosen ++ at ∷ []) in
+    let Q : List ThreadRun → Type 0 = T grown in
+    subst Q long (subst P same (down_on n row number rest left tally chosen runs more sizes d h e l b s))
+
+-- One run more has room.
+pub small_on : (n : ℕ) (row : List (List ThreadRun)) (number rest : ℕ) (tally here : List Counts) (chosen runs : List ThreadRun) (more : List (List ThreadRun)) (d : ℕ) (run : ThreadRun) → IsDown n row number rest tally chosen (runs ∷ more) → d < length runs → run ≡ get_or runs d empty_run → here ≡ tally_of n run.events → IsSmall (sum_tally tally here)
+small_on n row number rest tally here chosen runs more d run h l r t =
+    let P : List Counts → Type 0 = λ u. IsSmall (sum_tally tally u) in
+    subst P (sym (t ∙ ap (λ (x : ThreadRun). tally_of n x.events) r))
+    (room_small (sum_tally tally (tally_of n (get_or runs d empty_run).events)) (map (tallies_of n) more) (room_at n tally runs more d h.room l))

@@ -224,6 +224,11 @@ in_spread tallies places t h m =
     let P : List Counts → Type 0 = λ u. IsIn u (spread tallies places) in
     subst P q.2 (map_in (λ p. get_or tallies p []) places q.0 (h.used q.0 q.1))
 
+pub in_row : {A : Type 0} (xs : List A) (i : ℕ) (x : A) → i < length xs → x ≡ get_or xs i x → IsIn x xs
+in_row {A = A} xs i x l e =
+    let P : A → Type 0 = λ y. IsIn y xs in
+    subst P (sym e) (in_get_or xs i x l)
+
 -- Where a group has too many, the runs have.
 pub one_above : (tally : List Counts) (tallies ts : List (List Counts)) (places : List ℕ) (rest : List (List (List Counts))) (limit : ℕ) → ArePlaces tallies places → spread tallies places ≡ ts → (t : List Counts) × IsIn t tallies × (limit < size_by (sum_tally tally t) rest) → limit < size_by tally (ts ∷ rest)
 one_above tally tallies ts places rest limit h s o =

@@ -112,8 +112,9 @@ impl Space {
     {
         let threads = all_runs(alloc, test)?;
         let init = initial_values(alloc, test)?;
-        let groups = group_all(alloc, &threads, init.len())?;
-        let none = Tally::new(alloc, &[], init.len())?;
+        let locations = init.len();
+        let groups = group_all(alloc, &threads, locations)?;
+        let none = Tally::new(alloc, &[], locations)?;
         let Some(size) = count(alloc, &none, &groups)? else {
             return Err(SpaceFault::TooManyCandidates);
         };
