@@ -1,7 +1,7 @@
 -- The candidates are counted by how often the runs read and write each location.
-use Rattle.std.proofs.Common.{◌≡◌, ℕ, zero, suc, ◌+◌, ◌*◌, ◌^◌, ◌<◌, ◌≤◌, List, [], ◌∷◌, ◌++◌, append_assoc, append-nil, map, length, take, drop, get_or, add-one, refl, sym, ◌∙◌, ap, subst, inl, inr, arith, Bool, cond}
+use Rattle.std.proofs.Common.{◌≡◌, ℕ, zero, suc, ◌+◌, ◌-◌, ◌*◌, ◌^◌, ◌<◌, ◌≤◌, List, [], ◌∷◌, ◌++◌, append_assoc, append-nil, map, length, take, drop, get_or, add-one, refl, sym, ◌∙◌, ap, subst, inl, inr, arith, Bool, cond}
 use Rattle.std.specs.List.{flat_map, sum_by, count_by, All}
-use Rattle.std.proofs.lemmas.List.{map-append}
+use Rattle.std.proofs.lemmas.List.{map-append, take_all}
 use Rattle.std.proofs.lemmas.List.Concat.{flat_map-append}
 use Rattle.std.proofs.lemmas.List.Sums.{sum_by-append, sum_by-cons, count_by-le-length}
 use Rattle.std.proofs.lemmas.List.Elements.{All-nil, All-cons, All-head, All-tail, All-push}
@@ -228,6 +228,12 @@ pub in_row : {A : Type 0} (xs : List A) (i : ℕ) (x : A) → i < length xs → 
 in_row {A = A} xs i x l e =
     let P : A → Type 0 = λ y. IsIn y xs in
     subst P (sym e) (in_get_or xs i x l)
+
+pub front_rest : {A : Type 0} (xs : List A) (x : A) → 1 ≤ length xs → x ≡ get_or xs 0 x → x ∷ take (length xs - 1) (drop 1 xs) ≡ xs
+front_rest [] x l e = absurd (omega (arith, l))
+front_rest {A = A} (y ∷ ys) x l e =
+    let h : x ≡ y = e in
+    ap (λ (z : A). z ∷ take (length (y ∷ ys) - 1) ys) h ∙ ap (λ (zs : List A). y ∷ zs) (take_all (length (y ∷ ys) - 1) ys (omega arith))
 
 -- Where a group has too many, the runs have.
 pub one_above : (tally : List Counts) (tallies ts : List (List Counts)) (places : List ℕ) (rest : List (List (List Counts))) (limit : ℕ) → ArePlaces tallies places → spread tallies places ≡ ts → (t : List Counts) × IsIn t tallies × (limit < size_by (sum_tally tally t) rest) → limit < size_by tally (ts ∷ rest)

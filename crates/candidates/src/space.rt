@@ -114,8 +114,8 @@ impl Space {
         let init = initial_values(alloc, test)?;
         let locations = init.len();
         let groups = group_all(alloc, &threads, locations)?;
-        let none = Tally::new(alloc, &[], locations)?;
-        let Some(size) = count(alloc, &none, &groups)? else {
+        let empty = Tally::new(alloc, &[], locations)?;
+        let Some(size) = count(alloc, &empty, &groups)? else {
             return Err(SpaceFault::TooManyCandidates);
         };
         Ok(Space {

@@ -5,7 +5,7 @@ use Rattle.candidates.specs.declared.counts.Counts.{Counts}
 use Rattle.candidates.specs.declared.fault.TheConstants.{MOST_CANDIDATES}
 use Rattle.candidates.specs.Candidates.{IsCapped}
 use Rattle.candidates.specs.Groups.{sum_tally, size_by, HasRoom}
-use Rattle.candidates.proofs.Grouping.{placed_sizes, one_above, room_of_groups, room_small, sum_sizes, in_row}
+use Rattle.candidates.proofs.Grouping.{placed_sizes, one_above, room_of_groups, room_small, sum_sizes, in_row, front_rest}
 use Rattle.candidates.proofs.groups.+counting.Goals as goal
 
 pub Groups::sizes-group_sizes-requires : goal.Groups::sizes-group_sizes-requires
@@ -30,7 +30,7 @@ pub count-returns-in-Some : goal.count-returns-in-Some
 count-returns-in-Some t c =
     let s = sum_sizes c.args.tally.now _ _ c.deref.result.now (c.deref.ensures.value ∙ (rw c.in-Some.is at c.in_ok-sizes-in-len1-up.ensures)) in
     let P : ℕ → Type 0 = λ n. IsCapped MOST_CANDIDATES n c.capped_sum.result in
-    subst P s c.capped_sum.ensures
+    subst P (s ∙ ap (size_by c.args.tally.now) (front_rest c.args.threads.now c.first-item.result c.in-len1-up.len_at_least c.first-item.is)) c.capped_sum.ensures
 
 pub group_sizes-plus-requires : goal.group_sizes-plus-requires
 group_sizes-plus-requires t c =

@@ -1,5 +1,6 @@
 use Rattle.std.proofs.Common.{◌≡◌, ◌∙◌, ◌<◌, List, length, ap, arith}
-use Rattle.events.specs.Executions.{ThreadRun}
+use Rattle.std.proofs.lemmas.List.{get_or_default}
+use Rattle.events.specs.Executions.{ThreadRun, empty_run}
 use Rattle.candidates.specs.Groups.{tally_of}
 use Rattle.candidates.proofs.Grouping.{known_group, fresh_group, grouped_on}
 use Rattle.candidates.proofs.groups.Groups.new.Goals as goal
@@ -10,7 +11,7 @@ loop-run-preserved c =
     let n = c.args.locations in
     let ts = c.loop-run.tallies.items in
     let ps = c.loop-run.places.items in
-    let e = c.in_ok-tally.ensures ∙ ap (tally_of n) (c.events.ensures ∙ ap (λ (r : ThreadRun). r.events) c.run-item.is) in
+    let e = c.in_ok-tally.ensures ∙ ap (tally_of n) (c.events.ensures ∙ ap (λ (r : ThreadRun). r.events) (c.run-item.is ∙ get_or_default c.args.runs.now c.loop-run.run-index c.run-item.result empty_run c.loop-run-test.true)) in
     elim c.match-place_of.branch [
       | in-Some+in_ok-push-in-Some w ↦
           (let q = rw (w.in-Some.is, c.deref.ensures.value) at c.place_of.ensures in
