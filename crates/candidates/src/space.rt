@@ -147,13 +147,7 @@ impl Space {
         ensures first { IfOk result (λ s. s.first ≤ number) }
         ensures last { IfOk result (λ s. number < s.first + s.size) }
     {
-        stretch_at(
-            alloc,
-            &self.threads,
-            &self.init,
-            &self.groups,
-            number,
-        )
+        stretch_at(alloc, &self.threads, &self.init, &self.groups, number)
     }
 
     /// The candidate with this number, where it is an execution.

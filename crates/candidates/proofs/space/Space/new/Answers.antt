@@ -1,7 +1,6 @@
-use Rattle.std.proofs.Common.{◌≡◌, ◌∙◌, ◌<◌, ap, subst, refl, arith, length, map, [], List, ℕ}
+use Rattle.std.proofs.Common.{◌≡◌, ◌∙◌, ap, subst, refl, arith, length, map, [], List, ℕ}
 use Rattle.events.specs.Executions.{ThreadRun}
 use Rattle.listings.specs.Lists.{sum_of}
-use Rattle.candidates.specs.declared.fault.TheConstants.{MOST_CANDIDATES}
 use Rattle.candidates.specs.Executions.{initial_values, block}
 use Rattle.candidates.specs.Candidates.{Choices, choices, choices_of, size_of}
 use Rattle.candidates.specs.Groups.{tally_of, HasRoom}
