@@ -1,5 +1,5 @@
 -- How many candidates have some runs, location by location.
-use Rattle.std.proofs.Common.{◌≡◌, ◌≢◌, ℕ, zero, suc, ◌+◌, ◌*◌, ◌^◌, ◌<◌, List, [], ◌∷◌, ◌++◌, length, filter, refl, sym, ◌∙◌, ap, inl, inr, arith, Bool, true, false, cond, ◌==◌, ◌&&◌, length-append, ◌≤◌, ◌%◌, ◌/◌, drop, get_or, drop-cons, add-one, subst}
+use Rattle.std.proofs.Common.{◌≡◌, ◌≢◌, ℕ, zero, suc, ◌+◌, ◌*◌, ◌^◌, ◌<◌, List, [], ◌∷◌, ◌++◌, length, filter, refl, sym, ◌∙◌, ap, inl, inr, arith, Bool, true, false, cond, ◌==◌, ◌&&◌, length-append, ◌≤◌}
 use Rattle.std.proofs.Math.Nat.{mul_assoc, mul-one, pow-zero, pow-suc, one-le-pow}
 use Rattle.std.proofs.lemmas.Nat.{pow-add}
 use Rattle.std.proofs.lemmas.List.Elements.{All-head, All-tail}
@@ -12,7 +12,6 @@ use Rattle.listings.specs.Lists.{product_by, factorial, tabulate}
 use Rattle.c11_threads.specs.Bounds.{IsPlaced}
 use Rattle.candidates.specs.Executions.{reads, writes_from, writes_from_thread, later_writes, upto, block}
 use Rattle.candidates.specs.Bounds.{reads_from, event_count}
-use Rattle.candidates.specs.Candidates.{choice, run_at}
 use Rattle.candidates.proofs.Caps.{factor_le, factorial_positive}
 
 pub product_append : {A : Type 0} (s : A → ℕ) (xs ys : List A) → product_by s (xs ++ ys) ≡ product_by s xs * product_by s ys
@@ -184,10 +183,3 @@ pub ways_positive : (runs : List ThreadRun) (x : ℕ) → 1 ≤ ways_at runs x
 ways_positive runs x =
     let p : 1 ≤ (writes_at runs x + 1) ^ reads_at runs x = one-le-pow (reads_at runs x) (writes_at runs x + 1) (omega arith) in
     omega (arith, p, factor_le ((writes_at runs x + 1) ^ reads_at runs x) (factorial (writes_at runs x)) (factorial_positive (writes_at runs x)))
-
--- the choice's next run
-pub chosen_next : (threads : List (List ThreadRun)) (i rest : ℕ) → i < length threads → choice (drop i threads) rest ≡ run_at (get_or threads i []) (rest % length (get_or threads i [])) ∷ choice (drop (i + 1) threads) (rest / length (get_or threads i []))
-chosen_next threads i rest l = rw (add-one, drop-cons threads i []) refl
-
-pub first_part : (f : ThreadRun → ℕ) (run : ThreadRun) (rest all : List ThreadRun) → all ≡ run ∷ rest → f run ≤ sum_by f all
-first_part f run rest all e = let P : List ThreadRun → Type 0 = λ rs. f run ≤ sum_by f rs in subst P (sym e) (omega (arith, sum_by-cons f run rest))

@@ -7,11 +7,11 @@ use Rattle.std.proofs.lemmas.Bool.{and_parts, cases_Bool, eqb-true, eq-eqb}
 use Rattle.events.specs.declared.event.Event.{Event}
 use Rattle.events.specs.declared.event.EventId.{EventId}
 use Rattle.events.specs.declared.event.EventId.TheVariants.{Initial}
-use Rattle.events.specs.Executions.{ThreadRun, Execution, empty_run}
+use Rattle.events.specs.Executions.{ThreadRun, Execution}
 use Rattle.listings.specs.Lists.{IsIn, NoRepeats, Lists, ForEach, product_by, sum_of}
 use Rattle.listings.specs.Numbered.{IsNumbered}
 use Rattle.listings.proofs.Numberings.{IsPairing, pairs, mapped, by_digits, cons_head, cons_tail}
-use Rattle.listings.proofs.Listings.{by_list, listed}
+use Rattle.listings.proofs.Listings.{by_list, in_map, map_in, once_map, in_flat_map, flat_map_in, once_flat_map}
 use Rattle.listings.proofs.Arrangements.{IsArrangement, by_arrange}
 use Rattle.listings.proofs.Walks.{OfSome, IsKeyed, by_walk}
 use Rattle.listings.proofs.Sums.{same_sums}
@@ -19,7 +19,7 @@ use Rattle.litmus_tree.specs.Tree.{Litmus}
 use Rattle.candidates.specs.Executions.{initial_values}
 use Rattle.c11_threads.specs.Runs.{IsRun}
 use Rattle.candidates.specs.Executions.{IsExecution, IsSize, IsChoice, IsCoherence, Writes, reads, later_writes, upto, block}
-use Rattle.candidates.specs.Candidates.{Choices, choices_of, choice, count_choices, choices, sources, count_sources, source_at, count_orders, order_at, count_co, digits_down, candidate, no_execution, candidate_at, write_value, agree, is_consistent, graph_at, size_of, Numbering}
+use Rattle.candidates.specs.Candidates.{Choices, choices_of, choices, sources, count_sources, source_at, count_orders, order_at, count_co, digits_down, candidate, no_execution, candidate_at, write_value, agree, is_consistent, graph_at, size_of, Numbering}
 use Rattle.c11_threads.specs.Unrolled.{runs_of}
 use Rattle.c11_threads.proofs.RunLists.{lists_runs_of}
 use Rattle.candidates.proofs.Writing.{value_is, sources_in, in_sources, once_later, once_sources}
@@ -38,9 +38,34 @@ once_of t (k ∷ threads) runs h = elim h [
   | inr m ↦ once_of t threads runs m
 ]
 
--- The choices of one run per thread are numbered by digits.
-choices_numbered : (t : Litmus) → IsNumbered (ForEach IsFrom (choices_of t).threads) (count_choices (choices_of t).threads) (choice (choices_of t).threads)
-choices_numbered t = by_digits (choices_of t).threads (λ runs h. by_list runs empty_run (itself runs (once_of t (upto (length t.threads)) runs h)))
+-- The choices of a run of each thread.
+only_choices : (threads : List (List ThreadRun)) (c : List ThreadRun) → IsIn c (choices threads) → ForEach IsFrom threads c
+only_choices [] c h = elim h [ inl e ↦ (let P : List ThreadRun → Type 0 = ForEach IsFrom [] in subst P (sym e) tt) | inr n ↦ absurd n ]
+only_choices (runs ∷ rest) c h =
+    let f = in_flat_map (λ run. map (λ d. run ∷ d) (choices rest)) runs c h in
+    let m = in_map (λ d. f.0 ∷ d) (choices rest) c f.2 in
+    let P : List ThreadRun → Type 0 = ForEach IsFrom (runs ∷ rest) in
+    subst P m.2 (f.1, only_choices rest m.0 m.1)
+
+all_choices : (threads : List (List ThreadRun)) (c : List ThreadRun) → ForEach IsFrom threads c → IsIn c (choices threads)
+all_choices [] [] h = inl refl
+all_choices [] (run ∷ c) h = absurd h
+all_choices (runs ∷ rest) [] h = absurd h
+all_choices (runs ∷ rest) (run ∷ c) h =
+    flat_map_in (λ run. map (λ d. run ∷ d) (choices rest)) runs run (run ∷ c) h.0 (map_in (λ d. run ∷ d) (choices rest) c (all_choices rest c h.1))
+
+one_head : (rest : List (List ThreadRun)) (a b : ThreadRun) (c : List ThreadRun) → IsIn c (map (λ d. a ∷ d) (choices rest)) → IsIn c (map (λ d. b ∷ d) (choices rest)) → a ≡ b
+one_head rest a b c h k =
+    let m = in_map (λ d. a ∷ d) (choices rest) c h in
+    let n = in_map (λ d. b ∷ d) (choices rest) c k in
+    cons_head (m.2 ∙ sym n.2)
+
+once_choices : (threads : List (List ThreadRun)) → ((runs : List ThreadRun) → IsIn runs threads → NoRepeats runs) → NoRepeats (choices threads)
+once_choices [] each = (λ h. h, tt)
+once_choices (runs ∷ rest) each =
+    once_flat_map (λ run. map (λ d. run ∷ d) (choices rest)) runs
+    (λ run h. once_map (λ d. run ∷ d) (choices rest) (λ a b e. cons_tail e) (once_choices rest (λ rs m. each rs (inr m))))
+    (one_head rest) (each runs (inl refl))
 
 to_choice : (t : Litmus) (threads : List ℕ) (runs : List ThreadRun) → ForEach IsFrom (map (runs_of t) threads) runs → ForEach (IsRun t) threads runs
 to_choice t [] [] h = tt
@@ -54,11 +79,12 @@ from_choice t [] (run ∷ runs) h = h
 from_choice t (k ∷ threads) [] h = h
 from_choice t (k ∷ threads) (run ∷ runs) h = ((lists_runs_of t k).all run h.0, from_choice t threads runs h.1)
 
-pub choice_is : (t : Litmus) (i : ℕ) → i < count_choices (choices_of t).threads → IsChoice t (choice (choices_of t).threads i)
-choice_is t i l = to_choice t (upto (length t.threads)) (choice (choices_of t).threads i) ((choices_numbered t).only i l)
-
 pub lists_choices : (t : Litmus) → Lists (IsChoice t) (choices (choices_of t).threads)
-lists_choices t = listed (mapped (λ c. c) (choices_numbered t) (λ c h. to_choice t (upto (length t.threads)) c h) (λ c h. (c, from_choice t (upto (length t.threads)) c h, refl)) (λ a b p q e. e))
+lists_choices t = record {
+  once = once_choices (choices_of t).threads (once_of t (upto (length t.threads)));
+  only = λ c h. to_choice t (upto (length t.threads)) c (only_choices (choices_of t).threads c h);
+  all = λ c h. all_choices (choices_of t).threads c (from_choice t (upto (length t.threads)) c h);
+}
 
 abbrev pub CanRead : List ThreadRun → Event → EventId → Type 0
 CanRead runs r w = IsIn w (sources runs r.loc)

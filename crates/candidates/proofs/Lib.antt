@@ -1,7 +1,10 @@
+pub mod Adding
 pub mod Bounding
 pub mod ByLocation
 pub mod Caps
+pub mod Descent
 pub mod Graphs
+pub mod Grouping
 pub mod Law
 pub mod Passing
 pub mod Sources

@@ -1,26 +1,28 @@
 -- The runs of all threads: when there are too many, and how large they are.
-use Rattle.std.proofs.Common.{◌≡◌, ℕ, ◌+◌, ◌<◌, ◌≤◌, ◌^◌, List, [], ◌∷◌, ◌++◌, length, map, drop, refl, sym, ◌∙◌, ap, subst, inl, inr, arith, append_assoc, append-nil, Option, None, Some, true, false}
-use Rattle.std.specs.Prelude.{Result, Ok, Err, IfOk, MatchOption}
+use Rattle.std.proofs.Common.{◌≡◌, ℕ, ◌+◌, ◌<◌, ◌≤◌, ◌^◌, List, [], ◌∷◌, ◌++◌, length, map, drop, refl, sym, ◌∙◌, ap, subst, inl, inr, arith, append_assoc, append-nil}
 use Rattle.std.proofs.lemmas.Bool.{cases_lt}
 use Rattle.std.proofs.lemmas.List.{drop_all}
-use Rattle.events.specs.Executions.{ThreadRun, Execution}
-use Rattle.listings.specs.Lists.{IsIn, sum_of}
+use Rattle.events.specs.Executions.{ThreadRun}
+use Rattle.listings.specs.Lists.{sum_of}
 use Rattle.litmus_test.specs.Limits.{IsTest}
 use Rattle.litmus_tree.specs.Tree.{Litmus}
 use Rattle.c11_threads.specs.declared.fault.RunFault.{RunFault}
 use Rattle.c11_threads.specs.declared.fault.RunFault.TheVariants.{TooManyRuns, NoMemory}
 use Rattle.candidates.specs.declared.fault.SpaceFault.TheVariants.{TooManyCandidates}
-use Rattle.candidates.specs.Executions.{IsSize, upto, block}
-use Rattle.candidates.specs.Candidates.{choices_of, choices, choice, count_choices, size_of, Choices, candidate_at, graph_at, is_consistent}
+use Rattle.candidates.specs.Executions.{initial_values, IsSize, upto, block}
+use Rattle.candidates.specs.Candidates.{choices_of, choices, size_of, Choices}
 use Rattle.c11_threads.specs.Unrolled.{runs_of}
 use Rattle.candidates.specs.Faults.{IsSpaceFault, HaveFewRuns, space_fault_of}
 use Rattle.c11_threads.specs.Faults.{IsRunFault}
-use Rattle.candidates.specs.Bounds.{AreWithin}
-use Rattle.candidates.proofs.Bounding.{within}
+use Rattle.candidates.specs.Parts.{AreAllWithin, AreShort}
+use Rattle.candidates.proofs.Bounding.{within, short}
 use Rattle.candidates.proofs.Caps.{drop_upto, length_tabulate}
-use Rattle.candidates.proofs.Law.{sized, shown, hidden}
-use Rattle.c11_threads.proofs.RunLists.{lists_runs_of, some_runs}
-use Rattle.candidates.proofs.Steps.{choices_below}
+use Rattle.candidates.proofs.Law.{sized, as_many}
+use Rattle.candidates.proofs.Grouping.{tallies_of, counted, has_room}
+use Rattle.candidates.proofs.Steps.{behind_all}
+use Rattle.candidates.specs.declared.counts.Counts.{Counts}
+use Rattle.candidates.specs.Groups.{tally_of, size_by, HasRoom}
+use Rattle.c11_threads.proofs.RunLists.{lists_runs_of}
 
 abbrev pub FewBelow : Litmus → ℕ → Type 0
 FewBelow t k = (j : ℕ) → j < k → length (runs_of t j) ≤ 4096
@@ -56,37 +58,38 @@ all_lists t k lists l e =
     let f : drop k (upto (length t.threads)) ≡ [] = drop_all k (upto (length t.threads)) m in
     sym (append-nil lists) ∙ ap (λ ks. lists ++ map (runs_of t) ks) (sym f) ∙ e
 
-some_of_map : (t : Litmus) (ks : List ℕ) (runs : List ThreadRun) → IsIn runs (map (runs_of t) ks) → 1 ≤ length runs
-some_of_map t [] runs h = absurd h
-some_of_map t (k ∷ ks) runs h = elim h [
-  | inl e ↦ (let P : List ThreadRun → Type 0 = λ rs. 1 ≤ length rs in subst P (sym e) (some_runs t k))
-  | inr m ↦ some_of_map t ks runs m
-]
-
-pub some_of_all : (t : Litmus) (lists : List (List ThreadRun)) → lists ≡ map (runs_of t) (upto (length t.threads)) → (runs : List ThreadRun) → IsIn runs lists → 1 ≤ length runs
-some_of_all t lists e =
-    let P : List (List ThreadRun) → Type 0 = λ ls. (runs : List ThreadRun) → IsIn runs ls → 1 ≤ length runs in
-    subst P (sym e) (some_of_map t (upto (length t.threads)))
-
-pub within_all : (t : Litmus) (lists : List (List ThreadRun)) → IsTest t → lists ≡ map (runs_of t) (upto (length t.threads)) → (i : ℕ) → i < count_choices lists → AreWithin (length t.locations) (choice lists i)
+pub within_all : (t : Litmus) (lists : List (List ThreadRun)) → IsTest t → lists ≡ map (runs_of t) (upto (length t.threads)) → AreAllWithin (length t.locations) (choices lists)
 within_all t lists p e =
-    let P : List (List ThreadRun) → Type 0 = λ ls. (i : ℕ) → i < count_choices ls → AreWithin (length t.locations) (choice ls i) in
+    let P : List (List ThreadRun) → Type 0 = λ ls. AreAllWithin (length t.locations) (choices ls) in
     subst P (sym e) (within t p)
 
--- What is assembled is what stands at the number.
-pub assembled : {E : Type 0} (s : Choices) (n : ℕ) (x : Execution) (r : Result (Option Execution) E) → candidate_at s n ≡ x → IfOk r (λ o. MatchOption o (is_consistent x ≡ false) (λ _. Unit {0})) → IfOk r (λ o. MatchOption o (Unit {0}) (λ g. (g ≡ x) × (is_consistent g ≡ true))) → IfOk r (λ g. g ≡ graph_at s n)
-assembled s n x (Ok None) e none some = sym (hidden s n (ap is_consistent e ∙ none))
-assembled s n x (Ok (Some g)) e none some = sym (shown s n (ap is_consistent (e ∙ sym some.0) ∙ some.1) ∙ ap (λ (y : Execution). Some y) (e ∙ sym some.0))
-assembled s n x (Err d) e none some = tt
+pub short_all : (t : Litmus) (lists : List (List ThreadRun)) → IsTest t → lists ≡ map (runs_of t) (upto (length t.threads)) → AreShort lists
+short_all t lists p e = let P : List (List ThreadRun) → Type 0 = AreShort in subst P (sym e) (short t p)
+
+-- What is counted by the tallies are all candidates.
+pub counted_all : (n : ℕ) (lists : List (List ThreadRun)) (tally : List Counts) (groups : List (List (List Counts))) → AreAllWithin n (choices lists) → tally ≡ tally_of n [] → groups ≡ map (tallies_of n) lists → size_by tally groups ≡ sum_of (block n) (choices lists)
+counted_all n lists tally groups w t g =
+    let P : List (List ThreadRun) → Type 0 = AreAllWithin n in
+    ap (λ (u : List Counts). size_by u groups) t ∙ ap (size_by (tally_of n [])) g
+    ∙ counted n lists [] (subst P (sym (behind_all lists)) w) ∙ ap (sum_of (block n)) (behind_all lists)
+
+-- The same, where there are as many locations as initial values.
+pub counted_of : (t : Litmus) (init : List ℕ) (n : ℕ) (lists : List (List ThreadRun)) (tally : List Counts) (groups : List (List (List Counts))) → n ≡ length init → init ≡ initial_values t → AreAllWithin (length t.locations) (choices lists) → tally ≡ tally_of n [] → groups ≡ map (tallies_of n) lists → (n ≡ length (initial_values t)) × AreAllWithin n (choices lists) × (size_by tally groups ≡ sum_of (block n) (choices lists))
+counted_of t init n lists tally groups l i within e g =
+    let many : n ≡ length (initial_values t) = l ∙ ap (λ (vs : List ℕ). length vs) i in
+    let W : ℕ → Type 0 = λ k. AreAllWithin k (choices lists) in
+    let w = subst W (sym (many ∙ as_many t)) within in
+    (many, w, counted_all n lists tally groups w e g)
+
+pub room_all : (n : ℕ) (lists : List (List ThreadRun)) (tally : List Counts) (groups : List (List (List Counts))) → AreShort lists → tally ≡ tally_of n [] → groups ≡ map (tallies_of n) lists → HasRoom tally groups
+room_all n lists tally groups s t g =
+    let P : List Counts → Type 0 = λ u. HasRoom u groups in
+    let Q : List (List (List Counts)) → Type 0 = λ gs. HasRoom (tally_of n []) gs in
+    subst P (sym t) (subst Q (sym g) (has_room n lists s))
 
 -- Too many choices are too many candidates.
 pub too_many : (t : Litmus) → HaveFewRuns t → 2 ^ 32 < size_of (choices_of t) → HaveFewRuns t × ((n : ℕ) × IsSize t n × (2 ^ 32 < n))
 too_many t few l = (few, (size_of (choices_of t), sized t, l))
-
-pub too_many_choices : (t : Litmus) (lists : List (List ThreadRun)) → HaveFewRuns t → lists ≡ map (runs_of t) (upto (length t.threads)) → 2 ^ 32 < count_choices lists → IsSpaceFault t TooManyCandidates
-too_many_choices t lists few e l =
-    let f = ap count_choices e in
-    too_many t few (omega (arith, l, f, choices_below (length (choices_of t).init) (choices_of t).threads))
 
 pub too_many_in_all : (t : Litmus) (lists : List (List ThreadRun)) (n : ℕ) → HaveFewRuns t → lists ≡ map (runs_of t) (upto (length t.threads)) → n ≡ length (choices_of t).init → 2 ^ 32 < sum_of (block n) (choices lists) → IsSpaceFault t TooManyCandidates
 too_many_in_all t lists n few e f l =

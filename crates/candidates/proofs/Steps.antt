@@ -1,116 +1,90 @@
--- A walk step by step, and the sums on its way.
-use Rattle.std.proofs.Common.{◌≡◌, ℕ, zero, suc, ◌+◌, ◌-◌, ◌*◌, ◌<◌, ◌≤◌, ◌⊎◌, List, [], ◌∷◌, ◌++◌, length, drop, get_or, drop-cons, add-one, refl, sym, ◌∙◌, ap, subst, inl, inr, arith}
-use Rattle.std.proofs.lemmas.List.{drop_all}
-use Rattle.std.proofs.lemmas.List.Elements.{All-push}
-use Rattle.std.proofs.Math.Nat.{mul-le-mul_left}
+-- Parts of the row of choices, and what stands at their numbers.
+use Rattle.std.proofs.Common.{◌≡◌, ℕ, ◌+◌, ◌-◌, ◌<◌, ◌≤◌, List, [], ◌∷◌, ◌++◌, append_assoc, append-nil, map, length, refl, sym, ◌∙◌, ap, subst, inl, arith}
+use Rattle.std.specs.List.{flat_map}
+use Rattle.std.proofs.lemmas.List.{map-append, map-id}
 use Rattle.events.specs.Executions.{ThreadRun, Execution}
-use Rattle.listings.specs.Lists.{IsIn, product_by, sum_of, tabulate}
+use Rattle.listings.specs.Lists.{IsIn, sum_of}
 use Rattle.listings.specs.Numbered.{walk}
 use Rattle.listings.proofs.Walks.{walks_here, walks_on}
-use Rattle.candidates.specs.Executions.{reads, block}
-use Rattle.candidates.specs.Candidates.{choice, choices, count_choices, count_sources, candidate, no_execution}
-use Rattle.listings.proofs.Listings.{place_of}
-use Rattle.candidates.specs.declared.mark.Mark.{Mark}
-use Rattle.candidates.specs.Marks.{IsMark, AreMarks, IsFrom}
-use Rattle.candidates.proofs.Caps.{length_tabulate, get_or_tabulate, capped_further, product_drop, ways_below, product_positive, sources_positive}
+use Rattle.listings.proofs.Listings.{in_right}
+use Rattle.candidates.specs.Executions.{block}
+use Rattle.candidates.specs.Candidates.{choices, candidate, no_execution}
+use Rattle.candidates.specs.Parts.{behind, IsPart}
 
-drop_tabulate : {X : Type 0} (n : ℕ) (f : ℕ → X) (i : ℕ) → i < n → drop i (tabulate n f) ≡ f i ∷ drop (i + 1) (tabulate n f)
-drop_tabulate n f i l =
-    let h : i < length (tabulate n f) = rw (length_tabulate n f) l in
-    let e : drop i (tabulate n f) ≡ get_or (tabulate n f) i (f 0) ∷ drop (i + 1) (tabulate n f) = rw (add-one, drop-cons (tabulate n f) i (f 0)) refl in
-    rw (e, get_or_tabulate n f i (f 0) l) refl
+pub sum_append : {A : Type 0} (size : A → ℕ) (xs ys : List A) → sum_of size (xs ++ ys) ≡ sum_of size xs + sum_of size ys
+sum_append size [] ys = omega arith
+sum_append size (x ∷ xs) ys = omega (arith, sum_append size xs ys)
 
-end_tabulate : {X : Type 0} (n : ℕ) (f : ℕ → X) (i : ℕ) → n ≤ i → drop i (tabulate n f) ≡ []
-end_tabulate n f i l = let h : length (tabulate n f) ≤ i = rw (length_tabulate n f) l in drop_all i (tabulate n f) h
+pub sum_flat : {A B : Type 0} (size : B → ℕ) (f : A → List B) (xs : List A) → sum_of size (flat_map f xs) ≡ sum_of (λ x. sum_of size (f x)) xs
+sum_flat size f [] = refl
+sum_flat size f (x ∷ xs) = sum_append size (f x) (flat_map f xs) ∙ ap (λ n. sum_of size (f x) + n) (sum_flat size f xs)
 
-sum_drop : {A : Type 0} (size : A → ℕ) (as' : List A) (i : ℕ) → sum_of size (drop i as') ≤ sum_of size as'
-sum_drop size [] zero = omega arith
-sum_drop size [] (suc i) = omega arith
-sum_drop size (a ∷ rest) zero = omega arith
-sum_drop size (a ∷ rest) (suc i) = omega (arith, sum_drop size rest i)
-
--- The walk can start at a later one, with the sizes before it taken off.
-walk_from : {A X : Type 0} (size : A → ℕ) (at : A → ℕ → X) (none : X) (as' : List A) (k before i : ℕ) → before + sum_of size (drop k as') ≡ sum_of size as' → before ≤ i → walk size at none (drop k as') (i - before) ≡ walk size at none as' i
-walk_from size at none [] zero before i e l = refl
-walk_from size at none [] (suc k) before i e l = refl
-walk_from size at none (a ∷ rest) zero before i e l = let z : i - before ≡ i = omega (arith, e) in ap (walk size at none (a ∷ rest)) z
-walk_from size at none (a ∷ rest) (suc k) before i e l =
-    let h : size a ≤ before = omega (arith, e, sum_drop size rest k) in
-    let f : before - size a + sum_of size (drop k rest) ≡ sum_of size rest = omega (arith, e, h) in
-    let m : before - size a ≤ i - size a = omega (arith, h, l) in
-    let g : i - before ≡ i - size a - (before - size a) = omega (arith, h, l) in
-    ap (walk size at none (drop k rest)) g
-    ∙ walk_from size at none rest k (before - size a) (i - size a) f m
-    ∙ sym (walks_on size at none a rest i (omega (arith, h, l)))
-
--- with i of the n choices passed
-rest_sum : (locations : ℕ) (threads : List (List ThreadRun)) (i : ℕ) → i < count_choices threads → sum_of (block locations) (drop i (choices threads)) ≡ block locations (choice threads i) + sum_of (block locations) (drop (i + 1) (choices threads))
-rest_sum locations threads i l = ap (sum_of (block locations)) (drop_tabulate (count_choices threads) (choice threads) i l)
-
-pub block_below : (locations limit : ℕ) (threads : List (List ThreadRun)) (i : ℕ) → i < count_choices threads → sum_of (block locations) (choices threads) ≤ limit → block locations (choice threads i) ≤ limit
-block_below locations limit threads i l h =
-    omega (arith, rest_sum locations threads i l, sum_drop (block locations) (choices threads) i, h)
+-- The row walks past what is before.
+walk_past : {A X : Type 0} (size : A → ℕ) (at : A → ℕ → X) (none : X) (before rest : List A) (i : ℕ) → walk size at none (before ++ rest) (sum_of size before + i) ≡ walk size at none rest i
+walk_past size at none [] rest i = ap (walk size at none rest) (let z : 0 + i ≡ i = omega arith in z)
+walk_past size at none (a ∷ before) rest i =
+    let e : sum_of size (a ∷ before) + i - size a ≡ sum_of size before + i = omega arith in
+    walks_on size at none a (before ++ rest) (sum_of size (a ∷ before) + i) (omega arith)
+    ∙ ap (walk size at none (before ++ rest)) e ∙ walk_past size at none before rest i
 
 abbrev pub Walk : List ℕ → List (List ThreadRun) → ℕ → Execution
 Walk init left i = walk (block (length init)) (candidate init) no_execution left i
 
-stops : (init : List ℕ) (threads : List (List ThreadRun)) (i rest : ℕ) → i < count_choices threads → rest < block (length init) (choice threads i) → Walk init (drop i (choices threads)) rest ≡ candidate init (choice threads i) rest
-stops init threads i rest l h =
-    ap (λ left. Walk init left rest) (drop_tabulate (count_choices threads) (choice threads) i l)
-    ∙ walks_here (block (length init)) (candidate init) no_execution (choice threads i) (drop (i + 1) (choices threads)) rest h
+-- What stands in the block of a choice.
+pub in_block : (init : List ℕ) (row : List (List ThreadRun)) (first : ℕ) (c : List ThreadRun) → IsPart (length init) row first (c ∷ []) → (j : ℕ) → j < block (length init) c → Walk init row (first + j) ≡ candidate init c j
+in_block init row first c p j l =
+    ap (λ r. Walk init r (first + j)) p.is ∙ ap (λ n. Walk init (p.before ++ ((c ∷ []) ++ p.after)) (n + j)) p.begins
+    ∙ walk_past (block (length init)) (candidate init) no_execution p.before ((c ∷ []) ++ p.after) j
+    ∙ walks_here (block (length init)) (candidate init) no_execution c p.after j l
 
--- What stands in the block of a choice, which begins at the number `before`.
-pub in_block : (init : List ℕ) (threads : List (List ThreadRun)) (i before : ℕ) → i < count_choices threads → before + sum_of (block (length init)) (drop i (choices threads)) ≡ sum_of (block (length init)) (choices threads) → (j : ℕ) → j < block (length init) (choice threads i) → Walk init (choices threads) (before + j) ≡ candidate init (choice threads i) j
-in_block init threads i before l whole j h =
-    let e : before + j - before ≡ j = omega arith in
-    sym (walk_from (block (length init)) (candidate init) no_execution (choices threads) i before (before + j) whole (omega arith))
-    ∙ ap (Walk init (drop i (choices threads))) e ∙ stops init threads i j l h
+-- A part ends within the row.
+pub part_end : (n : ℕ) (row : List (List ThreadRun)) (first : ℕ) (part : List (List ThreadRun)) → IsPart n row first part → first + sum_of (block n) part ≤ sum_of (block n) row
+part_end n row first part p =
+    let e = ap (sum_of (block n)) p.is ∙ sum_append (block n) p.before (part ++ p.after) in
+    omega (arith, e, p.begins, sum_append (block n) part p.after)
 
-pub mark_at : (locations : ℕ) (threads : List (List ThreadRun)) (marks : List Mark) (m : Mark) → AreMarks locations threads marks → IsFrom marks m → IsMark locations threads m
-mark_at locations threads marks m h f = elim f [
-  | inl e ↦ (let P : Mark → Type 0 = IsMark locations threads in subst P (sym e) (record { within = omega arith; whole = omega arith }))
-  | inr n ↦ (let at = place_of marks m m n in let P : Mark → Type 0 = IsMark locations threads in subst P at.2 (h at.0 m at.1))
-]
+pub whole_part : (n : ℕ) (row : List (List ThreadRun)) → IsPart n row 0 row
+whole_part n row = record { before = []; after = []; is = sym (append-nil row); begins = refl }
 
--- one mark more, or none
-pub marks_more : (locations : ℕ) (threads : List (List ThreadRun)) (marks more : List Mark) (m : Mark) → AreMarks locations threads marks → IsMark locations threads m → (more ≡ marks) ⊎ (more ≡ marks ++ m ∷ []) → AreMarks locations threads more
-marks_more locations threads marks more m h p o =
-    let P : List Mark → Type 0 = AreMarks locations threads in
-    elim o [ inl e ↦ subst P (sym e) h | inr e ↦ subst P (sym e) (All-push (IsMark locations threads) marks m h p) ]
+-- A part of a part.
+pub part_of_part : (n : ℕ) (row before part after : List (List ThreadRun)) (first : ℕ) → IsPart n row first (before ++ (part ++ after)) → IsPart n row (first + sum_of (block n) before) part
+part_of_part n row before part after first p = record {
+  before = p.before ++ before;
+  after = after ++ p.after;
+  is = p.is
+      ∙ ap (λ r. p.before ++ r) (append_assoc before (part ++ after) p.after ∙ ap (λ r. before ++ r) (append_assoc part after p.after))
+      ∙ sym (append_assoc p.before before (part ++ (after ++ p.after)));
+  begins = ap (λ k. k + sum_of (block n) before) p.begins ∙ sym (sum_append (block n) p.before before);
+}
 
-pub rest_sum_of : (locations : ℕ) (threads : List (List ThreadRun)) (i size total : ℕ) → i < count_choices threads → size + sum_of (block locations) (drop i (choices threads)) ≡ total → size + block locations (choice threads i) + sum_of (block locations) (drop (i + 1) (choices threads)) ≡ total
-rest_sum_of locations threads i size total l e = omega (arith, rest_sum locations threads i l, e)
+map_conses : (chosen : List ThreadRun) (run : ThreadRun) (cs : List (List ThreadRun)) → map (λ c. chosen ++ c) (map (λ c. run ∷ c) cs) ≡ map (λ c. (chosen ++ run ∷ []) ++ c) cs
+map_conses chosen run [] = refl
+map_conses chosen run (c ∷ cs) =
+    ap (λ (d : List ThreadRun). d ∷ map (λ c. chosen ++ c) (map (λ c. run ∷ c) cs)) (sym (append_assoc chosen (run ∷ []) c))
+    ∙ ap (λ (ds : List (List ThreadRun)). ((chosen ++ run ∷ []) ++ c) ∷ ds) (map_conses chosen run cs)
 
-pub sum_end : (locations : ℕ) (threads : List (List ThreadRun)) (i size total : ℕ) → count_choices threads ≤ i → size + sum_of (block locations) (drop i (choices threads)) ≡ total → size ≡ total
-sum_end locations threads i size total l e =
-    let f : sum_of (block locations) (drop i (choices threads)) ≡ 0 = ap (sum_of (block locations)) (end_tabulate (count_choices threads) (choice threads) i l) in
-    omega (arith, e, f)
+map_rows : (chosen : List ThreadRun) (runs : List ThreadRun) (cs : List (List ThreadRun)) → map (λ c. chosen ++ c) (flat_map (λ run. map (λ c. run ∷ c) cs) runs) ≡ flat_map (λ run. map (λ c. (chosen ++ run ∷ []) ++ c) cs) runs
+map_rows chosen [] cs = refl
+map_rows chosen (run ∷ runs) cs =
+    map-append (λ c. chosen ++ c) (map (λ c. run ∷ c) cs) (flat_map (λ run. map (λ c. run ∷ c) cs) runs)
+    ∙ ap (λ r. r ++ map (λ c. chosen ++ c) (flat_map (λ run. map (λ c. run ∷ c) cs) runs)) (map_conses chosen run cs)
+    ∙ ap (λ r. map (λ c. (chosen ++ run ∷ []) ++ c) cs ++ r) (map_rows chosen runs cs)
 
--- only the factors of the list need be positive
-pub member_positive : {A : Type 0} (size : A → ℕ) (as' : List A) (i : ℕ) → ((a : A) → IsIn a as' → 1 ≤ size a) → 1 ≤ product_by size (drop i as')
-member_positive size [] zero each = omega arith
-member_positive size [] (suc i) each = omega arith
-member_positive size (a ∷ rest) zero each = omega (arith, mul-le-mul_left (size a) (member_positive size rest 0 (λ b h. each b (inr h))), each a (inl refl))
-member_positive size (a ∷ rest) (suc i) each = member_positive size rest i (λ b h. each b (inr h))
+-- Behind the chosen runs stand those of each run of the next thread.
+pub behind_step : (chosen : List ThreadRun) (runs : List ThreadRun) (rest : List (List ThreadRun)) → behind chosen (runs ∷ rest) ≡ flat_map (λ run. behind (chosen ++ run ∷ []) rest) runs
+behind_step chosen runs rest = map_rows chosen runs (choices rest)
 
-pub above_member : {A : Type 0} (size : A → ℕ) (as' : List A) (i : ℕ) (d : A) (p n limit : ℕ) → ((a : A) → IsIn a as' → 1 ≤ size a) → n ≡ size (get_or as' i d) → i < length as' → p * product_by size (drop i as') ≡ product_by size as' → limit < p * n → limit < product_by size as'
-above_member size as' i d p n limit each is l e h =
-    capped_further limit p n (product_by size (drop (i + 1) as')) (product_by size as')
-    (rw is (ap (λ n. p * n) (sym (product_drop size as' i d l)) ∙ e)) (member_positive size as' (i + 1) each) h
+pub behind_end : (chosen : List ThreadRun) → behind chosen [] ≡ chosen ∷ []
+behind_end chosen = ap (λ (c : List ThreadRun). c ∷ []) (append-nil chosen)
 
-pub block_positive : (locations : ℕ) (runs : List ThreadRun) → 1 ≤ block locations runs
-block_positive locations runs =
-    let f : 1 ≤ product_by (count_sources runs) (reads runs) = product_positive (count_sources runs) (sources_positive runs) (reads runs) in
-    omega (arith, f, ways_below runs locations)
+pub behind_all : (threads : List (List ThreadRun)) → behind [] threads ≡ choices threads
+behind_all threads = map-id (choices threads)
 
-length_below : {A : Type 0} (size : A → ℕ) → ((a : A) → 1 ≤ size a) → (as' : List A) → length as' ≤ sum_of size as'
-length_below size each [] = omega arith
-length_below size each (a ∷ rest) = omega (arith, each a, length_below size each rest)
+-- The choice of a part is one of the row, and its block is no larger than the row's.
+pub part_member : (n : ℕ) (row : List (List ThreadRun)) (first : ℕ) (c : List ThreadRun) → IsPart n row first (c ∷ []) → IsIn c row
+part_member n row first c p =
+    let P : List (List ThreadRun) → Type 0 = λ r. IsIn c r in
+    subst P (sym p.is) (in_right p.before ((c ∷ []) ++ p.after) c (inl refl))
 
-pub choices_below : (locations : ℕ) (threads : List (List ThreadRun)) → count_choices threads ≤ sum_of (block locations) (choices threads)
-choices_below locations threads =
-    let e : length (choices threads) ≡ count_choices threads = length_tabulate (count_choices threads) (choice threads) in
-    omega (arith, e, length_below (block locations) (block_positive locations) (choices threads))
-
-pub total_above : (locations limit : ℕ) (threads : List (List ThreadRun)) (i size total : ℕ) → i < count_choices threads → size + sum_of (block locations) (drop i (choices threads)) ≡ total → limit < size + block locations (choice threads i) → limit < total
-total_above locations limit threads i size total l e h = omega (arith, rest_sum_of locations threads i size total l e, h)
+pub part_block : (n : ℕ) (row : List (List ThreadRun)) (first : ℕ) (c : List ThreadRun) → IsPart n row first (c ∷ []) → first + block n c ≤ sum_of (block n) row
+part_block n row first c p = omega (arith, part_end n row first (c ∷ []) p)

@@ -1,11 +1,12 @@
 -- The numbering of candidates that this crate fixes: of the runs of a thread, of the choices of runs, of rf and of co.
 use Rattle.std.specs.Prelude.{◌≡◌, ℕ, zero, suc, ◌/◌, ◌%◌, ◌<◌, ◌≤◌, List, [], ◌∷◌, ◌++◌, length, map, slice_index_or, Bool, true, if◌then◌else◌, ◌==◌, ◌&&◌, Option, None, Some, IfSome}
+use Rattle.std.specs.List.{flat_map}
 use Rattle.events.specs.declared.event.Event.{Event}
 use Rattle.events.specs.declared.event.EventId.{EventId}
 use Rattle.events.specs.declared.event.EventId.TheVariants.{Initial, Own}
 use Rattle.events.specs.Executions.{ThreadRun, Execution, empty_run}
 use Rattle.events.specs.Named.{no_event}
-use Rattle.listings.specs.Lists.{Lists, sum_of, product_by, factorial, tabulate}
+use Rattle.listings.specs.Lists.{Lists, sum_of, product_by, factorial}
 use Rattle.listings.specs.Numbered.{digits, arrange, walk}
 use Rattle.litmus_tree.specs.Tree.{Litmus}
 use Rattle.c11_threads.specs.Unrolled.{runs_of}
@@ -22,15 +23,10 @@ choices_of t = record { init = initial_values t; threads = map (runs_of t) (upto
 abbrev pub run_at : List ThreadRun → ℕ → ThreadRun
 run_at runs i = slice_index_or runs i empty_run
 
--- one run of each thread, by the digits of i
-abbrev pub choice : List (List ThreadRun) → ℕ → List ThreadRun
-choice threads i = digits (λ runs. length runs) run_at threads i
-
-abbrev pub count_choices : List (List ThreadRun) → ℕ
-count_choices threads = product_by (λ runs. length runs) threads
-
+-- the choices of one run of each thread: the run of the first thread is the slowest to change
 abbrev pub choices : List (List ThreadRun) → List (List ThreadRun)
-choices threads = tabulate (count_choices threads) (choice threads)
+choices [] = [] ∷ []
+choices (runs ∷ rest) = flat_map (λ run. map (λ c. run ∷ c) (choices rest)) runs
 
 -- what a read of x may read from, whatever the value
 abbrev pub sources : List ThreadRun → ℕ → List EventId

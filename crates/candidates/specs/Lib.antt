@@ -2,6 +2,7 @@ pub mod Bounds
 pub mod Candidates
 pub mod Executions
 pub mod Faults
-pub mod Marks
+pub mod Groups
+pub mod Parts
 pub mod Readings
 pub mod Walks

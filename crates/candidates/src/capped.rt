@@ -1,7 +1,7 @@
 //! Products that stop at the most candidates that a test may have.
 
 ghost use Rattle.std.specs.Prelude.{◌≡◌, ◌*◌, ◌^◌, ◌≤◌};
-ghost use Rattle.listings.specs.Lists.{factorial};
+ghost use Rattle.listings.specs.Lists.{factorial, sum_of};
 ghost use Rattle.candidates.specs.Candidates.{IsCapped};
 
 use crate::fault::MOST_CANDIDATES;
@@ -37,4 +37,18 @@ pub(crate) fn capped_factorial(count: usize) -> Option<u64>
         product = capped_product(product, factor as u64 + 1)?;
     }
     Some(product)
+}
+
+/// The sum, if it is at most the limit.
+pub(crate) fn capped_sum(parts: &[u64]) -> Option<u64>
+    ensures { IsCapped MOST_CANDIDATES (sum_of (λ n. n) parts.now) result }
+{
+    let mut sum: u64 = 0;
+    for part in parts {
+        if *part > MOST_CANDIDATES - sum {
+            return None;
+        }
+        sum += *part;
+    }
+    Some(sum)
 }

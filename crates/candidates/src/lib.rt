@@ -4,9 +4,10 @@
 mod assembly;
 mod capped;
 mod choosing;
+mod counts;
 mod fault;
+mod groups;
 pub mod laws;
-mod mark;
 mod page;
 mod space;
 mod walk;

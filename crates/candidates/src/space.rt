@@ -1,21 +1,20 @@
 //! The numbered candidates of a test.
 
-ghost use Rattle.std.specs.Prelude.{◌≡◌, ◌+◌, ◌<◌, ◌≤◌, ◌^◌, ℕ, List, length, map, IfOk, MatchResult, IfErr};
+ghost use Rattle.std.specs.Prelude.{◌≡◌, ◌+◌, ◌<◌, ◌≤◌, ◌^◌, ℕ, List, [], length, map, IfOk, MatchResult, IfErr};
 ghost use Rattle.candidates.specs.Executions.{initial_values};
 ghost use Rattle.candidates.specs.Executions.{IsSize, upto};
-ghost use Rattle.candidates.specs.Candidates.{choice, count_choices, choices_of, size_of, graph_at, no_execution};
+ghost use Rattle.candidates.specs.Candidates.{choices, choices_of, size_of, graph_at, no_execution};
 ghost use Rattle.c11_threads.specs.Unrolled.{runs_of};
 ghost use Rattle.candidates.specs.Faults.{HaveFewRuns, IsSpaceFault};
-ghost use Rattle.candidates.specs.Bounds.{AreWithin};
-ghost use Rattle.candidates.specs.Marks.{AreMarks};
+ghost use Rattle.candidates.specs.Groups.{tally_of, HasRoom};
+ghost use Rattle.candidates.specs.Parts.{AreAllWithin, AreShort};
 ghost use Rattle.candidates.specs.Readings.{IsStretch};
-ghost use Rattle.events.specs.Executions.{ThreadRun};
-ghost use Rattle.listings.specs.Lists.{IsIn};
 
 use crate::assembly::{Look, open_page};
-use crate::choosing::{RunList, choice, count_choices, locate, total};
+use crate::choosing::{RunList, group_all, locate};
+use crate::counts::Tally;
 use crate::fault::{MOST_CANDIDATES, SpaceFault};
-use crate::mark::Mark;
+use crate::groups::{Groups, count};
 use crate::page::Stretch;
 use crate::walk::{Walk, visit};
 use c11_threads::{initial_value, runs};
@@ -25,28 +24,27 @@ use litmus_test::Test;
 use std::alloc::{AllocError, Global};
 use std::marker::Model;
 
-/// The numbered candidates of a test. It holds the runs of each thread and marks, and no candidate.
+/// The numbered candidates of a test. It holds the runs of each thread, in groups, and no candidate.
 #[derive(Drop)]
 pub struct Space {
     init: Vec<u32>,
     threads: Vec<RunList>,
-    choices: u64,
+    groups: Vec<Groups>,
     size: u64,
-    marks: Vec<Mark>,
 }
 
 impl Model for Space {
-    ghost use Rattle.std.specs.Prelude.{◌≡◌, ◌≤◌, ◌<◌, ℕ, length};
-    ghost use Rattle.candidates.specs.Candidates.{Choices, count_choices, choice, size_of};
-    ghost use Rattle.candidates.specs.Bounds.{AreWithin};
-    ghost use Rattle.candidates.specs.Marks.{AreMarks};
+    ghost use Rattle.std.specs.Prelude.{◌≡◌, ◌≤◌, length, map, []};
+    ghost use Rattle.candidates.specs.Candidates.{Choices, choices, size_of};
+    ghost use Rattle.candidates.specs.Groups.{tally_of, HasRoom};
+    ghost use Rattle.candidates.specs.Parts.{AreAllWithin};
     ghost use Rattle.candidates.specs.declared.fault.TheConstants.{MOST_CANDIDATES};
 
     ghost Value = { Choices };
 
     ghost view = { λ s. record { init = s.init.items; threads = s.threads.items } };
 
-    ghost invariant = { λ s. record { choices : s.choices ≡ count_choices s.threads.items; size : s.size ≡ size_of (record { init = s.init.items; threads = s.threads.items }); most : s.size ≤ MOST_CANDIDATES; within : (i : ℕ) → i < count_choices s.threads.items → AreWithin (length s.init.items) (choice s.threads.items i); marks : AreMarks (length s.init.items) s.threads.items s.marks.items } };
+    ghost invariant = { λ s. record { size : s.size ≡ size_of (record { init = s.init.items; threads = s.threads.items }); most : s.size ≤ MOST_CANDIDATES; within : AreAllWithin (length s.init.items) (choices s.threads.items); tallied : s.groups.items ≡ map (λ runs. map (λ run. tally_of (length s.init.items) run.events) runs) s.threads.items; room : HasRoom (tally_of (length s.init.items) []) s.groups.items } };
 }
 
 /// The initial value of each location of a test.
@@ -65,8 +63,8 @@ fn initial_values(alloc: Global, test: &Test) -> Result<Vec<u32>, AllocError>
 fn all_runs(alloc: Global, test: &Test) -> Result<Vec<RunList>, SpaceFault>
     ensures lists { IfOk result (λ v. v.items ≡ map (runs_of test.now) (upto (length test.now.threads))) }
     ensures few { IfOk result (λ _. HaveFewRuns test.now) }
-    ensures some { IfOk result (λ v. (runs : List ThreadRun) → IsIn runs v.items → 1 ≤ length runs) }
-    ensures within { IfOk result (λ v. (i : ℕ) → i < count_choices v.items → AreWithin (length test.now.locations) (choice v.items i)) }
+    ensures short { IfOk result (λ v. AreShort v.items) }
+    ensures within { IfOk result (λ v. AreAllWithin (length test.now.locations) (choices v.items)) }
     ensures fault { IfErr result (IsSpaceFault test.now) }
 {
     let mut lists = Vec::new(alloc);
@@ -81,22 +79,20 @@ fn stretch_at(
     alloc: Global,
     threads: &[RunList],
     init: &[u32],
-    marks: &[Mark],
-    choices: u64,
+    groups: &[Groups],
     number: u64,
 ) -> Result<Stretch, AllocError>
-    requires marks { AreMarks (length init.now) threads.now marks.now }
-    requires choices { choices ≡ count_choices threads.now }
-    requires within { (i : ℕ) → i < count_choices threads.now → AreWithin (length init.now) (choice threads.now i) }
+    requires tallied { groups.now ≡ map (λ runs. map (λ run. tally_of (length init.now) run.events) runs) threads.now }
+    requires room { HasRoom (tally_of (length init.now) []) groups.now }
+    requires within { AreAllWithin (length init.now) (choices threads.now) }
     requires size { size_of (record { init = init.now; threads = threads.now }) ≤ MOST_CANDIDATES }
     requires number { number < size_of (record { init = init.now; threads = threads.now }) }
     ensures stretch { IfOk result (IsStretch (record { init = init.now; threads = threads.now })) }
     ensures first { IfOk result (λ s. s.first ≤ number) }
     ensures last { IfOk result (λ s. number < s.first + s.size) }
 {
-    let position = locate(threads, init, marks, choices, number);
-    let runs = choice(alloc, threads, position.choice)?;
-    let page = open_page(alloc, runs, init.len())?;
+    let position = locate(alloc, threads, groups, init.len(), number)?;
+    let page = open_page(alloc, position.runs, init.len())?;
     let first = number - position.rest;
     let size = page.ways * page.orders;
     Ok(Stretch { first, size, page })
@@ -116,18 +112,17 @@ impl Space {
     {
         let threads = all_runs(alloc, test)?;
         let init = initial_values(alloc, test)?;
-        let Some(choices) = count_choices(&threads) else {
-            return Err(SpaceFault::TooManyCandidates);
-        };
-        let Some(tally) = total(alloc, &threads, init.len(), choices)? else {
+        let locations = init.len();
+        let groups = group_all(alloc, &threads, locations)?;
+        let empty = Tally::new(alloc, &[], locations)?;
+        let Some(size) = count(alloc, &empty, &groups)? else {
             return Err(SpaceFault::TooManyCandidates);
         };
         Ok(Space {
             init,
             threads,
-            choices,
-            size: tally.size,
-            marks: tally.marks,
+            groups,
+            size,
         })
     }
 
@@ -145,21 +140,14 @@ impl Space {
         &self.init
     }
 
-    /// The stretch in which a number is. It passes over the choices of runs between the mark before it and its own.
+    /// The stretch in which a number is.
     pub(crate) fn stretch(&self, alloc: Global, number: u64) -> Result<Stretch, AllocError>
         requires { number < size_of self.now }
         ensures stretch { IfOk result (IsStretch self.now) }
         ensures first { IfOk result (λ s. s.first ≤ number) }
         ensures last { IfOk result (λ s. number < s.first + s.size) }
     {
-        stretch_at(
-            alloc,
-            &self.threads,
-            &self.init,
-            &self.marks,
-            self.choices,
-            number,
-        )
+        stretch_at(alloc, &self.threads, &self.init, &self.groups, number)
     }
 
     /// The candidate with this number, where it is an execution.

@@ -1,62 +1,111 @@
-use Rattle.std.proofs.Common.{◌<◌, ◌≤◌, ◌-◌, length, arith}
+use Rattle.std.proofs.Common.{◌∙◌, ◌+◌, ◌<◌, [], ◌∷◌, ◌++◌, List, length, map, drop, get_or, sym, ap, subst, arith}
+use Rattle.std.proofs.lemmas.List.{drop_all}
+use Rattle.events.specs.Executions.{ThreadRun}
+use Rattle.candidates.specs.Groups.{tally_of}
 use Rattle.candidates.specs.declared.fault.TheConstants.{MOST_CANDIDATES}
-use Rattle.listings.specs.Lists.{sum_of}
-use Rattle.candidates.specs.Executions.{block}
-use Rattle.candidates.specs.Candidates.{choice, choices, count_choices}
-use Rattle.candidates.proofs.Caps.{capped_is_some, capped_unwrapped}
-use Rattle.candidates.proofs.Steps.{block_below, block_positive, rest_sum_of, sum_end, mark_at, in_block}
+use Rattle.candidates.specs.Candidates.{choices}
+use Rattle.candidates.proofs.Grouping.{tallies_of}
+use Rattle.candidates.proofs.Descent.{IsDown, down_first, down_at, tallies_here, tallies_after, room_on, sized_on, sizes_on, sizes_sum, sizes_length, run_there, small_on, down_next, down_end}
 use Rattle.candidates.proofs.choosing.locate.Goals as goal
 
-pub loop-choice-init : goal.loop-choice-init
-loop-choice-init c =
-    let threads = c.args.threads.now in
-    let m = c.nearest-from.result in
-    let h = mark_at (length c.args.init.now) threads c.args.marks.now m c.requires.marks c.nearest-from.ensures.from in
+pub loop-thread-init : goal.loop-thread-init
+loop-thread-init c =
+    let P : List ThreadRun → Type 0 = λ rs. IsDown c.args.locations (choices c.args.threads.now) c.args.number c.args.number c.in_ok-tally.tally rs c.args.threads.now in
     record {
-      whole = omega (arith, h.whole, c.nearest-from.ensures.before);
-      order = omega arith;
-      within = omega (arith, h.within, c.requires.count);
+      down = subst P (sym c.new-runs.ensures.items) (down_first c.args.locations c.args.threads.now c.args.groups.now c.args.number c.in_ok-tally.tally c.requires.tallied c.requires.room c.requires.within c.requires.number c.in_ok-tally.ensures);
+      within = omega arith;
     }
 
-pub unwrap-size-requires : goal.unwrap-size-requires
-unwrap-size-requires c =
-    let i = c.loop-choice.choice in
-    let l : i < count_choices c.args.threads.now = omega (arith, c.loop-choice-test.true, c.requires.count) in
-    capped_is_some MOST_CANDIDATES (block (length c.args.init.now) (choice c.args.threads.now i)) c.block.result c.block.ensures (block_below (length c.args.init.now) MOST_CANDIDATES c.args.threads.now i l c.requires.size)
-
-pub returns-then-rest-size-clause-found : goal.returns-then-rest-size-clause-found
-returns-then-rest-size-clause-found c =
-    let i = c.loop-choice.choice in
-    let l : i < count_choices c.args.threads.now = omega (arith, c.loop-choice-test.true, c.requires.count) in
-    in_block c.args.init.now c.args.threads.now i (c.args.number - c.loop-choice.rest) l c.loop-choice.invariant.whole
-
-pub loop-choice-preserved : goal.loop-choice-preserved
-loop-choice-preserved c =
-    let i = c.loop-choice.choice in
+pub sizes-requires : goal.sizes-requires
+sizes-requires c =
+    let n = c.args.locations in
     let threads = c.args.threads.now in
-    let init = c.args.init.now in
-    let l : i < count_choices threads = omega (arith, c.loop-choice-test.true, c.requires.count) in
-    let e = capped_unwrapped MOST_CANDIDATES (block (length init) (choice threads i)) c.unwrap-size.result c.block.result c.block.ensures c.unwrap-size.ensures (block_positive (length init) (choice threads i)) in
+    let at = c.loop-thread in
+    let l = c.loop-thread-test.true in
     record {
-      whole = omega (
-        arith,
-        rest_sum_of (length init) threads i (c.args.number - c.loop-choice.rest) (sum_of (block (length init)) (choices threads)) l c.loop-choice.invariant.whole,
-        e.0,
-        c.if-rest-size.false,
-        c.loop-choice.invariant.order,
-      );
-      order = omega (arith, c.loop-choice.invariant.order);
-      within = omega (arith, c.loop-choice-test.true);
+      room = room_on n (choices threads) c.args.number at.rest at.tally at.runs.items (get_or threads at.thread []) (drop (at.thread + 1) threads) c.index-groups-thread.result c.after.result.now
+          (down_at n (choices threads) c.args.number at.rest at.tally at.runs.items threads at.thread l at.invariant.down)
+          (tallies_here n threads c.args.groups.now at.thread c.index-groups-thread.result c.requires.tallied l c.index-groups-thread.is)
+          (tallies_after n threads c.args.groups.now c.after.result.now at.thread c.requires.tallied c.after.ensures);
     }
 
-pub unreachable-requires : goal.unreachable-requires
-unreachable-requires c =
-    let l : count_choices c.args.threads.now ≤ c.loop-choice.choice = omega (arith, c.loop-choice-test.false, c.requires.count) in
-    let e = sum_end (length c.args.init.now) c.args.threads.now c.loop-choice.choice (c.args.number - c.loop-choice.rest) _ l c.loop-choice.invariant.whole in
-    absurd (omega (arith, e, c.requires.number))
+pub unwrap-sizes-requires : goal.unwrap-sizes-requires
+unwrap-sizes-requires c =
+    let n = c.args.locations in
+    let threads = c.args.threads.now in
+    let at = c.loop-thread in
+    let l = c.loop-thread-test.true in
+    sized_on n MOST_CANDIDATES (choices threads) c.args.number at.rest at.tally at.runs.items (get_or threads at.thread []) (drop (at.thread + 1) threads) c.index-groups-thread.result c.after.result.now _ c.in_ok-sizes.field-0
+    (down_at n (choices threads) c.args.number at.rest at.tally at.runs.items threads at.thread l at.invariant.down)
+    c.requires.size
+    (tallies_here n threads c.args.groups.now at.thread c.index-groups-thread.result c.requires.tallied l c.index-groups-thread.is)
+    (tallies_after n threads c.args.groups.now c.after.result.now at.thread c.requires.tallied c.after.ensures)
+    c.in_ok-sizes.ensures
 
-pub returns-then-rest-size-clause-end : goal.returns-then-rest-size-clause-end
-returns-then-rest-size-clause-end c =
-    let i = c.loop-choice.choice in
-    let l : i < count_choices c.args.threads.now = omega (arith, c.loop-choice-test.true, c.requires.count) in
-    omega (arith, rest_sum_of (length c.args.init.now) c.args.threads.now i (c.args.number - c.loop-choice.rest) (sum_of (block (length c.args.init.now)) (choices c.args.threads.now)) l c.loop-choice.invariant.whole)
+pub part_at-part-requires : goal.part_at-part-requires
+part_at-part-requires c =
+    let n = c.args.locations in
+    let threads = c.args.threads.now in
+    let at = c.loop-thread in
+    let l = c.loop-thread-test.true in
+    let runs = get_or threads at.thread [] in
+    let more = drop (at.thread + 1) threads in
+    let down = down_at n (choices threads) c.args.number at.rest at.tally at.runs.items threads at.thread l at.invariant.down in
+    let here = tallies_here n threads c.args.groups.now at.thread c.index-groups-thread.result c.requires.tallied l c.index-groups-thread.is in
+    let after = tallies_after n threads c.args.groups.now c.after.result.now at.thread c.requires.tallied c.after.ensures in
+    let sizes = sizes_on n at.tally runs more c.index-groups-thread.result c.after.result.now c.deref.result.now here after (c.deref.ensures.value ∙ (rw c.unwrap-sizes.ensures at c.in_ok-sizes.ensures)) in
+    sizes_sum n (choices threads) c.args.number at.rest at.tally at.runs.items runs more c.deref.result.now down sizes
+
+pub plus-requires : goal.plus-requires
+plus-requires c =
+    let n = c.args.locations in
+    let threads = c.args.threads.now in
+    let at = c.loop-thread in
+    let l = c.loop-thread-test.true in
+    let runs = get_or threads at.thread [] in
+    let more = drop (at.thread + 1) threads in
+    let part = c.part_at-part in
+    let down = down_at n (choices threads) c.args.number at.rest at.tally at.runs.items threads at.thread l at.invariant.down in
+    let here = tallies_here n threads c.args.groups.now at.thread c.index-groups-thread.result c.requires.tallied l c.index-groups-thread.is in
+    let after = tallies_after n threads c.args.groups.now c.after.result.now at.thread c.requires.tallied c.after.ensures in
+    let sizes = sizes_on n at.tally runs more c.index-groups-thread.result c.after.result.now c.deref.result.now here after (c.deref.ensures.value ∙ (rw c.unwrap-sizes.ensures at c.in_ok-sizes.ensures)) in
+    let m : part.result.place < length runs = omega (arith, part.ensures.place, sizes_length n at.tally runs (map (tallies_of n) more) c.deref.result.now sizes) in
+    let run = run_there threads at.thread part.result.place c.index-threads-thread.result c.runs.result.now c.index-runs-part.result l c.index-threads-thread.is c.runs.ensures m c.index-runs-part.is in
+    record { small = small_on n (choices threads) c.args.number at.rest at.tally c.in_ok-new.field-0 at.runs.items runs more part.result.place c.index-runs-part.result down m run (c.in_ok-new.ensures ∙ ap (tally_of n) c.events.ensures) }
+
+pub loop-thread-preserved : goal.loop-thread-preserved
+loop-thread-preserved c =
+    let n = c.args.locations in
+    let threads = c.args.threads.now in
+    let at = c.loop-thread in
+    let l = c.loop-thread-test.true in
+    let runs = get_or threads at.thread [] in
+    let more = drop (at.thread + 1) threads in
+    let part = c.part_at-part in
+    let down = down_at n (choices threads) c.args.number at.rest at.tally at.runs.items threads at.thread l at.invariant.down in
+    let here = tallies_here n threads c.args.groups.now at.thread c.index-groups-thread.result c.requires.tallied l c.index-groups-thread.is in
+    let after = tallies_after n threads c.args.groups.now c.after.result.now at.thread c.requires.tallied c.after.ensures in
+    let sizes = sizes_on n at.tally runs more c.index-groups-thread.result c.after.result.now c.deref.result.now here after (c.deref.ensures.value ∙ (rw c.unwrap-sizes.ensures at c.in_ok-sizes.ensures)) in
+    let m : part.result.place < length runs = omega (arith, part.ensures.place, sizes_length n at.tally runs (map (tallies_of n) more) c.deref.result.now sizes) in
+    let run = run_there threads at.thread part.result.place c.index-threads-thread.result c.runs.result.now c.index-runs-part.result l c.index-threads-thread.is c.runs.ensures m c.index-runs-part.is in
+    record {
+      down = down_next n (choices threads) c.args.number at.rest part.result.rest at.tally c.in_ok-new.field-0 c.in_ok-tally-2.tally at.runs.items c.push.new.self.items runs more c.deref.result.now part.result.place c.index-runs-part.result down sizes
+          part.ensures.place part.ensures.rest part.ensures.sum run (c.in_ok-new.ensures ∙ ap (tally_of n) c.events.ensures) c.in_ok-tally-2.ensures
+          (c.in_ok-push.ensures.items ∙ ap (λ (x : ThreadRun). at.runs.items ++ x ∷ []) c.in_ok-copy.ensures);
+      within = omega (arith, l);
+    }
+
+pub returns-clause-order : goal.returns-clause-order
+returns-clause-order c =
+    let at = c.loop-thread in
+    (down_end c.args.locations (choices c.args.threads.now) c.args.number at.rest at.tally at.runs.items (drop at.thread c.args.threads.now) (drop_all at.thread c.args.threads.now (omega (arith, c.loop-thread-test.false))) at.invariant.down).0
+
+pub returns-clause-rest : goal.returns-clause-rest
+returns-clause-rest c =
+    let at = c.loop-thread in
+    (down_end c.args.locations (choices c.args.threads.now) c.args.number at.rest at.tally at.runs.items (drop at.thread c.args.threads.now) (drop_all at.thread c.args.threads.now (omega (arith, c.loop-thread-test.false))) at.invariant.down).1
+
+pub returns-clause-part : goal.returns-clause-part
+returns-clause-part c =
+    let at = c.loop-thread in
+    (down_end c.args.locations (choices c.args.threads.now) c.args.number at.rest at.tally at.runs.items (drop at.thread c.args.threads.now) (drop_all at.thread c.args.threads.now (omega (arith, c.loop-thread-test.false))) at.invariant.down).2

@@ -1,6 +1,6 @@
 use Rattle.std.proofs.Common.{◌∙◌, ◌<◌, ap, arith, length}
 use Rattle.std.proofs.lemmas.Result.{err_from_is_err_and}
-use Rattle.candidates.proofs.Spaces.{first_fault, few_more, all_few, next_list, all_lists, some_of_all, within_all}
+use Rattle.candidates.proofs.Spaces.{first_fault, few_more, all_few, next_list, all_lists, short_all, within_all}
 use Rattle.candidates.proofs.space.all_runs.Goals as goal
 
 pub returns-in_err-runs-clause-fault : goal.returns-in_err-runs-clause-fault
@@ -25,9 +25,9 @@ returns-clause-lists c = all_lists c.args.test.now c.loop-thread.thread c.loop-t
 pub returns-clause-few : goal.returns-clause-few
 returns-clause-few c = all_few c.args.test.now c.loop-thread.thread (omega (arith, c.loop-thread-test.false, ap (λ ps. length ps) c.threads-thread-end.ensures.value)) c.loop-thread.invariant.few
 
-pub returns-clause-some : goal.returns-clause-some
-returns-clause-some c =
-    some_of_all c.args.test.now c.loop-thread.lists.items
+pub returns-clause-short : goal.returns-clause-short
+returns-clause-short c =
+    short_all c.args.test.now c.loop-thread.lists.items c.threads-thread-end.ensures.test
     (all_lists c.args.test.now c.loop-thread.thread c.loop-thread.lists.items (omega (arith, c.loop-thread-test.false, ap (λ ps. length ps) c.threads-thread-end.ensures.value)) c.loop-thread.invariant.is)
 
 pub returns-clause-within : goal.returns-clause-within

@@ -1,0 +1,51 @@
+use Rattle.std.proofs.Common.{◌∙◌, List, ℕ, sym, ap, subst, arith}
+use Rattle.listings.specs.Lists.{IsIn}
+use Rattle.candidates.specs.declared.counts.Counts.{Counts}
+use Rattle.candidates.specs.declared.fault.TheConstants.{MOST_CANDIDATES}
+use Rattle.candidates.specs.Candidates.{IsCapped}
+use Rattle.candidates.specs.Groups.{sum_tally, size_by, HasRoom}
+use Rattle.candidates.proofs.Grouping.{placed_sizes, one_above, room_of_groups, room_small, sum_sizes, in_row, front_rest}
+use Rattle.candidates.proofs.groups.+counting.Goals as goal
+
+pub Groups::sizes-group_sizes-requires : goal.Groups::sizes-group_sizes-requires
+Groups::sizes-group_sizes-requires t c =
+    let tally = c.args.tally.now in
+    let r = room_of_groups tally c.self.inside.tallies.items c.args.self.now c.self.inside.places.items c.args.rest.now c.self.invariant c.self.view_is c.requires.room in
+    let P : List (List Counts) → Type 0 = λ us. (u : List Counts) → IsIn u us → HasRoom (sum_tally tally u) c.args.rest.now in
+    (omega (arith, c.decreases), subst P (sym c.deref.ensures.value) r)
+
+pub Groups::sizes-returns-in_ok-at_places-in-Some : goal.Groups::sizes-returns-in_ok-at_places-in-Some
+Groups::sizes-returns-in_ok-at_places-in-Some t c =
+    placed_sizes c.args.tally.now c.self.inside.tallies.items c.args.self.now c.self.inside.places.items c.in-Some.sizes.items c.args.rest.now c.in_ok-at_places-in-Some.field-0.items c.self.invariant c.self.view_is
+    (rw (c.in-Some.is, c.deref.ensures.value) at c.in_ok-sizes.ensures)
+    (rw (c.deref-in-Some.ensures.value, c.deref-in-Some-2.ensures.value) at c.in_ok-at_places-in-Some.ensures)
+
+pub Groups::sizes-returns-in-None : goal.Groups::sizes-returns-in-None
+Groups::sizes-returns-in-None t c =
+    one_above c.args.tally.now c.self.inside.tallies.items c.args.self.now c.self.inside.places.items c.args.rest.now MOST_CANDIDATES c.self.invariant c.self.view_is
+    (rw (c.in-None.is, c.deref.ensures.value) at c.in_ok-sizes.ensures)
+
+pub count-returns-in-Some : goal.count-returns-in-Some
+count-returns-in-Some t c =
+    let s = sum_sizes c.args.tally.now _ _ c.deref.result.now (c.deref.ensures.value ∙ (rw c.in-Some.is at c.in_ok-sizes-in-len1-up.ensures)) in
+    let P : ℕ → Type 0 = λ n. IsCapped MOST_CANDIDATES n c.capped_sum.result in
+    subst P (s ∙ ap (size_by c.args.tally.now) (front_rest c.args.threads.now c.first-item.result c.in-len1-up.len_at_least c.first-item.is)) c.capped_sum.ensures
+
+pub group_sizes-plus-requires : goal.group_sizes-plus-requires
+group_sizes-plus-requires t c =
+    let g = c.group-item.result in
+    let m = in_row c.args.tallies.now c.loop-group.group-index g c.loop-group-test.true c.group-item.is in
+    record { small = room_small (sum_tally c.args.tally.now g) c.args.rest.now (c.requires.room g m) }
+
+pub group_sizes-count-requires : goal.group_sizes-count-requires
+group_sizes-count-requires t c =
+    let g = c.group-item.result in
+    let m = in_row c.args.tallies.now c.loop-group.group-index g c.loop-group-test.true c.group-item.is in
+    let P : List Counts → Type 0 = λ u. HasRoom u c.args.rest.now in
+    (omega (arith, c.decreases), subst P (sym c.in_ok-more.ensures) (c.requires.room g m))
+
+pub group_sizes-returns-in_default : goal.group_sizes-returns-in_default
+group_sizes-returns-in_default t c =
+    let g = c.group-item.result in
+    let m = in_row c.args.tallies.now c.loop-group.group-index g c.loop-group-test.true c.group-item.is in
+    (g, m, rw (c.in_default.is, c.in_ok-more.ensures) at c.in_ok-size.ensures)
