@@ -69,12 +69,13 @@ get_ids f (x ∷ xs) zero e l = refl
 get_ids f (x ∷ xs) (suc d) e l = get_ids f xs d e (omega (arith, l))
 
 -- The sizes are those of the candidates with each of the runs.
-pub sizes_sum : (n : ℕ) (row : List (List ThreadRun)) (number rest : ℕ) (tally : List Counts) (chosen runs : List ThreadRun) (more : List (List ThreadRun)) (sizes : List ℕ) → IsDown n row number rest tally chosen (runs ∷ more) → sizes ≡ sizes_of tally (tallies_of n runs) (map (tallies_of n) more) → rest < sum_of (λ k. k) sizes
-sizes_sum n row number rest tally chosen runs more sizes h e =
-    let s : sum_of (λ k. k) sizes ≡ sum_of (block n) (behind chosen (runs ∷ more)) =
+pub sizes_total : (n : ℕ) (row : List (List ThreadRun)) (number rest : ℕ) (tally : List Counts) (chosen runs : List ThreadRun) (more : List (List ThreadRun)) (sizes : List ℕ) → IsDown n row number rest tally chosen (runs ∷ more) → sizes ≡ sizes_of tally (tallies_of n runs) (map (tallies_of n) more) → sum_of (λ k. k) sizes ≡ sum_of (block n) (behind chosen (runs ∷ more))
+sizes_total n row number rest tally chosen runs more sizes h e =
     ap (sum_of (λ k. k)) (e ∙ sizes_are n tally chosen runs more h.tally_is h.within) ∙ sum_ids (going_on n chosen more) runs
-    ∙ sym (sum_flat (block n) (λ run. behind (chosen ++ run ∷ []) more) runs) ∙ ap (sum_of (block n)) (sym (behind_step chosen runs more)) in
-    omega (arith, s, h.below)
+    ∙ sym (sum_flat (block n) (λ run. behind (chosen ++ run ∷ []) more) runs) ∙ ap (sum_of (block n)) (sym (behind_step chosen runs more))
+
+pub sizes_sum : (n : ℕ) (row : List (List ThreadRun)) (number rest : ℕ) (tally : List Counts) (chosen runs : List ThreadRun) (more : List (List ThreadRun)) (sizes : List ℕ) → IsDown n row number rest tally chosen (runs ∷ more) → sizes ≡ sizes_of tally (tallies_of n runs) (map (tallies_of n) more) → rest < sum_of (λ k. k) sizes
+sizes_sum n row number rest tally chosen runs more sizes h e = omega (arith, sizes_total n row number rest tally chosen runs more sizes h e, h.below)
 
 pub sizes_length : (n : ℕ) (tally : List Counts) (runs : List ThreadRun) (rest : List (List (List Counts))) (sizes : List ℕ) → sizes ≡ sizes_of tally (tallies_of n runs) rest → length sizes ≡ length runs
 sizes_length n tally runs rest sizes e =
