@@ -3,12 +3,12 @@ use Rattle.std.specs.Prelude.{ℕ, ◌-◌, ◌<◌, ◌≤◌, [], ◌∷◌, l
 use Rattle.candidates.specs.declared.choosing.Place.{Place}
 use Rattle.candidates.specs.declared.choosing.Place.TheVariants.{At, Until}
 use Rattle.candidates.specs.Executions.{block}
-use Rattle.candidates.specs.Candidates.{Choices, choices, size_of}
+use Rattle.candidates.specs.Candidates.{Choices, choices}
 use Rattle.candidates.specs.Parts.{IsPart}
-use Rattle.candidates.specs.Walks.{NoneFrom}
+use Rattle.candidates.specs.Walks.{IsPast}
 
 -- The candidate with the number n has these runs, and stands at the number `rest` among those that have them; or none from n to before
 -- a later number is an execution.
 abbrev pub IsPlace : Choices → ℕ → Place → Type 0
 IsPlace s n (At p) = (p.rest ≤ n) × (p.rest < block (length s.init) p.runs.items) × IsPart (length s.init) (choices s.threads) (n - p.rest) (p.runs.items ∷ [])
-IsPlace s n (Until m) = (n < m) × (m ≤ size_of s) × NoneFrom s n m
+IsPlace s n (Until m) = IsPast s n m

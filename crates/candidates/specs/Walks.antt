@@ -4,6 +4,7 @@ use Rattle.events.specs.Executions.{Execution}
 use Rattle.candidates.specs.Candidates.{Choices, graph_at, size_of}
 use Rattle.candidates.specs.declared.assembly.Look.{Look}
 use Rattle.candidates.specs.declared.assembly.Look.TheVariants.{Found, Until}
+use Rattle.candidates.specs.Readings.{IsStretch, MayBeStretch}
 use Rattle.candidates.specs.declared.page.Reach.{Reach}
 use Rattle.candidates.specs.declared.page.Reach.TheVariants as of_reach
 use Rattle.candidates.specs.declared.page.Stretch.{Stretch}
@@ -53,3 +54,19 @@ IsVisit s n (Until m) = IsPast s n m
 abbrev pub IsFind : Choices → ℕ → ℕ → Option Hit → Type 0
 IsFind s a b None = NoneFrom s a b
 IsFind s a b (Some h) = (a ≤ h.number) × (h.number < b) × NoneFrom s a h.number × (graph_at s h.number ≡ Some h.graph)
+
+-- The number n is in the stretch.
+pub record IsWithin (s : Choices) (n : ℕ) (b : Stretch) : Type 0 where
+  pub stretch : IsStretch s b
+  pub first : b.first ≤ n
+  pub last : n < b.first + b.size
+
+-- The number is in this stretch, or none is an execution up to a later number.
+abbrev pub IsReach : Choices → ℕ → Reach → Type 0
+IsReach s n (of_reach.At b) = IsWithin s n b
+IsReach s n (of_reach.Until m) = IsPast s n m
+
+-- The stretch at hand is one of the space; and the number is in it, or none is an execution up to a later number.
+abbrev pub IsReached : Choices → ℕ → Stretch → Option ℕ → Type 0
+IsReached s n b None = IsWithin s n b
+IsReached s n b (Some m) = MayBeStretch s b × IsPast s n m
