@@ -175,6 +175,21 @@ sized_on n limit row number rest tally chosen runs more here after P o h l e f m
 pub sizes_on : (n : ℕ) (tally : List Counts) (runs : List ThreadRun) (more : List (List ThreadRun)) (here : List (List Counts)) (after : List (List (List Counts))) (sizes : List ℕ) → here ≡ tallies_of n runs → after ≡ map (tallies_of n) more → sizes ≡ sizes_of tally here after → sizes ≡ sizes_of tally (tallies_of n runs) (map (tallies_of n) more)
 sizes_on n tally runs more here after sizes e f s = s ∙ ap (λ us. sizes_of tally us after) e ∙ ap (λ gs. sizes_of tally (tallies_of n runs) gs) f
 
+-- A thread on the way down: the candidates with the chosen runs go on with its runs, and these are the sizes of what goes on with each.
+pub record IsEntered (n : ℕ) (row : List (List ThreadRun)) (number rest : ℕ) (tally : List Counts) (chosen : List ThreadRun) (threads : List (List ThreadRun)) (i : ℕ) (sizes : List ℕ) : Type 0 where
+  pub down : IsDown n row number rest tally chosen (get_or threads i [] ∷ drop (i + 1) threads)
+  pub are : sizes ≡ sizes_of tally (tallies_of n (get_or threads i [])) (map (tallies_of n) (drop (i + 1) threads))
+
+pub enter : (n : ℕ) (row : List (List ThreadRun)) (number rest : ℕ) (tally : List Counts) (chosen : List ThreadRun) (threads : List (List ThreadRun)) (groups : List (List (List Counts))) (i : ℕ) (here : List (List Counts)) (after : List (List (List Counts))) (sizes : List ℕ) → groups ≡ map (tallies_of n) threads → i < length threads → here ≡ get_or groups i here → after ≡ drop (i + 1) groups → IsDown n row number rest tally chosen (drop i threads) → sizes ≡ sizes_of tally here after → IsEntered n row number rest tally chosen threads i sizes
+enter n row number rest tally chosen threads groups i here after sizes g l h a d s = record {
+  down = down_at n row number rest tally chosen threads i l d;
+  are = sizes_on n tally (get_or threads i []) (drop (i + 1) threads) here after sizes (tallies_here n threads groups i here g l h) (tallies_after n threads groups after i g a) s;
+}
+
+-- The place of a size is that of a run.
+pub run_within : (n : ℕ) (row : List (List ThreadRun)) (number rest : ℕ) (tally : List Counts) (chosen : List ThreadRun) (threads : List (List ThreadRun)) (i : ℕ) (sizes : List ℕ) (d : ℕ) → IsEntered n row number rest tally chosen threads i sizes → d < length sizes → d < length (get_or threads i [])
+run_within n row number rest tally chosen threads i sizes d e l = omega (arith, l, sizes_length n tally (get_or threads i []) (map (tallies_of n) (drop (i + 1) threads)) sizes e.are)
+
 -- the run at a place of a thread
 pub run_there : (threads : List (List ThreadRun)) (i d : ℕ) (list runs : List ThreadRun) (run : ThreadRun) → i < length threads → list ≡ get_or threads i list → runs ≡ list → d < length (get_or threads i []) → run ≡ get_or runs d run → run ≡ get_or (get_or threads i []) d empty_run
 run_there threads i d list runs run l e r m is =

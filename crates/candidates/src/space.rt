@@ -122,12 +122,12 @@ impl Space {
         let init = initial_values(alloc, test)?;
         let locations = init.len();
         let groups = group_all(alloc, &threads, locations)?;
-        let stores = all_stores(alloc, &threads)?;
-        let marks = all_marks(alloc, &init, &stores, &threads)?;
         let empty = Tally::new(alloc, &[], locations)?;
         let Some(size) = count(alloc, &empty, &groups)? else {
             return Err(SpaceFault::TooManyCandidates);
         };
+        let stores = all_stores(alloc, &threads)?;
+        let marks = all_marks(alloc, &init, &stores, &threads)?;
         Ok(Space {
             init,
             threads,
