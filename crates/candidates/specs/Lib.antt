@@ -4,7 +4,7 @@ pub mod Executions
 pub mod Faults
 pub mod Groups
 pub mod Impossible
+pub mod Located
 pub mod Parts
-pub mod Places
 pub mod Readings
 pub mod Walks

@@ -9,7 +9,7 @@ ghost use Rattle.candidates.specs.Candidates.{choices};
 ghost use Rattle.candidates.specs.Groups.{tally_of, HasRoom};
 ghost use Rattle.candidates.specs.Impossible.{AreMarks};
 ghost use Rattle.candidates.specs.Parts.{AreAllWithin};
-ghost use Rattle.candidates.specs.Places.{IsPlace};
+ghost use Rattle.candidates.specs.Located.{IsLocated};
 
 use crate::counts::Tally;
 use crate::fault::MOST_CANDIDATES;
@@ -106,7 +106,7 @@ pub(crate) struct Position {
 
 /// Where the candidate with a number is, or up to which number no execution stands.
 #[derive(Drop)]
-pub(crate) enum Place {
+pub(crate) enum Located {
     At(Position),
     Until(u64),
 }
@@ -121,14 +121,14 @@ pub(crate) fn locate(
     marks: &[Marks],
     init: &[u32],
     number: u64,
-) -> Result<Place, AllocError>
+) -> Result<Located, AllocError>
     requires tallied { groups.now ≡ map (λ runs. map (λ run. tally_of (length init.now) run.events) runs) threads.now }
     requires room { HasRoom (tally_of (length init.now) []) groups.now }
     requires marked { AreMarks init.now threads.now marks.now }
     requires within { AreAllWithin (length init.now) (choices threads.now) }
     requires size { sum_of (block (length init.now)) (choices threads.now) ≤ MOST_CANDIDATES }
     requires number { number < sum_of (block (length init.now)) (choices threads.now) }
-    ensures { IfOk result (IsPlace (record { init = init.now; threads = threads.now }) number) }
+    ensures { IfOk result (IsLocated (record { init = init.now; threads = threads.now }) number) }
 {
     let locations = init.len();
     let mut tally = Tally::new(alloc, &[], locations)?;
@@ -141,12 +141,12 @@ pub(crate) fn locate(
         let part = part_at(&sizes, rest);
         let passed = marks[thread].passed(&sizes, part.place);
         if passed > 0 {
-            return Ok(Place::Until(number - part.rest + passed));
+            return Ok(Located::Until(number - part.rest + passed));
         }
         let run = &threads[thread].runs()[part.place];
         tally = tally.plus(alloc, &Tally::new(alloc, run.events(), locations)?)?;
         runs.push(run.copy()?)?;
         rest = part.rest;
     }
-    Ok(Place::At(Position { runs, rest }))
+    Ok(Located::At(Position { runs, rest }))
 }

@@ -12,7 +12,7 @@ ghost use Rattle.candidates.specs.Impossible.{AreMarks};
 ghost use Rattle.candidates.specs.Walks.{IsReach};
 
 use crate::assembly::{Look, open_page};
-use crate::choosing::{Place, RunList, group_all, locate};
+use crate::choosing::{Located, RunList, group_all, locate};
 use crate::counts::Tally;
 use crate::fault::{MOST_CANDIDATES, SpaceFault};
 use crate::groups::{Groups, count};
@@ -96,13 +96,13 @@ fn stretch_at(
     ensures { IfOk result (IsReach (record { init = init.now; threads = threads.now }) number) }
 {
     match locate(alloc, threads, groups, marks, init, number)? {
-        Place::At(position) => {
+        Located::At(position) => {
             let page = open_page(alloc, position.runs, init.len())?;
             let first = number - position.rest;
             let size = page.ways * page.orders;
             Ok(Reach::At(Stretch { first, size, page }))
         }
-        Place::Until(next) => Ok(Reach::Until(next)),
+        Located::Until(next) => Ok(Reach::Until(next)),
     }
 }
 
