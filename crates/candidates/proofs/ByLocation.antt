@@ -1,5 +1,5 @@
 -- How many candidates have some runs, location by location.
-use Rattle.std.proofs.Common.{◌≡◌, ◌≢◌, ℕ, zero, suc, ◌+◌, ◌*◌, ◌^◌, ◌<◌, List, [], ◌∷◌, ◌++◌, length, filter, refl, sym, ◌∙◌, ap, inl, inr, arith, Bool, true, false, cond, ◌==◌, ◌&&◌, length-append, ◌≤◌, ◌%◌, ◌/◌, drop, get_or, drop-cons, add-one, subst}
+use Rattle.std.proofs.Common.{◌≡◌, ◌≢◌, ℕ, zero, suc, ◌+◌, ◌*◌, ◌^◌, ◌<◌, List, [], ◌∷◌, ◌++◌, length, filter, refl, sym, ◌∙◌, ap, inl, inr, arith, Bool, true, false, cond, ◌==◌, ◌&&◌, length-append, ◌≤◌}
 use Rattle.std.proofs.Math.Nat.{mul_assoc, mul-one, pow-zero, pow-suc, one-le-pow}
 use Rattle.std.proofs.lemmas.Nat.{pow-add}
 use Rattle.std.proofs.lemmas.List.Elements.{All-head, All-tail}

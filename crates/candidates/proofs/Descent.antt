@@ -1,9 +1,9 @@
 -- Down the threads to the choice that a number is in.
-use Rattle.std.proofs.Common.{◌≡◌, ℕ, zero, suc, ◌+◌, ◌-◌, ◌<◌, ◌≤◌, List, [], ◌∷◌, ◌++◌, append_assoc, append-nil, map, length, take, drop, get_or, drop-cons, add-one, refl, sym, ◌∙◌, ap, subst, inl, inr, arith, Option, None, Some}
+use Rattle.std.proofs.Common.{◌≡◌, ℕ, zero, suc, ◌+◌, ◌-◌, ◌<◌, ◌≤◌, List, [], ◌∷◌, ◌++◌, append_assoc, map, length, take, drop, get_or, drop-cons, add-one, refl, sym, ◌∙◌, ap, subst, inl, inr, arith, Option, None, Some}
 use Rattle.std.specs.List.{flat_map}
 use Rattle.std.specs.Option.{IsSome}
 use Rattle.std.specs.Prelude.{MatchOption}
-use Rattle.std.proofs.lemmas.List.{drop_all, get_or_default}
+use Rattle.std.proofs.lemmas.List.{get_or_default}
 use Rattle.events.specs.Executions.{ThreadRun, empty_run}
 use Rattle.listings.specs.Lists.{IsIn, sum_of}
 use Rattle.listings.proofs.Listings.{in_get_or, map_in}
@@ -12,7 +12,7 @@ use Rattle.candidates.specs.Executions.{block}
 use Rattle.candidates.specs.Candidates.{choices}
 use Rattle.candidates.specs.Groups.{tally_of, sum_tally, size_by, sizes_of, IsSmall, HasRoom}
 use Rattle.candidates.specs.Parts.{behind, IsPart, AreAllWithin}
-use Rattle.candidates.proofs.Steps.{sum_append, sum_flat, behind_step, behind_end, behind_all, whole_part, part_of_part, part_end}
+use Rattle.candidates.proofs.Steps.{sum_flat, behind_step, behind_end, behind_all, whole_part, part_of_part, part_end}
 use Rattle.candidates.proofs.Grouping.{events_of, tallies_of, tally_more, counted, within_run, room_small, length_mapped, sum_map}
 
 -- The chosen runs are those of the number's choice as far as they go, and `rest` is its number behind them.
@@ -52,7 +52,7 @@ sizes_are n tally chosen runs more t w =
     map_twice (λ u. size_by (sum_tally tally u) (map (tallies_of n) more)) (λ (run : ThreadRun). tally_of n run.events) runs
     ∙ map_each (λ (run : ThreadRun). size_by (sum_tally tally (tally_of n run.events)) (map (tallies_of n) more)) (going_on n chosen more) runs
     (λ run m. ap (λ (u : List Counts). size_by (sum_tally u (tally_of n run.events)) (map (tallies_of n) more)) t
-        ∙ ap (λ u. size_by u (map (tallies_of n) more)) (tally_more n chosen run) ∙ counted n more (chosen ++ run ∷ []) (within_run n chosen runs more run m w))
+    ∙ ap (λ u. size_by u (map (tallies_of n) more)) (tally_more n chosen run) ∙ counted n more (chosen ++ run ∷ []) (within_run n chosen runs more run m w))
 
 sum_ids : {A : Type 0} (f : A → ℕ) (xs : List A) → sum_of (λ n. n) (map f xs) ≡ sum_of f xs
 sum_ids f xs = sum_map (λ n. n) f xs

@@ -1,5 +1,5 @@
 -- The candidates are counted by how often the runs read and write each location.
-use Rattle.std.proofs.Common.{◌≡◌, ℕ, zero, suc, ◌+◌, ◌-◌, ◌*◌, ◌^◌, ◌<◌, ◌≤◌, List, [], ◌∷◌, ◌++◌, append_assoc, append-nil, map, length, take, drop, get_or, add-one, refl, sym, ◌∙◌, ap, subst, inl, inr, arith, Bool, cond}
+use Rattle.std.proofs.Common.{◌≡◌, ℕ, zero, suc, ◌+◌, ◌-◌, ◌*◌, ◌^◌, ◌<◌, ◌≤◌, List, [], ◌∷◌, ◌++◌, append-nil, map, length, take, drop, get_or, refl, sym, ◌∙◌, ap, subst, inl, inr, arith, Bool, cond}
 use Rattle.std.specs.List.{flat_map, sum_by, count_by, All}
 use Rattle.std.proofs.lemmas.List.{map-append, take_all}
 use Rattle.std.proofs.lemmas.List.Concat.{flat_map-append}
@@ -12,12 +12,11 @@ use Rattle.listings.specs.Lists.{IsIn, product_by, sum_of, tabulate, factorial}
 use Rattle.listings.proofs.Listings.{in_get_or, place_of, in_left, in_right, in_map, map_in, flat_map_in}
 use Rattle.candidates.specs.declared.counts.Counts.{Counts}
 use Rattle.candidates.specs.Executions.{block, upto}
-use Rattle.candidates.specs.Candidates.{choices}
 use Rattle.candidates.specs.Bounds.{reads_from, AreWithin}
-use Rattle.candidates.specs.Groups.{counts_of, tally_of, plus, sum_tally, ways_of, size_by, sizes_of, IsFew, IsSmall, HasRoom, spread, ArePlaces, IsOneAbove}
+use Rattle.candidates.specs.Groups.{counts_of, tally_of, plus, sum_tally, ways_of, size_by, sizes_of, IsSmall, HasRoom, spread, ArePlaces}
 use Rattle.candidates.specs.Parts.{behind, AreAllWithin, AreShort}
-use Rattle.candidates.proofs.ByLocation.{reads_at, writes_at, ways_at, by_location, product_same}
-use Rattle.candidates.proofs.Steps.{sum_append, sum_flat, behind_step, behind_end}
+use Rattle.candidates.proofs.ByLocation.{writes_at, ways_at, by_location, product_same}
+use Rattle.candidates.proofs.Steps.{sum_flat, behind_step, behind_end}
 use Rattle.candidates.proofs.Adding.{row_next}
 
 -- the events of some runs
@@ -92,7 +91,7 @@ counted n [] chosen w =
     ∙ ap (sum_of (block n)) (sym (behind_end chosen))
 counted n (runs ∷ rest) chosen w =
     sum_map (λ t. size_by (sum_tally (tally_of n (events_of chosen)) t) (map (tallies_of n) rest)) (λ (run : ThreadRun). tally_of n run.events) runs
-    ∙ sum_each (λ (run : ThreadRun). size_by (sum_tally (tally_of n (events_of chosen)) (tally_of n run.events)) (map (tallies_of n) rest)) (λ run. sum_of (block n) (behind (chosen ++ run ∷ []) rest)) runs 
+    ∙ sum_each (λ (run : ThreadRun). size_by (sum_tally (tally_of n (events_of chosen)) (tally_of n run.events)) (map (tallies_of n) rest)) (λ run. sum_of (block n) (behind (chosen ++ run ∷ []) rest)) runs
     (λ run m. ap (λ t. size_by t (map (tallies_of n) rest)) (tally_more n chosen run) ∙ counted n rest (chosen ++ run ∷ []) (within_run n chosen runs rest run m w))
     ∙ sym (sum_flat (block n) (λ run. behind (chosen ++ run ∷ []) rest) runs)
     ∙ ap (sum_of (block n)) (sym (behind_step chosen runs rest))
@@ -126,7 +125,7 @@ room_behind n m (runs ∷ rest) tally l short h = (
   λ t i. (let f = in_map (λ (run : ThreadRun). tally_of n run.events) runs t i in
       let P : List Counts → Type 0 = λ u. HasRoom (sum_tally tally u) (map (tallies_of n) rest) in
       subst P f.2 (room_behind n (m + 64) rest (sum_tally tally (tally_of n f.0.events)) (omega (arith, l)) (λ rs r p q. short rs r (inr p) q)
-          (below_sum m 64 tally (tally_of n f.0.events) h (below_length 64 n f.0.events (short runs f.0 (inl refl) f.1))))),
+      (below_sum m 64 tally (tally_of n f.0.events) h (below_length 64 n f.0.events (short runs f.0 (inl refl) f.1))))),
 )
 
 pub has_room : (n : ℕ) (threads : List (List ThreadRun)) → AreShort threads → HasRoom (tally_of n []) (map (tallies_of n) threads)

@@ -9,7 +9,7 @@ use Rattle.litmus_tree.specs.Tree.{Litmus}
 use Rattle.c11_threads.specs.declared.fault.RunFault.{RunFault}
 use Rattle.c11_threads.specs.declared.fault.RunFault.TheVariants.{TooManyRuns, NoMemory}
 use Rattle.candidates.specs.declared.fault.SpaceFault.TheVariants.{TooManyCandidates}
-use Rattle.candidates.specs.Executions.{IsSize, upto, block}
+use Rattle.candidates.specs.Executions.{initial_values, IsSize, upto, block}
 use Rattle.candidates.specs.Candidates.{choices_of, choices, size_of, Choices}
 use Rattle.c11_threads.specs.Unrolled.{runs_of}
 use Rattle.candidates.specs.Faults.{IsSpaceFault, HaveFewRuns, space_fault_of}
@@ -17,7 +17,7 @@ use Rattle.c11_threads.specs.Faults.{IsRunFault}
 use Rattle.candidates.specs.Parts.{AreAllWithin, AreShort}
 use Rattle.candidates.proofs.Bounding.{within, short}
 use Rattle.candidates.proofs.Caps.{drop_upto, length_tabulate}
-use Rattle.candidates.proofs.Law.{sized}
+use Rattle.candidates.proofs.Law.{sized, as_many}
 use Rattle.candidates.proofs.Grouping.{tallies_of, counted, has_room}
 use Rattle.candidates.proofs.Steps.{behind_all}
 use Rattle.candidates.specs.declared.counts.Counts.{Counts}
@@ -72,6 +72,14 @@ counted_all n lists tally groups w t g =
     let P : List (List ThreadRun) → Type 0 = AreAllWithin n in
     ap (λ (u : List Counts). size_by u groups) t ∙ ap (size_by (tally_of n [])) g
     ∙ counted n lists [] (subst P (sym (behind_all lists)) w) ∙ ap (sum_of (block n)) (behind_all lists)
+
+-- The same, where there are as many locations as initial values.
+pub counted_of : (t : Litmus) (init : List ℕ) (n : ℕ) (lists : List (List ThreadRun)) (tally : List Counts) (groups : List (List (List Counts))) → n ≡ length init → init ≡ initial_values t → AreAllWithin (length t.locations) (choices lists) → tally ≡ tally_of n [] → groups ≡ map (tallies_of n) lists → (n ≡ length (initial_values t)) × AreAllWithin n (choices lists) × (size_by tally groups ≡ sum_of (block n) (choices lists))
+counted_of t init n lists tally groups l i within e g =
+    let many : n ≡ length (initial_values t) = l ∙ ap (λ (vs : List ℕ). length vs) i in
+    let W : ℕ → Type 0 = λ k. AreAllWithin k (choices lists) in
+    let w = subst W (sym (many ∙ as_many t)) within in
+    (many, w, counted_all n lists tally groups w e g)
 
 pub room_all : (n : ℕ) (lists : List (List ThreadRun)) (tally : List Counts) (groups : List (List (List Counts))) → AreShort lists → tally ≡ tally_of n [] → groups ≡ map (tallies_of n) lists → HasRoom tally groups
 room_all n lists tally groups s t g =

@@ -1,5 +1,5 @@
 -- How often runs read and write each location, and how many candidates there are by that alone.
-use Rattle.std.specs.Prelude.{◌≡◌, ℕ, ◌+◌, ◌*◌, ◌^◌, ◌<◌, ◌≤◌, List, [], ◌∷◌, length, map, slice_index_or, count_by, All}
+use Rattle.std.specs.Prelude.{ℕ, ◌+◌, ◌*◌, ◌^◌, ◌<◌, ◌≤◌, List, [], ◌∷◌, length, map, slice_index_or, count_by, All}
 use Rattle.events.specs.declared.event.Event.{Event}
 use Rattle.events.specs.Executions.{writes_to}
 use Rattle.listings.specs.Lists.{IsIn, tabulate, factorial, product_by, sum_of}

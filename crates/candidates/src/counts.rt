@@ -126,11 +126,7 @@ fn all_ways(all: &[Counts]) -> Option<u64>
 
 impl Tally {
     /// How often events read and write each location.
-    pub(crate) fn new(
-        alloc: Global,
-        events: &[Event],
-        locations: usize,
-    ) -> Result<Self, AllocError>
+    pub(crate) fn new(alloc: Global, events: &[Event], locations: usize) -> Result<Self, AllocError>
         ensures { IfOk result (λ t. t ≡ tally_of locations events.now) }
     {
         let mut counts = Vec::new(alloc);

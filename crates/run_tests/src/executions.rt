@@ -20,6 +20,14 @@ P0 (atomic_int* x, atomic_int* y) { int r0 = atomic_load_explicit(x, memory_orde
 P1 (atomic_int* x, atomic_int* y) { int r0 = atomic_load_explicit(y, memory_order_relaxed); if (r0 == 1) { atomic_store_explicit(x, 1, memory_order_relaxed); } }\n\
 exists (0:r0=1)\n";
 
+/// Two threads read what two others write, in either order, with four values.
+const IRIW: &str = "C IRIW\n{ 0:r8=2; 0:r9=3; }\n\
+P0 (atomic_int* x) { atomic_store_explicit(x, 1, memory_order_release); }\n\
+P1 (atomic_int* y) { atomic_store_explicit(y, 1, memory_order_release); }\n\
+P2 (atomic_int* x, atomic_int* y) { int r0 = atomic_load_explicit(x, memory_order_acquire); int r1 = atomic_load_explicit(y, memory_order_acquire); }\n\
+P3 (atomic_int* x, atomic_int* y) { int r0 = atomic_load_explicit(y, memory_order_acquire); int r1 = atomic_load_explicit(x, memory_order_acquire); }\n\
+exists (2:r0=1 /\\ 2:r1=0 /\\ 3:r0=1 /\\ 3:r1=0)\n";
+
 #[test]
 fn sizes_of_spaces(rt: HostRuntime) -> Result<(), Fail> {
     for text in [SB, LB_DATA] {
@@ -31,7 +39,13 @@ fn sizes_of_spaces(rt: HostRuntime) -> Result<(), Fail> {
 }
 
 /// Texts, and how many executions they have.
-const EXECUTIONS: [(&str, u64); 4] = [(SB, 4), (LB_DATA, 5), (EXCHANGES, 18), (BRANCHES, 2)];
+const EXECUTIONS: [(&str, u64); 5] = [
+    (SB, 4),
+    (LB_DATA, 5),
+    (EXCHANGES, 18),
+    (BRANCHES, 2),
+    (IRIW, 16),
+];
 
 #[test]
 fn executions(rt: HostRuntime) -> Result<(), Fail> {
@@ -85,6 +99,15 @@ fn sizes(rt: HostRuntime) -> Result<(), Fail> {
             return Err(Fail::new(*call));
         }
     }
+    Ok(())
+}
+
+/// Of 4,096 candidates one is an execution.
+#[test]
+fn walk_over_twelve_loads(rt: HostRuntime) -> Result<(), Fail> {
+    let start = "C T\n{}\nP0 (atomic_int* x) {\n";
+    let text = repeated(rt.alloc(), start, LOAD, 12, "}\nexists (0:r0=0)\n")?;
+    assert!(rt; ask_space(rt.alloc(), text.as_str(), count_walked)? == Ok(1));
     Ok(())
 }
 

@@ -2,7 +2,7 @@
 
 use c11_threads::{RunFault, runs};
 use candidates::{Space, SpaceFault};
-use events::Run;
+use events::{Graph, Run};
 use litmus_c::{Test, TestFault, read_test};
 use std::alloc::{AllocError, Global};
 use std::test::Fail;
@@ -121,15 +121,37 @@ pub fn count_executions(alloc: Global, space: &Space) -> Result<u64, AllocError>
     Ok(count)
 }
 
-/// How many executions a walk over a space finds.
+/// Whether the execution at a number has the same map of reads as this one.
+fn stands_at(
+    alloc: Global,
+    space: &Space,
+    number: u64,
+    execution: &Graph,
+) -> Result<bool, AllocError> {
+    if number >= space.size() {
+        return Ok(false);
+    }
+    match again!(_, space.graph(alloc, number))? {
+        Some(graph) => Ok(graph.rf() == execution.rf()),
+        None => Ok(false),
+    }
+}
+
+/// How many executions a walk over a space finds, each behind the one before, and each at its number; none where one isn't.
 pub fn count_walked(alloc: Global, space: &Space) -> Result<u64, AllocError> {
     let size = space.size();
     let mut walk = again!(_, space.walk(alloc, 0, size))?;
     let mut count: u64 = 0;
+    let mut least: u64 = 0;
     for _ in 0..size {
-        if again!(_, walk.next(alloc))?.is_some() {
-            count = count.saturating_add(1);
+        let Some(number) = again!(_, walk.next(alloc))? else {
+            return Ok(count);
+        };
+        if number < least || !stands_at(alloc, space, number, walk.graph())? {
+            return Ok(0);
         }
+        least = number.saturating_add(1);
+        count = count.saturating_add(1);
     }
     Ok(count)
 }

@@ -1,4 +1,4 @@
-use Rattle.std.proofs.Common.{◌≡◌, arith}
+use Rattle.std.proofs.Common.{arith}
 use Rattle.candidates.proofs.Adding.{take_on, drop_on}
 use Rattle.candidates.proofs.choosing.part_at.Goals as goal
 

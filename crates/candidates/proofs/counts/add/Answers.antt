@@ -1,4 +1,4 @@
-use Rattle.std.proofs.Common.{◌≡◌, ◌≤◌, arith}
+use Rattle.std.proofs.Common.{arith}
 use Rattle.candidates.proofs.Adding.{nowhere, small_sum, add_end}
 use Rattle.candidates.proofs.counts.add.Goals as goal
 

@@ -1,4 +1,4 @@
-use Rattle.std.proofs.Common.{◌≡◌, ◌≤◌, ℕ, sym, subst, Option, arith}
+use Rattle.std.proofs.Common.{ℕ, sym, subst, Option}
 use Rattle.listings.specs.Lists.{product_by}
 use Rattle.candidates.specs.Candidates.{IsCapped}
 use Rattle.candidates.specs.Groups.{ways_of}

@@ -1,4 +1,4 @@
-use Rattle.std.proofs.Common.{◌≡◌, ◌-◌, ◌≤◌, refl, ap, length, List, arith}
+use Rattle.std.proofs.Common.{◌≡◌, ◌-◌, refl, ap, length, List, arith}
 use Rattle.events.specs.Executions.{ThreadRun}
 use Rattle.candidates.specs.Executions.{block}
 use Rattle.candidates.specs.Candidates.{choices}

@@ -1,4 +1,4 @@
-use Rattle.std.proofs.Common.{◌≡◌, ◌≤◌}
+use Rattle.std.proofs.Common.{◌≡◌}
 use Rattle.candidates.specs.Groups.{tally_of}
 use Rattle.candidates.proofs.counts.Tally.new.Given as goal
 
