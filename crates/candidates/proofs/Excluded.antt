@@ -1,28 +1,28 @@
 -- Runs with a read of a value that nothing writes stand in no execution.
-use Rattle.std.proofs.Common.{◌≡◌, ℕ, zero, suc, ◌+◌, ◌-◌, ◌<◌, ◌≤◌, List, [], ◌∷◌, length, map, take, get_or, filter, refl, sym, ◌∙◌, ap, subst, inl, inr, arith, Bool, true, false, not, ◌==◌, ◌&&◌, ◌||◌, Option, None}
-use Rattle.std.specs.List.{flat_map, list_any}
+use Rattle.std.proofs.Common.{◌≡◌, ℕ, zero, suc, ◌+◌, ◌-◌, ◌<◌, ◌≤◌, List, [], ◌∷◌, length, map, take, get_or, filter, refl, sym, ◌∙◌, ap, subst, inl, inr, arith, Bool, true, false, not, ◌==◌, ◌&&◌, None}
+use Rattle.std.specs.List.{list_any}
 use Rattle.std.specs.Prelude.{slice_index_or}
 use Rattle.std.proofs.lemmas.Bool.{and_parts, cases_Bool, cases_lt, eqb-true, eq-eqb, false≢true}
 use Rattle.events.specs.declared.event.Event.{Event}
 use Rattle.events.specs.declared.event.EventId.{EventId}
 use Rattle.events.specs.declared.event.EventId.TheVariants.{Initial, Own}
-use Rattle.events.specs.Executions.{ThreadRun, is_read, is_write, writes_to, empty_run}
+use Rattle.events.specs.Executions.{ThreadRun, is_read, is_write, empty_run}
 use Rattle.listings.specs.Lists.{IsIn, StandsAt, ForEach, sum_of}
-use Rattle.listings.proofs.Listings.{in_get_or, flat_map_in}
+use Rattle.listings.proofs.Listings.{flat_map_in}
 use Rattle.candidates.specs.declared.impossible.Store.{Store}
 use Rattle.candidates.specs.Executions.{Writes, reads, block}
 use Rattle.candidates.specs.Candidates.{Choices, choices, candidate, candidate_at, is_consistent, graph_at, size_of}
 use Rattle.candidates.specs.Impossible.{IsUnwritten, IsImpossible, has_store, HasThreads, is_wanting, is_impossible, IsPassed}
 use Rattle.candidates.specs.declared.counts.Counts.{Counts}
 use Rattle.candidates.specs.Groups.{sizes_of}
-use Rattle.candidates.specs.Parts.{behind, IsPart}
+use Rattle.candidates.specs.Parts.{behind}
 use Rattle.candidates.specs.Walks.{NoneFrom}
 use Rattle.candidates.proofs.Law.{IsFrom, only_choices, agreeing, block_numbered, hidden}
 use Rattle.candidates.proofs.Adding.{take_on}
 use Rattle.candidates.proofs.Steps.{in_block, part_member, part_end}
 use Rattle.candidates.proofs.Grouping.{tallies_of}
 use Rattle.candidates.proofs.Descent.{IsDown, sizes_total, get_mapped}
-use Rattle.candidates.proofs.Passed.{IsMarked, StandsIn, passed_at}
+use Rattle.candidates.proofs.Passed.{IsMarked, passed_at}
 
 filter_in : (p : Event → Bool) (es : List Event) (e : Event) → IsIn e es → p e ≡ true → IsIn e (filter p es)
 filter_in p [] e m t = absurd m
@@ -33,9 +33,9 @@ filter_in p (f ∷ es) e m t = elim (cases_Bool (p f)) [
   | inr n ↦ (let P : List Event → Type 0 = λ xs. IsIn e xs in
       let s : filter p (f ∷ es) ≡ filter p es = rw n refl in
       subst P (sym s) (elim m [
-          | inl i ↦ absurd (false≢true (sym (ap p i ∙ n) ∙ t))
-          | inr k ↦ filter_in p es e k t
-        ]))
+        | inl i ↦ absurd (false≢true (sym (ap p i ∙ n) ∙ t))
+        | inr k ↦ filter_in p es e k t
+      ]))
 ]
 
 each_in : {A X : Type 0} (R : A → X → Type 0) (as' : List A) (xs : List X) (a : A) → ForEach R as' xs → IsIn a as' → (x : X) × R a x

@@ -1,5 +1,5 @@
 -- The sum of the sizes that are marked.
-use Rattle.std.proofs.Common.{◌≡◌, ℕ, zero, suc, ◌+◌, ◌<◌, ◌≤◌, ◌^◌, List, [], ◌∷◌, length, take, get_or, refl, sym, subst, inl, inr, arith, Bool, true, false, Fits, w64}
+use Rattle.std.proofs.Common.{◌≡◌, ℕ, ◌+◌, ◌<◌, ◌≤◌, ◌^◌, List, length, take, get_or, subst, inl, inr, arith, Bool, true, false, Fits, w64}
 use Rattle.std.proofs.lemmas.Bool.{cases_lt}
 use Rattle.listings.specs.Lists.{sum_of}
 use Rattle.candidates.proofs.Passed.{take_end}

@@ -1,5 +1,5 @@
 -- Which candidates have the runs of a thread that are passed over.
-use Rattle.std.proofs.Common.{◌≡◌, ℕ, zero, suc, ◌+◌, ◌-◌, ◌<◌, ◌≤◌, List, [], ◌∷◌, ◌++◌, append_assoc, append-nil, map, length, take, drop, get_or, refl, sym, ◌∙◌, ap, subst, inl, inr, arith, Bool, true, false}
+use Rattle.std.proofs.Common.{◌≡◌, ℕ, zero, suc, ◌+◌, ◌-◌, ◌<◌, ◌≤◌, List, [], ◌∷◌, ◌++◌, append-nil, map, length, take, get_or, refl, sym, ap, subst, inl, inr, arith, Bool, true, false}
 use Rattle.std.proofs.lemmas.Bool.{cases_lt}
 use Rattle.events.specs.Executions.{ThreadRun, empty_run}
 use Rattle.listings.specs.Lists.{IsIn, sum_of}

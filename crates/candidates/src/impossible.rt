@@ -24,7 +24,9 @@ pub(crate) struct Store {
 fn has_store(stores: &[Store], loc: usize, value: u32) -> bool
     ensures { result ≡ has_store stores.now loc value }
 {
-    stores.iter().any(|store| store.loc == loc && store.value == value)
+    stores
+        .iter()
+        .any(|store| store.loc == loc && store.value == value)
 }
 
 /// Adds a store, if it isn't there.

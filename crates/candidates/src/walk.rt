@@ -90,12 +90,7 @@ fn reach(
 }
 
 /// What is at a number of the stretch at hand.
-fn visit(
-    alloc: Global,
-    space: &Space,
-    stretch: &Stretch,
-    number: u64,
-) -> Result<Look, AllocError>
+fn visit(alloc: Global, space: &Space, stretch: &Stretch, number: u64) -> Result<Look, AllocError>
     requires stretch { IsStretch space.now stretch.now }
     requires first { stretch.now.first ≤ number }
     requires last { number < stretch.now.first + stretch.now.size }

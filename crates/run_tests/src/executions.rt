@@ -131,7 +131,8 @@ fn walk_over_thirty_loads(rt: HostRuntime) -> Result<(), Fail> {
 }
 
 /// Eight threads of one load each, where it has 16 values to choose from: of 2^32 candidates one is an execution.
-const EIGHT: &str = "C E\n{ 0:a=2; 0:b=3; 0:c=4; 0:d=5; 0:e=6; 0:f=7; 0:g=8; 0:h=9; 0:i=10; 0:j=11; 0:k=12; 0:l=13; 0:m=14; 0:n=15; }\n\
+const EIGHT: &str =
+    "C E\n{ 0:a=2; 0:b=3; 0:c=4; 0:d=5; 0:e=6; 0:f=7; 0:g=8; 0:h=9; 0:i=10; 0:j=11; 0:k=12; 0:l=13; 0:m=14; 0:n=15; }\n\
 P0 (atomic_int* x) { int r0 = atomic_load(x); }\nP1 (atomic_int* x) { int r0 = atomic_load(x); }\n\
 P2 (atomic_int* x) { int r0 = atomic_load(x); }\nP3 (atomic_int* x) { int r0 = atomic_load(x); }\n\
 P4 (atomic_int* x) { int r0 = atomic_load(x); }\nP5 (atomic_int* x) { int r0 = atomic_load(x); }\n\

@@ -1,4 +1,4 @@
-use Rattle.std.proofs.Common.{◌≡◌, ◌∙◌, ◌+◌, ◌<◌, ◌≤◌, [], ◌∷◌, ◌++◌, List, ℕ, length, map, drop, get_or, sym, ap, subst, arith}
+use Rattle.std.proofs.Common.{◌≡◌, ◌∙◌, ◌+◌, [], ◌∷◌, ◌++◌, List, ℕ, length, map, drop, get_or, sym, ap, subst, arith}
 use Rattle.std.proofs.lemmas.List.{drop_all}
 use Rattle.events.specs.Executions.{ThreadRun}
 use Rattle.candidates.specs.Groups.{tally_of}
@@ -54,7 +54,7 @@ part_at-part-requires c =
     let runs = get_or threads at.thread [] in
     let more = drop (at.thread + 1) threads in
     let e = enter n (choices threads) c.args.number at.rest at.tally at.runs.items threads c.args.groups.now at.thread c.index-groups-thread.result c.after.result.now c.deref.result.now c.requires.tallied l
-        c.index-groups-thread.is c.after.ensures at.invariant.down (c.deref.ensures.value ∙ (rw c.unwrap-sizes.ensures at c.in_ok-sizes.ensures)) in
+    c.index-groups-thread.is c.after.ensures at.invariant.down (c.deref.ensures.value ∙ (rw c.unwrap-sizes.ensures at c.in_ok-sizes.ensures)) in
     sizes_sum n (choices threads) c.args.number at.rest at.tally at.runs.items runs more c.deref.result.now e.down e.are
 
 pub passed-passed-requires-clause-marks : goal.passed-passed-requires-clause-marks
@@ -67,7 +67,7 @@ passed-passed-requires-clause-marks c =
     let more = drop (at.thread + 1) threads in
     let part = c.part_at-part in
     let e = enter n (choices threads) c.args.number at.rest at.tally at.runs.items threads c.args.groups.now at.thread c.index-groups-thread.result c.after.result.now c.deref.result.now c.requires.tallied l
-        c.index-groups-thread.is c.after.ensures at.invariant.down (c.deref.ensures.value ∙ (rw c.unwrap-sizes.ensures at c.in_ok-sizes.ensures)) in
+    c.index-groups-thread.is c.after.ensures at.invariant.down (c.deref.ensures.value ∙ (rw c.unwrap-sizes.ensures at c.in_ok-sizes.ensures)) in
     let marks = marks_here c.args.init.now c.requires.marked.stores threads c.args.marks.now at.thread c.index-marks-thread.result c.requires.marked.are l c.index-marks-thread.is in
     let same : c.deref-in-loop-thread.result.now ≡ c.deref.result.now = c.deref-in-loop-thread.ensures.value ∙ sym c.deref.ensures.value in
     ap (λ bs. length bs) marks ∙ length_mapped (is_impossible c.args.init.now c.requires.marked.stores) runs
@@ -83,7 +83,7 @@ passed-passed-requires-clause-most c =
     let more = drop (at.thread + 1) threads in
     let part = c.part_at-part in
     let e = enter n (choices threads) c.args.number at.rest at.tally at.runs.items threads c.args.groups.now at.thread c.index-groups-thread.result c.after.result.now c.deref.result.now c.requires.tallied l
-        c.index-groups-thread.is c.after.ensures at.invariant.down (c.deref.ensures.value ∙ (rw c.unwrap-sizes.ensures at c.in_ok-sizes.ensures)) in
+    c.index-groups-thread.is c.after.ensures at.invariant.down (c.deref.ensures.value ∙ (rw c.unwrap-sizes.ensures at c.in_ok-sizes.ensures)) in
     let same : c.deref-in-loop-thread.result.now ≡ c.deref.result.now = c.deref-in-loop-thread.ensures.value ∙ sym c.deref.ensures.value in
     omega (arith, ap (λ ks. sum_of (λ k. k) ks) same, sizes_most n (choices threads) c.args.number at.rest at.tally at.runs.items runs more c.deref.result.now e.down e.are, c.requires.size)
 
@@ -97,7 +97,7 @@ overflow_add-result c =
     let more = drop (at.thread + 1) threads in
     let part = c.part_at-part in
     let e = enter n (choices threads) c.args.number at.rest at.tally at.runs.items threads c.args.groups.now at.thread c.index-groups-thread.result c.after.result.now c.deref.result.now c.requires.tallied l
-        c.index-groups-thread.is c.after.ensures at.invariant.down (c.deref.ensures.value ∙ (rw c.unwrap-sizes.ensures at c.in_ok-sizes.ensures)) in
+    c.index-groups-thread.is c.after.ensures at.invariant.down (c.deref.ensures.value ∙ (rw c.unwrap-sizes.ensures at c.in_ok-sizes.ensures)) in
     let P : List ℕ → Type 0 = λ ks. IsPassed c.index-marks-thread.result ks part.result.place c.passed-passed.result in
     let passed = subst P (c.deref-in-loop-thread.ensures.value ∙ sym c.deref.ensures.value) c.passed-passed.ensures in
     omega (arith, passed_within n (choices threads) c.args.number at.rest part.result.rest at.tally at.runs.items runs more c.deref.result.now c.index-marks-thread.result part.result.place c.passed-passed.result e.down e.are part.ensures.sum passed, c.requires.size)
@@ -112,7 +112,7 @@ returns-then-passed-gt0 c =
     let more = drop (at.thread + 1) threads in
     let part = c.part_at-part in
     let e = enter n (choices threads) c.args.number at.rest at.tally at.runs.items threads c.args.groups.now at.thread c.index-groups-thread.result c.after.result.now c.deref.result.now c.requires.tallied l
-        c.index-groups-thread.is c.after.ensures at.invariant.down (c.deref.ensures.value ∙ (rw c.unwrap-sizes.ensures at c.in_ok-sizes.ensures)) in
+    c.index-groups-thread.is c.after.ensures at.invariant.down (c.deref.ensures.value ∙ (rw c.unwrap-sizes.ensures at c.in_ok-sizes.ensures)) in
     let P : List ℕ → Type 0 = λ ks. IsPassed c.index-marks-thread.result ks part.result.place c.passed-passed.result in
     let passed = subst P (c.deref-in-loop-thread.ensures.value ∙ sym c.deref.ensures.value) c.passed-passed.ensures in
     let marks = marks_here c.args.init.now c.requires.marked.stores threads c.args.marks.now at.thread c.index-marks-thread.result c.requires.marked.are l c.index-marks-thread.is in
@@ -130,7 +130,7 @@ plus-requires c =
     let more = drop (at.thread + 1) threads in
     let part = c.part_at-part in
     let e = enter n (choices threads) c.args.number at.rest at.tally at.runs.items threads c.args.groups.now at.thread c.index-groups-thread.result c.after.result.now c.deref.result.now c.requires.tallied l
-        c.index-groups-thread.is c.after.ensures at.invariant.down (c.deref.ensures.value ∙ (rw c.unwrap-sizes.ensures at c.in_ok-sizes.ensures)) in
+    c.index-groups-thread.is c.after.ensures at.invariant.down (c.deref.ensures.value ∙ (rw c.unwrap-sizes.ensures at c.in_ok-sizes.ensures)) in
     let m = run_within n (choices threads) c.args.number at.rest at.tally at.runs.items threads at.thread c.deref.result.now part.result.place e part.ensures.place in
     let run = run_there threads at.thread part.result.place c.index-threads-thread.result c.runs.result.now c.index-runs-part.result l c.index-threads-thread.is c.runs.ensures m c.index-runs-part.is in
     record { small = small_on n (choices threads) c.args.number at.rest at.tally c.in_ok-new.field-0 at.runs.items runs more part.result.place c.index-runs-part.result e.down m run (c.in_ok-new.ensures ∙ ap (tally_of n) c.events.ensures) }
@@ -145,7 +145,7 @@ loop-thread-preserved c =
     let more = drop (at.thread + 1) threads in
     let part = c.part_at-part in
     let e = enter n (choices threads) c.args.number at.rest at.tally at.runs.items threads c.args.groups.now at.thread c.index-groups-thread.result c.after.result.now c.deref.result.now c.requires.tallied l
-        c.index-groups-thread.is c.after.ensures at.invariant.down (c.deref.ensures.value ∙ (rw c.unwrap-sizes.ensures at c.in_ok-sizes.ensures)) in
+    c.index-groups-thread.is c.after.ensures at.invariant.down (c.deref.ensures.value ∙ (rw c.unwrap-sizes.ensures at c.in_ok-sizes.ensures)) in
     let m = run_within n (choices threads) c.args.number at.rest at.tally at.runs.items threads at.thread c.deref.result.now part.result.place e part.ensures.place in
     let run = run_there threads at.thread part.result.place c.index-threads-thread.result c.runs.result.now c.index-runs-part.result l c.index-threads-thread.is c.runs.ensures m c.index-runs-part.is in
     record {

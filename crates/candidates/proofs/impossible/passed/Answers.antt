@@ -1,5 +1,4 @@
-use Rattle.std.proofs.Common.{◌≡◌, ◌+◌, ◌≤◌, ◌<◌, ◌∙◌, ap, sym, subst, arith, inl, inr, get_or, length, true, false, Bool}
-use Rattle.std.proofs.lemmas.Bool.{cases_lt}
+use Rattle.std.proofs.Common.{arith}
 use Rattle.candidates.proofs.Adding.{take_on}
 use Rattle.candidates.proofs.Marking.{marked_next, sum_fits}
 use Rattle.candidates.proofs.impossible.passed.Goals as goal
