@@ -1,9 +1,8 @@
 //! Choices of one run of each thread.
 
-ghost use Rattle.std.specs.Prelude.{◌≡◌, ◌+◌, ◌-◌, ◌<◌, ◌≤◌, ◌∷◌, [], ℕ, List, length, map, take, drop, slice_index_or, IfOk};
+ghost use Rattle.std.specs.Prelude.{◌≡◌, ◌+◌, ◌-◌, ◌<◌, ◌≤◌, [], List, length, map, take, drop, slice_index_or, IfOk};
 ghost use Rattle.listings.specs.Lists.{sum_of};
 ghost use Rattle.events.specs.Executions.{ThreadRun};
-ghost use Rattle.candidates.specs.declared.counts.Counts.{Counts};
 ghost use Rattle.candidates.specs.Executions.{block};
 ghost use Rattle.candidates.specs.Candidates.{choices};
 ghost use Rattle.candidates.specs.Groups.{tally_of, HasRoom};

@@ -1,10 +1,8 @@
 //! Runs that stand in no execution, since one of their reads has a value that nothing writes.
 
-ghost use Rattle.std.specs.Prelude.{◌≡◌, ◌<◌, ◌≤◌, ℕ, List, Bool, true, length, map, IfOk, OnOk};
+ghost use Rattle.std.specs.Prelude.{◌≡◌, ◌<◌, ◌≤◌, List, Bool, true, length, map, IfOk, OnOk};
 ghost use Rattle.std.specs.List.{list_any};
-ghost use Rattle.events.specs.Executions.{ThreadRun};
 ghost use Rattle.listings.specs.Lists.{sum_of};
-ghost use Rattle.candidates.specs.declared.impossible.Store.{Store};
 ghost use Rattle.candidates.specs.Impossible.{has_store, is_wanting, is_impossible, Keeps, HasWrite, HasWrites, HasRuns, HasThreads, IsPassed};
 
 use crate::choosing::RunList;

@@ -1,6 +1,6 @@
 //! The numbered candidates of a test.
 
-ghost use Rattle.std.specs.Prelude.{◌≡◌, ◌+◌, ◌<◌, ◌≤◌, ◌^◌, ℕ, List, [], length, map, IfOk, MatchResult, IfErr};
+ghost use Rattle.std.specs.Prelude.{◌≡◌, ◌<◌, ◌≤◌, ◌^◌, [], length, map, IfOk, IfErr};
 ghost use Rattle.candidates.specs.Executions.{initial_values};
 ghost use Rattle.candidates.specs.Executions.{IsSize, upto};
 ghost use Rattle.candidates.specs.Candidates.{choices, choices_of, size_of, graph_at, no_execution};

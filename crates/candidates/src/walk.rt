@@ -1,6 +1,6 @@
 //! A walk over the executions of a space.
 
-ghost use Rattle.std.specs.Prelude.{◌≡◌, ◌+◌, ◌<◌, ◌≤◌, IfOk, OnErr, OnOk, MatchOption, []};
+ghost use Rattle.std.specs.Prelude.{◌≡◌, ◌+◌, ◌<◌, ◌≤◌, IfOk, OnErr, MatchOption};
 ghost use Rattle.candidates.specs.Candidates.{size_of, no_execution};
 ghost use Rattle.candidates.specs.Readings.{IsStretch, MayBeStretch};
 ghost use Rattle.candidates.specs.Walks.{IsFind, IsHit, IsMiss, IsReached, IsVisit};
