@@ -69,12 +69,13 @@ get_ids f (x ∷ xs) zero e l = refl
 get_ids f (x ∷ xs) (suc d) e l = get_ids f xs d e (omega (arith, l))
 
 -- The sizes are those of the candidates with each of the runs.
-pub sizes_sum : (n : ℕ) (row : List (List ThreadRun)) (number rest : ℕ) (tally : List Counts) (chosen runs : List ThreadRun) (more : List (List ThreadRun)) (sizes : List ℕ) → IsDown n row number rest tally chosen (runs ∷ more) → sizes ≡ sizes_of tally (tallies_of n runs) (map (tallies_of n) more) → rest < sum_of (λ k. k) sizes
-sizes_sum n row number rest tally chosen runs more sizes h e =
-    let s : sum_of (λ k. k) sizes ≡ sum_of (block n) (behind chosen (runs ∷ more)) =
+pub sizes_total : (n : ℕ) (row : List (List ThreadRun)) (number rest : ℕ) (tally : List Counts) (chosen runs : List ThreadRun) (more : List (List ThreadRun)) (sizes : List ℕ) → IsDown n row number rest tally chosen (runs ∷ more) → sizes ≡ sizes_of tally (tallies_of n runs) (map (tallies_of n) more) → sum_of (λ k. k) sizes ≡ sum_of (block n) (behind chosen (runs ∷ more))
+sizes_total n row number rest tally chosen runs more sizes h e =
     ap (sum_of (λ k. k)) (e ∙ sizes_are n tally chosen runs more h.tally_is h.within) ∙ sum_ids (going_on n chosen more) runs
-    ∙ sym (sum_flat (block n) (λ run. behind (chosen ++ run ∷ []) more) runs) ∙ ap (sum_of (block n)) (sym (behind_step chosen runs more)) in
-    omega (arith, s, h.below)
+    ∙ sym (sum_flat (block n) (λ run. behind (chosen ++ run ∷ []) more) runs) ∙ ap (sum_of (block n)) (sym (behind_step chosen runs more))
+
+pub sizes_sum : (n : ℕ) (row : List (List ThreadRun)) (number rest : ℕ) (tally : List Counts) (chosen runs : List ThreadRun) (more : List (List ThreadRun)) (sizes : List ℕ) → IsDown n row number rest tally chosen (runs ∷ more) → sizes ≡ sizes_of tally (tallies_of n runs) (map (tallies_of n) more) → rest < sum_of (λ k. k) sizes
+sizes_sum n row number rest tally chosen runs more sizes h e = omega (arith, sizes_total n row number rest tally chosen runs more sizes h e, h.below)
 
 pub sizes_length : (n : ℕ) (tally : List Counts) (runs : List ThreadRun) (rest : List (List (List Counts))) (sizes : List ℕ) → sizes ≡ sizes_of tally (tallies_of n runs) rest → length sizes ≡ length runs
 sizes_length n tally runs rest sizes e =
@@ -173,6 +174,21 @@ sized_on n limit row number rest tally chosen runs more here after P o h l e f m
 
 pub sizes_on : (n : ℕ) (tally : List Counts) (runs : List ThreadRun) (more : List (List ThreadRun)) (here : List (List Counts)) (after : List (List (List Counts))) (sizes : List ℕ) → here ≡ tallies_of n runs → after ≡ map (tallies_of n) more → sizes ≡ sizes_of tally here after → sizes ≡ sizes_of tally (tallies_of n runs) (map (tallies_of n) more)
 sizes_on n tally runs more here after sizes e f s = s ∙ ap (λ us. sizes_of tally us after) e ∙ ap (λ gs. sizes_of tally (tallies_of n runs) gs) f
+
+-- A thread on the way down: the candidates with the chosen runs go on with its runs, and these are the sizes of what goes on with each.
+pub record IsEntered (n : ℕ) (row : List (List ThreadRun)) (number rest : ℕ) (tally : List Counts) (chosen : List ThreadRun) (threads : List (List ThreadRun)) (i : ℕ) (sizes : List ℕ) : Type 0 where
+  pub down : IsDown n row number rest tally chosen (get_or threads i [] ∷ drop (i + 1) threads)
+  pub are : sizes ≡ sizes_of tally (tallies_of n (get_or threads i [])) (map (tallies_of n) (drop (i + 1) threads))
+
+pub enter : (n : ℕ) (row : List (List ThreadRun)) (number rest : ℕ) (tally : List Counts) (chosen : List ThreadRun) (threads : List (List ThreadRun)) (groups : List (List (List Counts))) (i : ℕ) (here : List (List Counts)) (after : List (List (List Counts))) (sizes : List ℕ) → groups ≡ map (tallies_of n) threads → i < length threads → here ≡ get_or groups i here → after ≡ drop (i + 1) groups → IsDown n row number rest tally chosen (drop i threads) → sizes ≡ sizes_of tally here after → IsEntered n row number rest tally chosen threads i sizes
+enter n row number rest tally chosen threads groups i here after sizes g l h a d s = record {
+  down = down_at n row number rest tally chosen threads i l d;
+  are = sizes_on n tally (get_or threads i []) (drop (i + 1) threads) here after sizes (tallies_here n threads groups i here g l h) (tallies_after n threads groups after i g a) s;
+}
+
+-- The place of a size is that of a run.
+pub run_within : (n : ℕ) (row : List (List ThreadRun)) (number rest : ℕ) (tally : List Counts) (chosen : List ThreadRun) (threads : List (List ThreadRun)) (i : ℕ) (sizes : List ℕ) (d : ℕ) → IsEntered n row number rest tally chosen threads i sizes → d < length sizes → d < length (get_or threads i [])
+run_within n row number rest tally chosen threads i sizes d e l = omega (arith, l, sizes_length n tally (get_or threads i []) (map (tallies_of n) (drop (i + 1) threads)) sizes e.are)
 
 -- the run at a place of a thread
 pub run_there : (threads : List (List ThreadRun)) (i d : ℕ) (list runs : List ThreadRun) (run : ThreadRun) → i < length threads → list ≡ get_or threads i list → runs ≡ list → d < length (get_or threads i []) → run ≡ get_or runs d run → run ≡ get_or (get_or threads i []) d empty_run

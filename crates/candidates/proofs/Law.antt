@@ -39,7 +39,7 @@ once_of t (k ∷ threads) runs h = elim h [
 ]
 
 -- The choices of a run of each thread.
-only_choices : (threads : List (List ThreadRun)) (c : List ThreadRun) → IsIn c (choices threads) → ForEach IsFrom threads c
+pub only_choices : (threads : List (List ThreadRun)) (c : List ThreadRun) → IsIn c (choices threads) → ForEach IsFrom threads c
 only_choices [] c h = elim h [ inl e ↦ (let P : List ThreadRun → Type 0 = ForEach IsFrom [] in subst P (sym e) tt) | inr n ↦ absurd n ]
 only_choices (runs ∷ rest) c h =
     let f = in_flat_map (λ run. map (λ d. run ∷ d) (choices rest)) runs c h in
@@ -183,7 +183,7 @@ candidates_numbered t =
 true_and : (a b : Bool) → a ≡ true → b ≡ true → (a && b) ≡ true
 true_and a b h k = rw (h, k) refl
 
-agreeing : (init : List ℕ) (runs : List ThreadRun) (rs : List Event) (ws : List EventId) → ForEach (CanRead runs) rs ws → agree init runs rs ws ≡ true → ForEach (λ r w. Writes init runs w r.loc r.value) rs ws
+pub agreeing : (init : List ℕ) (runs : List ThreadRun) (rs : List Event) (ws : List EventId) → ForEach (CanRead runs) rs ws → agree init runs rs ws ≡ true → ForEach (λ r w. Writes init runs w r.loc r.value) rs ws
 agreeing init runs [] [] f h = tt
 agreeing init runs [] (w ∷ ws) f h = f
 agreeing init runs (r ∷ rs) [] f h = f

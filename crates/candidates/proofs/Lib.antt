@@ -3,13 +3,17 @@ pub mod Bounding
 pub mod ByLocation
 pub mod Caps
 pub mod Descent
+pub mod Excluded
 pub mod Graphs
 pub mod Grouping
 pub mod Law
+pub mod Marking
+pub mod Passed
 pub mod Passing
 pub mod Sources
 pub mod Spaces
 pub mod Steps
+pub mod Storing
 pub mod Stretches
 pub mod Tallies
 pub mod Walked

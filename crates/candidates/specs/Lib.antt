@@ -3,6 +3,8 @@ pub mod Candidates
 pub mod Executions
 pub mod Faults
 pub mod Groups
+pub mod Impossible
+pub mod Located
 pub mod Parts
 pub mod Readings
 pub mod Walks

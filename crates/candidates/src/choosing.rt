@@ -1,17 +1,19 @@
 //! Choices of one run of each thread.
 
-ghost use Rattle.std.specs.Prelude.{◌≡◌, ◌+◌, ◌-◌, ◌<◌, ◌≤◌, ◌∷◌, [], ℕ, List, length, map, take, drop, slice_index_or, IfOk};
+ghost use Rattle.std.specs.Prelude.{◌≡◌, ◌+◌, ◌-◌, ◌<◌, ◌≤◌, [], List, length, map, take, drop, slice_index_or, IfOk};
 ghost use Rattle.listings.specs.Lists.{sum_of};
 ghost use Rattle.events.specs.Executions.{ThreadRun};
-ghost use Rattle.candidates.specs.declared.counts.Counts.{Counts};
 ghost use Rattle.candidates.specs.Executions.{block};
 ghost use Rattle.candidates.specs.Candidates.{choices};
 ghost use Rattle.candidates.specs.Groups.{tally_of, HasRoom};
-ghost use Rattle.candidates.specs.Parts.{IsPart, AreAllWithin};
+ghost use Rattle.candidates.specs.Impossible.{AreMarks};
+ghost use Rattle.candidates.specs.Parts.{AreAllWithin};
+ghost use Rattle.candidates.specs.Located.{IsLocated};
 
 use crate::counts::Tally;
 use crate::fault::MOST_CANDIDATES;
 use crate::groups::Groups;
+use crate::impossible::Marks;
 use events::Run;
 use std::alloc::{AllocError, Global};
 use std::marker::Model;
@@ -101,23 +103,33 @@ pub(crate) struct Position {
     pub(crate) rest: u64,
 }
 
-/// Where the candidate with this number is. It goes down the threads: in each it takes the run that the number is in.
+/// Where the candidate with a number is, or up to which number no execution stands.
+#[derive(Drop)]
+pub(crate) enum Located {
+    At(Position),
+    Until(u64),
+}
+
+/// Where the candidate with this number is. It goes down the threads: in each it takes the run that the number is in. Where
+/// that run stands in no execution, it passes over all candidates with the runs so far, with this one and with those
+/// behind it that stand in none.
 pub(crate) fn locate(
     alloc: Global,
     threads: &[RunList],
     groups: &[Groups],
-    locations: usize,
+    marks: &[Marks],
+    init: &[u32],
     number: u64,
-) -> Result<Position, AllocError>
-    requires tallied { groups.now ≡ map (λ runs. map (λ run. tally_of locations run.events) runs) threads.now }
-    requires room { HasRoom (tally_of locations []) groups.now }
-    requires within { AreAllWithin locations (choices threads.now) }
-    requires size { sum_of (block locations) (choices threads.now) ≤ MOST_CANDIDATES }
-    requires number { number < sum_of (block locations) (choices threads.now) }
-    ensures order { IfOk result (λ p. p.rest ≤ number) }
-    ensures rest { IfOk result (λ p. p.rest < block locations p.runs.items) }
-    ensures part { IfOk result (λ p. IsPart locations (choices threads.now) (number - p.rest) (p.runs.items ∷ [])) }
+) -> Result<Located, AllocError>
+    requires tallied { groups.now ≡ map (λ runs. map (λ run. tally_of (length init.now) run.events) runs) threads.now }
+    requires room { HasRoom (tally_of (length init.now) []) groups.now }
+    requires marked { AreMarks init.now threads.now marks.now }
+    requires within { AreAllWithin (length init.now) (choices threads.now) }
+    requires size { sum_of (block (length init.now)) (choices threads.now) ≤ MOST_CANDIDATES }
+    requires number { number < sum_of (block (length init.now)) (choices threads.now) }
+    ensures { IfOk result (IsLocated (record { init = init.now; threads = threads.now }) number) }
 {
+    let locations = init.len();
     let mut tally = Tally::new(alloc, &[], locations)?;
     let mut runs = Vec::new(alloc);
     let mut rest = number;
@@ -126,10 +138,14 @@ pub(crate) fn locate(
             .sizes(alloc, &tally, after(groups, thread))?
             .unwrap();
         let part = part_at(&sizes, rest);
+        let passed = marks[thread].passed(&sizes, part.place);
+        if passed > 0 {
+            return Ok(Located::Until(number - part.rest + passed));
+        }
         let run = &threads[thread].runs()[part.place];
         tally = tally.plus(alloc, &Tally::new(alloc, run.events(), locations)?)?;
         runs.push(run.copy()?)?;
         rest = part.rest;
     }
-    Ok(Position { runs, rest })
+    Ok(Located::At(Position { runs, rest }))
 }

@@ -1,8 +1,7 @@
 //! The runs of a thread in groups that read and write each location equally often.
 
-ghost use Rattle.std.specs.Prelude.{◌≡◌, ◌+◌, ◌*◌, ◌<◌, ◌≤◌, List, [], ◌∷◌, length, map, IfOk, MatchOption, slice_index_or, All};
+ghost use Rattle.std.specs.Prelude.{◌≡◌, ◌<◌, List, [], ◌∷◌, length, map, IfOk, MatchOption, slice_index_or, All};
 ghost use Rattle.listings.specs.Lists.{IsIn};
-ghost use Rattle.events.specs.Executions.{ThreadRun};
 ghost use Rattle.candidates.specs.declared.counts.Counts.{Counts};
 ghost use Rattle.candidates.specs.Candidates.{IsCapped};
 ghost use Rattle.candidates.specs.Groups.{tally_of, sum_tally, size_by, sizes_of, HasRoom, IsOneAbove};

@@ -7,6 +7,7 @@ mod choosing;
 mod counts;
 mod fault;
 mod groups;
+mod impossible;
 pub mod laws;
 mod page;
 mod space;

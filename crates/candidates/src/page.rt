@@ -18,3 +18,10 @@ pub(crate) struct Stretch {
     pub(crate) size: u64,
     pub(crate) page: Page,
 }
+
+/// The stretch in which a number is, or up to which number no execution stands.
+#[derive(Drop)]
+pub(crate) enum Reach {
+    At(Stretch),
+    Until(u64),
+}

@@ -1,6 +1,6 @@
 //! The numbered candidates of a test.
 
-ghost use Rattle.std.specs.Prelude.{◌≡◌, ◌+◌, ◌<◌, ◌≤◌, ◌^◌, ℕ, List, [], length, map, IfOk, MatchResult, IfErr};
+ghost use Rattle.std.specs.Prelude.{◌≡◌, ◌<◌, ◌≤◌, ◌^◌, [], length, map, IfOk, IfErr};
 ghost use Rattle.candidates.specs.Executions.{initial_values};
 ghost use Rattle.candidates.specs.Executions.{IsSize, upto};
 ghost use Rattle.candidates.specs.Candidates.{choices, choices_of, size_of, graph_at, no_execution};
@@ -8,15 +8,17 @@ ghost use Rattle.c11_threads.specs.Unrolled.{runs_of};
 ghost use Rattle.candidates.specs.Faults.{HaveFewRuns, IsSpaceFault};
 ghost use Rattle.candidates.specs.Groups.{tally_of, HasRoom};
 ghost use Rattle.candidates.specs.Parts.{AreAllWithin, AreShort};
-ghost use Rattle.candidates.specs.Readings.{IsStretch};
+ghost use Rattle.candidates.specs.Impossible.{AreMarks};
+ghost use Rattle.candidates.specs.Walks.{IsReach};
 
 use crate::assembly::{Look, open_page};
-use crate::choosing::{RunList, group_all, locate};
+use crate::choosing::{Located, RunList, group_all, locate};
 use crate::counts::Tally;
 use crate::fault::{MOST_CANDIDATES, SpaceFault};
 use crate::groups::{Groups, count};
-use crate::page::Stretch;
-use crate::walk::{Walk, visit};
+use crate::impossible::{Marks, all_marks, all_stores};
+use crate::page::{Reach, Stretch};
+use crate::walk::{Walk, find};
 use c11_threads::{initial_value, runs};
 use conditions::Place;
 use events::Graph;
@@ -30,6 +32,7 @@ pub struct Space {
     init: Vec<u32>,
     threads: Vec<RunList>,
     groups: Vec<Groups>,
+    marks: Vec<Marks>,
     size: u64,
 }
 
@@ -37,6 +40,7 @@ impl Model for Space {
     ghost use Rattle.std.specs.Prelude.{◌≡◌, ◌≤◌, length, map, []};
     ghost use Rattle.candidates.specs.Candidates.{Choices, choices, size_of};
     ghost use Rattle.candidates.specs.Groups.{tally_of, HasRoom};
+    ghost use Rattle.candidates.specs.Impossible.{AreMarks};
     ghost use Rattle.candidates.specs.Parts.{AreAllWithin};
     ghost use Rattle.candidates.specs.declared.fault.TheConstants.{MOST_CANDIDATES};
 
@@ -44,7 +48,7 @@ impl Model for Space {
 
     ghost view = { λ s. record { init = s.init.items; threads = s.threads.items } };
 
-    ghost invariant = { λ s. record { size : s.size ≡ size_of (record { init = s.init.items; threads = s.threads.items }); most : s.size ≤ MOST_CANDIDATES; within : AreAllWithin (length s.init.items) (choices s.threads.items); tallied : s.groups.items ≡ map (λ runs. map (λ run. tally_of (length s.init.items) run.events) runs) s.threads.items; room : HasRoom (tally_of (length s.init.items) []) s.groups.items } };
+    ghost invariant = { λ s. record { size : s.size ≡ size_of (record { init = s.init.items; threads = s.threads.items }); most : s.size ≤ MOST_CANDIDATES; within : AreAllWithin (length s.init.items) (choices s.threads.items); tallied : s.groups.items ≡ map (λ runs. map (λ run. tally_of (length s.init.items) run.events) runs) s.threads.items; room : HasRoom (tally_of (length s.init.items) []) s.groups.items; marked : AreMarks s.init.items s.threads.items s.marks.items } };
 }
 
 /// The initial value of each location of a test.
@@ -74,28 +78,32 @@ fn all_runs(alloc: Global, test: &Test) -> Result<Vec<RunList>, SpaceFault>
     Ok(lists)
 }
 
-/// The stretch in which a number is.
+/// The stretch in which a number is, or up to which number no execution stands.
 fn stretch_at(
     alloc: Global,
     threads: &[RunList],
-    init: &[u32],
     groups: &[Groups],
+    marks: &[Marks],
+    init: &[u32],
     number: u64,
-) -> Result<Stretch, AllocError>
+) -> Result<Reach, AllocError>
     requires tallied { groups.now ≡ map (λ runs. map (λ run. tally_of (length init.now) run.events) runs) threads.now }
     requires room { HasRoom (tally_of (length init.now) []) groups.now }
+    requires marked { AreMarks init.now threads.now marks.now }
     requires within { AreAllWithin (length init.now) (choices threads.now) }
     requires size { size_of (record { init = init.now; threads = threads.now }) ≤ MOST_CANDIDATES }
     requires number { number < size_of (record { init = init.now; threads = threads.now }) }
-    ensures stretch { IfOk result (IsStretch (record { init = init.now; threads = threads.now })) }
-    ensures first { IfOk result (λ s. s.first ≤ number) }
-    ensures last { IfOk result (λ s. number < s.first + s.size) }
+    ensures { IfOk result (IsReach (record { init = init.now; threads = threads.now }) number) }
 {
-    let position = locate(alloc, threads, groups, init.len(), number)?;
-    let page = open_page(alloc, position.runs, init.len())?;
-    let first = number - position.rest;
-    let size = page.ways * page.orders;
-    Ok(Stretch { first, size, page })
+    match locate(alloc, threads, groups, marks, init, number)? {
+        Located::At(position) => {
+            let page = open_page(alloc, position.runs, init.len())?;
+            let first = number - position.rest;
+            let size = page.ways * page.orders;
+            Ok(Reach::At(Stretch { first, size, page }))
+        }
+        Located::Until(next) => Ok(Reach::Until(next)),
+    }
 }
 
 impl Space {
@@ -118,10 +126,13 @@ impl Space {
         let Some(size) = count(alloc, &empty, &groups)? else {
             return Err(SpaceFault::TooManyCandidates);
         };
+        let stores = all_stores(alloc, &threads)?;
+        let marks = all_marks(alloc, &init, &stores, &threads)?;
         Ok(Space {
             init,
             threads,
             groups,
+            marks,
             size,
         })
     }
@@ -140,14 +151,19 @@ impl Space {
         &self.init
     }
 
-    /// The stretch in which a number is.
-    pub(crate) fn stretch(&self, alloc: Global, number: u64) -> Result<Stretch, AllocError>
+    /// The stretch in which a number is, or up to which number no execution stands.
+    pub(crate) fn stretch(&self, alloc: Global, number: u64) -> Result<Reach, AllocError>
         requires { number < size_of self.now }
-        ensures stretch { IfOk result (IsStretch self.now) }
-        ensures first { IfOk result (λ s. s.first ≤ number) }
-        ensures last { IfOk result (λ s. number < s.first + s.size) }
+        ensures { IfOk result (IsReach self.now number) }
     {
-        stretch_at(alloc, &self.threads, &self.init, &self.groups, number)
+        stretch_at(
+            alloc,
+            &self.threads,
+            &self.groups,
+            &self.marks,
+            &self.init,
+            number,
+        )
     }
 
     /// The candidate with this number, where it is an execution.
@@ -156,8 +172,7 @@ impl Space {
         requires { number < size_of self.now }
         ensures { IfOk result (λ g. g ≡ graph_at self.now number) }
     {
-        let stretch = self.stretch(alloc, number)?;
-        match visit(alloc, self, &stretch, number)? {
+        match find(alloc, self, number)? {
             Look::Found(graph) => Ok(Some(graph)),
             Look::Until(_) => Ok(None),
         }

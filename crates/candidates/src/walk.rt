@@ -1,12 +1,12 @@
 //! A walk over the executions of a space.
 
-ghost use Rattle.std.specs.Prelude.{◌≡◌, ◌+◌, ◌<◌, ◌≤◌, IfOk, OnErr, OnOk, MatchOption, []};
+ghost use Rattle.std.specs.Prelude.{◌≡◌, ◌+◌, ◌<◌, ◌≤◌, IfOk, OnErr, MatchOption};
 ghost use Rattle.candidates.specs.Candidates.{size_of, no_execution};
 ghost use Rattle.candidates.specs.Readings.{IsStretch, MayBeStretch};
-ghost use Rattle.candidates.specs.Walks.{IsFind, IsHit, IsMiss, IsVisit};
+ghost use Rattle.candidates.specs.Walks.{IsFind, IsHit, IsMiss, IsReached, IsVisit};
 
 use crate::assembly::{Look, look_at};
-use crate::page::{Page, Stretch};
+use crate::page::{Page, Reach, Stretch};
 use crate::space::Space;
 use events::Graph;
 use std::alloc::{AllocError, Global};
@@ -64,28 +64,33 @@ fn no_stretch(alloc: Global) -> Stretch
     }
 }
 
-/// Goes to the stretch in which a number is, if it is not in the one at hand.
-fn reach(alloc: Global, space: &Space, stretch: &mut Stretch, number: u64) -> Result<(), AllocError>
+/// Goes to the stretch in which a number is, if it is not in the one at hand; or says up to which number no execution
+/// stands.
+fn reach(
+    alloc: Global,
+    space: &Space,
+    stretch: &mut Stretch,
+    number: u64,
+) -> Result<Option<u64>, AllocError>
     requires stretch { MayBeStretch space.now stretch.old }
     requires number { number < size_of space.now }
-    ensures stretch { OnOk result (IsStretch space.now stretch.new) }
-    ensures first { OnOk result (stretch.new.first ≤ number) }
-    ensures last { OnOk result (number < stretch.new.first + stretch.new.size) }
+    ensures reached { IfOk result (IsReached space.now number stretch.new) }
     ensures same { OnErr result (stretch.new ≡ stretch.old) }
 {
-    if number < stretch.first || number - stretch.first >= stretch.size {
-        *stretch = space.stretch(alloc, number)?;
+    if number >= stretch.first && number - stretch.first < stretch.size {
+        return Ok(None);
     }
-    Ok(())
+    match space.stretch(alloc, number)? {
+        Reach::At(found) => {
+            *stretch = found;
+            Ok(None)
+        }
+        Reach::Until(next) => Ok(Some(next)),
+    }
 }
 
 /// What is at a number of the stretch at hand.
-pub(crate) fn visit(
-    alloc: Global,
-    space: &Space,
-    stretch: &Stretch,
-    number: u64,
-) -> Result<Look, AllocError>
+fn visit(alloc: Global, space: &Space, stretch: &Stretch, number: u64) -> Result<Look, AllocError>
     requires stretch { IsStretch space.now stretch.now }
     requires first { stretch.now.first ≤ number }
     requires last { number < stretch.now.first + stretch.now.size }
@@ -95,6 +100,32 @@ pub(crate) fn visit(
         Look::Found(graph) => Ok(Look::Found(graph)),
         Look::Until(next) => Ok(Look::Until(stretch.first + next)),
     }
+}
+
+/// What is at a number.
+fn look(
+    alloc: Global,
+    space: &Space,
+    stretch: &mut Stretch,
+    number: u64,
+) -> Result<Look, AllocError>
+    requires stretch { MayBeStretch space.now stretch.old }
+    requires number { number < size_of space.now }
+    ensures found { IfOk result (IsVisit space.now number) }
+    ensures stretch { MayBeStretch space.now stretch.new }
+{
+    match reach(alloc, space, stretch, number)? {
+        Some(next) => Ok(Look::Until(next)),
+        None => visit(alloc, space, stretch, number),
+    }
+}
+
+/// What is at a number, where no stretch is at hand.
+pub(crate) fn find(alloc: Global, space: &Space, number: u64) -> Result<Look, AllocError>
+    requires { number < size_of space.now }
+    ensures { IfOk result (IsVisit space.now number) }
+{
+    look(alloc, space, &mut no_stretch(alloc), number)
 }
 
 /// An execution and its number.
@@ -119,8 +150,7 @@ fn search(
 {
     let mut number = from;
     while number < to {
-        reach(alloc, space, stretch, number)?;
-        match visit(alloc, space, stretch, number)? {
+        match look(alloc, space, stretch, number)? {
             Look::Found(graph) => return Ok(Some(Hit { number, graph })),
             Look::Until(next) => number = next,
         }

@@ -2,7 +2,7 @@
 
 use crate::texts::{SB, ask_space, count_executions, count_walked, repeated, size};
 use candidates::SpaceFault;
-use std::alloc::Global;
+use std::alloc::{AllocError, Global};
 use std::test::Fail;
 
 const LB_DATA: &str = "C LB\n{}\n\
@@ -108,5 +108,40 @@ fn walk_over_twelve_loads(rt: HostRuntime) -> Result<(), Fail> {
     let start = "C T\n{}\nP0 (atomic_int* x) {\n";
     let text = repeated(rt.alloc(), start, LOAD, 12, "}\nexists (0:r0=0)\n")?;
     assert!(rt; ask_space(rt.alloc(), text.as_str(), count_walked)? == Ok(1));
+    Ok(())
+}
+
+/// Loads of locations that nobody writes, by three threads of ten loads each.
+fn thirty_loads(alloc: Global) -> Result<String, AllocError> {
+    let of_y = "r0 = atomic_load_explicit(y, memory_order_relaxed);\n";
+    let of_z = "r0 = atomic_load_explicit(z, memory_order_relaxed);\n";
+    let start = "C T\n{}\nP0 (atomic_int* x) {\n";
+    let first = repeated(alloc, start, LOAD, 10, "}\nP1 (atomic_int* y) {\n")?;
+    let both = repeated(alloc, first.as_str(), of_y, 10, "}\nP2 (atomic_int* z) {\n")?;
+    repeated(alloc, both.as_str(), of_z, 10, "}\nexists (0:r0=0)\n")
+}
+
+/// Of 2^30 candidates one is an execution.
+#[test]
+fn walk_over_thirty_loads(rt: HostRuntime) -> Result<(), Fail> {
+    let text = thirty_loads(rt.alloc())?;
+    assert!(rt; ask_space(rt.alloc(), text.as_str(), size)? == Ok(1 << 30));
+    assert!(rt; ask_space(rt.alloc(), text.as_str(), count_walked)? == Ok(1));
+    Ok(())
+}
+
+/// Eight threads of one load each, where it has 16 values to choose from: of 2^32 candidates one is an execution.
+const EIGHT: &str =
+    "C E\n{ 0:a=2; 0:b=3; 0:c=4; 0:d=5; 0:e=6; 0:f=7; 0:g=8; 0:h=9; 0:i=10; 0:j=11; 0:k=12; 0:l=13; 0:m=14; 0:n=15; }\n\
+P0 (atomic_int* x) { int r0 = atomic_load(x); }\nP1 (atomic_int* x) { int r0 = atomic_load(x); }\n\
+P2 (atomic_int* x) { int r0 = atomic_load(x); }\nP3 (atomic_int* x) { int r0 = atomic_load(x); }\n\
+P4 (atomic_int* x) { int r0 = atomic_load(x); }\nP5 (atomic_int* x) { int r0 = atomic_load(x); }\n\
+P6 (atomic_int* x) { int r0 = atomic_load(x); }\nP7 (atomic_int* x) { int r0 = atomic_load(x); }\n\
+exists (0:r0=0)\n";
+
+#[test]
+fn walk_over_sixteen_values(rt: HostRuntime) -> Result<(), Fail> {
+    assert!(rt; ask_space(rt.alloc(), EIGHT, size)? == Ok(1 << 32));
+    assert!(rt; ask_space(rt.alloc(), EIGHT, count_walked)? == Ok(1));
     Ok(())
 }

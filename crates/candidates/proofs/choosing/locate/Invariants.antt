@@ -5,6 +5,6 @@ use Rattle.candidates.proofs.choosing.locate.Given as goal
 
 abbrev pub invariant-loop-thread : goal.invariant-loop-thread
 invariant-loop-thread l = record {
-  down : IsDown l.locations (choices l.threads) l.number l.rest l.tally l.runs.items (drop l.thread l.threads);
+  down : IsDown (length l.init) (choices l.threads) l.number l.rest l.tally l.runs.items (drop l.thread l.threads);
   within : l.thread ≤ length l.threads;
 }

@@ -4,11 +4,11 @@ use Rattle.candidates.proofs.walk.search.Goals as goal
 
 pub loop-number-preserved : goal.loop-number-preserved
 loop-number-preserved c =
-    let v = rw c.in-Until.is at c.in_ok-graph.ensures in
+    let v = rw c.in-Until.is at c.in_ok-graph.ensures.found in
     record {
       order = omega (arith, v.0, c.loop-number.invariant.order);
       none = none_further c.args.space.now c.args.from c.loop-number.number c.in-Until.next c.loop-number.invariant.none v.2;
-      stretch = λ _. c.in_ok-reach.ensures.stretch;
+      stretch = c.in_ok-graph.ensures.stretch;
     }
 
 pub returns-clause-found : goal.returns-clause-found

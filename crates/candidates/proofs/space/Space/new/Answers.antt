@@ -4,6 +4,7 @@ use Rattle.listings.specs.Lists.{sum_of}
 use Rattle.candidates.specs.Executions.{initial_values, block}
 use Rattle.candidates.specs.Candidates.{Choices, choices, choices_of, size_of}
 use Rattle.candidates.specs.Groups.{tally_of, HasRoom}
+use Rattle.candidates.specs.Impossible.{HasThreads}
 use Rattle.candidates.specs.Parts.{AreAllWithin}
 use Rattle.candidates.proofs.Grouping.{tallies_of}
 use Rattle.candidates.proofs.Spaces.{room_all, counted_of, too_many_in_all, size_within}
@@ -35,6 +36,7 @@ invariant_of-result c =
     let q = rw c.in-Some.is at c.in_ok-size.ensures in
     let W : ℕ → Type 0 = λ m. AreAllWithin m (choices lists) in
     let G : ℕ → Type 0 = λ m. c.in_ok-groups.groups.items ≡ map (tallies_of m) lists in
+    let H : List (List ThreadRun) → Type 0 = HasThreads c.in_ok-stores.stores.items in
     let R : ℕ → Type 0 = λ m. HasRoom (tally_of m []) c.in_ok-groups.groups.items in
     record {
       size = q.0 ∙ k.2 ∙ ap (λ m. sum_of (block m) (choices lists)) l;
@@ -42,6 +44,11 @@ invariant_of-result c =
       within = subst W l k.1;
       tallied = subst G l own;
       room = subst R l (room_all n lists (tally_of n []) c.in_ok-groups.groups.items c.in_ok-threads.ensures.short refl own);
+      marked = record {
+        stores = c.in_ok-stores.stores.items;
+        has = subst H c.deref-3.ensures.value c.in_ok-stores.ensures;
+        are = rw (c.deref-4.ensures.value, c.deref-5.ensures.value, c.deref-6.ensures.value) at c.in_ok-marks.ensures;
+      };
     }
 
 pub returns-clause-size : goal.returns-clause-size

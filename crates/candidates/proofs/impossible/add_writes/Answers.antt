@@ -1,0 +1,8 @@
+use Rattle.candidates.proofs.Storing.{keeps_on, writes_next}
+use Rattle.candidates.proofs.impossible.add_writes.Goals as goal
+
+pub loop-event-preserved : goal.loop-event-preserved
+loop-event-preserved c = record {
+  kept = keeps_on c.args.stores.now.items c.loop-event.stores.items c.add_write.new.stores.items c.loop-event.invariant.kept c.in_ok-add_write.ensures.kept;
+  has = writes_next c.loop-event.stores.items c.add_write.new.stores.items c.args.events.now c.loop-event.event-index c.event-item.result c.loop-event-test.true c.event-item.is c.in_ok-add_write.ensures.kept c.in_ok-add_write.ensures.has c.loop-event.invariant.has;
+}

@@ -1,0 +1,16 @@
+use Rattle.std.proofs.Common.{arith}
+use Rattle.candidates.proofs.Adding.{take_on}
+use Rattle.candidates.proofs.Marking.{marked_next, sum_fits}
+use Rattle.candidates.proofs.impossible.passed.Goals as goal
+
+pub overflow_add-sum : goal.overflow_add-sum
+overflow_add-sum c = sum_fits c.args.sizes.now c.args.place c.loop-end.end c.loop-end.sum c.loop-end-test.true c.loop-end.invariant.sum c.requires.most
+
+pub loop-end-preserved : goal.loop-end-preserved
+loop-end-preserved c =
+    let at = c.loop-end in record {
+      order = omega (arith, at.invariant.order);
+      within = omega (arith, c.loop-end-test.true);
+      sum = omega (arith, at.invariant.sum, take_on c.args.sizes.now at.end c.loop-end-test.true);
+      marked = marked_next c.args.marks.now c.args.place at.end c.if-not-marks-end.false at.invariant.marked;
+    }
