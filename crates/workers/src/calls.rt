@@ -1,9 +1,10 @@
 //! The calls that a worker makes, and how a desk makes them.
 
-ghost use Rattle.std.specs.Prelude.{◌≡◌, ◌≢◌, ◌-◌, ◌<◌, length, slice_get, IfOk, OnErr, MatchBool, MatchOption};
+ghost use Rattle.std.specs.Prelude.{◌≡◌, ◌≢◌, ◌-◌, ◌<◌, length, slice_get, IfOk, OnOk, OnErr, MatchBool, MatchOption};
 ghost use Rattle.journal.specs.declared.records.Refusal.TheVariants.{Closed};
-ghost use Rattle.journal.specs.Lines.{returned};
+ghost use Rattle.journal.specs.Lines.{returned, seen};
 ghost use Rattle.journal.specs.declared.records.Said.{Said};
+ghost use Rattle.sessions.specs.Calls.{Adds};
 ghost use Rattle.workers.specs.Replies.{Replied, claimed_of, goes_on, is_done, last_piece};
 
 use book::{Command, Entry, Refusal, Refused, Reply};
@@ -53,13 +54,13 @@ pub trait Calls<L: Ledger> {
 
 impl<L: Ledger> Calls<L> for Desk<L> {
     fn claim<R: Wait>(&self, rt: &R, pass: &mut Pass<L>) -> Result<Claimed, Refused> {
-        match self.call(rt, pass, Command::Claim) {
+        match called(self, rt, pass, Command::Claim) {
             Ok(()) => Ok(match last_entry(pass).reply() {
                 Reply::Piece(_) => Claimed::Held,
                 Reply::Nothing => Claimed::Idle,
                 _ => Claimed::Over,
             }),
-            Err((_, refused)) => Err(refused),
+            Err(refused) => Err(refused),
         }
     }
 
@@ -69,21 +70,38 @@ impl<L: Ledger> Calls<L> for Desk<L> {
         pass: &mut Pass<L>,
         found: PieceResult,
     ) -> Result<bool, Refused> {
-        match self.call(rt, pass, Command::Return(found)) {
+        match called(self, rt, pass, Command::Return(found)) {
             Ok(()) => Ok(stays_open(last_entry(pass).reply())),
-            Err((_, refused)) => Err(refused),
+            Err(refused) => Err(refused),
         }
     }
 
     fn give_back<R: Wait>(&self, rt: &R, pass: &mut Pass<L>, number: u32) -> Result<bool, Refused> {
-        match self.call(rt, pass, Command::GiveBack(number)) {
+        match called(self, rt, pass, Command::GiveBack(number)) {
             Ok(()) => Ok(matches!(last_entry(pass).reply(), Reply::Done)),
-            Err((_, refused)) => Err(refused),
+            Err(refused) => Err(refused),
         }
     }
 
     fn wait_work<R: Wait>(&self, rt: &R) {
         Desk::wait_work(self, rt)
+    }
+}
+
+// A call, whose command isn't wanted back.
+fn called<L: Ledger, R: Wait>(
+    desk: &Desk<L>,
+    rt: &R,
+    pass: &mut Pass<L>,
+    command: Command,
+) -> Result<(), Refused>
+    requires { pass.old.parts ≡ 1 }
+    ensures receipt { OnOk result (Adds pass.old pass.new (seen command)) }
+    ensures same { OnErr result (pass.new ≡ pass.old) }
+{
+    match desk.call(rt, pass, command) {
+        Ok(()) => Ok(()),
+        Err((_, refused)) => Err(refused),
     }
 }
 

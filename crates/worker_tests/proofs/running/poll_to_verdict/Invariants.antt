@@ -1,5 +1,5 @@
 use Rattle.std.proofs.Common.{◌≡◌}
 use Rattle.worker_tests.proofs.running.poll_to_verdict.Given as goal
 
-abbrev pub invariant-loop-i : goal.invariant-loop-i
-invariant-loop-i g l = l.pass.parts ≡ 1
+abbrev pub invariant-loop : goal.invariant-loop
+invariant-loop g l = l.pass.parts ≡ 1
