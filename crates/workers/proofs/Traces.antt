@@ -1,0 +1,167 @@
+-- Traces that are put together.
+use Rattle.std.proofs.Common.{◌≡◌, ℕ, ◌+◌, ◌-◌, ◌<◌, ◌≤◌, ◌&&◌, cond, List, [], ◌∷◌, ◌++◌, length, refl, sym, ap, ◌∙◌, subst, arith, append_assoc, append-nil, length-append, Some}
+use Rattle.std.specs.Prelude.{slice_get, option_and_then}
+use Rattle.std.proofs.lemmas.List.Sums.{sum_by-append}
+use Rattle.std.proofs.lemmas.Option.{slice_get-get_or}
+use Rattle.std.proofs.Math.Seq.{get_or-append_seam}
+use Rattle.journal.specs.declared.records.Said.{Said}
+use Rattle.journal.specs.declared.records.Said.TheVariants.{Claim}
+use Rattle.slices.specs.Parts.{Portion}
+use Rattle.journal.specs.declared.records.Reply.{Reply}
+use Rattle.journal.specs.declared.records.Reply.TheVariants.{Piece}
+use Rattle.journal.specs.Lines.{Line}
+use Rattle.sessions.specs.declared.passes.Counts.{Counts}
+use Rattle.sessions.specs.Views.{PassView}
+use Rattle.workers.specs.declared.calls.Claimed.TheVariants.{Held}
+use Rattle.workers.specs.declared.working.Form.{Form}
+use Rattle.workers.specs.declared.working.Turn.{Turn}
+use Rattle.workers.specs.declared.working.Turn.TheVariants.{Waited, Returned, Ended}
+use Rattle.workers.specs.Replies.{Replied, claimed_of, piece_of, last_piece, is_done}
+use Rattle.workers.specs.Trace.{Stage, Free, Holds, after, stage_after, EndsAt, is_return, returns, is_give_back, given_back, IsWorkFrom, Worked}
+use Rattle.workers.specs.Turns.{GoesOn, Tells, IsTurn, Settles, SoFar}
+
+returns-append : (xs ys : List Line) → returns (xs ++ ys) ≡ returns xs + returns ys
+returns-append xs ys = sum_by-append (λ (line : Line). cond (is_return line.said) 1 0) xs ys
+
+given_back-append : (xs ys : List Line) → given_back (xs ++ ys) ≡ given_back xs + given_back ys
+given_back-append xs ys = sum_by-append (λ (line : Line). cond (is_give_back line.said && is_done line.reply) 1 0) xs ys
+
+stage-append : (form : Form) (stage : Stage) (xs ys : List Line) → stage_after form stage (xs ++ ys) ≡ stage_after form (stage_after form stage xs) ys
+stage-append form stage [] ys = refl
+stage-append form stage (x ∷ xs) ys = stage-append form (after form stage x.said x.reply) xs ys
+
+returns-claim : (line : Line) (xs : List Line) → line.said ≡ Claim → returns (line ∷ xs) ≡ returns xs
+returns-claim line xs said =
+    let one : returns (line ∷ []) ≡ 0 = ap (λ (s : Said). 0 + cond {A = ℕ} (is_return s) 1 0) said in
+    let e = returns-append (line ∷ []) xs in
+    omega (arith, one, e)
+
+given_back-claim : (line : Line) (xs : List Line) → line.said ≡ Claim → given_back (line ∷ xs) ≡ given_back xs
+given_back-claim line xs said =
+    let one : given_back (line ∷ []) ≡ 0 = ap (λ (s : Said). 0 + cond {A = ℕ} (is_give_back s && is_done line.reply) 1 0) said in
+    let e = given_back-append (line ∷ []) xs in
+    omega (arith, one, e)
+
+last_piece-push : (xs : List Line) (x : Line) → last_piece (xs ++ x ∷ []) ≡ piece_of x.reply
+last_piece-push xs x =
+    let long : length (xs ++ x ∷ []) ≡ length xs + 1 = length-append xs (x ∷ []) in
+    let at : length (xs ++ x ∷ []) - 1 ≡ length xs = omega (arith, long) in
+    let within : length xs < length (xs ++ x ∷ []) = omega (arith, long) in
+    let here : slice_get (xs ++ x ∷ []) (length xs) ≡ Some x = slice_get-get_or (xs ++ x ∷ []) (length xs) x within ∙ ap Some (get_or-append_seam xs x [] x) in
+    ap (λ (i : ℕ). option_and_then (λ (line : Line). piece_of line.reply) (slice_get (xs ++ x ∷ []) i)) at ∙ ap (option_and_then (λ (line : Line). piece_of line.reply)) here
+
+given_of : (reply : Reply) → Held ≡ claimed_of reply → (piece : Portion) × (reply ≡ Piece piece)
+given_of (Piece piece) h = (piece, refl)
+given_of reply h = absurd (let no : ⊥ = cc in no)
+
+holds : (form : Form) (piece : Portion) (line : Line) (added : List Line) → line.said ≡ Claim → line.reply ≡ Piece piece → stage_after form Free (line ∷ added) ≡ stage_after form (Holds piece) added
+holds form piece line added said reply =
+    ap (λ (s : Said). stage_after form (after form Free s line.reply) added) said ∙ ap (λ (r : Reply). stage_after form (after form Free Claim r) added) reply
+
+goes-claim : (form : Form) (piece : Portion) (line : Line) (added : List Line) (n : ℕ) → line.said ≡ Claim → line.reply ≡ Piece piece → GoesOn form (Holds piece) n added → GoesOn form Free n (line ∷ added)
+goes-claim form piece line added n said reply goes =
+    record {
+      free = holds form piece line added said reply ∙ goes.free;
+      some = (let h : n ≤ length added = goes.some in omega (arith, h));
+      returned = returns-claim line added said ∙ goes.returned;
+      none = given_back-claim line added said ∙ goes.none;
+    }
+
+work-claim : (form : Form) (piece : Portion) (line : Line) (added : List Line) (counts : Counts) → line.said ≡ Claim → line.reply ≡ Piece piece → IsWorkFrom form (Holds piece) counts added → IsWorkFrom form Free counts (line ∷ added)
+work-claim form piece line added counts said reply work =
+    let r : returns (line ∷ added) ≡ returns added = returns-claim line added said in
+    let least : returns added ≤ counts.evaluated = work.least in
+    let most : counts.evaluated ≤ returns added + 1 = work.most in
+    record {
+      ended = subst (λ (n : ℕ). EndsAt (counts.evaluated - n) counts.refused (stage_after form Free (line ∷ added))) (sym r) (subst (λ (s : Stage). EndsAt (counts.evaluated - returns added) counts.refused s) (sym (holds form piece line added said reply)) work.ended);
+      least = omega (arith, r, least);
+      most = omega (arith, r, most);
+      back = work.back ∙ sym (given_back-claim line added said);
+    }
+
+tells-claim : (form : Form) (piece : Portion) (line : Line) (added : List Line) (turn : Turn) → line.said ≡ Claim → line.reply ≡ Piece piece → Tells form (Holds piece) turn added → Tells form Free turn (line ∷ added)
+tells-claim form piece line added Waited said reply t = (goes-claim form piece line added 0 said reply t.0, omega arith)
+tells-claim form piece line added Returned said reply t = (goes-claim form piece line added 1 said reply t.0, omega arith)
+tells-claim form piece line added (Ended counts) said reply t = (work-claim form piece line added counts said reply t.0, t.1)
+
+same_piece : (a b : Portion) → Some a ≡ Some b → a ≡ b
+same_piece a b e = cc
+
+pub held-turn : (form : Form) (before mid now : PassView) (turn : Turn) → Replied before mid Claim (λ (reply : Reply). Held ≡ claimed_of reply) → Settles mid now turn → IsTurn form Free before now turn
+held-turn form before mid now turn claim rest =
+    let line = claim.line in
+    let given = given_of line.reply claim.told in
+    let same : given.0 ≡ rest.piece = same_piece _ _ (sym (ap (λ (p : PassView). last_piece p.receipts) claim.is ∙ last_piece-push before.receipts line ∙ ap piece_of given.1) ∙ rest.given) in
+    let reply : line.reply ≡ Piece rest.piece = given.1 ∙ ap Piece same in
+    let t = rest.turns form in
+    record {
+      added = line ∷ t.added;
+      is = t.is ∙ ap (λ (p : PassView). record p { receipts = p.receipts ++ t.added }) claim.is ∙ ap (λ (xs : List Line). record before { receipts = xs }) (append_assoc before.receipts (line ∷ []) t.added);
+      told = tells-claim form rest.piece line t.added turn claim.of reply t.told;
+    }
+
+pub so_far-none : (form : Form) (pass : PassView) → SoFar form pass pass 0
+so_far-none form pass = record {
+  added = [];
+  is = ap (λ (xs : List Line). record pass { receipts = xs }) (sym (append-nil pass.receipts));
+  goes = record { free = refl; some = omega arith; returned = refl; none = refl };
+}
+
+chained : (before mid now : PassView) (xs ys : List Line) → mid ≡ record before { receipts = before.receipts ++ xs } → now ≡ record mid { receipts = mid.receipts ++ ys } → now ≡ record before { receipts = before.receipts ++ (xs ++ ys) }
+chained before mid now xs ys a b = b ∙ ap (λ (p : PassView). record p { receipts = p.receipts ++ ys }) a ∙ ap (λ (zs : List Line). record before { receipts = zs }) (append_assoc before.receipts xs ys)
+
+goes-more : (form : Form) (n k : ℕ) (xs ys : List Line) → GoesOn form Free n xs → GoesOn form Free k ys → GoesOn form Free (n + k) (xs ++ ys)
+goes-more form n k xs ys a b =
+    let x : n ≤ length xs = a.some in
+    let y : k ≤ length ys = b.some in
+    let l : length (xs ++ ys) ≡ length xs + length ys = length-append xs ys in
+    let r : returns xs ≡ n = a.returned in
+    let s : returns ys ≡ k = b.returned in
+    let g : given_back xs ≡ 0 = a.none in
+    let h : given_back ys ≡ 0 = b.none in
+    record {
+      free = stage-append form Free xs ys ∙ ap (λ (t : Stage). stage_after form t ys) a.free ∙ b.free;
+      some = omega (arith, x, y, l);
+      returned = omega (arith, r, s, returns-append xs ys);
+      none = omega (arith, g, h, given_back-append xs ys);
+    }
+
+pub so_far-waited : (form : Form) (before mid now : PassView) (n : ℕ) → SoFar form before mid n → IsTurn form Free mid now Waited → SoFar form before now n
+so_far-waited form before mid now n a t = record {
+  added = a.added ++ t.added;
+  is = chained before mid now a.added t.added a.is t.is;
+  goes = subst (λ (k : ℕ). GoesOn form Free k (a.added ++ t.added)) (let e : n + 0 ≡ n = omega arith in e) (goes-more form n 0 a.added t.added a.goes t.told.0);
+}
+
+pub so_far-returned : (form : Form) (before mid now : PassView) (n : ℕ) → SoFar form before mid n → IsTurn form Free mid now Returned → SoFar form before now (n + 1)
+so_far-returned form before mid now n a t = record {
+  added = a.added ++ t.added;
+  is = chained before mid now a.added t.added a.is t.is;
+  goes = goes-more form n 1 a.added t.added a.goes t.told.0;
+}
+
+-- the work of a worker ends with this turn
+pub so_far-ended : (form : Form) (before mid now : PassView) (n : ℕ) (last : Counts) → SoFar form before mid n → IsTurn form Free mid now (Ended last) → Worked form before (record now { counts = record last { evaluated = n + last.evaluated } })
+so_far-ended form before mid now n last a t =
+    let xs = a.added in
+    let ys = t.added in
+    let w = t.told.0 in
+    let r : returns xs ≡ n = a.goes.returned in
+    let g : given_back xs ≡ 0 = a.goes.none in
+    let least : returns ys ≤ last.evaluated = w.least in
+    let most : last.evaluated ≤ returns ys + 1 = w.most in
+    let back : last.given_back ≡ given_back ys = w.back in
+    let m : returns (xs ++ ys) ≡ returns xs + returns ys = returns-append xs ys in
+    let k : given_back (xs ++ ys) ≡ given_back xs + given_back ys = given_back-append xs ys in
+    let lost : last.evaluated - returns ys ≡ n + last.evaluated - returns (xs ++ ys) = omega (arith, r, m) in
+    let at : stage_after form Free (xs ++ ys) ≡ stage_after form Free ys = stage-append form Free xs ys ∙ ap (λ (s : Stage). stage_after form s ys) a.goes.free in
+    record {
+      added = xs ++ ys;
+      is = ap (λ (p : PassView). record p { counts = record last { evaluated = n + last.evaluated } }) (chained before mid now xs ys a.is t.is);
+      work = record {
+        ended = subst (λ (k : ℕ). EndsAt k last.refused (stage_after form Free (xs ++ ys))) lost (subst (λ (s : Stage). EndsAt (last.evaluated - returns ys) last.refused s) (sym at) w.ended);
+        least = omega (arith, r, least, m);
+        most = omega (arith, r, most, m);
+        back = omega (arith, g, back, k);
+      };
+    }
