@@ -606,7 +606,7 @@ const COMMANDS: &[Scene] = &[
 
 #[test]
 fn commands(rt: HostRuntime) -> Result<(), Fail> {
-    all_go_well(rt.alloc(), COMMANDS)
+    all_go_well(&rt, rt.alloc(), COMMANDS, 0)
 }
 
 const SIZES: &[Scene] = &[
@@ -690,5 +690,5 @@ const SIZES: &[Scene] = &[
 
 #[test]
 fn sizes_of_jobs(rt: HostRuntime) -> Result<(), Fail> {
-    all_go_well(rt.alloc(), SIZES)
+    all_go_well(&rt, rt.alloc(), SIZES, 0)
 }
