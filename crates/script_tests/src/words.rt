@@ -10,13 +10,13 @@ use std::test::Fail;
 const WORDS: &[(&str, &[&str], Result<(u32, u8), i32>)] = &[
     ("no word", &[], Ok((100_000, 0))),
     ("least journal", &["--journal", "1"], Ok((1, 0))),
-    ("largest journal", &["--journal=1000000"], Ok((1_000_000, 0))),
-    ("one worker", &["--workers", "1"], Ok((100_000, 1))),
     (
-        "most workers",
-        &["--workers=8", "--journal=7"],
-        Ok((7, 8)),
+        "largest journal",
+        &["--journal=1000000"],
+        Ok((1_000_000, 0)),
     ),
+    ("one worker", &["--workers", "1"], Ok((100_000, 1))),
+    ("most workers", &["--workers=8", "--journal=7"], Ok((7, 8))),
     ("alone", &["--alone"], Ok((0, 0))),
     ("help", &["--help"], Err(0)),
     ("journal of none", &["--journal", "0"], Err(2)),

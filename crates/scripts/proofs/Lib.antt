@@ -1,3 +1,3 @@
+pub mod Calls
+pub mod Receipts
 pub mod Served
-pub mod Turns
-pub mod Worked

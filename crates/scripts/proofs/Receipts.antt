@@ -57,7 +57,7 @@ have_both : (f : ℕ → List Line) (seat : ℕ) (ps qs : List PassView) → Hav
 have_both f seat [] qs h k = subst (λ (s : ℕ). Have f s qs) (let e : seat + 0 ≡ seat = omega arith in e) k
 have_both f seat (p ∷ ps) qs h k = (h.0, have_both f (seat + 1) ps qs h.1 (subst (λ (s : ℕ). Have f s qs) (let e : seat + suc (length ps) ≡ seat + 1 + length ps = omega arith in e) k))
 
-have_front : (f : ℕ → List Line) (seat : ℕ) (ps qs : List PassView) → Have f seat (ps ++ qs) → Have f seat ps
+pub have_front : (f : ℕ → List Line) (seat : ℕ) (ps qs : List PassView) → Have f seat (ps ++ qs) → Have f seat ps
 have_front f seat [] qs h = tt
 have_front f seat (p ∷ ps) qs h = (h.0, have_front f (seat + 1) ps qs h.1)
 
@@ -107,7 +107,7 @@ grown_seated line seat (suc i) (p ∷ ps) pass is h = (h.0, h.1, grown_seated li
 
 -- ---- work
 
-runs_of : (seat : ℕ) (ps qs : List PassView) (runs : List Run) → AreSeated seat ps → AreWorked ps qs runs → AreRuns seat runs
+pub runs_of : (seat : ℕ) (ps qs : List PassView) (runs : List Run) → AreSeated seat ps → AreWorked ps qs runs → AreRuns seat runs
 runs_of seat [] [] [] are w = tt
 runs_of seat [] [] (run ∷ runs) are w = absurd w
 runs_of seat [] (q ∷ qs) runs are w = absurd w
@@ -115,7 +115,7 @@ runs_of seat (p ∷ ps) [] runs are w = absurd w
 runs_of seat (p ∷ ps) (q ∷ qs) [] are w = absurd w
 runs_of seat (p ∷ ps) (q ∷ qs) (run ∷ runs) are w = (w.0 ∙ are.0, w.2, runs_of (seat + 1) ps qs runs are.2 w.3)
 
-run_count : (ps qs : List PassView) (runs : List Run) → AreWorked ps qs runs → length runs ≡ length ps
+pub run_count : (ps qs : List PassView) (runs : List Run) → AreWorked ps qs runs → length runs ≡ length ps
 run_count [] [] [] w = refl
 run_count [] [] (run ∷ runs) w = absurd w
 run_count [] (q ∷ qs) runs w = absurd w
@@ -123,7 +123,7 @@ run_count (p ∷ ps) [] runs w = absurd w
 run_count (p ∷ ps) (q ∷ qs) [] w = absurd w
 run_count (p ∷ ps) (q ∷ qs) (run ∷ runs) w = ap suc (run_count ps qs runs w.3)
 
-pass_count : (ps qs : List PassView) (runs : List Run) → AreWorked ps qs runs → length qs ≡ length ps
+pub pass_count : (ps qs : List PassView) (runs : List Run) → AreWorked ps qs runs → length qs ≡ length ps
 pass_count [] [] [] w = refl
 pass_count [] [] (run ∷ runs) w = absurd w
 pass_count [] (q ∷ qs) runs w = absurd w
@@ -131,7 +131,7 @@ pass_count (p ∷ ps) [] runs w = absurd w
 pass_count (p ∷ ps) (q ∷ qs) [] w = absurd w
 pass_count (p ∷ ps) (q ∷ qs) (run ∷ runs) w = ap suc (pass_count ps qs runs w.3)
 
-worked_seated : (seat : ℕ) (ps qs : List PassView) (runs : List Run) → AreSeated seat ps → AreWorked ps qs runs → AreSeated seat qs
+pub worked_seated : (seat : ℕ) (ps qs : List PassView) (runs : List Run) → AreSeated seat ps → AreWorked ps qs runs → AreSeated seat qs
 worked_seated seat [] [] [] are w = tt
 worked_seated seat [] [] (run ∷ runs) are w = absurd w
 worked_seated seat [] (q ∷ qs) runs are w = absurd w
@@ -157,10 +157,10 @@ worked_have f seat (p ∷ ps) (q ∷ qs) (run ∷ runs) are w h =
 -- ---- an answer
 
 -- the passes of the sessions, and those of the workers
-halves : (ps : List PassView) → take 8 ps ++ drop 8 ps ≡ ps
+pub halves : (ps : List PassView) → take 8 ps ++ drop 8 ps ≡ ps
 halves ps = take-append-drop 8 ps
 
-eight : (desk : ℕ) (ps : List PassView) → IsTable desk ps → length (take 8 ps) ≡ 8
+pub eight : (desk : ℕ) (ps : List PassView) → IsTable desk ps → length (take 8 ps) ≡ 8
 eight desk ps table = let number = table.number in let least = table.least in length-take-le 8 ps (omega (arith, number, least))
 
 at_eight : (P : ℕ → Type 0) (n : ℕ) → n ≡ 8 → P (0 + n) → P 8
@@ -169,7 +169,7 @@ at_eight P n e h = subst P (let s : 0 + n ≡ 8 = omega (arith, e) in s) h
 to_eight : (P : ℕ → Type 0) (n : ℕ) → n ≡ 8 → P 8 → P (0 + n)
 to_eight P n e h = subst P (let s : 8 ≡ 0 + n = omega (arith, e) in s) h
 
-workers_seated : (desk : ℕ) (ps : List PassView) → IsTable desk ps → AreSeated 8 (drop 8 ps)
+pub workers_seated : (desk : ℕ) (ps : List PassView) → IsTable desk ps → AreSeated 8 (drop 8 ps)
 workers_seated desk ps table =
     at_eight (λ s. AreSeated s (drop 8 ps)) (length (take 8 ps)) (eight desk ps table) (seated_back 0 (take 8 ps) (drop 8 ps) (subst (AreSeated 0) (sym (halves ps)) table.seated))
 
