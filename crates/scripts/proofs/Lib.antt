@@ -1,3 +1,4 @@
 pub mod Calls
 pub mod Receipts
+pub mod Seated
 pub mod Served

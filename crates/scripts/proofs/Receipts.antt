@@ -65,11 +65,11 @@ have_back : (f : ℕ → List Line) (seat : ℕ) (ps qs : List PassView) → Hav
 have_back f seat [] qs h = subst (λ (s : ℕ). Have f s qs) (let e : seat ≡ seat + 0 = omega arith in e) h
 have_back f seat (p ∷ ps) qs h = subst (λ (s : ℕ). Have f s qs) (let e : seat + 1 + length ps ≡ seat + suc (length ps) = omega arith in e) (have_back f (seat + 1) ps qs h.1)
 
-seated_both : (seat : ℕ) (ps qs : List PassView) → AreSeated seat ps → AreSeated (seat + length ps) qs → AreSeated seat (ps ++ qs)
+pub seated_both : (seat : ℕ) (ps qs : List PassView) → AreSeated seat ps → AreSeated (seat + length ps) qs → AreSeated seat (ps ++ qs)
 seated_both seat [] qs h k = subst (λ (s : ℕ). AreSeated s qs) (let e : seat + 0 ≡ seat = omega arith in e) k
 seated_both seat (p ∷ ps) qs h k = (h.0, h.1, seated_both (seat + 1) ps qs h.2 (subst (λ (s : ℕ). AreSeated s qs) (let e : seat + suc (length ps) ≡ seat + 1 + length ps = omega arith in e) k))
 
-seated_front : (seat : ℕ) (ps qs : List PassView) → AreSeated seat (ps ++ qs) → AreSeated seat ps
+pub seated_front : (seat : ℕ) (ps qs : List PassView) → AreSeated seat (ps ++ qs) → AreSeated seat ps
 seated_front seat [] qs h = tt
 seated_front seat (p ∷ ps) qs h = (h.0, h.1, seated_front (seat + 1) ps qs h.2)
 
@@ -90,7 +90,7 @@ grown_have f line seat zero (p ∷ ps) pass at is h =
     let here : line.seat ≡ seat = omega (arith, at) in (
       ap (λ l. l ++ line ∷ []) (ap (λ (q : PassView). q.receipts) (sym same) ∙ h.0) ∙ ap (λ l. f seat ++ l) (sym (made_here line seat here)),
       have_same f (λ k. f k ++ made_at k (Made line)) (seat + 1) ps (λ k le lt. (let other : line.seat ≢ k = omega (arith, here, le) in
-      sym (append-nil (f k)) ∙ ap (λ l. f k ++ l) (sym (made_elsewhere line k other)))) h.1,
+          sym (append-nil (f k)) ∙ ap (λ l. f k ++ l) (sym (made_elsewhere line k other)))) h.1,
     )
 grown_have f line seat (suc i) (p ∷ ps) pass at is h =
     let other : line.seat ≢ seat = omega (arith, at) in (
@@ -166,7 +166,7 @@ eight desk ps table = let number = table.number in let least = table.least in le
 at_eight : (P : ℕ → Type 0) (n : ℕ) → n ≡ 8 → P (0 + n) → P 8
 at_eight P n e h = subst P (let s : 0 + n ≡ 8 = omega (arith, e) in s) h
 
-to_eight : (P : ℕ → Type 0) (n : ℕ) → n ≡ 8 → P 8 → P (0 + n)
+pub to_eight : (P : ℕ → Type 0) (n : ℕ) → n ≡ 8 → P 8 → P (0 + n)
 to_eight P n e h = subst P (let s : 8 ≡ 0 + n = omega (arith, e) in s) h
 
 pub workers_seated : (desk : ℕ) (ps : List PassView) → IsTable desk ps → AreSeated 8 (drop 8 ps)

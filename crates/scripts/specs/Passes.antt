@@ -1,5 +1,5 @@
 -- The passes of a script's sessions, seats 0 to 7, and of its workers. Private functions speak of them.
-use Rattle.std.specs.Prelude.{◌≡◌, ◌≤◌, ◌+◌, ℕ, List, [], ◌∷◌, ◌++◌, length, take, drop, set, Some, slice_get, Result, Ok, Err}
+use Rattle.std.specs.Prelude.{◌≡◌, ◌≤◌, ◌+◌, ◌-◌, ℕ, List, [], ◌∷◌, ◌++◌, length, take, drop, set, Some, slice_get, Result, Ok, Err}
 use Rattle.std.specs.List.{flat_map, sum_by}
 use Rattle.journal.specs.Lines.{Line}
 use Rattle.journal.specs.declared.records.Said.{Said}
@@ -21,10 +21,10 @@ abbrev pub AreSeated : ℕ → List PassView → Type 0
 AreSeated seat [] = Unit {0}
 AreSeated seat (p ∷ ps) = (p.seat ≡ seat) × (p.parts ≡ 1) × AreSeated (seat + 1) ps
 
--- each seat of a desk has its pass, and there are those of the sessions
+-- each seat of a desk has its pass: there are those of the sessions, and at least one worker's
 pub record IsTable (desk : ℕ) (passes : List PassView) : Type 0 where
   pub number : length passes ≡ desk
-  pub least : 8 ≤ desk
+  pub least : 9 ≤ desk
   pub most : desk ≤ 64
   pub seated : AreSeated 0 passes
 
@@ -64,9 +64,8 @@ Become (Worked runs) before after = Works runs before after
 -- the entry is the last receipt of the pass of this seat
 pub record IsLastAt (seat : ℕ) (passes : List PassView) (line : Line) : Type 0 where
   pub pass : PassView
-  pub before : List Line
   pub at : slice_get passes seat ≡ Some pass
-  pub is : pass.receipts ≡ before ++ line ∷ []
+  pub is : slice_get pass.receipts (length pass.receipts - 1) ≡ Some line
 
 abbrev pub sums : List Run → Sums
 sums runs = record {

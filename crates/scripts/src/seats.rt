@@ -1,11 +1,11 @@
 //! The sessions and the workers of a script, at one desk.
 
-ghost use Rattle.std.specs.Prelude.{◌≡◌, ◌<◌, ◌≤◌, ◌-◌, ℕ, List, length, Some, IfOk, IfErr, OnErr, MatchOption};
+ghost use Rattle.std.specs.Prelude.{◌≡◌, ◌<◌, ◌≤◌, ◌-◌, ℕ, List, length, Some, slice_get, IfOk, IfErr, OnErr, MatchOption};
 ghost use Rattle.journal.specs.Lines.{Line, seen};
 ghost use Rattle.sessions.specs.Finish.{IsFault, IsLegal, IsShared};
 ghost use Rattle.orders.specs.Spelled.{IsSeated};
 ghost use Rattle.scripts.specs.Answers.{Answer, Answers, Asks, IsGiven, IsRight};
-ghost use Rattle.scripts.specs.Passes.{Have, IsAnswered, IsCall, IsLastAt, IsTable, Shows, session_receipts};
+ghost use Rattle.scripts.specs.Passes.{Have, IsAnswered, IsCall, IsTable, Shows, session_receipts};
 ghost use Rattle.scripts.specs.Serving.{GivesNone, GivesPiece, answer_text};
 ghost use Rattle.report.specs.Writing.{Writes};
 
@@ -102,21 +102,10 @@ impl<L: Ledger> Seats<L> {
     {
         match self.desk.call(rt, &mut self.passes[seat as usize], command) {
             Ok(()) => {
-                find_right(self.last_entry(seat).reply());
+                find_right(last_entry(&self.passes[seat as usize]).reply());
                 Outcome::Made(seat)
             }
             Err((_, why)) => Outcome::NotTaken(why),
-        }
-    }
-
-    /// The entry of the last call of a session.
-    fn last_entry(&self, seat: u8) -> &Entry
-        requires { (line : Line) × IsLastAt seat self.now.passes.items line }
-        ensures { IsLastAt seat self.now.passes.items result.now }
-    {
-        match self.passes[seat as usize].receipts().last() {
-            Some(receipt) => receipt.entry(),
-            None => unreachable!(),
         }
     }
 
@@ -139,7 +128,10 @@ impl<L: Ledger> Seats<L> {
         ensures { (answer : Answer) → Shows self.now.passes.items outcome answer → Writes W.held W.has_failed writer.old writer.new result (answer_text answer) }
     {
         match outcome {
-            Outcome::Made(seat) => give_reply(self.alloc, self.last_entry(seat).reply(), writer),
+            Outcome::Made(seat) => {
+                let entry = last_entry(&self.passes[seat as usize]);
+                give_reply(self.alloc, entry.reply(), writer)
+            }
             Outcome::NotTaken(why) => write_not_taken(why, writer),
             Outcome::Worked(sums) => write_worked(sums, writer),
         }
@@ -194,6 +186,17 @@ impl<L: Ledger + Send + Sync> Seats<L> {
         let (_, workers) = self.passes.split_at_mut(SESSIONS as usize);
         let report = work_until_idle(rt, self.alloc, &self.desk, workers, &NoGate);
         sums(report.counts.as_slice())
+    }
+}
+
+/// The entry of the last call of a pass.
+fn last_entry<L: Ledger>(pass: &Pass<L>) -> &Entry
+    requires { 0 < length pass.now.receipts }
+    ensures { slice_get pass.now.receipts (length pass.now.receipts - 1) ≡ Some result.now }
+{
+    match pass.receipts().last() {
+        Some(receipt) => receipt.entry(),
+        None => unreachable!(),
     }
 }
 
