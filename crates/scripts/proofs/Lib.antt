@@ -1,4 +1,5 @@
 pub mod Calls
+pub mod Pieces
 pub mod Receipts
 pub mod Seated
 pub mod Served

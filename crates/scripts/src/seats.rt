@@ -1,6 +1,6 @@
 //! The sessions and the workers of a script, at one desk.
 
-ghost use Rattle.std.specs.Prelude.{◌≡◌, ◌<◌, ◌≤◌, ◌-◌, ℕ, List, length, Some, slice_get, IfOk, IfErr, OnErr, MatchOption};
+ghost use Rattle.std.specs.Prelude.{◌≡◌, ◌<◌, ◌≤◌, ◌-◌, [], ℕ, List, length, Some, slice_get, IfOk, IfErr, OnErr, MatchOption};
 ghost use Rattle.journal.specs.Lines.{Line, seen};
 ghost use Rattle.sessions.specs.Finish.{IsFault, IsLegal, IsShared};
 ghost use Rattle.orders.specs.Spelled.{IsSeated};
