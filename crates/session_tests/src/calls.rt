@@ -24,10 +24,14 @@ P1 (atomic_int* x, atomic_int* y) {
 exists (0:r0=0 /\\ 1:r0=0)
 ";
 
-/// Tests of two names, each with one thread that does nothing.
+/// Tests of four names, each with one thread that does nothing.
 pub const TEST_A: &[u8] = b"C A\n{ x; }\nP0 () {}\nexists (x=0)\n";
 
 pub const TEST_B: &[u8] = b"C B\n{ x; }\nP0 () {}\nexists (x=0)\n";
+
+pub const TEST_C: &[u8] = b"C C\n{ x; }\nP0 () {}\nexists (x=0)\n";
+
+pub const TEST_D: &[u8] = b"C D\n{ x; }\nP0 () {}\nexists (x=0)\n";
 
 /// A call of a session.
 #[derive(Clone, Copy)]

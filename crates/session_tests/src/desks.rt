@@ -11,20 +11,20 @@ use std::sync::Wait;
 use std::sync::ledger::{Blank, Ledger};
 use std::test::*;
 
-const WIDE: Limits = Limits {
+pub const WIDE: Limits = Limits {
     journal: 1_000_000,
     versions: 1_000_000,
     claims: 1_000_000,
 };
 
-const FIRST: [Call; 4] = [
+pub const FIRST: [Call; 4] = [
     Call::PutTest(TEST_A),
     Call::Ask(b"A", b"rc11.cat"),
     Call::Claim,
     Call::Return,
 ];
 
-const SECOND: [Call; 4] = [
+pub const SECOND: [Call; 4] = [
     Call::PutTest(TEST_B),
     Call::Ask(b"B", b"rc11.cat"),
     Call::Claim,
@@ -32,7 +32,7 @@ const SECOND: [Call; 4] = [
 ];
 
 /// The places of the receipts rise.
-fn rise<L: Ledger>(pass: &Pass<L>) -> bool {
+pub fn rise<L: Ledger>(pass: &Pass<L>) -> bool {
     let mut next = 0;
     for receipt in pass.receipts() {
         let place = receipt.entry().place();

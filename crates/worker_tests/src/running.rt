@@ -45,7 +45,7 @@ exists (2:r0=1 /\\ 2:r1=0 /\\ 3:r0=1 /\\ 3:r1=0)
 
 /// What the session beside the workers asks for.
 #[derive(Clone, Copy)]
-enum Load {
+pub enum Load {
     /// One job of sixteen pieces.
     Iriw,
     /// So many jobs of one piece.
@@ -54,7 +54,7 @@ enum Load {
 
 /// What a run came to.
 #[derive(Clone, Copy)]
-struct Outcome {
+pub struct Outcome {
     /// The entries, where `finish` answers Ok.
     entries: Option<usize>,
     evaluated: u64,
@@ -66,7 +66,7 @@ struct Outcome {
     missed: u64,
 }
 
-fn asked<L: Ledger, R: Wait>(
+pub fn asked<L: Ledger, R: Wait>(
     rt: &R,
     alloc: Global,
     desk: &Desk<L>,
@@ -86,7 +86,7 @@ fn asked<L: Ledger, R: Wait>(
     }
 }
 
-fn total_of<L: Ledger>(
+pub fn total_of<L: Ledger>(
     desk: Desk<L>,
     passes: Vec<Pass<L>>,
     report: &Report,
@@ -275,7 +275,7 @@ fn closed_of_four<R: Threads + Wait + Clock + Sync>(
 }
 
 /// Whether all went well, with so many evaluations, and with so many entries where that is known.
-fn shows(outcome: Option<Outcome>, entries: Option<usize>, evaluated: u64) -> bool {
+pub fn shows(outcome: Option<Outcome>, entries: Option<usize>, evaluated: u64) -> bool {
     match outcome {
         Some(o) => {
             (o.entries == entries || entries.is_none() && o.entries.is_some())

@@ -1,6 +1,7 @@
 //! The calls that a worker makes, and how a desk makes them.
 
-ghost use Rattle.std.specs.Prelude.{◌≡◌, ◌-◌, ◌<◌, length, slice_get, IfOk, OnErr, MatchOption};
+ghost use Rattle.std.specs.Prelude.{◌≡◌, ◌≢◌, ◌-◌, ◌<◌, length, slice_get, IfOk, OnErr, MatchBool, MatchOption};
+ghost use Rattle.journal.specs.declared.records.Refusal.TheVariants.{Closed};
 ghost use Rattle.journal.specs.Lines.{returned};
 ghost use Rattle.journal.specs.declared.records.Said.{Said};
 ghost use Rattle.workers.specs.Replies.{Replied, claimed_of, goes_on, is_done, last_piece};
@@ -69,7 +70,7 @@ impl<L: Ledger> Calls<L> for Desk<L> {
         found: PieceResult,
     ) -> Result<bool, Refused> {
         match self.call(rt, pass, Command::Return(found)) {
-            Ok(()) => Ok(!matches!(last_entry(pass).reply(), Reply::Refused(Refusal::Closed))),
+            Ok(()) => Ok(stays_open(last_entry(pass).reply())),
             Err((_, refused)) => Err(refused),
         }
     }
@@ -84,6 +85,23 @@ impl<L: Ledger> Calls<L> for Desk<L> {
     fn wait_work<R: Wait>(&self, rt: &R) {
         Desk::wait_work(self, rt)
     }
+}
+
+// Whether the book isn't closed, by its reply to a return.
+#[tactic(auto, using(crate::proofs::Going::goes_on_unless))]
+fn stays_open(reply: &Reply) -> bool
+    ensures { result ≡ goes_on reply.now }
+{
+    match reply {
+        Reply::Refused(refusal) => !is_closed(refusal),
+        _ => true,
+    }
+}
+
+fn is_closed(refusal: &Refusal) -> bool
+    ensures { MatchBool result (refusal.now ≡ Closed) (refusal.now ≢ Closed) }
+{
+    matches!(refusal, Refusal::Closed)
 }
 
 // The entry of the last call.

@@ -1,0 +1,114 @@
+-- That a pass may go to another thread, and that threads may share a desk. Types are taken one by one from below, since a search through
+-- all of them at once meets its limit.
+use denote.RattleType.{RattleType}
+use denote.Param.Send.{IsSend, IsSync, sendable}
+use Rattle.std.proofs.Crossing.{crosses}
+use Rattle.conditions.proofs.prop.Link.TheLaws.TheKnot as Condition
+use Rattle.litmus_tree.proofs.expression.Link.TheLaws.TheKnot as Expression
+use Rattle.litmus_tree.proofs.tree.Statement.TheLaws.TheKnot as Statement
+use Rattle.litmus_tree.specs.contracts.tree.Thread as Thread
+use Rattle.litmus_test.specs.contracts.test.Test as Test
+use Rattle.cat_tree.proofs.tree.Expression.TheLaws.TheKnot as Cat
+use Rattle.cat_model.specs.contracts.files.Files as Files
+use Rattle.cat_model.specs.contracts.model.Model as Model
+use Rattle.slices.specs.contracts.finding.FindingRef as FindingRef
+use Rattle.slices.specs.contracts.piece.Piece as Piece
+use Rattle.slices.specs.contracts.tally.Tally as Tally
+use Rattle.slices.specs.contracts.verdict.VerdictRef as VerdictRef
+use Rattle.slices.specs.contracts.work.TestRef as TestRef
+use Rattle.slices.specs.contracts.work.WorkRef as WorkRef
+use Rattle.journal.specs.contracts.records.Entry as Entry
+use Rattle.journal.specs.contracts.records.Reply as Reply
+use Rattle.journal.specs.contracts.records.Said as Said
+use Rattle.book.specs.contracts.kept.Book as Book
+use Rattle.sessions.specs.contracts.desks.Desk as Desk
+use Rattle.sessions.specs.contracts.desks.Shared as Shared
+use Rattle.sessions.specs.contracts.passes.Pass as Pass
+use Rattle.std.specs.declared.sync.ledger.Ledger.{Ghosts}
+use Rattle.std.proofs.sync.ledger.Share.TheSendSync.{the_send as share_send}
+use Rattle.std.proofs.sync.ledger.Book.TheSendSync.{the_send as count_send}
+use Rattle.std.proofs.sync.Mutex.TheSendSync.{the_sync as mutex_sync}
+
+thread_send : IsSend Thread.the_row
+thread_send = search (crosses, Statement.crosses, Expression.crosses, sendable) depth 60 fits 20000
+
+thread_sync : IsSync Thread.the_row
+thread_sync = search (crosses, Statement.crosses, Expression.crosses, sendable) depth 60 fits 20000
+
+test_send : IsSend Test.the_row
+test_send = search (thread_send, crosses, Condition.crosses, sendable) depth 60 fits 20000
+
+test_sync : IsSync Test.the_row
+test_sync = search (thread_sync, crosses, Condition.crosses, sendable) depth 60 fits 20000
+
+testref_send : IsSend TestRef.the_row
+testref_send = search (test_send, test_sync, crosses, sendable) depth 60 fits 20000
+
+testref_sync : IsSync TestRef.the_row
+testref_sync = search (test_send, test_sync, crosses, sendable) depth 60 fits 20000
+
+model_send : IsSend Model.the_row
+model_send = search (crosses, Cat.crosses, sendable) depth 60 fits 20000
+
+model_sync : IsSync Model.the_row
+model_sync = search (crosses, Cat.crosses, sendable) depth 60 fits 20000
+
+work_send : IsSend WorkRef.the_row
+work_send = search (testref_send, testref_sync, model_send, model_sync, crosses, sendable) depth 60 fits 20000
+
+work_sync : IsSync WorkRef.the_row
+work_sync = search (testref_send, testref_sync, model_send, model_sync, crosses, sendable) depth 60 fits 20000
+
+piece_send : IsSend Piece.the_row
+piece_send = search (work_send, crosses, sendable) depth 60 fits 20000
+
+piece_sync : IsSync Piece.the_row
+piece_sync = search (work_sync, crosses, sendable) depth 60 fits 20000
+
+finding_send : IsSend FindingRef.the_row
+finding_send = search (work_send, work_sync, crosses, sendable) depth 60 fits 20000
+
+finding_sync : IsSync FindingRef.the_row
+finding_sync = search (work_send, work_sync, crosses, sendable) depth 60 fits 20000
+
+verdict_send : IsSend VerdictRef.the_row
+verdict_send = search (work_send, work_sync, finding_send, finding_sync, crosses, sendable) depth 60 fits 20000
+
+verdict_sync : IsSync VerdictRef.the_row
+verdict_sync = search (work_send, work_sync, finding_send, finding_sync, crosses, sendable) depth 60 fits 20000
+
+said_send : IsSend (Said.the_field).row
+said_send = search (work_send, crosses, sendable) depth 60 fits 20000
+
+said_sync : IsSync (Said.the_field).row
+said_sync = search (work_sync, crosses, sendable) depth 60 fits 20000
+
+reply_send : IsSend (Reply.the_field).row
+reply_send = search (verdict_send, piece_send, crosses, sendable) depth 60 fits 20000
+
+reply_sync : IsSync (Reply.the_field).row
+reply_sync = search (verdict_sync, piece_sync, crosses, sendable) depth 60 fits 20000
+
+pub entry_send : IsSend Entry.the_row
+entry_send = search (said_send, reply_send, crosses, sendable) depth 60 fits 20000
+
+pub entry_sync : IsSync Entry.the_row
+entry_sync = search (said_sync, reply_sync, crosses, sendable) depth 60 fits 20000
+
+pub pass_send : (L : RattleType) (g : Ghosts L.Denot) → IsSend (Pass.the_row L g)
+pass_send L g = search (entry_send, entry_sync, crosses, share_send, sendable) depth 60 fits 20000
+
+files_send : IsSend Files.the_row
+files_send = search (crosses, Cat.crosses, sendable) depth 60 fits 20000
+
+tally_send : IsSend Tally.the_row
+tally_send = search (work_send, crosses, sendable) depth 60 fits 20000
+
+book_send : IsSend Book.the_row
+book_send = search (testref_send, files_send, tally_send, entry_send, entry_sync, crosses, sendable) depth 60 fits 20000
+
+shared_send : (L : RattleType) (g : Ghosts L.Denot) → IsSend (Shared.the_row L g)
+shared_send L g = search (book_send, share_send, count_send, crosses, sendable) depth 60 fits 20000
+
+pub desk_sync : (L : RattleType) (g : Ghosts L.Denot) → IsSync (Desk.the_row L g)
+desk_sync L g = search (shared_send, mutex_sync, crosses, sendable) depth 60 fits 20000
