@@ -17,12 +17,12 @@ use Rattle.orders.specs.declared.order.Request.{Request}
 use Rattle.orders.specs.declared.order.Request.TheVariants.{PutCat, PutTest, DropCat, DropTest, Ask, Poll, Forget, Release, List as ListAll, Claim, Return, GiveBack, Close}
 use Rattle.journal.specs.declared.records.Said.{Said}
 use Rattle.scripts.specs.Answers.{Answer, Answers, Asks, IsGiven, Made, NotTaken, Worked, Run, AreRuns, entry_of, made_at}
-use Rattle.scripts.specs.Passes.{AreSeated, IsTable, Have, session_receipts}
+use Rattle.scripts.specs.Passes.{AreSeated, Become, IsTable, Have, session_receipts}
 use Rattle.sessions.specs.Finish.{IsFault}
 use Rattle.sessions.specs.declared.ending.FinishCause.{FinishCause}
 use Rattle.sessions.specs.declared.ending.FinishCause.TheVariants.{MissingPass, Mismatch}
-use Rattle.scripts.specs.Serving.{Call, AreAnswered, GivesNone, GivesPiece, IsBySeat, IsUnfinished, entries_at, entries_of, next_call, no_call}
-use Rattle.scripts.proofs.Receipts.{eight, halves, have_front, no_run_below}
+use Rattle.scripts.specs.Serving.{Call, AreAnswered, GivesNone, GivesPiece, IsBySeat, IsDone, IsUnfinished, finish_text, entries_at, entries_of, next_call, no_call}
+use Rattle.scripts.proofs.Receipts.{become_have, eight, halves, have_front, have_same, no_run_below}
 
 -- ---- one call more
 
@@ -159,6 +159,19 @@ answers_among workers xs ys orders.Work (Worked runs) same answers = answers
 pub none_among : (claim : ℕ) (xs ys : List Line) → AreSame xs ys → GivesNone claim xs → GivesNone claim ys
 none_among claim xs ys same none k d lt = All-contains (λ line. ¬ GivesPiece claim line) xs _ none (same.from _ (Contains-get_or ys k d lt))
 
+-- ---- one call more, at a desk
+
+pub have_more : (desk : ℕ) (calls : List Call) (c : Call) (before after : List PassView) → IsTable desk before → Become c.answer before after → Have (λ seat. entries_at seat calls) 0 before
+    → Have (λ seat. entries_at seat (calls ++ c ∷ [])) 0 after
+have_more desk calls c before after table become h =
+    have_same (λ k. entries_at k calls ++ made_at k c.answer) (entries_by (calls ++ c ∷ [])) 0 after (λ k le lt. sym (entries_at_more k calls c)) (become_have (entries_by calls) desk before after c.answer table become h)
+
+pub answered_more : (start desk : ℕ) (calls : List Call) (c : Call) (passes : List PassView) → desk ≡ start → AreAnswered (start - 8) calls → IsTable desk passes
+    → Have (λ seat. entries_at seat calls) 0 passes → Answers (desk - 8) (session_receipts passes) c.order c.answer → AreAnswered (start - 8) (calls ++ c ∷ [])
+answered_more start desk calls c passes same answered table h answers =
+    let entries = same_entries (start - 8) desk calls passes answered table h in
+    next_call c answered (answers_among (start - 8) (session_receipts passes) (entries_of calls) c.order c.answer entries (subst (λ (d : ℕ). Answers (d - 8) (session_receipts passes) c.order c.answer) same answers))
+
 -- ---- the journal
 
 each_at : (journal : List Line) (f : ℕ → List Line) (seat k : ℕ) (ps : List PassView) → AllByRecursion (λ p. p.receipts ≡ of_seat p.seat journal) ps → AreSeated seat ps → Have f seat ps
@@ -216,3 +229,12 @@ unfinished desk calls passes journal (MissingPass seat) table h legal fault =
     let gone = fault.1 in
     cc
 unfinished desk calls passes journal (Mismatch place) table h legal fault = (journal, legal, unfit_at (entries_by calls) 0 place journal passes h fault.2)
+
+-- the script is done, or why it isn't
+
+pub done : (desk entries : ℕ) (calls : List Call) (passes : List PassView) (journal : List Line) → IsTable desk passes → Have (λ seat. entries_at seat calls) 0 passes → IsLegal journal
+    → entries ≡ length journal → IsShared journal passes → IsDone (desk - 8) calls (finish_text entries)
+done desk entries calls passes journal table h legal count shared =
+    let least = table.least in
+    let whole : desk ≡ 8 + (desk - 8) = omega (arith, least) in
+    record { journal = journal; legal = legal; seats = by_seat (desk - 8) desk calls passes journal whole table h shared; told = ap finish_text count }

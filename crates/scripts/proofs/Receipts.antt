@@ -49,7 +49,7 @@ later_runs seat k run runs at le =
 
 -- ---- passes that have entries
 
-have_same : (f g : ℕ → List Line) (seat : ℕ) (ps : List PassView) → ((k : ℕ) → seat ≤ k → k < seat + length ps → f k ≡ g k) → Have f seat ps → Have g seat ps
+pub have_same : (f g : ℕ → List Line) (seat : ℕ) (ps : List PassView) → ((k : ℕ) → seat ≤ k → k < seat + length ps → f k ≡ g k) → Have f seat ps → Have g seat ps
 have_same f g seat [] same h = tt
 have_same f g seat (p ∷ ps) same h = (h.0 ∙ same seat (omega arith) (omega arith), have_same f g (seat + 1) ps (λ k le lt. same k (omega (arith, le)) (omega (arith, lt))) h.1)
 

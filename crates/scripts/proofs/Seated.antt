@@ -1,9 +1,10 @@
 -- What a call, a return and the work of workers make of the passes of a desk.
 use Rattle.std.proofs.Common.{◌≡◌, ◌∙◌, ◌<◌, ◌≤◌, ◌+◌, ◌-◌, ◌++◌, ℕ, zero, suc, List, [], ◌∷◌, length, map, take, drop, set, get_or, Some, refl, sym, ap, subst, arith, length-append}
-use Rattle.std.specs.Prelude.{slice_get}
-use Rattle.std.specs.List.{AllZip, sum_by}
+use Rattle.std.specs.Prelude.{slice_get, All, Result, Ok, Err, IfOk, IsErr, OnErr, OnOk}
+use Rattle.std.specs.List.{AllByRecursion, AllZip, sum_by}
+use Rattle.std.proofs.lemmas.List.Elements.{All-from_recursion}
 use Rattle.std.proofs.Math.Seq.{get_or-append_seam}
-use Rattle.std.proofs.lemmas.List.{length-set, get_or-set_same}
+use Rattle.std.proofs.lemmas.List.{length-set, get_or-set_same, set-get_or}
 use Rattle.std.proofs.lemmas.List.Sums.{sum_by-cons}
 use Rattle.std.proofs.lemmas.Option.{slice_get-get_or, slice_get_within, get_or_from_slice_get}
 use Rattle.journal.specs.Lines.{Line, shown}
@@ -16,11 +17,14 @@ use Rattle.sessions.specs.Views.{PassView, fresh_from}
 use Rattle.sessions.specs.declared.passes.Counts.{Counts}
 use Rattle.workers.specs.Trace.{Worked as WorkedOn}
 use Rattle.workers.specs.declared.working.Form.TheVariants.{UntilIdle}
+use Rattle.orders.specs.declared.order.Order.{Order}
 use Rattle.orders.specs.declared.order.Order.TheVariants as orders
 use Rattle.orders.specs.declared.order.Request.{Request}
 use Rattle.orders.specs.declared.order.Request.TheVariants.{Return}
 use Rattle.scripts.specs.Answers.{Answer, Answers, Asks, IsGiven, IsRight, Made, NotTaken, Worked, Run, AreRuns}
 use Rattle.scripts.specs.Passes.{AreSeated, IsTable, Have, Grows, AreWorked, Works, Become, IsLastAt, Shows, IsCall, IsAnswered, sums}
+use Rattle.scripts.specs.Serving.{GivesNone}
+use Rattle.scripts.specs.declared.seats.NoPiece.{NoPiece}
 use Rattle.scripts.specs.declared.outcome.Outcome.{Outcome}
 use Rattle.scripts.specs.declared.outcome.Outcome.TheVariants as outcomes
 use Rattle.scripts.specs.declared.outcome.Sums.{Sums}
@@ -117,6 +121,23 @@ called desk seat ps after p q said table lt is new adds =
 pub called_table : (desk seat : ℕ) (said : Said) (before after : List PassView) → IsTable desk before → IsCalled seat said before after → IsTable desk after
 called_table desk seat said before after table c = grown_table desk c.line before after table c.grows
 
+-- what a call says where it is taken, and where it isn't
+
+pub of_ok : {A E P : Type 0} (r : Result A E) (x : A) → OnOk r P → r ≡ Ok x → P
+of_ok (Ok y) x p e = p
+of_ok (Err y) x p e = cc
+
+pub of_err : {A E P : Type 0} (r : Result A E) → OnErr r P → IsErr r → P
+of_err (Ok y) p e = cc
+of_err (Err y) p e = p
+
+-- a call that isn't taken
+pub unchanged : (seat : ℕ) (ps after : List PassView) (p q : PassView) → p ≡ get_or ps seat p → after ≡ set ps seat q → q ≡ p → after ≡ ps
+unchanged seat ps after p q is new same = new ∙ ap (set ps seat) (same ∙ is) ∙ set-get_or ps seat p
+
+pub same_table : (desk : ℕ) (before after : List PassView) → IsTable desk before → after ≡ before → IsTable desk after
+same_table desk before after table same = let P : List PassView → Type 0 = λ l. IsTable desk l in subst P (sym same) table
+
 -- the last receipt is one
 pub same_last : (seat : ℕ) (passes : List PassView) (p : PassView) (line entry : Line) → IsLastAt seat passes line → slice_get passes seat ≡ Some p
     → slice_get p.receipts (length p.receipts - 1) ≡ Some entry → line ≡ entry
@@ -171,9 +192,32 @@ pub order_answered : (workers seat : ℕ) (entries : List Line) (request : Reque
 order_answered workers seat entries request before after outcome lt a =
     record { answer = a.answer; shows = a.shows; become = a.become; is = call_answers workers seat entries request a.answer lt a.is }
 
+pub ok_order_answered : (workers seat : ℕ) (entries : List Line) (request : Request) (before after : List PassView) (r : Result Outcome NoPiece) → seat < 8
+    → IfOk r (λ outcome. IsAnswered before after outcome (IsCall seat (Asks entries request))) → IfOk r (λ outcome. IsAnswered before after outcome (Answers workers entries (orders.Call seat request)))
+ok_order_answered workers seat entries request before after (Ok outcome) lt a = order_answered workers seat entries request before after outcome lt a
+ok_order_answered workers seat entries request before after (Err fault) lt a = tt
+
+pub no_piece_ordered : (seat : ℕ) (entries : List Line) (order : Order) (request : Request) (r : Result Outcome NoPiece) → order ≡ orders.Call seat request
+    → OnErr r ((claim : ℕ) × (request ≡ Return claim) × GivesNone claim entries)
+    → OnErr r ((s : ℕ) × (claim : ℕ) × (order ≡ orders.Call s (Return claim)) × GivesNone claim entries)
+no_piece_ordered seat entries order request (Ok outcome) is h = tt
+no_piece_ordered seat entries order request (Err fault) is h = (seat, h.0, is ∙ ap (orders.Call seat) h.1, h.2)
+
+-- the shares of the workers' passes
+seated_shares : (seat : ℕ) (ps : List PassView) → AreSeated seat ps → AllByRecursion (λ p. p.parts ≡ 1) ps
+seated_shares seat [] are = tt
+seated_shares seat (p ∷ ps) are = (are.1, seated_shares (seat + 1) ps are.2)
+
+pub shares : (desk : ℕ) (ps : List PassView) → IsTable desk ps → All (λ p. p.parts ≡ 1) ps
+shares desk ps table = All-from_recursion (λ (p : PassView). p.parts ≡ 1) ps (seated_shares 0 ps table.seated)
+
+pub worker_shares : (desk : ℕ) (ps ws : List PassView) → IsTable desk ps → ws ≡ drop 8 ps → All (λ p. p.parts ≡ 1) ws
+worker_shares desk ps ws table is =
+    subst (All (λ (p : PassView). p.parts ≡ 1)) (sym is) (All-from_recursion (λ (p : PassView). p.parts ≡ 1) (drop 8 ps) (seated_shares 8 (drop 8 ps) (workers_seated desk ps table)))
+
 -- ---- work
 
-runs_from : (ps qs : List PassView) → AllZip (WorkedOn UntilIdle) ps qs → List Run
+abbrev runs_from : (ps qs : List PassView) → AllZip (WorkedOn UntilIdle) ps qs → List Run
 runs_from [] [] w = []
 runs_from [] (q ∷ qs) w = []
 runs_from (p ∷ ps) [] w = []

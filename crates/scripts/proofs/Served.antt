@@ -15,7 +15,7 @@ use Rattle.orders.specs.Scripts.{AreOrders, IsNextOrder, IsBadLine, IsSpent, no_
 use Rattle.orders.specs.declared.fault.ScriptFault.{ScriptFault}
 use Rattle.orders.specs.declared.fault.ScriptFault.TheVariants as reading
 use Rattle.scripts.specs.Passes.{ending}
-use Rattle.scripts.specs.Serving.{Call, answer_text, calls_text, entries_of, finish_text, cause_text, bad_line_text, Closes, Tells, StopsAt, IsRead, IsServed, IsReturnAt, IsLastLine, AreAnswered, no_call, none, of_finish, of_cause, of_bad_line}
+use Rattle.scripts.specs.Serving.{Call, answer_text, calls_text, entries_of, finish_text, cause_text, bad_line_text, Closes, Tells, StopsAt, IsRead, IsServed, IsReturnAt, IsLastLine, AreAnswered, no_call, no_last_line, of_finish, of_cause, of_bad_line}
 use Rattle.scripts.specs.declared.fault.ServeFault.{ServeFault}
 use Rattle.scripts.specs.declared.fault.ServeFault.TheVariants as faults
 
@@ -43,12 +43,12 @@ ordered script mid end calls c done next =
 -- the same of a script of which nothing is taken yet
 pub from_start : {A : Type 0} {block : List ℕ} {count : ℕ} (left : Option (List ℕ)) (r : Result A ServeFault) (calls : List Call) → block ≡ [] → count ≡ 0
     → IsRead (ahead block left) count r calls → IsRead left 0 r calls
-from_start {block} left r calls empty none h =
-    subst (λ script. IsRead script 0 r calls) (ap (λ b. ahead b left) empty ∙ prepend_known-nil left) (subst (λ m. IsRead (ahead block left) m r calls) none h)
+from_start {block} left r calls empty zero_lines h =
+    subst (λ script. IsRead script 0 r calls) (ap (λ b. ahead b left) empty ∙ prepend_known-nil left) (subst (λ m. IsRead (ahead block left) m r calls) zero_lines h)
 
 pub too_long_from_start : {P : Type 0} {block : List ℕ} {count : ℕ} (left : Option (List ℕ)) → block ≡ [] → count ≡ 0 → P ⊎ IsTooLong (ahead block left) count → P ⊎ IsTooLong left 0
-too_long_from_start {P} {block} left empty none h =
-    subst (λ script. P ⊎ IsTooLong script 0) (ap (λ b. ahead b left) empty ∙ prepend_known-nil left) (subst (λ m. P ⊎ IsTooLong (ahead block left) m) none h)
+too_long_from_start {P} {block} left empty zero_lines h =
+    subst (λ script. P ⊎ IsTooLong script 0) (ap (λ b. ahead b left) empty ∙ prepend_known-nil left) (subst (λ m. P ⊎ IsTooLong (ahead block left) m) zero_lines h)
 
 -- ---- how a script ended
 
@@ -56,6 +56,10 @@ pub read_failed : (fault : ScriptFault) → ending (Ok (Err fault)) ≡ Err faul
 read_failed reading.Read e = refl
 read_failed (reading.BadLine line) e = cc
 read_failed reading.NoMemory e = cc
+
+pub write_ending : {P : Failed → Type 0} (r : Result (Result (Unit {0}) ScriptFault) Failed) → IsErrAnd r P → ending r ≡ Err faults.Write
+write_ending (Ok done) is = absurd is
+write_ending (Err failed) is = refl
 
 pub tells_ending : (old new : Option (List ℕ)) (fault : ScriptFault) (text : List ℕ) → Appends old new text → Tells old new (ending (Ok (Err fault))) text
 tells_ending old new reading.Read text w = w
@@ -106,7 +110,7 @@ told_behind old mid new (Err faults.NoMemory) text closing w t = Appends-trans o
 
 -- a script that is read to its end
 pub read_to_end : {script : Option (List ℕ)} {m : ℕ} (r : Result (Unit {0}) ServeFault) (calls : List Call) → IfErr r (λ e. (e ≡ faults.Write) ⊎ ((cause : FinishCause) × (e ≡ faults.Finish cause)))
-    → IsRead script m (Ok tt) calls → IsRead script m r calls
+    → IsRead {A = Unit {0}} script m (Ok tt) calls → IsRead script m r calls
 read_to_end (Ok done) calls fault h = record { end = h.end; count = h.count; orders = h.orders; lines = h.lines; stops = h.stops }
 read_to_end (Err faults.Read) calls (inl e) h = cc
 read_to_end (Err faults.Read) calls (inr e) h = (let is = e.1 in cc)
@@ -146,3 +150,36 @@ unserved workers script held (Err faults.Read) is = cc
 unserved workers script held (Err faults.Write) is = cc
 unserved workers script held (Err (faults.BadLine line)) is = cc
 unserved workers script held (Err (faults.Finish cause)) is = cc
+
+-- what stands behind the answers, in text
+abbrev pub IsTold : ℕ → List Call → Option (List ℕ) → Option (List ℕ) → Result (Unit {0}) ServeFault → Type 0
+IsTold workers calls mid new r = (closing : List ℕ) × Closes workers calls r closing × Tells mid new r closing
+
+pub served : (n workers : ℕ) (script old mid new : Option (List ℕ)) (r : Result (Unit {0}) ServeFault) (calls : List Call) → n ≡ workers → AreAnswered n calls → Appends old mid (calls_text calls)
+    → IsRead script 0 r calls → IsTold n calls mid new r → IsServed workers script old new r
+served n workers script old mid new r calls same answered done read told =
+    let P : ℕ → Type 0 = λ w. IsServed w script old new r in
+    subst P same (record {
+      calls = calls;
+      read = read;
+      answered = answered;
+      closing = told.0;
+      closes = told.1;
+      told = told_behind old mid new r (calls_text calls) told.0 done told.2;
+    })
+
+-- the writer failed among the answers
+pub served_partly : (n workers : ℕ) (script old new : Option (List ℕ)) (r : Result (Unit {0}) ServeFault) (calls : List Call) → n ≡ workers → AreAnswered n calls → IsErrAnd r (λ e. e ≡ faults.Write)
+    → Tells old new (Err {A = Unit {0}} faults.Write) (calls_text calls) → IsRead script 0 (Err {A = Unit {0}} faults.Write) calls → IsServed workers script old new r
+served_partly n workers script old new (Ok done) calls same answered is told read = absurd is
+served_partly n workers script old new (Err fault) calls same answered is told read =
+    let P : ℕ → Type 0 = λ w. IsServed w script old new (Err fault) in
+    let Q : ServeFault → Type 0 = λ f. IsServed n script old new (Err f) in
+    subst P same (subst Q (sym is) (record {
+      calls = calls;
+      read = read;
+      answered = answered;
+      closing = [];
+      closes = no_last_line;
+      told = front_of old old new [] (calls_text calls) [] (calls_text calls ++ []) (Appends-nil old) told refl;
+    }))

@@ -1,5 +1,5 @@
 -- The passes of a script's sessions, seats 0 to 7, and of its workers. Private functions speak of them.
-use Rattle.std.specs.Prelude.{◌≡◌, ◌≤◌, ◌+◌, ◌-◌, ℕ, List, [], ◌∷◌, ◌++◌, length, take, drop, set, Some, slice_get, Result, Ok, Err}
+use Rattle.std.specs.Prelude.{◌≡◌, ◌≤◌, ◌+◌, ◌-◌, ℕ, List, [], ◌∷◌, ◌++◌, length, take, drop, set, Some, slice_get, Result, Ok, Err, ◌⊎◌}
 use Rattle.std.specs.List.{flat_map, sum_by}
 use Rattle.journal.specs.Lines.{Line}
 use Rattle.journal.specs.declared.records.Said.{Said}
@@ -9,7 +9,9 @@ use Rattle.workers.specs.declared.working.Form.TheVariants.{UntilIdle}
 use Rattle.wb_text.specs.declared.fault.Failed.{Failed}
 use Rattle.orders.specs.declared.fault.ScriptFault.{ScriptFault}
 use Rattle.orders.specs.declared.fault.ScriptFault.TheVariants as reading
-use Rattle.scripts.specs.Answers.{Answer, Made, NotTaken, Worked, Run, IsRight}
+use Rattle.slices.specs.Parts.{Portion}
+use Rattle.scripts.specs.Answers.{Answer, Made, NotTaken, Worked, Run, IsGiven, IsRight}
+use Rattle.scripts.specs.Serving.{GivesNone}
 use Rattle.scripts.specs.declared.fault.ServeFault.{ServeFault}
 use Rattle.scripts.specs.declared.fault.ServeFault.TheVariants as faults
 use Rattle.scripts.specs.declared.outcome.Outcome.{Outcome}
@@ -36,6 +38,16 @@ Have entries seat (p ∷ ps) = (p.receipts ≡ entries seat) × Have entries (se
 -- the receipts of the sessions
 abbrev pub session_receipts : List PassView → List Line
 session_receipts passes = flat_map (λ p. p.receipts) (take 8 passes)
+
+-- none of the passes has a receipt that gives the piece of this claim
+abbrev pub NoneGives : ℕ → List PassView → Type 0
+NoneGives claim [] = Unit {0}
+NoneGives claim (p ∷ ps) = GivesNone claim p.receipts × NoneGives claim ps
+
+-- one of them has one that gives this piece under the claim
+abbrev pub SomeGives : ℕ → List PassView → Portion → Type 0
+SomeGives claim [] piece = ⊥
+SomeGives claim (p ∷ ps) piece = IsGiven claim piece p.receipts ⊎ SomeGives claim ps piece
 
 -- the pass of its seat has the entry as one receipt more
 pub record Grows (line : Line) (before after : List PassView) : Type 0 where

@@ -91,7 +91,7 @@ pub data IsLastLine : List ℕ → Type 0 where
   of_finish : (entries : ℕ) → IsLastLine (finish_text entries)
   of_cause : (cause : FinishCause) → IsLastLine (cause_text cause)
   of_bad_line : (line : ℕ) → IsLastLine (bad_line_text line)
-  none : IsLastLine []
+  no_last_line : IsLastLine []
 
 -- What is to stand behind the calls: the number of entries at the end of the script or why they are not the journal, a bad
 -- line, or nothing.

@@ -1,11 +1,11 @@
 //! The sessions and the workers of a script, at one desk.
 
-ghost use Rattle.std.specs.Prelude.{◌≡◌, ◌<◌, ◌≤◌, ◌-◌, [], ℕ, List, length, Some, slice_get, IfOk, IfErr, OnErr, MatchOption};
+ghost use Rattle.std.specs.Prelude.{◌≡◌, ◌<◌, ◌≤◌, ◌-◌, [], ℕ, List, length, take, Some, Ok, slice_get, IfOk, IfErr, IfNone, IsErr, OnErr, OnSome, MatchOption};
 ghost use Rattle.journal.specs.Lines.{Line, seen};
 ghost use Rattle.sessions.specs.Finish.{IsFault, IsLegal, IsShared};
 ghost use Rattle.orders.specs.Spelled.{IsSeated};
 ghost use Rattle.scripts.specs.Answers.{Answer, Answers, Asks, IsGiven, IsRight};
-ghost use Rattle.scripts.specs.Passes.{Have, IsAnswered, IsCall, IsTable, Shows, session_receipts};
+ghost use Rattle.scripts.specs.Passes.{Have, IsAnswered, IsCall, IsTable, NoneGives, Shows, SomeGives, session_receipts};
 ghost use Rattle.scripts.specs.Serving.{GivesNone, GivesPiece, answer_text};
 ghost use Rattle.report.specs.Writing.{Writes};
 
@@ -83,12 +83,12 @@ impl<L: Ledger> Seats<L> {
         ensures same { OnErr result (self.new.passes.items ≡ self.old.passes.items) }
         ensures none { OnErr result (GivesNone claim (session_receipts self.old.passes.items)) }
     {
-        let Some(piece) = self.piece(claim) else {
-            return Err(NoPiece);
-        };
-        match evaluate(self.alloc, piece) {
-            Ok(part) => Ok(self.apply(rt, seat, Command::Return(part))),
-            Err(AllocError) => Ok(Outcome::NotTaken(Refused::NoMemory)),
+        match self.piece(claim) {
+            Some(piece) => match evaluate(self.alloc, piece) {
+                Ok(part) => Ok(self.apply(rt, seat, Command::Return(part))),
+                Err(AllocError) => Ok(Outcome::NotTaken(Refused::NoMemory)),
+            },
+            None => Err(NoPiece),
         }
     }
 
@@ -100,26 +100,22 @@ impl<L: Ledger> Seats<L> {
         ensures desk { self.new.desk ≡ self.old.desk }
         ensures call { IsAnswered self.old.passes.items self.new.passes.items result (IsCall seat (λ said. said ≡ seen command)) }
     {
-        match self.desk.call(rt, &mut self.passes[seat as usize], command) {
-            Ok(()) => {
+        let answer = self.desk.call(rt, &mut self.passes[seat as usize], command);
+        match refusal(answer) {
+            None => {
                 find_right(last_entry(&self.passes[seat as usize]).reply());
                 Outcome::Made(seat)
             }
-            Err((_, why)) => Outcome::NotTaken(why),
+            Some(why) => Outcome::NotTaken(why),
         }
     }
 
     /// The piece that a claim gave a session.
     fn piece(&self, claim: u32) -> Option<&Piece>
         requires { IsTable self.now.desk self.now.passes.items }
-        ensures { MatchOption result (GivesNone claim (session_receipts self.now.passes.items)) (λ p. IsGiven claim p.now (session_receipts self.now.passes.items)) }
+        ensures { MatchOption result (NoneGives claim (take 8 self.now.passes.items)) (λ p. SomeGives claim (take 8 self.now.passes.items) p.now) }
     {
-        for pass in &self.passes[..SESSIONS as usize] {
-            if let Some(piece) = piece_among(pass.receipts(), claim) {
-                return Some(piece);
-            }
-        }
-        None
+        piece_in(&self.passes[..SESSIONS as usize], claim)
     }
 
     /// Gives the writer the text of what became of an order.
@@ -189,6 +185,29 @@ impl<L: Ledger + Send + Sync> Seats<L> {
     }
 }
 
+/// Why a call isn't taken, if it isn't. The command is let go.
+fn refusal(answer: Result<(), (Command, Refused)>) -> Option<Refused>
+    ensures made { IfNone result (answer ≡ Ok tt) }
+    ensures refused { OnSome result (IsErr answer) }
+{
+    match answer {
+        Ok(()) => None,
+        Err((_, why)) => Some(why),
+    }
+}
+
+/// The piece that one of the passes was given under a claim.
+fn piece_in<L: Ledger>(passes: &[Pass<L>], claim: u32) -> Option<&Piece>
+    ensures { MatchOption result (NoneGives claim passes.now) (λ p. SomeGives claim passes.now p.now) }
+{
+    for pass in passes {
+        if let Some(piece) = piece_among(pass.receipts(), claim) {
+            return Some(piece);
+        }
+    }
+    None
+}
+
 /// The entry of the last call of a pass.
 fn last_entry<L: Ledger>(pass: &Pass<L>) -> &Entry
     requires { 0 < length pass.now.receipts }
@@ -213,12 +232,12 @@ fn find_right(reply: &Reply)
 fn piece_among(receipts: &[Receipt], claim: u32) -> Option<&Piece>
     ensures { MatchOption result (GivesNone claim receipts.now) (λ p. IsGiven claim p.now receipts.now) }
 {
-    let mut receipts = receipts;
-    while let Some((last, before)) = receipts.split_last() {
+    let mut rest = receipts;
+    while let Some((last, before)) = rest.split_last() {
         if let Some(piece) = piece_of(last.entry(), claim) {
             return Some(piece);
         }
-        receipts = before;
+        rest = before;
     }
     None
 }
