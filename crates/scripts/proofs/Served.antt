@@ -1,6 +1,6 @@
 -- Answers one after another, and what stands behind them.
 use Rattle.std.proofs.Common.{◌≡◌, ◌≢◌, ◌⊎◌, ◌∙◌, ◌+◌, ◌-◌, ℕ, List, [], ◌∷◌, ◌++◌, length, map, Option, Result, Ok, Err, inl, inr, refl, sym, ap, subst, append-nil, max, arith}
-use Rattle.std.specs.Prelude.{IfErr, IsErr, IsErrAnd}
+use Rattle.std.specs.Prelude.{IfErr, IsErr, IsErrAnd, OnOk}
 use Rattle.std.specs.Io.KnownBytes.{Appends}
 use Rattle.std.specs.List.{flat_map}
 use Rattle.std.proofs.KnownBytes.{Appends-trans, Appends-nil, prepend_known-nil}
@@ -14,7 +14,7 @@ use Rattle.orders.specs.Lines.{ahead, AreLines, IsTooLong, nothing_read}
 use Rattle.orders.specs.Scripts.{AreOrders, IsNextOrder, IsBadLine, IsSpent, no_order, next_order}
 use Rattle.orders.specs.declared.fault.ScriptFault.{ScriptFault}
 use Rattle.orders.specs.declared.fault.ScriptFault.TheVariants as reading
-use Rattle.scripts.specs.Passes.{ending}
+use Rattle.scripts.specs.Passes.{EndsWith, Follows, ending}
 use Rattle.scripts.specs.Serving.{Call, answer_text, calls_text, entries_of, finish_text, cause_text, bad_line_text, Closes, Tells, StopsAt, IsRead, IsServed, IsReturnAt, IsLastLine, AreAnswered, no_call, no_last_line, of_finish, of_cause, of_bad_line}
 use Rattle.scripts.specs.declared.fault.ServeFault.{ServeFault}
 use Rattle.scripts.specs.declared.fault.ServeFault.TheVariants as faults
@@ -108,31 +108,6 @@ told_behind old mid new (Err (faults.BadLine line)) text closing w t = Appends-t
 told_behind old mid new (Err (faults.Finish cause)) text closing w t = Appends-trans old mid new text closing w t
 told_behind old mid new (Err faults.NoMemory) text closing w t = Appends-trans old mid new text closing w t
 
--- a script that is read to its end
-pub read_to_end : {script : Option (List ℕ)} {m : ℕ} (r : Result (Unit {0}) ServeFault) (calls : List Call) → IfErr r (λ e. (e ≡ faults.Write) ⊎ ((cause : FinishCause) × (e ≡ faults.Finish cause)))
-    → IsRead {A = Unit {0}} script m (Ok tt) calls → IsRead script m r calls
-read_to_end (Ok done) calls fault h = record { end = h.end; count = h.count; orders = h.orders; lines = h.lines; stops = h.stops }
-read_to_end (Err faults.Read) calls (inl e) h = cc
-read_to_end (Err faults.Read) calls (inr e) h = (let is = e.1 in cc)
-read_to_end (Err faults.Write) calls fault h = record { end = h.end; count = h.count; orders = h.orders; lines = h.lines; stops = tt }
-read_to_end (Err (faults.BadLine n)) calls (inl e) h = cc
-read_to_end (Err (faults.BadLine n)) calls (inr e) h = (let is = e.1 in cc)
-read_to_end (Err (faults.Finish cause)) calls fault h = record { end = h.end; count = h.count; orders = h.orders; lines = h.lines; stops = h.stops }
-read_to_end (Err faults.NoMemory) calls (inl e) h = cc
-read_to_end (Err faults.NoMemory) calls (inr e) h = (let is = e.1 in cc)
-
--- a fault that is told
-pub read_on : {script : Option (List ℕ)} {m : ℕ} (r s : Result (Unit {0}) ServeFault) (calls : List Call) → IsErr s → IfErr s (λ f. (f ≡ faults.Write) ⊎ (r ≡ Err f))
-    → IsRead script m r calls → IsRead script m s calls
-read_on r (Ok done) calls err fault h = cc
-read_on r (Err faults.Write) calls err fault h = record { end = h.end; count = h.count; orders = h.orders; lines = h.lines; stops = tt }
-read_on r (Err faults.Read) calls err fault h = record { end = h.end; count = h.count; orders = h.orders; lines = h.lines; stops = tt }
-read_on r (Err faults.NoMemory) calls err fault h = record { end = h.end; count = h.count; orders = h.orders; lines = h.lines; stops = tt }
-read_on r (Err (faults.BadLine n)) calls err (inl write) h = cc
-read_on r (Err (faults.BadLine n)) calls err (inr is) h = record { end = h.end; count = h.count; orders = h.orders; lines = h.lines; stops = subst (λ q. StopsAt h.end h.count q (entries_of calls)) is h.stops }
-read_on r (Err (faults.Finish cause)) calls err (inl write) h = cc
-read_on r (Err (faults.Finish cause)) calls err (inr is) h = record { end = h.end; count = h.count; orders = h.orders; lines = h.lines; stops = subst (λ q. StopsAt h.end h.count q (entries_of calls)) is h.stops }
-
 -- ---- the whole
 
 -- no memory for the script or the desk
@@ -155,31 +130,82 @@ unserved workers script held (Err (faults.Finish cause)) is = cc
 abbrev pub IsTold : ℕ → List Call → Option (List ℕ) → Option (List ℕ) → Result (Unit {0}) ServeFault → Type 0
 IsTold workers calls mid new r = (closing : List ℕ) × Closes workers calls r closing × Tells mid new r closing
 
-pub served : (n workers : ℕ) (script old mid new : Option (List ℕ)) (r : Result (Unit {0}) ServeFault) (calls : List Call) → n ≡ workers → AreAnswered n calls → Appends old mid (calls_text calls)
-    → IsRead script 0 r calls → IsTold n calls mid new r → IsServed workers script old new r
-served n workers script old mid new r calls same answered done read told =
-    let P : ℕ → Type 0 = λ w. IsServed w script old new r in
-    subst P same (record {
-      calls = calls;
-      read = read;
-      answered = answered;
-      closing = told.0;
-      closes = told.1;
-      told = told_behind old mid new r (calls_text calls) told.0 done told.2;
-    })
+-- a script that is read to its end
+
+pub end_told : (workers : ℕ) (calls : List Call) (mid new : Option (List ℕ)) (outcome : Result (Result (Unit {0}) ScriptFault) Failed) (r : Result (Unit {0}) ServeFault) → outcome ≡ Ok (Ok tt)
+    → IsTold workers calls mid new r → EndsWith workers calls mid new (ending outcome) r
+end_told workers calls mid new outcome r is told old text before =
+    let done : Appends old mid text = subst (λ o. Tells old mid (ending o) text) is before in
+    (told.0, told.1, told_behind old mid new r text told.0 done told.2)
+
+pub end_follows : (outcome : Result (Result (Unit {0}) ScriptFault) Failed) (r : Result (Unit {0}) ServeFault) → outcome ≡ Ok (Ok tt)
+    → IfErr r (λ e. (e ≡ faults.Write) ⊎ ((cause : FinishCause) × (e ≡ faults.Finish cause))) → Follows (ending outcome) r
+end_follows outcome (Ok done) is fault = ap ending is
+end_follows outcome (Err faults.Read) is (inl e) = cc
+end_follows outcome (Err faults.Read) is (inr e) = (let same = e.1 in cc)
+end_follows outcome (Err faults.Write) is fault = tt
+end_follows outcome (Err (faults.BadLine n)) is (inl e) = cc
+end_follows outcome (Err (faults.BadLine n)) is (inr e) = (let same = e.1 in cc)
+end_follows outcome (Err (faults.Finish cause)) is fault = ap ending is
+end_follows outcome (Err faults.NoMemory) is (inl e) = cc
+end_follows outcome (Err faults.NoMemory) is (inr e) = (let same = e.1 in cc)
+
+-- a script that is not
+
+pub fault_told : (workers : ℕ) (calls : List Call) (mid new : Option (List ℕ)) (outcome : Result (Result (Unit {0}) ScriptFault) Failed) (fault : ScriptFault) (r : Result (Unit {0}) ServeFault)
+    → outcome ≡ Ok (Err fault) → IsTold workers calls mid new r → EndsWith workers calls mid new (ending outcome) r
+fault_told workers calls mid new outcome fault r is told old text before =
+    let done : Appends old mid text = told_ending old mid fault text (subst (λ o. Tells old mid (ending o) text) is before) in
+    (told.0, told.1, told_behind old mid new r text told.0 done told.2)
+
+pub fault_follows : (outcome : Result (Result (Unit {0}) ScriptFault) Failed) (fault : ScriptFault) (r : Result (Unit {0}) ServeFault) → outcome ≡ Ok (Err fault) → IsErr r
+    → IfErr r (λ e. (e ≡ faults.Write) ⊎ (ending (Ok (Err fault)) ≡ Err e)) → Follows (ending outcome) r
+fault_follows outcome fault (Ok done) is err told = cc
+fault_follows outcome fault (Err faults.Write) is err told = tt
+fault_follows outcome fault (Err faults.Read) is err (inl e) = cc
+fault_follows outcome fault (Err faults.Read) is err (inr e) = ap ending is ∙ e
+fault_follows outcome fault (Err (faults.BadLine n)) is err (inl e) = cc
+fault_follows outcome fault (Err (faults.BadLine n)) is err (inr e) = ap ending is ∙ e
+fault_follows outcome fault (Err faults.NoMemory) is err (inl e) = cc
+fault_follows outcome fault (Err faults.NoMemory) is err (inr e) = ap ending is ∙ e
+fault_follows outcome reading.Read (Err (faults.Finish cause)) is err (inl e) = cc
+fault_follows outcome reading.Read (Err (faults.Finish cause)) is err (inr e) = cc
+fault_follows outcome (reading.BadLine n) (Err (faults.Finish cause)) is err (inl e) = cc
+fault_follows outcome (reading.BadLine n) (Err (faults.Finish cause)) is err (inr e) = cc
+fault_follows outcome reading.NoMemory (Err (faults.Finish cause)) is err (inl e) = cc
+fault_follows outcome reading.NoMemory (Err (faults.Finish cause)) is err (inr e) = cc
 
 -- the writer failed among the answers
-pub served_partly : (n workers : ℕ) (script old new : Option (List ℕ)) (r : Result (Unit {0}) ServeFault) (calls : List Call) → n ≡ workers → AreAnswered n calls → IsErrAnd r (λ e. e ≡ faults.Write)
-    → Tells old new (Err {A = Unit {0}} faults.Write) (calls_text calls) → IsRead script 0 (Err {A = Unit {0}} faults.Write) calls → IsServed workers script old new r
-served_partly n workers script old new (Ok done) calls same answered is told read = absurd is
-served_partly n workers script old new (Err fault) calls same answered is told read =
-    let P : ℕ → Type 0 = λ w. IsServed w script old new (Err fault) in
-    let Q : ServeFault → Type 0 = λ f. IsServed n script old new (Err f) in
-    subst P same (subst Q (sym is) (record {
-      calls = calls;
-      read = read;
-      answered = answered;
-      closing = [];
-      closes = no_last_line;
-      told = front_of old old new [] (calls_text calls) [] (calls_text calls ++ []) (Appends-nil old) told refl;
-    }))
+
+pub failed_told : (workers : ℕ) (calls : List Call) (mid : Option (List ℕ)) (outcome : Result (Result (Unit {0}) ScriptFault) Failed) → ending outcome ≡ Err faults.Write
+    → EndsWith workers calls mid mid (ending outcome) (Err faults.Write)
+failed_told workers calls mid outcome is old text before =
+    let part : AppendsFront old mid text = subst (λ r. Tells old mid r text) is before in
+    ([], no_last_line, front_of old old mid [] text [] (text ++ []) (Appends-nil old) part refl)
+
+pub read_follows : {script : Option (List ℕ)} {m : ℕ} (end r : Result (Unit {0}) ServeFault) (calls : List Call) → Follows end r → IsRead script m end calls → IsRead script m r calls
+read_follows end (Ok done) calls f h = record { end = h.end; count = h.count; orders = h.orders; lines = h.lines; stops = subst (λ q. StopsAt h.end h.count q (entries_of calls)) f h.stops }
+read_follows end (Err faults.Read) calls f h = record { end = h.end; count = h.count; orders = h.orders; lines = h.lines; stops = tt }
+read_follows end (Err faults.Write) calls f h = record { end = h.end; count = h.count; orders = h.orders; lines = h.lines; stops = tt }
+read_follows end (Err (faults.BadLine n)) calls f h = record { end = h.end; count = h.count; orders = h.orders; lines = h.lines; stops = subst (λ q. StopsAt h.end h.count q (entries_of calls)) f h.stops }
+read_follows end (Err (faults.Finish cause)) calls f h = record { end = h.end; count = h.count; orders = h.orders; lines = h.lines; stops = subst (λ q. StopsAt h.end h.count q (entries_of calls)) f h.stops }
+read_follows end (Err faults.NoMemory) calls f h = record { end = h.end; count = h.count; orders = h.orders; lines = h.lines; stops = tt }
+
+pub read_fault : (end r : Result (Unit {0}) ServeFault) → Follows end r → r ≡ Err faults.Read → end ≡ Err faults.Read
+read_fault end (Ok done) f e = cc
+read_fault end (Err faults.Read) f e = f
+read_fault end (Err faults.Write) f e = cc
+read_fault end (Err (faults.BadLine n)) f e = cc
+read_fault end (Err (faults.Finish cause)) f e = cc
+read_fault end (Err faults.NoMemory) f e = cc
+
+pub end_ok : (end r : Result (Unit {0}) ServeFault) (P : Type 0) → Follows end r → (end ≡ Ok tt → P) → OnOk r P
+end_ok end (Ok done) P f p = p f
+end_ok end (Err fault) P f p = tt
+
+pub served : (n workers : ℕ) (script old mid new : Option (List ℕ)) (end r : Result (Unit {0}) ServeFault) (calls : List Call) → n ≡ workers → AreAnswered n calls → Tells old mid end (calls_text calls)
+    → IsRead script 0 end calls → Follows end r → EndsWith n calls mid new end r → IsServed workers script old new r
+served n workers script old mid new end r calls same answered told read follows ends =
+    let closed = ends old (calls_text calls) told in
+    let P : ℕ → Type 0 = λ w. IsServed w script old new r in
+    subst P same (record { calls = calls; read = read_follows end r calls follows read; answered = answered; closing = closed.0; closes = closed.1; told = closed.2 })

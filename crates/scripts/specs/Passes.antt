@@ -1,5 +1,5 @@
 -- The passes of a script's sessions, seats 0 to 7, and of its workers. Private functions speak of them.
-use Rattle.std.specs.Prelude.{◌≡◌, ◌≤◌, ◌+◌, ◌-◌, ℕ, List, [], ◌∷◌, ◌++◌, length, take, drop, set, Some, slice_get, Result, Ok, Err, ◌⊎◌}
+use Rattle.std.specs.Prelude.{◌≡◌, ◌≤◌, ◌+◌, ◌-◌, ℕ, List, [], ◌∷◌, ◌++◌, length, take, drop, set, Some, slice_get, Option, Result, Ok, Err, ◌⊎◌}
 use Rattle.std.specs.List.{flat_map, sum_by}
 use Rattle.journal.specs.Lines.{Line}
 use Rattle.journal.specs.declared.records.Said.{Said}
@@ -11,7 +11,7 @@ use Rattle.orders.specs.declared.fault.ScriptFault.{ScriptFault}
 use Rattle.orders.specs.declared.fault.ScriptFault.TheVariants as reading
 use Rattle.slices.specs.Parts.{Portion}
 use Rattle.scripts.specs.Answers.{Answer, Made, NotTaken, Worked, Run, IsGiven, IsRight}
-use Rattle.scripts.specs.Serving.{GivesNone}
+use Rattle.scripts.specs.Serving.{Call, Closes, GivesNone, Tells}
 use Rattle.scripts.specs.declared.fault.ServeFault.{ServeFault}
 use Rattle.scripts.specs.declared.fault.ServeFault.TheVariants as faults
 use Rattle.scripts.specs.declared.outcome.Outcome.{Outcome}
@@ -113,3 +113,15 @@ ending (Ok (Err reading.Read)) = Err faults.Read
 ending (Ok (Err (reading.BadLine line))) = Err (faults.BadLine line)
 ending (Ok (Err reading.NoMemory)) = Err faults.NoMemory
 ending (Err failed) = Err faults.Write
+
+-- a result of `serve` that comes of this end of a script
+abbrev pub Follows : Result (Unit {0}) ServeFault → Result (Unit {0}) ServeFault → Type 0
+Follows end (Ok done) = end ≡ Ok tt
+Follows end (Err (faults.Finish cause)) = end ≡ Ok tt
+Follows end (Err faults.Write) = Unit {0}
+Follows end (Err fault) = end ≡ Err fault
+
+-- Behind any text that was told of answering a script, what is to stand there is told.
+abbrev pub EndsWith : ℕ → List Call → Option (List ℕ) → Option (List ℕ) → Result (Unit {0}) ServeFault → Result (Unit {0}) ServeFault → Type 0
+EndsWith workers calls held new end result = (old : Option (List ℕ)) → (text : List ℕ) → Tells old held end text
+    → (closing : List ℕ) × Closes workers calls result closing × Tells old new result (text ++ closing)

@@ -5,7 +5,7 @@ ghost use Rattle.std.specs.Io.KnownBytes.{IsAtEnd};
 ghost use Rattle.orders.specs.Lines.{ahead, IsTooLong};
 ghost use Rattle.sessions.specs.declared.ending.FinishCause.{FinishCause as FinishCauseOf};
 ghost use Rattle.scripts.specs.Answers.{worker_count};
-ghost use Rattle.scripts.specs.Passes.{Have, IsTable, ending};
+ghost use Rattle.scripts.specs.Passes.{EndsWith, Follows, Have, IsTable, ending};
 ghost use Rattle.scripts.specs.Serving.{AreAnswered, Call, Closes, IsRead, IsServed, Tells, calls_text, entries_at};
 
 use crate::fault::ServeFault;
@@ -68,10 +68,33 @@ fn serve_at<L: Ledger + Send + Sync, R: Source, W: Sink, T: Threads + Wait + Syn
 {
     let mut script = Script::new(alloc)?;
     let mut seats = Seats::<L>::open(alloc, blank, options.limits, seat_count(options))?;
-    match answer_all(rt, &mut script, reader, &mut seats, writer) {
+    let outcome = answer_all(rt, &mut script, reader, &mut seats, writer);
+    end(outcome, seats, writer)
+}
+
+/// Writes what stands behind the answers.
+fn end<L: Ledger, W: Sink>(
+    outcome: Result<Result<(), ScriptFault>, Failed>,
+    seats: Seats<L>,
+    writer: &mut W,
+) -> Result<(), ServeFault>
+    requires table { IsTable seats.desk seats.passes.items }
+    requires write { OnErr outcome (W.has_failed writer.now ≡ true) }
+    ensures told { (calls : List Call) → AreAnswered (seats.desk - 8) calls → Have (λ seat. entries_at seat calls) 0 seats.passes.items
+        → EndsWith (seats.desk - 8) calls (W.held writer.old) (W.held writer.new) (ending outcome) result }
+    ensures follows { Follows (ending outcome) result }
+    ensures write { result ≡ Err ServeFault.Write → W.has_failed writer.new ≡ true }
+{
+    match outcome {
         Ok(Ok(())) => conclude(seats, writer),
-        Ok(Err(fault)) => tell(fault, writer),
-        Err(Failed) => Err(ServeFault::Write),
+        Ok(Err(fault)) => {
+            drop(seats);
+            tell(fault, writer)
+        }
+        Err(Failed) => {
+            drop(seats);
+            Err(ServeFault::Write)
+        }
     }
 }
 
