@@ -1,5 +1,7 @@
-//! Runs a script of litmus tests over a book, or evaluates one test.
+//! Runs a script of litmus tests at a desk, or evaluates one test.
 #![tactic(auto)]
+
+ghost use Rattle.std.specs.Prelude.{◌≤◌};
 
 use clap::error::ErrorKind;
 use command_line::{Task, read_task};
@@ -7,6 +9,8 @@ use one_test::{OneFault, one};
 use scripts::{Options, ServeFault, serve};
 use std::io::BufWriter;
 use std::process::ExitCode;
+use std::sync::Wait;
+use std::thread::Threads;
 use std::{env, io};
 use wb_text::{ReadSource, WriteSink};
 
@@ -26,7 +30,7 @@ fn main(rt: HostRuntime) -> ExitCode {
     };
     match read_task(rt.alloc(), words.as_slice()) {
         Ok(Task::Alone) => evaluate_one(&rt),
-        Ok(Task::Script(journal)) => serve_script(&rt, &Options::with_journal(journal)),
+        Ok(Task::Script(journal, workers)) => serve_script(&rt, &Options::new(workers, journal)),
         Err(error) if error.kind() == ErrorKind::OutOfMemory => ExitCode::FAILURE,
         Err(error) => match error.print(&rt) {
             Ok(()) => ExitCode::from(error.exit_code() as u8),
@@ -44,10 +48,15 @@ fn reject_bytes(rt: &impl Eprint) -> ExitCode {
 }
 
 /// Reads the input as a script.
-fn serve_script(rt: &(impl Input + Print + AllocGlobal), options: &Options) -> ExitCode {
+fn serve_script(
+    rt: &(impl Input + Print + AllocGlobal + Threads + Wait + Sync),
+    options: &Options,
+) -> ExitCode
+    requires { options.now.workers ≤ 8 }
+{
     let mut reader = ReadSource::new(rt.reader());
     let mut writer = WriteSink::new(io::writer(rt));
-    match serve(rt.alloc(), &mut reader, &mut writer, options) {
+    match serve(rt, rt.alloc(), &mut reader, &mut writer, options) {
         Ok(()) => ExitCode::SUCCESS,
         Err(ServeFault::BadLine(_)) => ExitCode::from(BAD),
         Err(_) => ExitCode::FAILURE,

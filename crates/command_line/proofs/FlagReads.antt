@@ -15,34 +15,43 @@ use Rattle.clap.specs.declared.parser.matches.ValueSource.TheVariants.{DefaultVa
 use Rattle.command_line.proofs.Names.{unlike}
 use Rattle.command_line.specs.Words.{bench, text_for}
 
--- the arguments of the command once it is built: the two, and the flag `--help`
+-- the arguments of the command once it is built: the three, and the flag `--help`
 abbrev rules : List Rule
 rules = (built bench).top.rules
 
 abbrev the_journal : Rule
 the_journal = unwrap_or (slice_get rules 0) (new_rule [])
 
+abbrev the_workers : Rule
+the_workers = unwrap_or (slice_get rules 1) (new_rule [])
+
 abbrev the_alone : Rule
-the_alone = unwrap_or (slice_get rules 1) (new_rule [])
+the_alone = unwrap_or (slice_get rules 2) (new_rule [])
 
 abbrev the_help : Rule
-the_help = unwrap_or (slice_get rules 2) (new_rule [])
+the_help = unwrap_or (slice_get rules 3) (new_rule [])
 
 -- what a search among them finds
 data IsOurs : Option Rule → Type 0 where
   no_rule : IsOurs None
   journal_rule : IsOurs (Some the_journal)
+  workers_rule : IsOurs (Some the_workers)
   alone_rule : IsOurs (Some the_alone)
   help_rule : IsOurs (Some the_help)
 
 found_ours : (p : Rule → Bool) → IsOurs (find p rules)
-found_ours p = go (p the_journal) (p the_alone) (p the_help)
+found_ours p = go (p the_journal) (p the_workers) (p the_alone) (p the_help)
   where
-    go : (a b c : Bool) → IsOurs (cond a (Some the_journal) (cond b (Some the_alone) (cond c (Some the_help) None)))
-    go true b c = journal_rule
-    go false true c = alone_rule
-    go false false true = help_rule
-    go false false false = no_rule
+    go : (a w b c : Bool) → IsOurs (cond a (Some the_journal) (cond w (Some the_workers) (cond b (Some the_alone) (cond c (Some the_help) None))))
+    go true w b c = journal_rule
+    go false true b c = workers_rule
+    go false false true c = alone_rule
+    go false false false true = help_rule
+    go false false false false = no_rule
+
+-- the id of an option
+abbrev IsOption : Text → Type 0
+IsOption id = (id ≡ codes "journal") ⊎ (id ≡ codes "workers")
 
 -- ---- the rows
 
@@ -70,23 +79,29 @@ good-at_row id change missing (r ∷ rs) changed new rows = go (bytes_eq r.id id
 good-without : (id : Text) (rows : List Row) → GoodRows rows → GoodRows (without id rows)
 good-without id rows good = good-at_row id (λ _. []) [] rows (λ r same h. tt) tt good
 
--- a row of `--journal` is none of the flag
-not_alone : (id : Text) → bytes_eq id (codes "journal") ≡ true → bytes_eq id (codes "alone") ≡ true → ⊥
-not_alone id a b =
-    let same : codes "journal" ≡ codes "alone" = sym ((bytes_eq-Decides id (codes "journal")).0 a) ∙ (bytes_eq-Decides id (codes "alone")).0 b in
-    unlike (codes "journal") (codes "alone") (inr (omega arith)) same
+-- an option is not the flag
+option_not_alone : (name : Text) → IsOption name → name ≡ codes "alone" → ⊥
+option_not_alone name (inl e) same = unlike (codes "journal") (codes "alone") (inr (omega arith)) (sym e ∙ same)
+option_not_alone name (inr e) same = unlike (codes "workers") (codes "alone") (inr (omega arith)) (sym e ∙ same)
+
+-- a row of an option is none of the flag
+not_alone : (id name : Text) → IsOption name → bytes_eq id name ≡ true → bytes_eq id (codes "alone") ≡ true → ⊥
+not_alone id name o a b = option_not_alone name o (sym ((bytes_eq-Decides id name).0 a) ∙ (bytes_eq-Decides id (codes "alone")).0 b)
 
 abbrev new_row : Text → Reading → ValueSource → List Text → Row
 new_row id how s values = record { id = id; values = values; count = None; source = Some s; reading = how }
 
-good-journal_values : (how : Reading) (s : ValueSource) (values : List Text) (rows : List Row) → GoodRows rows
-    → GoodRows (with_values (codes "journal") how s values rows)
-good-journal_values how s values rows good =
-    good-at_row (codes "journal") (more_values s values) (new_row (codes "journal") how s values ∷ []) rows (λ r same h. ((λ alone. absurd (not_alone r.id same alone)), tt))
-    ((λ alone. absurd (not_alone (codes "journal") refl alone)), tt) good
+good-values : (name : Text) → IsOption name → (how : Reading) (s : ValueSource) (values : List Text) (rows : List Row) → GoodRows rows
+    → GoodRows (with_values name how s values rows)
+good-values name o how s values rows good =
+    good-at_row name (more_values s values) (new_row name how s values ∷ []) rows (λ r same h. ((λ alone. absurd (not_alone r.id name o same alone)), tt))
+    ((λ alone. absurd (option_not_alone name o ((bytes_eq-Decides name (codes "alone")).0 alone))), tt) good
 
 good-journal : (values : List Text) (rows : List Row) → GoodRows rows → GoodRows (used the_journal values rows)
-good-journal values rows good = good-journal_values _ _ _ (without (codes "journal") rows) (good-without (codes "journal") rows good)
+good-journal values rows good = good-values (codes "journal") (inl refl) _ _ _ (without (codes "journal") rows) (good-without (codes "journal") rows good)
+
+good-workers : (values : List Text) (rows : List Row) → GoodRows rows → GoodRows (used the_workers values rows)
+good-workers values rows good = good-values (codes "workers") (inr refl) _ _ _ (without (codes "workers") rows) (good-without (codes "workers") rows good)
 
 -- a first value stays the first
 first_stays : (how : Reading) (values more : List Text) (t : Text) → option_map (read_as how) (slice_get values 0) ≡ Some t
@@ -105,18 +120,18 @@ good-alone rows good =
 
 abbrev IsPending : Option (Text × List Text) → Type 0
 IsPending None = ⊤
-IsPending (Some p) = p.0 ≡ codes "journal"
+IsPending (Some p) = IsOption p.0
 
 record IsGood (h : Held) : Type 0 where
   rows : GoodRows h.rows
   pending : IsPending h.pending
 
 abbrev IsGoodWait : Waiting → Type 0
-IsGoodWait (option id) = id ≡ codes "journal"
+IsGoodWait (option id) = IsOption id
 IsGoodWait _ = ⊤
 
 abbrev IsGoodOutcome : Outcome → Type 0
-IsGoodOutcome (waits id) = id ≡ codes "journal"
+IsGoodOutcome (waits id) = IsOption id
 IsGoodOutcome _ = ⊤
 
 abbrev IsGoodStep : Step → Type 0
@@ -131,15 +146,21 @@ GoodTurn p = IsGood p.0 × IsGoodStep p.1
 
 settled-good_rows : (p : Option (Text × List Text)) (rows : List Row) → IsPending p → GoodRows rows → GoodRows (settled_rows rules p rows)
 settled-good_rows None rows e good = good
-settled-good_rows (Some p) rows e good =
+settled-good_rows (Some p) rows (inl e) good =
     subst (λ id. GoodRows (used_by_id (arg_by_id rules id) p.1 rows)) (sym e) (good-journal p.1 rows good)
+settled-good_rows (Some p) rows (inr e) good =
+    subst (λ id. GoodRows (used_by_id (arg_by_id rules id) p.1 rows)) (sym e) (good-workers p.1 rows good)
 
 settled-good : (h : Held) → IsGood h → IsGood (settled rules h)
 settled-good h good = record { rows = settled-good_rows h.pending h.rows good.pending good.rows; pending = tt }
 
-option-good : (v : Option Text) (h : Held) → IsGood h → GoodMeeting (long_met rules (Some the_journal) v h)
-option-good None h good = (record { rows = (settled-good h good).rows; pending = refl }, refl)
-option-good (Some v) h good = (record { rows = good-journal (v ∷ []) (settled rules h).rows (settled-good h good).rows; pending = tt }, tt)
+journal-good : (v : Option Text) (h : Held) → IsGood h → GoodMeeting (long_met rules (Some the_journal) v h)
+journal-good None h good = (record { rows = (settled-good h good).rows; pending = inl refl }, inl refl)
+journal-good (Some v) h good = (record { rows = good-journal (v ∷ []) (settled rules h).rows (settled-good h good).rows; pending = tt }, tt)
+
+workers-good : (v : Option Text) (h : Held) → IsGood h → GoodMeeting (long_met rules (Some the_workers) v h)
+workers-good None h good = (record { rows = (settled-good h good).rows; pending = inr refl }, inr refl)
+workers-good (Some v) h good = (record { rows = good-workers (v ∷ []) (settled rules h).rows (settled-good h good).rows; pending = tt }, tt)
 
 alone-good : (h : Held) → IsGood h → IsGood (reacted rules the_alone [] h)
 alone-good h good = record { rows = good-alone (settled rules h).rows (settled-good h good).rows; pending = tt }
@@ -149,7 +170,8 @@ help-good h good = record { rows = (settled-good h good).rows; pending = tt }
 
 long-good : (o : Option Rule) (v : Option Text) (h : Held) → IsOurs o → IsGood h → GoodMeeting (long_met rules o v h)
 long-good o v h no_rule good = (good, tt)
-long-good o v h journal_rule good = option-good v h good
+long-good o v h journal_rule good = journal-good v h good
+long-good o v h workers_rule good = workers-good v h good
 long-good o None h alone_rule good = (alone-good h good, tt)
 long-good o (Some v) h alone_rule good = (good, tt)
 long-good o None h help_rule good = (help-good h good, tt)
@@ -158,7 +180,8 @@ long-good o (Some v) h help_rule good = (good, tt)
 short-good : (o : Option Rule) (rest : Text) (h : Held) (after : Held → Held × Outcome) → IsOurs o → IsGood h
     → ((x : Held) → IsGood x → GoodMeeting (after x)) → GoodMeeting (short_met rules o rest h after)
 short-good o rest h after no_rule good then = (good, tt)
-short-good o rest h after journal_rule good then = option-good (attached_value rest) h good
+short-good o rest h after journal_rule good then = journal-good (attached_value rest) h good
+short-good o rest h after workers_rule good then = workers-good (attached_value rest) h good
 short-good o rest h after alone_rule good then = then _ (alone-good h good)
 short-good o rest h after help_rule good then = then _ (help-good h good)
 
@@ -180,22 +203,24 @@ bundle-good (suc k) flags skip so_far h known good = step-good (slice_get (chars
 
 -- ---- one word
 
-started-good : (p : Option (Text × List Text)) → IsPending p → (started (codes "journal") p).0 ≡ codes "journal"
-started-good None e = refl
-started-good (Some p) e = e
+started-good : (name : Text) → IsOption name → (p : Option (Text × List Text)) → IsPending p → IsOption (started name p).0
+started-good name o None e = o
+started-good name o (Some p) e = e
 
-either-good : (b : Bool) → IsGoodWait (cond b (option (codes "journal")) idle)
-either-good true = refl
-either-good false = tt
+either-good : (name : Text) → IsOption name → (b : Bool) → IsGoodWait (cond b (option name) idle)
+either-good name o true = o
+either-good name o false = tt
 
-pushed-good : (word : Text) (h : Held) → IsGood h → IsGood (pushed (codes "journal") word h)
-pushed-good word h good = record { rows = good.rows; pending = started-good h.pending good.pending }
+pushed-good : (name : Text) → IsOption name → (word : Text) (h : Held) → IsGood h → IsGood (pushed name word h)
+pushed-good name o word h good = record { rows = good.rows; pending = started-good name o h.pending good.pending }
 
 value-good : (waiting : Waiting) (word : Text) (h : Held) → IsGoodWait waiting → IsGood h → GoodTurn (plain_word rules waiting word h)
 value-good idle word h wait good = (good, tt)
 value-good positional word h wait good = (good, tt)
-value-good (option id) word h wait good =
-    subst (λ i. GoodTurn (plain_word rules (option i) word h)) (sym wait) (pushed-good word h good, either-good _)
+value-good (option id) word h (inl wait) good =
+    subst (λ i. GoodTurn (plain_word rules (option i) word h)) (sym wait) (pushed-good (codes "journal") (inl refl) word h good, either-good (codes "journal") (inl refl) _)
+value-good (option id) word h (inr wait) good =
+    subst (λ i. GoodTurn (plain_word rules (option i) word h)) (sym wait) (pushed-good (codes "workers") (inr refl) word h good, either-good (codes "workers") (inr refl) _)
 
 flag-good : (waiting : Waiting) (word : Text) (h : Held) (o : Outcome) → IsGoodWait waiting → IsGoodOutcome o → IsGood h → GoodTurn (after_flag rules waiting word h o)
 flag-good waiting word h done wait known good = (good, tt)
@@ -283,7 +308,14 @@ default_journal-good rows good = go (has_row (codes "journal") rows)
   where
     go : (b : Bool) → GoodRows (cond b rows (with_values (codes "journal") WithoutMinus DefaultValue (codes "100000" ∷ []) rows))
     go true = good
-    go false = good-journal_values WithoutMinus DefaultValue (codes "100000" ∷ []) rows good
+    go false = good-values (codes "journal") (inl refl) WithoutMinus DefaultValue (codes "100000" ∷ []) rows good
+
+default_workers-good : (rows : List Row) → GoodRows rows → GoodRows (with_default rows the_workers)
+default_workers-good rows good = go (has_row (codes "workers") rows)
+  where
+    go : (b : Bool) → GoodRows (cond b rows (with_values (codes "workers") WithoutMinus DefaultValue (codes "0" ∷ []) rows))
+    go true = good
+    go false = good-values (codes "workers") (inr refl) WithoutMinus DefaultValue (codes "0" ∷ []) rows good
 
 default_alone-says : (rows : List Row) → GoodRows rows
     → (one_of (codes "alone") (with_default rows the_alone) ≡ Some (codes "true")) ⊎ (one_of (codes "alone") (with_default rows the_alone) ≡ Some (codes "false"))
@@ -308,8 +340,9 @@ SaysEither rows = (one_of (codes "alone") rows ≡ Some (codes "true")) ⊎ (one
 finished-says : (h : Held) → IsGood h → SaysEither (finished rules h)
 finished-says h good =
     let rows = (settled rules h).rows in
-    let after = with_default (with_default rows the_journal) the_alone in
-    subst SaysEither (sym (default_help-same after)) (default_alone-says (with_default rows the_journal) (default_journal-good rows (settled-good h good).rows))
+    let numbers = with_default (with_default rows the_journal) the_workers in
+    let numbers-good = default_workers-good (with_default rows the_journal) (default_journal-good rows (settled-good h good).rows) in
+    subst SaysEither (sym (default_help-same (with_default numbers the_alone))) (default_alone-says numbers numbers-good)
 
 -- the flag is given, or it is not
 pub alone_is : (words : List Text) → (text_for (codes "alone") words ≡ Some (codes "true")) ⊎ (text_for (codes "alone") words ≡ Some (codes "false"))

@@ -1,3 +1,3 @@
 mod FlagReads
-mod JournalReads
+mod OptionReads
 mod Names

@@ -1,5 +1,5 @@
 -- What the words of the command line ask for, as clap reads them: the option `--journal N`, where N is 1 to 1,000,000,
--- and 100,000 if it is left out, and the flag `--alone`.
+-- and 100,000 if it is left out, the option `--workers N`, where N is 0 to 8, and 0 if it is left out, and the flag `--alone`.
 use Rattle.std.specs.Prelude.{◌≡◌, ◌≤◌, ⊤, ℕ, List, [], ◌∷◌, Option, Some, Ok, codes, map, pos, String, string_bytes}
 use Rattle.std.specs.declared.alloc.Global.{Global}
 use Rattle.std.specs.Str.Parse.{ParsesUnsigned}
@@ -24,29 +24,43 @@ journal = record (new_rule (codes "journal")) {
   defaults = codes "100000" ∷ [];
 }
 
+-- `--workers N`
+abbrev pub workers : Rule
+workers = record (new_rule (codes "workers")) {
+  long = Some (codes "workers");
+  action = Some Set;
+  value_names = 1;
+  parser = Some (Signed (pos 0) (pos 8));
+  defaults = codes "0" ∷ [];
+}
+
 -- `--alone`
 abbrev pub alone : Rule
 alone = record (new_rule (codes "alone")) { long = Some (codes "alone"); action = Some SetTrue }
 
 -- the command
 abbrev pub bench : App
-bench = with_rule (with_rule (new_app (codes "bench")) journal) alone
+bench = with_rule (with_rule (with_rule (new_app (codes "bench")) journal) workers) alone
 
 -- the text that clap reads for the option or the flag of this name
 abbrev pub text_for : Text → List Text → Option Text
 text_for name words = one_of name (matches_of bench words)
 
--- std reads the text as the number n
-abbrev pub ReadsAs : Text → ℕ → Type 0
-ReadsAs text n = ParsesUnsigned {E = ParseIntError} 32 10 text (Ok n)
+-- std reads the text as the number n of so many bits
+abbrev pub ReadsAs : ℕ → Text → ℕ → Type 0
+ReadsAs bits text n = ParsesUnsigned {E = ParseIntError} bits 10 text (Ok n)
 
--- The words ask for one test where the flag is given, and else for a script, with the journal that they say.
+-- clap reads a text for the option of this name, and std reads that as the number n of so many bits
+abbrev pub SaysNumber : ℕ → Text → List Text → ℕ → Type 0
+SaysNumber bits name words n = (text : Text) × (text_for name words ≡ Some text) × ReadsAs bits text n
+
+-- The words ask for one test where the flag is given, and else for a script, with the journal and the workers that they say.
 abbrev pub AsksFor : List Text → Task → Type 0
 AsksFor words Alone = text_for (codes "alone") words ≡ Some (codes "true")
-AsksFor words (Script journal) = (text_for (codes "alone") words ≡ Some (codes "false"))
-    × ((text : Text) × (text_for (codes "journal") words ≡ Some text) × ReadsAs text journal)
+AsksFor words (Script journal workers) = (text_for (codes "alone") words ≡ Some (codes "false"))
+    × SaysNumber 32 (codes "journal") words journal × SaysNumber 8 (codes "workers") words workers
 
--- a script's journal is within its bounds
-abbrev pub HasJournalInRange : Task → Type 0
-HasJournalInRange Alone = ⊤
-HasJournalInRange (Script journal) = (1 ≤ journal) × (journal ≤ 1000000)
+-- a script's journal and workers are within their bounds
+abbrev pub IsInRange : Task → Type 0
+IsInRange Alone = ⊤
+IsInRange (Script journal workers) = (1 ≤ journal) × (journal ≤ 1000000) × (workers ≤ 8)

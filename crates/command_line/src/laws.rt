@@ -15,9 +15,10 @@ pub fn one_task()
 /// Some words, and what they ask for.
 pub fn tasks()
     ensures alone { AsksFor (codes "bench" ∷ codes "--alone" ∷ []) Alone }
-    ensures script { AsksFor (codes "bench" ∷ []) (Script 100000) }
-    ensures journal { AsksFor (codes "bench" ∷ codes "--journal" ∷ codes "5" ∷ []) (Script 5) }
-    ensures attached { AsksFor (codes "bench" ∷ codes "--journal=5" ∷ []) (Script 5) }
+    ensures script { AsksFor (codes "bench" ∷ []) (Script 100000 0) }
+    ensures journal { AsksFor (codes "bench" ∷ codes "--journal" ∷ codes "5" ∷ []) (Script 5 0) }
+    ensures attached { AsksFor (codes "bench" ∷ codes "--journal=5" ∷ []) (Script 5 0) }
+    ensures workers { AsksFor (codes "bench" ∷ codes "--workers=4" ∷ codes "--journal=5" ∷ []) (Script 5 4) }
     ensures both { AsksFor (codes "bench" ∷ codes "--journal=5" ∷ codes "--alone" ∷ []) Alone }
 {}
 
@@ -28,6 +29,8 @@ pub fn faults()
     ensures zero { fault_of bench (codes "bench" ∷ codes "--journal=0" ∷ [])
         ≡ kind.ValueValidation ∷ [] }
     ensures too_many { fault_of bench (codes "bench" ∷ codes "--journal=1000001" ∷ [])
+        ≡ kind.ValueValidation ∷ [] }
+    ensures nine_workers { fault_of bench (codes "bench" ∷ codes "--workers=9" ∷ [])
         ≡ kind.ValueValidation ∷ [] }
     ensures flag_value { fault_of bench (codes "bench" ∷ codes "--alone=yes" ∷ [])
         ≡ kind.TooManyValues ∷ [] }

@@ -2,8 +2,8 @@
 use Rattle.std.proofs.Common.{◌≡◌, ◌≢◌, ◌≤◌, ◌<◌, ◌+◌, ◌++◌, ◌⊎◌, ℕ, List, [], ◌∷◌, ◌∙◌, sym, refl, subst, inl, inr, arith}
 use Rattle.std.specs.Prelude.{Option, None, Some, Result, Ok, Err, IsErrAnd}
 use Rattle.std.specs.Io.KnownBytes.{Keeps}
-use Rattle.orders.specs.declared.fault.ServeFault.{ServeFault}
-use Rattle.orders.specs.declared.fault.ServeFault.TheVariants as faults
+use Rattle.orders.specs.declared.fault.ScriptFault.{ScriptFault}
+use Rattle.orders.specs.declared.fault.ScriptFault.TheVariants as faults
 use Rattle.orders.specs.Lines.{ahead, IsNextLine, AreLines, nothing_read, line_read, HasMore, IsTooLong}
 
 -- one line more
@@ -20,7 +20,7 @@ joined a b m n _ _ lines nothing_read = lines
 joined a b m n c _ lines (line_read {mid} {n = k} more room next) = line_read (joined a b m n mid k lines more) room next
 
 -- one result has one number
-pub same_number : {A : Type 0} (r : Result A ServeFault) (m n : ℕ) → r ≡ Err (faults.BadLine m) → r ≡ Err (faults.BadLine n) → n ≡ m
+pub same_number : {A : Type 0} (r : Result A ScriptFault) (m n : ℕ) → r ≡ Err (faults.BadLine m) → r ≡ Err (faults.BadLine n) → n ≡ m
 same_number r m n p q = cc
 
 -- the fault of a call that a result hands on

@@ -1,18 +1,14 @@
-//! Why a script is not done to its end.
+//! Why a script isn't read to its end.
 
 use std::alloc::AllocError;
 use thiserror::Error;
-use wb_text::Failed;
 
-/// Why a script is not done to its end.
+/// Why a script isn't read to its end.
 #[derive(Clone, Copy, Debug, Drop, PartialEq, Eq, Error)]
-pub enum ServeFault {
+pub enum ScriptFault {
     /// The reader failed, or more follows 1,000,000 lines.
     #[error("96 Read")]
     Read,
-    /// The writer failed.
-    #[error("97 Write")]
-    Write,
     /// The line of this number, from 1, is none of a script's.
     #[error("98 BadLine {0}")]
     BadLine(u32),
@@ -20,25 +16,13 @@ pub enum ServeFault {
     NoMemory,
 }
 
-impl From<AllocError> for ServeFault {
+impl From<AllocError> for ScriptFault {
     ghost use Rattle.std.specs.Prelude.{◌≡◌};
-    ghost use Rattle.orders.specs.declared.fault.ServeFault.TheVariants as faults;
+    ghost use Rattle.orders.specs.declared.fault.ScriptFault.TheVariants as faults;
 
     ghost from_gives = { λ _ e. e ≡ faults.NoMemory };
 
     fn from(_error: AllocError) -> Self {
-        ServeFault::NoMemory
-    }
-}
-
-/// Of a writer: a reader that fails is met where it is read.
-impl From<Failed> for ServeFault {
-    ghost use Rattle.std.specs.Prelude.{◌≡◌};
-    ghost use Rattle.orders.specs.declared.fault.ServeFault.TheVariants as faults;
-
-    ghost from_gives = { λ _ e. e ≡ faults.Write };
-
-    fn from(_error: Failed) -> Self {
-        ServeFault::Write
+        ScriptFault::NoMemory
     }
 }

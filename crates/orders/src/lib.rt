@@ -9,7 +9,7 @@ mod order;
 mod script;
 
 pub use block::Block;
-pub use fault::ServeFault;
+pub use fault::ScriptFault;
 pub use lines::Lines;
 pub use order::{Head, LineFault, Order, Request, read_head};
 pub use script::Script;

@@ -3,10 +3,10 @@
 ghost use Rattle.std.specs.Prelude.{◌≡◌, ◌≤◌, ◌<◌, ◌≢◌, ◌++◌, ◌+◌, ◌⊎◌, ℕ, List, Option, [], length, Ok, Err, true, false, IfOk, IfErr, OnOk, OnErr, codes};
 ghost use Rattle.std.specs.Io.KnownBytes.{IsAtEnd, Keeps};
 ghost use Rattle.orders.specs.Lines.{ahead, IsUnbroken, IsTrimmed, Grows, IsNextLine, IsLong, HasMore};
-ghost use Rattle.orders.specs.declared.fault.ServeFault.TheVariants as faults;
+ghost use Rattle.orders.specs.declared.fault.ScriptFault.TheVariants as faults;
 
 use crate::block::Block;
-use crate::fault::ServeFault;
+use crate::fault::ScriptFault;
 use memchr::memchr;
 use std::alloc::{AllocError, Global};
 use wb_text::Source;
@@ -53,8 +53,7 @@ impl Lines {
     }
 
     /// Goes to the next line, and answers whether there is one.
-    pub fn next<R: Source>(&mut self, reader: &mut R) -> Result<bool, ServeFault>
-        ensures fault { IfErr result (λ e. e ≢ faults.Write) }
+    pub fn next<R: Source>(&mut self, reader: &mut R) -> Result<bool, ScriptFault>
         // The number of a line is one more than that of the line before it.
         ensures line { (n : ℕ) → result ≡ Err (faults.BadLine n) → (n ≡ self.old.count + 1) × IsLong (ahead self.old.block (R.left reader.old)) }
         ensures count { result ≡ Ok true → self.new.count ≡ self.old.count + 1 }
@@ -73,7 +72,7 @@ impl Lines {
             return Ok(false);
         }
         if self.count >= MOST_LINES {
-            return Err(ServeFault::Read);
+            return Err(ScriptFault::Read);
         }
         self.count += 1;
         self.line.clear();
@@ -95,7 +94,7 @@ impl Lines {
     }
 
     /// Whether no byte is left.
-    fn is_at_end<R: Source>(&mut self, reader: &mut R) -> Result<bool, ServeFault>
+    fn is_at_end<R: Source>(&mut self, reader: &mut R) -> Result<bool, ScriptFault>
         ensures fault { IfErr result (λ e. e ≡ faults.Read) }
         ensures count { self.new.count ≡ self.old.count }
         ensures line { self.new.line ≡ self.old.line }
@@ -107,14 +106,13 @@ impl Lines {
     {
         match self.block.fill(reader) {
             Ok(()) => Ok(self.block.rest().is_empty()),
-            Err(_) => Err(ServeFault::Read),
+            Err(_) => Err(ScriptFault::Read),
         }
     }
 
     /// Adds bytes to the line up to a line feed or the end, and answers whether the feed stood there. It stops where the
     /// line is too long.
-    fn read_line<R: Source>(&mut self, reader: &mut R) -> Result<bool, ServeFault>
-        ensures fault { IfErr result (λ e. e ≢ faults.Write) }
+    fn read_line<R: Source>(&mut self, reader: &mut R) -> Result<bool, ScriptFault>
         ensures line { (n : ℕ) → result ≡ Err (faults.BadLine n) → n ≡ self.old.count }
         ensures long { (n : ℕ) → result ≡ Err (faults.BadLine n) → (after : Option (List ℕ)) × (ending : List ℕ)
             × Grows (ahead self.old.block (R.left reader.old)) after self.old.line.items self.new.line.items ending × (65536 < length self.new.line.items) }
@@ -128,7 +126,7 @@ impl Lines {
         while !self.is_at_end(reader)? {
             let is_fed = self.take_part()?;
             if self.line.len() > MOST_BYTES {
-                return Err(ServeFault::BadLine(self.count));
+                return Err(ScriptFault::BadLine(self.count));
             }
             if is_fed {
                 return Ok(true);

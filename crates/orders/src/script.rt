@@ -5,9 +5,9 @@ ghost use Rattle.orders.specs.Lines.{ahead, AreLines, IsNextLine, IsTooLong};
 ghost use Rattle.orders.specs.Scripts.{IsText, IsFollowed, IsNextOrder, IsSpent, IsBadLine, IsCutOff};
 ghost use Rattle.orders.specs.Spelled.{Begins, OpensText, IsSeated, IsSkipped, IsBad, IsWork, SpellsNone};
 ghost use Rattle.std.specs.Io.KnownBytes.{IsAtEnd};
-ghost use Rattle.orders.specs.declared.fault.ServeFault.TheVariants as faults;
+ghost use Rattle.orders.specs.declared.fault.ScriptFault.TheVariants as faults;
 
-use crate::fault::ServeFault;
+use crate::fault::ScriptFault;
 use crate::lines::Lines;
 use crate::order::{Head, LineFault, Order, Request, read_head};
 use journal::Text;
@@ -44,13 +44,12 @@ impl Script {
     }
 
     /// The next order, if there is one.
-    pub fn next<R: Source>(&mut self, reader: &mut R) -> Result<Option<Order>, ServeFault>
+    pub fn next<R: Source>(&mut self, reader: &mut R) -> Result<Option<Order>, ScriptFault>
         ensures seat { IfOk result (λ next. IfSome next IsSeated) }
         // It is the next of what was ahead, or none is left.
         ensures next { IfOk result (λ next. IfSome next (IsNextOrder (ahead self.old.lines.block (R.left reader.old)) (ahead self.new.lines.block (R.left reader.new)))) }
         ensures spent { IfOk result (λ next. IfNone next (IsSpent (ahead self.old.lines.block (R.left reader.old)) self.old.lines.count (ahead self.new.lines.block (R.left reader.new)))) }
         ensures end { IfOk result (λ next. IfNone next (IsAtEnd (R.left reader.new))) }
-        ensures fault { IfErr result (λ e. e ≢ faults.Write) }
         // Each line that was read is counted once.
         ensures more { IfOk result (λ next. IfSome next (λ _. (self.old.lines.count < 1000000) × (self.old.lines.count < self.new.lines.count))) }
         ensures lines { IfOk result (λ next. IfSome next (λ _. AreLines (ahead self.old.lines.block (R.left reader.old)) self.old.lines.count (ahead self.new.lines.block (R.left reader.new)) self.new.lines.count)) }
@@ -67,13 +66,12 @@ impl Script {
     }
 
     /// The order that begins with the line.
-    fn order<R: Source>(&mut self, reader: &mut R) -> Result<Order, ServeFault>
+    fn order<R: Source>(&mut self, reader: &mut R) -> Result<Order, ScriptFault>
         ensures bad { (n : ℕ) → result ≡ Err (faults.BadLine n) → ((n ≡ self.old.lines.count) × IsBad self.old.lines.line.items)
             ⊎ (OpensText self.old.lines.line.items × IsCutOff (ahead self.old.lines.block (R.left reader.old)) self.old.lines.count n) }
         ensures seat { IfOk result IsSeated }
         ensures begins { IfOk result (Begins self.old.lines.line.items) }
         ensures followed { IfOk result (IsFollowed (ahead self.old.lines.block (R.left reader.old)) (ahead self.new.lines.block (R.left reader.new))) }
-        ensures fault { IfErr result (λ e. e ≢ faults.Write) }
         ensures lines { OnOk result (AreLines (ahead self.old.lines.block (R.left reader.old)) self.old.lines.count (ahead self.new.lines.block (R.left reader.new)) self.new.lines.count) }
         ensures read { result ≡ Err faults.Read → (R.has_failed reader.new ≡ true)
             ⊎ IsTooLong (ahead self.old.lines.block (R.left reader.old)) self.old.lines.count }
@@ -85,21 +83,20 @@ impl Script {
     }
 
     /// What the session asks whose line this is.
-    fn call<R: Source>(&mut self, reader: &mut R) -> Result<Order, ServeFault>
+    fn call<R: Source>(&mut self, reader: &mut R) -> Result<Order, ScriptFault>
         ensures bad { (n : ℕ) → result ≡ Err (faults.BadLine n) → ((n ≡ self.old.lines.count) × SpellsNone self.old.lines.line.items)
             ⊎ (OpensText self.old.lines.line.items × IsCutOff (ahead self.old.lines.block (R.left reader.old)) self.old.lines.count n) }
         ensures seat { IfOk result IsSeated }
         ensures begins { IfOk result (Begins self.old.lines.line.items) }
         ensures followed { IfOk result (IsFollowed (ahead self.old.lines.block (R.left reader.old)) (ahead self.new.lines.block (R.left reader.new))) }
-        ensures fault { IfErr result (λ e. e ≢ faults.Write) }
         ensures lines { OnOk result (AreLines (ahead self.old.lines.block (R.left reader.old)) self.old.lines.count (ahead self.new.lines.block (R.left reader.new)) self.new.lines.count) }
         ensures read { result ≡ Err faults.Read → (R.has_failed reader.new ≡ true)
             ⊎ IsTooLong (ahead self.old.lines.block (R.left reader.old)) self.old.lines.count }
     {
         let (seat, head) = match read_head(self.alloc, self.lines.line()) {
             Ok(head) => head,
-            Err(LineFault::Bad) => return Err(ServeFault::BadLine(self.lines.count())),
-            Err(LineFault::NoMemory) => return Err(ServeFault::NoMemory),
+            Err(LineFault::Bad) => return Err(ScriptFault::BadLine(self.lines.count())),
+            Err(LineFault::NoMemory) => return Err(ScriptFault::NoMemory),
         };
         let request = match head {
             Head::Cat(name) => Request::PutCat(name, self.text(reader)?),
@@ -110,9 +107,8 @@ impl Script {
     }
 
     /// The text that follows: its lines up to a line `.` alone.
-    fn text<R: Source>(&mut self, reader: &mut R) -> Result<Text, ServeFault>
+    fn text<R: Source>(&mut self, reader: &mut R) -> Result<Text, ScriptFault>
         ensures text { IfOk result (IsText (ahead self.old.lines.block (R.left reader.old)) (ahead self.new.lines.block (R.left reader.new))) }
-        ensures fault { IfErr result (λ e. e ≢ faults.Write) }
         ensures lines { OnOk result (AreLines (ahead self.old.lines.block (R.left reader.old)) self.old.lines.count (ahead self.new.lines.block (R.left reader.new)) self.new.lines.count) }
         ensures line { (n : ℕ) → result ≡ Err (faults.BadLine n) → IsCutOff (ahead self.old.lines.block (R.left reader.old)) self.old.lines.count n }
         ensures read { result ≡ Err faults.Read → (R.has_failed reader.new ≡ true)
@@ -126,7 +122,7 @@ impl Script {
             add_front(&mut bytes, self.lines.line())?;
             add_front(&mut bytes, b"\n")?;
         }
-        Err(ServeFault::BadLine(self.lines.count()))
+        Err(ScriptFault::BadLine(self.lines.count()))
     }
 }
 

@@ -2,11 +2,15 @@
 //!
 //! A test follows a table of rows, and fails with the name of the first that doesn't hold.
 
+ghost use Rattle.std.specs.Prelude.{◌≤◌};
+
 use book::Limits;
 use one_test::{OneFault, one};
 use scripts::{Options, ServeFault, serve};
 use std::alloc::{AllocError, Global};
+use std::sync::Wait;
 use std::test::Fail;
+use std::thread::Threads;
 use wb_text::{MemSink, MemSource};
 
 pub const STORE_BUFFERING: &str = "C SB
@@ -177,24 +181,37 @@ pub fn is_made_of(bytes: &[u8], parts: &[&str]) -> bool {
     rest.is_empty()
 }
 
-/// What is answered to a script under these limits, where the reader fails at its end or not and the writer has so much
+/// What is answered to a script under these options, where the reader fails at its end or not and the writer has so much
 /// room, and what the writer then holds.
-pub fn served(
+pub fn served<T: Threads + Wait + Sync>(
+    rt: &T,
     alloc: Global,
     script: &[u8],
-    limits: Limits,
+    options: &Options,
     fails: bool,
     room: usize,
-) -> Result<(Result<(), ServeFault>, MemSink), AllocError> {
+) -> Result<(Result<(), ServeFault>, MemSink), AllocError>
+    requires { options.now.workers ≤ 8 }
+{
     let mut reader = MemSource::new(script, fails);
     let mut writer = MemSink::new(alloc, room)?;
-    let outcome = serve(alloc, &mut reader, &mut writer, &Options { limits });
+    let outcome = serve(rt, alloc, &mut reader, &mut writer, options);
     Ok((outcome, writer))
 }
 
 /// Whether a script is answered as its scene says.
-fn is_played(alloc: Global, script: &str, scene: &Scene) -> bool {
-    match served(alloc, script.as_bytes(), scene.limits, scene.fails, 4096) {
+fn is_played<T: Threads + Wait + Sync>(
+    rt: &T,
+    alloc: Global,
+    script: &str,
+    scene: &Scene,
+    workers: u8,
+) -> bool
+    requires { workers ≤ 8 }
+{
+    let limits = scene.limits;
+    let options = Options { workers, limits };
+    match served(rt, alloc, script.as_bytes(), &options, scene.fails, 4096) {
         Ok((outcome, writer)) => {
             outcome == scene.end && is_made_of(writer.bytes(), scene.answers)
         }
@@ -203,17 +220,26 @@ fn is_played(alloc: Global, script: &str, scene: &Scene) -> bool {
 }
 
 /// Whether a scene's script is answered as it says.
-fn goes_well(alloc: Global, scene: &Scene) -> bool {
+fn goes_well<T: Threads + Wait + Sync>(rt: &T, alloc: Global, scene: &Scene, workers: u8) -> bool
+    requires { workers ≤ 8 }
+{
     match repeated(alloc, scene.script) {
-        Ok(script) => is_played(alloc, script.as_str(), scene),
+        Ok(script) => is_played(rt, alloc, script.as_str(), scene, workers),
         Err(_) => false,
     }
 }
 
-/// Plays the scenes.
-pub fn all_go_well(alloc: Global, scenes: &[Scene]) -> Result<(), Fail> {
+/// Plays the scenes, with so many workers.
+pub fn all_go_well<T: Threads + Wait + Sync>(
+    rt: &T,
+    alloc: Global,
+    scenes: &[Scene],
+    workers: u8,
+) -> Result<(), Fail>
+    requires { workers ≤ 8 }
+{
     for scene in scenes {
-        confirm(goes_well(alloc, scene), scene.name)?;
+        confirm(goes_well(rt, alloc, scene, workers), scene.name)?;
     }
     Ok(())
 }

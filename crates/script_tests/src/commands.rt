@@ -4,7 +4,7 @@ use crate::calls::{STORE_BUFFERING, STORE_BUFFERING_SUMMARY, Scene, WIDE, all_go
 use book::Limits;
 use std::test::Fail;
 
-const NEVER: &str = "Test SB Allowed
+pub const NEVER: &str = "Test SB Allowed
 States 3
 0:r0=0; 1:r0=1;
 0:r0=1; 1:r0=0;
@@ -16,7 +16,7 @@ Condition exists (0:r0=0 /\\ 1:r0=0)
 Observation SB Never 0 3
 ";
 
-const INDEPENDENT_READS: &str = "C IRIW
+pub const INDEPENDENT_READS: &str = "C IRIW
 { 0:r8=2; 0:r9=3; }
 P0 (atomic_int* x) { atomic_store_explicit(x, 1, memory_order_release); }
 P1 (atomic_int* y) { atomic_store_explicit(y, 1, memory_order_release); }
@@ -68,7 +68,7 @@ taken 16 16
 verdict IRIW 1 rc11.cat 0
 ";
 
-const ALL_STATES: &str = "Test IRIW Allowed
+pub const ALL_STATES: &str = "Test IRIW Allowed
 States 16
 2:r0=0; 2:r1=0; 3:r0=0; 3:r1=0;
 2:r0=0; 2:r1=0; 3:r0=0; 3:r1=1;
@@ -606,7 +606,7 @@ const COMMANDS: &[Scene] = &[
 
 #[test]
 fn commands(rt: HostRuntime) -> Result<(), Fail> {
-    all_go_well(rt.alloc(), COMMANDS)
+    all_go_well(&rt, rt.alloc(), COMMANDS, 0)
 }
 
 const SIZES: &[Scene] = &[
@@ -690,5 +690,5 @@ const SIZES: &[Scene] = &[
 
 #[test]
 fn sizes_of_jobs(rt: HostRuntime) -> Result<(), Fail> {
-    all_go_well(rt.alloc(), SIZES)
+    all_go_well(&rt, rt.alloc(), SIZES, 0)
 }

@@ -709,5 +709,5 @@ const SCRIPTS: &[Scene] = &[
 
 #[test]
 fn scripts(rt: HostRuntime) -> Result<(), Fail> {
-    all_go_well(rt.alloc(), SCRIPTS)
+    all_go_well(&rt, rt.alloc(), SCRIPTS, 0)
 }

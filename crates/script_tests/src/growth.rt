@@ -8,7 +8,9 @@ use command_line::{Task, read_task};
 use one_test::{OneFault, one};
 use scripts::{Options, ServeFault, serve};
 use std::alloc::{AllocError, Global};
+use std::sync::Wait;
 use std::test::Fail;
+use std::thread::Threads;
 use wb_text::{MemSink, MemSource};
 
 /// How a script ends, and the parts of what is then written.
@@ -93,11 +95,18 @@ fn refuses(alloc: Global, test: &str, cat: &str, wanted: &str) -> bool {
     }
 }
 
-fn served(alloc: Global, script: &str) -> Result<(Result<(), ServeFault>, MemSink), AllocError> {
+fn served<T: Threads + Wait + Sync>(
+    rt: &T,
+    alloc: Global,
+    script: &str,
+) -> Result<(Result<(), ServeFault>, MemSink), AllocError> {
     let mut writer = sink(alloc)?;
     let mut reader = MemSource::new(script.as_bytes(), false);
-    let options = Options { limits: WIDE };
-    let outcome = serve(alloc, &mut reader, &mut writer, &options);
+    let options = Options {
+        workers: 0,
+        limits: WIDE,
+    };
+    let outcome = serve(rt, alloc, &mut reader, &mut writer, &options);
     Ok((outcome, writer))
 }
 
@@ -133,8 +142,13 @@ fn is_one_of(outcome: &Result<(), ServeFault>, bytes: &[u8], rows: &[Answers]) -
 }
 
 /// Whether the script that is given again has these answers.
-fn answers_again(alloc: Global, script: &str, own: &Answers) -> bool {
-    match served(alloc, script) {
+fn answers_again<T: Threads + Wait + Sync>(
+    rt: &T,
+    alloc: Global,
+    script: &str,
+    own: &Answers,
+) -> bool {
+    match served(rt, alloc, script) {
         Ok((outcome, writer)) => is_answer(&outcome, writer.bytes(), own),
         Err(_) => false,
     }
@@ -142,10 +156,16 @@ fn answers_again(alloc: Global, script: &str, own: &Answers) -> bool {
 
 /// Whether a script has its own answers or, where a line isn't taken, those of a row. A script that is refused memory as a whole has
 /// the first of its own answers, and is given again.
-fn answers(alloc: Global, script: &str, own: &Answers, rows: &[Answers]) -> bool {
-    match served(alloc, script) {
+fn answers<T: Threads + Wait + Sync>(
+    rt: &T,
+    alloc: Global,
+    script: &str,
+    own: &Answers,
+    rows: &[Answers],
+) -> bool {
+    match served(rt, alloc, script) {
         Ok((Err(ServeFault::NoMemory), writer)) => {
-            is_front_of(writer.bytes(), own.1) && answers_again(alloc, script, own)
+            is_front_of(writer.bytes(), own.1) && answers_again(rt, alloc, script, own)
         }
         Ok((outcome, writer)) => {
             is_answer(&outcome, writer.bytes(), own) || is_one_of(&outcome, writer.bytes(), rows)
@@ -347,7 +367,7 @@ finish ok 6
 #[test]
 fn serve_session(rt: HostRuntime) -> Result<(), Fail> {
     confirm(
-        answers(rt.alloc(), SESSION, SESSION_ANSWERS, SESSION_LACKS),
+        answers(&rt, rt.alloc(), SESSION, SESSION_ANSWERS, SESSION_LACKS),
         SESSION,
     )
 }
@@ -460,16 +480,16 @@ const REFUSALS_LACK: &[Answers] = &[
 #[test]
 fn serve_refusals(rt: HostRuntime) -> Result<(), Fail> {
     confirm(
-        answers(rt.alloc(), REFUSED, REFUSALS, REFUSALS_LACK),
+        answers(&rt, rt.alloc(), REFUSED, REFUSALS, REFUSALS_LACK),
         REFUSED,
     )
 }
 
-/// What the words ask for, with how many entries, or the status of their fault.
-fn asked(alloc: Global, words: &[String]) -> Result<u32, i32> {
+/// What the words ask for, with how many entries and workers, or the status of their fault.
+fn asked(alloc: Global, words: &[String]) -> Result<(u32, u8), i32> {
     match read_task(alloc, words) {
-        Ok(Task::Alone) => Ok(0),
-        Ok(Task::Script(journal)) => Ok(journal),
+        Ok(Task::Alone) => Ok((0, 0)),
+        Ok(Task::Script(journal, workers)) => Ok((journal, workers)),
         Err(error) => Err(error.exit_code()),
     }
 }
@@ -488,9 +508,10 @@ fn words(rt: HostRuntime) -> Result<(), Fail> {
         word(alloc, "bench")?,
         word(alloc, "--journal")?,
         word(alloc, "12")?,
+        word(alloc, "--workers=3")?,
     ];
-    if asked(alloc, &words) != Ok(12) {
-        assert_eq!(rt; asked(alloc, &words), Ok(12));
+    if asked(alloc, &words) != Ok((12, 3)) {
+        assert_eq!(rt; asked(alloc, &words), Ok((12, 3)));
     }
     Ok(())
 }

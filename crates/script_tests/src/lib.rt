@@ -19,4 +19,6 @@ mod rows;
 #[cfg(test)]
 mod served;
 #[cfg(test)]
+mod threads;
+#[cfg(test)]
 mod words;

@@ -4,9 +4,18 @@ use crate::calls::{
     STORE_BUFFERING, STORE_BUFFERING_SUMMARY, Scene, WIDE, all_go_well, confirm, served,
 };
 use book::Limits;
-use scripts::ServeFault;
+use scripts::{Options, ServeFault};
+use sessions::FinishCause;
 use std::alloc::Global;
+use std::sync::Wait;
 use std::test::Fail;
+use std::thread::Threads;
+
+/// One worker, on the thread of the script.
+const ALONE: Options = Options {
+    workers: 0,
+    limits: WIDE,
+};
 
 /// The stored run.
 const FIRST: &str = "0 cat none.cat
@@ -273,7 +282,7 @@ const ANSWERED: &[Scene] = &[
 
 #[test]
 fn answered(rt: HostRuntime) -> Result<(), Fail> {
-    all_go_well(rt.alloc(), ANSWERED)
+    all_go_well(&rt, rt.alloc(), ANSWERED, 0)
 }
 
 const BAD_LINES: &[Scene] = &[
@@ -453,7 +462,7 @@ const BAD_LINES: &[Scene] = &[
 
 #[test]
 fn bad_lines(rt: HostRuntime) -> Result<(), Fail> {
-    all_go_well(rt.alloc(), BAD_LINES)
+    all_go_well(&rt, rt.alloc(), BAD_LINES, 0)
 }
 
 const LONG: &[Scene] = &[
@@ -509,7 +518,7 @@ const LONG: &[Scene] = &[
 
 #[test]
 fn long_scripts(rt: HostRuntime) -> Result<(), Fail> {
-    all_go_well(rt.alloc(), LONG)
+    all_go_well(&rt, rt.alloc(), LONG, 0)
 }
 
 /// Whether a line of the bytes, the last, begins so.
@@ -524,8 +533,8 @@ fn ends_with_line(bytes: &[u8], start: &[u8]) -> bool {
 }
 
 /// Whether a script ends with the line of its outcome.
-fn ends_well(alloc: Global, script: &[u8]) -> bool {
-    match served(alloc, script, WIDE, false, 1000) {
+fn ends_well<T: Threads + Wait + Sync>(rt: &T, alloc: Global, script: &[u8]) -> bool {
+    match served(rt, alloc, script, &ALONE, false, 1000) {
         Ok((Ok(()), writer)) => ends_with_line(writer.bytes(), b"finish ok "),
         Ok((Err(ServeFault::BadLine(_)), writer)) => ends_with_line(writer.bytes(), b"bad line "),
         _ => false,
@@ -537,13 +546,13 @@ fn each_prefix_ends_well(rt: HostRuntime) {
     let alloc = rt.alloc();
     let script = FIRST.as_bytes();
     for length in 0..script.len() {
-        assert!(rt; ends_well(alloc, &script[..length]), "at {length}");
+        assert!(rt; ends_well(&rt, alloc, &script[..length]), "at {length}");
     }
 }
 
 /// Whether a writer of too little room has just the front part of the answers, with the fault that says so.
-fn has_a_front_part(alloc: Global, room: usize) -> bool {
-    match served(alloc, FIRST.as_bytes(), WIDE, false, room) {
+fn has_a_front_part<T: Threads + Wait + Sync>(rt: &T, alloc: Global, room: usize) -> bool {
+    match served(rt, alloc, FIRST.as_bytes(), &ALONE, false, room) {
         Ok((outcome, writer)) => {
             outcome == Err(ServeFault::Write)
                 && writer.bytes().len() == room
@@ -557,7 +566,7 @@ fn has_a_front_part(alloc: Global, room: usize) -> bool {
 fn a_writer_that_fails(rt: HostRuntime) {
     let alloc = rt.alloc();
     for room in 0..FIRST_ANSWERS.len() {
-        assert!(rt; has_a_front_part(alloc, room), "at {room}");
+        assert!(rt; has_a_front_part(&rt, alloc, room), "at {room}");
     }
 }
 
@@ -566,6 +575,15 @@ const STATUSES: &[(ServeFault, &str)] = &[
     (ServeFault::Read, "96 Read"),
     (ServeFault::Write, "97 Write"),
     (ServeFault::BadLine(3), "98 BadLine 3"),
+    (
+        ServeFault::Finish(FinishCause::MissingPass(8)),
+        "99 Finish 91 MissingPass 8",
+    ),
+    (
+        ServeFault::Finish(FinishCause::Mismatch(4)),
+        "99 Finish 92 Mismatch 4",
+    ),
+    (ServeFault::NoMemory, "NoMemory"),
 ];
 
 fn is_printed(alloc: Global, fault: &ServeFault, wanted: &str) -> bool {

@@ -5,17 +5,25 @@ use command_line::{Task, read_task};
 use std::alloc::{AllocError, Global};
 use std::test::Fail;
 
-/// Words behind the program's name, and what they ask for: 0 is one test, else the most entries of the journal; or the status of
-/// their fault.
-const WORDS: &[(&str, &[&str], Result<u32, i32>)] = &[
-    ("no word", &[], Ok(100_000)),
-    ("least journal", &["--journal", "1"], Ok(1)),
-    ("largest journal", &["--journal=1000000"], Ok(1_000_000)),
-    ("alone", &["--alone"], Ok(0)),
+/// Words behind the program's name, and what they ask for: the most entries of the journal, which are 0 for one test, and the
+/// workers; or the status of their fault.
+const WORDS: &[(&str, &[&str], Result<(u32, u8), i32>)] = &[
+    ("no word", &[], Ok((100_000, 0))),
+    ("least journal", &["--journal", "1"], Ok((1, 0))),
+    (
+        "largest journal",
+        &["--journal=1000000"],
+        Ok((1_000_000, 0)),
+    ),
+    ("one worker", &["--workers", "1"], Ok((100_000, 1))),
+    ("most workers", &["--workers=8", "--journal=7"], Ok((7, 8))),
+    ("alone", &["--alone"], Ok((0, 0))),
     ("help", &["--help"], Err(0)),
     ("journal of none", &["--journal", "0"], Err(2)),
     ("journal too large", &["--journal", "1000001"], Err(2)),
-    ("workers", &["--workers", "1"], Err(2)),
+    ("nine workers", &["--workers", "9"], Err(2)),
+    ("workers twice", &["--workers=1", "--workers=2"], Err(2)),
+    ("threads", &["--threads", "1"], Err(2)),
     ("a file", &["SB"], Err(2)),
 ];
 
@@ -30,16 +38,16 @@ fn called(alloc: Global, words: &[&str]) -> Result<Vec<String>, AllocError> {
 }
 
 /// What the words ask for.
-fn asked(alloc: Global, words: &[String]) -> Result<u32, i32> {
+fn asked(alloc: Global, words: &[String]) -> Result<(u32, u8), i32> {
     match read_task(alloc, words) {
-        Ok(Task::Alone) => Ok(0),
-        Ok(Task::Script(journal)) => Ok(journal),
+        Ok(Task::Alone) => Ok((0, 0)),
+        Ok(Task::Script(journal, workers)) => Ok((journal, workers)),
         Err(error) => Err(error.exit_code()),
     }
 }
 
 /// Whether the words ask for this.
-fn is_asked(alloc: Global, words: &[&str], wanted: Result<u32, i32>) -> bool {
+fn is_asked(alloc: Global, words: &[&str], wanted: Result<(u32, u8), i32>) -> bool {
     match called(alloc, words) {
         Ok(all) => asked(alloc, &all) == wanted,
         Err(_) => false,

@@ -1,3 +1,5 @@
+pub mod Calls
+pub mod Pieces
+pub mod Receipts
+pub mod Seated
 pub mod Served
-pub mod Turns
-pub mod Worked

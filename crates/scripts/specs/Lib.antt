@@ -1,3 +1,3 @@
-pub mod Orders
+pub mod Answers
+pub mod Passes
 pub mod Serving
-pub mod Working

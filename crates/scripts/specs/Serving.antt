@@ -1,47 +1,39 @@
 -- What becomes of a script.
-use Rattle.std.specs.Prelude.{◌≡◌, ◌<◌, ◌≤◌, ◌==◌, ℕ, List, [], ◌∷◌, ◌++◌, length, map, filter, All, Option, Result, Ok, Err, codes, decimal, ◌⊎◌}
+use Rattle.std.specs.Prelude.{◌≡◌, ◌<◌, ◌+◌, ℕ, List, [], ◌∷◌, ◌++◌, length, map, All, Option, Result, Ok, Err, codes, decimal, ◌⊎◌}
 use Rattle.std.specs.Io.KnownBytes.{Appends}
-use Rattle.std.specs.List.{flat_map}
+use Rattle.std.specs.List.{flat_map, sum_by}
 use Rattle.wb_text.specs.Memory.{AppendsFront}
 use Rattle.journal.specs.Lines.{Line}
 use Rattle.journal.specs.declared.records.Reply.TheVariants.{Piece}
 use Rattle.slices.specs.Parts.{Portion}
-use Rattle.book.specs.Step.{Legal}
 use Rattle.book.specs.declared.kept.Refused.{Refused}
 use Rattle.book.specs.declared.kept.Refused.TheVariants.{JournalFull, NoMemory}
-use Rattle.book.specs.declared.limits.Limits.{Limits}
-use Rattle.scripts.specs.Orders.{Answers}
-use Rattle.scripts.specs.Working.{IsWork}
+use Rattle.sessions.specs.Finish.{IsLegal, Unfit, of_seat}
+use Rattle.sessions.specs.declared.ending.FinishCause.{FinishCause}
+use Rattle.sessions.specs.declared.ending.FinishCause.TheVariants.{MissingPass, Mismatch}
 use Rattle.replies.specs.Replies.{reply_text}
-use Rattle.scripts.specs.declared.answer.Answer.{Answer}
-use Rattle.scripts.specs.declared.answer.Answer.TheVariants.{Made, NotTaken, Worked}
-use Rattle.scripts.specs.declared.answer.Counts.{Counts}
 use Rattle.orders.specs.Lines.{AreLines}
 use Rattle.orders.specs.Scripts.{AreOrders, IsNextOrder, IsBadLine, IsSpent}
 use Rattle.orders.specs.declared.order.Order.{Order}
 use Rattle.orders.specs.declared.order.Order.TheVariants.{Call as Called}
 use Rattle.orders.specs.declared.order.Request.TheVariants.{Return}
-use Rattle.orders.specs.declared.fault.ServeFault.{ServeFault}
-use Rattle.orders.specs.declared.fault.ServeFault.TheVariants as faults
+use Rattle.scripts.specs.Answers.{Answer, Answers, Made, NotTaken, Worked, Run, entry_of, made_at}
+use Rattle.scripts.specs.declared.fault.ServeFault.{ServeFault}
+use Rattle.scripts.specs.declared.fault.ServeFault.TheVariants as faults
 
 abbrev pub not_taken_text : Refused → List ℕ
 not_taken_text JournalFull = codes "not taken JournalFull\n"
 not_taken_text NoMemory = codes "not taken NoMemory\n"
 
-abbrev pub worked_text : Counts → List ℕ
-worked_text c = codes "worked " ++ decimal c.evaluated ++ codes " " ++ decimal c.given_back ++ codes " " ++ decimal c.refused ++ codes "\n"
+abbrev pub worked_text : ℕ → ℕ → ℕ → List ℕ
+worked_text evaluated given_back refused = codes "worked " ++ decimal evaluated ++ codes " " ++ decimal given_back ++ codes " " ++ decimal refused ++ codes "\n"
 
--- What is written of an answer: the reply of the entry that was made, or that none was; and what was done of work.
+-- What is written of an answer: the reply of the entry that was made, or that none was; and of work the sums of what the
+-- workers counted.
 abbrev pub answer_text : Answer → List ℕ
 answer_text (Made line) = reply_text line.reply
 answer_text (NotTaken why) = not_taken_text why
-answer_text (Worked counts) = worked_text counts
-
--- the entry that answers a session, if any
-abbrev pub entry_of : Answer → List Line
-entry_of (Made line) = line ∷ []
-entry_of (NotTaken why) = []
-entry_of (Worked counts) = []
+answer_text (Worked runs) = worked_text (sum_by (λ run. run.counts.evaluated) runs) (sum_by (λ run. run.counts.given_back) runs) (sum_by (λ run. run.counts.refused) runs)
 
 -- An order of a script, and what answered it.
 pub record Call : Type 0 where
@@ -52,38 +44,20 @@ pub record Call : Type 0 where
 abbrev pub entries_of : List Call → List Line
 entries_of calls = flat_map (λ c. entry_of c.answer) calls
 
--- Calls, one after another: each is answered behind the entries of sessions that answered those before it.
-pub data AreAnswered : List Call → Type 0 where
-  no_call : AreAnswered []
-  next_call : {calls : List Call} (call : Call) → AreAnswered calls → Answers (entries_of calls) call.order call.answer → AreAnswered (calls ++ call ∷ [])
+-- the entries that the answers made at a seat
+abbrev pub entries_at : ℕ → List Call → List Line
+entries_at seat calls = flat_map (λ c. made_at seat c.answer) calls
 
--- the entries of a seat
-abbrev pub of_seat : ℕ → List Line → List Line
-of_seat seat journal = filter (λ line. line.seat == seat) journal
+-- Calls, one after another: each is answered behind the entries that answered those before it.
+pub data AreAnswered (workers : ℕ) : List Call → Type 0 where
+  no_call : AreAnswered workers []
+  next_call : {calls : List Call} (call : Call) → AreAnswered workers calls → Answers workers (entries_of calls) call.order call.answer → AreAnswered workers (calls ++ call ∷ [])
 
--- In the journal each session's entries are those that answered it, in their order, and the others are of work.
-pub record IsBySeat (calls : List Call) (journal : List Line) : Type 0 where
-  pub sessions : (seat : ℕ) → seat < 8 → of_seat seat journal ≡ of_seat seat (entries_of calls)
-  pub others : All (λ line. line.seat ≤ 8) journal
-
--- An answer to a call of a journal with so many entries: `JournalFull` exactly where it has as many as it may have.
-abbrev pub SaysRoom : ℕ → ℕ → Answer → Type 0
-SaysRoom most entries (Made line) = entries < most
-SaysRoom most entries (NotTaken JournalFull) = most ≤ entries
-SaysRoom most entries (NotTaken NoMemory) = entries < most
-SaysRoom most entries (Worked counts) = Unit {0}
-
--- What a journal becomes by an answer.
-abbrev pub Makes : List Line → List Line → Answer → Type 0
-Makes before after (Made line) = (after ≡ before ++ line ∷ []) × (line.seat < 8)
-Makes before after (NotTaken why) = after ≡ before
-Makes before after (Worked counts) = IsWork before after counts
-
--- A journal that was empty, and which the answers made in turn.
-pub data AreInTurn (most : ℕ) : List Call → List Line → Type 0 where
-  none_yet : AreInTurn most [] []
-  next_turn : {calls : List Call} {before after : List Line} (call : Call) → AreInTurn most calls before → SaysRoom most (length before) call.answer
-      → Makes before after call.answer → AreInTurn most (calls ++ call ∷ []) after
+-- The journal's entries of each seat, a session's or a worker's, are in order those that the answers made there, and there
+-- are no others.
+pub record IsBySeat (workers : ℕ) (calls : List Call) (journal : List Line) : Type 0 where
+  pub each : (seat : ℕ) → seat < 8 + workers → of_seat seat journal ≡ entries_at seat calls
+  pub no_other : All (λ line. line.seat < 8 + workers) journal
 
 -- what is written of calls, one after another
 abbrev pub calls_text : List Call → List ℕ
@@ -92,28 +66,48 @@ calls_text calls = flat_map (λ c. answer_text c.answer) calls
 abbrev pub finish_text : ℕ → List ℕ
 finish_text entries = codes "finish ok " ++ decimal entries ++ codes "\n"
 
+abbrev pub cause_text : FinishCause → List ℕ
+cause_text (MissingPass seat) = codes "finish 91 MissingPass " ++ decimal seat ++ codes "\n"
+cause_text (Mismatch place) = codes "finish 92 Mismatch " ++ decimal place ++ codes "\n"
+
 abbrev pub bad_line_text : ℕ → List ℕ
 bad_line_text line = codes "bad line " ++ decimal line ++ codes "\n"
 
--- What is to stand behind the calls: the number of entries at the end of the script, a bad line, or nothing.
-abbrev pub Closes : {A : Type 0} → ℕ → Result A ServeFault → List ℕ → Type 0
-Closes entries (Ok done) text = text ≡ finish_text entries
-Closes entries (Err (faults.BadLine line)) text = text ≡ bad_line_text line
-Closes entries (Err faults.Write) text = (text ≡ []) ⊎ ((text ≡ finish_text entries) ⊎ ((line : ℕ) × (text ≡ bad_line_text line)))
-Closes entries (Err faults.Read) text = text ≡ []
-Closes entries (Err faults.NoMemory) text = text ≡ []
+-- The script is done: there is a legal journal, which is what the answers made, and its length is written.
+pub record IsDone (workers : ℕ) (calls : List Call) (text : List ℕ) : Type 0 where
+  pub journal : List Line
+  pub legal : IsLegal journal
+  pub seats : IsBySeat workers calls journal
+  pub told : text ≡ finish_text (length journal)
+
+-- The journal is legal, and an entry of this place that was made at some seat isn't the journal's there, or doesn't stand
+-- behind the one before it. No seat is missing.
+abbrev pub IsUnfinished : List Call → FinishCause → Type 0
+IsUnfinished calls (MissingPass seat) = ⊥
+IsUnfinished calls (Mismatch place) = (journal : List Line) × IsLegal journal × ((seat : ℕ) × Unfit journal 0 (entries_at seat calls) place)
+
+-- a last line
+pub data IsLastLine : List ℕ → Type 0 where
+  of_finish : (entries : ℕ) → IsLastLine (finish_text entries)
+  of_cause : (cause : FinishCause) → IsLastLine (cause_text cause)
+  of_bad_line : (line : ℕ) → IsLastLine (bad_line_text line)
+  no_last_line : IsLastLine []
+
+-- What is to stand behind the calls: the number of entries at the end of the script or why they are not the journal, a bad
+-- line, or nothing.
+abbrev pub Closes : {A : Type 0} → ℕ → List Call → Result A ServeFault → List ℕ → Type 0
+Closes workers calls (Ok done) text = IsDone workers calls text
+Closes workers calls (Err (faults.Finish cause)) text = IsUnfinished calls cause × (text ≡ cause_text cause)
+Closes workers calls (Err (faults.BadLine line)) text = text ≡ bad_line_text line
+Closes workers calls (Err faults.Write) text = IsLastLine text
+Closes workers calls (Err faults.Read) text = text ≡ []
+Closes workers calls (Err faults.NoMemory) text = text ≡ []
 
 -- The writer was given the text; where it failed, a front part of it.
 abbrev pub Tells : {A : Type 0} → Option (List ℕ) → Option (List ℕ) → Result A ServeFault → List ℕ → Type 0
 Tells old new (Ok done) text = Appends old new text
 Tells old new (Err faults.Write) text = AppendsFront old new text
-Tells old new (Err faults.Read) text = Appends old new text
-Tells old new (Err (faults.BadLine line)) text = Appends old new text
-Tells old new (Err faults.NoMemory) text = Appends old new text
-
--- Behind any text that was told of reading a script, what is to stand there is told.
-abbrev pub EndsWith : {A : Type 0} → ℕ → Option (List ℕ) → Option (List ℕ) → Result A ServeFault → Result A ServeFault → Type 0
-EndsWith entries held new outcome result = (old : Option (List ℕ)) → (text : List ℕ) → Tells old held outcome text → (closing : List ℕ) × Closes entries result closing × Tells old new result (text ++ closing)
+Tells old new (Err fault) text = Appends old new text
 
 -- The entry gives the piece of this claim.
 abbrev pub GivesPiece : ℕ → Line → Type 0
@@ -139,10 +133,9 @@ pub record IsReturnAt (script : Option (List ℕ)) (m n : ℕ) (entries : List L
 -- line that is told as bad.
 abbrev pub StopsAt : {A : Type 0} → Option (List ℕ) → ℕ → Result A ServeFault → List Line → Type 0
 StopsAt script m (Ok done) entries = (rest : Option (List ℕ)) × IsSpent script m rest
+StopsAt script m (Err (faults.Finish cause)) entries = (rest : Option (List ℕ)) × IsSpent script m rest
 StopsAt script m (Err (faults.BadLine n)) entries = IsBadLine script m n ⊎ IsReturnAt script m n entries
-StopsAt script m (Err faults.Read) entries = Unit {0}
-StopsAt script m (Err faults.Write) entries = Unit {0}
-StopsAt script m (Err faults.NoMemory) entries = Unit {0}
+StopsAt script m (Err fault) entries = Unit {0}
 
 -- The calls ask what a script orders, one after another, up to where it stops. Before it the count of lines stood at m.
 pub record IsRead {A : Type 0} (script : Option (List ℕ)) (m : ℕ) (result : Result A ServeFault) (calls : List Call) : Type 0 where
@@ -152,16 +145,11 @@ pub record IsRead {A : Type 0} (script : Option (List ℕ)) (m : ℕ) (result : 
   pub lines : AreLines script m end count
   pub stops : StopsAt end count result (entries_of calls)
 
--- What a script orders was answered over a book with these limits, and this was written of it. There is a legal journal, in
--- which each session's entries are those that answered it; and the answers made it in turn.
-pub record IsServed {A : Type 0} (limits : Limits) (script old new : Option (List ℕ)) (result : Result A ServeFault) : Type 0 where
+-- What a script orders was answered at a desk with so many workers, and this was written of it.
+pub record IsServed {A : Type 0} (workers : ℕ) (script old new : Option (List ℕ)) (result : Result A ServeFault) : Type 0 where
   pub calls : List Call
   pub read : IsRead script 0 result calls
-  pub answered : AreAnswered calls
-  pub journal : List Line
-  pub legal : Legal limits journal
-  pub seats : IsBySeat calls journal
-  pub turns : AreInTurn limits.journal calls journal
+  pub answered : AreAnswered workers calls
   pub closing : List ℕ
-  pub closes : Closes (length journal) result closing
+  pub closes : Closes workers calls result closing
   pub told : Tells old new result (calls_text calls ++ closing)

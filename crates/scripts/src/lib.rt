@@ -1,13 +1,14 @@
-//! `serve`: scripts of orders over a book, with the replies that are printed.
+//! `serve`: scripts of orders at a desk, with the replies that are printed.
 #![tactic(auto)]
 
-mod answer;
+mod fault;
 mod options;
+mod outcome;
 mod print;
 mod run;
-mod sessions;
+mod seats;
 mod work;
 
+pub use fault::ServeFault;
 pub use options::Options;
-pub use orders::ServeFault;
 pub use run::serve;

@@ -1,54 +1,46 @@
 //! The printed answers of a script.
 
-ghost use Rattle.std.specs.Prelude.{◌≡◌, length, IfSome};
+ghost use Rattle.std.specs.Prelude.{◌≡◌, ◌++◌, IfSome, codes, decimal};
+ghost use Rattle.replies.specs.Replies.{reply_text};
 ghost use Rattle.report.specs.Writing.{Writes};
-ghost use Rattle.scripts.specs.Serving.{answer_text, finish_text, bad_line_text, not_taken_text, worked_text};
+ghost use Rattle.scripts.specs.Serving.{bad_line_text, cause_text, finish_text, not_taken_text, worked_text};
 
-use crate::answer::{Answer, Counts};
-use book::Refused;
+use crate::outcome::Sums;
+use book::{Refused, Reply};
 use itoa::Buffer;
 use replies::write_reply;
 use report::write_parts;
+use sessions::FinishCause;
 use std::alloc::Global;
 use wb_text::{Failed, MemSink, Sink, give_all};
 
 /// The most bytes that are given at once.
 const PAGE: usize = 65_536;
 
-/// Gives the text of an answer to the writer, at once where it fits a page and there is memory for one.
-pub fn give_answer<W: Sink>(alloc: Global, answer: &Answer, writer: &mut W) -> Result<(), Failed>
-    ensures { Writes W.held W.has_failed writer.old writer.new result (answer_text answer.now) }
+/// Gives the text of a reply to the writer, at once where it fits a page and there is memory for one.
+pub fn give_reply<W: Sink>(alloc: Global, reply: &Reply, writer: &mut W) -> Result<(), Failed>
+    ensures { Writes W.held W.has_failed writer.old writer.new result (reply_text reply.now) }
 {
-    match page(alloc, answer) {
+    match page(alloc, reply) {
         Some(page) => give_all(writer, page.bytes()),
-        None => write_answer(answer, writer),
+        None => write_reply(reply, writer),
     }
 }
 
-/// The text of an answer in memory.
-fn page(alloc: Global, answer: &Answer) -> Option<MemSink>
-    ensures { IfSome result (λ page. page.bytes ≡ answer_text answer.now) }
+/// The text of a reply in memory.
+fn page(alloc: Global, reply: &Reply) -> Option<MemSink>
+    ensures { IfSome result (λ page. page.bytes ≡ reply_text reply.now) }
 {
     let Ok(mut page) = MemSink::new(alloc, PAGE) else {
         return None;
     };
-    match write_answer(answer, &mut page) {
+    match write_reply(reply, &mut page) {
         Ok(()) => Some(page),
         Err(Failed) => None,
     }
 }
 
-fn write_answer<W: Sink>(answer: &Answer, writer: &mut W) -> Result<(), Failed>
-    ensures { Writes W.held W.has_failed writer.old writer.new result (answer_text answer.now) }
-{
-    match answer {
-        Answer::Made(entry) => write_reply(entry.entry().reply(), writer),
-        Answer::NotTaken(why) => write_not_taken(*why, writer),
-        Answer::Worked(counts) => write_worked(*counts, writer),
-    }
-}
-
-fn write_not_taken<W: Sink>(why: Refused, writer: &mut W) -> Result<(), Failed>
+pub fn write_not_taken<W: Sink>(why: Refused, writer: &mut W) -> Result<(), Failed>
     ensures { Writes W.held W.has_failed writer.old writer.new result (not_taken_text why) }
 {
     match why {
@@ -57,23 +49,23 @@ fn write_not_taken<W: Sink>(why: Refused, writer: &mut W) -> Result<(), Failed>
     }
 }
 
-/// Writes what was done of work.
-fn write_worked<W: Sink>(counts: Counts, writer: &mut W) -> Result<(), Failed>
-    ensures { Writes W.held W.has_failed writer.old writer.new result (worked_text counts) }
+/// Writes what the workers counted.
+pub fn write_worked<W: Sink>(sums: Sums, writer: &mut W) -> Result<(), Failed>
+    ensures { Writes W.held W.has_failed writer.old writer.new result (worked_text sums.evaluated sums.given_back sums.refused) }
 {
     let mut evaluated = Buffer::new();
-    let evaluated = evaluated.format(counts.evaluated).as_bytes();
+    let evaluated = evaluated.format(sums.evaluated).as_bytes();
     let mut given_back = Buffer::new();
-    let given_back = given_back.format(counts.given_back).as_bytes();
+    let given_back = given_back.format(sums.given_back).as_bytes();
     let mut refused = Buffer::new();
-    let refused = refused.format(counts.refused).as_bytes();
+    let refused = refused.format(sums.refused).as_bytes();
     let parts: [&[u8]; 7] = [
         b"worked ", evaluated, b" ", given_back, b" ", refused, b"\n",
     ];
     write_parts(&parts, writer)
 }
 
-/// Writes the last line of a script that is done.
+/// Writes the last line of a script whose journal has so many entries.
 pub fn write_finish<W: Sink>(entries: usize, writer: &mut W) -> Result<(), Failed>
     ensures { Writes W.held W.has_failed writer.old writer.new result (finish_text entries) }
 {
@@ -82,11 +74,32 @@ pub fn write_finish<W: Sink>(entries: usize, writer: &mut W) -> Result<(), Faile
     write_parts(&[b"finish ok ", entry_count, b"\n"], writer)
 }
 
+/// Writes why the receipts of the passes are not the journal.
+pub fn write_cause<W: Sink>(cause: FinishCause, writer: &mut W) -> Result<(), Failed>
+    ensures { Writes W.held W.has_failed writer.old writer.new result (cause_text cause) }
+{
+    match cause {
+        FinishCause::MissingPass(seat) => write_number(
+            b"finish 91 MissingPass ",
+            seat as u32,
+            writer,
+        ),
+        FinishCause::Mismatch(place) => write_number(b"finish 92 Mismatch ", place, writer),
+    }
+}
+
 /// Writes that the line of a number is bad.
 pub fn write_bad_line<W: Sink>(line: u32, writer: &mut W) -> Result<(), Failed>
     ensures { Writes W.held W.has_failed writer.old writer.new result (bad_line_text line) }
 {
-    let mut number = Buffer::new();
-    let number = number.format(line).as_bytes();
-    write_parts(&[b"bad line ", number, b"\n"], writer)
+    write_number(b"bad line ", line, writer)
+}
+
+/// Writes a line of some words and a number.
+fn write_number<W: Sink>(words: &[u8], number: u32, writer: &mut W) -> Result<(), Failed>
+    ensures { Writes W.held W.has_failed writer.old writer.new result (words.now ++ decimal number ++ codes "\n") }
+{
+    let mut buffer = Buffer::new();
+    let number = buffer.format(number).as_bytes();
+    write_parts(&[words, number, b"\n"], writer)
 }

@@ -14,6 +14,10 @@ pub returns-clause-too_many : goal.returns-clause-too_many
 unfolding clap_on_literals
 returns-clause-too_many c = refl
 
+pub returns-clause-nine_workers : goal.returns-clause-nine_workers
+unfolding clap_on_literals
+returns-clause-nine_workers c = refl
+
 pub returns-clause-flag_value : goal.returns-clause-flag_value
 unfolding clap_on_literals
 returns-clause-flag_value c = refl

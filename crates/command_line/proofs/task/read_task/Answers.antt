@@ -3,8 +3,8 @@ use Rattle.std.specs.Option.{IsSome}
 use Rattle.std.specs.Prelude.{unwrap_or}
 use Rattle.clap.specs.Faults.{fault_of, is_simple_and_free}
 use Rattle.command_line.proofs.FlagReads.{alone_is}
-use Rattle.command_line.proofs.JournalReads.{journal_number, text_is}
-use Rattle.command_line.specs.Words.{ReadsAs, text_for, texts_of}
+use Rattle.command_line.proofs.OptionReads.{journal_number, text_is, workers_number}
+use Rattle.command_line.specs.Words.{SaysNumber, text_for, texts_of}
 use Rattle.command_line.proofs.task.read_task.Goals as goal
 
 pub returns-then-get_flag-clause-task : goal.returns-then-get_flag-clause-task
@@ -23,7 +23,12 @@ returns-then-get_flag-clause-kinds c = subst (λ a. is_simple_and_free a ≡ tru
 pub unwrap-journal-requires : goal.unwrap-journal-requires
 unwrap-journal-requires c =
     let read = journal_number c.in_ok-command.field-0 c.in_ok-matches.matches _ c.get_one.result c.in_ok-command.ensures c.in_ok-matches.ensures.parsed c.in_ok-matches.ensures.matches c.get_one.ensures.value in
-    subst IsSome (sym read.2) refl
+    subst IsSome (sym read.is) refl
+
+pub unwrap-workers-requires : goal.unwrap-workers-requires
+unwrap-workers-requires c =
+    let read = workers_number c.in_ok-command.field-0 c.in_ok-matches.matches _ c.get_one-2.result c.in_ok-command.ensures c.in_ok-matches.ensures.parsed c.in_ok-matches.ensures.matches c.get_one-2.ensures.value in
+    subst IsSome (sym read.is) refl
 
 pub returns-clause-task : goal.returns-clause-task
 returns-clause-task c =
@@ -35,15 +40,22 @@ returns-clause-task c =
           cc
       | inr not_given ↦ not_given
     ] in
-    let read = journal_number c.in_ok-command.field-0 c.in_ok-matches.matches _ c.get_one.result c.in_ok-command.ensures c.in_ok-matches.ensures.parsed c.in_ok-matches.ensures.matches c.get_one.ensures.value in
-    let same : c.unwrap-journal.result ≡ read.1 = ap (λ o. unwrap_or o 0) (sym c.unwrap-journal.ensures ∙ read.2) in
-    (flag, (read.0, read.5, subst (ReadsAs read.0) (sym same) read.6))
+    let journal = journal_number c.in_ok-command.field-0 c.in_ok-matches.matches _ c.get_one.result c.in_ok-command.ensures c.in_ok-matches.ensures.parsed c.in_ok-matches.ensures.matches c.get_one.ensures.value in
+    let workers = workers_number c.in_ok-command.field-0 c.in_ok-matches.matches _ c.get_one-2.result c.in_ok-command.ensures c.in_ok-matches.ensures.parsed c.in_ok-matches.ensures.matches c.get_one-2.ensures.value in
+    let entries : c.unwrap-journal.result ≡ journal.n = ap (λ o. unwrap_or o 0) (sym c.unwrap-journal.ensures ∙ journal.is) in
+    let threads : c.unwrap-workers.result ≡ workers.n = ap (λ o. unwrap_or o 0) (sym c.unwrap-workers.ensures ∙ workers.is) in (
+      flag,
+      subst (SaysNumber 32 (codes "journal") (texts_of c.args.words.now)) (sym entries) journal.says,
+      subst (SaysNumber 8 (codes "workers") (texts_of c.args.words.now)) (sym threads) workers.says,
+    )
 
 pub returns-clause-range : goal.returns-clause-range
 returns-clause-range c =
-    let read = journal_number c.in_ok-command.field-0 c.in_ok-matches.matches _ c.get_one.result c.in_ok-command.ensures c.in_ok-matches.ensures.parsed c.in_ok-matches.ensures.matches c.get_one.ensures.value in
-    let same : c.unwrap-journal.result ≡ read.1 = ap (λ o. unwrap_or o 0) (sym c.unwrap-journal.ensures ∙ read.2) in
-    rw same (read.3, read.4)
+    let journal = journal_number c.in_ok-command.field-0 c.in_ok-matches.matches _ c.get_one.result c.in_ok-command.ensures c.in_ok-matches.ensures.parsed c.in_ok-matches.ensures.matches c.get_one.ensures.value in
+    let workers = workers_number c.in_ok-command.field-0 c.in_ok-matches.matches _ c.get_one-2.result c.in_ok-command.ensures c.in_ok-matches.ensures.parsed c.in_ok-matches.ensures.matches c.get_one-2.ensures.value in
+    let entries : c.unwrap-journal.result ≡ journal.n = ap (λ o. unwrap_or o 0) (sym c.unwrap-journal.ensures ∙ journal.is) in
+    let threads : c.unwrap-workers.result ≡ workers.n = ap (λ o. unwrap_or o 0) (sym c.unwrap-workers.ensures ∙ workers.is) in
+    rw (entries, threads) (journal.least, journal.most, workers.most)
 
 pub returns-clause-kinds : goal.returns-clause-kinds
 returns-clause-kinds c = subst (λ a. is_simple_and_free a ≡ true → fault_of a (texts_of c.args.words.now) ≡ []) c.in_ok-command.ensures c.in_ok-matches.ensures.kinds refl

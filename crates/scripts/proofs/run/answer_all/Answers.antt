@@ -1,116 +1,156 @@
-use Rattle.std.proofs.Common.{rules, ◌≡◌, [], ◌∷◌, ◌++◌, ◌∙◌, ap, inl, inr, sym, refl, subst, Err}
-use Rattle.std.specs.Prelude.{IfSome}
+use Rattle.std.proofs.Common.{◌≡◌, ◌∙◌, ◌<◌, ◌++◌, [], ◌∷◌, ap, inl, inr, sym, refl, subst, Err, arith, rules}
 use Rattle.std.proofs.KnownBytes.{Appends-nil}
 use Rattle.orders.specs.Lines.{ahead, AreLines, nothing_read}
-use Rattle.orders.specs.Scripts.{IsNextOrder, no_order}
-use Rattle.orders.specs.declared.fault.ServeFault.TheVariants as faults
-use Rattle.scripts.specs.Serving.{Call, AreInTurn, no_call, none_yet}
-use Rattle.orders.proofs.Counted.{joined, longer_still, same_number, told_on}
-use Rattle.scripts.proofs.Served.{turned, answered, none_of_calls, written, written_partly, tells_part, tells_whole, ordered, stopped, stopped_at_write}
+use Rattle.orders.specs.Scripts.{IsNextOrder, IsSpent, no_order}
+use Rattle.orders.proofs.Counted.{joined, longer_still}
+use Rattle.scripts.specs.Passes.{Have, ending}
+use Rattle.scripts.specs.Serving.{Call, IsRead, Tells, calls_text, entries_at, no_call}
+use Rattle.scripts.proofs.Calls.{answered_more, have_more, none_among, same_entries}
+use Rattle.scripts.proofs.Served.{ordered, read_failed, stopped, tells_ending, write_ending, written, written_partly}
 use Rattle.scripts.proofs.run.answer_all.Goals as goal
 
-pub returns-in_err-give_answer-in-Ok-clause-told : goal.returns-in_err-give_answer-in-Ok-clause-told
-returns-in_err-give_answer-in-Ok-clause-told g c =
-    let done = c.loop-order.invariant.0 in
-    let before = ahead c.loop-order.script.lines.block (g.R.Source.left c.loop-order.reader) in
-    let after = ahead c.next.new.self.lines.block (g.R.Source.left c.next.new.reader) in
-    let m = c.loop-order.script.lines.count in
-    let k = c.next.new.self.lines.count in
-    let lines = subst (λ o. IfSome o (λ _. AreLines before m after k)) c.in-Some.is c.in_ok-order.ensures.lines in
-    let next = subst (λ o. IfSome o (IsNextOrder before after)) c.in-Some.is c.in_ok-order.ensures.next in
-    let call : Call = record { order = c.in-Some.order; answer = c.in-Ok.answer } in (
-      done.0 ++ call ∷ [],
-      turned _ _ _ _ done.0 call c.loop-order.invariant.1 done.1 c.in-Ok.ensures.room c.in-Ok.ensures.makes,
-      tells_part _ _ c.from_residual-in_err-give_answer-in-Ok.result _ c.from_residual-in_err-give_answer-in-Ok.ensures.1
-          (written_partly _ _ _ done.0 call done.2 c.in_err-give_answer-in-Ok.ensures.0),
-      stopped_at_write c.from_residual-in_err-give_answer-in-Ok.result (done.0 ++ call ∷ []) c.from_residual-in_err-give_answer-in-Ok.ensures.1
-          (ordered _ before after done.0 call done.3 next) (joined _ before _ _ after _ c.loop-order.invariant.2 lines),
-      answered _ _ done.0 call done.1 done.4 c.in-Ok.ensures.answer,
-    )
+pub loop-order-init : goal.loop-order-init
+loop-order-init g c = record {
+  told = ([], no_call, c.requires.fresh, Appends-nil (g.W.Sink.held c.args.writer.now), no_order);
+  lines = nothing_read;
+  table = c.requires.table;
+  desk = refl;
+}
 
-pub returns-in_err-order-clause-told : goal.returns-in_err-order-clause-told
-returns-in_err-order-clause-told g c =
-    let done = c.loop-order.invariant.0 in (
-      done.0,
-      done.1,
-      tells_whole _ _ c.from_residual.result _ (search rules) done.2,
-      stopped _ c.from_residual.result done.0 c.from_residual.ensures.1 done.3 c.loop-order.invariant.2
-          (λ n e. inl (c.next.ensures.line n (c.in_err-order.was ∙ ap Err (told_on c.from_residual.result c.in_err-order.field-0.0 (faults.BadLine n) c.from_residual.ensures.1 e)))),
-      done.4,
-    )
+pub call-requires-clause-table : goal.call-requires-clause-table
+call-requires-clause-table g c κs within = c.loop-order.invariant.table
 
-pub returns-in_err-order-clause-read : goal.returns-in_err-order-clause-read
-returns-in_err-order-clause-read g c e =
-    longer_still _ _ _ _ c.loop-order.invariant.2 (c.next.ensures.read (c.in_err-order.was ∙ ap Err (told_on c.from_residual.result c.in_err-order.field-0.0 faults.Read c.from_residual.ensures.1 e)))
-
-pub returns-in-Err-clause-told : goal.returns-in-Err-clause-told
-returns-in-Err-clause-told g c =
-    let before = ahead c.loop-order.script.lines.block (g.R.Source.left c.loop-order.reader) in
-    let after = ahead c.next.new.self.lines.block (g.R.Source.left c.next.new.reader) in
-    let m = c.loop-order.script.lines.count in
-    let k = c.next.new.self.lines.count in
-    let lines = subst (λ o. IfSome o (λ _. AreLines before m after k)) c.in-Some.is c.in_ok-order.ensures.lines in
-    let next = subst (λ o. IfSome o (IsNextOrder before after)) c.in-Some.is c.in_ok-order.ensures.next in
-    let done = c.loop-order.invariant.0 in
-    let unclaimed = c.in-Err.ensures.none in
-    let bad = Err (faults.BadLine c.line_count.result) in (
-      done.0,
-      subst (λ b. AreInTurn c.args.sessions.now.book.limits.journal done.0 b.journal) (sym c.in-Err.ensures.same) done.1,
-      done.2,
-      stopped (λ e. e ≡ e) bad done.0 refl done.3 c.loop-order.invariant.2 (λ n e. inr (record {
-        after = after;
-        order = c.in-Some.order;
-        seat = unclaimed.0;
-        claim = unclaimed.1;
-        next = next;
-        lines = subst (AreLines before m after) (sym (same_number bad c.line_count.result n refl e ∙ c.line_count.ensures)) lines;
-        returns = unclaimed.2;
-        none = none_of_calls _ unclaimed.1 _ done.0 done.1 unclaimed.3;
-      })),
-      done.4,
-    )
-
-pub loop-order-preserved-in_ok-give_answer-in-Ok : goal.loop-order-preserved-in_ok-give_answer-in-Ok
-loop-order-preserved-in_ok-give_answer-in-Ok g c =
-    let done = c.loop-order.invariant.0 in
-    let before = ahead c.loop-order.script.lines.block (g.R.Source.left c.loop-order.reader) in
-    let after = ahead c.next.new.self.lines.block (g.R.Source.left c.next.new.reader) in
-    let next = subst (λ o. IfSome o (IsNextOrder before after)) c.in-Some.is c.in_ok-order.ensures.next in
-    let n = c.loop-order.script.lines.count in
-    let k = c.next.new.self.lines.count in
-    let lines = subst (λ o. IfSome o (λ _. AreLines before n after k)) c.in-Some.is c.in_ok-order.ensures.lines in
-    let call : Call = record { order = c.in-Some.order; answer = c.in-Ok.answer } in (
-      (
-        done.0 ++ call ∷ [],
-        turned _ _ _ _ done.0 call c.loop-order.invariant.1 done.1 c.in-Ok.ensures.room c.in-Ok.ensures.makes,
-        written _ _ _ done.0 call done.2 c.in_ok-give_answer-in-Ok.ensures,
-        ordered _ before after done.0 call done.3 next,
-        answered _ _ done.0 call done.1 done.4 c.in-Ok.ensures.answer,
-      ),
-      c.in-Ok.ensures.limits ∙ c.loop-order.invariant.1,
-      joined _ before _ _ after _ c.loop-order.invariant.2 lines,
-    )
+pub loop-order-smaller : goal.loop-order-smaller
+loop-order-smaller g c =
+    let more : (c.loop-order.script.lines.count < 1000000) × (c.loop-order.script.lines.count < c.next.new.self.lines.count) = rw c.in-Ok-Some.field-0-is at c.in-Ok-Some.ensures.more in
+    let few = more.0 in
+    let rises = more.1 in
+    omega (arith, few, rises)
 
 pub loop-order-preserved : goal.loop-order-preserved
 loop-order-preserved g c =
-    let done = c.loop-order.invariant.0 in
+    let told = c.loop-order.invariant.told in
     let before = ahead c.loop-order.script.lines.block (g.R.Source.left c.loop-order.reader) in
     let after = ahead c.next.new.self.lines.block (g.R.Source.left c.next.new.reader) in
-    let next = subst (λ o. IfSome o (IsNextOrder before after)) c.in-Some.is c.in_ok-order.ensures.next in
-    let n = c.loop-order.script.lines.count in
+    let m = c.loop-order.script.lines.count in
     let k = c.next.new.self.lines.count in
-    let lines = subst (λ o. IfSome o (λ _. AreLines before n after k)) c.in-Some.is c.in_ok-order.ensures.lines in
-    let call : Call = record { order = c.in-Some.order; answer = c.in-Ok.answer } in (
-      (
-        done.0 ++ call ∷ [],
-        turned _ _ _ _ done.0 call c.loop-order.invariant.1 done.1 c.in-Ok.ensures.room c.in-Ok.ensures.makes,
-        written _ _ _ done.0 call done.2 c.in_ok-give_answer-in-Ok.ensures,
-        ordered _ before after done.0 call done.3 next,
-        answered _ _ done.0 call done.1 done.4 c.in-Ok.ensures.answer,
-      ),
-      c.in-Ok.ensures.limits ∙ c.loop-order.invariant.1,
-      joined _ before _ _ after _ c.loop-order.invariant.2 lines,
+    let next : IsNextOrder before after c.in-Ok-Some.order = rw c.in-Ok-Some.field-0-is at c.in-Ok-Some.ensures.next in
+    let lines : AreLines before m after k = rw c.in-Ok-Some.field-0-is at c.in-Ok-Some.ensures.lines in
+    let a = c.in-Ok.ensures.answered in
+    let call : Call = record { order = c.in-Ok-Some.order; answer = a.answer } in
+    let passes = c.loop-order.seats.passes.items in
+    let table = c.loop-order.invariant.table in
+    let answered = answered_more c.args.seats.now.desk c.loop-order.seats.desk told.0 call passes c.loop-order.invariant.desk told.1 table told.2 a.is in
+    let have = have_more c.loop-order.seats.desk told.0 call passes c.call.new.self.passes.items table a.become told.2 in
+    record {
+      told = (told.0 ++ call ∷ [], answered, have, written _ _ _ told.0 call told.3 (c.in_ok-give_answer-in-Ok.ensures a.answer a.shows), ordered _ before after told.0 call told.4 next);
+      lines = joined _ before _ _ after _ c.loop-order.invariant.lines lines;
+      table = c.call.ensures.table;
+      desk = c.call.ensures.desk ∙ c.loop-order.invariant.desk;
+    }
+
+pub returns-in_err-give_answer-in-Ok-clause-told : goal.returns-in_err-give_answer-in-Ok-clause-told
+returns-in_err-give_answer-in-Ok-clause-told g c =
+    let told = c.loop-order.invariant.told in
+    let before = ahead c.loop-order.script.lines.block (g.R.Source.left c.loop-order.reader) in
+    let after = ahead c.next.new.self.lines.block (g.R.Source.left c.next.new.reader) in
+    let m = c.loop-order.script.lines.count in
+    let k = c.next.new.self.lines.count in
+    let next : IsNextOrder before after c.in-Ok-Some.order = rw c.in-Ok-Some.field-0-is at c.in-Ok-Some.ensures.next in
+    let lines : AreLines before m after k = rw c.in-Ok-Some.field-0-is at c.in-Ok-Some.ensures.lines in
+    let a = c.in-Ok.ensures.answered in
+    let call : Call = record { order = c.in-Ok-Some.order; answer = a.answer } in
+    let passes = c.loop-order.seats.passes.items in
+    let table = c.loop-order.invariant.table in
+    let answered = answered_more c.args.seats.now.desk c.loop-order.seats.desk told.0 call passes c.loop-order.invariant.desk told.1 table told.2 a.is in
+    let have = have_more c.loop-order.seats.desk told.0 call passes c.call.new.self.passes.items table a.become told.2 in
+    let calls = told.0 ++ call ∷ [] in
+    let failed = write_ending c.from_residual.result c.from_residual.ensures.1 in
+    let part = written_partly _ _ _ told.0 call told.3 (c.in_err-give_answer-in-Ok.ensures a.answer a.shows).0 in (
+      calls,
+      answered,
+      have,
+      subst (λ r. Tells (g.W.Sink.held c.args.writer.now) (g.W.Sink.held c.give_answer.new.writer) r (calls_text calls)) (sym failed) part,
+      subst (λ r. IsRead (ahead c.args.script.now.lines.block (g.R.Source.left c.args.reader.now)) c.args.script.now.lines.count r calls) (sym failed) (record {
+        end = after;
+        count = k;
+        orders = ordered _ before after told.0 call told.4 next;
+        lines = joined _ before _ _ after _ c.loop-order.invariant.lines lines;
+        stops = tt;
+      }),
     )
 
-pub loop-order-init : goal.loop-order-init
-loop-order-init g c = (([], subst (AreInTurn c.args.sessions.now.book.limits.journal []) (sym c.requires) none_yet, Appends-nil (g.W.Sink.held c.args.writer.now), no_order, no_call), refl, nothing_read)
+pub returns-in_err-give_answer-in-Ok-clause-desk : goal.returns-in_err-give_answer-in-Ok-clause-desk
+returns-in_err-give_answer-in-Ok-clause-desk g c = c.call.ensures.desk ∙ c.loop-order.invariant.desk
+
+pub returns-in-Err-call-clause-told : goal.returns-in-Err-call-clause-told
+returns-in-Err-call-clause-told g c =
+    let told = c.loop-order.invariant.told in
+    let before = ahead c.loop-order.script.lines.block (g.R.Source.left c.loop-order.reader) in
+    let after = ahead c.next.new.self.lines.block (g.R.Source.left c.next.new.reader) in
+    let m = c.loop-order.script.lines.count in
+    let k = c.next.new.self.lines.count in
+    let next : IsNextOrder before after c.in-Ok-Some.order = rw c.in-Ok-Some.field-0-is at c.in-Ok-Some.ensures.next in
+    let lines : AreLines before m after k = rw c.in-Ok-Some.field-0-is at c.in-Ok-Some.ensures.lines in
+    let passes = c.loop-order.seats.passes.items in
+    let same = same_entries _ c.loop-order.seats.desk told.0 passes told.1 c.loop-order.invariant.table told.2 in
+    let unclaimed = c.in-Err-call.ensures.none in (
+      told.0,
+      told.1,
+      subst (Have (λ seat. entries_at seat told.0) 0) (sym c.in-Err-call.ensures.same) told.2,
+      told.3,
+      record {
+        end = before;
+        count = m;
+        orders = told.4;
+        lines = c.loop-order.invariant.lines;
+        stops = inr (record {
+          after = after;
+          order = c.in-Ok-Some.order;
+          seat = unclaimed.0;
+          claim = unclaimed.1;
+          next = next;
+          lines = subst (AreLines before m after) (sym c.line_count.ensures) lines;
+          returns = unclaimed.2;
+          none = none_among unclaimed.1 _ _ same unclaimed.3;
+        });
+      },
+    )
+
+pub returns-in-Err-call-clause-desk : goal.returns-in-Err-call-clause-desk
+returns-in-Err-call-clause-desk g c = c.call.ensures.desk ∙ c.loop-order.invariant.desk
+
+pub returns-in-Ok-None-clause-told : goal.returns-in-Ok-None-clause-told
+returns-in-Ok-None-clause-told g c =
+    let told = c.loop-order.invariant.told in
+    let before = ahead c.loop-order.script.lines.block (g.R.Source.left c.loop-order.reader) in
+    let after = ahead c.next.new.self.lines.block (g.R.Source.left c.next.new.reader) in
+    let m = c.loop-order.script.lines.count in
+    let spent : IsSpent before m after = rw c.in-Ok-None.field-0-is at c.in-Ok-None.ensures.spent in
+    (told.0, told.1, told.2, told.3, record { end = before; count = m; orders = told.4; lines = c.loop-order.invariant.lines; stops = (after, spent) })
+
+pub returns-in-Ok-None-clause-table : goal.returns-in-Ok-None-clause-table
+returns-in-Ok-None-clause-table g c = c.loop-order.invariant.table
+
+pub returns-in-Ok-None-clause-desk : goal.returns-in-Ok-None-clause-desk
+returns-in-Ok-None-clause-desk g c = c.loop-order.invariant.desk
+
+pub returns-in-Err-clause-told : goal.returns-in-Err-clause-told
+returns-in-Err-clause-told g c =
+    let told = c.loop-order.invariant.told in (
+      told.0,
+      told.1,
+      told.2,
+      tells_ending _ _ c.in-Err.fault _ told.3,
+      stopped c.in-Err.fault told.0 told.4 c.loop-order.invariant.lines (λ n e. inl (c.next.ensures.line n (c.in-Err.is ∙ ap Err e))),
+    )
+
+pub returns-in-Err-clause-read : goal.returns-in-Err-clause-read
+returns-in-Err-clause-read g c e =
+    longer_still _ _ _ _ c.loop-order.invariant.lines (c.next.ensures.read (c.in-Err.is ∙ ap Err (read_failed c.in-Err.fault e)))
+
+pub returns-in-Err-clause-table : goal.returns-in-Err-clause-table
+returns-in-Err-clause-table g c = c.loop-order.invariant.table
+
+pub returns-in-Err-clause-desk : goal.returns-in-Err-clause-desk
+returns-in-Err-clause-desk g c = c.loop-order.invariant.desk

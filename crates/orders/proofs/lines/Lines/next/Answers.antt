@@ -1,7 +1,7 @@
 use Rattle.std.proofs.Common.{◌≡◌, ◌≤◌, ◌+◌, [], length, sym, ap, subst, inr, arith, ◌∙◌, Ok, Err, codes}
 use Rattle.std.specs.Prelude.{OnOk}
 use Rattle.orders.specs.Lines.{ahead, Grows, IsNextLine}
-use Rattle.orders.specs.declared.fault.ServeFault.TheVariants as faults
+use Rattle.orders.specs.declared.fault.ScriptFault.TheVariants as faults
 use Rattle.orders.proofs.Counted.{more_ahead, told_on}
 use Rattle.orders.proofs.Taken.{fed_line, last_line, too_long}
 use Rattle.orders.proofs.lines.Lines.next.Goals as goal

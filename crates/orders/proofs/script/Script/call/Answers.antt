@@ -1,7 +1,7 @@
 use Rattle.std.proofs.Common.{Err, inl, inr, refl, ap, subst, ◌∙◌}
 use Rattle.orders.specs.Lines.{nothing_read}
 use Rattle.orders.specs.Spelled.{OpensText, SpellsNone}
-use Rattle.orders.specs.declared.fault.ServeFault.TheVariants as faults
+use Rattle.orders.specs.declared.fault.ScriptFault.TheVariants as faults
 use Rattle.orders.proofs.Counted.{same_number, told_on}
 use Rattle.orders.proofs.Texts.{opened}
 use Rattle.orders.proofs.script.Script.call.Goals.{in-Cat+in_ok-text-in-Cat, in-Test+in_ok-text-in-Test, in-Whole}

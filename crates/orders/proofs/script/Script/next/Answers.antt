@@ -3,7 +3,7 @@ use Rattle.std.proofs.lemmas.Bool.{false≢true}
 use Rattle.orders.specs.Lines.{ahead, nothing_read}
 use Rattle.orders.specs.Scripts.{no_line, next_line, no_head, long_head}
 use Rattle.orders.specs.Spelled.{IsSkipped}
-use Rattle.orders.specs.declared.fault.ServeFault.TheVariants as faults
+use Rattle.orders.specs.declared.fault.ScriptFault.TheVariants as faults
 use Rattle.orders.proofs.Counted.{counted, grows, joined, longer_still, told_on}
 use Rattle.orders.proofs.Texts.{cut_text}
 use Rattle.orders.proofs.script.Script.next.Goals as goal

@@ -2,7 +2,7 @@ use Rattle.std.proofs.Common.{◌++◌, ◌-◌, [], length, take, sym, refl, ap
 use Rattle.std.proofs.lemmas.Bool.{false≢true}
 use Rattle.orders.specs.Lines.{nothing_read}
 use Rattle.orders.specs.Scripts.{no_text, long_line, open_text}
-use Rattle.orders.specs.declared.fault.ServeFault.TheVariants as faults
+use Rattle.orders.specs.declared.fault.ScriptFault.TheVariants as faults
 use Rattle.orders.proofs.Counted.{counted, same_number, told_on}
 use Rattle.orders.proofs.Taken.{ended}
 use Rattle.orders.proofs.Texts.{gathered}

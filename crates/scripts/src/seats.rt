@@ -1,0 +1,275 @@
+//! The sessions and the workers of a script, at one desk.
+
+ghost use Rattle.std.specs.Prelude.{◌≡◌, ◌<◌, ◌≤◌, ◌-◌, [], ℕ, List, length, take, Some, Ok, slice_get, IfOk, IfErr, IfNone, IsErr, OnErr, OnSome, MatchOption};
+ghost use Rattle.journal.specs.Lines.{Line, seen};
+ghost use Rattle.sessions.specs.Finish.{IsFault, IsLegal, IsShared};
+ghost use Rattle.orders.specs.Spelled.{IsSeated};
+ghost use Rattle.scripts.specs.Answers.{Answer, Answers, Asks, IsGiven, IsRight};
+ghost use Rattle.scripts.specs.Passes.{Have, IsAnswered, IsCall, IsTable, NoneGives, Shows, SomeGives, session_receipts};
+ghost use Rattle.scripts.specs.Serving.{GivesNone, GivesPiece, answer_text};
+ghost use Rattle.report.specs.Writing.{Writes};
+
+use crate::outcome::{Outcome, Sums};
+use crate::print::{give_reply, write_not_taken, write_worked};
+use crate::work::{NoGate, sums};
+use book::{Command, Entry, Limits, Refused, Reply};
+use orders::{Order, Request};
+use sessions::{Desk, FinishCause, Pass, Receipt, finish, open};
+use slices::{Piece, evaluate};
+use std::alloc::{AllocError, Global};
+use std::sync::Wait;
+use std::sync::ledger::{Blank, Ledger};
+use std::thread::Threads;
+use wb_text::{Failed, Sink};
+use workers::work_until_idle;
+
+/// How many sessions a script has. They sit at the first seats, and the workers behind them.
+pub const SESSIONS: u8 = 8;
+
+/// A desk and the passes of all its seats. A pass keeps each piece that was claimed by it to the end, so that a result can be
+/// returned twice.
+#[derive(Drop)]
+pub struct Seats<L: Ledger> {
+    alloc: Global,
+    desk: Desk<L>,
+    passes: Vec<Pass<L>>,
+}
+
+/// A result is to be returned of a piece that no claim gave.
+#[derive(Clone, Copy, Debug, Drop, PartialEq, Eq)]
+pub struct NoPiece;
+
+impl<L: Ledger> Seats<L> {
+    /// A desk of n seats with an empty book.
+    pub fn open(alloc: Global, blank: Blank, limits: Limits, n: u8) -> Result<Self, AllocError>
+        requires name { blank.name ≡ L.name }
+        requires parts { (blank.parts ≡ L.parts) × (blank.parts ≡ n) }
+        requires seats { (8 < n) × (n ≤ 64) }
+        ensures table { IfOk result (λ s. IsTable s.desk s.passes.items) }
+        ensures desk { IfOk result (λ s. s.desk ≡ n) }
+        ensures fresh { IfOk result (λ s. Have (λ _. []) 0 s.passes.items) }
+    {
+        let (desk, passes) = open::<L>(alloc, blank, limits, n)?;
+        Ok(Seats {
+            alloc,
+            desk,
+            passes,
+        })
+    }
+
+    /// Makes the call that the session at a seat asks for.
+    fn ask<R: Wait>(&mut self, rt: &R, seat: u8, request: Request) -> Result<Outcome, NoPiece>
+        requires table { IsTable self.old.desk self.old.passes.items }
+        requires seat { seat < 8 }
+        ensures table { IsTable self.new.desk self.new.passes.items }
+        ensures desk { self.new.desk ≡ self.old.desk }
+        ensures call { IfOk result (λ outcome. IsAnswered self.old.passes.items self.new.passes.items outcome (IsCall seat (Asks (session_receipts self.old.passes.items) request))) }
+        ensures same { OnErr result (self.new.passes.items ≡ self.old.passes.items) }
+        ensures none { OnErr result ((claim : ℕ) × (request ≡ Request.Return claim) × GivesNone claim (session_receipts self.old.passes.items)) }
+    {
+        match command(request) {
+            Ok(command) => Ok(self.apply(rt, seat, command)),
+            Err(claim) => self.return_piece(rt, seat, claim),
+        }
+    }
+
+    /// Evaluates the piece of a claim and returns the result.
+    fn return_piece<R: Wait>(&mut self, rt: &R, seat: u8, claim: u32) -> Result<Outcome, NoPiece>
+        requires table { IsTable self.old.desk self.old.passes.items }
+        requires seat { seat < 8 }
+        ensures table { IsTable self.new.desk self.new.passes.items }
+        ensures desk { self.new.desk ≡ self.old.desk }
+        ensures call { IfOk result (λ outcome. IsAnswered self.old.passes.items self.new.passes.items outcome (IsCall seat (Asks (session_receipts self.old.passes.items) (Request.Return claim)))) }
+        ensures same { OnErr result (self.new.passes.items ≡ self.old.passes.items) }
+        ensures none { OnErr result (GivesNone claim (session_receipts self.old.passes.items)) }
+    {
+        match self.piece(claim) {
+            Some(piece) => match evaluate(self.alloc, piece) {
+                Ok(part) => Ok(self.apply(rt, seat, Command::Return(part))),
+                Err(AllocError) => Ok(Outcome::NotTaken(Refused::NoMemory)),
+            },
+            None => Err(NoPiece),
+        }
+    }
+
+    /// Makes a call of the session at a seat.
+    fn apply<R: Wait>(&mut self, rt: &R, seat: u8, command: Command) -> Outcome
+        requires table { IsTable self.old.desk self.old.passes.items }
+        requires seat { seat < 8 }
+        ensures table { IsTable self.new.desk self.new.passes.items }
+        ensures desk { self.new.desk ≡ self.old.desk }
+        ensures call { IsAnswered self.old.passes.items self.new.passes.items result (IsCall seat (λ said. said ≡ seen command)) }
+    {
+        let answer = self.desk.call(rt, &mut self.passes[seat as usize], command);
+        match refusal(answer) {
+            None => {
+                find_right(last_entry(&self.passes[seat as usize]).reply());
+                Outcome::Made(seat)
+            }
+            Some(why) => Outcome::NotTaken(why),
+        }
+    }
+
+    /// The piece that a claim gave a session.
+    fn piece(&self, claim: u32) -> Option<&Piece>
+        requires { IsTable self.now.desk self.now.passes.items }
+        ensures { MatchOption result (NoneGives claim (take 8 self.now.passes.items)) (λ p. SomeGives claim (take 8 self.now.passes.items) p.now) }
+    {
+        piece_in(&self.passes[..SESSIONS as usize], claim)
+    }
+
+    /// Gives the writer the text of what became of an order.
+    pub fn give_answer<W: Sink>(&self, outcome: Outcome, writer: &mut W) -> Result<(), Failed>
+        requires { (answer : Answer) × Shows self.now.passes.items outcome answer }
+        ensures { (answer : Answer) → Shows self.now.passes.items outcome answer → Writes W.held W.has_failed writer.old writer.new result (answer_text answer) }
+    {
+        match outcome {
+            Outcome::Made(seat) => {
+                let entry = last_entry(&self.passes[seat as usize]);
+                give_reply(self.alloc, entry.reply(), writer)
+            }
+            Outcome::NotTaken(why) => write_not_taken(why, writer),
+            Outcome::Worked(sums) => write_worked(sums, writer),
+        }
+    }
+
+    /// Ends the desk, and answers how many entries its journal has.
+    pub fn close(self) -> Result<usize, FinishCause>
+        requires { IsTable self.desk self.passes.items }
+        ensures done { IfOk result (λ entries. (journal : List Line) × IsLegal journal × (entries ≡ length journal) × IsShared journal self.passes.items) }
+        ensures fault { IfErr result (λ cause. (journal : List Line) × IsLegal journal × IsFault self.desk self.passes.items journal cause) }
+    {
+        let Seats {
+            alloc: _,
+            desk,
+            passes,
+        } = self;
+        match finish(desk, passes) {
+            Ok(closed) => Ok(closed.journal.len()),
+            Err(fault) => Err(fault.cause),
+        }
+    }
+}
+
+impl<L: Ledger + Send + Sync> Seats<L> {
+    /// Does what is ordered.
+    pub fn call<R: Threads + Wait + Sync>(
+        &mut self,
+        rt: &R,
+        order: Order,
+    ) -> Result<Outcome, NoPiece>
+        requires table { IsTable self.old.desk self.old.passes.items }
+        requires seated { IsSeated order }
+        ensures table { IsTable self.new.desk self.new.passes.items }
+        ensures desk { self.new.desk ≡ self.old.desk }
+        ensures answered { IfOk result (λ outcome. IsAnswered self.old.passes.items self.new.passes.items outcome (Answers (self.old.desk - 8) (session_receipts self.old.passes.items) order)) }
+        ensures same { OnErr result (self.new.passes.items ≡ self.old.passes.items) }
+        ensures none { OnErr result ((seat : ℕ) × (claim : ℕ) × (order ≡ Order.Call seat (Request.Return claim)) × GivesNone claim (session_receipts self.old.passes.items)) }
+    {
+        match order {
+            Order::Call(seat, request) => self.ask(rt, seat, request),
+            Order::Work => Ok(Outcome::Worked(self.work(rt))),
+        }
+    }
+
+    /// Lets the workers work until nothing is free.
+    fn work<R: Threads + Wait + Sync>(&mut self, rt: &R) -> Sums
+        requires { IsTable self.old.desk self.old.passes.items }
+        ensures table { IsTable self.new.desk self.new.passes.items }
+        ensures desk { self.new.desk ≡ self.old.desk }
+        ensures worked { IsAnswered self.old.passes.items self.new.passes.items (Outcome.Worked result) (Answers (self.old.desk - 8) (session_receipts self.old.passes.items) Order.Work) }
+    {
+        let (_, workers) = self.passes.split_at_mut(SESSIONS as usize);
+        let report = work_until_idle(rt, self.alloc, &self.desk, workers, &NoGate);
+        sums(report.counts.as_slice())
+    }
+}
+
+/// Why a call isn't taken, if it isn't. The command is let go.
+fn refusal(answer: Result<(), (Command, Refused)>) -> Option<Refused>
+    ensures made { IfNone result (answer ≡ Ok tt) }
+    ensures refused { OnSome result (IsErr answer) }
+{
+    match answer {
+        Ok(()) => None,
+        Err((_, why)) => Some(why),
+    }
+}
+
+/// The piece that one of the passes was given under a claim.
+fn piece_in<L: Ledger>(passes: &[Pass<L>], claim: u32) -> Option<&Piece>
+    ensures { MatchOption result (NoneGives claim passes.now) (λ p. SomeGives claim passes.now p.now) }
+{
+    for pass in passes {
+        if let Some(piece) = piece_among(pass.receipts(), claim) {
+            return Some(piece);
+        }
+    }
+    None
+}
+
+/// The entry of the last call of a pass.
+fn last_entry<L: Ledger>(pass: &Pass<L>) -> &Entry
+    requires { 0 < length pass.now.receipts }
+    ensures { slice_get pass.now.receipts (length pass.now.receipts - 1) ≡ Some result.now }
+{
+    match pass.receipts().last() {
+        Some(receipt) => receipt.entry(),
+        None => unreachable!(),
+    }
+}
+
+/// Sees that a verdict that is replied is right.
+fn find_right(reply: &Reply)
+    ensures { IsRight reply.now }
+{
+    if let Reply::Verdict(verdict) = reply {
+        let _finding = verdict.verdict().finding();
+    }
+}
+
+/// The piece that one of the receipts gives under a claim. It is looked for from the last back, since most pieces are returned soon.
+fn piece_among(receipts: &[Receipt], claim: u32) -> Option<&Piece>
+    ensures { MatchOption result (GivesNone claim receipts.now) (λ p. IsGiven claim p.now receipts.now) }
+{
+    let mut rest = receipts;
+    while let Some((last, before)) = rest.split_last() {
+        if let Some(piece) = piece_of(last.entry(), claim) {
+            return Some(piece);
+        }
+        rest = before;
+    }
+    None
+}
+
+/// The piece that an entry gives, if it is this claim's.
+fn piece_of(entry: &Entry, claim: u32) -> Option<&Piece>
+    ensures { MatchOption result (¬ GivesPiece claim entry.now) (λ p. (p.now.claim ≡ claim) × (entry.now.reply ≡ Reply.Piece p.now)) }
+{
+    match entry.reply() {
+        Reply::Piece(piece) if piece.claim() == claim => Some(piece),
+        _ => None,
+    }
+}
+
+/// The command of a request; of one to return a piece, its claim.
+fn command(request: Request) -> Result<Command, u32>
+    ensures asks { IfOk result (λ c. (entries : List Line) → Asks entries request (seen c)) }
+    ensures returns { IfErr result (λ claim. request ≡ Request.Return claim) }
+{
+    match request {
+        Request::PutCat(name, text) => Ok(Command::PutCat(name, text)),
+        Request::PutTest(text) => Ok(Command::PutTest(text)),
+        Request::DropCat(name) => Ok(Command::DropCat(name)),
+        Request::DropTest(name) => Ok(Command::DropTest(name)),
+        Request::Ask(test, cat) => Ok(Command::Ask(test, cat)),
+        Request::Poll(job) => Ok(Command::Poll(job)),
+        Request::Forget(job) => Ok(Command::Forget(job)),
+        Request::Release(job) => Ok(Command::Release(job)),
+        Request::List => Ok(Command::List),
+        Request::Claim => Ok(Command::Claim),
+        Request::Return(claim) => Err(claim),
+        Request::GiveBack(claim) => Ok(Command::GiveBack(claim)),
+        Request::Close => Ok(Command::Close),
+    }
+}
