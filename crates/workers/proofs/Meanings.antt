@@ -13,7 +13,7 @@ use Rattle.journal.specs.declared.records.Reply.TheVariants.{Piece, Nothing, Ref
 use Rattle.journal.specs.Lines.{Line}
 use Rattle.sessions.specs.declared.passes.Counts.{Counts}
 use Rattle.workers.specs.declared.working.Form.{Form}
-use Rattle.workers.specs.declared.working.Form.TheVariants.{UntilIdle, UntilClosed}
+use Rattle.workers.specs.declared.working.Form.TheVariants.{UntilIdle}
 use Rattle.workers.specs.Trace.{Stage, Free, Holds, Ended, Wrong, claim_refused, claimed, returned, after, stage_after, EndsAt, is_give_back, returns, IsWorkFrom}
 use Rattle.workers.specs.Words.{IsFor, FollowedBy, EachFollowed, BackIsLast, EndsClaims, IsLast, EndsIn}
 

@@ -1,4 +1,3 @@
-use Rattle.std.proofs.Common.{rules}
 use Rattle.workers.proofs.Going.{replied}
 use Rattle.workers.proofs.calls.DeskCalls.hand_in.Goals as goal
 
