@@ -1,0 +1,6 @@
+use Rattle.std.proofs.Common.{rules}
+use Rattle.scripts.proofs.Pieces.{pass_on}
+use Rattle.scripts.proofs.seats.piece_in.Goals as goal
+
+pub loop-pass-preserved : goal.loop-pass-preserved
+loop-pass-preserved g c = pass_on c.args.claim c.loop-pass.pass-index c.args.passes.now c.pass-item.result (search rules) (search rules) (search rules) c.loop-pass.invariant
