@@ -131,7 +131,7 @@ same_entries workers desk calls passes answered table h =
     }
 
 given_among : (claim : ℕ) (piece : Portion) (xs ys : List Line) → ((x : Line) → Contains xs x → Contains ys x) → IsGiven claim piece xs → IsGiven claim piece ys
-given_among claim piece xs ys to given = (given.0, given.1, to given.1 given.2, given.3)
+given_among claim piece xs ys to given = (given.0, (given.1.0, to given.1.0 given.1.1, given.1.2))
 
 asks_among : (xs ys : List Line) (request : Request) (said : Said) → ((x : Line) → Contains xs x → Contains ys x) → Asks xs request said → Asks ys request said
 asks_among xs ys (PutCat name text) said to asks = asks

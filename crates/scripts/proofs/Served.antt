@@ -57,9 +57,9 @@ read_failed reading.Read e = refl
 read_failed (reading.BadLine line) e = cc
 read_failed reading.NoMemory e = cc
 
-pub write_ending : {P : Failed → Type 0} (r : Result (Result (Unit {0}) ScriptFault) Failed) → IsErrAnd r P → ending r ≡ Err faults.Write
-write_ending (Ok done) is = absurd is
-write_ending (Err failed) is = refl
+pub write_ending : (P : Failed → Type 0) (r : Result (Result (Unit {0}) ScriptFault) Failed) → IsErrAnd r P → ending r ≡ Err faults.Write
+write_ending P (Ok done) is = absurd is
+write_ending P (Err failed) is = refl
 
 pub tells_ending : (old new : Option (List ℕ)) (fault : ScriptFault) (text : List ℕ) → Appends old new text → Tells old new (ending (Ok (Err fault))) text
 tells_ending old new reading.Read text w = w

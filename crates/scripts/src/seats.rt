@@ -179,10 +179,25 @@ impl<L: Ledger + Send + Sync> Seats<L> {
         ensures desk { self.new.desk ≡ self.old.desk }
         ensures worked { IsAnswered self.old.passes.items self.new.passes.items (Outcome.Worked result) (Answers (self.old.desk - 8) (session_receipts self.old.passes.items) Order.Work) }
     {
-        let (_, workers) = self.passes.split_at_mut(SESSIONS as usize);
-        let report = work_until_idle(rt, self.alloc, &self.desk, workers, &NoGate);
-        sums(report.counts.as_slice())
+        work_behind(rt, self.alloc, &self.desk, &mut self.passes)
     }
+}
+
+/// Lets the workers work, whose passes stand behind those of the sessions.
+fn work_behind<L: Ledger + Send + Sync, R: Threads + Wait + Sync>(
+    rt: &R,
+    alloc: Global,
+    desk: &Desk<L>,
+    passes: &mut [Pass<L>],
+) -> Sums
+    requires { IsTable desk.now passes.old }
+    ensures table { IsTable desk.now passes.new }
+    ensures worked { IsAnswered passes.old passes.new (Outcome.Worked result) (Answers (desk.now - 8) (session_receipts passes.old) Order.Work) }
+{
+    let (sessions, workers) = passes.split_at_mut(SESSIONS as usize);
+    let _ = sessions;
+    let report = work_until_idle(rt, alloc, desk, workers, &NoGate);
+    sums(report.counts.as_slice())
 }
 
 /// Why a call isn't taken, if it isn't. The command is let go.

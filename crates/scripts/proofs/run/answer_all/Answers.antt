@@ -65,7 +65,7 @@ returns-in_err-give_answer-in-Ok-clause-told g c =
     let answered = answered_more c.args.seats.now.desk c.loop-order.seats.desk told.0 call passes c.loop-order.invariant.desk told.1 table told.2 a.is in
     let have = have_more c.loop-order.seats.desk told.0 call passes c.call.new.self.passes.items table a.become told.2 in
     let calls = told.0 ++ call ∷ [] in
-    let failed = write_ending c.from_residual.result c.from_residual.ensures.1 in
+    let failed = write_ending _ c.from_residual.result c.from_residual.ensures.1 in
     let part = written_partly _ _ _ told.0 call told.3 (c.in_err-give_answer-in-Ok.ensures a.answer a.shows).0 in (
       calls,
       answered,

@@ -1,4 +1,5 @@
-use Rattle.std.proofs.Common.{◌≡◌, ◌-◌, Ok, Err, rules}
+use Rattle.std.proofs.Common.{◌≡◌, ◌-◌, Ok, Err, ap, rules}
+use Rattle.scripts.specs.Passes.{ending}
 use Rattle.scripts.proofs.Served.{end_follows, end_told, failed_told, fault_follows, fault_told}
 use Rattle.scripts.proofs.run.end.Goals as goal
 
@@ -14,3 +15,6 @@ returns-in-Ok-Err-clause-told g c calls answered have =
 
 pub returns-in-Ok-Err-clause-follows : goal.returns-in-Ok-Err-clause-follows
 returns-in-Ok-Err-clause-follows g c = fault_follows c.args.outcome c.in-Ok-Err.fault c.tell.result (search rules) c.tell.ensures.err c.tell.ensures.fault
+
+pub returns-in-Err-clause-told : goal.returns-in-Err-clause-told
+returns-in-Err-clause-told g c calls answered have = failed_told (c.args.seats.desk - 8) calls (g.W.Sink.held c.args.writer.now) c.args.outcome (ap ending c.in-Err.is)
