@@ -109,7 +109,7 @@ impl LiveClaims {
     }
 
     /// How many are of a job.
-    #[tactic(auto, using(crate::proofs::Held::count_here, crate::proofs::Held::count_next, crate::proofs::Held::count_behind, crate::proofs::Held::count_end))]
+    #[tactic(auto, using(crate::proofs::Held::count_end))]
     pub fn of_job(&self, number: u32) -> usize
         ensures { result ≡ count_by (is_of number) self.now }
     {
