@@ -132,8 +132,15 @@ fn comes_back(alloc: Global, book: &mut Book, step: Step) -> bool {
 
 /// Whether the command of a case comes back where the steps before it fill the journal.
 fn is_refused_when_full(alloc: Global, case: &Case) -> bool {
+    match u32::try_from(case.before.len()) {
+        Ok(entries) => is_refused_behind(alloc, case, entries),
+        Err(_) => false,
+    }
+}
+
+fn is_refused_behind(alloc: Global, case: &Case, entries: u32) -> bool {
     let limits = Limits {
-        journal: case.before.len() as u32,
+        journal: entries,
         versions: 10,
         claims: 10,
     };
