@@ -169,8 +169,8 @@ unclaimed true true c h = cc
 unclaimed true false c h = refl
 unclaimed false b c h = cc
 
-pub first_ready : (s : Workbench) (job : jobs.Job) (k i : ℕ) → IsFirstFree s job k i → (is_claimed s.live job.number i ≡ false) × IsPassed s k i
-first_ready s job k i h = (unclaimed (not h.free.1.0.returned) (is_claimed s.live job.number i) (is_replaced s job) h.free.1.2, h.passed)
+pub first_ready : (s : Workbench) (job : jobs.Job) (k i number : ℕ) → IsFirstFree s job k i → number ≡ s.last_claim + 1 → (s.last_claim < number) × (is_claimed s.live job.number i ≡ false) × IsPassed s k i
+first_ready s job k i number h e = (omega (arith, e), unclaimed (not h.free.1.0.returned) (is_claimed s.live job.number i) (is_replaced s job) h.free.1.2, h.passed)
 
 pub slice_inside : (s : Workbench) (job : jobs.Job) (k i : ℕ) → IsFirstFree s job k i → i < length job.slices
 slice_inside s job k i h = inside job.slices i h.free.1.0 h.free.1.1

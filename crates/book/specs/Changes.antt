@@ -34,11 +34,11 @@ FitsJob None part = ⊥
 FitsJob (Some job) part = IsFit job part
 
 -- A taken result must be of a job that is there, a put or a drop raises the version, and what is dropped must be there.
--- A slice that is to be held must not be claimed, and no slice before the mark free.
+-- A claim has a new number, and the slice that it is to hold must not be claimed, and no slice before the mark free.
 abbrev pub IsReady : Workbench → Change → Type 0
 IsReady s (Take number seat job part) = FitsJob (job_of s.jobs job) part
 IsReady s (PutCat name version file) = version_of name s.cats < version
 IsReady s (DropCat name version) = (is_some (loaded name s.cats) ≡ true) × (version_of name s.cats < version)
 IsReady s (Open job) = job.number ≡ s.last_job + 1
-IsReady s (Hold claim mark) = (is_claimed s.live claim.job claim.slice ≡ false) × IsPassed s mark.job mark.slice
+IsReady s (Hold claim mark) = (s.last_claim < claim.number) × (is_claimed s.live claim.job claim.slice ≡ false) × IsPassed s mark.job mark.slice
 IsReady s _ = Unit {0}

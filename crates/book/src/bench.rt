@@ -37,7 +37,6 @@ pub struct Bench {
     /// Where the search for a free slice goes on.
     mark: Mark,
     last_job: u32,
-    last_claim: u32,
     closed: bool,
 }
 
@@ -50,9 +49,9 @@ impl std::marker::Model for Bench {
 
     ghost coded = { coded_workbench };
 
-    ghost view = { λ b. record { limits = b.limits; tests = b.tests; cats = b.cats; jobs = b.jobs.items; live = b.live; last_job = b.last_job; last_claim = b.last_claim; closed = b.closed } };
+    ghost view = { λ b. record { limits = b.limits; tests = b.tests; cats = b.cats; jobs = b.jobs.items; live = b.live.0; last_job = b.last_job; last_claim = b.live.1; closed = b.closed } };
 
-    ghost invariant = { λ b. IsPassed (record { limits = b.limits; tests = b.tests; cats = b.cats; jobs = b.jobs.items; live = b.live; last_job = b.last_job; last_claim = b.last_claim; closed = b.closed }) b.mark.job b.mark.slice };
+    ghost invariant = { λ b. IsPassed (record { limits = b.limits; tests = b.tests; cats = b.cats; jobs = b.jobs.items; live = b.live.0; last_job = b.last_job; last_claim = b.live.1; closed = b.closed }) b.mark.job b.mark.slice };
 }
 
 impl Bench {
@@ -69,7 +68,6 @@ impl Bench {
             live: LiveClaims::new(alloc),
             mark: Mark { job: 0, slice: 0 },
             last_job: 0,
-            last_claim: 0,
             closed: false,
         })
     }

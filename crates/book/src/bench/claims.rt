@@ -37,10 +37,11 @@ impl Bench {
         let Some(free) = self.free_place() else {
             return Ok(Plan::keep(Reply::Nothing));
         };
-        if self.last_claim >= self.limits.claims {
+        let last = self.live.last();
+        if last >= self.limits.claims {
             return Ok(Plan::refuse(Refusal::ClaimsSpent));
         }
-        let number = self.last_claim + 1;
+        let number = last + 1;
         let claim = Live {
             number,
             seat,

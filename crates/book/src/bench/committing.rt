@@ -115,13 +115,13 @@ impl Bench {
 
     /// Holds a slice under a claim, or changes nothing.
     fn hold(&mut self, claim: Live, mark: Mark) -> Result<(), AllocError>
+        requires new { self.old.last_claim < claim.number }
         requires unclaimed { is_claimed self.old.live claim.job claim.slice ≡ false }
         requires passed { IsPassed self.old mark.job mark.slice }
         ensures ok { OnOk result (self.new ≡ record self.old { last_claim = claim.number; live = self.old.live ++ claim ∷ [] }) }
         ensures err { OnErr result (self.new ≡ self.old) }
     {
         self.live.hold(claim)?;
-        self.last_claim = claim.number;
         self.mark = mark;
         Ok(())
     }

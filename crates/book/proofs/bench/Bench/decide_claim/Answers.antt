@@ -16,9 +16,11 @@ returns-then-self-clause-step c =
 pub returns-clause-step : goal.returns-clause-step
 returns-clause-step c =
     let room : c.args.self.now.last_claim < c.args.self.now.limits.claims = grind (arith, common_steps) in
-    let next : c.self.inside.last_claim + 1 ≡ c.args.self.now.last_claim + 1 = ap (λ (s : Workbench). s.last_claim + 1) c.self.view_is in
+    let next : c.last.result + 1 ≡ c.args.self.now.last_claim + 1 = ap (λ n. n + 1) c.last.ensures ∙ ap (λ (s : Workbench). s.last_claim + 1) c.self.view_is in
     let piece = c.in_ok-piece.ensures in
-    rw c.number.ensures (given c.args.self.now c.args.seat (c.self.inside.last_claim + 1) c.in-Some.free.slice c.in-Some.free.job.now c.in_ok-piece.field-0 c.requires c.in-Some.ensures.free room next piece.claim piece.job piece.slice piece.range piece.work)
+    rw c.number.ensures (given c.args.self.now c.args.seat (c.last.result + 1) c.in-Some.free.slice c.in-Some.free.job.now c.in_ok-piece.field-0 c.requires c.in-Some.ensures.free room next piece.claim piece.job piece.slice piece.range piece.work)
 
 pub returns-clause-ready : goal.returns-clause-ready
-returns-clause-ready c = rw c.number.ensures (first_ready c.args.self.now c.in-Some.free.job.now c.in-Some.free.place c.in-Some.free.slice c.in-Some.ensures)
+returns-clause-ready c =
+    let next : c.last.result + 1 ≡ c.args.self.now.last_claim + 1 = ap (λ n. n + 1) c.last.ensures ∙ ap (λ (s : Workbench). s.last_claim + 1) c.self.view_is in
+    rw c.number.ensures (first_ready c.args.self.now c.in-Some.free.job.now c.in-Some.free.place c.in-Some.free.slice (c.last.result + 1) c.in-Some.ensures next)

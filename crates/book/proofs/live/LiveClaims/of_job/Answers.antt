@@ -1,21 +1,14 @@
-use Rattle.std.proofs.Common.{rules, ◌≡◌, ◌≤◌, true, false, Some, None, slice_get, arith}
+use Rattle.std.proofs.Common.{◌≡◌, ◌∙◌, ◌==◌, ap, ℕ, List, count_by, rules}
+use Rattle.std.specs.Map.{values_of}
 use Rattle.book.specs.Step.{is_of}
-use Rattle.book.proofs.Held.{count_here, count_next, count_behind}
+use Rattle.book.specs.declared.live.Held.{Held}
+use Rattle.book.specs.declared.live.Live.{Live}
+use Rattle.book.proofs.Held.{count_seen}
 use Rattle.book.proofs.live.LiveClaims.of_job.Goals as goal
 
-pub loop-place-preserved-then-not-is_of : goal.loop-place-preserved-then-not-is_of
-loop-place-preserved-then-not-is_of c =
-    let at : slice_get c.args.self.now c.loop-place.place ≡ Some c.in-Some.claim = search rules in
-    let another : is_of c.args.number c.in-Some.claim ≡ false = search rules in
-    (count_next c.args.self.now c.loop-place.place c.in-Some.claim c.args.number c.loop-place.count _ at another c.loop-place.invariant.0, omega (arith, c.loop-place.invariant.1))
-
-pub returns-in-None : goal.returns-in-None
-returns-in-None c =
-    let none : slice_get c.args.self.now c.loop-place.place ≡ None = search rules in
-    count_behind c.args.self.now c.loop-place.place c.args.number c.loop-place.count _ none c.loop-place.invariant.0
-
-pub loop-place-preserved : goal.loop-place-preserved
-loop-place-preserved c =
-    let at : slice_get c.args.self.now c.loop-place.place ≡ Some c.in-Some.claim = search rules in
-    let own : is_of c.args.number c.in-Some.claim ≡ true = search rules in
-    (count_here c.args.self.now c.loop-place.place c.in-Some.claim c.args.number c.loop-place.count _ at own c.loop-place.invariant.0, omega (arith, c.loop-place.invariant.1))
+pub returns : goal.returns
+returns c =
+    let n = c.args.number in
+    let es = c.self.inside.claims.entries in
+    let counted : c.count.result ≡ count_by (λ (x : Held). x.job == n) (values_of es) = search rules in
+    counted ∙ count_seen es n ∙ ap (λ (v : List Live × ℕ). count_by (is_of n) v.0) c.self.view_is
