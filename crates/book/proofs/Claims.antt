@@ -1,12 +1,12 @@
 -- Free slices, and steps of an open book that claim.
-use Rattle.std.proofs.Common.{◌≡◌, ℕ, zero, suc, ◌+◌, ◌<◌, ◌≤◌, ◌||◌, ◌&&◌, not, ◌∷◌, ◌++◌, length, get_or, drop, Bool, true, false, List, [], Option, None, Some, refl, sym, ap, ◌∙◌, subst, inr, arith}
+use Rattle.std.proofs.Common.{◌≡◌, ℕ, zero, suc, ◌+◌, ◌<◌, ◌≤◌, ◌||◌, ◌∷◌, ◌++◌, Bool, true, false, List, [], Option, Some, refl, sym, ap, ◌∙◌, subst, inr, arith}
 use Rattle.std.specs.Prelude.{slice_get}
 use Rattle.slices.specs.Parts.{Portion}
 use Rattle.slices.specs.Works.{Task}
 use Rattle.book.specs.Frees.{IsFreeAt, IsFreeIn}
 use Rattle.book.specs.Jobs as jobs
 use Rattle.book.specs.Step.{Step, HasRange}
-use Rattle.book.specs.Workbench.{Workbench, is_claimed, is_replaced, is_free, free_among, has_free, any_free}
+use Rattle.book.specs.Workbench.{Workbench, is_free, free_among, has_free, any_free}
 use Rattle.book.specs.declared.slice.Slice.{Slice}
 use Rattle.journal.specs.declared.records.Refusal.TheVariants.{ClaimsSpent}
 use Rattle.journal.specs.declared.records.Reply.TheVariants.{Piece, Nothing, Refused}

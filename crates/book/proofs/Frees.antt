@@ -1,10 +1,10 @@
 -- The search for a free slice.
-use Rattle.std.proofs.Common.{◌≡◌, ℕ, zero, suc, ◌+◌, ◌<◌, ◌≤◌, ◌||◌, ◌&&◌, not, ◌∷◌, ◌++◌, length, get_or, Bool, true, false, List, [], Option, None, Some, refl, sym, ap, ◌∙◌, subst, inl, inr, arith}
+use Rattle.std.proofs.Common.{◌≡◌, ℕ, zero, suc, ◌+◌, ◌<◌, ◌≤◌, ◌||◌, ◌&&◌, not, ◌∷◌, ◌++◌, length, get_or, Bool, true, false, List, [], Some, refl, sym, ap, ◌∙◌, subst, inl, inr, arith}
 use Rattle.std.specs.Prelude.{slice_get, ◌==◌, ◌⊎◌}
 use Rattle.std.specs.List.{list_any}
 use Rattle.std.proofs.lemmas.List.Folds.{list_any-append}
 use Rattle.listings.specs.Lists.{IsIn}
-use Rattle.book.specs.Frees.{IsFreeAt, IsFreeIn, IsNoneBefore, IsPassed, IsFirstFree}
+use Rattle.book.specs.Frees.{IsFreeAt, IsNoneBefore, IsPassed, IsFirstFree}
 use Rattle.book.specs.Jobs as jobs
 use Rattle.book.specs.Workbench.{Workbench, is_claimed, is_replaced, is_free, free_among, has_free, any_free}
 use Rattle.book.specs.declared.live.Live.{Live}

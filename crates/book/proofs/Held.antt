@@ -147,10 +147,11 @@ apart_more (x ∷ xs) c h u t =
     let numbers = or_false _ _ u in
     let slices = or_false _ _ t in
     let first : (c.number == x.number) ≡ false = turned c.number x.number ∙ numbers.0 in
-    let next : holds_at c x.job x.slice ≡ false = at_turned c x ∙ slices.0 in
-    (list_any-append (λ (d : Live). d.number == x.number) xs (c ∷ []) ∙ ap (λ b. b || ((c.number == x.number) || false)) h.0 ∙ ap (λ b. b || false) first,
-    list_any-append (λ (d : Live). holds_at d x.job x.slice) xs (c ∷ []) ∙ ap (λ b. b || (holds_at c x.job x.slice || false)) h.1 ∙ ap (λ b. b || false) next,
-    apart_more xs c h.2 numbers.1 slices.1)
+    let next : holds_at c x.job x.slice ≡ false = at_turned c x ∙ slices.0 in (
+      list_any-append (λ (d : Live). d.number == x.number) xs (c ∷ []) ∙ ap (λ b. b || ((c.number == x.number) || false)) h.0 ∙ ap (λ b. b || false) first,
+      list_any-append (λ (d : Live). holds_at d x.job x.slice) xs (c ∷ []) ∙ ap (λ b. b || (holds_at c x.job x.slice || false)) h.1 ∙ ap (λ b. b || false) next,
+      apart_more xs c h.2 numbers.1 slices.1,
+    )
 
 apart_kept : (keep : Live → Bool) (xs : List Live) → AreApart xs → AreApart (filter keep xs)
 unfolding AreApart

@@ -2,7 +2,7 @@
 use Rattle.std.proofs.Common.{◌≡◌, ℕ, zero, suc, not, ◌||◌, ◌+◌, ◌<◌, ◌==◌, List, [], ◌∷◌, ◌++◌, Bool, true, false, cond, Option, None, Some, Result, Ok, Err, length, get_or, take, drop, set, refl, sym, ap, ◌∙◌, arith, add-one, inl, inr, subst}
 use denote.Ref.{Bor}
 use Rattle.std.specs.Prelude.{if◌then◌else◌, is_some, option_copied, MatchOption, OnOk, OnErr}
-use Rattle.std.specs.List.{find, list_any}
+use Rattle.std.specs.List.{list_any}
 use Rattle.std.proofs.Math.Seq.{drop-cons}
 use Rattle.listings.specs.Lists.{IsIn}
 use Rattle.cat_model.specs.Files.{version_of}

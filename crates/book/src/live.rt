@@ -110,7 +110,10 @@ impl LiveClaims {
     pub fn of_job(&self, number: u32) -> usize
         ensures { result ≡ count_by (is_of number) self.now.0 }
     {
-        self.claims.values().filter(|held| held.job == number).count()
+        self.claims
+            .values()
+            .filter(|held| held.job == number)
+            .count()
     }
 
     /// Adds a claim at a new number, of a slice that none holds, or changes nothing.
