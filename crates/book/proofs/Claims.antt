@@ -1,18 +1,17 @@
 -- Free slices, and steps of an open book that claim.
-use Rattle.std.proofs.Common.{◌≡◌, ℕ, zero, suc, ◌+◌, ◌<◌, ◌≤◌, ◌||◌, ◌&&◌, not, ◌∷◌, ◌++◌, length, get_or, drop, Bool, true, false, List, [], Option, None, Some, refl, sym, ap, ◌∙◌, subst, inr, arith}
+use Rattle.std.proofs.Common.{◌≡◌, ℕ, zero, suc, ◌+◌, ◌<◌, ◌≤◌, ◌||◌, ◌∷◌, ◌++◌, Bool, true, false, List, [], Option, Some, refl, sym, ap, ◌∙◌, subst, inr, arith}
 use Rattle.std.specs.Prelude.{slice_get}
-use Rattle.std.specs.List.{find}
 use Rattle.slices.specs.Parts.{Portion}
 use Rattle.slices.specs.Works.{Task}
 use Rattle.book.specs.Frees.{IsFreeAt, IsFreeIn}
 use Rattle.book.specs.Jobs as jobs
 use Rattle.book.specs.Step.{Step, HasRange}
-use Rattle.book.specs.Workbench.{Workbench, is_claimed, is_replaced, is_free, free_among, has_free, any_free}
+use Rattle.book.specs.Workbench.{Workbench, is_free, free_among, has_free, any_free}
 use Rattle.book.specs.declared.slice.Slice.{Slice}
 use Rattle.journal.specs.declared.records.Refusal.TheVariants.{ClaimsSpent}
 use Rattle.journal.specs.declared.records.Reply.TheVariants.{Piece, Nothing, Refused}
 use Rattle.journal.specs.declared.records.Said.TheVariants.{Claim}
-use Rattle.book.proofs.Search.{find_is, find_none, any_is, here}
+use Rattle.book.proofs.Search.{any_is}
 
 or_true : (b : Bool) → (b || true) ≡ true
 or_true true = refl
@@ -37,49 +36,10 @@ free_has s job i h =
     let place : 0 + i ≡ i = omega arith in
     free_among_at s job 0 job.slices i h.0 h.1 (ap (λ n. is_free s job n h.0) place ∙ h.2)
 
-replaced_taken : (a b : Bool) → b ≡ true → (a && not b) ≡ false
-replaced_taken true b e = ap not e
-replaced_taken false b e = refl
-
-pub none_free : (s : Workbench) (job : jobs.Job) (k : ℕ) (xs : List Slice) → is_replaced s job ≡ true → free_among s job k xs ≡ false
-none_free s job k [] e = refl
-none_free s job k (x ∷ xs) e =
-    let first : is_free s job k x ≡ false = replaced_taken (not x.returned && not (is_claimed s.live job.number k)) (is_replaced s job) e in
-    ap (λ b. b || free_among s job (k + 1) xs) first ∙ none_free s job (k + 1) xs e
-
-pub free_now : (s : Workbench) (job : jobs.Job) (i : ℕ) (x : Slice) → is_replaced s job ≡ false → x.returned ≡ false → is_claimed s.live job.number i ≡ false → is_free s job i x ≡ true
-free_now s job i x r t c =
-    let first : not x.returned ≡ true = ap not t in
-    let next : not (is_claimed s.live job.number i) ≡ true = ap not c in
-    let last : not (is_replaced s job) ≡ true = ap not r in
-    ap (λ b. (b && not (is_claimed s.live job.number i)) && not (is_replaced s job)) first ∙ ap (λ b. b && not (is_replaced s job)) next ∙ last
-
-pub taken_next : (s : Workbench) (job : jobs.Job) (xs : List Slice) (i : ℕ) (x : Slice) → i < length xs → x ≡ get_or xs i x → is_free s job i x ≡ false → free_among s job i (drop i xs) ≡ free_among s job (i + 1) (drop (i + 1) xs)
-taken_next s job xs i x h e taken = ap (free_among s job i) (here xs i x h e) ∙ ap (λ b. b || free_among s job (i + 1) (drop (i + 1) xs)) taken
-
-pub returned_taken : (s : Workbench) (job : jobs.Job) (i : ℕ) (x : Slice) → x.returned ≡ true → is_free s job i x ≡ false
-returned_taken s job i x e = ap (λ b. (not b && not (is_claimed s.live job.number i)) && not (is_replaced s job)) e
-
-claimed_too : (a b c : Bool) → b ≡ true → ((a && not b) && not c) ≡ false
-claimed_too true b c e = ap (λ v. not v && not c) e
-claimed_too false b c e = refl
-
-pub claimed_taken : (s : Workbench) (job : jobs.Job) (i : ℕ) (x : Slice) → is_claimed s.live job.number i ≡ true → is_free s job i x ≡ false
-claimed_taken s job i x e = claimed_too (not x.returned) (is_claimed s.live job.number i) (is_replaced s job) e
-
 -- of some job
-
-pub free_in : (s : Workbench) (job : jobs.Job) (i : ℕ) → find (has_free s) s.jobs ≡ Some job → IsFreeAt s job i → IsFreeIn s job i
-free_in s job i e h = ((find_is (has_free s) s.jobs job e).0, h)
-
-pub none_in : (s : Workbench) → find (has_free s) s.jobs ≡ None → any_free s ≡ false
-none_in s e = find_none (has_free s) s.jobs e
 
 pub any_in : (s : Workbench) (job : jobs.Job) (i : ℕ) → IsFreeIn s job i → any_free s ≡ true
 any_in s job i h = any_is (has_free s) s.jobs job h.0 (free_has s job i h.1)
-
-pub found_free : (s : Workbench) (job : jobs.Job) → find (has_free s) s.jobs ≡ Some job → has_free s job ≡ true
-found_free s job e = (find_is (has_free s) s.jobs job e).1
 
 -- claiming
 

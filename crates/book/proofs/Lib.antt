@@ -2,6 +2,8 @@ pub mod Claims
 pub mod Counts
 pub mod Cuts
 pub mod Drops
+pub mod Frees
+pub mod Held
 pub mod Listed
 pub mod Readings
 pub mod Results

@@ -2,7 +2,7 @@
 use Rattle.std.proofs.Common.{◌≡◌, ℕ, zero, suc, not, ◌||◌, ◌+◌, ◌<◌, ◌==◌, List, [], ◌∷◌, ◌++◌, Bool, true, false, cond, Option, None, Some, Result, Ok, Err, length, get_or, take, drop, set, refl, sym, ap, ◌∙◌, arith, add-one, inl, inr, subst}
 use denote.Ref.{Bor}
 use Rattle.std.specs.Prelude.{if◌then◌else◌, is_some, option_copied, MatchOption, OnOk, OnErr}
-use Rattle.std.specs.List.{find, list_any}
+use Rattle.std.specs.List.{list_any}
 use Rattle.std.proofs.Math.Seq.{drop-cons}
 use Rattle.listings.specs.Lists.{IsIn}
 use Rattle.cat_model.specs.Files.{version_of}
@@ -28,23 +28,7 @@ cond_true b x y e = ap (λ v. cond v x y) e
 cond_false : {A : Type 0} (b : Bool) (x y : A) → b ≡ false → cond b x y ≡ y
 cond_false b x y e = ap (λ v. cond v x y) e
 
--- what is found
-
-found_first : {X : Type 0} (p : X → Bool) (y : X) (ys : List X) (x : X) (b : Bool) → p y ≡ b → (find p ys ≡ Some x → IsIn x ys × (p x ≡ true)) → cond b (Some y) (find p ys) ≡ Some x → IsIn x (y ∷ ys) × (p x ≡ true)
-found_first {X} p y ys x true is rest e =
-    let same : y ≡ x = cc in
-    (inl (sym same), let P : X → Type 0 = λ z. p z ≡ true in subst P same is)
-found_first p y ys x false is rest e = let found = rest e in (inr found.0, found.1)
-
-pub find_is : {X : Type 0} (p : X → Bool) (xs : List X) (x : X) → find p xs ≡ Some x → IsIn x xs × (p x ≡ true)
-find_is p [] x e = cc
-find_is p (y ∷ ys) x e = found_first p y ys x (p y) refl (find_is p ys x) e
-
-pub find_none : {X : Type 0} (p : X → Bool) (xs : List X) → find p xs ≡ None → list_any p xs ≡ false
-find_none p [] e = refl
-find_none {X} p (y ∷ ys) e =
-    let at : (b : Bool) → p y ≡ b → cond b (Some y) (find p ys) ≡ None → (b || list_any p ys) ≡ false = elim [ true ↦ λ is none. cc | false ↦ λ is none. find_none p ys none ] in
-    at (p y) refl e
+-- whether one is there
 
 any_first : {X : Type 0} (p : X → Bool) (y : X) (ys : List X) (x : X) → IsIn x (y ∷ ys) → p x ≡ true → (IsIn x ys → list_any p ys ≡ true) → list_any p (y ∷ ys) ≡ true
 any_first {X} p y ys x (inl e) is rest =

@@ -1,12 +1,13 @@
 -- What a call does to the workbench.
-use Rattle.std.specs.Prelude.{◌≡◌, ◌+◌, ◌<◌, true, [], ◌∷◌, ◌++◌, Option, None, Some, is_some, slice_get}
+use Rattle.std.specs.Prelude.{◌≡◌, ◌+◌, ◌<◌, true, false, [], ◌∷◌, ◌++◌, Option, None, Some, is_some, slice_get}
 use Rattle.std.specs.Str.{bytes_eq}
 use Rattle.indexmap.specs.IndexMap.{insert_entry}
 use Rattle.cat_model.specs.Files.{version_of, loaded, store}
+use Rattle.book.specs.Frees.{IsPassed}
 use Rattle.book.specs.Jobs.{Job}
 use Rattle.slices.specs.Parts.{Part}
 use Rattle.book.specs.Step.{HasRange, ended, taken, released, forgotten}
-use Rattle.book.specs.Workbench.{Workbench, job_of}
+use Rattle.book.specs.Workbench.{Workbench, job_of, is_claimed}
 use Rattle.book.specs.declared.plan.Change.{Change}
 use Rattle.book.specs.declared.plan.Change.TheVariants.{Keep, PutCat, DropCat, SetTest, Open, Forget, Release, Hold, End, Take, Close}
 
@@ -18,7 +19,7 @@ changed s (SetTest name slot) = record s { tests = insert_entry bytes_eq s.tests
 changed s (Open job) = record s { last_job = job.number; jobs = s.jobs ++ job ∷ [] }
 changed s (Forget id) = forgotten s id
 changed s (Release id) = released s id
-changed s (Hold claim) = record s { last_claim = claim.number; live = s.live ++ claim ∷ [] }
+changed s (Hold claim mark) = record s { last_claim = claim.number; live = s.live ++ claim ∷ [] }
 changed s (End number seat) = ended s number seat
 changed s (Take number seat job part) = taken s number seat job part.piece.slice
 changed s Close = record s { closed = true }
@@ -33,9 +34,11 @@ FitsJob None part = ⊥
 FitsJob (Some job) part = IsFit job part
 
 -- A taken result must be of a job that is there, a put or a drop raises the version, and what is dropped must be there.
+-- A claim has a new number, and the slice that it is to hold must not be claimed, and no slice before the mark free.
 abbrev pub IsReady : Workbench → Change → Type 0
 IsReady s (Take number seat job part) = FitsJob (job_of s.jobs job) part
 IsReady s (PutCat name version file) = version_of name s.cats < version
 IsReady s (DropCat name version) = (is_some (loaded name s.cats) ≡ true) × (version_of name s.cats < version)
 IsReady s (Open job) = job.number ≡ s.last_job + 1
+IsReady s (Hold claim mark) = (s.last_claim < claim.number) × (is_claimed s.live claim.job claim.slice ≡ false) × IsPassed s mark.job mark.slice
 IsReady s _ = Unit {0}

@@ -2,10 +2,12 @@ pub mod BenchCodes
 pub mod Changes
 pub mod Cuts
 pub mod Frees
+pub mod Held
 pub mod JobCodes
 pub mod Jobs
 pub mod Kept
 pub mod Listings
+pub mod LiveCodes
 pub mod NameCodes
 pub mod Results
 pub mod Step

@@ -3,7 +3,7 @@
 ghost use Rattle.std.specs.Prelude.{◌≡◌, ◌<◌, ◌+◌, ◌^◌, None, Some, true, false, IfOk, MatchOption, option_copied};
 ghost use Rattle.book.specs.Changes.{changed, IsReady};
 ghost use Rattle.book.specs.Step.{Step};
-ghost use Rattle.book.specs.Workbench.{empty, job_of, claim_of, is_claim};
+ghost use Rattle.book.specs.Workbench.{empty, job_of, claim_of};
 ghost use Rattle.journal.specs.Lines.{answers, seen};
 
 mod asking;
@@ -15,7 +15,8 @@ mod sources;
 
 use crate::jobs::Job;
 use crate::limits::Limits;
-use crate::live::Live;
+use crate::live::{Live, LiveClaims};
+use crate::mark::Mark;
 use crate::names::Tests;
 use crate::plan::Plan;
 use cat_model::Files;
@@ -32,25 +33,30 @@ pub struct Bench {
     tests: Tests,
     cats: Files,
     jobs: Vec<Job>,
-    live: Vec<Live>,
+    live: LiveClaims,
+    /// Where the search for a free slice goes on.
+    mark: Mark,
     last_job: u32,
-    last_claim: u32,
     closed: bool,
 }
 
 impl std::marker::Model for Bench {
     ghost use Rattle.book.specs.BenchCodes.{coded_workbench};
+    ghost use Rattle.book.specs.Frees.{IsPassed};
     ghost use Rattle.book.specs.Workbench.{Workbench};
 
     ghost Value = { Workbench };
 
     ghost coded = { coded_workbench };
 
-    ghost view = { λ b. record { limits = b.limits; tests = b.tests; cats = b.cats; jobs = b.jobs.items; live = b.live.items; last_job = b.last_job; last_claim = b.last_claim; closed = b.closed } };
+    ghost view = { λ b. record { limits = b.limits; tests = b.tests; cats = b.cats; jobs = b.jobs.items; live = b.live.0; last_job = b.last_job; last_claim = b.live.1; closed = b.closed } };
+
+    ghost invariant = { λ b. IsPassed (record { limits = b.limits; tests = b.tests; cats = b.cats; jobs = b.jobs.items; live = b.live.0; last_job = b.last_job; last_claim = b.live.1; closed = b.closed }) b.mark.job b.mark.slice };
 }
 
 impl Bench {
     /// The empty workbench.
+    #[tactic(auto, using(crate::proofs::Frees::passed_start))]
     pub fn new(alloc: Global, limits: Limits) -> Result<Self, AllocError>
         ensures { IfOk result (λ b. b ≡ empty limits) }
     {
@@ -59,9 +65,9 @@ impl Bench {
             tests: Tests::new(alloc),
             cats: Files::new(alloc)?,
             jobs: Vec::new(alloc),
-            live: Vec::new(alloc),
+            live: LiveClaims::new(alloc),
+            mark: Mark { job: 0, slice: 0 },
             last_job: 0,
-            last_claim: 0,
             closed: false,
         })
     }
@@ -130,25 +136,6 @@ impl Bench {
         ensures { MatchOption result (claim_of self.now.live number seat ≡ None)
             (λ c. claim_of self.now.live number seat ≡ Some c) }
     {
-        find_claim(&self.live, number, seat)
+        self.live.find(number, seat)
     }
-}
-
-/// The live claim of a number and seat.
-fn find_claim(live: &[Live], number: u32, seat: u8) -> Option<Live>
-    ensures { result ≡ claim_of live.now number seat }
-{
-    for claim in live {
-        if is_claim(claim, number, seat) {
-            return Some(*claim);
-        }
-    }
-    None
-}
-
-/// Whether a claim has this number and seat.
-fn is_claim(claim: &Live, number: u32, seat: u8) -> bool
-    ensures { result ≡ is_claim number seat claim.now }
-{
-    claim.number == number && claim.seat == seat
 }

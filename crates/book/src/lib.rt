@@ -7,6 +7,7 @@ mod jobs;
 mod kept;
 mod limits;
 mod live;
+mod mark;
 mod names;
 mod plan;
 mod reading;
@@ -20,7 +21,8 @@ pub use journal::{
 };
 pub use kept::{Book, Refused};
 pub use limits::Limits;
-pub use live::Live;
+pub use live::{Live, LiveClaims};
+pub use mark::Mark;
 pub use names::{TestSlot, Tests};
 pub use plan::{Change, Plan};
 pub use slice::Slice;

@@ -4,6 +4,7 @@ ghost use Rattle.std.specs.Prelude.{◌≡◌};
 
 use crate::jobs::Job;
 use crate::live::Live;
+use crate::mark::Mark;
 use crate::names::TestSlot;
 use cat_syntax::CatFile;
 use journal::{Refusal, Reply};
@@ -21,7 +22,8 @@ pub enum Change {
     Open(Job),
     Forget(u32),
     Release(u32),
-    Hold(Live),
+    /// Holds a slice, where no slice before the mark is free.
+    Hold(Live, Mark),
     End(u32, u8),
     Take(u32, u8, u32, PieceResult),
     Close,

@@ -346,31 +346,6 @@ fn spent_claims(rt: HostRuntime) {
     assert!(rt; plays(rt.alloc(), &SPENT_CLAIMS));
 }
 
-/// A test is put three times, and once more: the command comes back, and the journal is as before.
-const FULL_JOURNAL: Script = Script {
-    limits: Limits {
-        journal: 3,
-        versions: 1,
-        claims: 10,
-    },
-    steps: &[
-        Step::Test(SB),
-        Step::Test(SB),
-        Step::Test(SB),
-        Step::TestBack(SB, 3),
-    ],
-    answers: &[
-        (0, Answer::Version(1)),
-        (1, Answer::VersionsSpent),
-        (2, Answer::VersionsSpent),
-    ],
-};
-
-#[test]
-fn journal_full(rt: HostRuntime) {
-    assert!(rt; plays(rt.alloc(), &FULL_JOURNAL));
-}
-
 /// What a model includes.
 const BASE: &[u8] = b"let com = rf | co | fr";
 

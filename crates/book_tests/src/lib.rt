@@ -9,4 +9,6 @@ mod calls;
 #[cfg(test)]
 mod growth;
 #[cfg(test)]
+mod refused;
+#[cfg(test)]
 mod scene;

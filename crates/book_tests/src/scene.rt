@@ -4,7 +4,7 @@
 
 ghost use Rattle.std.specs.Prelude.{◌<◌};
 
-use book::{Book, Command, Limits, Refusal, Refused, Replacement, Reply, SourceKind, Text};
+use book::{Book, Command, Limits, Refusal, Replacement, Reply, SourceKind, Text};
 use candidates::SpaceFault;
 use slices::{PieceResult, evaluate};
 use std::alloc::{AllocError, Global};
@@ -27,7 +27,7 @@ exists (0:r0=0 /\\ 1:r0=0)
 /// One thread that does nothing.
 pub const EMPTY: &[u8] = b"C E\n{ x; }\nP0 () {}\nexists (x=0)\n";
 
-/// A step of a script. Each but the last records one entry of the journal.
+/// A step of a script. Each records one entry of the journal.
 #[derive(Clone, Copy)]
 pub enum Step {
     /// A cat file is put: its name and its text.
@@ -53,14 +53,14 @@ pub enum Step {
     Close,
     /// A result of another book, whose first piece is of another test, is returned.
     Foreign,
-    /// A test is put, and its text comes back since the journal, of so many entries, is full.
-    TestBack(&'static [u8], usize),
 }
 
 /// What is replied at a place of the journal.
 #[derive(Clone, Copy)]
 pub enum Answer {
     Version(u32),
+    /// A job of this number is opened.
+    Job(u32),
     /// A slice is taken: so many are returned then, and so many are there.
     Taken(usize, usize),
     /// So many slices are returned, and so many are there.
@@ -128,7 +128,7 @@ fn text_once(alloc: Global, bytes: &[u8]) -> Result<Text, AllocError> {
     Text::new(alloc, Vec::from_slice(alloc, bytes)?)
 }
 
-fn new_book(alloc: Global, limits: Limits) -> Result<Book, AllocError> {
+pub fn new_book(alloc: Global, limits: Limits) -> Result<Book, AllocError> {
     match Book::new(alloc, limits) {
         Ok(book) => Ok(book),
         Err(AllocError) => Book::new(alloc, limits),
@@ -136,7 +136,7 @@ fn new_book(alloc: Global, limits: Limits) -> Result<Book, AllocError> {
 }
 
 /// The reply at a place of the journal.
-fn reply_at(book: &Book, place: usize) -> Option<&Reply> {
+pub fn reply_at(book: &Book, place: usize) -> Option<&Reply> {
     match book.journal().get(place) {
         Some(entry) => Some(entry.reply()),
         None => None,
@@ -179,7 +179,7 @@ fn give(alloc: Global, book: &Book, place: usize) -> Result<Command, AllocError>
 }
 
 /// Makes a call, and gives the command that comes back where it is refused.
-fn refused(book: &mut Book, seat: u8, command: Command) -> Option<Command>
+pub fn refused(book: &mut Book, seat: u8, command: Command) -> Option<Command>
     requires { seat < 64 }
 {
     match book.apply(seat, command) {
@@ -190,7 +190,7 @@ fn refused(book: &mut Book, seat: u8, command: Command) -> Option<Command>
 
 /// Makes a call. One that is refused for memory leaves the journal as it was and hands the command back, which then gets
 /// its own answer.
-fn call(book: &mut Book, seat: u8, command: Command) -> bool
+pub fn call(book: &mut Book, seat: u8, command: Command) -> bool
     requires { seat < 64 }
 {
     let place = book.journal().len();
@@ -207,25 +207,6 @@ fn call(book: &mut Book, seat: u8, command: Command) -> bool
 fn call_made(book: &mut Book, seat: u8, command: Result<Command, AllocError>) -> bool {
     match command {
         Ok(command) => seat < 64 && call(book, seat, command),
-        Err(AllocError) => false,
-    }
-}
-
-/// The text that comes back where a test is put into a full journal.
-fn text_back(book: &mut Book, text: Text) -> Option<Text> {
-    match book.apply(0, Command::PutTest(text)) {
-        Err((Command::PutTest(text), Refused::JournalFull)) => Some(text),
-        _ => None,
-    }
-}
-
-/// Whether the text comes back where a test is put into a full journal.
-fn comes_back(alloc: Global, book: &mut Book, bytes: &[u8]) -> bool {
-    match text(alloc, bytes) {
-        Ok(text) => match text_back(book, text) {
-            Some(text) => text.bytes() == bytes,
-            None => false,
-        },
         Err(AllocError) => false,
     }
 }
@@ -250,9 +231,9 @@ fn foreign(alloc: Global) -> Result<Command, AllocError> {
     }
 }
 
-/// Makes a step, and says whether that was done.
-fn make(alloc: Global, book: &mut Book, step: Step) -> bool {
-    let command = match step {
+/// The command of a step.
+pub fn command_of(alloc: Global, book: &Book, step: Step) -> Result<Command, AllocError> {
+    match step {
         Step::Cat(file, bytes) => put_cat(alloc, file, bytes),
         Step::Test(bytes) => put_test(alloc, bytes),
         Step::Ask(test, cat) => ask(alloc, test, cat),
@@ -262,21 +243,25 @@ fn make(alloc: Global, book: &mut Book, step: Step) -> bool {
         Step::Forget(job) => Ok(Command::Forget(job)),
         Step::Release(job) => Ok(Command::Release(job)),
         Step::List => Ok(Command::List),
-        Step::Claim => Ok(Command::Claim),
-        Step::ClaimBy(seat) => return call_made(book, seat, Ok(Command::Claim)),
-        Step::Return(place) => give(alloc, book, place),
-        Step::ReturnBy(seat, place) => {
-            let command = give(alloc, book, place);
-            return call_made(book, seat, command);
-        }
+        Step::Claim | Step::ClaimBy(_) => Ok(Command::Claim),
+        Step::Return(place) | Step::ReturnBy(_, place) => give(alloc, book, place),
         Step::GiveBack(claim) => Ok(Command::GiveBack(claim)),
         Step::Close => Ok(Command::Close),
         Step::Foreign => foreign(alloc),
-        Step::TestBack(bytes, entries) => {
-            return comes_back(alloc, book, bytes) && book.journal().len() == entries;
-        }
-    };
-    call_made(book, 0, command)
+    }
+}
+
+fn seat_of(step: Step) -> u8 {
+    match step {
+        Step::ClaimBy(seat) | Step::ReturnBy(seat, _) => seat,
+        _ => 0,
+    }
+}
+
+/// Makes a step, and says whether that was done.
+pub fn make(alloc: Global, book: &mut Book, step: Step) -> bool {
+    let command = command_of(alloc, book, step);
+    call_made(book, seat_of(step), command)
 }
 
 fn is_replaced_file(replacement: &Replacement, name: &[u8], version: u32) -> bool {
@@ -309,6 +294,7 @@ fn is_refusal(refusal: &Refusal, answer: Answer) -> bool {
 fn is_reply(reply: &Reply, answer: Answer) -> bool {
     match (reply, answer) {
         (Reply::Version(_, found), Answer::Version(version)) => *found == version,
+        (Reply::Job(id), Answer::Job(number)) => *id == number,
         (Reply::Taken(done, all), Answer::Taken(returned, total)) => {
             *done == returned && *all == total
         }
@@ -336,14 +322,14 @@ fn is_reply(reply: &Reply, answer: Answer) -> bool {
 }
 
 /// Whether a place of the journal has this answer.
-fn is_answered(book: &Book, place: usize, answer: Answer) -> bool {
+pub fn is_answered(book: &Book, place: usize, answer: Answer) -> bool {
     match reply_at(book, place) {
         Some(reply) => is_reply(reply, answer),
         None => false,
     }
 }
 
-fn make_all(alloc: Global, book: &mut Book, steps: &[Step]) -> bool {
+pub fn make_all(alloc: Global, book: &mut Book, steps: &[Step]) -> bool {
     for step in steps {
         if !make(alloc, book, *step) {
             return false;

@@ -133,7 +133,7 @@ const CHAIN: &[Step] = &[
 ];
 
 #[test]
-fn files_on_a_path(rt: HostRuntime) -> Result<(), Fail> {
+fn hostile_input_row_5_path(rt: HostRuntime) -> Result<(), Fail> {
     follow(rt.alloc(), CHAIN)
 }
 
@@ -153,7 +153,7 @@ const MANY_ITEMS: &[Step] = &[
 ];
 
 #[test]
-fn many_items(rt: HostRuntime) -> Result<(), Fail> {
+fn hostile_input_row_5_items(rt: HostRuntime) -> Result<(), Fail> {
     follow(rt.alloc(), MANY_ITEMS)
 }
 
@@ -164,6 +164,6 @@ const EACH_OTHER: &[Step] = &[
 ];
 
 #[test]
-fn files_that_include_each_other(rt: HostRuntime) -> Result<(), Fail> {
+fn hostile_input_row_5_cycle(rt: HostRuntime) -> Result<(), Fail> {
     follow(rt.alloc(), EACH_OTHER)
 }

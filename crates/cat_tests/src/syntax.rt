@@ -187,7 +187,7 @@ fn all_prefixes_are_answered(alloc: Global, text: &[u8]) -> Result<(), Fail> {
 }
 
 #[test]
-fn prefixes_of_rc11(rt: HostRuntime) -> Result<(), Fail> {
+fn hostile_input_row_1(rt: HostRuntime) -> Result<(), Fail> {
     all_prefixes_are_answered(rt.alloc(), RC11.as_bytes())?;
     confirm(is_answered(rt.alloc(), RC11.as_bytes(), false), RC11)
 }
@@ -227,7 +227,7 @@ const DEEP_AND_LARGE: &[(&[(&str, usize)], &str)] = &[
 ];
 
 #[test]
-fn deep_and_large_models(rt: HostRuntime) -> Result<(), Fail> {
+fn hostile_input_row_4(rt: HostRuntime) -> Result<(), Fail> {
     all_repeat_to(rt.alloc(), DEEP_AND_LARGE)
 }
 

@@ -107,7 +107,7 @@ fn order_of_refusals(rt: HostRuntime) -> Result<(), Fail> {
 }
 
 #[test]
-fn threads(rt: HostRuntime) -> Result<(), Fail> {
+fn hostile_input_row_3_threads(rt: HostRuntime) -> Result<(), Fail> {
     const ROWS: [(&str, &str); 3] = [
         (
             "C a\n{x}P0(){}P1(){}P2(){}P3(){}P4(){}P5(){}P6(){}P7(){}exists x=0",
@@ -123,7 +123,7 @@ fn threads(rt: HostRuntime) -> Result<(), Fail> {
 }
 
 #[test]
-fn locations(rt: HostRuntime) -> Result<(), Fail> {
+fn hostile_input_row_3_locations(rt: HostRuntime) -> Result<(), Fail> {
     const ROWS: [(&str, &str); 2] = [
         ("C a\n{a;b;c;d;e;f;g;h}P0(){}exists a=0", "a test"),
         (
@@ -135,7 +135,7 @@ fn locations(rt: HostRuntime) -> Result<(), Fail> {
 }
 
 #[test]
-fn values(rt: HostRuntime) -> Result<(), Fail> {
+fn hostile_input_row_3_values(rt: HostRuntime) -> Result<(), Fail> {
     const ROWS: [(&str, &str); 2] = [
         (
             "C a\n{0:a=2;0:b=3;0:c=4;0:d=5;0:e=6;0:f=7;0:g=8;0:h=9;0:i=10;0:j=11;0:k=12;0:l=13;0:m=14;0:n=15}P0(){}exists 0:a=0",
@@ -203,7 +203,7 @@ fn all_are_cut_off(alloc: Global, text: &[u8], by: usize) -> bool {
 }
 
 #[test]
-fn prefixes_of_sb(rt: HostRuntime) {
+fn hostile_input_row_1(rt: HostRuntime) {
     // The text ends with `)` and a line feed.
     assert!(rt; all_are_cut_off(rt.alloc(), SB.as_bytes(), 2));
 }

@@ -136,8 +136,32 @@ fn first_refusal(rt: HostRuntime) -> Result<(), Fail> {
 }
 
 #[test]
-fn nested_parentheses(rt: HostRuntime) -> Result<(), Fail> {
-    const CLOSED: &str = "x=0))))))))))))))))))))))))))))))))";
+fn hostile_input_row_2(rt: HostRuntime) -> Result<(), Fail> {
+    const EMPTY: &str = "C E\n{}\nP0 () {}\nexists true\n";
+    const ROWS: [Repeats; 4] = [
+        (EMPTY, " ", 65_508, "", "a test"),
+        (EMPTY, " ", 65_509, "", "11 Text 6 TooLong"),
+        (
+            "C E\n{}P0(){int r=",
+            "",
+            0,
+            "2147483647;}exists true",
+            "a test",
+        ),
+        (
+            "C E\n{}P0(){int r=",
+            "",
+            0,
+            "2147483648;}exists true",
+            "11 Text 5 NumberTooBig",
+        ),
+    ];
+    all_repeats_answered(rt.alloc(), &ROWS)
+}
+
+#[test]
+fn hostile_input_row_3_parentheses(rt: HostRuntime) -> Result<(), Fail> {
+    const CLOSED: &str = "true))))))))))))))))))))))))))))))))";
     const ROWS: [Repeats; 2] = [
         ("C a\n{x}P0(){}exists ", "(", 32, CLOSED, "a test"),
         ("C a\n{x}P0(){}exists (", "(", 32, CLOSED, "18 TooDeep"),

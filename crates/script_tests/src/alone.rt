@@ -56,7 +56,7 @@ fn has_a_front_part(alloc: Global, room: usize) -> bool {
 }
 
 #[test]
-fn a_writer_that_fails_has_a_front_part(rt: HostRuntime) {
+fn hostile_input_row_6_summary(rt: HostRuntime) {
     let alloc = rt.alloc();
     for room in 0..STORE_BUFFERING_SUMMARY.len() {
         assert!(rt; has_a_front_part(alloc, room), "at {room}");

@@ -1,6 +1,6 @@
 //! Worked rows of scripts: drops, work, slices, and the commands that end what was asked.
 
-use crate::calls::{STORE_BUFFERING, STORE_BUFFERING_SUMMARY, Scene, WIDE, all_go_well};
+use crate::calls::{Parts, STORE_BUFFERING, STORE_BUFFERING_SUMMARY, Scene, WIDE, all_go_well};
 use book::Limits;
 use std::test::Fail;
 
@@ -352,21 +352,24 @@ job 255
 job 256
 ";
 
+/// The script of row script_replaced.
+pub const REPLACED: Parts = &[
+    (
+        "0 cat base.cat\nlet com = rf | co | fr\n.\n0 cat sc.cat\ninclude \"base.cat\"\nacyclic po | com as sc\n.\n0 test\n",
+        1,
+    ),
+    (STORE_BUFFERING, 1),
+    (
+        ".\n0 ask SB sc.cat\n1 claim\n0 cat base.cat\nlet com = rf | co | fr\n.\n1 return 1\n1 return 1\n0 poll 1\n0 ask SB sc.cat\nwork\n0 poll 2\n0 list\n",
+        1,
+    ),
+];
+
 const COMMANDS: &[Scene] = &[
     Scene {
         name: "script_replaced",
         limits: WIDE,
-        script: &[
-            (
-                "0 cat base.cat\nlet com = rf | co | fr\n.\n0 cat sc.cat\ninclude \"base.cat\"\nacyclic po | com as sc\n.\n0 test\n",
-                1,
-            ),
-            (STORE_BUFFERING, 1),
-            (
-                ".\n0 ask SB sc.cat\n1 claim\n0 cat base.cat\nlet com = rf | co | fr\n.\n1 return 1\n1 return 1\n0 poll 1\n0 ask SB sc.cat\nwork\n0 poll 2\n0 list\n",
-                1,
-            ),
-        ],
+        script: REPLACED,
         fails: false,
         end: Ok(()),
         answers: &[

@@ -365,7 +365,7 @@ finish ok 6
 ];
 
 #[test]
-fn serve_session(rt: HostRuntime) -> Result<(), Fail> {
+fn each_growth_refused_row(rt: HostRuntime) -> Result<(), Fail> {
     confirm(
         answers(&rt, rt.alloc(), SESSION, SESSION_ANSWERS, SESSION_LACKS),
         SESSION,

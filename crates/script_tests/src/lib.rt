@@ -13,6 +13,8 @@ mod examples;
 #[cfg(test)]
 mod growth;
 #[cfg(test)]
+mod in_turn;
+#[cfg(test)]
 mod models;
 #[cfg(test)]
 mod rows;

@@ -98,6 +98,6 @@ fn sizes(rt: HostRuntime) -> Result<(), Fail> {
 }
 
 #[test]
-fn hostile_cat_texts(rt: HostRuntime) -> Result<(), Fail> {
+fn hostile_input_row_4(rt: HostRuntime) -> Result<(), Fail> {
     all_long_hold(rt.alloc(), HOSTILE_CAT_TEXTS)
 }

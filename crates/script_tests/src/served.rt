@@ -1,8 +1,9 @@
 //! Tests of scripts.
 
 use crate::calls::{
-    STORE_BUFFERING, STORE_BUFFERING_SUMMARY, Scene, WIDE, all_go_well, confirm, served,
+    STORE_BUFFERING, STORE_BUFFERING_SUMMARY, Scene, WIDE, all_go_well, confirm, repeated, served,
 };
+use crate::commands::REPLACED;
 use book::Limits;
 use scripts::{Options, ServeFault};
 use sessions::FinishCause;
@@ -399,7 +400,7 @@ const BAD_LINES: &[Scene] = &[
         answers: &["bad line 1\n"],
     },
     Scene {
-        name: "bad_lines: a piece that was never given",
+        name: "Hostile-input-row-7: a piece that was never given",
         limits: WIDE,
         script: &[("0 return 5\n", 1)],
         fails: false,
@@ -475,7 +476,7 @@ const LONG: &[Scene] = &[
         answers: &["finish ok 0\n"],
     },
     Scene {
-        name: "long_lines: 65,537 bytes",
+        name: "Hostile-input-row-7: a line of 65,537 bytes",
         limits: WIDE,
         script: &[("#", 65537)],
         fails: false,
@@ -499,7 +500,7 @@ const LONG: &[Scene] = &[
         answers: &["finish ok 0\n"],
     },
     Scene {
-        name: "many_lines: one more",
+        name: "Hostile-input-row-7: a line more than 1,000,000",
         limits: WIDE,
         script: &[("\n", 1000000), ("#", 1)],
         fails: false,
@@ -507,7 +508,7 @@ const LONG: &[Scene] = &[
         answers: &[],
     },
     Scene {
-        name: "a_reader_that_fails",
+        name: "Hostile-input-row-6: a reader that fails",
         limits: WIDE,
         script: &[("0 cat none.cat\n.\n0 test\n", 1)],
         fails: true,
@@ -534,20 +535,30 @@ fn ends_with_line(bytes: &[u8], start: &[u8]) -> bool {
 
 /// Whether a script ends with the line of its outcome.
 fn ends_well<T: Threads + Wait + Sync>(rt: &T, alloc: Global, script: &[u8]) -> bool {
-    match served(rt, alloc, script, &ALONE, false, 1000) {
+    match served(rt, alloc, script, &ALONE, false, 2000) {
         Ok((Ok(()), writer)) => ends_with_line(writer.bytes(), b"finish ok "),
         Ok((Err(ServeFault::BadLine(_)), writer)) => ends_with_line(writer.bytes(), b"bad line "),
         _ => false,
     }
 }
 
-#[test]
-fn each_prefix_ends_well(rt: HostRuntime) {
-    let alloc = rt.alloc();
-    let script = FIRST.as_bytes();
+/// Whether each prefix of a script does.
+fn each_prefix_ends_well<T: Threads + Wait + Sync>(rt: &T, alloc: Global, script: &[u8]) -> bool {
     for length in 0..script.len() {
-        assert!(rt; ends_well(&rt, alloc, &script[..length]), "at {length}");
+        if !ends_well(rt, alloc, &script[..length]) {
+            return false;
+        }
     }
+    true
+}
+
+#[test]
+fn hostile_input_row_1(rt: HostRuntime) -> Result<(), Fail> {
+    let script = repeated(rt.alloc(), REPLACED)?;
+    confirm(
+        each_prefix_ends_well(&rt, rt.alloc(), script.as_bytes()),
+        "each prefix",
+    )
 }
 
 /// Whether a writer of too little room has just the front part of the answers, with the fault that says so.
@@ -563,7 +574,7 @@ fn has_a_front_part<T: Threads + Wait + Sync>(rt: &T, alloc: Global, room: usize
 }
 
 #[test]
-fn a_writer_that_fails(rt: HostRuntime) {
+fn hostile_input_row_6_writer(rt: HostRuntime) {
     let alloc = rt.alloc();
     for room in 0..FIRST_ANSWERS.len() {
         assert!(rt; has_a_front_part(&rt, alloc, room), "at {room}");

@@ -48,6 +48,10 @@ pub enum Call {
     /// The piece that the pass's last receipt gives is evaluated, and its result returned.
     Return,
     GiveBack(u32),
+    DropTest(&'static [u8]),
+    Forget(u32),
+    Release(u32),
+    Close,
 }
 
 /// What is replied to a call.
@@ -57,6 +61,11 @@ pub enum Answer {
     Version(&'static [u8], u32),
     /// A piece is given under this claim.
     Piece(u32),
+    /// A slice is taken: so many are returned then, and so many are there.
+    Taken(usize, usize),
+    Freed(usize),
+    /// So many tests, cat files and jobs are listed.
+    Listed(usize, usize, usize),
     Done,
     /// This name has no version left.
     VersionsSpent(&'static [u8]),
@@ -121,6 +130,29 @@ fn command_of<L: Ledger>(alloc: Global, pass: &Pass<L>, call: Call) -> Result<Co
         Call::Claim => Ok(Command::Claim),
         Call::Return => give(alloc, pass),
         Call::GiveBack(claim) => Ok(Command::GiveBack(claim)),
+        Call::DropTest(test) => Ok(Command::DropTest(name(alloc, test)?)),
+        Call::Forget(job) => Ok(Command::Forget(job)),
+        Call::Release(job) => Ok(Command::Release(job)),
+        Call::Close => Ok(Command::Close),
+    }
+}
+
+/// Makes the call of a command. One that is refused adds no receipt and hands the command back, which is then made once more.
+fn recorded<L: Ledger, R: Wait>(
+    rt: &R,
+    desk: &Desk<L>,
+    pass: &mut Pass<L>,
+    command: Command,
+) -> bool
+    requires { pass.old.parts ≡ 1 }
+    ensures { pass.new.parts ≡ 1 }
+{
+    let before = pass.receipts().len();
+    match desk.call(rt, pass, command) {
+        Ok(()) => true,
+        Err((command, _)) => {
+            pass.receipts().len() == before && desk.call(rt, pass, command).is_ok()
+        }
     }
 }
 
@@ -136,8 +168,11 @@ pub fn made<L: Ledger, R: Wait>(
     ensures { pass.new.parts ≡ 1 }
 {
     match command_of(alloc, pass, call) {
-        Ok(command) => desk.call(rt, pass, command).is_ok(),
-        Err(AllocError) => false,
+        Ok(command) => recorded(rt, desk, pass, command),
+        Err(AllocError) => match command_of(alloc, pass, call) {
+            Ok(command) => recorded(rt, desk, pass, command),
+            Err(AllocError) => false,
+        },
     }
 }
 
@@ -175,6 +210,15 @@ fn is_reply(reply: &Reply, answer: Answer) -> bool {
             name.bytes() == file && *found == version
         }
         (Reply::Piece(piece), Answer::Piece(claim)) => piece.claim() == claim,
+        (Reply::Taken(done, all), Answer::Taken(returned, total)) => {
+            *done == returned && *all == total
+        }
+        (Reply::Freed(count), Answer::Freed(claims)) => *count == claims,
+        (Reply::Listed(listing), Answer::Listed(tests, cats, jobs)) => {
+            listing.tests().len() == tests
+                && listing.cats().len() == cats
+                && listing.jobs().len() == jobs
+        }
         (Reply::Done, Answer::Done) => true,
         (Reply::Refused(refusal), answer) => is_refusal(refusal, answer),
         _ => false,

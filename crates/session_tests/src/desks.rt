@@ -163,30 +163,95 @@ const SPENT: [(usize, Answer); 6] = [
     (7, Answer::ClaimsSpent),
 ];
 
-/// How many calls were recorded, and whether they were answered so.
-fn run_spent<L: Ledger, R: Wait>(
+/// How many calls of a session alone were recorded, and whether they were answered so.
+fn run_calls<L: Ledger, R: Wait>(
     rt: &R,
     alloc: Global,
     blank: Blank,
+    limits: Limits,
+    calls: &[Call],
+    answers: &[(usize, Answer)],
 ) -> Result<(usize, bool), AllocError>
     requires { (blank.name ≡ L.name) × (blank.parts ≡ L.parts) × (blank.parts ≡ 1) }
 {
+    let (desk, mut passes) = open::<L>(alloc, blank, limits, 1)?;
+    let recorded = make_all(rt, alloc, &desk, &mut passes[0], calls);
+    Ok((recorded, are_answered(&passes[0], answers)))
+}
+
+fn through_a_desk<R: Wait>(
+    rt: &R,
+    alloc: Global,
+    limits: Limits,
+    calls: &[Call],
+    answers: &[(usize, Answer)],
+) -> Result<(usize, bool), AllocError> {
+    run_calls::<Brand, R>(rt, alloc, Blank::new(1), limits, calls, answers)
+}
+
+#[test]
+fn spent(rt: HostRuntime) -> Result<(), Fail> {
     let limits = Limits {
         journal: 20,
         versions: 2,
         claims: 1,
     };
-    let (desk, mut passes) = open::<L>(alloc, blank, limits, 1)?;
-    let recorded = make_all(rt, alloc, &desk, &mut passes[0], &SPENDING);
-    Ok((recorded, are_answered(&passes[0], &SPENT)))
-}
-
-fn spent_through_a_desk<R: Wait>(rt: &R, alloc: Global) -> Result<(usize, bool), AllocError> {
-    run_spent::<Brand, R>(rt, alloc, Blank::new(1))
-}
-
-#[test]
-fn spent(rt: HostRuntime) -> Result<(), Fail> {
-    assert!(rt; spent_through_a_desk(&rt, rt.alloc())? == (8, true));
+    assert!(rt; through_a_desk(&rt, rt.alloc(), limits, &SPENDING, &SPENT)? == (8, true));
     Ok(())
+}
+
+/// Each command once, and what there is between.
+const EACH: [Call; 20] = [
+    Call::PutCat(b"a.cat", b"acyclic po | rf | co | fr as sc"),
+    Call::PutTest(SB),
+    Call::List,
+    Call::Ask(b"SB", b"a.cat"),
+    Call::Poll(1),
+    Call::Claim,
+    Call::List,
+    Call::Release(1),
+    Call::Claim,
+    Call::GiveBack(2),
+    Call::Claim,
+    Call::Return,
+    Call::Poll(1),
+    Call::Forget(1),
+    Call::List,
+    Call::DropCat(b"a.cat"),
+    Call::DropTest(b"SB"),
+    Call::List,
+    Call::Close,
+    Call::Poll(1),
+];
+
+const EACH_ANSWERED: [(usize, Answer); 14] = [
+    (0, Answer::Version(b"a.cat", 1)),
+    (1, Answer::Version(b"SB", 1)),
+    (2, Answer::Listed(1, 1, 0)),
+    (5, Answer::Piece(1)),
+    (6, Answer::Listed(1, 1, 1)),
+    (7, Answer::Freed(1)),
+    (9, Answer::Done),
+    (11, Answer::Taken(1, 1)),
+    (13, Answer::Done),
+    (14, Answer::Listed(1, 1, 0)),
+    (15, Answer::Version(b"a.cat", 2)),
+    (16, Answer::Version(b"SB", 2)),
+    (17, Answer::Listed(0, 0, 0)),
+    (18, Answer::Done),
+];
+
+/// The calls are answered so at a desk. One that isn't opened for want of memory is opened again.
+fn are_each_answered<R: Wait>(rt: &R, alloc: Global) -> bool {
+    let answered = match through_a_desk(rt, alloc, WIDE, &EACH, &EACH_ANSWERED) {
+        Ok(found) => Ok(found),
+        Err(AllocError) => through_a_desk(rt, alloc, WIDE, &EACH, &EACH_ANSWERED),
+    };
+    answered == Ok((20, true))
+}
+
+/// `tools/refuse-each-growth` runs this once for each request for memory.
+#[test]
+fn each_call(rt: HostRuntime) {
+    assert!(rt; are_each_answered(&rt, rt.alloc()));
 }

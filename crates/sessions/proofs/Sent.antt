@@ -3,6 +3,7 @@
 use denote.RattleType.{RattleType}
 use denote.Param.Send.{IsSend, IsSync, sendable}
 use Rattle.std.proofs.Crossing.{crosses}
+use Rattle.std.proofs.MapsCrossing.{crosses as maps_cross}
 use Rattle.conditions.proofs.prop.Link.TheLaws.TheKnot as Condition
 use Rattle.litmus_tree.proofs.expression.Link.TheLaws.TheKnot as Expression
 use Rattle.litmus_tree.proofs.tree.Statement.TheLaws.TheKnot as Statement
@@ -21,6 +22,7 @@ use Rattle.journal.specs.contracts.records.Entry as Entry
 use Rattle.journal.specs.contracts.records.Reply as Reply
 use Rattle.journal.specs.contracts.records.Said as Said
 use Rattle.book.specs.contracts.kept.Book as Book
+use Rattle.book.specs.contracts.live.LiveClaims as Live
 use Rattle.sessions.specs.contracts.desks.Desk as Desk
 use Rattle.sessions.specs.contracts.desks.Shared as Shared
 use Rattle.sessions.specs.contracts.passes.Pass as Pass
@@ -104,8 +106,11 @@ files_send = search (crosses, Cat.crosses, sendable) depth 60 fits 20000
 tally_send : IsSend Tally.the_row
 tally_send = search (work_send, crosses, sendable) depth 60 fits 20000
 
+live_send : IsSend Live.the_row
+live_send = search (maps_cross, crosses, sendable) depth 60 fits 20000
+
 book_send : IsSend Book.the_row
-book_send = search (testref_send, files_send, tally_send, entry_send, entry_sync, crosses, sendable) depth 60 fits 20000
+book_send = search (live_send, testref_send, files_send, tally_send, entry_send, entry_sync, crosses, sendable) depth 60 fits 20000
 
 shared_send : (L : RattleType) (g : Ghosts L.Denot) → IsSend (Shared.the_row L g)
 shared_send L g = search (book_send, share_send, count_send, crosses, sendable) depth 60 fits 20000

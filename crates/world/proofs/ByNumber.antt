@@ -7,7 +7,7 @@ use Rattle.listings.specs.Lists.{IsIn, NoRepeats}
 use Rattle.listings.proofs.Listings.{in_map, map_in}
 use Rattle.book.specs.Jobs.{Job, marked}
 use Rattle.book.specs.Workbench.{job_of, marked_in}
-use Rattle.book.proofs.Search.{find_is}
+use Rattle.world.proofs.Found.{find_is}
 
 abbrev pub number : Job → ℕ
 number j = j.number

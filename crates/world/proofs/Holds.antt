@@ -15,7 +15,7 @@ use Rattle.book.specs.declared.live.Live.{Live}
 use Rattle.book.specs.declared.slice.Slice.{Slice}
 use Rattle.book.proofs.Counts.{all_get, and_left, and_right}
 use Rattle.book.proofs.Results.{mark_this, mark_other, mark_cover}
-use Rattle.book.proofs.Search.{find_is}
+use Rattle.world.proofs.Found.{find_is}
 use Rattle.world.specs.World.{Result, IsSlot, IsRight, IsRightFor, slot}
 use Rattle.world.proofs.ByNumber.{number, is_equal, unequal, job_number, job_there, job_pushed, job_new, is_other, not_false, filter_in, in_filter, once_filter, job_filtered, job_gone, marked_other, marked_this, marked_numbers, none_is}
 use Rattle.slices.proofs.Members.{lists_same}

@@ -1,6 +1,7 @@
 pub mod Answering
 pub mod ByNumber
 pub mod Examples
+pub mod Found
 pub mod Holds
 pub mod Keeps
 pub mod Lasting

@@ -8,7 +8,7 @@ use Rattle.book.specs.Step.{ReturnsTo, Returns, others, Step, LeadsFrom}
 use Rattle.book.specs.Workbench.{Workbench, empty, job_of, claim_of, is_claim}
 use Rattle.book.specs.declared.live.Live.{Live}
 use Rattle.book.proofs.Counts.{and_left}
-use Rattle.book.proofs.Search.{find_is}
+use Rattle.world.proofs.Found.{find_is}
 use Rattle.journal.specs.Lines.{Line}
 use Rattle.journal.specs.declared.records.Returned.{Returned}
 use Rattle.journal.specs.declared.records.Said.{Said}

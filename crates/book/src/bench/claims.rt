@@ -1,32 +1,33 @@
 //! What is done with claims: slices are claimed, returned and given back.
 
-ghost use Rattle.std.specs.Prelude.{◌≡◌, ◌↔◌, true, false, None, Some, IfOk, MatchOption, IsTrue, count_by, option_copied};
-ghost use Rattle.std.specs.List.{find};
+ghost use Rattle.std.specs.Prelude.{◌≡◌, ◌↔◌, ◌&&◌, not, true, false, None, Some, IfOk, MatchOption, IsTrue, count_by};
 ghost use Rattle.book.specs.Changes.{changed, IsReady};
-ghost use Rattle.book.specs.Frees.{IsFreeAt, IsFreeIn};
+ghost use Rattle.book.specs.Frees.{IsFirstFree, IsFreeAt, IsNoneBefore};
 ghost use Rattle.book.specs.Step.{Step, IsOwn, is_of};
-ghost use Rattle.book.specs.Workbench.{is_claimed, is_free, is_replaced, has_free, any_free};
+ghost use Rattle.book.specs.Workbench.{is_claimed, has_free, any_free};
 ghost use Rattle.journal.specs.Lines.{answers, returned, shown};
 ghost use Rattle.journal.specs.declared.records.Said.{Said};
 
 use crate::bench::Bench;
 use crate::jobs::Job;
 use crate::live::Live;
+use crate::mark::Mark;
 use crate::plan::{Change, Plan};
 use crate::slice::Slice;
 use journal::{Refusal, Reply};
 use slices::{Piece, PieceResult};
 use std::alloc::AllocError;
 
-/// A free slice of a job.
+/// A free slice of a job, and the place of the job among the jobs.
 #[derive(Clone, Copy, Drop)]
 struct FreeSlice<'a> {
+    place: usize,
     job: &'a Job,
     slice: u16,
 }
 
 impl Bench {
-    #[tactic(auto, using(crate::proofs::Claims::nothing, crate::proofs::Claims::claims_spent, crate::proofs::Claims::given))]
+    #[tactic(auto, using(crate::proofs::Claims::nothing, crate::proofs::Claims::claims_spent, crate::proofs::Claims::given, crate::proofs::Frees::slice_inside))]
     pub(crate) fn decide_claim(&self, seat: u8) -> Result<Plan, AllocError>
         requires { self.now.closed ≡ false }
         ensures step { IfOk result (λ p. Step self.now seat Said.Claim p.reply (changed self.now p.change)) }
@@ -36,19 +37,24 @@ impl Bench {
         let Some(free) = self.free_place() else {
             return Ok(Plan::keep(Reply::Nothing));
         };
-        if self.last_claim >= self.limits.claims {
+        let last = self.live.last();
+        if last >= self.limits.claims {
             return Ok(Plan::refuse(Refusal::ClaimsSpent));
         }
-        let number = self.last_claim + 1;
+        let number = last + 1;
         let claim = Live {
             number,
             seat,
             job: free.job.number(),
             slice: free.slice,
         };
+        let mark = Mark {
+            job: free.place,
+            slice: free.slice,
+        };
         Ok(Plan {
             reply: Reply::Piece(free.job.piece(number, free.slice)?),
-            change: Change::Hold(claim),
+            change: Change::Hold(claim, mark),
         })
     }
 
@@ -102,7 +108,7 @@ impl Bench {
     pub(crate) fn held(&self, number: u32) -> usize
         ensures { result ≡ count_by (is_of number) self.now.live }
     {
-        self.live.iter().filter(|c| c.job == number).count()
+        self.live.of_job(number)
     }
 
     /// Whether a slice of some job is free.
@@ -116,76 +122,46 @@ impl Bench {
         }
     }
 
-    /// The first job with a free slice, and its lowest free slice.
-    #[tactic(auto, using(crate::proofs::Claims::none_in, crate::proofs::Claims::free_in, crate::proofs::Claims::found_free))]
+    /// The first free slice: the search goes on from the mark.
+    #[tactic(auto, using(crate::proofs::Frees::slices_passed, crate::proofs::Frees::job_passed, crate::proofs::Frees::all_passed, crate::proofs::Frees::first_free))]
     fn free_place(&self) -> Option<FreeSlice<'_>>
-        ensures { MatchOption result (any_free self.now ≡ false) (λ p. IsFreeIn self.now p.job.now p.slice) }
+        ensures { MatchOption result (any_free self.now ≡ false) (λ p. IsFirstFree self.now p.job.now p.place p.slice) }
     {
-        match self.free_job() {
-            Some(job) => match self.free_slice(job) {
-                Some(slice) => Some(FreeSlice { job, slice }),
-                None => unreachable!(),
-            },
-            None => None,
+        let mut from = self.mark.slice as usize;
+        for place in self.mark.job..self.jobs.len() {
+            let job = &self.jobs[place];
+            if let Some(slice) = self.free_slice(job, from) {
+                return Some(FreeSlice { place, job, slice });
+            }
+            from = 0;
         }
+        None
     }
 
-    /// The first job with a free slice.
-    fn free_job(&self) -> Option<&Job>
-        ensures { MatchOption result (find (has_free self.now) self.now.jobs ≡ None)
-            (λ j. find (has_free self.now) self.now.jobs ≡ Some j.now) }
+    /// The lowest free slice of a job, where none before this place is free.
+    #[tactic(auto, using(crate::proofs::Frees::closed_taken, crate::proofs::Frees::replaced_taken, crate::proofs::Frees::open_free, crate::proofs::Frees::slice_passed, crate::proofs::Frees::none_here))]
+    fn free_slice(&self, job: &Job, from: usize) -> Option<u16>
+        requires { IsNoneBefore self.now job.now from }
+        ensures { MatchOption result (has_free self.now job.now ≡ false)
+            (λ i. IsFreeAt self.now job.now i × IsNoneBefore self.now job.now i) }
     {
-        self.find_free_job()
-    }
-
-    fn find_free_job(&self) -> Option<&Job>
-        ensures { option_copied result ≡ find (has_free self.now) self.now.jobs }
-    {
-        self.jobs.iter().find(|job| self.has_free(job))
-    }
-
-    /// Whether a slice of a job is free.
-    #[tactic(auto, using(crate::proofs::Claims::free_has))]
-    fn has_free(&self, job: &Job) -> bool
-        ensures { result ≡ has_free self.now job.now }
-    {
-        match self.free_slice(job) {
-            Some(_) => true,
-            None => false,
-        }
-    }
-
-    /// The lowest free slice of a job.
-    #[tactic(auto, using(crate::proofs::Claims::none_free))]
-    fn free_slice(&self, job: &Job) -> Option<u16>
-        ensures { MatchOption result (has_free self.now job.now ≡ false) (IsFreeAt self.now job.now) }
-    {
-        if self.is_replaced(job) {
-            return None;
-        }
         let slices = job.slices();
-        for place in 0..slices.len() {
+        for place in from..slices.len() {
             if self.is_open(job, place as u16, slices[place]) {
+                if self.is_replaced(job) {
+                    return None;
+                }
                 return Some(place as u16);
             }
         }
         None
     }
 
-    /// Whether a slice of a job that isn't replaced is free.
-    #[tactic(auto, using(crate::proofs::Claims::free_now, crate::proofs::Claims::returned_taken, crate::proofs::Claims::claimed_taken))]
+    /// Whether a slice is neither returned nor claimed.
     fn is_open(&self, job: &Job, place: u16, slice: Slice) -> bool
-        requires { is_replaced self.now job.now ≡ false }
-        ensures { result ≡ is_free self.now job.now place slice }
+        ensures { result ≡ (not slice.returned && not (is_claimed self.now.live job.now.number place)) }
     {
-        !slice.returned && !self.is_claimed(job.number(), place)
-    }
-
-    /// Whether a live claim holds a slice.
-    fn is_claimed(&self, job: u32, slice: u16) -> bool
-        ensures { result ≡ is_claimed self.now.live job slice }
-    {
-        self.live.iter().any(|c| c.job == job && c.slice == slice)
+        !slice.returned && !self.live.holds(job.number(), place)
     }
 }
 

@@ -4,5 +4,4 @@ use Rattle.book.proofs.Search.{match_same}
 use Rattle.book.proofs.bench.Bench.claim.Goals as goal
 
 pub returns : goal.returns
-returns c =
-    match_same _ _ (c.find_claim.ensures ∙ ap (λ v. claim_of v c.args.number c.args.seat) c.deref.ensures.value ∙ ap (λ (s : Workbench). claim_of s.live c.args.number c.args.seat) c.self.view_is)
+returns c = match_same _ _ (c.find.ensures ∙ ap (λ (s : Workbench). claim_of s.live c.args.number c.args.seat) c.self.view_is)

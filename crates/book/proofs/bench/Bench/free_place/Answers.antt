@@ -1,5 +1,10 @@
-use Rattle.book.proofs.Claims.{free_in}
+use Rattle.std.proofs.Common.{◌<◌, length, arith, rules}
+use Rattle.std.proofs.lemmas.Grind.{common_steps}
+use Rattle.book.proofs.Frees.{first_free}
 use Rattle.book.proofs.bench.Bench.free_place.Goals as goal
 
-pub returns-in-Some-free_slice : goal.returns-in-Some-free_slice
-returns-in-Some-free_slice c = free_in c.args.self.now c.in-Some.job.now c.in-Some-free_slice.slice c.in-Some.ensures c.in-Some-free_slice.ensures
+pub returns-in-Some : goal.returns-in-Some
+returns-in-Some c =
+    let s = c.args.self.now in
+    let inside : c.loop-place.place < length s.jobs = grind (arith, common_steps) in
+    first_free s c.index-job.result.now c.loop-place.place c.loop-place.from c.in-Some.slice c.loop-place.invariant inside (search rules) c.in-Some.ensures

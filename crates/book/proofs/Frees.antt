@@ -1,0 +1,176 @@
+-- The search for a free slice.
+use Rattle.std.proofs.Common.{◌≡◌, ℕ, zero, suc, ◌+◌, ◌<◌, ◌≤◌, ◌||◌, ◌&&◌, not, ◌∷◌, ◌++◌, length, get_or, Bool, true, false, List, [], Some, refl, sym, ap, ◌∙◌, subst, inl, inr, arith}
+use Rattle.std.specs.Prelude.{slice_get, ◌==◌, ◌⊎◌}
+use Rattle.std.specs.List.{list_any}
+use Rattle.std.proofs.lemmas.List.Folds.{list_any-append}
+use Rattle.listings.specs.Lists.{IsIn}
+use Rattle.book.specs.Frees.{IsFreeAt, IsNoneBefore, IsPassed, IsFirstFree}
+use Rattle.book.specs.Jobs as jobs
+use Rattle.book.specs.Workbench.{Workbench, is_claimed, is_replaced, is_free, free_among, has_free, any_free}
+use Rattle.book.specs.declared.live.Live.{Live}
+use Rattle.book.specs.declared.slice.Slice.{Slice}
+
+-- one slice
+
+pub closed_taken : (s : Workbench) (job : jobs.Job) (i : ℕ) (x : Slice) → (not x.returned && not (is_claimed s.live job.number i)) ≡ false → is_free s job i x ≡ false
+closed_taken s job i x e = ap (λ b. b && not (is_replaced s job)) e
+
+pub open_free : (s : Workbench) (job : jobs.Job) (i : ℕ) (x : Slice) → (not x.returned && not (is_claimed s.live job.number i)) ≡ true → is_replaced s job ≡ false → is_free s job i x ≡ true
+open_free s job i x e r = ap (λ b. b && not (is_replaced s job)) e ∙ ap not r
+
+and_not : (a b : Bool) → b ≡ true → (a && not b) ≡ false
+and_not true b e = ap not e
+and_not false b e = refl
+
+-- slices of a job
+
+among_none : (s : Workbench) (job : jobs.Job) (k : ℕ) (xs : List Slice) → ((n : ℕ) (x : Slice) → slice_get xs n ≡ Some x → is_free s job (k + n) x ≡ false) → free_among s job k xs ≡ false
+among_none s job k [] h = refl
+among_none s job k (x ∷ xs) h =
+    let place : k ≡ k + 0 = omega arith in
+    let first : is_free s job k x ≡ false = ap (λ n. is_free s job n x) place ∙ h 0 x refl in
+    ap (λ b. b || free_among s job (k + 1) xs) first
+    ∙ among_none s job (k + 1) xs (λ n y e. let at : k + 1 + n ≡ k + suc n = omega arith in ap (λ m. is_free s job m y) at ∙ h (suc n) y e)
+
+pub replaced_taken : (s : Workbench) (job : jobs.Job) → is_replaced s job ≡ true → has_free s job ≡ false
+replaced_taken s job e = among_none s job 0 job.slices (λ n x at. and_not (not x.returned && not (is_claimed s.live job.number (0 + n))) (is_replaced s job) e)
+
+inside : {X : Type 0} (xs : List X) (n : ℕ) (x : X) → slice_get xs n ≡ Some x → n < length xs
+inside [] n x e = cc
+inside (y ∷ ys) zero x e = omega arith
+inside (y ∷ ys) (suc n) x e = omega (arith, inside ys n x e)
+
+pub at_place : {X : Type 0} (xs : List X) (n : ℕ) (x : X) → n < length xs → x ≡ get_or xs n x → slice_get xs n ≡ Some x
+at_place [] n x h e = absurd (omega (arith, h))
+at_place (y ∷ ys) zero x h e = ap Some (sym e)
+at_place (y ∷ ys) (suc n) x h e = at_place ys n x (omega (arith, h)) e
+
+pub none_here : (s : Workbench) (job : jobs.Job) (i : ℕ) → IsNoneBefore s job i → length job.slices ≤ i → has_free s job ≡ false
+none_here s job i h end =
+    among_none s job 0 job.slices (λ n x e.
+    let place : 0 + n ≡ n = omega arith in
+    ap (λ m. is_free s job m x) place ∙ h.none n x (omega (arith, inside job.slices n x e, end)) e)
+
+before_next : (n i : ℕ) → n < i + 1 → (n < i) ⊎ (n ≡ i)
+before_next zero zero h = inr refl
+before_next zero (suc i) h = inl (omega arith)
+before_next (suc n) zero h = absurd (omega (arith, h))
+before_next (suc n) (suc i) h = up (before_next n i (omega (arith, h)))
+  where
+    up : (n < i) ⊎ (n ≡ i) → (suc n < suc i) ⊎ (suc n ≡ suc i)
+    up (inl lt) = inl (omega (arith, lt))
+    up (inr is) = inr (ap suc is)
+
+pub slice_passed : (s : Workbench) (job : jobs.Job) (i : ℕ) (x : Slice) → i < length job.slices → x ≡ get_or job.slices i x → IsNoneBefore s job i → is_free s job i x ≡ false → IsNoneBefore s job (i + 1)
+slice_passed s job i x h e none taken = record { none = λ n y lt at. by n y at (before_next n i lt) }
+  where
+    by : (n : ℕ) (y : Slice) → slice_get job.slices n ≡ Some y → (n < i) ⊎ (n ≡ i) → is_free s job n y ≡ false
+    by n y at (inl lt) = none.none n y lt at
+    by n y at (inr is) =
+        let there : slice_get job.slices i ≡ Some y = ap (slice_get job.slices) (sym is) ∙ at in
+        let held : slice_get job.slices i ≡ Some x = at_place job.slices i x h e in
+        let same : y ≡ x = cc in
+        ap (λ m. is_free s job m y) is ∙ ap (is_free s job i) same ∙ taken
+
+-- jobs
+
+pub passed_start : (s : Workbench) → IsPassed s 0 0
+passed_start s = record {
+  jobs = λ n job lt at. absurd (omega (arith, lt));
+  slices = λ job at. record { none = λ n x lt e. absurd (omega (arith, lt)) };
+}
+
+pub slices_passed : (s : Workbench) (job : jobs.Job) (k i : ℕ) → IsPassed s k i → k < length s.jobs → job ≡ get_or s.jobs k job → IsNoneBefore s job i
+slices_passed s job k i h lt e = h.slices job (at_place s.jobs k job lt e)
+
+pub job_passed : (s : Workbench) (job : jobs.Job) (k i : ℕ) → IsPassed s k i → k < length s.jobs → job ≡ get_or s.jobs k job → has_free s job ≡ false → IsPassed s (k + 1) 0
+job_passed s job k i h lt e none = record {
+  jobs = λ n j below at. by n j at (before_next n k below);
+  slices = λ j at. record { none = λ n x below here. absurd (omega (arith, below)) };
+}
+  where
+    by : (n : ℕ) (j : jobs.Job) → slice_get s.jobs n ≡ Some j → (n < k) ⊎ (n ≡ k) → has_free s j ≡ false
+    by n j at (inl below) = h.jobs n j below at
+    by n j at (inr is) =
+        let there : slice_get s.jobs k ≡ Some j = ap (slice_get s.jobs) (sym is) ∙ at in
+        let held : slice_get s.jobs k ≡ Some job = at_place s.jobs k job lt e in
+        let same : j ≡ job = cc in
+        ap (has_free s) same ∙ none
+
+none_of : {X : Type 0} (p : X → Bool) (xs : List X) → ((n : ℕ) (x : X) → slice_get xs n ≡ Some x → p x ≡ false) → list_any p xs ≡ false
+none_of p [] h = refl
+none_of p (x ∷ xs) h = ap (λ b. b || list_any p xs) (h 0 x refl) ∙ none_of p xs (λ n y e. h (suc n) y e)
+
+pub all_passed : (s : Workbench) (k i : ℕ) → IsPassed s k i → length s.jobs ≤ k → any_free s ≡ false
+all_passed s k i h end = none_of (has_free s) s.jobs (λ n job e. h.jobs n job (omega (arith, inside s.jobs n job e, end)) e)
+
+in_list : {X : Type 0} (xs : List X) (n : ℕ) (x : X) → slice_get xs n ≡ Some x → IsIn x xs
+in_list [] n x e = cc
+in_list (y ∷ ys) zero x e = let same : x ≡ y = cc in inl same
+in_list (y ∷ ys) (suc n) x e = inr (in_list ys n x e)
+
+pub first_free : (s : Workbench) (job : jobs.Job) (k from i : ℕ) → IsPassed s k from → k < length s.jobs → job ≡ get_or s.jobs k job → IsFreeAt s job i × IsNoneBefore s job i → IsFirstFree s job k i
+first_free s job k from i h lt e found =
+    let held : slice_get s.jobs k ≡ Some job = at_place s.jobs k job lt e in
+    record {
+      free = (in_list s.jobs k job held, found.0);
+      passed = record {
+        jobs = h.jobs;
+        slices = λ j at.
+            let same : job ≡ j = cc in
+            subst (λ y. IsNoneBefore s y i) same found.1;
+      };
+    }
+
+-- a claim more leaves what is not free as it is
+
+or_false : (a b : Bool) → (a || b) ≡ false → (a ≡ false) × (b ≡ false)
+or_false true b h = cc
+or_false false b h = (refl, h)
+
+still_closed : (a b c d : Bool) → ((a && not b) && not c) ≡ false → ((a && not (b || d)) && not c) ≡ false
+still_closed false b c d h = refl
+still_closed true true c d h = refl
+still_closed true false c true h = refl
+still_closed true false c false h = h
+
+module _ (s : Workbench) (number : ℕ) (claim : Live) where
+  abbrev after : Workbench
+  after = record s { last_claim = number; live = s.live ++ claim ∷ [] }
+
+  still_taken : (job : jobs.Job) (i : ℕ) (x : Slice) → is_free s job i x ≡ false → is_free after job i x ≡ false
+  still_taken job i x h =
+      let more = list_any-append (λ (c : Live). (c.job == job.number) && (c.slice == i)) s.live (claim ∷ []) in
+      ap (λ b. (not x.returned && not b) && not (is_replaced s job)) more ∙ still_closed (not x.returned) (is_claimed s.live job.number i) (is_replaced s job) (is_claimed (claim ∷ []) job.number i) h
+
+  still_none : (job : jobs.Job) (k : ℕ) (xs : List Slice) → free_among s job k xs ≡ false → free_among after job k xs ≡ false
+  still_none job k [] h = refl
+  still_none job k (x ∷ xs) h =
+      let parts = or_false _ _ h in
+      ap (λ b. b || free_among after job (k + 1) xs) (still_taken job k x parts.0) ∙ still_none job (k + 1) xs parts.1
+
+  pub still_passed : (k i : ℕ) → IsPassed s k i → IsPassed after k i
+  still_passed k i h = record {
+    jobs = λ n job lt at. still_none job 0 job.slices (h.jobs n job lt at);
+    slices = λ job at. record { none = λ n x lt e. still_taken job n x ((h.slices job at).none n x lt e) };
+  }
+
+-- nor does a closed book
+pub closed_passed : (s : Workbench) (k i : ℕ) (closed : Bool) → IsPassed s k i → IsPassed (record s { closed = closed }) k i
+closed_passed s k i closed h = record {
+  jobs = h.jobs;
+  slices = λ job at. record { none = (h.slices job at).none };
+}
+
+-- what the search finds may be held
+
+unclaimed : (a b c : Bool) → ((a && not b) && not c) ≡ true → b ≡ false
+unclaimed true true c h = cc
+unclaimed true false c h = refl
+unclaimed false b c h = cc
+
+pub first_ready : (s : Workbench) (job : jobs.Job) (k i number : ℕ) → IsFirstFree s job k i → number ≡ s.last_claim + 1 → (s.last_claim < number) × (is_claimed s.live job.number i ≡ false) × IsPassed s k i
+first_ready s job k i number h e = (omega (arith, e), unclaimed (not h.free.1.0.returned) (is_claimed s.live job.number i) (is_replaced s job) h.free.1.2, h.passed)
+
+pub slice_inside : (s : Workbench) (job : jobs.Job) (k i : ℕ) → IsFirstFree s job k i → i < length job.slices
+slice_inside s job k i h = inside job.slices i h.free.1.0 h.free.1.1
