@@ -8,7 +8,7 @@ use crate::scene::{
     Answer, SB, Step, WIDE, call, command_of, is_answered, make, make_all, new_book, refused,
     reply_at,
 };
-use book::{Book, Command, Limits};
+use book::{Book, Command, Limits, Refused};
 use std::alloc::{AllocError, Global};
 use std::test::Fail;
 
@@ -110,10 +110,18 @@ fn confirm(holds: bool, tried: &str) -> Result<(), Fail> {
     if holds { Ok(()) } else { Err(Fail::new(tried)) }
 }
 
-/// Whether a command comes back as this one, and the journal has no entry for it.
+/// The command that comes back since the journal is full.
+fn back_from_full(book: &mut Book, command: Command) -> Option<Command> {
+    match book.apply(0, command) {
+        Err((command, Refused::JournalFull)) => Some(command),
+        _ => None,
+    }
+}
+
+/// Whether a command comes back as this one since the journal is full, which has no entry for it.
 fn is_handed_back(book: &mut Book, command: Command, same: &Command) -> bool {
     let entries = book.journal().len();
-    match refused(book, 0, command) {
+    match back_from_full(book, command) {
         Some(back) => back == *same && book.journal().len() == entries,
         None => false,
     }
