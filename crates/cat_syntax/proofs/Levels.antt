@@ -1,14 +1,16 @@
 -- What the loops and the recursion of the levels use.
-use Rattle.std.proofs.Common.{◌≡◌, ℕ, zero, suc, ◌<◌, List, length, arith, inl, inr}
+use Rattle.std.proofs.Common.{◌≡◌, ◌∙◌, ℕ, zero, suc, ◌<◌, List, [], ◌∷◌, ◌++◌, map, length, arith, ap, sym, refl, inl, inr}
 use Rattle.std.specs.Prelude.{Some, Ok}
 use Rattle.cat_syntax.specs.declared.symbol.Terminal.{Terminal}
 use Rattle.descent.specs.Reading.{required, Look, match_option, ◌>>=◌, repeated}
 use Rattle.descent.proofs.Tools.{required_ok, bind_ok, moved, none_or_some, ok_or_err}
 use Rattle.descent.proofs.Turns.{repeated-more}
-use Rattle.cat_syntax.specs.declared.operator.Infix.{Infix}
+use Rattle.cat_tree.specs.declared.node.Infix.{Infix}
 use Rattle.cat_syntax.specs.declared.operator.Postfix.{Postfix}
 use Rattle.cat_syntax.specs.declared.symbol.Symbol.{Symbol}
-use Rattle.cat_tree.specs.Tree.{Term}
+use Rattle.cat_tree.specs.declared.expression.Expression.{Expression}
+use Rattle.cat_tree.specs.Terms.{nest}
+use Rattle.cat_tree.specs.Tree.{Term, term_of, pair_of}
 use Rattle.cat_syntax.specs.Grammar.{joined}
 use Rattle.cat_syntax.specs.Reading.{Reading, after, infix_at, postfix_at, applied_at, next_operand, chain_right, right, level_with, below}
 use Rattle.cat_syntax.proofs.Symbols as symbols
@@ -82,3 +84,39 @@ pub right_more : (n k : ℕ) (ts : List Symbol) →
     right (infix_at k) (level_with (below n) k) ts ≡
     (level_with (below n) k ts >>= λ x. match_option (infix_at k x.1) (Ok (x.0, x.1)) (λ o. right (infix_at k) (level_with (below n) k) o.1 >>= λ y. Ok (joined o.0 x.0 y.0, y.1)))
 right_more n k = chain-more (infix_at k) (level_with (below n) k) (infix_takes k) (level_takes n k)
+
+-- what is read behind the operand a, where the left operands xs stand before it
+unfoldable pub chained : ℕ → ℕ → List (Infix × Expression) → Term → List Symbol → Reading Term
+chained n k xs a ts =
+    match_option (infix_at k ts) (Ok (a, ts)) (λ o. right (infix_at k) (level_with (below n) k) o.1 >>= λ y. Ok (joined o.0 a y.0, y.1)) >>= λ y. Ok (nest (map pair_of xs) y.0, y.1)
+
+pub right_start : (n k : ℕ) (ts : List Symbol) → right (infix_at k) (level_with (below n) k) ts ≡ (level_with (below n) k ts >>= λ x. chained n k [] x.0 x.1)
+unfolding chained
+right_start n k ts =
+    right_more n k ts ∙ elim (ok_or_err (level_with (below n) k ts)) [
+      | inl (d, f) ↦ rw f refl
+      | inr (x, f) ↦ rw f (elim (ok_or_err (match_option (infix_at k x.1) (Ok (x.0, x.1)) (λ o. right (infix_at k) (level_with (below n) k) o.1 >>= λ y. Ok (joined o.0 x.0 y.0, y.1)))) [
+        | inl (d, g) ↦ rw g refl
+        | inr (y, g) ↦ rw g refl
+      ])
+    ]
+
+nest_push : (xs : List (Infix × Expression)) (x : Infix × Expression) (b : Term) → nest (map pair_of (xs ++ x ∷ [])) b ≡ nest (map pair_of xs) (joined x.0 (term_of x.1) b)
+nest_push [] x b = refl
+nest_push (y ∷ xs) x b = ap (joined y.0 (term_of y.1)) (nest_push xs x b)
+
+pub right_turn : (n k : ℕ) (xs : List (Infix × Expression)) (e : Expression) (ts : List Symbol) →
+    chained n k xs (term_of e) ts ≡
+    match_option (infix_at k ts) (Ok (nest (map pair_of xs) (term_of e), ts)) (λ o. level_with (below n) k o.1 >>= λ y. chained n k (xs ++ (o.0, e) ∷ []) y.0 y.1)
+unfolding chained
+right_turn n k xs e ts =
+    elim (none_or_some (infix_at k ts)) [
+      | inl f ↦ rw f refl
+      | inr (o, f) ↦ rw f (rw (right_more n k o.1) (elim (ok_or_err (level_with (below n) k o.1)) [
+        | inl (d, g) ↦ rw g refl
+        | inr (y, g) ↦ rw g (elim (ok_or_err (match_option (infix_at k y.1) (Ok (y.0, y.1)) (λ p. right (infix_at k) (level_with (below n) k) p.1 >>= λ z. Ok (joined p.0 y.0 z.0, z.1)))) [
+          | inl (d, h) ↦ rw h refl
+          | inr (z, h) ↦ rw h (ap (λ b. Ok (b, z.1)) (sym (nest_push xs (o.0, e) z.0)))
+        ])
+      ]))
+    ]
