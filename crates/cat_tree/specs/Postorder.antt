@@ -67,4 +67,8 @@ leaves_tree = by_nodes Leaves
     h s ((postorder b ++ nodes.Infix o ∷ []) ++ ns) ∙ ap (λ ms. left_by_all (a ∷ s) ms) (append_assoc (postorder b) (nodes.Infix o ∷ []) ns) ∙ k (a ∷ s) (nodes.Infix o ∷ ns))
 
 pub term_in-postorder : (a : Term) → term_in (postorder a) ≡ a
-term_in-postorder a = ap (λ ms. term_in ms) (sym (append-nil (postorder a))) ∙ ap (λ s. latest s) (leaves_tree a [] [])
+term_in-postorder a = ap (λ ms. term_in ms) (sym (append-nil (postorder a))) ∙ ap (λ s. latest universe s) (leaves_tree a [] [])
+
+-- nothing else is left
+pub left_alone : (ns : List Node) → postorder (term_in ns) ≡ ns → left_by_all [] ns ≡ term_in ns ∷ []
+left_alone ns w = ap (λ ms. left_by_all [] ms) (sym w ∙ sym (append-nil (postorder (term_in ns)))) ∙ leaves_tree (term_in ns) [] []
