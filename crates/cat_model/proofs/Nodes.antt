@@ -1,7 +1,7 @@
 -- Names and sorts of terms along their nodes.
-use Rattle.std.proofs.Common.{◌≡◌, ◌↔◌, ◌∙◌, ℕ, ◌+◌, zero, suc, List, [], ◌∷◌, ◌++◌, map, Option, None, Some, ap, sym, subst, refl}
+use Rattle.std.proofs.Common.{◌≡◌, ◌↔◌, ◌∙◌, arith, length, ℕ, ◌+◌, zero, suc, List, [], ◌∷◌, ◌++◌, map, Option, None, Some, ap, sym, subst, refl}
 use Rattle.std.specs.Prelude.{reverse, MatchOption}
-use Rattle.std.proofs.lemmas.List.{append_assoc, append-nil, reverse-append}
+use Rattle.std.proofs.lemmas.List.{append_assoc, append-nil, map-append, reverse-append}
 use Rattle.cat_tree.specs.declared.node.Infix.{Infix}
 use Rattle.cat_tree.specs.declared.node.Infix.TheVariants.{Union, Sequence, Difference, Intersection, Product}
 use Rattle.cat_tree.specs.declared.node.Leaf.{Leaf}
@@ -144,13 +144,17 @@ denies = by_nodes Denies
     outside = λ xs. along_infix o a b (0, xs) ∙ infix_outside o a b d e xs;
   })
 
+-- one node more from the right
+pub denied_next : (ns ms : List Node) (n : Node) (s t w : Denied) → ns ≡ ms ++ n ∷ [] → denied_by n s ≡ t → along_denied ns s ≡ w → along_denied ms t ≡ w
+denied_next ns ms n s t w e f g = ap (λ u. along_denied ms u) (sym f) ∙ sym (denied_more ms n s) ∙ ap (λ l. along_denied l s) (sym e) ∙ g
+
 pub denied_along : (ns : List Node) (p : ℕ) (xs : List Word) → postorder (term_in ns) ≡ ns → (p, xs) ≡ along_denied ns (0, []) → xs ≡ denied_names (term_in ns)
 denied_along ns p xs w e =
     ap (λ s. s.1) (e ∙ ap (λ ms. along_denied ms (0, [])) (sym w) ∙ (denies (term_in ns)).outside []) ∙ append-nil (denied_names (term_in ns))
 
 -- sorts
 
-sort_at : Scope → Term → Option Sort
+abbrev sort_at : Scope → Term → Option Sort
 sort_at s (union a b) = of_both (sort_at s a) (sort_at s b)
 sort_at s (sequence a b) = of_relation Relation (of_both (sort_at s a) (sort_at s b))
 sort_at s (difference a b) = of_both (sort_at s a) (sort_at s b)
@@ -217,7 +221,7 @@ sorted_set s a h m = (
   λ e. let q = (set_is (sort_at s a) m).1 e in (q.0, (h Set).1 q.1),
 )
 
-pub sorted : (s : Scope) (a : Term) → Sorted s a
+sorted : (s : Scope) (a : Term) → Sorted s a
 sorted s (union a b) m = sorted_alike s a b (sorted s a) (sorted s b) m
 sorted s (difference a b) m = sorted_alike s a b (sorted s a) (sorted s b) m
 sorted s (intersection a b) m = sorted_alike s a b (sorted s a) (sorted s b) m
@@ -289,7 +293,7 @@ left_sorts s (nodes.Infix o) ts =
 
 left_sorts_all : (s : Scope) (ts : List Term) (ns : List Node) → sorts_left_by_all s (map (sort_at s) ts) ns ≡ map (sort_at s) (left_by_all ts ns)
 left_sorts_all s ts [] = refl
-left_sorts_all s ts (n ∷ ns) = ap (λ ks. sorts_left_by_all s ks ns) (left_sorts s n as) ∙ left_sorts_all s (left_by n ts) ns
+left_sorts_all s ts (n ∷ ns) = ap (λ ks. sorts_left_by_all s ks ns) (left_sorts s n ts) ∙ left_sorts_all s (left_by n ts) ns
 
 decided : (s : Scope) (a : Term) (k : Option Sort) → k ≡ sort_at s a → MatchOption k ((m : Sort) → ¬ HasSort s a m) (λ m. HasSort s a m)
 decided s a None e = λ m h. (let g = (sorted s a m).0 h in cc)
@@ -305,3 +309,27 @@ sort_along s ns ks k w e f =
 
 pub pushed : {A : Type 0} (xs : List A) (x : A) → reverse (xs ++ x ∷ []) ≡ x ∷ reverse xs
 pushed xs x = reverse-append xs (x ∷ [])
+
+pub popped : {A : Type 0} (d : A) (xs ys : List A) (x : A) → xs ≡ ys ++ x ∷ [] → (x ≡ latest d (reverse xs)) × (reverse ys ≡ earlier (reverse xs))
+popped d xs ys x e = (
+  sym (ap (λ l. latest d (reverse l)) e ∙ ap (λ l. latest d l) (pushed ys x)),
+  sym (ap (λ l. earlier (reverse l)) e ∙ ap (λ l. earlier l) (pushed ys x)),
+)
+
+nothing : {A : Type 0} (xs : List A) → length xs ≡ 0 → xs ≡ []
+nothing [] e = refl
+nothing (x ∷ xs) e = absurd (omega (arith, e))
+
+pub none_popped : {A : Type 0} (d : A) (xs ys : List A) → length xs ≡ 0 → length ys ≡ 0 → (d ≡ latest d (reverse xs)) × (reverse ys ≡ earlier (reverse xs))
+none_popped d xs ys e f = (
+  sym (ap (λ l. latest d (reverse l)) (nothing xs e)),
+  ap (λ l. reverse l) (nothing ys f) ∙ sym (ap (λ l. earlier (reverse l)) (nothing xs e)),
+)
+
+-- what is behind, turned
+turned : {A B : Type 0} (f : A → B) (ys : List A) → map f (reverse ys) ≡ reverse (map f ys)
+turned f [] = refl
+turned f (y ∷ ys) = ap (λ l. map f l) (reverse-append (y ∷ []) ys) ∙ map-append f (reverse ys) (y ∷ []) ∙ ap (λ l. l ++ f y ∷ []) (turned f ys) ∙ sym (reverse-append (f y ∷ []) (map f ys))
+
+pub map_turned : {A B : Type 0} (f : A → B) (xs ys : List A) → map f (xs ++ reverse ys) ≡ map f xs ++ reverse (map f ys)
+map_turned f xs ys = map-append f xs (reverse ys) ∙ ap (λ l. map f xs ++ l) (turned f ys)

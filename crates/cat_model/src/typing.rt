@@ -74,17 +74,16 @@ fn deny<'a>(
 }
 
 /// The names that stand under a complement or to the right of a difference, from right to left.
-#[tactic(auto, using(crate::proofs::Nodes::denied_along, crate::proofs::Nodes::denied_more))]
+#[tactic(auto, using(crate::proofs::Nodes::denied_along, crate::proofs::Nodes::denied_next))]
 fn denied_backwards<'a>(expression: &'a Expression) -> Result<Vec<&'a Name>, AllocError>
     ensures { IfOk result (λ v. reverse (map (λ x. x.now) v.items) ≡ denied_in (term_of expression.now)) }
 {
-    let nodes = &expression.nodes;
-    let mut found = Vec::new(*nodes.allocator());
+    let mut found = Vec::new(*expression.nodes.allocator());
     let mut pending = 0;
-    let mut left = nodes.len();
-    while left > 0 {
-        left -= 1;
-        pending = deny(&nodes[left], pending, &mut found)?;
+    let mut nodes: &'a [Node] = &expression.nodes;
+    while let Some((last, before)) = nodes.split_last() {
+        pending = deny(last, pending, &mut found)?;
+        nodes = before;
     }
     Ok(found)
 }
@@ -145,7 +144,6 @@ fn sort_joined(operator: Infix, left: Option<Sort>, right: Option<Sort>) -> Opti
 }
 
 /// Takes the latest sort.
-#[tactic(auto, using(crate::proofs::Nodes::popped, crate::proofs::Nodes::none_popped))]
 fn latest(sorts: &mut Vec<Option<Sort>>) -> Option<Sort>
     ensures value { result ≡ latest_of (Some OfEvents) (reverse sorts.old.items) }
     ensures rest { reverse sorts.new.items ≡ earlier (reverse sorts.old.items) }

@@ -7,4 +7,4 @@ use Rattle.cat_model.proofs.typing.names.Given as goal
 -- the names so far, and those of the nodes that are left, are all
 abbrev pub invariant-loop-node : goal.invariant-loop-node
 invariant-loop-node l =
-    map (λ x. x.now) l.found.items ++ names_along (drop l.node-index l.expression.nodes.items) ≡ map (λ x. x.now) l.fn.found.items ++ names_along l.expression.nodes.items
+    map (λ x. x.now) l.found.items ++ names_along (drop l.node-index l.expression.nodes.items) ≡ map (λ x. x.now) l.fn.found.items ++ names (term_of l.expression)
