@@ -9,3 +9,4 @@ pub mod Climbing
 pub mod Once
 pub mod Lawful
 pub mod Standing
+pub mod Pairwise

@@ -316,7 +316,7 @@ popped d xs ys x e = (
   sym (ap (λ l. earlier (reverse l)) e ∙ ap (λ l. earlier l) (pushed ys x)),
 )
 
-nothing : {A : Type 0} (xs : List A) → length xs ≡ 0 → xs ≡ []
+pub nothing : {A : Type 0} (xs : List A) → length xs ≡ 0 → xs ≡ []
 nothing [] e = refl
 nothing (x ∷ xs) e = absurd (omega (arith, e))
 

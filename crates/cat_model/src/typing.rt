@@ -28,7 +28,6 @@ fn name_of<'a>(node: &'a Node, found: &mut Vec<&'a Name>) -> Result<(), AllocErr
 }
 
 /// Adds the names of an expression, from left to right.
-#[tactic(auto, using(crate::proofs::Nodes::names_along))]
 pub fn names<'a>(expression: &'a Expression, found: &mut Vec<&'a Name>) -> Result<(), AllocError>
     ensures { OnOk result (map (λ x. x.now) found.new.items ≡ map (λ x. x.now) found.old.items ++ names_in (term_of expression.now)) }
 {
@@ -74,7 +73,6 @@ fn deny<'a>(
 }
 
 /// The names that stand under a complement or to the right of a difference, from right to left.
-#[tactic(auto, using(crate::proofs::Nodes::denied_along, crate::proofs::Nodes::denied_next))]
 fn denied_backwards<'a>(expression: &'a Expression) -> Result<Vec<&'a Name>, AllocError>
     ensures { IfOk result (λ v. reverse (map (λ x. x.now) v.items) ≡ denied_in (term_of expression.now)) }
 {
@@ -177,7 +175,6 @@ fn leave<'a>(
 }
 
 /// The sort of an expression, if it has one.
-#[tactic(auto, using(crate::proofs::Nodes::sort_along))]
 pub fn sort_of<'a>(scope: &Scope<'a>, a: &Expression) -> Result<Option<Sort>, AllocError>
     ensures { IfOk result (λ o. MatchOption o ((k : Kind) → ¬ HasSort scope.now (term_of a.now) k) (λ k. HasSort scope.now (term_of a.now) k)) }
 {
@@ -189,8 +186,12 @@ pub fn sort_of<'a>(scope: &Scope<'a>, a: &Expression) -> Result<Option<Sort>, Al
 }
 
 /// Whether an expression has this sort.
+#[tactic(auto, using(crate::proofs::Sorting::one_sort))]
 pub fn has_sort<'a>(scope: &Scope<'a>, sort: Sort, a: &Expression) -> Result<bool, AllocError>
     ensures { IfOk result (λ b. IsTrue b ↔ HasSort scope.now (term_of a.now) sort) }
 {
-    Ok(sort_of(scope, a)? == Some(sort))
+    match sort_of(scope, a)? {
+        Some(found) => Ok(found == sort),
+        None => Ok(false),
+    }
 }

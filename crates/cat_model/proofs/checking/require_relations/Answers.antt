@@ -12,13 +12,13 @@ returns-then-not-has_sort-clause-err c =
       bound_of c.binding-item.result,
       ap WrongSort c.in_ok-copy.ensures,
       contains_at bound_of c.args.bindings.now c.loop-binding.binding-index c.binding-item.result c.loop-binding-test.true c.binding-item.is,
-      λ h. clash c.has_sort.result c.if-not-has_sort.true (c.has_sort.ensures.1 h),
+      λ h. clash c.in_ok-has_sort.field-0 c.if-not-has_sort.true (c.in_ok-has_sort.ensures.1 h),
     )
 
 pub loop-binding-preserved : goal.loop-binding-preserved
 loop-binding-preserved c =
     all_more_map bound_of (λ b. HasSort c.args.scope.now b.value Relation) c.args.bindings.now c.loop-binding.binding-index c.binding-item.result c.loop-binding-test.true c.binding-item.is c.loop-binding.invariant
-    (c.has_sort.ensures.0 c.if-not-has_sort.false)
+    (c.in_ok-has_sort.ensures.0 c.if-not-has_sort.false)
 
 pub returns-clause-ok : goal.returns-clause-ok
 returns-clause-ok c = all_end_map bound_of (λ b. HasSort c.args.scope.now b.value Relation) c.args.bindings.now c.loop-binding.binding-index c.loop-binding-test.false c.loop-binding.invariant
