@@ -2,9 +2,7 @@
 
 use crate::loading::{has_parts, is_read_as, read};
 use crate::texts::{EACH_KIND, RC11, confirm, repeated};
-use cat_syntax::{
-    CatFault, CatFile, Expression, Infix, Item, Leaf, Node, Sign, read_cat,
-};
+use cat_syntax::{CatFault, CatFile, Expression, Infix, Item, Leaf, Node, Sign, read_cat};
 use std::alloc::{AllocError, Global};
 use std::test::Fail;
 

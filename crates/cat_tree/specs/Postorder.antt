@@ -61,9 +61,9 @@ Leaves a = (s : List Term) (ns : List Node) → left_by_all s (postorder a ++ ns
 
 pub leaves_tree : (a : Term) → Leaves a
 leaves_tree = by_nodes Leaves
-  (λ l s ns. ap (λ ms. left_by_all s (ms ++ ns)) (postorder-leaf l))
-  (λ u a h s ns. ap (λ ms. left_by_all s (ms ++ ns)) (postorder-sign u a) ∙ ap (λ ms. left_by_all s ms) (append_assoc (postorder a) (nodes.Sign u ∷ []) ns) ∙ h s (nodes.Sign u ∷ ns))
-  (λ o a b h k s ns. ap (λ ms. left_by_all s (ms ++ ns)) (postorder-infix o a b) ∙ ap (λ ms. left_by_all s ms) (append_assoc (postorder a) (postorder b ++ nodes.Infix o ∷ []) ns) ∙
+    (λ l s ns. ap (λ ms. left_by_all s (ms ++ ns)) (postorder-leaf l))
+    (λ u a h s ns. ap (λ ms. left_by_all s (ms ++ ns)) (postorder-sign u a) ∙ ap (λ ms. left_by_all s ms) (append_assoc (postorder a) (nodes.Sign u ∷ []) ns) ∙ h s (nodes.Sign u ∷ ns))
+    (λ o a b h k s ns. ap (λ ms. left_by_all s (ms ++ ns)) (postorder-infix o a b) ∙ ap (λ ms. left_by_all s ms) (append_assoc (postorder a) (postorder b ++ nodes.Infix o ∷ []) ns) ∙
     h s ((postorder b ++ nodes.Infix o ∷ []) ++ ns) ∙ ap (λ ms. left_by_all (a ∷ s) ms) (append_assoc (postorder b) (nodes.Infix o ∷ []) ns) ∙ k (a ∷ s) (nodes.Infix o ∷ ns))
 
 pub term_in-postorder : (a : Term) → term_in (postorder a) ≡ a
