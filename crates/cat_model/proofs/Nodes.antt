@@ -47,10 +47,10 @@ Named a = (ns : List Node) → along_names (postorder a ++ ns) ≡ names a ++ al
 
 named : (a : Term) → Named a
 named = by_nodes Named
-  (λ l ns. ap (λ ms. along_names (ms ++ ns)) (postorder-leaf l) ∙ ap (λ xs. xs ++ along_names ns) (sym (names_leaf l)))
-  (λ u a h ns. ap (λ ms. along_names (ms ++ ns)) (postorder-sign u a) ∙ ap (λ ms. along_names ms) (append_assoc (postorder a) (nodes.Sign u ∷ []) ns) ∙ h (nodes.Sign u ∷ ns) ∙
+    (λ l ns. ap (λ ms. along_names (ms ++ ns)) (postorder-leaf l) ∙ ap (λ xs. xs ++ along_names ns) (sym (names_leaf l)))
+    (λ u a h ns. ap (λ ms. along_names (ms ++ ns)) (postorder-sign u a) ∙ ap (λ ms. along_names ms) (append_assoc (postorder a) (nodes.Sign u ∷ []) ns) ∙ h (nodes.Sign u ∷ ns) ∙
     ap (λ xs. xs ++ along_names ns) (sym (names_applied u a)))
-  (λ o a b h k ns. ap (λ ms. along_names (ms ++ ns)) (postorder-infix o a b) ∙ ap (λ ms. along_names ms) (append_assoc (postorder a) (postorder b ++ nodes.Infix o ∷ []) ns) ∙
+    (λ o a b h k ns. ap (λ ms. along_names (ms ++ ns)) (postorder-infix o a b) ∙ ap (λ ms. along_names ms) (append_assoc (postorder a) (postorder b ++ nodes.Infix o ∷ []) ns) ∙
     h ((postorder b ++ nodes.Infix o ∷ []) ++ ns) ∙ ap (λ ms. names a ++ along_names ms) (append_assoc (postorder b) (nodes.Infix o ∷ []) ns) ∙
     ap (λ xs. names a ++ xs) (k (nodes.Infix o ∷ ns)) ∙ sym (append_assoc (names a) (names b) (along_names ns)) ∙ ap (λ xs. xs ++ along_names ns) (sym (names_joined o a b)))
 
@@ -129,20 +129,20 @@ along_infix o a b s =
 
 denies : (a : Term) → Denies a
 denies = by_nodes Denies
-  (λ l. record {
-    within = λ p xs. ap (λ ms. along_denied ms (suc p, xs)) (postorder-leaf l) ∙ ap (λ ys. (p, ys ++ xs)) (sym (names_leaf l));
-    outside = λ xs. ap (λ ms. along_denied ms (0, xs)) (postorder-leaf l) ∙ ap (λ ys. (0, ys ++ xs)) (sym (denied_leaf l));
-  })
-  (λ u a d. record {
-    within = λ p xs. along_sign u a (suc p, xs) ∙ ap (λ s. along_denied (postorder a) s) (sign_within u p xs) ∙ d.within p xs ∙ ap (λ ys. (p, ys ++ xs)) (sym (names_applied u a));
-    outside = λ xs. along_sign u a (0, xs) ∙ sign_outside u a d xs;
-  })
-  (λ o a b d e. record {
-    within = λ p xs. along_infix o a b (suc p, xs) ∙ ap (λ s. along_denied (postorder a) (along_denied (postorder b) s)) (infix_within o p xs) ∙
-      ap (λ s. along_denied (postorder a) s) (e.within (suc p) xs) ∙ d.within p (names b ++ xs) ∙ ap (λ ys. (p, ys)) (sym (append_assoc (names a) (names b) xs)) ∙
-      ap (λ ys. (p, ys ++ xs)) (sym (names_joined o a b));
-    outside = λ xs. along_infix o a b (0, xs) ∙ infix_outside o a b d e xs;
-  })
+    (λ l. record {
+      within = λ p xs. ap (λ ms. along_denied ms (suc p, xs)) (postorder-leaf l) ∙ ap (λ ys. (p, ys ++ xs)) (sym (names_leaf l));
+      outside = λ xs. ap (λ ms. along_denied ms (0, xs)) (postorder-leaf l) ∙ ap (λ ys. (0, ys ++ xs)) (sym (denied_leaf l));
+    })
+    (λ u a d. record {
+      within = λ p xs. along_sign u a (suc p, xs) ∙ ap (λ s. along_denied (postorder a) s) (sign_within u p xs) ∙ d.within p xs ∙ ap (λ ys. (p, ys ++ xs)) (sym (names_applied u a));
+      outside = λ xs. along_sign u a (0, xs) ∙ sign_outside u a d xs;
+    })
+    (λ o a b d e. record {
+      within = λ p xs. along_infix o a b (suc p, xs) ∙ ap (λ s. along_denied (postorder a) (along_denied (postorder b) s)) (infix_within o p xs) ∙
+          ap (λ s. along_denied (postorder a) s) (e.within (suc p) xs) ∙ d.within p (names b ++ xs) ∙ ap (λ ys. (p, ys)) (sym (append_assoc (names a) (names b) xs)) ∙
+          ap (λ ys. (p, ys ++ xs)) (sym (names_joined o a b));
+      outside = λ xs. along_infix o a b (0, xs) ∙ infix_outside o a b d e xs;
+    })
 
 -- one node more from the right
 pub denied_next : (ns ms : List Node) (n : Node) (s t w : Denied) → ns ≡ ms ++ n ∷ [] → denied_by n s ≡ t → along_denied ns s ≡ w → along_denied ms t ≡ w

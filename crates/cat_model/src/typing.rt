@@ -38,11 +38,7 @@ pub fn names<'a>(expression: &'a Expression, found: &mut Vec<&'a Name>) -> Resul
 }
 
 /// How many operands of what is denied are still to come before a node, and the names of those that came.
-fn deny<'a>(
-    node: &'a Node,
-    pending: usize,
-    found: &mut Vec<&'a Name>,
-) -> Result<usize, AllocError>
+fn deny<'a>(node: &'a Node, pending: usize, found: &mut Vec<&'a Name>) -> Result<usize, AllocError>
     requires { pending + 1 ≤ 18446744073709551615 }
     ensures denied { IfOk result (λ n. denied_by node.now (pending, reverse (map (λ x. x.now) found.old.items)) ≡ (n, reverse (map (λ x. x.now) found.new.items))) }
     ensures few { IfOk result (λ n. n ≤ pending + 1) }

@@ -10,10 +10,10 @@ loop-last-preserved c =
     let e : c.loop-last.nodes.now ≡ c.in-Some.before.now ++ c.in-Some.last.now ∷ [] = search rules in
     record {
       whole = denied_next c.loop-last.nodes.now c.in-Some.before.now c.in-Some.last.now (c.loop-last.pending, reverse (map (λ x. x.now) c.loop-last.found.items))
-        (c.in_ok-pending.pending, reverse (map (λ x. x.now) c.deny.new.found.items)) (along_denied c.args.expression.now.nodes.items (0, [])) e c.in_ok-pending.ensures.denied c.loop-last.invariant.whole;
+          (c.in_ok-pending.pending, reverse (map (λ x. x.now) c.deny.new.found.items)) (along_denied c.args.expression.now.nodes.items (0, [])) e c.in_ok-pending.ensures.denied c.loop-last.invariant.whole;
       few =
-        let longer = ap (λ l. length l) e ∙ length_push c.in-Some.before.now c.in-Some.last.now in
-        omega (arith, c.in_ok-pending.ensures.few, c.loop-last.invariant.few, longer);
+          let longer = ap (λ l. length l) e ∙ length_push c.in-Some.before.now c.in-Some.last.now in
+          omega (arith, c.in_ok-pending.ensures.few, c.loop-last.invariant.few, longer);
     }
 
 pub returns : goal.returns
