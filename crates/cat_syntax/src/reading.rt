@@ -191,7 +191,7 @@ fn read_symbols<'a>(
 /// `TooDeep`, and that before `TooLarge`.
 ///
 /// It recurses where parentheses, brackets and signs before an expression nest, at most 64 deep, and along no chain. The deepest text
-/// takes STACK of stack.
+/// takes less than 320 KiB of stack.
 #[tactic(auto, using(crate::proofs::Tokens::symbols_length))]
 pub fn read_cat(alloc: Global, text: &[u8]) -> Result<CatFile, CatFault>
     // What is read is a model that the text spells.
