@@ -55,6 +55,15 @@ is_joined s t u n l h = is_made (λ i. place s.members i || place t.members i) (
     (λ i b m. (omega (arith, b, l), or_cases (place s.members i) (place t.members i) m))
     h
 
+-- Both sets at once.
+pub is_union : (s t u : EventSet) → s.count ≡ 64 → IsExactlySet s.count (λ i. Has s i ⊎ Has t i) u → u ≡ joined s t
+unfolding joined
+is_union s t u e h =
+    let f : ℕ → Bool = λ i. place s.members i || place t.members i in
+    let Q : ℕ → Type 0 = λ i. Has s i ⊎ Has t i in
+    let P : ℕ → Type 0 = λ n. IsExactlySet n Q u in
+    is_made f Q u (λ i m. or_in (place s.members i) (place t.members i) m) (λ i b m. or_cases (place s.members i) (place t.members i) m) (subst P e h)
+
 pub none_count : no_places.count ≡ 64
 unfolding no_places
 none_count = refl

@@ -48,8 +48,8 @@ fn has(set: &Set, place: usize) -> bool
     place < set.count() && set.contains(place)
 }
 
-/// The places of both sets.
-pub(crate) fn joined(first: &Set, second: &Set) -> Set
+/// The places of both sets, of any counts.
+fn joined_by_place(first: &Set, second: &Set) -> Set
     ensures { result ≡ joined first.now second.now }
 {
     let mut both = no_places();
@@ -59,6 +59,16 @@ pub(crate) fn joined(first: &Set, second: &Set) -> Set
         }
     }
     both
+}
+
+/// The places of both sets.
+pub(crate) fn joined(first: &Set, second: &Set) -> Set
+    ensures { result ≡ joined first.now second.now }
+{
+    if first.count() == 64 && second.count() == 64 {
+        return first.union(second);
+    }
+    joined_by_place(first, second)
 }
 
 impl Content {

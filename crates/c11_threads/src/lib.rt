@@ -3,6 +3,7 @@
 
 mod content;
 mod fault;
+mod idle;
 mod initial;
 pub mod laws;
 mod progress;

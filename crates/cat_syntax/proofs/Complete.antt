@@ -4,7 +4,7 @@ use Rattle.std.specs.Prelude.{None, Ok}
 use Rattle.std.proofs.lemmas.Bool.{cases_Bool}
 use Rattle.descent.proofs.Tools.{Yields, Shows}
 use Rattle.descent.proofs.Turns.{Arrives, last, next}
-use Rattle.cat_syntax.specs.declared.operator.Infix.{Infix}
+use Rattle.cat_tree.specs.declared.node.Infix.{Infix}
 use Rattle.cat_syntax.specs.declared.operator.Postfix.{Postfix}
 use Rattle.cat_syntax.specs.declared.operator.Postfix.TheVariants as postfixes
 use Rattle.cat_syntax.specs.declared.symbol.Symbol.{Symbol}

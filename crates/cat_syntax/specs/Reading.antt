@@ -7,8 +7,8 @@ use Rattle.descent.specs.Reading.{Read, Look, match_option, ◌>>=◌, required,
 use Rattle.cat_syntax.specs.contracts.symbol.TerminalPartialEq.TheImpl.{ghosts}
 use Rattle.cat_syntax.specs.declared.syntax_fault.SyntaxFault.{SyntaxFault}
 use Rattle.cat_syntax.specs.declared.syntax_fault.SyntaxFault.TheVariants.{NoMemory}
-use Rattle.cat_syntax.specs.declared.operator.Infix.{Infix}
-use Rattle.cat_syntax.specs.declared.operator.Infix.TheVariants.{Union, Sequence, Difference, Intersection, Product}
+use Rattle.cat_tree.specs.declared.node.Infix.{Infix}
+use Rattle.cat_tree.specs.declared.node.Infix.TheVariants.{Union, Sequence, Difference, Intersection, Product}
 use Rattle.cat_syntax.specs.declared.operator.Postfix.{Postfix}
 use Rattle.cat_syntax.specs.declared.operator.Postfix.TheVariants as postfixes
 use Rattle.cat_syntax.specs.declared.symbol.Symbol.{Symbol}

@@ -32,8 +32,9 @@ fn runs_as(alloc: Global, statements: &str, wanted: Count, check: Check) -> Resu
 const LOAD: &str = "r = atomic_load_explicit(x, memory_order_relaxed);\n";
 
 /// How often a thread loads, its last statement, and how many runs it has.
-const SIZES: [(usize, &str, Count); 3] = [
+const SIZES: [(usize, &str, Count); 4] = [
     (12, "", Some(Ok(4096))),
+    (12, "if (r) {} else ;\nr = 0;\n", Some(Ok(4096))),
     (
         12,
         "r = atomic_load(x);\n",
