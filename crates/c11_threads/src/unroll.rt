@@ -15,7 +15,7 @@ use crate::idle::is_idle;
 use crate::progress::Progress;
 use events::{Access, Event, Order, no_places};
 use litmus_tree::{Call, Declarator, Expression, RightSide, Statement};
-use relations::Set;
+use relations::Places;
 use std::alloc::{AllocError, Global};
 use std::marker::Model;
 use wb_text::Name;
@@ -142,7 +142,7 @@ impl Setting<'_> {
     }
 
     /// A fence.
-    fn fence(&self, ctrl: &Set, order: Order) -> Event
+    fn fence(&self, ctrl: &Places, order: Order) -> Event
         ensures { result ≡ event self.now ctrl.now Fence 0 order nothing }
     {
         Event {
@@ -159,7 +159,7 @@ impl Setting<'_> {
     /// An access to a location.
     fn access(
         &self,
-        ctrl: &Set,
+        ctrl: &Places,
         access: Access,
         location: &Name,
         order: Order,
@@ -206,7 +206,7 @@ impl Setting<'_> {
     fn call(
         &self,
         alloc: Global,
-        ctrl: &Set,
+        ctrl: &Places,
         call: &Call,
         from: Progress,
         register: Option<usize>,
@@ -241,7 +241,7 @@ impl Setting<'_> {
     fn assign(
         &self,
         alloc: Global,
-        ctrl: &Set,
+        ctrl: &Places,
         right: &RightSide,
         from: Progress,
         register: usize,
@@ -269,7 +269,7 @@ impl Setting<'_> {
     fn declare(
         &self,
         alloc: Global,
-        ctrl: &Set,
+        ctrl: &Places,
         declarator: &Declarator,
         from: Progress,
         most: usize,
@@ -290,7 +290,7 @@ impl Setting<'_> {
     fn declare_each(
         &self,
         alloc: Global,
-        ctrl: &Set,
+        ctrl: &Places,
         declarator: &Declarator,
         starts: Vec<Progress>,
         most: usize,
@@ -313,7 +313,7 @@ impl Setting<'_> {
     fn declare_all(
         &self,
         alloc: Global,
-        ctrl: &Set,
+        ctrl: &Places,
         declarators: &[Declarator],
         from: Progress,
         most: usize,
@@ -334,7 +334,7 @@ impl Setting<'_> {
     fn declare_onto(
         &self,
         alloc: Global,
-        ctrl: &Set,
+        ctrl: &Places,
         declarators: &[Declarator],
         from: Progress,
         most: usize,
@@ -371,7 +371,7 @@ impl Setting<'_> {
     fn perform(
         &self,
         alloc: Global,
-        ctrl: &Set,
+        ctrl: &Places,
         statement: &Statement,
         from: Progress,
         most: usize,
@@ -427,7 +427,7 @@ impl Setting<'_> {
     fn perform_apart(
         &self,
         alloc: Global,
-        ctrl: &Set,
+        ctrl: &Places,
         statement: &Statement,
         starts: Vec<Progress>,
         most: usize,
@@ -452,7 +452,7 @@ impl Setting<'_> {
     fn perform_each(
         &self,
         alloc: Global,
-        ctrl: &Set,
+        ctrl: &Places,
         statement: &Statement,
         starts: Vec<Progress>,
         most: usize,
@@ -484,7 +484,7 @@ impl Setting<'_> {
     fn perform_all(
         &self,
         alloc: Global,
-        ctrl: &Set,
+        ctrl: &Places,
         statements: &[Statement],
         starts: Vec<Progress>,
         most: usize,
@@ -506,7 +506,7 @@ impl Setting<'_> {
     pub(crate) fn perform_from(
         &self,
         alloc: Global,
-        ctrl: &Set,
+        ctrl: &Places,
         statements: &[Statement],
         from: Progress,
         most: usize,
@@ -524,7 +524,7 @@ impl Setting<'_> {
     fn perform_onto(
         &self,
         alloc: Global,
-        ctrl: &Set,
+        ctrl: &Places,
         statements: &[Statement],
         from: Progress,
         most: usize,
