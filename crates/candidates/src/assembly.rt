@@ -13,7 +13,7 @@ ghost use Rattle.candidates.specs.Readings.{IsReading, IsLook, IsPage};
 use crate::capped::capped_factorial;
 use crate::fault::MOST_CANDIDATES;
 use crate::page::{Page, Writes};
-use events::{Coherence, Event, EventId, Graph, Run};
+use events::{Coherence, Event, EventId, Graph, Run, copy_runs};
 use std::alloc::{AllocError, Global};
 
 /// Adds the writes to a location among the events of a thread.
@@ -294,17 +294,6 @@ pub(crate) fn open_page(alloc: Global, runs: Vec<Run>, locations: usize) -> Resu
         ways,
         orders,
     })
-}
-
-/// The same runs once more.
-fn copy_runs(alloc: Global, runs: &[Run]) -> Result<Vec<Run>, AllocError>
-    ensures { IfOk result (λ v. v.items ≡ runs.now) }
-{
-    let mut copies = Vec::with_capacity(alloc, runs.len())?;
-    for run in runs {
-        copies.push(run.copy()?)?;
-    }
-    Ok(copies)
 }
 
 /// What is found at a number of some runs.
