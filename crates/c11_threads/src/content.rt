@@ -18,7 +18,7 @@ pub struct Content {
 }
 
 /// The first place of a name, or how many names there are.
-pub(crate) fn place_of(names: &[Name], name: &Name) -> usize
+pub fn place_of(names: &[Name], name: &Name) -> usize
     ensures { result ≡ place_of name.now names.now }
 {
     for (place, other) in names.iter().enumerate() {

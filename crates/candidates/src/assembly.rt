@@ -107,7 +107,7 @@ fn count_ways(alloc: Global, runs: &[Run], reads: &[Event]) -> Result<u64, Alloc
 }
 
 /// The value that a write writes.
-fn write_value(init: &[u32], runs: &[Run], write: EventId) -> u32
+pub fn write_value(init: &[u32], runs: &[Run], write: EventId) -> u32
     ensures { result ≡ write_value init.now runs.now write }
 {
     match write {

@@ -3,7 +3,6 @@
 use crate::texts::{Check, Count, SB, any, has_runs, repeated};
 use c11_threads::RunFault;
 use events::{Access, Event, Order, Run};
-use relations::Places;
 use std::alloc::Global;
 
 /// Threads of store buffering, and how many runs they have.
