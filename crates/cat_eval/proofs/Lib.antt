@@ -10,3 +10,4 @@ pub mod Once
 pub mod Lawful
 pub mod Standing
 pub mod Pairwise
+pub mod Placing

@@ -17,7 +17,7 @@ use crate::row::Row;
 use crate::slot::{Slot, row, slots};
 use crate::work::Work;
 use candidates::Space;
-use cat_eval::judge_early;
+use cat_eval::Plan;
 use conditions::{Place, Prop, State, holds};
 use events::{Graph, GraphView};
 use std::alloc::{AllocError, Global};
@@ -48,10 +48,11 @@ pub fn count(
         (IsCountOf work.now.test work.now.model.items places.now (executions_in work.now.test from to)) }
 {
     let slots = slots(alloc, work.test(), places)?;
+    let plan = Plan::of(alloc, work.model())?;
     let mut counter = Counter::new(alloc);
     let mut walk = space.walk(alloc, from, to)?;
     while walk.next(alloc)?.is_some() {
-        counter.weigh(alloc, work, places, &slots, walk.graph())?;
+        counter.weigh(alloc, work, &plan, places, &slots, walk.graph())?;
     }
     Ok(counter)
 }
@@ -74,20 +75,22 @@ impl Counter {
 
     /// Counts an execution, if the work's model allows it.
     #[tactic(auto, using(crate::proofs::Counted::weighed_allowed, crate::proofs::Counted::weighed_forbidden, crate::proofs::Counted::raised_when_allowed))]
-    fn weigh(
+    fn weigh<'m>(
         &mut self,
         alloc: Global,
         work: &Work,
+        plan: &Plan<'m>,
         places: &[Place],
         slots: &[Slot],
         graph: &Graph,
     ) -> Result<(), AllocError>
         requires few { self.old.positive + self.old.negative < 2 ^ 64 - 1 }
         requires slots { slots.now ≡ map (slot_of work.now.test) places.now }
+        requires plan { plan.now ≡ work.now.model.items }
         ensures { OnOk result
             (IsWeighed work.now.test work.now.model.items places.now graph.now self.old self.new) }
     {
-        let judgement = judge_early(alloc, work.model(), &GraphView::of(alloc, graph)?)?;
+        let judgement = plan.judge_early(alloc, &GraphView::of(alloc, graph)?)?;
         if judgement.allowed() {
             let state = row(alloc, slots, graph)?;
             self.include(work, places, graph, state, judgement.flags())?;

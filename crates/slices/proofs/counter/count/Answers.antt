@@ -14,6 +14,9 @@ loop-walk-init c =
       slots = c.in_ok-slots.ensures ∙ ap (λ t. map (slot_of t) c.args.places.now) c.test.ensures;
     }
 
+pub weigh-requires-clause-plan : goal.weigh-requires-clause-plan
+weigh-requires-clause-plan c = c.in_ok-plan.ensures ∙ ap (λ m. m.items) c.model.ensures
+
 pub loop-walk-preserved : goal.loop-walk-preserved
 loop-walk-preserved c =
     let inv = c.loop-walk.invariant in
