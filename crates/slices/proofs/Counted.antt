@@ -228,20 +228,17 @@ on_ok (Err e) f p = tt
 
 -- an execution is counted where the model allows it
 
-pub weighed_allowed : (t : Litmus) (items planned : List Clause) (places : List Place) (x : Execution) (old new : Counter) (allowed : Bool) → planned ≡ items → (IsTrue allowed ↔ Allowed planned x) → allowed ≡ true →
-    IsOneMore t items places x old new → IsWeighed t items places x old new
-weighed_allowed t items planned places x old new allowed same judged is more = let P : List Clause → Type 0 = λ cs. Allowed cs x in inl (subst P same (judged.0 is), more)
+pub weighed_allowed : (t : Litmus) (items : List Clause) (places : List Place) (x : Execution) (old new : Counter) (allowed : Bool) → (IsTrue allowed ↔ Allowed items x) → allowed ≡ true → IsOneMore t items places x old new → IsWeighed t items places x old new
+weighed_allowed t items places x old new allowed judged is more = inl (judged.0 is, more)
 
-pub weighed_forbidden : (t : Litmus) (items planned : List Clause) (places : List Place) (x : Execution) (old new : Counter) (allowed : Bool) → planned ≡ items → (IsTrue allowed ↔ Allowed planned x) → allowed ≡ false → new ≡ old →
-    IsWeighed t items places x old new
-weighed_forbidden t items planned places x old new allowed same judged is kept = let P : List Clause → Type 0 = λ cs. Allowed cs x in inr ((λ a. (let is' = judged.1 (subst P (sym same) a) in cc)), kept)
+pub weighed_forbidden : (t : Litmus) (items : List Clause) (places : List Place) (x : Execution) (old new : Counter) (allowed : Bool) → (IsTrue allowed ↔ Allowed items x) → allowed ≡ false → new ≡ old → IsWeighed t items places x old new
+weighed_forbidden t items places x old new allowed judged is same = inr ((λ a. (let is' = judged.1 a in cc)), same)
 
 -- the flags that are told of an allowed execution are those that are raised
-pub raised_when_allowed : (items planned : List Clause) (x : Execution) (allowed : Bool) (flags : List Word) → planned ≡ items → (IsTrue allowed ↔ Allowed planned x) → allowed ≡ true →
-    Lists (λ name. Allowed planned x × Raised planned x name) flags → Lists (Raised items x) flags
-raised_when_allowed items planned x allowed flags same judged is h =
-    let P : List Clause → Type 0 = λ cs. Lists (Raised cs x) flags in
-    subst P same (record { once = h.once; only = λ name m. (h.only name m).1; all = λ name r. h.all name (judged.0 is, r) })
+pub raised_when_allowed : (items : List Clause) (x : Execution) (allowed : Bool) (flags : List Word) → (IsTrue allowed ↔ Allowed items x) → allowed ≡ true →
+    Lists (λ name. Allowed items x × Raised items x name) flags → Lists (Raised items x) flags
+raised_when_allowed items x allowed flags judged is h =
+    record { once = h.once; only = λ name m. (h.only name m).1; all = λ name r. h.all name (judged.0 is, r) }
 
 -- the outcome of a count
 

@@ -14,8 +14,15 @@ loop-walk-init c =
       slots = c.in_ok-slots.ensures ∙ ap (λ t. map (slot_of t) c.args.places.now) c.test.ensures;
     }
 
-pub weigh-requires-clause-plan : goal.weigh-requires-clause-plan
-weigh-requires-clause-plan c = c.in_ok-plan.ensures ∙ ap (λ m. m.items) c.model.ensures
+pub weigh-requires-clause-allowed : goal.weigh-requires-clause-allowed
+weigh-requires-clause-allowed c =
+    let P : List Clause → Type 0 = λ items. IsTrue c.in_ok-judgement.judgement.allowed ↔ Allowed items c.graph.result.now in
+    subst P (c.in_ok-plan.ensures ∙ ap (λ m. m.items) c.model.ensures) c.in_ok-judgement.ensures.allowed
+
+pub weigh-requires-clause-flags : goal.weigh-requires-clause-flags
+weigh-requires-clause-flags c =
+    let P : List Clause → Type 0 = λ items. Lists (λ name. Allowed items c.graph.result.now × Raised items c.graph.result.now name) c.in_ok-judgement.judgement.flags in
+    subst P (c.in_ok-plan.ensures ∙ ap (λ m. m.items) c.model.ensures) c.in_ok-judgement.ensures.flags
 
 pub loop-walk-preserved : goal.loop-walk-preserved
 loop-walk-preserved c =
