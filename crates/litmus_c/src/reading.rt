@@ -39,6 +39,7 @@ fn read_text(alloc: Global, text: &[u8]) -> Result<Draft, TestFault>
 }
 
 /// The test that the symbols spell, or the refusal of its text, whose length is `end`.
+#[tactic(auto, using(crate::proofs::Stops::stops_at_word, crate::proofs::Stops::stops_at_offset))]
 fn draft_of(
     alloc: Global,
     tokens: &[Token],
@@ -75,6 +76,7 @@ fn foreign(symbol: &Symbol) -> Result<Option<Name>, AllocError>
 }
 
 /// The word at a place, if it is one that the language leaves out.
+#[tactic(auto, using(crate::proofs::Stops::found_inside, crate::proofs::Stops::found_behind))]
 fn foreign_at(symbols: &[Symbol], place: usize) -> Result<Option<Name>, AllocError>
     ensures { IfOk result (λ o. o ≡ left_out_at symbols.now place) }
 {
@@ -85,6 +87,7 @@ fn foreign_at(symbols: &[Symbol], place: usize) -> Result<Option<Name>, AllocErr
 }
 
 /// Where the token at a place begins, or the end of the text behind all tokens.
+#[tactic(auto, using(crate::proofs::Stops::offset_inside, crate::proofs::Stops::offset_behind))]
 fn offset_of(tokens: &[Token], end: usize, place: usize) -> usize
     ensures { result ≡ offset_of tokens.now end place }
 {
