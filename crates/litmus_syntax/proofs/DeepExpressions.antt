@@ -71,13 +71,13 @@ any_expression ts = deep_tighter (deep_tighter (deep_tighter (deep_unary deep_op
 
 -- Orders and arguments.
 
-fine_order_named : {n : ℕ} (os : List Order) (o : Option Order) (us : List Symbol) → Shallow (required (syntax n) o >>= λ p. if is_among os p then Ok (p, us) else Err misordered)
-fine_order_named os None us = fine_syntax
-fine_order_named os (Some o) us = fine_if (is_among os o) (fine_ok (o, us)) fine_misordered
+fine_order_named : (n : ℕ) (os : List Order) (o : Option Order) (us : List Symbol) → Shallow (required (syntax n) o >>= λ p. if is_among os p then Ok (p, us) else Err misordered)
+fine_order_named n os None us = fine_syntax
+fine_order_named n os (Some o) us = fine_if (is_among os o) (fine_ok (o, us)) fine_misordered
 
 fine_order : (os : List Order) (ts : List Symbol) → Shallow (order_at os ts)
 unfolding order_at
-fine_order os ts = fine_bind (fine_name ts) (λ x. fine_order_named os (looked_up orders x.0) x.1)
+fine_order os ts = fine_bind (fine_name ts) (λ x. fine_order_named (length ts) os (looked_up orders x.0) x.1)
 
 fine_last_order : (os : List Order) (ts : List Symbol) → Shallow (last_order_at os ts)
 unfolding last_order_at

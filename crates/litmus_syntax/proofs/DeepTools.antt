@@ -26,9 +26,9 @@ fine_misordered = record { never = λ e. cc }
 pub fine_bind : {A B : Type 0} {o : Reading A} {f : A × List Symbol → Reading B} → Shallow o → ((x : A × List Symbol) → Shallow (f x)) → Shallow (o >>= f)
 fine_bind {o = o} {f} h g = record { never = λ e. elim (bind_err o f deep e) [ inl d ↦ h.never d | inr (x, is, d) ↦ (g x).never d ] }
 
-pub fine_required : {A : Type 0} {n : ℕ} (o : Look Symbol A) → Shallow {A = A} (required (syntax n) o)
-fine_required None = fine_syntax
-fine_required (Some x) = fine_ok x
+pub fine_required : {A : Type 0} (n : ℕ) (o : Look Symbol A) → Shallow {A = A} (required (syntax n) o)
+fine_required n None = fine_syntax
+fine_required n (Some x) = fine_ok x
 
 pub fine_match : {A B : Type 0} (o : Look Symbol A) {d : Reading B} {f : A × List Symbol → Reading B} → Shallow d → ((x : A × List Symbol) → Shallow (f x)) → Shallow (match_option o d f)
 fine_match None h g = h
@@ -50,7 +50,7 @@ module _ {O A : Type 0} (op : List Symbol → Look Symbol O) (step : O → A →
 
 pub fine_expected : (t : Terminal) (ts : List Symbol) → Shallow (expected t ts)
 unfolding expected
-fine_expected t ts = fine_required (after t ts)
+fine_expected t ts = fine_required (length ts) (after t ts)
 
 pub fine_name : (ts : List Symbol) → Shallow (name_at ts)
 unfolding name_at
@@ -60,7 +60,7 @@ fine_name (s ∷ ts) = fine_syntax
 
 pub fine_number : (ts : List Symbol) → Shallow (number_at ts)
 unfolding number_at
-fine_number ts = fine_required (number_look ts)
+fine_number ts = fine_required (length ts) (number_look ts)
 
 -- a value that was made of what was read
 pub fine_made : {A B : Type 0} {o : Reading A} (f : A × List Symbol → B × List Symbol) → Shallow o → Shallow (o >>= λ x. Ok (f x))

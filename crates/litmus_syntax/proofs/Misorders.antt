@@ -91,9 +91,9 @@ record IsOther (os : List Order) (ts : List Symbol) : Type 0 where
 not_among : (os : List Order) (o : Order) → is_among os o ≡ false → ¬ IsIn o os
 not_among os o e h = let f = in-among os o h in cc
 
-never_required : {A : Type 0} {n : ℕ} (o : Option A) → ◌≡◌ {A = Result A Cause} (required (syntax n) o) (Err misordered) → ⊥
-never_required None e = absurd (cc)
-never_required (Some x) e = absurd (cc)
+never_required : {A : Type 0} (n : ℕ) (o : Option A) → ◌≡◌ {A = Result A Cause} (required (syntax n) o) (Err misordered) → ⊥
+never_required n None e = absurd (cc)
+never_required n (Some x) e = absurd (cc)
 
 fair_order : {Q : List Symbol → Type 0} (os : List Order) (ts : List Symbol) → (IsOther os ts → Q ts) → Ordered Q ts (order_at os ts)
 unfolding order_at
@@ -108,7 +108,7 @@ fair_order {Q} os ts q = record {
   told = λ e. elim (bind_err (name_at ts) _ misordered e) [
     | inl d ↦ (fair_name {Q = Q} ts).told d
     | inr (x, is, d) ↦ elim (bind_err (required (syntax (length ts)) (looked_up orders x.0)) _ misordered d) [
-      | inl f ↦ absurd (never_required (looked_up orders x.0) f)
+      | inl f ↦ absurd (never_required (length ts) (looked_up orders x.0) f)
       | inr (p, was, f) ↦ elim (chosen (is_among os p) _ _ _ f) [
         | inl g ↦ let h = g.1 in absurd (cc)
         | inr g ↦ q (record { word = x.0; order = p; behind = x.1; front = name-ok ts x.1 x.0 is; names = required_ok (syntax (length ts)) (looked_up orders x.0) p was; none = not_among os p g.0 })

@@ -74,13 +74,13 @@ pub fair_take : {B : Type 0} {Q : List Symbol → Type 0} (c : Carries Q) (t : T
     Ordered Q ts d → ((x : Unit {0} × List Symbol) → Ordered Q x.1 (f x)) → Ordered Q ts (match_option (after t ts) d f)
 fair_take c t ts h g = fair_match (after t ts) h (λ x was. fair_behind c (takes_after t ts x was) (g x))
 
-fair_required : {A : Type 0} {n : ℕ} {Q : List Symbol → Type 0} {ts : List Symbol} (o : Look Symbol A) → ((x : A × List Symbol) → o ≡ Some x → Tail ts x.1) → Ordered Q ts (required (syntax n) o)
-fair_required None g = fair_syntax
-fair_required (Some x) g = fair_ok x.0 (g x refl)
+fair_required : {A : Type 0} {Q : List Symbol → Type 0} {ts : List Symbol} (n : ℕ) (o : Look Symbol A) → ((x : A × List Symbol) → o ≡ Some x → Tail ts x.1) → Ordered Q ts (required (syntax n) o)
+fair_required n None g = fair_syntax
+fair_required n (Some x) g = fair_ok x.0 (g x refl)
 
 pub fair_expected : {Q : List Symbol → Type 0} (t : Terminal) (ts : List Symbol) → Ordered Q ts (expected t ts)
 unfolding expected
-fair_expected t ts = fair_required (after t ts) (takes_after t ts)
+fair_expected t ts = fair_required (length ts) (after t ts) (takes_after t ts)
 
 pub fair_name : {Q : List Symbol → Type 0} (ts : List Symbol) → Ordered Q ts (name_at ts)
 unfolding name_at
@@ -89,7 +89,7 @@ fair_name ts = fair_syntax
 
 pub fair_number : {Q : List Symbol → Type 0} (ts : List Symbol) → Ordered Q ts (number_at ts)
 unfolding number_at
-fair_number ts = fair_required (number_look ts) (λ x was. tail_first (number_look-some ts x.1 x.0 was))
+fair_number ts = fair_required (length ts) (number_look ts) (λ x was. tail_first (number_look-some ts x.1 x.0 was))
 
 fair_opened : {Q : List Symbol → Type 0} (n : ℕ) (ts : List Symbol) → Ordered Q ts (opened n ts)
 unfolding opened
