@@ -7,7 +7,7 @@ ghost use Rattle.cat_syntax.specs.Reads.{Reads, IsRefused, Tells};
 ghost use Rattle.cat_syntax.specs.Nodes.{nodes};
 ghost use Rattle.cat_tree.specs.Tree.{File};
 ghost use Rattle.cat_syntax.specs.declared.fault.CatFault.TheVariants.{NoMemory};
-ghost use Rattle.cat_syntax.specs.declared.syntax_fault.SyntaxFault.TheVariants.{NoMemory as NoSpace};
+ghost use Rattle.cat_syntax.specs.declared.syntax_fault.SyntaxFault.TheVariants.{TooDeep, NoMemory as NoSpace};
 ghost use Rattle.cat_syntax.specs.Reading.{Gives, after, expected, name_at};
 
 mod expressions;
@@ -32,7 +32,7 @@ impl<'a> Reader<'a> {
     /// What may nest in something that may nest `nesting` deep.
     fn deeper(&self, nesting: u32) -> Result<u32, SyntaxFault>
         ensures ok { IfOk result (λ n. nesting ≡ suc n) }
-        ensures err { IfErr result (λ e. nesting ≡ 0) }
+        ensures err { IfErr result (λ e. (nesting ≡ 0) × (e ≡ TooDeep)) }
     {
         if nesting == 0 {
             return Err(SyntaxFault::TooDeep);
