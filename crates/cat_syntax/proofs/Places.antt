@@ -43,7 +43,7 @@ take-all (suc m) (s ∷ ss) (u ∷ us) h e =
     let g = take-all m ss us (omega (arith, h)) k.1 in
     cc
 
-less-or : (m n : ℕ) → (m < n) ⊎ (n ≤ m)
+pub less-or : (m n : ℕ) → (m < n) ⊎ (n ≤ m)
 less-or m zero = inr (omega arith)
 less-or zero (suc n) = inl (omega arith)
 less-or (suc m) (suc n) = elim (less-or m n) [ inl h ↦ inl (omega (arith, h)) | inr h ↦ inr (omega (arith, h)) ]
@@ -59,18 +59,18 @@ stops-of ss rest c place e h us same = elim (less-or (length ss) (place + 3)) [
       (k.0, k.1, omega (arith, h, same-length (drop (place + 3) ss) (drop (place + 3) us) ss us s, same-length (drop (place + 3) ss) (drop (place + 3) us) rest k.0 k.2))
 ]
 
-take-take : (m n : ℕ) (ss : List Symbol) → m ≤ n → take m (take n ss) ≡ take m ss
+pub take-take : (m n : ℕ) (ss : List Symbol) → m ≤ n → take m (take n ss) ≡ take m ss
 take-take zero n ss h = refl
 take-take (suc m) zero ss h = absurd (omega (arith, h))
 take-take (suc m) (suc n) [] h = refl
 take-take (suc m) (suc n) (s ∷ ss) h = ap (λ (l : List Symbol). s ∷ l) (take-take m n ss (omega (arith, h)))
 
-take-length : (n : ℕ) (ss : List Symbol) → n ≤ length ss → length (take n ss) ≡ n
+pub take-length : (n : ℕ) (ss : List Symbol) → n ≤ length ss → length (take n ss) ≡ n
 take-length zero ss h = refl
 take-length (suc n) [] h = absurd (omega (arith, h))
 take-length (suc n) (s ∷ ss) h = omega (arith, take-length n ss (omega (arith, h)))
 
-take-whole : (n : ℕ) (ss : List Symbol) → length ss ≤ n → take n ss ≡ ss
+pub take-whole : (n : ℕ) (ss : List Symbol) → length ss ≤ n → take n ss ≡ ss
 take-whole zero [] h = refl
 take-whole zero (s ∷ ss) h = absurd (omega (arith, h))
 take-whole (suc n) [] h = refl

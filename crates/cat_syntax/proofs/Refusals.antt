@@ -1,5 +1,5 @@
 -- What is told of the place at which reading stops.
-use Rattle.std.proofs.Common.{◌≡◌, ◌≢◌, ℕ, zero, suc, ◌+◌, ◌-◌, ◌<◌, ◌≤◌, List, [], ◌∷◌, length, take, drop, refl, ap, sym, ◌∙◌, subst, arith, ◌⊎◌, inl, inr}
+use Rattle.std.proofs.Common.{◌≡◌, ◌≢◌, ℕ, zero, suc, ◌+◌, ◌-◌, ◌<◌, ◌≤◌, List, [], ◌∷◌, length, take, drop, min, refl, ap, sym, ◌∙◌, subst, arith, ◌⊎◌, inl, inr}
 use Rattle.std.specs.Prelude.{Result, Ok, Err}
 use Rattle.std.proofs.lemmas.List.{take_rest}
 use Rattle.wb_text.specs.declared.token.Token.{Token}
@@ -20,8 +20,8 @@ use Rattle.cat_syntax.proofs.AlikeReadings.{alike-file}
 use Rattle.cat_syntax.proofs.Places.{stops-of, stops-among, take-take, take-length, take-whole, less-or}
 
 -- the place of the symbols that are left
-stops_there : (cause : SyntaxFault) {ss : List Symbol} {fault : SyntaxFault} {place : ℕ} → fault ≡ cause → OrNoMemory fault (StopsAt ss fault place) → OrNoMemory cause (StopsAt ss cause place)
-stops_there cause {ss} {fault} {place} is stops = subst (λ f. OrNoMemory f (StopsAt ss f place)) is stops
+stops_there : (cause fault : SyntaxFault) (ss : List Symbol) (place : ℕ) → fault ≡ cause → OrNoMemory fault (StopsAt ss fault place) → OrNoMemory cause (StopsAt ss cause place)
+stops_there cause fault ss place is stops = subst (λ f. OrNoMemory f (StopsAt ss f place)) is stops
 
 unexpected-told : (e : CatFault) (ss : List Symbol) (tokens : List Token) (end place : ℕ) (rest : List Symbol) → StopsAt ss faults.Unexpected place → drop place ss ≡ rest →
     IsUnexpected e rest (offset_of (drop place tokens) end) → Tells e ss tokens end
@@ -35,15 +35,15 @@ unexpected-told e ss tokens end place rest stops is told = absurd told
 pub unexpected_told : (e : CatFault) (ss : List Symbol) (tokens : List Token) (end place : ℕ) (fault : SyntaxFault) → fault ≡ faults.Unexpected → OrNoMemory fault (StopsAt ss fault place) →
     IsUnexpected e (take (length ss - place) (drop place ss)) (offset_of (take (length tokens - place) (drop place tokens)) end) → Tells e ss tokens end
 unexpected_told e ss tokens end place fault is stops told =
-    unexpected-told e ss tokens end place (drop place ss) (stops_there faults.Unexpected is stops) refl (rw (take_rest ss place, take_rest tokens place) at told)
+    unexpected-told e ss tokens end place (drop place ss) (stops_there faults.Unexpected fault ss place is stops) refl (rw (take_rest ss place, take_rest tokens place) at told)
 
 pub twice_told : (n : ℕ) (ss : List Symbol) (tokens : List Token) (end place : ℕ) (fault : SyntaxFault) → fault ≡ faults.BoundTwice → OrNoMemory fault (StopsAt ss fault place) →
     n ≡ offset_of (take (length tokens - place) (drop place tokens)) end → Tells (Syntax n) ss tokens end
 twice_told n ss tokens end place fault is stops told =
-    record { place = place; cause = faults.BoundTwice; stops = stops_there faults.BoundTwice is stops; wrong = tt; told = rw (take_rest tokens place) at told }
+    record { place = place; cause = faults.BoundTwice; stops = stops_there faults.BoundTwice fault ss place is stops; wrong = tt; told = rw (take_rest tokens place) at told }
 
 pub deep_told : (ss : List Symbol) (tokens : List Token) (end place : ℕ) (fault : SyntaxFault) → fault ≡ faults.TooDeep → OrNoMemory fault (StopsAt ss fault place) → Tells TooDeep ss tokens end
-deep_told ss tokens end place fault is stops = (place, stops_there faults.TooDeep is stops)
+deep_told ss tokens end place fault is stops = (place, stops_there faults.TooDeep fault ss place is stops)
 
 -- where the reader stopped
 
@@ -87,6 +87,9 @@ among ss rest shown place stopped c fits all is h g = of c (stopped_at (take sho
     of faults.Unexpected stops = whole faults.Unexpected stops
     of faults.BoundTwice stops = whole faults.BoundTwice stops
     of faults.TooDeep stops = whole faults.TooDeep stops
+
+pub shown_of : (ss : List Symbol) (shown place : ℕ) → shown ≡ min (length ss) (place + 3) → (length ss ≤ shown) ⊎ (place + 3 ≤ shown)
+shown_of ss shown place is = elim (less-or (length ss) (place + 3)) [ inl h ↦ inl (omega (arith, h, is)) | inr h ↦ inr (omega (arith, h, is)) ]
 
 -- no stop up to the place
 

@@ -1,5 +1,5 @@
 -- The nodes of the symbols are the nodes of the tree that they spell.
-use Rattle.std.proofs.Common.{◌≡◌, ℕ, ◌+◌, ◌<◌, List, ◌∷◌, length, drop, get_or, refl, ◌∙◌, arith, add-one, drop-cons}
+use Rattle.std.proofs.Common.{◌≡◌, ℕ, zero, suc, ◌+◌, ◌<◌, ◌≤◌, List, [], ◌∷◌, length, take, drop, get_or, refl, ap, ◌∙◌, arith, add-one, drop-cons}
 use Rattle.std.proofs.lemmas.List.Sums.{sum_by-cons}
 use Rattle.std.specs.Prelude.{Bool, Option, sum_by}
 use Rattle.cat_syntax.specs.declared.counting.Context.{Context}
@@ -23,6 +23,40 @@ pub weight_next : (c : Context) (ss : List Symbol) (i : ℕ) (d : Symbol) → i 
     weight c (drop i ss) ≡ cost c (get_or ss i d) + weight (context_after c (get_or ss i d)) (drop (i + 1) ss)
 unfolding weight
 weight_next c ss i d h = rw (add-one, drop-cons ss i d)
+
+-- the same of the first few
+pub front_next : (b c : Context) (ss : List Symbol) (i n : ℕ) (d : Symbol) → i < length ss → ((m : ℕ) → n + weight c (take m (drop i ss)) ≡ weight b (take (i + m) ss)) →
+    (m : ℕ) → (n + cost c (get_or ss i d)) + weight (context_after c (get_or ss i d)) (take m (drop (i + 1) ss)) ≡ weight b (take ((i + 1) + m) ss)
+unfolding weight
+front_next b c ss i n d h f m =
+    let g : n + (cost c (get_or ss i d) + weight (context_after c (get_or ss i d)) (take m (drop (suc i) ss))) ≡ weight b (take (i + suc m) ss) = rw (drop-cons ss i d h) at (f (suc m)) in
+    let e : i + suc m ≡ suc i + m = omega arith in
+    let k : n + (cost c (get_or ss i d) + weight (context_after c (get_or ss i d)) (take m (drop (suc i) ss))) ≡ weight b (take (suc i + m) ss) = g ∙ ap (λ j. weight b (take j ss)) e in
+    rw add-one (omega (arith, k))
+
+front-grows : (c : Context) (ss : List Symbol) (m : ℕ) → weight c (take m ss) ≤ weight c (take (suc m) ss)
+unfolding weight
+front-grows c [] zero = omega arith
+front-grows c [] (suc m) = omega arith
+front-grows c (s ∷ ss) zero = omega arith
+front-grows c (s ∷ ss) (suc m) = omega (arith, front-grows (context_after c s) ss m)
+
+-- the symbol that makes it too many
+pub front_node : (b c : Context) (ss : List Symbol) (i n : ℕ) (d : Symbol) → i < length ss → ((m : ℕ) → n + weight c (take m (drop i ss)) ≡ weight b (take (i + m) ss)) →
+    4096 < n + cost c (get_or ss i d) → 4096 < weight b (take (i + 1) ss)
+unfolding weight
+front_node b c ss i n d h f over =
+    let g = front_next b c ss i n d h f 0 in
+    let e : (i + 1) + 0 ≡ i + 1 = omega arith in
+    let k = ap (λ j. weight b (take j ss)) e in
+    omega (arith, g, k, over)
+
+pub front_announced : (b c : Context) (ss : List Symbol) (i n : ℕ) (d : Symbol) → i < length ss → ((m : ℕ) → n + weight c (take m (drop i ss)) ≡ weight b (take (i + m) ss)) →
+    4096 < n + cost c (get_or ss i d) → 4096 < weight b (take ((i + 1) + 1) ss)
+front_announced b c ss i n d h f over =
+    let g = front_node b c ss i n d h f over in
+    let k = front-grows b ss (i + 1) in
+    rw add-one (omega (arith, g, k))
 
 abbrev plain : List Symbol → ℕ
 plain ss = weight contexts.Plain ss

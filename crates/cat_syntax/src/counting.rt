@@ -1,6 +1,6 @@
 //! Counting nodes, symbol by symbol, before anything is read.
 
-ghost use Rattle.std.specs.Prelude.{◌≡◌, ◌≤◌, ◌<◌, MatchOption, IfSome, length};
+ghost use Rattle.std.specs.Prelude.{◌≡◌, ◌+◌, ◌≤◌, ◌<◌, MatchOption, IfSome, length, take};
 ghost use Rattle.cat_syntax.specs.Counting.{is_check_word as word_is, is_node as node_is, cost as cost_of, context_after, weight};
 ghost use Rattle.cat_syntax.specs.declared.counting.Context.TheVariants.{Naming};
 
@@ -94,9 +94,10 @@ fn announces(symbol: &Symbol) -> bool {
 }
 
 /// The place of the first token of the node that is one too many, if there is one.
-#[tactic(auto, unfolding(crate::specs::Counting::weight), using(crate::proofs::Weights::weight_next))]
+#[tactic(auto, unfolding(crate::specs::Counting::weight), using(crate::proofs::Weights::weight_next, crate::proofs::Weights::front_next, crate::proofs::Weights::front_announced, crate::proofs::Weights::front_node))]
 pub fn excess(symbols: &[Symbol]) -> Option<usize>
     ensures long { IfSome result (λ _. 4096 < length symbols.now) }
+    ensures place { IfSome result (λ n. (n ≤ length symbols.now) × (4096 < weight Naming (take (n + 1) symbols.now))) }
     ensures weight { MatchOption result (weight Naming symbols.now ≤ 4096) (λ _. 4096 < weight Naming symbols.now) }
 {
     let mut context = Context::Naming;
