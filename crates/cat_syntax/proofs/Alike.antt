@@ -1,8 +1,8 @@
 -- What reading gives, and where it stops, rests on the symbols up to there and on the two behind.
-use Rattle.std.proofs.Common.{◌≡◌, ℕ, zero, suc, ◌+◌, ◌<◌, ◌≤◌, List, [], ◌∷◌, length, true, false, refl, ap, sym, ◌∙◌, subst, arith, inl, inr}
-use Rattle.std.specs.Prelude.{Bool, Option, Some, None, Result, Ok, Err, if◌then◌else◌}
+use Rattle.std.proofs.Common.{◌≡◌, ℕ, zero, suc, ◌+◌, ◌<◌, ◌≤◌, List, ◌∷◌, length, true, false, refl, sym, ◌∙◌, subst, arith, inl, inr}
+use Rattle.std.specs.Prelude.{Bool, Some, None, Ok, Err, if◌then◌else◌}
 use Rattle.descent.specs.Reading.{Look, match_option, ◌>>=◌, required, repeated}
-use Rattle.descent.proofs.Tools.{bind_ok, bind_err, cases_of, chosen, moved, moved_look}
+use Rattle.descent.proofs.Tools.{bind_ok, bind_err, cases_of, chosen, moved}
 use Rattle.cat_syntax.specs.declared.syntax_fault.SyntaxFault.{SyntaxFault}
 use Rattle.cat_syntax.specs.declared.symbol.Symbol.{Symbol}
 use Rattle.cat_syntax.specs.Reading.{Stop, Reading, cut}
@@ -68,11 +68,14 @@ agree-bind {A} {B} {x} {y} {n} {o} {p} f g step = record { ok = ok_of; err = err
     ok_of b rest e =
         let s = bind_ok o f (b, rest) e in
         let q = g.ok s.0.0 s.0.1 s.1 in
-        let bound = ((step s.0.0 s.0.1 s.1 s.0.1 s.0.1 s.0.1 same_end).ok b rest s.2).0 in
-        (omega (arith, q.0, bound), λ far.
-        let m = q.1 (omega (arith, far, bound)) in
-        let k = ((step s.0.0 s.0.1 s.1 x y m.0 m.2).ok b rest s.2).1 far in
-        (k.0, rw m.1 k.1, k.2))
+        let bound = ((step s.0.0 s.0.1 s.1 s.0.1 s.0.1 s.0.1 same_end).ok b rest s.2).0 in (
+          omega (arith, q.0, bound),
+          λ far.
+              let m = q.1 (omega (arith, far, bound)) in
+              let k = ((step s.0.0 s.0.1 s.1 x y m.0 m.2).ok b rest s.2).1 far in
+              (k.0, rw m.1 k.1, k.2),
+        )
+
     err_of : (c : SyntaxFault) (rest : List Symbol) → (o >>= f) ≡ Err (c, rest) → (length rest ≤ n) × (Far x rest → (end : List Symbol) × ((p >>= f) ≡ Err (c, end)) × Same x y rest end)
     err_of c rest e = elim (bind_err o f (c, rest) e) [
       | inl d ↦
@@ -80,11 +83,13 @@ agree-bind {A} {B} {x} {y} {n} {o} {p} f g step = record { ok = ok_of; err = err
           (q.0, λ far. let m = q.1 far in (m.0, rw m.1 refl, m.2))
       | inr (s, is, d) ↦
           let q = g.ok s.0 s.1 is in
-          let bound = ((step s.0 s.1 is s.1 s.1 s.1 same_end).err c rest d).0 in
-          (omega (arith, q.0, bound), λ far.
-          let m = q.1 (omega (arith, far, bound)) in
-          let k = ((step s.0 s.1 is x y m.0 m.2).err c rest d).1 far in
-          (k.0, rw m.1 k.1, k.2))
+          let bound = ((step s.0 s.1 is s.1 s.1 s.1 same_end).err c rest d).0 in (
+            omega (arith, q.0, bound),
+            λ far.
+                let m = q.1 (omega (arith, far, bound)) in
+                let k = ((step s.0 s.1 is x y m.0 m.2).err c rest d).1 far in
+                (k.0, rw m.1 k.1, k.2),
+          )
     ]
 
 -- what is taken, or else
@@ -99,12 +104,15 @@ agree-look {A} {B} {x} {y} {ts} {l} {m} {d} {e} f g other step = record { ok = o
           (q.0, λ far. let k = q.1 far in (k.0, rw (g.none s.0 (omega (arith, far, q.0))) k.1, k.2))
       | inr (s, is, k) ↦
           let q = g.some s.0 s.1 is in
-          let bound = ((step s.0 s.1 is s.1 s.1 s.1 same_end).ok b rest k).0 in
-          (omega (arith, q.0, bound), λ far.
-          let w = q.1 (omega (arith, far, bound)) in
-          let v = ((step s.0 s.1 is x y w.0 w.2).ok b rest k).1 far in
-          (v.0, rw w.1 v.1, v.2))
+          let bound = ((step s.0 s.1 is s.1 s.1 s.1 same_end).ok b rest k).0 in (
+            omega (arith, q.0, bound),
+            λ far.
+                let w = q.1 (omega (arith, far, bound)) in
+                let v = ((step s.0 s.1 is x y w.0 w.2).ok b rest k).1 far in
+                (v.0, rw w.1 v.1, v.2),
+          )
     ]
+
     err_of : (c : SyntaxFault) (rest : List Symbol) → match_option l d f ≡ Err (c, rest) → (length rest ≤ length ts) × (Far x rest → (end : List Symbol) × (match_option m e f ≡ Err (c, end)) × Same x y rest end)
     err_of c rest h = elim (cases_of l d f (Err (c, rest)) h) [
       | inl s ↦
@@ -112,11 +120,13 @@ agree-look {A} {B} {x} {y} {ts} {l} {m} {d} {e} f g other step = record { ok = o
           (q.0, λ far. let k = q.1 far in (k.0, rw (g.none s.0 (omega (arith, far, q.0))) k.1, k.2))
       | inr (s, is, k) ↦
           let q = g.some s.0 s.1 is in
-          let bound = ((step s.0 s.1 is s.1 s.1 s.1 same_end).err c rest k).0 in
-          (omega (arith, q.0, bound), λ far.
-          let w = q.1 (omega (arith, far, bound)) in
-          let v = ((step s.0 s.1 is x y w.0 w.2).err c rest k).1 far in
-          (v.0, rw w.1 v.1, v.2))
+          let bound = ((step s.0 s.1 is s.1 s.1 s.1 same_end).err c rest k).0 in (
+            omega (arith, q.0, bound),
+            λ far.
+                let w = q.1 (omega (arith, far, bound)) in
+                let v = ((step s.0 s.1 is x y w.0 w.2).err c rest k).1 far in
+                (v.0, rw w.1 v.1, v.2),
+          )
     ]
 
 -- a test that rests on the symbols ahead
@@ -129,6 +139,7 @@ agree-if {A} {x} {y} {n} b c {o} {p} {q} {r} same g h = record { ok = ok_of; err
       | inl s ↦ let k = g.ok a rest s.1 in (k.0, λ far. let v = k.1 far in let t : c ≡ true = sym (same (omega (arith, far, k.0))) ∙ s.0 in (v.0, rw t v.1, v.2))
       | inr s ↦ let k = h.ok a rest s.1 in (k.0, λ far. let v = k.1 far in let t : c ≡ false = sym (same (omega (arith, far, k.0))) ∙ s.0 in (v.0, rw t v.1, v.2))
     ]
+
     err_of : (a : SyntaxFault) (rest : List Symbol) → (if b then o else p) ≡ Err (a, rest) → (length rest ≤ n) × (Far x rest → (end : List Symbol) × ((if c then q else r) ≡ Err (a, end)) × Same x y rest end)
     err_of a rest e = elim (chosen b o p (Err (a, rest)) e) [
       | inl s ↦ let k = g.err a rest s.1 in (k.0, λ far. let v = k.1 far in let t : c ≡ true = sym (same (omega (arith, far, k.0))) ∙ s.0 in (v.0, rw t v.1, v.2))
@@ -145,6 +156,7 @@ agree-required {A} c {x} {y} {ts} {us} {l} {m} s g = record { ok = ok_of l m g; 
         let is : ◌≡◌ {A = Look Symbol A} (Some w) (Some (a, rest)) = cc in
         let q = g.some a rest is in
         (q.0, λ far. let k = q.1 far in (k.0, rw k.1 refl, k.2))
+
     err_of : (l m : Look Symbol A) → AgreeLook x y ts l m → (d : SyntaxFault) (rest : List Symbol) → required {F = Stop} (c, ts) l ≡ Err (d, rest) → (length rest ≤ length ts) × (Far x rest → (end : List Symbol) × (required {F = Stop} (c, us) m ≡ Err (d, end)) × Same x y rest end)
     err_of None m g d rest e = stopped (λ k t. (length k ≤ length ts) × (Far x k → (end : List Symbol) × (required {F = Stop} (c, us) m ≡ Err (t, end)) × Same x y k end)) e (omega arith, λ far. (us, rw (g.none refl far) refl, s))
     err_of (Some w) m g d rest e = absurd (cc)

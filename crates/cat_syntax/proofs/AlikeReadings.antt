@@ -1,19 +1,19 @@
 -- Each reading function rests on the symbols up to where it stops, and on the two behind.
 use Rattle.std.proofs.Common.{◌≡◌, ℕ, zero, suc, ◌+◌, ◌<◌, ◌≤◌, List, [], ◌∷◌, length, true, false, refl, ap, sym, ◌∙◌, subst, arith, ◌⊎◌, inl, inr}
-use Rattle.std.specs.Prelude.{Bool, Option, Some, None, Ok, Err, if◌then◌else◌}
+use Rattle.std.specs.Prelude.{Bool, Some, None, Ok, Err}
 use Rattle.std.proofs.lemmas.Bool.{cases_Bool}
-use Rattle.descent.specs.Reading.{Look, match_option, ◌>>=◌, required, repeated}
-use Rattle.descent.proofs.Tools.{bind_ok, cases_of, moved_look, none_or_some}
+use Rattle.descent.specs.Reading.{Look, match_option, ◌>>=◌, repeated}
+use Rattle.descent.proofs.Tools.{cases_of, moved_look, none_or_some}
 use Rattle.cat_syntax.specs.declared.syntax_fault.SyntaxFault.TheVariants.{Unexpected, BoundTwice, TooDeep}
 use Rattle.cat_tree.specs.declared.node.Infix.{Infix}
 use Rattle.cat_syntax.specs.declared.symbol.Symbol.{Symbol}
 use Rattle.cat_syntax.specs.declared.symbol.Symbol.TheVariants.{Fixed, Name, Quoted, Unsupported}
 use Rattle.cat_syntax.specs.declared.symbol.Terminal.{Terminal}
-use Rattle.cat_syntax.specs.declared.symbol.Terminal.TheVariants.{Let, Rec, And, Acyclic, Irreflexive, Empty, As, Flag, Show, Unshow, Include, Comma, Equals, Domain, Range, Underscore, Zero, LeftParen, RightParen, LeftBracket, RightBracket, LeftBrace, RightBrace, Star, Tilde, Plus, Question, Inverse, Bar, Semicolon, Backslash, Ampersand}
-use Rattle.cat_tree.specs.Tree.{Word, Term, Bound, Shown, Clause, File, bind, bind_recursively, include, show, unshow, identity, domain, range, empty_set, complement, is_bound}
+use Rattle.cat_syntax.specs.declared.symbol.Terminal.TheVariants.{Let, Rec, And, Acyclic, Irreflexive, Empty, As, Flag, Show, Unshow, Include, Comma, Equals, Domain, Range, Underscore, Zero, LeftParen, RightParen, LeftBracket, RightBracket, LeftBrace, RightBrace, Star, Tilde, Plus, Question, Inverse}
+use Rattle.cat_tree.specs.Tree.{Term, Bound, Clause, bind, bind_recursively, include, show, unshow, identity, domain, range, empty_set, complement}
 use Rattle.cat_syntax.specs.Symbols.{is_name}
 use Rattle.cat_syntax.specs.Grammar.{joined, begins_check, begins_operand}
-use Rattle.cat_syntax.specs.Reading.{Stop, Reading, cut, terminal_eq, after, expected, name_at, sign, infix_at, associates_left, postfix_at, applied, applied_at, next_operand, right, left, Inner, enclosed_with, primary_with, postfix_with, unary_with, level_with, below, expression_at, push_item, separated, alias_at, repeats, new_name_at, binding_at, group_at, element_at, optional_at, kind_at, check_with, check_at, quoted_at, item_at, unless_end, title_at, items_at, file_at}
+use Rattle.cat_syntax.specs.Reading.{Reading, cut, terminal_eq, after, expected, name_at, sign, infix_at, associates_left, postfix_at, applied, applied_at, next_operand, right, left, enclosed_with, primary_with, postfix_with, unary_with, level_with, below, expression_at, push_item, separated, alias_at, repeats, new_name_at, binding_at, group_at, element_at, optional_at, kind_at, check_with, check_at, quoted_at, item_at, unless_end, title_at, items_at, file_at}
 use Rattle.cat_syntax.specs.declared.operator.Postfix.{Postfix}
 use Rattle.cat_syntax.proofs.Symbols.{after_takes, if-none, postfix_takes}
 use Rattle.cat_syntax.proofs.ItemsSound.{unless_end-same}
@@ -45,12 +45,15 @@ look-first : {A : Type 0} (l : List Symbol → Look Symbol A) → ((ts rest : Li
     ((t : Symbol) (ts us rest : List Symbol) (a : A) → l (t ∷ ts) ≡ Some (a, rest) → (rest ≡ ts) × (l (t ∷ us) ≡ Some (a, us))) → AlikeLook l
 look-first l takes none some ts x y us s = record {
   none = λ e far.
-  let h = heads x y ts us s (omega (arith, far)) in
-  subst (λ v. l v ≡ None) (sym h.us_is) (none h.first h.ts_behind h.us_behind (subst (λ v. l v ≡ None) h.ts_is e));
-  some = λ a rest e. (omega (arith, takes ts rest a e), λ far.
-  let h = heads x y ts us s (omega (arith, far, takes ts rest a e)) in
-  let k = some h.first h.ts_behind h.us_behind rest a (subst (λ v. l v ≡ Some (a, rest)) h.ts_is e) in
-  (h.us_behind, subst (λ v. l v ≡ Some (a, h.us_behind)) (sym h.us_is) k.1, subst (λ r. Same x y r h.us_behind) (sym k.0) h.behind));
+      let h = heads x y ts us s (omega (arith, far)) in
+      subst (λ v. l v ≡ None) (sym h.us_is) (none h.first h.ts_behind h.us_behind (subst (λ v. l v ≡ None) h.ts_is e));
+  some = λ a rest e. (
+    omega (arith, takes ts rest a e),
+    λ far.
+        let h = heads x y ts us s (omega (arith, far, takes ts rest a e)) in
+        let k = some h.first h.ts_behind h.us_behind rest a (subst (λ v. l v ≡ Some (a, rest)) h.ts_is e) in
+        (h.us_behind, subst (λ v. l v ≡ Some (a, h.us_behind)) (sym h.us_is) k.1, subst (λ r. Same x y r h.us_behind) (sym k.0) h.behind),
+  );
 }
 
 after-none : (u : Terminal) (t : Symbol) (ts us : List Symbol) → after u (t ∷ ts) ≡ None → after u (t ∷ us) ≡ None
@@ -75,6 +78,7 @@ look-made {A} {B} f {x} {y} {ts} {l} {m} g = record { none = none_of; some = som
   where
     none_of : match_option {B = Look Symbol B} l None (λ w. Some (f w.0, w.1)) ≡ None → Far x ts → match_option {B = Look Symbol B} m None (λ w. Some (f w.0, w.1)) ≡ None
     none_of e far = elim (cases_of l _ _ _ e) [ inl s ↦ rw (g.none s.0 far) refl | inr (w, is, k) ↦ absurd (cc) ]
+
     some_of : (b : B) (rest : List Symbol) → match_option {B = Look Symbol B} l None (λ w. Some (f w.0, w.1)) ≡ Some (b, rest) → (length rest ≤ length ts) × (Far x rest → (end : List Symbol) × (match_option {B = Look Symbol B} m None (λ w. Some (f w.0, w.1)) ≡ Some (b, end)) × Same x y rest end)
     some_of b rest e = elim (cases_of l _ _ _ e) [
       | inl s ↦ absurd (cc)
@@ -146,15 +150,18 @@ postfix-some t ts us rest o same e = absurd (cc)
 look-postfix : AlikeLook postfix_at
 look-postfix ts x y us s = record {
   none = λ e far.
-  let h = heads x y ts us s (omega (arith, far)) in
-  let l : length ts ≡ suc (length h.ts_behind) = ap length h.ts_is in
-  subst (λ v. postfix_at v ≡ None) (sym h.us_is)
-  (postfix-none h.first h.ts_behind h.us_behind (operand-far x y h.ts_behind h.us_behind h.behind (omega (arith, far, l))) (subst (λ v. postfix_at v ≡ None) h.ts_is e));
-  some = λ a rest e. (omega (arith, postfix_takes ts rest a e), λ far.
-  let h = heads x y ts us s (omega (arith, far, postfix_takes ts rest a e)) in
-  let l : length ts ≡ suc (length h.ts_behind) = ap length h.ts_is in
-  let k = postfix-some h.first h.ts_behind h.us_behind rest a (operand-far x y h.ts_behind h.us_behind h.behind (omega (arith, far, l, postfix_takes ts rest a e))) (subst (λ v. postfix_at v ≡ Some (a, rest)) h.ts_is e) in
-  (h.us_behind, subst (λ v. postfix_at v ≡ Some (a, h.us_behind)) (sym h.us_is) k.1, subst (λ r. Same x y r h.us_behind) (sym k.0) h.behind));
+      let h = heads x y ts us s (omega (arith, far)) in
+      let l : length ts ≡ suc (length h.ts_behind) = ap length h.ts_is in
+      subst (λ v. postfix_at v ≡ None) (sym h.us_is)
+      (postfix-none h.first h.ts_behind h.us_behind (operand-far x y h.ts_behind h.us_behind h.behind (omega (arith, far, l))) (subst (λ v. postfix_at v ≡ None) h.ts_is e));
+  some = λ a rest e. (
+    omega (arith, postfix_takes ts rest a e),
+    λ far.
+        let h = heads x y ts us s (omega (arith, far, postfix_takes ts rest a e)) in
+        let l : length ts ≡ suc (length h.ts_behind) = ap length h.ts_is in
+        let k = postfix-some h.first h.ts_behind h.us_behind rest a (operand-far x y h.ts_behind h.us_behind h.behind (omega (arith, far, l, postfix_takes ts rest a e))) (subst (λ v. postfix_at v ≡ Some (a, rest)) h.ts_is e) in
+        (h.us_behind, subst (λ v. postfix_at v ≡ Some (a, h.us_behind)) (sym h.us_is) k.1, subst (λ r. Same x y r h.us_behind) (sym k.0) h.behind),
+  );
 }
 
 -- What is read by cases on the first symbol.
@@ -203,13 +210,15 @@ closed-agree opening closing ts x y us s = record {
   ok = λ a rest e. absurd (elim (none_or_some (after opening ts)) [ inl n ↦ let f = rw n at e in cc | inr (w, is) ↦ let f = rw is at e in cc ]);
   err = λ c rest e. elim (none_or_some (after opening ts)) [
     | inl n ↦ stopped {A = Term} (λ l d. (length l ≤ length ts) × (Far x l → (end : List Symbol) × (enclosed_with (below zero) opening closing us ≡ Err (d, end)) × Same x y l end)) (rw n at e)
-    (omega arith, λ far. (us, rw ((look-after opening ts x y us s).none n far) refl, s))
-    | inr (w, is) ↦ stopped {A = Term} (λ l d. (length l ≤ length ts) × (Far x l → (end : List Symbol) × (enclosed_with (below zero) opening closing us ≡ Err (d, end)) × Same x y l end)) (rw is at e)
-    (omega arith, λ far.
-    let h = heads x y ts us s (omega (arith, far)) in
-    let k = after-some opening h.first h.ts_behind h.us_behind w.1 w.0 (subst (λ v. after opening v ≡ Some (w.0, w.1)) h.ts_is is) in
-    let m : after opening us ≡ Some (w.0, h.us_behind) = subst (λ v. after opening v ≡ Some (w.0, h.us_behind)) (sym h.us_is) k.1 in
-    (us, rw m refl, s))
+        (omega arith, λ far. (us, rw ((look-after opening ts x y us s).none n far) refl, s))
+    | inr (w, is) ↦ stopped {A = Term} (λ l d. (length l ≤ length ts) × (Far x l → (end : List Symbol) × (enclosed_with (below zero) opening closing us ≡ Err (d, end)) × Same x y l end)) (rw is at e) (
+      omega arith,
+      λ far.
+          let h = heads x y ts us s (omega (arith, far)) in
+          let k = after-some opening h.first h.ts_behind h.us_behind w.1 w.0 (subst (λ v. after opening v ≡ Some (w.0, w.1)) h.ts_is is) in
+          let m : after opening us ≡ Some (w.0, h.us_behind) = subst (λ v. after opening v ≡ Some (w.0, h.us_behind)) (sym h.us_is) k.1 in
+          (us, rw m refl, s),
+    )
   ];
 }
 
@@ -445,9 +454,12 @@ some_end t ts u = refl
 look-end : AlikeLook unless_end
 look-end ts x y us s = record {
   none = λ e far. let h = heads x y ts us s (omega (arith, far)) in absurd (not_end h.first h.ts_behind (subst (λ v. unless_end v ≡ None) h.ts_is e));
-  some = λ a rest e. let k = unless_end-same ts rest a e in (omega (arith, ap length k), λ far.
-  let h = heads x y ts us s (omega (arith, far, ap length k)) in
-  (us, subst (λ v. unless_end v ≡ Some (a, v)) (sym h.us_is) (some_end h.first h.us_behind a), subst (λ r. Same x y r us) (sym k) s));
+  some = λ a rest e. let k = unless_end-same ts rest a e in (
+    omega (arith, ap length k),
+    λ far.
+        let h = heads x y ts us s (omega (arith, far, ap length k)) in
+        (us, subst (λ v. unless_end v ≡ Some (a, v)) (sym h.us_is) (some_end h.first h.us_behind a), subst (λ r. Same x y r us) (sym k) s),
+  );
 }
 
 alike-items : Alike items_at

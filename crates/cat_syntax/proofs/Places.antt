@@ -1,13 +1,13 @@
 -- Where reading stops, whatever stands behind.
-use Rattle.std.proofs.Common.{◌≡◌, ℕ, zero, suc, ◌+◌, ◌-◌, ◌<◌, ◌≤◌, List, [], ◌∷◌, length, take, drop, refl, ap, sym, ◌∙◌, subst, arith, ◌⊎◌, inl, inr}
-use Rattle.std.specs.Prelude.{Ok, Err}
+use Rattle.std.proofs.Common.{◌≡◌, ℕ, zero, suc, ◌+◌, ◌<◌, ◌≤◌, List, [], ◌∷◌, length, take, drop, refl, ap, sym, ◌∙◌, subst, arith, ◌⊎◌, inl, inr}
+use Rattle.std.specs.Prelude.{Err}
 use Rattle.cat_syntax.specs.declared.syntax_fault.SyntaxFault.{SyntaxFault}
 use Rattle.cat_syntax.specs.declared.symbol.Symbol.{Symbol}
 use Rattle.cat_syntax.specs.Reading.{Stop, Reading, file_at}
 use Rattle.cat_syntax.specs.Items.{IsFile}
 use Rattle.cat_syntax.specs.Stops.{StopsAt}
 use Rattle.cat_tree.specs.Tree.{File}
-use Rattle.cat_syntax.proofs.Alike.{Same, same_end, same_more, Far}
+use Rattle.cat_syntax.proofs.Alike.{Same, same_end, same_more}
 use Rattle.cat_syntax.proofs.AlikeReadings.{alike-file}
 use Rattle.cat_syntax.proofs.ItemsComplete.{file-complete}
 

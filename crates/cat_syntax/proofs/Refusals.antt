@@ -1,49 +1,65 @@
 -- What is told of the place at which reading stops.
-use Rattle.std.proofs.Common.{◌≡◌, ◌≢◌, ℕ, zero, suc, ◌+◌, ◌-◌, ◌<◌, ◌≤◌, List, [], ◌∷◌, length, take, drop, min, refl, ap, sym, ◌∙◌, subst, arith, ◌⊎◌, inl, inr}
-use Rattle.std.specs.Prelude.{Result, Ok, Err}
+use Rattle.std.proofs.Common.{◌≡◌, ◌≢◌, ℕ, ◌+◌, ◌-◌, ◌<◌, ◌≤◌, List, ◌∷◌, length, take, drop, min, refl, ap, sym, ◌∙◌, subst, arith, ◌⊎◌, inl, inr}
+use Rattle.std.specs.Prelude.{Ok, Err}
 use Rattle.std.proofs.lemmas.List.{take_rest}
 use Rattle.wb_text.specs.declared.token.Token.{Token}
 use Rattle.cat_syntax.specs.declared.counting.Context.TheVariants.{Naming}
 use Rattle.cat_syntax.specs.declared.fault.CatFault.{CatFault}
-use Rattle.cat_syntax.specs.declared.fault.CatFault.TheVariants.{Text, Syntax, Unsupported, TooDeep, TooLarge, NoMemory}
+use Rattle.cat_syntax.specs.declared.fault.CatFault.TheVariants.{Syntax, Unsupported, TooDeep, NoMemory}
 use Rattle.cat_syntax.specs.declared.syntax_fault.SyntaxFault.{SyntaxFault}
 use Rattle.cat_syntax.specs.declared.syntax_fault.SyntaxFault.TheVariants as faults
 use Rattle.cat_syntax.specs.declared.symbol.Symbol.{Symbol}
 use Rattle.cat_syntax.specs.declared.symbol.Symbol.TheVariants as symbols
 use Rattle.cat_syntax.specs.Counting.{weight}
 use Rattle.cat_syntax.specs.Reading.{Stop, Reading, Gives, OrNoMemory, file_at}
-use Rattle.cat_syntax.specs.Reads.{Tells, IsUnexpected, IsWrong, IsWrongAt, LeavesOut, offset_of}
-use Rattle.cat_syntax.specs.Stops.{StopsAt, GrowsTooLarge}
+use Rattle.cat_syntax.specs.Reads.{Tells, IsUnexpected, IsWrong, offset_of}
+use Rattle.cat_syntax.specs.Stops.{StopsAt, IsExcess, excess_at, FaultAt, GrowsTooLarge}
 use Rattle.cat_tree.specs.Tree.{File}
-use Rattle.cat_syntax.proofs.Alike.{Same, same_end}
+use Rattle.cat_syntax.proofs.Weights.{front_all, one_excess}
+use Rattle.cat_syntax.proofs.Alike.{same_end}
 use Rattle.cat_syntax.proofs.AlikeReadings.{alike-file}
-use Rattle.cat_syntax.proofs.Places.{stops-of, stops-among, take-take, take-length, take-whole, less-or}
+use Rattle.cat_syntax.proofs.Places.{stops-of, take-take, take-length, take-whole, less-or}
 
 -- the place of the symbols that are left
-stops_there : (cause fault : SyntaxFault) (ss : List Symbol) (place : ℕ) → fault ≡ cause → OrNoMemory fault (StopsAt ss fault place) → OrNoMemory cause (StopsAt ss cause place)
-stops_there cause fault ss place is stops = subst (λ f. OrNoMemory f (StopsAt ss f place)) is stops
+fault_there : (cause fault : SyntaxFault) (ss : List Symbol) (place : ℕ) → fault ≡ cause → OrNoMemory fault (StopsAt ss fault place) → OrNoMemory cause (StopsAt ss cause place)
+fault_there cause fault ss place is stops = subst (λ f. OrNoMemory f (StopsAt ss f place)) is stops
 
-unexpected-told : (e : CatFault) (ss : List Symbol) (tokens : List Token) (end place : ℕ) (rest : List Symbol) → StopsAt ss faults.Unexpected place → drop place ss ≡ rest →
+unexpected-told : (e : CatFault) (ss : List Symbol) (tokens : List Token) (end place : ℕ) (rest : List Symbol) → FaultAt ss faults.Unexpected place → drop place ss ≡ rest →
     IsUnexpected e rest (offset_of (drop place tokens) end) → Tells e ss tokens end
-unexpected-told (Syntax n) ss tokens end place rest stops is told =
-    record { place = place; cause = faults.Unexpected; stops = stops; wrong = subst (λ (l : List Symbol). IsWrong faults.Unexpected l) (sym is) told.0; told = told.1 }
-unexpected-told (Unsupported w) ss tokens end place (symbols.Unsupported v ∷ rest) stops is told =
-    record { place = place; behind = rest; stops = stops; word = is ∙ ap (λ (x : List ℕ). symbols.Unsupported x ∷ rest) (sym told) }
-unexpected-told NoMemory ss tokens end place rest stops is told = tt
-unexpected-told e ss tokens end place rest stops is told = absurd told
+unexpected-told (Syntax n) ss tokens end place rest fault is told =
+    record { place = place; cause = faults.Unexpected; fault = fault; wrong = subst (λ (l : List Symbol). IsWrong faults.Unexpected l) (sym is) told.0; told = told.1 }
+unexpected-told (Unsupported w) ss tokens end place (symbols.Unsupported v ∷ rest) fault is told =
+    record { place = place; behind = rest; fault = fault; word = is ∙ ap (λ (x : List ℕ). symbols.Unsupported x ∷ rest) (sym told) }
+unexpected-told NoMemory ss tokens end place rest fault is told = tt
+unexpected-told e ss tokens end place rest fault is told = absurd told
 
 pub unexpected_told : (e : CatFault) (ss : List Symbol) (tokens : List Token) (end place : ℕ) (fault : SyntaxFault) → fault ≡ faults.Unexpected → OrNoMemory fault (StopsAt ss fault place) →
-    IsUnexpected e (take (length ss - place) (drop place ss)) (offset_of (take (length tokens - place) (drop place tokens)) end) → Tells e ss tokens end
-unexpected_told e ss tokens end place fault is stops told =
-    unexpected-told e ss tokens end place (drop place ss) (stops_there faults.Unexpected fault ss place is stops) refl (rw (take_rest ss place, take_rest tokens place) at told)
+    ((n : ℕ) → IsExcess ss n → place ≤ n) → IsUnexpected e (take (length ss - place) (drop place ss)) (offset_of (take (length tokens - place) (drop place tokens)) end) → Tells e ss tokens end
+unexpected_told e ss tokens end place fault is stops within told =
+    unexpected-told e ss tokens end place (drop place ss) (record { stops = fault_there faults.Unexpected fault ss place is stops; within = within }) refl
+    (rw (take_rest ss place, take_rest tokens place) at told)
 
 pub twice_told : (n : ℕ) (ss : List Symbol) (tokens : List Token) (end place : ℕ) (fault : SyntaxFault) → fault ≡ faults.BoundTwice → OrNoMemory fault (StopsAt ss fault place) →
-    n ≡ offset_of (take (length tokens - place) (drop place tokens)) end → Tells (Syntax n) ss tokens end
-twice_told n ss tokens end place fault is stops told =
-    record { place = place; cause = faults.BoundTwice; stops = stops_there faults.BoundTwice fault ss place is stops; wrong = tt; told = rw (take_rest tokens place) at told }
+    ((n : ℕ) → IsExcess ss n → place ≤ n) → n ≡ offset_of (take (length tokens - place) (drop place tokens)) end → Tells (Syntax n) ss tokens end
+twice_told n ss tokens end place fault is stops within told = record {
+  place = place;
+  cause = faults.BoundTwice;
+  fault = record { stops = fault_there faults.BoundTwice fault ss place is stops; within = within };
+  wrong = tt;
+  told = rw (take_rest tokens place) at told;
+}
 
-pub deep_told : (ss : List Symbol) (tokens : List Token) (end place : ℕ) (fault : SyntaxFault) → fault ≡ faults.TooDeep → OrNoMemory fault (StopsAt ss fault place) → Tells TooDeep ss tokens end
-deep_told ss tokens end place fault is stops = (place, stops_there faults.TooDeep fault ss place is stops)
+pub deep_told : (ss : List Symbol) (tokens : List Token) (end place : ℕ) (fault : SyntaxFault) → fault ≡ faults.TooDeep → OrNoMemory fault (StopsAt ss fault place) →
+    ((n : ℕ) → IsExcess ss n → place ≤ n) → Tells TooDeep ss tokens end
+deep_told ss tokens end place fault is stops within = (place, record { stops = fault_there faults.TooDeep fault ss place is stops; within = within })
+
+-- a node too many begins at one symbol, and at none of a model
+
+pub within_of : (ss : List Symbol) (n place : ℕ) → IsExcess ss n → place ≤ n → (m : ℕ) → IsExcess ss m → place ≤ m
+within_of ss n place e h m f = omega (arith, h, one_excess ss n m e f)
+
+pub no_excess : (ss : List Symbol) (place n : ℕ) → weight Naming ss ≤ 4096 → IsExcess ss n → place ≤ n
+no_excess ss place n h (excess_at counted s behind few many here told) = absurd (omega (arith, h, many, front_all Naming ss (counted + 1)))
 
 -- where the reader stopped
 
@@ -80,8 +96,10 @@ among ss rest shown place stopped c fits all is h g = of c (stopped_at (take sho
   where
     placed : length (take shown ss) - length rest ≡ stopped
     placed = ap (λ n. n - length rest) (shown-length ss shown fits) ∙ sym is
+
     whole : (c : SyntaxFault) → StopsAt (take shown ss) c (length (take shown ss) - length rest) → StopsAt ss c stopped
     whole c stops us same = subst (λ n. StopsAt (take shown ss) c n) placed stops us (same ∙ sym (same-front ss shown place stopped all h))
+
     of : (c : SyntaxFault) → OrNoMemory c (StopsAt (take shown ss) c (length (take shown ss) - length rest)) → OrNoMemory c (StopsAt ss c stopped)
     of faults.NoMemory stops = tt
     of faults.Unexpected stops = whole faults.Unexpected stops
@@ -93,26 +111,34 @@ shown_of ss shown place is = elim (less-or (length ss) (place + 3)) [ inl h ↦ 
 
 -- no stop up to the place
 
-pub large_read : (ss rest : List Symbol) (shown place : ℕ) (f : File) → (length ss ≤ shown) ⊎ (place + 3 ≤ shown) → 4096 < weight Naming (take (place + 1) ss) →
+pub large_read : (ss rest : List Symbol) (shown place : ℕ) (f : File) → (length ss ≤ shown) ⊎ (place + 3 ≤ shown) → IsExcess ss place →
     file_at (take shown ss) ≡ Ok (f, rest) → GrowsTooLarge ss
-large_read ss rest shown place f all many e = record { place = place; many = many; first = λ cause k stops. elim (less-or place k) [
-  | inl h ↦ h
-  | inr h ↦ absurd (let s = stops (take shown ss) (same-front ss shown place k all h) in let g = s.1 in cc)
-] }
+large_read ss rest shown place f all many e = record {
+  place = place;
+  excess = many;
+  first = λ cause k stops. elim (less-or place k) [
+    | inl h ↦ h
+    | inr h ↦ absurd (let s = stops (take shown ss) (same-front ss shown place k all h) in let g = s.1 in cc)
+  ];
+}
 
-large_stopped : (ss rest : List Symbol) (shown place : ℕ) (c : SyntaxFault) → shown ≤ length ss → (length ss ≤ shown) ⊎ (place + 3 ≤ shown) → 4096 < weight Naming (take (place + 1) ss) →
+large_stopped : (ss rest : List Symbol) (shown place : ℕ) (c : SyntaxFault) → shown ≤ length ss → (length ss ≤ shown) ⊎ (place + 3 ≤ shown) → IsExcess ss place →
     file_at (take shown ss) ≡ Err (c, rest) → place < shown - length rest → GrowsTooLarge ss
-large_stopped ss rest shown place c fits all many e later = record { place = place; many = many; first = λ cause k stops. elim (less-or place k) [
-  | inl h ↦ h
-  | inr h ↦
-      let s = stops (take shown ss) (same-front ss shown place k all h) in
-      let same : ◌≡◌ {A = Reading File} (Err (c, rest)) (Err (cause, s.0)) = sym e ∙ s.1 in
-      let pair : ◌≡◌ {A = Stop} (c, rest) (cause, s.0) = cc in
-      let left : rest ≡ s.0 = ap (λ (q : Stop). q.1) pair in
-      absurd (omega (arith, h, later, s.2, ap length left, shown-length ss shown fits))
-] }
+large_stopped ss rest shown place c fits all many e later = record {
+  place = place;
+  excess = many;
+  first = λ cause k stops. elim (less-or place k) [
+    | inl h ↦ h
+    | inr h ↦
+        let s = stops (take shown ss) (same-front ss shown place k all h) in
+        let same : ◌≡◌ {A = Reading File} (Err (c, rest)) (Err (cause, s.0)) = sym e ∙ s.1 in
+        let pair : ◌≡◌ {A = Stop} (c, rest) (cause, s.0) = cc in
+        let left : rest ≡ s.0 = ap (λ (q : Stop). q.1) pair in
+        absurd (omega (arith, h, later, s.2, ap length left, shown-length ss shown fits))
+  ];
+}
 
-pub large_behind : (ss rest : List Symbol) (shown place : ℕ) (c : SyntaxFault) → shown ≤ length ss → (length ss ≤ shown) ⊎ (place + 3 ≤ shown) → 4096 < weight Naming (take (place + 1) ss) →
+pub large_behind : (ss rest : List Symbol) (shown place : ℕ) (c : SyntaxFault) → shown ≤ length ss → (length ss ≤ shown) ⊎ (place + 3 ≤ shown) → IsExcess ss place →
     c ≢ faults.NoMemory → Gives {X = File} {A = File} (λ f. f) (Err c) rest (file_at (take shown ss)) → place < shown - length rest → GrowsTooLarge ss
 large_behind ss rest shown place faults.NoMemory fits all many h g later = absurd (h refl)
 large_behind ss rest shown place faults.Unexpected fits all many h g later = large_stopped ss rest shown place faults.Unexpected fits all many g later

@@ -1,7 +1,6 @@
 -- Single symbols.
-use Rattle.std.proofs.Common.{◌≡◌, ℕ, zero, suc, ◌<◌, List, ◌∷◌, length, true, false, refl, ap, subst, arith, rules, ◌⊎◌, inl, inr}
+use Rattle.std.proofs.Common.{◌≡◌, ℕ, zero, suc, ◌<◌, List, ◌∷◌, length, true, false, refl, ap, subst, arith, rules, inl, inr}
 use Rattle.std.specs.Prelude.{Bool, Option, Some, None, Ok, if◌then◌else◌}
-use Rattle.std.proofs.lemmas.Bool.{cases_Bool}
 use Rattle.descent.proofs.Tools.{required_ok, cases_of, moved_look}
 use Rattle.cat_tree.specs.declared.node.Infix.{Infix}
 use Rattle.cat_syntax.specs.declared.operator.Postfix.{Postfix}

@@ -13,7 +13,7 @@ use Rattle.cat_syntax.specs.declared.syntax_fault.SyntaxFault.{SyntaxFault}
 use Rattle.cat_syntax.specs.declared.syntax_fault.SyntaxFault.TheVariants as faults
 use Rattle.cat_syntax.specs.Items.{IsFile}
 use Rattle.cat_syntax.specs.Nodes.{nodes}
-use Rattle.cat_syntax.specs.Stops.{StopsAt, GrowsTooLarge}
+use Rattle.cat_syntax.specs.Stops.{FaultAt, GrowsTooLarge}
 use Rattle.cat_syntax.specs.Symbols.{symbols_of}
 use Rattle.cat_tree.specs.Tree.{File}
 
@@ -47,7 +47,7 @@ IsUnexpected e rest offset = ⊥
 pub record IsWrongAt (ss : List Symbol) (tokens : List Token) (end n : ℕ) : Type 0 where
   pub place : ℕ
   pub cause : SyntaxFault
-  pub stops : StopsAt ss cause place
+  pub fault : FaultAt ss cause place
   pub wrong : IsWrong cause (drop place ss)
   pub told : n ≡ offset_of (drop place tokens) end
 
@@ -55,7 +55,7 @@ pub record IsWrongAt (ss : List Symbol) (tokens : List Token) (end n : ℕ) : Ty
 pub record LeavesOut (ss : List Symbol) (w : List ℕ) : Type 0 where
   pub place : ℕ
   pub behind : List Symbol
-  pub stops : StopsAt ss faults.Unexpected place
+  pub fault : FaultAt ss faults.Unexpected place
   pub word : drop place ss ≡ symbols.Unsupported w ∷ behind
 
 -- what a refusal tells of the symbols of a text
@@ -63,7 +63,7 @@ abbrev pub Tells : CatFault → List Symbol → List Token → (end : ℕ) → T
 Tells (Text f) ss tokens end = ⊥
 Tells (Syntax n) ss tokens end = IsWrongAt ss tokens end n
 Tells (Unsupported w) ss tokens end = LeavesOut ss w
-Tells TooDeep ss tokens end = (place : ℕ) × StopsAt ss faults.TooDeep place
+Tells TooDeep ss tokens end = (place : ℕ) × FaultAt ss faults.TooDeep place
 Tells TooLarge ss tokens end = (4096 < length tokens) × GrowsTooLarge ss
 Tells NoMemory ss tokens end = Unit {0}
 

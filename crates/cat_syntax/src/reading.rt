@@ -1,12 +1,10 @@
 //! The reader: recursive descent over the symbols of a text.
 
-ghost use Rattle.std.specs.Prelude.{◌≡◌, ◌+◌, ◌<◌, ◌≤◌, List, drop, take, length, Some, None, Ok, Err, IfOk, IfErr, MatchBool, MatchResult};
+ghost use Rattle.std.specs.Prelude.{◌≡◌, ◌<◌, ◌≤◌, ℕ, List, drop, length, Some, None, Ok, Err, IfOk, IfErr, MatchBool, MatchResult};
 ghost use Rattle.std.proofs.Common.{suc};
 ghost use Rattle.cat_syntax.specs.Items.{IsFile};
 ghost use Rattle.cat_syntax.specs.Reads.{Reads, IsRefused, Tells, IsUnexpected, offset_of as first_offset};
-ghost use Rattle.cat_syntax.specs.Stops.{StopsAt};
-ghost use Rattle.cat_syntax.specs.Counting.{weight};
-ghost use Rattle.cat_syntax.specs.declared.counting.Context.TheVariants.{Naming};
+ghost use Rattle.cat_syntax.specs.Stops.{StopsAt, IsExcess};
 ghost use Rattle.cat_syntax.specs.Nodes.{nodes};
 ghost use Rattle.cat_tree.specs.Tree.{File};
 ghost use Rattle.cat_syntax.specs.declared.fault.CatFault.TheVariants.{NoMemory};
@@ -144,6 +142,7 @@ fn refusal<'a>(
     requires within { place ≤ length symbols.now }
     requires one_each { length symbols.now ≡ length tokens.now }
     requires stops { OrNoMemory fault (StopsAt symbols.now fault place) }
+    requires first { (n : ℕ) → IsExcess symbols.now n → place ≤ n }
     ensures told { Tells result symbols.now tokens.now end }
     ensures memory { fault ≡ NoSpace → result ≡ NoMemory }
 {
@@ -170,7 +169,7 @@ fn refusal_up_to<'a>(
     requires within { place ≤ length symbols.now }
     requires one_each { length symbols.now ≡ length tokens.now }
     requires many { 4096 < length tokens.now }
-    requires nodes { 4096 < weight Naming (take (place + 1) symbols.now) }
+    requires excess { IsExcess symbols.now place }
     ensures { Tells result symbols.now tokens.now end }
 {
     // The node's symbol, and what a reader looks at behind it.
@@ -179,19 +178,18 @@ fn refusal_up_to<'a>(
         alloc,
         rest: &symbols[..shown],
     };
-    match reader.file() {
-        Ok(_) => CatFault::TooLarge,
-        Err(fault) => {
-            if fault == SyntaxFault::NoMemory {
-                return CatFault::NoMemory;
-            }
-            let stopped = shown.saturating_sub(reader.rest.len());
-            if stopped > place {
-                return CatFault::TooLarge;
-            }
-            refusal(alloc, symbols, tokens, end, fault, stopped)
-        }
+    let fault = match reader.file() {
+        Ok(_) => return CatFault::TooLarge,
+        Err(fault) => fault,
+    };
+    if fault == SyntaxFault::NoMemory {
+        return CatFault::NoMemory;
     }
+    let stopped = shown.saturating_sub(reader.rest.len());
+    if stopped > place {
+        return CatFault::TooLarge;
+    }
+    refusal(alloc, symbols, tokens, end, fault, stopped)
 }
 
 /// The model that these symbols are.
