@@ -7,12 +7,13 @@ use Rattle.descent.proofs.Tools.{required_ok, bind_ok, moved, none_or_some, ok_o
 use Rattle.descent.proofs.Turns.{repeated-more}
 use Rattle.cat_tree.specs.declared.node.Infix.{Infix}
 use Rattle.cat_syntax.specs.declared.operator.Postfix.{Postfix}
+use Rattle.cat_syntax.specs.declared.syntax_fault.SyntaxFault.TheVariants.{Unexpected}
 use Rattle.cat_syntax.specs.declared.symbol.Symbol.{Symbol}
 use Rattle.cat_tree.specs.declared.expression.Expression.{Expression}
 use Rattle.cat_tree.specs.Terms.{nest}
 use Rattle.cat_tree.specs.Tree.{Term, term_of, pair_of}
 use Rattle.cat_syntax.specs.Grammar.{joined}
-use Rattle.cat_syntax.specs.Reading.{Reading, after, infix_at, postfix_at, applied_at, next_operand, chain_right, right, level_with, below}
+use Rattle.cat_syntax.specs.Reading.{Stop, Reading, after, infix_at, postfix_at, applied_at, next_operand, chain_right, right, level_with, below, cut}
 use Rattle.cat_syntax.proofs.Symbols as symbols
 use Rattle.cat_syntax.proofs.Sound.{level-shorter, level_is}
 
@@ -25,8 +26,8 @@ postfix_takes = symbols.postfix_takes
 pub level_takes : (n k : ℕ) (ts rest : List Symbol) (a : Term) → level_with (below n) k ts ≡ Ok (a, rest) → length rest < length ts
 level_takes n k ts rest a e = level-shorter (level_is n k ts rest a e)
 
-pub required_takes : (t : Terminal) (ts rest : List Symbol) (u : Unit {0}) → required {F = Unit {0}} tt (after t ts) ≡ Ok (u, rest) → length rest < length ts
-required_takes t ts rest u e = symbols.after_takes t ts rest u (required_ok tt (after t ts) (u, rest) e)
+pub required_takes : (t : Terminal) (ts rest : List Symbol) (u : Unit {0}) → required {F = Stop} (Unexpected, ts) (after t ts) ≡ Ok (u, rest) → length rest < length ts
+required_takes t ts rest u e = symbols.after_takes t ts rest u (required_ok (Unexpected, ts) (after t ts) (u, rest) e)
 
 -- a turn of each loop
 
@@ -36,17 +37,17 @@ left_shorter n k ts mid rest o a b e f =
     moved (λ l t. length l < length ts) g.2 (omega (arith, infix_takes k ts mid o e, level_takes n k mid g.0.1 g.0.0 g.1))
 
 pub left_more : (n k : ℕ) (a : Term) (ts : List Symbol) →
-    repeated tt (infix_at k) (next_operand (level_with (below n) k)) a ts ≡
-    match_option (infix_at k ts) (Ok (a, ts)) (λ x. next_operand (level_with (below n) k) x.0 a x.1 >>= λ y. repeated tt (infix_at k) (next_operand (level_with (below n) k)) y.0 y.1)
-left_more n k = repeated-more tt (infix_at k) (next_operand (level_with (below n) k)) (left_shorter n k)
+    repeated cut (infix_at k) (next_operand (level_with (below n) k)) a ts ≡
+    match_option (infix_at k ts) (Ok (a, ts)) (λ x. next_operand (level_with (below n) k) x.0 a x.1 >>= λ y. repeated cut (infix_at k) (next_operand (level_with (below n) k)) y.0 y.1)
+left_more n k = repeated-more cut (infix_at k) (next_operand (level_with (below n) k)) (left_shorter n k)
 
 pub postfix_shorter : (ts mid rest : List Symbol) (o : Postfix) (a b : Term) → postfix_at ts ≡ Some (o, mid) → applied_at o a mid ≡ Ok (b, rest) → length rest < length ts
 postfix_shorter ts mid rest o a b e f = moved (λ l t. length l < length ts) f (postfix_takes ts mid o e)
 
 pub postfix_more : (a : Term) (ts : List Symbol) →
-    repeated tt postfix_at applied_at a ts ≡
-    match_option (postfix_at ts) (Ok (a, ts)) (λ x. applied_at x.0 a x.1 >>= λ y. repeated tt postfix_at applied_at y.0 y.1)
-postfix_more = repeated-more tt postfix_at applied_at postfix_shorter
+    repeated cut postfix_at applied_at a ts ≡
+    match_option (postfix_at ts) (Ok (a, ts)) (λ x. applied_at x.0 a x.1 >>= λ y. repeated cut postfix_at applied_at y.0 y.1)
+postfix_more = repeated-more cut postfix_at applied_at postfix_shorter
 
 -- operators to the right
 

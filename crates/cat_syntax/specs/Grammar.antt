@@ -10,7 +10,7 @@ use Rattle.cat_syntax.specs.declared.symbol.Symbol.TheVariants.{Fixed, Name, Uns
 use Rattle.cat_syntax.specs.declared.symbol.Terminal.{Terminal}
 use Rattle.cat_syntax.specs.declared.symbol.Terminal.TheVariants.{Acyclic, Irreflexive, Empty, Domain, Range, Underscore, Zero, LeftParen, RightParen, LeftBracket, RightBracket, LeftBrace, RightBrace, Bar, Semicolon, Backslash, Ampersand, Star, Tilde, Plus, Question, Inverse}
 pub use Rattle.cat_tree.specs.Terms.{joined}
-use Rattle.cat_tree.specs.Tree.{Term, union, sequence, difference, intersection, product, complement, plus, star, optional, inverse, domain, range, identity, name, empty_relation, empty_set, universe}
+use Rattle.cat_tree.specs.Tree.{Term, complement, plus, star, optional, inverse, domain, range, identity, name, empty_relation, empty_set, universe}
 
 -- the operators that associate to the left, and those to the right, with their levels: the tightest first
 pub data JoinsLeft : ℕ → Terminal → Infix → Type 0 where
