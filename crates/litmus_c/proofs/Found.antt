@@ -18,7 +18,7 @@ use Rattle.litmus_syntax.specs.Unspelled.{SpellsNone}
 use Rattle.litmus_c.specs.Reads.{IsWrittenIn, HasNoTest, IsNoTest, IsRefused, SpellNoTest, IsUnwritten, Reads, text_refusal}
 use Rattle.litmus_c.specs.Rules.{litmus_of, KeepsRules, Explains}
 use Rattle.litmus_syntax.specs.Symbols.{symbols_of}
-use Rattle.litmus_tree.specs.Tree.{Word, Litmus}
+use Rattle.litmus_tree.specs.Tree.{Litmus}
 use Rattle.litmus_syntax.proofs.Complete.{one_reading}
 
 -- what is spelled is written in the text

@@ -1,5 +1,5 @@
 -- A text is refused for one reason.
-use Rattle.std.proofs.Common.{◌≡◌, ◌≤◌, ℕ, List, length, refl, sym, ◌∙◌, ap, subst, ◌-◌}
+use Rattle.std.proofs.Common.{◌≡◌, ℕ, List, length, refl, sym, ◌∙◌, ap, subst, ◌-◌}
 use Rattle.std.specs.Prelude.{◌≢◌, Option, Some, None, Ok, Err}
 use Rattle.wb_text.specs.Faults.{HasCause}
 use Rattle.wb_text.specs.Tokens.{IsTokenList}

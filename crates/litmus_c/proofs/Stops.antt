@@ -1,5 +1,5 @@
 -- Where reading stops, told of the text.
-use Rattle.std.proofs.Common.{◌≡◌, ℕ, zero, suc, ◌<◌, ◌≤◌, ◌-◌, List, [], ◌∷◌, length, map, arith, refl, sym, ◌∙◌, ap, get_or}
+use Rattle.std.proofs.Common.{◌≡◌, ℕ, zero, suc, ◌<◌, ◌≤◌, ◌-◌, List, [], ◌∷◌, length, arith, refl, sym, ◌∙◌, ap, get_or}
 use Rattle.std.specs.Prelude.{Option, Some, None, Result, Ok, Err, IfOk}
 use Rattle.wb_text.specs.declared.token.Token.{Token}
 use Rattle.litmus_c.specs.Reads.{left_out, left_out_at, offset_of, StopsAtOffset, StopsAtWord}

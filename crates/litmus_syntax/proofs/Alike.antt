@@ -1,6 +1,6 @@
 -- Reading does the same on symbols that begin alike, up to where they part. Tools.
-use Rattle.std.proofs.Common.{◌≡◌, ℕ, zero, suc, ◌<◌, ◌≤◌, List, [], ◌∷◌, length, ◌+◌, arith, refl, subst, inl, inr}
-use Rattle.std.specs.Prelude.{Bool, true, false, Option, Some, None, Ok, Err, if◌then◌else◌}
+use Rattle.std.proofs.Common.{◌≡◌, ℕ, zero, suc, ◌<◌, ◌≤◌, List, [], ◌∷◌, length, ◌+◌, arith, refl, inl, inr}
+use Rattle.std.specs.Prelude.{Bool, true, false, Some, None, Ok, Err, if◌then◌else◌}
 use Rattle.descent.specs.Reading.{Look, match_option, ◌>>=◌, required, turns, repeated}
 use Rattle.descent.proofs.Tools.{none_or_some, ok_or_err}
 use Rattle.litmus_syntax.specs.declared.symbol.Symbol.{Symbol}

@@ -1,6 +1,6 @@
 -- Reading a test does the same on symbols that begin alike, up to where they part.
-use Rattle.std.proofs.Common.{◌≡◌, ℕ, zero, suc, ◌<◌, ◌≤◌, ◌-◌, ◌+◌, List, [], ◌∷◌, length, arith, refl, sym, subst, ap, ◌∙◌}
-use Rattle.std.specs.Prelude.{◌++◌, take, Bool, true, false, Option, Some, None, Ok, Err, if◌then◌else◌, codes, ◌==◌}
+use Rattle.std.proofs.Common.{◌≡◌, ℕ, zero, suc, ◌<◌, ◌≤◌, ◌-◌, ◌+◌, List, [], ◌∷◌, length, arith, refl, sym, subst}
+use Rattle.std.specs.Prelude.{take, Bool, true, false, Option, Some, None, Ok, Err, if◌then◌else◌, codes, ◌==◌}
 use Rattle.std.specs.Str.{bytes_eq}
 use Rattle.descent.specs.Reading.{Look, match_option, ◌>>=◌, required}
 use Rattle.events.specs.declared.event.Order.{Order}
@@ -10,7 +10,7 @@ use Rattle.conditions.specs.declared.place.Place.TheVariants.{Reg, Loc}
 use Rattle.conditions.specs.Conditions.{Formula}
 use Rattle.litmus_syntax.specs.declared.atomics.Operation.{Operation}
 use Rattle.litmus_syntax.specs.declared.symbol.Symbol.{Symbol}
-use Rattle.litmus_syntax.specs.declared.symbol.Symbol.TheVariants.{Fixed, Call, Name, Number, Word as head_word, Foreign, Other}
+use Rattle.litmus_syntax.specs.declared.symbol.Symbol.TheVariants.{Fixed, Call, Name, Number, Word as head_word}
 use Rattle.litmus_syntax.specs.declared.symbol.Terminal.{Terminal}
 use Rattle.litmus_syntax.specs.declared.symbol.Terminal.TheVariants.{Int, AtomicInt, Volatile, If, Else, True, False, Exists, Forall, Not, Locations, LeftParen, RightParen, LeftBrace, RightBrace, LeftBracket, RightBracket, Semicolon, Colon, Comma, Assign, Star, Tilde, Bang, EqualEqual, BangEqual, AndAnd, OrOr, And, Or, Arrow}
 use Rattle.litmus_tree.specs.declared.expression.Operator.{Operator}
@@ -19,11 +19,11 @@ use Rattle.litmus_tree.specs.declared.tree.LocationKind.{LocationKind}
 use Rattle.litmus_tree.specs.declared.tree.Parameter.{Parameter}
 use Rattle.litmus_syntax.specs.Atomics.{orders, Effect, loads, stores, exchanges, fences, effect_of, accepted, has_value}
 use Rattle.litmus_syntax.specs.Drafts.{Listing, is_parameter}
-use Rattle.litmus_syntax.specs.Reading.{Reading, syntax, deep, misordered, terminal_eq, after, expected, unless, name_at, number_look, number_at, call_word, before_name, opened, open_at, location_at, register_at, place_at, bare, bound_at, behind_type, entry_at, ends_entry, entry_behind, entries_at, kind_at, behind_volatile, parameter_behind, parameters_more, parameters_at, parameters_closed, parameter_list_at, sign, operator_at, Terms, unary_with, next_operand, operands, level_with, terms_below, expression_at, is_among, order_at, last_order_at, closing_at, located_at, target_at, valued_at, load_at, store_at, exchange_at, fence_at, effect_at, operation_at, value_at, computed_at, plain_at, right_at, declarator_at, declarators_more, declarators_at, assignment_at, write_at, declaration_at, performed_at, simple_at, closed_at, Inside, else_with, if_with, block_with, step_with, steps_more, steps_with, inside, names_thread, thread_name_at, thread_at, threads_more, threads_at, ends_place, place_behind, places_at, bracketed_at, listed_at, equation_at, Propositions, denial, plain_atomic_at, denied_with, enclosed_with, atomic_with, conjunction_more, conjunction_with, or_more, or_with, proposition_with, propositions_below, kind_of_at, condition_at, word_at, language_at, end_at, initial_at, test_at}
+use Rattle.litmus_syntax.specs.Reading.{Reading, syntax, misordered, terminal_eq, after, expected, unless, name_at, number_look, number_at, call_word, before_name, opened, open_at, location_at, register_at, place_at, bare, bound_at, behind_type, entry_at, ends_entry, entry_behind, entries_at, kind_at, behind_volatile, parameter_behind, parameters_more, parameters_at, parameters_closed, parameter_list_at, operator_at, Terms, unary_with, next_operand, operands, level_with, terms_below, expression_at, is_among, order_at, last_order_at, closing_at, located_at, target_at, valued_at, load_at, store_at, exchange_at, fence_at, effect_at, operation_at, value_at, computed_at, plain_at, right_at, declarator_at, declarators_more, declarators_at, assignment_at, write_at, declaration_at, performed_at, simple_at, closed_at, Inside, else_with, if_with, block_with, step_with, steps_more, steps_with, inside, names_thread, thread_name_at, thread_at, threads_more, threads_at, ends_place, place_behind, places_at, bracketed_at, listed_at, equation_at, Propositions, denial, plain_atomic_at, denied_with, enclosed_with, atomic_with, conjunction_more, conjunction_with, or_more, or_with, proposition_with, propositions_below, kind_of_at, condition_at, word_at, language_at, end_at, initial_at, test_at}
 use Rattle.litmus_syntax.specs.Symbols.{looked_up}
 use Rattle.litmus_syntax.specs.Unspelled.{SpellsNone, BeginsNone, IsStuck}
-use Rattle.litmus_tree.specs.Tree.{Word, Term, Right, Declared, Step, Steps, no_steps}
-use Rattle.litmus_syntax.proofs.Alike.{Alike, alike_last, alike_next, Falls, falls_more, Told, told_ok, told_stuck, told_past, Both, Head, head_none, head_some, Shows, Shown, shown_none, shown_some, shown_past, Seen, Skips, both_bind, both_ok, both_stuck, both_deep, both_misordered, both_if, both_test, seen_first, both_match, both_required, skip_none, skip_match, both_behind, both_repeated}
+use Rattle.litmus_tree.specs.Tree.{Term, Right, Declared, Step, Steps, no_steps}
+use Rattle.litmus_syntax.proofs.Alike.{Alike, alike_last, alike_next, Falls, falls_more, Told, told_ok, told_stuck, told_past, Both, Head, head_none, head_some, Shows, Shown, shown_none, shown_some, Seen, Skips, both_bind, both_ok, both_stuck, both_deep, both_misordered, both_if, both_test, seen_first, both_match, both_required, skip_none, skip_match, both_behind, both_repeated}
 use Rattle.litmus_syntax.proofs.Complete.{test-complete}
 use Rattle.litmus_syntax.proofs.Expressions.{operand_shorter}
 use Rattle.litmus_syntax.proofs.Levels.{entries_turn_takes, parameters_turn_takes, threads_turn_takes}
