@@ -45,35 +45,21 @@ enum Formula {
     Implies(&'static Formula, &'static Formula),
 }
 
-#[cycle(building)]
 fn prop(alloc: Global, formula: &Formula) -> Result<Prop, AllocError> {
     match formula {
         Formula::True => Ok(Prop::atom(alloc, Atom::True)),
         Formula::False => Ok(Prop::atom(alloc, Atom::False)),
         Formula::Equals(spot, value) => equals(alloc, spot, *value),
         Formula::Not(a) => prop(alloc, a)?.denied(),
-        Formula::And(a, b) => joined(alloc, Connective::And, a, b),
-        Formula::Or(a, b) => joined(alloc, Connective::Or, a, b),
-        Formula::Implies(a, b) => joined(alloc, Connective::Implies, a, b),
+        Formula::And(a, b) => prop(alloc, a)?.joined(Connective::And, prop(alloc, b)?),
+        Formula::Or(a, b) => prop(alloc, a)?.joined(Connective::Or, prop(alloc, b)?),
+        Formula::Implies(a, b) => prop(alloc, a)?.joined(Connective::Implies, prop(alloc, b)?),
     }
 }
 
 fn equals(alloc: Global, spot: &Spot, value: u32) -> Result<Prop, AllocError> {
     let place = place(alloc, spot)?;
     Ok(Prop::atom(alloc, Atom::Equals(place, value)))
-}
-
-/// Two propositions with a connective between them.
-#[cycle(building)]
-fn joined(
-    alloc: Global,
-    connective: Connective,
-    a: &Formula,
-    b: &Formula,
-) -> Result<Prop, AllocError> {
-    let first = prop(alloc, a)?;
-    let second = prop(alloc, b)?;
-    first.joined(connective, second)
 }
 
 /// `(0:r0=a => ~(1:r0=b)) /\ (x=c \/ false) /\ true`
