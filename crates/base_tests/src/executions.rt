@@ -5,7 +5,7 @@ pub mod graphs;
 use events::Access::{ExRead, ExWrite, Fence, Read, Write};
 use events::EventId::{Initial, Own};
 use events::{Order, RelName, SetName};
-use graphs::{Needs, Parts, Seen, shows};
+use graphs::{Needs, Parts, Seen, follows, shows};
 
 /// SB: each thread writes 1 to its own location and reads the other's, here from its initial write.
 ///
@@ -143,6 +143,12 @@ const SEEN_OF_STRONG: &Seen = &Seen {
 #[test]
 fn each_reads_the_other(rt: HostRuntime) {
     assert!(rt; shows(rt.alloc(), STRONG, SEEN_OF_STRONG) == Ok(true));
+}
+
+/// The runs of the two differ in what they read alone.
+#[test]
+fn a_structure_follows_an_execution(rt: HostRuntime) {
+    assert!(rt; follows(rt.alloc(), WEAK, STRONG, SEEN_OF_STRONG) == Ok(true));
 }
 
 /// P0 exchanges x and has a fence; P1 writes and reads x plainly, and has a fence. Numbers: 0 the initial write,

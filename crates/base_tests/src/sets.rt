@@ -1,7 +1,7 @@
 mod plain;
 
 use plain::{amiss, amiss_of_sets, pair_count, relation, set};
-use relations::{Rel, Set};
+use relations::{Places, Rel, Set};
 use std::process::Abort;
 
 /// Has the first relation just the pairs of the second?
@@ -43,6 +43,19 @@ fn are_full_and_empty() -> bool {
         && Set::full(0).is_empty()
         && !Rel::id(64).is_acyclic()
         && Rel::id(0).is_acyclic()
+}
+
+/// Have the places 3 and 63, in one set, and no other place of it or past it?
+fn are_just_two(places: &Places) -> bool {
+    (0..70).all(|place| places.contains(place) == (place == 3 || place == 63))
+}
+
+#[test]
+fn places_of_a_run(rt: HostRuntime) {
+    let two = Places::just(3).union(&Places::just(63));
+    assert!(rt; are_just_two(&two) && are_just_two(&two.copy().union(&Places::just(64))));
+    assert!(rt; two.is_same(&two.copy()) && !two.is_same(&Places::just(3)));
+    assert!(rt; Places::just(64).is_same(&Places::none()));
 }
 
 #[test]

@@ -1,21 +1,27 @@
 -- Ways that are taken part by part.
-use Rattle.std.proofs.Common.{◌≡◌, ℕ, suc, ◌+◌, ◌≤◌, ◌<◌, List, [], ◌∷◌, ◌++◌, length, map, get_or, drop, drop-cons, add-one, refl, sym, ◌∙◌, ap, arith, append_assoc, append-nil, Option, None, Some, Bool, true, false, if◌then◌else◌, length-append, Vec}
-use Rattle.std.proofs.lemmas.List.{drop_all, length-map}
+use Rattle.std.proofs.Common.{◌≡◌, ℕ, suc, ◌+◌, ◌≤◌, ◌<◌, List, [], ◌∷◌, ◌++◌, length, map, get_or, drop, drop-cons, add-one, refl, sym, ◌∙◌, ap, arith, append_assoc, append-nil, Option, None, Some, Bool, true, false, if◌then◌else◌, length-append, Vec, ◌-◌}
+use Rattle.std.specs.Prelude.{◌&&◌}
+use Rattle.std.proofs.lemmas.Bool.{false≢true}
+use Rattle.std.proofs.lemmas.List.{drop_all, length-map, length-drop}
 use Rattle.std.proofs.lemmas.Grind.{flat_map-append}
 use Rattle.std.specs.Global.{Global}
 use Rattle.std.specs.List.{flat_map}
 use Rattle.relations.specs.Events.{EventSet}
 use Rattle.litmus_tree.specs.declared.tree.Declarator.{Declarator}
+use Rattle.litmus_tree.specs.declared.expression.Expression.{Expression}
+use Rattle.litmus_tree.specs.declared.tree.RightSide.TheVariants.{Value as Value'}
 use Rattle.litmus_tree.specs.declared.tree.Statement.{Statement}
-use Rattle.litmus_tree.specs.declared.tree.Statement.TheVariants.{Empty as Empty', Block as Block', rolls-Empty, rolls-Block}
+use Rattle.litmus_tree.specs.declared.tree.Statement.TheVariants.{Block as Block', Assign as Assign', rolls-Block, rolls-Assign}
 use Rattle.litmus_tree.specs.declared.tree.Statement.TheOpen.{Statement-F}
 use Rattle.litmus_tree.specs.declared.tree.Statement.TheFolds.{fold-roll-Statement}
-use Rattle.litmus_tree.specs.Tree.{Word, Action, load, store, exchange, fence, Right, computed, plain_read, value_of, Declared, Step, empty, block, declare, assign, plain_write, perform, if_only, if_else, Steps, no_steps, in_turn, layer, step_of, steps_of, declared_of}
+use Rattle.litmus_tree.specs.Tree.{Word, Action, load, store, exchange, fence, Right, computed, plain_read, value_of, Declared, Step, empty, block, declare, assign, plain_write, perform, if_only, if_else, Steps, no_steps, in_turn, layer, step_of, steps_of, term_of, declared_of}
 use Rattle.c11_threads.specs.declared.fault.RunFault.{RunFault}
 use Rattle.c11_threads.specs.declared.fault.RunFault.TheVariants.{TooManyRuns, NoMemory}
 use Rattle.c11_threads.specs.Faults.{IsFaultAt}
+use Rattle.c11_threads.specs.Contents.{place_of}
+use Rattle.c11_threads.specs.Idle.{is_idle, are_idle}
 use Rattle.c11_threads.specs.Runs.{Progress}
-use Rattle.c11_threads.specs.Unrolled.{Setting, call_runs, right_runs, declare_runs, declares_runs, under, holds, step_runs, steps_runs}
+use Rattle.c11_threads.specs.Unrolled.{Setting, giving, given_at, call_runs, right_runs, declare_runs, declares_runs, under, holds, step_runs, steps_runs}
 use Rattle.c11_threads.proofs.RunLists.{some_flat_map}
 
 abbrev pub Ways : Type 0
@@ -29,11 +35,54 @@ flat_map_one : (ps : List Progress) → flat_map (λ p. p ∷ []) ps ≡ ps
 flat_map_one [] = refl
 flat_map_one (p ∷ ps) = ap (λ (qs : List Progress). p ∷ qs) (flat_map_one ps)
 
--- An empty statement leaves the ways as they are, and a block takes them through its statements.
-pub after_empty : (s : Setting) (c : EventSet) (a : Statement) (ps : List Progress) → a ≡ Empty' → ps ≡ flat_map (step_runs (step_of a) s c) ps
-after_empty s c a ps e =
-    let f : step_of a ≡ empty = ap step_of (e ∙ sym rolls-Empty) ∙ fold-roll-Statement Step layer Statement-F.Empty in
-    sym (ap (λ (b : Step). flat_map (step_runs b s c) ps) f ∙ flat_map_one ps)
+-- Statements that do nothing leave each way as it is, and a block takes the ways through its statements.
+
+both_idle : (a b : Bool) → (a && b) ≡ true → (a ≡ true) × (b ≡ true)
+both_idle true true h = (refl, refl)
+both_idle true false h = absurd (false≢true h)
+both_idle false b h = absurd (false≢true h)
+
+same_way : (b : Bool) (xs ys zs : List Progress) → xs ≡ zs → ys ≡ zs → (if b then xs else ys) ≡ zs
+same_way true xs ys zs h k = h
+same_way false xs ys zs h k = k
+
+mutual
+  idle_step : (a : Step) (s : Setting) (c : EventSet) (p : Progress) → is_idle a ≡ true → step_runs a s c p ≡ p ∷ []
+  idle_step empty s c p h = refl
+  idle_step (block steps) s c p h = idle_steps steps s c p h
+  idle_step (declare ds) s c p h = absurd (false≢true h)
+  idle_step (assign r right) s c p h = absurd (false≢true h)
+  idle_step (plain_write x e) s c p h = absurd (false≢true h)
+  idle_step (perform a) s c p h = absurd (false≢true h)
+  idle_step (if_only e a) s c p h = same_way (holds s e p) _ _ (p ∷ []) (idle_step a s (under s c e p) p h) refl
+  idle_step (if_else e a b) s c p h =
+      let both = both_idle (is_idle a) (is_idle b) h in
+      same_way (holds s e p) _ _ (p ∷ []) (idle_step a s (under s c e p) p both.0) (idle_step b s (under s c e p) p both.1)
+
+  idle_steps : (steps : Steps) (s : Setting) (c : EventSet) (p : Progress) → are_idle steps ≡ true → steps_runs steps s c p ≡ p ∷ []
+  idle_steps no_steps s c p h = refl
+  idle_steps (in_turn a rest) s c p h =
+      let both = both_idle (is_idle a) (are_idle rest) h in
+      ap (flat_map (steps_runs rest s c)) (idle_step a s c p both.0) ∙ append-nil (steps_runs rest s c p) ∙ idle_steps rest s c p both.1
+
+idle_all : (f : Ways) → ((p : Progress) → f p ≡ p ∷ []) → (ps : List Progress) → flat_map f ps ≡ ps
+idle_all f h [] = refl
+idle_all f h (p ∷ ps) = ap (λ (qs : List Progress). qs ++ flat_map f ps) (h p) ∙ ap (λ (qs : List Progress). p ∷ qs) (idle_all f h ps)
+
+pub after_idle : (s : Setting) (c : EventSet) (a : Step) (ps : List Progress) → is_idle a ≡ true → ps ≡ flat_map (step_runs a s c) ps
+after_idle s c a ps h = sym (idle_all (step_runs a s c) (λ p. idle_step a s c p h) ps)
+
+-- A computed value changes each way into one.
+flat_map_each : (f : Progress → Progress) (ps : List Progress) → flat_map (λ p. f p ∷ []) ps ≡ map f ps
+flat_map_each f [] = refl
+flat_map_each f (p ∷ ps) = ap (λ (qs : List Progress). f p ∷ qs) (flat_map_each f ps)
+
+pub in_value : (s : Setting) (c : EventSet) (a : Statement) (r : Word) (e : Expression) (n : ℕ) (ps : List Progress) → a ≡ Assign' r (Value' e) → n ≡ place_of r s.registers → map (λ p. giving (Some n) (given_at s p (term_of e)) p) ps ≡ flat_map (step_runs (step_of a) s c) ps
+in_value s c a r e n ps is at =
+    let g : step_of a ≡ assign r (computed (term_of e)) = ap step_of (is ∙ sym (rolls-Assign r (Value' e))) ∙ fold-roll-Statement Step layer (Statement-F.Assign r (Value' e)) in
+    ap (λ (m : ℕ). map (λ p. giving (Some m) (given_at s p (term_of e)) p) ps) at
+    ∙ sym (flat_map_each (λ p. giving (Some (place_of r s.registers)) (given_at s p (term_of e)) p) ps)
+    ∙ ap (λ (b : Step). flat_map (step_runs b s c) ps) (sym g)
 
 pub in_block : (s : Setting) (c : EventSet) (a : Statement) (inside : List Statement) (all : Vec Statement Global) → a ≡ Block' all → inside ≡ all.items → steps_runs (steps_of inside) s c ≡ step_runs (step_of a) s c
 in_block s c a inside all e f =
@@ -99,11 +148,20 @@ last_way f (p ∷ left) done all none whole = absurd (omega (arith, none))
 
 -- Each way that is left has an end.
 pub way_fault : (f : Ways) → ((p : Progress) → 1 ≤ length (f p)) → (k room most waiting : ℕ) (left rest : List Progress) (from : Progress) (done all : List Progress) (e : RunFault) → left ≡ from ∷ rest → done ++ flat_map f left ≡ all →
-    waiting ≡ length rest → room + length done + waiting ≡ most → IsFaultAt k room (length (f from)) e → IsFaultAt k most (length all) e
+    waiting ≡ length rest → room + waiting ≡ most → IsFaultAt k room (length done + length (f from)) e → IsFaultAt k most (length all) e
 way_fault f some k room most waiting left rest from done all e is whole w r h =
     let x = next_way f left rest from done all is whole in
-    still_fault k room most (length (f from)) (length all) e
+    still_fault k room most (length done + length (f from)) (length all) e
     (omega (arith, ap (λ (ps : List Progress). length ps) x, length-append (done ++ f from) (flat_map f rest), length-append done (f from), some_flat_map f rest some, w, r)) h
+
+-- More ways than the ends leave room for are more than are wanted with the ends.
+pub onto_fault : (k old most n : ℕ) (e : RunFault) → old < most → IsFaultAt k (most - old) n e → IsFaultAt k most (old + n) e
+onto_fault k old most n e l h = still_fault k (most - old) most n (old + n) e (omega (arith, l)) h
+
+-- Where the ends are as many as are wanted and a value is left, the ways on are more.
+pub too_many : (f : ℕ → Progress) (values : List ℕ) (i : ℕ) (done old all : List Progress) (most : ℕ) → i < length values → most ≤ length done → done ++ map f (drop i values) ≡ old ++ all → most < length old + length all
+too_many f values i done old all most l m e =
+    omega (arith, l, m, ap (λ (ps : List Progress). length ps) e, length-append done (map f (drop i values)), length-append old all, length-map (drop i values) f, length-drop i values)
 
 -- One statement more.
 pub turn : (s : Setting) (c : EventSet) (statements : List Statement) (i : ℕ) (a : Statement) (ends : List Progress) → i < length statements → a ≡ get_or statements i a → flat_map (steps_runs (steps_of (drop (i + 1) statements)) s c) (flat_map (step_runs (step_of a) s c) ends) ≡ flat_map (steps_runs (steps_of (drop i statements)) s c) ends

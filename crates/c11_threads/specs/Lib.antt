@@ -1,6 +1,7 @@
 pub mod Bounds
 pub mod Contents
 pub mod Faults
+pub mod Idle
 pub mod RunExamples
 pub mod Runs
 pub mod Unrolled

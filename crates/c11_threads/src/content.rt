@@ -1,13 +1,12 @@
 //! What a register holds, and what an expression gives.
 
-ghost use Rattle.std.specs.Prelude.{◌≡◌, ◌↔◌, IsTrue};
-ghost use Rattle.relations.specs.Events.{Has};
+ghost use Rattle.std.specs.Prelude.{◌≡◌};
 ghost use Rattle.litmus_tree.specs.Tree.{leaf_of, growth_of, term_of};
 ghost use Rattle.c11_threads.specs.Contents.{place_of, just, joined, nothing, truth, content, holds, content_in, passed};
 
 use events::no_places;
 use litmus_tree::{Expression, Leaf, Link, Operator};
-use relations::Set;
+use relations::Places;
 use wb_text::Name;
 
 /// What a register holds, or an expression gives: a value, and the reads of the thread that reached
@@ -15,11 +14,11 @@ use wb_text::Name;
 #[derive(Drop)]
 pub struct Content {
     pub value: u32,
-    pub reads: Set,
+    pub reads: Places,
 }
 
 /// The first place of a name, or how many names there are.
-pub(crate) fn place_of(names: &[Name], name: &Name) -> usize
+pub fn place_of(names: &[Name], name: &Name) -> usize
     ensures { result ≡ place_of name.now names.now }
 {
     for (place, other) in names.iter().enumerate() {
@@ -31,34 +30,17 @@ pub(crate) fn place_of(names: &[Name], name: &Name) -> usize
 }
 
 /// The set of one place. A place past 63, which no thread has, is left out.
-pub(crate) fn just(place: usize) -> Set
+pub(crate) fn just(place: usize) -> Places
     ensures { result ≡ just place }
 {
-    let mut set = no_places();
-    if place < 64 {
-        set.insert(place);
-    }
-    set
-}
-
-/// Whether a place is in a set; one beyond its count isn't.
-fn has(set: &Set, place: usize) -> bool
-    ensures { IsTrue result ↔ Has set.now place }
-{
-    place < set.count() && set.contains(place)
+    Places::just(place)
 }
 
 /// The places of both sets.
-pub(crate) fn joined(first: &Set, second: &Set) -> Set
+pub(crate) fn joined(first: &Places, second: &Places) -> Places
     ensures { result ≡ joined first.now second.now }
 {
-    let mut both = no_places();
-    for place in 0..64 {
-        if has(first, place) || has(second, place) {
-            both.insert(place);
-        }
-    }
-    both
+    first.union(second)
 }
 
 impl Content {

@@ -5,7 +5,7 @@ ghost use Rattle.c11_threads.specs.Runs.{after, next_read, run_of};
 ghost use Rattle.c11_threads.specs.Unrolled.{giving};
 
 use crate::content::{Content, just};
-use events::{Event, Run};
+use events::{Event, Run, copy_events};
 use std::alloc::{AllocError, Global};
 use std::marker::Model;
 
@@ -24,22 +24,11 @@ impl Model for Progress {
     ghost view = { λ p. record { events = p.events.items; registers = p.registers.items } };
 }
 
-/// The same events once more.
-fn copy_events(alloc: Global, events: &[Event]) -> Result<Vec<Event>, AllocError>
-    ensures { IfOk result (λ v. v.items ≡ events.now) }
-{
-    let mut copies = Vec::new(alloc);
-    for event in events {
-        copies.push(event.copy())?;
-    }
-    Ok(copies)
-}
-
 /// The same contents once more.
 fn copy_contents(alloc: Global, contents: &[Content]) -> Result<Vec<Content>, AllocError>
     ensures { IfOk result (λ v. v.items ≡ contents.now) }
 {
-    let mut copies = Vec::new(alloc);
+    let mut copies = Vec::with_capacity(alloc, contents.len())?;
     for content in contents {
         copies.push(content.copy())?;
     }
@@ -50,7 +39,7 @@ fn copy_contents(alloc: Global, contents: &[Content]) -> Result<Vec<Content>, Al
 fn values_of(alloc: Global, contents: &[Content]) -> Result<Vec<u32>, AllocError>
     ensures { IfOk result (λ v. v.items ≡ map (λ w. w.value) contents.now) }
 {
-    let mut values = Vec::new(alloc);
+    let mut values = Vec::with_capacity(alloc, contents.len())?;
     for content in contents {
         values.push(content.value)?;
     }
@@ -75,12 +64,12 @@ impl Progress {
         &self.registers
     }
 
-    /// The same once more.
+    /// The same once more, with room for an exchange's two events.
     pub(crate) fn copy(&self, alloc: Global) -> Result<Self, AllocError>
         ensures { IfOk result (λ p. p ≡ self.now) }
     {
         Ok(Progress {
-            events: copy_events(alloc, &self.events)?,
+            events: copy_events(alloc, &self.events, 2)?,
             registers: copy_contents(alloc, &self.registers)?,
         })
     }

@@ -1,6 +1,6 @@
 //! The runs of a thread, unrolled choice by choice.
 
-ghost use Rattle.std.specs.Prelude.{◌≡◌, ◌++◌, ◌<◌, ◌≤◌, ◌∷◌, [], length, map, IfOk, IfErr, OnOk, None, Some};
+ghost use Rattle.std.specs.Prelude.{◌≡◌, ◌++◌, ◌+◌, ◌<◌, ◌≤◌, ◌∷◌, [], length, map, IfOk, IfErr, OnOk, None, Some};
 ghost use Rattle.std.specs.List.{flat_map};
 ghost use Rattle.litmus_tree.specs.Tree.{term_of, action_of, right_of, declared_of, step_of, steps_of};
 ghost use Rattle.events.specs.declared.event.Access.TheVariants.{Fence};
@@ -11,10 +11,11 @@ ghost use Rattle.c11_threads.specs.Faults.{IsFaultAt};
 
 use crate::content::{Content, content_of, joined, place_of};
 use crate::fault::RunFault;
+use crate::idle::is_idle;
 use crate::progress::Progress;
 use events::{Access, Event, Order, no_places};
 use litmus_tree::{Call, Declarator, Expression, RightSide, Statement};
-use relations::Set;
+use relations::Places;
 use std::alloc::{AllocError, Global};
 use std::marker::Model;
 use wb_text::Name;
@@ -45,33 +46,53 @@ fn single(alloc: Global, end: Progress) -> Result<Vec<Progress>, AllocError>
     Ok(ends)
 }
 
-/// The way on that gives the content to the register.
+/// Adds one way to the ends.
+fn add(ends: &mut Vec<Progress>, end: Progress) -> Result<(), AllocError>
+    ensures items { OnOk result (ends.new.items ≡ ends.old.items ++ (end ∷ [])) }
+    ensures len { OnOk result (length ends.new.items ≡ length ends.old.items + 1) }
+{
+    ends.push(end)?;
+    Ok(())
+}
+
+/// Adds ways to the ends.
+fn add_all(ends: &mut Vec<Progress>, more: Vec<Progress>) -> Result<(), AllocError>
+    ensures items { OnOk result (ends.new.items ≡ ends.old.items ++ more.items) }
+{
+    let mut more = more;
+    ends.append(&mut more)?;
+    Ok(())
+}
+
+/// Adds the way on that gives the content to the register.
 fn given(
-    alloc: Global,
+    ends: &mut Vec<Progress>,
     from: Progress,
     register: usize,
     content: Content,
-) -> Result<Vec<Progress>, AllocError>
-    ensures { IfOk result (λ v. v.items ≡ giving (Some register) content from ∷ []) }
+) -> Result<(), AllocError>
+    ensures items { OnOk result (ends.new.items ≡ ends.old.items ++ (giving (Some register) content from ∷ [])) }
+    ensures len { OnOk result (length ends.new.items ≡ length ends.old.items + 1) }
 {
     let mut end = from;
     end.give(Some(register), content);
-    single(alloc, end)
+    add(ends, end)
 }
 
-/// The way on that has the event and gives 0 to the register, if there is one.
+/// Adds the way on that has the event and gives 0 to the register, if there is one.
 fn happen(
-    alloc: Global,
+    ends: &mut Vec<Progress>,
     from: Progress,
     event: Event,
     register: Option<usize>,
-) -> Result<Vec<Progress>, AllocError>
-    ensures { IfOk result (λ v. v.items ≡ event_runs event register from) }
+) -> Result<(), AllocError>
+    ensures items { OnOk result (ends.new.items ≡ ends.old.items ++ event_runs event register from) }
+    ensures len { OnOk result (length ends.new.items ≡ length ends.old.items + 1) }
 {
     let mut end = from;
     end.push(event)?;
     end.give(register, Content::nothing());
-    single(alloc, end)
+    add(ends, end)
 }
 
 /// The event with this value.
@@ -121,7 +142,7 @@ impl Setting<'_> {
     }
 
     /// A fence.
-    fn fence(&self, ctrl: &Set, order: Order) -> Event
+    fn fence(&self, ctrl: &Places, order: Order) -> Event
         ensures { result ≡ event self.now ctrl.now Fence 0 order nothing }
     {
         Event {
@@ -138,7 +159,7 @@ impl Setting<'_> {
     /// An access to a location.
     fn access(
         &self,
-        ctrl: &Set,
+        ctrl: &Places,
         access: Access,
         location: &Name,
         order: Order,
@@ -157,8 +178,7 @@ impl Setting<'_> {
         }
     }
 
-    /// The ways on that read each of the values by the event, and then have another event, if there is one; at
-    /// most so many.
+    /// Adds the ways on that read each of the values by the event, and then have another event, if there is one.
     fn read_each(
         &self,
         alloc: Global,
@@ -167,98 +187,102 @@ impl Setting<'_> {
         then: Option<Event>,
         register: Option<usize>,
         most: usize,
-    ) -> Result<Vec<Progress>, RunFault>
-        ensures done { IfOk result (λ v. (v.items ≡ read_runs self.now read then register from) × (length v.items ≤ most)) }
-        ensures fault { IfErr result (IsFaultAt self.now.thread most (length (read_runs self.now read then register from))) }
+        ends: &mut Vec<Progress>,
+    ) -> Result<(), RunFault>
+        requires most { length ends.old.items < most }
+        ensures done { OnOk result ((ends.new.items ≡ ends.old.items ++ read_runs self.now read then register from) × (length ends.new.items ≤ most)) }
+        ensures fault { IfErr result (IsFaultAt self.now.thread most (length ends.old.items + length (read_runs self.now read then register from))) }
     {
-        let mut ends = Vec::new(alloc);
         for value in self.values {
             if ends.len() >= most {
                 return Err(RunFault::TooManyRuns(self.thread));
             }
             ends.push(read_one(alloc, &from, &read, *value, &then, register)?)?;
         }
-        Ok(ends)
+        Ok(())
     }
 
-    /// The ways on of a call, whose value is given to the register, if there is one.
+    /// Adds the ways on of a call, whose value is given to the register, if there is one.
     fn call(
         &self,
         alloc: Global,
-        ctrl: &Set,
+        ctrl: &Places,
         call: &Call,
         from: Progress,
         register: Option<usize>,
         most: usize,
-    ) -> Result<Vec<Progress>, RunFault>
-        requires { 1 ≤ most }
-        ensures done { IfOk result (λ v. (v.items ≡ call_runs self.now ctrl.now (action_of call.now) register from) × (length v.items ≤ most)) }
-        ensures fault { IfErr result (IsFaultAt self.now.thread most (length (call_runs self.now ctrl.now (action_of call.now) register from))) }
+        ends: &mut Vec<Progress>,
+    ) -> Result<(), RunFault>
+        requires { length ends.old.items < most }
+        ensures done { OnOk result ((ends.new.items ≡ ends.old.items ++ call_runs self.now ctrl.now (action_of call.now) register from) × (length ends.new.items ≤ most)) }
+        ensures fault { IfErr result (IsFaultAt self.now.thread most (length ends.old.items + length (call_runs self.now ctrl.now (action_of call.now) register from))) }
     {
         match call {
             Call::Load(location, order) => {
                 let read = self.access(ctrl, Access::Read, location, *order, Content::nothing());
-                self.read_each(alloc, from, read, None, register, most)
+                self.read_each(alloc, from, read, None, register, most, ends)
             }
             Call::Store(location, expression, order) => {
                 let content = self.content(&from, expression);
                 let write = self.access(ctrl, Access::Write, location, *order, content);
-                Ok(happen(alloc, from, write, register)?)
+                Ok(happen(ends, from, write, register)?)
             }
             Call::Exchange(location, expression, order) => {
                 let content = self.content(&from, expression);
                 let write = self.access(ctrl, Access::ExWrite, location, *order, content);
                 let read = self.access(ctrl, Access::ExRead, location, *order, Content::nothing());
-                self.read_each(alloc, from, read, Some(write), register, most)
+                self.read_each(alloc, from, read, Some(write), register, most, ends)
             }
-            Call::Fence(order) => Ok(happen(alloc, from, self.fence(ctrl, *order), register)?),
+            Call::Fence(order) => Ok(happen(ends, from, self.fence(ctrl, *order), register)?),
         }
     }
 
-    /// The ways on that give the register the value of the right side.
+    /// Adds the ways on that give the register the value of the right side.
     fn assign(
         &self,
         alloc: Global,
-        ctrl: &Set,
+        ctrl: &Places,
         right: &RightSide,
         from: Progress,
         register: usize,
         most: usize,
-    ) -> Result<Vec<Progress>, RunFault>
-        requires { 1 ≤ most }
-        ensures done { IfOk result (λ v. (v.items ≡ right_runs self.now ctrl.now (right_of right.now) register from) × (length v.items ≤ most)) }
-        ensures fault { IfErr result (IsFaultAt self.now.thread most (length (right_runs self.now ctrl.now (right_of right.now) register from))) }
+        ends: &mut Vec<Progress>,
+    ) -> Result<(), RunFault>
+        requires { length ends.old.items < most }
+        ensures done { OnOk result ((ends.new.items ≡ ends.old.items ++ right_runs self.now ctrl.now (right_of right.now) register from) × (length ends.new.items ≤ most)) }
+        ensures fault { IfErr result (IsFaultAt self.now.thread most (length ends.old.items + length (right_runs self.now ctrl.now (right_of right.now) register from))) }
     {
         match right {
             RightSide::Value(expression) => {
                 let content = self.content(&from, expression);
-                Ok(given(alloc, from, register, content)?)
+                Ok(given(ends, from, register, content)?)
             }
             RightSide::Read(location) => {
                 let read = self.access(ctrl, Access::Read, location, Order::Na, Content::nothing());
-                self.read_each(alloc, from, read, None, Some(register), most)
+                self.read_each(alloc, from, read, None, Some(register), most, ends)
             }
-            RightSide::Call(call) => self.call(alloc, ctrl, call, from, Some(register), most),
+            RightSide::Call(call) => self.call(alloc, ctrl, call, from, Some(register), most, ends),
         }
     }
 
-    /// The ways on that declare a register.
+    /// Adds the ways on that declare a register.
     fn declare(
         &self,
         alloc: Global,
-        ctrl: &Set,
+        ctrl: &Places,
         declarator: &Declarator,
         from: Progress,
         most: usize,
-    ) -> Result<Vec<Progress>, RunFault>
-        requires { 1 ≤ most }
-        ensures done { IfOk result (λ v. (v.items ≡ declare_runs self.now ctrl.now (declared_of declarator.now).register (declared_of declarator.now).value from) × (length v.items ≤ most)) }
-        ensures fault { IfErr result (IsFaultAt self.now.thread most (length (declare_runs self.now ctrl.now (declared_of declarator.now).register (declared_of declarator.now).value from))) }
+        ends: &mut Vec<Progress>,
+    ) -> Result<(), RunFault>
+        requires { length ends.old.items < most }
+        ensures done { OnOk result ((ends.new.items ≡ ends.old.items ++ declare_runs self.now ctrl.now (declared_of declarator.now).register (declared_of declarator.now).value from) × (length ends.new.items ≤ most)) }
+        ensures fault { IfErr result (IsFaultAt self.now.thread most (length ends.old.items + length (declare_runs self.now ctrl.now (declared_of declarator.now).register (declared_of declarator.now).value from))) }
     {
         let register = self.register(&declarator.register);
         match &declarator.value {
-            Some(right) => self.assign(alloc, ctrl, right, from, register, most),
-            None => Ok(given(alloc, from, register, Content::nothing())?),
+            Some(right) => self.assign(alloc, ctrl, right, from, register, most, ends),
+            None => Ok(given(ends, from, register, Content::nothing())?),
         }
     }
 
@@ -266,7 +290,7 @@ impl Setting<'_> {
     fn declare_each(
         &self,
         alloc: Global,
-        ctrl: &Set,
+        ctrl: &Places,
         declarator: &Declarator,
         starts: Vec<Progress>,
         most: usize,
@@ -276,13 +300,11 @@ impl Setting<'_> {
         ensures done { IfOk result (λ v. (v.items ≡ flat_map (declare_runs self.now ctrl.now (declared_of declarator.now).register (declared_of declarator.now).value) starts.items) × (length v.items ≤ most)) }
         ensures fault { IfErr result (IsFaultAt self.now.thread most (length (flat_map (declare_runs self.now ctrl.now (declared_of declarator.now).register (declared_of declarator.now).value) starts.items))) }
     {
-        let mut ends = Vec::new(alloc);
+        let mut ends = Vec::with_capacity(alloc, starts.len())?;
         let mut waiting = starts.len();
         for from in starts {
             waiting -= 1;
-            let room = most - ends.len() - waiting;
-            let mut more = self.declare(alloc, ctrl, declarator, from, room)?;
-            ends.append(&mut more)?;
+            self.declare(alloc, ctrl, declarator, from, most - waiting, &mut ends)?;
         }
         Ok(ends)
     }
@@ -291,7 +313,7 @@ impl Setting<'_> {
     fn declare_all(
         &self,
         alloc: Global,
-        ctrl: &Set,
+        ctrl: &Places,
         declarators: &[Declarator],
         from: Progress,
         most: usize,
@@ -308,47 +330,92 @@ impl Setting<'_> {
         Ok(ends)
     }
 
-    /// The ways on of a statement. The arms of an `if` stand under its test.
+    /// Adds the ways on that declare registers, one after another.
+    fn declare_onto(
+        &self,
+        alloc: Global,
+        ctrl: &Places,
+        declarators: &[Declarator],
+        from: Progress,
+        most: usize,
+        ends: &mut Vec<Progress>,
+    ) -> Result<(), RunFault>
+        requires values { 1 ≤ length self.now.values }
+        requires most { length ends.old.items < most }
+        ensures done { OnOk result ((ends.new.items ≡ ends.old.items ++ declares_runs self.now ctrl.now (map declared_of declarators.now) from) × (length ends.new.items ≤ most)) }
+        ensures fault { IfErr result (IsFaultAt self.now.thread most (length ends.old.items + length (declares_runs self.now ctrl.now (map declared_of declarators.now) from))) }
+    {
+        let more = self.declare_all(alloc, ctrl, declarators, from, most - ends.len())?;
+        Ok(add_all(ends, more)?)
+    }
+
+    /// Gives a register the value of an expression on each of the ways.
+    fn give_each(
+        &self,
+        starts: Vec<Progress>,
+        register: usize,
+        expression: &Expression,
+    ) -> Vec<Progress>
+        ensures { result.items ≡ map (λ p. giving (Some register) (given_at self.now p (term_of expression.now)) p) starts.items }
+    {
+        let mut ends = starts;
+        for way in ends.iter_mut() {
+            let content = self.content(way, expression);
+            way.give(Some(register), content);
+        }
+        ends
+    }
+
+    /// Adds the ways on of a statement. The arms of an `if` stand under its test.
     #[cycle(performing)]
     fn perform(
         &self,
         alloc: Global,
-        ctrl: &Set,
+        ctrl: &Places,
         statement: &Statement,
         from: Progress,
         most: usize,
-    ) -> Result<Vec<Progress>, RunFault>
+        ends: &mut Vec<Progress>,
+    ) -> Result<(), RunFault>
         requires values { 1 ≤ length self.now.values }
-        requires most { 1 ≤ most }
-        ensures done { IfOk result (λ v. (v.items ≡ step_runs (step_of statement.now) self.now ctrl.now from) × (length v.items ≤ most)) }
-        ensures fault { IfErr result (IsFaultAt self.now.thread most (length (step_runs (step_of statement.now) self.now ctrl.now from))) }
+        requires most { length ends.old.items < most }
+        ensures done { OnOk result ((ends.new.items ≡ ends.old.items ++ step_runs (step_of statement.now) self.now ctrl.now from) × (length ends.new.items ≤ most)) }
+        ensures fault { IfErr result (IsFaultAt self.now.thread most (length ends.old.items + length (step_runs (step_of statement.now) self.now ctrl.now from))) }
     {
         match statement {
-            Statement::Empty => Ok(single(alloc, from)?),
+            Statement::Empty => Ok(add(ends, from)?),
             Statement::Block(statements) => {
-                self.perform_from(alloc, ctrl, statements.as_slice(), from, most)
+                self.perform_onto(alloc, ctrl, statements.as_slice(), from, most, ends)
             }
             Statement::Declare(declarators) => {
-                self.declare_all(alloc, ctrl, declarators.as_slice(), from, most)
+                self.declare_onto(alloc, ctrl, declarators.as_slice(), from, most, ends)
             }
             Statement::Assign(register, right) => {
-                self.assign(alloc, ctrl, right, from, self.register(register), most)
+                self.assign(
+                    alloc,
+                    ctrl,
+                    right,
+                    from,
+                    self.register(register),
+                    most,
+                    ends,
+                )
             }
             Statement::Write(location, expression) => {
                 let content = self.content(&from, expression);
                 let write = self.access(ctrl, Access::Write, location, Order::Na, content);
-                Ok(happen(alloc, from, write, None)?)
+                Ok(happen(ends, from, write, None)?)
             }
-            Statement::Perform(call) => self.call(alloc, ctrl, call, from, None, most),
+            Statement::Perform(call) => self.call(alloc, ctrl, call, from, None, most, ends),
             Statement::If(expression, first, second) => {
                 let test = self.content(&from, expression);
                 let inside = joined(ctrl, &test.reads);
                 if test.value != 0 {
-                    return self.perform(alloc, &inside, first, from, most);
+                    return self.perform(alloc, &inside, first, from, most, ends);
                 }
                 match second {
-                    Some(second) => self.perform(alloc, &inside, second, from, most),
-                    None => Ok(single(alloc, from)?),
+                    Some(second) => self.perform(alloc, &inside, second, from, most, ends),
+                    None => Ok(add(ends, from)?),
                 }
             }
         }
@@ -360,7 +427,7 @@ impl Setting<'_> {
     fn perform_apart(
         &self,
         alloc: Global,
-        ctrl: &Set,
+        ctrl: &Places,
         statement: &Statement,
         starts: Vec<Progress>,
         most: usize,
@@ -370,24 +437,22 @@ impl Setting<'_> {
         ensures done { IfOk result (λ v. (v.items ≡ flat_map (step_runs (step_of statement.now) self.now ctrl.now) starts.items) × (length v.items ≤ most)) }
         ensures fault { IfErr result (IsFaultAt self.now.thread most (length (flat_map (step_runs (step_of statement.now) self.now ctrl.now) starts.items))) }
     {
-        let mut ends = Vec::new(alloc);
+        let mut ends = Vec::with_capacity(alloc, starts.len())?;
         let mut waiting = starts.len();
         for from in starts {
             waiting -= 1;
-            let room = most - ends.len() - waiting;
-            let mut more = self.perform(alloc, ctrl, statement, from, room)?;
-            ends.append(&mut more)?;
+            self.perform(alloc, ctrl, statement, from, most - waiting, &mut ends)?;
         }
         Ok(ends)
     }
 
-    /// Performs a statement after each of the ways. An empty one leaves them as they are, and a block takes them
-    /// together through its statements.
+    /// Performs a statement after each of the ways. One that does nothing leaves them as they are, a block takes them
+    /// together through its statements, and a computed value is given to the register where they lie.
     #[cycle(performing)]
     fn perform_each(
         &self,
         alloc: Global,
-        ctrl: &Set,
+        ctrl: &Places,
         statement: &Statement,
         starts: Vec<Progress>,
         most: usize,
@@ -397,11 +462,19 @@ impl Setting<'_> {
         ensures done { IfOk result (λ v. (v.items ≡ flat_map (step_runs (step_of statement.now) self.now ctrl.now) starts.items) × (length v.items ≤ most)) }
         ensures fault { IfErr result (IsFaultAt self.now.thread most (length (flat_map (step_runs (step_of statement.now) self.now ctrl.now) starts.items))) }
     {
+        if is_idle(statement) {
+            return Ok(starts);
+        }
         match statement {
-            Statement::Empty => Ok(starts),
             Statement::Block(statements) => {
                 self.perform_all(alloc, ctrl, statements.as_slice(), starts, most)
             }
+            Statement::Assign(register, right) => match right {
+                RightSide::Value(expression) => {
+                    Ok(self.give_each(starts, self.register(register), expression))
+                }
+                _ => self.perform_apart(alloc, ctrl, statement, starts, most),
+            },
             _ => self.perform_apart(alloc, ctrl, statement, starts, most),
         }
     }
@@ -411,7 +484,7 @@ impl Setting<'_> {
     fn perform_all(
         &self,
         alloc: Global,
-        ctrl: &Set,
+        ctrl: &Places,
         statements: &[Statement],
         starts: Vec<Progress>,
         most: usize,
@@ -433,7 +506,7 @@ impl Setting<'_> {
     pub(crate) fn perform_from(
         &self,
         alloc: Global,
-        ctrl: &Set,
+        ctrl: &Places,
         statements: &[Statement],
         from: Progress,
         most: usize,
@@ -444,5 +517,25 @@ impl Setting<'_> {
         ensures fault { IfErr result (IsFaultAt self.now.thread most (length (steps_runs (steps_of statements.now) self.now ctrl.now from))) }
     {
         self.perform_all(alloc, ctrl, statements, single(alloc, from)?, most)
+    }
+
+    /// Adds the ways on of statements.
+    #[cycle(performing)]
+    fn perform_onto(
+        &self,
+        alloc: Global,
+        ctrl: &Places,
+        statements: &[Statement],
+        from: Progress,
+        most: usize,
+        ends: &mut Vec<Progress>,
+    ) -> Result<(), RunFault>
+        requires values { 1 ≤ length self.now.values }
+        requires most { length ends.old.items < most }
+        ensures done { OnOk result ((ends.new.items ≡ ends.old.items ++ steps_runs (steps_of statements.now) self.now ctrl.now from) × (length ends.new.items ≤ most)) }
+        ensures fault { IfErr result (IsFaultAt self.now.thread most (length ends.old.items + length (steps_runs (steps_of statements.now) self.now ctrl.now from))) }
+    {
+        let more = self.perform_from(alloc, ctrl, statements, from, most - ends.len())?;
+        Ok(add_all(ends, more)?)
     }
 }

@@ -51,7 +51,7 @@ some_at n (e ∷ es) h =
       | inr t ↦ subst P (filter_no e es t) rest
     ]
 
-reads_at_locations : (n : ℕ) (runs : List ThreadRun) → All (λ run. All (IsPlaced n) run.events) runs → All (IsAt n) (reads runs)
+pub reads_at_locations : (n : ℕ) (runs : List ThreadRun) → All (λ run. All (IsPlaced n) run.events) runs → All (IsAt n) (reads runs)
 reads_at_locations n [] h = All-nil (IsAt n)
 reads_at_locations n (run ∷ runs) h =
     let P : ThreadRun → Type 0 = λ run. All (IsPlaced n) run.events in

@@ -18,3 +18,4 @@ pub mod Stretches
 pub mod Tallies
 pub mod Walked
 pub mod Writing
+pub mod Listed

@@ -1,5 +1,5 @@
 -- What is found at a number of some runs: a reading or a candidate, or up to which number there is none.
-use Rattle.std.specs.Prelude.{◌≡◌, ℕ, ◌+◌, ◌<◌, ◌≤◌, List, length, true, false}
+use Rattle.std.specs.Prelude.{◌≡◌, ℕ, ◌+◌, ◌<◌, ◌≤◌, List, length, map, true, false}
 use Rattle.events.specs.declared.event.Event.{Event}
 use Rattle.events.specs.declared.event.EventId.{EventId}
 use Rattle.events.specs.Executions.{ThreadRun}
@@ -11,7 +11,7 @@ use Rattle.candidates.specs.declared.assembly.Look.TheVariants as of_look
 use Rattle.candidates.specs.declared.page.Page.{Page}
 use Rattle.candidates.specs.declared.page.Stretch.{Stretch}
 use Rattle.candidates.specs.declared.fault.TheConstants.{MOST_CANDIDATES}
-use Rattle.candidates.specs.Executions.{reads, block}
+use Rattle.candidates.specs.Executions.{reads, later_writes, upto, block}
 use Rattle.candidates.specs.Candidates.{Choices, count_sources, source_at, digits_down, count_co, candidate, candidate_at, size_of, agree, is_consistent}
 use Rattle.candidates.specs.Bounds.{AreWithin}
 
@@ -29,11 +29,12 @@ abbrev pub IsLook : List ℕ → List ThreadRun → ℕ → Look → Type 0
 IsLook init runs i (of_look.Found g) = (g ≡ candidate init runs i) × (is_consistent g ≡ true)
 IsLook init runs i (of_look.Until n) = (i < n) × (n ≤ block (length init) runs) × ((m : ℕ) → i ≤ m → m < n → is_consistent (candidate init runs m) ≡ false)
 
--- What is kept of some runs: their reads, and in how many ways these can read and the writes be ordered.
+-- What is kept of some runs: their reads, the later writes of each location, and in how many ways the reads can read and the writes be ordered.
 pub record IsPage (locations : ℕ) (p : Page) : Type 0 where
   pub within : AreWithin locations p.runs.items
   pub most : block locations p.runs.items ≤ MOST_CANDIDATES
   pub reads_are : p.reads.items ≡ reads p.runs.items
+  pub writes_are : p.writes.items ≡ map (later_writes p.runs.items) (upto locations)
   pub ways : p.ways ≡ product_by (count_sources p.runs.items) (reads p.runs.items)
   pub orders : p.orders ≡ count_co locations p.runs.items
 

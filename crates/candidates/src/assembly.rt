@@ -1,9 +1,9 @@
 //! The candidate with this number among those with the same runs.
 
-ghost use Rattle.std.specs.Prelude.{◌≡◌, ◌++◌, ◌<◌, ◌≤◌, ◌*◌, ◌/◌, ◌%◌, ◌∷◌, ℕ, length, filter, true, false, IfOk, OnOk, MatchOption};
+ghost use Rattle.std.specs.Prelude.{◌≡◌, ◌++◌, ◌<◌, ◌≤◌, ◌*◌, ◌/◌, ◌%◌, ◌∷◌, ℕ, suc, length, map, filter, true, false, slice_index_or, IfOk, OnOk, MatchOption};
 ghost use Rattle.events.specs.declared.event.EventId.TheVariants.{Initial};
 ghost use Rattle.events.specs.Executions.{is_read};
-ghost use Rattle.listings.specs.Lists.{product_by};
+ghost use Rattle.listings.specs.Lists.{factorial, product_by};
 ghost use Rattle.listings.specs.Numbered.{arrange, digits};
 ghost use Rattle.candidates.specs.Bounds.{AreWithin};
 ghost use Rattle.candidates.specs.Executions.{writes_from, later_writes, reads, upto, block};
@@ -12,8 +12,8 @@ ghost use Rattle.candidates.specs.Readings.{IsReading, IsLook, IsPage};
 
 use crate::capped::capped_factorial;
 use crate::fault::MOST_CANDIDATES;
-use crate::page::Page;
-use events::{Coherence, Event, EventId, Graph, Run};
+use crate::page::{Page, Writes};
+use events::{Coherence, Event, EventId, Graph, Run, copy_runs};
 use std::alloc::{AllocError, Global};
 
 /// Adds the writes to a location among the events of a thread.
@@ -42,6 +42,17 @@ fn later_writes(alloc: Global, runs: &[Run], location: usize) -> Result<Vec<Even
         push_writes(&mut writes, location, thread, run.events())?;
     }
     Ok(writes)
+}
+
+/// The later writes of each location.
+fn all_writes(alloc: Global, runs: &[Run], locations: usize) -> Result<Vec<Writes>, AllocError>
+    ensures { IfOk result (λ v. v.items ≡ map (later_writes runs.now) (upto locations)) }
+{
+    let mut all = Vec::with_capacity(alloc, locations)?;
+    for location in 0..locations {
+        all.push(Writes::new(later_writes(alloc, runs, location)?))?;
+    }
+    Ok(all)
 }
 
 /// All writes to a location, the initial one first.
@@ -96,7 +107,7 @@ fn count_ways(alloc: Global, runs: &[Run], reads: &[Event]) -> Result<u64, Alloc
 }
 
 /// The value that a write writes.
-fn write_value(init: &[u32], runs: &[Run], write: EventId) -> u32
+pub fn write_value(init: &[u32], runs: &[Run], write: EventId) -> u32
     ensures { result ≡ write_value init.now runs.now write }
 {
     match write {
@@ -128,27 +139,32 @@ struct Pick {
     below: u64,
 }
 
-/// What the read reads from by this number, of those by which it and the reads behind it can read.
-fn pick_source(
-    alloc: Global,
-    runs: &[Run],
-    read: &Event,
-    number: u64,
-    ways: u64,
-) -> Result<Pick, AllocError>
-    requires some { 1 ≤ ways / count_sources runs.now read.now }
-    requires digit { number / (ways / count_sources runs.now read.now) < count_sources runs.now read.now }
-    ensures source { IfOk result (λ p. p.source ≡ source_at runs.now read.now (number / (ways / count_sources runs.now read.now))) }
-    ensures rest { IfOk result (λ p. p.rest ≡ number % (ways / count_sources runs.now read.now)) }
-    ensures below { IfOk result (λ p. p.below ≡ ways / count_sources runs.now read.now) }
+/// The write with this number among the initial one of a location and the later ones behind it.
+fn source(location: usize, later: &[EventId], number: usize) -> EventId
+    requires { number ≤ length later.now }
+    ensures { result ≡ slice_index_or (Initial location ∷ later.now) number (Initial 0) }
 {
-    let sources = sources(alloc, runs, read.loc)?;
-    let below = ways / sources.len() as u64;
-    Ok(Pick {
-        source: sources[(number / below) as usize],
+    if number == 0 {
+        return EventId::Initial(location);
+    }
+    later[number - 1]
+}
+
+/// What a read of a location with these later writes reads from by this number, of those by which it and the reads behind it
+/// can read.
+fn pick_source(location: usize, later: &[EventId], number: u64, ways: u64) -> Pick
+    requires some { 1 ≤ ways / suc (length later.now) }
+    requires digit { number / (ways / suc (length later.now)) < suc (length later.now) }
+    ensures source { result.source ≡ slice_index_or (Initial location ∷ later.now) (number / (ways / suc (length later.now))) (Initial 0) }
+    ensures rest { result.rest ≡ number % (ways / suc (length later.now)) }
+    ensures below { result.below ≡ ways / suc (length later.now) }
+{
+    let below = ways / (later.len() as u64 + 1);
+    Pick {
+        source: source(location, later, (number / below) as usize),
         rest: number % below,
         below,
-    })
+    }
 }
 
 /// What each read reads from, with this number, where each has the value of what it reads from. Else up to which
@@ -156,21 +172,21 @@ fn pick_source(
 fn read_from(
     alloc: Global,
     init: &[u32],
-    runs: &[Run],
+    page: &Page,
     reads: &[Event],
-    ways: u64,
     number: u64,
 ) -> Result<Reading, AllocError>
-    requires ways { ways ≡ product_by (count_sources runs.now) reads.now }
-    requires number { number < ways }
-    ensures { IfOk result (IsReading init.now runs.now reads.now number) }
+    requires page { IsPage (length init.now) page.now }
+    requires reads { reads.now ≡ page.now.reads.items }
+    requires number { number < page.now.ways }
+    ensures { IfOk result (IsReading init.now page.now.runs.items reads.now number) }
 {
-    let mut rf = Vec::new(alloc);
-    let mut below = ways;
+    let mut rf = Vec::with_capacity(alloc, reads.len())?;
+    let mut below = page.ways;
     let mut rest = number;
     for read in reads {
-        let pick = pick_source(alloc, runs, read, rest, below)?;
-        if write_value(init, runs, pick.source) != read.value {
+        let pick = pick_source(read.loc, page.writes_to(read.loc), rest, below);
+        if write_value(init, &page.runs, pick.source) != read.value {
             return Ok(Reading::Until(number - pick.rest + pick.below));
         }
         rf.push(pick.source)?;
@@ -205,17 +221,24 @@ fn count_orders(alloc: Global, runs: &[Run], location: usize) -> Result<u64, All
     Ok(capped_factorial(count).unwrap())
 }
 
-/// The order with this number of the writes to a location.
+/// How many orders of these writes there are.
+fn orders_of(writes: &[EventId]) -> u64
+    requires { factorial (length writes.now) ≤ MOST_CANDIDATES }
+    ensures { (result ≡ factorial (length writes.now)) × (1 ≤ result) }
+{
+    capped_factorial(writes.len()).unwrap()
+}
+
+/// The order with this number of the writes to a location, of which these are the later ones.
 fn order_of(
     alloc: Global,
-    runs: &[Run],
     location: usize,
+    later: &[EventId],
     number: u64,
 ) -> Result<Coherence, AllocError>
-    ensures { IfOk result (λ o. o ≡ order_at runs.now location number) }
+    ensures { IfOk result (λ o. o ≡ Initial location ∷ arrange later.now number) }
 {
-    let writes = later_writes(alloc, runs, location)?;
-    let mut order = arrange(alloc, &writes, number)?;
+    let mut order = arrange(alloc, later, number)?;
     order.insert(0, EventId::Initial(location))?;
     Ok(Coherence::new(order))
 }
@@ -223,18 +246,19 @@ fn order_of(
 /// The orders with this number, for each location.
 fn coherence(
     alloc: Global,
-    runs: &[Run],
+    page: &Page,
     locations: usize,
     number: u64,
 ) -> Result<Vec<Coherence>, AllocError>
-    requires { product_by (count_orders runs.now) (upto locations) ≤ MOST_CANDIDATES }
-    ensures { IfOk result (λ v. v.items ≡ digits (count_orders runs.now) (order_at runs.now) (upto locations) number) }
+    requires page { IsPage locations page.now }
+    ensures { IfOk result (λ v. v.items ≡ digits (count_orders page.now.runs.items) (order_at page.now.runs.items) (upto locations) number) }
 {
-    let mut co = Vec::new(alloc);
+    let mut co = Vec::with_capacity(alloc, locations)?;
     let mut rest = number;
     for location in 0..locations {
-        let count = count_orders(alloc, runs, location)?;
-        co.push(order_of(alloc, runs, location, rest % count)?)?;
+        let later = page.writes_to(location);
+        let count = orders_of(later);
+        co.push(order_of(alloc, location, later, rest % count)?)?;
         rest /= count;
     }
     Ok(co)
@@ -261,24 +285,15 @@ pub(crate) fn open_page(alloc: Global, runs: Vec<Run>, locations: usize) -> Resu
 {
     let reads = reads(alloc, &runs)?;
     let ways = count_ways(alloc, &runs, &reads)?;
+    let writes = all_writes(alloc, &runs, locations)?;
     let orders = count_all_orders(alloc, &runs, locations)?;
     Ok(Page {
         runs,
         reads,
+        writes,
         ways,
         orders,
     })
-}
-
-/// The same runs once more.
-fn copy_runs(alloc: Global, runs: &[Run]) -> Result<Vec<Run>, AllocError>
-    ensures { IfOk result (λ v. v.items ≡ runs.now) }
-{
-    let mut copies = Vec::new(alloc);
-    for run in runs {
-        copies.push(run.copy()?)?;
-    }
-    Ok(copies)
 }
 
 /// What is found at a number of some runs.
@@ -303,7 +318,7 @@ fn assemble(
     requires rf { rf.items ≡ rf_at page.now.runs.items (number / page.now.orders) }
     ensures { IfOk result (λ g. g ≡ candidate init.now page.now.runs.items number) }
 {
-    let co = coherence(alloc, &page.runs, init.len(), number % page.orders)?;
+    let co = coherence(alloc, page, init.len(), number % page.orders)?;
     let values = Vec::from_slice(alloc, init)?;
     Ok(Graph::new(values, copy_runs(alloc, &page.runs)?, rf, co))
 }
@@ -319,14 +334,7 @@ pub(crate) fn look_at(
     requires number { number < block (length init.now) page.now.runs.items }
     ensures { IfOk result (IsLook init.now page.now.runs.items number) }
 {
-    match read_from(
-        alloc,
-        init,
-        &page.runs,
-        &page.reads,
-        page.ways,
-        number / page.orders,
-    )? {
+    match read_from(alloc, init, page, &page.reads, number / page.orders)? {
         Reading::Whole(rf) => Ok(Look::Found(assemble(alloc, init, page, rf, number)?)),
         Reading::Until(next) => Ok(Look::Until(next * page.orders)),
     }

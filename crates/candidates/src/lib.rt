@@ -13,6 +13,7 @@ mod page;
 mod space;
 mod walk;
 
+pub use assembly::write_value;
 pub use fault::SpaceFault;
 pub use space::Space;
 pub use walk::Walk;

@@ -58,6 +58,7 @@ fn no_stretch(alloc: Global) -> Stretch
         page: Page {
             runs: Vec::new(alloc),
             reads: Vec::new(alloc),
+            writes: Vec::new(alloc),
             ways: 1,
             orders: 1,
         },

@@ -25,7 +25,7 @@ mapped_cond true e = refl
 mapped_cond false e = refl
 
 -- The latest binding of a list is that of its rest, if there is one.
-latest_cons : (e : Entry) (es : List Entry) (x : Word) → latest (e ∷ es) x ≡ option_or (latest es x) (cond (bytes_eq e.name x) (Some e.value) None)
+pub latest_cons : (e : Entry) (es : List Entry) (x : Word) → latest (e ∷ es) x ≡ option_or (latest es x) (cond (bytes_eq e.name x) (Some e.value) None)
 unfolding latest
 latest_cons e es x =
     let p : Entry → Bool = λ e. bytes_eq e.name x in

@@ -8,3 +8,6 @@ pub mod Groups
 pub mod Climbing
 pub mod Once
 pub mod Lawful
+pub mod Standing
+pub mod Pairwise
+pub mod Placing

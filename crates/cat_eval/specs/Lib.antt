@@ -3,5 +3,7 @@ pub mod Meaning
 pub mod Names
 pub mod Judging
 pub mod Steps
+pub mod Places
+pub mod Plans
 pub mod Examples
 pub mod Laws

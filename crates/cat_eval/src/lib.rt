@@ -7,8 +7,11 @@ mod flags;
 mod judging;
 pub mod laws;
 mod naming;
+mod place;
+mod plan;
 mod rounds;
 mod value;
 
 pub use early::judge_early;
 pub use judging::{Judgement, judge};
+pub use plan::Plan;

@@ -1,59 +1,49 @@
-//! Names and what they stand for.
+//! What names stand for.
 
-ghost use Rattle.std.specs.Prelude.{◌≡◌, [], IsSome, option_map, Some};
+ghost use Rattle.std.specs.Prelude.{◌≡◌, [], IsSome, Some};
+ghost use Rattle.std.specs.List.{All, slice_get};
+ghost use Rattle.cat_tree.specs.Tree.{Word};
 ghost use Rattle.cat_model.specs.Sorts.{sort_of_name as sort_known};
+ghost use Rattle.cat_eval.specs.declared.value.Entry.{Entry as TheEntry};
 ghost use Rattle.cat_eval.specs.Meaning.{Under};
 ghost use Rattle.cat_eval.specs.Names.{Names};
-ghost use Rattle.cat_eval.specs.Steps.{sort_of, scope_of, latest as latest_of};
+ghost use Rattle.cat_eval.specs.Places.{place_of};
+ghost use Rattle.cat_eval.specs.Plans.{entry_names};
+ghost use Rattle.cat_eval.specs.Steps.{IsOver, scope_of};
+ghost use Rattle.events.specs.Named.{event_count};
 
+use crate::place::Place;
 use crate::value::{Entry, Value};
-use cat_model::{Named, Sort};
+use cat_model::Named;
 use events::GraphView;
-use wb_text::Name;
+use relations::Set;
 
-// The value of the latest binding of the name.
-#[tactic(auto, unfolding(crate::specs::Steps::latest))]
-fn latest<'a>(entries: &'a [Entry], name: &Name) -> Option<&'a Value>
-    ensures { option_map (λ v. v.now) result ≡ latest_of entries.now name.now }
+// The value of the entry of this number, or else no event.
+fn value_in(view: &GraphView, entries: &[Entry], number: usize) -> Value
+    requires { All (λ e. IsOver (event_count view.now) e.value) entries.now }
+    ensures over { IsOver (event_count view.now) result }
+    ensures value { (e : TheEntry) → slice_get entries.now number ≡ Some e → result ≡ e.value }
 {
-    entries
-        .iter()
-        .rev()
-        .find(|entry| entry.name == *name)
-        .map(|entry| &entry.value)
-}
-
-/// Whether a name stands for a set or a relation.
-pub fn sort_of_name(earlier: &[Entry], group: &[Entry], name: &Name) -> Option<Sort>
-    ensures { result ≡ sort_known (scope_of (scope_of [] earlier.now) group.now) name.now }
-{
-    if let Some(value) = latest(group, name) {
-        return Some(value.sort());
-    }
-    if let Some(value) = latest(earlier, name) {
-        return Some(value.sort());
-    }
-    match Named::of(name) {
-        Some(named) => Some(named.sort()),
-        None => None,
+    match entries.get(number) {
+        Some(entry) => entry.value.copy(),
+        None => Value::Events(Set::empty(view.count())),
     }
 }
 
-/// What a name stands for: its latest binding, or else a set or a relation of the execution.
-pub fn look_up(view: &GraphView, earlier: &[Entry], group: &[Entry], name: &Name) -> Value
-    requires sorted { IsSome (sort_known (scope_of (scope_of [] earlier.now) group.now) name.now) }
-    ensures value { Under (Under (Names view.now) earlier.now) group.now name.now result }
-    ensures sort { sort_known (scope_of (scope_of [] earlier.now) group.now) name.now ≡ Some (sort_of result) }
+/// What the name of this place stands for: its latest binding, or else a set or a relation of the execution, or else no event.
+pub fn look_up(view: &GraphView, earlier: &[Entry], group: &[Entry], place: Place) -> Value
+    requires earlier { All (λ e. IsOver (event_count view.now) e.value) earlier.now }
+    requires group { All (λ e. IsOver (event_count view.now) e.value) group.now }
+    ensures over { IsOver (event_count view.now) result }
+    ensures value { (x : Word) → place ≡ place_of (entry_names earlier.now) (entry_names group.now) x → IsSome (sort_known (scope_of (scope_of [] earlier.now) group.now) x) → Under (Under (Names view.now) earlier.now) group.now x result }
 {
-    if let Some(value) = latest(group, name) {
-        return value.copy();
-    }
-    if let Some(value) = latest(earlier, name) {
-        return value.copy();
-    }
-    match Named::of(name) {
-        Some(Named::Set(set)) => Value::Events(view.set(set)),
-        Some(Named::Rel(relation)) => Value::Pairs(view.rel(relation)),
-        None => unreachable!(),
+    match place {
+        Place::Group(number) => value_in(view, group, number),
+        Place::Earlier(number) => value_in(view, earlier, number),
+        Place::Beforehand(named) => match named {
+            Named::Set(set) => Value::Events(view.set(set)),
+            Named::Rel(relation) => Value::Pairs(view.rel(relation)),
+        },
+        Place::Nowhere => Value::Events(Set::empty(view.count())),
     }
 }

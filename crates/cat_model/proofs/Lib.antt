@@ -1,4 +1,5 @@
 pub mod Sorting
+pub mod Nodes
 pub mod Walking
 pub mod Noted
 pub mod Astray

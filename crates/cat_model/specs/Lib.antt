@@ -1,5 +1,6 @@
 pub mod Named
 pub mod Sorts
+pub mod Along
 pub mod Scopes
 pub mod Models
 pub mod Equality

@@ -62,7 +62,7 @@ fn bound<'a>(scope: &Scope<'a>, bindings: &'a [Binding]) -> Result<Scope<'a>, Mo
 {
     let mut behind = scope.copy()?;
     for binding in bindings {
-        match sort_of(scope, &binding.value) {
+        match sort_of(scope, &binding.value)? {
             Some(sort) => behind.bind(&binding.name, sort)?,
             None => return Err(ModelFault::WrongSort(binding.name.copy()?)),
         }
@@ -89,7 +89,7 @@ fn require_relations<'a>(scope: &Scope<'a>, bindings: &[Binding]) -> Result<(), 
     ensures err { IfErr result (λ e. (e ≡ NoMemory) ⊎ ((b : Bound) × (e ≡ WrongSort b.name) × Contains (map bound_of bindings.now) b × (¬ HasSort scope.now b.value Relation))) }
 {
     for binding in bindings {
-        if !has_sort(scope, Sort::Relation, &binding.value) {
+        if !has_sort(scope, Sort::Relation, &binding.value)? {
             return Err(ModelFault::WrongSort(binding.name.copy()?));
         }
     }
@@ -134,13 +134,17 @@ fn require_monotone(alloc: Global, group: &[Binding]) -> Result<(), ModelFault>
 }
 
 /// Whether a check can test an expression.
-fn is_testable<'a>(scope: &Scope<'a>, kind: CheckKind, expression: &Expression) -> bool
-    ensures { IsTrue result ↔ IsTestable scope.now kind (term_of expression.now) }
+fn is_testable<'a>(
+    scope: &Scope<'a>,
+    kind: CheckKind,
+    expression: &Expression,
+) -> Result<bool, AllocError>
+    ensures { IfOk result (λ b. IsTrue b ↔ IsTestable scope.now kind (term_of expression.now)) }
 {
     match kind {
         CheckKind::Acyclic => has_sort(scope, Sort::Relation, expression),
         CheckKind::Irreflexive => has_sort(scope, Sort::Relation, expression),
-        CheckKind::Empty => sort_of(scope, expression).is_some(),
+        CheckKind::Empty => Ok(sort_of(scope, expression)?.is_some()),
     }
 }
 
@@ -164,7 +168,7 @@ fn follow_check<'a>(alloc: Global, scope: &Scope<'a>, check: &Check) -> Result<(
         return Err(ModelFault::FlagWithoutName);
     }
     require_bound(alloc, scope, &check.expression)?;
-    if !is_testable(scope, check.kind, &check.expression) {
+    if !is_testable(scope, check.kind, &check.expression)? {
         return Err(ModelFault::WrongSort(word(alloc, spelling(check.kind))?));
     }
     Ok(())

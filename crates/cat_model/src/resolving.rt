@@ -17,6 +17,8 @@ use wb_text::Name;
 
 /// The model of a root file, with all includes in place. Of several faults the first in reading order is answered; at one include
 /// 62, 63 and then 68, at one item 67, 64, 65 and then 66.
+///
+/// It recurses where files include one another, at most 16 deep, and into no expression.
 pub fn resolve(alloc: Global, files: &Files, root: &Name) -> Result<Model, ModelFault>
     ensures found { IfOk result (λ m. IsClosure files.now root.now m.items m.files × IsModel m.items) }
     // A model is given only where no cause stands.

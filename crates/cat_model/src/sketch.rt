@@ -1,11 +1,12 @@
 //! Items as literals, and the trees that they stand for.
 
 ghost use Rattle.std.specs.Prelude.{◌≡◌, Some, IfOk};
+ghost use Rattle.cat_tree.specs.Terms.{joined as joined_by};
 ghost use Rattle.cat_tree.specs.Tree.{term_of, clause_of};
 ghost use Rattle.cat_model.specs.Sketches.{sketched, line_of};
 
 use crate::words::word;
-use cat_tree::{Binding, Check, CheckKind, Expression, Item};
+use cat_tree::{Binding, Check, CheckKind, Expression, Infix, Item, Leaf, Sign};
 use std::alloc::{AllocError, Global};
 
 /// An expression that the program's text holds.
@@ -40,29 +41,34 @@ pub fn expression(alloc: Global, sketch: &Sketch) -> Result<Expression, AllocErr
     ensures { IfOk result (λ e. term_of e ≡ sketched sketch.now) }
 {
     match sketch {
-        Sketch::Name(name) => Ok(Expression::Name(word(alloc, name)?)),
-        Sketch::Universe => Ok(Expression::Universe),
-        Sketch::Union(a, b) => Ok(Expression::Union(boxed(alloc, a)?, boxed(alloc, b)?)),
-        Sketch::Sequence(a, b) => Ok(Expression::Sequence(boxed(alloc, a)?, boxed(alloc, b)?)),
-        Sketch::Difference(a, b) => Ok(Expression::Difference(boxed(alloc, a)?, boxed(alloc, b)?)),
-        Sketch::Intersection(a, b) => {
-            Ok(Expression::Intersection(boxed(alloc, a)?, boxed(alloc, b)?))
-        }
-        Sketch::Product(a, b) => Ok(Expression::Product(boxed(alloc, a)?, boxed(alloc, b)?)),
-        Sketch::Plus(a) => Ok(Expression::Plus(boxed(alloc, a)?)),
-        Sketch::Star(a) => Ok(Expression::Star(boxed(alloc, a)?)),
-        Sketch::Optional(a) => Ok(Expression::Optional(boxed(alloc, a)?)),
-        Sketch::Inverse(a) => Ok(Expression::Inverse(boxed(alloc, a)?)),
-        Sketch::Identity(a) => Ok(Expression::Identity(boxed(alloc, a)?)),
+        Sketch::Name(name) => Expression::leaf(alloc, Leaf::Name(word(alloc, name)?)),
+        Sketch::Universe => Expression::leaf(alloc, Leaf::Universe),
+        Sketch::Union(a, b) => joined(alloc, a, Infix::Union, b),
+        Sketch::Sequence(a, b) => joined(alloc, a, Infix::Sequence, b),
+        Sketch::Difference(a, b) => joined(alloc, a, Infix::Difference, b),
+        Sketch::Intersection(a, b) => joined(alloc, a, Infix::Intersection, b),
+        Sketch::Product(a, b) => joined(alloc, a, Infix::Product, b),
+        Sketch::Plus(a) => expression(alloc, a)?.applied(Sign::Plus),
+        Sketch::Star(a) => expression(alloc, a)?.applied(Sign::Star),
+        Sketch::Optional(a) => expression(alloc, a)?.applied(Sign::Optional),
+        Sketch::Inverse(a) => expression(alloc, a)?.applied(Sign::Inverse),
+        Sketch::Identity(a) => expression(alloc, a)?.applied(Sign::Identity),
     }
 }
 
-/// A box of the expression.
+/// What an operator makes of two expressions.
 #[cycle(drawing)]
-fn boxed(alloc: Global, sketch: &Sketch) -> Result<Box<Expression>, AllocError>
-    ensures { IfOk result (λ b. term_of b.value ≡ sketched sketch.now) }
+fn joined(
+    alloc: Global,
+    left: &Sketch,
+    operator: Infix,
+    right: &Sketch,
+) -> Result<Expression, AllocError>
+    ensures { IfOk result (λ e. term_of e ≡ joined_by operator (sketched left.now) (sketched right.now)) }
 {
-    Ok(Box::new(alloc, expression(alloc, sketch)?)?)
+    let left = expression(alloc, left)?;
+    let right = expression(alloc, right)?;
+    left.joined(operator, right)
 }
 
 fn check(

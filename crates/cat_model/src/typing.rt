@@ -1,56 +1,85 @@
-//! Names and sorts of expressions.
+//! Names and sorts of expressions. Nothing here recurses: loops go over the nodes.
 
-ghost use Rattle.std.specs.Prelude.{◌≡◌, ◌++◌, map, OnOk, MatchOption, IsTrue, ◌↔◌};
+ghost use Rattle.std.specs.Prelude.{◌≡◌, ◌++◌, ◌+◌, ◌≤◌, Some, map, reverse, IfOk, OnOk, MatchOption, IsTrue, ◌↔◌};
+ghost use Rattle.cat_tree.specs.Terms.{latest as latest_of, earlier};
 ghost use Rattle.cat_tree.specs.Tree.{term_of, bound_of};
+ghost use Rattle.cat_model.specs.Along.{names_at, denied_by, sort_of_leaf, sort_applied, sort_joined, sorts_left_by};
 ghost use Rattle.cat_model.specs.Sorts.{HasSort, names as names_in, denied_names as denied_in};
 ghost use Rattle.cat_model.specs.declared.sort.Sort.{Sort as Kind};
+ghost use Rattle.cat_model.specs.declared.sort.Sort.TheVariants.{Set as OfEvents};
 
 use crate::scope::Scope;
 use crate::sort::Sort;
-use cat_tree::Expression;
+use cat_tree::{Expression, Infix, Leaf, Node, Sign};
 use std::alloc::AllocError;
 use wb_text::Name;
 
-/// Adds the names of an expression, from left to right.
-#[cycle(naming)]
-pub fn names<'a>(expression: &'a Expression, found: &mut Vec<&'a Name>) -> Result<(), AllocError>
-    ensures { OnOk result (map (λ x. x.now) found.new.items ≡ map (λ x. x.now) found.old.items ++ names_in (term_of expression.now)) }
+/// Adds the name of a node, if it is one.
+fn name_of<'a>(node: &'a Node, found: &mut Vec<&'a Name>) -> Result<(), AllocError>
+    ensures { OnOk result (map (λ x. x.now) found.new.items ≡ map (λ x. x.now) found.old.items ++ names_at node.now) }
 {
-    match expression {
-        Expression::Name(name) => {
+    match node {
+        Node::Leaf(Leaf::Name(name)) => {
             found.push(name)?;
             Ok(())
         }
-        Expression::Union(a, b) => names_of_both(a, b, found),
-        Expression::Sequence(a, b) => names_of_both(a, b, found),
-        Expression::Difference(a, b) => names_of_both(a, b, found),
-        Expression::Intersection(a, b) => names_of_both(a, b, found),
-        Expression::Product(a, b) => names_of_both(a, b, found),
-        Expression::Complement(a) => names(a, found),
-        Expression::Plus(a) => names(a, found),
-        Expression::Star(a) => names(a, found),
-        Expression::Optional(a) => names(a, found),
-        Expression::Inverse(a) => names(a, found),
-        Expression::Domain(a) => names(a, found),
-        Expression::Range(a) => names(a, found),
-        Expression::Identity(a) => names(a, found),
-        Expression::EmptyRelation => Ok(()),
-        Expression::EmptySet => Ok(()),
-        Expression::Universe => Ok(()),
+        _ => Ok(()),
     }
 }
 
-/// Adds the names of two expressions, first those of the left one.
-#[cycle(naming)]
-fn names_of_both<'a>(
-    a: &'a Expression,
-    b: &'a Expression,
-    found: &mut Vec<&'a Name>,
-) -> Result<(), AllocError>
-    ensures { OnOk result (map (λ x. x.now) found.new.items ≡ map (λ x. x.now) found.old.items ++ (names_in (term_of a.now) ++ names_in (term_of b.now))) }
+/// Adds the names of an expression, from left to right.
+pub fn names<'a>(expression: &'a Expression, found: &mut Vec<&'a Name>) -> Result<(), AllocError>
+    ensures { OnOk result (map (λ x. x.now) found.new.items ≡ map (λ x. x.now) found.old.items ++ names_in (term_of expression.now)) }
 {
-    names(a, found)?;
-    names(b, found)
+    for node in &expression.nodes {
+        name_of(node, found)?;
+    }
+    Ok(())
+}
+
+/// How many operands of what is denied are still to come before a node, and the names of those that came.
+fn deny<'a>(node: &'a Node, pending: usize, found: &mut Vec<&'a Name>) -> Result<usize, AllocError>
+    requires { pending + 1 ≤ 18446744073709551615 }
+    ensures denied { IfOk result (λ n. denied_by node.now (pending, reverse (map (λ x. x.now) found.old.items)) ≡ (n, reverse (map (λ x. x.now) found.new.items))) }
+    ensures few { IfOk result (λ n. n ≤ pending + 1) }
+{
+    match node {
+        Node::Leaf(leaf) => {
+            if pending == 0 {
+                return Ok(0);
+            }
+            if let Leaf::Name(name) = leaf {
+                found.push(name)?;
+            }
+            Ok(pending - 1)
+        }
+        Node::Sign(sign) => {
+            if pending == 0 && *sign == Sign::Complement {
+                return Ok(1);
+            }
+            Ok(pending)
+        }
+        Node::Infix(operator) => {
+            if pending == 0 && *operator != Infix::Difference {
+                return Ok(0);
+            }
+            Ok(pending + 1)
+        }
+    }
+}
+
+/// The names that stand under a complement or to the right of a difference, from right to left.
+fn denied_backwards<'a>(expression: &'a Expression) -> Result<Vec<&'a Name>, AllocError>
+    ensures { IfOk result (λ v. reverse (map (λ x. x.now) v.items) ≡ denied_in (term_of expression.now)) }
+{
+    let mut found = Vec::new(*expression.nodes.allocator());
+    let mut pending = 0;
+    let mut nodes: &'a [Node] = &expression.nodes;
+    while let Some((last, before)) = nodes.split_last() {
+        pending = deny(last, pending, &mut found)?;
+        nodes = before;
+    }
+    Ok(found)
 }
 
 /// Adds the names that stand under a complement or to the right of a difference, from left to right.
@@ -60,82 +89,105 @@ pub fn denied_names<'a>(
 ) -> Result<(), AllocError>
     ensures { OnOk result (map (λ x. x.now) found.new.items ≡ map (λ x. x.now) found.old.items ++ denied_in (term_of expression.now)) }
 {
-    match expression {
-        Expression::Complement(a) => names(a, found),
-        Expression::Difference(a, b) => {
-            denied_names(a, found)?;
-            names(b, found)
-        }
-        Expression::Union(a, b) => {
-            denied_names(a, found)?;
-            denied_names(b, found)
-        }
-        Expression::Sequence(a, b) => {
-            denied_names(a, found)?;
-            denied_names(b, found)
-        }
-        Expression::Intersection(a, b) => {
-            denied_names(a, found)?;
-            denied_names(b, found)
-        }
-        Expression::Product(a, b) => {
-            denied_names(a, found)?;
-            denied_names(b, found)
-        }
-        Expression::Plus(a) => denied_names(a, found),
-        Expression::Star(a) => denied_names(a, found),
-        Expression::Optional(a) => denied_names(a, found),
-        Expression::Inverse(a) => denied_names(a, found),
-        Expression::Domain(a) => denied_names(a, found),
-        Expression::Range(a) => denied_names(a, found),
-        Expression::Identity(a) => denied_names(a, found),
-        Expression::Name(_) => Ok(()),
-        Expression::EmptyRelation => Ok(()),
-        Expression::EmptySet => Ok(()),
-        Expression::Universe => Ok(()),
+    let mut denied = denied_backwards(expression)?;
+    denied.reverse();
+    found.append(&mut denied)?;
+    Ok(())
+}
+
+/// The sort of a leaf, if it has one.
+fn sort_of_leaf<'a>(scope: &Scope<'a>, leaf: &Leaf) -> Option<Sort>
+    ensures { result ≡ sort_of_leaf scope.now leaf.now }
+{
+    match leaf {
+        Leaf::Name(name) => scope.sort_of(name),
+        Leaf::EmptyRelation => Some(Sort::Relation),
+        Leaf::EmptySet => Some(Sort::Set),
+        Leaf::Universe => Some(Sort::Set),
     }
 }
 
-/// Whether an expression has this sort.
-pub fn has_sort<'a>(scope: &Scope<'a>, sort: Sort, a: &Expression) -> bool
-    ensures { IsTrue result ↔ HasSort scope.now (term_of a.now) sort }
+/// The sort of what a sign makes of an operand of this sort, if it makes something of it.
+fn sort_applied(sign: Sign, operand: Option<Sort>) -> Option<Sort>
+    ensures { result ≡ sort_applied sign operand }
 {
-    match a {
-        Expression::Union(a, b) => has_sort(scope, sort, a) && has_sort(scope, sort, b),
-        Expression::Difference(a, b) => has_sort(scope, sort, a) && has_sort(scope, sort, b),
-        Expression::Intersection(a, b) => has_sort(scope, sort, a) && has_sort(scope, sort, b),
-        Expression::Complement(a) => has_sort(scope, sort, a),
-        Expression::Sequence(a, b) => {
-            sort == Sort::Relation
-                && has_sort(scope, Sort::Relation, a)
-                && has_sort(scope, Sort::Relation, b)
-        }
-        Expression::Product(a, b) => {
-            sort == Sort::Relation && has_sort(scope, Sort::Set, a) && has_sort(scope, Sort::Set, b)
-        }
-        Expression::Plus(a) => sort == Sort::Relation && has_sort(scope, Sort::Relation, a),
-        Expression::Star(a) => sort == Sort::Relation && has_sort(scope, Sort::Relation, a),
-        Expression::Optional(a) => sort == Sort::Relation && has_sort(scope, Sort::Relation, a),
-        Expression::Inverse(a) => sort == Sort::Relation && has_sort(scope, Sort::Relation, a),
-        Expression::Domain(a) => sort == Sort::Set && has_sort(scope, Sort::Relation, a),
-        Expression::Range(a) => sort == Sort::Set && has_sort(scope, Sort::Relation, a),
-        Expression::Identity(a) => sort == Sort::Relation && has_sort(scope, Sort::Set, a),
-        Expression::Name(name) => scope.sort_of(name) == Some(sort),
-        Expression::EmptyRelation => sort == Sort::Relation,
-        Expression::EmptySet => sort == Sort::Set,
-        Expression::Universe => sort == Sort::Set,
+    match (sign, operand) {
+        (Sign::Complement, sort) => sort,
+        (Sign::Identity, Some(Sort::Set)) => Some(Sort::Relation),
+        (Sign::Identity, _) => None,
+        (Sign::Domain | Sign::Range, Some(Sort::Relation)) => Some(Sort::Set),
+        (_, Some(Sort::Relation)) => Some(Sort::Relation),
+        _ => None,
     }
+}
+
+/// The sort of what an operator makes of operands of these sorts, if it makes something of them.
+fn sort_joined(operator: Infix, left: Option<Sort>, right: Option<Sort>) -> Option<Sort>
+    ensures { result ≡ sort_joined operator left right }
+{
+    if left != right {
+        return None;
+    }
+    match (operator, left) {
+        (Infix::Sequence, Some(Sort::Relation)) => Some(Sort::Relation),
+        (Infix::Sequence, _) => None,
+        (Infix::Product, Some(Sort::Set)) => Some(Sort::Relation),
+        (Infix::Product, _) => None,
+        (_, sort) => sort,
+    }
+}
+
+/// Takes the latest sort.
+fn latest(sorts: &mut Vec<Option<Sort>>) -> Option<Sort>
+    ensures value { result ≡ latest_of (Some OfEvents) (reverse sorts.old.items) }
+    ensures rest { reverse sorts.new.items ≡ earlier (reverse sorts.old.items) }
+{
+    match sorts.pop() {
+        Some(sort) => sort,
+        None => Some(Sort::Set),
+    }
+}
+
+/// The sort that a node leaves for its operands' sorts.
+#[tactic(auto, using(crate::proofs::Nodes::pushed))]
+fn leave<'a>(
+    scope: &Scope<'a>,
+    node: &Node,
+    sorts: &mut Vec<Option<Sort>>,
+) -> Result<(), AllocError>
+    ensures { OnOk result (reverse sorts.new.items ≡ sorts_left_by scope.now node.now (reverse sorts.old.items)) }
+{
+    let sort = match node {
+        Node::Leaf(leaf) => sort_of_leaf(scope, leaf),
+        Node::Sign(sign) => sort_applied(*sign, latest(sorts)),
+        Node::Infix(operator) => {
+            let right = latest(sorts);
+            let left = latest(sorts);
+            sort_joined(*operator, left, right)
+        }
+    };
+    sorts.push(sort)?;
+    Ok(())
 }
 
 /// The sort of an expression, if it has one.
-pub fn sort_of<'a>(scope: &Scope<'a>, a: &Expression) -> Option<Sort>
-    ensures { MatchOption result ((k : Kind) → ¬ HasSort scope.now (term_of a.now) k) (λ k. HasSort scope.now (term_of a.now) k) }
+pub fn sort_of<'a>(scope: &Scope<'a>, a: &Expression) -> Result<Option<Sort>, AllocError>
+    ensures { IfOk result (λ o. MatchOption o ((k : Kind) → ¬ HasSort scope.now (term_of a.now) k) (λ k. HasSort scope.now (term_of a.now) k)) }
 {
-    if has_sort(scope, Sort::Relation, a) {
-        Some(Sort::Relation)
-    } else if has_sort(scope, Sort::Set, a) {
-        Some(Sort::Set)
-    } else {
-        None
+    let mut sorts = Vec::new(*a.nodes.allocator());
+    for node in &a.nodes {
+        leave(scope, node, &mut sorts)?;
+    }
+    Ok(latest(&mut sorts))
+}
+
+/// Whether an expression has this sort.
+#[tactic(auto, using(crate::proofs::Sorting::one_sort))]
+pub fn has_sort<'a>(scope: &Scope<'a>, sort: Sort, a: &Expression) -> Result<bool, AllocError>
+    ensures { IfOk result (λ b. IsTrue b ↔ HasSort scope.now (term_of a.now) sort) }
+{
+    match sort_of(scope, a)? {
+        Some(found) => Ok(found == sort),
+        None => Ok(false),
     }
 }

@@ -4,7 +4,7 @@ use Rattle.std.specs.Prelude.{None, Ok}
 use Rattle.std.proofs.lemmas.Bool.{cases_Bool}
 use Rattle.descent.proofs.Tools.{Yields, Shows}
 use Rattle.descent.proofs.Turns.{Arrives, last, next}
-use Rattle.cat_syntax.specs.declared.operator.Infix.{Infix}
+use Rattle.cat_tree.specs.declared.node.Infix.{Infix}
 use Rattle.cat_syntax.specs.declared.operator.Postfix.{Postfix}
 use Rattle.cat_syntax.specs.declared.operator.Postfix.TheVariants as postfixes
 use Rattle.cat_syntax.specs.declared.symbol.Symbol.{Symbol}
@@ -13,7 +13,7 @@ use Rattle.cat_syntax.specs.declared.symbol.Terminal.{Terminal}
 use Rattle.cat_syntax.specs.declared.symbol.Terminal.TheVariants.{Let, And, Acyclic, Irreflexive, Empty, As, Flag, Show, Unshow, Include, Comma, Domain, Range, Underscore, Zero, LeftParen, RightParen, LeftBracket, RightBracket, LeftBrace, RightBrace, Bar, Semicolon, Backslash, Ampersand, Star, Tilde, Plus, Question, Inverse}
 use Rattle.cat_tree.specs.Tree.{Term, complement, domain, range, identity, name, empty_relation, empty_set, universe}
 use Rattle.cat_syntax.specs.Grammar.{joined, begins_check, begins_operand, JoinsLeft, joins_product, joins_difference, JoinsRight, joins_intersection, joins_sequence, joins_union, IsLevel, level_unary, level_tighter, level_left, level_right, IsUnary, unary_complement, unary_postfix, IsPostfix, postfix_primary, postfix_plus, postfix_star, postfix_optional, postfix_inverse, IsPrimary, primary_name, primary_universe, primary_empty_relation, primary_empty_set, primary_paren, primary_identity, primary_domain, primary_range}
-use Rattle.cat_syntax.specs.Reading.{Reading, terminal_eq, after, infix_at, associates_left, postfix_at, applied, applied_at, next_operand, right, left, Inner, enclosed_with, primary_with, postfix_with, unary_with, level_with, below}
+use Rattle.cat_syntax.specs.Reading.{Reading, terminal_eq, after, infix_at, associates_left, postfix_at, applied, applied_at, next_operand, right, left, Inner, enclosed_with, primary_with, postfix_with, unary_with, level_with, below, cut}
 use Rattle.cat_syntax.proofs.Symbols.{expected-first}
 use Rattle.cat_syntax.proofs.Levels.{left_shorter, postfix_shorter, right_more}
 
@@ -266,14 +266,14 @@ empty_set-yields n rest = record { is = rw (expected-first RightBrace rest) }
 
 -- reading a postfix expression has come to rest, with a read so far
 abbrev PostfixTo : ℕ → List Symbol → List Symbol → Term → Type 0
-PostfixTo n ts rest a = Arrives tt postfix_at applied_at (postfix_with (below n)) ts rest a
+PostfixTo n ts rest a = Arrives cut postfix_at applied_at (postfix_with (below n)) ts rest a
 
 first-postfix : (n : ℕ) {ts rest : List Symbol} {a : Term} → Yields (primary_with (below n)) ts rest a → PostfixTo n ts rest a
 unfolding postfix_with
 first-postfix n y = record { is = rw y.is }
 
 next-postfix : (n : ℕ) (o : Postfix) {ts us rest : List Symbol} {a : Term} → PostfixTo n ts us a → Shows postfix_at us rest o → PostfixTo n ts rest (applied o a)
-next-postfix n o s y = next tt postfix_at applied_at postfix_shorter s y (record { is = refl })
+next-postfix n o s y = next cut postfix_at applied_at postfix_shorter s y (record { is = refl })
 
 plus-shows : (rest : List Symbol) → Shows postfix_at (Fixed Plus ∷ rest) rest postfixes.Plus
 unfolding postfix_at
@@ -312,7 +312,7 @@ reads-right n k h ts = rw h
 
 -- reading a level that associates to the left has come to rest, with a read so far
 abbrev LeftTo : ℕ → ℕ → List Symbol → List Symbol → Term → Type 0
-LeftTo n k ts rest a = Arrives tt (infix_at k) (next_operand (level_with (below n) k)) (left (infix_at k) (level_with (below n) k)) ts rest a
+LeftTo n k ts rest a = Arrives cut (infix_at k) (next_operand (level_with (below n) k)) (left (infix_at k) (level_with (below n) k)) ts rest a
 
 first-left : (n k : ℕ) {ts rest : List Symbol} {a : Term} → Yields (level_with (below n) k) ts rest a → LeftTo n k ts rest a
 unfolding left
@@ -322,7 +322,7 @@ operand-yields : (n k : ℕ) (o : Infix) (a : Term) {ts rest : List Symbol} {b :
 operand-yields n k o a y = record { is = rw y.is }
 
 next-left : (n k : ℕ) {ts mid rest : List Symbol} {t : Terminal} {o : Infix} {a b : Term} → LeftTo n k ts (Fixed t ∷ mid) a → JoinsLeft k t o → Yields (level_with (below n) k) mid rest b → LeftTo n k ts rest (joined o a b)
-next-left n k {mid = mid} {o = o} {a = a} s j y = next tt (infix_at k) (next_operand (level_with (below n) k)) (left_shorter n k) s (left-first j mid) (operand-yields n k o a y)
+next-left n k {mid = mid} {o = o} {a = a} s j y = next cut (infix_at k) (next_operand (level_with (below n) k)) (left_shorter n k) s (left-first j mid) (operand-yields n k o a y)
 
 last-left : (n k : ℕ) {ts rest : List Symbol} {a : Term} → LeftTo n k ts rest a → associates_left k ≡ true → infix_at k rest ≡ None → Yields (level_with (below n) (suc k)) ts rest a
 last-left n k {ts} s h e = record { is = reads-left n k h ts ∙ (last s e).is }

@@ -11,7 +11,7 @@ use Rattle.cat_tree.specs.declared.tree.CheckKind.{CheckKind}
 use Rattle.cat_tree.specs.Tree.{Word, Term, Bound, Shown, Clause, bind, bind_recursively, check, include, show, unshow, File, is_bound}
 use Rattle.cat_syntax.specs.Symbols.{is_name}
 use Rattle.cat_syntax.specs.Items.{IsExpression, AreSeparated, one, more, IsOptional, absent, present, IsNamed, named, IsAlias, no_alias, alias, IsBinding, binding, IsElement, element, Checks, checks_acyclic, checks_irreflexive, checks_empty, BindOnce, IsItem, item_let, item_rec, item_check, item_include, item_show, item_unshow, AreItems, no_items, more_items, IsFile, untitled, title_name, title_quoted}
-use Rattle.cat_syntax.specs.Reading.{Reading, terminal_eq, after, name_at, expression_at, push_item, separated, alias_at, repeats, new_name_at, binding_at, group_at, element_at, optional_at, kind_at, check_with, check_at, quoted_at, item_at, unless_end, title_at, items_at, file_at}
+use Rattle.cat_syntax.specs.Reading.{Reading, terminal_eq, after, name_at, expression_at, push_item, separated, alias_at, repeats, new_name_at, binding_at, group_at, element_at, optional_at, kind_at, check_with, check_at, quoted_at, item_at, unless_end, title_at, items_at, file_at, cut}
 use Rattle.cat_syntax.proofs.Symbols.{after-first, expected-first}
 use Rattle.cat_syntax.proofs.Names.{is_name-of}
 use Rattle.cat_syntax.proofs.Once.{once-fresh}
@@ -182,9 +182,9 @@ EachFits Fits xs (y ∷ ys) = Fits xs y × EachFits Fits (xs ++ y ∷ []) ys
 module _ {A : Type 0} (separator : Terminal) (Is : List Symbol → List Symbol → A → Type 0) (item : List A → List Symbol → Reading A) (Fits : List A → A → Type 0) (Good : List Symbol → Type 0)
     (good : (mid : List Symbol) → Good (Fixed separator ∷ mid))
     (complete : (xs : List A) (ts rest : List Symbol) (x : A) → Is ts rest x → Fits xs x → Good rest → item xs ts ≡ Ok (x, rest))
-    (turn : (xs : List A) (ts : List Symbol) → repeated tt (after separator) (push_item item) xs ts ≡ match_option (after separator ts) (Ok (xs, ts)) (λ x. push_item item x.0 xs x.1 >>= λ y. repeated tt (after separator) (push_item item) y.0 y.1)) where
+    (turn : (xs : List A) (ts : List Symbol) → repeated cut (after separator) (push_item item) xs ts ≡ match_option (after separator ts) (Ok (xs, ts)) (λ x. push_item item x.0 xs x.1 >>= λ y. repeated cut (after separator) (push_item item) y.0 y.1)) where
   arrives : (xs : List A) (ts rest : List Symbol) (ys : List A) → AreSeparated separator Is ts rest ys → EachFits Fits xs ys → Good rest → after separator rest ≡ None →
-      (push_item item tt xs ts >>= λ y. repeated tt (after separator) (push_item item) y.0 y.1) ≡ Ok (xs ++ ys, rest)
+      (push_item item tt xs ts >>= λ y. repeated cut (after separator) (push_item item) y.0 y.1) ≡ Ok (xs ++ ys, rest)
   arrives xs ts rest ys (one {x = x} d) f g none = rw (complete xs ts rest x d f.0 g, turn (xs ++ x ∷ []) rest, none)
   arrives xs ts rest ys (more {mid = mid} {x = x} {xs = zs} d ds) f g none =
       rw (complete xs ts (Fixed separator ∷ mid) x d f.0 (good mid), turn (xs ++ x ∷ []) (Fixed separator ∷ mid), after-first separator mid)
@@ -331,7 +331,7 @@ nothing-left : unless_end [] ≡ None
 unfolding unless_end
 nothing-left = refl
 
-items-arrive : (bs : List Clause) (ts : List Symbol) (cs : List Clause) → AreItems ts cs → repeated tt unless_end (push_item (λ _. item_at)) bs ts ≡ Ok (bs ++ cs, [])
+items-arrive : (bs : List Clause) (ts : List Symbol) (cs : List Clause) → AreItems ts cs → repeated cut unless_end (push_item (λ _. item_at)) bs ts ≡ Ok (bs ++ cs, [])
 items-arrive bs ts cs no_items = rw (items_more bs [], nothing-left) (ap (λ (l : List Clause). Ok (l, [])) (sym (append-nil bs)))
 items-arrive bs ts cs (more_items {rest = rest} {i = c} {is = ds} d e) =
     rw (items_more bs ts, nonempty-begins ts rest (item-shorter ts rest c d), item-complete ts rest c d (items-follow e))

@@ -12,7 +12,7 @@ use Rattle.cat_tree.specs.declared.tree.CheckKind.{CheckKind}
 use Rattle.cat_tree.specs.Tree.{Word, Bound, Shown, Clause, include, File, is_bound}
 use Rattle.cat_syntax.specs.Symbols.{is_name}
 use Rattle.cat_syntax.specs.Items.{IsExpression, AreSeparated, one, more, IsOptional, absent, present, IsNamed, named, IsAlias, no_alias, alias, IsBinding, binding, IsElement, element, Checks, checks_acyclic, checks_irreflexive, checks_empty, BindOnce, IsItem, item_let, item_rec, item_check, item_include, item_show, item_unshow, AreItems, no_items, more_items, IsFile, untitled, title_name, title_quoted}
-use Rattle.cat_syntax.specs.Reading.{Reading, after, expected, name_at, expression_at, push_item, separated, alias_at, repeats, new_name_at, binding_at, group_at, element_at, optional_at, kind_at, check_with, check_at, quoted_at, item_at, unless_end, title_at, items_at, file_at}
+use Rattle.cat_syntax.specs.Reading.{Reading, after, expected, name_at, expression_at, push_item, separated, alias_at, repeats, new_name_at, binding_at, group_at, element_at, optional_at, kind_at, check_with, check_at, quoted_at, item_at, unless_end, title_at, items_at, file_at, cut}
 use Rattle.cat_syntax.proofs.Symbols.{after-some, expected-ok, name-ok}
 use Rattle.cat_syntax.proofs.Names.{name_is}
 use Rattle.cat_syntax.proofs.Once.{once-push}
@@ -50,7 +50,7 @@ module _ {A : Type 0} (separator : Terminal) (Is : List Symbol → List Symbol �
   separated-sound ts rest xs e =
       let x = bind_ok (push_item item tt [] ts) _ _ e in
       let p = push-sound [] ts x.0.1 x.0.0 kept x.1 in
-      repeated-keeps tt (after separator) (push_item item) (λ l ys. AreSeparated separator Is ts l ys × Kept ys)
+      repeated-keeps cut (after separator) (push_item item) (λ l ys. AreSeparated separator Is ts l ys × Kept ys)
       (λ o us mid back ys zs d was f.
       let q = push-sound ys mid back zs d.1 f in
       (subst (λ (l : List A). AreSeparated separator Is ts back l) (sym q.1) (separated-join separator Is ts us mid back ys (q.0 ∷ []) d.0 (after-some separator us mid o was) (one q.2)), q.3))
@@ -226,7 +226,7 @@ item-shorter ts rest c (item_unshow {ts = us} {xs = xs} d) = omega (arith, separ
 items-join : (ts rest : List Symbol) (c : Clause) → IsItem ts rest c → (cs : List Clause) → AreItems rest cs → AreItems ts (c ∷ cs)
 items-join ts rest c d cs e = more_items d e
 
-unless_end-same : (ts rest : List Symbol) (u : Unit {0}) → unless_end ts ≡ Some (u, rest) → rest ≡ ts
+pub unless_end-same : (ts rest : List Symbol) (u : Unit {0}) → unless_end ts ≡ Some (u, rest) → rest ≡ ts
 unfolding unless_end
 unless_end-same [] rest u e = absurd (cc)
 unless_end-same (t ∷ ts) rest u e = sym (moved_look (λ l v. t ∷ ts ≡ l) e refl)
@@ -242,9 +242,9 @@ end-none (t ∷ ts) e = absurd (cc)
 items-sound : (ts rest : List Symbol) (cs : List Clause) → items_at ts ≡ Ok (cs, rest) → AreItems ts cs × (rest ≡ [])
 unfolding items_at
 items-sound ts rest cs e =
-    let end : rest ≡ [] = end-none rest (repeated-stops tt unless_end (push_item (λ _. item_at)) [] ts cs rest e) in
+    let end : rest ≡ [] = end-none rest (repeated-stops cut unless_end (push_item (λ _. item_at)) [] ts cs rest e) in
     let so_far : (ds : List Clause) → AreItems rest ds → AreItems ts (cs ++ ds) =
-    repeated-keeps tt unless_end (push_item (λ _. item_at)) (λ l bs. (ds : List Clause) → AreItems l ds → AreItems ts (bs ++ ds))
+    repeated-keeps cut unless_end (push_item (λ _. item_at)) (λ l bs. (ds : List Clause) → AreItems l ds → AreItems ts (bs ++ ds))
     (λ o us mid back bs cs d was f.
     let y = bind_ok (item_at mid) _ _ f in
     moved (λ l es. (ds : List Clause) → AreItems l ds → AreItems ts (es ++ ds)) y.2

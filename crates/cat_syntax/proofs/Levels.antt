@@ -1,16 +1,19 @@
 -- What the loops and the recursion of the levels use.
-use Rattle.std.proofs.Common.{◌≡◌, ℕ, zero, suc, ◌<◌, List, length, arith, inl, inr}
-use Rattle.std.specs.Prelude.{Some, Ok}
+use Rattle.std.proofs.Common.{◌≡◌, ◌∙◌, ℕ, zero, suc, ◌<◌, List, [], ◌∷◌, ◌++◌, map, length, arith, ap, sym, refl, inl, inr}
+use Rattle.std.specs.Prelude.{Some, None, Ok, Err}
 use Rattle.cat_syntax.specs.declared.symbol.Terminal.{Terminal}
 use Rattle.descent.specs.Reading.{required, Look, match_option, ◌>>=◌, repeated}
 use Rattle.descent.proofs.Tools.{required_ok, bind_ok, moved, none_or_some, ok_or_err}
 use Rattle.descent.proofs.Turns.{repeated-more}
-use Rattle.cat_syntax.specs.declared.operator.Infix.{Infix}
+use Rattle.cat_tree.specs.declared.node.Infix.{Infix}
 use Rattle.cat_syntax.specs.declared.operator.Postfix.{Postfix}
+use Rattle.cat_syntax.specs.declared.syntax_fault.SyntaxFault.TheVariants.{Unexpected}
 use Rattle.cat_syntax.specs.declared.symbol.Symbol.{Symbol}
-use Rattle.cat_tree.specs.Tree.{Term}
+use Rattle.cat_tree.specs.declared.expression.Expression.{Expression}
+use Rattle.cat_tree.specs.Terms.{nest}
+use Rattle.cat_tree.specs.Tree.{Term, term_of, pair_of}
 use Rattle.cat_syntax.specs.Grammar.{joined}
-use Rattle.cat_syntax.specs.Reading.{Reading, after, infix_at, postfix_at, applied_at, next_operand, chain_right, right, level_with, below}
+use Rattle.cat_syntax.specs.Reading.{Stop, Reading, after, infix_at, postfix_at, applied_at, next_operand, chain_right, right, level_with, below, cut}
 use Rattle.cat_syntax.proofs.Symbols as symbols
 use Rattle.cat_syntax.proofs.Sound.{level-shorter, level_is}
 
@@ -23,8 +26,8 @@ postfix_takes = symbols.postfix_takes
 pub level_takes : (n k : ℕ) (ts rest : List Symbol) (a : Term) → level_with (below n) k ts ≡ Ok (a, rest) → length rest < length ts
 level_takes n k ts rest a e = level-shorter (level_is n k ts rest a e)
 
-pub required_takes : (t : Terminal) (ts rest : List Symbol) (u : Unit {0}) → required {F = Unit {0}} tt (after t ts) ≡ Ok (u, rest) → length rest < length ts
-required_takes t ts rest u e = symbols.after_takes t ts rest u (required_ok tt (after t ts) (u, rest) e)
+pub required_takes : (t : Terminal) (ts rest : List Symbol) (u : Unit {0}) → required {F = Stop} (Unexpected, ts) (after t ts) ≡ Ok (u, rest) → length rest < length ts
+required_takes t ts rest u e = symbols.after_takes t ts rest u (required_ok (Unexpected, ts) (after t ts) (u, rest) e)
 
 -- a turn of each loop
 
@@ -34,17 +37,17 @@ left_shorter n k ts mid rest o a b e f =
     moved (λ l t. length l < length ts) g.2 (omega (arith, infix_takes k ts mid o e, level_takes n k mid g.0.1 g.0.0 g.1))
 
 pub left_more : (n k : ℕ) (a : Term) (ts : List Symbol) →
-    repeated tt (infix_at k) (next_operand (level_with (below n) k)) a ts ≡
-    match_option (infix_at k ts) (Ok (a, ts)) (λ x. next_operand (level_with (below n) k) x.0 a x.1 >>= λ y. repeated tt (infix_at k) (next_operand (level_with (below n) k)) y.0 y.1)
-left_more n k = repeated-more tt (infix_at k) (next_operand (level_with (below n) k)) (left_shorter n k)
+    repeated cut (infix_at k) (next_operand (level_with (below n) k)) a ts ≡
+    match_option (infix_at k ts) (Ok (a, ts)) (λ x. next_operand (level_with (below n) k) x.0 a x.1 >>= λ y. repeated cut (infix_at k) (next_operand (level_with (below n) k)) y.0 y.1)
+left_more n k = repeated-more cut (infix_at k) (next_operand (level_with (below n) k)) (left_shorter n k)
 
 pub postfix_shorter : (ts mid rest : List Symbol) (o : Postfix) (a b : Term) → postfix_at ts ≡ Some (o, mid) → applied_at o a mid ≡ Ok (b, rest) → length rest < length ts
 postfix_shorter ts mid rest o a b e f = moved (λ l t. length l < length ts) f (postfix_takes ts mid o e)
 
 pub postfix_more : (a : Term) (ts : List Symbol) →
-    repeated tt postfix_at applied_at a ts ≡
-    match_option (postfix_at ts) (Ok (a, ts)) (λ x. applied_at x.0 a x.1 >>= λ y. repeated tt postfix_at applied_at y.0 y.1)
-postfix_more = repeated-more tt postfix_at applied_at postfix_shorter
+    repeated cut postfix_at applied_at a ts ≡
+    match_option (postfix_at ts) (Ok (a, ts)) (λ x. applied_at x.0 a x.1 >>= λ y. repeated cut postfix_at applied_at y.0 y.1)
+postfix_more = repeated-more cut postfix_at applied_at postfix_shorter
 
 -- operators to the right
 
@@ -82,3 +85,63 @@ pub right_more : (n k : ℕ) (ts : List Symbol) →
     right (infix_at k) (level_with (below n) k) ts ≡
     (level_with (below n) k ts >>= λ x. match_option (infix_at k x.1) (Ok (x.0, x.1)) (λ o. right (infix_at k) (level_with (below n) k) o.1 >>= λ y. Ok (joined o.0 x.0 y.0, y.1)))
 right_more n k = chain-more (infix_at k) (level_with (below n) k) (infix_takes k) (level_takes n k)
+
+-- what is read behind the operand a
+abbrev behind : ℕ → ℕ → Term → List Symbol → Reading Term
+behind n k a ts = match_option (infix_at k ts) (Ok (a, ts)) (λ o. right (infix_at k) (level_with (below n) k) o.1 >>= λ y. Ok (joined o.0 a y.0, y.1))
+
+-- the left operands xs before what is read
+enclosing : List (Infix × Expression) → Reading Term → Reading Term
+enclosing xs (Err d) = Err d
+enclosing xs (Ok y) = Ok (nest (map pair_of xs) y.0, y.1)
+
+-- what is read behind the operand a, where the left operands xs stand before it
+unfoldable pub chained : ℕ → ℕ → List (Infix × Expression) → Term → List Symbol → Reading Term
+unfolding enclosing
+chained n k xs a ts = enclosing xs (behind n k a ts)
+
+enclosing_nothing : (r : Reading Term) → r ≡ enclosing [] r
+unfolding enclosing
+enclosing_nothing (Err d) = refl
+enclosing_nothing (Ok y) = refl
+
+nest_push : (xs : List (Infix × Expression)) (x : Infix × Expression) (b : Term) → nest (map pair_of (xs ++ x ∷ [])) b ≡ nest (map pair_of xs) (joined x.0 (term_of x.1) b)
+nest_push [] x b = refl
+nest_push (y ∷ xs) x b = ap (joined y.0 (term_of y.1)) (nest_push xs x b)
+
+-- one more operator before what is read
+joining : Infix → Term → Term × List Symbol → Reading Term
+joining o a y = Ok (joined o a y.0, y.1)
+
+enclosing_more : (xs : List (Infix × Expression)) (o : Infix) (e : Expression) (r : Reading Term) → enclosing xs (r >>= joining o (term_of e)) ≡ enclosing (xs ++ (o, e) ∷ []) r
+unfolding enclosing joining
+enclosing_more xs o e (Err d) = refl
+enclosing_more xs o e (Ok y) = ap (λ b. Ok (b, y.1)) (sym (nest_push xs (o, e) y.0))
+
+none_enclosed : (r : Reading Term) (f : Term × List Symbol → Reading Term) → (r >>= f) ≡ (r >>= λ x. enclosing [] (f x))
+none_enclosed (Err d) f = refl
+none_enclosed (Ok x) f = enclosing_nothing (f x)
+
+one_enclosed : (xs : List (Infix × Expression)) (o : Infix) (e : Expression) (f : Term × List Symbol → Reading Term) (r : Reading Term) →
+    enclosing xs ((r >>= f) >>= joining o (term_of e)) ≡ (r >>= λ x. enclosing (xs ++ (o, e) ∷ []) (f x))
+unfolding enclosing
+one_enclosed xs o e f (Err d) = refl
+one_enclosed xs o e f (Ok x) = enclosing_more xs o e (f x)
+
+pub right_start : (n k : ℕ) (ts : List Symbol) → right (infix_at k) (level_with (below n) k) ts ≡ (level_with (below n) k ts >>= λ x. chained n k [] x.0 x.1)
+unfolding chained
+right_start n k ts = right_more n k ts ∙ none_enclosed (level_with (below n) k ts) (λ x. behind n k x.0 x.1)
+
+turned : (n k : ℕ) (xs : List (Infix × Expression)) (e : Expression) (ts : List Symbol) (look : Look Symbol Infix) →
+    enclosing xs (match_option look (Ok (term_of e, ts)) (λ o. right (infix_at k) (level_with (below n) k) o.1 >>= joining o.0 (term_of e))) ≡
+    match_option look (Ok (nest (map pair_of xs) (term_of e), ts)) (λ o. level_with (below n) k o.1 >>= λ y. chained n k (xs ++ (o.0, e) ∷ []) y.0 y.1)
+unfolding chained enclosing
+turned n k xs e ts None = refl
+turned n k xs e ts (Some o) =
+    ap (λ r. enclosing xs (r >>= joining o.0 (term_of e))) (right_more n k o.1) ∙ one_enclosed xs o.0 e (λ x. behind n k x.0 x.1) (level_with (below n) k o.1)
+
+pub right_turn : (n k : ℕ) (xs : List (Infix × Expression)) (e : Expression) (ts : List Symbol) →
+    chained n k xs (term_of e) ts ≡
+    match_option (infix_at k ts) (Ok (nest (map pair_of xs) (term_of e), ts)) (λ o. level_with (below n) k o.1 >>= λ y. chained n k (xs ++ (o.0, e) ∷ []) y.0 y.1)
+unfolding chained joining
+right_turn n k xs e ts = turned n k xs e ts (infix_at k ts)

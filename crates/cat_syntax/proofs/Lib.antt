@@ -8,5 +8,9 @@ pub mod ItemsSound
 pub mod Lists
 pub mod Complete
 pub mod ItemsComplete
+pub mod Alike
+pub mod AlikeReadings
+pub mod Places
+pub mod Refusals
 pub mod Weights
 pub mod Whole

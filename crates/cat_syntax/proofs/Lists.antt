@@ -12,7 +12,7 @@ use Rattle.cat_tree.specs.declared.tree.Binding.{Binding}
 use Rattle.cat_tree.specs.declared.tree.Element.{Element}
 use Rattle.cat_tree.specs.declared.tree.Item.{Item}
 use Rattle.cat_tree.specs.Tree.{Word, Term, Bound, Shown, Clause, bound_of, shown_of, clause_of}
-use Rattle.cat_syntax.specs.Reading.{Reading, after, expected, name_at, new_name_at, binding_at, element_at, item_at, push_item, unless_end, expression_at}
+use Rattle.cat_syntax.specs.Reading.{Reading, after, expected, name_at, new_name_at, binding_at, element_at, item_at, push_item, unless_end, expression_at, cut}
 use Rattle.cat_syntax.proofs.Symbols as symbols
 use Rattle.cat_syntax.proofs.ItemsSound as sound
 use Rattle.cat_syntax.proofs.Sound.{level-shorter}
@@ -49,37 +49,51 @@ item_takes ts rest c e = sound.item-shorter ts rest c (sound.item-sound ts rest 
 module _ {A : Type 0} (op : List Symbol → Look Symbol (Unit {0})) (item : List A → List Symbol → Reading A)
     (op_shorter : (ts rest : List Symbol) (u : Unit {0}) → op ts ≡ Some (u, rest) → length rest ≤ length ts)
     (item_shorter : (xs : List A) (ts rest : List Symbol) (x : A) → item xs ts ≡ Ok (x, rest) → length rest < length ts) where
-  turn_shorter : (ts mid rest : List Symbol) (o : Unit {0}) (xs ys : List A) → op ts ≡ Some (o, mid) → push_item item o xs mid ≡ Ok (ys, rest) → length rest < length ts
+  pub turn_shorter : (ts mid rest : List Symbol) (o : Unit {0}) (xs ys : List A) → op ts ≡ Some (o, mid) → push_item item o xs mid ≡ Ok (ys, rest) → length rest < length ts
   turn_shorter ts mid rest o xs ys e f =
       let y = bind_ok (item xs mid) _ _ f in
       moved (λ l t. length l < length ts) y.2 (omega (arith, op_shorter ts mid o e, item_shorter xs mid y.0.1 y.0.0 y.1))
 
   pub list-more : (xs : List A) (ts : List Symbol) →
-      repeated tt op (push_item item) xs ts ≡ match_option (op ts) (Ok (xs, ts)) (λ x. push_item item x.0 xs x.1 >>= λ y. repeated tt op (push_item item) y.0 y.1)
-  list-more = repeated-more tt op (push_item item) turn_shorter
+      repeated cut op (push_item item) xs ts ≡ match_option (op ts) (Ok (xs, ts)) (λ x. push_item item x.0 xs x.1 >>= λ y. repeated cut op (push_item item) y.0 y.1)
+  list-more = repeated-more cut op (push_item item) turn_shorter
 
 after_no_longer : (t : Terminal) (ts rest : List Symbol) (u : Unit {0}) → after t ts ≡ Some (u, rest) → length rest ≤ length ts
 after_no_longer t ts rest u e = omega (arith, symbols.after_takes t ts rest u e)
 
 pub bindings_more : (bs : List Bound) (ts : List Symbol) →
-    repeated tt (after And) (push_item binding_at) bs ts ≡
-    match_option (after And ts) (Ok (bs, ts)) (λ x. push_item binding_at x.0 bs x.1 >>= λ y. repeated tt (after And) (push_item binding_at) y.0 y.1)
+    repeated cut (after And) (push_item binding_at) bs ts ≡
+    match_option (after And ts) (Ok (bs, ts)) (λ x. push_item binding_at x.0 bs x.1 >>= λ y. repeated cut (after And) (push_item binding_at) y.0 y.1)
 bindings_more = list-more (after And) binding_at (after_no_longer And) binding_takes
 
 pub elements_more : (es : List Shown) (ts : List Symbol) →
-    repeated tt (after Comma) (push_item (λ _. element_at)) es ts ≡
-    match_option (after Comma ts) (Ok (es, ts)) (λ x. push_item (λ _. element_at) x.0 es x.1 >>= λ y. repeated tt (after Comma) (push_item (λ _. element_at)) y.0 y.1)
+    repeated cut (after Comma) (push_item (λ _. element_at)) es ts ≡
+    match_option (after Comma ts) (Ok (es, ts)) (λ x. push_item (λ _. element_at) x.0 es x.1 >>= λ y. repeated cut (after Comma) (push_item (λ _. element_at)) y.0 y.1)
 elements_more = list-more (after Comma) (λ _. element_at) (after_no_longer Comma) (λ _. element_takes)
 
 pub names_more : (xs : List Word) (ts : List Symbol) →
-    repeated tt (after Comma) (push_item (λ _. name_at)) xs ts ≡
-    match_option (after Comma ts) (Ok (xs, ts)) (λ x. push_item (λ _. name_at) x.0 xs x.1 >>= λ y. repeated tt (after Comma) (push_item (λ _. name_at)) y.0 y.1)
+    repeated cut (after Comma) (push_item (λ _. name_at)) xs ts ≡
+    match_option (after Comma ts) (Ok (xs, ts)) (λ x. push_item (λ _. name_at) x.0 xs x.1 >>= λ y. repeated cut (after Comma) (push_item (λ _. name_at)) y.0 y.1)
 names_more = list-more (after Comma) (λ _. name_at) (after_no_longer Comma) (λ _. name_takes)
 
 pub items_more : (cs : List Clause) (ts : List Symbol) →
-    repeated tt unless_end (push_item (λ _. item_at)) cs ts ≡
-    match_option (unless_end ts) (Ok (cs, ts)) (λ x. push_item (λ _. item_at) x.0 cs x.1 >>= λ y. repeated tt unless_end (push_item (λ _. item_at)) y.0 y.1)
+    repeated cut unless_end (push_item (λ _. item_at)) cs ts ≡
+    match_option (unless_end ts) (Ok (cs, ts)) (λ x. push_item (λ _. item_at) x.0 cs x.1 >>= λ y. repeated cut unless_end (push_item (λ _. item_at)) y.0 y.1)
 items_more = list-more unless_end (λ _. item_at) sound.unless_end_takes (λ _. item_takes)
+
+-- such a turn takes a symbol
+
+pub bindings_shorter : (ts mid rest : List Symbol) (o : Unit {0}) (bs cs : List Bound) → after And ts ≡ Some (o, mid) → push_item binding_at o bs mid ≡ Ok (cs, rest) → length rest < length ts
+bindings_shorter = turn_shorter (after And) binding_at (after_no_longer And) binding_takes
+
+pub elements_shorter : (ts mid rest : List Symbol) (o : Unit {0}) (es fs : List Shown) → after Comma ts ≡ Some (o, mid) → push_item (λ _. element_at) o es mid ≡ Ok (fs, rest) → length rest < length ts
+elements_shorter = turn_shorter (after Comma) (λ _. element_at) (after_no_longer Comma) (λ _. element_takes)
+
+pub names_shorter : (ts mid rest : List Symbol) (o : Unit {0}) (xs ys : List Word) → after Comma ts ≡ Some (o, mid) → push_item (λ _. name_at) o xs mid ≡ Ok (ys, rest) → length rest < length ts
+names_shorter = turn_shorter (after Comma) (λ _. name_at) (after_no_longer Comma) (λ _. name_takes)
+
+pub items_shorter : (ts mid rest : List Symbol) (o : Unit {0}) (cs ds : List Clause) → unless_end ts ≡ Some (o, mid) → push_item (λ _. item_at) o cs mid ≡ Ok (ds, rest) → length rest < length ts
+items_shorter = turn_shorter unless_end (λ _. item_at) sound.unless_end_takes (λ _. item_takes)
 
 -- one more in memory
 

@@ -1,5 +1,5 @@
 -- The test of a name.
-use Rattle.std.proofs.Common.{◌≡◌, ℕ, List, length, true, false, get_or, refl}
+use Rattle.std.proofs.Common.{◌≡◌, ℕ, List, length, true, false, get_or}
 use Rattle.std.proofs.lemmas.Bool.{and_parts, leb-true, le-leb}
 use Rattle.std.proofs.lemmas.List.Sums.{AllPass-from_list_all, list_all-from_AllPass}
 use Rattle.std.specs.Prelude.{nat_le, ◌&&◌, Bool}

@@ -11,7 +11,7 @@ use Rattle.cat_syntax.specs.declared.symbol.Terminal.{Terminal}
 use Rattle.cat_syntax.specs.declared.symbol.Terminal.TheVariants.{Domain, Range, Underscore, Zero, LeftParen, RightParen, LeftBracket, RightBracket, LeftBrace, RightBrace, Star, Tilde, Plus, Question, Inverse}
 use Rattle.cat_tree.specs.Tree.{Term, complement, domain, range, identity}
 use Rattle.cat_syntax.specs.Grammar.{begins_operand, IsLevel, level_unary, level_tighter, level_left, level_right, IsUnary, unary_complement, unary_postfix, IsPostfix, postfix_primary, postfix_plus, postfix_star, postfix_optional, postfix_inverse, IsPrimary, primary_name, primary_universe, primary_empty_relation, primary_empty_set, primary_paren, primary_identity, primary_domain, primary_range}
-use Rattle.cat_syntax.specs.Reading.{Reading, expected, infix_at, associates_left, postfix_at, applied, applied_at, next_operand, chain_right, right, left, Inner, enclosed_with, primary_with, postfix_with, unary_with, level_with, below}
+use Rattle.cat_syntax.specs.Reading.{Reading, expected, infix_at, associates_left, postfix_at, applied, applied_at, next_operand, chain_right, right, left, Inner, enclosed_with, primary_with, postfix_with, unary_with, level_with, below, cut}
 use Rattle.cat_syntax.proofs.Symbols.{expected-ok, infix-some, joins-left, joins-right, if-none}
 
 -- each level takes a symbol
@@ -53,8 +53,8 @@ pub data Deeper (P : ℕ → List Symbol → List Symbol → Term → Type 0) : 
   deeper : {n : ℕ} {ts rest : List Symbol} {a : Term} → P n ts rest a → Deeper P (suc n) ts rest a
 
 pub record SoundInner (n : ℕ) (r : Inner) : Type 0 where
-  pub level : Sound r.level (Deeper (IsLevel 5) n)
-  pub unary : Sound r.unary (Deeper IsUnary n)
+  pub level : (at : List Symbol) → Sound (r.level at) (Deeper (IsLevel 5) n)
+  pub unary : (at : List Symbol) → Sound (r.unary at) (Deeper IsUnary n)
 
 deeper-complement : {n : ℕ} {ts rest : List Symbol} {a : Term} → Deeper IsUnary n ts rest a → IsUnary n (Fixed Tilde ∷ ts) rest (complement a)
 deeper-complement (deeper d) = unary_complement d
@@ -87,10 +87,10 @@ module _ (n : ℕ) (r : Inner) (inner : SoundInner n r) where
   unfolding enclosed_with
   enclosed-sound opening closing ts rest a e =
       let x = bind_ok (expected opening ts) _ _ e in
-      let b = bind_ok (r.level x.0.1) _ _ x.2 in
+      let b = bind_ok (r.level ts x.0.1) _ _ x.2 in
       let y = bind_ok (expected closing b.0.1) _ _ b.2 in
       moved (λ l t. (mid : List Symbol) × (ts ≡ Fixed opening ∷ mid) × Deeper (IsLevel 5) n mid (Fixed closing ∷ l) t) y.2
-      (x.0.1, expected-ok opening ts x.0.1 x.0.0 x.1, subst (λ l. Deeper (IsLevel 5) n x.0.1 l b.0.0) (expected-ok closing b.0.1 y.0.1 y.0.0 y.1) (inner.level x.0.1 b.0.1 b.0.0 b.1))
+      (x.0.1, expected-ok opening ts x.0.1 x.0.0 x.1, subst (λ l. Deeper (IsLevel 5) n x.0.1 l b.0.0) (expected-ok closing b.0.1 y.0.1 y.0.0 y.1) (inner.level ts x.0.1 b.0.1 b.0.0 b.1))
 
   primary-sound : Sound (primary_with r) (IsPrimary n)
   unfolding primary_with
@@ -122,22 +122,22 @@ module _ (n : ℕ) (r : Inner) (inner : SoundInner n r) where
   unfolding postfix_with
   postfix-sound ts rest a e =
       let x = bind_ok (primary_with r ts) _ _ e in
-      repeated-keeps tt postfix_at applied_at (λ l t. IsPostfix n ts l t)
+      repeated-keeps cut postfix_at applied_at (λ l t. IsPostfix n ts l t)
       (λ o us mid back b c d was f. moved (λ l t. IsPostfix n ts l t) f (postfix-step us mid o d was))
       x.0.0 x.0.1 a rest (postfix_primary (primary-sound ts x.0.1 x.0.0 x.1)) x.2
 
   unary-sound : Sound (unary_with r) (IsUnary n)
   unfolding unary_with
   unary-sound (Fixed Tilde ∷ ts) rest a e =
-      let x = bind_ok (r.unary ts) _ _ e in
-      moved (λ l t. IsUnary n (Fixed Tilde ∷ ts) l t) x.2 (deeper-complement (inner.unary ts x.0.1 x.0.0 x.1))
+      let x = bind_ok (r.unary (Fixed Tilde ∷ ts) ts) _ _ e in
+      moved (λ l t. IsUnary n (Fixed Tilde ∷ ts) l t) x.2 (deeper-complement (inner.unary (Fixed Tilde ∷ ts) ts x.0.1 x.0.0 x.1))
   unary-sound ts rest a e = unary_postfix (postfix-sound ts rest a e)
 
   left-sound : (k : ℕ) → associates_left k ≡ true → Sound (level_with r k) (IsLevel k n) → Sound (left (infix_at k) (level_with r k)) (IsLevel (suc k) n)
   unfolding left
   left-sound k h sound ts rest a e =
       let x = bind_ok (level_with r k ts) _ _ e in
-      repeated-keeps tt (infix_at k) (next_operand (level_with r k)) (λ l t. IsLevel (suc k) n ts l t)
+      repeated-keeps cut (infix_at k) (next_operand (level_with r k)) (λ l t. IsLevel (suc k) n ts l t)
       (λ o us mid back b c d was f.
       let g = bind_ok (level_with r k mid) _ _ f in
       let t = infix-some k us mid o was in
@@ -173,10 +173,10 @@ module _ (n : ℕ) (r : Inner) (inner : SoundInner n r) where
 
 below-sound : (n : ℕ) → SoundInner n (below n)
 unfolding below
-below-sound zero = record { level = λ ts rest a e. absurd (cc); unary = λ ts rest a e. absurd (cc) }
+below-sound zero = record { level = λ at ts rest a e. absurd (cc); unary = λ at ts rest a e. absurd (cc) }
 below-sound (suc n) = record {
-  level = λ ts rest a e. deeper (level-sound n (below n) (below-sound n) 5 ts rest a e);
-  unary = λ ts rest a e. deeper (unary-sound n (below n) (below-sound n) ts rest a e);
+  level = λ at ts rest a e. deeper (level-sound n (below n) (below-sound n) 5 ts rest a e);
+  unary = λ at ts rest a e. deeper (unary-sound n (below n) (below-sound n) ts rest a e);
 }
 
 pub level_is : (n k : ℕ) → Sound (level_with (below n) k) (IsLevel k n)

@@ -1,10 +1,10 @@
 -- Single symbols.
-use Rattle.std.proofs.Common.{◌≡◌, ℕ, zero, suc, ◌<◌, List, ◌∷◌, length, true, false, refl, ap, subst, arith, rules, ◌⊎◌, inl, inr}
+use Rattle.std.proofs.Common.{◌≡◌, ℕ, zero, suc, ◌<◌, List, ◌∷◌, length, true, false, refl, ap, subst, arith, rules, inl, inr}
 use Rattle.std.specs.Prelude.{Bool, Option, Some, None, Ok, if◌then◌else◌}
-use Rattle.std.proofs.lemmas.Bool.{cases_Bool}
 use Rattle.descent.proofs.Tools.{required_ok, cases_of, moved_look}
-use Rattle.cat_syntax.specs.declared.operator.Infix.{Infix}
+use Rattle.cat_tree.specs.declared.node.Infix.{Infix}
 use Rattle.cat_syntax.specs.declared.operator.Postfix.{Postfix}
+use Rattle.cat_syntax.specs.declared.syntax_fault.SyntaxFault.TheVariants.{Unexpected}
 use Rattle.cat_syntax.specs.declared.symbol.Symbol.{Symbol}
 use Rattle.cat_syntax.specs.declared.symbol.Symbol.TheVariants.{Fixed, Name}
 use Rattle.cat_syntax.specs.declared.symbol.Terminal.{Terminal}
@@ -38,7 +38,7 @@ after_takes t ts rest u e = omega (arith, ap length (after-some t ts rest u e))
 
 pub expected-ok : (t : Terminal) (ts rest : List Symbol) (u : Unit {0}) → expected t ts ≡ Ok (u, rest) → ts ≡ Fixed t ∷ rest
 unfolding expected
-expected-ok t ts rest u e = after-some t ts rest u (required_ok tt (after t ts) (u, rest) e)
+expected-ok t ts rest u e = after-some t ts rest u (required_ok (Unexpected, ts) (after t ts) (u, rest) e)
 
 pub expected-first : (t : Terminal) (ts : List Symbol) → expected t (Fixed t ∷ ts) ≡ Ok (tt, ts)
 unfolding expected

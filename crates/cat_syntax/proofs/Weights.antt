@@ -1,11 +1,11 @@
 -- The nodes of the symbols are the nodes of the tree that they spell.
-use Rattle.std.proofs.Common.{◌≡◌, ℕ, ◌+◌, ◌<◌, List, ◌∷◌, length, drop, get_or, refl, ◌∙◌, arith, add-one, drop-cons}
+use Rattle.std.proofs.Common.{◌≡◌, ℕ, zero, suc, ◌+◌, ◌<◌, ◌≤◌, List, [], ◌∷◌, length, take, drop, get_or, refl, ap, sym, ◌∙◌, arith, add-one, drop-cons, ◌⊎◌, inl, inr}
 use Rattle.std.proofs.lemmas.List.Sums.{sum_by-cons}
-use Rattle.std.specs.Prelude.{Bool, Option, sum_by}
+use Rattle.std.specs.Prelude.{Bool, Option, sum_by, if◌then◌else◌}
 use Rattle.cat_syntax.specs.declared.counting.Context.{Context}
 use Rattle.cat_syntax.specs.declared.counting.Context.TheVariants as contexts
-use Rattle.cat_syntax.specs.declared.operator.Infix.{Infix}
-use Rattle.cat_syntax.specs.declared.operator.Infix.TheVariants.{Union, Sequence, Difference, Intersection, Product}
+use Rattle.cat_tree.specs.declared.node.Infix.{Infix}
+use Rattle.cat_tree.specs.declared.node.Infix.TheVariants.{Union, Sequence, Difference, Intersection, Product}
 use Rattle.cat_syntax.specs.declared.symbol.Symbol.{Symbol}
 use Rattle.cat_syntax.specs.declared.symbol.Symbol.TheVariants.{Fixed, Name, Quoted}
 use Rattle.cat_syntax.specs.declared.symbol.Terminal.{Terminal}
@@ -13,7 +13,8 @@ use Rattle.cat_syntax.specs.declared.symbol.Terminal.TheVariants.{And, Comma, Fl
 use Rattle.cat_tree.specs.declared.tree.CheckKind.{CheckKind}
 use Rattle.cat_tree.specs.Tree.{Word, Term, Bound, Shown, Clause, File}
 use Rattle.cat_syntax.specs.Nodes.{term_nodes, clause_nodes, nodes}
-use Rattle.cat_syntax.specs.Counting.{cost, context_after, weight}
+use Rattle.cat_syntax.specs.Counting.{cost, announces_node, context_after, weight}
+use Rattle.cat_syntax.specs.Stops.{IsExcess, excess_at}
 use Rattle.cat_syntax.specs.Grammar.{joined, JoinsLeft, joins_product, joins_difference, JoinsRight, joins_intersection, joins_sequence, joins_union, IsLevel, level_unary, level_tighter, level_left, level_right, IsUnary, unary_complement, unary_postfix, IsPostfix, postfix_primary, postfix_plus, postfix_star, postfix_optional, postfix_inverse, IsPrimary, primary_name, primary_universe, primary_empty_relation, primary_empty_set, primary_paren, primary_identity, primary_domain, primary_range}
 use Rattle.cat_syntax.specs.Items.{AreSeparated, one, more, IsOptional, absent, present, IsNamed, named, IsAlias, no_alias, alias, IsBinding, binding, IsElement, element, Checks, checks_acyclic, checks_irreflexive, checks_empty, IsItem, item_let, item_rec, item_check, item_include, item_show, item_unshow, AreItems, no_items, more_items, IsFile, untitled, title_name, title_quoted}
 use Rattle.cat_syntax.proofs.ItemsComplete.{starts_let, starts_flag, starts_tilde, starts_acyclic, starts_irreflexive, starts_empty, starts_include, starts_show, starts_unshow, Follows, at_end, at_item, items-follow}
@@ -23,6 +24,67 @@ pub weight_next : (c : Context) (ss : List Symbol) (i : ℕ) (d : Symbol) → i 
     weight c (drop i ss) ≡ cost c (get_or ss i d) + weight (context_after c (get_or ss i d)) (drop (i + 1) ss)
 unfolding weight
 weight_next c ss i d h = rw (add-one, drop-cons ss i d)
+
+-- the same of the first few
+pub front_next : (b c : Context) (ss : List Symbol) (i n : ℕ) (d : Symbol) → i < length ss → ((m : ℕ) → n + weight c (take m (drop i ss)) ≡ weight b (take (i + m) ss)) →
+    (m : ℕ) → (n + cost c (get_or ss i d)) + weight (context_after c (get_or ss i d)) (take m (drop (i + 1) ss)) ≡ weight b (take ((i + 1) + m) ss)
+unfolding weight
+front_next b c ss i n d h f m =
+    let g : n + (cost c (get_or ss i d) + weight (context_after c (get_or ss i d)) (take m (drop (suc i) ss))) ≡ weight b (take (i + suc m) ss) = rw (drop-cons ss i d h) at (f (suc m)) in
+    let e : i + suc m ≡ suc i + m = omega arith in
+    let k : n + (cost c (get_or ss i d) + weight (context_after c (get_or ss i d)) (take m (drop (suc i) ss))) ≡ weight b (take (suc i + m) ss) = g ∙ ap (λ j. weight b (take j ss)) e in
+    rw add-one (omega (arith, k))
+
+front-le : (c : Context) (ss : List Symbol) (m n : ℕ) → m ≤ n → weight c (take m ss) ≤ weight c (take n ss)
+unfolding weight
+front-le c [] zero n h = omega arith
+front-le c [] (suc m) zero h = absurd (omega (arith, h))
+front-le c [] (suc m) (suc n) h = omega arith
+front-le c (s ∷ ss) zero n h = omega arith
+front-le c (s ∷ ss) (suc m) zero h = absurd (omega (arith, h))
+front-le c (s ∷ ss) (suc m) (suc n) h = omega (arith, front-le (context_after c s) ss m n (omega (arith, h)))
+
+pub front_all : (c : Context) (ss : List Symbol) (n : ℕ) → weight c (take n ss) ≤ weight c ss
+unfolding weight
+front_all c [] zero = omega arith
+front_all c [] (suc n) = omega arith
+front_all c (s ∷ ss) zero = omega arith
+front_all c (s ∷ ss) (suc n) = omega (arith, front_all (context_after c s) ss n)
+
+le_or : (m n : ℕ) → (m ≤ n) ⊎ (n < m)
+le_or zero n = inl (omega arith)
+le_or (suc m) zero = inr (omega arith)
+le_or (suc m) (suc n) = elim (le_or m n) [ inl h ↦ inl (omega (arith, h)) | inr h ↦ inr (omega (arith, h)) ]
+
+counted-not_less : (ss : List Symbol) (i j : ℕ) → weight contexts.Naming (take i ss) ≤ 4096 → 4096 < weight contexts.Naming (take (j + 1) ss) → i ≤ j
+counted-not_less ss i j few many = elim (le_or i j) [
+  | inl h ↦ h
+  | inr h ↦ absurd (omega (arith, many, few, front-le contexts.Naming ss (j + 1) i (omega (arith, h))))
+]
+
+excess-told : (ss : List Symbol) (i j : ℕ) (s t : Symbol) (ts us : List Symbol) → drop i ss ≡ s ∷ ts → drop j ss ≡ t ∷ us → i ≡ j → (if announces_node s then i + 1 else i) ≡ (if announces_node t then j + 1 else j)
+excess-told ss i j s t ts us here there same =
+    let pair : s ∷ ts ≡ t ∷ us = sym here ∙ (ap (λ k. drop k ss) same ∙ there) in
+    let symbols : s ≡ t = cc in
+    rw (symbols, same) refl
+
+pub one_excess : (ss : List Symbol) (m n : ℕ) → IsExcess ss m → IsExcess ss n → m ≡ n
+one_excess ss m n (excess_at i s ts few many here told) (excess_at j t us few' many' there told') =
+    let same : i ≡ j = omega (arith, counted-not_less ss i j few many', counted-not_less ss j i few' many) in
+    told ∙ (excess-told ss i j s t ts us here there same ∙ sym told')
+
+-- the symbol that makes it too many
+pub excess_here : (c : Context) (ss : List Symbol) (i n place : ℕ) (d : Symbol) → i < length ss → ((m : ℕ) → n + weight c (take m (drop i ss)) ≡ weight contexts.Naming (take (i + m) ss)) → n ≤ 4096 →
+    4096 < n + cost c (get_or ss i d) → place ≡ (if announces_node (get_or ss i d) then i + 1 else i) → IsExcess ss place
+unfolding weight
+excess_here c ss i n place d h f few over told =
+    let before : n + 0 ≡ weight contexts.Naming (take (i + 0) ss) = f 0 in
+    let none : i + 0 ≡ i = omega arith in
+    let same : weight contexts.Naming (take (i + 0) ss) ≡ weight contexts.Naming (take i ss) = ap (λ j. weight contexts.Naming (take j ss)) none in
+    let g = front_next contexts.Naming c ss i n d h f 0 in
+    let e : (i + 1) + 0 ≡ i + 1 = omega arith in
+    let k = ap (λ j. weight contexts.Naming (take j ss)) e in
+    excess_at i (get_or ss i d) (drop (suc i) ss) (omega (arith, before, same, few)) (omega (arith, g, k, over)) (drop-cons ss i d h) told
 
 abbrev plain : List Symbol → ℕ
 plain ss = weight contexts.Plain ss

@@ -18,7 +18,7 @@ use Rattle.cat_syntax.specs.declared.symbol.Symbol.{Symbol}
 use Rattle.cat_syntax.specs.Counting.{weight}
 use Rattle.cat_syntax.specs.Items.{IsFile}
 use Rattle.cat_syntax.specs.Nodes.{nodes}
-use Rattle.cat_syntax.specs.Reading.{Reading, Gives, file_at}
+use Rattle.cat_syntax.specs.Reading.{Stop, Reading, Gives, file_at}
 use Rattle.cat_syntax.specs.Reads.{Reads, IsRefused, Tells}
 use Rattle.cat_syntax.specs.Symbols.{symbols_of}
 use Rattle.cat_tree.specs.Tree.{File}
@@ -38,16 +38,16 @@ same-file ss rest f g d e =
     let pair : ◌≡◌ {A = File × List Symbol} (g, rest) (f, []) = cc in
     ap (λ (q : File × List Symbol). q.0) pair
 
-not-refused : (ss : List Symbol) (f : File) → IsFile ss f → file_at ss ≡ Err tt → ⊥
-not-refused ss f d e = let g = file-complete ss f d in cc
+not-refused : (ss : List Symbol) (c : Stop) (f : File) → IsFile ss f → file_at ss ≡ Err c → ⊥
+not-refused ss c f d e = let g = file-complete ss f d in cc
 
 -- symbols that are a model are read as it, unless memory ran out
 pub only_of : (ss rest : List Symbol) (r : Result File SyntaxFault) (f : File) → IsFile ss f → Gives {X = File} {A = File} (λ g. g) r rest (file_at ss) → MatchResult r (λ g. g ≡ f) (λ e. e ≡ faults.NoMemory)
 only_of ss rest (Ok g) f d h = same-file ss rest f g d h
 only_of ss rest (Err faults.NoMemory) f d h = refl
-only_of ss rest (Err faults.Unexpected) f d h = absurd (not-refused ss f d h)
-only_of ss rest (Err faults.BoundTwice) f d h = absurd (not-refused ss f d h)
-only_of ss rest (Err faults.TooDeep) f d h = absurd (not-refused ss f d h)
+only_of ss rest (Err faults.Unexpected) f d h = absurd (not-refused ss (faults.Unexpected, rest) f d h)
+only_of ss rest (Err faults.BoundTwice) f d h = absurd (not-refused ss (faults.BoundTwice, rest) f d h)
+only_of ss rest (Err faults.TooDeep) f d h = absurd (not-refused ss (faults.TooDeep, rest) f d h)
 
 pub small_of : (ss : List Symbol) (f : File) → IsFile ss f → nodes f ≤ 4096 → weight Naming ss ≤ 4096
 small_of ss f d h = omega (arith, file-weight ss f d)

@@ -5,7 +5,7 @@ use Rattle.cat_syntax.specs.declared.counting.Context.TheVariants as contexts
 use Rattle.cat_syntax.specs.declared.symbol.Symbol.{Symbol}
 use Rattle.cat_syntax.specs.declared.symbol.Symbol.TheVariants.{Fixed, Name}
 use Rattle.cat_syntax.specs.declared.symbol.Terminal.{Terminal}
-use Rattle.cat_syntax.specs.declared.symbol.Terminal.TheVariants.{Let, Rec, And, Acyclic, Irreflexive, Empty, As, Flag, Unshow, LeftParen, RightParen, RightBracket, RightBrace, Comma, Equals, Tilde}
+use Rattle.cat_syntax.specs.declared.symbol.Terminal.TheVariants.{Let, Rec, And, Acyclic, Irreflexive, Empty, As, Flag, Show, Unshow, LeftParen, RightParen, RightBracket, RightBrace, Comma, Equals, Tilde}
 
 abbrev pub is_check_word : Terminal → Bool
 is_check_word Acyclic = true
@@ -50,6 +50,13 @@ unfoldable pub cost : Context → Symbol → ℕ
 cost c (Name x) = if counts_name c then 1 else 0
 cost c (Fixed t) = if counts_terminal c t then 1 else 0
 cost c s = 0
+
+-- a symbol that counts for the node behind it
+abbrev pub announces_node : Symbol → Bool
+announces_node (Fixed Show) = true
+announces_node (Fixed Unshow) = true
+announces_node (Fixed Comma) = true
+announces_node s = false
 
 abbrev pub after_name : Context → Context
 after_name contexts.Unshow = contexts.Unshow

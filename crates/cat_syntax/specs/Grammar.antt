@@ -3,21 +3,14 @@
 -- stand below level k, and which nests at most n deep, and rest follows it.
 use Rattle.std.specs.Prelude.{◌≡◌, ℕ, List, ◌∷◌, Bool, true, false, not}
 use Rattle.std.proofs.Common.{zero, suc}
-use Rattle.cat_syntax.specs.declared.operator.Infix.{Infix}
-use Rattle.cat_syntax.specs.declared.operator.Infix.TheVariants.{Union, Sequence, Difference, Intersection, Product}
+use Rattle.cat_tree.specs.declared.node.Infix.{Infix}
+use Rattle.cat_tree.specs.declared.node.Infix.TheVariants.{Union, Sequence, Difference, Intersection, Product}
 use Rattle.cat_syntax.specs.declared.symbol.Symbol.{Symbol}
 use Rattle.cat_syntax.specs.declared.symbol.Symbol.TheVariants.{Fixed, Name, Unsupported}
 use Rattle.cat_syntax.specs.declared.symbol.Terminal.{Terminal}
 use Rattle.cat_syntax.specs.declared.symbol.Terminal.TheVariants.{Acyclic, Irreflexive, Empty, Domain, Range, Underscore, Zero, LeftParen, RightParen, LeftBracket, RightBracket, LeftBrace, RightBrace, Bar, Semicolon, Backslash, Ampersand, Star, Tilde, Plus, Question, Inverse}
-use Rattle.cat_tree.specs.Tree.{Term, union, sequence, difference, intersection, product, complement, plus, star, optional, inverse, domain, range, identity, name, empty_relation, empty_set, universe}
-
--- what an operator makes of its operands
-abbrev pub joined : Infix → Term → Term → Term
-joined Union = union
-joined Sequence = sequence
-joined Difference = difference
-joined Intersection = intersection
-joined Product = product
+pub use Rattle.cat_tree.specs.Terms.{joined}
+use Rattle.cat_tree.specs.Tree.{Term, complement, plus, star, optional, inverse, domain, range, identity, name, empty_relation, empty_set, universe}
 
 -- the operators that associate to the left, and those to the right, with their levels: the tightest first
 pub data JoinsLeft : ℕ → Terminal → Infix → Type 0 where

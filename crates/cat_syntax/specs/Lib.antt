@@ -5,4 +5,5 @@ pub mod Reading
 pub mod Symbols
 pub mod Nodes
 pub mod Counting
+pub mod Stops
 pub mod Reads

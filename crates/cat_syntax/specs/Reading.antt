@@ -6,9 +6,9 @@ use Rattle.std.proofs.Common.{zero, suc}
 use Rattle.descent.specs.Reading.{Read, Look, match_option, ◌>>=◌, required, repeated}
 use Rattle.cat_syntax.specs.contracts.symbol.TerminalPartialEq.TheImpl.{ghosts}
 use Rattle.cat_syntax.specs.declared.syntax_fault.SyntaxFault.{SyntaxFault}
-use Rattle.cat_syntax.specs.declared.syntax_fault.SyntaxFault.TheVariants.{NoMemory}
-use Rattle.cat_syntax.specs.declared.operator.Infix.{Infix}
-use Rattle.cat_syntax.specs.declared.operator.Infix.TheVariants.{Union, Sequence, Difference, Intersection, Product}
+use Rattle.cat_syntax.specs.declared.syntax_fault.SyntaxFault.TheVariants.{Unexpected, BoundTwice, TooDeep, NoMemory}
+use Rattle.cat_tree.specs.declared.node.Infix.{Infix}
+use Rattle.cat_tree.specs.declared.node.Infix.TheVariants.{Union, Sequence, Difference, Intersection, Product}
 use Rattle.cat_syntax.specs.declared.operator.Postfix.{Postfix}
 use Rattle.cat_syntax.specs.declared.operator.Postfix.TheVariants as postfixes
 use Rattle.cat_syntax.specs.declared.symbol.Symbol.{Symbol}
@@ -21,19 +21,27 @@ use Rattle.cat_syntax.specs.Symbols.{is_name}
 use Rattle.cat_tree.specs.Tree.{Bound, Shown, Clause, bind, bind_recursively, check, include, show, unshow, File, Word, Term, plus, star, optional, inverse, complement, domain, range, identity, name, empty_relation, empty_set, universe, is_bound}
 use Rattle.cat_syntax.specs.Grammar.{joined, begins_operand}
 
--- a value and the symbols behind it, or no reading
+-- why reading stopped, and the symbols that were left: it is about the first of them, or about their end
+abbrev pub Stop : Type 0
+Stop = SyntaxFault × List Symbol
+
+-- a value and the symbols behind it, or where reading stopped
 abbrev pub Reading : Type 0 → Type 0
-Reading A = Read Symbol (Unit {0}) A
+Reading A = Read Symbol Stop A
+
+-- where turns would be cut short, which they never are
+abbrev pub cut : Stop
+cut = (Unexpected, [])
 
 -- the fault is want of memory, or else P
 abbrev pub OrNoMemory : SyntaxFault → Type 0 → Type 0
 OrNoMemory NoMemory P = Unit {0}
 OrNoMemory _ P = P
 
--- What a function returned, seen by view, and the symbols that it left are what reading gives, unless memory ran out.
+-- What a function returned, seen by view, and the symbols that it left are what reading gives, at a fault too, unless memory ran out.
 abbrev pub Gives : {X A : Type 0} → (X → A) → Result X SyntaxFault → List Symbol → Reading A → Type 0
 Gives view (Ok x) rest read = read ≡ Ok (view x, rest)
-Gives view (Err e) rest read = OrNoMemory e (read ≡ Err tt)
+Gives view (Err e) rest read = OrNoMemory e (read ≡ Err (e, rest))
 
 -- What a function took, if it took something.
 abbrev pub Takes : {A : Type 0} → Option A → List Symbol → List Symbol → Look Symbol A → Type 0
@@ -52,11 +60,11 @@ after t (Fixed u ∷ ts) = if terminal_eq u t then Some (tt, ts) else None
 after t (s ∷ ts) = None
 
 unfoldable pub expected : Terminal → List Symbol → Reading (Unit {0})
-expected t ts = required tt (after t ts)
+expected t ts = required (Unexpected, ts) (after t ts)
 
 unfoldable pub name_at : List Symbol → Reading Word
 name_at (Name x ∷ ts) = Ok (x, ts)
-name_at ts = Err tt
+name_at ts = Err (Unexpected, ts)
 
 -- this terminal, as an operator
 abbrev pub sign : Terminal → Infix → List Symbol → Look Symbol Infix
@@ -92,7 +100,7 @@ applied postfixes.Inverse = inverse
 
 -- Operators that associate to the right: an operand, and what stands behind it. No more than k operands are read.
 unfoldable pub chain_right : (List Symbol → Look Symbol Infix) → (List Symbol → Reading Term) → ℕ → List Symbol → Reading Term
-chain_right op item zero ts = Err tt
+chain_right op item zero ts = Err cut
 chain_right op item (suc k) ts = item ts >>= λ x. match_option (op x.1) (Ok (x.0, x.1)) (λ o. chain_right op item k o.1 >>= λ y. Ok (joined o.0 x.0 y.0, y.1))
 
 -- each operand takes a symbol
@@ -105,19 +113,19 @@ next_operand item o a ts = item ts >>= λ y. Ok (joined o a y.0, y.1)
 
 -- Operators that associate to the left.
 unfoldable pub left : (List Symbol → Look Symbol Infix) → (List Symbol → Reading Term) → List Symbol → Reading Term
-left op item ts = item ts >>= λ x. repeated tt op (next_operand item) x.0 x.1
+left op item ts = item ts >>= λ x. repeated cut op (next_operand item) x.0 x.1
 
--- The levels. `Inner` reads what nests one deeper.
+-- The levels. `Inner` reads what nests one deeper, where the symbols that open it stand first in the former list.
 
 pub record Inner : Type 0 where
-  pub level : List Symbol → Reading Term
-  pub unary : List Symbol → Reading Term
+  pub level : List Symbol → List Symbol → Reading Term
+  pub unary : List Symbol → List Symbol → Reading Term
 
 -- an expression between two signs
 unfoldable pub enclosed_with : Inner → Terminal → Terminal → List Symbol → Reading Term
 enclosed_with r opening closing ts = do
   x ← expected opening ts
-  a ← r.level x.1
+  a ← r.level ts x.1
   y ← expected closing a.1
   Ok (a.0, y.1)
 
@@ -130,16 +138,16 @@ primary_with r (Fixed LeftParen ∷ ts) = enclosed_with r LeftParen RightParen (
 primary_with r (Fixed LeftBracket ∷ ts) = enclosed_with r LeftBracket RightBracket (Fixed LeftBracket ∷ ts) >>= λ x. Ok (identity x.0, x.1)
 primary_with r (Fixed Domain ∷ ts) = enclosed_with r LeftParen RightParen ts >>= λ x. Ok (domain x.0, x.1)
 primary_with r (Fixed Range ∷ ts) = enclosed_with r LeftParen RightParen ts >>= λ x. Ok (range x.0, x.1)
-primary_with r ts = Err tt
+primary_with r ts = Err (Unexpected, ts)
 
 abbrev pub applied_at : Postfix → Term → List Symbol → Reading Term
 applied_at o a ts = Ok (applied o a, ts)
 
 unfoldable pub postfix_with : Inner → List Symbol → Reading Term
-postfix_with r ts = primary_with r ts >>= λ x. repeated tt postfix_at applied_at x.0 x.1
+postfix_with r ts = primary_with r ts >>= λ x. repeated cut postfix_at applied_at x.0 x.1
 
 unfoldable pub unary_with : Inner → List Symbol → Reading Term
-unary_with r (Fixed Tilde ∷ ts) = r.unary ts >>= λ x. Ok (complement x.0, x.1)
+unary_with r (Fixed Tilde ∷ ts) = r.unary (Fixed Tilde ∷ ts) ts >>= λ x. Ok (complement x.0, x.1)
 unary_with r ts = postfix_with r ts
 
 unfoldable pub level_with : Inner → ℕ → List Symbol → Reading Term
@@ -148,8 +156,8 @@ level_with r (suc k) ts = if associates_left k then left (infix_at k) (level_wit
 
 -- what may nest n deep
 unfoldable pub below : ℕ → Inner
-below zero = record { level = λ _. Err tt; unary = λ _. Err tt }
-below (suc n) = record { level = level_with (below n) 5; unary = unary_with (below n) }
+below zero = record { level = λ at _. Err (TooDeep, at); unary = λ at _. Err (TooDeep, at) }
+below (suc n) = record { level = λ _. level_with (below n) 5; unary = λ _. unary_with (below n) }
 
 -- items
 
@@ -162,7 +170,7 @@ push_item item _ xs ts = item xs ts >>= λ y. Ok (xs ++ y.0 ∷ [], y.1)
 
 -- x {separator x}
 unfoldable pub separated : {A : Type 0} → Terminal → (List A → List Symbol → Reading A) → List Symbol → Reading (List A)
-separated separator item ts = push_item item tt [] ts >>= λ x. repeated tt (after separator) (push_item item) x.0 x.1
+separated separator item ts = push_item item tt [] ts >>= λ x. repeated cut (after separator) (push_item item) x.0 x.1
 
 unfoldable pub alias_at : List Symbol → Reading (Option Word)
 alias_at ts = match_option (after As ts) (Ok (None, ts)) (λ y. name_at y.1 >>= λ x. Ok (Some x.0, x.1))
@@ -174,7 +182,7 @@ repeats bs (Unsupported x ∷ ts) = is_bound bs x
 repeats bs ts = false
 
 unfoldable pub new_name_at : List Bound → List Symbol → Reading Word
-new_name_at bs ts = if repeats bs ts then Err tt else name_at ts
+new_name_at bs ts = if repeats bs ts then Err (BoundTwice, ts) else name_at ts
 
 unfoldable pub binding_at : List Bound → List Symbol → Reading Bound
 binding_at bs ts = do
@@ -201,7 +209,7 @@ unfoldable pub kind_at : List Symbol → Reading CheckKind
 kind_at (Fixed Acyclic ∷ ts) = Ok (kinds.Acyclic, ts)
 kind_at (Fixed Irreflexive ∷ ts) = Ok (kinds.Irreflexive, ts)
 kind_at (Fixed Empty ∷ ts) = Ok (kinds.Empty, ts)
-kind_at ts = Err tt
+kind_at ts = Err (Unexpected, ts)
 
 -- what stands behind `flag` and `~`
 unfoldable pub check_with : Bool → Bool → List Symbol → Reading Clause
@@ -219,8 +227,8 @@ check_at ts =
 
 -- a quoted text that is a name
 unfoldable pub quoted_at : List Symbol → Reading Word
-quoted_at (Quoted x ∷ ts) = if is_name x then Ok (x, ts) else Err tt
-quoted_at ts = Err tt
+quoted_at (Quoted x ∷ ts) = if is_name x then Ok (x, ts) else Err (Unexpected, Quoted x ∷ ts)
+quoted_at ts = Err (Unexpected, ts)
 
 unfoldable pub item_at : List Symbol → Reading Clause
 item_at ts =
@@ -245,7 +253,7 @@ title_at (Quoted x ∷ ts) = Ok (Some x, ts)
 title_at ts = Ok (None, ts)
 
 unfoldable pub items_at : List Symbol → Reading (List Clause)
-items_at ts = repeated tt unless_end (push_item (λ _. item_at)) [] ts
+items_at ts = repeated cut unless_end (push_item (λ _. item_at)) [] ts
 
 -- all of the symbols
 unfoldable pub file_at : List Symbol → Reading File

@@ -1,7 +1,8 @@
 //! Counting nodes, symbol by symbol, before anything is read.
 
 ghost use Rattle.std.specs.Prelude.{◌≡◌, ◌≤◌, ◌<◌, MatchOption, IfSome, length};
-ghost use Rattle.cat_syntax.specs.Counting.{is_check_word as word_is, is_node as node_is, cost as cost_of, context_after, weight};
+ghost use Rattle.cat_syntax.specs.Counting.{is_check_word as word_is, is_node as node_is, cost as cost_of, announces_node, context_after, weight};
+ghost use Rattle.cat_syntax.specs.Stops.{IsExcess};
 ghost use Rattle.cat_syntax.specs.declared.counting.Context.TheVariants.{Naming};
 
 use crate::symbol::{Symbol, Terminal};
@@ -86,7 +87,9 @@ fn following(context: Context, symbol: &Symbol) -> Context
 }
 
 /// Whether a symbol is the node of what stands behind it.
-fn announces(symbol: &Symbol) -> bool {
+fn announces(symbol: &Symbol) -> bool
+    ensures { result ≡ announces_node symbol.now }
+{
     matches!(
         symbol,
         Symbol::Fixed(Terminal::Show | Terminal::Unshow | Terminal::Comma)
@@ -97,6 +100,7 @@ fn announces(symbol: &Symbol) -> bool {
 #[tactic(auto, unfolding(crate::specs::Counting::weight), using(crate::proofs::Weights::weight_next))]
 pub fn excess(symbols: &[Symbol]) -> Option<usize>
     ensures long { IfSome result (λ _. 4096 < length symbols.now) }
+    ensures place { IfSome result (λ n. (n ≤ length symbols.now) × IsExcess symbols.now n) }
     ensures weight { MatchOption result (weight Naming symbols.now ≤ 4096) (λ _. 4096 < weight Naming symbols.now) }
 {
     let mut context = Context::Naming;

@@ -10,6 +10,8 @@ mod reading;
 mod symbol;
 mod syntax_fault;
 
-pub use cat_tree::{Binding, CatFile, Check, CheckKind, Element, Expression, Item, Title};
+pub use cat_tree::{
+    Binding, CatFile, Check, CheckKind, Element, Expression, Infix, Item, Leaf, Node, Sign, Title,
+};
 pub use fault::CatFault;
 pub use reading::read_cat;

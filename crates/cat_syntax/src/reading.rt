@@ -1,14 +1,15 @@
 //! The reader: recursive descent over the symbols of a text.
 
-ghost use Rattle.std.specs.Prelude.{◌≡◌, ◌<◌, ◌≤◌, List, drop, length, Some, None, Ok, Err, IfOk, IfErr, MatchBool, MatchResult};
+ghost use Rattle.std.specs.Prelude.{◌≡◌, ◌<◌, ◌≤◌, ℕ, List, drop, length, Some, None, Ok, Err, IfOk, IfErr, MatchBool, MatchResult};
 ghost use Rattle.std.proofs.Common.{suc};
 ghost use Rattle.cat_syntax.specs.Items.{IsFile};
-ghost use Rattle.cat_syntax.specs.Reads.{Reads, IsRefused, Tells};
+ghost use Rattle.cat_syntax.specs.Reads.{Reads, IsRefused, Tells, IsUnexpected, offset_of as first_offset};
+ghost use Rattle.cat_syntax.specs.Stops.{StopsAt, IsExcess};
 ghost use Rattle.cat_syntax.specs.Nodes.{nodes};
 ghost use Rattle.cat_tree.specs.Tree.{File};
 ghost use Rattle.cat_syntax.specs.declared.fault.CatFault.TheVariants.{NoMemory};
-ghost use Rattle.cat_syntax.specs.declared.syntax_fault.SyntaxFault.TheVariants.{NoMemory as NoSpace};
-ghost use Rattle.cat_syntax.specs.Reading.{Gives, after, expected, name_at};
+ghost use Rattle.cat_syntax.specs.declared.syntax_fault.SyntaxFault.TheVariants.{TooDeep, NoMemory as NoSpace};
+ghost use Rattle.cat_syntax.specs.Reading.{Gives, OrNoMemory, after, expected, name_at};
 
 mod expressions;
 mod items;
@@ -19,7 +20,7 @@ use crate::symbol::{Symbol, Terminal, symbols};
 use crate::syntax_fault::SyntaxFault;
 use cat_tree::CatFile;
 use std::alloc::Global;
-use wb_text::{Dialect, Name, Token, offset_at, tokens};
+use wb_text::{Dialect, Name, Token, tokens};
 
 /// The symbols that are not yet read. At a fault, the first of them is the symbol that it is about.
 #[derive(Drop)]
@@ -32,7 +33,7 @@ impl<'a> Reader<'a> {
     /// What may nest in something that may nest `nesting` deep.
     fn deeper(&self, nesting: u32) -> Result<u32, SyntaxFault>
         ensures ok { IfOk result (λ n. nesting ≡ suc n) }
-        ensures err { IfErr result (λ e. nesting ≡ 0) }
+        ensures err { IfErr result (λ e. (nesting ≡ 0) × (e ≡ TooDeep)) }
     {
         if nesting == 0 {
             return Err(SyntaxFault::TooDeep);
@@ -102,7 +103,34 @@ impl<'a> Reader<'a> {
     }
 }
 
+/// The offset of the first of these tokens, or the text's end.
+fn offset_of(tokens: &[Token], end: usize) -> usize
+    ensures { result ≡ first_offset tokens.now end }
+{
+    match tokens {
+        [first, ..] => first.from,
+        [] => end,
+    }
+}
+
+/// The refusal of a text for the first of these symbols, which nothing takes, by its offset.
+fn unexpected<'a>(alloc: Global, rest: &[Symbol<'a>], offset: usize) -> CatFault
+    ensures { IsUnexpected result rest.now offset }
+{
+    match rest {
+        [first, ..] => match first {
+            Symbol::Unsupported(word) => match word.name(alloc) {
+                Ok(name) => CatFault::Unsupported(name),
+                Err(_) => CatFault::NoMemory,
+            },
+            _ => CatFault::Syntax(offset),
+        },
+        [] => CatFault::Syntax(offset),
+    }
+}
+
 /// The refusal of a text for a fault at one of its symbols.
+#[tactic(auto, using(crate::proofs::Refusals::unexpected_told, crate::proofs::Refusals::twice_told, crate::proofs::Refusals::deep_told))]
 fn refusal<'a>(
     alloc: Global,
     symbols: &[Symbol<'a>],
@@ -111,24 +139,26 @@ fn refusal<'a>(
     fault: SyntaxFault,
     place: usize,
 ) -> CatFault
+    requires within { place ≤ length symbols.now }
+    requires one_each { length symbols.now ≡ length tokens.now }
+    requires stops { OrNoMemory fault (StopsAt symbols.now fault place) }
+    requires first { (n : ℕ) → IsExcess symbols.now n → place ≤ n }
     ensures told { Tells result symbols.now tokens.now end }
     ensures memory { fault ≡ NoSpace → result ≡ NoMemory }
 {
     match fault {
-        SyntaxFault::Unexpected => match symbols.get(place) {
-            Some(Symbol::Unsupported(word)) => match word.name(alloc) {
-                Ok(name) => CatFault::Unsupported(name),
-                Err(_) => CatFault::NoMemory,
-            },
-            _ => CatFault::Syntax(offset_at(tokens, end, place)),
-        },
-        SyntaxFault::BoundTwice => CatFault::Syntax(offset_at(tokens, end, place)),
+        SyntaxFault::Unexpected => {
+            let offset = offset_of(&tokens[place..], end);
+            unexpected(alloc, &symbols[place..], offset)
+        }
+        SyntaxFault::BoundTwice => CatFault::Syntax(offset_of(&tokens[place..], end)),
         SyntaxFault::TooDeep => CatFault::TooDeep,
         SyntaxFault::NoMemory => CatFault::NoMemory,
     }
 }
 
 /// The refusal of symbols of which the one at `place` is the first of a node too many: a fault up to there comes first.
+#[tactic(auto, using(crate::proofs::Refusals::among, crate::proofs::Refusals::large_read, crate::proofs::Refusals::large_behind, crate::proofs::Refusals::shown_of))]
 fn refusal_up_to<'a>(
     alloc: Global,
     symbols: &'a [Symbol<'a>],
@@ -136,28 +166,34 @@ fn refusal_up_to<'a>(
     end: usize,
     place: usize,
 ) -> CatFault
-    requires { 4096 < length tokens.now }
+    requires within { place ≤ length symbols.now }
+    requires one_each { length symbols.now ≡ length tokens.now }
+    requires many { 4096 < length tokens.now }
+    requires excess { IsExcess symbols.now place }
     ensures { Tells result symbols.now tokens.now end }
 {
     // The node's symbol, and what a reader looks at behind it.
-    let shown = symbols.len().min(place.saturating_add(3));
+    let shown = symbols.len().min(place + 3);
     let mut reader = Reader {
         alloc,
         rest: &symbols[..shown],
     };
-    match reader.file() {
-        Ok(_) => CatFault::TooLarge,
-        Err(fault) => {
-            let stopped = shown.saturating_sub(reader.rest.len());
-            if stopped > place {
-                return CatFault::TooLarge;
-            }
-            refusal(alloc, symbols, tokens, end, fault, stopped)
-        }
+    let fault = match reader.file() {
+        Ok(_) => return CatFault::TooLarge,
+        Err(fault) => fault,
+    };
+    if fault == SyntaxFault::NoMemory {
+        return CatFault::NoMemory;
     }
+    let stopped = shown.saturating_sub(reader.rest.len());
+    if stopped > place {
+        return CatFault::TooLarge;
+    }
+    refusal(alloc, symbols, tokens, end, fault, stopped)
 }
 
 /// The model that these symbols are.
+#[tactic(auto, using(crate::proofs::Refusals::stopped_at))]
 fn read_symbols<'a>(
     alloc: Global,
     symbols: &'a [Symbol<'a>],
@@ -189,6 +225,9 @@ fn read_symbols<'a>(
 ///
 /// Refuses with `Text`, and then with the first fault from the left; at one token with `Syntax` or `Unsupported` before
 /// `TooDeep`, and that before `TooLarge`.
+///
+/// It recurses where parentheses, brackets and signs before an expression nest, at most 64 deep, and along no chain. The deepest text
+/// takes less than 320 KiB of stack.
 #[tactic(auto, using(crate::proofs::Tokens::symbols_length))]
 pub fn read_cat(alloc: Global, text: &[u8]) -> Result<CatFile, CatFault>
     // What is read is a model that the text spells.

@@ -114,10 +114,10 @@ pub fn is_judged(
 }
 
 /// Store buffering of relaxed accesses is allowed.
-const ALLOWS: Fact = Fact::Says(Order::Rlx, true, &[]);
+pub const ALLOWS: Fact = Fact::Says(Order::Rlx, true, &[]);
 
 /// Store buffering of relaxed accesses is forbidden.
-const FORBIDS: Fact = Fact::Says(Order::Rlx, false, &[]);
+pub const FORBIDS: Fact = Fact::Says(Order::Rlx, false, &[]);
 
 const ALLOWED: &[(&str, Fact)] = &[
     ("", ALLOWS),

@@ -253,3 +253,9 @@ pub fn all_alone(alloc: Global, rows: &[(&'static str, Fact)]) -> Result<(), Fai
     }
     Ok(())
 }
+
+/// Of one file of a text a fact holds.
+pub fn holds_alone(alloc: Global, text: &str, fact: Fact) -> Result<(), Fail> {
+    let mut files = Files::new(alloc)?;
+    put_and_confirm(alloc, &mut files, text, fact)
+}

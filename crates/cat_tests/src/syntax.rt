@@ -2,84 +2,84 @@
 
 use crate::loading::{has_parts, is_read_as, read};
 use crate::texts::{EACH_KIND, RC11, confirm, repeated};
-use cat_syntax::{CatFault, CatFile, Expression, Item, read_cat};
+use cat_syntax::{CatFault, CatFile, Expression, Infix, Item, Leaf, Node, Sign, read_cat};
 use std::alloc::{AllocError, Global};
 use std::test::Fail;
-use wb_text::Name;
 
-/// What is written before an expression's first part.
-fn opening(expression: &Expression) -> &'static str {
-    match expression {
-        Expression::Complement(_) => "~(",
-        Expression::Domain(_) => "domain(",
-        Expression::Range(_) => "range(",
-        Expression::Identity(_) => "id(",
+/// What is written before the operand of a sign.
+fn opening(sign: Sign) -> &'static str {
+    match sign {
+        Sign::Complement => "~(",
+        Sign::Domain => "domain(",
+        Sign::Range => "range(",
+        Sign::Identity => "id(",
         _ => "(",
     }
 }
 
-/// What is written between an expression's two parts, or for one that has none.
-fn sign(expression: &Expression) -> &'static str {
-    match expression {
-        Expression::Union(_, _) => "|",
-        Expression::Sequence(_, _) => ";",
-        Expression::Difference(_, _) => "-",
-        Expression::Intersection(_, _) => "&",
-        Expression::Product(_, _) => "x",
-        Expression::EmptyRelation => "0",
-        Expression::EmptySet => "{}",
-        Expression::Universe => "_",
-        _ => "",
-    }
-}
-
-/// What is written behind an expression's last part.
-fn closing(expression: &Expression) -> &'static str {
-    match expression {
-        Expression::Plus(_) => ")+",
-        Expression::Star(_) => ")*",
-        Expression::Optional(_) => ")?",
-        Expression::Inverse(_) => ")^-1",
+/// What is written behind it.
+fn closing(sign: Sign) -> &'static str {
+    match sign {
+        Sign::Plus => ")+",
+        Sign::Star => ")*",
+        Sign::Optional => ")?",
+        Sign::Inverse => ")^-1",
         _ => ")",
     }
 }
 
-fn show_name(alloc: Global, text: &mut String, name: &Name) -> Result<(), AllocError> {
-    let shown = format!(in alloc; "{name}")?;
-    text.push_str(shown.as_str())
+/// What is written between two operands.
+fn between(operator: Infix) -> &'static str {
+    match operator {
+        Infix::Union => "|",
+        Infix::Sequence => ";",
+        Infix::Difference => "-",
+        Infix::Intersection => "&",
+        Infix::Product => "x",
+    }
+}
+
+fn show_leaf(alloc: Global, leaf: &Leaf) -> Result<String, AllocError> {
+    match leaf {
+        Leaf::Name(name) => format!(in alloc; "{name}"),
+        Leaf::EmptyRelation => format!(in alloc; "0"),
+        Leaf::EmptySet => format!(in alloc; "{{}}"),
+        Leaf::Universe => format!(in alloc; "_"),
+    }
+}
+
+/// Takes the text of the latest operand.
+fn latest(alloc: Global, texts: &mut Vec<String>) -> String {
+    match texts.pop() {
+        Some(text) => text,
+        None => String::new(alloc),
+    }
+}
+
+/// The text of a node, with parentheses round it, where the latest texts are those of its operands.
+fn show_node(alloc: Global, node: &Node, texts: &mut Vec<String>) -> Result<String, AllocError> {
+    match node {
+        Node::Leaf(leaf) => show_leaf(alloc, leaf),
+        Node::Sign(sign) => {
+            let operand = latest(alloc, texts);
+            format!(in alloc; "{}{}{}", opening(*sign), operand, closing(*sign))
+        }
+        Node::Infix(operator) => {
+            let right = latest(alloc, texts);
+            let left = latest(alloc, texts);
+            format!(in alloc; "({}{}{})", left, between(*operator), right)
+        }
+    }
 }
 
 /// Adds an expression to a text, with parentheses round each part.
 fn show(alloc: Global, text: &mut String, expression: &Expression) -> Result<(), AllocError> {
-    match expression {
-        Expression::Union(a, b)
-        | Expression::Sequence(a, b)
-        | Expression::Difference(a, b)
-        | Expression::Intersection(a, b)
-        | Expression::Product(a, b) => {
-            text.push_str(opening(expression))?;
-            show(alloc, text, a)?;
-            text.push_str(sign(expression))?;
-            show(alloc, text, b)?;
-            text.push_str(closing(expression))
-        }
-        Expression::Complement(a)
-        | Expression::Plus(a)
-        | Expression::Star(a)
-        | Expression::Optional(a)
-        | Expression::Inverse(a)
-        | Expression::Domain(a)
-        | Expression::Range(a)
-        | Expression::Identity(a) => {
-            text.push_str(opening(expression))?;
-            show(alloc, text, a)?;
-            text.push_str(closing(expression))
-        }
-        Expression::Name(name) => show_name(alloc, text, name),
-        Expression::EmptyRelation | Expression::EmptySet | Expression::Universe => {
-            text.push_str(sign(expression))
-        }
+    let mut texts = Vec::new(alloc);
+    for node in &expression.nodes {
+        let shown = show_node(alloc, node, &mut texts)?;
+        texts.push(shown)?;
     }
+    text.push_str(latest(alloc, &mut texts).as_str())
 }
 
 /// Adds the expression of a file's first item, if that is `let r = ..`.

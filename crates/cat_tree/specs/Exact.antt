@@ -12,7 +12,7 @@ use Rattle.cat_tree.specs.declared.tree.Check.{Check}
 use Rattle.cat_tree.specs.declared.tree.CheckKind.{CheckKind}
 use Rattle.cat_tree.specs.declared.tree.CheckKind.TheVariants as kinds
 use Rattle.cat_tree.specs.declared.tree.Element.{Element}
-use Rattle.cat_tree.specs.declared.tree.Expression.{Expression}
+use Rattle.cat_tree.specs.declared.expression.Expression.{Expression}
 use Rattle.cat_tree.specs.declared.tree.Item.{Item}
 
 -- a test of two values

@@ -1,4 +1,6 @@
 pub mod Codes
 pub mod Equality
 pub mod Exact
+pub mod Postorder
+pub mod Terms
 pub mod Tree

@@ -2,37 +2,16 @@
 use Rattle.std.specs.Prelude.{ℕ, List, map, Bool, Option}
 use Rattle.std.specs.List.{list_any}
 use Rattle.std.specs.Str.{bytes_eq}
+pub use Rattle.cat_tree.specs.Terms.{Word, Term, union, sequence, difference, intersection, product, complement, plus, star, optional, inverse, domain, range, identity, name, empty_relation, empty_set, universe}
+use Rattle.cat_tree.specs.Terms.{term_in}
+use Rattle.cat_tree.specs.declared.expression.Expression.{Expression}
+use Rattle.cat_tree.specs.declared.node.Infix.{Infix}
 use Rattle.cat_tree.specs.declared.tree.Binding.{Binding}
 use Rattle.cat_tree.specs.declared.tree.Check.{Check}
 use Rattle.cat_tree.specs.declared.tree.CheckKind.{CheckKind}
 use Rattle.cat_tree.specs.declared.tree.Element.{Element}
-use Rattle.cat_tree.specs.declared.tree.Expression.{Expression, Union', Sequence', Difference', Intersection', Product', Complement', Plus', Star', Optional', Inverse', Domain', Range', Identity', Name, EmptyRelation, EmptySet, Universe}
 use Rattle.cat_tree.specs.declared.tree.Item.{Item}
 use Rattle.cat_tree.specs.declared.tree.Item.TheVariants as items
-
--- the bytes of a name
-abbrev pub Word : Type 0
-Word = List ℕ
-
--- an expression
-pub data Term : Type 0 where
-  union : Term → Term → Term
-  sequence : Term → Term → Term
-  difference : Term → Term → Term
-  intersection : Term → Term → Term
-  product : Term → Term → Term
-  complement : Term → Term
-  plus : Term → Term
-  star : Term → Term
-  optional : Term → Term
-  inverse : Term → Term
-  domain : Term → Term
-  range : Term → Term
-  identity : Term → Term
-  name : Word → Term
-  empty_relation : Term
-  empty_set : Term
-  universe : Term
 
 -- a name with what it is bound to
 pub record Bound : Type 0 where
@@ -61,23 +40,10 @@ pub record File : Type 0 where
 -- the trees of the values in memory
 
 abbrev pub term_of : Expression → Term
-term_of (Union' p a q b) = union (term_of a) (term_of b)
-term_of (Sequence' p a q b) = sequence (term_of a) (term_of b)
-term_of (Difference' p a q b) = difference (term_of a) (term_of b)
-term_of (Intersection' p a q b) = intersection (term_of a) (term_of b)
-term_of (Product' p a q b) = product (term_of a) (term_of b)
-term_of (Complement' p a) = complement (term_of a)
-term_of (Plus' p a) = plus (term_of a)
-term_of (Star' p a) = star (term_of a)
-term_of (Optional' p a) = optional (term_of a)
-term_of (Inverse' p a) = inverse (term_of a)
-term_of (Domain' p a) = domain (term_of a)
-term_of (Range' p a) = range (term_of a)
-term_of (Identity' p a) = identity (term_of a)
-term_of (Name x) = name x
-term_of EmptyRelation = empty_relation
-term_of EmptySet = empty_set
-term_of Universe = universe
+term_of e = term_in e.nodes.items
+
+abbrev pub pair_of : Infix × Expression → Infix × Term
+pair_of x = (x.0, term_of x.1)
 
 abbrev pub bound_of : Binding → Bound
 bound_of b = record { name = b.name; value = term_of b.value }

@@ -1,53 +1,11 @@
 //! Second values that are equal. What a copy owns comes from the allocators that its first has.
 
 ghost use Rattle.std.specs.Prelude.{◌≡◌, IfOk, map};
-ghost use Rattle.cat_tree.specs.Tree.{term_of, bound_of, shown_of, check_of, clause_of};
+ghost use Rattle.cat_tree.specs.Tree.{bound_of, shown_of, check_of, clause_of};
 
-use crate::tree::{Binding, Check, Element, Expression, Item};
+use crate::tree::{Binding, Check, Element, Item};
 use std::alloc::AllocError;
 use wb_text::Name;
-
-impl Expression {
-    /// A second expression that is equal. Each box is made where its first lies.
-    #[cycle(copying)]
-    pub fn copy(&self) -> Result<Expression, AllocError>
-        ensures { IfOk result (λ e. term_of e ≡ term_of self.now) }
-    {
-        match self {
-            Expression::Union(a, b) => Ok(Expression::Union(boxed_copy(a)?, boxed_copy(b)?)),
-            Expression::Sequence(a, b) => Ok(Expression::Sequence(boxed_copy(a)?, boxed_copy(b)?)),
-            Expression::Difference(a, b) => {
-                Ok(Expression::Difference(boxed_copy(a)?, boxed_copy(b)?))
-            }
-            Expression::Intersection(a, b) => {
-                Ok(Expression::Intersection(boxed_copy(a)?, boxed_copy(b)?))
-            }
-            Expression::Product(a, b) => Ok(Expression::Product(boxed_copy(a)?, boxed_copy(b)?)),
-            Expression::Complement(a) => Ok(Expression::Complement(boxed_copy(a)?)),
-            Expression::Plus(a) => Ok(Expression::Plus(boxed_copy(a)?)),
-            Expression::Star(a) => Ok(Expression::Star(boxed_copy(a)?)),
-            Expression::Optional(a) => Ok(Expression::Optional(boxed_copy(a)?)),
-            Expression::Inverse(a) => Ok(Expression::Inverse(boxed_copy(a)?)),
-            Expression::Domain(a) => Ok(Expression::Domain(boxed_copy(a)?)),
-            Expression::Range(a) => Ok(Expression::Range(boxed_copy(a)?)),
-            Expression::Identity(a) => Ok(Expression::Identity(boxed_copy(a)?)),
-            Expression::Name(name) => Ok(Expression::Name(name.copy()?)),
-            Expression::EmptyRelation => Ok(Expression::EmptyRelation),
-            Expression::EmptySet => Ok(Expression::EmptySet),
-            Expression::Universe => Ok(Expression::Universe),
-        }
-    }
-}
-
-/// A box of an equal expression, from the same allocator. It isn't inlined, which keeps the stack that a long chain of
-/// operators takes small.
-#[cycle(copying)]
-#[inline(never)]
-fn boxed_copy(first: &Box<Expression>) -> Result<Box<Expression>, AllocError>
-    ensures { IfOk result (λ b. term_of b.value ≡ term_of first.now.value) }
-{
-    Ok(Box::new(*Box::allocator(first), first.copy()?)?)
-}
 
 fn alias_copy(first: &Option<Name>) -> Result<Option<Name>, AllocError>
     ensures { IfOk result (λ n. n ≡ first.now) }

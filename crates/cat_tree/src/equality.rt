@@ -1,50 +1,6 @@
 //! Equality: true exactly of equal trees.
 
-use crate::tree::{Binding, Check, Element, Expression, Item};
-
-impl PartialEq for Expression {
-    ghost use Rattle.std.specs.Prelude.{◌≡◌, ◌↔◌, IsTrue};
-    ghost use Rattle.std.specs.Cmp.{partial_equiv_from_equiv};
-    ghost use Rattle.cat_tree.specs.Tree.{term_of};
-    ghost use Rattle.cat_tree.specs.Equality.{same_term};
-    ghost use Rattle.cat_tree.specs.Exact.{expression_equivalence};
-
-    ghost eq = { λ a b. same_term (term_of a) (term_of b) };
-
-    ghost laws = { partial_equiv_from_equiv expression_equivalence };
-
-    fn eq(&self, other: &Expression) -> bool
-        ensures value { result ≡ same_term (term_of self.now) (term_of other.now) }
-        ensures exact { IsTrue result ↔ (term_of self.now ≡ term_of other.now) }
-    {
-        match (self, other) {
-            (Expression::Union(a, b), Expression::Union(c, d))
-            | (Expression::Sequence(a, b), Expression::Sequence(c, d))
-            | (Expression::Difference(a, b), Expression::Difference(c, d))
-            | (Expression::Intersection(a, b), Expression::Intersection(c, d))
-            | (Expression::Product(a, b), Expression::Product(c, d)) => { **a == **c && **b == **d }
-            (Expression::Complement(a), Expression::Complement(b))
-            | (Expression::Plus(a), Expression::Plus(b))
-            | (Expression::Star(a), Expression::Star(b))
-            | (Expression::Optional(a), Expression::Optional(b))
-            | (Expression::Inverse(a), Expression::Inverse(b))
-            | (Expression::Domain(a), Expression::Domain(b))
-            | (Expression::Range(a), Expression::Range(b))
-            | (Expression::Identity(a), Expression::Identity(b)) => **a == **b,
-            (Expression::Name(a), Expression::Name(b)) => a == b,
-            (Expression::EmptyRelation, Expression::EmptyRelation)
-            | (Expression::EmptySet, Expression::EmptySet)
-            | (Expression::Universe, Expression::Universe) => true,
-            _ => false,
-        }
-    }
-}
-
-impl Eq for Expression {
-    ghost use Rattle.cat_tree.specs.Exact.{expression_equivalence};
-
-    ghost laws = { expression_equivalence };
-}
+use crate::tree::{Binding, Check, Element, Item};
 
 impl PartialEq for Binding {
     ghost use Rattle.std.specs.Prelude.{◌≡◌, ◌↔◌, IsTrue};

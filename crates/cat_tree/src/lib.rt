@@ -3,9 +3,13 @@
 
 mod copying;
 mod equality;
+mod expression;
 mod file;
 pub mod laws;
+mod node;
 mod tree;
 
+pub use expression::Expression;
 pub use file::{CatFile, Title};
-pub use tree::{Binding, Check, CheckKind, Element, Expression, Item};
+pub use node::{Infix, Leaf, Node, Sign};
+pub use tree::{Binding, Check, CheckKind, Element, Item};

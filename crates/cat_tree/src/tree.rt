@@ -1,45 +1,7 @@
 //! Trees of models.
 
+use crate::expression::Expression;
 use wb_text::Name;
-
-/// An expression: a set of events or a relation between events.
-#[derive(Drop)]
-pub enum Expression {
-    /// `a | b`
-    Union(Box<Expression>, Box<Expression>),
-    /// `a ; b`
-    Sequence(Box<Expression>, Box<Expression>),
-    /// `a \ b`
-    Difference(Box<Expression>, Box<Expression>),
-    /// `a & b`
-    Intersection(Box<Expression>, Box<Expression>),
-    /// `a * b`
-    Product(Box<Expression>, Box<Expression>),
-    /// `~a`
-    Complement(Box<Expression>),
-    /// `a+`
-    Plus(Box<Expression>),
-    /// `a*`
-    Star(Box<Expression>),
-    /// `a?`
-    Optional(Box<Expression>),
-    /// `a^-1`
-    Inverse(Box<Expression>),
-    /// `domain(a)`
-    Domain(Box<Expression>),
-    /// `range(a)`
-    Range(Box<Expression>),
-    /// `[a]`
-    Identity(Box<Expression>),
-    /// A name that is bound, or a named set or relation of the execution.
-    Name(Name),
-    /// `0`
-    EmptyRelation,
-    /// `{}`
-    EmptySet,
-    /// `_`
-    Universe,
-}
 
 /// What a check tests.
 #[derive(Clone, Copy, Debug, PartialEq, Eq)]

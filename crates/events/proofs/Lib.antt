@@ -4,3 +4,4 @@ pub mod Places
 pub mod Standing
 pub mod Adding
 pub mod Made
+pub mod Structures

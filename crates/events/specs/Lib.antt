@@ -2,3 +2,4 @@ pub mod Examples
 pub mod Executions
 pub mod Named
 pub mod Rows
+pub mod Structures

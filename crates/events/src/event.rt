@@ -5,7 +5,7 @@ ghost use Rattle.events.specs.Executions.{is_read, is_write, writes_to, no_place
 ghost use Rattle.events.specs.Named.{IsOfCall, IsInitial, IsBefore, IsNext, IsInternal};
 ghost use Rattle.events.specs.declared.event.Access.TheVariants.{ExRead, ExWrite};
 
-use relations::Set;
+use relations::Places;
 
 /// A memory order, or none.
 #[derive(Clone, Copy, Debug, PartialEq, Eq)]
@@ -34,8 +34,8 @@ pub enum Access {
 }
 
 /// One event of a thread. A location is named by its place in the test's list of locations;
-/// a fence has location 0 and value 0. What an event depends on is a set of places of its own thread's run,
-/// over the places 0 to 63.
+/// a fence has location 0 and value 0. What an event depends on is a set of places of its own thread's run.
+/// An event takes 48 bytes at most, and no memory of its own.
 #[derive(Drop)]
 pub struct Event {
     pub thread: usize,
@@ -44,16 +44,16 @@ pub struct Event {
     pub value: u32,
     pub order: Order,
     /// The reads whose values reached the value that a write writes.
-    pub data_from: Set,
+    pub data_from: Places,
     /// The reads whose values reached the tests of the branches around.
-    pub ctrl_from: Set,
+    pub ctrl_from: Places,
 }
 
 /// The dependencies of an event that depends on nothing.
-pub fn no_places() -> Set
+pub fn no_places() -> Places
     ensures { result ≡ no_places }
 {
-    Set::empty(64)
+    Places::none()
 }
 
 /// An event's name in an execution: the initial write of a location, or a thread and a place in its run.
@@ -153,6 +153,19 @@ impl Event {
             data_from: self.data_from.copy(),
             ctrl_from: self.ctrl_from.copy(),
         }
+    }
+
+    /// Whether it is an event like the other.
+    pub fn is_same(&self, other: &Self) -> bool
+        ensures { IsTrue result ↔ (self.now ≡ other.now) }
+    {
+        self.thread == other.thread
+            && self.access == other.access
+            && self.loc == other.loc
+            && self.value == other.value
+            && self.order == other.order
+            && self.data_from.is_same(&other.data_from)
+            && self.ctrl_from.is_same(&other.ctrl_from)
     }
 
     /// Whether it reads.

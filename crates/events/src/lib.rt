@@ -11,5 +11,5 @@ mod view;
 pub use event::{Access, Event, EventId, Order, no_places};
 pub use graph::{Coherence, Graph};
 pub use named::{RelName, SetName};
-pub use run::Run;
-pub use view::GraphView;
+pub use run::{Run, copy_events, copy_runs};
+pub use view::{EventStructure, GraphView};

@@ -1,6 +1,6 @@
 //! Runs of a thread.
 
-ghost use Rattle.std.specs.Prelude.{◌≡◌, IfOk};
+ghost use Rattle.std.specs.Prelude.{◌≡◌, ◌↔◌, IfOk, IsTrue};
 
 use crate::event::Event;
 use std::alloc::{AllocError, Global};
@@ -21,13 +21,66 @@ impl Model for Run {
     ghost view = { λ r. record { events = r.events.items; registers = r.registers.items } };
 }
 
-/// The same events once more.
-fn copy_events(alloc: Global, events: &[Event]) -> Result<Vec<Event>, AllocError>
+/// The same events once more, in a vector with room for so many others.
+pub fn copy_events(alloc: Global, events: &[Event], room: usize) -> Result<Vec<Event>, AllocError>
     ensures { IfOk result (λ v. v.items ≡ events.now) }
 {
-    let mut copies = Vec::new(alloc);
+    let mut copies = Vec::with_capacity(alloc, events.len().saturating_add(room))?;
     for event in events {
         copies.push(event.copy())?;
+    }
+    Ok(copies)
+}
+
+/// Whether the events are like the others.
+fn are_same_events(first: &[Event], second: &[Event]) -> bool
+    ensures { IsTrue result ↔ (first.now ≡ second.now) }
+{
+    let mut left = first;
+    let mut others = second;
+    while let Some((event, rest)) = left.split_first() {
+        match others.split_first() {
+            Some((other, remaining)) => {
+                if !event.is_same(other) {
+                    return false;
+                }
+                left = rest;
+                others = remaining;
+            }
+            None => return false,
+        }
+    }
+    others.is_empty()
+}
+
+/// Whether the runs are like the others.
+pub(crate) fn are_same_runs(first: &[Run], second: &[Run]) -> bool
+    ensures { IsTrue result ↔ (first.now ≡ second.now) }
+{
+    let mut left = first;
+    let mut others = second;
+    while let Some((run, rest)) = left.split_first() {
+        match others.split_first() {
+            Some((other, remaining)) => {
+                if !run.is_same(other) {
+                    return false;
+                }
+                left = rest;
+                others = remaining;
+            }
+            None => return false,
+        }
+    }
+    others.is_empty()
+}
+
+/// The same runs once more.
+pub fn copy_runs(alloc: Global, runs: &[Run]) -> Result<Vec<Run>, AllocError>
+    ensures { IfOk result (λ v. v.items ≡ runs.now) }
+{
+    let mut copies = Vec::with_capacity(alloc, runs.len())?;
+    for run in runs {
+        copies.push(run.copy()?)?;
     }
     Ok(copies)
 }
@@ -54,12 +107,20 @@ impl Run {
         &self.registers
     }
 
+    /// Whether it is a run like the other.
+    pub fn is_same(&self, other: &Self) -> bool
+        ensures { IsTrue result ↔ (self.now ≡ other.now) }
+    {
+        self.registers.as_slice() == other.registers.as_slice()
+            && are_same_events(&self.events, &other.events)
+    }
+
     /// A second run like this one.
     pub fn copy(&self) -> Result<Self, AllocError>
         ensures { IfOk result (λ r. r ≡ self.now) }
     {
         Ok(Run {
-            events: copy_events(*self.events.allocator(), &self.events)?,
+            events: copy_events(*self.events.allocator(), &self.events, 0)?,
             registers: self.registers.clone()?,
         })
     }

@@ -4,6 +4,7 @@ ghost use Rattle.std.specs.Prelude.{◌≡◌, ◌≤◌, IfOk};
 ghost use Rattle.relations.specs.Events.{IsExactlySet};
 ghost use Rattle.relations.specs.Relation.{IsExactly};
 ghost use Rattle.events.specs.Named.{event_count, NamedSet, NamedRel};
+ghost use Rattle.events.specs.Structures.{structure_of};
 
 use crate::graph::Graph;
 use crate::named::{RelName, SetName};
@@ -15,9 +16,11 @@ mod facts;
 mod names;
 mod numbered;
 mod rows;
+mod structure;
 mod table;
 
 use numbered::Numbered;
+pub use structure::EventStructure;
 use table::Pairwise;
 
 /// An execution with its events numbered: the initial writes in the order of locations, then thread by thread
@@ -52,13 +55,26 @@ impl<'a> GraphView<'a> {
     pub fn of(alloc: Global, graph: &'a Graph) -> Result<Self, AllocError>
         ensures { IfOk result (λ v. v ≡ graph.entry.now) }
     {
-        let numbered = Numbered::of(alloc, graph)?;
+        let structure = EventStructure::of(alloc, graph)?;
+        GraphView::over(alloc, &structure, graph)
+    }
+
+    /// The view of an execution with this structure.
+    pub fn over(
+        alloc: Global,
+        structure: &EventStructure,
+        graph: &'a Graph,
+    ) -> Result<Self, AllocError>
+        requires { structure.now ≡ structure_of graph.now }
+        ensures { IfOk result (λ v. v ≡ graph.entry.now) }
+    {
+        let numbered = structure.numbered(alloc, graph)?;
         let rf = numbered.reads_from();
         let co = numbered.coherence();
         Ok(GraphView {
-            po: numbered.tested(Pairwise::Po),
-            int: numbered.tested(Pairwise::Int),
-            loc: numbered.tested(Pairwise::Loc),
+            po: structure.po.copy(),
+            int: structure.int.copy(),
+            loc: structure.loc.copy(),
             fr: numbered.from_reads(&rf, &co),
             rf,
             co,

@@ -1,9 +1,8 @@
 -- From the symbols of a text to the test that it spells.
 use Rattle.std.proofs.Common.{◌≡◌, ℕ, List, length, sym, ◌∙◌, ap, subst, refl, arith}
-use Rattle.std.specs.Prelude.{Result, Ok, Err, IfOk, OnOk, IfErr, MatchResult, Contains}
+use Rattle.std.specs.Prelude.{Result, Ok, Err, IfOk, OnOk, IfErr, MatchResult}
 use Rattle.std.proofs.lemmas.Bool.{false≢true}
 use Rattle.wb_text.specs.Faults.{HasCause}
-use Rattle.wb_text.specs.Offsets.{IsOffset}
 use Rattle.wb_text.specs.Tokens.{IsTokenList}
 use Rattle.wb_text.specs.declared.fault.TextFault.{TextFault}
 use Rattle.wb_text.specs.declared.fault.TextFault.TheVariants as text_faults
@@ -13,16 +12,13 @@ use Rattle.conditions.specs.declared.place.Binding.{Binding}
 use Rattle.litmus_c.specs.declared.fault.TestFault.{TestFault}
 use Rattle.litmus_c.specs.declared.fault.TestFault.TheVariants.{Text, Syntax, BadOrder, UnknownName, PlainOnAtomic, AtomicOnPlain, Unsupported, TooDeep, TooManyThreads, TooManyLocations, TooManyEvents, TooManyValues, NoMemory}
 use Rattle.litmus_syntax.specs.declared.symbol.Symbol.{Symbol}
-use Rattle.litmus_syntax.specs.declared.symbol.Symbol.TheVariants.{Foreign}
-use Rattle.litmus_syntax.specs.Depth.{NestsTooDeep}
 use Rattle.litmus_syntax.specs.Drafts.{Written}
 use Rattle.litmus_syntax.specs.Grammar.{Spells}
-use Rattle.litmus_syntax.specs.Misordered.{HasMisordered}
 use Rattle.litmus_syntax.specs.Unspelled.{SpellsNone}
-use Rattle.litmus_c.specs.Reads.{IsWrittenIn, HasNoTest, IsNoTestAt, IsTooDeep, IsMisorderedIn, LeavesOut, IsRefused, SpellNoTest, IsUnwritten, Reads, text_refusal}
+use Rattle.litmus_c.specs.Reads.{IsWrittenIn, HasNoTest, IsNoTest, IsRefused, SpellNoTest, IsUnwritten, Reads, text_refusal}
 use Rattle.litmus_c.specs.Rules.{litmus_of, KeepsRules, Explains}
 use Rattle.litmus_syntax.specs.Symbols.{symbols_of}
-use Rattle.litmus_tree.specs.Tree.{Word, Litmus}
+use Rattle.litmus_tree.specs.Tree.{Litmus}
 use Rattle.litmus_syntax.proofs.Complete.{one_reading}
 
 -- what is spelled is written in the text
@@ -96,24 +92,15 @@ module _ (text : List ℕ) (ts : List Token) (symbols : List Symbol) (list : IsT
   no_test : SpellsNone symbols → HasNoTest text
   no_test none w d = none w (spelled_of text ts symbols w is d (unique d.tokens d.is_list))
 
-  too_deep : SpellsNone symbols × NestsTooDeep symbols → IsTooDeep text
-  too_deep h = record { none = no_test h.0; tokens = ts; is_list = list; nests = (let P : List Symbol → Type 0 = λ l. NestsTooDeep l in subst P is h.1) }
-
-  bad_order : SpellsNone symbols × HasMisordered symbols → IsMisorderedIn text
-  bad_order h = record { none = no_test h.0; tokens = ts; is_list = list; stands = (let P : List Symbol → Type 0 = λ l. HasMisordered l in subst P is h.1) }
-
-  left_out : (x : Word) → SpellsNone symbols × Contains symbols (Foreign x) → LeavesOut text x
-  left_out x h = record { none = no_test h.0; tokens = ts; is_list = list; stands = (let P : List Symbol → Type 0 = λ l. Contains l (Foreign x) in subst P is h.1) }
-
-  not_at : (n : ℕ) → SpellsNone symbols × IsOffset n ts (length text) → IsNoTestAt text n
-  not_at n h = record { none = no_test h.0; tokens = ts; is_list = list; stands = h.1 }
+  not_written : (e : TestFault) → SpellsNone symbols → SpellNoTest symbols ts (length text) e → IsNoTest text e
+  not_written e none g = record { none = no_test none; tokens = ts; is_list = list; cause = (let P : List Symbol → Type 0 = λ l. SpellNoTest l ts (length text) e in subst P is g) }
 
   pub draft_cause : (e : TestFault) → SpellNoTest symbols ts (length text) e → IsUnwritten text e
   draft_cause NoMemory g = tt
-  draft_cause (Syntax n) g = not_at n g
-  draft_cause BadOrder g = bad_order g
-  draft_cause (Unsupported x) g = left_out x g
-  draft_cause TooDeep g = too_deep g
+  draft_cause (Syntax n) g = not_written (Syntax n) g.stops.unspelled.0 g
+  draft_cause BadOrder g = not_written BadOrder g.0 g
+  draft_cause (Unsupported x) g = not_written (Unsupported x) g.stops.unspelled.0 g
+  draft_cause TooDeep g = not_written TooDeep g.0 g
   draft_cause (Text f) g = absurd g
   draft_cause UnknownName g = absurd g
   draft_cause PlainOnAtomic g = absurd g

@@ -4,4 +4,6 @@ pub mod FirstRefusal
 pub mod Found
 pub mod Kept
 pub mod Names
+pub mod OneRefusal
 pub mod Steps
+pub mod Stops

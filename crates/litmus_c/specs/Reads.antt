@@ -1,7 +1,6 @@
 -- Which test a text spells.
-use Rattle.std.specs.Prelude.{◌≡◌, ◌≢◌, ℕ, List, length, Contains}
+use Rattle.std.specs.Prelude.{◌≡◌, ◌≢◌, ℕ, ◌-◌, List, map, length, Option, Some, None, slice_index_or}
 use Rattle.wb_text.specs.Faults.{HasCause}
-use Rattle.wb_text.specs.Offsets.{IsOffset}
 use Rattle.wb_text.specs.Tokens.{IsTokenList}
 use Rattle.wb_text.specs.declared.token.Dialect.TheVariants as dialects
 use Rattle.wb_text.specs.declared.token.Token.{Token}
@@ -9,14 +8,13 @@ use Rattle.wb_text.specs.declared.fault.TextFault.{TextFault}
 use Rattle.wb_text.specs.declared.fault.TextFault.TheVariants as text_faults
 use Rattle.litmus_c.specs.declared.fault.TestFault.{TestFault}
 use Rattle.litmus_c.specs.declared.fault.TestFault.TheVariants.{Text, Syntax, BadOrder, UnknownName, PlainOnAtomic, AtomicOnPlain, Unsupported, TooDeep, TooManyThreads, TooManyLocations, TooManyEvents, TooManyValues, NoMemory}
-use Rattle.litmus_syntax.specs.Depth.{NestsTooDeep}
 use Rattle.litmus_syntax.specs.Drafts.{Written}
 use Rattle.litmus_syntax.specs.Grammar.{Spells}
-use Rattle.litmus_syntax.specs.Misordered.{HasMisordered}
 use Rattle.litmus_c.specs.Rules.{litmus_of, KeepsRules, Explains}
 use Rattle.litmus_syntax.specs.declared.symbol.Symbol.{Symbol}
-use Rattle.litmus_syntax.specs.declared.symbol.Symbol.TheVariants.{Foreign}
-use Rattle.litmus_syntax.specs.Unspelled.{SpellsNone}
+use Rattle.litmus_syntax.specs.declared.symbol.Symbol.TheVariants.{Foreign, Other}
+use Rattle.litmus_syntax.specs.Unspelled.{IsUnspelled}
+use Rattle.litmus_syntax.specs.declared.syntax_fault.SyntaxFault.TheVariants as syntax_faults
 use Rattle.litmus_syntax.specs.Symbols.{symbols_of}
 use Rattle.litmus_tree.specs.Tree.{Word, Litmus}
 
@@ -37,33 +35,53 @@ pub record Reads (text : List ℕ) (t : Litmus) : Type 0 where
 abbrev pub HasNoTest : List ℕ → Type 0
 HasNoTest text = (w : Written) → ¬ IsWrittenIn text w
 
--- no test is written in the text, and n is where a token begins, or the end of the text
-pub record IsNoTestAt (text : List ℕ) (n : ℕ) : Type 0 where
-  pub none : HasNoTest text
-  pub tokens : List Token
-  pub is_list : IsTokenList dialects.Litmus text tokens
-  pub stands : IsOffset n tokens (length text)
+-- the word of a symbol that the language leaves out
+abbrev pub left_out : Symbol → Option Word
+left_out (Foreign w) = Some w
+left_out s = None
 
--- no test is written in the text, and something in it nests more than 32 deep
-pub record IsTooDeep (text : List ℕ) : Type 0 where
-  pub none : HasNoTest text
-  pub tokens : List Token
-  pub is_list : IsTokenList dialects.Litmus text tokens
-  pub nests : NestsTooDeep (symbols_of text tokens)
+-- at place k, if such a word stands there
+abbrev pub left_out_at : List Symbol → ℕ → Option Word
+left_out_at ts k = left_out (slice_index_or ts k Other)
 
--- no test is written in the text, and a call in it has an order that it does not take
-pub record IsMisorderedIn (text : List ℕ) : Type 0 where
-  pub none : HasNoTest text
-  pub tokens : List Token
-  pub is_list : IsTokenList dialects.Litmus text tokens
-  pub stands : HasMisordered (symbols_of text tokens)
+-- where the token at place k begins, or the end of the text behind all tokens
+abbrev pub offset_of : List Token → (end : ℕ) → ℕ → ℕ
+offset_of tokens end k = slice_index_or (map (λ t. t.from) tokens) k end
 
--- no test is written in the text, and the language leaves out its word w
-pub record LeavesOut (text : List ℕ) (w : Word) : Type 0 where
+-- Reading the symbols from the left stops at place k, the end of all symbols included.
+pub record StopsAt (ts : List Symbol) (k : ℕ) : Type 0 where
+  pub left : ℕ
+  pub unspelled : IsUnspelled ts (syntax_faults.Syntax left)
+  pub place : k ≡ length ts - left
+
+-- It stops at the symbol of the token that begins at n, or at the end n, and no word that the language leaves out stands there.
+pub record StopsAtOffset (ts : List Symbol) (tokens : List Token) (end n : ℕ) : Type 0 where
+  pub place : ℕ
+  pub stops : StopsAt ts place
+  pub known : left_out_at ts place ≡ None
+  pub offset : n ≡ offset_of tokens end place
+
+-- It stops at the word w, which the language leaves out.
+pub record StopsAtWord (ts : List Symbol) (w : Word) : Type 0 where
+  pub place : ℕ
+  pub stops : StopsAt ts place
+  pub word : left_out_at ts place ≡ Some w
+
+-- The symbols spell no test, and this refusal says why.
+abbrev pub SpellNoTest : List Symbol → List Token → (end : ℕ) → TestFault → Type 0
+SpellNoTest ts tokens end NoMemory = Unit {0}
+SpellNoTest ts tokens end (Syntax n) = StopsAtOffset ts tokens end n
+SpellNoTest ts tokens end BadOrder = IsUnspelled ts syntax_faults.BadOrder
+SpellNoTest ts tokens end (Unsupported w) = StopsAtWord ts w
+SpellNoTest ts tokens end TooDeep = IsUnspelled ts syntax_faults.TooDeep
+SpellNoTest ts tokens end e = ⊥
+
+-- no test is written in the text, since its symbols spell none, and this refusal says why
+pub record IsNoTest (text : List ℕ) (e : TestFault) : Type 0 where
   pub none : HasNoTest text
   pub tokens : List Token
   pub is_list : IsTokenList dialects.Litmus text tokens
-  pub stands : Contains (symbols_of text tokens) (Foreign w)
+  pub cause : SpellNoTest (symbols_of text tokens) tokens (length text) e
 
 -- a test is written in the text, and breaks a rule or a limit for which there is this refusal
 abbrev pub BreaksRule : List ℕ → TestFault → Type 0
@@ -73,10 +91,10 @@ BreaksRule text e = (w : Written) × IsWrittenIn text w × Explains w.entries (l
 abbrev pub IsRefused : List ℕ → TestFault → Type 0
 IsRefused text NoMemory = Unit {0}
 IsRefused text (Text f) = (f ≢ text_faults.NoMemory) × HasCause dialects.Litmus text f
-IsRefused text (Syntax n) = IsNoTestAt text n
-IsRefused text TooDeep = IsTooDeep text
-IsRefused text BadOrder = IsMisorderedIn text
-IsRefused text (Unsupported w) = LeavesOut text w
+IsRefused text (Syntax n) = IsNoTest text (Syntax n)
+IsRefused text TooDeep = IsNoTest text TooDeep
+IsRefused text BadOrder = IsNoTest text BadOrder
+IsRefused text (Unsupported w) = IsNoTest text (Unsupported w)
 IsRefused text UnknownName = BreaksRule text UnknownName
 IsRefused text PlainOnAtomic = BreaksRule text PlainOnAtomic
 IsRefused text AtomicOnPlain = BreaksRule text AtomicOnPlain
@@ -89,20 +107,11 @@ IsRefused text TooManyValues = BreaksRule text TooManyValues
 abbrev pub IsUnwritten : List ℕ → TestFault → Type 0
 IsUnwritten text NoMemory = Unit {0}
 IsUnwritten text (Text f) = (f ≢ text_faults.NoMemory) × HasCause dialects.Litmus text f
-IsUnwritten text (Syntax n) = IsNoTestAt text n
-IsUnwritten text BadOrder = IsMisorderedIn text
-IsUnwritten text (Unsupported w) = LeavesOut text w
-IsUnwritten text TooDeep = IsTooDeep text
+IsUnwritten text (Syntax n) = IsNoTest text (Syntax n)
+IsUnwritten text BadOrder = IsNoTest text BadOrder
+IsUnwritten text (Unsupported w) = IsNoTest text (Unsupported w)
+IsUnwritten text TooDeep = IsNoTest text TooDeep
 IsUnwritten text e = ⊥
-
--- The symbols spell no test, and this refusal says why.
-abbrev pub SpellNoTest : List Symbol → List Token → (end : ℕ) → TestFault → Type 0
-SpellNoTest ts tokens end NoMemory = Unit {0}
-SpellNoTest ts tokens end (Syntax n) = SpellsNone ts × IsOffset n tokens end
-SpellNoTest ts tokens end BadOrder = SpellsNone ts × HasMisordered ts
-SpellNoTest ts tokens end (Unsupported w) = SpellsNone ts × Contains ts (Foreign w)
-SpellNoTest ts tokens end TooDeep = SpellsNone ts × NestsTooDeep ts
-SpellNoTest ts tokens end e = ⊥
 
 -- the refusal that a fault of the text is
 abbrev pub text_refusal : TextFault → TestFault

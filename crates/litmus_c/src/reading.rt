@@ -1,11 +1,10 @@
 //! The reader.
 
-ghost use Rattle.std.specs.Prelude.{◌≡◌, IfOk, IfErr, IfSome, MatchResult, Contains};
-ghost use Rattle.litmus_c.specs.Reads.{IsWrittenIn, SpellNoTest, IsRefused, IsUnwritten, Reads};
+ghost use Rattle.std.specs.Prelude.{◌≡◌, IfOk, IfErr, MatchResult};
+ghost use Rattle.litmus_c.specs.Reads.{IsWrittenIn, left_out, left_out_at, offset_of, SpellNoTest, IsRefused, IsUnwritten, Reads};
 ghost use Rattle.litmus_c.specs.declared.fault.TestFault.TheVariants.{NoMemory};
 ghost use Rattle.litmus_syntax.specs.Drafts.{Written, written_of};
 ghost use Rattle.litmus_syntax.specs.Grammar.{Spells};
-ghost use Rattle.litmus_syntax.specs.declared.symbol.Symbol.TheVariants.{Foreign};
 ghost use Rattle.litmus_tree.specs.Tree.{Litmus};
 
 use crate::fault::TestFault;
@@ -13,7 +12,7 @@ use crate::making::make_test;
 use litmus_syntax::{Draft, Symbol, SyntaxFault, read_draft, symbols};
 use litmus_test::Test;
 use std::alloc::{AllocError, Global};
-use wb_text::{Dialect, Name, Token, offset_at, tokens};
+use wb_text::{Dialect, Name, Token, tokens};
 
 /// Reads a text as a test.
 pub fn read_test(alloc: Global, text: &[u8]) -> Result<Test, TestFault>
@@ -40,6 +39,7 @@ fn read_text(alloc: Global, text: &[u8]) -> Result<Draft, TestFault>
 }
 
 /// The test that the symbols spell, or the refusal of its text, whose length is `end`.
+#[tactic(auto, using(crate::proofs::Stops::stops_at_word, crate::proofs::Stops::stops_at_offset))]
 fn draft_of(
     alloc: Global,
     tokens: &[Token],
@@ -52,10 +52,13 @@ fn draft_of(
 {
     match read_draft(alloc, symbols) {
         Ok(draft) => Ok(draft),
-        Err(SyntaxFault::Syntax(place)) => match foreign_at(symbols, place)? {
-            Some(word) => Err(TestFault::Unsupported(word)),
-            None => Err(TestFault::Syntax(offset_at(tokens, end, place))),
-        },
+        Err(SyntaxFault::Syntax(left)) => {
+            let place = symbols.len() - left;
+            match foreign_at(symbols, place)? {
+                Some(word) => Err(TestFault::Unsupported(word)),
+                None => Err(TestFault::Syntax(offset_of(tokens, end, place))),
+            }
+        }
         Err(SyntaxFault::BadOrder) => Err(TestFault::BadOrder),
         Err(SyntaxFault::TooDeep) => Err(TestFault::TooDeep),
         Err(SyntaxFault::NoMemory) => Err(TestFault::NoMemory),
@@ -64,7 +67,7 @@ fn draft_of(
 
 /// The word of a symbol, if it is one that the language leaves out.
 fn foreign(symbol: &Symbol) -> Result<Option<Name>, AllocError>
-    ensures { IfOk result (λ o. IfSome o (λ w. symbol.now ≡ Foreign w)) }
+    ensures { IfOk result (λ o. o ≡ left_out symbol.now) }
 {
     match symbol {
         Symbol::Foreign(word) => Ok(Some(word.copy()?)),
@@ -73,11 +76,23 @@ fn foreign(symbol: &Symbol) -> Result<Option<Name>, AllocError>
 }
 
 /// The word at a place, if it is one that the language leaves out.
+#[tactic(auto, using(crate::proofs::Stops::found_inside, crate::proofs::Stops::found_behind))]
 fn foreign_at(symbols: &[Symbol], place: usize) -> Result<Option<Name>, AllocError>
-    ensures { IfOk result (λ o. IfSome o (λ w. Contains symbols.now (Foreign w))) }
+    ensures { IfOk result (λ o. o ≡ left_out_at symbols.now place) }
 {
     match symbols.get(place) {
         Some(symbol) => foreign(symbol),
         None => Ok(None),
+    }
+}
+
+/// Where the token at a place begins, or the end of the text behind all tokens.
+#[tactic(auto, using(crate::proofs::Stops::offset_inside, crate::proofs::Stops::offset_behind))]
+fn offset_of(tokens: &[Token], end: usize, place: usize) -> usize
+    ensures { result ≡ offset_of tokens.now end place }
+{
+    match tokens.get(place) {
+        Some(token) => token.from,
+        None => end,
     }
 }

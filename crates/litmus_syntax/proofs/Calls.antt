@@ -55,10 +55,10 @@ in-among (p ∷ os) o h = elim h [
 last_order-sound : (os : List Order) → Sound (last_order_at os) (IsLastOrder os)
 unfolding last_order_at order_at
 last_order-sound os ts rest a e =
-    let o = bind_ok (name_at ts >>= λ x. required syntax (looked_up orders x.0) >>= λ o. if is_among os o then Ok (o, x.1) else Err misordered) _ _ e in
+    let o = bind_ok (name_at ts >>= λ x. required (syntax (length ts)) (looked_up orders x.0) >>= λ o. if is_among os o then Ok (o, x.1) else Err misordered) _ _ e in
     let y = bind_ok (expected RightParen o.0.1) _ _ o.2 in
     let x = bind_ok (name_at ts) _ _ o.1 in
-    let p = bind_ok (required syntax (looked_up orders x.0.0)) _ _ x.2 in
+    let p = bind_ok (required (syntax (length ts)) (looked_up orders x.0.0)) _ _ x.2 in
     elim (chosen (is_among os p.0) _ _ _ p.2) [
       | inl g ↦
           let at : x.0.1 ≡ o.0.1 = moved (λ l t. x.0.1 ≡ l) g.1 refl in
@@ -68,7 +68,7 @@ last_order-sound os ts rest a e =
           let same : ts ≡ Name x.0.0 ∷ Fixed RightParen ∷ y.0.1 = cc in
           moved (λ l t. IsLastOrder os ts l t) y.2 (subst (λ l. IsLastOrder os l y.0.1 o.0.0) (sym same)
           (subst (λ (q : Order). IsLastOrder os (Name x.0.0 ∷ Fixed RightParen ∷ y.0.1) y.0.1 q) is
-          (last_order (required_ok syntax (looked_up orders x.0.0) p.0 p.1) (among-in os p.0 g.0))))
+          (last_order (required_ok (syntax (length ts)) (looked_up orders x.0.0) p.0 p.1) (among-in os p.0 g.0))))
       | inr g ↦ let h = g.1 in absurd (cc)
     ]
 
@@ -248,9 +248,9 @@ called c (call_store {c = d} k v o) ts e h = let same : d ≡ c = cc in absurd (
 called c (call_exchange k v o) ts e h = exchange_has
 called c (call_fence {c = d} k o) ts e h = let same : d ≡ c = cc in absurd (never_valued c d fences k refl same h)
 
-value-sound : (c : Operation) (n : ℕ) → Sound (value_at c n) (λ ts rest v. IsRight n (Call c ∷ ts) rest v)
+value-sound : (left : ℕ) (c : Operation) (n : ℕ) → Sound (value_at left c n) (λ ts rest v. IsRight n (Call c ∷ ts) rest v)
 unfolding value_at
-value-sound c n ts rest v e =
+value-sound left c n ts rest v e =
     elim (chosen (has_value c) _ _ _ e) [
       | inl g ↦
           let a = bind_ok (operation_at c n ts) _ _ g.1 in
@@ -267,7 +267,7 @@ right-sound n ts rest v e =
         | inl h ↦
             let x = bind_ok (expression_at n ts) _ _ h.1 in
             moved (λ l t. IsRight n ts l t) x.2 (right_computed (expression-sound n ts x.0.1 x.0.0 x.1))
-        | inr (c, was, f) ↦ subst (λ l. IsRight n l rest v) (sym (call_word-some ts c.1 c.0 was)) (value-sound c.0 n c.1 rest v f)
+        | inr (c, was, f) ↦ subst (λ l. IsRight n l rest v) (sym (call_word-some ts c.1 c.0 was)) (value-sound (length ts) c.0 n c.1 rest v f)
       ]
       | inr (y, was, f) ↦
           let x = bind_ok (name_at y.1) _ _ f in

@@ -95,7 +95,7 @@ ends-value (Fixed t ∷ ts) e = absurd (cc)
 ends-value (s ∷ ts) e = absurd (cc)
 
 abbrev EntriesTo : List Symbol → List Symbol → List Binding → Type 0
-EntriesTo ts rest bs = Arrives syntax (after Semicolon) (λ _ bs us. entry_behind bs us) entries_at ts rest bs
+EntriesTo ts rest bs = Arrives (syntax 0) (after Semicolon) (λ _ bs us. entry_behind bs us) entries_at ts rest bs
 
 entries-first : {ts rest : List Symbol} {bs : List Binding} → Yields (entry_behind []) ts rest bs → EntriesTo ts rest bs
 unfolding entries_at
@@ -105,7 +105,7 @@ semicolon : (ts : List Symbol) → Shows (after Semicolon) (Fixed Semicolon ∷ 
 semicolon ts = record { is = after-first Semicolon ts }
 
 entries-next : {ts mid rest : List Symbol} {bs cs : List Binding} → EntriesTo ts (Fixed Semicolon ∷ mid) bs → Yields (entry_behind bs) mid rest cs → EntriesTo ts rest cs
-entries-next {mid = mid} s y = next syntax (after Semicolon) (λ _ bs us. entry_behind bs us) entries_turn_takes s (semicolon mid) y
+entries-next {mid = mid} s y = next (syntax 0) (after Semicolon) (λ _ bs us. entry_behind bs us) entries_turn_takes s (semicolon mid) y
 
 semicolon-ends : (ts : List Symbol) → ends_entry (Fixed Semicolon ∷ ts) ≡ true
 unfolding ends_entry
@@ -164,7 +164,7 @@ unfolding parameters_more
 parameter-more ps y = record { is = rw y.is }
 
 abbrev ParametersTo : List Symbol → List Symbol → List Parameter → Type 0
-ParametersTo ts rest ps = Arrives syntax (after Comma) (λ _ ps us. parameters_more ps us) parameters_at ts rest ps
+ParametersTo ts rest ps = Arrives (syntax 0) (after Comma) (λ _ ps us. parameters_more ps us) parameters_at ts rest ps
 
 parameters-first : {ts rest : List Symbol} {ps : List Parameter} → Yields (parameters_more []) ts rest ps → ParametersTo ts rest ps
 unfolding parameters_at
@@ -174,7 +174,7 @@ comma : (ts : List Symbol) → Shows (after Comma) (Fixed Comma ∷ ts) ts tt
 comma ts = record { is = after-first Comma ts }
 
 parameters-next : {ts mid rest : List Symbol} {ps qs : List Parameter} → ParametersTo ts (Fixed Comma ∷ mid) ps → Yields (parameters_more ps) mid rest qs → ParametersTo ts rest qs
-parameters-next {mid = mid} s y = next syntax (after Comma) (λ _ ps us. parameters_more ps us) parameters_turn_takes s (comma mid) y
+parameters-next {mid = mid} s y = next (syntax 0) (after Comma) (λ _ ps us. parameters_more ps us) parameters_turn_takes s (comma mid) y
 
 none-new : (p : Parameter) → IsNew p []
 none-new p q h = absurd h
@@ -219,7 +219,7 @@ unfolding before_name
 thread-opens (thread_body d e) = record { is = refl }
 
 abbrev ThreadsTo : ℕ → List Symbol → List Symbol → List Listing → Type 0
-ThreadsTo n ts rest bs = Arrives syntax before_name (threads_more n) (threads_at n) ts rest bs
+ThreadsTo n ts rest bs = Arrives (syntax 0) before_name (threads_more n) (threads_at n) ts rest bs
 
 thread-more : (n : ℕ) (bs : List Listing) {ts rest : List Symbol} {b : Listing} → Yields (thread_at n (length bs)) ts rest b → Yields (threads_more n tt bs) ts rest (bs ++ b ∷ [])
 unfolding threads_more
@@ -230,7 +230,7 @@ unfolding threads_at
 threads-first n y = record { is = rw y.is }
 
 threads-next : (n : ℕ) {ts mid rest : List Symbol} {bs cs : List Listing} → ThreadsTo n ts mid bs → Shows before_name mid mid tt → Yields (threads_more n tt bs) mid rest cs → ThreadsTo n ts rest cs
-threads-next n s o y = next syntax before_name (threads_more n) (threads_turn_takes n) s o y
+threads-next n s o y = next (syntax 0) before_name (threads_more n) (threads_turn_takes n) s o y
 
 threads-arrive : {n : ℕ} {ts rest : List Symbol} {bs : List Listing} → IsThreads n ts rest bs → ThreadsTo n ts rest bs
 threads-arrive (threads_one {n} d) = threads-first n (thread-more n [] (thread-complete d))

@@ -71,13 +71,13 @@ any_expression ts = deep_tighter (deep_tighter (deep_tighter (deep_unary deep_op
 
 -- Orders and arguments.
 
-fine_order_named : (os : List Order) (o : Option Order) (us : List Symbol) → Shallow (required syntax o >>= λ p. if is_among os p then Ok (p, us) else Err misordered)
-fine_order_named os None us = fine_syntax
-fine_order_named os (Some o) us = fine_if (is_among os o) (fine_ok (o, us)) fine_misordered
+fine_order_named : (n : ℕ) (os : List Order) (o : Option Order) (us : List Symbol) → Shallow (required (syntax n) o >>= λ p. if is_among os p then Ok (p, us) else Err misordered)
+fine_order_named n os None us = fine_syntax
+fine_order_named n os (Some o) us = fine_if (is_among os o) (fine_ok (o, us)) fine_misordered
 
 fine_order : (os : List Order) (ts : List Symbol) → Shallow (order_at os ts)
 unfolding order_at
-fine_order os ts = fine_bind (fine_name ts) (λ x. fine_order_named os (looked_up orders x.0) x.1)
+fine_order os ts = fine_bind (fine_name ts) (λ x. fine_order_named (length ts) os (looked_up orders x.0) x.1)
 
 fine_last_order : (os : List Order) (ts : List Symbol) → Shallow (last_order_at os ts)
 unfolding last_order_at
@@ -143,9 +143,9 @@ operation_deep c n ts e = effect_deep c (effect_of c) refl n ts e
 
 -- Right sides.
 
-value_deep : (c : Operation) (n : ℕ) (ts : List Symbol) → value_at c n ts ≡ Err deep → DeepRight (suc n) (Call c ∷ ts)
+value_deep : (left : ℕ) (c : Operation) (n : ℕ) (ts : List Symbol) → value_at left c n ts ≡ Err deep → DeepRight (suc n) (Call c ∷ ts)
 unfolding value_at
-value_deep c n ts e =
+value_deep left c n ts e =
     elim (chosen (has_value c) _ _ _ e) [
       | inl g ↦ deep_given g.0 (first (operation_at c n ts) g.1 (operation_deep c n ts) (λ a. fine_ok _))
       | inr g ↦ absurd (fine_syntax.never g.1)
@@ -164,5 +164,5 @@ unfolding right_at
 right_deep n ts e =
     chosen_deep (after Star ts) e
     (λ g. chosen_deep (call_word ts) g (computed_deep n ts)
-    (λ c was f. subst (λ l. DeepRight (suc n) l) (sym (call_word-some ts c.1 c.0 was)) (value_deep c.0 n c.1 f)))
+    (λ c was f. subst (λ l. DeepRight (suc n) l) (sym (call_word-some ts c.1 c.0 was)) (value_deep (length ts) c.0 n c.1 f)))
     (λ y was f. absurd ((fine_plain y.1).never f))

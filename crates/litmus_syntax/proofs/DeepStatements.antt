@@ -139,7 +139,7 @@ module _ (n : ℕ) (r : Inside) (inner : DeepInside n r) (sound : SoundInside n 
   steps_deep : ((ts rest : List Symbol) (s : Step) → step_with r n ts ≡ Ok (s, rest) → IsStep n ts rest s) → (ts : List Symbol) → steps_with r n ts ≡ Err deep → DeepSteps (suc n) ts
   unfolding steps_with steps_more
   steps_deep whole ts e =
-      first (repeated syntax (unless RightBrace) (steps_more r n) no_steps ts) e
+      first (repeated (syntax 0) (unless RightBrace) (steps_more r n) no_steps ts) e
       (repeated_deep (unless RightBrace) (steps_more r n) (λ l t. IsSteps n ts l t)
       (λ o us mid back b c d was g.
       let q = bind_ok (step_with r n mid) _ _ g in

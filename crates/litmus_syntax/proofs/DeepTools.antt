@@ -17,7 +17,7 @@ pub record Shallow {A : Type 0} (o : Reading A) : Type 0 where
 pub fine_ok : {A : Type 0} (x : A × List Symbol) → Shallow {A = A} (Ok x)
 fine_ok x = record { never = λ e. cc }
 
-pub fine_syntax : {A : Type 0} → Shallow {A = A} (Err syntax)
+pub fine_syntax : {A : Type 0} {n : ℕ} → Shallow {A = A} (Err (syntax n))
 fine_syntax = record { never = λ e. cc }
 
 pub fine_misordered : {A : Type 0} → Shallow {A = A} (Err misordered)
@@ -26,9 +26,9 @@ fine_misordered = record { never = λ e. cc }
 pub fine_bind : {A B : Type 0} {o : Reading A} {f : A × List Symbol → Reading B} → Shallow o → ((x : A × List Symbol) → Shallow (f x)) → Shallow (o >>= f)
 fine_bind {o = o} {f} h g = record { never = λ e. elim (bind_err o f deep e) [ inl d ↦ h.never d | inr (x, is, d) ↦ (g x).never d ] }
 
-pub fine_required : {A : Type 0} (o : Look Symbol A) → Shallow {A = A} (required syntax o)
-fine_required None = fine_syntax
-fine_required (Some x) = fine_ok x
+pub fine_required : {A : Type 0} (n : ℕ) (o : Look Symbol A) → Shallow {A = A} (required (syntax n) o)
+fine_required n None = fine_syntax
+fine_required n (Some x) = fine_ok x
 
 pub fine_match : {A B : Type 0} (o : Look Symbol A) {d : Reading B} {f : A × List Symbol → Reading B} → Shallow d → ((x : A × List Symbol) → Shallow (f x)) → Shallow (match_option o d f)
 fine_match None h g = h
@@ -39,18 +39,18 @@ fine_if true h g = h
 fine_if false h g = g
 
 module _ {O A : Type 0} (op : List Symbol → Look Symbol O) (step : O → A → List Symbol → Reading A) (each : (o : O) (a : A) (ts : List Symbol) → Shallow (step o a ts)) where
-  fine_turns : (k : ℕ) (a : A) (ts : List Symbol) → Shallow (turns syntax op step k a ts)
+  fine_turns : (k : ℕ) (a : A) (ts : List Symbol) → Shallow (turns (syntax 0) op step k a ts)
   unfolding turns
   fine_turns zero a ts = fine_syntax
   fine_turns (suc k) a ts = fine_match (op ts) (fine_ok (a, ts)) (λ x. fine_bind (each x.0 a x.1) (λ y. fine_turns k y.0 y.1))
 
-  pub fine_repeated : (a : A) (ts : List Symbol) → Shallow (repeated syntax op step a ts)
+  pub fine_repeated : (a : A) (ts : List Symbol) → Shallow (repeated (syntax 0) op step a ts)
   unfolding repeated
   fine_repeated a ts = fine_turns (suc (length ts)) a ts
 
 pub fine_expected : (t : Terminal) (ts : List Symbol) → Shallow (expected t ts)
 unfolding expected
-fine_expected t ts = fine_required (after t ts)
+fine_expected t ts = fine_required (length ts) (after t ts)
 
 pub fine_name : (ts : List Symbol) → Shallow (name_at ts)
 unfolding name_at
@@ -60,7 +60,7 @@ fine_name (s ∷ ts) = fine_syntax
 
 pub fine_number : (ts : List Symbol) → Shallow (number_at ts)
 unfolding number_at
-fine_number ts = fine_required (number_look ts)
+fine_number ts = fine_required (length ts) (number_look ts)
 
 -- a value that was made of what was read
 pub fine_made : {A B : Type 0} {o : Reading A} (f : A × List Symbol → B × List Symbol) → Shallow o → Shallow (o >>= λ x. Ok (f x))
@@ -86,14 +86,14 @@ chosen_deep o {d} {f} e g h = elim (cases_of o d f (Err deep) e) [ inl s ↦ g s
 module _ {O A : Type 0} (op : List Symbol → Look Symbol O) (step : O → A → List Symbol → Reading A) (P : List Symbol → A → Type 0)
     (go : (o : O) (ts mid rest : List Symbol) (a b : A) → P ts a → op ts ≡ Some (o, mid) → step o a mid ≡ Ok (b, rest) → P rest b)
     {Q : Type 0} (fails : (o : O) (ts mid : List Symbol) (a : A) → P ts a → op ts ≡ Some (o, mid) → step o a mid ≡ Err deep → Q) where
-  turns_deep : (k : ℕ) (a : A) (ts : List Symbol) → P ts a → turns syntax op step k a ts ≡ Err deep → Q
+  turns_deep : (k : ℕ) (a : A) (ts : List Symbol) → P ts a → turns (syntax 0) op step k a ts ≡ Err deep → Q
   unfolding turns
   turns_deep zero a ts p e = absurd (cc)
   turns_deep (suc k) a ts p e =
       chosen_deep (op ts) e (λ d. absurd ((fine_ok (a, ts)).never d))
       (λ x was f. either (step x.0 a x.1) f (λ d. fails x.0 ts x.1 a p was d) (λ y is d. turns_deep k y.0 y.1 (go x.0 ts x.1 y.1 a y.0 p was is) d))
 
-  pub repeated_deep : (a : A) (ts : List Symbol) → P ts a → repeated syntax op step a ts ≡ Err deep → Q
+  pub repeated_deep : (a : A) (ts : List Symbol) → P ts a → repeated (syntax 0) op step a ts ≡ Err deep → Q
   unfolding repeated
   repeated_deep a ts = turns_deep (suc (length ts)) a ts
 

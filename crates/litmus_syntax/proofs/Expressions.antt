@@ -88,7 +88,7 @@ module _ (n : ℕ) (r : Terms) (inner : SoundTerms n r) where
   unfolding operands
   operands-sound k sound ts rest a e =
       let x = bind_ok (level_with r k ts) _ _ e in
-      repeated-keeps syntax (operator_at k) (next_operand (level_with r k)) (λ l t. IsLevel (suc k) n ts l t)
+      repeated-keeps (syntax 0) (operator_at k) (next_operand (level_with r k)) (λ l t. IsLevel (suc k) n ts l t)
       (λ o us mid back b c d was f.
       let g = bind_ok (level_with r k mid) _ _ f in
       let t = operator-some k us mid o was in
@@ -119,15 +119,15 @@ level_takes n k ts rest a e = level_shorter (level_is n k ts rest a e)
 
 -- a turn of the loop
 
-operand_shorter : (n k : ℕ) (ts mid rest : List Symbol) (o : Operator) (a b : Term) → operator_at k ts ≡ Some (o, mid) → next_operand (level_with (terms_below n) k) o a mid ≡ Ok (b, rest) → length rest < length ts
+pub operand_shorter : (n k : ℕ) (ts mid rest : List Symbol) (o : Operator) (a b : Term) → operator_at k ts ≡ Some (o, mid) → next_operand (level_with (terms_below n) k) o a mid ≡ Ok (b, rest) → length rest < length ts
 operand_shorter n k ts mid rest o a b e f =
     let g = bind_ok (level_with (terms_below n) k mid) _ _ f in
     moved (λ l t. length l < length ts) g.2 (omega (arith, operator_takes k ts mid o e, level_takes n k mid g.0.1 g.0.0 g.1))
 
 pub operands_more : (n k : ℕ) (a : Term) (ts : List Symbol) →
-    repeated syntax (operator_at k) (next_operand (level_with (terms_below n) k)) a ts ≡
-    match_option (operator_at k ts) (Ok (a, ts)) (λ x. next_operand (level_with (terms_below n) k) x.0 a x.1 >>= λ y. repeated syntax (operator_at k) (next_operand (level_with (terms_below n) k)) y.0 y.1)
-operands_more n k = repeated-more syntax (operator_at k) (next_operand (level_with (terms_below n) k)) (operand_shorter n k)
+    repeated (syntax 0) (operator_at k) (next_operand (level_with (terms_below n) k)) a ts ≡
+    match_option (operator_at k ts) (Ok (a, ts)) (λ x. next_operand (level_with (terms_below n) k) x.0 a x.1 >>= λ y. repeated (syntax 0) (operator_at k) (next_operand (level_with (terms_below n) k)) y.0 y.1)
+operands_more n k = repeated-more (syntax 0) (operator_at k) (next_operand (level_with (terms_below n) k)) (operand_shorter n k)
 
 -- Completeness.
 
@@ -177,7 +177,7 @@ comma-ends k rest (suc (suc (suc j))) h = refl
 -- reading a level has come to rest, with a read so far
 abbrev LevelTo : ℕ → ℕ → List Symbol → List Symbol → Term → Type 0
 LevelTo zero n ts rest a = Yields (unary_with (terms_below n)) ts rest a
-LevelTo (suc k) n ts rest a = Arrives syntax (operator_at k) (next_operand (level_with (terms_below n) k)) (level_with (terms_below n) (suc k)) ts rest a
+LevelTo (suc k) n ts rest a = Arrives (syntax 0) (operator_at k) (next_operand (level_with (terms_below n) k)) (level_with (terms_below n) (suc k)) ts rest a
 
 level-end : (k n : ℕ) {ts rest : List Symbol} {a : Term} → LevelTo k n ts rest a → Ends k rest → Yields (level_with (terms_below n) k) ts rest a
 unfolding level_with
@@ -192,7 +192,7 @@ operand-yields : (n k : ℕ) (o : Operator) (a : Term) {ts rest : List Symbol} {
 operand-yields n k o a y = record { is = rw y.is }
 
 level-next : (k n : ℕ) {ts mid rest : List Symbol} {t : Terminal} {o : Operator} {a b : Term} → LevelTo (suc k) n ts (Fixed t ∷ mid) a → Joins k t o → Yields (level_with (terms_below n) k) mid rest b → LevelTo (suc k) n ts rest (joined o a b)
-level-next k n {mid = mid} {o = o} {a = a} s j y = next syntax (operator_at k) (next_operand (level_with (terms_below n) k)) (operand_shorter n k) s (joins-first j mid) (operand-yields n k o a y)
+level-next k n {mid = mid} {o = o} {a = a} s j y = next (syntax 0) (operator_at k) (next_operand (level_with (terms_below n) k)) (operand_shorter n k) s (joins-first j mid) (operand-yields n k o a y)
 
 unary-denied : (n : ℕ) {ts rest : List Symbol} {a : Term} → Yields (unary_with (terms_below n)) ts rest a → Yields (unary_with (terms_below (suc n))) (Fixed Bang ∷ ts) rest (denied a)
 unfolding unary_with terms_below

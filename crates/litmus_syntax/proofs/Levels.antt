@@ -48,20 +48,20 @@ threads_turn_takes n ts mid rest o a b e f = omega (arith, ap length (before_nam
 -- A turn of each loop.
 
 pub entries_turn : (a : List Binding) (ts : List Symbol) →
-    repeated syntax (after Semicolon) (λ _ bs us. entry_behind bs us) a ts ≡
-    match_option (after Semicolon ts) (Ok (a, ts)) (λ x. entry_behind a x.1 >>= λ y. repeated syntax (after Semicolon) (λ _ bs us. entry_behind bs us) y.0 y.1)
-entries_turn = repeated-more syntax (after Semicolon) (λ _ bs us. entry_behind bs us) entries_turn_takes
+    repeated (syntax 0) (after Semicolon) (λ _ bs us. entry_behind bs us) a ts ≡
+    match_option (after Semicolon ts) (Ok (a, ts)) (λ x. entry_behind a x.1 >>= λ y. repeated (syntax 0) (after Semicolon) (λ _ bs us. entry_behind bs us) y.0 y.1)
+entries_turn = repeated-more (syntax 0) (after Semicolon) (λ _ bs us. entry_behind bs us) entries_turn_takes
 
 pub parameters_turn : (a : List Parameter) (ts : List Symbol) →
-    repeated syntax (after Comma) (λ _ ps us. parameters_more ps us) a ts ≡
-    match_option (after Comma ts) (Ok (a, ts)) (λ x. parameters_more a x.1 >>= λ y. repeated syntax (after Comma) (λ _ ps us. parameters_more ps us) y.0 y.1)
-parameters_turn = repeated-more syntax (after Comma) (λ _ ps us. parameters_more ps us) parameters_turn_takes
+    repeated (syntax 0) (after Comma) (λ _ ps us. parameters_more ps us) a ts ≡
+    match_option (after Comma ts) (Ok (a, ts)) (λ x. parameters_more a x.1 >>= λ y. repeated (syntax 0) (after Comma) (λ _ ps us. parameters_more ps us) y.0 y.1)
+parameters_turn = repeated-more (syntax 0) (after Comma) (λ _ ps us. parameters_more ps us) parameters_turn_takes
 
 pub threads_turn : (n : ℕ) (a : List Listing) (ts : List Symbol) →
-    repeated syntax before_name (threads_more n) a ts ≡
-    match_option (before_name ts) (Ok (a, ts)) (λ x. thread_at n (length a) x.1 >>= λ y. repeated syntax before_name (threads_more n) (a ++ y.0 ∷ []) y.1)
+    repeated (syntax 0) before_name (threads_more n) a ts ≡
+    match_option (before_name ts) (Ok (a, ts)) (λ x. thread_at n (length a) x.1 >>= λ y. repeated (syntax 0) before_name (threads_more n) (a ++ y.0 ∷ []) y.1)
 unfolding threads_more
-threads_turn n = items-more syntax before_name (threads_more n) (threads_turn_takes n) (λ bs ts. thread_at n (length bs) ts) (λ bs b. bs ++ b ∷ []) (λ o a ts. refl)
+threads_turn n = items-more (syntax 0) before_name (threads_more n) (threads_turn_takes n) (λ bs ts. thread_at n (length bs) ts) (λ bs b. bs ++ b ∷ []) (λ o a ts. refl)
 
 -- What the code's measures need.
 

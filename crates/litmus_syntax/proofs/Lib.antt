@@ -1,3 +1,5 @@
+pub mod Alike
+pub mod AlikeTests
 pub mod Calls
 pub mod Complete
 pub mod Deep

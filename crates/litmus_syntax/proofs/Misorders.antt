@@ -91,27 +91,27 @@ record IsOther (os : List Order) (ts : List Symbol) : Type 0 where
 not_among : (os : List Order) (o : Order) → is_among os o ≡ false → ¬ IsIn o os
 not_among os o e h = let f = in-among os o h in cc
 
-never_required : {A : Type 0} (o : Option A) → ◌≡◌ {A = Result A Cause} (required syntax o) (Err misordered) → ⊥
-never_required None e = absurd (cc)
-never_required (Some x) e = absurd (cc)
+never_required : {A : Type 0} (n : ℕ) (o : Option A) → ◌≡◌ {A = Result A Cause} (required (syntax n) o) (Err misordered) → ⊥
+never_required n None e = absurd (cc)
+never_required n (Some x) e = absurd (cc)
 
 fair_order : {Q : List Symbol → Type 0} (os : List Order) (ts : List Symbol) → (IsOther os ts → Q ts) → Ordered Q ts (order_at os ts)
 unfolding order_at
 fair_order {Q} os ts q = record {
   tail = λ a rest e.
       let x = bind_ok (name_at ts) _ _ e in
-      let p = bind_ok (required syntax (looked_up orders x.0.0)) _ _ x.2 in
+      let p = bind_ok (required (syntax (length ts)) (looked_up orders x.0.0)) _ _ x.2 in
       elim (chosen (is_among os p.0) _ _ _ p.2) [
         | inl g ↦ moved (λ l t. Tail ts l) g.1 (tail_first (name-ok ts x.0.1 x.0.0 x.1))
         | inr g ↦ let h = g.1 in absurd (cc)
       ];
   told = λ e. elim (bind_err (name_at ts) _ misordered e) [
     | inl d ↦ (fair_name {Q = Q} ts).told d
-    | inr (x, is, d) ↦ elim (bind_err (required syntax (looked_up orders x.0)) _ misordered d) [
-      | inl f ↦ absurd (never_required (looked_up orders x.0) f)
+    | inr (x, is, d) ↦ elim (bind_err (required (syntax (length ts)) (looked_up orders x.0)) _ misordered d) [
+      | inl f ↦ absurd (never_required (length ts) (looked_up orders x.0) f)
       | inr (p, was, f) ↦ elim (chosen (is_among os p) _ _ _ f) [
         | inl g ↦ let h = g.1 in absurd (cc)
-        | inr g ↦ q (record { word = x.0; order = p; behind = x.1; front = name-ok ts x.1 x.0 is; names = required_ok syntax (looked_up orders x.0) p was; none = not_among os p g.0 })
+        | inr g ↦ q (record { word = x.0; order = p; behind = x.1; front = name-ok ts x.1 x.0 is; names = required_ok (syntax (length ts)) (looked_up orders x.0) p was; none = not_among os p g.0 })
       ]
     ]
   ];
@@ -192,9 +192,9 @@ fair_operation : (c : Operation) (n : ℕ) (ts : List Symbol) → Ordered (Withi
 unfolding operation_at
 fair_operation c n ts = fair_effect c (effect_of c) refl n ts
 
-fair_value : (c : Operation) (n : ℕ) (ts : List Symbol) → Ordered (Within c ts) ts (value_at c n ts)
+fair_value : (left : ℕ) (c : Operation) (n : ℕ) (ts : List Symbol) → Ordered (Within c ts) ts (value_at left c n ts)
 unfolding value_at
-fair_value c n ts = fair_if (has_value c) (fair_made kept _ (fair_operation c n ts)) fair_syntax
+fair_value left c n ts = fair_if (has_value c) (fair_made kept _ (fair_operation c n ts)) fair_syntax
 
 -- Everything else only carries on what a call tells.
 
@@ -217,7 +217,7 @@ called {A} {c} {ts} {us} {o} e h =
 fair_right : (n : ℕ) (ts : List Symbol) → Fair ts (right_at n ts)
 unfolding right_at computed_at plain_at
 fair_right n ts = fair_take on Star ts
-    (fair_match (call_word ts) (fair_made on _ (fair_expression on n ts)) (λ c was. called (call_word-some ts c.1 c.0 was) (fair_value c.0 n c.1)))
+    (fair_match (call_word ts) (fair_made on _ (fair_expression on n ts)) (λ c was. called (call_word-some ts c.1 c.0 was) (fair_value (length ts) c.0 n c.1)))
     (λ y. fair_made on _ (fair_name y.1))
 
 fair_declarator : (n : ℕ) (ts : List Symbol) → Fair ts (declarator_at n ts)

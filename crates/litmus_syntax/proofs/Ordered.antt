@@ -37,7 +37,7 @@ pub record Ordered {A : Type 0} (Q : List Symbol → Type 0) (ts : List Symbol) 
 pub fair_ok : {A : Type 0} {Q : List Symbol → Type 0} {ts us : List Symbol} (a : A) → Tail ts us → Ordered {A = A} Q ts (Ok (a, us))
 fair_ok {ts = ts} a d = record { tail = λ b rest e. moved (λ l t. Tail ts l) e d; told = λ e. absurd (cc) }
 
-pub fair_syntax : {A : Type 0} {Q : List Symbol → Type 0} {ts : List Symbol} → Ordered {A = A} Q ts (Err syntax)
+pub fair_syntax : {A : Type 0} {n : ℕ} {Q : List Symbol → Type 0} {ts : List Symbol} → Ordered {A = A} Q ts (Err (syntax n))
 fair_syntax = record { tail = λ a rest e. absurd (cc); told = λ e. absurd (cc) }
 
 pub fair_deep : {A : Type 0} {Q : List Symbol → Type 0} {ts : List Symbol} → Ordered {A = A} Q ts (Err deep)
@@ -74,13 +74,13 @@ pub fair_take : {B : Type 0} {Q : List Symbol → Type 0} (c : Carries Q) (t : T
     Ordered Q ts d → ((x : Unit {0} × List Symbol) → Ordered Q x.1 (f x)) → Ordered Q ts (match_option (after t ts) d f)
 fair_take c t ts h g = fair_match (after t ts) h (λ x was. fair_behind c (takes_after t ts x was) (g x))
 
-fair_required : {A : Type 0} {Q : List Symbol → Type 0} {ts : List Symbol} (o : Look Symbol A) → ((x : A × List Symbol) → o ≡ Some x → Tail ts x.1) → Ordered Q ts (required syntax o)
-fair_required None g = fair_syntax
-fair_required (Some x) g = fair_ok x.0 (g x refl)
+fair_required : {A : Type 0} {Q : List Symbol → Type 0} {ts : List Symbol} (n : ℕ) (o : Look Symbol A) → ((x : A × List Symbol) → o ≡ Some x → Tail ts x.1) → Ordered Q ts (required (syntax n) o)
+fair_required n None g = fair_syntax
+fair_required n (Some x) g = fair_ok x.0 (g x refl)
 
 pub fair_expected : {Q : List Symbol → Type 0} (t : Terminal) (ts : List Symbol) → Ordered Q ts (expected t ts)
 unfolding expected
-fair_expected t ts = fair_required (after t ts) (takes_after t ts)
+fair_expected t ts = fair_required (length ts) (after t ts) (takes_after t ts)
 
 pub fair_name : {Q : List Symbol → Type 0} (ts : List Symbol) → Ordered Q ts (name_at ts)
 unfolding name_at
@@ -89,7 +89,7 @@ fair_name ts = fair_syntax
 
 pub fair_number : {Q : List Symbol → Type 0} (ts : List Symbol) → Ordered Q ts (number_at ts)
 unfolding number_at
-fair_number ts = fair_required (number_look ts) (λ x was. tail_first (number_look-some ts x.1 x.0 was))
+fair_number ts = fair_required (length ts) (number_look ts) (λ x was. tail_first (number_look-some ts x.1 x.0 was))
 
 fair_opened : {Q : List Symbol → Type 0} (n : ℕ) (ts : List Symbol) → Ordered Q ts (opened n ts)
 unfolding opened
@@ -103,11 +103,11 @@ fair_open c n ts = fair_bind c (fair_expected LeftParen ts) (λ y is. fair_opene
 -- turns whose operator is in front, and whose steps are fair
 module _ {O A : Type 0} {Q : List Symbol → Type 0} (c : Carries Q) (op : List Symbol → Look Symbol O) (step : O → A → List Symbol → Reading A)
     (each : (o : O) (a : A) (ts : List Symbol) → Ordered Q ts (step o a ts)) (takes : (ts : List Symbol) (x : O × List Symbol) → op ts ≡ Some x → Tail ts x.1) where
-  fair_turns : (k : ℕ) (a : A) (ts : List Symbol) → Ordered Q ts (turns syntax op step k a ts)
+  fair_turns : (k : ℕ) (a : A) (ts : List Symbol) → Ordered Q ts (turns (syntax 0) op step k a ts)
   unfolding turns
   fair_turns zero a ts = fair_syntax
   fair_turns (suc k) a ts = fair_match (op ts) (fair_ok a tail_here) (λ x was. fair_behind c (takes ts x was) (fair_bind c (each x.0 a x.1) (λ y is. fair_turns k y.0 y.1)))
 
-  pub fair_repeated : (a : A) (ts : List Symbol) → Ordered Q ts (repeated syntax op step a ts)
+  pub fair_repeated : (a : A) (ts : List Symbol) → Ordered Q ts (repeated (syntax 0) op step a ts)
   unfolding repeated
   fair_repeated a ts = fair_turns (suc (length ts)) a ts

@@ -92,7 +92,7 @@ places-sound : Sound places_at IsPlaces
 unfolding places_at
 places-sound ts rest qs e =
     let x = bind_ok (place_behind [] ts) _ _ e in
-    repeated-keeps syntax (after Semicolon) (λ _ ps us. place_behind ps us) (λ l t. IsPlaces ts l t)
+    repeated-keeps (syntax 0) (after Semicolon) (λ _ ps us. place_behind ps us) (λ l t. IsPlaces ts l t)
     (λ o us mid back a b d was f.
     let same : us ≡ Fixed Semicolon ∷ mid = after-some Semicolon us mid o was in
     let past : IsPlaces ts (Fixed Semicolon ∷ mid) a = subst (λ l. IsPlaces ts l a) same d in
@@ -134,9 +134,9 @@ pub places_turn_takes : (ts mid rest : List Symbol) (o : Unit {0}) (a b : List P
 places_turn_takes ts mid rest o a b e f = omega (arith, after_takes Semicolon ts mid o e, place_behind_takes a b mid rest f)
 
 pub places_turn : (a : List Place) (ts : List Symbol) →
-    repeated syntax (after Semicolon) (λ _ ps us. place_behind ps us) a ts ≡
-    match_option (after Semicolon ts) (Ok (a, ts)) (λ x. place_behind a x.1 >>= λ y. repeated syntax (after Semicolon) (λ _ ps us. place_behind ps us) y.0 y.1)
-places_turn = repeated-more syntax (after Semicolon) (λ _ ps us. place_behind ps us) places_turn_takes
+    repeated (syntax 0) (after Semicolon) (λ _ ps us. place_behind ps us) a ts ≡
+    match_option (after Semicolon ts) (Ok (a, ts)) (λ x. place_behind a x.1 >>= λ y. repeated (syntax 0) (after Semicolon) (λ _ ps us. place_behind ps us) y.0 y.1)
+places_turn = repeated-more (syntax 0) (after Semicolon) (λ _ ps us. place_behind ps us) places_turn_takes
 
 place-opens : {ts rest : List Symbol} {p : Place} → IsPlace ts rest p → ends_place ts ≡ false
 unfolding ends_place
@@ -153,7 +153,7 @@ unfolding place_behind
 none-behind ps ts e = record { is = rw e }
 
 abbrev PlacesTo : List Symbol → List Symbol → List Place → Type 0
-PlacesTo ts rest ps = Arrives syntax (after Semicolon) (λ _ ps us. place_behind ps us) places_at ts rest ps
+PlacesTo ts rest ps = Arrives (syntax 0) (after Semicolon) (λ _ ps us. place_behind ps us) places_at ts rest ps
 
 places-first : {ts rest : List Symbol} {ps : List Place} → Yields (place_behind []) ts rest ps → PlacesTo ts rest ps
 unfolding places_at
@@ -163,7 +163,7 @@ semicolon : (ts : List Symbol) → Shows (after Semicolon) (Fixed Semicolon ∷ 
 semicolon ts = record { is = after-first Semicolon ts }
 
 places-next : {ts mid rest : List Symbol} {ps qs : List Place} → PlacesTo ts (Fixed Semicolon ∷ mid) ps → Yields (place_behind ps) mid rest qs → PlacesTo ts rest qs
-places-next {mid = mid} s y = next syntax (after Semicolon) (λ _ ps us. place_behind ps us) places_turn_takes s (semicolon mid) y
+places-next {mid = mid} s y = next (syntax 0) (after Semicolon) (λ _ ps us. place_behind ps us) places_turn_takes s (semicolon mid) y
 
 semicolon-ends : (ts : List Symbol) → ends_place (Fixed Semicolon ∷ ts) ≡ true
 unfolding ends_place

@@ -108,7 +108,7 @@ module _ (n : ℕ) (r : Propositions) (inner : SoundPropositions n r) where
   unfolding conjunction_with conjunction_more
   conjunction-sound ts rest a e =
       let x = bind_ok (atomic_with r ts) _ _ e in
-      repeated-keeps syntax (after And) (conjunction_more r) (λ l t. IsConjunction n ts l t)
+      repeated-keeps (syntax 0) (after And) (conjunction_more r) (λ l t. IsConjunction n ts l t)
       (λ o us mid back b c d was f.
       let q = bind_ok (atomic_with r mid) _ _ f in
       moved (λ l t. IsConjunction n ts l t) q.2 (conjunction_and (subst (λ l. IsConjunction n ts l b) (after-some And us mid o was) d) (atomic-sound mid q.0.1 q.0.0 q.1)))
@@ -118,7 +118,7 @@ module _ (n : ℕ) (r : Propositions) (inner : SoundPropositions n r) where
   unfolding or_with or_more
   or-sound ts rest a e =
       let x = bind_ok (conjunction_with r ts) _ _ e in
-      repeated-keeps syntax (after Or) (or_more r) (λ l t. IsOr n ts l t)
+      repeated-keeps (syntax 0) (after Or) (or_more r) (λ l t. IsOr n ts l t)
       (λ o us mid back b c d was f.
       let q = bind_ok (conjunction_with r mid) _ _ f in
       moved (λ l t. IsOr n ts l t) q.2 (or_or (subst (λ l. IsOr n ts l b) (after-some Or us mid o was) d) (conjunction-sound mid q.0.1 q.0.0 q.1)))
@@ -186,29 +186,29 @@ atomic_takes n ts rest a e = atomic_shorter (atomic_is n ts rest a e)
 pub conjunction_takes : (n : ℕ) (ts rest : List Symbol) (a : Formula) → conjunction_with (propositions_below n) ts ≡ Ok (a, rest) → length rest < length ts
 conjunction_takes n ts rest a e = conjunction_shorter (conjunction_is n ts rest a e)
 
-conjunction_turn_takes : (n : ℕ) (ts mid rest : List Symbol) (o : Unit {0}) (a b : Formula) → after And ts ≡ Some (o, mid) → conjunction_more (propositions_below n) o a mid ≡ Ok (b, rest) → length rest < length ts
+pub conjunction_turn_takes : (n : ℕ) (ts mid rest : List Symbol) (o : Unit {0}) (a b : Formula) → after And ts ≡ Some (o, mid) → conjunction_more (propositions_below n) o a mid ≡ Ok (b, rest) → length rest < length ts
 unfolding conjunction_more
 conjunction_turn_takes n ts mid rest o a b e f =
     let x = bind_ok (atomic_with (propositions_below n) mid) _ _ f in
     moved (λ l t. length l < length ts) x.2 (omega (arith, after_takes And ts mid o e, atomic_takes n mid x.0.1 x.0.0 x.1))
 
-or_turn_takes : (n : ℕ) (ts mid rest : List Symbol) (o : Unit {0}) (a b : Formula) → after Or ts ≡ Some (o, mid) → or_more (propositions_below n) o a mid ≡ Ok (b, rest) → length rest < length ts
+pub or_turn_takes : (n : ℕ) (ts mid rest : List Symbol) (o : Unit {0}) (a b : Formula) → after Or ts ≡ Some (o, mid) → or_more (propositions_below n) o a mid ≡ Ok (b, rest) → length rest < length ts
 unfolding or_more
 or_turn_takes n ts mid rest o a b e f =
     let x = bind_ok (conjunction_with (propositions_below n) mid) _ _ f in
     moved (λ l t. length l < length ts) x.2 (omega (arith, after_takes Or ts mid o e, conjunction_takes n mid x.0.1 x.0.0 x.1))
 
 pub conjunction_turn : (n : ℕ) (a : Formula) (ts : List Symbol) →
-    repeated syntax (after And) (conjunction_more (propositions_below n)) a ts ≡
-    match_option (after And ts) (Ok (a, ts)) (λ x. atomic_with (propositions_below n) x.1 >>= λ y. repeated syntax (after And) (conjunction_more (propositions_below n)) (conjunction a y.0) y.1)
+    repeated (syntax 0) (after And) (conjunction_more (propositions_below n)) a ts ≡
+    match_option (after And ts) (Ok (a, ts)) (λ x. atomic_with (propositions_below n) x.1 >>= λ y. repeated (syntax 0) (after And) (conjunction_more (propositions_below n)) (conjunction a y.0) y.1)
 unfolding conjunction_more
-conjunction_turn n = items-more syntax (after And) (conjunction_more (propositions_below n)) (conjunction_turn_takes n) (λ _ ts. atomic_with (propositions_below n) ts) conjunction (λ o a ts. refl)
+conjunction_turn n = items-more (syntax 0) (after And) (conjunction_more (propositions_below n)) (conjunction_turn_takes n) (λ _ ts. atomic_with (propositions_below n) ts) conjunction (λ o a ts. refl)
 
 pub or_turn : (n : ℕ) (a : Formula) (ts : List Symbol) →
-    repeated syntax (after Or) (or_more (propositions_below n)) a ts ≡
-    match_option (after Or ts) (Ok (a, ts)) (λ x. conjunction_with (propositions_below n) x.1 >>= λ y. repeated syntax (after Or) (or_more (propositions_below n)) (disjunction a y.0) y.1)
+    repeated (syntax 0) (after Or) (or_more (propositions_below n)) a ts ≡
+    match_option (after Or ts) (Ok (a, ts)) (λ x. conjunction_with (propositions_below n) x.1 >>= λ y. repeated (syntax 0) (after Or) (or_more (propositions_below n)) (disjunction a y.0) y.1)
 unfolding or_more
-or_turn n = items-more syntax (after Or) (or_more (propositions_below n)) (or_turn_takes n) (λ _ ts. conjunction_with (propositions_below n) ts) disjunction (λ o a ts. refl)
+or_turn n = items-more (syntax 0) (after Or) (or_more (propositions_below n)) (or_turn_takes n) (λ _ ts. conjunction_with (propositions_below n) ts) disjunction (λ o a ts. refl)
 
 -- Completeness.
 
@@ -301,10 +301,10 @@ unfolding atomic_with enclosed_with propositions_below
 atomic-paren n {ts} {rest} y = record { is = rw (paren-not ts, after-first LeftParen ts, y.is, expected-first RightParen rest) }
 
 abbrev ConjunctionTo : ℕ → List Symbol → List Symbol → Formula → Type 0
-ConjunctionTo n ts rest a = Arrives syntax (after And) (conjunction_more (propositions_below n)) (conjunction_with (propositions_below n)) ts rest a
+ConjunctionTo n ts rest a = Arrives (syntax 0) (after And) (conjunction_more (propositions_below n)) (conjunction_with (propositions_below n)) ts rest a
 
 abbrev OrTo : ℕ → List Symbol → List Symbol → Formula → Type 0
-OrTo n ts rest a = Arrives syntax (after Or) (or_more (propositions_below n)) (or_with (propositions_below n)) ts rest a
+OrTo n ts rest a = Arrives (syntax 0) (after Or) (or_more (propositions_below n)) (or_with (propositions_below n)) ts rest a
 
 conjunction-first : (n : ℕ) {ts rest : List Symbol} {a : Formula} → Yields (atomic_with (propositions_below n)) ts rest a → ConjunctionTo n ts rest a
 unfolding conjunction_with
@@ -318,7 +318,7 @@ and-first : (ts : List Symbol) → Shows (after And) (Fixed And ∷ ts) ts tt
 and-first ts = record { is = after-first And ts }
 
 conjunction-next : (n : ℕ) {ts mid rest : List Symbol} {a b : Formula} → ConjunctionTo n ts (Fixed And ∷ mid) a → Yields (conjunction_more (propositions_below n) tt a) mid rest b → ConjunctionTo n ts rest b
-conjunction-next n {mid = mid} s y = next syntax (after And) (conjunction_more (propositions_below n)) (conjunction_turn_takes n) s (and-first mid) y
+conjunction-next n {mid = mid} s y = next (syntax 0) (after And) (conjunction_more (propositions_below n)) (conjunction_turn_takes n) s (and-first mid) y
 
 or-start : (n : ℕ) {ts rest : List Symbol} {a : Formula} → Yields (conjunction_with (propositions_below n)) ts rest a → OrTo n ts rest a
 unfolding or_with
@@ -332,7 +332,7 @@ or-first : (ts : List Symbol) → Shows (after Or) (Fixed Or ∷ ts) ts tt
 or-first ts = record { is = after-first Or ts }
 
 or-next : (n : ℕ) {ts mid rest : List Symbol} {a b : Formula} → OrTo n ts (Fixed Or ∷ mid) a → Yields (or_more (propositions_below n) tt a) mid rest b → OrTo n ts rest b
-or-next n {mid = mid} s y = next syntax (after Or) (or_more (propositions_below n)) (or_turn_takes n) s (or-first mid) y
+or-next n {mid = mid} s y = next (syntax 0) (after Or) (or_more (propositions_below n)) (or_turn_takes n) s (or-first mid) y
 
 proposition-or : (n : ℕ) {ts rest : List Symbol} {a : Formula} → Yields (or_with (propositions_below n)) ts rest a → after Arrow rest ≡ None → Yields (proposition_with (propositions_below n)) ts rest a
 unfolding proposition_with

@@ -73,7 +73,7 @@ expected-first t ts = rw (after-first t ts)
 
 pub expected-ok : (t : Terminal) (ts rest : List Symbol) (u : Unit {0}) → expected t ts ≡ Ok (u, rest) → ts ≡ Fixed t ∷ rest
 unfolding expected
-expected-ok t ts rest u e = after-some t ts rest u (required_ok syntax (after t ts) (u, rest) e)
+expected-ok t ts rest u e = after-some t ts rest u (required_ok (syntax (length ts)) (after t ts) (u, rest) e)
 
 pub unless-same : (t : Terminal) (ts rest : List Symbol) (u : Unit {0}) → unless t ts ≡ Some (u, rest) → rest ≡ ts
 unfolding unless
@@ -95,7 +95,7 @@ number_look-some ts rest n e = absurd (cc)
 
 pub number-ok : (ts rest : List Symbol) (n : ℕ) → number_at ts ≡ Ok (n, rest) → ts ≡ Number n ∷ rest
 unfolding number_at
-number-ok ts rest n e = number_look-some ts rest n (required_ok syntax (number_look ts) (n, rest) e)
+number-ok ts rest n e = number_look-some ts rest n (required_ok (syntax (length ts)) (number_look ts) (n, rest) e)
 
 pub word-ok : (ts rest : List Symbol) (x : Word) → word_at ts ≡ Ok (x, rest) → ts ≡ head_word x ∷ rest
 unfolding word_at

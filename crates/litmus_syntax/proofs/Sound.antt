@@ -91,7 +91,7 @@ pub entries-sound : Sound entries_at IsEntries
 unfolding entries_at
 entries-sound ts rest cs e =
     let x = bind_ok (entry_behind [] ts) _ _ e in
-    repeated-keeps syntax (after Semicolon) (λ _ bs us. entry_behind bs us) (λ l t. IsEntries ts l t)
+    repeated-keeps (syntax 0) (after Semicolon) (λ _ bs us. entry_behind bs us) (λ l t. IsEntries ts l t)
     (λ o us mid back a b d was f.
     let same : us ≡ Fixed Semicolon ∷ mid = after-some Semicolon us mid o was in
     let past : IsEntries ts (Fixed Semicolon ∷ mid) a = subst (λ l. IsEntries ts l a) same d in
@@ -166,7 +166,7 @@ unfolding parameters_at parameters_more
 parameters-sound ts rest ps e =
     let x = bind_ok (parameter_behind [] ts >>= λ x. Ok ([] ++ x.0 ∷ [], x.1)) _ _ e in
     let p = bind_ok (parameter_behind [] ts) _ _ x.1 in
-    repeated-keeps syntax (after Comma) (λ _ qs us. parameters_more qs us) (λ l t. IsParameters ts l t)
+    repeated-keeps (syntax 0) (after Comma) (λ _ qs us. parameters_more qs us) (λ l t. IsParameters ts l t)
     (λ o us mid back a b d was f.
     let q = bind_ok (parameter_behind a mid) _ _ f in
     let s = parameter-sound a q.0.0 mid q.0.1 q.1 in
@@ -198,7 +198,7 @@ parameter_list-sound n ts rest ps e =
 pub thread-sound : (n k : ℕ) → Sound (thread_at n k) (IsThread n k)
 unfolding thread_at thread_name_at
 thread-sound n k ts rest b e =
-    let y = bind_ok (name_at ts >>= λ x. if names_thread x.0 k then Ok (tt, x.1) else Err syntax) _ _ e in
+    let y = bind_ok (name_at ts >>= λ x. if names_thread x.0 k then Ok (tt, x.1) else Err (syntax (length ts))) _ _ e in
     let x = bind_ok (name_at ts) _ _ y.1 in
     let ps = bind_ok (parameter_list_at n y.0.1) _ _ y.2 in
     let z = bind_ok (expected LeftBrace ps.0.1) _ _ ps.2 in
@@ -217,7 +217,7 @@ unfolding threads_at threads_more
 threads-sound n ts rest bs e =
     let x = bind_ok (thread_at n 0 ts >>= λ b. Ok ([] ++ b.0 ∷ [], b.1)) _ _ e in
     let p = bind_ok (thread_at n 0 ts) _ _ x.1 in
-    repeated-keeps syntax before_name (threads_more n) (λ l t. IsThreads n ts l t)
+    repeated-keeps (syntax 0) before_name (threads_more n) (λ l t. IsThreads n ts l t)
     (λ o us mid back a b d was f.
     let q = bind_ok (thread_at n (length a) mid) _ _ f in
     moved (λ l t. IsThreads n ts l t) q.2 (threads_and d (subst (λ l. IsThread n (length a) l q.0.1 q.0.0) (before_name-same us mid o was) (thread-sound n (length a) mid q.0.1 q.0.0 q.1))))
@@ -233,13 +233,13 @@ end-ok [] rest u e = (refl, moved (λ l t. l ≡ []) e refl)
 end-ok (s ∷ ts) rest u e = absurd (cc)
 
 -- a refusal is no reading
-refused : {A : Type 0} (x : A × List Symbol) → ◌≡◌ {A = Reading A} (Err syntax) (Ok x) → ⊥
+refused : {A : Type 0} {n : ℕ} (x : A × List Symbol) → ◌≡◌ {A = Reading A} (Err (syntax n)) (Ok x) → ⊥
 refused x e = cc
 
 pub test-sound : (n : ℕ) → Sound (test_at n) (λ ts rest w. IsWritten n ts [] w × (rest ≡ []))
 unfolding test_at language_at initial_at
 test-sound n ts rest w e =
-    let l = bind_ok (word_at ts >>= λ x. if bytes_eq x.0 (codes "C") then Ok (tt, x.1) else Err syntax) _ _ e in
+    let l = bind_ok (word_at ts >>= λ x. if bytes_eq x.0 (codes "C") then Ok (tt, x.1) else Err (syntax (length ts))) _ _ e in
     let c = bind_ok (word_at ts) _ _ l.1 in
     let x = bind_ok (word_at l.0.1) _ _ l.2 in
     let i = bind_ok (expected LeftBrace x.0.1 >>= λ y. entries_at y.1 >>= λ bs. expected RightBrace bs.1 >>= λ z. Ok (bs.0, z.1)) _ _ x.2 in

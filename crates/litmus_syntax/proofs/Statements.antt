@@ -47,7 +47,7 @@ unfolding declarators_at declarators_more
 declarators-sound n ts rest ds e =
     let x = bind_ok (declarator_at n ts >>= λ d. Ok ([] ++ d.0 ∷ [], d.1)) _ _ e in
     let p = bind_ok (declarator_at n ts) _ _ x.1 in
-    repeated-keeps syntax (after Comma) (λ _ ds us. declarators_more n ds us) (λ l t. IsDeclarators n ts l t)
+    repeated-keeps (syntax 0) (after Comma) (λ _ ds us. declarators_more n ds us) (λ l t. IsDeclarators n ts l t)
     (λ o us mid back a b d was f.
     let q = bind_ok (declarator_at n mid) _ _ f in
     moved (λ l t. IsDeclarators n ts l t) q.2 (declarators_and (subst (λ l. IsDeclarators n ts l a) (after-some Comma us mid o was) d) (declarator-sound n mid q.0.1 q.0.0 q.1)))
@@ -62,9 +62,9 @@ declarators_turn_takes n ts mid rest o a b e f =
     moved (λ l t. length l < length ts) x.2 (omega (arith, after_takes Comma ts mid o e, declarator_shorter (declarator-sound n mid x.0.1 x.0.0 x.1)))
 
 pub declarators_turn : (n : ℕ) (a : List Declared) (ts : List Symbol) →
-    repeated syntax (after Comma) (λ _ ds us. declarators_more n ds us) a ts ≡
-    match_option (after Comma ts) (Ok (a, ts)) (λ x. declarators_more n a x.1 >>= λ y. repeated syntax (after Comma) (λ _ ds us. declarators_more n ds us) y.0 y.1)
-declarators_turn n = repeated-more syntax (after Comma) (λ _ ds us. declarators_more n ds us) (declarators_turn_takes n)
+    repeated (syntax 0) (after Comma) (λ _ ds us. declarators_more n ds us) a ts ≡
+    match_option (after Comma ts) (Ok (a, ts)) (λ x. declarators_more n a x.1 >>= λ y. repeated (syntax 0) (after Comma) (λ _ ds us. declarators_more n ds us) y.0 y.1)
+declarators_turn n = repeated-more (syntax 0) (after Comma) (λ _ ds us. declarators_more n ds us) (declarators_turn_takes n)
 
 -- what follows a right side
 record EndsRight (rest : List Symbol) : Type 0 where
@@ -89,7 +89,7 @@ unfolding declarators_more
 declarator-more n ds y = record { is = rw y.is }
 
 abbrev DeclaratorsTo : ℕ → List Symbol → List Symbol → List Declared → Type 0
-DeclaratorsTo n ts rest ds = Arrives syntax (after Comma) (λ _ ds us. declarators_more n ds us) (declarators_at n) ts rest ds
+DeclaratorsTo n ts rest ds = Arrives (syntax 0) (after Comma) (λ _ ds us. declarators_more n ds us) (declarators_at n) ts rest ds
 
 declarators-first : (n : ℕ) {ts rest : List Symbol} {ds : List Declared} → Yields (declarators_more n []) ts rest ds → DeclaratorsTo n ts rest ds
 unfolding declarators_at
@@ -99,7 +99,7 @@ comma : (ts : List Symbol) → Shows (after Comma) (Fixed Comma ∷ ts) ts tt
 comma ts = record { is = after-first Comma ts }
 
 declarators-next : (n : ℕ) {ts mid rest : List Symbol} {ds es : List Declared} → DeclaratorsTo n ts (Fixed Comma ∷ mid) ds → Yields (declarators_more n ds) mid rest es → DeclaratorsTo n ts rest es
-declarators-next n {mid = mid} s y = next syntax (after Comma) (λ _ ds us. declarators_more n ds us) (declarators_turn_takes n) s (comma mid) y
+declarators-next n {mid = mid} s y = next (syntax 0) (after Comma) (λ _ ds us. declarators_more n ds us) (declarators_turn_takes n) s (comma mid) y
 
 declarators-arrive : {n : ℕ} {ts rest : List Symbol} {ds : List Declared} → IsDeclarators n ts rest ds → EndsRight rest → DeclaratorsTo n ts rest ds
 declarators-arrive (declarators_one {n} d) ends = declarators-first n (declarator-more n [] (declarator-complete d ends))
@@ -235,11 +235,11 @@ module _ (n : ℕ) (r : Inside) (inner : SoundInside n r) where
   steps-sound : Sound (steps_with r n) (λ ts rest ss. IsSteps n ts (Fixed RightBrace ∷ rest) ss)
   unfolding steps_with steps_more
   steps-sound ts rest ss e =
-      let x = bind_ok (repeated syntax (unless RightBrace) (steps_more r n) no_steps ts) _ _ e in
+      let x = bind_ok (repeated (syntax 0) (unless RightBrace) (steps_more r n) no_steps ts) _ _ e in
       let y = bind_ok (expected RightBrace x.0.1) _ _ x.2 in
       moved (λ l t. IsSteps n ts (Fixed RightBrace ∷ l) t) y.2
       (subst (λ l. IsSteps n ts l x.0.0) (expected-ok RightBrace x.0.1 y.0.1 y.0.0 y.1)
-      (repeated-keeps syntax (unless RightBrace) (steps_more r n) (λ l t. IsSteps n ts l t)
+      (repeated-keeps (syntax 0) (unless RightBrace) (steps_more r n) (λ l t. IsSteps n ts l t)
       (λ o us mid back a b d was f.
       let s = bind_ok (step_with r n mid) _ _ f in
       moved (λ l t. IsSteps n ts l t) s.2 (steps_and d (subst (λ l. IsStep n l s.0.1 s.0.0) (unless-same RightBrace us mid o was) (step-sound mid s.0.1 s.0.0 s.1))))
@@ -277,17 +277,17 @@ mutual
 pub step_takes : (n : ℕ) (ts rest : List Symbol) (s : Step) → step_at n ts ≡ Ok (s, rest) → length rest < length ts
 step_takes n ts rest s e = step_shorter (step_is n ts rest s e)
 
-steps_turn_takes : (n : ℕ) (ts mid rest : List Symbol) (o : Unit {0}) (a b : Steps) → unless RightBrace ts ≡ Some (o, mid) → steps_more (inside n) n o a mid ≡ Ok (b, rest) → length rest < length ts
+pub steps_turn_takes : (n : ℕ) (ts mid rest : List Symbol) (o : Unit {0}) (a b : Steps) → unless RightBrace ts ≡ Some (o, mid) → steps_more (inside n) n o a mid ≡ Ok (b, rest) → length rest < length ts
 unfolding steps_more
 steps_turn_takes n ts mid rest o a b e f =
     let x = bind_ok (step_at n mid) _ _ f in
     moved (λ l t. length l < length ts) x.2 (omega (arith, ap length (unless-same RightBrace ts mid o e), step_takes n mid x.0.1 x.0.0 x.1))
 
 pub steps_turn : (n : ℕ) (a : Steps) (ts : List Symbol) →
-    repeated syntax (unless RightBrace) (steps_more (inside n) n) a ts ≡
-    match_option (unless RightBrace ts) (Ok (a, ts)) (λ x. step_at n x.1 >>= λ y. repeated syntax (unless RightBrace) (steps_more (inside n) n) (followed a y.0) y.1)
+    repeated (syntax 0) (unless RightBrace) (steps_more (inside n) n) a ts ≡
+    match_option (unless RightBrace ts) (Ok (a, ts)) (λ x. step_at n x.1 >>= λ y. repeated (syntax 0) (unless RightBrace) (steps_more (inside n) n) (followed a y.0) y.1)
 unfolding steps_more
-steps_turn n = items-more syntax (unless RightBrace) (steps_more (inside n) n) (steps_turn_takes n) (λ _ ts. step_at n ts) followed (λ o a ts. refl)
+steps_turn n = items-more (syntax 0) (unless RightBrace) (steps_more (inside n) n) (steps_turn_takes n) (λ _ ts. step_at n ts) followed (λ o a ts. refl)
 
 -- Completeness.
 
@@ -398,14 +398,14 @@ unfolding step_with
 step-branch n {ts} y = record { is = rw (if-no_semicolon ts, if-no_brace ts, after-first If ts, y.is) }
 
 abbrev StepsTo : ℕ → List Symbol → List Symbol → Steps → Type 0
-StepsTo n ts rest ss = Arrives syntax (unless RightBrace) (steps_more (inside n) n) (repeated syntax (unless RightBrace) (steps_more (inside n) n) no_steps) ts rest ss
+StepsTo n ts rest ss = Arrives (syntax 0) (unless RightBrace) (steps_more (inside n) n) (repeated (syntax 0) (unless RightBrace) (steps_more (inside n) n) no_steps) ts rest ss
 
 step-more : (n : ℕ) (ss : Steps) {ts rest : List Symbol} {s : Step} → Yields (step_at n) ts rest s → Yields (steps_more (inside n) n tt ss) ts rest (followed ss s)
 unfolding steps_more
 step-more n ss y = record { is = rw y.is }
 
 steps-next : (n : ℕ) {ts mid rest : List Symbol} {ss rs : Steps} → StepsTo n ts mid ss → Shows (unless RightBrace) mid mid tt → Yields (steps_more (inside n) n tt ss) mid rest rs → StepsTo n ts rest rs
-steps-next n s o y = next syntax (unless RightBrace) (steps_more (inside n) n) (steps_turn_takes n) s o y
+steps-next n s o y = next (syntax 0) (unless RightBrace) (steps_more (inside n) n) (steps_turn_takes n) s o y
 
 closed : (ts : List Symbol) → unless RightBrace (Fixed RightBrace ∷ ts) ≡ None
 unfolding unless
@@ -455,7 +455,7 @@ abbrev ok_with : List Declared → List Symbol → Reading (List Declared)
 ok_with a l = Ok (a, l)
 
 abbrev Declarators : ℕ → List Declared → List Symbol → Reading (List Declared)
-Declarators n a ts = repeated syntax (after Comma) (λ _ ds us. declarators_more n ds us) a ts
+Declarators n a ts = repeated (syntax 0) (after Comma) (λ _ ds us. declarators_more n ds us) a ts
 
 pub declarators_go : (n : ℕ) (a b : List Declared) (ts mid rest : List Symbol) (r : Reading (List Declared)) → after Comma ts ≡ Some (tt, mid) → declarators_more n a mid ≡ Ok (b, rest) →
     Declarators n a ts ≡ r → Declarators n b rest ≡ r
@@ -474,6 +474,6 @@ declarators_end n a ts us r none same is =
 -- one refusal told of two readings
 pub gives_same : {X Y A B : Type 0} (v : X → A) (w : Y → B) (e : SyntaxFault) (ts us : List Symbol) (o : Reading A) (r : Reading B) → ((k : Cause) → o ≡ Err k → r ≡ Err k) → Gives v (Err e) ts o → Gives w (Err e) us r
 gives_same v w NoMemory ts us o r f g = tt
-gives_same v w (Syntax p) ts us o r f g = f syntax g
+gives_same v w (Syntax n) ts us o r f g = f (syntax n) g
 gives_same v w BadOrder ts us o r f g = f misordered g
 gives_same v w TooDeep ts us o r f g = f deep g

@@ -10,6 +10,7 @@ use Rattle.litmus_syntax.specs.Drafts.{Written, written_of}
 use Rattle.litmus_syntax.specs.Grammar.{Spells}
 use Rattle.litmus_syntax.specs.Reading.{Cause, syntax, deep, misordered, Reading, Gives, test_at}
 use Rattle.litmus_syntax.specs.Unspelled.{SpellsNone, IsUnspelled}
+use Rattle.litmus_syntax.proofs.AlikeTests.{is_stuck}
 use Rattle.litmus_syntax.proofs.Complete.{test-complete}
 use Rattle.litmus_syntax.proofs.Deep.{test_deep}
 use Rattle.litmus_syntax.proofs.Misorders.{test_misordered}
@@ -36,6 +37,6 @@ none ts e fails w s = let reads : test_at 32 ts ≡ Ok (w, []) = read_of ts w s 
 pub draft_cause : (ts rest : List Symbol) (r : Result Draft SyntaxFault) → Gives written_of r rest (test_at 32 ts) → IfErr r (λ e. IsUnspelled ts e)
 draft_cause ts rest (Ok d) g = tt
 draft_cause ts rest (Err NoMemory) g = tt
-draft_cause ts rest (Err (Syntax p)) g = none ts syntax g
-draft_cause ts rest (Err BadOrder) g = (none ts misordered g, test_misordered 32 ts g)
-draft_cause ts rest (Err TooDeep) g = (none ts deep g, test_deep 32 ts g)
+draft_cause ts rest (Err (Syntax n)) g = (none ts (syntax n) g, is_stuck ts n g)
+draft_cause ts rest (Err BadOrder) g = (none ts misordered g, test_misordered 32 ts g, g)
+draft_cause ts rest (Err TooDeep) g = (none ts deep g, test_deep 32 ts g, g)

@@ -34,9 +34,9 @@ use Rattle.litmus_syntax.specs.Atomics.{orders, Effect, loads, stores, exchanges
 use Rattle.litmus_syntax.specs.Symbols.{looked_up}
 use Rattle.litmus_tree.specs.Tree.{Word, Term, number, held, denied, Action, load, store, exchange, fence, Right, computed, plain_read, value_of, Declared, Step, empty, block, declare, assign, plain_write, perform, if_only, if_else, Steps, no_steps, followed, joined}
 
--- why there is no reading
+-- why there is no reading: `syntax n` where the symbols from the left can't be read on, and the last n of them are left
 pub data Cause : Type 0 where
-  syntax : Cause
+  syntax : (left : ℕ) → Cause
   deep : Cause
   misordered : Cause
 
@@ -47,9 +47,13 @@ Reading A = Read Symbol Cause A
 abbrev pub Gives : {X A : Type 0} → (X → A) → Result X SyntaxFault → List Symbol → Reading A → Type 0
 Gives view (Ok x) rest read = read ≡ Ok (view x, rest)
 Gives view (Err NoMemory) rest read = Unit {0}
-Gives view (Err (Syntax p)) rest read = read ≡ Err syntax
+Gives view (Err (Syntax n)) rest read = read ≡ Err (syntax n)
 Gives view (Err BadOrder) rest read = read ≡ Err misordered
 Gives view (Err TooDeep) rest read = read ≡ Err deep
+
+-- reading stops in front of these symbols
+abbrev pub stuck : {A : Type 0} → List Symbol → Reading A
+stuck ts = Err (syntax (length ts))
 
 -- single symbols
 
@@ -63,27 +67,22 @@ after t (Fixed u ∷ ts) = if terminal_eq u t then Some (tt, ts) else None
 after t (s ∷ ts) = None
 
 unfoldable pub expected : Terminal → List Symbol → Reading (Unit {0})
-expected t ts = required syntax (after t ts)
+expected t ts = required (syntax (length ts)) (after t ts)
 
 -- nothing of this terminal is read, and it does not come next
 unfoldable pub unless : Terminal → List Symbol → Look Symbol (Unit {0})
 unless t ts = match_option (after t ts) (Some (tt, ts)) (λ _. None)
 
--- any symbol
-abbrev pub next_at : List Symbol → Reading Symbol
-next_at [] = Err syntax
-next_at (s ∷ ts) = Ok (s, ts)
-
 unfoldable pub name_at : List Symbol → Reading Word
 name_at (Name x ∷ ts) = Ok (x, ts)
-name_at ts = Err syntax
+name_at ts = stuck ts
 
 unfoldable pub number_look : List Symbol → Look Symbol ℕ
 number_look (Number n ∷ ts) = Some (n, ts)
 number_look ts = None
 
 unfoldable pub number_at : List Symbol → Reading ℕ
-number_at ts = required syntax (number_look ts)
+number_at ts = required (syntax (length ts)) (number_look ts)
 
 -- nothing is read, and a name comes next
 unfoldable pub before_name : List Symbol → Look Symbol (Unit {0})
@@ -123,7 +122,7 @@ place_at ts = match_option (number_look ts) (location_at ts >>= λ x. Ok (Loc x.
 -- a place with no value
 unfoldable pub bare : Place → List Symbol → Reading Binding
 bare (Loc x) ts = Ok (record { place = Loc x; value = 0 }, ts)
-bare (Reg k x) ts = Err syntax
+bare (Reg k x) ts = stuck ts
 
 unfoldable pub bound_at : Place → List Symbol → Reading Binding
 bound_at p ts = match_option (after Assign ts) (bare p ts) (λ y. number_at y.1 >>= λ v. Ok (record { place = p; value = v.0 }, v.1))
@@ -148,7 +147,7 @@ entry_behind bs ts = if ends_entry ts then Ok (bs, ts) else (entry_at ts >>= λ 
 unfoldable pub entries_at : List Symbol → Reading (List Binding)
 entries_at ts = do
   x ← entry_behind [] ts
-  repeated syntax (after Semicolon) (λ _ bs us. entry_behind bs us) x.0 x.1
+  repeated (syntax 0) (after Semicolon) (λ _ bs us. entry_behind bs us) x.0 x.1
 
 -- parameters
 
@@ -164,7 +163,7 @@ parameter_behind ps ts = do
   k ← kind_at (behind_volatile ts)
   z ← expected Star k.1
   x ← name_at z.1
-  if is_parameter ps x.0 then Err syntax else Ok (record { name = x.0; kind = k.0 }, x.1)
+  if is_parameter ps x.0 then stuck z.1 else Ok (record { name = x.0; kind = k.0 }, x.1)
 
 unfoldable pub parameters_more : List Parameter → List Symbol → Reading (List Parameter)
 parameters_more ps ts = do
@@ -174,7 +173,7 @@ parameters_more ps ts = do
 unfoldable pub parameters_at : List Symbol → Reading (List Parameter)
 parameters_at ts = do
   x ← parameters_more [] ts
-  repeated syntax (after Comma) (λ _ ps us. parameters_more ps us) x.0 x.1
+  repeated (syntax 0) (after Comma) (λ _ ps us. parameters_more ps us) x.0 x.1
 
 -- parameters and their closing parenthesis
 unfoldable pub parameters_closed : List Symbol → Reading (List Parameter)
@@ -211,7 +210,7 @@ unary_with r (Name x ∷ ts) = Ok (held x, ts)
 unary_with r (Number v ∷ ts) = Ok (number v, ts)
 unary_with r (Fixed Bang ∷ ts) = r.unary ts >>= λ a. Ok (denied a.0, a.1)
 unary_with r (Fixed LeftParen ∷ ts) = r.expression ts >>= λ a. expected RightParen a.1 >>= λ y. Ok (a.0, y.1)
-unary_with r ts = Err syntax
+unary_with r ts = stuck ts
 
 -- one more operand
 abbrev pub next_operand : (List Symbol → Reading Term) → Operator → Term → List Symbol → Reading Term
@@ -219,7 +218,7 @@ next_operand item o a ts = item ts >>= λ y. Ok (joined o a y.0, y.1)
 
 -- operands and what joins them, to the left
 unfoldable pub operands : (List Symbol → Look Symbol Operator) → (List Symbol → Reading Term) → List Symbol → Reading Term
-operands op item ts = item ts >>= λ x. repeated syntax op (next_operand item) x.0 x.1
+operands op item ts = item ts >>= λ x. repeated (syntax 0) op (next_operand item) x.0 x.1
 
 unfoldable pub level_with : Terms → ℕ → List Symbol → Reading Term
 level_with r zero ts = unary_with r ts
@@ -242,7 +241,7 @@ is_among os o = list_any (λ p. order_equality.eq p o) os
 unfoldable pub order_at : List Order → List Symbol → Reading Order
 order_at os ts = do
   x ← name_at ts
-  o ← required syntax (looked_up orders x.0)
+  o ← required (syntax (length ts)) (looked_up orders x.0)
   if is_among os o then Ok (o, x.1) else Err misordered
 
 -- an order, and a closing parenthesis
@@ -312,9 +311,9 @@ effect_at fences os n ts = fence_at os n ts
 unfoldable pub operation_at : Operation → ℕ → List Symbol → Reading Action
 operation_at c n ts = effect_at (effect_of c) (accepted c) n ts
 
--- a call that has a value, behind its word
-unfoldable pub value_at : Operation → ℕ → List Symbol → Reading Right
-value_at c n ts = if has_value c then (operation_at c n ts >>= λ a. Ok (value_of a.0, a.1)) else Err syntax
+-- a call that has a value, behind its word; with its word so many symbols are left
+unfoldable pub value_at : (left : ℕ) → Operation → ℕ → List Symbol → Reading Right
+value_at left c n ts = if has_value c then (operation_at c n ts >>= λ a. Ok (value_of a.0, a.1)) else Err (syntax left)
 
 unfoldable pub computed_at : ℕ → List Symbol → Reading Right
 computed_at n ts = expression_at n ts >>= λ e. Ok (computed e.0, e.1)
@@ -323,7 +322,7 @@ unfoldable pub plain_at : List Symbol → Reading Right
 plain_at ts = name_at ts >>= λ x. Ok (plain_read x.0, x.1)
 
 unfoldable pub right_at : ℕ → List Symbol → Reading Right
-right_at n ts = match_option (after Star ts) (match_option (call_word ts) (computed_at n ts) (λ c. value_at c.0 n c.1)) (λ y. plain_at y.1)
+right_at n ts = match_option (after Star ts) (match_option (call_word ts) (computed_at n ts) (λ c. value_at (length ts) c.0 n c.1)) (λ y. plain_at y.1)
 
 -- statements
 
@@ -338,7 +337,7 @@ declarators_more n ds ts = do
 unfoldable pub declarators_at : ℕ → List Symbol → Reading (List Declared)
 declarators_at n ts = do
   x ← declarators_more n [] ts
-  repeated syntax (after Comma) (λ _ ds us. declarators_more n ds us) x.0 x.1
+  repeated (syntax 0) (after Comma) (λ _ ds us. declarators_more n ds us) x.0 x.1
 
 unfoldable pub assignment_at : ℕ → List Symbol → Reading Step
 assignment_at n ts = do
@@ -361,7 +360,7 @@ declaration_at n ts = do
   Ok (declare ds.0, ds.1)
 
 unfoldable pub performed_at : ℕ → List Symbol → Reading Step
-performed_at n ts = match_option (call_word ts) (Err syntax) (λ c. operation_at c.0 n c.1 >>= λ a. Ok (perform a.0, a.1))
+performed_at n ts = match_option (call_word ts) (stuck ts) (λ c. operation_at c.0 n c.1 >>= λ a. Ok (perform a.0, a.1))
 
 -- a statement without its semicolon
 unfoldable pub simple_at : ℕ → List Symbol → Reading Step
@@ -408,7 +407,7 @@ steps_more r n _ ss ts = do
 -- statements up to a brace, and the brace
 unfoldable pub steps_with : Inside → ℕ → List Symbol → Reading Steps
 steps_with r n ts = do
-  x ← repeated syntax (unless RightBrace) (steps_more r n) no_steps ts
+  x ← repeated (syntax 0) (unless RightBrace) (steps_more r n) no_steps ts
   y ← expected RightBrace x.1
   Ok (x.0, y.1)
 
@@ -432,7 +431,7 @@ names_thread x k = bytes_eq x (codes "P" ++ decimal k)
 unfoldable pub thread_name_at : ℕ → List Symbol → Reading (Unit {0})
 thread_name_at k ts = do
   x ← name_at ts
-  if names_thread x.0 k then Ok (tt, x.1) else Err syntax
+  if names_thread x.0 k then Ok (tt, x.1) else stuck ts
 
 unfoldable pub thread_at : ℕ → ℕ → List Symbol → Reading Listing
 thread_at n k ts = do
@@ -450,7 +449,7 @@ threads_more n _ bs ts = do
 unfoldable pub threads_at : ℕ → List Symbol → Reading (List Listing)
 threads_at n ts = do
   x ← threads_more n tt [] ts
-  repeated syntax before_name (threads_more n) x.0 x.1
+  repeated (syntax 0) before_name (threads_more n) x.0 x.1
 
 -- listed places
 
@@ -466,7 +465,7 @@ place_behind ps ts = if ends_place ts then Ok (ps, ts) else (place_at ts >>= λ 
 unfoldable pub places_at : List Symbol → Reading (List Place)
 places_at ts = do
   x ← place_behind [] ts
-  repeated syntax (after Semicolon) (λ _ ps us. place_behind ps us) x.0 x.1
+  repeated (syntax 0) (after Semicolon) (λ _ ps us. place_behind ps us) x.0 x.1
 
 -- behind the word locations
 unfoldable pub bracketed_at : List Symbol → Reading (List Place)
@@ -519,7 +518,7 @@ conjunction_more r _ a ts = do
 unfoldable pub conjunction_with : Propositions → List Symbol → Reading Formula
 conjunction_with r ts = do
   a ← atomic_with r ts
-  repeated syntax (after And) (conjunction_more r) a.0 a.1
+  repeated (syntax 0) (after And) (conjunction_more r) a.0 a.1
 
 unfoldable pub or_more : Propositions → Unit {0} → Formula → List Symbol → Reading Formula
 or_more r _ a ts = do
@@ -529,7 +528,7 @@ or_more r _ a ts = do
 unfoldable pub or_with : Propositions → List Symbol → Reading Formula
 or_with r ts = do
   a ← conjunction_with r ts
-  repeated syntax (after Or) (or_more r) a.0 a.1
+  repeated (syntax 0) (after Or) (or_more r) a.0 a.1
 
 unfoldable pub proposition_with : Propositions → List Symbol → Reading Formula
 proposition_with r ts = or_with r ts >>= λ a. match_option (after Arrow a.1) (Ok (a.0, a.1)) (λ y. r.proposition y.1 >>= λ b. Ok (implication a.0 b.0, b.1))
@@ -552,16 +551,16 @@ condition_at n ts = do
 
 unfoldable pub word_at : List Symbol → Reading Word
 word_at (head_word x ∷ ts) = Ok (x, ts)
-word_at ts = Err syntax
+word_at ts = stuck ts
 
 unfoldable pub language_at : List Symbol → Reading (Unit {0})
 language_at ts = do
   x ← word_at ts
-  if bytes_eq x.0 (codes "C") then Ok (tt, x.1) else Err syntax
+  if bytes_eq x.0 (codes "C") then Ok (tt, x.1) else stuck ts
 
 unfoldable pub end_at : List Symbol → Reading (Unit {0})
 end_at [] = Ok (tt, [])
-end_at (s ∷ ts) = Err syntax
+end_at (s ∷ ts) = stuck (s ∷ ts)
 
 -- the head of a test, with its initial state
 unfoldable pub initial_at : List Symbol → Reading (List Binding)

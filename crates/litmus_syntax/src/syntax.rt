@@ -34,15 +34,21 @@ const NESTING: u32 = 32;
 pub struct Reader<'a> {
     alloc: Global,
     rest: &'a [Symbol],
-    /// How many there are in all.
-    count: usize,
-    ghost within: { length rest.now ≤ count },
 }
 
 impl<'a> Reader<'a> {
-    /// The place of the next symbol, or how many there are.
-    fn position(&self) -> usize {
-        self.count - self.rest.len()
+    /// How many symbols are left.
+    fn left(&self) -> usize
+        ensures { result ≡ length self.now.rest.now }
+    {
+        self.rest.len()
+    }
+
+    /// The refusal of the next symbol, or of the end.
+    fn stuck(&self) -> SyntaxFault
+        ensures { result ≡ SyntaxFault.Syntax (length self.now.rest.now) }
+    {
+        SyntaxFault::Syntax(self.left())
     }
 
     /// What may nest in something that may nest `nesting` deep.
@@ -77,7 +83,7 @@ impl<'a> Reader<'a> {
         if self.take(terminal) {
             Ok(())
         } else {
-            Err(SyntaxFault::Syntax(self.position()))
+            Err(self.stuck())
         }
     }
 
@@ -87,14 +93,14 @@ impl<'a> Reader<'a> {
         ensures { Gives (λ s. s.now) result self.new.rest.now (name_at self.old.rest.now) }
     {
         let Some((first, rest)) = self.rest.split_first() else {
-            return Err(SyntaxFault::Syntax(self.position()));
+            return Err(self.stuck());
         };
         match first {
             Symbol::Name(name) => {
                 self.rest = rest;
                 Ok(name)
             }
-            _ => Err(SyntaxFault::Syntax(self.position())),
+            _ => Err(self.stuck()),
         }
     }
 
@@ -124,7 +130,7 @@ impl<'a> Reader<'a> {
     {
         match self.take_number() {
             Some(number) => Ok(number),
-            None => Err(SyntaxFault::Syntax(self.position())),
+            None => Err(self.stuck()),
         }
     }
 
@@ -204,7 +210,7 @@ impl<'a> Reader<'a> {
         }
         match place {
             Place::Loc(_) => Ok(Binding { place, value: 0 }),
-            Place::Reg(_, _) => Err(SyntaxFault::Syntax(self.position())),
+            Place::Reg(_, _) => Err(self.stuck()),
         }
     }
 
@@ -293,10 +299,10 @@ impl<'a> Reader<'a> {
         self.skip_volatile();
         let kind = self.kind()?;
         self.expect(Terminal::Star)?;
-        let position = self.position();
+        let stuck = self.stuck();
         let name = self.name()?;
         if earlier.contains(&name) {
-            return Err(SyntaxFault::Syntax(position));
+            return Err(stuck);
         }
         Ok(Parameter { name, kind })
     }
@@ -351,12 +357,12 @@ impl<'a> Reader<'a> {
     fn thread_name(&mut self, number: usize) -> Result<(), SyntaxFault>
         ensures { Gives (λ _. tt) result self.new.rest.now (thread_name_at number self.old.rest.now) }
     {
-        let position = self.position();
+        let stuck = self.stuck();
         let name = self.name_ref()?;
         if names_thread(self.alloc, name.bytes(), number)? {
             Ok(())
         } else {
-            Err(SyntaxFault::Syntax(position))
+            Err(stuck)
         }
     }
 
@@ -447,14 +453,14 @@ impl<'a> Reader<'a> {
         ensures { Gives (λ s. s.now) result self.new.rest.now (word_at self.old.rest.now) }
     {
         let Some((first, rest)) = self.rest.split_first() else {
-            return Err(SyntaxFault::Syntax(self.position()));
+            return Err(self.stuck());
         };
         match first {
             Symbol::Word(word) => {
                 self.rest = rest;
                 Ok(word)
             }
-            _ => Err(SyntaxFault::Syntax(self.position())),
+            _ => Err(self.stuck()),
         }
     }
 
@@ -463,11 +469,11 @@ impl<'a> Reader<'a> {
     fn language(&mut self) -> Result<(), SyntaxFault>
         ensures { Gives (λ _. tt) result self.new.rest.now (language_at self.old.rest.now) }
     {
-        let position = self.position();
+        let stuck = self.stuck();
         if self.word()?.bytes() == b"C".as_slice() {
             Ok(())
         } else {
-            Err(SyntaxFault::Syntax(position))
+            Err(stuck)
         }
     }
 
@@ -477,7 +483,7 @@ impl<'a> Reader<'a> {
     {
         match self.rest.split_first() {
             None => Ok(()),
-            Some(_) => Err(SyntaxFault::Syntax(self.position())),
+            Some(_) => Err(self.stuck()),
         }
     }
 
@@ -530,7 +536,6 @@ pub fn read_draft(alloc: Global, symbols: &[Symbol]) -> Result<Draft, SyntaxFaul
     let mut reader = Reader {
         alloc,
         rest: symbols,
-        count: symbols.len(),
     };
     reader.test(NESTING)
 }

@@ -7,7 +7,7 @@ use std::alloc::{AllocError, AllocFailed};
 /// Why the grammar has no test of these symbols.
 #[derive(Clone, Copy, Debug, Drop, PartialEq, Eq)]
 pub enum SyntaxFault {
-    /// The place of the first symbol that the grammar doesn't take, from 0, or how many there are where more is wanted.
+    /// How many symbols are left, from the first that the grammar doesn't take on: none where more is wanted.
     Syntax(usize),
     /// A call with an order that it doesn't take.
     BadOrder,

@@ -1,9 +1,9 @@
 //! How many candidates texts have, and how many of them are executions.
 
-use crate::texts::{SB, ask_space, count_executions, count_walked, repeated, size};
+use crate::texts::{Question, Row, SB, Told, all_tell, repeated, tells};
 use candidates::SpaceFault;
 use std::alloc::{AllocError, Global};
-use std::test::Fail;
+use std::process::Abort;
 
 const LB_DATA: &str = "C LB\n{}\n\
 P0 (atomic_int* x, atomic_int* y) { int r0 = atomic_load_explicit(x, memory_order_relaxed); atomic_store_explicit(y, r0, memory_order_relaxed); }\n\
@@ -28,87 +28,99 @@ P2 (atomic_int* x, atomic_int* y) { int r0 = atomic_load_explicit(x, memory_orde
 P3 (atomic_int* x, atomic_int* y) { int r0 = atomic_load_explicit(y, memory_order_acquire); int r1 = atomic_load_explicit(x, memory_order_acquire); }\n\
 exists (2:r0=1 /\\ 2:r1=0 /\\ 3:r0=1 /\\ 3:r1=0)\n";
 
-#[test]
-fn sizes_of_spaces(rt: HostRuntime) -> Result<(), Fail> {
-    for text in [SB, LB_DATA] {
-        if ask_space(rt.alloc(), text, size)? != Ok(16) {
-            return Err(Fail::new(text));
-        }
-    }
-    Ok(())
-}
-
-/// Texts, and how many executions they have.
-const EXECUTIONS: [(&str, u64); 5] = [
-    (SB, 4),
-    (LB_DATA, 5),
-    (EXCHANGES, 18),
-    (BRANCHES, 2),
-    (IRIW, 16),
+const SIZES_OF_SPACES: &[Row] = &[
+    (SB, Question::Size, Ok(16)),
+    (LB_DATA, Question::Size, Ok(16)),
 ];
 
 #[test]
-fn executions(rt: HostRuntime) -> Result<(), Fail> {
-    for (text, count) in &EXECUTIONS {
-        if ask_space(rt.alloc(), text, count_executions)? != Ok(*count) {
-            return Err(Fail::new(*text));
-        }
-    }
-    Ok(())
+fn sizes_of_spaces(rt: HostRuntime) {
+    all_tell(&rt, rt.alloc(), SIZES_OF_SPACES);
 }
+
+const EXECUTIONS: &[Row] = &[
+    (SB, Question::Executions, Ok(4)),
+    (LB_DATA, Question::Executions, Ok(5)),
+    (EXCHANGES, Question::Executions, Ok(18)),
+    (BRANCHES, Question::Executions, Ok(2)),
+    (IRIW, Question::Executions, Ok(16)),
+];
 
 #[test]
-fn walks(rt: HostRuntime) -> Result<(), Fail> {
-    for (text, count) in &EXECUTIONS {
-        if ask_space(rt.alloc(), text, count_walked)? != Ok(*count) {
-            return Err(Fail::new(*text));
-        }
-    }
-    Ok(())
+fn executions(rt: HostRuntime) {
+    all_tell(&rt, rt.alloc(), EXECUTIONS);
 }
 
-/// Whether the space of a test of one thread, which makes this call so often, has this fault.
-fn has_fault(
-    alloc: Global,
-    call: &str,
-    times: usize,
-    wanted: Option<SpaceFault>,
-) -> Result<bool, Fail> {
+const WALKS: &[Row] = &[
+    (SB, Question::Walked, Ok(4)),
+    (LB_DATA, Question::Walked, Ok(5)),
+    (EXCHANGES, Question::Walked, Ok(18)),
+    (BRANCHES, Question::Walked, Ok(2)),
+    (IRIW, Question::Walked, Ok(16)),
+];
+
+#[test]
+fn walks(rt: HostRuntime) {
+    all_tell(&rt, rt.alloc(), WALKS);
+}
+
+/// A call, how often a test's one thread makes it, the test's condition, what is asked, and what is told.
+type Calls = (&'static str, usize, &'static str, Question, Told);
+
+/// Whether this is told of the space of a test of one thread, which makes this call so often.
+fn tells_of_calls(alloc: Global, row: &Calls) -> bool {
+    let (call, times, condition, question, wanted) = *row;
     let start = "C T\n{}\nP0 (atomic_int* x) {\n";
-    let text = repeated(alloc, start, call, times, "}\nexists (x=0)\n")?;
-    Ok(ask_space(alloc, text.as_str(), size)?.err() == wanted)
+    match repeated(alloc, start, call, times, condition) {
+        Ok(text) => tells(alloc, text.as_str(), question, wanted),
+        Err(_) => false,
+    }
+}
+
+/// Fails at the first row of which something else is told.
+fn all_tell_of_calls(rt: &impl Abort, alloc: Global, rows: &[Calls]) {
+    for row in rows {
+        assert!(rt; tells_of_calls(alloc, row), "{} times {}", row.1, row.0);
+    }
 }
 
 const STORE: &str = "atomic_store_explicit(x, 1, memory_order_relaxed);\n";
 
 const LOAD: &str = "r0 = atomic_load_explicit(x, memory_order_relaxed);\n";
 
-/// Calls, how often a thread makes them, and why its test has no space.
-const SIZES: [(&str, usize, Option<SpaceFault>); 5] = [
-    (STORE, 12, None),
-    (STORE, 13, Some(SpaceFault::TooManyCandidates)),
-    (LOAD, 12, None),
-    (LOAD, 13, Some(SpaceFault::TooManyRuns(0))),
-    ("", 1, None),
+const AT_ZERO: &str = "}\nexists (x=0)\n";
+
+const SIZES: &[Calls] = &[
+    (STORE, 12, AT_ZERO, Question::Size, Ok(479_001_600)),
+    (
+        STORE,
+        13,
+        AT_ZERO,
+        Question::Size,
+        Err(SpaceFault::TooManyCandidates),
+    ),
+    (LOAD, 12, AT_ZERO, Question::Size, Ok(4096)),
+    (
+        LOAD,
+        13,
+        AT_ZERO,
+        Question::Size,
+        Err(SpaceFault::TooManyRuns(0)),
+    ),
+    ("", 1, AT_ZERO, Question::Size, Ok(1)),
 ];
 
 #[test]
-fn sizes(rt: HostRuntime) -> Result<(), Fail> {
-    for (call, times, fault) in &SIZES {
-        if !has_fault(rt.alloc(), call, *times, *fault)? {
-            return Err(Fail::new(*call));
-        }
-    }
-    Ok(())
+fn sizes(rt: HostRuntime) {
+    all_tell_of_calls(&rt, rt.alloc(), SIZES);
 }
 
 /// Of 4,096 candidates one is an execution.
+const TWELVE_LOADS: &[Calls] = &[(LOAD, 12, "}\nexists (0:r0=0)\n", Question::Walked, Ok(1))];
+
 #[test]
-fn walk_over_twelve_loads(rt: HostRuntime) -> Result<(), Fail> {
-    let start = "C T\n{}\nP0 (atomic_int* x) {\n";
-    let text = repeated(rt.alloc(), start, LOAD, 12, "}\nexists (0:r0=0)\n")?;
-    assert!(rt; ask_space(rt.alloc(), text.as_str(), count_walked)? == Ok(1));
-    Ok(())
+fn walk_over_twelve_loads(rt: HostRuntime) {
+    all_tell_of_calls(&rt, rt.alloc(), TWELVE_LOADS);
 }
 
 /// Loads of locations that nobody writes, by three threads of ten loads each.
@@ -121,13 +133,21 @@ fn thirty_loads(alloc: Global) -> Result<String, AllocError> {
     repeated(alloc, both.as_str(), of_z, 10, "}\nexists (0:r0=0)\n")
 }
 
+/// Whether this is told of their space.
+fn thirty_tell(alloc: Global, question: Question, wanted: Told) -> bool {
+    match thirty_loads(alloc) {
+        Ok(text) => tells(alloc, text.as_str(), question, wanted),
+        Err(_) => false,
+    }
+}
+
 /// Of 2^30 candidates one is an execution.
 #[test]
-fn walk_over_thirty_loads(rt: HostRuntime) -> Result<(), Fail> {
-    let text = thirty_loads(rt.alloc())?;
-    assert!(rt; ask_space(rt.alloc(), text.as_str(), size)? == Ok(1 << 30));
-    assert!(rt; ask_space(rt.alloc(), text.as_str(), count_walked)? == Ok(1));
-    Ok(())
+fn walk_over_thirty_loads(rt: HostRuntime) {
+    assert!(rt;
+        thirty_tell(rt.alloc(), Question::Size, Ok(1 << 30))
+            && thirty_tell(rt.alloc(), Question::Walked, Ok(1))
+    );
 }
 
 /// Eight threads of one load each, where it has 16 values to choose from: of 2^32 candidates one is an execution.
@@ -139,9 +159,12 @@ P4 (atomic_int* x) { int r0 = atomic_load(x); }\nP5 (atomic_int* x) { int r0 = a
 P6 (atomic_int* x) { int r0 = atomic_load(x); }\nP7 (atomic_int* x) { int r0 = atomic_load(x); }\n\
 exists (0:r0=0)\n";
 
+const SIXTEEN_VALUES: &[Row] = &[
+    (EIGHT, Question::Size, Ok(1 << 32)),
+    (EIGHT, Question::Walked, Ok(1)),
+];
+
 #[test]
-fn walk_over_sixteen_values(rt: HostRuntime) -> Result<(), Fail> {
-    assert!(rt; ask_space(rt.alloc(), EIGHT, size)? == Ok(1 << 32));
-    assert!(rt; ask_space(rt.alloc(), EIGHT, count_walked)? == Ok(1));
-    Ok(())
+fn walk_over_sixteen_values(rt: HostRuntime) {
+    all_tell(&rt, rt.alloc(), SIXTEEN_VALUES);
 }

@@ -2,11 +2,9 @@
 //! that is refused answers NoMemory, and made again it gives its own answer. So `tools/refuse-each-growth` runs the tests
 //! once for each request.
 
-use crate::texts::{OfSpace, SB, any, ask_space, count_executions, has_runs, size};
+use crate::texts::{Question, Row, SB, all_tell, any, has_runs};
 use candidates::SpaceFault;
 use events::{Access, Order, Run};
-use std::alloc::Global;
-use std::test::Fail;
 
 const TEXT: &str = "C G
 { int x=3; 1:q=2; y }
@@ -43,38 +41,36 @@ fn read_0_to_4(runs: &[Run]) -> bool {
 
 /// The thread reads one of five values, and then one of five again, into `b` or, where it read 0, into `a`.
 #[test]
-fn runs_of_a_thread(rt: HostRuntime) -> Result<(), Fail> {
-    assert!(rt; has_runs(rt.alloc(), TEXT, 0, Some(Ok(25)), read_0_to_4)?);
-    Ok(())
+fn runs_of_a_thread(rt: HostRuntime) {
+    assert!(rt; has_runs(rt.alloc(), TEXT, 0, Some(Ok(25)), read_0_to_4));
 }
 
 #[test]
-fn runs_of_an_empty_thread(rt: HostRuntime) -> Result<(), Fail> {
-    assert!(rt; has_runs(rt.alloc(), TEXT, 1, Some(Ok(1)), any)?);
-    Ok(())
+fn runs_of_an_empty_thread(rt: HostRuntime) {
+    assert!(rt; has_runs(rt.alloc(), TEXT, 1, Some(Ok(1)), any));
 }
 
-/// Whether this number is told of the space of store buffering.
-fn tells(alloc: Global, question: OfSpace, wanted: u64) -> Result<bool, Fail>
-    requires { IsAlwaysCallable question }
-{
-    Ok(ask_space(alloc, SB, question)? == Ok(wanted))
-}
+const SPACES: &[Row] = &[
+    (SB, Question::Size, Ok(16)),
+    (SB, Question::Executions, Ok(4)),
+];
 
 #[test]
-fn spaces(rt: HostRuntime) -> Result<(), Fail> {
-    let alloc = rt.alloc();
-    assert!(rt; tells(alloc, size, 16)? && tells(alloc, count_executions, 4)?);
-    Ok(())
+fn spaces(rt: HostRuntime) {
+    all_tell(&rt, rt.alloc(), SPACES);
 }
 
 /// 13 later writes of one location are in more than 2^32 orders.
+const NO_SPACE: &[Row] = &[(
+    "C T\n{}P0(atomic_int*x){
+        atomic_store(x,1); atomic_store(x,1); atomic_store(x,1); atomic_store(x,1); atomic_store(x,1);
+        atomic_store(x,1); atomic_store(x,1); atomic_store(x,1); atomic_store(x,1); atomic_store(x,1);
+        atomic_store(x,1); atomic_store(x,1); atomic_store(x,1); }exists x=0",
+    Question::Size,
+    Err(SpaceFault::TooManyCandidates),
+)];
+
 #[test]
-fn no_space(rt: HostRuntime) -> Result<(), Fail> {
-    let text = "C T\n{}P0(atomic_int*x){
-        atomic_store(x,1); atomic_store(x,1); atomic_store(x,1); atomic_store(x,1); atomic_store(x,1);
-        atomic_store(x,1); atomic_store(x,1); atomic_store(x,1); atomic_store(x,1); atomic_store(x,1);
-        atomic_store(x,1); atomic_store(x,1); atomic_store(x,1); }exists x=0";
-    assert!(rt; ask_space(rt.alloc(), text, size)? == Err(SpaceFault::TooManyCandidates));
-    Ok(())
+fn no_space(rt: HostRuntime) {
+    all_tell(&rt, rt.alloc(), NO_SPACE);
 }

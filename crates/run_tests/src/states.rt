@@ -4,8 +4,7 @@ use conditions::{
     Atom, Binding, Cond, Connective, Kind, Place, Prop, State, holds, observed, ok_of,
 };
 use std::alloc::{AllocError, Global};
-use std::test::Fail;
-use wb_text::{Name, NameFault};
+use wb_text::Name;
 
 /// A place as the tests write it.
 enum Spot {
@@ -13,14 +12,21 @@ enum Spot {
     Location(&'static [u8]),
 }
 
-fn place(alloc: Global, spot: &Spot) -> Result<Place, NameFault> {
-    match spot {
-        Spot::Register(thread, name) => Ok(Place::Reg(*thread, Name::new(alloc, name)?)),
-        Spot::Location(name) => Ok(Place::Loc(Name::new(alloc, name)?)),
+fn name(alloc: Global, bytes: &[u8]) -> Result<Name, AllocError> {
+    match Name::new(alloc, bytes) {
+        Ok(name) => Ok(name),
+        Err(_) => Err(AllocError),
     }
 }
 
-fn places(alloc: Global, spots: &[Spot]) -> Result<Vec<Place>, Fail> {
+fn place(alloc: Global, spot: &Spot) -> Result<Place, AllocError> {
+    match spot {
+        Spot::Register(thread, register) => Ok(Place::Reg(*thread, name(alloc, register)?)),
+        Spot::Location(location) => Ok(Place::Loc(name(alloc, location)?)),
+    }
+}
+
+fn places(alloc: Global, spots: &[Spot]) -> Result<Vec<Place>, AllocError> {
     let mut places = Vec::new(alloc);
     for spot in spots {
         places.push(place(alloc, spot)?)?;
@@ -39,19 +45,21 @@ enum Formula {
     Implies(&'static Formula, &'static Formula),
 }
 
-fn prop(alloc: Global, formula: &Formula) -> Result<Prop, Fail> {
+fn prop(alloc: Global, formula: &Formula) -> Result<Prop, AllocError> {
     match formula {
         Formula::True => Ok(Prop::atom(alloc, Atom::True)),
         Formula::False => Ok(Prop::atom(alloc, Atom::False)),
-        Formula::Equals(spot, value) => {
-            let place = place(alloc, spot)?;
-            Ok(Prop::atom(alloc, Atom::Equals(place, *value)))
-        }
-        Formula::Not(a) => Ok(prop(alloc, a)?.denied()?),
-        Formula::And(a, b) => Ok(prop(alloc, a)?.joined(Connective::And, prop(alloc, b)?)?),
-        Formula::Or(a, b) => Ok(prop(alloc, a)?.joined(Connective::Or, prop(alloc, b)?)?),
-        Formula::Implies(a, b) => Ok(prop(alloc, a)?.joined(Connective::Implies, prop(alloc, b)?)?),
+        Formula::Equals(spot, value) => equals(alloc, spot, *value),
+        Formula::Not(a) => prop(alloc, a)?.denied(),
+        Formula::And(a, b) => prop(alloc, a)?.joined(Connective::And, prop(alloc, b)?),
+        Formula::Or(a, b) => prop(alloc, a)?.joined(Connective::Or, prop(alloc, b)?),
+        Formula::Implies(a, b) => prop(alloc, a)?.joined(Connective::Implies, prop(alloc, b)?),
     }
+}
+
+fn equals(alloc: Global, spot: &Spot, value: u32) -> Result<Prop, AllocError> {
+    let place = place(alloc, spot)?;
+    Ok(Prop::atom(alloc, Atom::Equals(place, value)))
 }
 
 /// `(0:r0=a => ~(1:r0=b)) /\ (x=c \/ false) /\ true`
@@ -81,28 +89,20 @@ const OTHER: Formula = every_connective!(1, 2, 4);
 const AT_ZERO: Formula = every_connective!(0, 0, 0);
 
 /// What may hold of a condition.
-type Check = fn(Global, &Cond) -> Result<bool, Fail>;
+type Check = fn(Global, &Cond) -> bool;
 
-fn condition(alloc: Global, kind: Kind, formula: &Formula) -> Result<Cond, Fail> {
+fn condition(alloc: Global, kind: Kind, formula: &Formula) -> Result<Cond, AllocError> {
     Ok(Cond::new(kind, prop(alloc, formula)?))
 }
 
-fn confirm(alloc: Global, condition: &Cond, check: Check) -> Result<(), Fail>
+/// Whether this holds of a condition.
+fn holds_of(alloc: Global, kind: Kind, formula: &Formula, check: Check) -> bool
     requires { IsAlwaysCallable check }
 {
-    if check(alloc, condition)? {
-        Ok(())
-    } else {
-        Err(Fail::new("this holds of the condition"))
+    match condition(alloc, kind, formula) {
+        Ok(condition) => check(alloc, &condition),
+        Err(_) => false,
     }
-}
-
-/// Fails where this doesn't hold of a condition.
-fn expect(alloc: Global, kind: Kind, formula: &Formula, check: Check) -> Result<(), Fail>
-    requires { IsAlwaysCallable check }
-{
-    let condition = condition(alloc, kind, formula)?;
-    confirm(alloc, &condition, check)
 }
 
 /// The places of those propositions.
@@ -135,14 +135,16 @@ fn all_judged(prop: &Prop, places: &[Place]) -> bool {
     true
 }
 
-fn judges(alloc: Global, condition: &Cond) -> Result<bool, Fail> {
-    let places = places(alloc, &PLACES)?;
-    Ok(all_judged(condition.prop(), &places))
+fn judges(alloc: Global, condition: &Cond) -> bool {
+    match places(alloc, &PLACES) {
+        Ok(places) => all_judged(condition.prop(), &places),
+        Err(_) => false,
+    }
 }
 
 #[test]
-fn judges_states(rt: HostRuntime) -> Result<(), Fail> {
-    expect(rt.alloc(), Kind::Exists, &FORMULA, judges)
+fn judges_states(rt: HostRuntime) {
+    assert!(rt; holds_of(rt.alloc(), Kind::Exists, &FORMULA, judges));
 }
 
 /// Whether the second place has its value there, and another place 0.
@@ -165,21 +167,24 @@ fn have_values(places: &[Place], other: &Place) -> bool {
 }
 
 /// Whether the places have their values in each row, and `y` has 0.
-fn have_values_beside_y(alloc: Global, places: &[Place]) -> Result<bool, Fail> {
-    let other = place(alloc, &Spot::Location(b"y"))?;
-    Ok(have_values(places, &other))
+fn have_values_beside_y(alloc: Global, places: &[Place]) -> bool {
+    match place(alloc, &Spot::Location(b"y")) {
+        Ok(other) => have_values(places, &other),
+        Err(_) => false,
+    }
 }
 
 /// Whether that holds of the places that the tests write.
-fn all_have_values(alloc: Global) -> Result<bool, Fail> {
-    let places = places(alloc, &PLACES)?;
-    have_values_beside_y(alloc, &places)
+fn all_have_values(alloc: Global) -> bool {
+    match places(alloc, &PLACES) {
+        Ok(places) => have_values_beside_y(alloc, &places),
+        Err(_) => false,
+    }
 }
 
 #[test]
-fn values_in_states(rt: HostRuntime) -> Result<(), Fail> {
-    assert!(rt; all_have_values(rt.alloc())?);
-    Ok(())
+fn values_in_states(rt: HostRuntime) {
+    assert!(rt; all_have_values(rt.alloc()));
 }
 
 /// What a condition of a kind is where its proposition holds nowhere, at one execution of four, and at each.
@@ -217,58 +222,76 @@ const OBSERVED: [Spot; 5] = [
 ];
 
 /// Whether these are the wanted places.
-fn are_wanted(alloc: Global, found: &[Place]) -> Result<bool, Fail> {
-    let wanted = places(alloc, &OBSERVED)?;
-    Ok(found == wanted.as_slice())
+fn are_wanted(alloc: Global, found: &[Place]) -> bool {
+    match places(alloc, &OBSERVED) {
+        Ok(wanted) => found == wanted.as_slice(),
+        Err(_) => false,
+    }
 }
 
 /// Whether a condition with these listed is observed at the wanted places.
-fn observes_with(alloc: Global, condition: &Cond, listed: &[Place]) -> Result<bool, Fail> {
-    let found = observed(alloc, condition, listed)?;
-    are_wanted(alloc, &found)
+fn observes_with(alloc: Global, condition: &Cond, listed: &[Place]) -> bool {
+    match observed(alloc, condition, listed) {
+        Ok(found) => are_wanted(alloc, &found),
+        Err(_) => false,
+    }
 }
 
-fn observes(alloc: Global, condition: &Cond) -> Result<bool, Fail> {
-    let listed = places(alloc, &LISTED)?;
-    observes_with(alloc, condition, &listed)
+fn observes(alloc: Global, condition: &Cond) -> bool {
+    match places(alloc, &LISTED) {
+        Ok(listed) => observes_with(alloc, condition, &listed),
+        Err(_) => false,
+    }
 }
 
 #[test]
-fn observes_each_place_once(rt: HostRuntime) -> Result<(), Fail> {
-    expect(rt.alloc(), Kind::Exists, &AT_ZERO, observes)
+fn observes_each_place_once(rt: HostRuntime) {
+    assert!(rt; holds_of(rt.alloc(), Kind::Exists, &AT_ZERO, observes));
 }
 
 /// Whether the copy of a binding is equal to it.
-fn binding_is_copied(binding: &Binding) -> Result<bool, AllocError> {
-    let copy = binding.copy()?;
-    Ok(copy == *binding)
+fn binding_is_copied(binding: &Binding) -> bool {
+    match binding.copy() {
+        Ok(copy) => copy == *binding,
+        Err(_) => false,
+    }
+}
+
+/// Whether that holds of a binding of this place.
+fn is_copied_in_a_binding(alloc: Global, spot: &Spot) -> bool {
+    match place(alloc, spot) {
+        Ok(place) => binding_is_copied(&Binding { place, value: 1 }),
+        Err(_) => false,
+    }
 }
 
 #[test]
-fn copies_of_bindings(rt: HostRuntime) -> Result<(), Fail> {
-    let place = place(rt.alloc(), &Spot::Register(0, b"r0"))?;
-    assert!(rt; binding_is_copied(&Binding { place, value: 1 })?);
-    Ok(())
+fn copies_of_bindings(rt: HostRuntime) {
+    assert!(rt; is_copied_in_a_binding(rt.alloc(), &Spot::Register(0, b"r0")));
 }
 
 /// Whether the copy of a condition is equal to it.
-fn is_copied(_alloc: Global, condition: &Cond) -> Result<bool, Fail> {
-    let copy = condition.copy()?;
-    Ok(copy == *condition)
+fn is_copied(_alloc: Global, condition: &Cond) -> bool {
+    match condition.copy() {
+        Ok(copy) => copy == *condition,
+        Err(_) => false,
+    }
 }
 
 #[test]
-fn copies_of_conditions(rt: HostRuntime) -> Result<(), Fail> {
-    expect(rt.alloc(), Kind::Forall, &FORMULA, is_copied)
+fn copies_of_conditions(rt: HostRuntime) {
+    assert!(rt; holds_of(rt.alloc(), Kind::Forall, &FORMULA, is_copied));
 }
 
 /// Whether a condition isn't `forall` of `OTHER`.
-fn is_another(alloc: Global, first: &Cond) -> Result<bool, Fail> {
-    let second = condition(alloc, Kind::Forall, &OTHER)?;
-    Ok(*first != second)
+fn is_another(alloc: Global, first: &Cond) -> bool {
+    match condition(alloc, Kind::Forall, &OTHER) {
+        Ok(second) => *first != second,
+        Err(_) => false,
+    }
 }
 
 #[test]
-fn other_conditions(rt: HostRuntime) -> Result<(), Fail> {
-    expect(rt.alloc(), Kind::Forall, &FORMULA, is_another)
+fn other_conditions(rt: HostRuntime) {
+    assert!(rt; holds_of(rt.alloc(), Kind::Forall, &FORMULA, is_another));
 }

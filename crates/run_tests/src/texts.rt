@@ -1,11 +1,11 @@
 //! Texts, and what is asked of the tests that they spell. A call that memory was wanting for is made again.
 
 use c11_threads::{RunFault, runs};
-use candidates::{Space, SpaceFault};
+use candidates::{Space, SpaceFault, Walk};
 use events::{Graph, Run};
 use litmus_c::{Test, TestFault, read_test};
 use std::alloc::{AllocError, Global};
-use std::test::Fail;
+use std::process::Abort;
 
 /// Store buffering.
 pub const SB: &str = "C SB\n{}\n\
@@ -30,14 +30,6 @@ fn answer_to(alloc: Global, text: &str) -> Result<Test, TestFault> {
     again!(TestFault::NoMemory, read_test(alloc, text.as_bytes()))
 }
 
-/// The test that a text spells.
-fn read(alloc: Global, text: &str) -> Result<Test, Fail> {
-    match answer_to(alloc, text) {
-        Ok(test) => Ok(test),
-        Err(_) => Err(Fail::new("the text is a test")),
-    }
-}
-
 /// How many runs a thread has, or why they aren't listed; `None` where the thread isn't there.
 pub type Count = Option<Result<usize, RunFault>>;
 
@@ -58,17 +50,13 @@ fn has_runs_in(alloc: Global, test: &Test, thread: usize, wanted: Count, check: 
 }
 
 /// Whether a thread of the test that a text spells has so many runs, of which this holds.
-pub fn has_runs(
-    alloc: Global,
-    text: &str,
-    thread: usize,
-    wanted: Count,
-    check: Check,
-) -> Result<bool, Fail>
+pub fn has_runs(alloc: Global, text: &str, thread: usize, wanted: Count, check: Check) -> bool
     requires { IsAlwaysCallable check }
 {
-    let test = read(alloc, text)?;
-    Ok(has_runs_in(alloc, &test, thread, wanted, check))
+    match answer_to(alloc, text) {
+        Ok(test) => has_runs_in(alloc, &test, thread, wanted, check),
+        Err(_) => false,
+    }
 }
 
 /// Holds of any runs.
@@ -77,41 +65,62 @@ pub fn any(_runs: &[Run]) -> bool {
 }
 
 /// What is asked of the space of a test's candidates.
-pub type OfSpace = fn(Global, &Space) -> Result<u64, AllocError>;
+#[derive(Clone, Copy)]
+pub enum Question {
+    /// How many candidates it has.
+    Size,
+    /// How many of them are executions.
+    Executions,
+    /// How many executions a walk finds.
+    Walked,
+}
 
-/// What is told of the space of a test, or why there is none.
-fn ask_space_of(
-    alloc: Global,
-    test: &Test,
-    question: OfSpace,
-) -> Result<Result<u64, SpaceFault>, Fail>
-    requires { IsAlwaysCallable question }
-{
-    match again!(SpaceFault::NoMemory, Space::new(alloc, test)) {
-        Ok(space) => Ok(Ok(question(alloc, &space)?)),
-        Err(fault) => Ok(Err(fault)),
+/// What is told of a space, or why there is none.
+pub type Told = Result<u64, SpaceFault>;
+
+/// A text, what is asked of the space of its test, and what is told.
+pub type Row = (&'static str, Question, Told);
+
+fn answer(alloc: Global, space: &Space, question: Question) -> Result<u64, AllocError> {
+    match question {
+        Question::Size => Ok(space.size()),
+        Question::Executions => count_executions(alloc, space),
+        Question::Walked => count_walked(alloc, space),
     }
 }
 
-/// What is told of the space of the test that a text spells, or why there is none.
-pub fn ask_space(
-    alloc: Global,
-    text: &str,
-    question: OfSpace,
-) -> Result<Result<u64, SpaceFault>, Fail>
-    requires { IsAlwaysCallable question }
-{
-    let test = read(alloc, text)?;
-    ask_space_of(alloc, &test, question)
+fn tells_in(alloc: Global, space: &Space, question: Question, wanted: Told) -> bool {
+    match answer(alloc, space, question) {
+        Ok(number) => wanted == Ok(number),
+        Err(_) => false,
+    }
 }
 
-/// How many candidates a space has.
-pub fn size(_alloc: Global, space: &Space) -> Result<u64, AllocError> {
-    Ok(space.size())
+/// Whether this is told of the space of a test.
+fn tells_of(alloc: Global, test: &Test, question: Question, wanted: Told) -> bool {
+    match again!(SpaceFault::NoMemory, Space::new(alloc, test)) {
+        Ok(space) => tells_in(alloc, &space, question, wanted),
+        Err(fault) => wanted == Err(fault),
+    }
+}
+
+/// Whether this is told of the space of the test that a text spells.
+pub fn tells(alloc: Global, text: &str, question: Question, wanted: Told) -> bool {
+    match answer_to(alloc, text) {
+        Ok(test) => tells_of(alloc, &test, question, wanted),
+        Err(_) => false,
+    }
+}
+
+/// Fails at the first text of which something else is told.
+pub fn all_tell(rt: &impl Abort, alloc: Global, rows: &[Row]) {
+    for (text, question, wanted) in rows {
+        assert!(rt; tells(alloc, text, *question, *wanted), "{text}");
+    }
 }
 
 /// How many candidates of a space are executions.
-pub fn count_executions(alloc: Global, space: &Space) -> Result<u64, AllocError> {
+fn count_executions(alloc: Global, space: &Space) -> Result<u64, AllocError> {
     let mut count: u64 = 0;
     for number in 0..space.size() {
         if again!(_, space.graph(alloc, number))?.is_some() {
@@ -137,13 +146,12 @@ fn stands_at(
     }
 }
 
-/// How many executions a walk over a space finds, each behind the one before, and each at its number; none where one isn't.
-pub fn count_walked(alloc: Global, space: &Space) -> Result<u64, AllocError> {
-    let size = space.size();
-    let mut walk = again!(_, space.walk(alloc, 0, size))?;
+/// How many executions a walk over a space finds from here on, each behind the one before, and each at its number; none
+/// where one isn't.
+fn count_on(alloc: Global, space: &Space, walk: &mut Walk) -> Result<u64, AllocError> {
     let mut count: u64 = 0;
     let mut least: u64 = 0;
-    for _ in 0..size {
+    for _ in 0..space.size() {
         let Some(number) = again!(_, walk.next(alloc))? else {
             return Ok(count);
         };
@@ -154,6 +162,14 @@ pub fn count_walked(alloc: Global, space: &Space) -> Result<u64, AllocError> {
         count = count.saturating_add(1);
     }
     Ok(count)
+}
+
+/// How many executions a walk over a whole space finds so.
+fn count_walked(alloc: Global, space: &Space) -> Result<u64, AllocError> {
+    match again!(_, space.walk(alloc, 0, space.size())) {
+        Ok(mut walk) => count_on(alloc, space, &mut walk),
+        Err(fault) => Err(fault),
+    }
 }
 
 /// A text, then a part some times, then an end.

@@ -1,6 +1,6 @@
 //! Sessions over one desk, each with a pass.
 
-ghost use Rattle.std.specs.Prelude.{◌≡◌};
+ghost use Rattle.std.specs.Prelude.{◌≡◌, All};
 
 use crate::calls::{Answer, Call, SB, TEST_A, TEST_B, are_answered, make_all};
 use book::{Command, Limits, Refused};
@@ -9,7 +9,6 @@ use std::alloc::{AllocError, Global};
 use std::marker::Brand;
 use std::sync::Wait;
 use std::sync::ledger::{Blank, Ledger};
-use std::test::*;
 
 pub const WIDE: Limits = Limits {
     journal: 1_000_000,
@@ -32,7 +31,7 @@ pub const SECOND: [Call; 4] = [
 ];
 
 /// The places of the receipts rise.
-pub fn rise<L: Ledger>(pass: &Pass<L>) -> bool {
+fn rise<L: Ledger>(pass: &Pass<L>) -> bool {
     let mut next = 0;
     for receipt in pass.receipts() {
         let place = receipt.entry().place();
@@ -42,6 +41,26 @@ pub fn rise<L: Ledger>(pass: &Pass<L>) -> bool {
         next = place.saturating_add(1);
     }
     true
+}
+
+/// Whether the places of each pass's receipts rise.
+pub fn all_rise<L: Ledger>(passes: &[Pass<L>]) -> bool {
+    for pass in passes {
+        if !rise(pass) {
+            return false;
+        }
+    }
+    true
+}
+
+/// How many entries the journal has, where `finish` answers Ok.
+pub fn entries<L: Ledger>(desk: Desk<L>, passes: Vec<Pass<L>>) -> Option<usize>
+    requires { All (λ p. p.parts ≡ 1) passes.items }
+{
+    match finish(desk, passes) {
+        Ok(closed) => Some(closed.journal.len()),
+        Err(_) => None,
+    }
 }
 
 /// Two sessions call in turn: what `finish` counts, how many calls were recorded, and whether the places of each pass's receipts rise.
@@ -55,22 +74,34 @@ fn run_both<L: Ledger, R: Wait>(
     let (desk, mut passes) = open::<L>(alloc, blank, WIDE, 2)?;
     let first = make_all(rt, alloc, &desk, &mut passes[0], &FIRST);
     let second = make_all(rt, alloc, &desk, &mut passes[1], &SECOND);
-    let rising = passes.iter().all(|pass| rise(pass));
-    let entries = finish(desk, passes).ok().map(|closed| closed.journal.len());
+    let rising = all_rise(&passes);
+    let entries = entries(desk, passes);
     Ok((entries, first.saturating_add(second), rising))
 }
 
-fn both<R: Wait>(rt: &R, alloc: Global) -> Result<(Option<usize>, usize, bool), AllocError> {
-    run_both::<Brand, R>(rt, alloc, Blank::new(2))
+fn both<R: Wait>(rt: &R, alloc: Global) -> bool {
+    match run_both::<Brand, R>(rt, alloc, Blank::new(2)) {
+        Ok(found) => found == (Some(8), 8, true),
+        Err(AllocError) => false,
+    }
 }
 
 #[test]
-fn two_sessions_in_turn(rt: HostRuntime) -> Result<(), Fail> {
-    assert!(rt; both(&rt, rt.alloc())? == (Some(8), 8, true));
-    Ok(())
+fn two_sessions_in_turn(rt: HostRuntime) {
+    assert!(rt; both(&rt, rt.alloc()));
 }
 
-/// Without the pass of seat 1: the cause, the journal's length and the passes that are handed back.
+/// What `finish` answers that isn't Ok: the cause, the journal's length and the passes that are handed back.
+fn amiss<L: Ledger>(desk: Desk<L>, passes: Vec<Pass<L>>) -> Option<(FinishCause, usize, usize)>
+    requires { All (λ p. p.parts ≡ 1) passes.items }
+{
+    match finish(desk, passes) {
+        Ok(_) => None,
+        Err(f) => Some((f.cause, f.closed.journal.len(), f.closed.passes.len())),
+    }
+}
+
+/// Without the pass of seat 1: what is amiss.
 fn run_missing<L: Ledger, R: Wait>(
     rt: &R,
     alloc: Global,
@@ -81,20 +112,19 @@ fn run_missing<L: Ledger, R: Wait>(
     let (desk, mut passes) = open::<L>(alloc, blank, WIDE, 3)?;
     drop(passes.remove(1));
     let _ = make_all(rt, alloc, &desk, &mut passes[1], &[Call::List]);
-    Ok(finish(desk, passes).err().map(|f| (f.cause, f.closed.journal.len(), f.closed.passes.len())))
+    Ok(amiss(desk, passes))
 }
 
-fn missing<R: Wait>(
-    rt: &R,
-    alloc: Global,
-) -> Result<Option<(FinishCause, usize, usize)>, AllocError> {
-    run_missing::<Brand, R>(rt, alloc, Blank::new(3))
+fn missing<R: Wait>(rt: &R, alloc: Global) -> bool {
+    match run_missing::<Brand, R>(rt, alloc, Blank::new(3)) {
+        Ok(found) => found == Some((FinishCause::MissingPass(1), 1, 2)),
+        Err(AllocError) => false,
+    }
 }
 
 #[test]
-fn missing_pass(rt: HostRuntime) -> Result<(), Fail> {
-    assert!(rt; missing(&rt, rt.alloc())? == Some((FinishCause::MissingPass(1), 1, 2)));
-    Ok(())
+fn missing_pass(rt: HostRuntime) {
+    assert!(rt; missing(&rt, rt.alloc()));
 }
 
 /// Whether a command is refused as the journal is full, and handed back.
@@ -128,18 +158,20 @@ fn run_full<L: Ledger, R: Wait>(
         &[Call::List, Call::List, Call::List],
     );
     let full = is_full(rt, &desk, &mut passes[0]);
-    let entries = finish(desk, passes).ok().map(|closed| closed.journal.len());
+    let entries = entries(desk, passes);
     Ok((entries, recorded, full))
 }
 
-fn full<R: Wait>(rt: &R, alloc: Global) -> Result<(Option<usize>, usize, bool), AllocError> {
-    run_full::<Brand, R>(rt, alloc, Blank::new(1))
+fn full<R: Wait>(rt: &R, alloc: Global) -> bool {
+    match run_full::<Brand, R>(rt, alloc, Blank::new(1)) {
+        Ok(found) => found == (Some(3), 3, true),
+        Err(AllocError) => false,
+    }
 }
 
 #[test]
-fn journal_full(rt: HostRuntime) -> Result<(), Fail> {
-    assert!(rt; full(&rt, rt.alloc())? == (Some(3), 3, true));
-    Ok(())
+fn journal_full(rt: HostRuntime) {
+    assert!(rt; full(&rt, rt.alloc()));
 }
 
 /// Two versions of a file, and the third spent; one claim given back, and the second spent.
@@ -189,15 +221,18 @@ fn through_a_desk<R: Wait>(
     run_calls::<Brand, R>(rt, alloc, Blank::new(1), limits, calls, answers)
 }
 
-#[test]
-fn spent(rt: HostRuntime) -> Result<(), Fail> {
+fn is_spent<R: Wait>(rt: &R, alloc: Global) -> bool {
     let limits = Limits {
         journal: 20,
         versions: 2,
         claims: 1,
     };
-    assert!(rt; through_a_desk(&rt, rt.alloc(), limits, &SPENDING, &SPENT)? == (8, true));
-    Ok(())
+    through_a_desk(rt, alloc, limits, &SPENDING, &SPENT) == Ok((8, true))
+}
+
+#[test]
+fn spent(rt: HostRuntime) {
+    assert!(rt; is_spent(&rt, rt.alloc()));
 }
 
 /// Each command once, and what there is between.

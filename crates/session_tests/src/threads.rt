@@ -3,13 +3,12 @@
 ghost use Rattle.std.specs.Prelude.{◌≡◌, ◌≤◌, ◌<◌, All};
 
 use crate::calls::{Answer, Call, TEST_A, TEST_B, TEST_C, TEST_D, is_answered, make_all};
-use crate::desks::{FIRST, SECOND, WIDE, rise};
-use sessions::{Desk, Pass, finish, open};
+use crate::desks::{FIRST, SECOND, WIDE, all_rise, entries};
+use sessions::{Desk, Pass, open};
 use std::alloc::{AllocError, Global};
 use std::marker::Brand;
 use std::sync::Wait;
 use std::sync::ledger::{Blank, Ledger};
-use std::test::*;
 use std::thread;
 use std::thread::Threads;
 
@@ -112,6 +111,26 @@ fn begins_with_version<L: Ledger>(pass: &Pass<L>) -> bool {
     }
 }
 
+/// How many passes begin with the first version of their test.
+fn count_versions<L: Ledger>(passes: &[Pass<L>]) -> usize {
+    let mut count = 0usize;
+    for pass in passes {
+        if begins_with_version(pass) {
+            count = count.saturating_add(1);
+        }
+    }
+    count
+}
+
+/// How many receipts the passes have.
+fn count_receipts<L: Ledger>(passes: &[Pass<L>]) -> usize {
+    let mut count = 0usize;
+    for pass in passes {
+        count = count.saturating_add(pass.receipts().len());
+    }
+    count
+}
+
 /// What a run came to.
 #[derive(Clone, Copy)]
 struct Outcome {
@@ -136,43 +155,42 @@ fn run<L: Ledger + Send + Sync, R: Threads + Wait + Sync>(
 {
     let (desk, mut passes) = open::<L>(alloc, blank, WIDE, n)?;
     all(rt, alloc, what, &desk, &mut passes);
-    let mut receipts = 0usize;
-    for pass in &passes {
-        receipts = receipts.saturating_add(pass.receipts().len());
-    }
-    let rising = passes.iter().all(|pass| rise(pass));
-    let versions = passes
-        .iter()
-        .filter(|pass| begins_with_version(pass))
-        .count();
+    let receipts = count_receipts(&passes);
+    let rise = all_rise(&passes);
+    let versions = count_versions(&passes);
     Ok(Outcome {
-        entries: finish(desk, passes).ok().map(|closed| closed.journal.len()),
+        entries: entries(desk, passes),
         receipts,
-        rise: rising,
+        rise,
         versions,
     })
 }
 
-fn four_once<R: Threads + Wait + Sync>(rt: &R, alloc: Global) -> Result<Outcome, AllocError> {
-    run::<Brand, R>(rt, alloc, Blank::new(4), Session::Once, 4)
+/// Whether each receipt has its entry, and the places of each pass's receipts rise.
+fn is_whole(outcome: &Outcome) -> bool {
+    outcome.entries == Some(outcome.receipts) && outcome.rise
 }
 
-fn eight_mixed<R: Threads + Wait + Sync>(rt: &R, alloc: Global) -> Result<Outcome, AllocError> {
-    run::<Brand, R>(rt, alloc, Blank::new(8), Session::Mixed, 8)
+fn four_once<R: Threads + Wait + Sync>(rt: &R, alloc: Global) -> bool {
+    match run::<Brand, R>(rt, alloc, Blank::new(4), Session::Once, 4) {
+        Ok(outcome) => is_whole(&outcome) && outcome.versions == 2,
+        Err(AllocError) => false,
+    }
+}
+
+fn eight_mixed<R: Threads + Wait + Sync>(rt: &R, alloc: Global) -> bool {
+    match run::<Brand, R>(rt, alloc, Blank::new(8), Session::Mixed, 8) {
+        Ok(outcome) => is_whole(&outcome) && outcome.receipts >= 1600,
+        Err(AllocError) => false,
+    }
 }
 
 #[test]
-fn four_passes(rt: HostRuntime) -> Result<(), Fail> {
-    let outcome = four_once(&rt, rt.alloc())?;
-    assert!(rt; outcome.entries == Some(outcome.receipts) && outcome.rise && outcome.versions == 2);
-    Ok(())
+fn four_passes(rt: HostRuntime) {
+    assert!(rt; four_once(&rt, rt.alloc()));
 }
 
 #[test]
-fn eight_sessions_of_mixed_calls(rt: HostRuntime) -> Result<(), Fail> {
-    let outcome = eight_mixed(&rt, rt.alloc())?;
-    assert!(rt;
-        outcome.entries == Some(outcome.receipts) && outcome.rise && outcome.receipts >= 1600
-    );
-    Ok(())
+fn eight_sessions_of_mixed_calls(rt: HostRuntime) {
+    assert!(rt; eight_mixed(&rt, rt.alloc()));
 }

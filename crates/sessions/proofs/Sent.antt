@@ -9,7 +9,6 @@ use Rattle.litmus_tree.proofs.expression.Link.TheLaws.TheKnot as Expression
 use Rattle.litmus_tree.proofs.tree.Statement.TheLaws.TheKnot as Statement
 use Rattle.litmus_tree.specs.contracts.tree.Thread as Thread
 use Rattle.litmus_test.specs.contracts.test.Test as Test
-use Rattle.cat_tree.proofs.tree.Expression.TheLaws.TheKnot as Cat
 use Rattle.cat_model.specs.contracts.files.Files as Files
 use Rattle.cat_model.specs.contracts.model.Model as Model
 use Rattle.slices.specs.contracts.finding.FindingRef as FindingRef
@@ -50,10 +49,10 @@ testref_sync : IsSync TestRef.the_row
 testref_sync = search (test_send, test_sync, crosses, sendable) depth 60 fits 20000
 
 model_send : IsSend Model.the_row
-model_send = search (crosses, Cat.crosses, sendable) depth 60 fits 20000
+model_send = search (crosses, sendable) depth 60 fits 20000
 
 model_sync : IsSync Model.the_row
-model_sync = search (crosses, Cat.crosses, sendable) depth 60 fits 20000
+model_sync = search (crosses, sendable) depth 60 fits 20000
 
 work_send : IsSend WorkRef.the_row
 work_send = search (testref_send, testref_sync, model_send, model_sync, crosses, sendable) depth 60 fits 20000
@@ -101,7 +100,7 @@ pub pass_send : (L : RattleType) (g : Ghosts L.Denot) → IsSend (Pass.the_row L
 pass_send L g = search (entry_send, entry_sync, crosses, share_send, sendable) depth 60 fits 20000
 
 files_send : IsSend Files.the_row
-files_send = search (crosses, Cat.crosses, sendable) depth 60 fits 20000
+files_send = search (crosses, sendable) depth 60 fits 20000
 
 tally_send : IsSend Tally.the_row
 tally_send = search (work_send, crosses, sendable) depth 60 fits 20000

@@ -1,13 +1,13 @@
 //! Counts over the allowed executions at some of the numbers of a test.
 
-ghost use Rattle.std.specs.Prelude.{◌≡◌, ◌<◌, ◌≤◌, ◌+◌, ◌-◌, ◌^◌, [], length, map, fold, IfOk, OnOk, if◌then◌else◌};
+ghost use Rattle.std.specs.Prelude.{◌≡◌, ◌<◌, ◌≤◌, ◌+◌, ◌-◌, ◌^◌, [], length, map, fold, IfOk, OnOk, IsTrue, ◌↔◌, if◌then◌else◌};
 ghost use Rattle.std.specs.BTreeSet.{insert_key};
 ghost use Rattle.std.specs.Cmp.Lexicographic.{slice_cmp};
 ghost use Rattle.std.specs.Ordering.{nat_cmp};
 ghost use Rattle.conditions.specs.Conditions.{formula_of};
 ghost use Rattle.conditions.specs.States.{bindings, holds_in};
 ghost use Rattle.candidates.specs.Candidates.{choices_of};
-ghost use Rattle.cat_eval.specs.Judging.{Raised};
+ghost use Rattle.cat_eval.specs.Judging.{Allowed, Raised};
 ghost use Rattle.listings.specs.Lists.{Lists};
 ghost use Rattle.slices.specs.Counters.{IsCountOf, IsOneMore, IsWeighed};
 ghost use Rattle.slices.specs.Parts.{IsRange, executions_in};
@@ -17,9 +17,9 @@ use crate::row::Row;
 use crate::slot::{Slot, row, slots};
 use crate::work::Work;
 use candidates::Space;
-use cat_eval::judge_early;
+use cat_eval::{Judgement, Plan};
 use conditions::{Place, Prop, State, holds};
-use events::{Graph, GraphView};
+use events::{EventStructure, Graph};
 use std::alloc::{AllocError, Global};
 use std::collections::BTreeSet;
 use wb_text::Name;
@@ -48,10 +48,14 @@ pub fn count(
         (IsCountOf work.now.test work.now.model.items places.now (executions_in work.now.test from to)) }
 {
     let slots = slots(alloc, work.test(), places)?;
+    let plan = Plan::of(alloc, work.model())?;
     let mut counter = Counter::new(alloc);
     let mut walk = space.walk(alloc, from, to)?;
+    let mut structure = EventStructure::of(alloc, walk.graph())?;
     while walk.next(alloc)?.is_some() {
-        counter.weigh(alloc, work, places, &slots, walk.graph())?;
+        let graph = walk.graph();
+        let judgement = plan.judge_next(alloc, &mut structure, graph)?;
+        counter.weigh(alloc, work, places, &slots, graph, &judgement)?;
     }
     Ok(counter)
 }
@@ -72,7 +76,7 @@ impl Counter {
         }
     }
 
-    /// Counts an execution, if the work's model allows it.
+    /// Counts an execution, if the work's model allows it: what the model says of it is handed in.
     #[tactic(auto, using(crate::proofs::Counted::weighed_allowed, crate::proofs::Counted::weighed_forbidden, crate::proofs::Counted::raised_when_allowed))]
     fn weigh(
         &mut self,
@@ -81,13 +85,15 @@ impl Counter {
         places: &[Place],
         slots: &[Slot],
         graph: &Graph,
+        judgement: &Judgement,
     ) -> Result<(), AllocError>
         requires few { self.old.positive + self.old.negative < 2 ^ 64 - 1 }
         requires slots { slots.now ≡ map (slot_of work.now.test) places.now }
+        requires allowed { IsTrue judgement.now.allowed ↔ Allowed work.now.model.items graph.now }
+        requires flags { Lists (λ name. Allowed work.now.model.items graph.now × Raised work.now.model.items graph.now name) judgement.now.flags }
         ensures { OnOk result
             (IsWeighed work.now.test work.now.model.items places.now graph.now self.old self.new) }
     {
-        let judgement = judge_early(alloc, work.model(), &GraphView::of(alloc, graph)?)?;
         if judgement.allowed() {
             let state = row(alloc, slots, graph)?;
             self.include(work, places, graph, state, judgement.flags())?;

@@ -2,16 +2,16 @@
 
 ghost use Rattle.std.specs.Prelude.{◌≡◌, IfOk, map};
 ghost use Rattle.c11_threads.specs.Contents.{place_of};
-ghost use Rattle.candidates.specs.Candidates.{write_value};
 ghost use Rattle.slices.specs.Finals.{final_location};
 ghost use Rattle.slices.specs.Slots.{slot_of, slot_value};
 
 use crate::row::Row;
+use c11_threads::place_of;
+use candidates::write_value;
 use conditions::Place;
 use events::{EventId, Graph};
 use litmus_test::Test;
 use std::alloc::{AllocError, Global};
-use wb_text::Name;
 
 /// Where a place's value stands: in the run of a thread, at the place of the register among its registers, or
 /// in the coherence order of a location, by the place of its name among the locations.
@@ -75,35 +75,10 @@ fn final_location(graph: &Graph, location: usize) -> u32
 {
     let initial = EventId::Initial(location);
     match graph.co().get(location) {
-        Some(order) => write_value(graph, order.writes().last().copied().unwrap_or(initial)),
-        None => write_value(graph, initial),
-    }
-}
-
-/// The value that a write writes.
-fn write_value(graph: &Graph, write: EventId) -> u32
-    ensures { result ≡ write_value graph.now.init graph.now.runs write }
-{
-    match write {
-        EventId::Initial(location) => graph.init().get(location).copied().unwrap_or(0),
-        EventId::Own(thread, place) => match graph.runs().get(thread) {
-            Some(run) => match run.events().get(place) {
-                Some(event) => event.value,
-                None => 0,
-            },
-            None => 0,
-        },
-    }
-}
-
-/// The first place of a name.
-fn place_of(names: &[Name], name: &Name) -> usize
-    ensures { result ≡ place_of name.now names.now }
-{
-    for (place, other) in names.iter().enumerate() {
-        if other == name {
-            return place;
+        Some(order) => {
+            let last = order.writes().last().copied().unwrap_or(initial);
+            write_value(graph.init(), graph.runs(), last)
         }
+        None => write_value(graph.init(), graph.runs(), initial),
     }
-    names.len()
 }

@@ -4,9 +4,10 @@ ghost use Rattle.std.specs.Prelude.{◌≡◌, ◌+◌, ◌≤◌, ◌↔◌, Is
 ghost use Rattle.events.specs.Executions.{IsNamed, IsGraph};
 
 use events::{
-    Access, Coherence, Event, EventId, Graph, GraphView, Order, RelName, Run, SetName, no_places,
+    Access, Coherence, Event, EventId, EventStructure, Graph, GraphView, Order, RelName, Run,
+    SetName, no_places,
 };
-use relations::{Rel, Set};
+use relations::{Places, Rel, Set};
 use std::alloc::{AllocError, Global};
 
 /// The place in its run that an event depends on, if any, and how.
@@ -51,23 +52,14 @@ pub fn event(thread: usize, access: Access, loc: usize, value: u32, order: Order
     }
 }
 
-/// The set of this place alone.
-fn only(place: usize) -> Set {
-    let mut places = no_places();
-    if place < places.count() {
-        places.insert(place);
-    }
-    places
-}
-
 /// The event of this line.
 fn event_of(thread: usize, line: &Line) -> Event {
     let (access, loc, value, order, needs) = *line;
     let mut event = event(thread, access, loc, value, order);
     match needs {
         Needs::Nothing => {}
-        Needs::Data(place) => event.data_from = only(place),
-        Needs::Control(place) => event.ctrl_from = only(place),
+        Needs::Data(place) => event.data_from = Places::just(place),
+        Needs::Control(place) => event.ctrl_from = Places::just(place),
     }
     event
 }
@@ -226,5 +218,23 @@ pub fn shows(alloc: Global, parts: &Parts, seen: &Seen) -> Result<bool, AllocErr
     match graph_of(alloc, parts)? {
         Some(graph) => Ok(is_seen(&GraphView::of(alloc, &graph)?, seen)),
         None => Ok(false),
+    }
+}
+
+/// Does a structure that was of one execution follow another, and is that to be seen in the view over it?
+pub fn follows(
+    alloc: Global,
+    from: &Parts,
+    parts: &Parts,
+    seen: &Seen,
+) -> Result<bool, AllocError> {
+    match (graph_of(alloc, from)?, graph_of(alloc, parts)?) {
+        (Some(first), Some(graph)) => {
+            let mut structure = EventStructure::of(alloc, &first)?;
+            let is_another = !structure.is_of(&graph);
+            structure.follow(alloc, &graph)?;
+            Ok(is_another && is_seen(&GraphView::over(alloc, &structure, &graph)?, seen))
+        }
+        _ => Ok(false),
     }
 }

@@ -2,15 +2,15 @@
 
 ghost use Rattle.std.specs.Prelude.{◌≡◌, ℕ, List, IfOk};
 ghost use Rattle.cat_tree.specs.Tree.{Term, term_of};
-ghost use Rattle.cat_syntax.specs.Grammar.{joined, begins_operand as operand_next, begins_check as check_next};
+ghost use Rattle.cat_syntax.specs.Grammar.{begins_operand as operand_next, begins_check as check_next};
 ghost use Rattle.cat_syntax.specs.Reading.{Gives, Takes, applied, infix_at, associates_left as is_left, postfix_at, enclosed_with, primary_with, postfix_with, unary_with, left, right, level_with, below, expression_at};
 
-use crate::operator::{Infix, Postfix};
+use crate::operator::Postfix;
 use crate::reading::Reader;
 use crate::symbol::{Symbol, Terminal};
 use crate::syntax_fault::SyntaxFault;
-use cat_tree::Expression;
-use std::alloc::{AllocError, Global};
+use cat_tree::{Expression, Infix, Leaf, Sign};
+use std::alloc::AllocError;
 
 /// How deep an expression may nest.
 const NESTING: u32 = 64;
@@ -64,37 +64,16 @@ fn associates_left(level: u32) -> bool
     matches!(level, 0 | 2)
 }
 
-/// The expression that an operator makes of its operands.
-fn join(
-    alloc: Global,
-    operator: Infix,
-    left: Expression,
-    right: Expression,
-) -> Result<Expression, AllocError>
-    ensures { IfOk result (λ e. term_of e ≡ joined operator (term_of left) (term_of right)) }
-{
-    let left = Box::new(alloc, left)?;
-    let right = Box::new(alloc, right)?;
-    Ok(match operator {
-        Infix::Union => Expression::Union(left, right),
-        Infix::Sequence => Expression::Sequence(left, right),
-        Infix::Difference => Expression::Difference(left, right),
-        Infix::Intersection => Expression::Intersection(left, right),
-        Infix::Product => Expression::Product(left, right),
-    })
-}
-
 /// The expression that an operator makes of the operand before it.
-fn apply(alloc: Global, operator: Postfix, operand: Expression) -> Result<Expression, AllocError>
+fn apply(operator: Postfix, operand: Expression) -> Result<Expression, AllocError>
     ensures { IfOk result (λ e. term_of e ≡ applied operator (term_of operand)) }
 {
-    let operand = Box::new(alloc, operand)?;
-    Ok(match operator {
-        Postfix::Plus => Expression::Plus(operand),
-        Postfix::Star => Expression::Star(operand),
-        Postfix::Optional => Expression::Optional(operand),
-        Postfix::Inverse => Expression::Inverse(operand),
-    })
+    match operator {
+        Postfix::Plus => operand.applied(Sign::Plus),
+        Postfix::Star => operand.applied(Sign::Star),
+        Postfix::Optional => operand.applied(Sign::Optional),
+        Postfix::Inverse => operand.applied(Sign::Inverse),
+    }
 }
 
 impl<'a> Reader<'a> {
@@ -162,23 +141,25 @@ impl<'a> Reader<'a> {
         let mut left = self.level(level, nesting)?;
         while let Some(operator) = self.infix(level) {
             let right = self.level(level, nesting)?;
-            left = join(self.alloc, operator, left, right)?;
+            left = left.joined(operator, right)?;
         }
         Ok(left)
     }
 
     /// Operands of a level, joined from the right.
     #[cycle(expressions)]
-    #[tactic(auto, using(crate::proofs::Levels::right_more, crate::proofs::Levels::level_takes, crate::proofs::Levels::infix_takes))]
+    #[tactic(auto, using(crate::proofs::Levels::right_start, crate::proofs::Levels::right_turn, crate::proofs::Levels::level_takes, crate::proofs::Levels::infix_takes))]
     fn right(&mut self, level: u32, nesting: u32) -> Result<Expression, SyntaxFault>
         ensures { Gives term_of result self.new.rest.now (right (infix_at level) (level_with (below nesting) level) self.old.rest.now) }
     {
-        let left = self.level(level, nesting)?;
-        let Some(operator) = self.infix(level) else {
-            return Ok(left);
-        };
-        let right = self.right(level, nesting)?;
-        Ok(join(self.alloc, operator, left, right)?)
+        let mut lefts = Vec::new(self.alloc);
+        let mut last = self.level(level, nesting)?;
+        while let Some(operator) = self.infix(level) {
+            let next = self.level(level, nesting)?;
+            lefts.push((operator, last))?;
+            last = next;
+        }
+        Ok(Expression::nested(self.alloc, lefts, last)?)
     }
 
     /// unary := "~" unary | postfix
@@ -195,7 +176,7 @@ impl<'a> Reader<'a> {
                 let nesting = self.deeper(nesting)?;
                 self.rest = rest;
                 let operand = self.unary(nesting)?;
-                Ok(Expression::Complement(Box::new(self.alloc, operand)?))
+                Ok(operand.applied(Sign::Complement)?)
             }
             _ => self.postfix(nesting),
         }
@@ -209,7 +190,7 @@ impl<'a> Reader<'a> {
     {
         let mut operand = self.primary(nesting)?;
         while let Some(operator) = self.postfix_sign() {
-            operand = apply(self.alloc, operator, operand)?;
+            operand = apply(operator, operand)?;
         }
         Ok(operand)
     }
@@ -227,37 +208,37 @@ impl<'a> Reader<'a> {
             Symbol::Name(spelling) => {
                 let name = spelling.name(self.alloc)?;
                 self.rest = rest;
-                Ok(Expression::Name(name))
+                Ok(Expression::leaf(self.alloc, Leaf::Name(name))?)
             }
             Symbol::Fixed(Terminal::Underscore) => {
                 self.rest = rest;
-                Ok(Expression::Universe)
+                Ok(Expression::leaf(self.alloc, Leaf::Universe)?)
             }
             Symbol::Fixed(Terminal::Zero) => {
                 self.rest = rest;
-                Ok(Expression::EmptyRelation)
+                Ok(Expression::leaf(self.alloc, Leaf::EmptyRelation)?)
             }
             Symbol::Fixed(Terminal::LeftBrace) => {
                 self.rest = rest;
                 self.expect(Terminal::RightBrace)?;
-                Ok(Expression::EmptySet)
+                Ok(Expression::leaf(self.alloc, Leaf::EmptySet)?)
             }
             Symbol::Fixed(Terminal::LeftParen) => {
                 self.enclosed(Terminal::LeftParen, Terminal::RightParen, nesting)
             }
             Symbol::Fixed(Terminal::LeftBracket) => {
                 let set = self.enclosed(Terminal::LeftBracket, Terminal::RightBracket, nesting)?;
-                Ok(Expression::Identity(Box::new(self.alloc, set)?))
+                Ok(set.applied(Sign::Identity)?)
             }
             Symbol::Fixed(Terminal::Domain) => {
                 self.rest = rest;
                 let relation = self.enclosed(Terminal::LeftParen, Terminal::RightParen, nesting)?;
-                Ok(Expression::Domain(Box::new(self.alloc, relation)?))
+                Ok(relation.applied(Sign::Domain)?)
             }
             Symbol::Fixed(Terminal::Range) => {
                 self.rest = rest;
                 let relation = self.enclosed(Terminal::LeftParen, Terminal::RightParen, nesting)?;
-                Ok(Expression::Range(Box::new(self.alloc, relation)?))
+                Ok(relation.applied(Sign::Range)?)
             }
             _ => Err(SyntaxFault::Unexpected),
         }
@@ -289,6 +270,6 @@ impl<'a> Reader<'a> {
     pub fn expression(&mut self) -> Result<Expression, SyntaxFault>
         ensures { Gives term_of result self.new.rest.now (expression_at self.old.rest.now) }
     {
-        self.level(LEVELS, NESTING)
+        Ok(self.level(LEVELS, NESTING)?.trimmed())
     }
 }

@@ -1,28 +1,20 @@
 //! What is known of an event by its name, and of a pair of events.
 
 ghost use Rattle.std.specs.Prelude.{◌≡◌, ◌↔◌, IsTrue, MatchOption};
-ghost use Rattle.relations.specs.Events.{Has};
 ghost use Rattle.listings.specs.Lists.{StandsAt};
 ghost use Rattle.events.specs.Named.{no_event, event_at, access_of, location_of, order_of, data_of, control_of, IsMemory, IsAtOneLocation, IsExchange, IsDependency};
 
 use crate::event::{Access, Event, EventId, Order};
 use crate::graph::Graph;
-use relations::Set;
-
-/// Is the place in the set?
-fn has_place(places: &Set, place: usize) -> bool
-    ensures { IsTrue result ↔ Has places.now place }
-{
-    place < places.count() && places.contains(place)
-}
+use relations::Places;
 
 /// Are they of one thread, and is the place of the first in the set?
-fn is_dependency(places: &Set, first: EventId, second: EventId) -> bool
+fn is_dependency(places: &Places, first: EventId, second: EventId) -> bool
     ensures { IsTrue result ↔ IsDependency first second places.now }
 {
     match (first, second) {
         (EventId::Own(thread, place), EventId::Own(same, _)) => {
-            thread == same && has_place(places, place)
+            thread == same && places.contains(place)
         }
         _ => false,
     }

@@ -37,10 +37,10 @@ impl<'a> Reader<'a> {
     fn order(&mut self, accepted: &[Order]) -> Result<Order, SyntaxFault>
         ensures { Gives (λ o. o) result self.new.rest.now (order_at accepted.now self.old.rest.now) }
     {
-        let position = self.position();
+        let stuck = self.stuck();
         let name = self.name_ref()?;
         let Some(order) = order_named(name.bytes()) else {
-            return Err(SyntaxFault::Syntax(position));
+            return Err(stuck);
         };
         if is_among(accepted, order) {
             Ok(order)
@@ -150,18 +150,18 @@ impl<'a> Reader<'a> {
         calls!(read(self, operation, nesting))
     }
 
-    /// What stands behind the word of a call that has a value. `position` is the word's.
+    /// What stands behind the word of a call that has a value. With its word so many symbols are left.
     #[tactic(auto, unfolding(crate::specs::Reading::value_at))]
     fn value(
         &mut self,
-        position: usize,
+        left: usize,
         operation: Operation,
         nesting: u32,
     ) -> Result<RightSide, SyntaxFault>
-        ensures { Gives right_of result self.new.rest.now (value_at operation nesting self.old.rest.now) }
+        ensures { Gives right_of result self.new.rest.now (value_at left operation nesting self.old.rest.now) }
     {
         if !has_value(operation) {
-            return Err(SyntaxFault::Syntax(position));
+            return Err(SyntaxFault::Syntax(left));
         }
         Ok(RightSide::Call(self.operation(operation, nesting)?))
     }
@@ -174,9 +174,9 @@ impl<'a> Reader<'a> {
         if self.take(Terminal::Star) {
             return Ok(RightSide::Read(self.name()?));
         }
-        let position = self.position();
+        let left = self.left();
         match self.take_call() {
-            Some(operation) => self.value(position, operation, nesting),
+            Some(operation) => self.value(left, operation, nesting),
             None => Ok(RightSide::Value(self.expression(nesting)?)),
         }
     }

@@ -85,7 +85,7 @@ impl<'a> Reader<'a> {
         ensures { Gives term_of result self.new.rest.now (unary_with (terms_below nesting) self.old.rest.now) }
     {
         let Some((first, rest)) = self.rest.split_first() else {
-            return Err(SyntaxFault::Syntax(self.position()));
+            return Err(self.stuck());
         };
         match first {
             Symbol::Name(register) => {
@@ -109,7 +109,7 @@ impl<'a> Reader<'a> {
                 let inner = self.level(LEVELS, nesting)?;
                 self.expect(Terminal::RightParen).and(Ok(inner))
             }
-            _ => Err(SyntaxFault::Syntax(self.position())),
+            _ => Err(self.stuck()),
         }
     }
 }

@@ -84,7 +84,7 @@ impl<'a> Reader<'a> {
     {
         match self.take_call() {
             Some(operation) => Ok(Statement::Perform(self.operation(operation, nesting)?)),
-            None => Err(SyntaxFault::Syntax(self.position())),
+            None => Err(self.stuck()),
         }
     }
 

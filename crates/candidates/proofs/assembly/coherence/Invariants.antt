@@ -6,6 +6,6 @@ use Rattle.candidates.proofs.assembly.coherence.Given as goal
 
 abbrev pub invariant-loop-location : goal.invariant-loop-location
 invariant-loop-location l = record {
-  is : l.co.items ++ digits (count_orders l.runs) (order_at l.runs) (drop l.location (upto l.locations)) l.rest ≡ digits (count_orders l.runs) (order_at l.runs) (upto l.locations) l.number;
+  is : l.co.items ++ digits (count_orders l.page.runs.items) (order_at l.page.runs.items) (drop l.location (upto l.locations)) l.rest ≡ digits (count_orders l.page.runs.items) (order_at l.page.runs.items) (upto l.locations) l.number;
   within : l.location ≤ l.locations;
 }

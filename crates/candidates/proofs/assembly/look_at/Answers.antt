@@ -1,6 +1,5 @@
 use Rattle.std.proofs.Common.{◌∙◌, List, subst, ◌/◌}
 use Rattle.events.specs.declared.event.Event.{Event}
-use Rattle.events.specs.Executions.{ThreadRun}
 use Rattle.candidates.specs.declared.assembly.Reading.TheVariants.{Until}
 use Rattle.candidates.specs.Readings.{IsReading}
 use Rattle.candidates.proofs.Passing.{until_of}
@@ -13,6 +12,5 @@ returns-in-Until c =
     let runs = page.runs.items in
     let i = c.args.number / page.orders in
     let read = rw c.in-Until.is at c.in_ok-rf.ensures in
-    let P : List ThreadRun → Type 0 = λ rs. IsReading init rs c.deref-2.result.now i (Until c.in-Until.next) in
     let Q : List Event → Type 0 = λ es. IsReading init runs es i (Until c.in-Until.next) in
-    until_of init runs page.orders c.args.number c.in-Until.next c.requires.page.orders (subst Q (c.deref-2.ensures.value ∙ c.requires.page.reads_are) (subst P c.deref.ensures.value read))
+    until_of init runs page.orders c.args.number c.in-Until.next c.requires.page.orders (subst Q (c.deref.ensures.value ∙ c.requires.page.reads_are) read)

@@ -2,6 +2,7 @@ use Rattle.std.proofs.Common.{Ok, Err, subst, arith}
 use Rattle.cat_syntax.specs.Reading.{Gives, file_at}
 use Rattle.cat_tree.specs.Tree.{File}
 use Rattle.cat_syntax.proofs.Whole.{found_of, only_of, small_of}
+use Rattle.cat_syntax.proofs.Refusals.{no_excess}
 use Rattle.cat_syntax.proofs.reading.read_symbols.Goals as goal
 
 pub returns-in-Some-clause-only : goal.returns-in-Some-clause-only
@@ -22,3 +23,6 @@ returns-in-Err-clause-only c = λ f d h.
     c.refusal.ensures.memory
     (only_of c.args.symbols.now c.file.new.self.rest.now (Err c.in-Err.fault) f d
     (subst (λ r. Gives {X = File} {A = File} (λ f. f) r c.file.new.self.rest.now (file_at c.args.symbols.now)) c.in-Err.is c.file.ensures))
+
+pub refusal-requires-clause-first : goal.refusal-requires-clause-first
+refusal-requires-clause-first c = λ n e. no_excess c.args.symbols.now c.saturating_sub-place.result n c.in_default.ensures.weight e

@@ -5,4 +5,4 @@ use Rattle.events.proofs.event.no_places.Goals as goal
 
 pub returns : goal.returns
 unfolding no_places
-returns c = one_set 64 (λ i. ⊥) c.empty.result no_places c.empty.ensures nothing
+returns c = one_set 64 (λ i. ⊥) c.none.result no_places c.none.ensures nothing

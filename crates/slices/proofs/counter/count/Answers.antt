@@ -1,11 +1,14 @@
-use Rattle.std.proofs.Common.{◌≡◌, ◌∙◌, map, sym, ap}
+use Rattle.std.proofs.Common.{◌↔◌, ◌∙◌, List, map, ap, subst, IsTrue}
+use Rattle.listings.specs.Lists.{Lists}
+use Rattle.cat_tree.specs.Tree.{Clause}
+use Rattle.cat_eval.specs.Judging.{Allowed, Raised}
 use Rattle.candidates.specs.Walks.{Walking}
 use Rattle.slices.specs.Slots.{slot_of}
 use Rattle.slices.proofs.Counted.{walked_none_yet, walked_some, walked_none, hit_found, miss_found}
 use Rattle.slices.proofs.counter.count.Goals as goal
 
-pub loop-walk-init : goal.loop-walk-init
-loop-walk-init c =
+pub loop-structure-init : goal.loop-structure-init
+loop-structure-init c =
     let is = c.in_ok-walk.ensures in
     record {
       counted = walked_none_yet c.args.work.now.test c.args.work.now.model.items c.args.places.now c.args.from c.args.to c.in_ok-walk.walk c.new-counter.result
@@ -14,16 +17,26 @@ loop-walk-init c =
       slots = c.in_ok-slots.ensures ∙ ap (λ t. map (slot_of t) c.args.places.now) c.test.ensures;
     }
 
-pub loop-walk-preserved : goal.loop-walk-preserved
-loop-walk-preserved c =
-    let inv = c.loop-walk.invariant in
-    let hit = hit_found c.loop-walk.walk c.next.new.self c.in_ok-next.field-0 c.is_some.result c.is_some.ensures c.if-is_some.true c.in_ok-next.ensures.found in
+pub weigh-requires-clause-allowed : goal.weigh-requires-clause-allowed
+weigh-requires-clause-allowed c =
+    let P : List Clause → Type 0 = λ items. IsTrue c.in_ok-judgement.judgement.allowed ↔ Allowed items c.graph-graph.result.now in
+    subst P (c.in_ok-plan.ensures ∙ ap (λ m. m.items) c.model.ensures) c.in_ok-judgement.ensures.allowed
+
+pub weigh-requires-clause-flags : goal.weigh-requires-clause-flags
+weigh-requires-clause-flags c =
+    let P : List Clause → Type 0 = λ items. Lists (λ name. Allowed items c.graph-graph.result.now × Raised items c.graph-graph.result.now name) c.in_ok-judgement.judgement.flags in
+    subst P (c.in_ok-plan.ensures ∙ ap (λ m. m.items) c.model.ensures) c.in_ok-judgement.ensures.flags
+
+pub loop-structure-preserved : goal.loop-structure-preserved
+loop-structure-preserved c =
+    let inv = c.loop-structure.invariant in
+    let hit = hit_found c.loop-structure.walk c.next.new.self c.in_ok-next.field-0 c.is_some.result c.is_some.ensures c.if-is_some.true c.in_ok-next.ensures.found in
     record {
-      counted = walked_some c.args.work.now.test c.args.work.now.model.items c.args.places.now c.args.from c.args.to hit.0 c.loop-walk.walk c.next.new.self c.graph.result.now c.loop-walk.counter c.weigh.new.self inv.counted hit.1 c.graph.ensures c.in_ok-weigh.ensures;
+      counted = walked_some c.args.work.now.test c.args.work.now.model.items c.args.places.now c.args.from c.args.to hit.0 c.loop-structure.walk c.next.new.self c.graph-graph.result.now c.loop-structure.counter c.weigh.new.self inv.counted hit.1 c.graph-graph.ensures c.in_ok-weigh.ensures;
       slots = inv.slots;
     }
 
 pub returns : goal.returns
 returns c =
-    let miss = miss_found c.loop-walk.walk c.next.new.self c.in_ok-next.field-0 c.is_some.result c.is_some.ensures c.if-is_some.false c.in_ok-next.ensures.found in
-    walked_none c.args.work.now.test c.args.work.now.model.items c.args.places.now c.args.from c.args.to c.loop-walk.walk c.next.new.self c.loop-walk.counter c.loop-walk.invariant.counted miss
+    let miss = miss_found c.loop-structure.walk c.next.new.self c.in_ok-next.field-0 c.is_some.result c.is_some.ensures c.if-is_some.false c.in_ok-next.ensures.found in
+    walked_none c.args.work.now.test c.args.work.now.model.items c.args.places.now c.args.from c.args.to c.loop-structure.walk c.next.new.self c.loop-structure.counter c.loop-structure.invariant.counted miss

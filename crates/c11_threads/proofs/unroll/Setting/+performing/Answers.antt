@@ -2,10 +2,13 @@ use Rattle.std.proofs.Common.{◌≡◌, ◌∷◌, ◌∙◌, ◌-◌, ◌≤�
 use Rattle.std.specs.List.{flat_map}
 use Rattle.std.specs.Vec.Iter.{into_iter_items}
 use Rattle.std.proofs.lemmas.Result.{err_from_is_err_and}
+use Rattle.std.proofs.lemmas.List.{length-map}
+use Rattle.litmus_tree.specs.declared.tree.RightSide.TheVariants.{Value as Value'}
+use Rattle.litmus_tree.specs.declared.tree.Statement.TheVariants.{Assign as Assign'}
 use Rattle.litmus_tree.specs.Tree.{step_of}
 use Rattle.c11_threads.specs.Unrolled.{step_runs}
 use Rattle.c11_threads.specs.Faults.{IsFaultAt}
-use Rattle.c11_threads.proofs.Turns.{Ways, some_step, way_fault, further, turned, turn_fault, after_empty, in_block}
+use Rattle.c11_threads.proofs.Turns.{Ways, some_step, way_fault, further, turned, turn_fault, after_idle, in_value, in_block}
 use Rattle.c11_threads.proofs.unroll.Setting.+performing.Goals as goal
 
 pub perform_all-returns-in_err-ends-clause-fault : goal.perform_all-returns-in_err-ends-clause-fault
@@ -27,9 +30,9 @@ perform_all-returns-clause-done n c = (
   c.loop-statement.invariant.within,
 )
 
-pub perform_apart-returns-in_err-more-clause-fault : goal.perform_apart-returns-in_err-more-clause-fault
-perform_apart-returns-in_err-more-clause-fault n c =
-    let p = err_from_is_err_and c.from_residual.result c.from_residual.ensures.1 in
+pub perform_apart-returns-in_err-perform-clause-fault : goal.perform_apart-returns-in_err-perform-clause-fault
+perform_apart-returns-in_err-perform-clause-fault n c =
+    let p = err_from_is_err_and c.from_residual-in_err-perform.result c.from_residual-in_err-perform.ensures.1 in
     let s = c.args.self.now in
     let a = step_of c.args.statement.now in
     let at = c.loop-from in
@@ -37,12 +40,12 @@ perform_apart-returns-in_err-more-clause-fault n c =
     let steps : into_iter_items at.from-iterator ≡ c.in-Some.from ∷ rest = c.in-Some.ensures.steps.0 in
     let short = ap length steps in
     let waiting = at.waiting - 1 in
-    rw (p.1, p.2) (way_fault (step_runs a s c.args.ctrl.now) (some_step a s c.requires.values c.args.ctrl.now) s.thread (c.args.most - c.len.result - waiting) c.args.most waiting (into_iter_items at.from-iterator) rest c.in-Some.from
-    at.ends.items _ c.in_err-more.field-0.0 steps at.invariant.is (omega (arith, at.invariant.waiting, short)) (omega (arith, at.invariant.within, at.invariant.waiting, short, c.len.ensures)) c.in_err-more.ensures.fault)
+    rw (p.1, p.2) (way_fault (step_runs a s c.args.ctrl.now) (some_step a s c.requires.values c.args.ctrl.now) s.thread (c.args.most - waiting) c.args.most waiting (into_iter_items at.from-iterator) rest c.in-Some.from
+    at.ends.items _ c.in_err-perform.field-0.0 steps at.invariant.is (omega (arith, at.invariant.waiting, short)) (omega (arith, at.invariant.within, at.invariant.waiting, short)) c.in_err-perform.ensures.fault)
 
-pub perform_each-returns-in-Empty-clause-done : goal.perform_each-returns-in-Empty-clause-done
-perform_each-returns-in-Empty-clause-done n c =
-    (after_empty c.args.self.now c.args.ctrl.now c.args.statement.now c.args.starts.items c.in-Empty.is, c.requires.most)
+pub perform_each-returns-then-is_idle-clause-done : goal.perform_each-returns-then-is_idle-clause-done
+perform_each-returns-then-is_idle-clause-done n c =
+    (after_idle c.args.self.now c.args.ctrl.now (step_of c.args.statement.now) c.args.starts.items (sym c.is_idle.ensures ∙ c.if-is_idle.true), c.requires.most)
 
 pub perform_each-returns-in-Block-clause-done : goal.perform_each-returns-in-Block-clause-done
 perform_each-returns-in-Block-clause-done n c =
@@ -53,3 +56,9 @@ pub perform_each-returns-in-Block-clause-fault : goal.perform_each-returns-in-Bl
 perform_each-returns-in-Block-clause-fault n c =
     let P : Ways → Type 0 = λ f. IfErr c.perform_all.result (IsFaultAt c.args.self.now.thread c.args.most (length (flat_map f c.args.starts.items))) in
     subst P (in_block c.args.self.now c.args.ctrl.now c.args.statement.now c.as_slice.result.now c.in-Block.statements c.in-Block.is c.as_slice.ensures.value) c.perform_all.ensures.fault
+
+pub perform_each-returns-in-Value-clause-done : goal.perform_each-returns-in-Value-clause-done
+perform_each-returns-in-Value-clause-done n c =
+    let is : c.args.statement.now ≡ Assign' c.in-Assign.register (Value' c.in-Value.expression) = c.in-Assign.is ∙ ap (Assign' c.in-Assign.register) c.in-Value.is in
+    let kept = in_value c.args.self.now c.args.ctrl.now c.args.statement.now c.in-Assign.register c.in-Value.expression c.register.result c.args.starts.items is c.register.ensures in
+    (c.give_each.ensures ∙ kept, simp (c.give_each.ensures, length-map) c.requires.most)

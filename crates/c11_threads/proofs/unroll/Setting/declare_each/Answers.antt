@@ -6,9 +6,9 @@ use Rattle.c11_threads.specs.Unrolled.{declare_runs}
 use Rattle.c11_threads.proofs.Turns.{some_declare, way_fault}
 use Rattle.c11_threads.proofs.unroll.Setting.declare_each.Goals as goal
 
-pub returns-in_err-more-clause-fault : goal.returns-in_err-more-clause-fault
-returns-in_err-more-clause-fault c =
-    let p = err_from_is_err_and c.from_residual.result c.from_residual.ensures.1 in
+pub returns-in_err-declare-clause-fault : goal.returns-in_err-declare-clause-fault
+returns-in_err-declare-clause-fault c =
+    let p = err_from_is_err_and c.from_residual-in_err-declare.result c.from_residual-in_err-declare.ensures.1 in
     let s = c.args.self.now in
     let d = declared_of c.args.declarator.now in
     let at = c.loop-from in
@@ -16,5 +16,5 @@ returns-in_err-more-clause-fault c =
     let steps : into_iter_items at.from-iterator ≡ c.in-Some.from ∷ rest = c.in-Some.ensures.steps.0 in
     let short = ap length steps in
     let waiting = at.waiting - 1 in
-    rw (p.1, p.2) (way_fault (declare_runs s c.args.ctrl.now d.register d.value) (some_declare s c.requires.values c.args.ctrl.now d.register d.value) s.thread (c.args.most - c.len.result - waiting) c.args.most waiting (into_iter_items at.from-iterator) rest c.in-Some.from
-    at.ends.items _ c.in_err-more.field-0.0 steps at.invariant.is (omega (arith, at.invariant.waiting, short)) (omega (arith, at.invariant.within, at.invariant.waiting, short, c.len.ensures)) c.in_err-more.ensures.fault)
+    rw (p.1, p.2) (way_fault (declare_runs s c.args.ctrl.now d.register d.value) (some_declare s c.requires.values c.args.ctrl.now d.register d.value) s.thread (c.args.most - waiting) c.args.most waiting (into_iter_items at.from-iterator) rest c.in-Some.from
+    at.ends.items _ c.in_err-declare.field-0.0 steps at.invariant.is (omega (arith, at.invariant.waiting, short)) (omega (arith, at.invariant.within, at.invariant.waiting, short)) c.in_err-declare.ensures.fault)

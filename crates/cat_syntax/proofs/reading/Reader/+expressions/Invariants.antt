@@ -1,7 +1,8 @@
 use Rattle.std.proofs.Common.{◌≡◌, ◌+◌, ◌*◌, ◌≤◌, length}
 use Rattle.descent.specs.Reading.{repeated}
 use Rattle.cat_tree.specs.Tree.{term_of}
-use Rattle.cat_syntax.specs.Reading.{infix_at, postfix_at, applied_at, next_operand, left, postfix_with, level_with, below}
+use Rattle.cat_syntax.specs.Reading.{infix_at, postfix_at, applied_at, next_operand, left, right, postfix_with, level_with, below, cut}
+use Rattle.cat_syntax.proofs.Levels.{chained}
 use Rattle.cat_syntax.proofs.reading.Reader.+expressions.Given as goal
 
 -- a call goes down one level, or has fewer symbols before it
@@ -30,7 +31,7 @@ decreases-right l = 20 * length l.self.now.rest.now + 3 * l.level + 5
 -- what is behind the operand so far, read on, is what the level reads
 abbrev pub invariant-left-loop-operator : goal.invariant-left-loop-operator
 invariant-left-loop-operator l =
-    (repeated tt (infix_at l.level) (next_operand (level_with (below l.nesting) l.level)) (term_of l.left) l.self.rest.now ≡ left (infix_at l.level) (level_with (below l.nesting) l.level) l.fn.self.rest.now) ×
+    (repeated cut (infix_at l.level) (next_operand (level_with (below l.nesting) l.level)) (term_of l.left) l.self.rest.now ≡ left (infix_at l.level) (level_with (below l.nesting) l.level) l.fn.self.rest.now) ×
     (length l.self.rest.now ≤ length l.fn.self.rest.now)
 
 abbrev pub decreases-left-loop-operator : goal.decreases-left-loop-operator
@@ -38,7 +39,16 @@ decreases-left-loop-operator l = length l.self.rest.now
 
 abbrev pub invariant-postfix-loop-operator : goal.invariant-postfix-loop-operator
 invariant-postfix-loop-operator l =
-    repeated tt postfix_at applied_at (term_of l.operand) l.self.rest.now ≡ postfix_with (below l.nesting) l.fn.self.rest.now
+    repeated cut postfix_at applied_at (term_of l.operand) l.self.rest.now ≡ postfix_with (below l.nesting) l.fn.self.rest.now
 
 abbrev pub decreases-postfix-loop-operator : goal.decreases-postfix-loop-operator
 decreases-postfix-loop-operator l = length l.self.rest.now
+
+-- the operands so far, and what is behind the last of them, are what the level reads
+abbrev pub invariant-right-loop-operator : goal.invariant-right-loop-operator
+invariant-right-loop-operator l =
+    (chained l.nesting l.level l.lefts.items (term_of l.last) l.self.rest.now ≡ right (infix_at l.level) (level_with (below l.nesting) l.level) l.fn.self.rest.now) ×
+    (length l.self.rest.now ≤ length l.fn.self.rest.now)
+
+abbrev pub decreases-right-loop-operator : goal.decreases-right-loop-operator
+decreases-right-loop-operator l = length l.self.rest.now

@@ -18,7 +18,7 @@ decreases-operands l = 20 * l.nesting + 2 * l.level + 2
 -- what is behind the operand so far, read on, is what the level reads
 abbrev pub invariant-operands-loop-operator : goal.invariant-operands-loop-operator
 invariant-operands-loop-operator l =
-    repeated syntax (operator_at l.level) (next_operand (level_with (terms_below l.nesting) l.level)) (term_of l.left) l.self.rest.now ≡ operands (operator_at l.level) (level_with (terms_below l.nesting) l.level) l.fn.self.rest.now
+    repeated (syntax 0) (operator_at l.level) (next_operand (level_with (terms_below l.nesting) l.level)) (term_of l.left) l.self.rest.now ≡ operands (operator_at l.level) (level_with (terms_below l.nesting) l.level) l.fn.self.rest.now
 
 abbrev pub decreases-operands-loop-operator : goal.decreases-operands-loop-operator
 decreases-operands-loop-operator l = length l.self.rest.now

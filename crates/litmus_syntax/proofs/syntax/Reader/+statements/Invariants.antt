@@ -19,8 +19,8 @@ decreases-statements l = 3 * l.nesting + 2
 -- what is behind the statements so far, read on, is what is read
 abbrev pub invariant-statements-loop-self : goal.invariant-statements-loop-self
 invariant-statements-loop-self l =
-    repeated syntax (unless RightBrace) (steps_more (inside l.nesting) l.nesting) (steps_of l.statements.items) l.self.rest.now ≡
-    repeated syntax (unless RightBrace) (steps_more (inside l.nesting) l.nesting) no_steps l.fn.self.rest.now
+    repeated (syntax 0) (unless RightBrace) (steps_more (inside l.nesting) l.nesting) (steps_of l.statements.items) l.self.rest.now ≡
+    repeated (syntax 0) (unless RightBrace) (steps_more (inside l.nesting) l.nesting) no_steps l.fn.self.rest.now
 
 abbrev pub decreases-statements-loop-self : goal.decreases-statements-loop-self
 decreases-statements-loop-self l = length l.self.rest.now

@@ -8,7 +8,7 @@ use Rattle.litmus_syntax.proofs.syntax.Reader.declarators.Given as goal
 -- what is behind the declarators so far, read on, is what is read
 abbrev pub invariant-loop-self : goal.invariant-loop-self
 invariant-loop-self l =
-    repeated syntax (after Comma) (λ _ ds us. declarators_more l.nesting ds us) (map declared_of l.declarators.items) l.self.rest.now ≡ declarators_at l.nesting l.fn.self.rest.now
+    repeated (syntax 0) (after Comma) (λ _ ds us. declarators_more l.nesting ds us) (map declared_of l.declarators.items) l.self.rest.now ≡ declarators_at l.nesting l.fn.self.rest.now
 
 abbrev pub decreases-loop-self : goal.decreases-loop-self
 decreases-loop-self l = length l.self.rest.now

@@ -1,0 +1,60 @@
+//! The nodes of expressions.
+
+use wb_text::Name;
+
+/// An expression that is made of no other.
+#[derive(Drop, PartialEq, Eq)]
+pub enum Leaf {
+    /// A name that is bound, or a named set or relation of the execution.
+    Name(Name),
+    /// `0`
+    EmptyRelation,
+    /// `{}`
+    EmptySet,
+    /// `_`
+    Universe,
+}
+
+/// What makes an expression of another.
+#[derive(Clone, Copy, Debug, PartialEq, Eq)]
+pub enum Sign {
+    /// `~a`
+    Complement,
+    /// `a+`
+    Plus,
+    /// `a*`
+    Star,
+    /// `a?`
+    Optional,
+    /// `a^-1`
+    Inverse,
+    /// `domain(a)`
+    Domain,
+    /// `range(a)`
+    Range,
+    /// `[a]`
+    Identity,
+}
+
+/// An operator between two expressions.
+#[derive(Clone, Copy, Debug, PartialEq, Eq)]
+pub enum Infix {
+    /// `a | b`
+    Union,
+    /// `a ; b`
+    Sequence,
+    /// `a \ b`
+    Difference,
+    /// `a & b`
+    Intersection,
+    /// `a * b`
+    Product,
+}
+
+/// A node of an expression's tree.
+#[derive(Drop, PartialEq, Eq)]
+pub enum Node {
+    Leaf(Leaf),
+    Sign(Sign),
+    Infix(Infix),
+}

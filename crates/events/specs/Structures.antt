@@ -1,0 +1,17 @@
+-- Event structures: an execution without its witness, the read-from map and the coherence orders.
+-- (Alglave, Maranget and Tautschnig, Herding cats, 2014, section 4.)
+use Rattle.std.specs.Prelude.{ℕ, List, []}
+use Rattle.events.specs.Executions.{Execution, ThreadRun}
+
+-- init: the initial value of each location. runs: of each thread.
+pub record Structure : Type 0 where
+  pub init : List ℕ
+  pub runs : List ThreadRun
+
+-- the structure of an execution
+abbrev pub structure_of : Execution → Structure
+structure_of g = record { init = g.init; runs = g.runs }
+
+-- a structure as an execution that has no read-from map and no coherence order
+abbrev pub bare : Structure → Execution
+bare s = record { init = s.init; runs = s.runs; rf = []; co = [] }
