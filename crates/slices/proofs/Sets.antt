@@ -1,5 +1,5 @@
 -- Sets of rows: which rows are in, and which are when some are put in or taken out.
-use Rattle.std.proofs.Common.{◌≡◌, ◌≢◌, ℕ, List, [], ◌∷◌, ◌⊎◌, Bool, true, false, cond, inl, inr, refl, sym, ap, ◌∙◌, subst}
+use Rattle.std.proofs.Common.{◌≡◌, ◌≢◌, ℕ, ◌+◌, ◌<◌, ◌≤◌, List, [], ◌∷◌, ◌⊎◌, length, get_or, drop, filter, Bool, true, false, not, cond, inl, inr, refl, sym, ap, ◌∙◌, subst}
 use Rattle.std.specs.Prelude.{◌↔◌, ◌||◌, fold}
 use Rattle.std.specs.BTreeMap.{is_at}
 use Rattle.std.specs.BTreeSet.{insert_key}
@@ -8,10 +8,12 @@ use Rattle.std.specs.List.Sorted.{IsStrictlySortedBy}
 use Rattle.std.specs.Set.{remove_key}
 use Rattle.std.specs.declared.cmp.Ordering.TheVariants.{Less}
 use Rattle.std.specs.Str.{bytes_eq}
+use Rattle.std.proofs.lemmas.List.{at_drop_more, at_drop_all}
 use Rattle.std.proofs.lemmas.Map.Text.{is_eq-slice_cmp}
 use Rattle.std.proofs.lemmas.Slice.Eq.{bytes_eq-Decides}
 use Rattle.listings.specs.Lists.{IsIn}
-use Rattle.slices.proofs.Rows.{row_cmp, from_insert, in_insert_old, in_insert_new, not_among, are_sorted}
+use Rattle.listings.proofs.Listings.{in_get_or}
+use Rattle.slices.proofs.Rows.{row_cmp, from_insert, in_insert_old, in_collected, not_among, are_sorted}
 use Rattle.slices.proofs.Sorted.{same_sorted}
 
 -- the test for a row
@@ -44,23 +46,80 @@ row_any r (x ∷ xs) (inr p) = or_later (is_at (row_cmp r) x) (list_any (is_at (
 abbrev pub put_in : List (List ℕ) → List (List ℕ) → List (List ℕ)
 put_in ks rows = fold (λ keys row. insert_key row_cmp keys row) ks rows
 
+-- rows are put into what was there: what is left to put in makes what all of them make, and only such rows are in
+pub record IsFilling (old rows left keys : List (List ℕ)) : Type 0 where
+  pub rest : put_in keys left ≡ put_in old rows
+  pub kept : (s : List ℕ) → IsIn s old → IsIn s keys
+  pub only : (s : List ℕ) → IsIn s keys → IsIn s old ⊎ IsIn s rows
+
+pub filling_begun : (old rows : List (List ℕ)) → IsFilling old rows rows old
+filling_begun old rows = record { rest = refl; kept = λ s p. p; only = λ s p. inl p }
+
+pub filling_on : (old rows keys new : List (List ℕ)) (i : ℕ) (r : List ℕ) → i < length rows → r ≡ get_or rows i r → new ≡ insert_key row_cmp keys r → IsFilling old rows (drop i rows) keys → IsFilling old rows (drop (i + 1) rows) new
+filling_on old rows keys new i r h e is f =
+    let P : List (List ℕ) → Type 0 = λ ks. IsFilling old rows (drop (i + 1) rows) ks in
+    subst P (sym is) (record {
+      rest = ap (λ x. put_in (insert_key row_cmp keys x) (drop (i + 1) rows)) e ∙ sym (at_drop_more (put_in keys) rows i r h) ∙ f.rest;
+      kept = λ s p. in_insert_old s r keys (f.kept s p);
+      only = λ s p. elim (from_insert s r keys p) [
+        | inl q ↦ inr (let Q : List ℕ → Type 0 = λ x. IsIn x rows in subst Q (sym (q ∙ e)) (in_get_or rows i r h))
+        | inr q ↦ f.only s q
+      ];
+    })
+
+pub filling_done : (old rows keys : List (List ℕ)) (i : ℕ) → length rows ≤ i → IsFilling old rows (drop i rows) keys → (s : List ℕ) → IsIn s rows → IsIn s keys
+filling_done old rows keys i h f s p =
+    let P : List (List ℕ) → Type 0 = λ ks. IsIn s ks in
+    subst P (sym f.rest ∙ at_drop_all (put_in keys) rows i h) (in_collected (λ (y : List ℕ). y) old rows s p)
+
+-- the rows that a list has not
+
+abbrev pub lacks : List (List ℕ) → List ℕ → Bool
+lacks ks r = not (list_any (is_at (row_cmp r)) ks)
+
+lacks_choice : (b : Bool) (s x : List ℕ) (ks xs : List (List ℕ)) → list_any (is_at (row_cmp x)) ks ≡ b → (IsIn s (filter (lacks ks) xs) → IsIn s xs × (¬ IsIn s ks)) → IsIn s (cond (not b) (x ∷ filter (lacks ks) xs) (filter (lacks ks) xs)) → IsIn s (x ∷ xs) × (¬ IsIn s ks)
+lacks_choice true s x ks xs e rest p = let r = rest p in (inr r.0, r.1)
+lacks_choice false s x ks xs e rest (inl q) = (inl q, λ m. (let t : list_any (is_at (row_cmp x)) ks ≡ true = row_any x ks (let P : List ℕ → Type 0 = λ y. IsIn y ks in subst P q m) in cc))
+lacks_choice false s x ks xs e rest (inr p) = let r = rest p in (inr r.0, r.1)
+
+lacking_of : (s : List ℕ) (ks xs : List (List ℕ)) → IsIn s (filter (lacks ks) xs) → IsIn s xs × (¬ IsIn s ks)
+lacking_of s ks [] p = absurd p
+lacking_of s ks (x ∷ xs) p = lacks_choice (list_any (is_at (row_cmp x)) ks) s x ks xs refl (lacking_of s ks xs) p
+
+found_choice : (b : Bool) (s x : List ℕ) (ks xs : List (List ℕ)) → list_any (is_at (row_cmp x)) ks ≡ b → (¬ IsIn s ks) → (IsIn s xs → IsIn s (filter (lacks ks) xs)) → IsIn s (x ∷ xs) → IsIn s (cond (not b) (x ∷ filter (lacks ks) xs) (filter (lacks ks) xs))
+found_choice true s x ks xs e out rest (inl q) = absurd (out (let P : List ℕ → Type 0 = λ y. IsIn y ks in subst P (sym q) (any_row x ks e)))
+found_choice true s x ks xs e out rest (inr p) = rest p
+found_choice false s x ks xs e out rest (inl q) = inl q
+found_choice false s x ks xs e out rest (inr p) = inr (rest p)
+
+of_lacking : (s : List ℕ) (ks xs : List (List ℕ)) → (¬ IsIn s ks) → IsIn s xs → IsIn s (filter (lacks ks) xs)
+of_lacking s ks [] out p = absurd p
+of_lacking s ks (x ∷ xs) out p = found_choice (list_any (is_at (row_cmp x)) ks) s x ks xs refl out (of_lacking s ks xs out) p
+
+pub lacking_members : (ks xs found : List (List ℕ)) → found ≡ filter (lacks ks) xs → (s : List ℕ) → IsIn s found ↔ (IsIn s xs × (¬ IsIn s ks))
+lacking_members ks xs found is s =
+    let P : List (List ℕ) → Type 0 = λ l. IsIn s l in (
+      (λ p. lacking_of s ks xs (subst P is p)),
+      (λ h. subst P (sym is) (of_lacking s ks xs h.1 h.0)),
+    )
+
 -- rows that are taken out, one after another
 
 abbrev pub taken_out : List (List ℕ) → List (List ℕ) → List (List ℕ)
 taken_out ks rows = fold (λ keys row. remove_key (is_at (row_cmp row)) keys) ks rows
 
-all_choice : {P : List ℕ → Type 0} (test : List ℕ → Bool) (b : Bool) (x : List ℕ) (xs : List (List ℕ)) → AllByRecursion P (x ∷ xs) → AllByRecursion P (remove_key test xs) → AllByRecursion P (cond b xs (x ∷ remove_key test xs))
-all_choice test true x xs h rest = h.1
-all_choice test false x xs h rest = (h.0, rest)
+all_choice : (P : List ℕ → Type 0) (test : List ℕ → Bool) (b : Bool) (x : List ℕ) (xs : List (List ℕ)) → AllByRecursion P (x ∷ xs) → AllByRecursion P (remove_key test xs) → AllByRecursion P (cond b xs (x ∷ remove_key test xs))
+all_choice P test true x xs h rest = h.1
+all_choice P test false x xs h rest = (h.0, rest)
 
-rest_all : {P : List ℕ → Type 0} (test : List ℕ → Bool) (ks : List (List ℕ)) → AllByRecursion P ks → AllByRecursion P (remove_key test ks)
-rest_all test [] h = h
-rest_all {P} test (x ∷ xs) h = all_choice test (test x) x xs h (rest_all test xs h.1)
+rest_all : (P : List ℕ → Type 0) (test : List ℕ → Bool) (ks : List (List ℕ)) → AllByRecursion P ks → AllByRecursion P (remove_key test ks)
+rest_all P test [] h = h
+rest_all P test (x ∷ xs) h = all_choice P test (test x) x xs h (rest_all P test xs h.1)
 
 sorted_choice : (test : List ℕ → Bool) (b : Bool) (x : List ℕ) (xs : List (List ℕ)) → AllByRecursion (λ y. row_cmp x y ≡ Less) xs → IsStrictlySortedBy row_cmp xs → IsStrictlySortedBy row_cmp (remove_key test xs) → IsStrictlySortedBy row_cmp (cond b xs (x ∷ remove_key test xs))
 unfolding IsStrictlySortedBy
 sorted_choice test true x xs above sorted rest = sorted
-sorted_choice test false x xs above sorted rest = (rest_all test xs above, rest)
+sorted_choice test false x xs above sorted rest = (rest_all (λ y. row_cmp x y ≡ Less) test xs above, rest)
 
 pub rest_sorted : (test : List ℕ → Bool) (ks : List (List ℕ)) → IsStrictlySortedBy row_cmp ks → IsStrictlySortedBy row_cmp (remove_key test ks)
 unfolding IsStrictlySortedBy

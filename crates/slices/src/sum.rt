@@ -10,7 +10,7 @@ ghost use Rattle.slices.specs.Sums.{IsAdded, IsUnchanged, in_order};
 
 use crate::finding::{Finding, Totals};
 use crate::row::Row;
-use crate::rows::{add_rows, copy_rows};
+use crate::state_set::{add_rows, copy_rows};
 use indexmap::IndexSet;
 use std::alloc::{AllocError, Global};
 use std::collections::BTreeSet;
