@@ -191,11 +191,6 @@ combines n m k R a b c r s e d q u h =
       canonical = record { pairs = square_again r.count (bit c) };
     })
 
-pub assigned : (r s t : Relation) → IsCanonical s → r.count ≡ s.count → Combines (λ a b w. w ≡ b) r s t → t ≡ s
-assigned r s t c e h =
-    let x : IsExactly r.count (In s) t = combined (λ a b w. w ≡ b) (In s) r s t h (λ i a b w y p q. (let Q : ℕ → Type 0 = λ w. IsRow r.count (In s i) w in subst Q (sym y) q)) in
-    one_relation r.count (In s) t s x (record { count = sym e; only = λ i j m. m; all = λ i j a b m. m; canonical = c })
-
 pub combined_by : (n : ℕ) (P : ℕ → Type 0) (w v : ℕ) → w ≡ v → IsRow n P v → IsRow n P w
 combined_by n P w v e h = (let Q : ℕ → Type 0 = λ w. IsRow n P w in subst Q (sym e) h)
 
