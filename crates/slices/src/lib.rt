@@ -7,6 +7,7 @@ mod finding;
 pub mod laws;
 mod piece;
 mod row;
+mod rows;
 mod slot;
 mod span;
 mod sum;
