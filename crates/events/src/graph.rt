@@ -36,6 +36,23 @@ impl Coherence {
     {
         &self.writes
     }
+
+    /// The writes, in order, in the vector that holds them.
+    pub fn into_writes(self) -> Vec<EventId>
+        ensures { result.items ≡ self }
+    {
+        self.writes
+    }
+}
+
+/// The parts of a candidate execution: the initial value of each location, the run of each thread, the write that each
+/// read reads from, and the coherence order of each location.
+#[derive(Drop)]
+pub struct GraphParts {
+    pub init: Vec<u32>,
+    pub runs: Vec<Run>,
+    pub rf: Vec<EventId>,
+    pub co: Vec<Coherence>,
 }
 
 /// A candidate execution. It has at most 64 events with its initial writes, and its maps name its own events.
@@ -95,5 +112,18 @@ impl Graph {
         ensures { result.now ≡ self.now.co }
     {
         &self.co
+    }
+
+    /// The parts of the execution.
+    pub fn into_parts(self) -> GraphParts
+        ensures parts { self ≡ record { init = result.init.items; runs = result.runs.items; rf = result.rf.items; co = result.co.items } }
+        ensures graph { IsGraph self }
+    {
+        GraphParts {
+            init: self.init,
+            runs: self.runs,
+            rf: self.rf,
+            co: self.co,
+        }
     }
 }

@@ -9,7 +9,7 @@ mod run;
 mod view;
 
 pub use event::{Access, Event, EventId, Order, no_places};
-pub use graph::{Coherence, Graph};
+pub use graph::{Coherence, Graph, GraphParts};
 pub use named::{RelName, SetName};
 pub use run::{Run, copy_events, copy_runs};
 pub use view::{EventStructure, GraphView};

@@ -101,26 +101,35 @@ impl<'a> GraphView<'a> {
     pub fn rel(&self, name: RelName) -> Rel
         ensures { IsExactly (event_count self.now) (NamedRel self.now name) result }
     {
+        let mut rel = Rel::empty(self.count());
+        self.rel_into(name, &mut rel);
+        rel
+    }
+
+    /// Writes the relation of this name over what `into` had.
+    pub fn rel_into(&self, name: RelName, into: &mut Rel)
+        ensures { IsExactly (event_count self.now) (NamedRel self.now name) into.new }
+    {
         match name {
-            RelName::Po => self.po.copy(),
-            RelName::Int => self.int.copy(),
-            RelName::Ext => self.int.complement(),
-            RelName::Loc => self.loc.copy(),
-            RelName::PoLoc => self.po.inter(&self.loc),
-            RelName::Rf => self.rf.copy(),
-            RelName::Co => self.co.copy(),
-            RelName::Fr => self.fr.copy(),
-            RelName::Rfi => self.rf.inter(&self.int),
-            RelName::Coi => self.co.inter(&self.int),
-            RelName::Fri => self.fr.inter(&self.int),
-            RelName::Rfe => self.rf.minus(&self.int),
-            RelName::Coe => self.co.minus(&self.int),
-            RelName::Fre => self.fr.minus(&self.int),
-            RelName::Rmw => self.numbered.tested(Pairwise::Rmw),
-            RelName::Data => self.numbered.tested(Pairwise::Data),
-            RelName::Ctrl => self.numbered.tested(Pairwise::Ctrl),
-            RelName::Addr => Rel::empty(self.count()),
-            RelName::Id => Rel::id(self.count()),
+            RelName::Po => into.become_copy(&self.po),
+            RelName::Int => into.become_copy(&self.int),
+            RelName::Ext => into.become_complement(&self.int),
+            RelName::Loc => into.become_copy(&self.loc),
+            RelName::PoLoc => into.become_inter(&self.po, &self.loc),
+            RelName::Rf => into.become_copy(&self.rf),
+            RelName::Co => into.become_copy(&self.co),
+            RelName::Fr => into.become_copy(&self.fr),
+            RelName::Rfi => into.become_inter(&self.rf, &self.int),
+            RelName::Coi => into.become_inter(&self.co, &self.int),
+            RelName::Fri => into.become_inter(&self.fr, &self.int),
+            RelName::Rfe => into.become_minus(&self.rf, &self.int),
+            RelName::Coe => into.become_minus(&self.co, &self.int),
+            RelName::Fre => into.become_minus(&self.fr, &self.int),
+            RelName::Rmw => *into = self.numbered.tested(Pairwise::Rmw),
+            RelName::Data => *into = self.numbered.tested(Pairwise::Data),
+            RelName::Ctrl => *into = self.numbered.tested(Pairwise::Ctrl),
+            RelName::Addr => into.become_empty(self.count()),
+            RelName::Id => into.become_id(self.count()),
         }
     }
 }

@@ -76,6 +76,9 @@ rows_built n R rows h = record {
   canonical = record { pairs = square_again n (bit rows) };
 }
 
+pub rows_built_at : (n m : ℕ) (R : ℕ → ℕ → Type 0) (rows : List ℕ) → m ≡ n → ((k : ℕ) → k < n → R k (get_or rows k 0)) → BuildsRows n R (relation m (bit rows))
+rows_built_at n m R rows e h = (let Q : ℕ → Type 0 = λ m. BuildsRows n R (relation m (bit rows)) in subst Q (sym e) (rows_built n R rows h))
+
 -- One row with more pairs: those to the events that a word tells.
 pub joined : (n : ℕ) (rows : List ℕ) (i w : ℕ) (P : ℕ → Type 0) (r : Relation) → relation n (bit rows) ≡ r → length rows ≡ 64 → n ≤ 64 → i < r.count → IsRow r.count P w →
     IsExactly r.count (λ a b. In r a b ⊎ ((a ≡ i) × P b)) (relation n (bit (set rows i (bit_or (get_or rows i 0) w))))
@@ -188,11 +191,6 @@ combines n m k R a b c r s e d q u h =
       canonical = record { pairs = square_again r.count (bit c) };
     })
 
-pub assigned : (r s t : Relation) → IsCanonical s → r.count ≡ s.count → Combines (λ a b w. w ≡ b) r s t → t ≡ s
-assigned r s t c e h =
-    let x : IsExactly r.count (In s) t = combined (λ a b w. w ≡ b) (In s) r s t h (λ i a b w y p q. (let Q : ℕ → Type 0 = λ w. IsRow r.count (In s i) w in subst Q (sym y) q)) in
-    one_relation r.count (In s) t s x (record { count = sym e; only = λ i j m. m; all = λ i j a b m. m; canonical = c })
-
 pub combined_by : (n : ℕ) (P : ℕ → Type 0) (w v : ℕ) → w ≡ v → IsRow n P v → IsRow n P w
 combined_by n P w v e h = (let Q : ℕ → Type 0 = λ w. IsRow n P w in subst Q (sym e) h)
 
@@ -209,3 +207,42 @@ relation_at n k m P rows d e h = relation_of k n P rows (d ∙ e) h
 
 pub rcount : (n : ℕ) (f : ℕ → ℕ → Bool) (r : Relation) → relation n f ≡ r → n ≡ r.count
 rcount n f r e = ap (λ x. x.count) e
+
+-- What is built by the words of a relation is that relation.
+pub copied : (n : ℕ) (r t : Relation) → IsCanonical r → n ≡ r.count → BuildsRows n (λ i w. IsRow r.count (In r i) w) t → t ≡ r
+copied n r t c e h = one_relation r.count (In r) t r (built_at r.count n (In r) t e h) (record { count = refl; only = λ i j m. m; all = λ i j a b m. m; canonical = c })
+
+-- ---- each event with itself, one by one
+pub reflect_begun : (r : Relation) → IsCanonical r → IsExactly r.count (λ i j. In r i j ⊎ ((i ≡ j) × (i < 0))) r
+reflect_begun r c = record {
+  count = refl;
+  only = λ i j m. inl m;
+  all = λ i j a b x. elim x [ inl m ↦ m | inr p ↦ absurd (omega (arith, p.1)) ];
+  canonical = c;
+}
+
+pub reflect_on : (n k : ℕ) (P : ℕ → ℕ → Type 0) (r t : Relation) → IsExactly n (λ i j. P i j ⊎ ((i ≡ j) × (i < k))) r → IsExactly r.count (λ i j. In r i j ⊎ ((i ≡ k) × (j ≡ k))) t → IsExactly n (λ i j. P i j ⊎ ((i ≡ j) × (i < k + 1))) t
+reflect_on n k P r t h g = record {
+  count = g.count ∙ h.count;
+  only = λ i j m. elim (g.only i j m) [
+    | inl x ↦ elim (h.only i j x) [ inl p ↦ inl p | inr p ↦ inr (p.0, omega (arith, p.1)) ]
+    | inr p ↦ inr (p.0 ∙ sym p.1, omega (arith, p.0))
+  ];
+  all = λ i j a b x. (let d : i < r.count = omega (arith, a, h.count) in let e : j < r.count = omega (arith, b, h.count) in
+      elim x [
+        | inl p ↦ g.all i j d e (inl (h.all i j a b (inl p)))
+        | inr p ↦ elim (cases_eq i k) [
+          | inl y ↦ g.all i j d e (inr (y, sym p.0 ∙ y))
+          | inr y ↦ g.all i j d e (inl (h.all i j a b (inr (p.0, omega (arith, p.1, y)))))
+        ]
+      ]);
+  canonical = g.canonical;
+}
+
+pub reflected : (n k : ℕ) (P : ℕ → ℕ → Type 0) (r : Relation) → n ≤ k → IsExactly n (λ i j. P i j ⊎ ((i ≡ j) × (i < k))) r → IsExactly n (λ i j. P i j ⊎ (i ≡ j)) r
+reflected n k P r l h = record {
+  count = h.count;
+  only = λ i j m. elim (h.only i j m) [ inl p ↦ inl p | inr p ↦ inr p.0 ];
+  all = λ i j a b x. elim x [ inl p ↦ h.all i j a b (inl p) | inr p ↦ h.all i j a b (inr (p, omega (arith, a, l))) ];
+  canonical = h.canonical;
+}
