@@ -5,7 +5,7 @@ pub mod graphs;
 use events::Access::{ExRead, ExWrite, Fence, Read, Write};
 use events::EventId::{Initial, Own};
 use events::{Order, RelName, SetName};
-use graphs::{Needs, Parts, Seen, follows, shows};
+use graphs::{Needs, Parts, Seen, follows, gives_back, shows, shows_again};
 
 /// SB: each thread writes 1 to its own location and reads the other's, here from its initial write.
 ///
@@ -105,6 +105,12 @@ pub const SEEN_OF_WEAK: &Seen = &Seen {
 #[test]
 fn both_read_the_initial_writes(rt: HostRuntime) {
     assert!(rt; shows(rt.alloc(), WEAK, SEEN_OF_WEAK) == Ok(true));
+}
+
+#[test]
+fn taken_apart_and_put_together(rt: HostRuntime) {
+    assert!(rt; shows_again(rt.alloc(), WEAK, SEEN_OF_WEAK) == Ok(true));
+    assert!(rt; gives_back(rt.alloc(), &[Initial(1), Own(1, 0)]) == Ok(true));
 }
 
 /// SB, where each thread reads the other's write.

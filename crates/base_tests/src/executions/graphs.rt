@@ -221,6 +221,24 @@ pub fn shows(alloc: Global, parts: &Parts, seen: &Seen) -> Result<bool, AllocErr
     }
 }
 
+/// Have these parts a graph, and is that to be seen once it was taken apart and put together again?
+pub fn shows_again(alloc: Global, parts: &Parts, seen: &Seen) -> Result<bool, AllocError> {
+    match graph_of(alloc, parts)? {
+        Some(graph) => {
+            let parts = graph.into_parts();
+            let again = Graph::new(parts.init, parts.runs, parts.rf, parts.co);
+            Ok(is_seen(&GraphView::of(alloc, &again)?, seen))
+        }
+        None => Ok(false),
+    }
+}
+
+/// Does an order give back the writes that it was made of?
+pub fn gives_back(alloc: Global, writes: &[EventId]) -> Result<bool, AllocError> {
+    let order = Coherence::new(Vec::from_slice(alloc, writes)?);
+    Ok(order.into_writes().as_slice() == writes)
+}
+
 /// Does a structure that was of one execution follow another, and is that to be seen in the view over it?
 pub fn follows(
     alloc: Global,

@@ -158,6 +158,25 @@ fn made(operation: Operation, r: &Rel, s: &Rel) -> Rel
     }
 }
 
+/// What the operation writes over a relation that had all pairs of 64 events.
+fn written_over(operation: Operation, r: &Rel, s: &Rel) -> Rel
+    requires { r.now.count ≡ s.now.count }
+{
+    let mut over = Rel::full(64);
+    match operation {
+        Operation::Union => over.become_union(r, s),
+        Operation::Inter => over.become_inter(r, s),
+        Operation::Minus => over.become_minus(r, s),
+        Operation::Complement => over.become_complement(r),
+        Operation::Inverse => over.become_inverse(r),
+        Operation::Opt => over.become_opt(r),
+        Operation::Seq => over.become_seq(r, s),
+        Operation::Plus => over.become_plus(r),
+        Operation::Star => over.become_star(r),
+    }
+    over
+}
+
 /// Does its plain definition hold of the pair?
 fn holds(operation: Operation, r: &Rel, s: &Rel, i: usize, j: usize) -> bool {
     match operation {
@@ -173,11 +192,8 @@ fn holds(operation: Operation, r: &Rel, s: &Rel, i: usize, j: usize) -> bool {
     }
 }
 
-/// Has what the operation makes just the pairs for which its plain definition holds?
-fn agrees(operation: Operation, r: &Rel, s: &Rel) -> bool
-    requires { r.now.count ≡ s.now.count }
-{
-    let found = made(operation, r, s);
+/// Are these just the pairs for which its plain definition holds?
+fn is_as_defined(found: &Rel, operation: Operation, r: &Rel, s: &Rel) -> bool {
     for i in 0..found.count() {
         for j in 0..found.count() {
             if found.contains(i, j) != holds(operation, r, s, i, j) {
@@ -185,7 +201,15 @@ fn agrees(operation: Operation, r: &Rel, s: &Rel) -> bool
             }
         }
     }
-    true
+    found.count() == r.count()
+}
+
+/// Is what the operation makes, and what it writes over another relation, as it is defined?
+fn agrees(operation: Operation, r: &Rel, s: &Rel) -> bool
+    requires { r.now.count ≡ s.now.count }
+{
+    is_as_defined(&made(operation, r, s), operation, r, s)
+        && is_as_defined(&written_over(operation, r, s), operation, r, s)
 }
 
 /// Has the relation cycles, has it pairs of an event with itself, and is each of its pairs in the other?
