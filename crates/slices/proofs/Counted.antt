@@ -1,7 +1,7 @@
 -- Counts and verdicts.
 use Rattle.std.proofs.Common.{◌≡◌, ℕ, ◌+◌, ◌-◌, ◌≤◌, ◌^◌, List, [], ◌∷◌, ◌++◌, length, Bool, true, false, cond, not, count_by, map, Option, None, Some, unwrap_or, refl, sym, ap, ◌∙◌, subst, inl, inr, arith}
 use Rattle.std.specs.Option.{is_some}
-use Rattle.std.specs.Prelude.{slice_get, MatchOption, Result, Ok, Err, IfOk, OnOk, fold, IsTrue, ◌↔◌, ◌⊎◌}
+use Rattle.std.specs.Prelude.{slice_get, MatchOption, Result, Ok, Err, OnOk, fold, IsTrue, ◌↔◌, ◌⊎◌}
 use Rattle.std.specs.BTreeSet.{insert_key}
 use Rattle.std.specs.List.Sorted.{IsStrictlySortedBy}
 use Rattle.std.proofs.lemmas.List.Sums.{fold-append, sum_by-append}

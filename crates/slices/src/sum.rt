@@ -72,7 +72,9 @@ impl Sum {
             positive: self.positive,
             negative: self.negative,
             states: copy_rows(alloc, &self.states)?,
-            flags: sorted_names(alloc, self.flags.as_slice())?.into_iter().collect(alloc)?,
+            flags: sorted_names(alloc, self.flags.as_slice())?
+                .into_iter()
+                .collect(alloc)?,
         })
     }
 }

@@ -1,5 +1,3 @@
-use Rattle.std.proofs.Common.{◌↔◌, List, ℕ, ◌⊎◌, sym, subst}
-use Rattle.listings.specs.Lists.{IsIn}
 use Rattle.slices.proofs.Sets.{all_in, as_before, in_or_not}
 use Rattle.slices.proofs.state_set.add_rows.Goals as goal
 

@@ -1,6 +1,5 @@
 use Rattle.std.proofs.Common.{◌∙◌, ap, sym, subst}
-use Rattle.slices.specs.Parts.{test_size}
-use Rattle.slices.specs.Parts.{IsAdmitted}
+use Rattle.slices.specs.Parts.{IsAdmitted, test_size}
 use Rattle.slices.specs.Tallies.{IsCover, Results}
 use Rattle.slices.specs.Verdicts.{IsVerdict}
 use Rattle.slices.specs.Works.{Task}
@@ -17,6 +16,5 @@ returns c =
     let seen = rw (c.condition.ensures, c.listed.ensures) at c.in_ok-places.ensures in
     let test = c.test-test.ensures ∙ ap (λ (z : Task). z.test) c.work-work.ensures in
     let e = c.in_ok-totals.ensures in
-    let totals = record { positive = e.positive; negative = e.negative; states = e.states; flags = e.flags; sorted = e.sorted; in_order = e.in_order } in
     let value = rw c.in_ok-share.ensures at c.new.ensures in
-    subst V c.self.view_is (tally_verdict w.test c.test-test.result.now w.model.items c.self.inside.spans.items c.self.inside.sum c.in_ok-places.places.items c.in_ok-totals.totals c.new.result c.numbering.ensures admitted (subst C (sym c.self.view_is) c.requires) c.self.invariant test seen totals value)
+    subst V c.self.view_is (tally_verdict w.test c.test-test.result.now w.model.items c.self.inside.spans.items c.self.inside.sum c.in_ok-places.places.items c.in_ok-totals.totals c.new.result c.numbering.ensures admitted (subst C (sym c.self.view_is) c.requires) c.self.invariant test seen (record { positive = e.positive; negative = e.negative; states = e.states; flags = e.flags; sorted = e.sorted; in_order = e.in_order }) value)
