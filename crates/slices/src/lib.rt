@@ -9,7 +9,6 @@ mod piece;
 mod row;
 mod slot;
 mod span;
-mod state_set;
 mod sum;
 mod tally;
 mod verdict;
