@@ -105,14 +105,3 @@ first_order {X} (w ∷ ws) =
     let q : 0 / n ≡ 0 = zero-div n in
     let r : 0 % n ≡ 0 = zero-mod n in
     rw (q, r) (ap (λ (zs : List X). w ∷ zs) (first_order ws))
-
--- Behind a first write, the order with one number of the others.
-pub first_made : {X : Type 0} (x : X) (later b more : List X) (n len : ℕ) → b ≡ x ∷ later → length b ≡ len → ((ws : List X) → take (length b - 1) (drop 1 b) ≡ arrange ws 0 → more ≡ arrange ws n) → take len (take 1 b ++ (more ++ drop (length b - 1) (drop 1 b))) ≡ x ∷ arrange later n
-first_made {X} x later b more n len e l h =
-    let rest : take (length b - 1) (drop 1 b) ≡ later = behind_first b ∙ ap (λ (zs : List X). drop 1 zs) e in
-    let made : more ≡ arrange later n = h later (rest ∙ first_order later) in
-    let all : take 1 b ++ (more ++ drop (length b - 1) (drop 1 b)) ≡ x ∷ arrange later n =
-    first_kept b more ∙ ap (λ (zs : List X). take 1 zs ++ more) e ∙ ap (λ (zs : List X). x ∷ zs) made in
-    let many : length (take 1 b ++ (more ++ drop (length b - 1) (drop 1 b))) ≡ length (x ∷ arrange later n) = ap (λ (zs : List X). length zs) all in
-    let long : length b ≡ length (x ∷ later) = ap (λ (zs : List X). length zs) e in
-    take_all len (take 1 b ++ (more ++ drop (length b - 1) (drop 1 b))) (omega (arith, many, long, l, length_arrange later n)) ∙ all

@@ -125,8 +125,9 @@ fn order_of(
     let mut order = Vec::with_capacity(alloc, later.len() + 1)?;
     order.push(EventId::Initial(location))?;
     order.extend_from_slice(later)?;
-    turn(&mut order[1..], 0, number);
-    Ok(Coherence::new(order))
+    let mut order = Coherence::new(order);
+    turn_order(alloc, &mut order, 0, number);
+    Ok(order)
 }
 
 /// The orders with this number, for each location.
