@@ -189,22 +189,17 @@ fn turned(alloc: Global, page: &Page, graph: Graph, from: u64, to: u64) -> Graph
     requires graph { graph ≡ candidate graph.init page.now.runs.items from }
     ensures { result ≡ candidate graph.init page.now.runs.items to }
 {
-    let mut parts = graph.into_parts();
-    turn_sources(
-        page,
-        &mut parts.rf,
-        from / page.orders,
-        to / page.orders,
-    );
-    turn_orders(
+    let parts = graph.into_parts();
+    let rf = turn_sources(page, parts.rf, from / page.orders, to / page.orders);
+    let co = turn_orders(
         alloc,
         page,
-        &mut parts.co,
+        parts.co,
         parts.init.len(),
         from % page.orders,
         to % page.orders,
     );
-    Graph::new(parts.init, parts.runs, parts.rf, parts.co)
+    Graph::new(parts.init, parts.runs, rf, co)
 }
 
 /// An execution of nothing.

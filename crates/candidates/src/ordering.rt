@@ -88,7 +88,7 @@ fn turn_order(alloc: Global, order: &mut Coherence, from: u64, to: u64)
 
 /// Makes the orders with one number, of each location, to those with another. Where the rest of both numbers is the same, the
 /// orders stay as they are.
-pub(crate) fn turn_orders(
+fn turn_each(
     alloc: Global,
     page: &Page,
     co: &mut [Coherence],
@@ -98,7 +98,8 @@ pub(crate) fn turn_orders(
 )
     requires page { IsPage locations page.now }
     requires co { co.old ≡ digits (count_orders page.now.runs.items) (order_at page.now.runs.items) (upto locations) from }
-    ensures { co.new ≡ digits (count_orders page.now.runs.items) (order_at page.now.runs.items) (upto locations) to }
+    ensures len { length co.new ≡ length co.old }
+    ensures turned { co.new ≡ digits (count_orders page.now.runs.items) (order_at page.now.runs.items) (upto locations) to }
 {
     let mut old = from;
     let mut new = to;
@@ -111,6 +112,23 @@ pub(crate) fn turn_orders(
         old /= count;
         new /= count;
     }
+}
+
+/// Makes the orders with one number, of each location, to those with another.
+pub(crate) fn turn_orders(
+    alloc: Global,
+    page: &Page,
+    mut co: Vec<Coherence>,
+    locations: usize,
+    from: u64,
+    to: u64,
+) -> Vec<Coherence>
+    requires page { IsPage locations page.now }
+    requires co { co.items ≡ digits (count_orders page.now.runs.items) (order_at page.now.runs.items) (upto locations) from }
+    ensures { result.items ≡ digits (count_orders page.now.runs.items) (order_at page.now.runs.items) (upto locations) to }
+{
+    turn_each(alloc, page, &mut co, locations, from, to);
+    co
 }
 
 /// The order with this number of the writes to a location, of which these are the later ones.

@@ -95,7 +95,8 @@ fn set_sources(page: &Page, reads: &[Event], rf: &mut [EventId], number: u64)
     requires reads { reads.now ≡ page.now.reads.items }
     requires number { number < page.now.ways }
     requires len { length rf.old ≡ length reads.now }
-    ensures { rf.new ≡ read_at page.now.runs.items reads.now number }
+    ensures len { length rf.new ≡ length rf.old }
+    ensures read { rf.new ≡ read_at page.now.runs.items reads.now number }
 {
     let mut below = page.ways;
     let mut rest = number;
@@ -125,15 +126,17 @@ pub(crate) fn read_from(
 }
 
 /// Makes what the reads read from by one number to that by another.
-pub(crate) fn turn_sources(page: &Page, rf: &mut [EventId], from: u64, to: u64)
+pub(crate) fn turn_sources(page: &Page, mut rf: Vec<EventId>, from: u64, to: u64) -> Vec<EventId>
     requires page { IsPage (length page.now.writes.items) page.now }
     requires number { to < page.now.ways }
-    requires rf { rf.old ≡ rf_at page.now.runs.items from }
-    ensures { rf.new ≡ rf_at page.now.runs.items to }
+    requires rf { rf.items ≡ rf_at page.now.runs.items from }
+    ensures { result.items ≡ rf_at page.now.runs.items to }
 {
-    if from != to {
-        set_sources(page, &page.reads, rf, to);
+    if from == to {
+        return rf;
     }
+    set_sources(page, &page.reads, &mut rf, to);
+    rf
 }
 
 /// What is found at a number of some runs.

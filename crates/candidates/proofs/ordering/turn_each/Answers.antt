@@ -7,7 +7,7 @@ use Rattle.candidates.specs.Executions.{later_writes}
 use Rattle.candidates.specs.Candidates.{count_orders, order_at}
 use Rattle.candidates.proofs.Listed.{written_at}
 use Rattle.candidates.proofs.Orders.{old_order, turned_on, turned_to_end}
-use Rattle.candidates.proofs.ordering.turn_orders.Goals as goal
+use Rattle.candidates.proofs.ordering.turn_each.Goals as goal
 
 pub orders_of-count-requires : goal.orders_of-count-requires
 orders_of-count-requires c = (written_at c.args.page.now.runs.items c.args.locations c.loop-location.location c.args.page.now.writes.items c.requires.page.writes_are c.loop-location-test.true).0
@@ -35,5 +35,5 @@ loop-location-preserved c =
     let old : c.index-co-location.result ≡ Initial x ∷ arrange ws (at.old % count) = c.index-co-location.is ∙ o.1 ∙ ap (λ k. order_at runs x (at.old % k)) (sym is) in
     turned_on runs n c.args.to x at.co _ at.old at.new count c.turn_order.new.order c.loop-location-test.true is (c.turn_order.ensures (Initial x) ws (sym c.index-co-location.is ∙ old)) refl at.invariant
 
-pub returns : goal.returns
-returns c = turned_to_end c.args.page.now.runs.items c.args.locations c.args.to c.loop-location.location c.loop-location.co c.loop-location.old c.loop-location.new c.loop-location-test.false c.loop-location.invariant
+pub returns-clause-turned : goal.returns-clause-turned
+returns-clause-turned c = turned_to_end c.args.page.now.runs.items c.args.locations c.args.to c.loop-location.location c.loop-location.co c.loop-location.old c.loop-location.new c.loop-location-test.false c.loop-location.invariant
