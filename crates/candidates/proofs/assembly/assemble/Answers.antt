@@ -6,8 +6,8 @@ use Rattle.candidates.proofs.Graphs.{is_candidate, is_graph}
 use Rattle.candidates.proofs.Listed.{by_writes}
 use Rattle.candidates.proofs.assembly.assemble.Goals as goal
 
-pub read_from-rf-requires-clause-page : goal.read_from-rf-requires-clause-page
-read_from-rf-requires-clause-page c = by_writes _ c.args.page.now c.requires.page
+pub read_from-requires-clause-page : goal.read_from-requires-clause-page
+read_from-requires-clause-page c = by_writes _ c.args.page.now c.requires.page
 
 pub new-requires : goal.new-requires
 new-requires c =
