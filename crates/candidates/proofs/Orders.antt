@@ -1,12 +1,11 @@
 -- The orders of the locations, one location after another.
-use Rattle.std.proofs.Common.{◌≡◌, ℕ, zero, suc, ◌+◌, ◌-◌, ◌/◌, ◌%◌, ◌<◌, ◌≤◌, List, [], ◌∷◌, ◌++◌, length, take, drop, get_or, set, add-one, refl, sym, ◌∙◌, ap, arith}
+use Rattle.std.proofs.Common.{◌≡◌, ℕ, zero, suc, ◌+◌, ◌/◌, ◌%◌, ◌<◌, ◌≤◌, List, [], ◌∷◌, ◌++◌, length, take, drop, get_or, set, add-one, refl, sym, ◌∙◌, ap, arith}
 use Rattle.std.proofs.lemmas.List.{take-append-drop, take_more_set, drop-set-lt}
 use Rattle.events.specs.declared.event.EventId.{EventId}
-use Rattle.events.specs.declared.event.EventId.TheVariants.{Initial}
 use Rattle.events.specs.Executions.{ThreadRun}
 use Rattle.listings.specs.Numbered.{digits}
 use Rattle.listings.proofs.Numberings.{cons_head, cons_tail}
-use Rattle.candidates.specs.Executions.{later_writes, upto}
+use Rattle.candidates.specs.Executions.{upto}
 use Rattle.candidates.specs.Candidates.{count_orders, order_at}
 use Rattle.candidates.proofs.Caps.{digits_step, digits_more, digits_end}
 

@@ -2,7 +2,7 @@
 use Rattle.std.proofs.Common.{◌≡◌, ℕ, ◌+◌, ◌-◌, ◌*◌, ◌<◌, ◌≤◌, List, length, None, Some, refl, sym, ◌∙◌, ap, subst, inl, inr, arith}
 use Rattle.std.proofs.lemmas.Bool.{cases_lt}
 use Rattle.events.specs.Executions.{Execution, ThreadRun}
-use Rattle.candidates.specs.declared.reading.Look.TheVariants.{Found, Until}
+use Rattle.candidates.specs.declared.reading.Look.TheVariants.{Until}
 use Rattle.candidates.specs.declared.page.Page.{Page}
 use Rattle.candidates.specs.declared.page.Stretch.{Stretch}
 use Rattle.candidates.specs.declared.fault.TheConstants.{MOST_CANDIDATES}

@@ -88,14 +88,7 @@ fn turn_order(alloc: Global, order: &mut Coherence, from: u64, to: u64)
 
 /// Makes the orders with one number, of each location, to those with another. Where the rest of both numbers is the same, the
 /// orders stay as they are.
-fn turn_each(
-    alloc: Global,
-    page: &Page,
-    co: &mut [Coherence],
-    locations: usize,
-    from: u64,
-    to: u64,
-)
+fn turn_each(alloc: Global, page: &Page, co: &mut [Coherence], locations: usize, from: u64, to: u64)
     requires page { IsPage locations page.now }
     requires co { co.old ≡ digits (count_orders page.now.runs.items) (order_at page.now.runs.items) (upto locations) from }
     ensures len { length co.new ≡ length co.old }

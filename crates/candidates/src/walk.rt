@@ -93,19 +93,19 @@ fn visit(space: &Space, scene: &Scene, number: u64) -> Look
     ensures { IsVisit space.now number scene.now.stretch result }
 {
     let stretch = &scene.stretch;
-    match look_at(space.init(), &stretch.page, scene.at, number - stretch.first) {
+    match look_at(
+        space.init(),
+        &stretch.page,
+        scene.at,
+        number - stretch.first,
+    ) {
         Look::Found => Look::Found,
         Look::Until(next) => Look::Until(stretch.first + next),
     }
 }
 
 /// What is at a number.
-fn look(
-    alloc: Global,
-    space: &Space,
-    scene: &mut Scene,
-    number: u64,
-) -> Result<Look, AllocError>
+fn look(alloc: Global, space: &Space, scene: &mut Scene, number: u64) -> Result<Look, AllocError>
     requires scene { IsScene space.now scene.old }
     requires number { number < size_of space.now }
     ensures found { IfOk result (IsVisit space.now number scene.new.stretch) }
@@ -119,11 +119,7 @@ fn look(
 }
 
 /// The execution at a number.
-pub(crate) fn find(
-    alloc: Global,
-    space: &Space,
-    number: u64,
-) -> Result<Option<Graph>, AllocError>
+pub(crate) fn find(alloc: Global, space: &Space, number: u64) -> Result<Option<Graph>, AllocError>
     requires { number < size_of space.now }
     ensures { IfOk result (λ g. g ≡ graph_at space.now number) }
 {
@@ -131,12 +127,7 @@ pub(crate) fn find(
     match look(alloc, space, &mut scene, number)? {
         Look::Found => {
             let stretch = &scene.stretch;
-            Ok(Some(assemble(
-                alloc,
-                space.init(),
-                &stretch.page,
-                number - stretch.first,
-            )?))
+            Ok(Some(assemble(alloc, space.init(), &stretch.page, number - stretch.first)?))
         }
         Look::Until(_) => Ok(None),
     }

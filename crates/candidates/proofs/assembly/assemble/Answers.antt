@@ -1,4 +1,4 @@
-use Rattle.std.proofs.Common.{◌≡◌, ◌∙◌, ◌/◌, List, ap, subst, sym}
+use Rattle.std.proofs.Common.{◌∙◌, ◌/◌, List, ap, subst, sym}
 use Rattle.events.specs.declared.event.Event.{Event}
 use Rattle.events.specs.Executions.{Execution, IsGraph}
 use Rattle.candidates.specs.Readings.{read_at}

@@ -1,4 +1,4 @@
-use Rattle.std.proofs.Common.{◌≡◌, ◌-◌, take, drop, ◌/◌, length, refl, arith}
+use Rattle.std.proofs.Common.{◌-◌, take, drop, length, refl, arith}
 use Rattle.candidates.proofs.Moves.{turned_none, turned_first, turned_all, behind_first, first_kept}
 use Rattle.candidates.proofs.ordering.+turn.Goals as goal
 

@@ -1,5 +1,4 @@
-use Rattle.std.proofs.Common.{◌≡◌, ◌∙◌}
-use Rattle.candidates.specs.Executions.{later_writes}
+use Rattle.std.proofs.Common.{◌∙◌}
 use Rattle.candidates.proofs.Listed.{written_at, picked, pickable}
 use Rattle.candidates.proofs.reading.choose.Goals as goal
 

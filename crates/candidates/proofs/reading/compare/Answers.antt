@@ -61,7 +61,7 @@ loop-read-preserved c =
     let value : c.write_value.result ≡ write_value init runs got.source = c.write_value.ensures ∙ ap (λ (rs : List ThreadRun). write_value init rs got.source) c.deref.ensures.value in (
       at.invariant.0 ++ got.source ∷ [],
       read_on init runs c.args.reads.now c.args.number at.read-index at.invariant.0 _ at.rest at.below got.rest got.below c.read-item.result got.source c.loop-read-test.true c.read-item.is
-      c.choose-pick.ensures.below c.choose-pick.ensures.rest c.choose-pick.ensures.source (sym value ∙ c.if-write_value-read.false) refl at.invariant.1,
+          c.choose-pick.ensures.below c.choose-pick.ensures.rest c.choose-pick.ensures.source (sym value ∙ c.if-write_value-read.false) refl at.invariant.1,
     )
 
 pub returns : goal.returns

@@ -2,7 +2,7 @@ use Rattle.std.proofs.Common.{◌∙◌, List, subst, ◌/◌}
 use Rattle.events.specs.declared.event.Event.{Event}
 use Rattle.candidates.specs.declared.reading.Fit.TheVariants.{Until}
 use Rattle.candidates.specs.Readings.{IsFit}
-use Rattle.candidates.proofs.Passing.{until_of, whole_of, known_of}
+use Rattle.candidates.proofs.Passing.{until_of}
 use Rattle.candidates.proofs.reading.look_at.Goals as goal
 
 pub returns-in-Until : goal.returns-in-Until
