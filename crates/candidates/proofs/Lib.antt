@@ -19,3 +19,5 @@ pub mod Tallies
 pub mod Walked
 pub mod Writing
 pub mod Listed
+pub mod Moves
+pub mod Orders

@@ -9,6 +9,8 @@ use Rattle.events.specs.Executions.{ThreadRun}
 use Rattle.candidates.specs.Executions.{later_writes, reads, upto}
 use Rattle.candidates.specs.Candidates.{count_sources, source_at}
 use Rattle.candidates.specs.Bounds.{AreWithin}
+use Rattle.candidates.specs.Readings.{IsPage}
+use Rattle.candidates.specs.declared.page.Page.{Page}
 use Rattle.candidates.proofs.Caps.{drop_upto, length_tabulate, get_or_tabulate, below_upto}
 use Rattle.candidates.proofs.Graphs.{IsAt, reads_at_locations}
 
@@ -57,4 +59,11 @@ picked runs r later number ways w rest below e a b c =
 pub pickable : (runs : List ThreadRun) (r : Event) (later : List EventId) (number ways : ℕ) → later ≡ later_writes runs r.loc → (1 ≤ ways / count_sources runs r) × (number / (ways / count_sources runs r) < count_sources runs r) → (1 ≤ ways / suc (length later)) × (number / (ways / suc (length later)) < suc (length later))
 pickable runs r later number ways e h =
     let P : List EventId → Type 0 = λ l. (1 ≤ ways / suc (length l)) × (number / (ways / suc (length l)) < suc (length l)) in
+    subst P (sym e) h
+
+-- The page of some locations has a list of writes for each.
+pub by_writes : (n : ℕ) (p : Page) → IsPage n p → IsPage (length p.writes.items) p
+by_writes n p h =
+    let e : length p.writes.items ≡ n = ap (λ (ls : List (List EventId)). length ls) h.writes_are ∙ length-map (upto n) (later_writes p.runs.items) ∙ length_tabulate n (λ i. i) in
+    let P : ℕ → Type 0 = λ m. IsPage m p in
     subst P (sym e) h

@@ -1,14 +1,14 @@
 -- From the ways of the reads to the candidates that are passed over.
-use Rattle.std.proofs.Common.{◌≡◌, ℕ, ◌+◌, ◌*◌, ◌/◌, ◌<◌, ◌≤◌, List, length, sym, subst, inl, inr, arith}
+use Rattle.std.proofs.Common.{◌≡◌, ℕ, ◌+◌, ◌*◌, ◌/◌, ◌<◌, ◌≤◌, List, length, sym, ap, ◌∙◌, true, subst, inl, inr, arith}
 use Rattle.std.proofs.lemmas.Bool.{cases_lt}
 use Rattle.std.proofs.lemmas.Nat.{div_below, mod_below}
 use Rattle.std.proofs.Math.Nat.{mod-add-div', mul-le-mul_right}
 use Rattle.events.specs.Executions.{ThreadRun}
-use Rattle.candidates.specs.declared.assembly.Reading.TheVariants as of_reading
-use Rattle.candidates.specs.declared.assembly.Look.TheVariants as of_look
+use Rattle.candidates.specs.declared.reading.Fit.TheVariants as of_fit
+use Rattle.candidates.specs.declared.reading.Look.TheVariants as of_look
 use Rattle.candidates.specs.Executions.{reads, upto}
-use Rattle.candidates.specs.Candidates.{count_orders, count_co}
-use Rattle.candidates.specs.Readings.{IsReading, IsLook}
+use Rattle.candidates.specs.Candidates.{agree, candidate, count_orders, count_co, is_consistent}
+use Rattle.candidates.specs.Readings.{IsFit, IsLook, read_at}
 use Rattle.candidates.proofs.Caps.{product_positive, orders_positive}
 
 below_times : (i n o : ℕ) → 0 < o → i / o < n → i < n * o
@@ -23,12 +23,12 @@ later_div i j o p l = elim (cases_lt (j / o) (i / o)) [
   | inr h ↦ omega (arith, h)
 ]
 
-pub until_of : (init : List ℕ) (runs : List ThreadRun) (orders number next : ℕ) → orders ≡ count_co (length init) runs → IsReading init runs (reads runs) (number / orders) (of_reading.Until next) → IsLook init runs number (of_look.Until (next * orders))
+pub until_of : (init : List ℕ) (runs : List ThreadRun) (orders number next : ℕ) → orders ≡ count_co (length init) runs → IsFit init runs (reads runs) (number / orders) (of_fit.Until next) → IsLook init runs number (of_look.Until (next * orders))
 until_of init runs orders number next is read =
     let o = count_co (length init) runs in
     let s : 1 ≤ o = product_positive (count_orders runs) (orders_positive runs) (upto (length init)) in
     let p : 0 < o = omega (arith, s) in
-    let R : ℕ → Type 0 = λ k. IsReading init runs (reads runs) (number / k) (of_reading.Until next) in
+    let R : ℕ → Type 0 = λ k. IsFit init runs (reads runs) (number / k) (of_fit.Until next) in
     let r = subst R is read in
     let L : ℕ → Type 0 = λ k. IsLook init runs number (of_look.Until (next * k)) in
     subst L (sym is) (
@@ -36,3 +36,15 @@ until_of init runs orders number next is read =
       mul-le-mul_right o r.1,
       λ m a b. r.2 (m / o) (later_div number m o p a) (div_below m o next p b),
     )
+
+-- Where all reads have read, the candidate is an execution.
+pub whole_of : (init : List ℕ) (runs : List ThreadRun) (orders number : ℕ) → orders ≡ count_co (length init) runs → agree init runs (reads runs) (read_at runs (reads runs) (number / orders)) ≡ true → is_consistent (candidate init runs number) ≡ true
+whole_of init runs orders number is h = let P : ℕ → Type 0 = λ k. agree init runs (reads runs) (read_at runs (reads runs) (number / k)) ≡ true in subst P is h
+
+-- A candidate that reads as an execution does is one.
+pub known_of : (init : List ℕ) (runs : List ThreadRun) (orders known number : ℕ) → orders ≡ count_co (length init) runs → known / orders ≡ number / orders → is_consistent (candidate init runs known) ≡ true → is_consistent (candidate init runs number) ≡ true
+known_of init runs orders known number is e h =
+    let o = count_co (length init) runs in
+    let f : known / o ≡ number / o = ap (λ k. known / k) (sym is) ∙ e ∙ ap (λ k. number / k) is in
+    let P : ℕ → Type 0 = λ i. agree init runs (reads runs) (read_at runs (reads runs) i) ≡ true in
+    subst P f h

@@ -1,13 +1,13 @@
--- What is found at a number of some runs: a reading or a candidate, or up to which number there is none.
-use Rattle.std.specs.Prelude.{◌≡◌, ℕ, ◌+◌, ◌<◌, ◌≤◌, List, length, map, true, false}
+-- What is found at a number of some runs: that its candidate is an execution, or up to which number none is.
+use Rattle.std.specs.Prelude.{◌≡◌, ℕ, ◌+◌, ◌<◌, ◌≤◌, List, length, map, true, false, Option, IfSome}
 use Rattle.events.specs.declared.event.Event.{Event}
 use Rattle.events.specs.declared.event.EventId.{EventId}
-use Rattle.events.specs.Executions.{ThreadRun}
+use Rattle.events.specs.Executions.{Execution, ThreadRun}
 use Rattle.listings.specs.Lists.{product_by}
-use Rattle.candidates.specs.declared.assembly.Reading.{Reading}
-use Rattle.candidates.specs.declared.assembly.Reading.TheVariants as of_reading
-use Rattle.candidates.specs.declared.assembly.Look.{Look}
-use Rattle.candidates.specs.declared.assembly.Look.TheVariants as of_look
+use Rattle.candidates.specs.declared.reading.Fit.{Fit}
+use Rattle.candidates.specs.declared.reading.Fit.TheVariants as of_fit
+use Rattle.candidates.specs.declared.reading.Look.{Look}
+use Rattle.candidates.specs.declared.reading.Look.TheVariants as of_look
 use Rattle.candidates.specs.declared.page.Page.{Page}
 use Rattle.candidates.specs.declared.page.Stretch.{Stretch}
 use Rattle.candidates.specs.declared.fault.TheConstants.{MOST_CANDIDATES}
@@ -20,13 +20,13 @@ abbrev pub read_at : List ThreadRun → List Event → ℕ → List EventId
 read_at runs rs i = digits_down (count_sources runs) (source_at runs) rs i
 
 -- By number i each read has the value of what it reads from; or by no number from i to before n.
-abbrev pub IsReading : List ℕ → List ThreadRun → List Event → ℕ → Reading → Type 0
-IsReading init runs rs i (of_reading.Whole v) = (v.items ≡ read_at runs rs i) × (agree init runs rs v.items ≡ true)
-IsReading init runs rs i (of_reading.Until n) = (i < n) × (n ≤ product_by (count_sources runs) rs) × ((m : ℕ) → i ≤ m → m < n → agree init runs rs (read_at runs rs m) ≡ false)
+abbrev pub IsFit : List ℕ → List ThreadRun → List Event → ℕ → Fit → Type 0
+IsFit init runs rs i of_fit.Whole = agree init runs rs (read_at runs rs i) ≡ true
+IsFit init runs rs i (of_fit.Until n) = (i < n) × (n ≤ product_by (count_sources runs) rs) × ((m : ℕ) → i ≤ m → m < n → agree init runs rs (read_at runs rs m) ≡ false)
 
 -- The candidate with the number i is an execution; or none from i to before n is.
 abbrev pub IsLook : List ℕ → List ThreadRun → ℕ → Look → Type 0
-IsLook init runs i (of_look.Found g) = (g ≡ candidate init runs i) × (is_consistent g ≡ true)
+IsLook init runs i of_look.Found = is_consistent (candidate init runs i) ≡ true
 IsLook init runs i (of_look.Until n) = (i < n) × (n ≤ block (length init) runs) × ((m : ℕ) → i ≤ m → m < n → is_consistent (candidate init runs m) ≡ false)
 
 -- What is kept of some runs: their reads, the later writes of each location, and in how many ways the reads can read and the writes be ordered.
@@ -37,6 +37,10 @@ pub record IsPage (locations : ℕ) (p : Page) : Type 0 where
   pub writes_are : p.writes.items ≡ map (later_writes p.runs.items) (upto locations)
   pub ways : p.ways ≡ product_by (count_sources p.runs.items) (reads p.runs.items)
   pub orders : p.orders ≡ count_co locations p.runs.items
+
+-- The page is one of some locations, and the read is at one of them.
+abbrev pub IsReadOf : Page → Event → Type 0
+IsReadOf p r = (n : ℕ) × IsPage n p × (r.loc < n)
 
 -- The numbers of a stretch are those of the candidates with its runs.
 pub record IsStretch (s : Choices) (b : Stretch) : Type 0 where
@@ -49,3 +53,7 @@ pub record IsStretch (s : Choices) (b : Stretch) : Type 0 where
 -- A stretch of some numbers is one of the space.
 abbrev pub MayBeStretch : Choices → Stretch → Type 0
 MayBeStretch s b = 1 ≤ b.size → IsStretch s b
+
+-- Where a number is named, the execution is the page's candidate with that number.
+abbrev pub IsSeen : List ℕ → Page → Execution → Option ℕ → Type 0
+IsSeen init p x at = IfSome at (λ n. (x ≡ candidate init p.runs.items n) × (is_consistent (candidate init p.runs.items n) ≡ true))

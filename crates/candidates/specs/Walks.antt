@@ -1,14 +1,14 @@
 -- A walk over the executions of a space, from number to number.
-use Rattle.std.specs.Prelude.{◌≡◌, ℕ, ◌+◌, ◌<◌, ◌≤◌, Option, None, Some}
+use Rattle.std.specs.Prelude.{◌≡◌, ℕ, ◌+◌, ◌-◌, ◌<◌, ◌≤◌, true, Option, None, Some}
 use Rattle.events.specs.Executions.{Execution}
-use Rattle.candidates.specs.Candidates.{Choices, graph_at, size_of}
-use Rattle.candidates.specs.declared.assembly.Look.{Look}
-use Rattle.candidates.specs.declared.assembly.Look.TheVariants.{Found, Until}
-use Rattle.candidates.specs.Readings.{IsStretch, MayBeStretch}
+use Rattle.candidates.specs.Candidates.{Choices, candidate, graph_at, is_consistent, size_of}
+use Rattle.candidates.specs.declared.reading.Look.{Look}
+use Rattle.candidates.specs.declared.reading.Look.TheVariants.{Found, Until}
+use Rattle.candidates.specs.Readings.{IsStretch, MayBeStretch, IsSeen}
 use Rattle.candidates.specs.declared.page.Reach.{Reach}
 use Rattle.candidates.specs.declared.page.Reach.TheVariants as of_reach
 use Rattle.candidates.specs.declared.page.Stretch.{Stretch}
-use Rattle.candidates.specs.declared.walk.Hit.{Hit}
+use Rattle.candidates.specs.declared.page.Scene.{Scene}
 
 -- A walk goes on from the number `next`, and ends before the number `to`. It shows the execution that it found last.
 pub record Walking : Type 0 where
@@ -45,16 +45,6 @@ pub record IsMiss (v w : Walking) : Type 0 where
   pub order : v.next ≤ v.to
   pub none : NoneFrom v.space v.next v.to
 
--- At the number n stands the execution, or none from n to before a later number.
-abbrev pub IsVisit : Choices → ℕ → Look → Type 0
-IsVisit s n (Found x) = graph_at s n ≡ Some x
-IsVisit s n (Until m) = IsPast s n m
-
--- The first execution from a to before b, or none.
-abbrev pub IsFind : Choices → ℕ → ℕ → Option Hit → Type 0
-IsFind s a b None = NoneFrom s a b
-IsFind s a b (Some h) = (a ≤ h.number) × (h.number < b) × NoneFrom s a h.number × (graph_at s h.number ≡ Some h.graph)
-
 -- The number n is in the stretch.
 pub record IsWithin (s : Choices) (n : ℕ) (b : Stretch) : Type 0 where
   pub stretch : IsStretch s b
@@ -66,7 +56,27 @@ abbrev pub IsReach : Choices → ℕ → Reach → Type 0
 IsReach s n (of_reach.At b) = IsWithin s n b
 IsReach s n (of_reach.Until m) = IsPast s n m
 
--- The stretch at hand is one of the space; and the number is in it, or none is an execution up to a later number.
+-- The number is in the stretch at hand, or none is an execution up to a later number.
 abbrev pub IsReached : Choices → ℕ → Stretch → Option ℕ → Type 0
 IsReached s n b None = IsWithin s n b
-IsReached s n b (Some m) = MayBeStretch s b × IsPast s n m
+IsReached s n b (Some m) = IsPast s n m
+
+-- At the number n, which is in the stretch, stands an execution.
+pub record IsFound (s : Choices) (n : ℕ) (b : Stretch) : Type 0 where
+  pub within : IsWithin s n b
+  pub holds : is_consistent (candidate s.init b.page.runs.items (n - b.first)) ≡ true
+
+-- At the number n stands an execution, or none from n to before a later number.
+abbrev pub IsVisit : Choices → ℕ → Stretch → Look → Type 0
+IsVisit s n b Found = IsFound s n b
+IsVisit s n b (Until m) = IsPast s n m
+
+-- The first execution from a to before c, or none.
+abbrev pub IsFind : Choices → Stretch → ℕ → ℕ → Option ℕ → Type 0
+IsFind s b a c None = NoneFrom s a c
+IsFind s b a c (Some n) = (a ≤ n) × (n < c) × NoneFrom s a n × IsFound s n b
+
+-- The stretch at hand is one of the space, and what is shown is its candidate with the number that is named.
+pub record IsScene (s : Choices) (c : Scene) : Type 0 where
+  pub stretch : MayBeStretch s c.stretch
+  pub seen : IsSeen s.init c.stretch.page c.graph c.at

@@ -1,20 +1,21 @@
-//! The candidate with this number among those with the same runs.
+//! The parts of the candidates with the same runs, and the candidates.
 
-ghost use Rattle.std.specs.Prelude.{◌≡◌, ◌++◌, ◌<◌, ◌≤◌, ◌*◌, ◌/◌, ◌%◌, ◌∷◌, ℕ, suc, length, map, filter, true, false, slice_index_or, IfOk, OnOk, MatchOption};
-ghost use Rattle.events.specs.declared.event.EventId.TheVariants.{Initial};
+ghost use Rattle.std.specs.Prelude.{◌≡◌, ◌++◌, ◌<◌, ◌≤◌, length, map, filter, IfOk, IfSome, OnOk, OnErr};
 ghost use Rattle.events.specs.Executions.{is_read};
-ghost use Rattle.listings.specs.Lists.{factorial, product_by};
-ghost use Rattle.listings.specs.Numbered.{arrange, digits};
+ghost use Rattle.listings.specs.Lists.{product_by};
 ghost use Rattle.candidates.specs.Bounds.{AreWithin};
 ghost use Rattle.candidates.specs.Executions.{writes_from, later_writes, reads, upto, block};
-ghost use Rattle.candidates.specs.Candidates.{sources, count_sources, source_at, count_orders, order_at, count_co, rf_at, candidate, write_value, agree, is_consistent};
-ghost use Rattle.candidates.specs.Readings.{IsReading, IsLook, IsPage};
+ghost use Rattle.candidates.specs.Candidates.{sources, count_sources, count_orders, count_co, candidate, no_execution, write_value};
+ghost use Rattle.candidates.specs.Readings.{IsPage};
 
 use crate::capped::capped_factorial;
 use crate::fault::MOST_CANDIDATES;
+use crate::ordering::{coherence, turn_orders};
 use crate::page::{Page, Writes};
-use events::{Coherence, Event, EventId, Graph, Run, copy_runs};
+use crate::reading::{read_from, turn_sources};
+use events::{Event, EventId, Graph, Run, copy_runs};
 use std::alloc::{AllocError, Global};
+use std::mem::replace;
 
 /// Adds the writes to a location among the events of a thread.
 fn push_writes(
@@ -46,6 +47,7 @@ fn later_writes(alloc: Global, runs: &[Run], location: usize) -> Result<Vec<Even
 
 /// The later writes of each location.
 fn all_writes(alloc: Global, runs: &[Run], locations: usize) -> Result<Vec<Writes>, AllocError>
+    requires { count_co locations runs.now ≤ MOST_CANDIDATES }
     ensures { IfOk result (λ v. v.items ≡ map (later_writes runs.now) (upto locations)) }
 {
     let mut all = Vec::with_capacity(alloc, locations)?;
@@ -122,96 +124,6 @@ pub fn write_value(init: &[u32], runs: &[Run], write: EventId) -> u32
     }
 }
 
-/// What the reads read from, by some number.
-#[derive(Drop)]
-pub(crate) enum Reading {
-    /// Each read has the value of what it reads from.
-    Whole(Vec<EventId>),
-    /// By this number and those before it, some read has another value.
-    Until(u64),
-}
-
-/// What a read reads from, the number that is left for the reads behind it, and in how many ways these can read.
-#[derive(Clone, Copy)]
-struct Pick {
-    source: EventId,
-    rest: u64,
-    below: u64,
-}
-
-/// The write with this number among the initial one of a location and the later ones behind it.
-fn source(location: usize, later: &[EventId], number: usize) -> EventId
-    requires { number ≤ length later.now }
-    ensures { result ≡ slice_index_or (Initial location ∷ later.now) number (Initial 0) }
-{
-    if number == 0 {
-        return EventId::Initial(location);
-    }
-    later[number - 1]
-}
-
-/// What a read of a location with these later writes reads from by this number, of those by which it and the reads behind it
-/// can read.
-fn pick_source(location: usize, later: &[EventId], number: u64, ways: u64) -> Pick
-    requires some { 1 ≤ ways / suc (length later.now) }
-    requires digit { number / (ways / suc (length later.now)) < suc (length later.now) }
-    ensures source { result.source ≡ slice_index_or (Initial location ∷ later.now) (number / (ways / suc (length later.now))) (Initial 0) }
-    ensures rest { result.rest ≡ number % (ways / suc (length later.now)) }
-    ensures below { result.below ≡ ways / suc (length later.now) }
-{
-    let below = ways / (later.len() as u64 + 1);
-    Pick {
-        source: source(location, later, (number / below) as usize),
-        rest: number % below,
-        below,
-    }
-}
-
-/// What each read reads from, with this number, where each has the value of what it reads from. Else up to which
-/// number a read has another value: all those numbers by which the reads up to it read from the same writes.
-fn read_from(
-    alloc: Global,
-    init: &[u32],
-    page: &Page,
-    reads: &[Event],
-    number: u64,
-) -> Result<Reading, AllocError>
-    requires page { IsPage (length init.now) page.now }
-    requires reads { reads.now ≡ page.now.reads.items }
-    requires number { number < page.now.ways }
-    ensures { IfOk result (IsReading init.now page.now.runs.items reads.now number) }
-{
-    let mut rf = Vec::with_capacity(alloc, reads.len())?;
-    let mut below = page.ways;
-    let mut rest = number;
-    for read in reads {
-        let pick = pick_source(read.loc, page.writes_to(read.loc), rest, below);
-        if write_value(init, &page.runs, pick.source) != read.value {
-            return Ok(Reading::Until(number - pick.rest + pick.below));
-        }
-        rf.push(pick.source)?;
-        rest = pick.rest;
-        below = pick.below;
-    }
-    Ok(Reading::Whole(rf))
-}
-
-/// One order of the writes.
-fn arrange(alloc: Global, writes: &[EventId], number: u64) -> Result<Vec<EventId>, AllocError>
-    ensures items { IfOk result (λ v. v.items ≡ arrange writes.now number) }
-    ensures len { IfOk result (λ v. length v.items ≡ length writes.now) }
-{
-    match writes {
-        [] => Ok(Vec::new(alloc)),
-        [first, rest @ ..] => {
-            let count = writes.len() as u64;
-            let mut order = arrange(alloc, rest, number / count)?;
-            order.insert((number % count) as usize, *first)?;
-            Ok(order)
-        }
-    }
-}
-
 /// How many orders of the later writes of a location there are.
 fn count_orders(alloc: Global, runs: &[Run], location: usize) -> Result<u64, AllocError>
     requires { count_orders runs.now location ≤ MOST_CANDIDATES }
@@ -219,49 +131,6 @@ fn count_orders(alloc: Global, runs: &[Run], location: usize) -> Result<u64, All
 {
     let count = later_writes(alloc, runs, location)?.len();
     Ok(capped_factorial(count).unwrap())
-}
-
-/// How many orders of these writes there are.
-fn orders_of(writes: &[EventId]) -> u64
-    requires { factorial (length writes.now) ≤ MOST_CANDIDATES }
-    ensures { (result ≡ factorial (length writes.now)) × (1 ≤ result) }
-{
-    capped_factorial(writes.len()).unwrap()
-}
-
-/// The order with this number of the writes to a location, of which these are the later ones.
-fn order_of(
-    alloc: Global,
-    location: usize,
-    later: &[EventId],
-    number: u64,
-) -> Result<Coherence, AllocError>
-    ensures { IfOk result (λ o. o ≡ Initial location ∷ arrange later.now number) }
-{
-    let mut order = arrange(alloc, later, number)?;
-    order.insert(0, EventId::Initial(location))?;
-    Ok(Coherence::new(order))
-}
-
-/// The orders with this number, for each location.
-fn coherence(
-    alloc: Global,
-    page: &Page,
-    locations: usize,
-    number: u64,
-) -> Result<Vec<Coherence>, AllocError>
-    requires page { IsPage locations page.now }
-    ensures { IfOk result (λ v. v.items ≡ digits (count_orders page.now.runs.items) (order_at page.now.runs.items) (upto locations) number) }
-{
-    let mut co = Vec::with_capacity(alloc, locations)?;
-    let mut rest = number;
-    for location in 0..locations {
-        let later = page.writes_to(location);
-        let count = orders_of(later);
-        co.push(order_of(alloc, location, later, rest % count)?)?;
-        rest /= count;
-    }
-    Ok(co)
 }
 
 /// How many orders there are of the writes of all locations.
@@ -296,46 +165,77 @@ pub(crate) fn open_page(alloc: Global, runs: Vec<Run>, locations: usize) -> Resu
     })
 }
 
-/// What is found at a number of some runs.
-#[derive(Drop)]
-pub(crate) enum Look {
-    /// The candidate is an execution.
-    Found(Graph),
-    /// From the number to before this one no candidate is.
-    Until(u64),
-}
-
-/// The candidate with these parts.
-fn assemble(
+/// The candidate of the page's runs with this number.
+pub(crate) fn assemble(
     alloc: Global,
     init: &[u32],
     page: &Page,
-    rf: Vec<EventId>,
     number: u64,
 ) -> Result<Graph, AllocError>
     requires page { IsPage (length init.now) page.now }
     requires number { number < block (length init.now) page.now.runs.items }
-    requires rf { rf.items ≡ rf_at page.now.runs.items (number / page.now.orders) }
     ensures { IfOk result (λ g. g ≡ candidate init.now page.now.runs.items number) }
 {
+    let rf = read_from(alloc, page, &page.reads, number / page.orders)?;
     let co = coherence(alloc, page, init.len(), number % page.orders)?;
     let values = Vec::from_slice(alloc, init)?;
     Ok(Graph::new(values, copy_runs(alloc, &page.runs)?, rf, co))
 }
 
-/// The candidate of the page's runs with this number, where it is an execution; else up to which number none is.
-pub(crate) fn look_at(
+/// The candidate of the page's runs with another number, made from the one with this number.
+fn turned(alloc: Global, page: &Page, graph: Graph, from: u64, to: u64) -> Graph
+    requires page { IsPage (length graph.init) page.now }
+    requires number { to < block (length graph.init) page.now.runs.items }
+    requires graph { graph ≡ candidate graph.init page.now.runs.items from }
+    ensures { result ≡ candidate graph.init page.now.runs.items to }
+{
+    let parts = graph.into_parts();
+    let rf = turn_sources(page, parts.rf, from / page.orders, to / page.orders);
+    let co = turn_orders(
+        alloc,
+        page,
+        parts.co,
+        parts.init.len(),
+        from % page.orders,
+        to % page.orders,
+    );
+    Graph::new(parts.init, parts.runs, rf, co)
+}
+
+/// An execution of nothing.
+pub(crate) fn nothing(alloc: Global) -> Graph
+    ensures { result ≡ no_execution }
+{
+    Graph::new(
+        Vec::new(alloc),
+        Vec::new(alloc),
+        Vec::new(alloc),
+        Vec::new(alloc),
+    )
+}
+
+/// Makes of a graph the candidate of the page's runs with a number. The graph is the candidate with the number `from`,
+/// where there is one.
+pub(crate) fn make(
     alloc: Global,
     init: &[u32],
     page: &Page,
-    number: u64,
-) -> Result<Look, AllocError>
+    graph: &mut Graph,
+    from: Option<u64>,
+    to: u64,
+) -> Result<(), AllocError>
     requires page { IsPage (length init.now) page.now }
-    requires number { number < block (length init.now) page.now.runs.items }
-    ensures { IfOk result (IsLook init.now page.now.runs.items number) }
+    requires number { to < block (length init.now) page.now.runs.items }
+    requires graph { IfSome from (λ n. graph.old ≡ candidate init.now page.now.runs.items n) }
+    ensures made { OnOk result (graph.new ≡ candidate init.now page.now.runs.items to) }
+    ensures same { OnErr result (graph.new ≡ graph.old) }
 {
-    match read_from(alloc, init, page, &page.reads, number / page.orders)? {
-        Reading::Whole(rf) => Ok(Look::Found(assemble(alloc, init, page, rf, number)?)),
-        Reading::Until(next) => Ok(Look::Until(next * page.orders)),
+    match from {
+        Some(number) => {
+            let before = replace(graph, nothing(alloc));
+            *graph = turned(alloc, page, before, number, to);
+        }
+        None => *graph = assemble(alloc, init, page, to)?,
     }
+    Ok(())
 }

@@ -9,7 +9,9 @@ mod fault;
 mod groups;
 mod impossible;
 pub mod laws;
+mod ordering;
 mod page;
+mod reading;
 mod space;
 mod walk;
 

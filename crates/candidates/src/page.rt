@@ -1,31 +1,48 @@
 //! What is kept of the runs of a choice.
 
-ghost use Rattle.std.specs.Prelude.{◌≡◌, ◌<◌, [], length, slice_index_or};
+ghost use Rattle.std.specs.Prelude.{◌≡◌, ◌<◌, ◌≤◌, [], length, slice_index_or};
+ghost use Rattle.listings.specs.Lists.{factorial};
 
-use events::{Event, EventId, Run};
+use crate::capped::capped_factorial;
+use crate::fault::MOST_CANDIDATES;
+use events::{Event, EventId, Graph, Run};
 use std::marker::Model;
 
-/// The writes to one location, but the initial one.
+/// The writes to one location, but the initial one, and how many orders of them there are.
 #[derive(Drop)]
 pub(crate) struct Writes {
     writes: Vec<EventId>,
+    orders: u64,
 }
 
 impl Model for Writes {
-    ghost use Rattle.std.specs.Prelude.{List};
+    ghost use Rattle.std.specs.Prelude.{◌≡◌, List, length};
     ghost use Rattle.events.specs.declared.event.EventId.{EventId};
+    ghost use Rattle.listings.specs.Lists.{factorial};
 
     ghost Value = { List EventId };
 
     ghost view = { λ w. w.writes.items };
+
+    ghost invariant = { λ w. w.orders ≡ factorial (length w.writes.items) };
+}
+
+/// How many orders of these writes there are.
+fn orders_of(writes: &[EventId]) -> u64
+    requires { factorial (length writes.now) ≤ MOST_CANDIDATES }
+    ensures { (result ≡ factorial (length writes.now)) × (1 ≤ result) }
+{
+    capped_factorial(writes.len()).unwrap()
 }
 
 impl Writes {
     /// These writes.
     pub(crate) fn new(writes: Vec<EventId>) -> Self
+        requires { factorial (length writes.items) ≤ MOST_CANDIDATES }
         ensures { result ≡ writes.items }
     {
-        Writes { writes }
+        let orders = orders_of(&writes);
+        Writes { writes, orders }
     }
 
     /// The writes, in the order of their events.
@@ -33,6 +50,13 @@ impl Writes {
         ensures { result.now ≡ self.now }
     {
         &self.writes
+    }
+
+    /// How many orders of the writes there are.
+    pub(crate) fn orders(&self) -> u64
+        ensures { (result ≡ factorial (length self.now)) × (1 ≤ result) }
+    {
+        self.orders
     }
 }
 
@@ -55,6 +79,14 @@ impl Page {
     {
         self.writes[location].list()
     }
+
+    /// How many orders of the later writes of a location there are.
+    pub(crate) fn orders_of(&self, location: usize) -> u64
+        requires { location < length self.now.writes.items }
+        ensures { (result ≡ factorial (length (slice_index_or self.now.writes.items location []))) × (1 ≤ result) }
+    {
+        self.writes[location].orders()
+    }
 }
 
 /// The numbers of the candidates with the same runs, from `first` on.
@@ -70,4 +102,13 @@ pub(crate) struct Stretch {
 pub(crate) enum Reach {
     At(Stretch),
     Until(u64),
+}
+
+/// What a walk has at hand: a stretch, the execution that it shows, and the number in the stretch of the candidate that this
+/// is, where it is one of it.
+#[derive(Drop)]
+pub(crate) struct Scene {
+    pub(crate) stretch: Stretch,
+    pub(crate) graph: Graph,
+    pub(crate) at: Option<u64>,
 }

@@ -11,7 +11,7 @@ ghost use Rattle.candidates.specs.Parts.{AreAllWithin, AreShort};
 ghost use Rattle.candidates.specs.Impossible.{AreMarks};
 ghost use Rattle.candidates.specs.Walks.{IsReach};
 
-use crate::assembly::{Look, open_page};
+use crate::assembly::open_page;
 use crate::choosing::{Located, RunList, group_all, locate};
 use crate::counts::Tally;
 use crate::fault::{MOST_CANDIDATES, SpaceFault};
@@ -167,15 +167,11 @@ impl Space {
     }
 
     /// The candidate with this number, where it is an execution.
-    #[tactic(auto, using(crate::proofs::Stretches::nothing_at))]
     pub fn graph(&self, alloc: Global, number: u64) -> Result<Option<Graph>, AllocError>
         requires { number < size_of self.now }
         ensures { IfOk result (λ g. g ≡ graph_at self.now number) }
     {
-        match find(alloc, self, number)? {
-            Look::Found(graph) => Ok(Some(graph)),
-            Look::Until(_) => Ok(None),
-        }
+        find(alloc, self, number)
     }
 
     /// A walk over the executions at the numbers from `from` to `to - 1`.

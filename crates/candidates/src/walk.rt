@@ -1,12 +1,14 @@
 //! A walk over the executions of a space.
 
-ghost use Rattle.std.specs.Prelude.{◌≡◌, ◌+◌, ◌<◌, ◌≤◌, IfOk, OnErr, MatchOption};
-ghost use Rattle.candidates.specs.Candidates.{size_of, no_execution};
-ghost use Rattle.candidates.specs.Readings.{IsStretch, MayBeStretch};
-ghost use Rattle.candidates.specs.Walks.{IsFind, IsHit, IsMiss, IsReached, IsVisit};
+ghost use Rattle.std.specs.Prelude.{◌≡◌, ◌-◌, ◌<◌, ◌≤◌, length, None, Some, IfOk, OnOk, OnErr, MatchOption};
+ghost use Rattle.candidates.specs.Executions.{block};
+ghost use Rattle.candidates.specs.Candidates.{candidate, graph_at, size_of, no_execution};
+ghost use Rattle.candidates.specs.Readings.{IsPage, IsSeen};
+ghost use Rattle.candidates.specs.Walks.{IsFind, IsHit, IsMiss, IsReached, IsScene, IsVisit, IsWithin};
 
-use crate::assembly::{Look, look_at};
-use crate::page::{Page, Reach, Stretch};
+use crate::assembly::{assemble, make, nothing};
+use crate::page::{Page, Reach, Scene, Stretch};
+use crate::reading::{Look, look_at};
 use crate::space::Space;
 use events::Graph;
 use std::alloc::{AllocError, Global};
@@ -18,50 +20,42 @@ pub struct Walk<'a> {
     space: &'a Space,
     next: u64,
     to: u64,
-    shown: Graph,
-    stretch: Stretch,
+    scene: Scene,
 }
 
 impl<'a> Model for Walk<'a> {
     ghost use Rattle.std.specs.Prelude.{◌≤◌};
     ghost use Rattle.candidates.specs.Candidates.{size_of};
-    ghost use Rattle.candidates.specs.Readings.{MayBeStretch};
-    ghost use Rattle.candidates.specs.Walks.{Walking};
+    ghost use Rattle.candidates.specs.Walks.{IsScene, Walking};
 
     ghost Value = { Walking };
 
-    ghost view = { λ w. record { space = w.space.now; next = w.next; to = w.to; shown = w.shown } };
+    ghost view = { λ w. record { space = w.space.now; next = w.next; to = w.to; shown = w.scene.graph } };
 
-    ghost invariant = { λ w. record { order : w.next ≤ w.to; within : w.to ≤ size_of w.space.now; stretch : MayBeStretch w.space.now w.stretch } };
+    ghost invariant = { λ w. record { order : w.next ≤ w.to; within : w.to ≤ size_of w.space.now; scene : IsScene w.space.now w.scene } };
 }
 
-/// An execution of nothing.
-fn nothing(alloc: Global) -> Graph
-    ensures { result ≡ no_execution }
+/// A stretch of no numbers, and an execution of nothing.
+fn no_scene(alloc: Global) -> Scene
+    ensures size { result.stretch.size ≡ 0 }
+    ensures graph { result.graph ≡ no_execution }
+    ensures at { result.at ≡ None }
 {
-    Graph::new(
-        Vec::new(alloc),
-        Vec::new(alloc),
-        Vec::new(alloc),
-        Vec::new(alloc),
-    )
-}
-
-/// A stretch of no numbers.
-fn no_stretch(alloc: Global) -> Stretch
-    ensures first { result.first ≡ 0 }
-    ensures size { result.size ≡ 0 }
-{
-    Stretch {
-        first: 0,
-        size: 0,
-        page: Page {
-            runs: Vec::new(alloc),
-            reads: Vec::new(alloc),
-            writes: Vec::new(alloc),
-            ways: 1,
-            orders: 1,
+    let page = Page {
+        runs: Vec::new(alloc),
+        reads: Vec::new(alloc),
+        writes: Vec::new(alloc),
+        ways: 1,
+        orders: 1,
+    };
+    Scene {
+        stretch: Stretch {
+            first: 0,
+            size: 0,
+            page,
         },
+        graph: nothing(alloc),
+        at: None,
     }
 }
 
@@ -70,20 +64,22 @@ fn no_stretch(alloc: Global) -> Stretch
 fn reach(
     alloc: Global,
     space: &Space,
-    stretch: &mut Stretch,
+    scene: &mut Scene,
     number: u64,
 ) -> Result<Option<u64>, AllocError>
-    requires stretch { MayBeStretch space.now stretch.old }
+    requires scene { IsScene space.now scene.old }
     requires number { number < size_of space.now }
-    ensures reached { IfOk result (IsReached space.now number stretch.new) }
-    ensures same { OnErr result (stretch.new ≡ stretch.old) }
+    ensures reached { IfOk result (IsReached space.now number scene.new.stretch) }
+    ensures scene { IsScene space.now scene.new }
+    ensures graph { scene.new.graph ≡ scene.old.graph }
 {
-    if number >= stretch.first && number - stretch.first < stretch.size {
+    if number >= scene.stretch.first && number - scene.stretch.first < scene.stretch.size {
         return Ok(None);
     }
     match space.stretch(alloc, number)? {
         Reach::At(found) => {
-            *stretch = found;
+            scene.stretch = found;
+            scene.at = None;
             Ok(None)
         }
         Reach::Until(next) => Ok(Some(next)),
@@ -91,72 +87,95 @@ fn reach(
 }
 
 /// What is at a number of the stretch at hand.
-fn visit(alloc: Global, space: &Space, stretch: &Stretch, number: u64) -> Result<Look, AllocError>
-    requires stretch { IsStretch space.now stretch.now }
-    requires first { stretch.now.first ≤ number }
-    requires last { number < stretch.now.first + stretch.now.size }
-    ensures { IfOk result (IsVisit space.now number) }
+fn visit(space: &Space, scene: &Scene, number: u64) -> Look
+    requires scene { IsScene space.now scene.now }
+    requires within { IsWithin space.now number scene.now.stretch }
+    ensures { IsVisit space.now number scene.now.stretch result }
 {
-    match look_at(alloc, space.init(), &stretch.page, number - stretch.first)? {
-        Look::Found(graph) => Ok(Look::Found(graph)),
-        Look::Until(next) => Ok(Look::Until(stretch.first + next)),
+    let stretch = &scene.stretch;
+    match look_at(
+        space.init(),
+        &stretch.page,
+        scene.at,
+        number - stretch.first,
+    ) {
+        Look::Found => Look::Found,
+        Look::Until(next) => Look::Until(stretch.first + next),
     }
 }
 
 /// What is at a number.
-fn look(
-    alloc: Global,
-    space: &Space,
-    stretch: &mut Stretch,
-    number: u64,
-) -> Result<Look, AllocError>
-    requires stretch { MayBeStretch space.now stretch.old }
+fn look(alloc: Global, space: &Space, scene: &mut Scene, number: u64) -> Result<Look, AllocError>
+    requires scene { IsScene space.now scene.old }
     requires number { number < size_of space.now }
-    ensures found { IfOk result (IsVisit space.now number) }
-    ensures stretch { MayBeStretch space.now stretch.new }
+    ensures found { IfOk result (IsVisit space.now number scene.new.stretch) }
+    ensures scene { IsScene space.now scene.new }
+    ensures graph { scene.new.graph ≡ scene.old.graph }
 {
-    match reach(alloc, space, stretch, number)? {
+    match reach(alloc, space, scene, number)? {
         Some(next) => Ok(Look::Until(next)),
-        None => visit(alloc, space, stretch, number),
+        None => Ok(visit(space, scene, number)),
     }
 }
 
-/// What is at a number, where no stretch is at hand.
-pub(crate) fn find(alloc: Global, space: &Space, number: u64) -> Result<Look, AllocError>
+/// The execution at a number.
+pub(crate) fn find(alloc: Global, space: &Space, number: u64) -> Result<Option<Graph>, AllocError>
     requires { number < size_of space.now }
-    ensures { IfOk result (IsVisit space.now number) }
+    ensures { IfOk result (λ g. g ≡ graph_at space.now number) }
 {
-    look(alloc, space, &mut no_stretch(alloc), number)
+    let mut scene = no_scene(alloc);
+    match look(alloc, space, &mut scene, number)? {
+        Look::Found => {
+            let stretch = &scene.stretch;
+            Ok(Some(assemble(alloc, space.init(), &stretch.page, number - stretch.first)?))
+        }
+        Look::Until(_) => Ok(None),
+    }
 }
 
-/// An execution and its number.
-#[derive(Drop)]
-pub(crate) struct Hit {
-    pub(crate) number: u64,
-    pub(crate) graph: Graph,
-}
-
-/// The first execution at the numbers from `from` to `to - 1`.
+/// The number of the first execution at the numbers from `from` to `to - 1`.
 fn search(
     alloc: Global,
     space: &Space,
-    stretch: &mut Stretch,
+    scene: &mut Scene,
     from: u64,
     to: u64,
-) -> Result<Option<Hit>, AllocError>
-    requires stretch { MayBeStretch space.now stretch.old }
+) -> Result<Option<u64>, AllocError>
+    requires scene { IsScene space.now scene.old }
     requires to { to ≤ size_of space.now }
-    ensures found { IfOk result (IsFind space.now from to) }
-    ensures stretch { MayBeStretch space.now stretch.new }
+    ensures found { IfOk result (IsFind space.now scene.new.stretch from to) }
+    ensures scene { IsScene space.now scene.new }
+    ensures graph { scene.new.graph ≡ scene.old.graph }
 {
     let mut number = from;
     while number < to {
-        match look(alloc, space, stretch, number)? {
-            Look::Found(graph) => return Ok(Some(Hit { number, graph })),
+        match look(alloc, space, scene, number)? {
+            Look::Found => return Ok(Some(number)),
             Look::Until(next) => number = next,
         }
     }
     Ok(None)
+}
+
+/// Shows the candidate with this number of the stretch at hand.
+fn show(alloc: Global, init: &[u32], scene: &mut Scene, number: u64) -> Result<(), AllocError>
+    requires page { IsPage (length init.now) scene.old.stretch.page }
+    requires seen { IsSeen init.now scene.old.stretch.page scene.old.graph scene.old.at }
+    requires number { number < block (length init.now) scene.old.stretch.page.runs.items }
+    ensures stretch { scene.new.stretch ≡ scene.old.stretch }
+    ensures shown { OnOk result ((scene.new.at ≡ Some number) × (scene.new.graph ≡ candidate init.now scene.old.stretch.page.runs.items number)) }
+    ensures same { OnErr result ((scene.new.at ≡ scene.old.at) × (scene.new.graph ≡ scene.old.graph)) }
+{
+    make(
+        alloc,
+        init,
+        &scene.stretch.page,
+        &mut scene.graph,
+        scene.at,
+        number,
+    )?;
+    scene.at = Some(number);
+    Ok(())
 }
 
 impl<'a> Walk<'a> {
@@ -170,8 +189,7 @@ impl<'a> Walk<'a> {
             space,
             next: from,
             to,
-            shown: nothing(alloc),
-            stretch: no_stretch(alloc),
+            scene: no_scene(alloc),
         }
     }
 
@@ -183,11 +201,12 @@ impl<'a> Walk<'a> {
         // A walk that finds no memory stays where it was.
         ensures same { OnErr result (self.new ≡ self.old) }
     {
-        match search(alloc, self.space, &mut self.stretch, self.next, self.to)? {
-            Some(hit) => {
-                self.shown = hit.graph;
-                self.next = hit.number + 1;
-                Ok(Some(hit.number))
+        match search(alloc, self.space, &mut self.scene, self.next, self.to)? {
+            Some(number) => {
+                let place = number - self.scene.stretch.first;
+                show(alloc, self.space.init(), &mut self.scene, place)?;
+                self.next = number + 1;
+                Ok(Some(number))
             }
             None => {
                 self.next = self.to;
@@ -200,6 +219,6 @@ impl<'a> Walk<'a> {
     pub fn graph(&self) -> &Graph
         ensures { result.now ≡ self.now.shown }
     {
-        &self.shown
+        &self.scene.graph
     }
 }

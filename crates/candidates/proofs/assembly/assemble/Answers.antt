@@ -1,15 +1,23 @@
-use Rattle.std.proofs.Common.{◌∙◌, subst, sym}
+use Rattle.std.proofs.Common.{◌∙◌, ◌/◌, List, ap, subst, sym}
+use Rattle.events.specs.declared.event.Event.{Event}
 use Rattle.events.specs.Executions.{Execution, IsGraph}
+use Rattle.candidates.specs.Readings.{read_at}
 use Rattle.candidates.proofs.Graphs.{is_candidate, is_graph}
+use Rattle.candidates.proofs.Listed.{by_writes}
 use Rattle.candidates.proofs.assembly.assemble.Goals as goal
+
+pub read_from-requires-clause-page : goal.read_from-requires-clause-page
+read_from-requires-clause-page c = by_writes _ c.args.page.now c.requires.page
 
 pub new-requires : goal.new-requires
 new-requires c =
     let init = c.args.init.now in
-    let runs = c.args.page.now.runs.items in
+    let page = c.args.page.now in
+    let runs = page.runs.items in
     let number = c.args.number in
-    let orders = c.args.page.now.orders in
-    let e = is_candidate init runs orders number c.in_ok-values.values.items c.in_ok-copy_runs.field-0.items c.args.rf.items c.in_ok-co.co.items
-    c.in_ok-values.ensures.items (c.in_ok-copy_runs.ensures ∙ c.deref.ensures.value) c.requires.page.orders c.requires.rf c.in_ok-co.ensures in
+    let orders = page.orders in
+    let e = is_candidate init runs orders number c.in_ok-values.values.items c.in_ok-copy_runs.field-0.items c.in_ok-rf.rf.items c.in_ok-co.co.items
+    c.in_ok-values.ensures.items (c.in_ok-copy_runs.ensures ∙ c.deref-2.ensures.value) c.requires.page.orders
+    (c.in_ok-rf.ensures ∙ ap (λ (rs : List Event). read_at runs rs (number / orders)) (c.deref.ensures.value ∙ c.requires.page.reads_are)) c.in_ok-co.ensures in
     let P : Execution → Type 0 = IsGraph in
     subst P (sym e) (is_graph init runs number c.requires.page.within c.requires.number)

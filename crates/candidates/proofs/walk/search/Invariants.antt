@@ -1,6 +1,5 @@
-use Rattle.std.proofs.Common.{◌≤◌, ◌-◌}
-use Rattle.candidates.specs.Readings.{MayBeStretch}
-use Rattle.candidates.specs.Walks.{NoneFrom}
+use Rattle.std.proofs.Common.{◌≡◌, ◌≤◌, ◌-◌}
+use Rattle.candidates.specs.Walks.{NoneFrom, IsScene}
 use Rattle.candidates.proofs.walk.search.Given as goal
 
 abbrev pub decreases-loop-number : goal.decreases-loop-number
@@ -10,5 +9,6 @@ abbrev pub invariant-loop-number : goal.invariant-loop-number
 invariant-loop-number l = record {
   order : l.from ≤ l.number;
   none : NoneFrom l.space l.from l.number;
-  stretch : MayBeStretch l.space l.stretch;
+  scene : IsScene l.space l.scene;
+  graph : l.scene.graph ≡ l.initial.scene.graph;
 }

@@ -2,7 +2,7 @@ use Rattle.std.proofs.Common.{◌≡◌, ◌++◌, ◌≤◌, drop}
 use Rattle.listings.specs.Numbered.{digits}
 use Rattle.candidates.specs.Executions.{upto}
 use Rattle.candidates.specs.Candidates.{count_orders, order_at}
-use Rattle.candidates.proofs.assembly.coherence.Given as goal
+use Rattle.candidates.proofs.ordering.coherence.Given as goal
 
 abbrev pub invariant-loop-location : goal.invariant-loop-location
 invariant-loop-location l = record {

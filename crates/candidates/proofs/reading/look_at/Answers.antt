@@ -1,9 +1,9 @@
 use Rattle.std.proofs.Common.{◌∙◌, List, subst, ◌/◌}
 use Rattle.events.specs.declared.event.Event.{Event}
-use Rattle.candidates.specs.declared.assembly.Reading.TheVariants.{Until}
-use Rattle.candidates.specs.Readings.{IsReading}
+use Rattle.candidates.specs.declared.reading.Fit.TheVariants.{Until}
+use Rattle.candidates.specs.Readings.{IsFit}
 use Rattle.candidates.proofs.Passing.{until_of}
-use Rattle.candidates.proofs.assembly.look_at.Goals as goal
+use Rattle.candidates.proofs.reading.look_at.Goals as goal
 
 pub returns-in-Until : goal.returns-in-Until
 returns-in-Until c =
@@ -11,6 +11,6 @@ returns-in-Until c =
     let page = c.args.page.now in
     let runs = page.runs.items in
     let i = c.args.number / page.orders in
-    let read = rw c.in-Until.is at c.in_ok-rf.ensures in
-    let Q : List Event → Type 0 = λ es. IsReading init runs es i (Until c.in-Until.next) in
+    let read = rw c.in-Until.is at c.compare.ensures in
+    let Q : List Event → Type 0 = λ es. IsFit init runs es i (Until c.in-Until.next) in
     until_of init runs page.orders c.args.number c.in-Until.next c.requires.page.orders (subst Q (c.deref.ensures.value ∙ c.requires.page.reads_are) read)

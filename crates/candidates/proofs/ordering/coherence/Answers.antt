@@ -1,36 +1,30 @@
-use Rattle.std.proofs.Common.{◌≡◌, ◌≤◌, ◌∷◌, ◌∙◌, ◌++◌, ◌%◌, List, length, ap, sym, subst, append-nil, arith}
+use Rattle.std.proofs.Common.{◌≡◌, ◌∷◌, ◌∙◌, ◌++◌, ◌%◌, List, length, ap, sym, append-nil, arith}
 use Rattle.events.specs.declared.event.EventId.{EventId}
 use Rattle.events.specs.declared.event.EventId.TheVariants.{Initial}
 use Rattle.listings.specs.Lists.{factorial}
 use Rattle.listings.specs.Numbered.{arrange}
-use Rattle.candidates.specs.declared.fault.TheConstants.{MOST_CANDIDATES}
 use Rattle.candidates.specs.Executions.{later_writes}
 use Rattle.candidates.specs.Candidates.{count_orders, order_at}
-use Rattle.candidates.proofs.Caps.{digits_more, digits_end, orders_below, all_orders_below}
+use Rattle.candidates.proofs.Caps.{digits_more, digits_end}
 use Rattle.candidates.proofs.Listed.{written_at}
-use Rattle.candidates.proofs.assembly.coherence.Goals as goal
+use Rattle.candidates.proofs.ordering.coherence.Goals as goal
 
 pub writes_to-later-requires : goal.writes_to-later-requires
 writes_to-later-requires c = (written_at c.args.page.now.runs.items c.args.locations c.loop-location.location c.args.page.now.writes.items c.requires.page.writes_are c.loop-location-test.true).0
 
 pub orders_of-count-requires : goal.orders_of-count-requires
-orders_of-count-requires c =
-    let runs = c.args.page.now.runs.items in
-    let n = c.args.locations in
-    let x = c.loop-location.location in
-    let e : c.writes_to-later.result.now ≡ later_writes runs x = c.writes_to-later.ensures ∙ (written_at runs n x c.args.page.now.writes.items c.requires.page.writes_are c.loop-location-test.true).1 in
-    let P : List EventId → Type 0 = λ l. factorial (length l) ≤ MOST_CANDIDATES in
-    subst P (sym e) (omega (arith, orders_below runs n x c.loop-location-test.true, all_orders_below runs n, c.requires.page.most))
+orders_of-count-requires c = (written_at c.args.page.now.runs.items c.args.locations c.loop-location.location c.args.page.now.writes.items c.requires.page.writes_are c.loop-location-test.true).0
 
 pub loop-location-preserved : goal.loop-location-preserved
 loop-location-preserved c =
     let runs = c.args.page.now.runs.items in
     let n = c.args.locations in
     let x = c.loop-location.location in
-    let e : c.writes_to-later.result.now ≡ later_writes runs x = c.writes_to-later.ensures ∙ (written_at runs n x c.args.page.now.writes.items c.requires.page.writes_are c.loop-location-test.true).1 in
+    let w = written_at runs n x c.args.page.now.writes.items c.requires.page.writes_are c.loop-location-test.true in
+    let e : c.writes_to-later.result.now ≡ later_writes runs x = c.writes_to-later.ensures ∙ w.1 in
     record {
       is = digits_more (count_orders runs) (order_at runs) n x c.loop-location.rest c.orders_of-count.result c.loop-location.co.items c.push.new.self.items _ c.in_ok-order_of.field-0
-          (c.orders_of-count.ensures.0 ∙ ap (λ (l : List EventId). factorial (length l)) e)
+          (c.orders_of-count.ensures.0 ∙ ap (λ (l : List EventId). factorial (length l)) w.1)
           (c.in_ok-order_of.ensures ∙ ap (λ (l : List EventId). Initial x ∷ arrange l (c.loop-location.rest % c.orders_of-count.result)) e)
           c.loop-location-test.true c.in_ok-push.ensures.items c.loop-location.invariant.is;
       within = omega (arith, c.loop-location-test.true);
