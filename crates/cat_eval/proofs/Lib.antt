@@ -7,7 +7,10 @@ pub mod Rows
 pub mod Groups
 pub mod Climbing
 pub mod Once
-pub mod Lawful
 pub mod Standing
-pub mod Pairwise
-pub mod Placing
+pub mod Stacks
+pub mod Running
+pub mod Stepping
+pub mod Lawful
+pub mod Reaching
+pub mod Solving
