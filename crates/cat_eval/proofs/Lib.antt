@@ -11,6 +11,8 @@ pub mod Standing
 pub mod Stacks
 pub mod Running
 pub mod Stepping
+pub mod Copies
+pub mod Following
 pub mod Lawful
 pub mod Reaching
 pub mod Solving
