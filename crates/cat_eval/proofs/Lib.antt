@@ -12,6 +12,7 @@ pub mod Stacks
 pub mod Running
 pub mod Stepping
 pub mod Copies
+pub mod Nodes
 pub mod Following
 pub mod Lawful
 pub mod Reaching
