@@ -1,4 +1,4 @@
-use Rattle.std.proofs.Common.{◌≡◌, ℕ, ◌+◌, ◌≤◌, ◌↔◌, ◌⊎◌, List, IsTrue, Option, Some, option_map, true, false, ap, subst, sym, refl, ◌∙◌, arith, rules, map}
+use Rattle.std.proofs.Common.{◌≡◌, ℕ, ◌↔◌, ◌⊎◌, List, Option, option_map, true, false, ap, subst, sym, refl, ◌∙◌, arith, rules, map}
 use Rattle.listings.specs.Lists.{IsIn, NoRepeats}
 use Rattle.cat_tree.specs.Tree.{Word, Clause}
 use Rattle.events.specs.Named.{event_count}
