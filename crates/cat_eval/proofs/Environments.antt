@@ -133,9 +133,3 @@ under_append E (e ∷ es) fs = under_append (With E e) es fs
 pub scope_append : (s : Scope) (es fs : List Entry) → scope_of s (es ++ fs) ≡ scope_of (scope_of s es) fs
 scope_append s [] fs = refl
 scope_append s (e ∷ es) fs = scope_append ((e.name, sort_of e.value) ∷ s) es fs
-
--- A name that is bound has the sort of its latest binding.
-pub scope_some : (s : Scope) (es : List Entry) (x : Word) (v : Value) → latest es x ≡ Some v → sort_of_name (scope_of s es) x ≡ Some (sort_of v)
-scope_some s es x v h =
-    let E : Word → Value → Type 0 = λ _ _. ⊥ in
-    (under_fits E s es (record { fits = λ y w m. absurd m })).fits x v (under_some E es x v h)

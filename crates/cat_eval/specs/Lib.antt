@@ -3,7 +3,6 @@ pub mod Meaning
 pub mod Names
 pub mod Judging
 pub mod Steps
-pub mod Places
-pub mod Plans
+pub mod Code
 pub mod Examples
 pub mod Laws

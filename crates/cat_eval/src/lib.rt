@@ -2,14 +2,15 @@
 #![tactic(auto)]
 
 mod early;
-mod evaluation;
 mod flags;
 mod judging;
 pub mod laws;
+mod making;
 mod naming;
-mod place;
 mod plan;
+mod planning;
 mod rounds;
+mod step;
 mod value;
 
 pub use early::judge_early;
