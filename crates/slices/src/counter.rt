@@ -3,6 +3,7 @@
 ghost use Rattle.std.specs.Prelude.{◌≡◌, ◌<◌, ◌≤◌, ◌+◌, ◌-◌, ◌^◌, [], length, map, fold, IfOk, OnOk, IsTrue, ◌↔◌, if◌then◌else◌};
 ghost use Rattle.std.specs.BTreeSet.{insert_key};
 ghost use Rattle.std.specs.Cmp.Lexicographic.{slice_cmp};
+ghost use Rattle.std.specs.List.Sorted.{IsStrictlySortedBy};
 ghost use Rattle.std.specs.Ordering.{nat_cmp};
 ghost use Rattle.conditions.specs.Conditions.{formula_of};
 ghost use Rattle.conditions.specs.States.{bindings, holds_in};
@@ -13,6 +14,7 @@ ghost use Rattle.slices.specs.Counters.{IsCountOf, IsOneMore, IsWeighed};
 ghost use Rattle.slices.specs.Parts.{IsRange, executions_in};
 ghost use Rattle.slices.specs.Slots.{slot_of, slot_value};
 
+use crate::finding::Totals;
 use crate::row::Row;
 use crate::slot::{Slot, row, slots};
 use crate::work::Work;
@@ -74,6 +76,23 @@ impl Counter {
             states: BTreeSet::new(alloc),
             flags: BTreeSet::new(alloc),
         }
+    }
+
+    /// The same counts, states and flags, as lists in order.
+    pub fn totals(self, alloc: Global) -> Result<Totals, AllocError>
+        ensures positive { IfOk result (λ t. t.positive ≡ self.positive) }
+        ensures negative { IfOk result (λ t. t.negative ≡ self.negative) }
+        ensures states { IfOk result (λ t. t.states.items ≡ self.states.keys) }
+        ensures flags { IfOk result (λ t. t.flags.items ≡ self.flags.keys) }
+        ensures sorted { IfOk result (λ t. IsStrictlySortedBy (slice_cmp nat_cmp) t.states.items) }
+        ensures in_order { IfOk result (λ t. IsStrictlySortedBy (slice_cmp nat_cmp) t.flags.items) }
+    {
+        Ok(Totals {
+            positive: self.positive,
+            negative: self.negative,
+            states: self.states.into_iter().collect(alloc)?,
+            flags: self.flags.into_iter().collect(alloc)?,
+        })
     }
 
     /// Counts an execution, if the work's model allows it: what the model says of it is handed in.

@@ -1,15 +1,11 @@
 //! What is found of executions.
 
 ghost use Rattle.std.specs.Prelude.{◌≡◌, IfOk};
-ghost use Rattle.std.specs.Cmp.Lexicographic.{slice_cmp};
-ghost use Rattle.std.specs.List.Sorted.{IsStrictlySortedBy};
-ghost use Rattle.std.specs.Ordering.{nat_cmp};
 ghost use Rattle.conditions.specs.Conditions.{formula_of};
 ghost use Rattle.slices.specs.Counters.{outcome_of};
 ghost use Rattle.slices.specs.Outcomes.{is_ok};
 ghost use Rattle.slices.specs.Outcomes.{word};
 
-use crate::counter::Counter;
 use crate::row::Row;
 use crate::work::WorkRef;
 use conditions::{Kind, Place, Prop, ok_of};
@@ -17,6 +13,16 @@ use std::alloc::{AllocError, Global};
 use std::marker::Model;
 use std::sync::Arc;
 use wb_text::Name;
+
+/// How many executions have a test's proposition and how many have it not, and which final states and flags there are, each once
+/// and in order.
+#[derive(Drop)]
+pub struct Totals {
+    pub positive: u64,
+    pub negative: u64,
+    pub states: Vec<Row>,
+    pub flags: Vec<Name>,
+}
 
 /// What is found of some executions of a work's test: of those that the work's model allows.
 #[derive(Drop)]
@@ -95,31 +101,18 @@ impl FindingRef {
 }
 
 impl Finding {
-    /// What a count of a work's test says.
-    pub(crate) fn new(
-        alloc: Global,
-        work: WorkRef,
-        places: Vec<Place>,
-        counter: Counter,
-    ) -> Result<Self, AllocError>
-        ensures value { IfOk result (λ v. v ≡ outcome_of work.test places.items counter) }
-        ensures sorted { IfOk result (λ v. IsStrictlySortedBy (slice_cmp nat_cmp) v.states) }
-        ensures in_order { IfOk result (λ v. IsStrictlySortedBy (slice_cmp nat_cmp) v.flags) }
+    /// What is told by these totals over executions of a work's test.
+    pub(crate) fn new(work: WorkRef, places: Vec<Place>, totals: Totals) -> Self
+        ensures { result ≡ outcome_of work.test places.items totals }
     {
-        let Counter {
-            positive,
-            negative,
-            states,
-            flags,
-        } = counter;
-        Ok(Finding {
+        Finding {
             work,
             places,
-            positive,
-            negative,
-            states: states.into_iter().collect(alloc)?,
-            flags: flags.into_iter().collect(alloc)?,
-        })
+            positive: totals.positive,
+            negative: totals.negative,
+            states: totals.states,
+            flags: totals.flags,
+        }
     }
 
     /// The name of the test.

@@ -126,8 +126,8 @@ impl Tally {
         let _size = work.size();
         let test = work.test();
         let places = observed(alloc, test.condition(), test.listed())?;
-        let counter = self.sum.sorted(alloc)?;
-        Finding::new(alloc, self.work.share()?, places, counter)
+        let totals = self.sum.totals(alloc)?;
+        Ok(Finding::new(self.work.share()?, places, totals))
     }
 }
 

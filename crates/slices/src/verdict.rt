@@ -70,6 +70,15 @@ impl VerdictRef {
     {
         &self.verdict
     }
+
+    /// The same verdict, kept once more.
+    pub fn share(&self) -> Result<Self, AllocError>
+        ensures { IfOk result (λ v. v ≡ self.now) }
+    {
+        Ok(VerdictRef {
+            verdict: Arc::try_clone(&self.verdict)?,
+        })
+    }
 }
 
 impl Verdict {

@@ -1,0 +1,75 @@
+//! Sets of final states that grow by all of some rows, or not at all.
+
+ghost use Rattle.std.specs.Prelude.{◌≡◌, ◌↔◌, ◌⊎◌, List, ℕ, IfOk, OnOk, OnErr};
+ghost use Rattle.std.specs.Cmp.Lexicographic.{slice_cmp};
+ghost use Rattle.std.specs.List.Sorted.{IsStrictlySortedBy};
+ghost use Rattle.std.specs.Ordering.{nat_cmp};
+ghost use Rattle.listings.specs.Lists.{IsIn};
+
+use crate::row::Row;
+use std::alloc::{AllocError, Global};
+use std::collections::BTreeSet;
+
+/// Adds rows to a set, or changes nothing. It costs one look-up in the set for each row, whatever the set holds.
+pub fn add_rows(alloc: Global, set: &mut BTreeSet<Row>, rows: &[Row]) -> Result<(), AllocError>
+    ensures added { OnOk result ((s : List ℕ) → IsIn s set.new.keys ↔ (IsIn s set.old.keys ⊎ IsIn s rows.now)) }
+    ensures same { OnErr result (set.new.keys ≡ set.old.keys) }
+{
+    let _ = set.len();
+    let missing = missing(alloc, set, rows)?;
+    match insert_each(set, &missing) {
+        Ok(()) => Ok(()),
+        Err(AllocError) => {
+            remove_each(set, &missing);
+            Err(AllocError)
+        }
+    }
+}
+
+/// The rows of a set, in order.
+pub fn copy_rows(alloc: Global, set: &BTreeSet<Row>) -> Result<Vec<Row>, AllocError>
+    ensures rows { IfOk result (λ v. v.items ≡ set.now.keys) }
+    ensures sorted { IfOk result (λ v. IsStrictlySortedBy (slice_cmp nat_cmp) v.items) }
+{
+    let mut rows = Vec::with_capacity(alloc, set.len())?;
+    for row in set {
+        rows.push(row.copy()?)?;
+    }
+    Ok(rows)
+}
+
+// The rows that are not in the set.
+fn missing(alloc: Global, set: &BTreeSet<Row>, rows: &[Row]) -> Result<Vec<Row>, AllocError>
+    ensures { IfOk result (λ v. (s : List ℕ) → IsIn s v.items ↔ (IsIn s rows.now × (¬ IsIn s set.now.keys))) }
+{
+    let mut missing = Vec::new(alloc);
+    for row in rows {
+        if !set.contains(row) {
+            missing.push(row.copy()?)?;
+        }
+    }
+    Ok(missing)
+}
+
+// Puts rows in, one after another. Where memory runs out, some of them are in.
+fn insert_each(set: &mut BTreeSet<Row>, rows: &[Row]) -> Result<(), AllocError>
+    ensures old { (s : List ℕ) → IsIn s set.old.keys → IsIn s set.new.keys }
+    ensures only { (s : List ℕ) → IsIn s set.new.keys → IsIn s set.old.keys ⊎ IsIn s rows.now }
+    ensures all { OnOk result ((s : List ℕ) → IsIn s rows.now → IsIn s set.new.keys) }
+{
+    for row in rows {
+        set.insert(row.copy()?)?;
+    }
+    Ok(())
+}
+
+// Takes rows out.
+fn remove_each(set: &mut BTreeSet<Row>, rows: &[Row])
+    ensures members { (s : List ℕ) → IsIn s set.new.keys ↔ (IsIn s set.old.keys × (¬ IsIn s rows.now)) }
+    ensures sorted { IsStrictlySortedBy (slice_cmp nat_cmp) set.new.keys }
+{
+    let _ = set.len();
+    for row in rows {
+        set.remove(row);
+    }
+}
