@@ -67,10 +67,10 @@ piece_sync : IsSync Piece.the_row
 piece_sync = search (work_sync, crosses, sendable) depth 60 fits 20000
 
 finding_send : IsSend FindingRef.the_row
-finding_send = search (work_send, work_sync, crosses, sendable) depth 60 fits 20000
+finding_send = search (maps_cross, work_send, work_sync, crosses, sendable) depth 60 fits 20000
 
 finding_sync : IsSync FindingRef.the_row
-finding_sync = search (work_send, work_sync, crosses, sendable) depth 60 fits 20000
+finding_sync = search (maps_cross, work_send, work_sync, crosses, sendable) depth 60 fits 20000
 
 verdict_send : IsSend VerdictRef.the_row
 verdict_send = search (work_send, work_sync, finding_send, finding_sync, crosses, sendable) depth 60 fits 20000

@@ -247,16 +247,16 @@ raised_when_allowed items x allowed flags judged is h =
 pub record AreTotals (counter : Counter) (totals : Totals) : Type 0 where
   pub positive : totals.positive ≡ counter.positive
   pub negative : totals.negative ≡ counter.negative
-  pub states : totals.states.items ≡ counter.states.keys
+  pub states : totals.states.value.keys ≡ counter.states.keys
   pub flags : totals.flags.items ≡ counter.flags.keys
-  pub sorted : IsStrictlySortedBy row_cmp totals.states.items
+  pub sorted : IsStrictlySortedBy row_cmp totals.states.value.keys
   pub in_order : IsStrictlySortedBy row_cmp totals.flags.items
 
 tells : (t : Litmus) (items : List Clause) (xs : List Execution) (places : List Place) (counter : Counter) (totals : Totals) → IsCount t items places xs counter → AreObserved t.condition t.listed places
     → AreTotals counter totals
     → Tells t items xs (outcome_of t places totals)
 tells t items xs places counter totals h observed e =
-    let rows : totals.states.items ≡ collected t places xs = e.states ∙ h.states in
+    let rows : totals.states.value.keys ≡ collected t places xs = e.states ∙ h.states in
     let P : List ℕ → List (List ℕ) → Type 0 = λ s ks. IsIn s ks in
     let N : List (List ℕ) → Type 0 = λ ks. (name : Word) → IsIn name ks ↔ IsRaised items xs name in
     let names = subst N (sym e.flags) h.flags in
@@ -268,11 +268,11 @@ tells t items xs places counter totals h observed e =
       positive = e.positive ∙ h.positive;
       negative = e.negative ∙ h.negative;
       states = record {
-        once = no_repeats totals.states.items e.sorted;
+        once = no_repeats totals.states.value.keys e.sorted;
         only = λ s p. elim (from_collected (obs t places) s [] xs (subst (P s) rows p)) [ inl q ↦ absurd q | inr q ↦ q ];
         all = λ s q. subst (P s) (sym rows) (let Q : List ℕ → Type 0 = λ r. IsIn r (collected t places xs) in subst Q (sym q.2) (in_collected (obs t places) [] xs q.0 q.1));
       };
-      sorted = are_sorted totals.states.items e.sorted;
+      sorted = are_sorted totals.states.value.keys e.sorted;
       flags = record { once = no_repeats totals.flags.items e.in_order; only = λ name p. (names name).0 p; all = λ name r. (names name).1 r };
       in_order = are_sorted totals.flags.items e.in_order;
     }

@@ -195,3 +195,20 @@ known_choice false s ks e = inr (λ p. (let t : list_any (is_at (row_cmp s)) ks 
 
 pub in_or_not : (s : List ℕ) (ks : List (List ℕ)) → IsIn s ks ⊎ (¬ IsIn s ks)
 in_or_not s ks = known_choice (list_any (is_at (row_cmp s)) ks) s ks refl
+
+-- two lists of rows, put into none one after the other
+pub in_union : (none one both set rows : List (List ℕ)) → none ≡ []
+    → ((s : List ℕ) → IsIn s one ↔ (IsIn s none ⊎ IsIn s set)) → ((s : List ℕ) → IsIn s both ↔ (IsIn s one ⊎ IsIn s rows))
+    → (s : List ℕ) → IsIn s both ↔ (IsIn s set ⊎ IsIn s rows)
+in_union none one both set rows empty first second s =
+    let N : List (List ℕ) → Type 0 = λ ks. ¬ IsIn s ks in
+    let out = subst N (sym empty) (λ p. p) in (
+      (λ p. elim ((second s).0 p) [
+        | inl a ↦ elim ((first s).0 a) [ inl n ↦ absurd (out n) | inr q ↦ inl q ]
+        | inr q ↦ inr q
+      ]),
+      (λ h. elim h [
+        | inl q ↦ (second s).1 (inl ((first s).1 (inr q)))
+        | inr q ↦ (second s).1 (inr q)
+      ]),
+    )

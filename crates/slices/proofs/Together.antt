@@ -27,7 +27,7 @@ use Rattle.slices.proofs.Members.{count-append, count_most}
 use Rattle.slices.proofs.Merging.{law_of, merged_listing, whole_listing, few_listed, within_push}
 
 -- nothing is told of no range
-pub tally_none : (t : Litmus) (items : List Clause) (places : List Place) (spans : List Span) (sum : Sum) → AreObserved t.condition t.listed places → spans ≡ [] → sum.positive ≡ 0 → sum.negative ≡ 0 → sum.states.keys ≡ [] → sum.flags.keys ≡ [] → IsTally t items spans sum
+pub tally_none : (t : Litmus) (items : List Clause) (places : List Place) (spans : List Span) (sum : Sum) → AreObserved t.condition t.listed places → spans ≡ [] → sum.positive ≡ 0 → sum.negative ≡ 0 → sum.states.value.keys ≡ [] → sum.flags.keys ≡ [] → IsTally t items spans sum
 tally_none t items places spans sum observed none p n s f =
     let I : List Span → Type 0 = λ l. (r : Span) → ¬ IsIn r l in
     let out : (r : Span) → ¬ IsIn r spans = subst I (sym none) (λ r q. q) in
@@ -142,9 +142,9 @@ listed {P} rows keys members ordered sorted =
 pub record AreTotalsOf (sum : Sum) (totals : Totals) : Type 0 where
   pub positive : totals.positive ≡ sum.positive
   pub negative : totals.negative ≡ sum.negative
-  pub states : totals.states.items ≡ sum.states.keys
+  pub states : totals.states.value.keys ≡ sum.states.value.keys
   pub flags : totals.flags.items ≡ in_order sum.flags.keys
-  pub sorted : IsStrictlySortedBy row_cmp totals.states.items
+  pub sorted : IsStrictlySortedBy row_cmp totals.states.value.keys
   pub in_order : IsStrictlySortedBy row_cmp totals.flags.items
 
 pub tally_verdict : (t u : Litmus) (items : List Clause) (spans : List Span) (sum : Sum) (places : List Place) (totals : Totals) (v : Outcome) → Numbering → IsAdmitted t → IsCover (test_size t) spans → IsTally t items spans sum
@@ -155,9 +155,9 @@ tally_verdict t u items spans sum places totals v numbering admitted cover h e s
     let O : Litmus → Type 0 = λ w. AreObserved w.condition w.listed places in
     let observed = subst O e seen in
     let one : h.places ≡ places = same_observed t.condition t.listed h.places places h.observed observed in
-    let S : List Place → Type 0 = λ ps. (s : List ℕ) → IsIn s sum.states.keys ↔ ((x : Execution) × IsIn x h.executions × (s ≡ obs t ps x)) in
+    let S : List Place → Type 0 = λ ps. (s : List ℕ) → IsIn s sum.states.value.keys ↔ ((x : Execution) × IsIn x h.executions × (s ≡ obs t ps x)) in
     let states = subst S one h.states in
-    let K : List (List ℕ) → Type 0 = λ ks. (s : List ℕ) → IsIn s ks ↔ IsIn s sum.states.keys in
+    let K : List (List ℕ) → Type 0 = λ ks. (s : List ℕ) → IsIn s ks ↔ IsIn s sum.states.value.keys in
     let members = subst K (sym same.states) (λ s. ((λ p. p), (λ p. p))) in
     let V : Outcome → Type 0 = λ w. Tells t items h.executions w in (
       h.executions,
@@ -170,11 +170,11 @@ tally_verdict t u items spans sum places totals v numbering admitted cover h e s
         positive = same.positive ∙ h.positive ∙ ap (λ ps. count_by (has t ps) h.executions) one;
         negative = same.negative ∙ h.negative ∙ ap (λ ps. count_by (λ x. not (has t ps x)) h.executions) one;
         states = record {
-          once = no_repeats totals.states.items same.sorted;
+          once = no_repeats totals.states.value.keys same.sorted;
           only = λ s p. (states s).0 ((members s).0 p);
           all = λ s p. (members s).1 ((states s).1 p);
         };
-        sorted = are_sorted totals.states.items same.sorted;
+        sorted = are_sorted totals.states.value.keys same.sorted;
         flags = listed sum.flags.keys totals.flags.items h.flags same.flags same.in_order;
         in_order = are_sorted totals.flags.items same.in_order;
       }),

@@ -53,6 +53,6 @@ outcome_of t places totals = record {
   places = places;
   positive = totals.positive;
   negative = totals.negative;
-  states = totals.states.items;
+  states = totals.states.value.keys;
   flags = totals.flags.items;
 }

@@ -1,6 +1,7 @@
 //! Counts over the allowed executions at some of the numbers of a test.
 
 ghost use Rattle.std.specs.Prelude.{◌≡◌, ◌<◌, ◌≤◌, ◌+◌, ◌-◌, ◌^◌, [], length, map, fold, IfOk, OnOk, IsTrue, ◌↔◌, if◌then◌else◌};
+ghost use Rattle.std.specs.Arc.{arc_value};
 ghost use Rattle.std.specs.BTreeSet.{insert_key};
 ghost use Rattle.std.specs.Cmp.Lexicographic.{slice_cmp};
 ghost use Rattle.std.specs.List.Sorted.{IsStrictlySortedBy};
@@ -24,6 +25,7 @@ use conditions::{Place, Prop, State, holds};
 use events::{EventStructure, Graph};
 use std::alloc::{AllocError, Global};
 use std::collections::BTreeSet;
+use std::sync::Arc;
 use wb_text::Name;
 
 /// How many final states have a proposition and how many have it not, which states there are, and which flags were raised.
@@ -78,19 +80,20 @@ impl Counter {
         }
     }
 
-    /// The same counts, states and flags, as lists in order.
+    /// The same counts, states and flags, in order.
     pub fn totals(self, alloc: Global) -> Result<Totals, AllocError>
         ensures positive { IfOk result (λ t. t.positive ≡ self.positive) }
         ensures negative { IfOk result (λ t. t.negative ≡ self.negative) }
-        ensures states { IfOk result (λ t. t.states.items ≡ self.states.keys) }
+        ensures states { IfOk result (λ t. (arc_value t.states).keys ≡ self.states.keys) }
         ensures flags { IfOk result (λ t. t.flags.items ≡ self.flags.keys) }
-        ensures sorted { IfOk result (λ t. IsStrictlySortedBy (slice_cmp nat_cmp) t.states.items) }
+        ensures sorted { IfOk result (λ t. IsStrictlySortedBy (slice_cmp nat_cmp) (arc_value t.states).keys) }
         ensures in_order { IfOk result (λ t. IsStrictlySortedBy (slice_cmp nat_cmp) t.flags.items) }
     {
+        let _ = self.states.len();
         Ok(Totals {
             positive: self.positive,
             negative: self.negative,
-            states: self.states.into_iter().collect(alloc)?,
+            states: Arc::new(alloc, self.states)?,
             flags: self.flags.into_iter().collect(alloc)?,
         })
     }

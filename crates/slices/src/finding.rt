@@ -10,6 +10,7 @@ use crate::row::Row;
 use crate::work::WorkRef;
 use conditions::{Kind, Place, Prop, ok_of};
 use std::alloc::{AllocError, Global};
+use std::collections::BTreeSet;
 use std::marker::Model;
 use std::sync::Arc;
 use wb_text::Name;
@@ -20,22 +21,23 @@ use wb_text::Name;
 pub struct Totals {
     pub positive: u64,
     pub negative: u64,
-    pub states: Vec<Row>,
+    pub states: Arc<BTreeSet<Row>>,
     pub flags: Vec<Name>,
 }
 
-/// What is found of some executions of a work's test: of those that the work's model allows.
+/// What is found of some executions of a work's test: of those that the work's model allows. Its states may be kept elsewhere too.
 #[derive(Drop)]
 pub struct Finding {
     work: WorkRef,
     places: Vec<Place>,
     positive: u64,
     negative: u64,
-    states: Vec<Row>,
+    states: Arc<BTreeSet<Row>>,
     flags: Vec<Name>,
 }
 
 impl Model for Finding {
+    ghost use Rattle.std.specs.Arc.{arc_value};
     ghost use Rattle.slices.specs.Outcomes.{Outcome};
     ghost use Rattle.slices.specs.Codes.{coded_outcome};
 
@@ -50,7 +52,7 @@ impl Model for Finding {
       places = v.places.items;
       positive = v.positive;
       negative = v.negative;
-      states = v.states.items;
+      states = (arc_value v.states).keys;
       flags = v.flags.items;
     } };
 }
@@ -158,8 +160,8 @@ impl Finding {
     }
 
     /// The final states, once each, in order.
-    pub fn states(&self) -> &[Row]
-        ensures { result.now ≡ self.now.states }
+    pub fn states(&self) -> &BTreeSet<Row>
+        ensures { result.now.keys ≡ self.now.states }
     {
         &self.states
     }

@@ -1,6 +1,7 @@
 //! Sets of final states that grow by all of some rows, or not at all.
 
 ghost use Rattle.std.specs.Prelude.{◌≡◌, ◌↔◌, ◌⊎◌, List, ℕ, IfOk, OnOk, OnErr};
+ghost use Rattle.std.specs.Arc.{arc_value};
 ghost use Rattle.std.specs.Cmp.Lexicographic.{slice_cmp};
 ghost use Rattle.std.specs.List.Sorted.{IsStrictlySortedBy};
 ghost use Rattle.std.specs.Ordering.{nat_cmp};
@@ -9,10 +10,51 @@ ghost use Rattle.listings.specs.Lists.{IsIn};
 use crate::row::Row;
 use std::alloc::{AllocError, Global};
 use std::collections::BTreeSet;
+use std::sync::Arc;
 
-/// Adds rows to a set, or changes nothing. It costs one look-up in the set for each row, whatever the set holds.
-pub fn add_rows(alloc: Global, set: &mut BTreeSet<Row>, rows: &[Row]) -> Result<(), AllocError>
-    ensures added { OnOk result ((s : List ℕ) → IsIn s set.new.keys ↔ (IsIn s set.old.keys ⊎ IsIn s rows.now)) }
+/// Adds rows to a set, or changes nothing. It costs a look-up in the set for each row. A set that is kept elsewhere too is
+/// not changed there: a grown copy takes its place here.
+pub fn add_shared(
+    alloc: Global,
+    set: &mut Arc<BTreeSet<Row>>,
+    rows: &BTreeSet<Row>,
+) -> Result<(), AllocError>
+    ensures added { OnOk result
+        ((s : List ℕ) → IsIn s (arc_value set.new).keys ↔ (IsIn s (arc_value set.old).keys ⊎ IsIn s rows.now.keys)) }
+    ensures same { OnErr result ((arc_value set.new).keys ≡ (arc_value set.old).keys) }
+{
+    match Arc::get_mut(set) {
+        Some(own) => add_rows(alloc, own, rows),
+        None => {
+            *set = Arc::new(alloc, union(alloc, set, rows)?)?;
+            Ok(())
+        }
+    }
+}
+
+/// The rows of two sets.
+fn union(
+    alloc: Global,
+    set: &BTreeSet<Row>,
+    rows: &BTreeSet<Row>,
+) -> Result<BTreeSet<Row>, AllocError>
+    ensures { IfOk result
+        (λ v. (s : List ℕ) → IsIn s v.keys ↔ (IsIn s set.now.keys ⊎ IsIn s rows.now.keys)) }
+{
+    let mut union = BTreeSet::new(alloc);
+    add_rows(alloc, &mut union, set)?;
+    add_rows(alloc, &mut union, rows)?;
+    Ok(union)
+}
+
+/// Adds rows to a set, or changes nothing.
+fn add_rows(
+    alloc: Global,
+    set: &mut BTreeSet<Row>,
+    rows: &BTreeSet<Row>,
+) -> Result<(), AllocError>
+    ensures added { OnOk result
+        ((s : List ℕ) → IsIn s set.new.keys ↔ (IsIn s set.old.keys ⊎ IsIn s rows.now.keys)) }
     ensures same { OnErr result (set.new.keys ≡ set.old.keys) }
 {
     let _ = set.len();
@@ -26,21 +68,14 @@ pub fn add_rows(alloc: Global, set: &mut BTreeSet<Row>, rows: &[Row]) -> Result<
     }
 }
 
-/// The rows of a set, in order.
-pub fn copy_rows(alloc: Global, set: &BTreeSet<Row>) -> Result<Vec<Row>, AllocError>
-    ensures rows { IfOk result (λ v. v.items ≡ set.now.keys) }
-    ensures sorted { IfOk result (λ v. IsStrictlySortedBy (slice_cmp nat_cmp) v.items) }
-{
-    let mut rows = Vec::with_capacity(alloc, set.len())?;
-    for row in set {
-        rows.push(row.copy()?)?;
-    }
-    Ok(rows)
-}
-
 // The rows that are not in the set.
-fn missing(alloc: Global, set: &BTreeSet<Row>, rows: &[Row]) -> Result<Vec<Row>, AllocError>
-    ensures { IfOk result (λ v. (s : List ℕ) → IsIn s v.items ↔ (IsIn s rows.now × (¬ IsIn s set.now.keys))) }
+fn missing(
+    alloc: Global,
+    set: &BTreeSet<Row>,
+    rows: &BTreeSet<Row>,
+) -> Result<Vec<Row>, AllocError>
+    ensures { IfOk result
+        (λ v. (s : List ℕ) → IsIn s v.items ↔ (IsIn s rows.now.keys × (¬ IsIn s set.now.keys))) }
 {
     let mut missing = Vec::new(alloc);
     for row in rows {

@@ -49,7 +49,7 @@ impl Tally {
         Ok(Tally {
             work,
             spans: Vec::new(alloc),
-            sum: Sum::new(alloc),
+            sum: Sum::new(alloc)?,
         })
     }
 
@@ -104,7 +104,7 @@ impl Tally {
         }
     }
 
-    /// The verdict on the work, where the results are over all its numbers. It costs one pass over the distinct states.
+    /// The verdict on the work, where the results are over all its numbers. It shares the states, and costs no more for many of them.
     pub fn verdict(&self, test_version: u32) -> Result<Verdict, AllocError>
         requires { IsCover (test_size self.now.work.test) self.now.spans }
         ensures work { IfOk result (λ v. v.work ≡ self.now.work) }

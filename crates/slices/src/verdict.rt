@@ -10,6 +10,7 @@ use crate::row::Row;
 use crate::work::WorkRef;
 use cat_model::FileVersion;
 use std::alloc::{AllocError, Global};
+use std::collections::BTreeSet;
 use std::marker::Model;
 use std::sync::Arc;
 use wb_text::Name;
@@ -145,8 +146,8 @@ impl Verdict {
     }
 
     /// The final states, once each, in order.
-    pub fn states(&self) -> &[Row]
-        ensures { result.now ≡ self.now.outcome.states }
+    pub fn states(&self) -> &BTreeSet<Row>
+        ensures { result.now.keys ≡ self.now.outcome.states }
     {
         self.found.finding().states()
     }
