@@ -99,6 +99,10 @@ no_job s seat id open' e = polls_by s seat id None _ s open' e (refl, refl)
 pub judged : (s : Workbench) (seat id : ℕ) (job : jobs.Job) (v : Judged) → s.closed ≡ false → job_of s.jobs id ≡ Some job → is_done job ≡ true → v.work ≡ job.work → v.version ≡ job.version → IsVerdict v.work.test v.work.model.items v.outcome → Step s seat (Poll id) (Verdict v) s
 judged s seat id job v open' e whole w n right = polls_by s seat id (Some job) _ s open' e (whole, w, n, right, refl)
 
+-- the same verdict, kept once more
+pub judged_again : (s : Workbench) (seat id : ℕ) (job : jobs.Job) (v w : Judged) → w ≡ v → s.closed ≡ false → job_of s.jobs id ≡ Some job → is_done job ≡ true → v.work ≡ job.work → v.version ≡ job.version → IsVerdict v.work.test v.work.model.items v.outcome → Step s seat (Poll id) (Verdict w) s
+judged_again s seat id job v w same open' e whole k n right = let P : Judged → Type 0 = λ x. Step s seat (Poll id) (Verdict x) s in subst P (sym same) (judged s seat id job v open' e whole k n right)
+
 pub verdict_fits : (s : Workbench) (id : ℕ) (job : jobs.Job) (v : Judged) → job_of s.jobs id ≡ Some job → v.work ≡ job.work → v.version ≡ job.version → IsVerdict v.work.test v.work.model.items v.outcome → FitsVerdict (job_of s.jobs id) v
 verdict_fits s id job v e w n right = let P : Option jobs.Job → Type 0 = λ o. FitsVerdict o v in subst P (sym e) (w, n, right)
 

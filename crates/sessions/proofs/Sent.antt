@@ -109,7 +109,7 @@ live_send : IsSend Live.the_row
 live_send = search (maps_cross, crosses, sendable) depth 60 fits 20000
 
 book_send : IsSend Book.the_row
-book_send = search (live_send, testref_send, files_send, tally_send, entry_send, entry_sync, crosses, sendable) depth 60 fits 20000
+book_send = search (live_send, testref_send, files_send, tally_send, verdict_send, entry_send, entry_sync, crosses, sendable) depth 60 fits 20000
 
 shared_send : (L : RattleType) (g : Ghosts L.Denot) → IsSend (Shared.the_row L g)
 shared_send L g = search (book_send, share_send, count_send, crosses, sendable) depth 60 fits 20000

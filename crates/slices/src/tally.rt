@@ -46,10 +46,11 @@ impl Tally {
     {
         let test = work.work().test();
         let _places = observed(alloc, test.condition(), test.listed())?;
+        let sum = Sum::new(alloc)?;
         Ok(Tally {
             work,
             spans: Vec::new(alloc),
-            sum: Sum::new(alloc)?,
+            sum,
         })
     }
 

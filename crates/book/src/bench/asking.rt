@@ -112,7 +112,7 @@ impl Bench {
     }
 
     // A verdict is made once, and kept with the job for those who ask again.
-    #[tactic(auto, using(crate::proofs::Steps::no_job, crate::proofs::Steps::judged, crate::proofs::Steps::verdict_fits, crate::proofs::Steps::poll_replaced, crate::proofs::Steps::pending))]
+    #[tactic(auto, using(crate::proofs::Steps::no_job, crate::proofs::Steps::judged_again, crate::proofs::Steps::verdict_fits, crate::proofs::Steps::poll_replaced, crate::proofs::Steps::pending))]
     pub(crate) fn decide_poll(&self, alloc: Global, number: u32) -> Result<Plan, AllocError>
         requires { self.now.closed ≡ false }
         ensures step { IfOk result (λ p. Step self.now 0 (Said.Poll number) p.reply (changed self.now p.change)) }
