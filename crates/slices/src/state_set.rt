@@ -48,11 +48,7 @@ fn union(
 }
 
 /// Adds rows to a set, or changes nothing.
-fn add_rows(
-    alloc: Global,
-    set: &mut BTreeSet<Row>,
-    rows: &BTreeSet<Row>,
-) -> Result<(), AllocError>
+fn add_rows(alloc: Global, set: &mut BTreeSet<Row>, rows: &BTreeSet<Row>) -> Result<(), AllocError>
     ensures added { OnOk result
         ((s : List ℕ) → IsIn s set.new.keys ↔ (IsIn s set.old.keys ⊎ IsIn s rows.now.keys)) }
     ensures same { OnErr result (set.new.keys ≡ set.old.keys) }
@@ -69,11 +65,7 @@ fn add_rows(
 }
 
 // The rows that are not in the set.
-fn missing(
-    alloc: Global,
-    set: &BTreeSet<Row>,
-    rows: &BTreeSet<Row>,
-) -> Result<Vec<Row>, AllocError>
+fn missing(alloc: Global, set: &BTreeSet<Row>, rows: &BTreeSet<Row>) -> Result<Vec<Row>, AllocError>
     ensures { IfOk result
         (λ v. (s : List ℕ) → IsIn s v.items ↔ (IsIn s rows.now.keys × (¬ IsIn s set.now.keys))) }
 {
