@@ -1,7 +1,7 @@
 -- A run by one step more.
 use Rattle.std.proofs.Common.{◌≡◌, ℕ, ◌+◌, ◌<◌, ◌≤◌, List, [], ◌∷◌, ◌++◌, length, refl, ◌∙◌, subst, arith, length-append}
 use Rattle.book.specs.declared.plan.Change.{Change}
-use Rattle.book.specs.declared.plan.Change.TheVariants.{Keep, PutCat, DropCat, SetTest, Open, Forget, Release, Hold, End, Take, Close}
+use Rattle.book.specs.declared.plan.Change.TheVariants.{Keep, PutCat, DropCat, SetTest, Open, Forget, Release, Hold, End, Take, Judge, Close}
 use Rattle.book.specs.declared.limits.Limits.{Limits}
 use Rattle.book.specs.Changes.{changed, IsReady}
 use Rattle.book.specs.Kept.{IsKept}
@@ -20,6 +20,7 @@ changed-limits s (Release id) = refl
 changed-limits s (Hold claim mark) = refl
 changed-limits s (End number seat) = refl
 changed-limits s (Take number seat job part) = refl
+changed-limits s (Judge id v) = refl
 changed-limits s Close = refl
 
 pub changed-last_job : (s : Workbench) (change : Change) → IsReady s change → (changed s change).last_job ≤ s.last_job + 1
@@ -33,6 +34,7 @@ changed-last_job s (Release id) h = omega arith
 changed-last_job s (Hold claim mark) h = omega arith
 changed-last_job s (End number seat) h = omega arith
 changed-last_job s (Take number seat job part) h = omega arith
+changed-last_job s (Judge id v) h = omega arith
 changed-last_job s Close h = omega arith
 
 leads-push : (place : ℕ) (s mid s' : Workbench) (journal : List Line) (line : Line) → LeadsFrom place s journal mid → line.place ≡ place + length journal → Step mid line.seat line.said line.reply s' → LeadsFrom place s (journal ++ line ∷ []) s'

@@ -18,7 +18,7 @@ use Rattle.litmus_c.specs.declared.fault.TestFault.TheVariants as of_test
 use Rattle.candidates.specs.Faults.{IsSpaceFault}
 use Rattle.candidates.specs.declared.fault.SpaceFault.{SpaceFault}
 use Rattle.candidates.specs.declared.fault.SpaceFault.TheVariants as of_space
-use Rattle.book.specs.Changes.{FitsJob}
+use Rattle.book.specs.Changes.{FitsJob, FitsVerdict}
 use Rattle.book.specs.Jobs as jobs
 use Rattle.book.specs.Jobs.{done, is_done, marked}
 use Rattle.book.specs.Results.{HasRoot}
@@ -98,6 +98,13 @@ no_job s seat id open' e = polls_by s seat id None _ s open' e (refl, refl)
 
 pub judged : (s : Workbench) (seat id : ℕ) (job : jobs.Job) (v : Judged) → s.closed ≡ false → job_of s.jobs id ≡ Some job → is_done job ≡ true → v.work ≡ job.work → v.version ≡ job.version → IsVerdict v.work.test v.work.model.items v.outcome → Step s seat (Poll id) (Verdict v) s
 judged s seat id job v open' e whole w n right = polls_by s seat id (Some job) _ s open' e (whole, w, n, right, refl)
+
+-- the same verdict, kept once more
+pub judged_again : (s : Workbench) (seat id : ℕ) (job : jobs.Job) (v w : Judged) → w ≡ v → s.closed ≡ false → job_of s.jobs id ≡ Some job → is_done job ≡ true → v.work ≡ job.work → v.version ≡ job.version → IsVerdict v.work.test v.work.model.items v.outcome → Step s seat (Poll id) (Verdict w) s
+judged_again s seat id job v w same open' e whole k n right = let P : Judged → Type 0 = λ x. Step s seat (Poll id) (Verdict x) s in subst P (sym same) (judged s seat id job v open' e whole k n right)
+
+pub verdict_fits : (s : Workbench) (id : ℕ) (job : jobs.Job) (v : Judged) → job_of s.jobs id ≡ Some job → v.work ≡ job.work → v.version ≡ job.version → IsVerdict v.work.test v.work.model.items v.outcome → FitsVerdict (job_of s.jobs id) v
+verdict_fits s id job v e w n right = let P : Option jobs.Job → Type 0 = λ o. FitsVerdict o v in subst P (sym e) (w, n, right)
 
 pub poll_replaced : (s : Workbench) (seat id : ℕ) (job : jobs.Job) (r : Replacement) → s.closed ≡ false → job_of s.jobs id ≡ Some job → is_done job ≡ false → replaced s job ≡ Some r → Step s seat (Poll id) (Refused (Replaced r)) s
 poll_replaced s seat id job r open' e part f = polls_by s seat id (Some job) _ s open' e (part, f, refl)

@@ -5,11 +5,13 @@ use Rattle.indexmap.specs.IndexMap.{insert_entry}
 use Rattle.cat_model.specs.Files.{version_of, loaded, store}
 use Rattle.book.specs.Frees.{IsPassed}
 use Rattle.book.specs.Jobs.{Job}
+use Rattle.book.specs.Results.{IsVerdictOn}
+use Rattle.slices.specs.Judgements.{Judged}
 use Rattle.slices.specs.Parts.{Part}
 use Rattle.book.specs.Step.{HasRange, ended, taken, released, forgotten}
 use Rattle.book.specs.Workbench.{Workbench, job_of, is_claimed}
 use Rattle.book.specs.declared.plan.Change.{Change}
-use Rattle.book.specs.declared.plan.Change.TheVariants.{Keep, PutCat, DropCat, SetTest, Open, Forget, Release, Hold, End, Take, Close}
+use Rattle.book.specs.declared.plan.Change.TheVariants.{Keep, PutCat, DropCat, SetTest, Open, Forget, Release, Hold, End, Take, Judge, Close}
 
 abbrev pub changed : Workbench → Change → Workbench
 changed s Keep = s
@@ -22,6 +24,7 @@ changed s (Release id) = released s id
 changed s (Hold claim mark) = record s { last_claim = claim.number; live = s.live ++ claim ∷ [] }
 changed s (End number seat) = ended s number seat
 changed s (Take number seat job part) = taken s number seat job part.piece.slice
+changed s (Judge id v) = s
 changed s Close = record s { closed = true }
 
 -- the result is of the job's work, and of a slice that it has
@@ -33,10 +36,16 @@ abbrev pub FitsJob : Option Job → Part → Type 0
 FitsJob None part = ⊥
 FitsJob (Some job) part = IsFit job part
 
--- A taken result must be of a job that is there, a put or a drop raises the version, and what is dropped must be there.
+-- the verdict is one on the job
+abbrev pub FitsVerdict : Option Job → Judged → Type 0
+FitsVerdict None v = ⊥
+FitsVerdict (Some job) v = IsVerdictOn job.work job.version v
+
+-- A taken result must be of a job that is there, a verdict must be one on a job that is there, a put or a drop raises the version, and what is dropped must be there.
 -- A claim has a new number, and the slice that it is to hold must not be claimed, and no slice before the mark free.
 abbrev pub IsReady : Workbench → Change → Type 0
 IsReady s (Take number seat job part) = FitsJob (job_of s.jobs job) part
+IsReady s (Judge id v) = FitsVerdict (job_of s.jobs id) v
 IsReady s (PutCat name version file) = version_of name s.cats < version
 IsReady s (DropCat name version) = (is_some (loaded name s.cats) ≡ true) × (version_of name s.cats < version)
 IsReady s (Open job) = job.number ≡ s.last_job + 1

@@ -5,31 +5,33 @@ ghost use Rattle.slices.specs.Parts.{test_size};
 ghost use Rattle.slices.specs.Verdicts.{IsVerdict};
 ghost use Rattle.book.specs.Jobs.{done, is_done, marked};
 ghost use Rattle.book.specs.Listings.{root_of, row_of};
-ghost use Rattle.book.specs.Results.{HasRoot};
+ghost use Rattle.book.specs.Results.{HasRoot, IsVerdictOn};
 ghost use Rattle.book.specs.Step.{HasRange, IsCut};
 
 use crate::cutting::cut;
 use crate::slice::Slice;
 use journal::JobRow;
-use slices::{Piece, PieceResult, Tally, Verdict, WorkRef};
+use slices::{Piece, PieceResult, Tally, VerdictRef, WorkRef};
 use std::alloc::{AllocError, Global};
 use std::marker::Model;
 use wb_text::Name;
 
-/// A job: its work is cut into slices, and the results of those that are returned are merged. Contracts see the job
-/// without the results.
+/// A job: its work is cut into slices, and the results of those that are returned are merged. The verdict is kept once it was
+/// asked for. Contracts see the job without the results and the verdict.
 #[derive(Drop)]
 pub struct Job {
     number: u32,
     version: u32,
     slices: Vec<Slice>,
     tally: Tally,
+    verdict: Option<VerdictRef>,
 }
 
 impl Model for Job {
     ghost use Rattle.book.specs.JobCodes.{coded_job};
     ghost use Rattle.book.specs.Jobs.{Job};
-    ghost use Rattle.book.specs.Results.{IsTied};
+    ghost use Rattle.std.specs.Prelude.{IfSome};
+    ghost use Rattle.book.specs.Results.{IsTied, IsVerdictOn};
 
     ghost Value = { Job };
 
@@ -42,7 +44,7 @@ impl Model for Job {
       slices = j.slices.items;
     } };
 
-    ghost invariant = { λ j. IsTied j.tally j.slices.items };
+    ghost invariant = { λ j. record { tied : IsTied j.tally j.slices.items; kept : IfSome j.verdict (IsVerdictOn j.tally.work j.version) } };
 }
 
 impl Job {
@@ -62,6 +64,7 @@ impl Job {
             version,
             slices,
             tally,
+            verdict: None,
         })
     }
 
@@ -207,14 +210,25 @@ impl Job {
         }
     }
 
-    /// The verdict, where all is returned.
+    /// The verdict, where all is returned: the one that is kept, or one that is made from the results.
     #[tactic(auto, using(crate::proofs::Results::all_covered))]
-    pub fn verdict(&self) -> Result<Verdict, AllocError>
+    pub fn verdict(&self, alloc: Global) -> Result<VerdictRef, AllocError>
         requires { is_done self.now ≡ true }
         ensures work { IfOk result (λ v. v.work ≡ self.now.work) }
         ensures version { IfOk result (λ v. v.version ≡ self.now.version) }
         ensures right { IfOk result (λ v. IsVerdict v.work.test v.work.model.items v.outcome) }
     {
-        self.tally.verdict(self.version)
+        match &self.verdict {
+            Some(verdict) => verdict.share(),
+            None => VerdictRef::new(alloc, self.tally.verdict(self.version)?),
+        }
+    }
+
+    /// Keeps a verdict for those who ask again.
+    pub fn keep(&mut self, verdict: VerdictRef)
+        requires { IsVerdictOn self.old.work self.old.version verdict }
+        ensures { self.new ≡ self.old }
+    {
+        self.verdict = Some(verdict);
     }
 }

@@ -8,7 +8,7 @@ use crate::mark::Mark;
 use crate::names::TestSlot;
 use cat_syntax::CatFile;
 use journal::{Refusal, Reply};
-use slices::PieceResult;
+use slices::{PieceResult, VerdictRef};
 use wb_text::Name;
 
 /// What a call does to the state.
@@ -26,6 +26,8 @@ pub enum Change {
     Hold(Live, Mark),
     End(u32, u8),
     Take(u32, u8, u32, PieceResult),
+    /// Keeps the verdict of a job for those who ask again.
+    Judge(u32, VerdictRef),
     Close,
 }
 

@@ -1,5 +1,5 @@
 -- Writes one after another.
-use Rattle.std.proofs.Common.{◌≡◌, ℕ, suc, ◌+◌, ◌<◌, List, [], ◌++◌, length, take, drop, get_or, Bool, true, Result, Ok, Err, Option, sym, ap, ◌∙◌, subst, append_assoc, append-nil, arith, take-append-drop, drop-cons}
+use Rattle.std.proofs.Common.{◌≡◌, ℕ, suc, ◌+◌, ◌<◌, List, [], ◌∷◌, ◌++◌, length, take, drop, get_or, Bool, true, Result, Ok, Err, Option, sym, ap, ◌∙◌, subst, append_assoc, append-nil, arith, take-append-drop, drop-cons}
 use Rattle.std.specs.Prelude.{IsErr}
 use Rattle.std.specs.List.{flat_map}
 use Rattle.std.proofs.lemmas.Grind.{flat_map-append}
@@ -62,3 +62,21 @@ done_is old new failed (Err y) x bytes e w = cc
 pub part_is : {A E : Type 0} (old new : Option (List ℕ)) (failed : Bool) (r : Result A E) (x : E) (bytes : List ℕ) → r ≡ Err x → Wrote old new failed r bytes → AppendsFront old new bytes
 part_is old new failed (Ok y) x bytes e w = cc
 part_is old new failed (Err y) x bytes e w = w.0
+
+-- items that are written one after another, some of them done and the others left
+
+pub one_on : {X : Type 0} (all done rest left : List X) (x : X) → done ++ rest ≡ all → rest ≡ x ∷ left → (done ++ x ∷ []) ++ left ≡ all
+one_on all done rest left x e f = append_assoc done (x ∷ []) left ∙ ap (λ l. done ++ l) (sym f) ∙ e
+
+pub line_on : {X : Type 0} (f : X → List ℕ) (a b c : Option (List ℕ)) (done : List X) (x : X) → Appends a b (flat_map f done) → Appends b c (f x) → Appends a c (flat_map f (done ++ x ∷ []))
+line_on f a b c done x p q =
+    let P : List ℕ → Type 0 = λ l. Appends a c l in
+    subst P (sym (flat_map-append f done (x ∷ []) ∙ ap (λ l. flat_map f done ++ l) (append-nil (f x)))) (Appends-trans a b c (flat_map f done) (f x) p q)
+
+pub line_among : {X : Type 0} (f : X → List ℕ) (all done rest left : List X) (x : X) → done ++ rest ≡ all → rest ≡ x ∷ left → flat_map f all ≡ flat_map f done ++ (f x ++ flat_map f left)
+line_among f all done rest left x e g = ap (flat_map f) (sym e) ∙ flat_map-append f done rest ∙ ap (λ l. flat_map f done ++ flat_map f l) g
+
+pub lines_done : {X : Type 0} (f : X → List ℕ) (a b : Option (List ℕ)) (all done rest : List X) → done ++ rest ≡ all → rest ≡ [] → Appends a b (flat_map f done) → Appends a b (flat_map f all)
+lines_done {X} f a b all done rest e none p =
+    let P : List X → Type 0 = λ l. Appends a b (flat_map f l) in
+    subst P (sym (append-nil done) ∙ ap (λ l. done ++ l) (sym none) ∙ e) p

@@ -12,6 +12,7 @@ use crate::propositions::{write_atom, write_prop};
 use conditions::{Kind, Place};
 use itoa::Buffer;
 use slices::{Finding, Row, Verdict};
+use std::collections::BTreeSet;
 use thiserror::Error;
 use wb_text::{Failed, Name, Sink};
 
@@ -69,9 +70,13 @@ fn write_count<W: Sink>(finding: &Finding, writer: &mut W) -> Result<(), Failed>
     write_parts(&[b"States ", count, b"\n"], writer)
 }
 
-fn write_states<W: Sink>(places: &[Place], states: &[Row], writer: &mut W) -> Result<(), Failed>
+fn write_states<W: Sink>(
+    places: &[Place],
+    states: &BTreeSet<Row>,
+    writer: &mut W,
+) -> Result<(), Failed>
     ensures { Writes W.held W.has_failed writer.old writer.new result
-        (flat_map (texts.state_line places.now) states.now) }
+        (flat_map (texts.state_line places.now) states.now.keys) }
 {
     for state in states {
         write_state(places, state.values(), writer)?;

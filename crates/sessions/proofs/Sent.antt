@@ -67,10 +67,10 @@ piece_sync : IsSync Piece.the_row
 piece_sync = search (work_sync, crosses, sendable) depth 60 fits 20000
 
 finding_send : IsSend FindingRef.the_row
-finding_send = search (work_send, work_sync, crosses, sendable) depth 60 fits 20000
+finding_send = search (maps_cross, work_send, work_sync, crosses, sendable) depth 60 fits 20000
 
 finding_sync : IsSync FindingRef.the_row
-finding_sync = search (work_send, work_sync, crosses, sendable) depth 60 fits 20000
+finding_sync = search (maps_cross, work_send, work_sync, crosses, sendable) depth 60 fits 20000
 
 verdict_send : IsSend VerdictRef.the_row
 verdict_send = search (work_send, work_sync, finding_send, finding_sync, crosses, sendable) depth 60 fits 20000
@@ -103,13 +103,13 @@ files_send : IsSend Files.the_row
 files_send = search (crosses, sendable) depth 60 fits 20000
 
 tally_send : IsSend Tally.the_row
-tally_send = search (work_send, crosses, sendable) depth 60 fits 20000
+tally_send = search (maps_cross, work_send, crosses, sendable) depth 60 fits 20000
 
 live_send : IsSend Live.the_row
 live_send = search (maps_cross, crosses, sendable) depth 60 fits 20000
 
 book_send : IsSend Book.the_row
-book_send = search (live_send, testref_send, files_send, tally_send, entry_send, entry_sync, crosses, sendable) depth 60 fits 20000
+book_send = search (live_send, testref_send, files_send, tally_send, verdict_send, entry_send, entry_sync, crosses, sendable) depth 60 fits 20000
 
 shared_send : (L : RattleType) (g : Ghosts L.Denot) → IsSend (Shared.the_row L g)
 shared_send L g = search (book_send, share_send, count_send, crosses, sendable) depth 60 fits 20000

@@ -1,7 +1,7 @@
 -- Counts and verdicts.
 use Rattle.std.proofs.Common.{◌≡◌, ℕ, ◌+◌, ◌-◌, ◌≤◌, ◌^◌, List, [], ◌∷◌, ◌++◌, length, Bool, true, false, cond, not, count_by, map, Option, None, Some, unwrap_or, refl, sym, ap, ◌∙◌, subst, inl, inr, arith}
 use Rattle.std.specs.Option.{is_some}
-use Rattle.std.specs.Prelude.{slice_get, MatchOption, Result, Ok, Err, IfOk, OnOk, fold, IsTrue, ◌↔◌, ◌⊎◌}
+use Rattle.std.specs.Prelude.{slice_get, MatchOption, Result, Ok, Err, OnOk, fold, IsTrue, ◌↔◌, ◌⊎◌}
 use Rattle.std.specs.BTreeSet.{insert_key}
 use Rattle.std.specs.List.Sorted.{IsStrictlySortedBy}
 use Rattle.std.proofs.lemmas.List.Sums.{fold-append, sum_by-append}
@@ -20,6 +20,7 @@ use Rattle.candidates.proofs.Walked.{found_from, found_on, found_at}
 use Rattle.candidates.specs.Executions.{IsSize}
 use Rattle.candidates.specs.Faults.{HaveFewRuns}
 use Rattle.slices.specs.declared.counter.Counter.{Counter}
+use Rattle.slices.specs.declared.finding.Totals.{Totals}
 use Rattle.slices.specs.Finals.{final, obs, has, last_or}
 use Rattle.slices.specs.Outcomes.{Outcome}
 use Rattle.slices.specs.Parts.{AreThose, at_end, taken, passed, IsAdmitted, IsPart, executions_in, test_size}
@@ -242,35 +243,39 @@ raised_when_allowed items x allowed flags judged is h =
 
 -- the outcome of a count
 
-pub tells : (t : Litmus) (items : List Clause) (xs : List Execution) (places : List Place) (counter : Counter) (v : Outcome) → IsCount t items places xs counter → AreObserved t.condition t.listed places
-    → v ≡ outcome_of t places counter
-    → IsStrictlySortedBy row_cmp v.states
-    → IsStrictlySortedBy row_cmp v.flags
-    → Tells t items xs v
-tells t items xs places counter v h observed e sorted in_order =
-    let outcome = outcome_of t places counter in
-    let S : Outcome → Type 0 = λ o. IsStrictlySortedBy row_cmp o.states in
-    let F : Outcome → Type 0 = λ o. IsStrictlySortedBy row_cmp o.flags in
-    let states = subst S e sorted in
-    let flags = subst F e in_order in
-    let rows = h.states in
-    let told : Tells t items xs outcome = record {
+-- what totals keep of a count
+pub record AreTotals (counter : Counter) (totals : Totals) : Type 0 where
+  pub positive : totals.positive ≡ counter.positive
+  pub negative : totals.negative ≡ counter.negative
+  pub states : totals.states.value.keys ≡ counter.states.keys
+  pub flags : totals.flags.items ≡ counter.flags.keys
+  pub sorted : IsStrictlySortedBy row_cmp totals.states.value.keys
+  pub in_order : IsStrictlySortedBy row_cmp totals.flags.items
+
+tells : (t : Litmus) (items : List Clause) (xs : List Execution) (places : List Place) (counter : Counter) (totals : Totals) → IsCount t items places xs counter → AreObserved t.condition t.listed places
+    → AreTotals counter totals
+    → Tells t items xs (outcome_of t places totals)
+tells t items xs places counter totals h observed e =
+    let rows : totals.states.value.keys ≡ collected t places xs = e.states ∙ h.states in
+    let P : List ℕ → List (List ℕ) → Type 0 = λ s ks. IsIn s ks in
+    let N : List (List ℕ) → Type 0 = λ ks. (name : Word) → IsIn name ks ↔ IsRaised items xs name in
+    let names = subst N (sym e.flags) h.flags in
+    record {
       name = refl;
       kind = refl;
       formula = refl;
       places = observed;
-      positive = h.positive;
-      negative = h.negative;
+      positive = e.positive ∙ h.positive;
+      negative = e.negative ∙ h.negative;
       states = record {
-        once = no_repeats counter.states.keys states;
-        only = λ s p. elim (from_collected (obs t places) s [] xs (let P : List (List ℕ) → Type 0 = λ ks. IsIn s ks in subst P rows p)) [ inl q ↦ absurd q | inr q ↦ q ];
-        all = λ s q. let P : List (List ℕ) → Type 0 = λ ks. IsIn s ks in subst P (sym rows) (let Q : List ℕ → Type 0 = λ r. IsIn r (collected t places xs) in subst Q (sym q.2) (in_collected (obs t places) [] xs q.0 q.1));
+        once = no_repeats totals.states.value.keys e.sorted;
+        only = λ s p. elim (from_collected (obs t places) s [] xs (subst (P s) rows p)) [ inl q ↦ absurd q | inr q ↦ q ];
+        all = λ s q. subst (P s) (sym rows) (let Q : List ℕ → Type 0 = λ r. IsIn r (collected t places xs) in subst Q (sym q.2) (in_collected (obs t places) [] xs q.0 q.1));
       };
-      sorted = are_sorted counter.states.keys states;
-      flags = record { once = no_repeats counter.flags.keys flags; only = λ name p. (h.flags name).0 p; all = λ name r. (h.flags name).1 r };
-      in_order = are_sorted counter.flags.keys flags;
-    } in
-    let T : Outcome → Type 0 = λ o. Tells t items xs o in subst T (sym e) told
+      sorted = are_sorted totals.states.value.keys e.sorted;
+      flags = record { once = no_repeats totals.flags.items e.in_order; only = λ name p. (names name).0 p; all = λ name r. (names name).1 r };
+      in_order = are_sorted totals.flags.items e.in_order;
+    }
 
 -- those of a list without repeats
 
@@ -308,12 +313,10 @@ admitted t u s n e is many size runs =
     subst P e (many ∙ ap size_of is, record { runs = runs; size = sized.0; few = sized.1 })
 
 -- what is found at the numbers of a range
-pub finds : {E : Type 0} (w : Task) (t : Litmus) (from to : ℕ) (places : List Place) (counter : Counter) (r : Result Outcome E) → t ≡ w.test → IsCountOf w.test w.model.items places (executions_in w.test from to) counter → AreObserved t.condition t.listed places
-    → IfOk r (λ v. v ≡ outcome_of w.test places counter)
-    → IfOk r (λ v. IsStrictlySortedBy row_cmp v.states)
-    → IfOk r (λ v. IsStrictlySortedBy row_cmp v.flags)
-    → IfOk r (IsPart w.test w.model.items from to)
-finds w t from to places counter (Ok v) e h observed value sorted in_order =
+pub finds : (w : Task) (t : Litmus) (from to : ℕ) (places : List Place) (counter : Counter) (totals : Totals) (v : Outcome) → t ≡ w.test → IsCountOf w.test w.model.items places (executions_in w.test from to) counter → AreObserved t.condition t.listed places
+    → AreTotals counter totals → v ≡ outcome_of w.test places totals
+    → IsPart w.test w.model.items from to v
+finds w t from to places counter totals v e h observed same is =
     let P : Litmus → Type 0 = λ u. AreObserved u.condition u.listed places in
-    (h.executions, h.those, tells w.test w.model.items h.executions places counter v h.count (subst P e observed) value sorted in_order)
-finds w t from to places counter (Err x) e h observed value sorted in_order = tt
+    let Q : Outcome → Type 0 = IsPart w.test w.model.items from to in
+    subst Q (sym is) (h.executions, h.those, tells w.test w.model.items h.executions places counter totals h.count (subst P e observed) same)

@@ -3,4 +3,6 @@ pub mod Cuts
 pub mod Members
 pub mod Merging
 pub mod Rows
+pub mod Sets
+pub mod Sorted
 pub mod Together

@@ -86,7 +86,7 @@ in_collected f ks (y ∷ ys) x (inr p) = in_collected f (insert_key row_cmp ks (
 
 -- what being in order gives
 
-not_among : (k : List ℕ) (ks : List (List ℕ)) → AllByRecursion (λ y. row_cmp k y ≡ Less) ks → ¬ IsIn k ks
+pub not_among : (k : List ℕ) (ks : List (List ℕ)) → AllByRecursion (λ y. row_cmp k y ≡ Less) ks → ¬ IsIn k ks
 not_among k [] h p = p
 not_among k (x ∷ xs) h (inl e) = precedes-irreflexive k (let P : List ℕ → Type 0 = λ y. Precedes k y in subst P (sym e) (less_precedes k x h.0))
 not_among k (x ∷ xs) h (inr p) = not_among k xs h.1 p

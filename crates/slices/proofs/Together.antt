@@ -1,6 +1,6 @@
 -- What results say together.
 use Rattle.std.proofs.Common.{◌≡◌, ℕ, ◌+◌, ◌<◌, ◌≤◌, ◌^◌, List, [], ◌∷◌, ◌++◌, length, take, ◌-◌, not, count_by, refl, sym, ap, ◌∙◌, subst, inl, inr, arith}
-use Rattle.std.specs.Prelude.{Result, Ok, Err, IfOk, ◌↔◌}
+use Rattle.std.specs.Prelude.{◌↔◌}
 use Rattle.std.specs.List.Sorted.{IsStrictlySortedBy}
 use Rattle.cat_tree.specs.Tree.{Clause}
 use Rattle.events.specs.Executions.{Execution}
@@ -11,7 +11,7 @@ use Rattle.conditions.specs.States.{AreObserved}
 use Rattle.conditions.specs.declared.place.Place.{Place}
 use Rattle.conditions.proofs.ObservedPlaces.{same_observed}
 use Rattle.candidates.specs.Candidates.{Numbering}
-use Rattle.slices.specs.declared.counter.Counter.{Counter}
+use Rattle.slices.specs.declared.finding.Totals.{Totals}
 use Rattle.slices.specs.declared.span.Span.{Span}
 use Rattle.slices.specs.declared.sum.Sum.{Sum}
 use Rattle.slices.specs.Counters.{outcome_of}
@@ -27,7 +27,7 @@ use Rattle.slices.proofs.Members.{count-append, count_most}
 use Rattle.slices.proofs.Merging.{law_of, merged_listing, whole_listing, few_listed, within_push}
 
 -- nothing is told of no range
-pub tally_none : (t : Litmus) (items : List Clause) (places : List Place) (spans : List Span) (sum : Sum) → AreObserved t.condition t.listed places → spans ≡ [] → sum.positive ≡ 0 → sum.negative ≡ 0 → sum.states.keys ≡ [] → sum.flags.keys ≡ [] → IsTally t items spans sum
+pub tally_none : (t : Litmus) (items : List Clause) (places : List Place) (spans : List Span) (sum : Sum) → AreObserved t.condition t.listed places → spans ≡ [] → sum.positive ≡ 0 → sum.negative ≡ 0 → sum.states.value.keys ≡ [] → sum.flags.keys ≡ [] → IsTally t items spans sum
 tally_none t items places spans sum observed none p n s f =
     let I : List Span → Type 0 = λ l. (r : Span) → ¬ IsIn r l in
     let out : (r : Span) → ¬ IsIn r spans = subst I (sym none) (λ r q. q) in
@@ -128,33 +128,38 @@ in_order_of s rows = (
   (λ p. in_collected (λ (y : List ℕ). y) [] rows s p),
 )
 
-listed : {P : List ℕ → Type 0} (rows keys found : List (List ℕ)) → ((s : List ℕ) → IsIn s rows ↔ P s) → keys ≡ in_order rows → found ≡ keys → IsStrictlySortedBy row_cmp found → Lists P found
-listed {P} rows keys found members ordered is sorted =
+listed : {P : List ℕ → Type 0} (rows keys : List (List ℕ)) → ((s : List ℕ) → IsIn s rows ↔ P s) → keys ≡ in_order rows → IsStrictlySortedBy row_cmp keys → Lists P keys
+listed {P} rows keys members ordered sorted =
     let K : List (List ℕ) → Type 0 = λ ks. (s : List ℕ) → IsIn s ks ↔ IsIn s rows in
-    let same = subst K (sym (is ∙ ordered)) (λ s. in_order_of s rows) in
+    let same = subst K (sym ordered) (λ s. in_order_of s rows) in
     record {
-      once = no_repeats found sorted;
+      once = no_repeats keys sorted;
       only = λ s p. (members s).0 ((same s).0 p);
       all = λ s p. (same s).1 ((members s).1 p);
     }
 
-pub tally_verdict : {E : Type 0} (t u : Litmus) (items : List Clause) (spans : List Span) (sum : Sum) (places : List Place) (counter : Counter) (r : Result Outcome E) → Numbering → IsAdmitted t → IsCover (test_size t) spans → IsTally t items spans sum
+-- what totals keep of a sum
+pub record AreTotalsOf (sum : Sum) (totals : Totals) : Type 0 where
+  pub positive : totals.positive ≡ sum.positive
+  pub negative : totals.negative ≡ sum.negative
+  pub states : totals.states.value.keys ≡ sum.states.value.keys
+  pub flags : totals.flags.items ≡ in_order sum.flags.keys
+  pub sorted : IsStrictlySortedBy row_cmp totals.states.value.keys
+  pub in_order : IsStrictlySortedBy row_cmp totals.flags.items
+
+pub tally_verdict : (t u : Litmus) (items : List Clause) (spans : List Span) (sum : Sum) (places : List Place) (totals : Totals) (v : Outcome) → Numbering → IsAdmitted t → IsCover (test_size t) spans → IsTally t items spans sum
     → u ≡ t → AreObserved u.condition u.listed places
-    → counter.positive ≡ sum.positive → counter.negative ≡ sum.negative → counter.states.keys ≡ in_order sum.states.keys → counter.flags.keys ≡ in_order sum.flags.keys
-    → IfOk r (λ v. v ≡ outcome_of t places counter)
-    → IfOk r (λ v. IsStrictlySortedBy row_cmp v.states)
-    → IfOk r (λ v. IsStrictlySortedBy row_cmp v.flags)
-    → IfOk r (IsVerdict t items)
-tally_verdict t u items spans sum places counter (Err x) numbering admitted cover h e seen cp cn cs cf is sorted ordered = tt
-tally_verdict t u items spans sum places counter (Ok v) numbering admitted cover h e seen cp cn cs cf is sorted ordered =
+    → AreTotalsOf sum totals → v ≡ outcome_of t places totals
+    → IsVerdict t items v
+tally_verdict t u items spans sum places totals v numbering admitted cover h e seen same is =
     let O : Litmus → Type 0 = λ w. AreObserved w.condition w.listed places in
     let observed = subst O e seen in
-    let same : h.places ≡ places = same_observed t.condition t.listed h.places places h.observed observed in
-    let S : List Place → Type 0 = λ ps. (s : List ℕ) → IsIn s sum.states.keys ↔ ((x : Execution) × IsIn x h.executions × (s ≡ obs t ps x)) in
-    let V : Outcome → Type 0 = λ w. Tells t items h.executions w in
-    let outcome = outcome_of t places counter in
-    let A : Outcome → Type 0 = λ w. IsStrictlySortedBy row_cmp w.states in
-    let F : Outcome → Type 0 = λ w. IsStrictlySortedBy row_cmp w.flags in (
+    let one : h.places ≡ places = same_observed t.condition t.listed h.places places h.observed observed in
+    let S : List Place → Type 0 = λ ps. (s : List ℕ) → IsIn s sum.states.value.keys ↔ ((x : Execution) × IsIn x h.executions × (s ≡ obs t ps x)) in
+    let states = subst S one h.states in
+    let K : List (List ℕ) → Type 0 = λ ks. (s : List ℕ) → IsIn s ks ↔ IsIn s sum.states.value.keys in
+    let members = subst K (sym same.states) (λ s. ((λ p. p), (λ p. p))) in
+    let V : Outcome → Type 0 = λ w. Tells t items h.executions w in (
       h.executions,
       whole_listing t items (test_size t) spans h.executions (law_of numbering t admitted) h.within cover h.each,
       subst V (sym is) (record {
@@ -162,12 +167,16 @@ tally_verdict t u items spans sum places counter (Ok v) numbering admitted cover
         kind = refl;
         formula = refl;
         places = observed;
-        positive = cp ∙ h.positive ∙ ap (λ ps. count_by (has t ps) h.executions) same;
-        negative = cn ∙ h.negative ∙ ap (λ ps. count_by (λ x. not (has t ps x)) h.executions) same;
-        states = listed sum.states.keys counter.states.keys counter.states.keys (subst S same h.states) cs refl (subst A is sorted);
-        sorted = are_sorted counter.states.keys (subst A is sorted);
-        flags = listed sum.flags.keys counter.flags.keys counter.flags.keys h.flags cf refl (subst F is ordered);
-        in_order = are_sorted counter.flags.keys (subst F is ordered);
+        positive = same.positive ∙ h.positive ∙ ap (λ ps. count_by (has t ps) h.executions) one;
+        negative = same.negative ∙ h.negative ∙ ap (λ ps. count_by (λ x. not (has t ps x)) h.executions) one;
+        states = record {
+          once = no_repeats totals.states.value.keys same.sorted;
+          only = λ s p. (states s).0 ((members s).0 p);
+          all = λ s p. (members s).1 ((states s).1 p);
+        };
+        sorted = are_sorted totals.states.value.keys same.sorted;
+        flags = listed sum.flags.keys totals.flags.items h.flags same.flags same.in_order;
+        in_order = are_sorted totals.flags.items same.in_order;
       }),
     )
 

@@ -10,6 +10,7 @@ use Rattle.listings.specs.Lists.{IsIn}
 use Rattle.conditions.specs.declared.place.Place.{Place}
 use Rattle.litmus_tree.specs.Tree.{Litmus, Word}
 use Rattle.slices.specs.declared.counter.Counter.{Counter}
+use Rattle.slices.specs.declared.finding.Totals.{Totals}
 use Rattle.slices.specs.Finals.{obs, has}
 use Rattle.slices.specs.Outcomes.{Outcome}
 use Rattle.slices.specs.Parts.{AreThose}
@@ -43,15 +44,15 @@ pub record IsOneMore (t : Litmus) (items : List Clause) (places : List Place) (x
 abbrev pub IsWeighed : Litmus → List Clause → List Place → Execution → Counter → Counter → Type 0
 IsWeighed t items places x before after = (Allowed items x × IsOneMore t items places x before after) ⊎ ((¬ Allowed items x) × (after ≡ before))
 
--- what a counter of a test says
-abbrev pub outcome_of : Litmus → List Place → Counter → Outcome
-outcome_of t places counter = record {
+-- what these totals over executions of a test say
+abbrev pub outcome_of : Litmus → List Place → Totals → Outcome
+outcome_of t places totals = record {
   name = t.name;
   kind = t.condition.kind;
   formula = t.condition.formula;
   places = places;
-  positive = counter.positive;
-  negative = counter.negative;
-  states = counter.states.keys;
-  flags = counter.flags.keys;
+  positive = totals.positive;
+  negative = totals.negative;
+  states = totals.states.value.keys;
+  flags = totals.flags.items;
 }

@@ -16,12 +16,12 @@ in_order rows = fold (λ keys row. insert_key (slice_cmp nat_cmp) keys row) [] r
 pub record IsAdded (before : Sum) (v : Outcome) (after : Sum) : Type 0 where
   pub positive : after.positive ≡ before.positive + v.positive
   pub negative : after.negative ≡ before.negative + v.negative
-  pub states : (s : List ℕ) → IsIn s after.states.keys ↔ (IsIn s before.states.keys ⊎ IsIn s v.states)
+  pub states : (s : List ℕ) → IsIn s after.states.value.keys ↔ (IsIn s before.states.value.keys ⊎ IsIn s v.states)
   pub flags : (name : Word) → IsIn name after.flags.keys ↔ (IsIn name before.flags.keys ⊎ IsIn name v.flags)
 
 -- It says what it said.
 pub record IsUnchanged (before after : Sum) : Type 0 where
   pub positive : after.positive ≡ before.positive
   pub negative : after.negative ≡ before.negative
-  pub states : after.states.keys ≡ before.states.keys
+  pub states : after.states.value.keys ≡ before.states.value.keys
   pub flags : after.flags.keys ≡ before.flags.keys

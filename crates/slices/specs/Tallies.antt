@@ -53,7 +53,7 @@ pub record IsTally (t : Litmus) (items : List Clause) (spans : List Span) (sum :
   pub observed : AreObserved t.condition t.listed places
   pub positive : sum.positive ≡ count_by (has t places) executions
   pub negative : sum.negative ≡ count_by (λ x. not (has t places x)) executions
-  pub states : (s : List ℕ) → IsIn s sum.states.keys ↔ ((x : Execution) × IsIn x executions × (s ≡ obs t places x))
+  pub states : (s : List ℕ) → IsIn s sum.states.value.keys ↔ ((x : Execution) × IsIn x executions × (s ≡ obs t places x))
   pub flags : (name : Word) → IsIn name sum.flags.keys ↔ IsRaised items executions name
 
 -- where slice i begins when n numbers are cut into so many slices

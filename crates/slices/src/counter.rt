@@ -1,8 +1,10 @@
 //! Counts over the allowed executions at some of the numbers of a test.
 
 ghost use Rattle.std.specs.Prelude.{◌≡◌, ◌<◌, ◌≤◌, ◌+◌, ◌-◌, ◌^◌, [], length, map, fold, IfOk, OnOk, IsTrue, ◌↔◌, if◌then◌else◌};
+ghost use Rattle.std.specs.Arc.{arc_value};
 ghost use Rattle.std.specs.BTreeSet.{insert_key};
 ghost use Rattle.std.specs.Cmp.Lexicographic.{slice_cmp};
+ghost use Rattle.std.specs.List.Sorted.{IsStrictlySortedBy};
 ghost use Rattle.std.specs.Ordering.{nat_cmp};
 ghost use Rattle.conditions.specs.Conditions.{formula_of};
 ghost use Rattle.conditions.specs.States.{bindings, holds_in};
@@ -13,6 +15,7 @@ ghost use Rattle.slices.specs.Counters.{IsCountOf, IsOneMore, IsWeighed};
 ghost use Rattle.slices.specs.Parts.{IsRange, executions_in};
 ghost use Rattle.slices.specs.Slots.{slot_of, slot_value};
 
+use crate::finding::Totals;
 use crate::row::Row;
 use crate::slot::{Slot, row, slots};
 use crate::work::Work;
@@ -22,6 +25,7 @@ use conditions::{Place, Prop, State, holds};
 use events::{EventStructure, Graph};
 use std::alloc::{AllocError, Global};
 use std::collections::BTreeSet;
+use std::sync::Arc;
 use wb_text::Name;
 
 /// How many final states have a proposition and how many have it not, which states there are, and which flags were raised.
@@ -74,6 +78,24 @@ impl Counter {
             states: BTreeSet::new(alloc),
             flags: BTreeSet::new(alloc),
         }
+    }
+
+    /// The same counts, states and flags, in order.
+    pub fn totals(self, alloc: Global) -> Result<Totals, AllocError>
+        ensures positive { IfOk result (λ t. t.positive ≡ self.positive) }
+        ensures negative { IfOk result (λ t. t.negative ≡ self.negative) }
+        ensures states { IfOk result (λ t. (arc_value t.states).keys ≡ self.states.keys) }
+        ensures flags { IfOk result (λ t. t.flags.items ≡ self.flags.keys) }
+        ensures sorted { IfOk result (λ t. IsStrictlySortedBy (slice_cmp nat_cmp) (arc_value t.states).keys) }
+        ensures in_order { IfOk result (λ t. IsStrictlySortedBy (slice_cmp nat_cmp) t.flags.items) }
+    {
+        let _ = self.states.len();
+        Ok(Totals {
+            positive: self.positive,
+            negative: self.negative,
+            states: Arc::new(alloc, self.states)?,
+            flags: self.flags.into_iter().collect(alloc)?,
+        })
     }
 
     /// Counts an execution, if the work's model allows it: what the model says of it is handed in.

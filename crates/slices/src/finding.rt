@@ -1,35 +1,43 @@
 //! What is found of executions.
 
 ghost use Rattle.std.specs.Prelude.{◌≡◌, IfOk};
-ghost use Rattle.std.specs.Cmp.Lexicographic.{slice_cmp};
-ghost use Rattle.std.specs.List.Sorted.{IsStrictlySortedBy};
-ghost use Rattle.std.specs.Ordering.{nat_cmp};
 ghost use Rattle.conditions.specs.Conditions.{formula_of};
 ghost use Rattle.slices.specs.Counters.{outcome_of};
 ghost use Rattle.slices.specs.Outcomes.{is_ok};
 ghost use Rattle.slices.specs.Outcomes.{word};
 
-use crate::counter::Counter;
 use crate::row::Row;
 use crate::work::WorkRef;
 use conditions::{Kind, Place, Prop, ok_of};
 use std::alloc::{AllocError, Global};
+use std::collections::BTreeSet;
 use std::marker::Model;
 use std::sync::Arc;
 use wb_text::Name;
 
-/// What is found of some executions of a work's test: of those that the work's model allows.
+/// How many executions have a test's proposition and how many have it not, and which final states and flags there are, each once
+/// and in order.
+#[derive(Drop)]
+pub struct Totals {
+    pub positive: u64,
+    pub negative: u64,
+    pub states: Arc<BTreeSet<Row>>,
+    pub flags: Vec<Name>,
+}
+
+/// What is found of some executions of a work's test: of those that the work's model allows. Its states may be kept elsewhere too.
 #[derive(Drop)]
 pub struct Finding {
     work: WorkRef,
     places: Vec<Place>,
     positive: u64,
     negative: u64,
-    states: Vec<Row>,
+    states: Arc<BTreeSet<Row>>,
     flags: Vec<Name>,
 }
 
 impl Model for Finding {
+    ghost use Rattle.std.specs.Arc.{arc_value};
     ghost use Rattle.slices.specs.Outcomes.{Outcome};
     ghost use Rattle.slices.specs.Codes.{coded_outcome};
 
@@ -44,7 +52,7 @@ impl Model for Finding {
       places = v.places.items;
       positive = v.positive;
       negative = v.negative;
-      states = v.states.items;
+      states = (arc_value v.states).keys;
       flags = v.flags.items;
     } };
 }
@@ -95,31 +103,18 @@ impl FindingRef {
 }
 
 impl Finding {
-    /// What a count of a work's test says.
-    pub(crate) fn new(
-        alloc: Global,
-        work: WorkRef,
-        places: Vec<Place>,
-        counter: Counter,
-    ) -> Result<Self, AllocError>
-        ensures value { IfOk result (λ v. v ≡ outcome_of work.test places.items counter) }
-        ensures sorted { IfOk result (λ v. IsStrictlySortedBy (slice_cmp nat_cmp) v.states) }
-        ensures in_order { IfOk result (λ v. IsStrictlySortedBy (slice_cmp nat_cmp) v.flags) }
+    /// What is told by these totals over executions of a work's test.
+    pub(crate) fn new(work: WorkRef, places: Vec<Place>, totals: Totals) -> Self
+        ensures { result ≡ outcome_of work.test places.items totals }
     {
-        let Counter {
-            positive,
-            negative,
-            states,
-            flags,
-        } = counter;
-        Ok(Finding {
+        Finding {
             work,
             places,
-            positive,
-            negative,
-            states: states.into_iter().collect(alloc)?,
-            flags: flags.into_iter().collect(alloc)?,
-        })
+            positive: totals.positive,
+            negative: totals.negative,
+            states: totals.states,
+            flags: totals.flags,
+        }
     }
 
     /// The name of the test.
@@ -165,8 +160,8 @@ impl Finding {
     }
 
     /// The final states, once each, in order.
-    pub fn states(&self) -> &[Row]
-        ensures { result.now ≡ self.now.states }
+    pub fn states(&self) -> &BTreeSet<Row>
+        ensures { result.now.keys ≡ self.now.states }
     {
         &self.states
     }

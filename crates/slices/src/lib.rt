@@ -9,6 +9,7 @@ mod piece;
 mod row;
 mod slot;
 mod span;
+mod state_set;
 mod sum;
 mod tally;
 mod verdict;

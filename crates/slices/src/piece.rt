@@ -100,8 +100,8 @@ fn find(
 {
     let test = work.work().test();
     let places = observed(alloc, test.condition(), test.listed())?;
-    let counter = count(alloc, work.work(), space, &places, from, to)?;
-    Finding::new(alloc, work.share()?, places, counter)
+    let totals = count(alloc, work.work(), space, &places, from, to)?.totals(alloc)?;
+    Ok(Finding::new(work.share()?, places, totals))
 }
 
 impl Piece {

@@ -1,56 +1,58 @@
 //! What several findings say together.
 
-ghost use Rattle.std.specs.Prelude.{◌≡◌, ◌+◌, ◌<◌, ◌^◌, ◌↔◌, ◌⊎◌, [], List, ℕ, IfOk, OnOk, OnErr, IsTrue, ◌∷◌};
+ghost use Rattle.std.specs.Prelude.{◌≡◌, ◌+◌, ◌<◌, ◌^◌, [], IfOk, OnOk, OnErr};
 ghost use Rattle.indexmap.specs.IndexSet.{insert_all};
+ghost use Rattle.std.specs.Arc.{arc_value};
 ghost use Rattle.std.specs.Str.{bytes_eq};
-ghost use Rattle.std.specs.BTreeSet.{insert_key as sorted_key};
-ghost use Rattle.listings.specs.Lists.{IsIn};
+ghost use Rattle.std.specs.Cmp.Lexicographic.{slice_cmp};
+ghost use Rattle.std.specs.List.Sorted.{IsStrictlySortedBy};
+ghost use Rattle.std.specs.Ordering.{nat_cmp};
 ghost use Rattle.slices.specs.Sums.{IsAdded, IsUnchanged, in_order};
 
-use crate::counter::Counter;
-use crate::finding::Finding;
+use crate::finding::{Finding, Totals};
 use crate::row::Row;
+use crate::state_set::add_shared;
 use indexmap::IndexSet;
 use std::alloc::{AllocError, Global};
 use std::collections::BTreeSet;
+use std::sync::Arc;
 use wb_text::Name;
 
-/// How many executions have the test's proposition and how many have it not, and which final states and flags there
-/// are, in the order in which they came. Room for several states is made at once, which a sorted set can't do.
+/// How many executions have the test's proposition and how many have it not, which final states there are, and which flags, in
+/// the order in which they came. States are kept in order and are shared when they are asked for, so that none has to be sorted or copied then.
 #[derive(Drop)]
 pub struct Sum {
     pub positive: u64,
     pub negative: u64,
-    pub states: IndexSet<Row>,
+    pub states: Arc<BTreeSet<Row>>,
     pub flags: IndexSet<Name>,
 }
 
 impl Sum {
     /// The sum of no finding.
-    pub fn new(alloc: Global) -> Self
-        ensures positive { result.positive ≡ 0 }
-        ensures negative { result.negative ≡ 0 }
-        ensures states { result.states.keys ≡ [] }
-        ensures flags { result.flags.keys ≡ [] }
+    pub fn new(alloc: Global) -> Result<Self, AllocError>
+        ensures positive { IfOk result (λ s. s.positive ≡ 0) }
+        ensures negative { IfOk result (λ s. s.negative ≡ 0) }
+        ensures states { IfOk result (λ s. (arc_value s.states).keys ≡ []) }
+        ensures flags { IfOk result (λ s. s.flags.keys ≡ []) }
     {
-        Sum {
+        Ok(Sum {
             positive: 0,
             negative: 0,
-            states: IndexSet::new(alloc),
+            states: Arc::new(alloc, BTreeSet::new(alloc))?,
             flags: IndexSet::new(alloc),
-        }
+        })
     }
 
-    /// Adds what a finding says: room for its states and flags is made first.
+    /// Adds what a finding says: room for its flags is made first. It costs one look-up for each of its states.
     pub fn add(&mut self, alloc: Global, finding: &Finding) -> Result<(), AllocError>
         requires few { (self.old.positive + finding.now.positive < 2 ^ 64) × (self.old.negative + finding.now.negative < 2 ^ 64) }
         ensures added { OnOk result (IsAdded self.old finding.now self.new) }
         ensures same { OnErr result (IsUnchanged self.old self.new) }
     {
-        let mut states = set_of_rows(alloc, finding.states())?;
         let mut flags = set_of_names(alloc, finding.flags())?;
         self.flags.reserve(flags.len())?;
-        self.states.append(&mut states)?;
+        add_shared(alloc, &mut self.states, finding.states())?;
         self.positive += finding.positive();
         self.negative += finding.negative();
         match self.flags.append(&mut flags) {
@@ -59,30 +61,25 @@ impl Sum {
         }
     }
 
-    /// The same counts, with the states and flags in order.
-    pub fn sorted(&self, alloc: Global) -> Result<Counter, AllocError>
-        ensures positive { IfOk result (λ c. c.positive ≡ self.now.positive) }
-        ensures negative { IfOk result (λ c. c.negative ≡ self.now.negative) }
-        ensures states { IfOk result (λ c. c.states.keys ≡ in_order self.now.states.keys) }
-        ensures flags { IfOk result (λ c. c.flags.keys ≡ in_order self.now.flags.keys) }
+    /// The same counts, states and flags, both in order. The states are shared, and none is copied.
+    pub fn totals(&self, alloc: Global) -> Result<Totals, AllocError>
+        ensures positive { IfOk result (λ t. t.positive ≡ self.now.positive) }
+        ensures negative { IfOk result (λ t. t.negative ≡ self.now.negative) }
+        ensures states { IfOk result (λ t. (arc_value t.states).keys ≡ (arc_value self.now.states).keys) }
+        ensures flags { IfOk result (λ t. t.flags.items ≡ in_order self.now.flags.keys) }
+        ensures sorted { IfOk result (λ t. IsStrictlySortedBy (slice_cmp nat_cmp) (arc_value t.states).keys) }
+        ensures in_order { IfOk result (λ t. IsStrictlySortedBy (slice_cmp nat_cmp) t.flags.items) }
     {
-        Ok(Counter {
+        let _ = self.states.len();
+        Ok(Totals {
             positive: self.positive,
             negative: self.negative,
-            states: sorted_rows(alloc, self.states.as_slice())?,
-            flags: sorted_names(alloc, self.flags.as_slice())?,
+            states: Arc::try_clone(&self.states)?,
+            flags: sorted_names(alloc, self.flags.as_slice())?
+                .into_iter()
+                .collect(alloc)?,
         })
     }
-}
-
-fn set_of_rows(alloc: Global, rows: &[Row]) -> Result<IndexSet<Row>, AllocError>
-    ensures { IfOk result (λ s. s.keys ≡ insert_all bytes_eq [] rows.now) }
-{
-    let mut set = IndexSet::new(alloc);
-    for row in rows {
-        set.insert(row.copy()?)?;
-    }
-    Ok(set)
 }
 
 fn set_of_names(alloc: Global, names: &[Name]) -> Result<IndexSet<Name>, AllocError>
@@ -91,16 +88,6 @@ fn set_of_names(alloc: Global, names: &[Name]) -> Result<IndexSet<Name>, AllocEr
     let mut set = IndexSet::new(alloc);
     for name in names {
         set.insert(name.copy()?)?;
-    }
-    Ok(set)
-}
-
-fn sorted_rows(alloc: Global, rows: &[Row]) -> Result<BTreeSet<Row>, AllocError>
-    ensures { IfOk result (λ s. s.keys ≡ in_order rows.now) }
-{
-    let mut set = BTreeSet::new(alloc);
-    for row in rows {
-        set.insert(row.copy()?)?;
     }
     Ok(set)
 }

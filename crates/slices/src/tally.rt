@@ -46,10 +46,11 @@ impl Tally {
     {
         let test = work.work().test();
         let _places = observed(alloc, test.condition(), test.listed())?;
+        let sum = Sum::new(alloc)?;
         Ok(Tally {
             work,
             spans: Vec::new(alloc),
-            sum: Sum::new(alloc),
+            sum,
         })
     }
 
@@ -104,7 +105,7 @@ impl Tally {
         }
     }
 
-    /// The verdict on the work, where the results are over all its numbers. It costs one pass over the distinct states.
+    /// The verdict on the work, where the results are over all its numbers. It shares the states, and costs no more for many of them.
     pub fn verdict(&self, test_version: u32) -> Result<Verdict, AllocError>
         requires { IsCover (test_size self.now.work.test) self.now.spans }
         ensures work { IfOk result (λ v. v.work ≡ self.now.work) }
@@ -126,8 +127,8 @@ impl Tally {
         let _size = work.size();
         let test = work.test();
         let places = observed(alloc, test.condition(), test.listed())?;
-        let counter = self.sum.sorted(alloc)?;
-        Finding::new(alloc, self.work.share()?, places, counter)
+        let totals = self.sum.totals(alloc)?;
+        Ok(Finding::new(self.work.share()?, places, totals))
     }
 }
 

@@ -10,6 +10,7 @@ use crate::row::Row;
 use crate::work::WorkRef;
 use cat_model::FileVersion;
 use std::alloc::{AllocError, Global};
+use std::collections::BTreeSet;
 use std::marker::Model;
 use std::sync::Arc;
 use wb_text::Name;
@@ -69,6 +70,15 @@ impl VerdictRef {
         ensures { result.now ≡ self.now }
     {
         &self.verdict
+    }
+
+    /// The same verdict, kept once more.
+    pub fn share(&self) -> Result<Self, AllocError>
+        ensures { IfOk result (λ v. v ≡ self.now) }
+    {
+        Ok(VerdictRef {
+            verdict: Arc::try_clone(&self.verdict)?,
+        })
     }
 }
 
@@ -136,8 +146,8 @@ impl Verdict {
     }
 
     /// The final states, once each, in order.
-    pub fn states(&self) -> &[Row]
-        ensures { result.now ≡ self.now.outcome.states }
+    pub fn states(&self) -> &BTreeSet<Row>
+        ensures { result.now.keys ≡ self.now.outcome.states }
     {
         self.found.finding().states()
     }

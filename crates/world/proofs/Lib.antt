@@ -10,7 +10,6 @@ pub mod Members
 pub mod Merged
 pub mod Moves
 pub mod Pasts
-pub mod Sorted
 pub mod Sources
 pub mod Spent
 pub mod Told

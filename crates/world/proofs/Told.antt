@@ -18,7 +18,7 @@ use Rattle.slices.proofs.Members.{lists_same, count-append}
 use Rattle.world.specs.Merging.{IsMerged, outcomes, MergedVerdict, OneVerdict}
 use Rattle.world.proofs.Members.{joined, for_each_in, for_each_of, in_joined, joined_in, same_count}
 use Rattle.world.proofs.Merged.{IsOf, answers_listed}
-use Rattle.world.proofs.Sorted.{same_sorted}
+use Rattle.slices.proofs.Sorted.{same_sorted}
 
 abbrev IsTold : Litmus → List Clause → Outcome → List Execution → Type 0
 IsTold t items v xs = Tells t items xs v

@@ -17,7 +17,7 @@ use crate::reading::{is_model_memory, model_of};
 use candidates::SpaceFault;
 use cat_model::Model;
 use journal::{Refusal, Reply};
-use slices::{TestRef, VerdictRef, Work, WorkRef};
+use slices::{TestRef, Work, WorkRef};
 use std::alloc::{AllocError, Global};
 use wb_text::Name;
 
@@ -111,7 +111,8 @@ impl Bench {
         }
     }
 
-    #[tactic(auto, using(crate::proofs::Steps::no_job, crate::proofs::Steps::judged, crate::proofs::Steps::poll_replaced, crate::proofs::Steps::pending))]
+    // A verdict is made once, and kept with the job for those who ask again.
+    #[tactic(auto, using(crate::proofs::Steps::no_job, crate::proofs::Steps::judged_again, crate::proofs::Steps::verdict_fits, crate::proofs::Steps::poll_replaced, crate::proofs::Steps::pending))]
     pub(crate) fn decide_poll(&self, alloc: Global, number: u32) -> Result<Plan, AllocError>
         requires { self.now.closed ≡ false }
         ensures step { IfOk result (λ p. Step self.now 0 (Said.Poll number) p.reply (changed self.now p.change)) }
@@ -122,8 +123,11 @@ impl Bench {
             return Ok(Plan::refuse(Refusal::NoJob(number)));
         };
         if job.is_done() {
-            let verdict = VerdictRef::new(alloc, job.verdict()?)?;
-            return Ok(Plan::keep(Reply::Verdict(verdict)));
+            let verdict = job.verdict(alloc)?;
+            return Ok(Plan {
+                reply: Reply::Verdict(verdict.share()?),
+                change: Change::Judge(number, verdict),
+            });
         }
         match self.replaced(job)? {
             Some(replacement) => Ok(Plan::refuse(Refusal::Replaced(replacement))),

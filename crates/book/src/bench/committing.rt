@@ -3,7 +3,7 @@
 ghost use Rattle.std.specs.Prelude.{◌≡◌, ◌<◌, ◌∷◌, ◌++◌, [], true, false, None, Some, is_some, OnOk, OnErr};
 ghost use Rattle.std.specs.Str.{bytes_eq};
 ghost use Rattle.indexmap.specs.IndexMap.{insert_entry};
-ghost use Rattle.book.specs.Changes.{changed, IsReady, FitsJob};
+ghost use Rattle.book.specs.Changes.{changed, IsReady, FitsJob, FitsVerdict};
 ghost use Rattle.book.specs.Frees.{IsPassed};
 ghost use Rattle.book.specs.Step.{ended, forgotten, released, taken, without};
 ghost use Rattle.book.specs.Workbench.{is_claimed, job_of, marked_in};
@@ -17,7 +17,7 @@ use crate::names::TestSlot;
 use crate::plan::Change;
 use cat_model::Files;
 use cat_syntax::CatFile;
-use slices::PieceResult;
+use slices::{PieceResult, VerdictRef};
 use std::alloc::AllocError;
 use wb_text::Name;
 
@@ -42,6 +42,7 @@ impl Bench {
             Change::Hold(claim, mark) => self.hold(claim, mark)?,
             Change::End(number, seat) => self.end(number, seat),
             Change::Take(number, seat, job, part) => self.take(number, seat, job, part)?,
+            Change::Judge(number, verdict) => self.judge(number, verdict),
             Change::Close => self.close(),
         }
         Ok(())
@@ -148,6 +149,14 @@ impl Bench {
         Ok(())
     }
 
+    /// Keeps the verdict of a job for those who ask again.
+    fn judge(&mut self, number: u32, verdict: VerdictRef)
+        requires { FitsVerdict (job_of self.old.jobs number) verdict }
+        ensures { self.new ≡ self.old }
+    {
+        keep_verdict(&mut self.jobs, number, verdict);
+    }
+
     /// Closes the book.
     fn close(&mut self)
         ensures { self.new ≡ record self.old { closed = true } }
@@ -188,4 +197,18 @@ fn take_in(jobs: &mut Vec<Job>, number: u32, part: PieceResult) -> Result<(), Al
         }
     }
     Ok(())
+}
+
+/// Hands a verdict to the job of a number, which keeps it.
+fn keep_verdict(jobs: &mut Vec<Job>, number: u32, verdict: VerdictRef)
+    requires { FitsVerdict (job_of jobs.old.items number) verdict }
+    ensures { jobs.new.items ≡ jobs.old.items }
+{
+    for i in 0..jobs.len() {
+        let job = &mut jobs[i];
+        if job.number() == number {
+            job.keep(verdict);
+            return;
+        }
+    }
 }

@@ -1,8 +1,9 @@
-use Rattle.std.proofs.Common.{take}
+use Rattle.std.proofs.Common.{◌≡◌, ◌++◌, ℕ, List}
 use Rattle.std.specs.Io.KnownBytes.{Appends}
 use Rattle.std.specs.List.{flat_map}
 use Rattle.report.specs.Texts.{state_line}
 use Rattle.report.proofs.summary.write_states.Given as goal
 
+-- the lines of some states are written, and the other states are left
 abbrev pub invariant-loop-state : goal.invariant-loop-state
-invariant-loop-state g l = Appends (g.W.Sink.held l.initial.writer) (g.W.Sink.held l.writer) (flat_map (state_line l.places) (take l.state-index l.states))
+invariant-loop-state g l = (done : List (List ℕ)) × (done ++ l.state-iterator ≡ l.states.keys) × Appends (g.W.Sink.held l.initial.writer) (g.W.Sink.held l.writer) (flat_map (state_line l.places) done)

@@ -5,7 +5,8 @@ use Rattle.slices.proofs.piece.find.Goals as goal
 
 pub returns : goal.returns
 returns c =
-    let counted = rw (c.work-2.ensures, c.deref.ensures.value) at c.in_ok-counter.ensures in
+    let counted = rw (c.work-2.ensures, c.deref.ensures.value) at c.in_ok-count.ensures in
     let observed = rw (c.condition.ensures, c.listed.ensures) at c.in_ok-places.ensures in
-    let value = rw c.in_ok-share.ensures at c.new.ensures.value in
-    finds c.args.work.now c.test-test.result.now c.args.from c.args.to _ _ _ (c.test-test.ensures ∙ ap (λ (w : Task). w.test) c.work.ensures) counted observed value c.new.ensures.sorted c.new.ensures.in_order
+    let value = rw c.in_ok-share.ensures at c.new.ensures in
+    let e = c.in_ok-totals.ensures in
+    finds c.args.work.now c.test-test.result.now c.args.from c.args.to _ _ c.in_ok-totals.totals _ (c.test-test.ensures ∙ ap (λ (w : Task). w.test) c.work.ensures) counted observed (record { positive = e.positive; negative = e.negative; states = e.states; flags = e.flags; sorted = e.sorted; in_order = e.in_order }) value

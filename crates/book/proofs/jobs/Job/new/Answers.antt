@@ -12,7 +12,7 @@ invariant_of-result c =
     let size : c.size.result ≡ test_size c.args.work.test = c.size.ensures.size ∙ ap (λ (w : Task). test_size w.test) c.work-2.ensures in
     let C : ℕ → Type 0 = λ n. IsCut n c.in_ok-slices.slices.items in
     let P : Results → Type 0 = λ r. IsTied r c.in_ok-slices.slices.items in
-    subst P (sym c.in_ok-tally.ensures) (fresh_tied c.args.work c.in_ok-slices.slices.items (subst C size c.in_ok-slices.ensures) c.requires)
+    record { tied = subst P (sym c.in_ok-tally.ensures) (fresh_tied c.args.work c.in_ok-slices.slices.items (subst C size c.in_ok-slices.ensures) c.requires); kept = tt }
 
 pub returns-clause-cut : goal.returns-clause-cut
 returns-clause-cut c =

@@ -1,8 +1,9 @@
 use Rattle.std.proofs.Common.{◌≡◌, ◌∙◌, ap, sym, subst, Some}
-use Rattle.std.specs.Prelude.{slice_get}
+use Rattle.std.specs.Prelude.{slice_get, IfSome}
 use Rattle.slices.specs.Parts.{Portion}
-use Rattle.slices.specs.Tallies.{span_of}
+use Rattle.slices.specs.Tallies.{Results, span_of}
 use Rattle.book.specs.Jobs.{Job, marked}
+use Rattle.book.specs.Results.{IsVerdictOn}
 use Rattle.book.specs.Step.{HasRange}
 use Rattle.book.proofs.Results.{here_range, marked_again, apart, merged_tied, merged_shown}
 use Rattle.book.proofs.jobs.Job.take.Goals as goal
@@ -25,7 +26,7 @@ merge-requires-clause-apart c =
     let place : c.slice-place.result ≡ p.slice = c.slice-place.ensures ∙ ap (λ (q : Portion). q.slice) c.piece.ensures in
     let R : Job → Type 0 = λ j. HasRange (slice_get j.slices p.slice) p.from p.to in
     let at = here_range c.self.inside.slices.items p.slice c.slice-place.result p.from p.to x place (subst R (sym c.self.view_is) c.requires.range) c.index-slice.ensures in
-    apart c.self.inside.tally c.self.inside.slices.items p.slice x (span_of c.args.part) c.self.invariant at.0 c.if-slice.false (sym at.1) (sym at.2)
+    apart c.self.inside.tally c.self.inside.slices.items p.slice x (span_of c.args.part) c.self.invariant.tied at.0 c.if-slice.false (sym at.1) (sym at.2)
 
 pub invariant_of-self : goal.invariant_of-self
 invariant_of-self c =
@@ -34,7 +35,9 @@ invariant_of-self c =
     let place : c.slice-place.result ≡ p.slice = c.slice-place.ensures ∙ ap (λ (q : Portion). q.slice) c.piece.ensures in
     let R : Job → Type 0 = λ j. HasRange (slice_get j.slices p.slice) p.from p.to in
     let at = here_range c.self.inside.slices.items p.slice c.slice-place.result p.from p.to x place (subst R (sym c.self.view_is) c.requires.range) c.index-slice.ensures in
-    merged_tied c.self.inside.tally c.merge.new.self c.self.inside.slices.items p.slice c.slice-place.result x (span_of c.args.part) c.self.invariant at.0 place (sym at.1) (sym at.2) c.in-Ok.ensures.merged
+    let tied = merged_tied c.self.inside.tally c.merge.new.self c.self.inside.slices.items p.slice c.slice-place.result x (span_of c.args.part) c.self.invariant.tied at.0 place (sym at.1) (sym at.2) c.in-Ok.ensures.merged in
+    let K : Results → Type 0 = λ r. IfSome c.self.inside.verdict (IsVerdictOn r.work c.self.inside.version) in
+    record { tied = tied; kept = subst K (sym c.in-Ok.ensures.merged) c.self.invariant.kept }
 
 pub returns-clause-ok : goal.returns-clause-ok
 returns-clause-ok c =

@@ -6,4 +6,4 @@ use Rattle.book.proofs.jobs.Job.verdict.Goals as goal
 pub verdict-requires : goal.verdict-requires
 verdict-requires c =
     let P : Job → Type 0 = λ j. is_done j ≡ true in
-    all_covered c.self.inside.tally c.self.inside.slices.items c.self.invariant (subst P (sym c.self.view_is) c.requires)
+    all_covered c.self.inside.tally c.self.inside.slices.items c.self.invariant.tied (subst P (sym c.self.view_is) c.requires)

@@ -11,4 +11,4 @@ invariant_of-result c =
     let test : c.test-test.result.now ≡ c.args.work.test = c.test-test.ensures ∙ ap (λ (w : Task). w.test) c.work-2.ensures in
     let O : Litmus → Type 0 = λ t. AreObserved t.condition t.listed places in
     let observed = rw (c.condition.ensures, c.listed.ensures) at c.in_ok-_places.ensures in
-    tally_none c.args.work.test c.args.work.model.items places c.new.result.items c.new-2.result (subst O test observed) c.new.ensures.items c.new-2.ensures.positive c.new-2.ensures.negative c.new-2.ensures.states c.new-2.ensures.flags
+    tally_none c.args.work.test c.args.work.model.items places c.new-2.result.items c.in_ok-sum.sum (subst O test observed) c.new-2.ensures.items c.in_ok-sum.ensures.positive c.in_ok-sum.ensures.negative c.in_ok-sum.ensures.states c.in_ok-sum.ensures.flags
