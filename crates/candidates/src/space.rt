@@ -174,12 +174,12 @@ impl Space {
         find(alloc, self, number)
     }
 
-    /// A walk over the executions at the numbers from `from` to `to - 1`.
-    pub fn walk(&self, alloc: Global, from: u64, to: u64) -> Result<Walk<'_>, AllocError>
+    /// A walk over the executions at the numbers from `from` to `to - 1`. To begin one takes no memory.
+    pub fn walk(&self, alloc: Global, from: u64, to: u64) -> Walk<'_>
         requires order { from ≤ to }
         requires within { to ≤ size_of self.now }
-        ensures { IfOk result (λ w. w ≡ record { space = self.now; next = from; to = to; shown = no_execution }) }
+        ensures { result ≡ record { space = self.now; next = from; to = to; shown = no_execution } }
     {
-        Ok(Walk::new(alloc, self, from, to))
+        Walk::new(alloc, self, from, to)
     }
 }

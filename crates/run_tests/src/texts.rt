@@ -166,10 +166,8 @@ fn count_on(alloc: Global, space: &Space, walk: &mut Walk) -> Result<u64, AllocE
 
 /// How many executions a walk over a whole space finds so.
 fn count_walked(alloc: Global, space: &Space) -> Result<u64, AllocError> {
-    match again!(_, space.walk(alloc, 0, space.size())) {
-        Ok(mut walk) => count_on(alloc, space, &mut walk),
-        Err(fault) => Err(fault),
-    }
+    let mut walk = space.walk(alloc, 0, space.size());
+    count_on(alloc, space, &mut walk)
 }
 
 /// A text, then a part some times, then an end.
