@@ -52,9 +52,9 @@ pub fn count(
         (IsCountOf work.now.test work.now.model.items places.now (executions_in work.now.test from to)) }
 {
     let slots = slots(alloc, work.test(), places)?;
-    let plan = Plan::of(alloc, work.model())?;
+    let mut plan = Plan::of(alloc, work.model())?;
     let mut counter = Counter::new(alloc);
-    let mut walk = space.walk(alloc, from, to)?;
+    let mut walk = space.walk(alloc, from, to);
     let mut structure = EventStructure::of(alloc, walk.graph())?;
     while walk.next(alloc)?.is_some() {
         let graph = walk.graph();

@@ -9,23 +9,24 @@ use Rattle.slices.proofs.counter.count.Goals as goal
 
 pub loop-structure-init : goal.loop-structure-init
 loop-structure-init c =
-    let is = c.in_ok-walk.ensures in
+    let is = c.walk-walk.ensures in
     record {
-      counted = walked_none_yet c.args.work.now.test c.args.work.now.model.items c.args.places.now c.args.from c.args.to c.in_ok-walk.walk c.new-counter.result
+      counted = walked_none_yet c.args.work.now.test c.args.work.now.model.items c.args.places.now c.args.from c.args.to c.walk-walk.result c.new-counter.result
           (ap (λ (w : Walking). w.space) is ∙ c.requires.space) (ap (λ (w : Walking). w.next) is) (ap (λ (w : Walking). w.to) is)
           c.new-counter.ensures.positive c.new-counter.ensures.negative c.new-counter.ensures.states c.new-counter.ensures.flags;
       slots = c.in_ok-slots.ensures ∙ ap (λ t. map (slot_of t) c.args.places.now) c.test.ensures;
+      plan = c.in_ok-plan.ensures ∙ ap (λ m. m.items) c.model.ensures;
     }
 
 pub weigh-requires-clause-allowed : goal.weigh-requires-clause-allowed
 weigh-requires-clause-allowed c =
     let P : List Clause → Type 0 = λ items. IsTrue c.in_ok-judgement.judgement.allowed ↔ Allowed items c.graph-graph.result.now in
-    subst P (c.in_ok-plan.ensures ∙ ap (λ m. m.items) c.model.ensures) c.in_ok-judgement.ensures.allowed
+    subst P c.loop-structure.invariant.plan c.in_ok-judgement.ensures.allowed
 
 pub weigh-requires-clause-flags : goal.weigh-requires-clause-flags
 weigh-requires-clause-flags c =
     let P : List Clause → Type 0 = λ items. Lists (λ name. Allowed items c.graph-graph.result.now × Raised items c.graph-graph.result.now name) c.in_ok-judgement.judgement.flags in
-    subst P (c.in_ok-plan.ensures ∙ ap (λ m. m.items) c.model.ensures) c.in_ok-judgement.ensures.flags
+    subst P c.loop-structure.invariant.plan c.in_ok-judgement.ensures.flags
 
 pub loop-structure-preserved : goal.loop-structure-preserved
 loop-structure-preserved c =
@@ -34,6 +35,7 @@ loop-structure-preserved c =
     record {
       counted = walked_some c.args.work.now.test c.args.work.now.model.items c.args.places.now c.args.from c.args.to hit.0 c.loop-structure.walk c.next.new.self c.graph-graph.result.now c.loop-structure.counter c.weigh.new.self inv.counted hit.1 c.graph-graph.ensures c.in_ok-weigh.ensures;
       slots = inv.slots;
+      plan = c.judge_next.ensures.plan ∙ inv.plan;
     }
 
 pub returns : goal.returns

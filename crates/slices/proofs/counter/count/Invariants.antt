@@ -10,4 +10,5 @@ abbrev pub invariant-loop-structure : goal.invariant-loop-structure
 invariant-loop-structure l = record {
   counted : IsUnderWay l.work.test l.work.model.items l.places l.from l.to l.walk l.counter;
   slots : l.slots.items ≡ map (slot_of l.work.test) l.places;
+  plan : l.plan ≡ l.work.model.items;
 }
