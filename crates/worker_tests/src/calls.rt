@@ -1,6 +1,6 @@
 //! The calls of a session beside workers, and what its receipts tell.
 
-ghost use Rattle.std.specs.Prelude.{◌≡◌, IfSome, All};
+ghost use Rattle.std.specs.Prelude.{◌≡◌, ◌≤◌, IfSome, All, length};
 
 use book::{Command, Reply, Said, Text};
 use sessions::{Desk, Pass};
@@ -176,6 +176,7 @@ pub fn alternates<L: Ledger>(pass: &Pass<L>) -> bool {
 pub fn take_last<L: Ledger>(passes: &mut Vec<Pass<L>>) -> Option<Pass<L>>
     requires { All (λ p. p.parts ≡ 1) passes.old.items }
     ensures rest { All (λ p. p.parts ≡ 1) passes.new.items }
+    ensures fewer { length passes.new.items ≤ length passes.old.items }
     ensures last { IfSome result (λ p. p.parts ≡ 1) }
 {
     passes.pop()

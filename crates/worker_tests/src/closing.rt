@@ -4,7 +4,7 @@ ghost use Rattle.std.specs.Prelude.{◌≡◌, ◌≤◌, All, length};
 
 use crate::calls::{Call, alternates, last_reply, made, put_back, take_last};
 use crate::gates::Holding;
-use crate::running::{LIMITS, asked, shows, total_of, workers_closed};
+use crate::running::{LIMITS, asked, ended, shows, workers_closed};
 use book::{Refusal, Reply};
 use sessions::{Desk, Pass, open};
 use std::alloc::{AllocError, Global};
@@ -81,24 +81,34 @@ fn run<L: Ledger + Send + Sync, R: Threads + Wait + Clock + Sync>(
     requires { (blank.name ≡ L.name) × (blank.parts ≡ L.parts) × (blank.parts ≡ 4) }
 {
     let (desk, mut passes) = open::<L>(alloc, blank, LIMITS, 4)?;
-    let Some(mut session) = take_last(&mut passes) else {
-        return Ok(false);
-    };
-    let Some(other) = take_last(&mut passes) else {
-        return Ok(false);
-    };
-    if !asked(rt, alloc, &desk, &mut session) || passes.len() > 64 {
-        return Ok(false);
+    match (take_last(&mut passes), take_last(&mut passes)) {
+        (Some(session), Some(other)) => held(rt, alloc, desk, passes, session, other),
+        _ => Ok(false),
     }
+}
+
+fn held<L: Ledger + Send + Sync, R: Threads + Wait + Clock + Sync>(
+    rt: &R,
+    alloc: Global,
+    desk: Desk<L>,
+    passes: Vec<Pass<L>>,
+    mut session: Pass<L>,
+    other: Pass<L>,
+) -> Result<bool, AllocError>
+    requires shares { All (λ p. p.parts ≡ 1) passes.items }
+    requires few { length passes.items ≤ 64 }
+    requires session { session.parts ≡ 1 }
+    requires other { other.parts ≡ 1 }
+{
+    let asked = asked(rt, alloc, &desk, &mut session);
     let gate = Holding::new(rt);
     let (mut passes, report, session) = beside(rt, alloc, &desk, passes, session, &gate);
-    let ended = passes.iter().all(|p| alternates(p) && ends_closed(p));
-    put_back(&mut passes, session)?;
-    put_back(&mut passes, other)?;
+    let closed = passes.iter().all(|p| alternates(p) && ends_closed(p));
     let held = gate.entered.load(Ordering::SeqCst);
     let missed = gate.missed.load(Ordering::SeqCst);
-    let outcome = total_of(desk, passes, &report, ended, missed);
-    Ok(held > 0 && shows(Some(outcome), None, held))
+    put_back(&mut passes, other)?;
+    let outcome = ended(desk, passes, session, &report, asked && closed, missed)?;
+    Ok(held > 0 && shows(outcome, None, held))
 }
 
 fn closes_while_held<R: Threads + Wait + Clock + Sync>(

@@ -79,26 +79,37 @@ fn run_refused<L: Ledger, R: Wait>(
     requires { (blank.name ≡ L.name) × (blank.parts ≡ L.parts) × (blank.parts ≡ 2) }
 {
     let (desk, mut passes) = open::<L>(alloc, blank, LIMITS, 2)?;
-    let Some(mut session) = take_last(&mut passes) else {
-        return Ok(None);
-    };
-    let Some(mut pass) = take_last(&mut passes) else {
-        return Ok(None);
-    };
-    let _ = ask_often(rt, alloc, &desk, &mut session, jobs);
+    match (take_last(&mut passes), take_last(&mut passes)) {
+        (Some(mut session), Some(mut pass)) => {
+            let _ = ask_often(rt, alloc, &desk, &mut session, jobs);
+            Ok(Some(worked(rt, alloc, &desk, &mut pass, refused)))
+        }
+        _ => Ok(None),
+    }
+}
+
+fn worked<L: Ledger, R: Wait>(
+    rt: &R,
+    alloc: Global,
+    desk: &Desk<L>,
+    pass: &mut Pass<L>,
+    refused: u64,
+) -> Done
+    requires { pass.old.parts ≡ 1 }
+{
     let calls = Refusing {
-        desk: &desk,
+        desk,
         made: AtomicU64::new(0),
         refused,
     };
-    work(rt, alloc, Form::UntilIdle, &calls, &Open, 0, &mut pass);
+    work(rt, alloc, Form::UntilIdle, &calls, &Open, 0, pass);
     let counts = pass.counts();
-    Ok(Some((
+    (
         counts.evaluated,
         counts.given_back,
         counts.refused,
         pass.receipts().len(),
-    )))
+    )
 }
 
 fn done_under<R: Wait>(

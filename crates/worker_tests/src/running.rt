@@ -67,7 +67,7 @@ pub fn asked<L: Ledger, R: Wait>(rt: &R, alloc: Global, desk: &Desk<L>, pass: &m
     put && asked
 }
 
-pub fn total_of<L: Ledger>(
+fn total_of<L: Ledger>(
     desk: Desk<L>,
     passes: Vec<Pass<L>>,
     report: &Report,
@@ -103,18 +103,29 @@ fn run_idle<L: Ledger + Send + Sync, R: Threads + Wait + Clock + Sync>(
     requires { (blank.name ≡ L.name) × (blank.parts ≡ L.parts) × (blank.parts ≡ 3) }
 {
     let (desk, mut passes) = open::<L>(alloc, blank, LIMITS, 3)?;
-    let Some(mut session) = take_last(&mut passes) else {
-        return Ok(None);
-    };
-    if !asked(rt, alloc, &desk, &mut session) || passes.len() > 64 {
-        return Ok(None);
+    match take_last(&mut passes) {
+        Some(session) => idle_beside(rt, alloc, desk, passes, session),
+        None => Ok(None),
     }
+}
+
+fn idle_beside<L: Ledger + Send + Sync, R: Threads + Wait + Clock + Sync>(
+    rt: &R,
+    alloc: Global,
+    desk: Desk<L>,
+    mut passes: Vec<Pass<L>>,
+    mut session: Pass<L>,
+) -> Result<Option<Outcome>, AllocError>
+    requires shares { All (λ p. p.parts ≡ 1) passes.items }
+    requires few { length passes.items ≤ 64 }
+    requires one { session.parts ≡ 1 }
+{
+    let asked = asked(rt, alloc, &desk, &mut session);
     let gate = Meeting::new(rt, 2);
     let report = work_until_idle(rt, alloc, &desk, &mut passes, &gate);
     let alternate = passes.iter().all(|p| alternates(p));
-    put_back(&mut passes, session)?;
     let missed = gate.missed.load(Ordering::SeqCst);
-    Ok(Some(total_of(desk, passes, &report, alternate, missed)))
+    ended(desk, passes, session, &report, asked && alternate, missed)
 }
 
 /// The last pass asks, polls and closes once it has the verdict; the others are workers until then.
@@ -126,18 +137,45 @@ fn run_closed<L: Ledger + Send + Sync, R: Threads + Wait + Clock + Sync>(
     requires { (blank.name ≡ L.name) × (blank.parts ≡ L.parts) × (blank.parts ≡ 3) }
 {
     let (desk, mut passes) = open::<L>(alloc, blank, LIMITS, 3)?;
-    let Some(mut session) = take_last(&mut passes) else {
-        return Ok(None);
-    };
-    if !asked(rt, alloc, &desk, &mut session) || passes.len() > 64 {
-        return Ok(None);
+    match take_last(&mut passes) {
+        Some(session) => closed_beside(rt, alloc, desk, passes, session),
+        None => Ok(None),
     }
+}
+
+fn closed_beside<L: Ledger + Send + Sync, R: Threads + Wait + Clock + Sync>(
+    rt: &R,
+    alloc: Global,
+    desk: Desk<L>,
+    passes: Vec<Pass<L>>,
+    mut session: Pass<L>,
+) -> Result<Option<Outcome>, AllocError>
+    requires shares { All (λ p. p.parts ≡ 1) passes.items }
+    requires few { length passes.items ≤ 64 }
+    requires one { session.parts ≡ 1 }
+{
+    let asked = asked(rt, alloc, &desk, &mut session);
     let gate = Meeting::new(rt, 2);
-    let (mut passes, report, session) = both(rt, alloc, &desk, passes, session, &gate);
+    let (passes, report, session) = both(rt, alloc, &desk, passes, session, &gate);
     let alternate = passes.iter().all(|p| alternates(p));
-    put_back(&mut passes, session)?;
     let missed = gate.missed.load(Ordering::SeqCst);
-    Ok(Some(total_of(desk, passes, &report, alternate, missed)))
+    ended(desk, passes, session, &report, asked && alternate, missed)
+}
+
+/// The session's pass stands with the others again, and the desk is closed.
+pub fn ended<L: Ledger>(
+    desk: Desk<L>,
+    mut passes: Vec<Pass<L>>,
+    session: Pass<L>,
+    report: &Report,
+    alternate: bool,
+    missed: u64,
+) -> Result<Option<Outcome>, AllocError>
+    requires shares { All (λ p. p.parts ≡ 1) passes.items }
+    requires one { session.parts ≡ 1 }
+{
+    put_back(&mut passes, session)?;
+    Ok(Some(total_of(desk, passes, report, alternate, missed)))
 }
 
 /// The workers in a thread, and the session in this one. Each takes its passes by value, and gives them back.

@@ -186,20 +186,45 @@ fn run<L: Ledger + Send + Sync, R: Threads + Wait + Clock + Sync>(
     requires { (blank.name ≡ L.name) × (blank.parts ≡ L.parts) × (blank.parts ≡ 4) }
 {
     let (desk, mut passes) = open::<L>(alloc, blank, LIMITS, 4)?;
-    let Some(second) = take_last(&mut passes) else {
-        return Ok(None);
-    };
-    let Some(first) = take_last(&mut passes) else {
-        return Ok(None);
-    };
-    if passes.len() > 64 {
+    match (take_last(&mut passes), take_last(&mut passes)) {
+        (Some(second), Some(first)) => run_all(rt, alloc, desk, passes, first, second),
+        _ => Ok(None),
+    }
+}
+
+fn run_all<L: Ledger + Send + Sync, R: Threads + Wait + Clock + Sync>(
+    rt: &R,
+    alloc: Global,
+    desk: Desk<L>,
+    workers: Vec<Pass<L>>,
+    first: Pass<L>,
+    second: Pass<L>,
+) -> Result<Option<Outcome>, AllocError>
+    requires shares { All (λ p. p.parts ≡ 1) workers.items }
+    requires few { length workers.items ≤ 64 }
+    requires first { first.parts ≡ 1 }
+    requires second { second.parts ≡ 1 }
+{
+    let (mut passes, first, second, told) = all(rt, alloc, &desk, workers, first, second);
+    let alternate = passes.iter().all(|p| alternates(p));
+    if put_both(&mut passes, first, second).is_err() {
         return Ok(None);
     }
-    let (mut passes, first, second, told) = all(rt, alloc, &desk, passes, first, second);
-    let alternate = passes.iter().all(|p| alternates(p));
-    put_back(&mut passes, first)?;
-    put_back(&mut passes, second)?;
     Ok(Some(ended(desk, passes, alternate, told)))
+}
+
+fn put_both<L: Ledger>(
+    passes: &mut Vec<Pass<L>>,
+    first: Pass<L>,
+    second: Pass<L>,
+) -> Result<(), AllocError>
+    requires all { All (λ p. p.parts ≡ 1) passes.old.items }
+    requires one { first.parts ≡ 1 }
+    requires other { second.parts ≡ 1 }
+    ensures { All (λ p. p.parts ≡ 1) passes.new.items }
+{
+    put_back(passes, first)?;
+    put_back(passes, second)
 }
 
 fn two_and_two<R: Threads + Wait + Clock + Sync>(
