@@ -9,6 +9,7 @@ use Rattle.cat_eval.specs.Operators.{IsUnion, IsIntersection, IsDifference, IsCo
 use Rattle.cat_eval.specs.Meaning.{Made, MadeOfTwo, Means, Lies}
 use Rattle.cat_eval.specs.Steps.{IsOver}
 use Rattle.cat_eval.proofs.Values as values
+use Rattle.cat_eval.proofs.Values.{union_operator, intersection_operator, difference_operator, sequence_operator, product_operator, complement_operator, plus_operator, star_operator, optional_operator, inverse_operator, domain_operator, range_operator, identity_operator}
 
 left : {X : Type 0} (P : X → Type 0) (xs ys : List X) → All P (xs ++ ys) → All P xs
 left P [] ys h = All-nil P
@@ -28,19 +29,19 @@ two_over n A B Op f over v h = over h.left h.right v (f h.left h.given_left) h.m
 
 -- A value of an expression is one over the events of the names' values.
 pub means_over : (n : ℕ) (E : Word → Value → Type 0) → ((x : Word) (v : Value) → E x v → IsOver n v) → (a : Term) (v : Value) → Means n E a v → IsOver n v
-means_over n E f (union a b) v h = two_over n (Means n E a) (Means n E b) IsUnion (means_over n E f a) (values.union_over n) v h
-means_over n E f (intersection a b) v h = two_over n (Means n E a) (Means n E b) IsIntersection (means_over n E f a) (values.intersection_over n) v h
-means_over n E f (difference a b) v h = two_over n (Means n E a) (Means n E b) IsDifference (means_over n E f a) (values.difference_over n) v h
-means_over n E f (sequence a b) v h = two_over n (Means n E a) (Means n E b) IsSequence (means_over n E f a) (values.sequence_over n) v h
-means_over n E f (product a b) v h = two_over n (Means n E a) (Means n E b) IsProduct (means_over n E f a) (values.product_over n) v h
-means_over n E f (complement a) v h = one_over n (Means n E a) IsComplement (means_over n E f a) (values.complement_over n) v h
-means_over n E f (plus a) v h = one_over n (Means n E a) IsPlus (means_over n E f a) (values.plus_over n) v h
-means_over n E f (star a) v h = one_over n (Means n E a) IsStar (means_over n E f a) (values.star_over n) v h
-means_over n E f (optional a) v h = one_over n (Means n E a) IsOptional (means_over n E f a) (values.optional_over n) v h
-means_over n E f (inverse a) v h = one_over n (Means n E a) IsInverse (means_over n E f a) (values.inverse_over n) v h
-means_over n E f (domain a) v h = one_over n (Means n E a) IsDomain (means_over n E f a) (values.domain_over n) v h
-means_over n E f (range a) v h = one_over n (Means n E a) IsRange (means_over n E f a) (values.range_over n) v h
-means_over n E f (identity a) v h = one_over n (Means n E a) IsIdentity (means_over n E f a) (values.identity_over n) v h
+means_over n E f (union a b) v h = two_over n (Means n E a) (Means n E b) IsUnion (means_over n E f a) (union_operator.over n) v h
+means_over n E f (intersection a b) v h = two_over n (Means n E a) (Means n E b) IsIntersection (means_over n E f a) (intersection_operator.over n) v h
+means_over n E f (difference a b) v h = two_over n (Means n E a) (Means n E b) IsDifference (means_over n E f a) (difference_operator.over n) v h
+means_over n E f (sequence a b) v h = two_over n (Means n E a) (Means n E b) IsSequence (means_over n E f a) (sequence_operator.over n) v h
+means_over n E f (product a b) v h = two_over n (Means n E a) (Means n E b) IsProduct (means_over n E f a) (product_operator.over n) v h
+means_over n E f (complement a) v h = one_over n (Means n E a) IsComplement (means_over n E f a) (complement_operator.over n) v h
+means_over n E f (plus a) v h = one_over n (Means n E a) IsPlus (means_over n E f a) (plus_operator.over n) v h
+means_over n E f (star a) v h = one_over n (Means n E a) IsStar (means_over n E f a) (star_operator.over n) v h
+means_over n E f (optional a) v h = one_over n (Means n E a) IsOptional (means_over n E f a) (optional_operator.over n) v h
+means_over n E f (inverse a) v h = one_over n (Means n E a) IsInverse (means_over n E f a) (inverse_operator.over n) v h
+means_over n E f (domain a) v h = one_over n (Means n E a) IsDomain (means_over n E f a) (domain_operator.over n) v h
+means_over n E f (range a) v h = one_over n (Means n E a) IsRange (means_over n E f a) (range_operator.over n) v h
+means_over n E f (identity a) v h = one_over n (Means n E a) IsIdentity (means_over n E f a) (identity_operator.over n) v h
 means_over n E f (name x) v h = f x v h
 means_over n E f empty_relation v h = values.relation_over n n (λ i j. ⊥) v refl h
 means_over n E f empty_set v h = values.set_over n n (λ i. ⊥) v refl h
@@ -63,23 +64,23 @@ two_same A C B D Op f g one v w h k =
 pub same : (n : ℕ) (E F : Word → Value → Type 0) (P : Word → Type 0) → ((x : Word) → P x → (v w : Value) → E x v → F x w → v ≡ w) →
     (a : Term) → All P (names a) → (v w : Value) → Means n E a v → Means n F a w → v ≡ w
 same n E F P f (union a b) h v w =
-    two_same (Means n E a) (Means n F a) (Means n E b) (Means n F b) IsUnion (same n E F P f a (left P (names a) (names b) h)) (same n E F P f b (right P (names a) (names b) h)) values.union_one v w
+    two_same (Means n E a) (Means n F a) (Means n E b) (Means n F b) IsUnion (same n E F P f a (left P (names a) (names b) h)) (same n E F P f b (right P (names a) (names b) h)) union_operator.one v w
 same n E F P f (intersection a b) h v w =
-    two_same (Means n E a) (Means n F a) (Means n E b) (Means n F b) IsIntersection (same n E F P f a (left P (names a) (names b) h)) (same n E F P f b (right P (names a) (names b) h)) values.intersection_one v w
+    two_same (Means n E a) (Means n F a) (Means n E b) (Means n F b) IsIntersection (same n E F P f a (left P (names a) (names b) h)) (same n E F P f b (right P (names a) (names b) h)) intersection_operator.one v w
 same n E F P f (difference a b) h v w =
-    two_same (Means n E a) (Means n F a) (Means n E b) (Means n F b) IsDifference (same n E F P f a (left P (names a) (names b) h)) (same n E F P f b (right P (names a) (names b) h)) values.difference_one v w
+    two_same (Means n E a) (Means n F a) (Means n E b) (Means n F b) IsDifference (same n E F P f a (left P (names a) (names b) h)) (same n E F P f b (right P (names a) (names b) h)) difference_operator.one v w
 same n E F P f (sequence a b) h v w =
-    two_same (Means n E a) (Means n F a) (Means n E b) (Means n F b) IsSequence (same n E F P f a (left P (names a) (names b) h)) (same n E F P f b (right P (names a) (names b) h)) values.sequence_one v w
+    two_same (Means n E a) (Means n F a) (Means n E b) (Means n F b) IsSequence (same n E F P f a (left P (names a) (names b) h)) (same n E F P f b (right P (names a) (names b) h)) sequence_operator.one v w
 same n E F P f (product a b) h v w =
-    two_same (Means n E a) (Means n F a) (Means n E b) (Means n F b) IsProduct (same n E F P f a (left P (names a) (names b) h)) (same n E F P f b (right P (names a) (names b) h)) values.product_one v w
-same n E F P f (complement a) h v w = one_same (Means n E a) (Means n F a) IsComplement (same n E F P f a h) values.complement_one v w
-same n E F P f (plus a) h v w = one_same (Means n E a) (Means n F a) IsPlus (same n E F P f a h) values.plus_one v w
-same n E F P f (star a) h v w = one_same (Means n E a) (Means n F a) IsStar (same n E F P f a h) values.star_one v w
-same n E F P f (optional a) h v w = one_same (Means n E a) (Means n F a) IsOptional (same n E F P f a h) values.optional_one v w
-same n E F P f (inverse a) h v w = one_same (Means n E a) (Means n F a) IsInverse (same n E F P f a h) values.inverse_one v w
-same n E F P f (domain a) h v w = one_same (Means n E a) (Means n F a) IsDomain (same n E F P f a h) values.domain_one v w
-same n E F P f (range a) h v w = one_same (Means n E a) (Means n F a) IsRange (same n E F P f a h) values.range_one v w
-same n E F P f (identity a) h v w = one_same (Means n E a) (Means n F a) IsIdentity (same n E F P f a h) values.identity_one v w
+    two_same (Means n E a) (Means n F a) (Means n E b) (Means n F b) IsProduct (same n E F P f a (left P (names a) (names b) h)) (same n E F P f b (right P (names a) (names b) h)) product_operator.one v w
+same n E F P f (complement a) h v w = one_same (Means n E a) (Means n F a) IsComplement (same n E F P f a h) complement_operator.one v w
+same n E F P f (plus a) h v w = one_same (Means n E a) (Means n F a) IsPlus (same n E F P f a h) plus_operator.one v w
+same n E F P f (star a) h v w = one_same (Means n E a) (Means n F a) IsStar (same n E F P f a h) star_operator.one v w
+same n E F P f (optional a) h v w = one_same (Means n E a) (Means n F a) IsOptional (same n E F P f a h) optional_operator.one v w
+same n E F P f (inverse a) h v w = one_same (Means n E a) (Means n F a) IsInverse (same n E F P f a h) inverse_operator.one v w
+same n E F P f (domain a) h v w = one_same (Means n E a) (Means n F a) IsDomain (same n E F P f a h) domain_operator.one v w
+same n E F P f (range a) h v w = one_same (Means n E a) (Means n F a) IsRange (same n E F P f a h) range_operator.one v w
+same n E F P f (identity a) h v w = one_same (Means n E a) (Means n F a) IsIdentity (same n E F P f a h) identity_operator.one v w
 same n E F P f (name x) h v w = f x (All-head P x [] h) v w
 same n E F P f empty_relation h v w = values.one_relation_value n (λ i j. ⊥) v w
 same n E F P f empty_set h v w = values.one_set_value n (λ i. ⊥) v w
@@ -109,29 +110,29 @@ pub record Grow (n : ℕ) (E F : Word → Value → Type 0) (P : Word → Type 0
 pub grows : (n : ℕ) (E F : Word → Value → Type 0) (P : Word → Type 0) → Grow n E F P → (a : Term) → All P (denied_names a) → (v w : Value) → Means n E a v → Means n F a w → Lies v w
 grows n E F P g (union a b) h v w =
     two_grow n (Means n E a) (Means n F a) (Means n E b) (Means n F b) Lies IsUnion (means_over n E g.over a) (means_over n F g.over_more a)
-    (grows n E F P g a (left P (denied_names a) (denied_names b) h)) (grows n E F P g b (right P (denied_names a) (denied_names b) h)) (values.union_grows n) v w
+    (grows n E F P g a (left P (denied_names a) (denied_names b) h)) (grows n E F P g b (right P (denied_names a) (denied_names b) h)) (union_operator.grows n) v w
 grows n E F P g (intersection a b) h v w =
     two_grow n (Means n E a) (Means n F a) (Means n E b) (Means n F b) Lies IsIntersection (means_over n E g.over a) (means_over n F g.over_more a)
-    (grows n E F P g a (left P (denied_names a) (denied_names b) h)) (grows n E F P g b (right P (denied_names a) (denied_names b) h)) (values.intersection_grows n) v w
+    (grows n E F P g a (left P (denied_names a) (denied_names b) h)) (grows n E F P g b (right P (denied_names a) (denied_names b) h)) (intersection_operator.grows n) v w
 grows n E F P g (sequence a b) h v w =
     two_grow n (Means n E a) (Means n F a) (Means n E b) (Means n F b) Lies IsSequence (means_over n E g.over a) (means_over n F g.over_more a)
-    (grows n E F P g a (left P (denied_names a) (denied_names b) h)) (grows n E F P g b (right P (denied_names a) (denied_names b) h)) (values.sequence_grows n) v w
+    (grows n E F P g a (left P (denied_names a) (denied_names b) h)) (grows n E F P g b (right P (denied_names a) (denied_names b) h)) (sequence_operator.grows n) v w
 grows n E F P g (product a b) h v w =
     two_grow n (Means n E a) (Means n F a) (Means n E b) (Means n F b) Lies IsProduct (means_over n E g.over a) (means_over n F g.over_more a)
-    (grows n E F P g a (left P (denied_names a) (denied_names b) h)) (grows n E F P g b (right P (denied_names a) (denied_names b) h)) (values.product_grows n) v w
+    (grows n E F P g a (left P (denied_names a) (denied_names b) h)) (grows n E F P g b (right P (denied_names a) (denied_names b) h)) (product_operator.grows n) v w
 grows n E F P g (difference a b) h v w =
     two_grow n (Means n E a) (Means n F a) (Means n E b) (Means n F b) (λ y z. Lies z y) IsDifference (means_over n E g.over a) (means_over n F g.over_more a)
     (grows n E F P g a (left P (denied_names a) (names b) h))
     (λ y z m k. values.lies_same z y (sym (same n E F P g.keeps b (right P (denied_names a) (names b) h) y z m k)))
-    (values.difference_grows n) v w
+    (difference_operator.grows n) v w
 grows n E F P g (complement a) h v w = λ m k. values.lies_same v w (same n E F P g.keeps (complement a) h v w m k)
-grows n E F P g (plus a) h v w = one_grows n (Means n E a) (Means n F a) IsPlus (means_over n E g.over a) (means_over n F g.over_more a) (grows n E F P g a h) (values.plus_grows n) v w
-grows n E F P g (star a) h v w = one_grows n (Means n E a) (Means n F a) IsStar (means_over n E g.over a) (means_over n F g.over_more a) (grows n E F P g a h) (values.star_grows n) v w
-grows n E F P g (optional a) h v w = one_grows n (Means n E a) (Means n F a) IsOptional (means_over n E g.over a) (means_over n F g.over_more a) (grows n E F P g a h) (values.optional_grows n) v w
-grows n E F P g (inverse a) h v w = one_grows n (Means n E a) (Means n F a) IsInverse (means_over n E g.over a) (means_over n F g.over_more a) (grows n E F P g a h) (values.inverse_grows n) v w
-grows n E F P g (domain a) h v w = one_grows n (Means n E a) (Means n F a) IsDomain (means_over n E g.over a) (means_over n F g.over_more a) (grows n E F P g a h) (values.domain_grows n) v w
-grows n E F P g (range a) h v w = one_grows n (Means n E a) (Means n F a) IsRange (means_over n E g.over a) (means_over n F g.over_more a) (grows n E F P g a h) (values.range_grows n) v w
-grows n E F P g (identity a) h v w = one_grows n (Means n E a) (Means n F a) IsIdentity (means_over n E g.over a) (means_over n F g.over_more a) (grows n E F P g a h) (values.identity_grows n) v w
+grows n E F P g (plus a) h v w = one_grows n (Means n E a) (Means n F a) IsPlus (means_over n E g.over a) (means_over n F g.over_more a) (grows n E F P g a h) (plus_operator.grows n) v w
+grows n E F P g (star a) h v w = one_grows n (Means n E a) (Means n F a) IsStar (means_over n E g.over a) (means_over n F g.over_more a) (grows n E F P g a h) (star_operator.grows n) v w
+grows n E F P g (optional a) h v w = one_grows n (Means n E a) (Means n F a) IsOptional (means_over n E g.over a) (means_over n F g.over_more a) (grows n E F P g a h) (optional_operator.grows n) v w
+grows n E F P g (inverse a) h v w = one_grows n (Means n E a) (Means n F a) IsInverse (means_over n E g.over a) (means_over n F g.over_more a) (grows n E F P g a h) (inverse_operator.grows n) v w
+grows n E F P g (domain a) h v w = one_grows n (Means n E a) (Means n F a) IsDomain (means_over n E g.over a) (means_over n F g.over_more a) (grows n E F P g a h) (domain_operator.grows n) v w
+grows n E F P g (range a) h v w = one_grows n (Means n E a) (Means n F a) IsRange (means_over n E g.over a) (means_over n F g.over_more a) (grows n E F P g a h) (range_operator.grows n) v w
+grows n E F P g (identity a) h v w = one_grows n (Means n E a) (Means n F a) IsIdentity (means_over n E g.over a) (means_over n F g.over_more a) (grows n E F P g a h) (identity_operator.grows n) v w
 grows n E F P g (name x) h v w = g.lies x v w
 grows n E F P g empty_relation h v w = λ m k. values.lies_same v w (values.one_relation_value n (λ i j. ⊥) v w m k)
 grows n E F P g empty_set h v w = λ m k. values.lies_same v w (values.one_set_value n (λ i. ⊥) v w m k)
