@@ -5,3 +5,5 @@ pub mod Standing
 pub mod Adding
 pub mod Made
 pub mod Structures
+pub mod Bases
+pub mod Exact

@@ -85,14 +85,23 @@ pub addr_named : (g : Execution) (t : Relation) → IsExactly (event_count g) (�
 unfolding NamedRel
 addr_named g t m = record { count = m.count; only = λ i j x. absurd (m.only i j x); all = λ i j a b z. absurd z.4; canonical = m.canonical }
 
+-- from each read to the write that it reads from
+pub turned_named : (g : Execution) (r t : Relation) → IsExactly (event_count g) (NamedRel g Rf) r → IsExactly r.count (λ i j. In r j i) t → IsExactly (event_count g) (λ i j. NamedRel g Rf j i) t
+turned_named g r t h m = record {
+  count = m.count ∙ h.count;
+  only = λ i j x. h.only j i (m.only i j x);
+  all = λ i j a b z. m.all i j (omega (arith, a, h.count)) (omega (arith, b, h.count)) (h.all j i b a z);
+  canonical = m.canonical;
+}
+
 -- the row of co behind the write that a read reads from
-pub fr_named : (g : Execution) (r s t u : Relation) → IsGraph g → IsExactly (event_count g) (NamedRel g Rf) r → IsExactly (event_count g) (NamedRel g Co) s →
-    IsExactly r.count (λ i j. In r j i) t → IsExactly t.count (Through t.count (In t) (In s)) u → IsExactly (event_count g) (NamedRel g Fr) u
+pub fr_named : (g : Execution) (s t u : Relation) → IsGraph g → IsExactly (event_count g) (λ i j. NamedRel g Rf j i) t → IsExactly (event_count g) (NamedRel g Co) s →
+    IsExactly t.count (Through t.count (In t) (In s)) u → IsExactly (event_count g) (NamedRel g Fr) u
 unfolding NamedRel
-fr_named g r s t u graph h k l m = record {
-  count = m.count ∙ l.count ∙ h.count;
+fr_named g s t u graph l k m = record {
+  count = m.count ∙ l.count;
   only = λ i j x. (let y : Through t.count (In t) (In s) i j = m.only i j x in
-      let p : NamedRel g Rf y.0 i = h.only y.0 i (l.only i y.0 y.2) in
+      let p : NamedRel g Rf y.0 i = l.only i y.0 y.2 in
       let q : NamedRel g Co y.0 j = k.only y.0 j y.3 in
       let P : EventId → Type 0 = λ w. IsCoherenceBefore g w q.1 in
       (p.1, q.1, p.3, q.3, (p.0, p.4, subst P (one_stands (event_names g) y.0 q.0 p.0 q.2 p.2) q.4)));
@@ -100,10 +109,10 @@ fr_named g r s t u graph h k l m = record {
       let from : ReadsFrom g before.0 z.0 = before.1 in
       let w : (i : ℕ) × IsNumber g i before.0 = has_number g before.0 (all_at (IsNamed g.init g.runs) g.rf from.0 before.0 graph.rf from.2) in
       let n : w.0 < event_count g = number_below g w.0 before.0 w.1 in
-      m.all i j (omega (arith, a, l.count, h.count)) (omega (arith, b, l.count, h.count)) (
+      m.all i j (omega (arith, a, l.count)) (omega (arith, b, l.count)) (
         w.0,
-        omega (arith, n, l.count, h.count),
-        l.all i w.0 (omega (arith, a, h.count)) (omega (arith, n, h.count)) (h.all w.0 i n a (before.0, z.0, w.1, z.2, from)),
+        omega (arith, n, l.count),
+        l.all i w.0 a n (before.0, z.0, w.1, z.2, from),
         k.all w.0 j n b (before.0, z.1, w.1, z.3, before.2),
       ));
   canonical = m.canonical;

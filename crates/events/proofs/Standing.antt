@@ -1,5 +1,5 @@
 -- What stands at a place of a list.
-use Rattle.std.proofs.Common.{◌≡◌, ℕ, zero, suc, ◌<◌, ◌↔◌, List, [], ◌∷◌, length, get_or, sym, ◌∙◌, subst, arith, IsTrue, Bool}
+use Rattle.std.proofs.Common.{◌≡◌, ℕ, zero, suc, ◌<◌, ◌↔◌, List, [], ◌∷◌, length, get_or, refl, sym, ◌∙◌, subst, arith, IsTrue, Bool}
 use Rattle.std.proofs.lemmas.Bool.{}
 use Rattle.events.specs.declared.event.EventId.{EventId}
 use Rattle.events.specs.declared.named.SetName.{SetName}
@@ -21,6 +21,10 @@ stands_or (y ∷ xs) (suc i) d x l e = stands_or xs i d x (omega (arith, l)) e
 -- what is read at a place stands there
 pub stands_read : {X : Type 0} (xs ys : List X) (i : ℕ) (x : X) → xs ≡ ys → i < length xs → x ≡ get_or xs i x → StandsAt ys i x
 stands_read {X} xs ys i x e l h = let P : List X → Type 0 = λ zs. StandsAt zs i x in subst P e (stands xs i x l h)
+
+-- the same of an element that is read by its index
+pub stands_index : {X : Type 0} (xs ys : List X) (i : ℕ) (d : X) → xs ≡ ys → i < length xs → StandsAt ys i (get_or xs i d)
+stands_index {X} xs ys i d e l = let P : List X → Type 0 = λ zs. StandsAt zs i (get_or xs i d) in subst P e (stands_or xs i d (get_or xs i d) l refl)
 
 -- what an iterator gives at a place, as another value of the same
 pub stands_item : {X : Type 0} (xs ys : List X) (i : ℕ) (x y : X) → xs ≡ ys → i < length xs → x ≡ get_or xs i x → y ≡ x → StandsAt ys i y

@@ -1,3 +1,4 @@
+pub mod Bases
 pub mod Examples
 pub mod Executions
 pub mod Named

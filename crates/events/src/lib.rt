@@ -10,6 +10,6 @@ mod view;
 
 pub use event::{Access, Event, EventId, Order, no_places};
 pub use graph::{Coherence, Graph, GraphParts};
-pub use named::{RelName, SetName};
+pub use named::{Basis, RelName, SetName};
 pub use run::{Run, copy_events, copy_runs};
-pub use view::{EventStructure, GraphView};
+pub use view::{GraphView, SourcedStructure};

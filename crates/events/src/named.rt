@@ -1,5 +1,8 @@
 //! The names that a cat model can use without binding them.
 
+ghost use Rattle.std.specs.Prelude.{◌≡◌};
+ghost use Rattle.events.specs.Bases.{basis_of};
+
 /// A named set of events. `IW` and `I` are two names of one set, and so of one variant. The sign `_`, for all
 /// events, is an expression of its own and has no variant.
 #[derive(Clone, Copy, Debug, PartialEq, Eq)]
@@ -73,4 +76,38 @@ pub enum RelName {
     Addr,
     /// `id`: each event with itself.
     Id,
+}
+
+/// What a named relation rests on; each includes those before it.
+#[derive(Clone, Copy, Debug, PartialEq, Eq)]
+pub enum Basis {
+    /// The initial values and the runs of the threads alone.
+    Runs,
+    /// The read-from map, too.
+    Sources,
+    /// The coherence orders, too.
+    Orders,
+}
+
+impl RelName {
+    /// What the relation of this name rests on.
+    pub fn basis(self) -> Basis
+        ensures { result ≡ basis_of self }
+    {
+        match self {
+            RelName::Po
+            | RelName::Int
+            | RelName::Ext
+            | RelName::Loc
+            | RelName::PoLoc
+            | RelName::Rmw
+            | RelName::Data
+            | RelName::Ctrl
+            | RelName::Addr
+            | RelName::Id => Basis::Runs,
+            RelName::Rf | RelName::Rfi | RelName::Rfe => Basis::Sources,
+            RelName::Co | RelName::Fr | RelName::Coi | RelName::Fri | RelName::Coe | RelName::Fre =>
+                Basis::Orders,
+        }
+    }
 }

@@ -4,50 +4,53 @@ ghost use Rattle.std.specs.Prelude.{◌≡◌, ◌≤◌, IfOk};
 ghost use Rattle.relations.specs.Events.{IsExactlySet};
 ghost use Rattle.relations.specs.Relation.{IsExactly};
 ghost use Rattle.events.specs.Named.{event_count, NamedSet, NamedRel};
-ghost use Rattle.events.specs.Structures.{structure_of};
+ghost use Rattle.events.specs.Structures.{structure_of, sourced_of};
+ghost use Rattle.events.specs.declared.named.RelName.TheVariants as names;
 
 use crate::graph::Graph;
 use crate::named::{RelName, SetName};
 use relations::{Rel, Set};
 use std::alloc::{AllocError, Global};
+use std::borrow::Cow;
 use std::marker::Model;
 
 mod facts;
 mod names;
 mod numbered;
 mod rows;
+mod sourced;
 mod structure;
 mod table;
 
 use numbered::Numbered;
-pub use structure::EventStructure;
+pub use sourced::SourcedStructure;
+use structure::EventStructure;
 use table::Pairwise;
 
 /// An execution with its events numbered: the initial writes in the order of locations, then thread by thread
 /// in program order.
 #[derive(Drop)]
 pub struct GraphView<'a> {
-    numbered: Numbered<'a>,
-    // What several names are made of, each worked out once.
-    po: Rel,
-    int: Rel,
-    loc: Rel,
-    rf: Rel,
+    graph: &'a Graph,
+    // What it has in common with the executions that differ in their coherence orders alone.
+    sourced: Cow<'a, SourcedStructure>,
     co: Rel,
-    fr: Rel,
 }
 
 impl<'a> Model for GraphView<'a> {
+    ghost use Rattle.std.specs.Prelude.{◌≡◌};
+    ghost use Rattle.std.specs.Cow.{cow_value};
     ghost use Rattle.relations.specs.Relation.{IsExactly};
     ghost use Rattle.events.specs.Executions.{Execution};
     ghost use Rattle.events.specs.Named.{event_count, NamedRel};
+    ghost use Rattle.events.specs.Structures.{sourced_of};
     ghost use Rattle.events.specs.declared.named.RelName.TheVariants as names;
 
     ghost Value = { Execution };
 
-    ghost view = { λ v. v.numbered };
+    ghost view = { λ v. v.graph.now };
 
-    ghost invariant = { λ v. record { po : IsExactly (event_count v.numbered) (NamedRel v.numbered names.Po) v.po; int : IsExactly (event_count v.numbered) (NamedRel v.numbered names.Int) v.int; loc : IsExactly (event_count v.numbered) (NamedRel v.numbered names.Loc) v.loc; rf : IsExactly (event_count v.numbered) (NamedRel v.numbered names.Rf) v.rf; co : IsExactly (event_count v.numbered) (NamedRel v.numbered names.Co) v.co; fr : IsExactly (event_count v.numbered) (NamedRel v.numbered names.Fr) v.fr } };
+    ghost invariant = { λ v. record { sourced : cow_value v.sourced ≡ sourced_of v.graph.now; co : IsExactly (event_count v.graph.now) (NamedRel v.graph.now names.Co) v.co } };
 }
 
 impl<'a> GraphView<'a> {
@@ -55,31 +58,25 @@ impl<'a> GraphView<'a> {
     pub fn of(alloc: Global, graph: &'a Graph) -> Result<Self, AllocError>
         ensures { IfOk result (λ v. v ≡ graph.entry.now) }
     {
-        let structure = EventStructure::of(alloc, graph)?;
-        GraphView::over(alloc, &structure, graph)
+        let sourced = SourcedStructure::of(alloc, graph)?;
+        let co = sourced.numbered(graph).coherence();
+        Ok(GraphView {
+            graph,
+            sourced: Cow::Owned(sourced),
+            co,
+        })
     }
 
-    /// The view of an execution with this structure.
-    pub fn over(
-        alloc: Global,
-        structure: &EventStructure,
-        graph: &'a Graph,
-    ) -> Result<Self, AllocError>
-        requires { structure.now ≡ structure_of graph.now }
-        ensures { IfOk result (λ v. v ≡ graph.entry.now) }
+    /// The view of an execution over what it has in common with others, which is lent. It takes no memory.
+    pub fn over(sourced: &'a SourcedStructure, graph: &'a Graph) -> Self
+        requires { sourced.now ≡ sourced_of graph.now }
+        ensures { result ≡ graph.entry.now }
     {
-        let numbered = structure.numbered(alloc, graph)?;
-        let rf = numbered.reads_from();
-        let co = numbered.coherence();
-        Ok(GraphView {
-            po: structure.po.copy(),
-            int: structure.int.copy(),
-            loc: structure.loc.copy(),
-            fr: numbered.from_reads(&rf, &co),
-            rf,
-            co,
-            numbered,
-        })
+        GraphView {
+            graph,
+            sourced: Cow::Borrowed(sourced),
+            co: sourced.numbered(graph).coherence(),
+        }
     }
 
     /// How many events there are.
@@ -87,14 +84,14 @@ impl<'a> GraphView<'a> {
         ensures is { result ≡ event_count self.now }
         ensures few { event_count self.now ≤ 64 }
     {
-        self.numbered.count()
+        self.numbered().count()
     }
 
     /// The set of this name.
     pub fn set(&self, name: SetName) -> Set
         ensures { IsExactlySet (event_count self.now) (NamedSet self.now name) result }
     {
-        self.numbered.set(name)
+        self.numbered().set(name)
     }
 
     /// The relation of this name.
@@ -111,25 +108,109 @@ impl<'a> GraphView<'a> {
         ensures { IsExactly (event_count self.now) (NamedRel self.now name) into.new }
     {
         match name {
-            RelName::Po => into.become_copy(&self.po),
-            RelName::Int => into.become_copy(&self.int),
-            RelName::Ext => into.become_complement(&self.int),
-            RelName::Loc => into.become_copy(&self.loc),
-            RelName::PoLoc => into.become_inter(&self.po, &self.loc),
-            RelName::Rf => into.become_copy(&self.rf),
-            RelName::Co => into.become_copy(&self.co),
-            RelName::Fr => into.become_copy(&self.fr),
-            RelName::Rfi => into.become_inter(&self.rf, &self.int),
-            RelName::Coi => into.become_inter(&self.co, &self.int),
-            RelName::Fri => into.become_inter(&self.fr, &self.int),
-            RelName::Rfe => into.become_minus(&self.rf, &self.int),
-            RelName::Coe => into.become_minus(&self.co, &self.int),
-            RelName::Fre => into.become_minus(&self.fr, &self.int),
-            RelName::Rmw => *into = self.numbered.tested(Pairwise::Rmw),
-            RelName::Data => *into = self.numbered.tested(Pairwise::Data),
-            RelName::Ctrl => *into = self.numbered.tested(Pairwise::Ctrl),
+            RelName::Po => into.become_copy(self.po()),
+            RelName::Int => into.become_copy(self.int()),
+            RelName::Ext => into.become_complement(self.int()),
+            RelName::Loc => into.become_copy(self.loc()),
+            RelName::PoLoc => into.become_inter(self.po(), self.loc()),
+            RelName::Rf => into.become_copy(self.rf()),
+            RelName::Co => into.become_copy(self.co()),
+            RelName::Fr => self.fr_into(into),
+            RelName::Rfi => into.become_inter(self.rf(), self.int()),
+            RelName::Coi => into.become_inter(self.co(), self.int()),
+            RelName::Fri => {
+                self.fr_into(into);
+                into.inter_with(self.int());
+            }
+            RelName::Rfe => into.become_minus(self.rf(), self.int()),
+            RelName::Coe => into.become_minus(self.co(), self.int()),
+            RelName::Fre => {
+                self.fr_into(into);
+                into.minus_with(self.int());
+            }
+            RelName::Rmw => *into = self.numbered().tested(Pairwise::Rmw),
+            RelName::Data => *into = self.numbered().tested(Pairwise::Data),
+            RelName::Ctrl => *into = self.numbered().tested(Pairwise::Ctrl),
             RelName::Addr => into.become_empty(self.count()),
             RelName::Id => into.become_id(self.count()),
         }
+    }
+
+    // Writes `fr`: from each read the events behind the write that it reads from.
+    fn fr_into(&self, into: &mut Rel)
+        ensures { IsExactly (event_count self.now) (NamedRel self.now names.Fr) into.new }
+    {
+        // They tell that what is read from is an event.
+        let _ = self.graph.runs();
+        into.become_seq(self.turned(), self.co());
+    }
+
+    // What it has in common with the executions that differ in their coherence orders alone.
+    fn sourced(&self) -> &SourcedStructure
+        ensures { result.now ≡ sourced_of self.now }
+    {
+        self.sourced.as_ref()
+    }
+
+    // What it has in common with the executions that have the same runs.
+    fn structure(&self) -> &EventStructure
+        ensures { result.now ≡ structure_of self.now }
+    {
+        let kept = self.sourced();
+        &kept.structure
+    }
+
+    // The events, numbered.
+    fn numbered(&self) -> Numbered<'_>
+        ensures { result ≡ self.now }
+    {
+        self.structure().numbered(self.graph)
+    }
+
+    // `po`.
+    fn po(&self) -> &Rel
+        ensures { IsExactly (event_count self.now) (NamedRel self.now names.Po) result.now }
+    {
+        let kept = self.structure();
+        &kept.po
+    }
+
+    // `int`.
+    fn int(&self) -> &Rel
+        ensures { IsExactly (event_count self.now) (NamedRel self.now names.Int) result.now }
+    {
+        let kept = self.structure();
+        &kept.int
+    }
+
+    // `loc`.
+    fn loc(&self) -> &Rel
+        ensures { IsExactly (event_count self.now) (NamedRel self.now names.Loc) result.now }
+    {
+        let kept = self.structure();
+        &kept.loc
+    }
+
+    // `rf`.
+    fn rf(&self) -> &Rel
+        ensures { IsExactly (event_count self.now) (NamedRel self.now names.Rf) result.now }
+    {
+        let kept = self.sourced();
+        &kept.rf
+    }
+
+    // `co`.
+    fn co(&self) -> &Rel
+        ensures { IsExactly (event_count self.now) (NamedRel self.now names.Co) result.now }
+    {
+        &self.co
+    }
+
+    // `rf`, turned.
+    fn turned(&self) -> &Rel
+        ensures { IsExactly (event_count self.now) (λ i j. NamedRel self.now names.Rf j i) result.now }
+    {
+        let kept = self.sourced();
+        &kept.turned
     }
 }

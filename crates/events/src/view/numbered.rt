@@ -1,28 +1,27 @@
 //! The events of an execution by their numbers, and what is tested of each or of each two.
 
-ghost use Rattle.std.specs.Prelude.{◌≡◌, ◌+◌, ◌<◌, ◌≤◌, ◌↔◌, IsTrue, IfOk};
+ghost use Rattle.std.specs.Prelude.{◌≡◌, ◌+◌, ◌<◌, ◌≤◌, ◌↔◌, length, IsTrue};
+ghost use Rattle.listings.specs.Lists.{StandsAt};
 ghost use Rattle.relations.specs.Events.{IsExactlySet};
 ghost use Rattle.relations.specs.Relation.{IsExactly};
-ghost use Rattle.events.specs.Named.{event_count, NamedSet, NamedRel};
+ghost use Rattle.events.specs.Named.{event_count, event_names, read_names, IsNumber, NamedSet, NamedRel};
 ghost use Rattle.events.specs.Rows.{name_of};
 
-use super::names::{event_names, read_names};
 use super::table::Pairwise;
 use crate::event::EventId;
 use crate::graph::Graph;
 use crate::named::SetName;
 use relations::{Rel, Set};
-use std::alloc::{AllocError, Global};
 use std::marker::Model;
 
-/// An execution with its events numbered.
+/// An execution with its events numbered. It holds none of them, and takes no memory.
 #[derive(Drop)]
 pub(super) struct Numbered<'a> {
     pub(super) graph: &'a Graph,
     // The events by their numbers.
-    pub(super) events: Vec<EventId>,
+    pub(super) events: &'a [EventId],
     // The reads among them, in the same order.
-    pub(super) reads: Vec<EventId>,
+    pub(super) reads: &'a [EventId],
 }
 
 impl<'a> Model for Numbered<'a> {
@@ -34,21 +33,23 @@ impl<'a> Model for Numbered<'a> {
 
     ghost view = { λ v. v.graph.now };
 
-    ghost invariant = { λ v. record { events : v.events.items ≡ event_names v.graph.now; reads : v.reads.items ≡ read_names v.graph.now; count : length v.events.items ≡ event_count v.graph.now; few : event_count v.graph.now ≤ 64 } };
+    ghost invariant = { λ v. record { events : v.events.now ≡ event_names v.graph.now; reads : v.reads.now ≡ read_names v.graph.now; count : length v.events.now ≡ event_count v.graph.now; few : event_count v.graph.now ≤ 64 } };
 }
 
 impl<'a> Numbered<'a> {
-    /// The events of an execution, numbered.
-    pub(super) fn of(alloc: Global, graph: &'a Graph) -> Result<Self, AllocError>
-        ensures { IfOk result (λ v. v ≡ graph.entry.now) }
+    /// An execution whose events and reads these are.
+    pub(super) fn new(graph: &'a Graph, events: &'a [EventId], reads: &'a [EventId]) -> Self
+        requires events { events.now ≡ event_names graph.now }
+        requires reads { reads.now ≡ read_names graph.now }
+        ensures { result ≡ graph.entry.now }
     {
-        let events = event_names(alloc, graph)?;
-        let reads = read_names(alloc, graph, &events)?;
-        Ok(Numbered {
+        // They tell that the events are few.
+        let _ = graph.runs();
+        Numbered {
             graph,
             events,
             reads,
-        })
+        }
     }
 
     /// How many events there are.
@@ -104,7 +105,7 @@ impl<'a> Numbered<'a> {
         requires { number < event_count self.now }
         ensures { IsTrue result ↔ NamedSet self.now name number }
     {
-        self.is_in(name, self.events[number])
+        self.is_in(name, self.event(number))
     }
 
     // Is the pair of the events with these numbers in the relation?
@@ -113,6 +114,24 @@ impl<'a> Numbered<'a> {
         requires to { to < event_count self.now }
         ensures { IsTrue result ↔ NamedRel self.now (name_of name) from to }
     {
-        self.is_related(name, self.events[from], self.events[to])
+        self.is_related(name, self.event(from), self.event(to))
+    }
+
+    // The event with this number.
+    fn event(&self, number: usize) -> EventId
+        requires { number < event_count self.now }
+        ensures { IsNumber self.now number result }
+    {
+        let _ = &self.events;
+        self.events[number]
+    }
+
+    /// The read at this place among the reads.
+    pub(super) fn read(&self, place: usize) -> EventId
+        requires { place < length (read_names self.now) }
+        ensures { StandsAt (read_names self.now) place result }
+    {
+        let _ = &self.reads;
+        self.reads[place]
     }
 }

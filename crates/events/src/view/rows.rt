@@ -3,7 +3,7 @@
 ghost use Rattle.std.specs.Prelude.{◌≡◌, ◌<◌, ◌⊎◌, ℕ, length, MatchOption};
 ghost use Rattle.relations.specs.Events.{Has, IsExactlySet};
 ghost use Rattle.relations.specs.Relation.{In, IsExactly};
-ghost use Rattle.events.specs.declared.named.RelName.TheVariants.{Rf, Co, Fr};
+ghost use Rattle.events.specs.declared.named.RelName.TheVariants.{Rf, Co};
 ghost use Rattle.events.specs.Named.{IsNumber, event_count, NamedRel, StandsBefore, read_names};
 ghost use Rattle.events.specs.Rows.{ByNumbers, IsReadAt};
 
@@ -37,17 +37,6 @@ impl Numbered<'_> {
         rel
     }
 
-    /// `fr`: the events behind the write that a read reads from.
-    pub(super) fn from_reads(&self, rf: &Rel, co: &Rel) -> Rel
-        requires rf { IsExactly (event_count self.now) (NamedRel self.now Rf) rf.now }
-        requires co { IsExactly (event_count self.now) (NamedRel self.now Co) co.now }
-        ensures { IsExactly (event_count self.now) (NamedRel self.now Fr) result }
-    {
-        // They tell that what is read from is an event.
-        let _ = self.graph.runs();
-        rf.inverse().seq(co)
-    }
-
     // Adds the pair of the read with this number among the reads and the write that it reads from.
     #[tactic(auto, using(crate::proofs::Adding::read_more, crate::proofs::Adding::no_read_more, crate::proofs::Standing::stands_read))]
     fn relate_read(&self, rel: &mut Rel, read: usize)
@@ -58,7 +47,7 @@ impl Numbered<'_> {
         let _ = rel.count();
         let sources = self.graph.rf();
         if read < sources.len() {
-            self.relate(rel, sources[read], self.reads[read]);
+            self.relate(rel, sources[read], self.read(read));
         }
     }
 
@@ -112,7 +101,7 @@ impl Numbered<'_> {
         ensures { MatchOption result ((i : ℕ) → ¬ IsNumber self.now i event) (λ i. IsNumber self.now i event) }
     {
         for number in 0..self.events.len() {
-            if stands_at(self.events.as_slice(), number, event) {
+            if stands_at(self.events, number, event) {
                 return Some(number);
             }
         }

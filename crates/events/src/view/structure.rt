@@ -1,8 +1,9 @@
 //! Event structures.
 
-ghost use Rattle.std.specs.Prelude.{◌≡◌, ◌↔◌, IfOk, IsTrue, OnOk, OnErr};
+ghost use Rattle.std.specs.Prelude.{◌≡◌, ◌↔◌, IfOk, IsTrue};
 ghost use Rattle.events.specs.Structures.{structure_of};
 
+use super::names::{event_names, read_names};
 use super::numbered::Numbered;
 use super::table::Pairwise;
 use crate::event::EventId;
@@ -13,9 +14,9 @@ use std::alloc::{AllocError, Global};
 use std::marker::Model;
 
 /// An execution without its read-from map and its coherence orders: the initial values, the runs of the threads, and what
-/// these alone tell. It is worked out once for all executions that have it.
+/// these alone tell.
 #[derive(Drop)]
-pub struct EventStructure {
+pub(super) struct EventStructure {
     init: Vec<u32>,
     runs: Vec<Run>,
     // The events by their numbers, and the reads among them.
@@ -27,7 +28,7 @@ pub struct EventStructure {
 }
 
 impl Model for EventStructure {
-    ghost use Rattle.std.specs.Prelude.{◌≡◌, ◌≤◌, length};
+    ghost use Rattle.std.specs.Prelude.{◌≡◌};
     ghost use Rattle.relations.specs.Relation.{IsExactly};
     ghost use Rattle.events.specs.Named.{event_names, event_count, read_names, NamedRel};
     ghost use Rattle.events.specs.Structures.{Structure, bare};
@@ -38,57 +39,40 @@ impl Model for EventStructure {
     ghost view = { λ s. record { init = s.init.items; runs = s.runs.items } };
 
     ghost invariant = { λ s. let g = bare (record { init = s.init.items; runs = s.runs.items }) in
-        record { events : s.events.items ≡ event_names g; reads : s.reads.items ≡ read_names g; count : length s.events.items ≡ event_count g; few : event_count g ≤ 64; po : IsExactly (event_count g) (NamedRel g names.Po) s.po; int : IsExactly (event_count g) (NamedRel g names.Int) s.int; loc : IsExactly (event_count g) (NamedRel g names.Loc) s.loc } };
+        record { events : s.events.items ≡ event_names g; reads : s.reads.items ≡ read_names g; po : IsExactly (event_count g) (NamedRel g names.Po) s.po; int : IsExactly (event_count g) (NamedRel g names.Int) s.int; loc : IsExactly (event_count g) (NamedRel g names.Loc) s.loc } };
 }
 
 impl EventStructure {
     /// The structure of an execution.
-    pub fn of(alloc: Global, graph: &Graph) -> Result<Self, AllocError>
+    pub(super) fn of(alloc: Global, graph: &Graph) -> Result<Self, AllocError>
         ensures { IfOk result (λ s. s ≡ structure_of graph.now) }
     {
-        let numbered = Numbered::of(alloc, graph)?;
+        let events = event_names(alloc, graph)?;
+        let reads = read_names(alloc, graph, &events)?;
+        let numbered = Numbered::new(graph, &events, &reads);
         Ok(EventStructure {
             init: Vec::from_slice(alloc, graph.init())?,
             runs: copy_runs(alloc, graph.runs())?,
             po: numbered.tested(Pairwise::Po),
             int: numbered.tested(Pairwise::Int),
             loc: numbered.tested(Pairwise::Loc),
-            events: numbered.events,
-            reads: numbered.reads,
+            events,
+            reads,
         })
     }
 
     /// Is it the structure of this execution?
-    pub fn is_of(&self, graph: &Graph) -> bool
+    pub(super) fn is_of(&self, graph: &Graph) -> bool
         ensures { IsTrue result ↔ (self.now ≡ structure_of graph.now) }
     {
         self.init.as_slice() == graph.init() && are_same_runs(&self.runs, graph.runs())
     }
 
-    /// Becomes the structure of an execution. It takes memory where it is another than before.
-    pub fn follow(&mut self, alloc: Global, graph: &Graph) -> Result<(), AllocError>
-        ensures done { OnOk result (self.new ≡ structure_of graph.now) }
-        ensures same { OnErr result (self.new ≡ self.old) }
-    {
-        if !self.is_of(graph) {
-            *self = EventStructure::of(alloc, graph)?;
-        }
-        Ok(())
-    }
-
-    // The events of an execution with this structure, numbered.
-    pub(super) fn numbered<'a>(
-        &self,
-        alloc: Global,
-        graph: &'a Graph,
-    ) -> Result<Numbered<'a>, AllocError>
+    /// The events of an execution with this structure, numbered.
+    pub(super) fn numbered<'a>(&'a self, graph: &'a Graph) -> Numbered<'a>
         requires { self.now ≡ structure_of graph.now }
-        ensures { IfOk result (λ v. v ≡ graph.entry.now) }
+        ensures { result ≡ graph.entry.now }
     {
-        Ok(Numbered {
-            graph,
-            events: Vec::from_slice(alloc, self.events.as_slice())?,
-            reads: Vec::from_slice(alloc, self.reads.as_slice())?,
-        })
+        Numbered::new(graph, &self.events, &self.reads)
     }
 }

@@ -1,55 +1,32 @@
-use Rattle.std.proofs.Common.{◌≡◌, ℕ, refl, subst}
+use Rattle.std.proofs.Common.{◌≡◌, ℕ, subst}
 use Rattle.relations.specs.Relation.{IsExactly}
-use Rattle.events.specs.declared.named.RelName.TheVariants.{Po, Int, Ext, Loc, PoLoc, Rf, Co, Fr, Rfi, Coi, Fri, Rfe, Coe, Fre}
-use Rattle.events.proofs.Made.{both_named, first_named, ext_named, id_named, addr_named, copied}
+use Rattle.events.specs.declared.named.RelName.TheVariants.{Po, Int, Loc, PoLoc, Rf, Co, Fr, Rfi, Coi, Fri, Rfe, Coe, Fre}
+use Rattle.events.proofs.Made.{both_named, first_named, ext_named, id_named, addr_named}
 use Rattle.events.proofs.view.GraphView.rel_into.Goals as goal
 
 pub returns-in-Ext : goal.returns-in-Ext
-returns-in-Ext c =
-    let g = c.self.inside.numbered in
-    rw c.in-Ext.is (copied g c.args.self.now Ext _ _ c.self.view_is refl (ext_named g c.self.inside.int _ c.self.invariant.int c.become_complement.ensures))
+returns-in-Ext c = rw c.in-Ext.is (ext_named c.args.self.now _ _ c.int-in-Ext.ensures c.become_complement.ensures)
 
 pub returns-in-PoLoc : goal.returns-in-PoLoc
-returns-in-PoLoc c =
-    let g = c.self.inside.numbered in
-    rw c.in-PoLoc.is (copied g c.args.self.now PoLoc _ _ c.self.view_is refl
-    (both_named g Po Loc PoLoc c.self.inside.po c.self.inside.loc _ (λ d e p q. (p, q)) (λ d e p. p) c.self.invariant.po c.self.invariant.loc c.become_inter.ensures))
+returns-in-PoLoc c = rw c.in-PoLoc.is (both_named c.args.self.now Po Loc PoLoc _ _ _ (λ d e p q. (p, q)) (λ d e p. p) c.po-in-PoLoc.ensures c.loc-in-PoLoc.ensures c.become_inter.ensures)
 
 pub returns-in-Rfi : goal.returns-in-Rfi
-returns-in-Rfi c =
-    let g = c.self.inside.numbered in
-    rw c.in-Rfi.is (copied g c.args.self.now Rfi _ _ c.self.view_is refl
-    (both_named g Rf Int Rfi c.self.inside.rf c.self.inside.int _ (λ d e p q. (p, q)) (λ d e p. p) c.self.invariant.rf c.self.invariant.int c.become_inter-in-Rfi.ensures))
+returns-in-Rfi c = rw c.in-Rfi.is (both_named c.args.self.now Rf Int Rfi _ _ _ (λ d e p q. (p, q)) (λ d e p. p) c.rf-in-Rfi.ensures c.int-in-Rfi.ensures c.become_inter-in-Rfi.ensures)
 
 pub returns-in-Coi : goal.returns-in-Coi
-returns-in-Coi c =
-    let g = c.self.inside.numbered in
-    rw c.in-Coi.is (copied g c.args.self.now Coi _ _ c.self.view_is refl
-    (both_named g Co Int Coi c.self.inside.co c.self.inside.int _ (λ d e p q. (p, q)) (λ d e p. p) c.self.invariant.co c.self.invariant.int c.become_inter-in-Coi.ensures))
+returns-in-Coi c = rw c.in-Coi.is (both_named c.args.self.now Co Int Coi _ _ _ (λ d e p q. (p, q)) (λ d e p. p) c.co-in-Coi.ensures c.int-in-Coi.ensures c.become_inter-in-Coi.ensures)
 
 pub returns-in-Fri : goal.returns-in-Fri
-returns-in-Fri c =
-    let g = c.self.inside.numbered in
-    rw c.in-Fri.is (copied g c.args.self.now Fri _ _ c.self.view_is refl
-    (both_named g Fr Int Fri c.self.inside.fr c.self.inside.int _ (λ d e p q. (p, q)) (λ d e p. p) c.self.invariant.fr c.self.invariant.int c.become_inter-in-Fri.ensures))
+returns-in-Fri c = rw c.in-Fri.is (both_named c.args.self.now Fr Int Fri _ _ _ (λ d e p q. (p, q)) (λ d e p. p) c.fr_into-in-Fri.ensures c.int-in-Fri.ensures c.inter_with.ensures)
 
 pub returns-in-Rfe : goal.returns-in-Rfe
-returns-in-Rfe c =
-    let g = c.self.inside.numbered in
-    rw c.in-Rfe.is (copied g c.args.self.now Rfe _ _ c.self.view_is refl
-    (first_named g Rf Int Rfe c.self.inside.rf c.self.inside.int _ (λ d e p q. (p, q)) (λ d e p. p) c.self.invariant.rf c.self.invariant.int c.become_minus.ensures))
+returns-in-Rfe c = rw c.in-Rfe.is (first_named c.args.self.now Rf Int Rfe _ _ _ (λ d e p q. (p, q)) (λ d e p. p) c.rf-in-Rfe.ensures c.int-in-Rfe.ensures c.become_minus.ensures)
 
 pub returns-in-Coe : goal.returns-in-Coe
-returns-in-Coe c =
-    let g = c.self.inside.numbered in
-    rw c.in-Coe.is (copied g c.args.self.now Coe _ _ c.self.view_is refl
-    (first_named g Co Int Coe c.self.inside.co c.self.inside.int _ (λ d e p q. (p, q)) (λ d e p. p) c.self.invariant.co c.self.invariant.int c.become_minus-in-Coe.ensures))
+returns-in-Coe c = rw c.in-Coe.is (first_named c.args.self.now Co Int Coe _ _ _ (λ d e p q. (p, q)) (λ d e p. p) c.co-in-Coe.ensures c.int-in-Coe.ensures c.become_minus-in-Coe.ensures)
 
 pub returns-in-Fre : goal.returns-in-Fre
-returns-in-Fre c =
-    let g = c.self.inside.numbered in
-    rw c.in-Fre.is (copied g c.args.self.now Fre _ _ c.self.view_is refl
-    (first_named g Fr Int Fre c.self.inside.fr c.self.inside.int _ (λ d e p q. (p, q)) (λ d e p. p) c.self.invariant.fr c.self.invariant.int c.become_minus-in-Fre.ensures))
+returns-in-Fre c = rw c.in-Fre.is (first_named c.args.self.now Fr Int Fre _ _ _ (λ d e p q. (p, q)) (λ d e p. p) c.fr_into-in-Fre.ensures c.int-in-Fre.ensures c.minus_with.ensures)
 
 pub returns-in-Addr : goal.returns-in-Addr
 returns-in-Addr c =

@@ -10,4 +10,4 @@ loop-read-preserved c =
 pub returns : goal.returns
 returns c =
     let e = c.self.invariant.reads ∙ ap read_names c.self.view_is in
-    reads_done (event_count c.args.self.now) c.args.self.now c.loop-read.read c.loop-read.rel (omega (arith, ap length e, c.len-read-end.ensures, c.loop-read-test.false)) c.loop-read.invariant
+    reads_done (event_count c.args.self.now) c.args.self.now c.loop-read.read c.loop-read.rel (omega (arith, ap length e, c.loop-read-test.false)) c.loop-read.invariant

@@ -1,17 +1,14 @@
-use Rattle.std.proofs.Common.{◌∙◌, ap, length}
-use Rattle.events.proofs.Structures.{moved_names, moved_reads, moved_count, moved_few}
+use Rattle.std.proofs.Common.{◌∙◌}
 use Rattle.events.specs.Structures.{bare}
+use Rattle.events.proofs.Structures.{moved_names, moved_reads}
 use Rattle.events.proofs.view.structure.EventStructure.numbered.Goals as goal
 
-pub invariant_of-result : goal.invariant_of-result
-invariant_of-result c =
+pub new-requires-clause-events : goal.new-requires-clause-events
+new-requires-clause-events c =
     let g = bare (record { init = c.self.inside.init.items; runs = c.self.inside.runs.items }) in
-    let h = c.args.graph.now in
-    let e = c.self.view_is ∙ c.requires in
-    let copied = c.in_ok-from_slice.ensures.items ∙ c.as_slice.ensures.value in
-    record {
-      events = copied ∙ moved_names g h _ e c.self.invariant.events;
-      reads = c.in_ok-from_slice-2.ensures.items ∙ c.as_slice-2.ensures.value ∙ moved_reads g h _ e c.self.invariant.reads;
-      count = ap length copied ∙ moved_count g h _ e c.self.invariant.count;
-      few = moved_few g h e c.self.invariant.few;
-    }
+    c.deref.ensures.value ∙ moved_names g c.args.graph.now _ (c.self.view_is ∙ c.requires) c.self.invariant.events
+
+pub new-requires-clause-reads : goal.new-requires-clause-reads
+new-requires-clause-reads c =
+    let g = bare (record { init = c.self.inside.init.items; runs = c.self.inside.runs.items }) in
+    c.deref-2.ensures.value ∙ moved_reads g c.args.graph.now _ (c.self.view_is ∙ c.requires) c.self.invariant.reads

@@ -1,22 +1,29 @@
-use Rattle.std.proofs.Common.{◌≡◌, ◌∙◌, ap}
+use Rattle.std.proofs.Common.{◌≡◌, ◌∙◌, ap, List}
+use Rattle.std.specs.Prelude.{filter}
+use Rattle.events.specs.declared.event.EventId.{EventId}
+use Rattle.events.specs.Executions.{is_read}
+use Rattle.events.specs.Named.{read_names, access_of}
 use Rattle.events.specs.Structures.{structure_of, bare}
-use Rattle.events.proofs.Structures.{moved_names, moved_reads, moved_count, moved_few, moved_po, moved_int, moved_loc, same_structure}
+use Rattle.events.proofs.Structures.{moved_names, moved_reads, moved_po, moved_int, moved_loc, same_structure}
 use Rattle.events.proofs.view.structure.EventStructure.of.Goals as goal
 
+pub new-numbered-requires-clause-reads : goal.new-numbered-requires-clause-reads
+unfolding read_names
+new-numbered-requires-clause-reads c =
+    c.deref-3.ensures.value ∙ c.in_ok-reads.ensures
+    ∙ ap (λ (es : List EventId). filter (λ e. is_read (access_of c.args.graph.now e)) es) (c.deref.ensures.value ∙ c.in_ok-events.ensures.names)
+
 pub invariant_of-result : goal.invariant_of-result
+unfolding read_names
 invariant_of-result c =
-    let h = bare (record { init = c.in_ok-from_slice.field-0.items; runs = c.in_ok-copy_runs.field-0.items }) in
     let g = c.args.graph.now in
-    let m = c.in_ok-numbered.numbered in
-    let n = c.numbered.inside.graph.now in
+    let h = bare (record { init = c.in_ok-from_slice.field-0.items; runs = c.in_ok-copy_runs.field-0.items }) in
+    let m = c.new-numbered.result in
     let e : structure_of g ≡ structure_of h = same_structure g _ _ (c.in_ok-from_slice.ensures.items ∙ c.init.ensures) (c.in_ok-copy_runs.ensures ∙ c.runs.ensures.value) in
-    let d : structure_of m ≡ structure_of h = ap structure_of c.in_ok-numbered.ensures ∙ e in
-    let f : structure_of n ≡ structure_of h = ap structure_of c.numbered.view_is ∙ d in
+    let d : structure_of m ≡ structure_of h = ap structure_of c.new-numbered.ensures ∙ e in
     record {
-      events = moved_names n h _ f c.numbered.invariant.events;
-      reads = moved_reads n h _ f c.numbered.invariant.reads;
-      count = moved_count n h _ f c.numbered.invariant.count;
-      few = moved_few n h f c.numbered.invariant.few;
+      events = moved_names g h _ e c.in_ok-events.ensures.names;
+      reads = moved_reads g h _ e (c.in_ok-reads.ensures ∙ ap (λ (es : List EventId). filter (λ e. is_read (access_of g e)) es) (c.deref.ensures.value ∙ c.in_ok-events.ensures.names));
       po = moved_po m h _ d c.tested.ensures;
       int = moved_int m h _ d c.tested-2.ensures;
       loc = moved_loc m h _ d c.tested-3.ensures;

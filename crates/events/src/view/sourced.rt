@@ -1,0 +1,104 @@
+//! Executions without their coherence orders.
+
+ghost use Rattle.std.specs.Prelude.{◌≡◌, ◌↔◌, IfOk, IsTrue, OnOk, OnErr};
+ghost use Rattle.events.specs.Structures.{structure_of, sourced_of};
+ghost use Rattle.events.specs.declared.named.Basis.TheVariants.{Sources, Orders};
+
+use super::numbered::Numbered;
+use super::structure::EventStructure;
+use crate::event::EventId;
+use crate::graph::Graph;
+use crate::named::Basis;
+use relations::Rel;
+use std::alloc::{AllocError, Global};
+use std::marker::Model;
+
+/// An execution without its coherence orders: its event structure and its read-from map, with what these tell. It follows
+/// the executions, and what is the same isn't worked out again.
+#[derive(Drop)]
+pub struct SourcedStructure {
+    pub(super) structure: EventStructure,
+    sources: Vec<EventId>,
+    pub(super) rf: Rel,
+    // `rf` from each read to the write that it reads from.
+    pub(super) turned: Rel,
+}
+
+impl Model for SourcedStructure {
+    ghost use Rattle.relations.specs.Relation.{IsExactly};
+    ghost use Rattle.events.specs.Named.{event_count, NamedRel};
+    ghost use Rattle.events.specs.Structures.{Sourced, plain};
+    ghost use Rattle.events.specs.declared.named.RelName.TheVariants as names;
+
+    ghost Value = { Sourced };
+
+    ghost view = { λ s. record { structure = s.structure; rf = s.sources.items } };
+
+    ghost invariant = { λ s. let g = plain (record { structure = s.structure; rf = s.sources.items }) in
+        record { rf : IsExactly (event_count g) (NamedRel g names.Rf) s.rf; turned : IsExactly (event_count g) (λ i j. NamedRel g names.Rf j i) s.turned } };
+}
+
+impl SourcedStructure {
+    /// That of an execution.
+    pub fn of(alloc: Global, graph: &Graph) -> Result<Self, AllocError>
+        ensures { IfOk result (λ s. s ≡ sourced_of graph.now) }
+    {
+        let structure = EventStructure::of(alloc, graph)?;
+        let sources = Vec::from_slice(alloc, graph.rf())?;
+        let rf = structure.numbered(graph).reads_from();
+        Ok(SourcedStructure {
+            structure,
+            sources,
+            turned: rf.inverse(),
+            rf,
+        })
+    }
+
+    /// Becomes that of an execution, and tells what of it may be another than before: `Runs` if all may be, `Sources` if the
+    /// runs are the same, `Orders` if the read-from map is the same, too. It takes memory where it is another than before.
+    pub fn follow(&mut self, alloc: Global, graph: &Graph) -> Result<Basis, AllocError>
+        ensures done { OnOk result (self.new ≡ sourced_of graph.now) }
+        ensures runs { IfOk result (λ b. b ≡ Sources → self.new.structure ≡ self.old.structure) }
+        ensures all { IfOk result (λ b. b ≡ Orders → self.new ≡ self.old) }
+        ensures same { OnErr result (self.new ≡ self.old) }
+    {
+        if !self.structure.is_of(graph) {
+            *self = SourcedStructure::of(alloc, graph)?;
+            return Ok(Basis::Runs);
+        }
+        if !self.has_sources_of(graph) {
+            self.follow_sources(alloc, graph)?;
+            return Ok(Basis::Sources);
+        }
+        Ok(Basis::Orders)
+    }
+
+    /// The events of an execution of which it is, numbered.
+    pub(super) fn numbered<'a>(&'a self, graph: &'a Graph) -> Numbered<'a>
+        requires { self.now.structure ≡ structure_of graph.now }
+        ensures { result ≡ graph.entry.now }
+    {
+        self.structure.numbered(graph)
+    }
+
+    // Has it the read-from map of this execution?
+    fn has_sources_of(&self, graph: &Graph) -> bool
+        ensures { IsTrue result ↔ (self.now.rf ≡ graph.now.rf) }
+    {
+        self.sources.as_slice() == graph.rf()
+    }
+
+    // Takes over the read-from map of an execution with the same structure.
+    fn follow_sources(&mut self, alloc: Global, graph: &Graph) -> Result<(), AllocError>
+        requires { self.old.structure ≡ structure_of graph.now }
+        ensures done { OnOk result (self.new ≡ sourced_of graph.now) }
+        ensures same { OnErr result (self.new ≡ self.old) }
+    {
+        let sources = Vec::from_slice(alloc, graph.rf())?;
+        let rf = self.structure.numbered(graph).reads_from();
+        self.turned = rf.inverse();
+        self.rf = rf;
+        self.sources = sources;
+        Ok(())
+    }
+}
