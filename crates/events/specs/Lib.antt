@@ -1,6 +1,7 @@
 pub mod Bases
 pub mod Examples
 pub mod Executions
+pub mod Held
 pub mod Named
 pub mod Rows
 pub mod Structures

@@ -11,10 +11,10 @@ use crate::graph::Graph;
 use crate::named::{RelName, SetName};
 use relations::{Rel, Set};
 use std::alloc::{AllocError, Global};
-use std::borrow::Cow;
 use std::marker::Model;
 
 mod facts;
+mod held;
 mod names;
 mod numbered;
 mod rows;
@@ -22,6 +22,7 @@ mod sourced;
 mod structure;
 mod table;
 
+use held::Held;
 use numbered::Numbered;
 pub use sourced::SourcedStructure;
 use structure::EventStructure;
@@ -33,15 +34,15 @@ use table::Pairwise;
 pub struct GraphView<'a> {
     graph: &'a Graph,
     // What it has in common with the executions that differ in their coherence orders alone.
-    sourced: Cow<'a, SourcedStructure>,
+    held: Held<'a>,
     co: Rel,
 }
 
 impl<'a> Model for GraphView<'a> {
     ghost use Rattle.std.specs.Prelude.{◌≡◌};
-    ghost use Rattle.std.specs.Cow.{cow_value};
     ghost use Rattle.relations.specs.Relation.{IsExactly};
     ghost use Rattle.events.specs.Executions.{Execution};
+    ghost use Rattle.events.specs.Held.{held_value};
     ghost use Rattle.events.specs.Named.{event_count, NamedRel};
     ghost use Rattle.events.specs.Structures.{sourced_of};
     ghost use Rattle.events.specs.declared.named.RelName.TheVariants as names;
@@ -50,7 +51,7 @@ impl<'a> Model for GraphView<'a> {
 
     ghost view = { λ v. v.graph.now };
 
-    ghost invariant = { λ v. record { sourced : cow_value v.sourced ≡ sourced_of v.graph.now; co : IsExactly (event_count v.graph.now) (NamedRel v.graph.now names.Co) v.co } };
+    ghost invariant = { λ v. record { held : held_value v.held ≡ sourced_of v.graph.now; co : IsExactly (event_count v.graph.now) (NamedRel v.graph.now names.Co) v.co } };
 }
 
 impl<'a> GraphView<'a> {
@@ -62,7 +63,7 @@ impl<'a> GraphView<'a> {
         let co = sourced.numbered(graph).coherence();
         Ok(GraphView {
             graph,
-            sourced: Cow::Owned(sourced),
+            held: Held::Own(Box::new(alloc, sourced)?),
             co,
         })
     }
@@ -74,7 +75,7 @@ impl<'a> GraphView<'a> {
     {
         GraphView {
             graph,
-            sourced: Cow::Borrowed(sourced),
+            held: Held::Lent(sourced),
             co: sourced.numbered(graph).coherence(),
         }
     }
@@ -149,7 +150,7 @@ impl<'a> GraphView<'a> {
     fn sourced(&self) -> &SourcedStructure
         ensures { result.now ≡ sourced_of self.now }
     {
-        self.sourced.as_ref()
+        self.held.get()
     }
 
     // What it has in common with the executions that have the same runs.

@@ -1,0 +1,8 @@
+-- What a view holds of other executions than its own.
+use Rattle.events.specs.declared.view.held.Held.{Held}
+use Rattle.events.specs.declared.view.held.Held.TheVariants.{Own, Lent}
+use Rattle.events.specs.Structures.{Sourced}
+
+abbrev pub held_value : Held → Sourced
+held_value (Own b) = b.value
+held_value (Lent r) = r.now

@@ -1,0 +1,26 @@
+//! What a view holds of other executions than its own.
+
+ghost use Rattle.std.specs.Prelude.{◌≡◌};
+ghost use Rattle.events.specs.Held.{held_value};
+
+use super::sourced::SourcedStructure;
+
+/// What an execution has in common with those that differ in their coherence orders alone. What is owned lies in a box, so that
+/// a view stays small.
+#[derive(Drop)]
+pub(super) enum Held<'a> {
+    Own(Box<SourcedStructure>),
+    Lent(&'a SourcedStructure),
+}
+
+impl<'a> Held<'a> {
+    /// What is held.
+    pub(super) fn get(&self) -> &SourcedStructure
+        ensures { result.now ≡ held_value self.now }
+    {
+        match self {
+            Held::Own(sourced) => sourced,
+            Held::Lent(sourced) => sourced,
+        }
+    }
+}
