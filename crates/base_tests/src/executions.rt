@@ -4,8 +4,8 @@ pub mod graphs;
 
 use events::Access::{ExRead, ExWrite, Fence, Read, Write};
 use events::EventId::{Initial, Own};
-use events::{Order, RelName, SetName};
-use graphs::{Needs, Parts, Seen, follows, gives_back, shows, shows_again};
+use events::{Basis, Order, RelName, SetName};
+use graphs::{Needs, Parts, Seen, Thread, follows, gives_back, shows, shows_again};
 
 /// SB: each thread writes 1 to its own location and reads the other's, here from its initial write.
 ///
@@ -113,25 +113,28 @@ fn taken_apart_and_put_together(rt: HostRuntime) {
     assert!(rt; gives_back(rt.alloc(), &[Initial(1), Own(1, 0)]) == Ok(true));
 }
 
+/// The threads of SB, where each reads 1.
+const BOTH_READ_1: &[Thread] = &[
+    (
+        &[
+            (Write, 0, 1, Order::Rlx, Needs::Nothing),
+            (Read, 1, 1, Order::Rlx, Needs::Nothing),
+        ],
+        &[1],
+    ),
+    (
+        &[
+            (Write, 1, 1, Order::Rlx, Needs::Nothing),
+            (Read, 0, 1, Order::Rlx, Needs::Nothing),
+        ],
+        &[1],
+    ),
+];
+
 /// SB, where each thread reads the other's write.
 const STRONG: &Parts = &Parts {
     init: &[0, 0],
-    threads: &[
-        (
-            &[
-                (Write, 0, 1, Order::Rlx, Needs::Nothing),
-                (Read, 1, 1, Order::Rlx, Needs::Nothing),
-            ],
-            &[1],
-        ),
-        (
-            &[
-                (Write, 1, 1, Order::Rlx, Needs::Nothing),
-                (Read, 0, 1, Order::Rlx, Needs::Nothing),
-            ],
-            &[1],
-        ),
-    ],
+    threads: BOTH_READ_1,
     rf: &[Own(1, 0), Own(0, 0)],
     co: &[&[Initial(0), Own(0, 0)], &[Initial(1), Own(1, 0)]],
 };
@@ -151,10 +154,28 @@ fn each_reads_the_other(rt: HostRuntime) {
     assert!(rt; shows(rt.alloc(), STRONG, SEEN_OF_STRONG) == Ok(true));
 }
 
+/// The runs of SB, with sources of other values: a graph asks nothing of values.
+const CROSSED: &Parts = &Parts {
+    init: &[0, 0],
+    threads: BOTH_READ_1,
+    rf: &[Initial(1), Initial(0)],
+    co: &[&[Initial(0), Own(0, 0)], &[Initial(1), Own(1, 0)]],
+};
+
 /// The runs of the two differ in what they read alone.
 #[test]
 fn a_structure_follows_an_execution(rt: HostRuntime) {
-    assert!(rt; follows(rt.alloc(), WEAK, STRONG, SEEN_OF_STRONG) == Ok(true));
+    assert!(rt; follows(rt.alloc(), WEAK, STRONG, Basis::Runs, SEEN_OF_STRONG) == Ok(true));
+}
+
+#[test]
+fn a_structure_follows_a_map(rt: HostRuntime) {
+    assert!(rt; follows(rt.alloc(), CROSSED, STRONG, Basis::Sources, SEEN_OF_STRONG) == Ok(true));
+}
+
+#[test]
+fn a_structure_stays(rt: HostRuntime) {
+    assert!(rt; follows(rt.alloc(), STRONG, STRONG, Basis::Orders, SEEN_OF_STRONG) == Ok(true));
 }
 
 /// P0 exchanges x and has a fence; P1 writes and reads x plainly, and has a fence. Numbers: 0 the initial write,

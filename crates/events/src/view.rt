@@ -129,9 +129,9 @@ impl<'a> GraphView<'a> {
                 self.fr_into(into);
                 into.minus_with(self.int());
             }
-            RelName::Rmw => *into = self.numbered().tested(Pairwise::Rmw),
-            RelName::Data => *into = self.numbered().tested(Pairwise::Data),
-            RelName::Ctrl => *into = self.numbered().tested(Pairwise::Ctrl),
+            RelName::Rmw => self.numbered().tested_into(Pairwise::Rmw, into),
+            RelName::Data => self.numbered().tested_into(Pairwise::Data, into),
+            RelName::Ctrl => self.numbered().tested_into(Pairwise::Ctrl, into),
             RelName::Addr => into.become_empty(self.count()),
             RelName::Id => into.become_id(self.count()),
         }

@@ -4,8 +4,8 @@ ghost use Rattle.std.specs.Prelude.{◌≡◌, ◌+◌, ◌≤◌, ◌↔◌, Is
 ghost use Rattle.events.specs.Executions.{IsNamed, IsGraph};
 
 use events::{
-    Access, Coherence, Event, EventId, EventStructure, Graph, GraphView, Order, RelName, Run,
-    SetName, no_places,
+    Access, Basis, Coherence, Event, EventId, Graph, GraphView, Order, RelName, Run, SetName,
+    SourcedStructure, no_places,
 };
 use relations::{Places, Rel, Set};
 use std::alloc::{AllocError, Global};
@@ -239,19 +239,20 @@ pub fn gives_back(alloc: Global, writes: &[EventId]) -> Result<bool, AllocError>
     Ok(order.into_writes().as_slice() == writes)
 }
 
-/// Does a structure that was of one execution follow another, and is that to be seen in the view over it?
+/// Does a structure that was of one execution follow another, tell that this is what may be another than before, and is that
+/// to be seen in the view over it?
 pub fn follows(
     alloc: Global,
     from: &Parts,
     parts: &Parts,
+    told: Basis,
     seen: &Seen,
 ) -> Result<bool, AllocError> {
     match (graph_of(alloc, from)?, graph_of(alloc, parts)?) {
         (Some(first), Some(graph)) => {
-            let mut structure = EventStructure::of(alloc, &first)?;
-            let is_another = !structure.is_of(&graph);
-            structure.follow(alloc, &graph)?;
-            Ok(is_another && is_seen(&GraphView::over(alloc, &structure, &graph)?, seen))
+            let mut sourced = SourcedStructure::of(alloc, &first)?;
+            let basis = sourced.follow(alloc, &graph)?;
+            Ok(basis == told && is_seen(&GraphView::over(&sourced, &graph), seen))
         }
         _ => Ok(false),
     }

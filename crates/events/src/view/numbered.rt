@@ -75,15 +75,23 @@ impl<'a> Numbered<'a> {
     }
 
     /// The relation that is tested pair by pair.
-    #[tactic(auto, using(crate::proofs::Filling::rel_begun, crate::proofs::Filling::rel_full))]
     pub(super) fn tested(&self, name: Pairwise) -> Rel
         ensures { IsExactly (event_count self.now) (NamedRel self.now (name_of name)) result }
     {
         let mut rel = Rel::empty(self.count());
-        for from in 0..self.count() {
-            self.add_tested(&mut rel, name, from);
-        }
+        self.tested_into(name, &mut rel);
         rel
+    }
+
+    /// Writes the relation that is tested pair by pair over what `into` had.
+    #[tactic(auto, using(crate::proofs::Filling::rel_begun, crate::proofs::Filling::rel_full))]
+    pub(super) fn tested_into(&self, name: Pairwise, into: &mut Rel)
+        ensures { IsExactly (event_count self.now) (NamedRel self.now (name_of name)) into.new }
+    {
+        into.become_empty(self.count());
+        for from in 0..self.count() {
+            self.add_tested(into, name, from);
+        }
     }
 
     // Puts in the pairs from this event.

@@ -63,7 +63,7 @@ impl SourcedStructure {
         ensures same { OnErr result (self.new ≡ self.old) }
     {
         if !self.structure.is_of(graph) {
-            *self = SourcedStructure::of(alloc, graph)?;
+            self.follow_runs(alloc, graph)?;
             return Ok(Basis::Runs);
         }
         if !self.has_sources_of(graph) {
@@ -88,7 +88,19 @@ impl SourcedStructure {
         self.sources.as_slice() == graph.rf()
     }
 
+    // Becomes that of an execution with other runs. It stands by itself, as does what follows a map, since a function clears
+    // its locals when it is called.
+    #[inline(never)]
+    fn follow_runs(&mut self, alloc: Global, graph: &Graph) -> Result<(), AllocError>
+        ensures done { OnOk result (self.new ≡ sourced_of graph.now) }
+        ensures same { OnErr result (self.new ≡ self.old) }
+    {
+        *self = SourcedStructure::of(alloc, graph)?;
+        Ok(())
+    }
+
     // Takes over the read-from map of an execution with the same structure.
+    #[inline(never)]
     fn follow_sources(&mut self, alloc: Global, graph: &Graph) -> Result<(), AllocError>
         requires { self.old.structure ≡ structure_of graph.now }
         ensures done { OnOk result (self.new ≡ sourced_of graph.now) }
@@ -96,7 +108,8 @@ impl SourcedStructure {
     {
         let sources = Vec::from_slice(alloc, graph.rf())?;
         let rf = self.structure.numbered(graph).reads_from();
-        self.turned = rf.inverse();
+        let turned = rf.inverse();
+        self.turned = turned;
         self.rf = rf;
         self.sources = sources;
         Ok(())

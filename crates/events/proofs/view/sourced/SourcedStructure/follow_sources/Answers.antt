@@ -13,5 +13,5 @@ invariant_of-self c =
     ∙ same_sourced c.args.graph.now _ _ (ap (λ s. s.structure) c.self.view_is ∙ c.requires) (c.in_ok-sources.ensures.items ∙ c.rf.ensures) in
     record {
       rf = moved_rf m h _ e c.reads_from-rf.ensures;
-      turned = moved_turned m h _ e (turned_named m _ _ c.reads_from-rf.ensures c.inverse-self-inside.ensures);
+      turned = moved_turned m h _ e (turned_named m _ _ c.reads_from-rf.ensures c.inverse-turned.ensures);
     }
