@@ -7,3 +7,4 @@ pub mod Made
 pub mod Structures
 pub mod Bases
 pub mod Exact
+pub mod Direct

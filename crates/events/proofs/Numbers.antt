@@ -13,11 +13,11 @@ use Rattle.events.specs.Named.{names_from, thread_names, event_names, event_coun
 
 -- HOW MANY
 
-count_names : (k p : ℕ) (es : List Event) → length (names_from k p es) ≡ length es
+pub count_names : (k p : ℕ) (es : List Event) → length (names_from k p es) ≡ length es
 count_names k p [] = refl
 count_names k p (e ∷ es) = ap suc (count_names k (suc p) es)
 
-count_initial : {X : Type 0} (n : ℕ) (f : ℕ → X) → length (tabulate n f) ≡ n
+pub count_initial : {X : Type 0} (n : ℕ) (f : ℕ → X) → length (tabulate n f) ≡ n
 count_initial zero f = refl
 count_initial (suc n) f = ap suc (count_initial n (λ i. f (suc i)))
 
@@ -52,7 +52,7 @@ names_next k p es l =
 
 -- WHICH
 
-own : (k l p q : ℕ) → k ≡ l → p ≡ q → Own k p ≡ Own l q
+pub own : (k l p q : ℕ) → k ≡ l → p ≡ q → Own k p ≡ Own l q
 own k l p q e f = cc
 
 initial_own : (x k p : ℕ) → Initial x ≡ Own k p → ⊥

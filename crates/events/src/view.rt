@@ -17,6 +17,7 @@ mod facts;
 mod held;
 mod names;
 mod numbered;
+mod numbers;
 mod rows;
 mod sourced;
 mod structure;

@@ -1,13 +1,12 @@
 //! The relations that read-from maps and coherence orders tell, row by row.
 
-ghost use Rattle.std.specs.Prelude.{◌≡◌, ◌<◌, ◌⊎◌, ℕ, length, MatchOption};
+ghost use Rattle.std.specs.Prelude.{◌≡◌, ◌<◌, ◌⊎◌, length};
 ghost use Rattle.relations.specs.Events.{Has, IsExactlySet};
 ghost use Rattle.relations.specs.Relation.{In, IsExactly};
 ghost use Rattle.events.specs.declared.named.RelName.TheVariants.{Rf, Co};
 ghost use Rattle.events.specs.Named.{IsNumber, event_count, NamedRel, StandsBefore, read_names};
 ghost use Rattle.events.specs.Rows.{ByNumbers, IsReadAt};
 
-use super::facts::stands_at;
 use super::numbered::Numbered;
 use crate::event::EventId;
 use relations::{Rel, Set};
@@ -94,17 +93,5 @@ impl Numbered<'_> {
             rel.insert_all(number, behind);
             behind.insert(number);
         }
-    }
-
-    // The number of an event.
-    fn number_of(&self, event: EventId) -> Option<usize>
-        ensures { MatchOption result ((i : ℕ) → ¬ IsNumber self.now i event) (λ i. IsNumber self.now i event) }
-    {
-        for number in 0..self.events.len() {
-            if stands_at(self.events, number, event) {
-                return Some(number);
-            }
-        }
-        None
     }
 }
