@@ -1,5 +1,5 @@
 -- Named relations that are made of others.
-use Rattle.std.proofs.Common.{◌≡◌, ℕ, ◌<◌, refl, sym, ◌∙◌, subst, arith}
+use Rattle.std.proofs.Common.{◌≡◌, ℕ, ◌<◌, refl, ◌∙◌, subst, arith}
 use Rattle.relations.specs.Relation.{Relation, In, IsExactly}
 use Rattle.relations.specs.Algebra.{Through}
 use Rattle.relations.specs.Equality.{pair_below}
@@ -117,9 +117,3 @@ fr_named g s t u graph l k m = record {
       ));
   canonical = m.canonical;
 }
-
-pub copied : (g h : Execution) (A : RelName) (r s : Relation) → g ≡ h → s ≡ r → IsExactly (event_count g) (NamedRel g A) r → IsExactly (event_count h) (NamedRel h A) s
-copied g h A r s e f k =
-    let P : Execution → Type 0 = λ g. IsExactly (event_count g) (NamedRel g A) s in
-    let Q : Relation → Type 0 = λ r. IsExactly (event_count g) (NamedRel g A) r in
-    subst P e (subst Q (sym f) k)

@@ -60,7 +60,3 @@ by_numbers g name i j d e b s t h = (
       let Q : EventId → Type 0 = λ y. InRel g name d y in
       h.1 (subst Q (one_stands (event_names g) j n.1 e n.3 t) (subst P (one_stands (event_names g) i n.0 d n.2 s) n.4))),
 )
-
--- no number below i has P
-abbrev pub NoneBelow : ℕ → (ℕ → Type 0) → Type 0
-NoneBelow i P = (k : ℕ) → k < i → P k → ⊥

@@ -14,7 +14,7 @@ use crate::named::SetName;
 use relations::{Rel, Set};
 use std::marker::Model;
 
-/// An execution with its events numbered. It holds none of them, and takes no memory.
+/// An execution with its events numbered. Their names are lent, so that it takes no memory.
 #[derive(Drop)]
 pub(super) struct Numbered<'a> {
     pub(super) graph: &'a Graph,
