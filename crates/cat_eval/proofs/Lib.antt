@@ -13,6 +13,8 @@ pub mod Stepping
 pub mod Copies
 pub mod Nodes
 pub mod Following
+pub mod Graded
+pub mod Held
 pub mod Lawful
 pub mod Reaching
 pub mod Solving

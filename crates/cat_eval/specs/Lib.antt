@@ -4,5 +4,6 @@ pub mod Names
 pub mod Judging
 pub mod Steps
 pub mod Code
+pub mod Keeping
 pub mod Examples
 pub mod Laws

@@ -2,8 +2,11 @@
 #![tactic(auto)]
 
 mod early;
+mod evaluator;
 mod flags;
+mod grading;
 mod judging;
+mod keeping;
 pub mod laws;
 mod making;
 mod naming;
@@ -14,5 +17,6 @@ mod step;
 mod value;
 
 pub use early::judge_early;
+pub use evaluator::Evaluator;
 pub use judging::{Judgement, judge};
 pub use plan::Plan;

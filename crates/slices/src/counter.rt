@@ -20,9 +20,9 @@ use crate::row::Row;
 use crate::slot::{Slot, row, slots};
 use crate::work::Work;
 use candidates::Space;
-use cat_eval::{Judgement, Plan};
+use cat_eval::{Evaluator, Judgement};
 use conditions::{Place, Prop, State, holds};
-use events::{EventStructure, Graph};
+use events::Graph;
 use std::alloc::{AllocError, Global};
 use std::collections::BTreeSet;
 use std::sync::Arc;
@@ -52,13 +52,12 @@ pub fn count(
         (IsCountOf work.now.test work.now.model.items places.now (executions_in work.now.test from to)) }
 {
     let slots = slots(alloc, work.test(), places)?;
-    let mut plan = Plan::of(alloc, work.model())?;
     let mut counter = Counter::new(alloc);
     let mut walk = space.walk(alloc, from, to);
-    let mut structure = EventStructure::of(alloc, walk.graph())?;
+    let mut evaluator = Evaluator::of(alloc, work.model(), walk.graph())?;
     while walk.next(alloc)?.is_some() {
         let graph = walk.graph();
-        let judgement = plan.judge_next(alloc, &mut structure, graph)?;
+        let judgement = evaluator.judge_next(alloc, graph)?;
         counter.weigh(alloc, work, places, &slots, graph, &judgement)?;
     }
     Ok(counter)

@@ -7,6 +7,7 @@ use Rattle.cat_eval.specs.Meaning.{Under}
 use Rattle.cat_eval.specs.Names.{Names}
 use Rattle.cat_eval.specs.Judging.{Permits, RaisedBy, Allowed, Raised}
 use Rattle.cat_eval.proofs.Lawful.{forbidden_by, forbidden_is, no_flag_told, kept, next_item, flag_more, no_flag}
+use Rattle.cat_eval.proofs.Held.{holds_more}
 use Rattle.cat_eval.proofs.Reaching.{reached_next, reached_more}
 use Rattle.cat_eval.proofs.early.judge_early_by.Goals as goal
 use Rattle.cat_eval.proofs.early.judge_early_by.Goals.{in-Some+in_ok-add, in_default}
@@ -48,6 +49,7 @@ loop-item-preserved c =
     let raised = c.weigh-weighed.ensures.raised c.loop-item.invariant.reached.names ready in
     record {
       long = c.weigh-weighed.ensures.length ∙ c.loop-item.invariant.long;
+      holds = holds_more c.args.view.now c.args.steps.now c.args.bases.now c.loop-item.kept c.with.result c.weigh-weighed.new.values c.item-item.result.to c.with.ensures.order c.with.ensures.runs c.with.ensures.sources c.weigh-weighed.ensures.ran c.weigh-weighed.ensures.holds;
       reached = reached_more c.args.view.now c.args.steps.now c.args.items.now c.loop-item.values c.weigh-weighed.new.values c.loop-item.item-index true true c.loop-item.flags.items c.match-weighed.flags.items
           c.item-item.result c.loop-item.invariant.reached c.loop-item-test.true c.item-item.is c.weigh-weighed.ensures.same c.weigh-weighed.ensures.ran (c.weigh-weighed.ensures.binds c.loop-item.invariant.reached.names ready)
           (kept true c.weigh-weighed.result.permits true (Permits n E item) c.if-not-weighed.false refl permits)
@@ -80,3 +82,11 @@ returns-then-not-weighed-clause-flags c =
     (forbidden_by c.args.view.now (map planned_clause c.args.items.now) c.loop-item.item-index (entries_of c.loop-item.invariant.reached.names c.loop-item.values) c.loop-item.flags.items (planned_clause c.item-item.result) c.weigh-weighed.result.permits
     c.loop-item.invariant.reached.so_far (next_item c.args.items.now c.loop-item.item-index c.item-item.result c.loop-item-test.true c.item-item.is) c.if-not-weighed.true (c.weigh-weighed.ensures.permits c.loop-item.invariant.reached.names ready)) in
     search (rules, told)
+
+pub returns-then-not-weighed-clause-holds : goal.returns-then-not-weighed-clause-holds
+returns-then-not-weighed-clause-holds c =
+    holds_more c.args.view.now c.args.steps.now c.args.bases.now c.loop-item.kept c.with.result c.weigh-weighed.new.values c.item-item.result.to c.with.ensures.order c.with.ensures.runs c.with.ensures.sources c.weigh-weighed.ensures.ran c.weigh-weighed.ensures.holds
+
+pub returns-in_err-add-clause-holds : goal.returns-in_err-add-clause-holds
+returns-in_err-add-clause-holds c =
+    holds_more c.args.view.now c.args.steps.now c.args.bases.now c.loop-item.kept c.with.result c.weigh-weighed.new.values c.item-item.result.to c.with.ensures.order c.with.ensures.runs c.with.ensures.sources c.weigh-weighed.ensures.ran c.weigh-weighed.ensures.holds

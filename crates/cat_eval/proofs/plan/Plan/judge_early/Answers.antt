@@ -10,4 +10,4 @@ use Rattle.cat_eval.proofs.plan.Plan.judge_early.Goals as goal
 pub returns-clause-flags : goal.returns-clause-flags
 returns-clause-flags c =
     let P : List Clause → Type 0 = λ items. IfOk c.judge_early_by.result (λ j. Lists {X = Word} (λ name. Allowed items c.args.view.now × Raised items c.args.view.now name) j.flags) in
-    subst P (ap (λ (xs : List PlannedItem). map planned_clause xs) c.deref-3.ensures.value ∙ c.self.view_is) c.judge_early_by.ensures.flags
+    subst P (ap (λ (xs : List PlannedItem). map planned_clause xs) c.deref-4.ensures.value ∙ c.self.view_is) c.judge_early_by.ensures.flags
