@@ -1,6 +1,6 @@
 -- The laws of turns.
-use Rattle.std.proofs.Common.{◌≡◌, ℕ, zero, suc, ◌<◌, ◌≤◌, List, length, ◌∙◌, arith, inl, inr, ◌⊎◌}
-use Rattle.std.specs.Prelude.{Some, None, Ok, Err}
+use Rattle.std.proofs.Common.{◌≡◌, ℕ, zero, suc, ◌<◌, List, length, ◌∙◌, arith, inl, inr}
+use Rattle.std.specs.Prelude.{Some, None, Ok}
 use Rattle.descent.specs.Reading.{Read, Look, match_option, ◌>>=◌, turns, repeated}
 use Rattle.descent.proofs.Tools.{bind_ok, cases_of, moved, none_or_some, ok_or_err, bind_pure, Yields, Shows}
 
@@ -55,7 +55,7 @@ last s e = record { is = s.is ∙ rw e }
 -- Each turn takes a token, so turns are not cut short.
 module _ {T F O A : Type 0} (c : F) (op : List T → Look T O) (step : O → A → List T → Read T F A)
     (shorter : (ts mid rest : List T) (o : O) (a b : A) → op ts ≡ Some (o, mid) → step o a mid ≡ Ok (b, rest) → length rest < length ts) where
-  turns-any : (k m : ℕ) (a : A) (ts : List T) → length ts < k → length ts < m → turns c op step k a ts ≡ turns c op step m a ts
+  pub turns-any : (k m : ℕ) (a : A) (ts : List T) → length ts < k → length ts < m → turns c op step k a ts ≡ turns c op step m a ts
   unfolding turns
   turns-any zero m a ts h i = absurd (omega arith)
   turns-any (suc k) zero a ts h i = absurd (omega arith)

@@ -1,20 +1,19 @@
 -- Expressions, calls and right sides: where reading gives `deep`, something nests too deep.
 use Rattle.std.proofs.Common.{◌≡◌, ℕ, zero, suc, List, ◌∷◌, sym, subst, inl, inr, refl}
-use Rattle.std.specs.Prelude.{◌==◌, length, Option, Some, None, Ok, Err, if◌then◌else◌}
-use Rattle.descent.specs.Reading.{◌>>=◌, required}
+use Rattle.std.specs.Prelude.{length, Err}
+use Rattle.descent.proofs.Causes.{never_ok, never_made, either, first}
 use Rattle.descent.proofs.Tools.{bind_ok, chosen, moved}
-use Rattle.events.specs.declared.event.Order.{Order}
 use Rattle.litmus_syntax.specs.declared.atomics.Operation.{Operation}
 use Rattle.litmus_syntax.specs.declared.symbol.Symbol.{Symbol}
 use Rattle.litmus_syntax.specs.declared.symbol.Symbol.TheVariants.{Fixed, Call, Name, Number}
 use Rattle.litmus_syntax.specs.declared.symbol.Terminal.TheVariants.{LeftParen, RightParen, Comma, Star, Bang}
-use Rattle.litmus_syntax.specs.Atomics.{orders, Effect, loads, stores, exchanges, fences, effect_of, accepted, TakesValue, store_takes, exchange_takes, has_value}
+use Rattle.litmus_syntax.specs.Atomics.{Effect, loads, stores, exchanges, fences, effect_of, accepted, TakesValue, store_takes, exchange_takes, has_value}
 use Rattle.litmus_syntax.specs.Depth.{DeepLevel, deep_unary, deep_tighter, deep_joined, DeepUnary, deep_operand, deep_not, deep_paren, DeepExpression, DeepCall, deep_call, deep_value, DeepRight, deep_computed, deep_given}
 use Rattle.litmus_syntax.specs.Grammar.{IsLevel, level_tighter, level_joined}
-use Rattle.litmus_syntax.specs.Reading.{syntax, deep, misordered, after, call_word, open_at, Terms, operator_at, unary_with, next_operand, operands, level_with, terms_below, expression_at, is_among, order_at, last_order_at, closing_at, located_at, target_at, valued_at, load_at, store_at, exchange_at, fence_at, effect_at, operation_at, value_at, computed_at, plain_at, right_at}
-use Rattle.litmus_syntax.specs.Symbols.{looked_up}
+use Rattle.litmus_syntax.specs.Reading.{deep, after, call_word, open_at, Terms, operator_at, unary_with, next_operand, operands, level_with, terms_below, expression_at, located_at, target_at, valued_at, load_at, store_at, exchange_at, fence_at, effect_at, operation_at, value_at, computed_at, plain_at, right_at}
 use Rattle.litmus_syntax.proofs.Calls.{target-sound}
-use Rattle.litmus_syntax.proofs.DeepTools.{Shallow, fine_ok, fine_syntax, fine_misordered, fine_bind, fine_if, fine_expected, fine_name, fine_made, first, either, chosen_deep, repeated_deep, open_deep}
+use Rattle.litmus_syntax.proofs.AlikeParts.{both_closing, both_last_order}
+use Rattle.litmus_syntax.proofs.DeepTools.{fine, fine_expected, fine_name, chosen_deep, repeated_deep, open_deep}
 use Rattle.litmus_syntax.proofs.Expressions.{operator-some, level_is}
 use Rattle.litmus_syntax.proofs.Sounds.{Sound}
 use Rattle.litmus_syntax.proofs.SingleSymbols.{call_word-some}
@@ -30,8 +29,8 @@ module _ (n : ℕ) (r : Terms) (inner : DeepTerms n r) (sound : (k : ℕ) → So
   unfolding unary_with
   unary_deep (Name x ∷ ts) e = absurd (cc)
   unary_deep (Number v ∷ ts) e = absurd (cc)
-  unary_deep (Fixed Bang ∷ ts) e = deep_not (first (r.unary ts) e (inner.unary ts) (λ a. fine_ok _))
-  unary_deep (Fixed LeftParen ∷ ts) e = deep_paren (first (r.expression ts) e (inner.expression ts) (λ a. fine_made _ (fine_expected RightParen a.1)))
+  unary_deep (Fixed Bang ∷ ts) e = deep_not (first (r.unary ts) e (inner.unary ts) (λ a. never_ok))
+  unary_deep (Fixed LeftParen ∷ ts) e = deep_paren (first (r.expression ts) e (inner.expression ts) (λ a. never_made _ (fine_expected RightParen a.1)))
   unary_deep ts e = absurd (cc)
 
   operands_deep : (k : ℕ) → ((ts : List Symbol) → level_with r k ts ≡ Err deep → DeepLevel k (suc n) ts) →
@@ -46,7 +45,7 @@ module _ (n : ℕ) (r : Terms) (inner : DeepTerms n r) (sound : (k : ℕ) → So
       moved (λ l t. IsLevel (suc k) n ts l t) q.2 (level_joined (subst (λ l. IsLevel (suc k) n ts l b) t.1 d) t.2 (sound k mid q.0.1 q.0.0 q.1)))
       (λ o us mid b d was g.
       let t = operator-some k us mid o was in
-      deep_joined (subst (λ l. IsLevel (suc k) n ts l b) t.1 d) t.2 (first (level_with r k mid) g (item mid) (λ y. fine_ok _)))
+      deep_joined (subst (λ l. IsLevel (suc k) n ts l b) t.1 d) t.2 (first (level_with r k mid) g (item mid) (λ y. never_ok)))
       x.0 x.1 (level_tighter (sound k ts x.1 x.0 is)) f)
 
   level_deep : (k : ℕ) (ts : List Symbol) → level_with r k ts ≡ Err deep → DeepLevel k (suc n) ts
@@ -69,23 +68,7 @@ expression_deep n ts e = level_deep n (terms_below n) (terms_deep n) (level_is n
 pub any_expression : (ts : List Symbol) → DeepExpression zero ts
 any_expression ts = deep_tighter (deep_tighter (deep_tighter (deep_unary deep_operand)))
 
--- Orders and arguments.
-
-fine_order_named : (n : ℕ) (os : List Order) (o : Option Order) (us : List Symbol) → Shallow (required (syntax n) o >>= λ p. if is_among os p then Ok (p, us) else Err misordered)
-fine_order_named n os None us = fine_syntax
-fine_order_named n os (Some o) us = fine_if (is_among os o) (fine_ok (o, us)) fine_misordered
-
-fine_order : (os : List Order) (ts : List Symbol) → Shallow (order_at os ts)
-unfolding order_at
-fine_order os ts = fine_bind (fine_name ts) (λ x. fine_order_named (length ts) os (looked_up orders x.0) x.1)
-
-fine_last_order : (os : List Order) (ts : List Symbol) → Shallow (last_order_at os ts)
-unfolding last_order_at
-fine_last_order os ts = fine_bind (fine_order os ts) (λ o. fine_made _ (fine_expected RightParen o.1))
-
-fine_closing : (os : List Order) (ts : List Symbol) → Shallow (closing_at os ts)
-unfolding closing_at
-fine_closing os ts = fine_if (length os == 0) (fine_made _ (fine_expected RightParen ts)) (fine_bind (fine_expected Comma ts) (λ y. fine_last_order os y.1))
+-- Arguments.
 
 -- no level is left for the parentheses of a call
 closed_call : (c : Operation) (n : ℕ) (ts : List Symbol) → open_at n ts ≡ Err deep → DeepCall c (suc n) ts
@@ -96,11 +79,11 @@ closed_call c n ts e =
 
 located_deep : (c : Operation) (n : ℕ) (ts : List Symbol) → located_at n ts ≡ Err deep → DeepCall c (suc n) ts
 unfolding located_at
-located_deep c n ts e = first (open_at n ts) e (closed_call c n ts) (λ m. fine_made _ (fine_name m.1))
+located_deep c n ts e = first (open_at n ts) e (closed_call c n ts) (λ m. never_made _ (fine_name m.1))
 
 target_deep : (c : Operation) (n : ℕ) (ts : List Symbol) → target_at n ts ≡ Err deep → DeepCall c (suc n) ts
 unfolding target_at
-target_deep c n ts e = first (located_at n ts) e (located_deep c n ts) (λ x. fine_made _ (fine_expected Comma x.1))
+target_deep c n ts e = first (located_at n ts) e (located_deep c n ts) (λ x. never_made _ (fine_expected Comma x.1))
 
 valued_deep : (c : Operation) → TakesValue c → (n : ℕ) (ts : List Symbol) → valued_at n ts ≡ Err deep → DeepCall c (suc n) ts
 unfolding valued_at
@@ -111,25 +94,25 @@ valued_deep c takes n ts e =
     let P : ℕ → List Symbol → Type 0 = λ m l. DeepCall c (suc m) l in
     first (expression_at x.0.1 x.1) f
     (λ g. subst (λ m. P m ts) (sym d.level) (subst (λ l. P (suc x.0.1) l) (sym d.front) (deep_value takes (expression_deep x.0.1 x.1 g))))
-    (λ v. fine_ok _))
+    (λ v. never_ok))
 
 -- Calls, by what they do.
 
 load_deep : (c : Operation) (n : ℕ) (ts : List Symbol) → load_at (accepted c) n ts ≡ Err deep → DeepCall c (suc n) ts
 unfolding load_at
-load_deep c n ts e = first (located_at n ts) e (located_deep c n ts) (λ x. fine_made _ (fine_closing (accepted c) x.1))
+load_deep c n ts e = first (located_at n ts) e (located_deep c n ts) (λ x. never_made _ (fine (both_closing (accepted c) x.1 x.1)))
 
 store_deep : (c : Operation) → effect_of c ≡ stores → (n : ℕ) (ts : List Symbol) → store_at (accepted c) n ts ≡ Err deep → DeepCall c (suc n) ts
 unfolding store_at
-store_deep c k n ts e = first (valued_at n ts) e (valued_deep c (store_takes k) n ts) (λ v. fine_made _ (fine_closing (accepted c) v.1))
+store_deep c k n ts e = first (valued_at n ts) e (valued_deep c (store_takes k) n ts) (λ v. never_made _ (fine (both_closing (accepted c) v.1 v.1)))
 
 exchange_deep : (c : Operation) → effect_of c ≡ exchanges → (n : ℕ) (ts : List Symbol) → exchange_at (accepted c) n ts ≡ Err deep → DeepCall c (suc n) ts
 unfolding exchange_at
-exchange_deep c k n ts e = first (valued_at n ts) e (valued_deep c (exchange_takes k) n ts) (λ v. fine_made _ (fine_closing (accepted c) v.1))
+exchange_deep c k n ts e = first (valued_at n ts) e (valued_deep c (exchange_takes k) n ts) (λ v. never_made _ (fine (both_closing (accepted c) v.1 v.1)))
 
 fence_deep : (c : Operation) (n : ℕ) (ts : List Symbol) → fence_at (accepted c) n ts ≡ Err deep → DeepCall c (suc n) ts
 unfolding fence_at
-fence_deep c n ts e = first (open_at n ts) e (closed_call c n ts) (λ m. fine_made _ (fine_last_order (accepted c) m.1))
+fence_deep c n ts e = first (open_at n ts) e (closed_call c n ts) (λ m. never_made _ (fine (both_last_order (accepted c) m.1 m.1)))
 
 effect_deep : (c : Operation) (f : Effect) → effect_of c ≡ f → (n : ℕ) (ts : List Symbol) → effect_at f (accepted c) n ts ≡ Err deep → DeepCall c (suc n) ts
 effect_deep c loads k n ts e = load_deep c n ts e
@@ -147,22 +130,18 @@ value_deep : (left : ℕ) (c : Operation) (n : ℕ) (ts : List Symbol) → value
 unfolding value_at
 value_deep left c n ts e =
     elim (chosen (has_value c) _ _ _ e) [
-      | inl g ↦ deep_given g.0 (first (operation_at c n ts) g.1 (operation_deep c n ts) (λ a. fine_ok _))
-      | inr g ↦ absurd (fine_syntax.never g.1)
+      | inl g ↦ deep_given g.0 (first (operation_at c n ts) g.1 (operation_deep c n ts) (λ a. never_ok))
+      | inr g ↦ (let h = g.1 in absurd (cc))
     ]
 
 computed_deep : (n : ℕ) (ts : List Symbol) → computed_at n ts ≡ Err deep → DeepRight (suc n) ts
 unfolding computed_at
-computed_deep n ts e = deep_computed (first (expression_at n ts) e (expression_deep n ts) (λ a. fine_ok _))
-
-fine_plain : (ts : List Symbol) → Shallow (plain_at ts)
-unfolding plain_at
-fine_plain ts = fine_made _ (fine_name ts)
+computed_deep n ts e = deep_computed (first (expression_at n ts) e (expression_deep n ts) (λ a. never_ok))
 
 pub right_deep : (n : ℕ) (ts : List Symbol) → right_at n ts ≡ Err deep → DeepRight (suc n) ts
-unfolding right_at
+unfolding right_at plain_at
 right_deep n ts e =
     chosen_deep (after Star ts) e
     (λ g. chosen_deep (call_word ts) g (computed_deep n ts)
     (λ c was f. subst (λ l. DeepRight (suc n) l) (sym (call_word-some ts c.1 c.0 was)) (value_deep (length ts) c.0 n c.1 f)))
-    (λ y was f. absurd ((fine_plain y.1).never f))
+    (λ y was f. absurd ((never_made _ (fine_name y.1)).never f))

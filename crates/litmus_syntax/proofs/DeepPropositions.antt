@@ -1,43 +1,20 @@
 -- Conditions: where reading gives `deep`, something nests too deep.
 use Rattle.std.proofs.Common.{◌≡◌, ℕ, zero, suc, List, ◌∷◌, sym, subst}
 use Rattle.std.specs.Prelude.{Some, Err}
+use Rattle.descent.proofs.Causes.{never_ok, never_made, either, later, first}
 use Rattle.descent.proofs.Tools.{bind_ok, moved}
 use Rattle.conditions.specs.declared.condition.Kind.{Kind}
-use Rattle.conditions.specs.declared.place.Place.TheVariants.{Reg, Loc}
 use Rattle.litmus_syntax.specs.declared.symbol.Symbol.{Symbol}
 use Rattle.litmus_syntax.specs.declared.symbol.Symbol.TheVariants.{Fixed}
-use Rattle.litmus_syntax.specs.declared.symbol.Terminal.TheVariants.{True, False, Exists, Forall, LeftParen, RightParen, LeftBracket, RightBracket, Colon, Assign, And, Or, Arrow}
+use Rattle.litmus_syntax.specs.declared.symbol.Terminal.TheVariants.{LeftParen, RightParen, And, Or, Arrow}
 use Rattle.litmus_syntax.specs.Depth.{DeepProposition, deep_or, deep_implied, DeepOr, deep_conjunction, deep_disjoined, DeepConjunction, deep_atomic, deep_conjoined, DeepAtomic, deep_formula, deep_denied, deep_enclosed}
 use Rattle.litmus_syntax.specs.Grammar.{IsOr, or_conjunction, or_or, IsConjunction, conjunction_atomic, conjunction_and, IsAtomic, IsKind}
-use Rattle.litmus_syntax.specs.Reading.{deep, after, number_look, location_at, register_at, place_at, equation_at, Propositions, denial, plain_atomic_at, denied_with, enclosed_with, atomic_with, conjunction_more, conjunction_with, or_more, or_with, proposition_with, propositions_below, kind_of_at, condition_at}
-use Rattle.litmus_syntax.proofs.DeepTools.{Shallow, fine_ok, fine_bind, fine_match, fine_expected, fine_name, fine_number, fine_made, later, first, either, chosen_deep, repeated_deep}
+use Rattle.litmus_syntax.specs.Reading.{deep, after, Propositions, denial, denied_with, enclosed_with, atomic_with, conjunction_more, conjunction_with, or_more, or_with, proposition_with, propositions_below, condition_at}
+use Rattle.litmus_syntax.proofs.AlikeParts.{both_kind_of, both_plain_atomic}
+use Rattle.litmus_syntax.proofs.DeepTools.{fine, fine_expected, chosen_deep, repeated_deep}
 use Rattle.litmus_syntax.proofs.Propositions.{denial-some, atomic_is, conjunction_is, or_is, kind-sound}
 use Rattle.litmus_syntax.proofs.Sounds.{Sound}
 use Rattle.litmus_syntax.proofs.SingleSymbols.{after-some}
-
--- Places.
-
-pub fine_location : (ts : List Symbol) → Shallow (location_at ts)
-unfolding location_at
-fine_location ts = fine_match (after LeftBracket ts) (fine_name ts) (λ y. fine_bind (fine_name y.1) (λ x. fine_bind (fine_expected RightBracket x.1) (λ z. fine_ok (x.0, z.1))))
-
-fine_register : (k : ℕ) (ts : List Symbol) → Shallow (register_at k ts)
-unfolding register_at
-fine_register k ts = fine_bind (fine_expected Colon ts) (λ y. fine_bind (fine_name y.1) (λ x. fine_ok (Reg k x.0, x.1)))
-
-pub fine_place : (ts : List Symbol) → Shallow (place_at ts)
-unfolding place_at
-fine_place ts = fine_match (number_look ts) (fine_bind (fine_location ts) (λ x. fine_ok (Loc x.0, x.1))) (λ k. fine_register k.0 k.1)
-
--- Atomics that hold no other.
-
-fine_equation : (ts : List Symbol) → Shallow (equation_at ts)
-unfolding equation_at
-fine_equation ts = fine_bind (fine_place ts) (λ p. fine_bind (fine_expected Assign p.1) (λ y. fine_made _ (fine_number y.1)))
-
-fine_plain_atomic : (ts : List Symbol) → Shallow (plain_atomic_at ts)
-unfolding plain_atomic_at
-fine_plain_atomic ts = fine_match (after True ts) (fine_match (after False ts) (fine_equation ts) (λ y. fine_ok _)) (λ y. fine_ok _)
 
 -- Propositions.
 
@@ -54,17 +31,17 @@ module _ (n : ℕ) (r : Propositions) (inner : DeepPropositions n r) where
   unfolding denied_with
   denied_deep ts us u was e =
       let t = denial-some ts us u was in
-      subst (λ l. DeepAtomic (suc n) l) (sym t.1) (deep_denied t.2 (first (r.atomic us) e (inner.atomic us) (λ a. fine_ok _)))
+      subst (λ l. DeepAtomic (suc n) l) (sym t.1) (deep_denied t.2 (first (r.atomic us) e (inner.atomic us) (λ a. never_ok)))
 
   enclosed_deep : (ts : List Symbol) → enclosed_with r ts ≡ Err deep → DeepAtomic (suc n) (Fixed LeftParen ∷ ts)
   unfolding enclosed_with
-  enclosed_deep ts e = deep_enclosed (first (r.proposition ts) e (inner.proposition ts) (λ a. fine_made _ (fine_expected RightParen a.1)))
+  enclosed_deep ts e = deep_enclosed (first (r.proposition ts) e (inner.proposition ts) (λ a. never_made _ (fine_expected RightParen a.1)))
 
   atomic_deep : (ts : List Symbol) → atomic_with r ts ≡ Err deep → DeepAtomic (suc n) ts
   unfolding atomic_with
   atomic_deep ts e =
       chosen_deep (denial ts) e
-      (λ f. chosen_deep (after LeftParen ts) f (λ g. absurd ((fine_plain_atomic ts).never g))
+      (λ f. chosen_deep (after LeftParen ts) f (λ g. absurd ((fine (both_plain_atomic ts ts)).never g))
       (λ y was g. subst (λ l. DeepAtomic (suc n) l) (sym (after-some LeftParen ts y.1 y.0 was)) (enclosed_deep y.1 g)))
       (λ y was f. denied_deep ts y.1 y.0 was f)
 
@@ -77,7 +54,7 @@ module _ (n : ℕ) (r : Propositions) (inner : DeepPropositions n r) where
         (λ o us mid back b c d was g.
         let q = bind_ok (atomic_with r mid) _ _ g in
         moved (λ l t. IsConjunction n ts l t) q.2 (conjunction_and (subst (λ l. IsConjunction n ts l b) (after-some And us mid o was) d) (sound_atomic mid q.0.1 q.0.0 q.1)))
-        (λ o us mid b d was g. deep_conjoined (subst (λ l. IsConjunction n ts l b) (after-some And us mid o was) d) (first (atomic_with r mid) g (atomic_deep mid) (λ y. fine_ok _)))
+        (λ o us mid b d was g. deep_conjoined (subst (λ l. IsConjunction n ts l b) (after-some And us mid o was) d) (first (atomic_with r mid) g (atomic_deep mid) (λ y. never_ok)))
         x.0 x.1 (conjunction_atomic (sound_atomic ts x.1 x.0 is)) f)
 
     or_deep : (ts : List Symbol) → or_with r ts ≡ Err deep → DeepOr (suc n) ts
@@ -88,15 +65,15 @@ module _ (n : ℕ) (r : Propositions) (inner : DeepPropositions n r) where
         (λ o us mid back b c d was g.
         let q = bind_ok (conjunction_with r mid) _ _ g in
         moved (λ l t. IsOr n ts l t) q.2 (or_or (subst (λ l. IsOr n ts l b) (after-some Or us mid o was) d) (sound_conjunction mid q.0.1 q.0.0 q.1)))
-        (λ o us mid b d was g. deep_disjoined (subst (λ l. IsOr n ts l b) (after-some Or us mid o was) d) (first (conjunction_with r mid) g (conjunction_deep mid) (λ y. fine_ok _)))
+        (λ o us mid b d was g. deep_disjoined (subst (λ l. IsOr n ts l b) (after-some Or us mid o was) d) (first (conjunction_with r mid) g (conjunction_deep mid) (λ y. never_ok)))
         x.0 x.1 (or_conjunction (sound_conjunction ts x.1 x.0 is)) f)
 
     proposition_deep : (ts : List Symbol) → proposition_with r ts ≡ Err deep → DeepProposition (suc n) ts
     unfolding proposition_with
     proposition_deep ts e =
         either (or_with r ts) e (λ d. deep_or (or_deep ts d))
-        (λ x is f. chosen_deep (after Arrow x.1) f (λ g. absurd ((fine_ok _).never g))
-        (λ y was g. deep_implied (subst (λ l. IsOr n ts l x.0) (after-some Arrow x.1 y.1 y.0 was) (sound_or ts x.1 x.0 is)) (first (r.proposition y.1) g (inner.proposition y.1) (λ b. fine_ok _))))
+        (λ x is f. chosen_deep (after Arrow x.1) f (λ g. absurd (cc))
+        (λ y was g. deep_implied (subst (λ l. IsOr n ts l x.0) (after-some Arrow x.1 y.1 y.0 was) (sound_or ts x.1 x.0 is)) (first (r.proposition y.1) g (inner.proposition y.1) (λ b. never_ok))))
 
 propositions_deep : (n : ℕ) → DeepPropositions n (propositions_below n)
 unfolding propositions_below
@@ -108,18 +85,14 @@ propositions_deep (suc n) = record {
 
 -- Conditions.
 
-fine_kind : (ts : List Symbol) → Shallow (kind_of_at ts)
-unfolding kind_of_at
-fine_kind ts = fine_match (after Forall ts) (fine_match (denial ts) (fine_made _ (fine_expected Exists ts)) (λ x. fine_made _ (fine_expected Exists x.1))) (λ y. fine_ok _)
-
 pub condition_deep : (n : ℕ) (ts : List Symbol) → condition_at n ts ≡ Err deep → (us : List Symbol) × (k : Kind) × IsKind ts us k × DeepProposition (suc n) us
 unfolding condition_at
 condition_deep n ts e =
-    later (fine_kind ts) e (λ k is f. (
+    later (fine (both_kind_of ts ts)) e (λ k is f. (
       k.1,
       k.0,
       kind-sound ts k.1 k.0 is,
       first (proposition_with (propositions_below n) k.1) f
           (proposition_deep n (propositions_below n) (propositions_deep n) (atomic_is n) (conjunction_is n) (or_is n) k.1)
-          (λ a. fine_ok _),
+          (λ a. never_ok),
     ))

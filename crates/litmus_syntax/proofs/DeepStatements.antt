@@ -3,18 +3,18 @@ use Rattle.std.proofs.Common.{◌≡◌, ℕ, zero, suc, List, [], ◌∷◌, sy
 use Rattle.std.specs.Prelude.{◌++◌, length, Ok, Err, codes}
 use Rattle.std.specs.Fmt.{decimal}
 use Rattle.descent.specs.Reading.{◌>>=◌, repeated}
+use Rattle.descent.proofs.Causes.{never_ok, never_made, either, later, first}
 use Rattle.descent.proofs.Tools.{bind_ok, chosen, moved}
 use Rattle.litmus_syntax.specs.declared.symbol.Symbol.{Symbol}
 use Rattle.litmus_syntax.specs.declared.symbol.Symbol.TheVariants.{Fixed, Name}
-use Rattle.litmus_syntax.specs.declared.symbol.Terminal.TheVariants.{Int, AtomicInt, If, Else, LeftParen, RightParen, LeftBrace, RightBrace, Semicolon, Comma, Assign, Star}
-use Rattle.litmus_tree.specs.declared.tree.Parameter.{Parameter}
+use Rattle.litmus_syntax.specs.declared.symbol.Terminal.TheVariants.{Int, If, Else, LeftParen, RightParen, LeftBrace, RightBrace, Semicolon, Comma, Assign, Star}
 use Rattle.litmus_syntax.specs.Depth.{DeepExpression, DeepAssigned, deep_right, DeepDeclarators, deep_declarator, deep_declared, DeepSimple, deep_declare, deep_assign, deep_write, deep_perform, DeepStep, deep_statement, deep_simple, deep_block, deep_test, deep_arm, deep_else, DeepSteps, deep_statements, deep_step, DeepThread, deep_list, deep_body, DeepThreads, deep_thread, deep_next}
-use Rattle.litmus_syntax.specs.Drafts.{is_parameter}
 use Rattle.litmus_syntax.specs.Grammar.{IsExpression, IsDeclarators, declarators_one, declarators_more as declarators_and, IsStep, IsSteps, steps_none, steps_more as steps_and, IsParameterList, IsThread, IsThreads, threads_one, threads_more as threads_and}
-use Rattle.litmus_syntax.specs.Reading.{syntax, deep, after, expected, unless, name_at, before_name, call_word, open_at, expression_at, operation_at, right_at, declarator_at, declarators_more, declarators_at, assignment_at, write_at, declaration_at, performed_at, simple_at, closed_at, Inside, else_with, if_with, block_with, step_with, steps_more, steps_with, inside, steps_at, kind_at, behind_volatile, parameter_behind, parameters_more, parameters_at, parameters_closed, parameter_list_at, names_thread, thread_name_at, thread_at, threads_more, threads_at}
+use Rattle.litmus_syntax.specs.Reading.{syntax, deep, after, expected, unless, name_at, before_name, call_word, open_at, expression_at, operation_at, right_at, declarator_at, declarators_more, declarators_at, assignment_at, write_at, declaration_at, performed_at, simple_at, closed_at, Inside, else_with, if_with, block_with, step_with, steps_more, steps_with, inside, steps_at, parameter_list_at, names_thread, thread_name_at, thread_at, threads_more, threads_at}
 use Rattle.litmus_tree.specs.Tree.{Word, Term, Step, no_steps}
 use Rattle.litmus_syntax.proofs.DeepExpressions.{expression_deep, any_expression, operation_deep, right_deep}
-use Rattle.litmus_syntax.proofs.DeepTools.{Shallow, fine_ok, fine_syntax, fine_bind, fine_match, fine_if, fine_repeated, fine_expected, fine_name, fine_made, later, first, either, chosen_deep, repeated_deep, IsLast, open_deep}
+use Rattle.litmus_syntax.proofs.AlikeParts.{both_parameters_behind, both_thread_name}
+use Rattle.litmus_syntax.proofs.DeepTools.{fine, fine_expected, fine_name, chosen_deep, repeated_deep, IsLast, open_deep}
 use Rattle.litmus_syntax.proofs.Sound.{parameter_list-sound, thread-sound}
 use Rattle.litmus_syntax.proofs.Sounds.{Deeper, deeper}
 use Rattle.litmus_syntax.proofs.Statements.{declarator-sound, SoundInside, inside-sound, step_is}
@@ -29,13 +29,13 @@ assigned n r ts us vs d e f = subst (λ l. DeepAssigned (suc n) l) (sym (d ∙ a
 declarator_deep : (n : ℕ) (ts : List Symbol) → declarator_at n ts ≡ Err deep → DeepAssigned (suc n) ts
 unfolding declarator_at
 declarator_deep n ts e =
-    later (fine_name ts) e (λ x is f. chosen_deep (after Assign x.1) f (λ g. absurd ((fine_ok _).never g))
-    (λ y was g. assigned n x.0 ts x.1 y.1 (name-ok ts x.1 x.0 is) (after-some Assign x.1 y.1 y.0 was) (first (right_at n y.1) g (λ d. d) (λ v. fine_ok _))))
+    later (fine_name ts) e (λ x is f. chosen_deep (after Assign x.1) f (λ g. absurd (cc))
+    (λ y was g. assigned n x.0 ts x.1 y.1 (name-ok ts x.1 x.0 is) (after-some Assign x.1 y.1 y.0 was) (first (right_at n y.1) g (λ d. d) (λ v. never_ok))))
 
 declarators_deep : (n : ℕ) (ts : List Symbol) → declarators_at n ts ≡ Err deep → DeepDeclarators (suc n) ts
 unfolding declarators_at declarators_more
 declarators_deep n ts e =
-    either (declarator_at n ts >>= λ d. Ok ([] ++ d.0 ∷ [], d.1)) e (λ d. deep_declarator (first (declarator_at n ts) d (declarator_deep n ts) (λ x. fine_ok _)))
+    either (declarator_at n ts >>= λ d. Ok ([] ++ d.0 ∷ [], d.1)) e (λ d. deep_declarator (first (declarator_at n ts) d (declarator_deep n ts) (λ x. never_ok)))
     (λ x is f.
     let p = bind_ok (declarator_at n ts) _ _ is in
     repeated_deep (after Comma) (λ _ ds us. declarators_more n ds us) (λ l t. IsDeclarators n ts l t)
@@ -43,31 +43,31 @@ declarators_deep n ts e =
     let q = bind_ok (declarator_at n mid) _ _ g in
     moved (λ l t. IsDeclarators n ts l t) q.2 (declarators_and (subst (λ l. IsDeclarators n ts l b) (after-some Comma us mid o was) d) (declarator-sound n mid q.0.1 q.0.0 q.1)))
     (λ o us mid b d was g.
-    deep_declared (subst (λ l. IsDeclarators n ts l b) (after-some Comma us mid o was) d) (first (declarator_at n mid) g (declarator_deep n mid) (λ y. fine_ok _)))
+    deep_declared (subst (λ l. IsDeclarators n ts l b) (after-some Comma us mid o was) d) (first (declarator_at n mid) g (declarator_deep n mid) (λ y. never_ok)))
     x.0 x.1 (moved (λ l t. IsDeclarators n ts l t) p.2 (declarators_one (declarator-sound n ts p.0.1 p.0.0 p.1))) f)
 
 declaration_deep : (n : ℕ) (ts : List Symbol) → declaration_at n ts ≡ Err deep → DeepSimple (suc n) (Fixed Int ∷ ts)
 unfolding declaration_at
-declaration_deep n ts e = deep_declare (first (declarators_at n ts) e (declarators_deep n ts) (λ x. fine_ok _))
+declaration_deep n ts e = deep_declare (first (declarators_at n ts) e (declarators_deep n ts) (λ x. never_ok))
 
 assignment_deep : (n : ℕ) (ts : List Symbol) → assignment_at n ts ≡ Err deep → DeepSimple (suc n) ts
 unfolding assignment_at
 assignment_deep n ts e =
     later (fine_name ts) e (λ x is f. later (fine_expected Assign x.1) f
-    (λ y was g. deep_assign (assigned n x.0 ts x.1 y.1 (name-ok ts x.1 x.0 is) (expected-ok Assign x.1 y.1 y.0 was) (first (right_at n y.1) g (λ d. d) (λ v. fine_ok _)))))
+    (λ y was g. deep_assign (assigned n x.0 ts x.1 y.1 (name-ok ts x.1 x.0 is) (expected-ok Assign x.1 y.1 y.0 was) (first (right_at n y.1) g (λ d. d) (λ v. never_ok)))))
 
 write_deep : (n : ℕ) (ts : List Symbol) → write_at n ts ≡ Err deep → DeepSimple (suc n) (Fixed Star ∷ ts)
 unfolding write_at
 write_deep n ts e =
     later (fine_name ts) e (λ x is f. later (fine_expected Assign x.1) f
     (λ y was g. subst (λ l. DeepSimple (suc n) (Fixed Star ∷ l)) (sym (name-ok ts x.1 x.0 is ∙ ap (λ l. Name x.0 ∷ l) (expected-ok Assign x.1 y.1 y.0 was)))
-    (deep_write (first (expression_at n y.1) g (expression_deep n y.1) (λ v. fine_ok _)))))
+    (deep_write (first (expression_at n y.1) g (expression_deep n y.1) (λ v. never_ok)))))
 
 performed_deep : (n : ℕ) (ts : List Symbol) → performed_at n ts ≡ Err deep → DeepSimple (suc n) ts
 unfolding performed_at
 performed_deep n ts e =
-    chosen_deep (call_word ts) e (λ g. absurd (fine_syntax.never g))
-    (λ c was g. subst (λ l. DeepSimple (suc n) l) (sym (call_word-some ts c.1 c.0 was)) (deep_perform (first (operation_at c.0 n c.1) g (operation_deep c.0 n c.1) (λ a. fine_ok _))))
+    chosen_deep (call_word ts) e (λ g. absurd (cc))
+    (λ c was g. subst (λ l. DeepSimple (suc n) l) (sym (call_word-some ts c.1 c.0 was)) (deep_perform (first (operation_at c.0 n c.1) g (operation_deep c.0 n c.1) (λ a. never_ok))))
 
 simple_deep : (n : ℕ) (ts : List Symbol) → simple_at n ts ≡ Err deep → DeepSimple (suc n) ts
 unfolding simple_at
@@ -98,8 +98,8 @@ module _ (n : ℕ) (r : Inside) (inner : DeepInside n r) (sound : SoundInside n 
       else_with r c a us ≡ Err deep → DeepStep (suc n) (Fixed If ∷ Fixed LeftParen ∷ ts)
   unfolding else_with
   else_deep ts mid c a d us f e =
-      chosen_deep (after Else us) e (λ g. absurd ((fine_ok _).never g))
-      (λ y was g. deeper_else d (subst (λ l. Deeper IsStep n mid l a) (after-some Else us y.1 y.0 was) f) (first (r.statement y.1) g (inner.statement y.1) (λ b. fine_ok _)))
+      chosen_deep (after Else us) e (λ g. absurd (cc))
+      (λ y was g. deeper_else d (subst (λ l. Deeper IsStep n mid l a) (after-some Else us y.1 y.0 was) f) (first (r.statement y.1) g (inner.statement y.1) (λ b. never_ok)))
 
   -- behind the test, which stands in its parentheses
   arms_deep : (ts us : List Symbol) (c : Term) → Deeper IsExpression n ts us c → (expected RightParen us >>= λ y. r.statement y.1 >>= λ a. else_with r c a.0 a.1) ≡ Err deep →
@@ -120,11 +120,11 @@ module _ (n : ℕ) (r : Inside) (inner : DeepInside n r) (sound : SoundInside n 
 
   block_deep : (ts : List Symbol) → block_with r ts ≡ Err deep → DeepStep (suc n) (Fixed LeftBrace ∷ ts)
   unfolding block_with
-  block_deep ts e = deep_block (first (r.statements ts) e (inner.statements ts) (λ ss. fine_ok _))
+  block_deep ts e = deep_block (first (r.statements ts) e (inner.statements ts) (λ ss. never_ok))
 
   closed_deep : (ts : List Symbol) → closed_at n ts ≡ Err deep → DeepStep (suc n) ts
   unfolding closed_at
-  closed_deep ts e = deep_simple (first (simple_at n ts) e (simple_deep n ts) (λ s. fine_made _ (fine_expected Semicolon s.1)))
+  closed_deep ts e = deep_simple (first (simple_at n ts) e (simple_deep n ts) (λ s. never_made _ (fine_expected Semicolon s.1)))
 
   step_deep : (ts : List Symbol) → step_with r n ts ≡ Err deep → DeepStep (suc n) ts
   unfolding step_with
@@ -134,7 +134,7 @@ module _ (n : ℕ) (r : Inside) (inner : DeepInside n r) (sound : SoundInside n 
       (λ g. chosen_deep (after If ts) g (closed_deep ts)
       (λ y was h. subst (λ l. DeepStep (suc n) l) (sym (after-some If ts y.1 y.0 was)) (if_deep y.1 h)))
       (λ y was g. subst (λ l. DeepStep (suc n) l) (sym (after-some LeftBrace ts y.1 y.0 was)) (block_deep y.1 g)))
-      (λ y was f. absurd ((fine_ok _).never f))
+      (λ y was f. absurd (cc))
 
   steps_deep : ((ts rest : List Symbol) (s : Step) → step_with r n ts ≡ Ok (s, rest) → IsStep n ts rest s) → (ts : List Symbol) → steps_with r n ts ≡ Err deep → DeepSteps (suc n) ts
   unfolding steps_with steps_more
@@ -144,9 +144,9 @@ module _ (n : ℕ) (r : Inside) (inner : DeepInside n r) (sound : SoundInside n 
       (λ o us mid back b c d was g.
       let q = bind_ok (step_with r n mid) _ _ g in
       moved (λ l t. IsSteps n ts l t) q.2 (steps_and d (subst (λ l. IsStep n l q.0.1 q.0.0) (unless-same RightBrace us mid o was) (whole mid q.0.1 q.0.0 q.1))))
-      (λ o us mid b d was g. deep_step d (subst (λ l. DeepStep (suc n) l) (unless-same RightBrace us mid o was) (first (step_with r n mid) g (step_deep mid) (λ s. fine_ok _))))
+      (λ o us mid b d was g. deep_step d (subst (λ l. DeepStep (suc n) l) (unless-same RightBrace us mid o was) (first (step_with r n mid) g (step_deep mid) (λ s. never_ok))))
       no_steps ts steps_none)
-      (λ x. fine_made _ (fine_expected RightBrace x.1))
+      (λ x. never_made _ (fine_expected RightBrace x.1))
 
 inside_deep : (n : ℕ) → DeepInside n (inside n)
 unfolding inside
@@ -162,35 +162,11 @@ steps_are_deep n ts e = steps_deep n (inside n) (inside_deep n) (inside-sound n)
 
 -- Parameters.
 
-fine_kind : (ts : List Symbol) → Shallow (kind_at ts)
-unfolding kind_at
-fine_kind ts = fine_match (after AtomicInt ts) (fine_made _ (fine_expected Int ts)) (λ y. fine_ok _)
-
-fine_parameter : (ps : List Parameter) (ts : List Symbol) → Shallow (parameter_behind ps ts)
-unfolding parameter_behind
-fine_parameter ps ts = fine_bind (fine_kind (behind_volatile ts)) (λ k. fine_bind (fine_expected Star k.1) (λ z. fine_bind (fine_name z.1) (λ x. fine_if (is_parameter ps x.0) fine_syntax (fine_ok _))))
-
-fine_parameters_more : (ps : List Parameter) (ts : List Symbol) → Shallow (parameters_more ps ts)
-unfolding parameters_more
-fine_parameters_more ps ts = fine_made _ (fine_parameter ps ts)
-
-fine_parameters : (ts : List Symbol) → Shallow (parameters_at ts)
-unfolding parameters_at
-fine_parameters ts = fine_bind (fine_parameters_more [] ts) (λ x. fine_repeated (after Comma) (λ _ ps us. parameters_more ps us) (λ _ ps us. fine_parameters_more ps us) x.0 x.1)
-
-fine_parameters_closed : (ts : List Symbol) → Shallow (parameters_closed ts)
-unfolding parameters_closed
-fine_parameters_closed ts = fine_bind (fine_parameters ts) (λ x. fine_made _ (fine_expected RightParen x.1))
-
 parameter_list_deep : (n : ℕ) (ts : List Symbol) → parameter_list_at n ts ≡ Err deep → IsLast n ts
 unfolding parameter_list_at
-parameter_list_deep n ts e = first (open_at n ts) e (open_deep n ts) (λ m. fine_match (after RightParen m.1) (fine_parameters_closed m.1) (λ y. fine_ok _))
+parameter_list_deep n ts e = first (open_at n ts) e (open_deep n ts) (λ m. fine (both_parameters_behind m.1 m.1))
 
 -- Threads.
-
-fine_thread_name : (k : ℕ) (ts : List Symbol) → Shallow (thread_name_at k ts)
-unfolding thread_name_at
-fine_thread_name k ts = fine_bind (fine_name ts) (λ x. fine_if (names_thread x.0 k) (fine_ok _) fine_syntax)
 
 thread_name-ok : (k : ℕ) (ts rest : List Symbol) (u : Unit {0}) → thread_name_at k ts ≡ Ok (u, rest) → ts ≡ Name (codes "P" ++ decimal k) ∷ rest
 unfolding thread_name_at
@@ -212,17 +188,17 @@ closed_thread n k ts p =
 thread_deep : (n k : ℕ) (ts : List Symbol) → thread_at n k ts ≡ Err deep → DeepThread (suc n) k ts
 unfolding thread_at
 thread_deep n k ts e =
-    later (fine_thread_name k ts) e (λ y was f.
+    later (fine (both_thread_name k ts ts)) e (λ y was f.
     subst (λ l. DeepThread (suc n) k l) (sym (thread_name-ok k ts y.1 y.0 was))
     (either (parameter_list_at n y.1) f (λ d. closed_thread n k y.1 (parameter_list_deep n y.1 d))
     (λ ps is g. later (fine_expected LeftBrace ps.1) g
     (λ z at h. deep_body (subst (λ l. IsParameterList n y.1 l ps.0) (expected-ok LeftBrace ps.1 z.1 z.0 at) (parameter_list-sound n y.1 ps.1 ps.0 is))
-    (first (steps_at n z.1) h (steps_are_deep n z.1) (λ ss. fine_ok _))))))
+    (first (steps_at n z.1) h (steps_are_deep n z.1) (λ ss. never_ok))))))
 
 pub threads_deep : (n : ℕ) (ts : List Symbol) → threads_at n ts ≡ Err deep → DeepThreads (suc n) ts
 unfolding threads_at threads_more
 threads_deep n ts e =
-    either (thread_at n 0 ts >>= λ b. Ok ([] ++ b.0 ∷ [], b.1)) e (λ d. deep_thread (first (thread_at n 0 ts) d (thread_deep n 0 ts) (λ x. fine_ok _)))
+    either (thread_at n 0 ts >>= λ b. Ok ([] ++ b.0 ∷ [], b.1)) e (λ d. deep_thread (first (thread_at n 0 ts) d (thread_deep n 0 ts) (λ x. never_ok)))
     (λ x is f.
     let p = bind_ok (thread_at n 0 ts) _ _ is in
     repeated_deep before_name (threads_more n) (λ l t. IsThreads n ts l t)
@@ -230,5 +206,5 @@ threads_deep n ts e =
     let q = bind_ok (thread_at n (length b) mid) _ _ g in
     moved (λ l t. IsThreads n ts l t) q.2 (threads_and d (subst (λ l. IsThread n (length b) l q.0.1 q.0.0) (before_name-same us mid o was) (thread-sound n (length b) mid q.0.1 q.0.0 q.1))))
     (λ o us mid b d was g.
-    deep_next d (subst (λ l. DeepThread (suc n) (length b) l) (before_name-same us mid o was) (first (thread_at n (length b) mid) g (thread_deep n (length b) mid) (λ y. fine_ok _))))
+    deep_next d (subst (λ l. DeepThread (suc n) (length b) l) (before_name-same us mid o was) (first (thread_at n (length b) mid) g (thread_deep n (length b) mid) (λ y. never_ok))))
     x.0 x.1 (moved (λ l t. IsThreads n ts l t) p.2 (threads_one (thread-sound n 0 ts p.0.1 p.0.0 p.1))) f)

@@ -1,4 +1,5 @@
 pub mod Alike
+pub mod AlikeParts
 pub mod AlikeTests
 pub mod Calls
 pub mod Complete
@@ -11,7 +12,6 @@ pub mod Expressions
 pub mod Levels
 pub mod Misorders
 pub mod Operands
-pub mod Ordered
 pub mod ParameterNames
 pub mod Places
 pub mod Propositions
