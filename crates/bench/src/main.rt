@@ -3,9 +3,9 @@
 
 ghost use Rattle.std.specs.Prelude.{◌≤◌};
 
+use alone::{OneFault, one};
 use clap::error::ErrorKind;
 use command_line::{Task, read_task};
-use one_test::{OneFault, one};
 use scripts::{Options, ServeFault, serve};
 use std::io::BufWriter;
 use std::process::ExitCode;

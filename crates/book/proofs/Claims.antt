@@ -1,8 +1,8 @@
 -- Free slices, and steps of an open book that claim.
 use Rattle.std.proofs.Common.{◌≡◌, ℕ, zero, suc, ◌+◌, ◌<◌, ◌≤◌, ◌||◌, ◌∷◌, ◌++◌, Bool, true, false, List, [], Option, Some, refl, sym, ap, ◌∙◌, subst, inr, arith}
 use Rattle.std.specs.Prelude.{slice_get}
-use Rattle.slices.specs.Parts.{Portion}
-use Rattle.slices.specs.Works.{Task}
+use Rattle.slices.specs.Parts.{PieceValue}
+use Rattle.slices.specs.Works.{WorkValue}
 use Rattle.book.specs.Frees.{IsFreeAt, IsFreeIn}
 use Rattle.book.specs.Jobs as jobs
 use Rattle.book.specs.Step.{Step, HasRange}
@@ -49,13 +49,13 @@ nothing s seat open' e = inr (open', (e, refl))
 pub claims_spent : (s : Workbench) (seat : ℕ) (job : jobs.Job) (i : ℕ) → s.closed ≡ false → IsFreeIn s job i → s.limits.claims ≤ s.last_claim → Step s seat Claim (Refused ClaimsSpent) s
 claims_spent s seat job i open' free spent = inr (open', (any_in s job i free, spent, refl))
 
-abbrev portion : ℕ → ℕ → ℕ → ℕ → ℕ → Task → Portion
+abbrev portion : ℕ → ℕ → ℕ → ℕ → ℕ → WorkValue → PieceValue
 portion claim job slice from to work = record { claim = claim; job = job; slice = slice; from = from; to = to; work = work }
 
 abbrev holding : Workbench → ℕ → ℕ → ℕ → ℕ → Workbench
 holding s seat number job slice = record s { last_claim = number; live = s.live ++ record { number = number; seat = seat; job = job; slice = slice } ∷ [] }
 
-pub given : (s : Workbench) (seat number slice : ℕ) (job : jobs.Job) (p : Portion) → s.closed ≡ false → IsFreeIn s job slice → s.last_claim < s.limits.claims → number ≡ s.last_claim + 1
+pub given : (s : Workbench) (seat number slice : ℕ) (job : jobs.Job) (p : PieceValue) → s.closed ≡ false → IsFreeIn s job slice → s.last_claim < s.limits.claims → number ≡ s.last_claim + 1
     → p.claim ≡ number → p.job ≡ job.number → p.slice ≡ slice → HasRange (slice_get job.slices slice) p.from p.to → p.work ≡ job.work
     → Step s seat Claim (Piece p) (holding s seat number job.number slice)
 given s seat number slice job p open' free room n ec ej es range ew =

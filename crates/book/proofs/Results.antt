@@ -9,8 +9,8 @@ use Rattle.cat_model.specs.declared.model.FileVersion.{FileVersion}
 use Rattle.listings.proofs.Listings.{in_append, in_left, in_right}
 use Rattle.slices.specs.Parts.{IsRange, test_size}
 use Rattle.slices.specs.Tallies as tallies
-use Rattle.slices.specs.Tallies.{Results, IsHeld, IsApart, holds}
-use Rattle.slices.specs.Works.{Task}
+use Rattle.slices.specs.Tallies.{TallyValue, IsHeld, IsApart, holds}
+use Rattle.slices.specs.Works.{WorkValue}
 use Rattle.slices.specs.declared.span.Span.{Span}
 use Rattle.book.specs.Cuts.{IsCover, IsWithin}
 use Rattle.book.specs.Jobs.{Job, mark, marked, done}
@@ -119,7 +119,7 @@ mark_beyond (y ∷ ys) (suc i) e = ap (λ zs. y ∷ zs) (mark_beyond ys i e)
 pub done_beyond : (job : Job) (i n : ℕ) → slice_get job.slices i ≡ None → n ≡ done job → n ≡ done (marked i job)
 done_beyond job i n e is = is ∙ sym (ap (count_by (λ (y : Slice). y.returned)) (mark_beyond job.slices i e))
 
-pub done_few : (merged : Results) (slices : List Slice) → IsTied merged slices → count_by (λ x. x.returned) slices ≤ 256
+pub done_few : (merged : TallyValue) (slices : List Slice) → IsTied merged slices → count_by (λ x. x.returned) slices ≤ 256
 done_few merged slices tie = omega (arith, count_by-le-length (λ (x : Slice). x.returned) slices, tie.few)
 
 -- the root
@@ -174,7 +174,7 @@ was_returned xs i x e j r = elim (eqb_tells i r.0) [
 
 -- what is merged
 
-pub is_range : (merged : Results) (slices : List Slice) (i : ℕ) (x : Slice) → IsTied merged slices → slice_get slices i ≡ Some x → IsRange merged.work.test x.from x.to
+pub is_range : (merged : TallyValue) (slices : List Slice) (i : ℕ) (x : Slice) → IsTied merged slices → slice_get slices i ≡ Some x → IsRange merged.work.test x.from x.to
 is_range merged slices i x tie e =
     let fits = all_get (λ z. nat_le z.from z.to && nat_le z.to (test_size merged.work.test)) slices i x tie.cover.within e in
     record {
@@ -182,7 +182,7 @@ is_range merged slices i x tie e =
       within = leb-true x.to (test_size merged.work.test) (and_right (nat_le x.from x.to) _ fits);
     }
 
-pub fresh_tied : (work : Task) (slices : List Slice) → IsCut (test_size work.test) slices → HasRoot work.model.files → IsTied (record { work = work; spans = [] }) slices
+pub fresh_tied : (work : WorkValue) (slices : List Slice) → IsCut (test_size work.test) slices → HasRoot work.model.files → IsTied (record { work = work; spans = [] }) slices
 fresh_tied work slices cut root = record {
   cover = record { within = cut.within; once = cut.once };
   few = cut.few;
@@ -193,7 +193,7 @@ fresh_tied work slices cut root = record {
   root = root;
 }
 
-pub apart : (merged : Results) (slices : List Slice) (i : ℕ) (x : Slice) (s : Span) → IsTied merged slices → slice_get slices i ≡ Some x → x.returned ≡ false → s.from ≡ x.from → s.to ≡ x.to → IsApart s merged.spans
+pub apart : (merged : TallyValue) (slices : List Slice) (i : ℕ) (x : Slice) (s : Span) → IsTied merged slices → slice_get slices i ≡ Some x → x.returned ≡ false → s.from ≡ x.from → s.to ≡ x.to → IsApart s merged.spans
 apart merged slices i x s tie e fresh f t = λ j h held.
     clear (test_size merged.work.test) slices i x tie.cover e fresh j (omega (arith, h.0, f), omega (arith, h.1, t)) ((tie.tied j).1 held)
 
@@ -210,7 +210,7 @@ was_held spans s j h = elim (in_append spans (s ∷ []) h.0 h.1) [
   ]
 ]
 
-pub still_tied : (merged : Results) (slices : List Slice) (i : ℕ) (x : Slice) (s : Span) → IsTied merged slices → slice_get slices i ≡ Some x → s.from ≡ x.from → s.to ≡ x.to → IsTied (record merged { spans = merged.spans ++ s ∷ [] }) (mark i slices)
+pub still_tied : (merged : TallyValue) (slices : List Slice) (i : ℕ) (x : Slice) (s : Span) → IsTied merged slices → slice_get slices i ≡ Some x → s.from ≡ x.from → s.to ≡ x.to → IsTied (record merged { spans = merged.spans ++ s ∷ [] }) (mark i slices)
 still_tied merged slices i x s tie e f t = record {
   cover = mark_cover (test_size merged.work.test) i slices tie.cover;
   few = omega (arith, mark_length slices i, tie.few);
@@ -227,7 +227,7 @@ still_tied merged slices i x s tie e f t = record {
   root = tie.root;
 }
 
-pub all_covered : (merged : Results) (slices : List Slice) → IsTied merged slices → list_all (λ x. x.returned) slices ≡ true → tallies.IsCover (test_size merged.work.test) merged.spans
+pub all_covered : (merged : TallyValue) (slices : List Slice) → IsTied merged slices → list_all (λ x. x.returned) slices ≡ true → tallies.IsCover (test_size merged.work.test) merged.spans
 all_covered merged slices tie all = λ i l.
     let once = tie.cover.once i l in
     let at = counted_get (has_number i) slices (omega (arith, once)) in
@@ -248,19 +248,19 @@ marked_again job i x e t = ap (λ (xs : List Slice). let j : Job = record job { 
 now_marked : (slices : List Slice) (i k : ℕ) (x : Slice) → slice_get slices i ≡ Some x → k ≡ i → set slices k (record x { returned = true }) ≡ mark i slices
 now_marked slices i k x e same = ap (λ n. set slices n (record x { returned = true })) same ∙ mark_set slices i x e
 
-pub merged_tied : (merged new : Results) (slices : List Slice) (i k : ℕ) (x : Slice) (s : Span) → IsTied merged slices → slice_get slices i ≡ Some x → k ≡ i → s.from ≡ x.from → s.to ≡ x.to → new ≡ record merged { spans = merged.spans ++ s ∷ [] } → IsTied new (set slices k (record x { returned = true }))
+pub merged_tied : (merged new : TallyValue) (slices : List Slice) (i k : ℕ) (x : Slice) (s : Span) → IsTied merged slices → slice_get slices i ≡ Some x → k ≡ i → s.from ≡ x.from → s.to ≡ x.to → new ≡ record merged { spans = merged.spans ++ s ∷ [] } → IsTied new (set slices k (record x { returned = true }))
 merged_tied merged new slices i k x s tie e same f t is =
-    let P : Results → Type 0 = λ r. IsTied r (set slices k (record x { returned = true })) in
+    let P : TallyValue → Type 0 = λ r. IsTied r (set slices k (record x { returned = true })) in
     let Q : List Slice → Type 0 = λ xs. IsTied (record merged { spans = merged.spans ++ s ∷ [] }) xs in
     subst P (sym is) (subst Q (sym (now_marked slices i k x e same)) (still_tied merged slices i x s tie e f t))
 
-abbrev shown : ℕ → ℕ → Task → List Slice → Job
+abbrev shown : ℕ → ℕ → WorkValue → List Slice → Job
 shown number version work slices = record { number = number; version = version; work = work; slices = slices }
 
-pub merged_shown : (number version : ℕ) (merged new : Results) (slices : List Slice) (i k : ℕ) (x : Slice) (s : Span) → slice_get slices i ≡ Some x → k ≡ i → new ≡ record merged { spans = merged.spans ++ s ∷ [] }
+pub merged_shown : (number version : ℕ) (merged new : TallyValue) (slices : List Slice) (i k : ℕ) (x : Slice) (s : Span) → slice_get slices i ≡ Some x → k ≡ i → new ≡ record merged { spans = merged.spans ++ s ∷ [] }
     → shown number version new.work (set slices k (record x { returned = true })) ≡ marked i (shown number version merged.work slices)
 merged_shown number version merged new slices i k x s e same is =
-    ap (λ (r : Results). shown number version r.work (set slices k (record x { returned = true }))) is ∙ ap (shown number version merged.work) (now_marked slices i k x e same)
+    ap (λ (r : TallyValue). shown number version r.work (set slices k (record x { returned = true }))) is ∙ ap (shown number version merged.work) (now_marked slices i k x e same)
 
 -- what a look at a place tells
 

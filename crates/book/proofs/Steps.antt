@@ -22,14 +22,14 @@ use Rattle.book.specs.Changes.{FitsJob, FitsVerdict}
 use Rattle.book.specs.Jobs as jobs
 use Rattle.book.specs.Jobs.{done, is_done, marked}
 use Rattle.book.specs.Results.{HasRoot}
-use Rattle.slices.specs.Judgements.{Judged}
+use Rattle.slices.specs.VerdictValues.{VerdictValue}
 use Rattle.journal.specs.Lines.{returned}
-use Rattle.slices.specs.Parts.{IsAdmitted, test_size, Part}
+use Rattle.slices.specs.Parts.{IsAdmitted, test_size, PieceResultValue}
 use Rattle.book.specs.Step.{Step, Asks, Polls, Returns, ReturnsTo, IsCut, IsOwn, ended, taken}
 use Rattle.slices.specs.Works.{IsModelOf}
 use Rattle.slices.specs.Verdicts.{IsVerdict}
 use Rattle.book.specs.Workbench.{Workbench, test_of, test_version, job_of, claim_of, replaced}
-use Rattle.slices.specs.Works.{Task}
+use Rattle.slices.specs.Works.{WorkValue}
 use Rattle.book.specs.declared.live.Live.{Live}
 use Rattle.journal.specs.declared.records.Replacement.{Replacement}
 use Rattle.journal.specs.declared.records.Refusal.TheVariants.{ReadingTest, ReadingCat, VersionsSpent, NoTest, Model, Space, JobsFull, NoJob, NoClaim, Replaced, Stranger}
@@ -83,9 +83,9 @@ no_model s seat test cat t fault open' e cause = asks_by s seat test cat (Some t
 pub no_space : (s : Workbench) (seat : ℕ) (test cat : Word) (t u : Litmus) (m : Assembly) (fault : SpaceFault) → s.closed ≡ false → test_of s.tests test ≡ Some t → IsModelOf s.cats cat m → u ≡ t → IsSpaceFault u fault → fault ≢ of_space.NoMemory → Step s seat (Ask test cat) (Refused (Space fault)) s
 no_space s seat test cat t u m fault open' e model same cause not = asks_by s seat test cat (Some t) _ s open' e (m, model, ((let P : Litmus → Type 0 = λ v. IsSpaceFault v fault in subst P same cause), not, refl))
 
-pub jobs_full : (s : Workbench) (seat : ℕ) (test cat : Word) (t u : Litmus) (m : Assembly) (work : Task) → s.closed ≡ false → test_of s.tests test ≡ Some t → IsModelOf s.cats cat m → u ≡ t → work ≡ record { test = u; model = m } → IsAdmitted work.test → 256 ≤ length s.jobs → Step s seat (Ask test cat) (Refused JobsFull) s
+pub jobs_full : (s : Workbench) (seat : ℕ) (test cat : Word) (t u : Litmus) (m : Assembly) (work : WorkValue) → s.closed ≡ false → test_of s.tests test ≡ Some t → IsModelOf s.cats cat m → u ≡ t → work ≡ record { test = u; model = m } → IsAdmitted work.test → 256 ≤ length s.jobs → Step s seat (Ask test cat) (Refused JobsFull) s
 jobs_full s seat test cat t u m work open' e model same made admitted full =
-    let is : work.test ≡ t = ap (λ (w : Task). w.test) made ∙ same in
+    let is : work.test ≡ t = ap (λ (w : WorkValue). w.test) made ∙ same in
     asks_by s seat test cat (Some t) _ s open' e (m, model, ((let P : Litmus → Type 0 = λ v. IsAdmitted v in subst P is admitted), full, refl))
 
 -- polling
@@ -96,14 +96,14 @@ polls_by s seat id o reply s' open' e step = let P : Option jobs.Job → Type 0 
 pub no_job : (s : Workbench) (seat id : ℕ) → s.closed ≡ false → job_of s.jobs id ≡ None → Step s seat (Poll id) (Refused (NoJob id)) s
 no_job s seat id open' e = polls_by s seat id None _ s open' e (refl, refl)
 
-pub judged : (s : Workbench) (seat id : ℕ) (job : jobs.Job) (v : Judged) → s.closed ≡ false → job_of s.jobs id ≡ Some job → is_done job ≡ true → v.work ≡ job.work → v.version ≡ job.version → IsVerdict v.work.test v.work.model.items v.outcome → Step s seat (Poll id) (Verdict v) s
+pub judged : (s : Workbench) (seat id : ℕ) (job : jobs.Job) (v : VerdictValue) → s.closed ≡ false → job_of s.jobs id ≡ Some job → is_done job ≡ true → v.work ≡ job.work → v.version ≡ job.version → IsVerdict v.work.test v.work.model.items v.finding → Step s seat (Poll id) (Verdict v) s
 judged s seat id job v open' e whole w n right = polls_by s seat id (Some job) _ s open' e (whole, w, n, right, refl)
 
 -- the same verdict, kept once more
-pub judged_again : (s : Workbench) (seat id : ℕ) (job : jobs.Job) (v w : Judged) → w ≡ v → s.closed ≡ false → job_of s.jobs id ≡ Some job → is_done job ≡ true → v.work ≡ job.work → v.version ≡ job.version → IsVerdict v.work.test v.work.model.items v.outcome → Step s seat (Poll id) (Verdict w) s
-judged_again s seat id job v w same open' e whole k n right = let P : Judged → Type 0 = λ x. Step s seat (Poll id) (Verdict x) s in subst P (sym same) (judged s seat id job v open' e whole k n right)
+pub judged_again : (s : Workbench) (seat id : ℕ) (job : jobs.Job) (v w : VerdictValue) → w ≡ v → s.closed ≡ false → job_of s.jobs id ≡ Some job → is_done job ≡ true → v.work ≡ job.work → v.version ≡ job.version → IsVerdict v.work.test v.work.model.items v.finding → Step s seat (Poll id) (Verdict w) s
+judged_again s seat id job v w same open' e whole k n right = let P : VerdictValue → Type 0 = λ x. Step s seat (Poll id) (Verdict x) s in subst P (sym same) (judged s seat id job v open' e whole k n right)
 
-pub verdict_fits : (s : Workbench) (id : ℕ) (job : jobs.Job) (v : Judged) → job_of s.jobs id ≡ Some job → v.work ≡ job.work → v.version ≡ job.version → IsVerdict v.work.test v.work.model.items v.outcome → FitsVerdict (job_of s.jobs id) v
+pub verdict_fits : (s : Workbench) (id : ℕ) (job : jobs.Job) (v : VerdictValue) → job_of s.jobs id ≡ Some job → v.work ≡ job.work → v.version ≡ job.version → IsVerdict v.work.test v.work.model.items v.finding → FitsVerdict (job_of s.jobs id) v
 verdict_fits s id job v e w n right = let P : Option jobs.Job → Type 0 = λ o. FitsVerdict o v in subst P (sym e) (w, n, right)
 
 pub poll_replaced : (s : Workbench) (seat id : ℕ) (job : jobs.Job) (r : Replacement) → s.closed ≡ false → job_of s.jobs id ≡ Some job → is_done job ≡ false → replaced s job ≡ Some r → Step s seat (Poll id) (Refused (Replaced r)) s
@@ -135,19 +135,19 @@ return_stranger s seat r c job open' e f h not = returns_to s seat r c (Some job
 pub return_taken : (s : Workbench) (seat d n : ℕ) (r : Returned) (c : Live) (job : jobs.Job) → s.closed ≡ false → claim_of s.live r.claim seat ≡ Some c → job_of s.jobs c.job ≡ Some job → replaced s job ≡ None → IsOwn c job r → d ≡ done (marked r.slice job) → n ≡ length job.slices → Step s seat (Return r) (Taken d n) (taken s r.claim seat c.job r.slice)
 return_taken s seat d n r c job open' e f h own count total = returns_to s seat r c (Some job) _ _ open' e f (h, own, refl, count, total)
 
-pub fits_job : (s : Workbench) (number : ℕ) (c : Live) (job : jobs.Job) (r : Part) → job_of s.jobs number ≡ Some job → IsOwn c job (returned r) → FitsJob (job_of s.jobs number) r
+pub fits_job : (s : Workbench) (number : ℕ) (c : Live) (job : jobs.Job) (r : PieceResultValue) → job_of s.jobs number ≡ Some job → IsOwn c job (returned r) → FitsJob (job_of s.jobs number) r
 fits_job s number c job r e own = let P : Option jobs.Job → Type 0 = λ o. FitsJob o r in subst P (sym e) (record { work = own.2; range = own.1 })
 
-pub opened_job : (s : Workbench) (seat : ℕ) (test cat : Word) (t u : Litmus) (m : Assembly) (number version : ℕ) (work w : Task) (job : jobs.Job) → s.closed ≡ false → test_of s.tests test ≡ Some t → IsModelOf s.cats cat m → u ≡ t → work ≡ record { test = u; model = m } → IsAdmitted work.test → length s.jobs < 256 → number ≡ s.last_job + 1 → version ≡ test_version s.tests test → w ≡ work
+pub opened_job : (s : Workbench) (seat : ℕ) (test cat : Word) (t u : Litmus) (m : Assembly) (number version : ℕ) (work w : WorkValue) (job : jobs.Job) → s.closed ≡ false → test_of s.tests test ≡ Some t → IsModelOf s.cats cat m → u ≡ t → work ≡ record { test = u; model = m } → IsAdmitted work.test → length s.jobs < 256 → number ≡ s.last_job + 1 → version ≡ test_version s.tests test → w ≡ work
     → job.number ≡ number → job.version ≡ version → job.work ≡ w → IsCut (test_size w.test) job.slices
     → Step s seat (Ask test cat) (Job number) (record s { last_job = job.number; jobs = s.jobs ++ job ∷ [] })
 opened_job s seat test cat t u m number version work w job open' e model same made admitted room n v kept jn jv jw cut =
     let P : Litmus → Type 0 = λ x. work ≡ record { test = x; model = m } in
     let made' : work ≡ record { test = t; model = m } = subst P same made in
     let is : w ≡ record { test = t; model = m } = kept ∙ made' in
-    let A : Task → Type 0 = λ x. IsAdmitted x.test in
-    let C : Task → Type 0 = λ x. IsCut (test_size x.test) job.slices in
-    let after : ℕ → ℕ → Task → Workbench = λ i k x. record s { last_job = i; jobs = s.jobs ++ record { number = i; version = k; work = x; slices = job.slices } ∷ [] } in
+    let A : WorkValue → Type 0 = λ x. IsAdmitted x.test in
+    let C : WorkValue → Type 0 = λ x. IsCut (test_size x.test) job.slices in
+    let after : ℕ → ℕ → WorkValue → Workbench = λ i k x. record s { last_job = i; jobs = s.jobs ++ record { number = i; version = k; work = x; slices = job.slices } ∷ [] } in
     let same_state : after job.number job.version job.work ≡ after number (test_version s.tests test) (record { test = t; model = m }) =
     ap (λ i. after i job.version job.work) jn ∙ ap (λ k. after number k job.work) (jv ∙ v) ∙ ap (after number (test_version s.tests test)) (jw ∙ is) in
     asks_by s seat test cat (Some t) _ _ open' e (m, model, (subst A made' admitted, room, n, (job.slices, subst C is cut, same_state)))
@@ -156,7 +156,7 @@ opened_job s seat test cat t u m number version work w job open' e model same ma
 pub has_root : (cats : List Entry) (root : Word) (m : Assembly) → IsModelOf cats root m → HasRoot m.files
 has_root cats root m h = subst HasRoot (sym h.closure.files_are) tt
 
-pub work_root : (cats : List Entry) (root : Word) (u : Litmus) (m : Assembly) (work w : Task) → IsModelOf cats root m → work ≡ record { test = u; model = m } → w ≡ work → HasRoot w.model.files
+pub work_root : (cats : List Entry) (root : Word) (u : Litmus) (m : Assembly) (work w : WorkValue) → IsModelOf cats root m → work ≡ record { test = u; model = m } → w ≡ work → HasRoot w.model.files
 work_root cats root u m work w h made kept =
-    let P : Task → Type 0 = λ x. HasRoot x.model.files in
+    let P : WorkValue → Type 0 = λ x. HasRoot x.model.files in
     subst P (sym (kept ∙ made)) (has_root cats root m h)

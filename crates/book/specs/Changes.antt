@@ -6,8 +6,8 @@ use Rattle.cat_model.specs.Files.{version_of, loaded, store}
 use Rattle.book.specs.Frees.{IsPassed}
 use Rattle.book.specs.Jobs.{Job}
 use Rattle.book.specs.Results.{IsVerdictOn}
-use Rattle.slices.specs.Judgements.{Judged}
-use Rattle.slices.specs.Parts.{Part}
+use Rattle.slices.specs.VerdictValues.{VerdictValue}
+use Rattle.slices.specs.Parts.{PieceResultValue}
 use Rattle.book.specs.Step.{HasRange, ended, taken, released, forgotten}
 use Rattle.book.specs.Workbench.{Workbench, job_of, is_claimed}
 use Rattle.book.specs.declared.plan.Change.{Change}
@@ -28,16 +28,16 @@ changed s (Judge id v) = s
 changed s Close = record s { closed = true }
 
 -- the result is of the job's work, and of a slice that it has
-pub record IsFit (job : Job) (part : Part) : Type 0 where
+pub record IsFit (job : Job) (part : PieceResultValue) : Type 0 where
   pub work : part.piece.work ≡ job.work
   pub range : HasRange (slice_get job.slices part.piece.slice) part.piece.from part.piece.to
 
-abbrev pub FitsJob : Option Job → Part → Type 0
+abbrev pub FitsJob : Option Job → PieceResultValue → Type 0
 FitsJob None part = ⊥
 FitsJob (Some job) part = IsFit job part
 
 -- the verdict is one on the job
-abbrev pub FitsVerdict : Option Job → Judged → Type 0
+abbrev pub FitsVerdict : Option Job → VerdictValue → Type 0
 FitsVerdict None v = ⊥
 FitsVerdict (Some job) v = IsVerdictOn job.work job.version v
 

@@ -1,14 +1,14 @@
 -- Jobs.
 use Rattle.std.specs.Prelude.{ℕ, zero, suc, Bool, true, List, [], ◌∷◌, count_by}
 use Rattle.std.specs.List.{list_all}
-use Rattle.slices.specs.Works.{Task}
+use Rattle.slices.specs.Works.{WorkValue}
 use Rattle.book.specs.declared.slice.Slice.{Slice}
 
 -- A job: its number, the version of its test, its work with the files and their versions, and its slices.
 pub record Job : Type 0 where
   pub number : ℕ
   pub version : ℕ
-  pub work : Task
+  pub work : WorkValue
   pub slices : List Slice
 
 -- how many slices are returned

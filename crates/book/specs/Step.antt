@@ -1,5 +1,5 @@
 -- Which replies the book may give, and the workbench after them. A journal is legal if one workbench could have made it.
--- Each reply is the first refusal whose cause stands, with the workbench unchanged; else it is as the command asks.
+-- Each reply is the first refusal whose cause holds, with the workbench unchanged; else it is as the command asks.
 use Rattle.std.specs.Prelude.{◌≡◌, ◌≢◌, ℕ, ◌+◌, ◌<◌, ◌≤◌, Bool, true, false, ◌&&◌, ◌==◌, not, nat_lt, nat_le, List, [], ◌∷◌, ◌++◌, length, filter, count_by, Option, None, Some, is_some, slice_get, ◌⊎◌}
 use Rattle.std.specs.List.{list_all}
 use Rattle.std.specs.Str.{bytes_eq}
@@ -104,7 +104,7 @@ Asks s test cat (Some t) reply s' = (m : Assembly) × IsModelOf s.cats cat m × 
 -- is replaced.
 abbrev pub Polls : Workbench → ℕ → Option jobs.Job → Reply → Workbench → Type 0
 Polls s id None (Refused (NoJob n)) s' = (n ≡ id) × (s' ≡ s)
-Polls s id (Some job) (Verdict v) s' = (is_done job ≡ true) × (v.work ≡ job.work) × (v.version ≡ job.version) × IsVerdict v.work.test v.work.model.items v.outcome × (s' ≡ s)
+Polls s id (Some job) (Verdict v) s' = (is_done job ≡ true) × (v.work ≡ job.work) × (v.version ≡ job.version) × IsVerdict v.work.test v.work.model.items v.finding × (s' ≡ s)
 Polls s id (Some job) (Refused (Replaced r)) s' = (is_done job ≡ false) × (replaced s job ≡ Some r) × (s' ≡ s)
 Polls s id (Some job) (Pending d n) s' = (is_done job ≡ false) × (replaced s job ≡ None) × (d ≡ done job) × (n ≡ length job.slices) × (s' ≡ s)
 Polls s id job reply s' = ⊥

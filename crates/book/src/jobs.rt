@@ -216,7 +216,7 @@ impl Job {
         requires { is_done self.now ≡ true }
         ensures work { IfOk result (λ v. v.work ≡ self.now.work) }
         ensures version { IfOk result (λ v. v.version ≡ self.now.version) }
-        ensures right { IfOk result (λ v. IsVerdict v.work.test v.work.model.items v.outcome) }
+        ensures right { IfOk result (λ v. IsVerdict v.work.test v.work.model.items v.finding) }
     {
         match &self.verdict {
             Some(verdict) => verdict.share(),

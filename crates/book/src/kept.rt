@@ -7,9 +7,9 @@ ghost use Rattle.journal.specs.Lines.{answers, seen};
 ghost use Rattle.book.specs.Step.{Legal, Step};
 ghost use Rattle.book.specs.Workbench.{empty};
 
-use crate::bench::Bench;
 use crate::limits::Limits;
 use crate::plan::Plan;
+use crate::workbench::Bench;
 use journal::{Command, Entry, Reply};
 use std::alloc::{AllocError, Global};
 use std::marker::Model;

@@ -1,7 +1,6 @@
 //! The book of jobs, with the journal of every call.
 #![tactic(auto)]
 
-mod bench;
 mod cutting;
 mod jobs;
 mod kept;
@@ -12,8 +11,8 @@ mod names;
 mod plan;
 mod reading;
 mod slice;
+mod workbench;
 
-pub use bench::Bench;
 pub use jobs::Job;
 pub use journal::{
     Command, Entry, JobRow, Listing, Loaded, Refusal, Replacement, Reply, Returned, Said,
@@ -26,3 +25,4 @@ pub use mark::Mark;
 pub use names::{TestSlot, Tests};
 pub use plan::{Change, Plan};
 pub use slice::Slice;
+pub use workbench::Bench;

@@ -22,7 +22,7 @@ use wb_text::Name;
 pub fn read_litmus(alloc: Global, text: &[u8]) -> Result<Test, TestFault>
     ensures found { IfOk result (Reads text.now) }
     ensures only { IfErr result (λ e. (t : Litmus) → Reads text.now t → e ≡ of_test.NoMemory) }
-    // Each refusal comes only where its cause stands.
+    // Each refusal comes only where its cause holds.
     ensures cause { IfErr result (λ e. IsRefused text.now e) }
 {
     read_test(alloc, text)
@@ -32,7 +32,7 @@ pub fn read_litmus(alloc: Global, text: &[u8]) -> Result<Test, TestFault>
 pub fn read_kept(alloc: Global, text: &[u8]) -> Result<TestRef, TestFault>
     ensures found { IfOk result (Reads text.now) }
     ensures only { IfErr result (λ e. (t : Litmus) → Reads text.now t → e ≡ of_test.NoMemory) }
-    // Each refusal comes only where its cause stands.
+    // Each refusal comes only where its cause holds.
     ensures cause { IfErr result (λ e. IsRefused text.now e) }
 {
     let test = read_litmus(alloc, text)?;
@@ -43,7 +43,7 @@ pub fn read_kept(alloc: Global, text: &[u8]) -> Result<TestRef, TestFault>
 pub fn read_file(alloc: Global, text: &[u8]) -> Result<CatFile, CatFault>
     ensures found { IfOk result (ReadsCat text.now) }
     ensures only { IfErr result (λ e. (f : File) → ReadsCat text.now f → e ≡ of_cat.NoMemory) }
-    // Each refusal comes only where its cause stands.
+    // Each refusal comes only where its cause holds.
     ensures cause { IfErr result (λ e. IsRefusedCat text.now e) }
 {
     read_cat(alloc, text)

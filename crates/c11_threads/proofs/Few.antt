@@ -12,7 +12,7 @@ use Rattle.events.specs.declared.event.Event.{Event}
 use Rattle.events.specs.declared.event.Order.TheVariants.{Na}
 use Rattle.events.specs.Executions.{ThreadRun}
 use Rattle.litmus_tree.specs.Tree.{Word, Action, load, store, exchange, fence, Right, computed, plain_read, value_of, Declared, Step, empty, block, declare, assign, plain_write, perform, if_only, if_else, Steps, no_steps, in_turn}
-use Rattle.litmus_test.specs.Limits.{action_events, right_events, optional_events, step_events, steps_events, program_events, ActionNames, RightNames, OptionalNames, StepNames, StepsNames}
+use Rattle.litmus_value.specs.Limits.{action_events, right_events, optional_events, step_events, steps_events, program_events, ActionNames, RightNames, OptionalNames, StepNames, StepsNames}
 use Rattle.c11_threads.specs.declared.content.Content.{Content}
 use Rattle.c11_threads.specs.Contents.{place_of, is_true}
 use Rattle.c11_threads.specs.Runs.{Progress, after, Site, thread_of, names, given_by, inside, reads_from, writes_into, fences, Calls, Gives, Assigns, Declares, DeclaresAll, Branches, Performs, PerformsAll, body, start}

@@ -13,7 +13,7 @@ use Rattle.conditions.specs.declared.place.Place.{Place}
 use Rattle.conditions.specs.declared.place.Place.TheVariants.{Reg}
 use Rattle.conditions.specs.States.{value_at}
 use Rattle.litmus_tree.specs.Tree.{Word, Term, number, held, denied, equal, unequal, both, either, Action, load, store, exchange, fence, Right, computed, plain_read, value_of, Declared, Step, empty, block, declare, assign, plain_write, perform, if_only, if_else, Steps, no_steps, in_turn, Litmus}
-use Rattle.litmus_test.specs.Values.{term_constants, action_constants, right_constants, optional_constants, step_constants, steps_constants, program_constants, InDom}
+use Rattle.litmus_value.specs.Values.{term_constants, action_constants, right_constants, optional_constants, step_constants, steps_constants, program_constants, InDom}
 use Rattle.c11_threads.specs.declared.content.Content.{Content}
 use Rattle.c11_threads.specs.Contents.{place_of, nothing, is_true, truth, value_in}
 use Rattle.c11_threads.specs.Runs.{Progress, after, next_read, Site, thread_of, no_program, holding, names, given_by, inside, reads_from, writes_into, fences, Calls, Gives, Assigns, Declares, DeclaresAll, Branches, Performs, PerformsAll, body, initial_content, start}

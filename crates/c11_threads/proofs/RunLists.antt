@@ -12,8 +12,8 @@ use Rattle.events.specs.Executions.{ThreadRun, no_places}
 use Rattle.listings.specs.Lists.{IsIn, NoRepeats, Lists}
 use Rattle.listings.proofs.Listings.{in_map, map_in, once_map, in_flat_map, flat_map_in, once_flat_map_of}
 use Rattle.litmus_tree.specs.Tree.{Word, Action, load, store, exchange, fence, Right, computed, plain_read, value_of, Declared, Step, empty, block, declare, assign, plain_write, perform, if_only, if_else, Steps, no_steps, in_turn, Litmus}
-use Rattle.litmus_test.specs.Values.{values_of, InDom}
-use Rattle.litmus_test.proofs.Distinct.{lists_values}
+use Rattle.litmus_value.specs.Values.{values_of, InDom}
+use Rattle.litmus_value.proofs.Distinct.{lists_values}
 use Rattle.c11_threads.specs.declared.content.Content.{Content}
 use Rattle.c11_threads.specs.Contents.{place_of, nothing}
 use Rattle.c11_threads.specs.Runs.{Progress, after, next_read, Site, thread_of, given_by, inside, reads_from, writes_into, fences, Calls, Assigns, Declares, DeclaresAll, Branches, Performs, PerformsAll, body, start, run_of, IsRun}

@@ -6,8 +6,8 @@ use Rattle.events.specs.declared.event.Event.{Event}
 use Rattle.events.specs.Executions.{ThreadRun, is_read}
 use Rattle.listings.specs.Lists.{StandsAt}
 use Rattle.litmus_tree.specs.Tree.{Litmus}
-use Rattle.litmus_test.specs.Limits.{program_events, ProgramNames}
-use Rattle.litmus_test.specs.Values.{InDom}
+use Rattle.litmus_value.specs.Limits.{program_events, ProgramNames}
+use Rattle.litmus_value.specs.Values.{InDom}
 use Rattle.c11_threads.specs.Runs.{thread_of, IsRun}
 
 -- a fence, or an access to one of m locations

@@ -12,7 +12,7 @@ use Rattle.events.specs.Executions.{ThreadRun, no_places}
 use Rattle.conditions.specs.declared.place.Place.TheVariants.{Reg}
 use Rattle.litmus_tree.specs.Tree.{Word, Term, Action, load, store, exchange, fence, Right, computed, plain_read, value_of, Declared, Step, empty, block, declare, assign, plain_write, perform, if_only, if_else, Steps, no_steps, in_turn, Program, Litmus}
 use Rattle.conditions.specs.States.{value_at}
-use Rattle.litmus_test.specs.Values.{InDom}
+use Rattle.litmus_value.specs.Values.{InDom}
 use Rattle.c11_threads.specs.declared.content.Content.{Content}
 use Rattle.c11_threads.specs.Contents.{place_of, just, joined, nothing, is_true, content_in}
 

@@ -10,7 +10,7 @@ use Rattle.events.specs.declared.event.Order.TheVariants.{Na}
 use Rattle.events.specs.Executions.{ThreadRun, no_places}
 use Rattle.listings.specs.Lists.{Lists}
 use Rattle.litmus_tree.specs.Tree.{Word, Term, Action, load, store, exchange, fence, Right, computed, plain_read, value_of, Declared, Step, empty, block, declare, assign, plain_write, perform, if_only, if_else, Steps, no_steps, in_turn, Litmus}
-use Rattle.litmus_test.specs.Values.{values_of}
+use Rattle.litmus_value.specs.Values.{values_of}
 use Rattle.c11_threads.specs.declared.content.Content.{Content}
 use Rattle.c11_threads.specs.Contents.{place_of, joined, nothing, is_true, content_in}
 use Rattle.c11_threads.specs.Runs.{Progress, after, next_read, thread_of, start, run_of, IsRun}

@@ -14,7 +14,7 @@ use crate::content::Content;
 use conditions::{Binding, Place};
 use events::no_places;
 use indexmap::IndexMap;
-use litmus_test::Test;
+use litmus_value::Test;
 use std::alloc::{AllocError, Global};
 use wb_text::Name;
 

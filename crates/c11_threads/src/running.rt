@@ -2,7 +2,7 @@
 
 ghost use Rattle.std.specs.Prelude.{◌≡◌, ◌<◌, ◌≤◌, ◌∷◌, [], length, map, IfOk, IfErr};
 ghost use Rattle.listings.specs.Lists.{Lists};
-ghost use Rattle.litmus_test.specs.Values.{values_of};
+ghost use Rattle.litmus_value.specs.Values.{values_of};
 ghost use Rattle.litmus_tree.specs.Tree.{steps_of};
 ghost use Rattle.c11_threads.specs.Runs.{IsRun, thread_of, start, run_of};
 ghost use Rattle.c11_threads.specs.Unrolled.{setting_of, runs_of};
@@ -13,8 +13,8 @@ use crate::initial::initial_contents;
 use crate::progress::Progress;
 use crate::unroll::Setting;
 use events::{Run, no_places};
-use litmus_test::Test;
 use litmus_tree::Statement;
+use litmus_value::Test;
 use std::alloc::{AllocError, Global};
 
 /// A thread at its start.

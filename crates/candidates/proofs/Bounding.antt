@@ -7,7 +7,7 @@ use Rattle.std.specs.List.{sum_by, All}
 use Rattle.events.specs.Executions.{ThreadRun}
 use Rattle.listings.specs.Lists.{IsIn, ForEach, tabulate}
 use Rattle.litmus_tree.specs.Tree.{Litmus}
-use Rattle.litmus_test.specs.Limits.{program_events, IsTest}
+use Rattle.litmus_value.specs.Limits.{program_events, IsTest}
 use Rattle.c11_threads.specs.Runs.{thread_of, no_program, IsRun}
 use Rattle.c11_threads.specs.Bounds.{IsPlaced}
 use Rattle.c11_threads.proofs.Few.{bounding}

@@ -4,7 +4,7 @@ use Rattle.std.specs.List.{All}
 use Rattle.events.specs.declared.event.Event.{Event}
 use Rattle.events.specs.declared.event.EventId.{EventId}
 use Rattle.events.specs.declared.event.EventId.TheVariants.{Initial, Own}
-use Rattle.events.specs.Executions.{ThreadRun, Execution, is_read, IsNamed, IsGraph, empty_run}
+use Rattle.events.specs.Executions.{ThreadRun, GraphValue, is_read, IsNamed, IsGraph, empty_run}
 use Rattle.listings.specs.Lists.{IsIn, StandsAt, ForEach, tabulate}
 use Rattle.listings.specs.Numbered.{digits}
 use Rattle.listings.proofs.Listings.{in_get_or}
@@ -84,9 +84,9 @@ is_graph init runs i w l =
     }
 
 -- A candidate by its parts.
-pub is_candidate : (init : List ℕ) (runs : List ThreadRun) (orders number : ℕ) (vs : List ℕ) (rs : List ThreadRun) (rf : List EventId) (co : List (List EventId)) → vs ≡ init → rs ≡ runs → orders ≡ count_co (length init) runs → rf ≡ rf_at runs (number / orders) → co ≡ digits (count_orders runs) (order_at runs) (upto (length init)) (number % orders) → (let x : Execution = record { init = vs; runs = rs; rf = rf; co = co } in x) ≡ candidate init runs number
+pub is_candidate : (init : List ℕ) (runs : List ThreadRun) (orders number : ℕ) (vs : List ℕ) (rs : List ThreadRun) (rf : List EventId) (co : List (List EventId)) → vs ≡ init → rs ≡ runs → orders ≡ count_co (length init) runs → rf ≡ rf_at runs (number / orders) → co ≡ digits (count_orders runs) (order_at runs) (upto (length init)) (number % orders) → (let x : GraphValue = record { init = vs; runs = rs; rf = rf; co = co } in x) ≡ candidate init runs number
 is_candidate init runs orders number vs rs rf co a b o f c =
-    let X : List ℕ → List ThreadRun → List EventId → List (List EventId) → Execution = λ v r w k. record { init = v; runs = r; rf = w; co = k } in
+    let X : List ℕ → List ThreadRun → List EventId → List (List EventId) → GraphValue = λ v r w k. record { init = v; runs = r; rf = w; co = k } in
     ap (λ v. X v rs rf co) a ∙ ap (λ r. X init r rf co) b
     ∙ ap (λ w. X init runs w co) (f ∙ ap (λ n. rf_at runs (number / n)) o)
     ∙ ap (λ k. X init runs (rf_at runs (number / count_co (length init) runs)) k) (c ∙ ap (λ n. digits (count_orders runs) (order_at runs) (upto (length init)) (number % n)) o)

@@ -7,7 +7,7 @@ use Rattle.std.proofs.lemmas.Bool.{and_parts, cases_Bool, eqb-true, eq-eqb}
 use Rattle.events.specs.declared.event.Event.{Event}
 use Rattle.events.specs.declared.event.EventId.{EventId}
 use Rattle.events.specs.declared.event.EventId.TheVariants.{Initial}
-use Rattle.events.specs.Executions.{ThreadRun, Execution}
+use Rattle.events.specs.Executions.{ThreadRun, GraphValue}
 use Rattle.listings.specs.Lists.{IsIn, NoRepeats, Lists, ForEach, product_by, sum_of}
 use Rattle.listings.specs.Numbered.{IsNumbered}
 use Rattle.listings.proofs.Numberings.{IsPairing, pairs, mapped, by_digits, cons_head, cons_tail}
@@ -152,17 +152,17 @@ by_digits_down {R = R} {size = size} {at = at} (a ∷ rest) each =
     subst N (mul_comm (product_by size rest) (size a)) (pairs (by_digits_down rest (λ b h. each b (inr h))) (each a (inl refl)) (cells R a rest))
 
 -- An execution but for the values of its reads.
-pub record IsCandidate (init : List ℕ) (runs : List ThreadRun) (x : Execution) : Type 0 where
+pub record IsCandidate (init : List ℕ) (runs : List ThreadRun) (x : GraphValue) : Type 0 where
   pub init_is : x.init ≡ init
   pub runs_are : x.runs ≡ runs
   pub rf : ForEach (CanRead runs) (reads runs) x.rf
   pub co : ForEach (IsCoherence init runs) (upto (length init)) x.co
 
-together : (init : List ℕ) (runs : List ThreadRun) → IsPairing (ForEach (IsCoherence init runs) (upto (length init))) (ForEach (CanRead runs) (reads runs)) (IsCandidate init runs) (λ co rf. let x : Execution = record { init = init; runs = runs; rf = rf; co = co } in x)
+together : (init : List ℕ) (runs : List ThreadRun) → IsPairing (ForEach (IsCoherence init runs) (upto (length init))) (ForEach (CanRead runs) (reads runs)) (IsCandidate init runs) (λ co rf. let x : GraphValue = record { init = init; runs = runs; rf = rf; co = co } in x)
 together init runs = record {
   made = λ co rf p q. record { init_is = refl; runs_are = refl; rf = q; co = p };
-  taken = λ x c. (x.co, x.rf, c.co, c.rf, ap (λ (rs : List ThreadRun). let y : Execution = record { init = init; runs = rs; rf = x.rf; co = x.co } in y) (sym c.runs_are) ∙ ap (λ (i : List ℕ). let y : Execution = record { init = i; runs = x.runs; rf = x.rf; co = x.co } in y) (sym c.init_is));
-  same = λ a c b d pa pb pc pd e. (ap (λ (x : Execution). x.co) e, ap (λ (x : Execution). x.rf) e);
+  taken = λ x c. (x.co, x.rf, c.co, c.rf, ap (λ (rs : List ThreadRun). let y : GraphValue = record { init = init; runs = rs; rf = x.rf; co = x.co } in y) (sym c.runs_are) ∙ ap (λ (i : List ℕ). let y : GraphValue = record { init = i; runs = x.runs; rf = x.rf; co = x.co } in y) (sym c.init_is));
+  same = λ a c b d pa pb pc pd e. (ap (λ (x : GraphValue). x.co) e, ap (λ (x : GraphValue). x.rf) e);
 }
 
 pub block_numbered : (init : List ℕ) (runs : List ThreadRun) → IsNumbered (IsCandidate init runs) (block (length init) runs) (candidate init runs)
@@ -200,13 +200,13 @@ readable init runs (r ∷ rs) (w ∷ ws) f =
     let rest = readable init runs rs ws f.1 in
     ((sources_in init runs w r.loc r.value f.0, rest.0), true_and (write_value init runs w == r.value) (agree init runs rs ws) (eq-eqb (write_value init runs w) r.value (value_is init runs w r.loc r.value f.0)) rest.1)
 
-abbrev pub OfTest : Litmus → Execution → Type 0
+abbrev pub OfTest : Litmus → GraphValue → Type 0
 OfTest t x = OfSome (IsCandidate (initial_values t)) (choices (choices_of t).threads) x
 
 pub as_many : (t : Litmus) → length (initial_values t) ≡ length t.locations
 as_many t = simp length-map
 
-to_execution : (t : Litmus) (x : Execution) → OfTest t x → is_consistent x ≡ true → IsExecution t x
+to_execution : (t : Litmus) (x : GraphValue) → OfTest t x → is_consistent x ≡ true → IsExecution t x
 to_execution t x s h =
     let C : List ThreadRun → Type 0 = IsChoice t in
     let R : List ThreadRun → Type 0 = λ runs. ForEach (CanRead runs) (reads runs) x.rf in
@@ -221,7 +221,7 @@ to_execution t x s h =
       co = subst I (sym s.2.init_is) (subst O same (subst N (as_many t) s.2.co));
     }
 
-from_execution : (t : Litmus) (x : Execution) → IsExecution t x → OfTest t x × (is_consistent x ≡ true)
+from_execution : (t : Litmus) (x : GraphValue) → IsExecution t x → OfTest t x × (is_consistent x ≡ true)
 from_execution t x e =
     let r = readable x.init x.runs (reads x.runs) x.rf e.rf in
     let I : List ℕ → Type 0 = λ init. ForEach (IsCoherence init x.runs) (upto (length t.locations)) x.co in
@@ -246,7 +246,7 @@ some_same x y e = cc
 none_some : {X : Type 0} (x : X) → None ≡ Some x → ⊥
 none_some x e = cc
 
-stands : (s : Choices) (i : ℕ) (x : Execution) → graph_at s i ≡ Some x → candidate_at s i ≡ x
+stands : (s : Choices) (i : ℕ) (x : GraphValue) → graph_at s i ≡ Some x → candidate_at s i ≡ x
 stands s i x h = elim (cases_Bool (is_consistent (candidate_at s i))) [
   | inl t ↦ some_same _ _ (sym (shown s i t) ∙ h)
   | inr f ↦ absurd (none_some x (sym (hidden s i f) ∙ h))
@@ -260,7 +260,7 @@ numbering t n size =
     let N : ℕ → Type 0 = λ m. IsNumbered (OfTest t) m (candidate_at s) in
     let q : IsNumbered (OfTest t) n (candidate_at s) = subst N total p in
     record {
-      only = λ i l. (let G : Option Execution → Type 0 = λ g. IfSome g (IsExecution t) in
+      only = λ i l. (let G : Option GraphValue → Type 0 = λ g. IfSome g (IsExecution t) in
           elim (cases_Bool (is_consistent (candidate_at s i))) [
             | inl h ↦ subst G (sym (shown s i h)) (to_execution t (candidate_at s i) (q.only i l) h)
             | inr h ↦ subst G (sym (hidden s i h)) tt
@@ -268,6 +268,6 @@ numbering t n size =
       all = λ x e. (let f = from_execution t x e in
           let u = q.all x f.0 in
           let h : is_consistent (candidate_at s u.0) ≡ true = ap is_consistent u.2 ∙ f.1 in
-          (u.0, u.1, shown s u.0 h ∙ ap (λ (y : Execution). Some y) u.2));
+          (u.0, u.1, shown s u.0 h ∙ ap (λ (y : GraphValue). Some y) u.2));
       once = λ x i j li lj a b. q.once i j li lj (stands s i x a ∙ sym (stands s j x b));
     }

@@ -4,7 +4,7 @@ use Rattle.std.proofs.lemmas.Bool.{cases_lt}
 use Rattle.std.proofs.lemmas.List.{drop_all}
 use Rattle.events.specs.Executions.{ThreadRun}
 use Rattle.listings.specs.Lists.{sum_of}
-use Rattle.litmus_test.specs.Limits.{IsTest}
+use Rattle.litmus_value.specs.Limits.{IsTest}
 use Rattle.litmus_tree.specs.Tree.{Litmus}
 use Rattle.c11_threads.specs.declared.fault.RunFault.{RunFault}
 use Rattle.c11_threads.specs.declared.fault.RunFault.TheVariants.{TooManyRuns, NoMemory}

@@ -2,7 +2,7 @@
 use Rattle.std.proofs.Common.{◌≡◌, ℕ, ◌+◌, ◌-◌, ◌<◌, ◌≤◌, List, [], ◌∷◌, ◌++◌, append_assoc, append-nil, map, length, refl, sym, ◌∙◌, ap, subst, inl, arith}
 use Rattle.std.specs.List.{flat_map}
 use Rattle.std.proofs.lemmas.List.{map-append, map-id}
-use Rattle.events.specs.Executions.{ThreadRun, Execution}
+use Rattle.events.specs.Executions.{ThreadRun, GraphValue}
 use Rattle.listings.specs.Lists.{IsIn, sum_of}
 use Rattle.listings.specs.Numbered.{walk}
 use Rattle.listings.proofs.Walks.{walks_here, walks_on}
@@ -27,7 +27,7 @@ walk_past size at none (a ∷ before) rest i =
     walks_on size at none a (before ++ rest) (sum_of size (a ∷ before) + i) (omega arith)
     ∙ ap (walk size at none (before ++ rest)) e ∙ walk_past size at none before rest i
 
-abbrev pub Walk : List ℕ → List (List ThreadRun) → ℕ → Execution
+abbrev pub Walk : List ℕ → List (List ThreadRun) → ℕ → GraphValue
 Walk init left i = walk (block (length init)) (candidate init) no_execution left i
 
 -- What stands in the block of a choice.

@@ -1,7 +1,7 @@
 -- What is found at the numbers of a stretch.
 use Rattle.std.proofs.Common.{◌≡◌, ℕ, ◌+◌, ◌-◌, ◌*◌, ◌<◌, ◌≤◌, List, length, None, Some, refl, sym, ◌∙◌, ap, subst, inl, inr, arith}
 use Rattle.std.proofs.lemmas.Bool.{cases_lt}
-use Rattle.events.specs.Executions.{Execution, ThreadRun}
+use Rattle.events.specs.Executions.{GraphValue, ThreadRun}
 use Rattle.candidates.specs.declared.reading.Look.TheVariants.{Until}
 use Rattle.candidates.specs.declared.page.Page.{Page}
 use Rattle.candidates.specs.declared.page.Stretch.{Stretch}
@@ -38,10 +38,10 @@ at_number s b n h l m =
     ap (candidate_at s) e ∙ h.at (n - b.first) (omega (arith, l, m))
 
 -- What is found in a stretch is what stands at the number.
-pub found_here : (s : Choices) (n : ℕ) (b : Stretch) (x : Execution) → IsFound s n b → x ≡ candidate s.init b.page.runs.items (n - b.first) → graph_at s n ≡ Some x
+pub found_here : (s : Choices) (n : ℕ) (b : Stretch) (x : GraphValue) → IsFound s n b → x ≡ candidate s.init b.page.runs.items (n - b.first) → graph_at s n ≡ Some x
 found_here s n b x f is =
     let at = at_number s b n f.within.stretch f.within.first f.within.last in
-    shown s n (ap is_consistent at ∙ f.holds) ∙ ap (λ (y : Execution). Some y) (at ∙ sym is)
+    shown s n (ap is_consistent at ∙ f.holds) ∙ ap (λ (y : GraphValue). Some y) (at ∙ sym is)
 
 pub none_here : (s : Choices) (b : Stretch) (n : ℕ) (init : List ℕ) (last : ℕ) → init ≡ s.init → IsStretch s b → b.first ≤ n → n < b.first + b.size → IsLook init b.page.runs.items (n - b.first) (Until last) → IsPast s n (b.first + last)
 none_here s b n init last is h l m look =

@@ -1,22 +1,22 @@
 -- What a loop over a walk has found.
 use Rattle.std.proofs.Common.{◌≡◌, ℕ, zero, suc, ◌+◌, ◌-◌, ◌<◌, ◌≤◌, List, [], ◌∷◌, ◌++◌, Option, None, Some, append-nil, refl, ◌∙◌, ap, arith}
-use Rattle.events.specs.Executions.{Execution}
+use Rattle.events.specs.Executions.{GraphValue}
 use Rattle.candidates.specs.Candidates.{Choices, candidate, graph_at, found, some_of}
 use Rattle.candidates.specs.declared.page.Stretch.{Stretch}
 use Rattle.candidates.specs.Walks.{Walking, NoneFrom, IsFind, IsHit, IsMiss}
 use Rattle.candidates.proofs.Stretches.{found_here}
 
 -- what stands at the numbers of a space from a to before b
-abbrev pub found_from : Choices → ℕ → ℕ → List Execution
+abbrev pub found_from : Choices → ℕ → ℕ → List GraphValue
 found_from s a b = found (λ i. graph_at s (a + i)) (b - a)
 
-next_some : (at : ℕ → Option Execution) (n : ℕ) (x : Execution) → at n ≡ Some x → found at (suc n) ≡ found at n ++ x ∷ []
+next_some : (at : ℕ → Option GraphValue) (n : ℕ) (x : GraphValue) → at n ≡ Some x → found at (suc n) ≡ found at n ++ x ∷ []
 next_some at n x e = ap (λ o. found at n ++ some_of o) e
 
-next_none : (at : ℕ → Option Execution) (n : ℕ) → at n ≡ None → found at (suc n) ≡ found at n
+next_none : (at : ℕ → Option GraphValue) (n : ℕ) → at n ≡ None → found at (suc n) ≡ found at n
 next_none at n e = ap (λ o. found at n ++ some_of o) e ∙ append-nil (found at n)
 
-pass : (at : ℕ → Option Execution) (n k : ℕ) → ((m : ℕ) → n ≤ m → m < n + k → at m ≡ None) → found at (n + k) ≡ found at n
+pass : (at : ℕ → Option GraphValue) (n k : ℕ) → ((m : ℕ) → n ≤ m → m < n + k → at m ≡ None) → found at (n + k) ≡ found at n
 pass at n zero h = ap (found at) (let e : n + 0 ≡ n = omega arith in e)
 pass at n (suc k) h =
     ap (found at) (let e : n + suc k ≡ suc (n + k) = omega arith in e)
@@ -45,7 +45,7 @@ pub found_at : (from : ℕ) (v w : Walking) → from ≤ v.next → IsMiss v w �
 found_at from v w l h = pass_from v.space from v.next v.to l h.order h.none
 
 -- What has been found is a hit or a miss of the walk.
-pub hit_of : (s : Choices) (b : Stretch) (from to n : ℕ) (before x : Execution) → IsFind s b from to (Some n) → x ≡ candidate s.init b.page.runs.items (n - b.first) → IsHit (let v : Walking = record { space = s; next = from; to = to; shown = before } in v) (let w : Walking = record { space = s; next = n + 1; to = to; shown = x } in w) n
+pub hit_of : (s : Choices) (b : Stretch) (from to n : ℕ) (before x : GraphValue) → IsFind s b from to (Some n) → x ≡ candidate s.init b.page.runs.items (n - b.first) → IsHit (let v : Walking = record { space = s; next = from; to = to; shown = before } in v) (let w : Walking = record { space = s; next = n + 1; to = to; shown = x } in w) n
 hit_of s b from to n before x f is = record {
   step = record { space = refl; to = refl; next = refl };
   later = f.0;
@@ -54,7 +54,7 @@ hit_of s b from to n before x f is = record {
   at = found_here s n b x f.3 is;
 }
 
-pub miss_of : (s : Choices) (b : Stretch) (from to : ℕ) (before shown : Execution) → from ≤ to → shown ≡ before → IsFind s b from to None → IsMiss (let v : Walking = record { space = s; next = from; to = to; shown = before } in v) (let w : Walking = record { space = s; next = to; to = to; shown = shown } in w)
+pub miss_of : (s : Choices) (b : Stretch) (from to : ℕ) (before shown : GraphValue) → from ≤ to → shown ≡ before → IsFind s b from to None → IsMiss (let v : Walking = record { space = s; next = from; to = to; shown = before } in v) (let w : Walking = record { space = s; next = to; to = to; shown = shown } in w)
 miss_of s b from to before shown l is f = record {
   step = record { space = refl; to = refl; next = refl };
   order = l;

@@ -4,7 +4,7 @@ use Rattle.std.specs.List.{flat_map}
 use Rattle.events.specs.declared.event.Event.{Event}
 use Rattle.events.specs.declared.event.EventId.{EventId}
 use Rattle.events.specs.declared.event.EventId.TheVariants.{Initial, Own}
-use Rattle.events.specs.Executions.{ThreadRun, Execution, empty_run}
+use Rattle.events.specs.Executions.{ThreadRun, GraphValue, empty_run}
 use Rattle.events.specs.Named.{no_event}
 use Rattle.listings.specs.Lists.{Lists, sum_of, product_by, factorial}
 use Rattle.listings.specs.Numbered.{digits, arrange, walk}
@@ -57,7 +57,7 @@ abbrev pub rf_at : List ThreadRun → ℕ → List EventId
 rf_at runs i = digits_down (count_sources runs) (source_at runs) (reads runs) i
 
 -- the candidate of these runs with this number: co by the lower part of the number, rf by the higher part
-abbrev pub candidate : List ℕ → List ThreadRun → ℕ → Execution
+abbrev pub candidate : List ℕ → List ThreadRun → ℕ → GraphValue
 candidate init runs i = record {
   init = init;
   runs = runs;
@@ -65,10 +65,10 @@ candidate init runs i = record {
   co = digits (count_orders runs) (order_at runs) (upto (length init)) (i % count_co (length init) runs);
 }
 
-abbrev pub no_execution : Execution
+abbrev pub no_execution : GraphValue
 no_execution = record { init = []; runs = []; rf = []; co = [] }
 
-abbrev pub candidate_at : Choices → ℕ → Execution
+abbrev pub candidate_at : Choices → ℕ → GraphValue
 candidate_at s i = walk (block (length s.init)) (candidate s.init) no_execution (choices s.threads) i
 
 -- the value that a write writes
@@ -82,14 +82,14 @@ agree init runs (r ∷ rs) [] = true
 agree init runs (r ∷ rs) (w ∷ ws) = (write_value init runs w == r.value) && agree init runs rs ws
 
 -- Each read has the value of the write that it reads from.
-abbrev pub is_consistent : Execution → Bool
+abbrev pub is_consistent : GraphValue → Bool
 is_consistent x = agree x.init x.runs (reads x.runs) x.rf
 
-abbrev pub graph_at : Choices → ℕ → Option Execution
+abbrev pub graph_at : Choices → ℕ → Option GraphValue
 graph_at s i = if is_consistent (candidate_at s i) then Some (candidate_at s i) else None
 
 -- The candidate with this number, where it is an execution.
-abbrev pub At : Litmus → ℕ → Option Execution
+abbrev pub At : Litmus → ℕ → Option GraphValue
 At t i = graph_at (choices_of t) i
 
 -- how many candidates there are
@@ -97,20 +97,20 @@ abbrev pub size_of : Choices → ℕ
 size_of s = sum_of (block (length s.init)) (choices s.threads)
 
 -- The law: each execution of the test stands at exactly one number below its size, and nothing else stands there.
-pub record IsNumberedBy (t : Litmus) (n : ℕ) (at : ℕ → Option Execution) : Type 0 where
+pub record IsNumberedBy (t : Litmus) (n : ℕ) (at : ℕ → Option GraphValue) : Type 0 where
   pub only : (i : ℕ) → i < n → IfSome (at i) (IsExecution t)
-  pub all : (x : Execution) → IsExecution t x → (i : ℕ) × (i < n) × (at i ≡ Some x)
-  pub once : (x : Execution) (i j : ℕ) → i < n → j < n → at i ≡ Some x → at j ≡ Some x → i ≡ j
+  pub all : (x : GraphValue) → IsExecution t x → (i : ℕ) × (i < n) × (at i ≡ Some x)
+  pub once : (x : GraphValue) (i j : ℕ) → i < n → j < n → at i ≡ Some x → at j ≡ Some x → i ≡ j
 
 abbrev pub Numbering : Type 0
 Numbering = (t : Litmus) (n : ℕ) → IsSize t n → IsNumberedBy t n (At t)
 
-abbrev pub some_of : Option Execution → List Execution
+abbrev pub some_of : Option GraphValue → List GraphValue
 some_of None = []
 some_of (Some x) = x ∷ []
 
 -- what stands at the numbers below n
-abbrev pub found : (ℕ → Option Execution) → ℕ → List Execution
+abbrev pub found : (ℕ → Option GraphValue) → ℕ → List GraphValue
 found at zero = []
 found at (suc n) = found at n ++ some_of (at n)
 

@@ -5,7 +5,7 @@ use Rattle.std.specs.List.{flat_map}
 use Rattle.events.specs.declared.event.Event.{Event}
 use Rattle.events.specs.declared.event.EventId.{EventId}
 use Rattle.events.specs.declared.event.EventId.TheVariants.{Initial, Own}
-use Rattle.events.specs.Executions.{ThreadRun, Execution, is_read, writes_to}
+use Rattle.events.specs.Executions.{ThreadRun, GraphValue, is_read, writes_to}
 use Rattle.listings.specs.Lists.{Lists, StandsAt, ForEach, product_by, sum_of, factorial, tabulate}
 use Rattle.conditions.specs.declared.place.Place.TheVariants.{Loc}
 use Rattle.conditions.specs.States.{value_at}
@@ -40,7 +40,7 @@ IsChoice t runs = ForEach (IsRun t) (upto (length t.threads)) runs
 
 -- An execution of t: a run of each thread, from the initial values; for each read a write to its location
 -- of its value; for each location an order of its writes.
-pub record IsExecution (t : Litmus) (x : Execution) : Type 0 where
+pub record IsExecution (t : Litmus) (x : GraphValue) : Type 0 where
   pub init : x.init ≡ initial_values t
   pub runs : IsChoice t x.runs
   pub rf : ForEach (λ r w. Writes x.init x.runs w r.loc r.value) (reads x.runs) x.rf

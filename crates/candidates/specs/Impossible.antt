@@ -1,4 +1,4 @@
--- Runs that stand in no execution: a read of theirs has a value that nothing writes.
+-- Runs that are in no execution: a read of theirs has a value that nothing writes.
 use Rattle.std.specs.Prelude.{◌≡◌, ℕ, ◌+◌, ◌<◌, ◌≤◌, List, take, length, map, Bool, true, false, not, ◌==◌, ◌&&◌, slice_index_or}
 use Rattle.std.specs.List.{list_any}
 use Rattle.events.specs.declared.event.Event.{Event}

@@ -2,7 +2,7 @@
 use Rattle.std.specs.Prelude.{◌≡◌, ℕ, ◌+◌, ◌<◌, ◌≤◌, List, length, map, true, false, Option, IfSome}
 use Rattle.events.specs.declared.event.Event.{Event}
 use Rattle.events.specs.declared.event.EventId.{EventId}
-use Rattle.events.specs.Executions.{Execution, ThreadRun}
+use Rattle.events.specs.Executions.{GraphValue, ThreadRun}
 use Rattle.listings.specs.Lists.{product_by}
 use Rattle.candidates.specs.declared.reading.Fit.{Fit}
 use Rattle.candidates.specs.declared.reading.Fit.TheVariants as of_fit
@@ -55,5 +55,5 @@ abbrev pub MayBeStretch : Choices → Stretch → Type 0
 MayBeStretch s b = 1 ≤ b.size → IsStretch s b
 
 -- Where a number is named, the execution is the page's candidate with that number.
-abbrev pub IsSeen : List ℕ → Page → Execution → Option ℕ → Type 0
+abbrev pub IsSeen : List ℕ → Page → GraphValue → Option ℕ → Type 0
 IsSeen init p x at = IfSome at (λ n. (x ≡ candidate init p.runs.items n) × (is_consistent (candidate init p.runs.items n) ≡ true))

@@ -1,6 +1,6 @@
 -- A walk over the executions of a space, from number to number.
 use Rattle.std.specs.Prelude.{◌≡◌, ℕ, ◌+◌, ◌-◌, ◌<◌, ◌≤◌, true, Option, None, Some}
-use Rattle.events.specs.Executions.{Execution}
+use Rattle.events.specs.Executions.{GraphValue}
 use Rattle.candidates.specs.Candidates.{Choices, candidate, graph_at, is_consistent, size_of}
 use Rattle.candidates.specs.declared.reading.Look.{Look}
 use Rattle.candidates.specs.declared.reading.Look.TheVariants.{Found, Until}
@@ -15,7 +15,7 @@ pub record Walking : Type 0 where
   pub space : Choices
   pub next : ℕ
   pub to : ℕ
-  pub shown : Execution
+  pub shown : GraphValue
 
 -- No execution stands at a number from a to before b.
 abbrev pub NoneFrom : Choices → ℕ → ℕ → Type 0

@@ -10,7 +10,7 @@ ghost use Rattle.candidates.specs.Impossible.{AreMarks};
 ghost use Rattle.candidates.specs.Parts.{AreAllWithin};
 ghost use Rattle.candidates.specs.Located.{IsLocated};
 
-use crate::counts::Tally;
+use crate::counts::AccessTally;
 use crate::fault::MOST_CANDIDATES;
 use crate::groups::Groups;
 use crate::impossible::Marks;
@@ -111,8 +111,8 @@ pub(crate) enum Located {
 }
 
 /// Where the candidate with this number is. It goes down the threads: in each it takes the run that the number is in. Where
-/// that run stands in no execution, it passes over all candidates with the runs so far, with this one and with those
-/// behind it that stand in none.
+/// that run is in no execution, it passes over all candidates with the runs so far, with this one and with those
+/// behind it that are in none.
 pub(crate) fn locate(
     alloc: Global,
     threads: &[RunList],
@@ -130,7 +130,7 @@ pub(crate) fn locate(
     ensures { IfOk result (IsLocated (record { init = init.now; threads = threads.now }) number) }
 {
     let locations = init.len();
-    let mut tally = Tally::new(alloc, &[], locations)?;
+    let mut tally = AccessTally::new(alloc, &[], locations)?;
     let mut runs = Vec::new(alloc);
     let mut rest = number;
     for thread in 0..threads.len() {
@@ -143,7 +143,7 @@ pub(crate) fn locate(
             return Ok(Located::Until(number - part.rest + passed));
         }
         let run = &threads[thread].runs()[part.place];
-        tally = tally.plus(alloc, &Tally::new(alloc, run.events(), locations)?)?;
+        tally = tally.plus(alloc, &AccessTally::new(alloc, run.events(), locations)?)?;
         runs.push(run.copy()?)?;
         rest = part.rest;
     }

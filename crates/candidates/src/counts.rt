@@ -51,11 +51,11 @@ fn ways(counts: Counts) -> Option<u64>
 
 /// How often each location is read and written.
 #[derive(Drop)]
-pub(crate) struct Tally {
+pub(crate) struct AccessTally {
     counts: Vec<Counts>,
 }
 
-impl Model for Tally {
+impl Model for AccessTally {
     ghost use Rattle.std.specs.Prelude.{List};
     ghost use Rattle.candidates.specs.declared.counts.Counts.{Counts};
 
@@ -124,7 +124,7 @@ fn all_ways(all: &[Counts]) -> Option<u64>
     Some(product)
 }
 
-impl Tally {
+impl AccessTally {
     /// How often events read and write each location.
     pub(crate) fn new(alloc: Global, events: &[Event], locations: usize) -> Result<Self, AllocError>
         ensures { IfOk result (λ t. t ≡ tally_of locations events.now) }
@@ -133,20 +133,20 @@ impl Tally {
         for location in 0..locations {
             counts.push(count(events, location))?;
         }
-        Ok(Tally { counts })
+        Ok(AccessTally { counts })
     }
 
     /// Both together.
-    pub(crate) fn plus(&self, alloc: Global, more: &Tally) -> Result<Self, AllocError>
+    pub(crate) fn plus(&self, alloc: Global, more: &AccessTally) -> Result<Self, AllocError>
         requires small { IsSmall (sum_tally self.now more.now) }
         ensures { IfOk result (λ t. t ≡ sum_tally self.now more.now) }
     {
         let counts = add(alloc, &self.counts, &more.counts)?;
-        Ok(Tally { counts })
+        Ok(AccessTally { counts })
     }
 
     /// Whether both are the same.
-    pub(crate) fn is_same(&self, other: &Tally) -> bool
+    pub(crate) fn is_same(&self, other: &AccessTally) -> bool
         ensures { result ≡ true → self.now ≡ other.now }
     {
         are_same(&self.counts, &other.counts)

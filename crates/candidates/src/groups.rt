@@ -7,7 +7,7 @@ ghost use Rattle.candidates.specs.Candidates.{IsCapped};
 ghost use Rattle.candidates.specs.Groups.{tally_of, sum_tally, size_by, sizes_of, HasRoom, IsOneAbove};
 
 use crate::capped::capped_sum;
-use crate::counts::Tally;
+use crate::counts::AccessTally;
 use crate::fault::MOST_CANDIDATES;
 use events::Run;
 use std::alloc::{AllocError, Global};
@@ -17,7 +17,7 @@ use std::marker::Model;
 /// each run its group.
 #[derive(Drop)]
 pub(crate) struct Groups {
-    tallies: Vec<Tally>,
+    tallies: Vec<AccessTally>,
     places: Vec<usize>,
 }
 
@@ -34,7 +34,7 @@ impl Model for Groups {
 }
 
 /// The place of a tally among others.
-fn place_of(tallies: &[Tally], tally: &Tally) -> Option<usize>
+fn place_of(tallies: &[AccessTally], tally: &AccessTally) -> Option<usize>
     ensures { MatchOption result (Unit {0}) (λ p. (p < length tallies.now) × (slice_index_or tallies.now p [] ≡ tally.now)) }
 {
     for place in 0..tallies.len() {
@@ -61,8 +61,8 @@ fn at_places(alloc: Global, sizes: &[u64], places: &[usize]) -> Result<Vec<u64>,
 #[cycle(counting)]
 fn group_sizes(
     alloc: Global,
-    tally: &Tally,
-    tallies: &[Tally],
+    tally: &AccessTally,
+    tallies: &[AccessTally],
     rest: &[Groups],
 ) -> Result<Option<Vec<u64>>, AllocError>
     requires room { (t : List Counts) → IsIn t tallies.now → HasRoom (sum_tally tally.now t) rest.now }
@@ -84,7 +84,7 @@ fn group_sizes(
 #[cycle(counting)]
 pub(crate) fn count(
     alloc: Global,
-    tally: &Tally,
+    tally: &AccessTally,
     threads: &[Groups],
 ) -> Result<Option<u64>, AllocError>
     requires room { HasRoom tally.now threads.now }
@@ -107,7 +107,7 @@ impl Groups {
         let mut tallies = Vec::new(alloc);
         let mut places = Vec::new(alloc);
         for run in runs {
-            let tally = Tally::new(alloc, run.events(), locations)?;
+            let tally = AccessTally::new(alloc, run.events(), locations)?;
             match place_of(&tallies, &tally) {
                 Some(place) => places.push(place)?,
                 None => {
@@ -124,7 +124,7 @@ impl Groups {
     pub(crate) fn sizes(
         &self,
         alloc: Global,
-        tally: &Tally,
+        tally: &AccessTally,
         rest: &[Groups],
     ) -> Result<Option<Vec<u64>>, AllocError>
         requires room { (t : List Counts) → IsIn t self.now → HasRoom (sum_tally tally.now t) rest.now }

@@ -1,4 +1,4 @@
-//! Runs that stand in no execution, since one of their reads has a value that nothing writes.
+//! Runs that are in no execution, since one of their reads has a value that nothing writes.
 
 ghost use Rattle.std.specs.Prelude.{◌≡◌, ◌<◌, ◌≤◌, List, Bool, true, length, map, IfOk, OnOk};
 ghost use Rattle.std.specs.List.{list_any};
@@ -104,7 +104,7 @@ fn is_impossible(init: &[u32], stores: &[Store], events: &[Event]) -> bool
     false
 }
 
-/// Which runs of a thread stand in no execution.
+/// Which runs of a thread are in no execution.
 #[derive(Drop)]
 pub(crate) struct Marks {
     marks: Vec<bool>,
@@ -130,7 +130,7 @@ impl Marks {
         Ok(Marks { marks })
     }
 
-    /// How many candidates go on with this run and those behind it, up to the first that may stand in an execution.
+    /// How many candidates go on with this run and those behind it, up to the first that may be in an execution.
     pub(crate) fn passed(&self, sizes: &[u64], place: usize) -> u64
         requires place { place < length sizes.now }
         requires marks { length self.now ≡ length sizes.now }

@@ -13,7 +13,7 @@ ghost use Rattle.candidates.specs.Walks.{IsReach};
 
 use crate::assembly::open_page;
 use crate::choosing::{Located, RunList, group_all, locate};
-use crate::counts::Tally;
+use crate::counts::AccessTally;
 use crate::fault::{MOST_CANDIDATES, SpaceFault};
 use crate::groups::{Groups, count};
 use crate::impossible::{Marks, all_marks, all_stores};
@@ -22,7 +22,7 @@ use crate::walk::{Walk, find};
 use c11_threads::{initial_value, runs};
 use conditions::Place;
 use events::Graph;
-use litmus_test::Test;
+use litmus_value::Test;
 use std::alloc::{AllocError, Global};
 use std::marker::Model;
 
@@ -122,7 +122,7 @@ impl Space {
         let init = initial_values(alloc, test)?;
         let locations = init.len();
         let groups = group_all(alloc, &threads, locations)?;
-        let empty = Tally::new(alloc, &[], locations)?;
+        let empty = AccessTally::new(alloc, &[], locations)?;
         let Some(size) = count(alloc, &empty, &groups)? else {
             return Err(SpaceFault::TooManyCandidates);
         };

@@ -11,7 +11,7 @@ use Rattle.relations.specs.Equality.{reworded_set, reworded}
 use Rattle.events.specs.declared.event.EventId.{EventId}
 use Rattle.events.specs.declared.event.EventId.TheVariants.{Initial}
 use Rattle.events.specs.declared.named.RelName.TheVariants.{Rf, Co}
-use Rattle.events.specs.Executions.{Execution, IsNamed}
+use Rattle.events.specs.Executions.{GraphValue, IsNamed}
 use Rattle.events.specs.Named.{event_names, event_count, read_names, IsNumber, NamedRel, StandsBefore, StandsFrom}
 use Rattle.events.specs.Rows.{ByNumbers, IsBehind, StandsBeforeFrom, IsBeforeAmong, ReadsAmong, IsReadAt}
 use Rattle.events.proofs.Numbers.{names_listed, counted}
@@ -19,21 +19,21 @@ use Rattle.events.proofs.Standing.{stands_below, stands_get, stands_or, one_stan
 
 -- NUMBERS
 
-pub number_below : (g : Execution) (i : ℕ) (e : EventId) → IsNumber g i e → i < event_count g
+pub number_below : (g : GraphValue) (i : ℕ) (e : EventId) → IsNumber g i e → i < event_count g
 number_below g i e s = omega (arith, stands_below (event_names g) i e s, counted g)
 
 -- an event has one number
-pub one_number : (g : Execution) (e : EventId) (i j : ℕ) → IsNumber g i e → IsNumber g j e → i ≡ j
+pub one_number : (g : GraphValue) (e : EventId) (i j : ℕ) → IsNumber g i e → IsNumber g j e → i ≡ j
 one_number g e i j s t =
     one_place (event_names g) i j (Initial 0) (names_listed g).once (stands_below (event_names g) i e s) (stands_below (event_names g) j e t)
     (stands_get (event_names g) i (Initial 0) e s ∙ sym (stands_get (event_names g) j (Initial 0) e t))
 
 -- each number below the count is that of an event
-pub of_number : (g : Execution) (i : ℕ) → i < event_count g → (e : EventId) × IsNumber g i e
+pub of_number : (g : GraphValue) (i : ℕ) → i < event_count g → (e : EventId) × IsNumber g i e
 of_number g i l = (get_or (event_names g) i (Initial 0), stands_or (event_names g) i (Initial 0) _ (omega (arith, l, counted g)) refl)
 
 -- an event of the execution has a number
-pub has_number : (g : Execution) (e : EventId) → IsNamed g.init g.runs e → (i : ℕ) × IsNumber g i e
+pub has_number : (g : GraphValue) (e : EventId) → IsNamed g.init g.runs e → (i : ℕ) × IsNumber g i e
 has_number g e h =
     let p : (i : ℕ) × (i < length (event_names g)) × (get_or (event_names g) i (Initial 0) ≡ e) = place_of (event_names g) (Initial 0) e ((names_listed g).all e h) in
     (p.0, stands_or (event_names g) p.0 (Initial 0) e p.1 p.2)
@@ -42,7 +42,7 @@ pub all_at : {X : Type 0} (P : X → Type 0) (xs : List X) (i : ℕ) (x : X) →
 all_at P xs i x h s = subst P (stands_get xs i x x s) (All-get_or P xs i x (stands_below xs i x s) h)
 
 -- a number fits a set or a relation over the events
-pub fits : (g : Execution) (e : EventId) (n i : ℕ) → n ≡ event_count g → IsNumber g i e → i < n
+pub fits : (g : GraphValue) (e : EventId) (n i : ℕ) → n ≡ event_count g → IsNumber g i e → i < n
 fits g e n i h s = omega (arith, h, number_below g i e s)
 
 -- ONE PAIR, OR NONE
@@ -63,7 +63,7 @@ no_event_more n P s e c f = record {
   canonical = c;
 }
 
-pub pair_more : (n m from to : ℕ) (g : Execution) (d e : EventId) (r s : Relation) → m ≡ n → IsNumber g from d → IsNumber g to e →
+pub pair_more : (n m from to : ℕ) (g : GraphValue) (d e : EventId) (r s : Relation) → m ≡ n → IsNumber g from d → IsNumber g to e →
     IsExactly m (λ a b. In r a b ⊎ ((a ≡ from) × (b ≡ to))) s → IsExactly n (λ i j. In r i j ⊎ (IsNumber g i d × IsNumber g j e)) s
 pair_more n m from to g d e r s f a b h =
     let R : ℕ → Type 0 = λ k. IsExactly k (λ a b. In r a b ⊎ ((a ≡ from) × (b ≡ to))) s in
@@ -74,7 +74,7 @@ pair_more n m from to g d e r s f a b h =
     (λ i j k l x. elim x [ inl m ↦ inl m | inr y ↦ inr (one_number g d i from y.0 a, one_number g e j to y.1 b) ])
     (subst R f h)
 
-pub row_more : (n m from : ℕ) (g : Execution) (d : EventId) (s : EventSet) (r t : Relation) → m ≡ n → IsNumber g from d →
+pub row_more : (n m from : ℕ) (g : GraphValue) (d : EventId) (s : EventSet) (r t : Relation) → m ≡ n → IsNumber g from d →
     IsExactly m (λ a b. In r a b ⊎ ((a ≡ from) × Has s b)) t → IsExactly n (λ i j. In r i j ⊎ (IsNumber g i d × Has s j)) t
 row_more n m from g d s r t f a h =
     let R : ℕ → Type 0 = λ k. IsExactly k (λ a b. In r a b ⊎ ((a ≡ from) × Has s b)) t in
@@ -84,7 +84,7 @@ row_more n m from g d s r t f a h =
     (λ i j k l x. elim x [ inl m ↦ inl m | inr y ↦ inr (one_number g d i from y.0 a, y.1) ])
     (subst R f h)
 
-pub event_more : (n m from : ℕ) (g : Execution) (d : EventId) (s t : EventSet) → m ≡ n → IsNumber g from d →
+pub event_more : (n m from : ℕ) (g : GraphValue) (d : EventId) (s t : EventSet) → m ≡ n → IsNumber g from d →
     IsExactlySet m (λ a. Has s a ⊎ (a ≡ from)) t → IsExactlySet n (λ i. Has s i ⊎ IsNumber g i d) t
 event_more n m from g d s t f a h =
     let R : ℕ → Type 0 = λ k. IsExactlySet k (λ a. Has s a ⊎ (a ≡ from)) t in
@@ -96,18 +96,18 @@ event_more n m from g d s t f a h =
 
 -- AN ORDER, FROM ITS LAST EVENT ON
 
-pub behind_begun : (n : ℕ) (g : Execution) (order : List EventId) (p : ℕ) (s : EventSet) → p ≡ length order → IsExactlySet n (λ i. ⊥) s → IsExactlySet n (IsBehind g order p) s
+pub behind_begun : (n : ℕ) (g : GraphValue) (order : List EventId) (p : ℕ) (s : EventSet) → p ≡ length order → IsExactlySet n (λ i. ⊥) s → IsExactlySet n (IsBehind g order p) s
 behind_begun n g order p s e h =
     reworded_set n (λ i. ⊥) (IsBehind g order p) s (λ i x. absurd x)
     (λ i l x. (let z : ⊥ = omega (arith, e, x.2.1, stands_below order x.2.0 x.0 x.2.2) in z)) h
 
-pub order_begun : (n : ℕ) (g : Execution) (order : List EventId) (p : ℕ) (r : Relation) → p ≡ length order → r.count ≡ n → IsCanonical r →
+pub order_begun : (n : ℕ) (g : GraphValue) (order : List EventId) (p : ℕ) (r : Relation) → p ≡ length order → r.count ≡ n → IsCanonical r →
     IsExactly n (λ i j. In r i j ⊎ ByNumbers g (StandsBeforeFrom order p) i j) r
 order_begun n g order p r e c d =
     nothing_more n (ByNumbers g (StandsBeforeFrom order p)) r c d
     (λ i j x. (let y : StandsBeforeFrom order p x.0 x.1 = x.4 in let z : ⊥ = omega (arith, e, y.1, stands_below order y.0 x.0 y.2) in z))
 
-pub behind_on : (n : ℕ) (g : Execution) (order : List EventId) (p q : ℕ) (e : EventId) (s t : EventSet) → q ≡ p + 1 → StandsAt order p e → IsExactlySet n (IsBehind g order q) s →
+pub behind_on : (n : ℕ) (g : GraphValue) (order : List EventId) (p q : ℕ) (e : EventId) (s t : EventSet) → q ≡ p + 1 → StandsAt order p e → IsExactlySet n (IsBehind g order q) s →
     IsExactlySet n (λ j. Has s j ⊎ IsNumber g j e) t → IsExactlySet n (IsBehind g order p) t
 behind_on n g order p q e s t f at h k = record {
   count = k.count;
@@ -124,7 +124,7 @@ behind_on n g order p q e s t f at h k = record {
   canonical = k.canonical;
 }
 
-pub order_on : (n : ℕ) (g : Execution) (order : List EventId) (p q : ℕ) (d : EventId) (s : EventSet) (o r t : Relation) → q ≡ p + 1 → StandsAt order p d →
+pub order_on : (n : ℕ) (g : GraphValue) (order : List EventId) (p q : ℕ) (d : EventId) (s : EventSet) (o r t : Relation) → q ≡ p + 1 → StandsAt order p d →
     IsExactlySet n (IsBehind g order q) s → IsExactly n (λ i j. In o i j ⊎ ByNumbers g (StandsBeforeFrom order q) i j) r →
     IsExactly n (λ i j. In r i j ⊎ (IsNumber g i d × Has s j)) t → IsExactly n (λ i j. In o i j ⊎ ByNumbers g (StandsBeforeFrom order p) i j) t
 order_on n g order p q d s o r t f at h k l = record {
@@ -153,7 +153,7 @@ order_on n g order p q d s o r t f at h k l = record {
   canonical = l.canonical;
 }
 
-pub order_done : (n : ℕ) (g : Execution) (order : List EventId) (p : ℕ) (o r : Relation) → p ≡ 0 → IsExactly n (λ i j. In o i j ⊎ ByNumbers g (StandsBeforeFrom order p) i j) r →
+pub order_done : (n : ℕ) (g : GraphValue) (order : List EventId) (p : ℕ) (o r : Relation) → p ≡ 0 → IsExactly n (λ i j. In o i j ⊎ ByNumbers g (StandsBeforeFrom order p) i j) r →
     IsExactly n (λ i j. In o i j ⊎ ByNumbers g (StandsBefore order) i j) r
 order_done n g order p o r e h =
     reworded n (λ i j. In o i j ⊎ ByNumbers g (StandsBeforeFrom order p) i j) (λ i j. In o i j ⊎ ByNumbers g (StandsBefore order) i j) r
@@ -168,7 +168,7 @@ order_done n g order p o r e h =
 
 -- ALL ORDERS, ALL READS
 
-by_step : (n : ℕ) (g : Execution) (P Q R : EventId → EventId → Type 0) (r t : Relation) → ((d e : EventId) → P d e → R d e) → ((d e : EventId) → Q d e → R d e) →
+by_step : (n : ℕ) (g : GraphValue) (P Q R : EventId → EventId → Type 0) (r t : Relation) → ((d e : EventId) → P d e → R d e) → ((d e : EventId) → Q d e → R d e) →
     ((d e : EventId) → R d e → P d e ⊎ Q d e) → IsExactly n (ByNumbers g P) r → IsExactly n (λ i j. In r i j ⊎ ByNumbers g Q i j) t → IsExactly n (ByNumbers g R) t
 by_step n g P Q R r t f k m h l = record {
   count = l.count;
@@ -183,12 +183,12 @@ by_step n g P Q R r t f k m h l = record {
   canonical = l.canonical;
 }
 
-pub orders_begun : (n : ℕ) (g : Execution) (r : Relation) → IsExactly n (λ i j. ⊥) r → IsExactly n (ByNumbers g (IsBeforeAmong g 0)) r
+pub orders_begun : (n : ℕ) (g : GraphValue) (r : Relation) → IsExactly n (λ i j. ⊥) r → IsExactly n (ByNumbers g (IsBeforeAmong g 0)) r
 orders_begun n g r h =
     reworded n (λ i j. ⊥) (ByNumbers g (IsBeforeAmong g 0)) r (λ i j x. absurd x)
     (λ i j a b x. (let y : IsBeforeAmong g 0 x.0 x.1 = x.4 in let z : ⊥ = omega (arith, y.2) in z)) h
 
-pub orders_on : (n : ℕ) (g : Execution) (x : ℕ) (order : List EventId) (r t : Relation) → StandsAt g.co x order → IsExactly n (ByNumbers g (IsBeforeAmong g x)) r →
+pub orders_on : (n : ℕ) (g : GraphValue) (x : ℕ) (order : List EventId) (r t : Relation) → StandsAt g.co x order → IsExactly n (ByNumbers g (IsBeforeAmong g x)) r →
     IsExactly n (λ i j. In r i j ⊎ ByNumbers g (StandsBefore order) i j) t → IsExactly n (ByNumbers g (IsBeforeAmong g (x + 1))) t
 orders_on n g x order r t at h k =
     by_step n g (IsBeforeAmong g x) (StandsBefore order) (IsBeforeAmong g (x + 1)) r t
@@ -200,19 +200,19 @@ orders_on n g x order r t at h k =
       | inr f ↦ inl (y.0, y.1, omega (arith, f, y.2), y.3, y.4)
     ]) h k
 
-pub orders_done : (n : ℕ) (g : Execution) (x : ℕ) (r : Relation) → length g.co ≤ x → IsExactly n (ByNumbers g (IsBeforeAmong g x)) r → IsExactly n (NamedRel g Co) r
+pub orders_done : (n : ℕ) (g : GraphValue) (x : ℕ) (r : Relation) → length g.co ≤ x → IsExactly n (ByNumbers g (IsBeforeAmong g x)) r → IsExactly n (NamedRel g Co) r
 unfolding NamedRel
 orders_done n g x r l h =
     reworded n (ByNumbers g (IsBeforeAmong g x)) (NamedRel g Co) r
     (λ i j y. (let z : IsBeforeAmong g x y.0 y.1 = y.4 in (y.0, y.1, y.2, y.3, (z.0, z.1, z.3, z.4))))
     (λ i j a b y. (y.0, y.1, y.2, y.3, (y.4.0, y.4.1, omega (arith, l, stands_below g.co y.4.0 y.4.1 y.4.2), y.4.2, y.4.3))) h
 
-pub reads_begun : (n : ℕ) (g : Execution) (r : Relation) → IsExactly n (λ i j. ⊥) r → IsExactly n (ByNumbers g (ReadsAmong g 0)) r
+pub reads_begun : (n : ℕ) (g : GraphValue) (r : Relation) → IsExactly n (λ i j. ⊥) r → IsExactly n (ByNumbers g (ReadsAmong g 0)) r
 reads_begun n g r h =
     reworded n (λ i j. ⊥) (ByNumbers g (ReadsAmong g 0)) r (λ i j x. absurd x)
     (λ i j a b x. (let y : ReadsAmong g 0 x.0 x.1 = x.4 in let z : ⊥ = omega (arith, y.1) in z)) h
 
-pub reads_on : (n : ℕ) (g : Execution) (m : ℕ) (r t : Relation) → IsExactly n (ByNumbers g (ReadsAmong g m)) r →
+pub reads_on : (n : ℕ) (g : GraphValue) (m : ℕ) (r t : Relation) → IsExactly n (ByNumbers g (ReadsAmong g m)) r →
     IsExactly n (λ i j. In r i j ⊎ ByNumbers g (IsReadAt g m) i j) t → IsExactly n (ByNumbers g (ReadsAmong g (m + 1))) t
 reads_on n g m r t h k =
     by_step n g (ReadsAmong g m) (IsReadAt g m) (ReadsAmong g (m + 1)) r t
@@ -223,7 +223,7 @@ reads_on n g m r t h k =
       | inr f ↦ inl (y.0, omega (arith, f, y.1), y.2, y.3)
     ]) h k
 
-pub reads_done : (n : ℕ) (g : Execution) (m : ℕ) (r : Relation) → length (read_names g) ≤ m → IsExactly n (ByNumbers g (ReadsAmong g m)) r → IsExactly n (NamedRel g Rf) r
+pub reads_done : (n : ℕ) (g : GraphValue) (m : ℕ) (r : Relation) → length (read_names g) ≤ m → IsExactly n (ByNumbers g (ReadsAmong g m)) r → IsExactly n (NamedRel g Rf) r
 unfolding NamedRel
 reads_done n g m r l h =
     reworded n (ByNumbers g (ReadsAmong g m)) (NamedRel g Rf) r
@@ -231,7 +231,7 @@ reads_done n g m r l h =
     (λ i j a b y. (y.0, y.1, y.2, y.3, (y.4.0, omega (arith, l, stands_below (read_names g) y.4.0 y.1 y.4.1), y.4.1, y.4.2))) h
 
 -- the pair of two events is that of what stands at place m
-pub read_more : (n : ℕ) (g : Execution) (m : ℕ) (w r : EventId) (o t : Relation) → StandsAt (read_names g) m r → StandsAt g.rf m w →
+pub read_more : (n : ℕ) (g : GraphValue) (m : ℕ) (w r : EventId) (o t : Relation) → StandsAt (read_names g) m r → StandsAt g.rf m w →
     IsExactly n (λ i j. In o i j ⊎ (IsNumber g i w × IsNumber g j r)) t → IsExactly n (λ i j. In o i j ⊎ ByNumbers g (IsReadAt g m) i j) t
 read_more n g m w r o t a b h =
     reworded n (λ i j. In o i j ⊎ (IsNumber g i w × IsNumber g j r)) (λ i j. In o i j ⊎ ByNumbers g (IsReadAt g m) i j) t
@@ -243,7 +243,7 @@ read_more n g m w r o t a b h =
           inr (subst P (one_stands g.rf m y.0 w y.4.1 b) y.2, subst Q (one_stands (read_names g) m y.1 r y.4.0 a) y.3))
     ]) h
 
-pub no_read_more : (g : Execution) (m : ℕ) (r : Relation) → length g.rf ≤ m → r.count ≡ event_count g → IsCanonical r →
+pub no_read_more : (g : GraphValue) (m : ℕ) (r : Relation) → length g.rf ≤ m → r.count ≡ event_count g → IsCanonical r →
     IsExactly (event_count g) (λ i j. In r i j ⊎ ByNumbers g (IsReadAt g m) i j) r
 no_read_more g m r l c d =
     nothing_more (event_count g) (ByNumbers g (IsReadAt g m)) r c d

@@ -5,15 +5,15 @@ use Rattle.events.specs.declared.named.RelName.{RelName}
 use Rattle.events.specs.declared.named.RelName.TheVariants.{Po, Int, Ext, Loc, PoLoc, Rf, Co, Fr, Rfi, Coi, Fri, Rfe, Coe, Fre, Rmw, Data, Ctrl, Addr, Id}
 use Rattle.events.specs.declared.named.Basis.TheVariants.{Runs, Sources}
 use Rattle.events.specs.Bases.{basis_of}
-use Rattle.events.specs.Executions.{Execution}
+use Rattle.events.specs.Executions.{GraphValue}
 use Rattle.events.specs.Named.{event_names, event_at, read_names, NamedSet, NamedRel}
 use Rattle.events.specs.Structures.{Structure, Sourced, structure_of, sourced_of, bare, plain}
 
-pub same_sets : (g h : Execution) → structure_of g ≡ structure_of h → (name : SetName) (i : ℕ) → NamedSet g name i → NamedSet h name i
+pub same_sets : (g h : GraphValue) → structure_of g ≡ structure_of h → (name : SetName) (i : ℕ) → NamedSet g name i → NamedSet h name i
 unfolding event_names NamedSet event_at
 same_sets g h e name i k = (let P : Structure → Type 0 = λ s. NamedSet (bare s) name i in subst P e k)
 
-pub same_on_runs : (g h : Execution) → structure_of g ≡ structure_of h → (name : RelName) → basis_of name ≡ Runs → (i j : ℕ) → NamedRel g name i j → NamedRel h name i j
+pub same_on_runs : (g h : GraphValue) → structure_of g ≡ structure_of h → (name : RelName) → basis_of name ≡ Runs → (i j : ℕ) → NamedRel g name i j → NamedRel h name i j
 unfolding event_names NamedRel event_at
 same_on_runs g h e Po b i j k = (let P : Structure → Type 0 = λ s. NamedRel (bare s) Po i j in subst P e k)
 same_on_runs g h e Int b i j k = (let P : Structure → Type 0 = λ s. NamedRel (bare s) Int i j in subst P e k)
@@ -35,7 +35,7 @@ same_on_runs g h e Ctrl b i j k = (let P : Structure → Type 0 = λ s. NamedRel
 same_on_runs g h e Addr b i j k = (let P : Structure → Type 0 = λ s. NamedRel (bare s) Addr i j in subst P e k)
 same_on_runs g h e Id b i j k = (let P : Structure → Type 0 = λ s. NamedRel (bare s) Id i j in subst P e k)
 
-pub same_on_sources : (g h : Execution) → sourced_of g ≡ sourced_of h → (name : RelName) → basis_of name ≡ Sources → (i j : ℕ) → NamedRel g name i j → NamedRel h name i j
+pub same_on_sources : (g h : GraphValue) → sourced_of g ≡ sourced_of h → (name : RelName) → basis_of name ≡ Sources → (i j : ℕ) → NamedRel g name i j → NamedRel h name i j
 unfolding event_names NamedRel event_at read_names
 same_on_sources g h e Po b i j k = absurd (let z : ⊥ = cc in z)
 same_on_sources g h e Int b i j k = absurd (let z : ⊥ = cc in z)

@@ -7,7 +7,7 @@ use Rattle.listings.proofs.Listings.{in_get_or}
 use Rattle.events.specs.declared.event.Event.{Event}
 use Rattle.events.specs.declared.event.EventId.{EventId}
 use Rattle.events.specs.declared.event.EventId.TheVariants.{Initial, Own}
-use Rattle.events.specs.Executions.{Execution, ThreadRun, IsNamed, empty_run}
+use Rattle.events.specs.Executions.{GraphValue, ThreadRun, IsNamed, empty_run}
 use Rattle.events.specs.Named.{names_from, thread_names, event_names}
 use Rattle.events.proofs.Adding.{one_number}
 use Rattle.events.proofs.Numbers.{count_names, count_initial, own, names_listed}
@@ -61,21 +61,21 @@ threads_at k (run ∷ runs) (suc j) q l m =
       omega (arith, f.2, n, s),
     )
 
-named_at : (g : Execution) (e : EventId) (i : ℕ) → StandsAt (event_names g) i e → IsNamed g.init g.runs e
+named_at : (g : GraphValue) (e : EventId) (i : ℕ) → StandsAt (event_names g) i e → IsNamed g.init g.runs e
 named_at g e i s =
     let names = event_names g in
     let P : EventId → Type 0 = λ w. IsIn w names in
     (names_listed g).only e (subst P (stands_get names i e e s) (in_get_or names i e (stands_below names i e s)))
 
 -- an initial write has the number of its location
-pub number_of_initial : (g : Execution) (x i : ℕ) → StandsAt (event_names g) i (Initial x) → x ≡ i
+pub number_of_initial : (g : GraphValue) (x i : ℕ) → StandsAt (event_names g) i (Initial x) → x ≡ i
 unfolding event_names
 number_of_initial g x i s =
     let l : x < length g.init = named_at g (Initial x) i s in
     one_number g (Initial x) x i (in_front (tabulate (length g.init) Initial) (thread_names 0 g.runs) x (Initial x) (initial_at (length g.init) Initial x l)) s
 
 -- an event of a thread has the number of the thread's first, and its place behind it
-pub number_of_own : (g : Execution) (k p first i : ℕ) → (k < length g.runs → first + events_in (drop k g.runs) ≡ length g.init + events_in g.runs) → StandsAt (event_names g) i (Own k p) → first + p ≡ i
+pub number_of_own : (g : GraphValue) (k p first i : ℕ) → (k < length g.runs → first + events_in (drop k g.runs) ≡ length g.init + events_in g.runs) → StandsAt (event_names g) i (Own k p) → first + p ≡ i
 unfolding event_names
 number_of_own g k p first i h s =
     let named : (k < length g.runs) × (p < length (get_or g.runs k empty_run).events) = named_at g (Own k p) i s in

@@ -6,13 +6,13 @@ use Rattle.relations.specs.Equality.{pair_below}
 use Rattle.events.specs.declared.event.EventId.{EventId}
 use Rattle.events.specs.declared.named.RelName.{RelName}
 use Rattle.events.specs.declared.named.RelName.TheVariants.{Rf, Co, Fr, Int, Ext, Addr, Id}
-use Rattle.events.specs.Executions.{Execution, IsGraph, IsNamed}
+use Rattle.events.specs.Executions.{GraphValue, IsGraph, IsNamed}
 use Rattle.events.specs.Named.{event_names, event_count, IsNumber, InRel, NamedRel, ReadsFrom, ReadsBefore, IsCoherenceBefore}
 use Rattle.events.proofs.Adding.{one_number, of_number, has_number, number_below, all_at}
 use Rattle.events.proofs.Standing.{one_stands}
 
 -- in two relations by numbers, so by events
-joined : (g : Execution) (A B : RelName) (i j : ℕ) → NamedRel g A i j → NamedRel g B i j → (d : EventId) × (e : EventId) × IsNumber g i d × IsNumber g j e × InRel g A d e × InRel g B d e
+joined : (g : GraphValue) (A B : RelName) (i j : ℕ) → NamedRel g A i j → NamedRel g B i j → (d : EventId) × (e : EventId) × IsNumber g i d × IsNumber g j e × InRel g A d e × InRel g B d e
 unfolding NamedRel
 joined g A B i j p q =
     let d : q.0 ≡ p.0 = one_stands (event_names g) i q.0 p.0 q.2 p.2 in
@@ -21,7 +21,7 @@ joined g A B i j p q =
     let Q : EventId → Type 0 = λ y. InRel g B p.0 y in
     (p.0, p.1, p.2, p.3, p.4, subst Q e (subst P d q.4))
 
-pub both_named : (g : Execution) (A B C : RelName) (r s t : Relation) → ((d e : EventId) → InRel g A d e → InRel g B d e → InRel g C d e) → ((d e : EventId) → InRel g C d e → InRel g A d e × InRel g B d e) →
+pub both_named : (g : GraphValue) (A B C : RelName) (r s t : Relation) → ((d e : EventId) → InRel g A d e → InRel g B d e → InRel g C d e) → ((d e : EventId) → InRel g C d e → InRel g A d e × InRel g B d e) →
     IsExactly (event_count g) (NamedRel g A) r → IsExactly (event_count g) (NamedRel g B) s → IsExactly r.count (λ i j. In r i j × In s i j) t → IsExactly (event_count g) (NamedRel g C) t
 unfolding NamedRel
 both_named g A B C r s t f k h l m = record {
@@ -34,7 +34,7 @@ both_named g A B C r s t f k h l m = record {
   canonical = m.canonical;
 }
 
-pub first_named : (g : Execution) (A B C : RelName) (r s t : Relation) → ((d e : EventId) → InRel g A d e → (¬ InRel g B d e) → InRel g C d e) →
+pub first_named : (g : GraphValue) (A B C : RelName) (r s t : Relation) → ((d e : EventId) → InRel g A d e → (¬ InRel g B d e) → InRel g C d e) →
     ((d e : EventId) → InRel g C d e → InRel g A d e × (¬ InRel g B d e)) →
     IsExactly (event_count g) (NamedRel g A) r → IsExactly (event_count g) (NamedRel g B) s → IsExactly r.count (λ i j. In r i j × (¬ In s i j)) t → IsExactly (event_count g) (NamedRel g C) t
 unfolding NamedRel
@@ -54,7 +54,7 @@ first_named g A B C r s t f k h l m = record {
   canonical = m.canonical;
 }
 
-pub ext_named : (g : Execution) (r t : Relation) → IsExactly (event_count g) (NamedRel g Int) r → IsExactly r.count (λ i j. ¬ In r i j) t → IsExactly (event_count g) (NamedRel g Ext) t
+pub ext_named : (g : GraphValue) (r t : Relation) → IsExactly (event_count g) (NamedRel g Int) r → IsExactly r.count (λ i j. ¬ In r i j) t → IsExactly (event_count g) (NamedRel g Ext) t
 unfolding NamedRel
 ext_named g r t h m = record {
   count = m.count ∙ h.count;
@@ -69,7 +69,7 @@ ext_named g r t h m = record {
   canonical = m.canonical;
 }
 
-pub id_named : (g : Execution) (t : Relation) → IsExactly (event_count g) (λ i j. i ≡ j) t → IsExactly (event_count g) (NamedRel g Id) t
+pub id_named : (g : GraphValue) (t : Relation) → IsExactly (event_count g) (λ i j. i ≡ j) t → IsExactly (event_count g) (NamedRel g Id) t
 unfolding NamedRel
 id_named g t m = record {
   count = m.count;
@@ -81,12 +81,12 @@ id_named g t m = record {
   canonical = m.canonical;
 }
 
-pub addr_named : (g : Execution) (t : Relation) → IsExactly (event_count g) (λ i j. ⊥) t → IsExactly (event_count g) (NamedRel g Addr) t
+pub addr_named : (g : GraphValue) (t : Relation) → IsExactly (event_count g) (λ i j. ⊥) t → IsExactly (event_count g) (NamedRel g Addr) t
 unfolding NamedRel
 addr_named g t m = record { count = m.count; only = λ i j x. absurd (m.only i j x); all = λ i j a b z. absurd z.4; canonical = m.canonical }
 
 -- from each read to the write that it reads from
-pub turned_named : (g : Execution) (r t : Relation) → IsExactly (event_count g) (NamedRel g Rf) r → IsExactly r.count (λ i j. In r j i) t → IsExactly (event_count g) (λ i j. NamedRel g Rf j i) t
+pub turned_named : (g : GraphValue) (r t : Relation) → IsExactly (event_count g) (NamedRel g Rf) r → IsExactly r.count (λ i j. In r j i) t → IsExactly (event_count g) (λ i j. NamedRel g Rf j i) t
 turned_named g r t h m = record {
   count = m.count ∙ h.count;
   only = λ i j x. h.only j i (m.only i j x);
@@ -95,7 +95,7 @@ turned_named g r t h m = record {
 }
 
 -- the row of co behind the write that a read reads from
-pub fr_named : (g : Execution) (s t u : Relation) → IsGraph g → IsExactly (event_count g) (λ i j. NamedRel g Rf j i) t → IsExactly (event_count g) (NamedRel g Co) s →
+pub fr_named : (g : GraphValue) (s t u : Relation) → IsGraph g → IsExactly (event_count g) (λ i j. NamedRel g Rf j i) t → IsExactly (event_count g) (NamedRel g Co) s →
     IsExactly t.count (Through t.count (In t) (In s)) u → IsExactly (event_count g) (NamedRel g Fr) u
 unfolding NamedRel
 fr_named g s t u graph l k m = record {

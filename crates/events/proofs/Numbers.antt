@@ -6,7 +6,7 @@ use Rattle.std.proofs.lemmas.List.Sums.{sum_by-cons}
 use Rattle.events.specs.declared.event.Event.{Event}
 use Rattle.events.specs.declared.event.EventId.{EventId}
 use Rattle.events.specs.declared.event.EventId.TheVariants.{Initial, Own}
-use Rattle.events.specs.Executions.{Execution, ThreadRun, IsNamed, empty_run}
+use Rattle.events.specs.Executions.{GraphValue, ThreadRun, IsNamed, empty_run}
 use Rattle.listings.specs.Lists.{IsIn, NoRepeats, Lists, tabulate}
 use Rattle.listings.proofs.Listings.{listed, in_append, in_left, in_right, once_append}
 use Rattle.events.specs.Named.{names_from, thread_names, event_names, event_count, no_event}
@@ -29,7 +29,7 @@ count_threads k (run ∷ runs) =
     ∙ ap (λ n. length run.events + n) (count_threads (suc k) runs)
     ∙ sym (sum_by-cons (λ (r : ThreadRun). length r.events) run runs)
 
-pub counted : (g : Execution) → length (event_names g) ≡ event_count g
+pub counted : (g : GraphValue) → length (event_names g) ≡ event_count g
 unfolding event_names
 counted g =
     length-append (tabulate (length g.init) Initial) (thread_names 0 g.runs)
@@ -140,7 +140,7 @@ once_threads k (run ∷ runs) =
     let e : k ≡ suc k + g.0 = same_thread k (0 + f.0) (suc k + g.0) g.1 (sym f.2 ∙ g.4) in
     absurd (omega (arith, e)))
 
-only_named : (g : Execution) (w : EventId) → IsIn w (tabulate (length g.init) Initial) ⊎ IsIn w (thread_names 0 g.runs) → IsNamed g.init g.runs w
+only_named : (g : GraphValue) (w : EventId) → IsIn w (tabulate (length g.init) Initial) ⊎ IsIn w (thread_names 0 g.runs) → IsNamed g.init g.runs w
 only_named g w (inl a) =
     let f = (initial_listed (length g.init)).only w a in
     let P : EventId → Type 0 = IsNamed g.init g.runs in
@@ -150,13 +150,13 @@ only_named g w (inr b) =
     let P : EventId → Type 0 = IsNamed g.init g.runs in
     subst P (sym (f.4 ∙ own (0 + f.0) f.0 f.1 f.1 (omega arith) refl)) (f.2, f.3)
 
-all_named : (g : Execution) (w : EventId) → IsNamed g.init g.runs w → IsIn w (tabulate (length g.init) Initial) ⊎ IsIn w (thread_names 0 g.runs)
+all_named : (g : GraphValue) (w : EventId) → IsNamed g.init g.runs w → IsIn w (tabulate (length g.init) Initial) ⊎ IsIn w (thread_names 0 g.runs)
 all_named g (Initial x) h = inl ((initial_listed (length g.init)).all (Initial x) (x, h, refl))
 all_named g (Own k p) h =
     let P : EventId → Type 0 = λ w. IsIn w (thread_names 0 g.runs) in
     inr (subst P (own (0 + k) k p p (omega arith) refl) (threads_in 0 g.runs k p h.0 h.1))
 
-pub names_listed : (g : Execution) → Lists (IsNamed g.init g.runs) (event_names g)
+pub names_listed : (g : GraphValue) → Lists (IsNamed g.init g.runs) (event_names g)
 unfolding event_names
 names_listed g =
     let initial = tabulate (length g.init) Initial in

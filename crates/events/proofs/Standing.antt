@@ -4,7 +4,7 @@ use Rattle.std.proofs.lemmas.Bool.{}
 use Rattle.events.specs.declared.event.EventId.{EventId}
 use Rattle.events.specs.declared.named.SetName.{SetName}
 use Rattle.events.specs.declared.named.RelName.{RelName}
-use Rattle.events.specs.Executions.{Execution}
+use Rattle.events.specs.Executions.{GraphValue}
 use Rattle.listings.specs.Lists.{StandsAt}
 use Rattle.events.specs.Named.{event_names, InSet, InRel, NamedSet, NamedRel}
 
@@ -44,7 +44,7 @@ pub one_stands : {X : Type 0} (xs : List X) (i : ℕ) (x y : X) → StandsAt xs 
 one_stands xs i x y s t = sym (stands_get xs i x x s) ∙ stands_get xs i x y t
 
 -- a test of an event is one of its number
-pub by_number : (g : Execution) (name : SetName) (i : ℕ) (e : EventId) (b : Bool) → StandsAt (event_names g) i e → (IsTrue b ↔ InSet g name e) → IsTrue b ↔ NamedSet g name i
+pub by_number : (g : GraphValue) (name : SetName) (i : ℕ) (e : EventId) (b : Bool) → StandsAt (event_names g) i e → (IsTrue b ↔ InSet g name e) → IsTrue b ↔ NamedSet g name i
 unfolding NamedSet
 by_number g name i e b s h = (
   λ t. (e, s, h.0 t),
@@ -52,7 +52,7 @@ by_number g name i e b s h = (
 )
 
 -- a test of a pair of events is one of their numbers
-pub by_numbers : (g : Execution) (name : RelName) (i j : ℕ) (d e : EventId) (b : Bool) → StandsAt (event_names g) i d → StandsAt (event_names g) j e → (IsTrue b ↔ InRel g name d e) → IsTrue b ↔ NamedRel g name i j
+pub by_numbers : (g : GraphValue) (name : RelName) (i j : ℕ) (d e : EventId) (b : Bool) → StandsAt (event_names g) i d → StandsAt (event_names g) j e → (IsTrue b ↔ InRel g name d e) → IsTrue b ↔ NamedRel g name i j
 unfolding NamedRel
 by_numbers g name i j d e b s t h = (
   λ u. (d, e, s, t, h.0 u),

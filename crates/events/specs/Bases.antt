@@ -5,7 +5,7 @@ use Rattle.events.specs.declared.named.RelName.{RelName}
 use Rattle.events.specs.declared.named.RelName.TheVariants.{Po, Int, Ext, Loc, PoLoc, Rf, Co, Fr, Rfi, Coi, Fri, Rfe, Coe, Fre, Rmw, Data, Ctrl, Addr, Id}
 use Rattle.events.specs.declared.named.Basis.{Basis}
 use Rattle.events.specs.declared.named.Basis.TheVariants.{Runs, Sources, Orders}
-use Rattle.events.specs.Executions.{Execution}
+use Rattle.events.specs.Executions.{GraphValue}
 use Rattle.events.specs.Named.{NamedSet, NamedRel}
 use Rattle.events.specs.Structures.{structure_of, sourced_of}
 
@@ -32,12 +32,12 @@ basis_of Id = Runs
 
 -- The law: two executions of one structure have the same sets.
 abbrev pub SetsRestOnRuns : Type 0
-SetsRestOnRuns = (g h : Execution) → structure_of g ≡ structure_of h → (name : SetName) (i : ℕ) → NamedSet g name i → NamedSet h name i
+SetsRestOnRuns = (g h : GraphValue) → structure_of g ≡ structure_of h → (name : SetName) (i : ℕ) → NamedSet g name i → NamedSet h name i
 
 -- The law: two executions of one structure have the same relations of those that rest on the runs.
 abbrev pub RelationsRestOnRuns : Type 0
-RelationsRestOnRuns = (g h : Execution) → structure_of g ≡ structure_of h → (name : RelName) → basis_of name ≡ Runs → (i j : ℕ) → NamedRel g name i j → NamedRel h name i j
+RelationsRestOnRuns = (g h : GraphValue) → structure_of g ≡ structure_of h → (name : RelName) → basis_of name ≡ Runs → (i j : ℕ) → NamedRel g name i j → NamedRel h name i j
 
 -- The law: two executions of one structure and one read-from map have the same relations of those that rest on these.
 abbrev pub RelationsRestOnSources : Type 0
-RelationsRestOnSources = (g h : Execution) → sourced_of g ≡ sourced_of h → (name : RelName) → basis_of name ≡ Sources → (i j : ℕ) → NamedRel g name i j → NamedRel h name i j
+RelationsRestOnSources = (g h : GraphValue) → sourced_of g ≡ sourced_of h → (name : RelName) → basis_of name ≡ Sources → (i j : ℕ) → NamedRel g name i j → NamedRel h name i j

@@ -8,14 +8,14 @@ use Rattle.events.specs.declared.event.EventId.TheVariants.{Initial, Own}
 use Rattle.events.specs.declared.event.Order.TheVariants.{Rlx}
 use Rattle.events.specs.declared.named.SetName.TheVariants.{Writes}
 use Rattle.events.specs.declared.named.RelName.TheVariants.{Po, Int, Rf, Fr}
-use Rattle.events.specs.Executions.{Execution, no_places}
+use Rattle.events.specs.Executions.{GraphValue, no_places}
 use Rattle.events.specs.Named.{event_names, read_names, event_at, NamedSet, NamedRel}
 
 -- event of thread k at location x, with value v, relaxed
 abbrev pub relaxed : ℕ → Access → ℕ → ℕ → Event
 relaxed k a x v = record { thread = k; access = a; loc = x; value = v; order = Rlx; data_from = no_places; ctrl_from = no_places }
 
-abbrev pub store_buffering : Execution
+abbrev pub store_buffering : GraphValue
 store_buffering = record {
   init = 0 ∷ 0 ∷ [];
   runs = record { events = relaxed 0 Write 0 1 ∷ relaxed 0 Read 1 0 ∷ []; registers = 0 ∷ [] } ∷ record { events = relaxed 1 Write 1 1 ∷ relaxed 1 Read 0 0 ∷ []; registers = 0 ∷ [] } ∷ [];

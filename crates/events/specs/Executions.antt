@@ -36,7 +36,7 @@ pub record ThreadRun : Type 0 where
 
 -- init: the initial value of each location. runs: of each thread. rf: of each read, thread by thread in
 -- program order, the write that it reads from. co: of each location, its writes in coherence order.
-pub record Execution : Type 0 where
+pub record GraphValue : Type 0 where
   pub init : List ℕ
   pub runs : List ThreadRun
   pub rf : List EventId
@@ -51,7 +51,7 @@ IsNamed init runs (Initial x) = x < length init
 IsNamed init runs (Own k p) = (k < length runs) × (p < length (slice_index_or runs k empty_run).events)
 
 -- What every graph keeps: at most 64 events with its initial writes, and rf and co name its own events.
-pub record IsGraph (x : Execution) : Type 0 where
+pub record IsGraph (x : GraphValue) : Type 0 where
   pub few : length x.init + sum_by (λ run. length run.events) x.runs ≤ 64
   pub rf : All (IsNamed x.init x.runs) x.rf
   pub co : All (All (IsNamed x.init x.runs)) x.co

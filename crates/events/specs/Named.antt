@@ -14,7 +14,7 @@ use Rattle.events.specs.declared.named.SetName.{SetName}
 use Rattle.events.specs.declared.named.SetName.TheVariants.{Writes, Reads, Fences, Memory, InitialWrites, Atomic, Plain, Relaxed, Acquire, Release, AcquireRelease, SeqCst, Exchanges}
 use Rattle.events.specs.declared.named.RelName.{RelName}
 use Rattle.events.specs.declared.named.RelName.TheVariants.{Po, Int, Ext, Loc, PoLoc, Rf, Co, Fr, Rfi, Coi, Fri, Rfe, Coe, Fre, Rmw, Data, Ctrl, Addr, Id}
-use Rattle.events.specs.Executions.{Execution, ThreadRun, IsNamed, is_read, is_write, no_places, empty_run}
+use Rattle.events.specs.Executions.{GraphValue, ThreadRun, IsNamed, is_read, is_write, no_places, empty_run}
 
 -- THE EVENTS AND THEIR NUMBERS
 
@@ -29,20 +29,20 @@ thread_names k [] = []
 thread_names k (run ∷ runs) = names_from k 0 run.events ++ thread_names (suc k) runs
 
 -- The events by their numbers: the initial writes in the order of locations, then thread by thread in program order.
-unfoldable pub event_names : Execution → List EventId
+unfoldable pub event_names : GraphValue → List EventId
 event_names g = tabulate (length g.init) Initial ++ thread_names 0 g.runs
 
 -- how many events there are
-abbrev pub event_count : Execution → ℕ
+abbrev pub event_count : GraphValue → ℕ
 event_count g = length g.init + sum_by (λ run. length run.events) g.runs
 
 -- event e has number i
-abbrev pub IsNumber : Execution → ℕ → EventId → Type 0
+abbrev pub IsNumber : GraphValue → ℕ → EventId → Type 0
 IsNumber g i e = StandsAt (event_names g) i e
 
 -- The law: the events of an execution have the numbers below its count, each one number.
 abbrev pub Numbering : Type 0
-Numbering = (g : Execution) → (length (event_names g) ≡ event_count g) × Lists (IsNamed g.init g.runs) (event_names g)
+Numbering = (g : GraphValue) → (length (event_names g) ≡ event_count g) × Lists (IsNamed g.init g.runs) (event_names g)
 
 -- WHAT IS KNOWN OF AN EVENT
 
@@ -51,42 +51,42 @@ abbrev pub no_event : Event
 no_event = record { thread = 0; access = Fence; loc = 0; value = 0; order = NoOrder; data_from = no_places; ctrl_from = no_places }
 
 -- the event of thread k at place p
-unfoldable pub event_at : Execution → ℕ → ℕ → Event
+unfoldable pub event_at : GraphValue → ℕ → ℕ → Event
 event_at g k p = slice_index_or (slice_index_or g.runs k empty_run).events p no_event
 
 -- what it does
-abbrev pub access_of : Execution → EventId → Access
+abbrev pub access_of : GraphValue → EventId → Access
 access_of g (Initial x) = Write
 access_of g (Own k p) = (event_at g k p).access
 
 -- where
-abbrev pub location_of : Execution → EventId → ℕ
+abbrev pub location_of : GraphValue → EventId → ℕ
 location_of g (Initial x) = x
 location_of g (Own k p) = (event_at g k p).loc
 
 -- its memory order: an initial write has none
-abbrev pub order_of : Execution → EventId → Order
+abbrev pub order_of : GraphValue → EventId → Order
 order_of g (Initial x) = NoOrder
 order_of g (Own k p) = (event_at g k p).order
 
 -- the places of the reads whose values reached the value that it writes
-abbrev pub data_of : Execution → EventId → EventSet
+abbrev pub data_of : GraphValue → EventId → EventSet
 data_of g (Initial x) = no_places
 data_of g (Own k p) = (event_at g k p).data_from
 
 -- the places of the reads whose values reached the tests of the branches around it
-abbrev pub control_of : Execution → EventId → EventSet
+abbrev pub control_of : GraphValue → EventId → EventSet
 control_of g (Initial x) = no_places
 control_of g (Own k p) = (event_at g k p).ctrl_from
 
-abbrev pub IsRead : Execution → EventId → Type 0
+abbrev pub IsRead : GraphValue → EventId → Type 0
 IsRead g e = IsTrue (is_read (access_of g e))
 
-abbrev pub IsWrite : Execution → EventId → Type 0
+abbrev pub IsWrite : GraphValue → EventId → Type 0
 IsWrite g e = IsTrue (is_write (access_of g e))
 
 -- it reads or writes memory
-abbrev pub IsMemory : Execution → EventId → Type 0
+abbrev pub IsMemory : GraphValue → EventId → Type 0
 IsMemory g e = IsRead g e ⊎ IsWrite g e
 
 abbrev pub IsInitial : EventId → Type 0
@@ -106,7 +106,7 @@ IsOfCall Sc = Unit {0}
 -- THE SETS
 
 -- event e of g is in the set of this name
-abbrev pub InSet : Execution → SetName → EventId → Type 0
+abbrev pub InSet : GraphValue → SetName → EventId → Type 0
 InSet g Writes e = IsWrite g e
 InSet g Reads e = IsRead g e
 InSet g Fences e = access_of g e ≡ Fence
@@ -123,7 +123,7 @@ InSet g Exchanges e = (access_of g e ≡ ExRead) ⊎ (access_of g e ≡ ExWrite)
 
 -- THE RELATIONS
 
--- d stands before e in program order: they are of one thread
+-- d comes before e in program order: they are of one thread
 abbrev pub IsBefore : EventId → EventId → Type 0
 IsBefore (Initial x) e = ⊥
 IsBefore (Own k p) (Initial x) = ⊥
@@ -137,15 +137,15 @@ IsInternal (Own k p) (Initial y) = ⊥
 IsInternal (Own k p) (Own l q) = k ≡ l
 
 -- they read or write one location
-abbrev pub IsAtOneLocation : Execution → EventId → EventId → Type 0
+abbrev pub IsAtOneLocation : GraphValue → EventId → EventId → Type 0
 IsAtOneLocation g d e = IsMemory g d × IsMemory g e × (location_of g d ≡ location_of g e)
 
 -- the reads by their numbers: rf gives the write of each in this order
-unfoldable pub read_names : Execution → List EventId
+unfoldable pub read_names : GraphValue → List EventId
 read_names g = filter (λ e. is_read (access_of g e)) (event_names g)
 
 -- r reads from w
-abbrev pub ReadsFrom : Execution → EventId → EventId → Type 0
+abbrev pub ReadsFrom : GraphValue → EventId → EventId → Type 0
 ReadsFrom g w r = (m : ℕ) × StandsAt (read_names g) m r × StandsAt g.rf m w
 
 -- e stands in the order at place from or later
@@ -157,21 +157,21 @@ abbrev pub StandsBefore : List EventId → EventId → EventId → Type 0
 StandsBefore order d e = (a : ℕ) × StandsAt order a d × StandsFrom order (a + 1) e
 
 -- the coherence order of some location x has d before e
-abbrev pub IsCoherenceBefore : Execution → EventId → EventId → Type 0
+abbrev pub IsCoherenceBefore : GraphValue → EventId → EventId → Type 0
 IsCoherenceBefore g d e = (x : ℕ) × (order : List EventId) × StandsAt g.co x order × StandsBefore order d e
 
 -- r reads from a write before e in coherence: rf^-1 ; co
-abbrev pub ReadsBefore : Execution → EventId → EventId → Type 0
+abbrev pub ReadsBefore : GraphValue → EventId → EventId → Type 0
 ReadsBefore g r e = (w : EventId) × ReadsFrom g w r × IsCoherenceBefore g w e
 
--- d stands directly before e in program order
+-- d comes directly before e in program order
 abbrev pub IsNext : EventId → EventId → Type 0
 IsNext (Initial x) e = ⊥
 IsNext (Own k p) (Initial y) = ⊥
 IsNext (Own k p) (Own l q) = (k ≡ l) × (q ≡ suc p)
 
 -- d is the read and e the write of one exchange
-abbrev pub IsExchange : Execution → EventId → EventId → Type 0
+abbrev pub IsExchange : GraphValue → EventId → EventId → Type 0
 IsExchange g d e = IsNext d e × (access_of g d ≡ ExRead) × (access_of g e ≡ ExWrite)
 
 -- d and e are of one thread, and the place of d is among those that e depends on
@@ -181,7 +181,7 @@ IsDependency (Own k p) (Initial y) places = ⊥
 IsDependency (Own k p) (Own l q) places = (k ≡ l) × Has places p
 
 -- the pair of events d and e of g is in the relation of this name
-abbrev pub InRel : Execution → RelName → EventId → EventId → Type 0
+abbrev pub InRel : GraphValue → RelName → EventId → EventId → Type 0
 InRel g Po d e = IsBefore d e
 InRel g Int d e = IsInternal d e
 InRel g Ext d e = ¬ IsInternal d e
@@ -205,9 +205,9 @@ InRel g Id d e = d ≡ e
 -- BY NUMBERS
 
 -- the event with number i is in the set of this name
-unfoldable pub NamedSet : Execution → SetName → ℕ → Type 0
+unfoldable pub NamedSet : GraphValue → SetName → ℕ → Type 0
 NamedSet g name i = (e : EventId) × IsNumber g i e × InSet g name e
 
 -- the pair of the events with numbers i and j is in the relation of this name
-unfoldable pub NamedRel : Execution → RelName → ℕ → ℕ → Type 0
+unfoldable pub NamedRel : GraphValue → RelName → ℕ → ℕ → Type 0
 NamedRel g name i j = (d : EventId) × (e : EventId) × IsNumber g i d × IsNumber g j e × InRel g name d e

@@ -6,7 +6,7 @@ use Rattle.events.specs.declared.named.RelName.{RelName}
 use Rattle.events.specs.declared.named.RelName.TheVariants as names
 use Rattle.events.specs.declared.view.table.Pairwise.{Pairwise}
 use Rattle.events.specs.declared.view.table.Pairwise.TheVariants.{Po, Int, Loc, Rmw, Data, Ctrl}
-use Rattle.events.specs.Executions.{Execution}
+use Rattle.events.specs.Executions.{GraphValue}
 use Rattle.events.specs.Named.{IsNumber, read_names, StandsFrom, StandsBefore}
 
 -- the name of a relation that is tested pair by pair
@@ -19,11 +19,11 @@ name_of Data = names.Data
 name_of Ctrl = names.Ctrl
 
 -- i and j are the numbers of events that P relates
-abbrev pub ByNumbers : Execution → (EventId → EventId → Type 0) → ℕ → ℕ → Type 0
+abbrev pub ByNumbers : GraphValue → (EventId → EventId → Type 0) → ℕ → ℕ → Type 0
 ByNumbers g P i j = (d : EventId) × (e : EventId) × IsNumber g i d × IsNumber g j e × P d e
 
 -- i is the number of an event that stands in the order at place from or later
-abbrev pub IsBehind : Execution → List EventId → ℕ → ℕ → Type 0
+abbrev pub IsBehind : GraphValue → List EventId → ℕ → ℕ → Type 0
 IsBehind g order from i = (e : EventId) × IsNumber g i e × StandsFrom order from e
 
 -- d stands in the order at place from or later, and before e
@@ -31,13 +31,13 @@ abbrev pub StandsBeforeFrom : List EventId → ℕ → EventId → EventId → T
 StandsBeforeFrom order from d e = (a : ℕ) × (from ≤ a) × StandsAt order a d × StandsFrom order (a + 1) e
 
 -- the coherence order of one of the first locations has d before e
-abbrev pub IsBeforeAmong : Execution → ℕ → EventId → EventId → Type 0
+abbrev pub IsBeforeAmong : GraphValue → ℕ → EventId → EventId → Type 0
 IsBeforeAmong g count d e = (x : ℕ) × (order : List EventId) × (x < count) × StandsAt g.co x order × StandsBefore order d e
 
 -- one of the first reads is r, and it reads from w
-abbrev pub ReadsAmong : Execution → ℕ → EventId → EventId → Type 0
+abbrev pub ReadsAmong : GraphValue → ℕ → EventId → EventId → Type 0
 ReadsAmong g count w r = (m : ℕ) × (m < count) × StandsAt (read_names g) m r × StandsAt g.rf m w
 
 -- r is the read with this number among the reads, and it reads from w
-abbrev pub IsReadAt : Execution → ℕ → EventId → EventId → Type 0
+abbrev pub IsReadAt : GraphValue → ℕ → EventId → EventId → Type 0
 IsReadAt g m w r = StandsAt (read_names g) m r × StandsAt g.rf m w

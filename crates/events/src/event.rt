@@ -80,7 +80,7 @@ impl EventId {
         matches!(self, EventId::Initial(_))
     }
 
-    /// Whether the event stands before the other in program order.
+    /// Whether the event comes before the other in program order.
     pub fn is_before(self, other: Self) -> bool
         ensures { IsTrue result ↔ IsBefore self other }
     {
@@ -92,7 +92,7 @@ impl EventId {
         }
     }
 
-    /// Whether the event stands directly before the other in program order.
+    /// Whether the event comes directly before the other in program order.
     pub fn is_next(self, other: Self) -> bool
         ensures { IsTrue result ↔ IsNext self other }
     {

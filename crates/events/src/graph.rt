@@ -65,9 +65,9 @@ pub struct Graph {
 }
 
 impl Model for Graph {
-    ghost use Rattle.events.specs.Executions.{Execution};
+    ghost use Rattle.events.specs.Executions.{GraphValue};
 
-    ghost Value = { Execution };
+    ghost Value = { GraphValue };
 
     ghost use Rattle.events.specs.Executions.{IsGraph};
 

@@ -42,13 +42,13 @@ pub struct GraphView<'a> {
 impl<'a> Model for GraphView<'a> {
     ghost use Rattle.std.specs.Prelude.{◌≡◌};
     ghost use Rattle.relations.specs.Relation.{IsExactly};
-    ghost use Rattle.events.specs.Executions.{Execution};
+    ghost use Rattle.events.specs.Executions.{GraphValue};
     ghost use Rattle.events.specs.Held.{held_value};
     ghost use Rattle.events.specs.Named.{event_count, NamedRel};
     ghost use Rattle.events.specs.Structures.{sourced_of};
     ghost use Rattle.events.specs.declared.named.RelName.TheVariants as names;
 
-    ghost Value = { Execution };
+    ghost Value = { GraphValue };
 
     ghost view = { λ v. v.graph.now };
 

@@ -1,6 +1,6 @@
 -- An entry of the journal, as contracts see it, and which replies go with which command.
 use Rattle.std.specs.Prelude.{ℕ, Bool, true, false}
-use Rattle.slices.specs.Parts.{Part, Portion}
+use Rattle.slices.specs.Parts.{PieceResultValue, PieceValue}
 use Rattle.journal.specs.declared.records.Command.{Command}
 use Rattle.journal.specs.declared.records.Command.TheVariants as commands
 use Rattle.journal.specs.declared.records.Returned.{Returned}
@@ -19,10 +19,10 @@ pub record Line : Type 0 where
   pub reply : Reply
 
 -- what is seen of a result: its claim, slice, range and work
-abbrev pub shown : Portion → Returned
+abbrev pub shown : PieceValue → Returned
 shown p = record { claim = p.claim; slice = p.slice; from = p.from; to = p.to; work = p.work }
 
-abbrev pub returned : Part → Returned
+abbrev pub returned : PieceResultValue → Returned
 returned r = shown r.piece
 
 -- what is seen of a command

@@ -10,7 +10,7 @@ use Rattle.litmus_c.specs.declared.rules.Rule.{Rule}
 use Rattle.litmus_tree.specs.declared.tree.Declarator.{Declarator}
 use Rattle.litmus_tree.specs.declared.tree.Parameter.{Parameter}
 use Rattle.litmus_tree.specs.declared.tree.Statement.{Statement}
-use Rattle.litmus_test.specs.Limits.{optional_events, step_events}
+use Rattle.litmus_value.specs.Limits.{optional_events, step_events}
 use Rattle.litmus_c.specs.Rules.{declared_keeps, step_keeps, steps_keep}
 use Rattle.litmus_tree.specs.Tree.{Word, declared_of, step_of, steps_of}
 use Rattle.litmus_c.proofs.Steps.{row_keeps}

@@ -18,7 +18,7 @@ use Rattle.litmus_syntax.specs.Drafts.{Written}
 use Rattle.litmus_syntax.specs.Grammar.{Spells}
 use Rattle.litmus_syntax.specs.Symbols.{symbols_of}
 use Rattle.litmus_syntax.proofs.Complete.{one_reading}
-use Rattle.litmus_test.specs.Values.{values_of}
+use Rattle.litmus_value.specs.Values.{values_of}
 use Rattle.litmus_tree.specs.Tree.{Litmus}
 
 -- the first of them, as they are tried

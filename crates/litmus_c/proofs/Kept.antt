@@ -14,11 +14,11 @@ use Rattle.litmus_tree.specs.declared.tree.Parameter.{Parameter}
 use Rattle.litmus_syntax.specs.Drafts.{Listing, Written, is_parameter}
 use Rattle.litmus_c.specs.declared.fault.TestFault.{TestFault}
 use Rattle.litmus_c.specs.declared.fault.TestFault.TheVariants.{Text, Syntax, BadOrder, UnknownName, PlainOnAtomic, AtomicOnPlain, Unsupported, TooDeep, TooManyThreads, TooManyLocations, TooManyEvents, TooManyValues, NoMemory}
-use Rattle.litmus_test.specs.Limits.{program_events, IsTest, TermNames, ActionNames, RightNames, OptionalNames, StepNames, StepsNames, ProgramNames}
+use Rattle.litmus_value.specs.Limits.{program_events, IsTest, TermNames, ActionNames, RightNames, OptionalNames, StepNames, StepsNames, ProgramNames}
 use Rattle.litmus_c.specs.Rules.{lasting, place_locations, parameter_names, locations_of, place_registers, step_registers, steps_registers, registers_of, program_of, programs_of, litmus_of, term_keeps, action_keeps, right_keeps, optional_keeps, declared_keeps, step_keeps, steps_keep, program_keeps, entry_is_fair, places_are_there, names_hold, formula_is_fair, KeepsRules, IsSmall, IsNamed, Explains, ExplainsNames, ExplainsLocations, ExplainsValues, events_of}
 use Rattle.litmus_tree.specs.Names.{is_one_of, with_name, with_names}
 use Rattle.litmus_tree.specs.Tree.{Word, Term, number, held, denied, equal, unequal, both, either, Action, load, store, exchange, fence, Right, computed, plain_read, value_of, Declared, Step, empty, block, declare, assign, plain_write, perform, if_only, if_else, Steps, no_steps, in_turn, Program, Litmus}
-use Rattle.litmus_test.specs.Values.{values_among, values_of}
+use Rattle.litmus_value.specs.Values.{values_among, values_of}
 use Rattle.litmus_c.proofs.Names.{programs_len}
 use Rattle.litmus_syntax.proofs.SingleSymbols.{bytes_eq-true, bytes_eq-refl}
 

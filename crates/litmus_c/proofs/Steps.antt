@@ -6,7 +6,7 @@ use Rattle.std.proofs.lemmas.List.Sums.{sum_by-cons}
 use Rattle.litmus_tree.specs.declared.tree.Statement.{Statement}
 use Rattle.litmus_tree.specs.declared.tree.Parameter.{Parameter}
 use Rattle.litmus_c.specs.declared.rules.Rule.{Rule}
-use Rattle.litmus_test.specs.Limits.{step_events, steps_events}
+use Rattle.litmus_value.specs.Limits.{step_events, steps_events}
 use Rattle.litmus_c.specs.Rules.{step_keeps, steps_keep}
 use Rattle.litmus_tree.specs.Tree.{Word, step_of, steps_of}
 

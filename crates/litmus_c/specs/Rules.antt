@@ -17,10 +17,10 @@ use Rattle.litmus_tree.specs.declared.tree.Parameter.{Parameter}
 use Rattle.conditions.specs.Conditions as chains
 use Rattle.conditions.specs.Conditions.{Formula, truth, falsehood, equals, negation, conjunction, disjunction, implication}
 use Rattle.litmus_syntax.specs.Drafts.{Listing, Written, is_parameter}
-use Rattle.litmus_test.specs.Limits.{program_events}
+use Rattle.litmus_value.specs.Limits.{program_events}
 use Rattle.litmus_tree.specs.Names.{is_one_of, with_names}
 use Rattle.litmus_tree.specs.Tree.{Word, Term, number, held, denied, equal, unequal, both, either, Growth, denies, joins, Action, load, store, exchange, fence, Right, computed, plain_read, value_of, Declared, Step, empty, block, declare, assign, plain_write, perform, if_only, if_else, Steps, no_steps, in_turn, Program, Litmus}
-use Rattle.litmus_test.specs.Values.{values_of}
+use Rattle.litmus_value.specs.Values.{values_of}
 
 -- The initial state.
 

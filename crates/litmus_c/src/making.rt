@@ -5,11 +5,11 @@ ghost use Rattle.conditions.specs.Equality.{same_place};
 ghost use Rattle.indexmap.specs.IndexSet.{contains};
 ghost use Rattle.std.specs.List.{flat_map, list_all};
 ghost use Rattle.litmus_syntax.specs.Drafts.{listing_of, written_of};
-ghost use Rattle.litmus_test.specs.Limits.{program_events};
+ghost use Rattle.litmus_value.specs.Limits.{program_events};
 ghost use Rattle.litmus_c.specs.declared.fault.TestFault.TheVariants.{TooManyEvents};
 ghost use Rattle.litmus_c.specs.Rules.{lasting, place_locations, parameter_names, locations_of, place_registers, step_registers, steps_registers, registers_of, program_of, programs_of, litmus_of, entry_is_fair, program_keeps, places_are_there, names_hold, formula_is_fair, KeepsRules, Explains, ExplainsNames, ExplainsLocations, ExplainsValues};
 ghost use Rattle.litmus_tree.specs.Names.{with_name, with_names};
-ghost use Rattle.litmus_test.specs.Values.{values_among};
+ghost use Rattle.litmus_value.specs.Values.{values_among};
 ghost use Rattle.litmus_tree.specs.Tree.{declared_of, step_of, steps_of};
 ghost use Rattle.litmus_c.specs.declared.rules.Rule.TheVariants.{Names, PlainAccess, AtomicAccess};
 
@@ -20,8 +20,8 @@ use crate::rules::{
 use conditions::{Binding, Cond, Place};
 use indexmap::IndexSet;
 use litmus_syntax::{Body, Draft};
-use litmus_test::{Test, ValuesFault, values_among};
 use litmus_tree::{Declarator, Parameter, Statement, Thread};
+use litmus_value::{Test, ValuesFault, values_among};
 use std::alloc::{AllocError, Global};
 use wb_text::Name;
 

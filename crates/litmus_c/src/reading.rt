@@ -10,7 +10,7 @@ ghost use Rattle.litmus_tree.specs.Tree.{Litmus};
 use crate::fault::TestFault;
 use crate::making::make_test;
 use litmus_syntax::{Draft, Symbol, SyntaxFault, read_draft, symbols};
-use litmus_test::Test;
+use litmus_value::Test;
 use std::alloc::{AllocError, Global};
 use wb_text::{Dialect, Name, Token, tokens};
 
@@ -20,7 +20,7 @@ pub fn read_test(alloc: Global, text: &[u8]) -> Result<Test, TestFault>
     ensures found { IfOk result (λ t. Reads text.now t) }
     // A test that the text spells is read, unless memory runs out.
     ensures only { (t : Litmus) → Reads text.now t → MatchResult result (λ u. u ≡ t) (λ e. e ≡ NoMemory) }
-    // Each refusal comes only where its cause stands.
+    // Each refusal comes only where its cause holds.
     ensures cause { IfErr result (λ e. IsRefused text.now e) }
 {
     make_test(alloc, read_text(alloc, text)?)

@@ -4,7 +4,7 @@ ghost use Rattle.std.specs.Prelude.{◌≡◌, ◌≤◌, ◌-◌, map, length, 
 ghost use Rattle.std.specs.List.{list_all, list_any};
 ghost use Rattle.conditions.specs.Conditions.{atomic, growth_of as formula_growth, formula_of};
 ghost use Rattle.litmus_syntax.specs.Drafts.{is_parameter};
-ghost use Rattle.litmus_test.specs.Limits.{action_events, optional_events, right_events, step_events, steps_events, program_events};
+ghost use Rattle.litmus_value.specs.Limits.{action_events, optional_events, right_events, step_events, steps_events, program_events};
 ghost use Rattle.litmus_c.specs.Rules.{is_given, entry_is_fair, is_of, has_other_kind, may_read, may_give, may_call, may_access, term_keeps, growth_keeps, action_keeps, right_keeps, declared_keeps, step_keeps, steps_keep, program_keeps, place_is_there, formula_is_fair, connected_is_fair};
 ghost use Rattle.litmus_tree.specs.Names.{is_one_of};
 ghost use Rattle.litmus_tree.specs.Tree.{leaf_of, growth_of, term_of, action_of, right_of, declared_of, step_of, steps_of};

@@ -9,7 +9,7 @@ use crate::copies::{
 use conditions::{Place, observed};
 use litmus_c::Test;
 use litmus_syntax::{Draft, Symbol, SyntaxFault, Terminal, read_draft, symbols};
-use litmus_test::{ValuesFault, values_among};
+use litmus_value::{ValuesFault, values_among};
 use std::alloc::{AllocError, Global};
 use std::test::Fail;
 use wb_text::{Dialect, TextFault, tokens};

@@ -208,7 +208,7 @@ fn hostile_input_row_1(rt: HostRuntime) {
     assert!(rt; all_are_cut_off(rt.alloc(), SB.as_bytes(), 2));
 }
 
-/// Each text has two faults, of which the first is told.
+/// Each text has two faults, of which the first is reported.
 #[test]
 fn first_refusal(rt: HostRuntime) -> Result<(), Fail> {
     const ROWS: [(&str, &str); 9] = [

@@ -79,7 +79,7 @@ fn events(rt: HostRuntime) -> Result<(), Fail> {
     all_repeats_answered(rt.alloc(), &ROWS)
 }
 
-/// Each text has two faults, of which the first is told.
+/// Each text has two faults, of which the first is reported.
 #[test]
 fn first_refusal(rt: HostRuntime) -> Result<(), Fail> {
     const ROWS: [Repeats; 8] = [

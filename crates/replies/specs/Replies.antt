@@ -3,8 +3,8 @@ use Rattle.std.specs.Prelude.{ℕ, List, ◌++◌, codes, decimal}
 use Rattle.std.specs.List.{flat_map}
 use Rattle.cat_model.specs.declared.model.FileVersion.{FileVersion}
 use Rattle.litmus_tree.specs.Tree.{Word}
-use Rattle.slices.specs.Judgements.{Judged}
-use Rattle.slices.specs.Parts.{Portion}
+use Rattle.slices.specs.VerdictValues.{VerdictValue}
+use Rattle.slices.specs.Parts.{PieceValue}
 use Rattle.report.specs.Texts as summaries
 use Rattle.journal.specs.declared.records.Reply.{Reply}
 use Rattle.journal.specs.declared.records.Reply.TheVariants.{Version, Job, Pending, Verdict, Piece, Nothing, Taken, Freed, Listed, Done, Refused}
@@ -27,28 +27,28 @@ freed_text claims = codes "freed " ++ decimal claims ++ codes "\n"
 
 -- a piece: its claim, job and slice, and its numbers
 
-abbrev pub claim_text : Portion → List ℕ
+abbrev pub claim_text : PieceValue → List ℕ
 claim_text p = codes "piece " ++ decimal p.claim ++ codes " job " ++ decimal p.job ++ codes " slice " ++ decimal p.slice
 
-abbrev pub range_text : Portion → List ℕ
+abbrev pub range_text : PieceValue → List ℕ
 range_text p = codes " from " ++ decimal p.from ++ codes " to " ++ decimal p.to ++ codes "\n"
 
-abbrev pub piece_text : Portion → List ℕ
+abbrev pub piece_text : PieceValue → List ℕ
 piece_text p = claim_text p ++ range_text p
 
 -- a verdict: the test and the files with their versions on one line, and then the summary
 
-abbrev pub heading_text : Judged → List ℕ
+abbrev pub heading_text : VerdictValue → List ℕ
 heading_text v = codes "verdict " ++ v.work.test.name ++ codes " " ++ decimal v.version
 
 abbrev pub file_text : FileVersion → List ℕ
 file_text f = codes " " ++ f.name ++ codes " " ++ decimal f.version
 
-abbrev pub outcome_text : Judged → List ℕ
-outcome_text v = summaries.Text v.outcome
+abbrev pub finding_text : VerdictValue → List ℕ
+finding_text v = summaries.Text v.finding
 
-abbrev pub verdict_text : Judged → List ℕ
-verdict_text v = heading_text v ++ flat_map file_text v.work.model.files ++ codes "\n" ++ outcome_text v
+abbrev pub verdict_text : VerdictValue → List ℕ
+verdict_text v = heading_text v ++ flat_map file_text v.work.model.files ++ codes "\n" ++ finding_text v
 
 -- The text of a reply.
 abbrev pub reply_text : Reply → List ℕ

@@ -145,7 +145,7 @@ fn write_file<W: Sink>(file: &FileVersion, writer: &mut W) -> Result<(), Failed>
 }
 
 fn write_outcome<W: Sink>(verdict: &Verdict, writer: &mut W) -> Result<(), Failed>
-    ensures { Writes W.held W.has_failed writer.old writer.new result (texts.outcome_text verdict.now) }
+    ensures { Writes W.held W.has_failed writer.old writer.new result (texts.finding_text verdict.now) }
 {
     match write_summary(verdict, writer) {
         Ok(()) => Ok(()),

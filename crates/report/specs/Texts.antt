@@ -8,7 +8,7 @@ use Rattle.conditions.specs.declared.condition.Kind.{Kind}
 use Rattle.conditions.specs.declared.condition.Kind.TheVariants.{Exists, NotExists, Forall}
 use Rattle.conditions.specs.declared.place.Place.{Place}
 use Rattle.conditions.specs.declared.place.Place.TheVariants.{Reg, Loc}
-use Rattle.slices.specs.Outcomes.{Outcome, is_ok, word}
+use Rattle.slices.specs.Findings.{FindingValue, is_ok, word}
 
 -- a register as `0:r0`
 abbrev pub register_text : ℕ → Word → List ℕ
@@ -108,30 +108,30 @@ state_line places values = line (join_with_byte 32 (map binding_text (zip places
 abbrev pub flag_line : Word → List ℕ
 flag_line name = line (codes "Flag " ++ name)
 
-abbrev pub name_line : Outcome → List ℕ
+abbrev pub name_line : FindingValue → List ℕ
 name_line v = line (codes "Test " ++ v.name ++ codes " " ++ kind_text v.kind)
 
-abbrev pub count_line : Outcome → List ℕ
+abbrev pub count_line : FindingValue → List ℕ
 count_line v = line (codes "States " ++ decimal (length v.states))
 
-abbrev pub state_lines : Outcome → List ℕ
+abbrev pub state_lines : FindingValue → List ℕ
 state_lines v = flat_map (state_line v.places) v.states
 
-abbrev pub answer_line : Outcome → List ℕ
+abbrev pub answer_line : FindingValue → List ℕ
 answer_line v = line (if is_ok v then codes "Ok" else codes "No")
 
-abbrev pub counts_line : Outcome → List ℕ
+abbrev pub counts_line : FindingValue → List ℕ
 counts_line v = line (codes "Positive: " ++ decimal v.positive ++ codes " Negative: " ++ decimal v.negative)
 
-abbrev pub flag_lines : Outcome → List ℕ
+abbrev pub flag_lines : FindingValue → List ℕ
 flag_lines v = flat_map flag_line v.flags
 
-abbrev pub condition_line : Outcome → List ℕ
+abbrev pub condition_line : FindingValue → List ℕ
 condition_line v = line (codes "Condition " ++ quantifier_text v.kind ++ codes " (" ++ formula_text v.formula ++ codes ")")
 
-abbrev pub observation_line : Outcome → List ℕ
+abbrev pub observation_line : FindingValue → List ℕ
 observation_line v = line (codes "Observation " ++ v.name ++ codes " " ++ word v ++ codes " " ++ decimal v.positive ++ codes " " ++ decimal v.negative)
 
 -- The summary.
-abbrev pub Text : Outcome → List ℕ
+abbrev pub Text : FindingValue → List ℕ
 Text v = name_line v ++ count_line v ++ state_lines v ++ answer_line v ++ line (codes "Witnesses") ++ counts_line v ++ flag_lines v ++ condition_line v ++ observation_line v

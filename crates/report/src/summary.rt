@@ -24,10 +24,10 @@ pub enum WriteFault {
     Write,
 }
 
-/// Writes the summary, or a front part of it where the writer fails. It takes no memory.
+/// Writes the summary, or a prefix of it where the writer fails. It takes no memory.
 pub fn write_summary<W: Sink>(verdict: &Verdict, writer: &mut W) -> Result<(), WriteFault>
-    ensures written { OnOk result (Appends (W.held writer.old) (W.held writer.new) (texts.Text verdict.now.outcome)) }
-    ensures part { OnErr result (AppendsFront (W.held writer.old) (W.held writer.new) (texts.Text verdict.now.outcome)) }
+    ensures written { OnOk result (Appends (W.held writer.old) (W.held writer.new) (texts.Text verdict.now.finding)) }
+    ensures part { OnErr result (AppendsFront (W.held writer.old) (W.held writer.new) (texts.Text verdict.now.finding)) }
     ensures marked { OnErr result (W.has_failed writer.new ≡ true) }
 {
     match write_lines(verdict.finding(), writer) {

@@ -4,8 +4,8 @@
 
 ghost use Rattle.std.specs.Prelude.{◌≤◌};
 
+use alone::{OneFault, one};
 use book::Limits;
-use one_test::{OneFault, one};
 use scripts::{Options, ServeFault, serve};
 use std::alloc::{AllocError, Global};
 use std::sync::Wait;

@@ -4,8 +4,8 @@
 //! `tools/refuse-each-growth` runs these tests once for each request. Where none is refused they compare the answers alone.
 
 use crate::calls::{STORE_BUFFERING, STORE_BUFFERING_SUMMARY, WIDE, confirm, is_made_of};
+use alone::{OneFault, one};
 use command_line::{Task, read_task};
-use one_test::{OneFault, one};
 use scripts::{Options, ServeFault, serve};
 use std::alloc::{AllocError, Global};
 use std::sync::Wait;
@@ -110,7 +110,7 @@ fn served<T: Threads + Wait + Sync>(
     Ok((outcome, writer))
 }
 
-/// Whether these bytes are a front part of the parts, in whole lines.
+/// Whether these bytes are a prefix of the parts, in whole lines.
 fn is_front_of(bytes: &[u8], parts: &[&str]) -> bool {
     let mut rest = bytes;
     for part in parts {

@@ -3,8 +3,6 @@
 #![tactic(auto)]
 
 #[cfg(test)]
-mod alone;
-#[cfg(test)]
 mod calls;
 #[cfg(test)]
 mod commands;
@@ -22,5 +20,7 @@ mod rows;
 mod served;
 #[cfg(test)]
 mod threads;
+#[cfg(test)]
+mod unchecked;
 #[cfg(test)]
 mod words;

@@ -1,8 +1,8 @@
 //! Worked rows: a test under models.
 
 use crate::calls::{Answer, Case, all_hold};
+use alone::OneFault;
 use cat_model::ModelFault;
-use one_test::OneFault;
 use std::test::Fail;
 use wb_text::Name;
 

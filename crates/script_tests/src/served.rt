@@ -561,7 +561,7 @@ fn hostile_input_row_1(rt: HostRuntime) -> Result<(), Fail> {
     )
 }
 
-/// Whether a writer of too little room has just the front part of the answers, with the fault that says so.
+/// Whether a writer of too little room has just the prefix of the answers, with the fault that says so.
 fn has_a_front_part<T: Threads + Wait + Sync>(rt: &T, alloc: Global, room: usize) -> bool {
     match served(rt, alloc, FIRST.as_bytes(), &ALONE, false, room) {
         Ok((outcome, writer)) => {

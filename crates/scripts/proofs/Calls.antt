@@ -8,13 +8,13 @@ use Rattle.std.proofs.lemmas.Grind.{flat_map-append}
 use Rattle.std.proofs.lemmas.List.Elements.{All-append, All-nil, All-cons, All-contains, All-contains_itself, All-filter, All-from_recursion, Contains-append_cases, Contains-get_or, Contains-append_left, Contains-append_right, filter-append}
 use Rattle.journal.specs.Lines.{Line}
 use Rattle.journal.specs.declared.records.Reply.TheVariants.{Piece}
-use Rattle.slices.specs.Parts.{Portion}
+use Rattle.slices.specs.Parts.{PieceValue}
 use Rattle.sessions.specs.Finish.{IsLegal, IsShared, SomeUnfit, Unfit, has_seat, of_seat}
 use Rattle.sessions.specs.Views.{PassView}
-use Rattle.orders.specs.declared.order.Order.{Order}
-use Rattle.orders.specs.declared.order.Order.TheVariants as orders
-use Rattle.orders.specs.declared.order.Request.{Request}
-use Rattle.orders.specs.declared.order.Request.TheVariants.{PutCat, PutTest, DropCat, DropTest, Ask, Poll, Forget, Release, List as ListAll, Claim, Return, GiveBack, Close}
+use Rattle.script_lines.specs.declared.instruction.Instruction.{Instruction}
+use Rattle.script_lines.specs.declared.instruction.Instruction.TheVariants as instructions
+use Rattle.script_lines.specs.declared.instruction.Request.{Request}
+use Rattle.script_lines.specs.declared.instruction.Request.TheVariants.{PutCat, PutTest, DropCat, DropTest, Ask, Poll, Forget, Release, List as ListAll, Claim, Return, GiveBack, Close}
 use Rattle.journal.specs.declared.records.Said.{Said}
 use Rattle.scripts.specs.Answers.{Answer, Answers, Asks, IsGiven, Made, NotTaken, Worked, Run, AreRuns, entry_of, made_at}
 use Rattle.scripts.specs.Passes.{AreSeated, Become, IsTable, Have, session_receipts}
@@ -34,13 +34,13 @@ entries_at_more seat calls c = flat_map-append (λ d. made_at seat d.answer) cal
 
 -- ---- the entries of sessions
 
-one_answer_at : (workers seat : ℕ) (entries : List Line) (order : Order) (answer : Answer) → Answers workers entries order answer → seat < 8 → made_at seat answer ≡ of_seat seat (entry_of answer)
-one_answer_at workers seat entries (orders.Call s request) (Made line) answers lt = refl
-one_answer_at workers seat entries (orders.Call s request) (NotTaken why) answers lt = refl
-one_answer_at workers seat entries (orders.Call s request) (Worked runs) answers lt = absurd answers
-one_answer_at workers seat entries orders.Work (Made line) answers lt = absurd answers
-one_answer_at workers seat entries orders.Work (NotTaken why) answers lt = absurd answers
-one_answer_at workers seat entries orders.Work (Worked runs) answers lt = no_run_below 8 seat runs answers.1 lt
+one_answer_at : (workers seat : ℕ) (entries : List Line) (instruction : Instruction) (answer : Answer) → Answers workers entries instruction answer → seat < 8 → made_at seat answer ≡ of_seat seat (entry_of answer)
+one_answer_at workers seat entries (instructions.Call s request) (Made line) answers lt = refl
+one_answer_at workers seat entries (instructions.Call s request) (NotTaken why) answers lt = refl
+one_answer_at workers seat entries (instructions.Call s request) (Worked runs) answers lt = absurd answers
+one_answer_at workers seat entries instructions.Work (Made line) answers lt = absurd answers
+one_answer_at workers seat entries instructions.Work (NotTaken why) answers lt = absurd answers
+one_answer_at workers seat entries instructions.Work (Worked runs) answers lt = no_run_below 8 seat runs answers.1 lt
 
 -- those that were made at a session's seat are its entries among those that answered sessions
 pub at_session : (workers seat : ℕ) (calls : List Call) → AreAnswered workers calls → seat < 8 → entries_at seat calls ≡ of_seat seat (entries_of calls)
@@ -48,24 +48,24 @@ at_session workers seat _ no_call lt = refl
 at_session workers seat _ (next_call {calls} c before answers) lt =
     entries_at_more seat calls c
     ∙ ap (λ l. l ++ made_at seat c.answer) (at_session workers seat calls before lt)
-    ∙ ap (λ l. of_seat seat (entries_of calls) ++ l) (one_answer_at workers seat (entries_of calls) c.order c.answer answers lt)
+    ∙ ap (λ l. of_seat seat (entries_of calls) ++ l) (one_answer_at workers seat (entries_of calls) c.instruction c.answer answers lt)
     ∙ sym (filter-append (λ line. line.seat == seat) (entries_of calls) (entry_of c.answer))
     ∙ ap (of_seat seat) (sym (entries_more calls c))
 
-one_seat : (workers : ℕ) (entries : List Line) (order : Order) (answer : Answer) → Answers workers entries order answer → All (λ line. line.seat < 8) (entry_of answer)
-one_seat workers entries (orders.Call s request) (Made line) answers =
+one_seat : (workers : ℕ) (entries : List Line) (instruction : Instruction) (answer : Answer) → Answers workers entries instruction answer → All (λ line. line.seat < 8) (entry_of answer)
+one_seat workers entries (instructions.Call s request) (Made line) answers =
     All-cons (λ (l : Line). l.seat < 8) line [] (subst (λ (n : ℕ). n < 8) (sym answers.1) answers.0) (All-nil (λ (l : Line). l.seat < 8))
-one_seat workers entries (orders.Call s request) (NotTaken why) answers = All-nil (λ (l : Line). l.seat < 8)
-one_seat workers entries (orders.Call s request) (Worked runs) answers = absurd answers
-one_seat workers entries orders.Work (Made line) answers = absurd answers
-one_seat workers entries orders.Work (NotTaken why) answers = absurd answers
-one_seat workers entries orders.Work (Worked runs) answers = All-nil (λ (l : Line). l.seat < 8)
+one_seat workers entries (instructions.Call s request) (NotTaken why) answers = All-nil (λ (l : Line). l.seat < 8)
+one_seat workers entries (instructions.Call s request) (Worked runs) answers = absurd answers
+one_seat workers entries instructions.Work (Made line) answers = absurd answers
+one_seat workers entries instructions.Work (NotTaken why) answers = absurd answers
+one_seat workers entries instructions.Work (Worked runs) answers = All-nil (λ (l : Line). l.seat < 8)
 
 pub of_sessions : (workers : ℕ) (calls : List Call) → AreAnswered workers calls → All (λ line. line.seat < 8) (entries_of calls)
 of_sessions workers _ no_call = All-nil (λ (l : Line). l.seat < 8)
 of_sessions workers _ (next_call {calls} c before answers) =
     subst (All (λ (l : Line). l.seat < 8)) (sym (entries_more calls c))
-    (All-append (λ (l : Line). l.seat < 8) (entries_of calls) (entry_of c.answer) (of_sessions workers calls before) (one_seat workers (entries_of calls) c.order c.answer answers))
+    (All-append (λ (l : Line). l.seat < 8) (entries_of calls) (entry_of c.answer) (of_sessions workers calls before) (one_seat workers (entries_of calls) c.instruction c.answer answers))
 
 -- ---- what the passes of the sessions have
 
@@ -130,7 +130,7 @@ same_entries workers desk calls passes answered table h =
           into (entries_by calls) 0 x.seat sessions x have (omega arith) (omega (arith, lt, long)) (subst (λ l. Contains l x) (sym (at_session workers x.seat calls answered lt)) (to_seat x.seat (entries_of calls) x refl c)));
     }
 
-given_among : (claim : ℕ) (piece : Portion) (xs ys : List Line) → ((x : Line) → Contains xs x → Contains ys x) → IsGiven claim piece xs → IsGiven claim piece ys
+given_among : (claim : ℕ) (piece : PieceValue) (xs ys : List Line) → ((x : Line) → Contains xs x → Contains ys x) → IsGiven claim piece xs → IsGiven claim piece ys
 given_among claim piece xs ys to given = (given.0, (given.1.0, to given.1.0 given.1.1, given.1.2))
 
 asks_among : (xs ys : List Line) (request : Request) (said : Said) → ((x : Line) → Contains xs x → Contains ys x) → Asks xs request said → Asks ys request said
@@ -148,13 +148,13 @@ asks_among xs ys (Return claim) said to asks = (asks.0, given_among claim asks.0
 asks_among xs ys (GiveBack claim) said to asks = asks
 asks_among xs ys Close said to asks = asks
 
-pub answers_among : (workers : ℕ) (xs ys : List Line) (order : Order) (answer : Answer) → AreSame xs ys → Answers workers xs order answer → Answers workers ys order answer
-answers_among workers xs ys (orders.Call seat request) (Made line) same answers = (answers.0, answers.1, asks_among xs ys request line.said same.to answers.2, answers.3)
-answers_among workers xs ys (orders.Call seat request) (NotTaken why) same answers = answers
-answers_among workers xs ys (orders.Call seat request) (Worked runs) same answers = answers
-answers_among workers xs ys orders.Work (Made line) same answers = answers
-answers_among workers xs ys orders.Work (NotTaken why) same answers = answers
-answers_among workers xs ys orders.Work (Worked runs) same answers = answers
+pub answers_among : (workers : ℕ) (xs ys : List Line) (instruction : Instruction) (answer : Answer) → AreSame xs ys → Answers workers xs instruction answer → Answers workers ys instruction answer
+answers_among workers xs ys (instructions.Call seat request) (Made line) same answers = (answers.0, answers.1, asks_among xs ys request line.said same.to answers.2, answers.3)
+answers_among workers xs ys (instructions.Call seat request) (NotTaken why) same answers = answers
+answers_among workers xs ys (instructions.Call seat request) (Worked runs) same answers = answers
+answers_among workers xs ys instructions.Work (Made line) same answers = answers
+answers_among workers xs ys instructions.Work (NotTaken why) same answers = answers
+answers_among workers xs ys instructions.Work (Worked runs) same answers = answers
 
 pub none_among : (claim : ℕ) (xs ys : List Line) → AreSame xs ys → GivesNone claim xs → GivesNone claim ys
 none_among claim xs ys same none k d lt = All-contains (λ line. ¬ GivesPiece claim line) xs _ none (same.from _ (Contains-get_or ys k d lt))
@@ -167,10 +167,10 @@ have_more desk calls c before after table become h =
     have_same (λ k. entries_at k calls ++ made_at k c.answer) (entries_by (calls ++ c ∷ [])) 0 after (λ k le lt. sym (entries_at_more k calls c)) (become_have (entries_by calls) desk before after c.answer table become h)
 
 pub answered_more : (start desk : ℕ) (calls : List Call) (c : Call) (passes : List PassView) → desk ≡ start → AreAnswered (start - 8) calls → IsTable desk passes
-    → Have (λ seat. entries_at seat calls) 0 passes → Answers (desk - 8) (session_receipts passes) c.order c.answer → AreAnswered (start - 8) (calls ++ c ∷ [])
+    → Have (λ seat. entries_at seat calls) 0 passes → Answers (desk - 8) (session_receipts passes) c.instruction c.answer → AreAnswered (start - 8) (calls ++ c ∷ [])
 answered_more start desk calls c passes same answered table h answers =
     let entries = same_entries (start - 8) desk calls passes answered table h in
-    next_call c answered (answers_among (start - 8) (session_receipts passes) (entries_of calls) c.order c.answer entries (subst (λ (d : ℕ). Answers (d - 8) (session_receipts passes) c.order c.answer) same answers))
+    next_call c answered (answers_among (start - 8) (session_receipts passes) (entries_of calls) c.instruction c.answer entries (subst (λ (d : ℕ). Answers (d - 8) (session_receipts passes) c.instruction c.answer) same answers))
 
 -- ---- the journal
 

@@ -5,7 +5,7 @@ use Rattle.std.proofs.Math.Seq.{drop-cons}
 use Rattle.std.proofs.lemmas.List.Elements.{All-append, All-cons, All-nil, Contains-append_left, Contains-append_right, Contains-push}
 use Rattle.journal.specs.Lines.{Line}
 use Rattle.journal.specs.declared.records.Reply.TheVariants.{Piece}
-use Rattle.slices.specs.Parts.{Portion}
+use Rattle.slices.specs.Parts.{PieceValue}
 use Rattle.sessions.specs.Views.{PassView}
 use Rattle.scripts.specs.Answers.{IsGiven}
 use Rattle.scripts.specs.Passes.{NoneGives, SomeGives}
@@ -32,7 +32,7 @@ none_of_all claim entries before last split this others =
 pub none_of_none : (claim : ℕ) (entries : List Line) → length entries ≡ 0 → GivesNone claim entries
 none_of_none claim entries is_empty k d less = absurd (let no : ⊥ = omega (arith, less, is_empty) in no)
 
-pub given : (claim : ℕ) (piece : Portion) (all entries before : List Line) (last : Line) → entries ≡ before ++ last ∷ [] → IsFront entries all → piece.claim ≡ claim → last.reply ≡ Piece piece
+pub given : (claim : ℕ) (piece : PieceValue) (all entries before : List Line) (last : Line) → entries ≡ before ++ last ∷ [] → IsFront entries all → piece.claim ≡ claim → last.reply ≡ Piece piece
     → IsGiven claim piece all
 given claim piece all entries before last split h same reply =
     let here : Contains entries last = subst (λ l. Contains l last) (sym split) (Contains-push before last) in
@@ -47,7 +47,7 @@ none_in_all claim [] h = All-nil (λ line. ¬ GivesPiece claim line)
 none_in_all claim (p ∷ ps) h = All-append (λ line. ¬ GivesPiece claim line) p.receipts (receipts_in ps) h.0 (none_in_all claim ps h.1)
 
 -- a pass gives it, so one of all receipts
-pub some_in_all : (claim : ℕ) (piece : Portion) (ps : List PassView) → SomeGives claim ps piece → IsGiven claim piece (receipts_in ps)
+pub some_in_all : (claim : ℕ) (piece : PieceValue) (ps : List PassView) → SomeGives claim ps piece → IsGiven claim piece (receipts_in ps)
 some_in_all claim piece [] h = absurd h
 some_in_all claim piece (p ∷ ps) (inl g) = (g.0, (g.1.0, Contains-append_left p.receipts (receipts_in ps) g.1.0 g.1.1, g.1.2))
 some_in_all claim piece (p ∷ ps) (inr h) =
@@ -56,8 +56,8 @@ some_in_all claim piece (p ∷ ps) (inr h) =
 
 -- one pass more that doesn't give it
 pub pass_on : (claim i : ℕ) (ps : List PassView) (p : PassView) → p ≡ get_or ps i p → i < length ps → GivesNone claim p.receipts
-    → (NoneGives claim (drop i ps) → NoneGives claim ps) × ((piece : Portion) → SomeGives claim (drop i ps) piece → SomeGives claim ps piece)
-    → (NoneGives claim (drop (i + 1) ps) → NoneGives claim ps) × ((piece : Portion) → SomeGives claim (drop (i + 1) ps) piece → SomeGives claim ps piece)
+    → (NoneGives claim (drop i ps) → NoneGives claim ps) × ((piece : PieceValue) → SomeGives claim (drop i ps) piece → SomeGives claim ps piece)
+    → (NoneGives claim (drop (i + 1) ps) → NoneGives claim ps) × ((piece : PieceValue) → SomeGives claim (drop (i + 1) ps) piece → SomeGives claim ps piece)
 pass_on claim i ps p is lt this so_far =
     let split : drop i ps ≡ p ∷ drop (i + 1) ps =
     drop-cons ps i p lt ∙ ap (λ (n : ℕ). get_or ps i p ∷ drop n ps) (let e : suc i ≡ i + 1 = omega arith in e) ∙ ap (λ (x : PassView). x ∷ drop (i + 1) ps) (sym is)

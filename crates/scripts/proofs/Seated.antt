@@ -10,17 +10,17 @@ use Rattle.std.proofs.lemmas.Option.{slice_get-get_or, slice_get_within, get_or_
 use Rattle.journal.specs.Lines.{Line, shown}
 use Rattle.journal.specs.declared.records.Said.{Said}
 use Rattle.journal.specs.declared.records.Said.TheVariants as said_of
-use Rattle.slices.specs.Parts.{Portion}
+use Rattle.slices.specs.Parts.{PieceValue}
 use Rattle.book.specs.declared.kept.Refused.{Refused}
 use Rattle.sessions.specs.Calls.{Adds}
 use Rattle.sessions.specs.Views.{PassView, fresh_from}
 use Rattle.sessions.specs.declared.passes.Counts.{Counts}
 use Rattle.workers.specs.Trace.{Worked as WorkedOn}
 use Rattle.workers.specs.declared.working.Form.TheVariants.{UntilIdle}
-use Rattle.orders.specs.declared.order.Order.{Order}
-use Rattle.orders.specs.declared.order.Order.TheVariants as orders
-use Rattle.orders.specs.declared.order.Request.{Request}
-use Rattle.orders.specs.declared.order.Request.TheVariants.{Return}
+use Rattle.script_lines.specs.declared.instruction.Instruction.{Instruction}
+use Rattle.script_lines.specs.declared.instruction.Instruction.TheVariants as instructions
+use Rattle.script_lines.specs.declared.instruction.Request.{Request}
+use Rattle.script_lines.specs.declared.instruction.Request.TheVariants.{Return}
 use Rattle.scripts.specs.Answers.{Answer, Answers, Asks, IsGiven, IsRight, Made, NotTaken, Worked, Run, AreRuns}
 use Rattle.scripts.specs.Passes.{AreSeated, IsTable, Have, Grows, AreWorked, Works, Become, IsLastAt, Shows, IsCall, IsAnswered, sums}
 use Rattle.scripts.specs.Serving.{GivesNone}
@@ -178,30 +178,30 @@ pub answered_with : (seat : ℕ) (before after : List PassView) (outcome : Outco
     → IsAnswered before after outcome (IsCall seat P) → IsAnswered before after outcome (IsCall seat Q)
 answered_with seat before after outcome P Q all a = record { answer = a.answer; shows = a.shows; become = a.become; is = call_with seat P Q all a.answer a.is }
 
-pub returns_piece : (entries : List Line) (claim : ℕ) (piece returned : Portion) (said : Said) → IsGiven claim piece entries → returned ≡ piece → said ≡ said_of.Return (shown returned)
+pub returns_piece : (entries : List Line) (claim : ℕ) (piece returned : PieceValue) (said : Said) → IsGiven claim piece entries → returned ≡ piece → said ≡ said_of.Return (shown returned)
     → Asks entries (Return claim) said
 returns_piece entries claim piece returned said given same is = (piece, given, is ∙ ap (λ p. said_of.Return (shown p)) same)
 
-call_answers : (workers seat : ℕ) (entries : List Line) (request : Request) (answer : Answer) → seat < 8 → IsCall seat (Asks entries request) answer → Answers workers entries (orders.Call seat request) answer
+call_answers : (workers seat : ℕ) (entries : List Line) (request : Request) (answer : Answer) → seat < 8 → IsCall seat (Asks entries request) answer → Answers workers entries (instructions.Call seat request) answer
 call_answers workers seat entries request (Made line) lt call = (lt, call.0, call.1, call.2)
 call_answers workers seat entries request (NotTaken why) lt call = call
 call_answers workers seat entries request (Worked runs) lt call = call
 
-pub order_answered : (workers seat : ℕ) (entries : List Line) (request : Request) (before after : List PassView) (outcome : Outcome) → seat < 8
-    → IsAnswered before after outcome (IsCall seat (Asks entries request)) → IsAnswered before after outcome (Answers workers entries (orders.Call seat request))
-order_answered workers seat entries request before after outcome lt a =
+pub instruction_answered : (workers seat : ℕ) (entries : List Line) (request : Request) (before after : List PassView) (outcome : Outcome) → seat < 8
+    → IsAnswered before after outcome (IsCall seat (Asks entries request)) → IsAnswered before after outcome (Answers workers entries (instructions.Call seat request))
+instruction_answered workers seat entries request before after outcome lt a =
     record { answer = a.answer; shows = a.shows; become = a.become; is = call_answers workers seat entries request a.answer lt a.is }
 
-pub ok_order_answered : (workers seat : ℕ) (entries : List Line) (request : Request) (before after : List PassView) (r : Result Outcome NoPiece) → seat < 8
-    → IfOk r (λ outcome. IsAnswered before after outcome (IsCall seat (Asks entries request))) → IfOk r (λ outcome. IsAnswered before after outcome (Answers workers entries (orders.Call seat request)))
-ok_order_answered workers seat entries request before after (Ok outcome) lt a = order_answered workers seat entries request before after outcome lt a
-ok_order_answered workers seat entries request before after (Err fault) lt a = tt
+pub ok_instruction_answered : (workers seat : ℕ) (entries : List Line) (request : Request) (before after : List PassView) (r : Result Outcome NoPiece) → seat < 8
+    → IfOk r (λ outcome. IsAnswered before after outcome (IsCall seat (Asks entries request))) → IfOk r (λ outcome. IsAnswered before after outcome (Answers workers entries (instructions.Call seat request)))
+ok_instruction_answered workers seat entries request before after (Ok outcome) lt a = instruction_answered workers seat entries request before after outcome lt a
+ok_instruction_answered workers seat entries request before after (Err fault) lt a = tt
 
-pub no_piece_ordered : (seat : ℕ) (entries : List Line) (order : Order) (request : Request) (r : Result Outcome NoPiece) → order ≡ orders.Call seat request
+pub no_piece_to_return : (seat : ℕ) (entries : List Line) (instruction : Instruction) (request : Request) (r : Result Outcome NoPiece) → instruction ≡ instructions.Call seat request
     → OnErr r ((claim : ℕ) × (request ≡ Return claim) × GivesNone claim entries)
-    → OnErr r ((s : ℕ) × (claim : ℕ) × (order ≡ orders.Call s (Return claim)) × GivesNone claim entries)
-no_piece_ordered seat entries order request (Ok outcome) is h = tt
-no_piece_ordered seat entries order request (Err fault) is h = (seat, h.0, is ∙ ap (orders.Call seat) h.1, h.2)
+    → OnErr r ((s : ℕ) × (claim : ℕ) × (instruction ≡ instructions.Call s (Return claim)) × GivesNone claim entries)
+no_piece_to_return seat entries instruction request (Ok outcome) is h = tt
+no_piece_to_return seat entries instruction request (Err fault) is h = (seat, h.0, is ∙ ap (instructions.Call seat) h.1, h.2)
 
 -- the shares of the workers' passes
 seated_shares : (seat : ℕ) (ps : List PassView) → AreSeated seat ps → AllByRecursion (λ p. p.parts ≡ 1) ps
@@ -265,7 +265,7 @@ worked_table desk before after runs table works =
 -- what work makes of a table
 pub record IsWorked (desk : ℕ) (entries : List Line) (before after : List PassView) (result : Sums) : Type 0 where
   pub table : IsTable desk after
-  pub answered : IsAnswered before after (outcomes.Worked result) (Answers (desk - 8) entries orders.Work)
+  pub answered : IsAnswered before after (outcomes.Worked result) (Answers (desk - 8) entries instructions.Work)
 
 pub worked : (desk : ℕ) (entries : List Line) (before after old new : List PassView) (counts : List Counts) (result : Sums) → IsTable desk before → old ≡ drop 8 before → after ≡ take 8 before ++ new
     → AllZip (WorkedOn UntilIdle) old new → counts ≡ map (λ (q : PassView). q.counts) new → result ≡ counted counts → IsWorked desk entries before after result

@@ -10,10 +10,10 @@ use Rattle.wb_text.specs.Memory.{AppendsFront}
 use Rattle.wb_text.specs.declared.fault.Failed.{Failed}
 use Rattle.sessions.specs.declared.ending.FinishCause.{FinishCause}
 use Rattle.report.proofs.Written.{front_of}
-use Rattle.orders.specs.Lines.{ahead, AreLines, IsTooLong, nothing_read}
-use Rattle.orders.specs.Scripts.{AreOrders, IsNextOrder, IsBadLine, IsSpent, no_order, next_order}
-use Rattle.orders.specs.declared.fault.ScriptFault.{ScriptFault}
-use Rattle.orders.specs.declared.fault.ScriptFault.TheVariants as reading
+use Rattle.script_lines.specs.Lines.{ahead, AreLines, IsTooLong, nothing_read}
+use Rattle.script_lines.specs.Scripts.{AreInstructions, IsNextInstruction, IsBadLine, IsSpent, no_instruction, next_instruction}
+use Rattle.script_lines.specs.declared.fault.ScriptFault.{ScriptFault}
+use Rattle.script_lines.specs.declared.fault.ScriptFault.TheVariants as reading
 use Rattle.scripts.specs.Passes.{EndsWith, Follows, ending}
 use Rattle.scripts.specs.Serving.{Call, answer_text, calls_text, entries_of, finish_text, cause_text, bad_line_text, Closes, Tells, StopsAt, IsRead, IsServed, IsReturnAt, IsLastLine, AreAnswered, no_call, no_last_line, of_finish, of_cause, of_bad_line}
 use Rattle.scripts.specs.declared.fault.ServeFault.{ServeFault}
@@ -34,11 +34,11 @@ written_partly old mid new calls c done more =
     front_of old mid new (calls_text calls) (answer_text c.answer) [] (calls_text (calls ++ c ∷ [])) done more
     (flat_map-last (λ d. answer_text d.answer) calls c ∙ ap (λ l. calls_text calls ++ l) (sym (append-nil (answer_text c.answer))))
 
--- the calls ask what was ordered
+-- the calls ask what the instructions ask
 
-pub ordered : (script mid end : Option (List ℕ)) (calls : List Call) (c : Call) → AreOrders script mid (map (λ d. d.order) calls) → IsNextOrder mid end c.order → AreOrders script end (map (λ d. d.order) (calls ++ c ∷ []))
-ordered script mid end calls c done next =
-    subst (λ orders. AreOrders script end orders) (sym (map-append (λ d. d.order) calls (c ∷ []))) (next_order done next)
+pub instructed : (script mid end : Option (List ℕ)) (calls : List Call) (c : Call) → AreInstructions script mid (map (λ d. d.instruction) calls) → IsNextInstruction mid end c.instruction → AreInstructions script end (map (λ d. d.instruction) (calls ++ c ∷ []))
+instructed script mid end calls c done next =
+    subst (λ instructions. AreInstructions script end instructions) (sym (map-append (λ d. d.instruction) calls (c ∷ []))) (next_instruction done next)
 
 -- the same of a script of which nothing is taken yet
 pub from_start : {A : Type 0} {block : List ℕ} {count : ℕ} (left : Option (List ℕ)) (r : Result A ServeFault) (calls : List Call) → block ≡ [] → count ≡ 0
@@ -72,11 +72,11 @@ told_ending old new (reading.BadLine line) text w = w
 told_ending old new reading.NoMemory text w = w
 
 -- a script that is not read to its end
-pub stopped : {script end : Option (List ℕ)} {m count : ℕ} (fault : ScriptFault) (calls : List Call) → AreOrders script end (map (λ c. c.order) calls) → AreLines script m end count
+pub stopped : {script end : Option (List ℕ)} {m count : ℕ} (fault : ScriptFault) (calls : List Call) → AreInstructions script end (map (λ c. c.instruction) calls) → AreLines script m end count
     → ((n : ℕ) → fault ≡ reading.BadLine n → IsBadLine end count n ⊎ IsReturnAt end count n (entries_of calls)) → IsRead script m (ending (Ok (Err fault))) calls
-stopped {end} {count} reading.Read calls orders lines bad = record { end = end; count = count; orders = orders; lines = lines; stops = tt }
-stopped {end} {count} (reading.BadLine n) calls orders lines bad = record { end = end; count = count; orders = orders; lines = lines; stops = bad n refl }
-stopped {end} {count} reading.NoMemory calls orders lines bad = record { end = end; count = count; orders = orders; lines = lines; stops = tt }
+stopped {end} {count} reading.Read calls instructions lines bad = record { end = end; count = count; instructions = instructions; lines = lines; stops = tt }
+stopped {end} {count} (reading.BadLine n) calls instructions lines bad = record { end = end; count = count; instructions = instructions; lines = lines; stops = bad n refl }
+stopped {end} {count} reading.NoMemory calls instructions lines bad = record { end = end; count = count; instructions = instructions; lines = lines; stops = tt }
 
 -- ---- what stands behind the answers
 
@@ -115,7 +115,7 @@ pub unserved : {A : Type 0} (workers : ℕ) (script held : Option (List ℕ)) (r
 unserved workers script held (Ok done) is = absurd is
 unserved workers script held (Err faults.NoMemory) is = record {
   calls = [];
-  read = record { end = script; count = 0; orders = no_order; lines = nothing_read; stops = tt };
+  read = record { end = script; count = 0; instructions = no_instruction; lines = nothing_read; stops = tt };
   answered = no_call;
   closing = [];
   closes = refl;
@@ -184,12 +184,12 @@ failed_told workers calls mid outcome is old text before =
     ([], no_last_line, front_of old old mid [] text [] (text ++ []) (Appends-nil old) part refl)
 
 pub read_follows : {script : Option (List ℕ)} {m : ℕ} (end r : Result (Unit {0}) ServeFault) (calls : List Call) → Follows end r → IsRead script m end calls → IsRead script m r calls
-read_follows end (Ok done) calls f h = record { end = h.end; count = h.count; orders = h.orders; lines = h.lines; stops = subst (λ q. StopsAt h.end h.count q (entries_of calls)) f h.stops }
-read_follows end (Err faults.Read) calls f h = record { end = h.end; count = h.count; orders = h.orders; lines = h.lines; stops = tt }
-read_follows end (Err faults.Write) calls f h = record { end = h.end; count = h.count; orders = h.orders; lines = h.lines; stops = tt }
-read_follows end (Err (faults.BadLine n)) calls f h = record { end = h.end; count = h.count; orders = h.orders; lines = h.lines; stops = subst (λ q. StopsAt h.end h.count q (entries_of calls)) f h.stops }
-read_follows end (Err (faults.Finish cause)) calls f h = record { end = h.end; count = h.count; orders = h.orders; lines = h.lines; stops = subst (λ q. StopsAt h.end h.count q (entries_of calls)) f h.stops }
-read_follows end (Err faults.NoMemory) calls f h = record { end = h.end; count = h.count; orders = h.orders; lines = h.lines; stops = tt }
+read_follows end (Ok done) calls f h = record { end = h.end; count = h.count; instructions = h.instructions; lines = h.lines; stops = subst (λ q. StopsAt h.end h.count q (entries_of calls)) f h.stops }
+read_follows end (Err faults.Read) calls f h = record { end = h.end; count = h.count; instructions = h.instructions; lines = h.lines; stops = tt }
+read_follows end (Err faults.Write) calls f h = record { end = h.end; count = h.count; instructions = h.instructions; lines = h.lines; stops = tt }
+read_follows end (Err (faults.BadLine n)) calls f h = record { end = h.end; count = h.count; instructions = h.instructions; lines = h.lines; stops = subst (λ q. StopsAt h.end h.count q (entries_of calls)) f h.stops }
+read_follows end (Err (faults.Finish cause)) calls f h = record { end = h.end; count = h.count; instructions = h.instructions; lines = h.lines; stops = subst (λ q. StopsAt h.end h.count q (entries_of calls)) f h.stops }
+read_follows end (Err faults.NoMemory) calls f h = record { end = h.end; count = h.count; instructions = h.instructions; lines = h.lines; stops = tt }
 
 pub read_fault : (end r : Result (Unit {0}) ServeFault) → Follows end r → r ≡ Err faults.Read → end ≡ Err faults.Read
 read_fault end (Ok done) f e = cc

@@ -7,9 +7,9 @@ use Rattle.sessions.specs.Views.{PassView}
 use Rattle.workers.specs.Trace.{Free, IsWorkFrom}
 use Rattle.workers.specs.declared.working.Form.TheVariants.{UntilIdle}
 use Rattle.wb_text.specs.declared.fault.Failed.{Failed}
-use Rattle.orders.specs.declared.fault.ScriptFault.{ScriptFault}
-use Rattle.orders.specs.declared.fault.ScriptFault.TheVariants as reading
-use Rattle.slices.specs.Parts.{Portion}
+use Rattle.script_lines.specs.declared.fault.ScriptFault.{ScriptFault}
+use Rattle.script_lines.specs.declared.fault.ScriptFault.TheVariants as reading
+use Rattle.slices.specs.Parts.{PieceValue}
 use Rattle.scripts.specs.Answers.{Answer, Made, NotTaken, Worked, Run, IsGiven, IsRight}
 use Rattle.scripts.specs.Serving.{Call, Closes, GivesNone, Tells}
 use Rattle.scripts.specs.declared.fault.ServeFault.{ServeFault}
@@ -45,7 +45,7 @@ NoneGives claim [] = Unit {0}
 NoneGives claim (p ∷ ps) = GivesNone claim p.receipts × NoneGives claim ps
 
 -- one of them has one that gives this piece under the claim
-abbrev pub SomeGives : ℕ → List PassView → Portion → Type 0
+abbrev pub SomeGives : ℕ → List PassView → PieceValue → Type 0
 SomeGives claim [] piece = ⊥
 SomeGives claim (p ∷ ps) piece = IsGiven claim piece p.receipts ⊎ SomeGives claim ps piece
 

@@ -5,18 +5,18 @@ use Rattle.std.specs.List.{flat_map, sum_by}
 use Rattle.wb_text.specs.Memory.{AppendsFront}
 use Rattle.journal.specs.Lines.{Line}
 use Rattle.journal.specs.declared.records.Reply.TheVariants.{Piece}
-use Rattle.slices.specs.Parts.{Portion}
+use Rattle.slices.specs.Parts.{PieceValue}
 use Rattle.book.specs.declared.kept.Refused.{Refused}
 use Rattle.book.specs.declared.kept.Refused.TheVariants.{JournalFull, NoMemory}
 use Rattle.sessions.specs.Finish.{IsLegal, Unfit, of_seat}
 use Rattle.sessions.specs.declared.ending.FinishCause.{FinishCause}
 use Rattle.sessions.specs.declared.ending.FinishCause.TheVariants.{MissingPass, Mismatch}
 use Rattle.replies.specs.Replies.{reply_text}
-use Rattle.orders.specs.Lines.{AreLines}
-use Rattle.orders.specs.Scripts.{AreOrders, IsNextOrder, IsBadLine, IsSpent}
-use Rattle.orders.specs.declared.order.Order.{Order}
-use Rattle.orders.specs.declared.order.Order.TheVariants.{Call as Called}
-use Rattle.orders.specs.declared.order.Request.TheVariants.{Return}
+use Rattle.script_lines.specs.Lines.{AreLines}
+use Rattle.script_lines.specs.Scripts.{AreInstructions, IsNextInstruction, IsBadLine, IsSpent}
+use Rattle.script_lines.specs.declared.instruction.Instruction.{Instruction}
+use Rattle.script_lines.specs.declared.instruction.Instruction.TheVariants.{Call as Called}
+use Rattle.script_lines.specs.declared.instruction.Request.TheVariants.{Return}
 use Rattle.scripts.specs.Answers.{Answer, Answers, Made, NotTaken, Worked, Run, entry_of, made_at}
 use Rattle.scripts.specs.declared.fault.ServeFault.{ServeFault}
 use Rattle.scripts.specs.declared.fault.ServeFault.TheVariants as faults
@@ -35,9 +35,9 @@ answer_text (Made line) = reply_text line.reply
 answer_text (NotTaken why) = not_taken_text why
 answer_text (Worked runs) = worked_text (sum_by (λ run. run.counts.evaluated) runs) (sum_by (λ run. run.counts.given_back) runs) (sum_by (λ run. run.counts.refused) runs)
 
--- An order of a script, and what answered it.
+-- An instruction of a script, and what answered it.
 pub record Call : Type 0 where
-  pub order : Order
+  pub instruction : Instruction
   pub answer : Answer
 
 -- the entries that answered sessions
@@ -51,7 +51,7 @@ entries_at seat calls = flat_map (λ c. made_at seat c.answer) calls
 -- Calls, one after another: each is answered behind the entries that answered those before it.
 pub data AreAnswered (workers : ℕ) : List Call → Type 0 where
   no_call : AreAnswered workers []
-  next_call : {calls : List Call} (call : Call) → AreAnswered workers calls → Answers workers (entries_of calls) call.order call.answer → AreAnswered workers (calls ++ call ∷ [])
+  next_call : {calls : List Call} (call : Call) → AreAnswered workers calls → Answers workers (entries_of calls) call.instruction call.answer → AreAnswered workers (calls ++ call ∷ [])
 
 -- The journal's entries of each seat, a session's or a worker's, are in order those that the answers made there, and there
 -- are no others.
@@ -103,7 +103,7 @@ Closes workers calls (Err faults.Write) text = IsLastLine text
 Closes workers calls (Err faults.Read) text = text ≡ []
 Closes workers calls (Err faults.NoMemory) text = text ≡ []
 
--- The writer was given the text; where it failed, a front part of it.
+-- The writer was given the text; where it failed, a prefix of it.
 abbrev pub Tells : {A : Type 0} → Option (List ℕ) → Option (List ℕ) → Result A ServeFault → List ℕ → Type 0
 Tells old new (Ok done) text = Appends old new text
 Tells old new (Err faults.Write) text = AppendsFront old new text
@@ -111,41 +111,41 @@ Tells old new (Err fault) text = Appends old new text
 
 -- The entry gives the piece of this claim.
 abbrev pub GivesPiece : ℕ → Line → Type 0
-GivesPiece claim line = (piece : Portion) × (line.reply ≡ Piece piece) × (piece.claim ≡ claim)
+GivesPiece claim line = (piece : PieceValue) × (line.reply ≡ Piece piece) × (piece.claim ≡ claim)
 
 -- None of the entries does.
 abbrev pub GivesNone : ℕ → List Line → Type 0
 GivesNone claim entries = All (λ line. ¬ GivesPiece claim line) entries
 
--- The line of number n is the last of the next order, which is to return a piece that none of these entries gave.
+-- The line of number n is the last of the next instruction, which is to return a piece that none of these entries gave.
 -- Before it the count of lines stood at m.
 pub record IsReturnAt (script : Option (List ℕ)) (m n : ℕ) (entries : List Line) : Type 0 where
   pub after : Option (List ℕ)
-  pub order : Order
+  pub instruction : Instruction
   pub seat : ℕ
   pub claim : ℕ
-  pub next : IsNextOrder script after order
+  pub next : IsNextInstruction script after instruction
   pub lines : AreLines script m after n
-  pub returns : order ≡ Called seat (Return claim)
+  pub returns : instruction ≡ Called seat (Return claim)
   pub none : GivesNone claim entries
 
--- What stands behind the orders that were read, by which sessions made these entries: no order at the end of the script, or the
--- line that is told as bad.
+-- What stands behind the instructions that were read, by which sessions made these entries: no instruction at the end of the script, or the
+-- line that is reported as bad.
 abbrev pub StopsAt : {A : Type 0} → Option (List ℕ) → ℕ → Result A ServeFault → List Line → Type 0
 StopsAt script m (Ok done) entries = (rest : Option (List ℕ)) × IsSpent script m rest
 StopsAt script m (Err (faults.Finish cause)) entries = (rest : Option (List ℕ)) × IsSpent script m rest
 StopsAt script m (Err (faults.BadLine n)) entries = IsBadLine script m n ⊎ IsReturnAt script m n entries
 StopsAt script m (Err fault) entries = Unit {0}
 
--- The calls ask what a script orders, one after another, up to where it stops. Before it the count of lines stood at m.
+-- The calls are those of a script's instructions, one after another, up to where it stops. Before it the count of lines stood at m.
 pub record IsRead {A : Type 0} (script : Option (List ℕ)) (m : ℕ) (result : Result A ServeFault) (calls : List Call) : Type 0 where
   pub end : Option (List ℕ)
   pub count : ℕ
-  pub orders : AreOrders script end (map (λ c. c.order) calls)
+  pub instructions : AreInstructions script end (map (λ c. c.instruction) calls)
   pub lines : AreLines script m end count
   pub stops : StopsAt end count result (entries_of calls)
 
--- What a script orders was answered at a desk with so many workers, and this was written of it.
+-- A script's instructions were answered at a desk with so many workers, and this was written of it.
 pub record IsServed {A : Type 0} (workers : ℕ) (script old new : Option (List ℕ)) (result : Result A ServeFault) : Type 0 where
   pub calls : List Call
   pub read : IsRead script 0 result calls

@@ -1,4 +1,4 @@
-//! `serve`: scripts of orders at a desk, with the replies that are printed.
+//! `serve`: scripts of instructions at a desk, with the replies that are printed.
 #![tactic(auto)]
 
 mod fault;

@@ -1,4 +1,4 @@
-//! What became of an order.
+//! What became of an instruction.
 
 use book::Refused;
 
@@ -10,7 +10,7 @@ pub struct Sums {
     pub refused: u128,
 }
 
-/// What became of an order.
+/// What became of an instruction.
 #[derive(Clone, Copy, Drop)]
 pub enum Outcome {
     /// An entry was made, which is the last receipt of the pass of this seat.

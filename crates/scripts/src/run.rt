@@ -2,7 +2,7 @@
 
 ghost use Rattle.std.specs.Prelude.{◌≡◌, ◌+◌, ◌-◌, ◌≤◌, ◌⊎◌, [], ℕ, List, true, Ok, Err, IfErr, IsErr, OnErr, OnOk};
 ghost use Rattle.std.specs.Io.KnownBytes.{IsAtEnd};
-ghost use Rattle.orders.specs.Lines.{ahead, IsTooLong};
+ghost use Rattle.script_lines.specs.Lines.{ahead, IsTooLong};
 ghost use Rattle.sessions.specs.declared.ending.FinishCause.{FinishCause as FinishCauseOf};
 ghost use Rattle.scripts.specs.Answers.{worker_count};
 ghost use Rattle.scripts.specs.Passes.{EndsWith, Follows, Have, IsTable, ending};
@@ -12,7 +12,7 @@ use crate::fault::ServeFault;
 use crate::options::Options;
 use crate::print::{write_bad_line, write_cause, write_finish};
 use crate::seats::{NoPiece, SESSIONS, Seats};
-use orders::{Script, ScriptFault};
+use script_lines::{Script, ScriptFault};
 use std::alloc::Global;
 use std::marker::Brand;
 use std::sync::Wait;
@@ -20,7 +20,7 @@ use std::sync::ledger::{Blank, Ledger};
 use std::thread::Threads;
 use wb_text::{Failed, Sink, Source};
 
-/// Reads a script line by line, does what it orders at a desk, and writes what becomes of each line before it reads on.
+/// Reads a script line by line, carries out its instructions at a desk, and writes what becomes of each line before it reads on.
 pub fn serve<R: Source, W: Sink, T: Threads + Wait + Sync>(
     rt: &T,
     alloc: Global,
@@ -29,7 +29,7 @@ pub fn serve<R: Source, W: Sink, T: Threads + Wait + Sync>(
     options: &Options,
 ) -> Result<(), ServeFault>
     requires { options.now.workers ≤ 8 }
-    // What the script orders is answered, in its order. What is written is these answers, and then the length of the legal
+    // The script's instructions are answered, in order. What is written is these answers, and then the length of the legal
     // journal, or that the line behind them is bad: by its number one that is, or that asks to return a piece which no claim
     // of a session gave before. In the journal the entries of each seat are those that answered it.
     ensures served { IsServed (worker_count options.now.workers) (R.left reader.old) (W.held writer.old) (W.held writer.new) result }
@@ -98,7 +98,7 @@ fn end<L: Ledger, W: Sink>(
     }
 }
 
-/// Writes what becomes of each order of a script at a desk of which no call was made. Where all is written, it answers how the
+/// Writes what becomes of each instruction of a script at a desk of which no call was made. Where all is written, it answers how the
 /// script ended.
 fn answer_all<L: Ledger + Send + Sync, R: Source, W: Sink, T: Threads + Wait + Sync>(
     rt: &T,
@@ -123,7 +123,7 @@ fn answer_all<L: Ledger + Send + Sync, R: Source, W: Sink, T: Threads + Wait + S
 {
     loop {
         match script.next(reader) {
-            Ok(Some(order)) => match seats.call(rt, order) {
+            Ok(Some(instruction)) => match seats.call(rt, instruction) {
                 Ok(outcome) => seats.give_answer(outcome, writer)?,
                 Err(NoPiece) => return Ok(Err(ScriptFault::BadLine(script.line_count()))),
             },

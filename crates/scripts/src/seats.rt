@@ -3,7 +3,7 @@
 ghost use Rattle.std.specs.Prelude.{◌≡◌, ◌<◌, ◌≤◌, ◌-◌, [], ℕ, List, length, take, Some, Ok, slice_get, IfOk, IfErr, IfNone, IsErr, OnErr, OnSome, MatchOption};
 ghost use Rattle.journal.specs.Lines.{Line, seen};
 ghost use Rattle.sessions.specs.Finish.{IsFault, IsLegal, IsShared};
-ghost use Rattle.orders.specs.Spelled.{IsSeated};
+ghost use Rattle.script_lines.specs.Spelled.{IsSeated};
 ghost use Rattle.scripts.specs.Answers.{Answer, Answers, Asks, IsGiven, IsRight};
 ghost use Rattle.scripts.specs.Passes.{Have, IsAnswered, IsCall, IsTable, NoneGives, Shows, SomeGives, session_receipts};
 ghost use Rattle.scripts.specs.Serving.{GivesNone, GivesPiece, answer_text};
@@ -13,7 +13,7 @@ use crate::outcome::{Outcome, Sums};
 use crate::print::{give_reply, write_not_taken, write_worked};
 use crate::work::{NoGate, sums};
 use book::{Command, Entry, Limits, Refused, Reply};
-use orders::{Order, Request};
+use script_lines::{Instruction, Request};
 use sessions::{Desk, FinishCause, Pass, Receipt, finish, open};
 use slices::{Piece, evaluate};
 use std::alloc::{AllocError, Global};
@@ -118,7 +118,7 @@ impl<L: Ledger> Seats<L> {
         piece_in(&self.passes[..SESSIONS as usize], claim)
     }
 
-    /// Gives the writer the text of what became of an order.
+    /// Gives the writer the text of what became of an instruction.
     pub fn give_answer<W: Sink>(&self, outcome: Outcome, writer: &mut W) -> Result<(), Failed>
         requires { (answer : Answer) × Shows self.now.passes.items outcome answer }
         ensures { (answer : Answer) → Shows self.now.passes.items outcome answer → Writes W.held W.has_failed writer.old writer.new result (answer_text answer) }
@@ -152,23 +152,23 @@ impl<L: Ledger> Seats<L> {
 }
 
 impl<L: Ledger + Send + Sync> Seats<L> {
-    /// Does what is ordered.
+    /// Carries out an instruction.
     pub fn call<R: Threads + Wait + Sync>(
         &mut self,
         rt: &R,
-        order: Order,
+        instruction: Instruction,
     ) -> Result<Outcome, NoPiece>
         requires table { IsTable self.old.desk self.old.passes.items }
-        requires seated { IsSeated order }
+        requires seated { IsSeated instruction }
         ensures table { IsTable self.new.desk self.new.passes.items }
         ensures desk { self.new.desk ≡ self.old.desk }
-        ensures answered { IfOk result (λ outcome. IsAnswered self.old.passes.items self.new.passes.items outcome (Answers (self.old.desk - 8) (session_receipts self.old.passes.items) order)) }
+        ensures answered { IfOk result (λ outcome. IsAnswered self.old.passes.items self.new.passes.items outcome (Answers (self.old.desk - 8) (session_receipts self.old.passes.items) instruction)) }
         ensures same { OnErr result (self.new.passes.items ≡ self.old.passes.items) }
-        ensures none { OnErr result ((seat : ℕ) × (claim : ℕ) × (order ≡ Order.Call seat (Request.Return claim)) × GivesNone claim (session_receipts self.old.passes.items)) }
+        ensures none { OnErr result ((seat : ℕ) × (claim : ℕ) × (instruction ≡ Instruction.Call seat (Request.Return claim)) × GivesNone claim (session_receipts self.old.passes.items)) }
     {
-        match order {
-            Order::Call(seat, request) => self.ask(rt, seat, request),
-            Order::Work => Ok(Outcome::Worked(self.work(rt))),
+        match instruction {
+            Instruction::Call(seat, request) => self.ask(rt, seat, request),
+            Instruction::Work => Ok(Outcome::Worked(self.work(rt))),
         }
     }
 
@@ -177,7 +177,7 @@ impl<L: Ledger + Send + Sync> Seats<L> {
         requires { IsTable self.old.desk self.old.passes.items }
         ensures table { IsTable self.new.desk self.new.passes.items }
         ensures desk { self.new.desk ≡ self.old.desk }
-        ensures worked { IsAnswered self.old.passes.items self.new.passes.items (Outcome.Worked result) (Answers (self.old.desk - 8) (session_receipts self.old.passes.items) Order.Work) }
+        ensures worked { IsAnswered self.old.passes.items self.new.passes.items (Outcome.Worked result) (Answers (self.old.desk - 8) (session_receipts self.old.passes.items) Instruction.Work) }
     {
         work_behind(rt, self.alloc, &self.desk, &mut self.passes)
     }
@@ -192,7 +192,7 @@ fn work_behind<L: Ledger + Send + Sync, R: Threads + Wait + Sync>(
 ) -> Sums
     requires { IsTable desk.now passes.old }
     ensures table { IsTable desk.now passes.new }
-    ensures worked { IsAnswered passes.old passes.new (Outcome.Worked result) (Answers (desk.now - 8) (session_receipts passes.old) Order.Work) }
+    ensures worked { IsAnswered passes.old passes.new (Outcome.Worked result) (Answers (desk.now - 8) (session_receipts passes.old) Instruction.Work) }
 {
     let (sessions, workers) = passes.split_at_mut(SESSIONS as usize);
     let _ = sessions;

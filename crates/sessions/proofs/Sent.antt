@@ -8,7 +8,7 @@ use Rattle.conditions.proofs.prop.Link.TheLaws.TheKnot as Condition
 use Rattle.litmus_tree.proofs.expression.Link.TheLaws.TheKnot as Expression
 use Rattle.litmus_tree.proofs.tree.Statement.TheLaws.TheKnot as Statement
 use Rattle.litmus_tree.specs.contracts.tree.Thread as Thread
-use Rattle.litmus_test.specs.contracts.test.Test as Test
+use Rattle.litmus_value.specs.contracts.test.Test as Test
 use Rattle.cat_model.specs.contracts.files.Files as Files
 use Rattle.cat_model.specs.contracts.model.Model as Model
 use Rattle.slices.specs.contracts.finding.FindingRef as FindingRef

@@ -6,7 +6,7 @@ use Rattle.std.specs.BTreeSet.{insert_key}
 use Rattle.std.specs.List.Sorted.{IsStrictlySortedBy}
 use Rattle.std.proofs.lemmas.List.Sums.{fold-append, sum_by-append}
 use Rattle.events.specs.declared.event.EventId.{EventId}
-use Rattle.events.specs.Executions.{Execution}
+use Rattle.events.specs.Executions.{GraphValue}
 use Rattle.cat_eval.specs.Judging.{Allowed, Raised}
 use Rattle.cat_tree.specs.Tree.{Clause}
 use Rattle.listings.specs.Lists.{IsIn, NoRepeats, Lists}
@@ -22,16 +22,16 @@ use Rattle.candidates.specs.Faults.{HaveFewRuns}
 use Rattle.slices.specs.declared.counter.Counter.{Counter}
 use Rattle.slices.specs.declared.finding.Totals.{Totals}
 use Rattle.slices.specs.Finals.{final, obs, has, last_or}
-use Rattle.slices.specs.Outcomes.{Outcome}
+use Rattle.slices.specs.Findings.{FindingValue}
 use Rattle.slices.specs.Parts.{AreThose, at_end, taken, passed, IsAdmitted, IsPart, executions_in, test_size}
 use Rattle.slices.specs.Slots.{slot_of, slot_value}
-use Rattle.slices.specs.Counters.{collected, outcome_of, IsCount, IsCountOf, IsOneMore, IsWeighed}
+use Rattle.slices.specs.Counters.{collected, finding_of, IsCount, IsCountOf, IsOneMore, IsWeighed}
 use Rattle.slices.specs.Verdicts.{Tells, IsRaised}
-use Rattle.slices.specs.Works.{Task}
+use Rattle.slices.specs.Works.{WorkValue}
 use Rattle.slices.proofs.Rows.{row_cmp, from_collected, collected_old, in_collected, no_repeats, are_sorted}
 
 -- the slots of the places have their final values
-pub row_is : (t : Litmus) (x : Execution) (places : List Place) → map (slot_value x) (map (slot_of t) places) ≡ obs t places x
+pub row_is : (t : Litmus) (x : GraphValue) (places : List Place) → map (slot_value x) (map (slot_of t) places) ≡ obs t places x
 row_is t x [] = refl
 row_is t x (Reg k r ∷ places) = ap (λ l. final t x (Reg k r) ∷ l) (row_is t x places)
 row_is t x (Loc y ∷ places) = ap (λ l. final t x (Loc y) ∷ l) (row_is t x places)
@@ -72,13 +72,13 @@ of_push y [] x (inr p) = absurd p
 of_push y (z ∷ zs) x (inl e) = inl (inl e)
 of_push y (z ∷ zs) x (inr p) = elim (of_push y zs x p) [ inl q ↦ inl (inr q) | inr e ↦ inr e ]
 
-raised-push : (items : List Clause) (xs : List Execution) (x : Execution) (name : Word) → IsRaised items (xs ++ x ∷ []) name ↔ (IsRaised items xs name ⊎ Raised items x name)
+raised-push : (items : List Clause) (xs : List GraphValue) (x : GraphValue) (name : Word) → IsRaised items (xs ++ x ∷ []) name ↔ (IsRaised items xs name ⊎ Raised items x name)
 raised-push items xs x name = (
-  (λ r. elim (of_push r.0 xs x r.1) [ inl p ↦ inl (r.0, p, r.2) | inr e ↦ inr (let P : Execution → Type 0 = λ y. Raised items y name in subst P e r.2) ]),
+  (λ r. elim (of_push r.0 xs x r.1) [ inl p ↦ inl (r.0, p, r.2) | inr e ↦ inr (let P : GraphValue → Type 0 = λ y. Raised items y name in subst P e r.2) ]),
   (λ h. elim h [ inl r ↦ (r.0, in_front r.0 xs x r.1, r.2) | inr q ↦ (x, at_last xs x, q) ]),
 )
 
-more : (t : Litmus) (items : List Clause) (places : List Place) (xs : List Execution) (x : Execution) (old new : Counter) → IsCount t items places xs old → IsOneMore t items places x old new → IsCount t items places (xs ++ x ∷ []) new
+more : (t : Litmus) (items : List Clause) (places : List Place) (xs : List GraphValue) (x : GraphValue) (old new : Counter) → IsCount t items places xs old → IsOneMore t items places x old new → IsCount t items places (xs ++ x ∷ []) new
 more t items places xs x old new h m = record {
   positive = omega (arith, m.positive, h.positive, count_by-push (has t places) xs x);
   negative = omega (arith, m.negative, h.negative, turned (has t places x) 1 0, count_by-push (λ y. not (has t places y)) xs x);
@@ -89,7 +89,7 @@ more t items places xs x old new h m = record {
   );
 }
 
-counted : (t : Litmus) (items : List Clause) (places : List Place) (xs : List Execution) (x : Execution) (old new : Counter) → IsCountOf t items places xs old → IsWeighed t items places x old new → IsCountOf t items places (xs ++ x ∷ []) new
+counted : (t : Litmus) (items : List Clause) (places : List Place) (xs : List GraphValue) (x : GraphValue) (old new : Counter) → IsCountOf t items places xs old → IsWeighed t items places x old new → IsCountOf t items places (xs ++ x ∷ []) new
 counted t items places xs x old new h (inl w) = record {
   executions = h.executions ++ x ∷ [];
   those = those-push x w.0 h.those;
@@ -118,7 +118,7 @@ last_of w (v ∷ vs) =
     ap (λ n. unwrap_or (slice_get (v ∷ vs) n) w) less ∙ last_is w v vs
 
 -- how much one execution adds to both counts
-pub few_weighed : (t : Litmus) (items : List Clause) (places : List Place) (x : Execution) (old new : Counter) (k : ℕ) → old.positive + old.negative ≤ k → IsWeighed t items places x old new → new.positive + new.negative ≤ k + 1
+pub few_weighed : (t : Litmus) (items : List Clause) (places : List Place) (x : GraphValue) (old new : Counter) (k : ℕ) → old.positive + old.negative ≤ k → IsWeighed t items places x old new → new.positive + new.negative ≤ k + 1
 few_weighed t items places x old new k h (inl w) = few (has t places x) _ _ _ _ k h w.1.positive w.1.negative
 few_weighed t items places x old new k h (inr w) = let P : Counter → Type 0 = λ c. c.positive + c.negative ≤ k + 1 in subst P (sym w.1) (omega (arith, h))
 
@@ -132,10 +132,10 @@ pub record IsUnderWay (t : Litmus) (items : List Clause) (places : List Place) (
   pub space : w.space ≡ choices_of t
   pub to_is : w.to ≡ to
 
-pub walked_some : (t : Litmus) (items : List Clause) (places : List Place) (from to n : ℕ) (v w : Walking) (x : Execution) (old new : Counter) → IsUnderWay t items places from to v old → IsHit v w n → x ≡ w.shown → IsWeighed t items places x old new → IsUnderWay t items places from to w new
+pub walked_some : (t : Litmus) (items : List Clause) (places : List Place) (from to n : ℕ) (v w : Walking) (x : GraphValue) (old new : Counter) → IsUnderWay t items places from to v old → IsHit v w n → x ≡ w.shown → IsWeighed t items places x old new → IsUnderWay t items places from to w new
 walked_some t items places from to n v w x old new h hit is weighed =
-    let P : List Execution → Type 0 = λ xs. IsCountOf t items places xs new in
-    let W : Execution → Type 0 = λ y. IsWeighed t items places y old new in
+    let P : List GraphValue → Type 0 = λ xs. IsCountOf t items places xs new in
+    let W : GraphValue → Type 0 = λ y. IsWeighed t items places y old new in
     let k = subst W is weighed in
     record {
       counted = subst P (sym (found_on from v w n h.order hit)) (counted t items places (found_from v.space from v.next) w.shown old new h.counted k);
@@ -148,11 +148,11 @@ walked_some t items places from to n v w x old new h hit is weighed =
 pub walked_none : (t : Litmus) (items : List Clause) (places : List Place) (from to : ℕ) (v w : Walking) (counter : Counter) → IsUnderWay t items places from to v counter → IsMiss v w → IsCountOf t items places (executions_in t from to) counter
 walked_none t items places from to v w counter h miss =
     let P : Choices → Type 0 = λ s. IsCountOf t items places (found_from s from to) counter in
-    let Q : List Execution → Type 0 = λ xs. IsCountOf t items places xs counter in
+    let Q : List GraphValue → Type 0 = λ xs. IsCountOf t items places xs counter in
     let R : ℕ → Type 0 = λ k. IsCountOf t items places (found_from v.space from k) counter in
     subst P h.space (subst R h.to_is (subst Q (sym (found_at from v w h.order miss)) h.counted))
 
-none_yet : (at : ℕ → Option Execution) (from : ℕ) → found at (from - from) ≡ []
+none_yet : (at : ℕ → Option GraphValue) (from : ℕ) → found at (from - from) ≡ []
 none_yet at from =
     let none : from - from ≡ 0 = omega arith in
     ap (found at) none
@@ -160,9 +160,9 @@ none_yet at from =
 none_in : {X : Type 0} (x : X) (ks : List X) → ks ≡ [] → ¬ IsIn x ks
 none_in {X} x ks e p = let P : List X → Type 0 = λ l. IsIn x l in absurd (subst P e p)
 
-counted_none_yet : (t : Litmus) (items : List Clause) (places : List Place) (at : ℕ → Option Execution) (from : ℕ) (new : Counter) → new.positive ≡ 0 → new.negative ≡ 0 → new.states.keys ≡ [] → new.flags.keys ≡ [] → IsCountOf t items places (found (λ i. at (from + i)) (from - from)) new
+counted_none_yet : (t : Litmus) (items : List Clause) (places : List Place) (at : ℕ → Option GraphValue) (from : ℕ) (new : Counter) → new.positive ≡ 0 → new.negative ≡ 0 → new.states.keys ≡ [] → new.flags.keys ≡ [] → IsCountOf t items places (found (λ i. at (from + i)) (from - from)) new
 counted_none_yet t items places at from new p n s f =
-    let P : List Execution → Type 0 = λ xs. IsCountOf t items places xs new in
+    let P : List GraphValue → Type 0 = λ xs. IsCountOf t items places xs new in
     subst P (sym (none_yet (λ i. at (from + i)) from)) (record {
       executions = [];
       those = at_end;
@@ -195,7 +195,7 @@ miss_found v w None b e f h = h
 miss_found v w (Some n) b e f h = absurd (false_true (sym f ∙ e))
 
 -- one execution more, from its final state and the flags that it raises
-pub one_more : (t : Litmus) (items : List Clause) (places : List Place) (x : Execution) (state : List ℕ) (old new : Counter) (flags : List Word) → Lists (Raised items x) flags
+pub one_more : (t : Litmus) (items : List Clause) (places : List Place) (x : GraphValue) (state : List ℕ) (old new : Counter) (flags : List Word) → Lists (Raised items x) flags
     → state ≡ map (slot_value x) (map (slot_of t) places)
     → new.positive ≡ old.positive + cond (holds_in (bindings places state) t.condition.formula) 1 0
     → new.negative ≡ old.negative + cond (holds_in (bindings places state) t.condition.formula) 0 1
@@ -229,19 +229,19 @@ on_ok (Err e) f p = tt
 
 -- an execution is counted where the model allows it
 
-pub weighed_allowed : (t : Litmus) (items : List Clause) (places : List Place) (x : Execution) (old new : Counter) (allowed : Bool) → (IsTrue allowed ↔ Allowed items x) → allowed ≡ true → IsOneMore t items places x old new → IsWeighed t items places x old new
+pub weighed_allowed : (t : Litmus) (items : List Clause) (places : List Place) (x : GraphValue) (old new : Counter) (allowed : Bool) → (IsTrue allowed ↔ Allowed items x) → allowed ≡ true → IsOneMore t items places x old new → IsWeighed t items places x old new
 weighed_allowed t items places x old new allowed judged is more = inl (judged.0 is, more)
 
-pub weighed_forbidden : (t : Litmus) (items : List Clause) (places : List Place) (x : Execution) (old new : Counter) (allowed : Bool) → (IsTrue allowed ↔ Allowed items x) → allowed ≡ false → new ≡ old → IsWeighed t items places x old new
+pub weighed_forbidden : (t : Litmus) (items : List Clause) (places : List Place) (x : GraphValue) (old new : Counter) (allowed : Bool) → (IsTrue allowed ↔ Allowed items x) → allowed ≡ false → new ≡ old → IsWeighed t items places x old new
 weighed_forbidden t items places x old new allowed judged is same = inr ((λ a. (let is' = judged.1 a in cc)), same)
 
 -- the flags that are told of an allowed execution are those that are raised
-pub raised_when_allowed : (items : List Clause) (x : Execution) (allowed : Bool) (flags : List Word) → (IsTrue allowed ↔ Allowed items x) → allowed ≡ true →
+pub raised_when_allowed : (items : List Clause) (x : GraphValue) (allowed : Bool) (flags : List Word) → (IsTrue allowed ↔ Allowed items x) → allowed ≡ true →
     Lists (λ name. Allowed items x × Raised items x name) flags → Lists (Raised items x) flags
 raised_when_allowed items x allowed flags judged is h =
     record { once = h.once; only = λ name m. (h.only name m).1; all = λ name r. h.all name (judged.0 is, r) }
 
--- the outcome of a count
+-- the finding of a count
 
 -- what totals keep of a count
 pub record AreTotals (counter : Counter) (totals : Totals) : Type 0 where
@@ -252,9 +252,9 @@ pub record AreTotals (counter : Counter) (totals : Totals) : Type 0 where
   pub sorted : IsStrictlySortedBy row_cmp totals.states.value.keys
   pub in_order : IsStrictlySortedBy row_cmp totals.flags.items
 
-tells : (t : Litmus) (items : List Clause) (xs : List Execution) (places : List Place) (counter : Counter) (totals : Totals) → IsCount t items places xs counter → AreObserved t.condition t.listed places
+tells : (t : Litmus) (items : List Clause) (xs : List GraphValue) (places : List Place) (counter : Counter) (totals : Totals) → IsCount t items places xs counter → AreObserved t.condition t.listed places
     → AreTotals counter totals
-    → Tells t items xs (outcome_of t places totals)
+    → Tells t items xs (finding_of t places totals)
 tells t items xs places counter totals h observed e =
     let rows : totals.states.value.keys ≡ collected t places xs = e.states ∙ h.states in
     let P : List ℕ → List (List ℕ) → Type 0 = λ s ks. IsIn s ks in
@@ -313,10 +313,10 @@ admitted t u s n e is many size runs =
     subst P e (many ∙ ap size_of is, record { runs = runs; size = sized.0; few = sized.1 })
 
 -- what is found at the numbers of a range
-pub finds : (w : Task) (t : Litmus) (from to : ℕ) (places : List Place) (counter : Counter) (totals : Totals) (v : Outcome) → t ≡ w.test → IsCountOf w.test w.model.items places (executions_in w.test from to) counter → AreObserved t.condition t.listed places
-    → AreTotals counter totals → v ≡ outcome_of w.test places totals
+pub finds : (w : WorkValue) (t : Litmus) (from to : ℕ) (places : List Place) (counter : Counter) (totals : Totals) (v : FindingValue) → t ≡ w.test → IsCountOf w.test w.model.items places (executions_in w.test from to) counter → AreObserved t.condition t.listed places
+    → AreTotals counter totals → v ≡ finding_of w.test places totals
     → IsPart w.test w.model.items from to v
 finds w t from to places counter totals v e h observed same is =
     let P : Litmus → Type 0 = λ u. AreObserved u.condition u.listed places in
-    let Q : Outcome → Type 0 = IsPart w.test w.model.items from to in
+    let Q : FindingValue → Type 0 = IsPart w.test w.model.items from to in
     subst Q (sym is) (h.executions, h.those, tells w.test w.model.items h.executions places counter totals h.count (subst P e observed) same)

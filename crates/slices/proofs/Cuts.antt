@@ -5,7 +5,7 @@ use Rattle.std.specs.Prelude.{◌/◌}
 use Rattle.std.proofs.Math.Nat.{mul-div_cancel, div-le_of_le-mul, div-mul-le_self, le-div_iff_mul-le, mul-le-mul_left, mul_comm}
 use Rattle.litmus_tree.specs.Tree.{Litmus}
 use Rattle.slices.specs.declared.span.Span.{Span}
-use Rattle.slices.specs.Parts.{IsRange, Part, test_size}
+use Rattle.slices.specs.Parts.{IsRange, PieceResultValue, test_size}
 use Rattle.slices.specs.Tallies.{cut, span_of, IsApart, IsHeld, CutsInOrder}
 use Rattle.slices.proofs.Merging.{held_push, push_held}
 
@@ -38,10 +38,10 @@ slice_range t n total i from to size less first last =
 
 -- slice after slice: the ranges hold the numbers before the next one
 
-pub next_apart : (n total i : ℕ) (r : Part) (spans : List Span) → ((j : ℕ) → IsHeld spans j → j < cut n total i) → r.piece.from ≡ cut n total i → IsApart (span_of r) spans
+pub next_apart : (n total i : ℕ) (r : PieceResultValue) (spans : List Span) → ((j : ℕ) → IsHeld spans j → j < cut n total i) → r.piece.from ≡ cut n total i → IsApart (span_of r) spans
 next_apart n total i r spans below first j h k = let b = below j k in omega (arith, b, first, h.0)
 
-pub next_below : (n total i : ℕ) (r : Part) (old new : List Span) → 1 ≤ total → new ≡ old ++ span_of r ∷ [] → r.piece.to ≡ cut n total (i + 1) → ((j : ℕ) → IsHeld old j → j < cut n total i) → (j : ℕ) → IsHeld new j → j < cut n total (i + 1)
+pub next_below : (n total i : ℕ) (r : PieceResultValue) (old new : List Span) → 1 ≤ total → new ≡ old ++ span_of r ∷ [] → r.piece.to ≡ cut n total (i + 1) → ((j : ℕ) → IsHeld old j → j < cut n total i) → (j : ℕ) → IsHeld new j → j < cut n total (i + 1)
 next_below n total i r old new some pushed last below j h =
     let H : List Span → Type 0 = λ l. IsHeld l j in
     let next : i + 1 ≡ suc i = omega arith in
@@ -51,7 +51,7 @@ next_below n total i r old new some pushed last below j h =
       | inr k ↦ (let b = below j k in omega (arith, b, step, rises n total i some))
     ]
 
-pub next_held : (n total i : ℕ) (r : Part) (old new : List Span) → new ≡ old ++ span_of r ∷ [] → r.piece.from ≡ cut n total i → r.piece.to ≡ cut n total (i + 1) → ((j : ℕ) → j < cut n total i → IsHeld old j) → (j : ℕ) → j < cut n total (i + 1) → IsHeld new j
+pub next_held : (n total i : ℕ) (r : PieceResultValue) (old new : List Span) → new ≡ old ++ span_of r ∷ [] → r.piece.from ≡ cut n total i → r.piece.to ≡ cut n total (i + 1) → ((j : ℕ) → j < cut n total i → IsHeld old j) → (j : ℕ) → j < cut n total (i + 1) → IsHeld new j
 next_held n total i r old new pushed first last held j l =
     let H : List Span → Type 0 = λ k. IsHeld k j in
     subst H (sym pushed) (elim (cases_lt j (cut n total i)) [

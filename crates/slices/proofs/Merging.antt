@@ -5,7 +5,7 @@ use Rattle.std.proofs.lemmas.Bool.{cases_lt}
 use Rattle.std.proofs.lemmas.List.{length-append}
 use Rattle.cat_eval.specs.Judging.{Allowed}
 use Rattle.cat_tree.specs.Tree.{Clause}
-use Rattle.events.specs.Executions.{Execution}
+use Rattle.events.specs.Executions.{GraphValue}
 use Rattle.listings.specs.Lists.{IsIn, NoRepeats, Lists}
 use Rattle.listings.proofs.Listings.{in_append, in_left, in_right, once_append}
 use Rattle.litmus_tree.specs.Tree.{Litmus}
@@ -20,22 +20,22 @@ use Rattle.slices.proofs.Members.{lists_same, lists_append, no_longer}
 
 -- what stands at the numbers of a range
 
-in_some : (o : Option Execution) (x : Execution) → IsIn x (some_of o) → o ≡ Some x
+in_some : (o : Option GraphValue) (x : GraphValue) → IsIn x (some_of o) → o ≡ Some x
 in_some None x h = absurd h
-in_some (Some y) x h = elim h [ inl e ↦ ap (λ (z : Execution). Some z) (sym e) | inr n ↦ absurd n ]
+in_some (Some y) x h = elim h [ inl e ↦ ap (λ (z : GraphValue). Some z) (sym e) | inr n ↦ absurd n ]
 
-some_in : (o : Option Execution) (x : Execution) → o ≡ Some x → IsIn x (some_of o)
-some_in o x e = let P : Option Execution → Type 0 = λ p. IsIn x (some_of p) in subst P (sym e) (inl refl)
+some_in : (o : Option GraphValue) (x : GraphValue) → o ≡ Some x → IsIn x (some_of o)
+some_in o x e = let P : Option GraphValue → Type 0 = λ p. IsIn x (some_of p) in subst P (sym e) (inl refl)
 
-once_some : (o : Option Execution) → NoRepeats (some_of o)
+once_some : (o : Option GraphValue) → NoRepeats (some_of o)
 once_some None = tt
 once_some (Some y) = (λ h. h, tt)
 
-few_some : (o : Option Execution) → length (some_of o) ≤ 1
+few_some : (o : Option GraphValue) → length (some_of o) ≤ 1
 few_some None = omega arith
 few_some (Some y) = omega arith
 
-in_found : (at : ℕ → Option Execution) (n : ℕ) (x : Execution) → IsIn x (found at n) → (i : ℕ) × (i < n) × (at i ≡ Some x)
+in_found : (at : ℕ → Option GraphValue) (n : ℕ) (x : GraphValue) → IsIn x (found at n) → (i : ℕ) × (i < n) × (at i ≡ Some x)
 in_found at zero x h = absurd h
 in_found at (suc n) x h = elim (in_append (found at n) (some_of (at n)) x h) [
   | inl a ↦ (let r = in_found at n x a in (r.0, omega (arith, r.1), r.2))
@@ -45,18 +45,18 @@ in_found at (suc n) x h = elim (in_append (found at n) (some_of (at n)) x h) [
 last : (i n : ℕ) → i < suc n → (i < n) ⊎ (i ≡ n)
 last i n l = elim (cases_lt i n) [ inl k ↦ inl k | inr k ↦ inr (omega (arith, l, k)) ]
 
-found_in : (at : ℕ → Option Execution) (n i : ℕ) (x : Execution) → i < n → at i ≡ Some x → IsIn x (found at n)
+found_in : (at : ℕ → Option GraphValue) (n i : ℕ) (x : GraphValue) → i < n → at i ≡ Some x → IsIn x (found at n)
 found_in at zero i x l e = absurd (omega (arith, l))
 found_in at (suc n) i x l e = elim (last i n l) [
   | inl k ↦ in_left (found at n) (some_of (at n)) x (found_in at n i x k e)
   | inr k ↦ in_right (found at n) (some_of (at n)) x (some_in (at n) x (ap at (sym k) ∙ e))
 ]
 
-found_most : (at : ℕ → Option Execution) (n : ℕ) → length (found at n) ≤ n
+found_most : (at : ℕ → Option GraphValue) (n : ℕ) → length (found at n) ≤ n
 found_most at zero = omega arith
 found_most at (suc n) = omega (arith, found_most at n, few_some (at n), length-append (found at n) (some_of (at n)))
 
-once_found : (at : ℕ → Option Execution) (n : ℕ) → ((x : Execution) (i j : ℕ) → i < n → j < n → at i ≡ Some x → at j ≡ Some x → i ≡ j) → NoRepeats (found at n)
+once_found : (at : ℕ → Option GraphValue) (n : ℕ) → ((x : GraphValue) (i j : ℕ) → i < n → j < n → at i ≡ Some x → at j ≡ Some x → i ≡ j) → NoRepeats (found at n)
 once_found at zero once = tt
 once_found at (suc n) once =
     once_append (found at n) (some_of (at n)) (once_found at n (λ x i j li lj. once x i j (omega (arith, li)) (omega (arith, lj)))) (once_some (at n))
@@ -67,12 +67,12 @@ once_found at (suc n) once =
 shifted : (from to i j : ℕ) → i < to - from → j < to - from → from + i ≡ from + j → i ≡ j
 shifted from to i j li lj e = omega (arith, e)
 
-at_shifted : (at : ℕ → Option Execution) (from i : ℕ) (x : Execution) → from ≤ i → at i ≡ Some x → at (from + (i - from)) ≡ Some x
+at_shifted : (at : ℕ → Option GraphValue) (from i : ℕ) (x : GraphValue) → from ≤ i → at i ≡ Some x → at (from + (i - from)) ≡ Some x
 at_shifted at from i x le e =
     let here : from + (i - from) ≡ i = omega (arith, le) in
     ap at here ∙ e
 
-abbrev StandsIn : Litmus → Span → Execution → Type 0
+abbrev StandsIn : Litmus → Span → GraphValue → Type 0
 StandsIn t s x = (i : ℕ) × holds s i × (At t i ≡ Some x)
 
 range_listed : (t : Litmus) (n : ℕ) (s : Span) → IsNumberedBy t n (At t) → s.to ≤ n → Lists (StandsIn t s) (executions_in t s.from s.to)
@@ -107,7 +107,7 @@ held_below : (n : ℕ) (spans : List Span) → ((s : Span) → IsIn s spans → 
 held_below n spans within i h = let le = within h.0 h.1 in omega (arith, le, h.2.1)
 
 -- The ranges share no number, so the lists of what stands there and is allowed, one behind the other, repeat nothing.
-pub merged_listing : (t : Litmus) (items : List Clause) (n : ℕ) (spans : List Span) (s : Span) (xs ys : List Execution) → IsNumberedBy t n (At t) → s.to ≤ n → ((r : Span) → IsIn r spans → r.to ≤ n) → IsApart s spans
+pub merged_listing : (t : Litmus) (items : List Clause) (n : ℕ) (spans : List Span) (s : Span) (xs ys : List GraphValue) → IsNumberedBy t n (At t) → s.to ≤ n → ((r : Span) → IsIn r spans → r.to ≤ n) → IsApart s spans
     → Lists (IsAmong t items spans) xs → AreThose (Allowed items) (executions_in t s.from s.to) ys → Lists (IsAmong t items (spans ++ s ∷ [])) (ys ++ xs)
 merged_listing t items n spans s xs ys law le within apart l those =
     lists_same {P = λ x. (StandsIn t s x × Allowed items x) ⊎ IsAmong t items spans x} {Q = IsAmong t items (spans ++ s ∷ [])}
@@ -127,15 +127,15 @@ merged_listing t items n spans s xs ys law le within apart l those =
     (lists_those (range_listed t n s law le) those) l)
 
 -- Where they cover all numbers, they list what the model allows.
-pub whole_listing : (t : Litmus) (items : List Clause) (n : ℕ) (spans : List Span) (xs : List Execution) → IsNumberedBy t n (At t) → ((r : Span) → IsIn r spans → r.to ≤ n) → IsCover n spans → Lists (IsAmong t items spans) xs → Lists (IsAllowed t items) xs
+pub whole_listing : (t : Litmus) (items : List Clause) (n : ℕ) (spans : List Span) (xs : List GraphValue) → IsNumberedBy t n (At t) → ((r : Span) → IsIn r spans → r.to ≤ n) → IsCover n spans → Lists (IsAmong t items spans) xs → Lists (IsAllowed t items) xs
 whole_listing t items n spans xs law within cover l =
     lists_same {P = IsAmong t items spans} {Q = IsAllowed t items}
-    (λ x p. (let O : Option Execution → Type 0 = λ o. IfSome o (IsExecution t) in subst O p.0.2 (law.only p.0.0 (held_below n spans within p.0.0 p.0.1)), p.1))
+    (λ x p. (let O : Option GraphValue → Type 0 = λ o. IfSome o (IsExecution t) in subst O p.0.2 (law.only p.0.0 (held_below n spans within p.0.0 p.0.1)), p.1))
     (λ x p. (let r = law.all x p.0 in ((r.0, cover r.0 r.1, r.2), p.1)))
     l
 
 -- They are at most as many as there are numbers.
-pub few_listed : (t : Litmus) (items : List Clause) (n : ℕ) (spans : List Span) (xs : List Execution) → ((r : Span) → IsIn r spans → r.to ≤ n) → Lists (IsAmong t items spans) xs → length xs ≤ n
+pub few_listed : (t : Litmus) (items : List Clause) (n : ℕ) (spans : List Span) (xs : List GraphValue) → ((r : Span) → IsIn r spans → r.to ≤ n) → Lists (IsAmong t items spans) xs → length xs ≤ n
 few_listed t items n spans xs within l =
     let inside = no_longer xs (found (At t) n) l.once (λ x p. let a = l.only x p in found_in (At t) n a.0.0 x (held_below n spans within a.0.0 a.0.1) a.0.2) in
     omega (arith, inside, found_most (At t) n)

@@ -3,7 +3,7 @@ use Rattle.std.proofs.Common.{◌≡◌, ℕ, ◌+◌, ◌<◌, ◌≤◌, ◌^�
 use Rattle.std.specs.Prelude.{◌↔◌}
 use Rattle.std.specs.List.Sorted.{IsStrictlySortedBy}
 use Rattle.cat_tree.specs.Tree.{Clause}
-use Rattle.events.specs.Executions.{Execution}
+use Rattle.events.specs.Executions.{GraphValue}
 use Rattle.listings.specs.Lists.{IsIn, Lists}
 use Rattle.listings.proofs.Listings.{in_append, in_left, in_right}
 use Rattle.litmus_tree.specs.Tree.{Litmus, Word}
@@ -14,14 +14,14 @@ use Rattle.candidates.specs.Candidates.{Numbering}
 use Rattle.slices.specs.declared.finding.Totals.{Totals}
 use Rattle.slices.specs.declared.span.Span.{Span}
 use Rattle.slices.specs.declared.sum.Sum.{Sum}
-use Rattle.slices.specs.Counters.{outcome_of}
+use Rattle.slices.specs.Counters.{finding_of}
 use Rattle.slices.specs.Finals.{obs, has}
-use Rattle.slices.specs.Outcomes.{Outcome}
-use Rattle.slices.specs.Parts.{IsAdmitted, IsPart, IsRange, Part, Portion, test_size}
+use Rattle.slices.specs.Findings.{FindingValue}
+use Rattle.slices.specs.Parts.{IsAdmitted, IsPart, IsRange, PieceResultValue, PieceValue, test_size}
 use Rattle.slices.specs.Sums.{IsAdded, IsUnchanged, in_order}
-use Rattle.slices.specs.Tallies.{IsApart, IsCover, IsTally, Results, span_of}
+use Rattle.slices.specs.Tallies.{IsApart, IsCover, IsTally, TallyValue, span_of}
 use Rattle.slices.specs.Verdicts.{Tells, IsRaised, IsVerdict}
-use Rattle.slices.specs.Works.{Task}
+use Rattle.slices.specs.Works.{WorkValue}
 use Rattle.slices.proofs.Rows.{row_cmp, from_collected, in_collected, no_repeats, are_sorted}
 use Rattle.slices.proofs.Members.{count-append, count_most}
 use Rattle.slices.proofs.Merging.{law_of, merged_listing, whole_listing, few_listed, within_push}
@@ -49,7 +49,7 @@ tally_none t items places spans sum observed none p n s f =
 -- a sum that says the same is as right
 pub tally_same : (t : Litmus) (items : List Clause) (old new : List Span) (before after : Sum) → new ≡ old → IsUnchanged before after → IsTally t items old before → IsTally t items new after
 tally_same t items old new before after e same h =
-    let S : List (List ℕ) → Type 0 = λ ks. (s : List ℕ) → IsIn s ks ↔ ((x : Execution) × IsIn x h.executions × (s ≡ obs t h.places x)) in
+    let S : List (List ℕ) → Type 0 = λ ks. (s : List ℕ) → IsIn s ks ↔ ((x : GraphValue) × IsIn x h.executions × (s ≡ obs t h.places x)) in
     let F : List Word → Type 0 = λ ks. (name : Word) → IsIn name ks ↔ IsRaised items h.executions name in
     let T : List Span → Type 0 = λ spans. IsTally t items spans after in
     subst T (sym e) (record {
@@ -64,7 +64,7 @@ tally_same t items old new before after e same h =
       flags = subst F (sym same.flags) h.flags;
     })
 
-pub few_together : (t : Litmus) (items : List Clause) (spans : List Span) (s : Span) (before : Sum) (v : Outcome) → Numbering → IsAdmitted t → s.to ≤ test_size t → IsApart s spans → IsTally t items spans before → IsPart t items s.from s.to v
+pub few_together : (t : Litmus) (items : List Clause) (spans : List Span) (s : Span) (before : Sum) (v : FindingValue) → Numbering → IsAdmitted t → s.to ≤ test_size t → IsApart s spans → IsTally t items spans before → IsPart t items s.from s.to v
     → (before.positive + v.positive < 2 ^ 64) × (before.negative + v.negative < 2 ^ 64)
 few_together t items spans s before v numbering admitted le apart h part =
     let xs = h.executions in
@@ -79,7 +79,7 @@ few_together t items spans s before v numbering admitted le apart h part =
       omega (arith, n, h.negative, count-append (λ x. not (has t h.places x)) ys xs, count_most (λ x. not (has t h.places x)) (ys ++ xs), most, few),
     )
 
-pub tally_merged : (t : Litmus) (items : List Clause) (spans new : List Span) (s : Span) (before after : Sum) (v : Outcome) → Numbering → IsAdmitted t → s.to ≤ test_size t → IsApart s spans → IsTally t items spans before → IsPart t items s.from s.to v
+pub tally_merged : (t : Litmus) (items : List Clause) (spans new : List Span) (s : Span) (before after : Sum) (v : FindingValue) → Numbering → IsAdmitted t → s.to ≤ test_size t → IsApart s spans → IsTally t items spans before → IsPart t items s.from s.to v
     → IsAdded before v after → new ≡ spans ++ s ∷ [] → IsTally t items new after
 tally_merged t items spans new s before after v numbering admitted le apart h part added pushed =
     let xs = h.executions in
@@ -147,19 +147,19 @@ pub record AreTotalsOf (sum : Sum) (totals : Totals) : Type 0 where
   pub sorted : IsStrictlySortedBy row_cmp totals.states.value.keys
   pub in_order : IsStrictlySortedBy row_cmp totals.flags.items
 
-pub tally_verdict : (t u : Litmus) (items : List Clause) (spans : List Span) (sum : Sum) (places : List Place) (totals : Totals) (v : Outcome) → Numbering → IsAdmitted t → IsCover (test_size t) spans → IsTally t items spans sum
+pub tally_verdict : (t u : Litmus) (items : List Clause) (spans : List Span) (sum : Sum) (places : List Place) (totals : Totals) (v : FindingValue) → Numbering → IsAdmitted t → IsCover (test_size t) spans → IsTally t items spans sum
     → u ≡ t → AreObserved u.condition u.listed places
-    → AreTotalsOf sum totals → v ≡ outcome_of t places totals
+    → AreTotalsOf sum totals → v ≡ finding_of t places totals
     → IsVerdict t items v
 tally_verdict t u items spans sum places totals v numbering admitted cover h e seen same is =
     let O : Litmus → Type 0 = λ w. AreObserved w.condition w.listed places in
     let observed = subst O e seen in
     let one : h.places ≡ places = same_observed t.condition t.listed h.places places h.observed observed in
-    let S : List Place → Type 0 = λ ps. (s : List ℕ) → IsIn s sum.states.value.keys ↔ ((x : Execution) × IsIn x h.executions × (s ≡ obs t ps x)) in
+    let S : List Place → Type 0 = λ ps. (s : List ℕ) → IsIn s sum.states.value.keys ↔ ((x : GraphValue) × IsIn x h.executions × (s ≡ obs t ps x)) in
     let states = subst S one h.states in
     let K : List (List ℕ) → Type 0 = λ ks. (s : List ℕ) → IsIn s ks ↔ IsIn s sum.states.value.keys in
     let members = subst K (sym same.states) (λ s. ((λ p. p), (λ p. p))) in
-    let V : Outcome → Type 0 = λ w. Tells t items h.executions w in (
+    let V : FindingValue → Type 0 = λ w. Tells t items h.executions w in (
       h.executions,
       whole_listing t items (test_size t) spans h.executions (law_of numbering t admitted) h.within cover h.each,
       subst V (sym is) (record {
@@ -182,28 +182,28 @@ tally_verdict t u items spans sum places totals v numbering admitted cover h e s
 
 -- what a merge knows of the result
 
-abbrev pub at_piece : Portion → Span
+abbrev pub at_piece : PieceValue → Span
 at_piece p = record { from = p.from; to = p.to }
 
-pub record PartOf (w : Task) (spans : List Span) (s : Span) (v : Outcome) : Type 0 where
+pub record PartOf (w : WorkValue) (spans : List Span) (s : Span) (v : FindingValue) : Type 0 where
   pub admitted : IsAdmitted w.test
   pub le : s.to ≤ test_size w.test
   pub apart : IsApart s spans
   pub part : IsPart w.test w.model.items s.from s.to v
 
-pub part_of : (w u : Task) (now : Results) (spans : List Span) (s : Span) (r : Part) (p : Portion) (v : Outcome) → u ≡ w → IsAdmitted u.test → now.work ≡ w → now.spans ≡ spans → r.piece.work ≡ now.work → IsApart (span_of r) now.spans → p ≡ r.piece
+pub part_of : (w u : WorkValue) (now : TallyValue) (spans : List Span) (s : Span) (r : PieceResultValue) (p : PieceValue) (v : FindingValue) → u ≡ w → IsAdmitted u.test → now.work ≡ w → now.spans ≡ spans → r.piece.work ≡ now.work → IsApart (span_of r) now.spans → p ≡ r.piece
     → IsRange p.work.test p.from p.to → IsPart r.piece.work.test r.piece.work.model.items r.piece.from r.piece.to r.found → v ≡ r.found → s ≡ span_of r → PartOf w spans s v
 part_of w u now spans s r p v eu admitted ew es er apart ep range right ev esp =
-    let A : Task → Type 0 = λ z. IsAdmitted z.test in
+    let A : WorkValue → Type 0 = λ z. IsAdmitted z.test in
     let rp : r.piece.work ≡ w = er ∙ ew in
-    let R : Portion → Type 0 = λ z. IsRange z.work.test z.from z.to in
+    let R : PieceValue → Type 0 = λ z. IsRange z.work.test z.from z.to in
     let inside : IsRange r.piece.work.test r.piece.from r.piece.to = subst R ep range in
-    let L : Task → Type 0 = λ z. r.piece.to ≤ test_size z.test in
+    let L : WorkValue → Type 0 = λ z. r.piece.to ≤ test_size z.test in
     let S : Span → Type 0 = λ z. z.to ≤ test_size w.test in
     let G : List Span → Type 0 = λ z. IsApart (span_of r) z in
     let H : Span → Type 0 = λ z. IsApart z spans in
-    let Q : Task → Type 0 = λ z. IsPart z.test z.model.items r.piece.from r.piece.to r.found in
-    let K : Outcome → Type 0 = λ z. IsPart w.test w.model.items r.piece.from r.piece.to z in
+    let Q : WorkValue → Type 0 = λ z. IsPart z.test z.model.items r.piece.from r.piece.to r.found in
+    let K : FindingValue → Type 0 = λ z. IsPart w.test w.model.items r.piece.from r.piece.to z in
     let J : Span → Type 0 = λ z. IsPart w.test w.model.items z.from z.to v in
     record {
       admitted = subst A eu admitted;
@@ -212,10 +212,10 @@ part_of w u now spans s r p v eu admitted ew es er apart ep range right ev esp =
       part = subst J (sym esp) (subst K (sym ev) (subst Q rp right));
     }
 
-pub part_few : (w : Task) (spans : List Span) (s : Span) (v : Outcome) (sum : Sum) → Numbering → PartOf w spans s v → IsTally w.test w.model.items spans sum → (sum.positive + v.positive < 2 ^ 64) × (sum.negative + v.negative < 2 ^ 64)
+pub part_few : (w : WorkValue) (spans : List Span) (s : Span) (v : FindingValue) (sum : Sum) → Numbering → PartOf w spans s v → IsTally w.test w.model.items spans sum → (sum.positive + v.positive < 2 ^ 64) × (sum.negative + v.negative < 2 ^ 64)
 part_few w spans s v sum numbering h tally = few_together w.test w.model.items spans s sum v numbering h.admitted h.le h.apart tally h.part
 
-pub part_merged : (w : Task) (spans new : List Span) (s : Span) (v : Outcome) (sum after : Sum) → Numbering → PartOf w spans s v → IsTally w.test w.model.items spans sum → IsAdded sum v after → new ≡ spans ++ s ∷ [] → IsTally w.test w.model.items new after
+pub part_merged : (w : WorkValue) (spans new : List Span) (s : Span) (v : FindingValue) (sum after : Sum) → Numbering → PartOf w spans s v → IsTally w.test w.model.items spans sum → IsAdded sum v after → new ≡ spans ++ s ∷ [] → IsTally w.test w.model.items new after
 part_merged w spans new s v sum after numbering h tally added pushed = tally_merged w.test w.model.items spans new s sum after v numbering h.admitted h.le h.apart tally h.part added pushed
 
 -- the last range is taken back

@@ -1,12 +1,12 @@
 pub mod Codes
 pub mod Counters
 pub mod Finals
-pub mod Judgements
-pub mod Outcomes
+pub mod Findings
 pub mod Parts
 pub mod Same
 pub mod Slots
 pub mod Sums
 pub mod Tallies
+pub mod VerdictValues
 pub mod Verdicts
 pub mod Works

@@ -15,7 +15,7 @@ use Rattle.conditions.specs.Exact.{both, by_parts, equivalence, place_exact, kin
 use Rattle.conditions.specs.declared.condition.Kind.{Kind}
 use Rattle.conditions.specs.declared.place.Place.{Place}
 use Rattle.litmus_tree.specs.Tree.{Word}
-use Rattle.slices.specs.Outcomes.{Outcome}
+use Rattle.slices.specs.Findings.{FindingValue}
 
 abbrev same_code : Gv → Gv → Bool
 same_code gnil gnil = true
@@ -49,29 +49,29 @@ pub one_test : {A : Type 0} (coded : Coded A) (a b : A) (r : Bool) → Decides r
 one_test coded a b r d = one_answer r (same coded a b) d (same_exact coded a b)
 
 -- what is found: part by part
-abbrev pub same_outcome : Outcome → Outcome → Bool
-same_outcome a b =
+abbrev pub same_finding : FindingValue → FindingValue → Bool
+same_finding a b =
     bytes_eq a.name b.name && same_kind a.kind b.kind && same_formula a.formula b.formula && pointwise same_place a.places b.places &&
     (a.positive == b.positive) && (a.negative == b.negative) && pointwise bytes_eq a.states b.states && pointwise bytes_eq a.flags b.flags
 
 words_exact : (xs ys : List (List ℕ)) → Decides (pointwise bytes_eq xs ys) (xs ≡ ys)
 words_exact = pointwise_decides bytes_eq-Decides
 
-abbrev outcome : Word → Kind → Formula → List Place → ℕ → ℕ → List (List ℕ) → List Word → Outcome
-outcome x k f ps n m ss fs = record { name = x; kind = k; formula = f; places = ps; positive = n; negative = m; states = ss; flags = fs }
+abbrev finding : Word → Kind → Formula → List Place → ℕ → ℕ → List (List ℕ) → List Word → FindingValue
+finding x k f ps n m ss fs = record { name = x; kind = k; formula = f; places = ps; positive = n; negative = m; states = ss; flags = fs }
 
-pub outcome_exact : (a b : Outcome) → Decides (same_outcome a b) (a ≡ b)
-outcome_exact a b =
+pub finding_exact : (a b : FindingValue) → Decides (same_finding a b) (a ≡ b)
+finding_exact a b =
     by_parts _
     (both _ _ (both _ _ (both _ _ (both _ _ (both _ _ (both _ _ (both _ _ (bytes_eq-Decides a.name b.name) (kind_exact a.kind b.kind)) (formula_exact a.formula b.formula)) (pointwise_decides place_exact a.places b.places))
     (Decides-eqb a.positive b.positive)) (Decides-eqb a.negative b.negative)) (words_exact a.states b.states)) (words_exact a.flags b.flags))
     (λ h.
-    ap (λ x. outcome x a.kind a.formula a.places a.positive a.negative a.states a.flags) h.0.0.0.0.0.0.0 ∙
-    ap (λ k. outcome b.name k a.formula a.places a.positive a.negative a.states a.flags) h.0.0.0.0.0.0.1 ∙
-    ap (λ f. outcome b.name b.kind f a.places a.positive a.negative a.states a.flags) h.0.0.0.0.0.1 ∙
-    ap (λ ps. outcome b.name b.kind b.formula ps a.positive a.negative a.states a.flags) h.0.0.0.0.1 ∙
-    ap (λ n. outcome b.name b.kind b.formula b.places n a.negative a.states a.flags) h.0.0.0.1 ∙
-    ap (λ m. outcome b.name b.kind b.formula b.places b.positive m a.states a.flags) h.0.0.1 ∙
-    ap (λ ss. outcome b.name b.kind b.formula b.places b.positive b.negative ss a.flags) h.0.1 ∙
-    ap (outcome b.name b.kind b.formula b.places b.positive b.negative b.states) h.1)
+    ap (λ x. finding x a.kind a.formula a.places a.positive a.negative a.states a.flags) h.0.0.0.0.0.0.0 ∙
+    ap (λ k. finding b.name k a.formula a.places a.positive a.negative a.states a.flags) h.0.0.0.0.0.0.1 ∙
+    ap (λ f. finding b.name b.kind f a.places a.positive a.negative a.states a.flags) h.0.0.0.0.0.1 ∙
+    ap (λ ps. finding b.name b.kind b.formula ps a.positive a.negative a.states a.flags) h.0.0.0.0.1 ∙
+    ap (λ n. finding b.name b.kind b.formula b.places n a.negative a.states a.flags) h.0.0.0.1 ∙
+    ap (λ m. finding b.name b.kind b.formula b.places b.positive m a.states a.flags) h.0.0.1 ∙
+    ap (λ ss. finding b.name b.kind b.formula b.places b.positive b.negative ss a.flags) h.0.1 ∙
+    ap (finding b.name b.kind b.formula b.places b.positive b.negative b.states) h.1)
     (λ e. (((((((ap (λ c. c.name) e, ap (λ c. c.kind) e), ap (λ c. c.formula) e), ap (λ c. c.places) e), ap (λ c. c.positive) e), ap (λ c. c.negative) e), ap (λ c. c.states) e), ap (λ c. c.flags) e))

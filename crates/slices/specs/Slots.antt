@@ -1,6 +1,6 @@
 -- Where the final values of places stand in an execution.
 use Rattle.std.specs.Prelude.{ℕ}
-use Rattle.events.specs.Executions.{Execution}
+use Rattle.events.specs.Executions.{GraphValue}
 use Rattle.conditions.specs.declared.place.Place.{Place}
 use Rattle.conditions.specs.declared.place.Place.TheVariants.{Reg, Loc}
 use Rattle.litmus_tree.specs.Tree.{Litmus}
@@ -16,6 +16,6 @@ slot_of t (Reg k r) = Register k (place_of r (thread_of t k).registers)
 slot_of t (Loc y) = Location (place_of y t.locations)
 
 -- the value that stands there in an execution
-abbrev pub slot_value : Execution → Slot → ℕ
+abbrev pub slot_value : GraphValue → Slot → ℕ
 slot_value x (Register k r) = final_register x k r
 slot_value x (Location y) = final_location x y

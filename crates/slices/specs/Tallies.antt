@@ -2,7 +2,7 @@
 use Rattle.std.specs.Prelude.{◌≡◌, ℕ, suc, ◌*◌, ◌/◌, ◌<◌, ◌≤◌, ◌↔◌, List, not, count_by, Some}
 use Rattle.cat_eval.specs.Judging.{Allowed}
 use Rattle.cat_tree.specs.Tree.{Clause}
-use Rattle.events.specs.Executions.{Execution}
+use Rattle.events.specs.Executions.{GraphValue}
 use Rattle.listings.specs.Lists.{IsIn, Lists}
 use Rattle.litmus_tree.specs.Tree.{Litmus, Word}
 use Rattle.conditions.specs.States.{AreObserved}
@@ -11,9 +11,9 @@ use Rattle.candidates.specs.Candidates.{At}
 use Rattle.slices.specs.declared.span.Span.{Span}
 use Rattle.slices.specs.declared.sum.Sum.{Sum}
 use Rattle.slices.specs.Finals.{obs, has}
-use Rattle.slices.specs.Parts.{Part, test_size}
+use Rattle.slices.specs.Parts.{PieceResultValue, test_size}
 use Rattle.slices.specs.Verdicts.{IsRaised}
-use Rattle.slices.specs.Works.{Task}
+use Rattle.slices.specs.Works.{WorkValue}
 
 -- i is one of the numbers
 abbrev pub holds : Span → ℕ → Type 0
@@ -32,28 +32,28 @@ abbrev pub IsCover : ℕ → List Span → Type 0
 IsCover n spans = (i : ℕ) → i < n → IsHeld spans i
 
 -- the numbers that a result is over
-abbrev pub span_of : Part → Span
+abbrev pub span_of : PieceResultValue → Span
 span_of r = record { from = r.piece.from; to = r.piece.to }
 
 -- The ranges of the results of a work so far, in the order in which they came.
-pub record Results : Type 0 where
-  pub work : Task
+pub record TallyValue : Type 0 where
+  pub work : WorkValue
   pub spans : List Span
 
 -- x stands at one of the numbers, and a model of these items allows it.
-abbrev pub IsAmong : Litmus → List Clause → List Span → Execution → Type 0
+abbrev pub IsAmong : Litmus → List Clause → List Span → GraphValue → Type 0
 IsAmong t items spans x = ((i : ℕ) × IsHeld spans i × (At t i ≡ Some x)) × Allowed items x
 
 -- What a tally keeps is right for the allowed executions at the numbers of its ranges, each counted once.
 pub record IsTally (t : Litmus) (items : List Clause) (spans : List Span) (sum : Sum) : Type 0 where
   pub within : (s : Span) → IsIn s spans → s.to ≤ test_size t
-  pub executions : List Execution
+  pub executions : List GraphValue
   pub each : Lists (IsAmong t items spans) executions
   pub places : List Place
   pub observed : AreObserved t.condition t.listed places
   pub positive : sum.positive ≡ count_by (has t places) executions
   pub negative : sum.negative ≡ count_by (λ x. not (has t places x)) executions
-  pub states : (s : List ℕ) → IsIn s sum.states.value.keys ↔ ((x : Execution) × IsIn x executions × (s ≡ obs t places x))
+  pub states : (s : List ℕ) → IsIn s sum.states.value.keys ↔ ((x : GraphValue) × IsIn x executions × (s ≡ obs t places x))
   pub flags : (name : Word) → IsIn name sum.flags.keys ↔ IsRaised items executions name
 
 -- where slice i begins when n numbers are cut into so many slices

@@ -1,8 +1,8 @@
 //! Equality of works, pieces, results and verdicts: two are equal exactly where their values are.
 
 ghost use Rattle.std.specs.Prelude.{◌≡◌, ◌↔◌, IsTrue};
-ghost use Rattle.slices.specs.Codes.{coded_task, coded_outcome, coded_portion, coded_part, coded_judged};
-ghost use Rattle.slices.specs.Same.{same, same_outcome, same_equivalence, same_partial_equivalence};
+ghost use Rattle.slices.specs.Codes.{coded_work, coded_finding, coded_piece, coded_piece_result, coded_verdict};
+ghost use Rattle.slices.specs.Same.{same, same_finding, same_equivalence, same_partial_equivalence};
 
 use crate::finding::{Finding, FindingRef};
 use crate::piece::{Piece, PieceResult};
@@ -10,12 +10,12 @@ use crate::verdict::{Verdict, VerdictRef};
 use crate::work::WorkRef;
 
 impl PartialEq for WorkRef {
-    ghost eq = { same coded_task };
+    ghost eq = { same coded_work };
 
-    ghost laws = { same_partial_equivalence coded_task };
+    ghost laws = { same_partial_equivalence coded_work };
 
     fn eq(&self, other: &WorkRef) -> bool
-        ensures value { result ≡ same coded_task self.now other.now }
+        ensures value { result ≡ same coded_work self.now other.now }
         ensures exact { IsTrue result ↔ (self.now ≡ other.now) }
     {
         self.same(other)
@@ -23,16 +23,16 @@ impl PartialEq for WorkRef {
 }
 
 impl Eq for WorkRef {
-    ghost laws = { same_equivalence coded_task };
+    ghost laws = { same_equivalence coded_work };
 }
 
 impl PartialEq for Finding {
-    ghost eq = { same coded_outcome };
+    ghost eq = { same coded_finding };
 
-    ghost laws = { same_partial_equivalence coded_outcome };
+    ghost laws = { same_partial_equivalence coded_finding };
 
     fn eq(&self, other: &Finding) -> bool
-        ensures value { result ≡ same coded_outcome self.now other.now }
+        ensures value { result ≡ same coded_finding self.now other.now }
         ensures exact { IsTrue result ↔ (self.now ≡ other.now) }
     {
         self.is_same(other)
@@ -40,16 +40,16 @@ impl PartialEq for Finding {
 }
 
 impl Eq for Finding {
-    ghost laws = { same_equivalence coded_outcome };
+    ghost laws = { same_equivalence coded_finding };
 }
 
 impl PartialEq for FindingRef {
-    ghost eq = { same coded_outcome };
+    ghost eq = { same coded_finding };
 
-    ghost laws = { same_partial_equivalence coded_outcome };
+    ghost laws = { same_partial_equivalence coded_finding };
 
     fn eq(&self, other: &FindingRef) -> bool
-        ensures value { result ≡ same coded_outcome self.now other.now }
+        ensures value { result ≡ same coded_finding self.now other.now }
         ensures exact { IsTrue result ↔ (self.now ≡ other.now) }
     {
         self.is_same(other)
@@ -57,16 +57,16 @@ impl PartialEq for FindingRef {
 }
 
 impl Eq for FindingRef {
-    ghost laws = { same_equivalence coded_outcome };
+    ghost laws = { same_equivalence coded_finding };
 }
 
 impl PartialEq for Piece {
-    ghost eq = { same coded_portion };
+    ghost eq = { same coded_piece };
 
-    ghost laws = { same_partial_equivalence coded_portion };
+    ghost laws = { same_partial_equivalence coded_piece };
 
     fn eq(&self, other: &Piece) -> bool
-        ensures value { result ≡ same coded_portion self.now other.now }
+        ensures value { result ≡ same coded_piece self.now other.now }
         ensures exact { IsTrue result ↔ (self.now ≡ other.now) }
     {
         self.is_same(other)
@@ -74,16 +74,16 @@ impl PartialEq for Piece {
 }
 
 impl Eq for Piece {
-    ghost laws = { same_equivalence coded_portion };
+    ghost laws = { same_equivalence coded_piece };
 }
 
 impl PartialEq for PieceResult {
-    ghost eq = { same coded_part };
+    ghost eq = { same coded_piece_result };
 
-    ghost laws = { same_partial_equivalence coded_part };
+    ghost laws = { same_partial_equivalence coded_piece_result };
 
     fn eq(&self, other: &PieceResult) -> bool
-        ensures value { result ≡ same coded_part self.now other.now }
+        ensures value { result ≡ same coded_piece_result self.now other.now }
         ensures exact { IsTrue result ↔ (self.now ≡ other.now) }
     {
         self.is_same(other)
@@ -91,16 +91,16 @@ impl PartialEq for PieceResult {
 }
 
 impl Eq for PieceResult {
-    ghost laws = { same_equivalence coded_part };
+    ghost laws = { same_equivalence coded_piece_result };
 }
 
 impl PartialEq for Verdict {
-    ghost eq = { same coded_judged };
+    ghost eq = { same coded_verdict };
 
-    ghost laws = { same_partial_equivalence coded_judged };
+    ghost laws = { same_partial_equivalence coded_verdict };
 
     fn eq(&self, other: &Verdict) -> bool
-        ensures value { result ≡ same coded_judged self.now other.now }
+        ensures value { result ≡ same coded_verdict self.now other.now }
         ensures exact { IsTrue result ↔ (self.now ≡ other.now) }
     {
         self.is_same(other)
@@ -108,16 +108,16 @@ impl PartialEq for Verdict {
 }
 
 impl Eq for Verdict {
-    ghost laws = { same_equivalence coded_judged };
+    ghost laws = { same_equivalence coded_verdict };
 }
 
 impl PartialEq for VerdictRef {
-    ghost eq = { same coded_judged };
+    ghost eq = { same coded_verdict };
 
-    ghost laws = { same_partial_equivalence coded_judged };
+    ghost laws = { same_partial_equivalence coded_verdict };
 
     fn eq(&self, other: &VerdictRef) -> bool
-        ensures value { result ≡ same coded_judged self.now other.now }
+        ensures value { result ≡ same coded_verdict self.now other.now }
         ensures exact { IsTrue result ↔ (self.now ≡ other.now) }
     {
         self.is_same(other)
@@ -125,12 +125,12 @@ impl PartialEq for VerdictRef {
 }
 
 impl Eq for VerdictRef {
-    ghost laws = { same_equivalence coded_judged };
+    ghost laws = { same_equivalence coded_verdict };
 }
 
 impl Finding {
     /// Whether the values are equal.
-    #[tactic(auto, using(crate::specs::Same::outcome_exact))]
+    #[tactic(auto, using(crate::specs::Same::finding_exact))]
     pub(crate) fn is_same(&self, other: &Finding) -> bool
         ensures { IsTrue result ↔ (self.now ≡ other.now) }
     {
@@ -138,7 +138,7 @@ impl Finding {
     }
 
     fn has_parts_of(&self, other: &Finding) -> bool
-        ensures { result ≡ same_outcome self.now other.now }
+        ensures { result ≡ same_finding self.now other.now }
     {
         self.name() == other.name()
             && self.kind() == other.kind()

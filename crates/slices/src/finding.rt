@@ -2,9 +2,9 @@
 
 ghost use Rattle.std.specs.Prelude.{◌≡◌, IfOk};
 ghost use Rattle.conditions.specs.Conditions.{formula_of};
-ghost use Rattle.slices.specs.Counters.{outcome_of};
-ghost use Rattle.slices.specs.Outcomes.{is_ok};
-ghost use Rattle.slices.specs.Outcomes.{word};
+ghost use Rattle.slices.specs.Counters.{finding_of};
+ghost use Rattle.slices.specs.Findings.{is_ok};
+ghost use Rattle.slices.specs.Findings.{word};
 
 use crate::row::Row;
 use crate::work::WorkRef;
@@ -38,12 +38,12 @@ pub struct Finding {
 
 impl Model for Finding {
     ghost use Rattle.std.specs.Arc.{arc_value};
-    ghost use Rattle.slices.specs.Outcomes.{Outcome};
-    ghost use Rattle.slices.specs.Codes.{coded_outcome};
+    ghost use Rattle.slices.specs.Findings.{FindingValue};
+    ghost use Rattle.slices.specs.Codes.{coded_finding};
 
-    ghost Value = { Outcome };
+    ghost Value = { FindingValue };
 
-    ghost coded = { coded_outcome };
+    ghost coded = { coded_finding };
 
     ghost view = { λ v. record {
       name = v.work.test.name;
@@ -65,12 +65,12 @@ pub struct FindingRef {
 
 impl Model for FindingRef {
     ghost use Rattle.std.specs.Arc.{arc_value};
-    ghost use Rattle.slices.specs.Outcomes.{Outcome};
-    ghost use Rattle.slices.specs.Codes.{coded_outcome};
+    ghost use Rattle.slices.specs.Findings.{FindingValue};
+    ghost use Rattle.slices.specs.Codes.{coded_finding};
 
-    ghost Value = { Outcome };
+    ghost Value = { FindingValue };
 
-    ghost coded = { coded_outcome };
+    ghost coded = { coded_finding };
 
     ghost view = { λ f. arc_value f.finding };
 }
@@ -105,7 +105,7 @@ impl FindingRef {
 impl Finding {
     /// What is told by these totals over executions of a work's test.
     pub(crate) fn new(work: WorkRef, places: Vec<Place>, totals: Totals) -> Self
-        ensures { result ≡ outcome_of work.test places.items totals }
+        ensures { result ≡ finding_of work.test places.items totals }
     {
         Finding {
             work,

@@ -25,12 +25,12 @@ pub struct Piece {
 }
 
 impl Model for Piece {
-    ghost use Rattle.slices.specs.Codes.{coded_portion};
-    ghost use Rattle.slices.specs.Parts.{Portion, IsRange};
+    ghost use Rattle.slices.specs.Codes.{coded_piece};
+    ghost use Rattle.slices.specs.Parts.{PieceValue, IsRange};
 
-    ghost Value = { Portion };
+    ghost Value = { PieceValue };
 
-    ghost coded = { coded_portion };
+    ghost coded = { coded_piece };
 
     ghost view = { λ p. record { claim = p.claim; job = p.job; slice = p.slice; from = p.from; to = p.to; work = p.work } };
 
@@ -45,12 +45,12 @@ pub struct PieceResult {
 }
 
 impl Model for PieceResult {
-    ghost use Rattle.slices.specs.Codes.{coded_part};
-    ghost use Rattle.slices.specs.Parts.{Part, IsPart};
+    ghost use Rattle.slices.specs.Codes.{coded_piece_result};
+    ghost use Rattle.slices.specs.Parts.{PieceResultValue, IsPart};
 
-    ghost Value = { Part };
+    ghost Value = { PieceResultValue };
 
-    ghost coded = { coded_part };
+    ghost coded = { coded_piece_result };
 
     ghost view = { λ r. record { piece = r.piece; found = r.found } };
 

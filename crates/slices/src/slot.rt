@@ -10,7 +10,7 @@ use c11_threads::place_of;
 use candidates::write_value;
 use conditions::Place;
 use events::{EventId, Graph};
-use litmus_test::Test;
+use litmus_value::Test;
 use std::alloc::{AllocError, Global};
 
 /// Where a place's value stands: in the run of a thread, at the place of the register among its registers, or

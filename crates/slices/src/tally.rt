@@ -28,9 +28,9 @@ pub struct Tally {
 
 impl Model for Tally {
     ghost use Rattle.slices.specs.Codes.{coded_results};
-    ghost use Rattle.slices.specs.Tallies.{IsTally, Results};
+    ghost use Rattle.slices.specs.Tallies.{IsTally, TallyValue};
 
-    ghost Value = { Results };
+    ghost Value = { TallyValue };
 
     ghost coded = { coded_results };
 
@@ -110,7 +110,7 @@ impl Tally {
         requires { IsCover (test_size self.now.work.test) self.now.spans }
         ensures work { IfOk result (λ v. v.work ≡ self.now.work) }
         ensures version { IfOk result (λ v. v.version ≡ test_version) }
-        ensures right { IfOk result (λ v. IsVerdict v.work.test v.work.model.items v.outcome) }
+        ensures right { IfOk result (λ v. IsVerdict v.work.test v.work.model.items v.finding) }
     {
         let alloc = *self.spans.allocator();
         let found = FindingRef::new(alloc, self.finding(alloc)?)?;
@@ -143,7 +143,7 @@ impl Verdict {
         requires { (1 ≤ total) × (total ≤ 256) }
         ensures work { IfOk result (λ v. v.work ≡ work) }
         ensures version { IfOk result (λ v. v.version ≡ test_version) }
-        ensures right { IfOk result (λ v. IsVerdict v.work.test v.work.model.items v.outcome) }
+        ensures right { IfOk result (λ v. IsVerdict v.work.test v.work.model.items v.finding) }
     {
         let space = space_of(alloc, work.work())?;
         let mut tally = Tally::new(alloc, work.share()?)?;

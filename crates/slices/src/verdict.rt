@@ -1,8 +1,8 @@
 //! Verdicts.
 
 ghost use Rattle.std.specs.Prelude.{◌≡◌, IfOk};
-ghost use Rattle.slices.specs.Outcomes.{is_ok};
-ghost use Rattle.slices.specs.Outcomes.{word};
+ghost use Rattle.slices.specs.Findings.{is_ok};
+ghost use Rattle.slices.specs.Findings.{word};
 ghost use Rattle.slices.specs.Verdicts.{IsVerdict};
 
 use crate::finding::{Finding, FindingRef};
@@ -24,15 +24,15 @@ pub struct Verdict {
 }
 
 impl Model for Verdict {
-    ghost use Rattle.slices.specs.Codes.{coded_judged};
-    ghost use Rattle.slices.specs.Judgements.{Judged};
+    ghost use Rattle.slices.specs.Codes.{coded_verdict};
+    ghost use Rattle.slices.specs.VerdictValues.{VerdictValue};
     ghost use Rattle.slices.specs.Verdicts.{IsVerdict};
 
-    ghost Value = { Judged };
+    ghost Value = { VerdictValue };
 
-    ghost coded = { coded_judged };
+    ghost coded = { coded_verdict };
 
-    ghost view = { λ v. record { work = v.work; version = v.version; outcome = v.found } };
+    ghost view = { λ v. record { work = v.work; version = v.version; finding = v.found } };
 
     ghost invariant = { λ v. IsVerdict v.work.test v.work.model.items v.found };
 }
@@ -45,12 +45,12 @@ pub struct VerdictRef {
 
 impl Model for VerdictRef {
     ghost use Rattle.std.specs.Arc.{arc_value};
-    ghost use Rattle.slices.specs.Codes.{coded_judged};
-    ghost use Rattle.slices.specs.Judgements.{Judged};
+    ghost use Rattle.slices.specs.Codes.{coded_verdict};
+    ghost use Rattle.slices.specs.VerdictValues.{VerdictValue};
 
-    ghost Value = { Judged };
+    ghost Value = { VerdictValue };
 
-    ghost coded = { coded_judged };
+    ghost coded = { coded_verdict };
 
     ghost view = { λ v. arc_value v.verdict };
 }
@@ -85,7 +85,7 @@ impl VerdictRef {
 impl Verdict {
     pub(crate) fn new(work: WorkRef, version: u32, found: FindingRef) -> Self
         requires { IsVerdict work.test work.model.items found }
-        ensures { result ≡ record { work = work; version = version; outcome = found } }
+        ensures { result ≡ record { work = work; version = version; finding = found } }
     {
         Verdict {
             work,
@@ -96,7 +96,7 @@ impl Verdict {
 
     /// The name of the test.
     pub fn name(&self) -> &Name
-        ensures name { result.now ≡ self.now.outcome.name }
+        ensures name { result.now ≡ self.now.finding.name }
         ensures test { result.now ≡ self.now.work.test.name }
     {
         self.work.work().test().name()
@@ -125,50 +125,50 @@ impl Verdict {
 
     /// What is found over all allowed executions, each counted once.
     pub fn finding(&self) -> &Finding
-        ensures outcome { result.now ≡ self.now.outcome }
-        ensures right { IsVerdict self.now.work.test self.now.work.model.items self.now.outcome }
+        ensures finding { result.now ≡ self.now.finding }
+        ensures right { IsVerdict self.now.work.test self.now.work.model.items self.now.finding }
     {
         self.found.finding()
     }
 
     /// How many executions have the proposition.
     pub fn positive(&self) -> u64
-        ensures { result ≡ self.now.outcome.positive }
+        ensures { result ≡ self.now.finding.positive }
     {
         self.found.finding().positive()
     }
 
     /// How many executions don't have it.
     pub fn negative(&self) -> u64
-        ensures { result ≡ self.now.outcome.negative }
+        ensures { result ≡ self.now.finding.negative }
     {
         self.found.finding().negative()
     }
 
     /// The final states, once each, in order.
     pub fn states(&self) -> &BTreeSet<Row>
-        ensures { result.now.keys ≡ self.now.outcome.states }
+        ensures { result.now.keys ≡ self.now.finding.states }
     {
         self.found.finding().states()
     }
 
     /// The names of the flags that were raised, once each, in order of their bytes.
     pub fn flags(&self) -> &[Name]
-        ensures { result.now ≡ self.now.outcome.flags }
+        ensures { result.now ≡ self.now.finding.flags }
     {
         self.found.finding().flags()
     }
 
     /// Whether the answer to the test's question is yes.
     pub fn ok(&self) -> bool
-        ensures { result ≡ is_ok self.now.outcome }
+        ensures { result ≡ is_ok self.now.finding }
     {
         self.found.finding().ok()
     }
 
     /// How often the proposition was seen: `Never`, `Always` or `Sometimes`.
     pub fn word(&self) -> &str
-        ensures { result.now ≡ word self.now.outcome }
+        ensures { result.now ≡ word self.now.finding }
     {
         self.found.finding().word()
     }

@@ -6,7 +6,7 @@ ghost use Rattle.slices.specs.Parts.{IsAdmitted, test_size};
 
 use candidates::{Space, SpaceFault};
 use cat_model::Model;
-use litmus_test::Test;
+use litmus_value::Test;
 use std::alloc::{AllocError, Global};
 use std::sync::Arc;
 
@@ -39,12 +39,12 @@ pub struct Work {
 impl std::marker::Model for Work {
     ghost use Rattle.std.specs.Prelude.{◌≡◌};
     ghost use Rattle.slices.specs.Parts.{IsAdmitted, test_size};
-    ghost use Rattle.slices.specs.Works.{Task};
-    ghost use Rattle.slices.specs.Codes.{coded_task};
+    ghost use Rattle.slices.specs.Works.{WorkValue};
+    ghost use Rattle.slices.specs.Codes.{coded_work};
 
-    ghost Value = { Task };
+    ghost Value = { WorkValue };
 
-    ghost coded = { coded_task };
+    ghost coded = { coded_work };
 
     ghost view = { λ w. record { test = w.test; model = w.model } };
 
@@ -59,12 +59,12 @@ pub struct WorkRef {
 
 impl std::marker::Model for WorkRef {
     ghost use Rattle.std.specs.Arc.{arc_value};
-    ghost use Rattle.slices.specs.Works.{Task};
-    ghost use Rattle.slices.specs.Codes.{coded_task};
+    ghost use Rattle.slices.specs.Works.{WorkValue};
+    ghost use Rattle.slices.specs.Codes.{coded_work};
 
-    ghost Value = { Task };
+    ghost Value = { WorkValue };
 
-    ghost coded = { coded_task };
+    ghost coded = { coded_work };
 
     ghost view = { λ w. arc_value w.work };
 }

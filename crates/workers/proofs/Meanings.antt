@@ -4,7 +4,7 @@ use Rattle.std.specs.Prelude.{if◌then◌else◌}
 use Rattle.std.proofs.lemmas.Bool.Decides.{nat_tests}
 use Rattle.journal.specs.declared.records.Said.{Said}
 use Rattle.journal.specs.declared.records.Said.TheVariants.{Claim, Return, GiveBack}
-use Rattle.slices.specs.Parts.{Portion}
+use Rattle.slices.specs.Parts.{PieceValue}
 use Rattle.journal.specs.declared.records.Refusal.{Refusal}
 use Rattle.journal.specs.declared.records.Refusal.TheVariants.{Closed, ClaimsSpent}
 use Rattle.journal.specs.declared.records.Returned.{Returned}
@@ -36,16 +36,16 @@ passed form lost refused lines stage false h = absurd (no_wrong form lost refuse
 number : (a b : ℕ) → (a == b) ≡ true → a ≡ b
 number a b h = grind (arith, nat_tests)
 
-is_for : (form : Form) (piece : Portion) (lost refused : ℕ) (said : Said) (reply : Reply) (lines : List Line) → Fine form lost refused (after form (Holds piece) said reply) lines → IsFor piece said
+is_for : (form : Form) (piece : PieceValue) (lost refused : ℕ) (said : Said) (reply : Reply) (lines : List Line) → Fine form lost refused (after form (Holds piece) said reply) lines → IsFor piece said
 is_for form piece lost refused (Return r) reply lines h = number _ _ (passed form lost refused lines (returned reply) (r.claim == piece.claim) h).0
 is_for form piece lost refused (GiveBack n) reply lines h = number _ _ (passed form lost refused lines Ended (n == piece.claim) h).0
 is_for form piece lost refused said reply lines h = absurd (no_wrong form lost refused lines h)
 
-followed_by : (form : Form) (piece : Portion) (lost refused : ℕ) (lines : List Line) → Fine form lost refused (Holds piece) lines → FollowedBy refused piece lines
+followed_by : (form : Form) (piece : PieceValue) (lost refused : ℕ) (lines : List Line) → Fine form lost refused (Holds piece) lines → FollowedBy refused piece lines
 followed_by form piece lost refused [] h = omega (arith, h)
 followed_by form piece lost refused (x ∷ xs) h = is_for form piece lost refused x.said x.reply xs h
 
-given_then : (form : Form) (stage : Stage) (piece : Portion) (lost refused : ℕ) (lines : List Line) → Fine form lost refused (after form stage Claim (Piece piece)) lines → FollowedBy refused piece lines
+given_then : (form : Form) (stage : Stage) (piece : PieceValue) (lost refused : ℕ) (lines : List Line) → Fine form lost refused (after form stage Claim (Piece piece)) lines → FollowedBy refused piece lines
 given_then form Free piece lost refused lines h = followed_by form piece lost refused lines h
 given_then form (Holds other) piece lost refused lines h = absurd (no_wrong form lost refused lines h)
 given_then form Ended piece lost refused lines h = absurd (no_wrong form lost refused lines h)

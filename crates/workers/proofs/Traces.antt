@@ -6,7 +6,7 @@ use Rattle.std.proofs.lemmas.Option.{slice_get-get_or}
 use Rattle.std.proofs.Math.Seq.{get_or-append_seam}
 use Rattle.journal.specs.declared.records.Said.{Said}
 use Rattle.journal.specs.declared.records.Said.TheVariants.{Claim}
-use Rattle.slices.specs.Parts.{Portion}
+use Rattle.slices.specs.Parts.{PieceValue}
 use Rattle.journal.specs.declared.records.Reply.{Reply}
 use Rattle.journal.specs.declared.records.Reply.TheVariants.{Piece}
 use Rattle.journal.specs.Lines.{Line}
@@ -50,15 +50,15 @@ last_piece-push xs x =
     let here : slice_get (xs ++ x ∷ []) (length xs) ≡ Some x = slice_get-get_or (xs ++ x ∷ []) (length xs) x within ∙ ap Some (get_or-append_seam xs x [] x) in
     ap (λ (i : ℕ). option_and_then (λ (line : Line). piece_of line.reply) (slice_get (xs ++ x ∷ []) i)) at ∙ ap (option_and_then (λ (line : Line). piece_of line.reply)) here
 
-given_of : (reply : Reply) → Held ≡ claimed_of reply → (piece : Portion) × (reply ≡ Piece piece)
+given_of : (reply : Reply) → Held ≡ claimed_of reply → (piece : PieceValue) × (reply ≡ Piece piece)
 given_of (Piece piece) h = (piece, refl)
 given_of reply h = absurd (let no : ⊥ = cc in no)
 
-holds : (form : Form) (piece : Portion) (line : Line) (added : List Line) → line.said ≡ Claim → line.reply ≡ Piece piece → stage_after form Free (line ∷ added) ≡ stage_after form (Holds piece) added
+holds : (form : Form) (piece : PieceValue) (line : Line) (added : List Line) → line.said ≡ Claim → line.reply ≡ Piece piece → stage_after form Free (line ∷ added) ≡ stage_after form (Holds piece) added
 holds form piece line added said reply =
     ap (λ (s : Said). stage_after form (after form Free s line.reply) added) said ∙ ap (λ (r : Reply). stage_after form (after form Free Claim r) added) reply
 
-goes-claim : (form : Form) (piece : Portion) (line : Line) (added : List Line) (n : ℕ) → line.said ≡ Claim → line.reply ≡ Piece piece → GoesOn form (Holds piece) n added → GoesOn form Free n (line ∷ added)
+goes-claim : (form : Form) (piece : PieceValue) (line : Line) (added : List Line) (n : ℕ) → line.said ≡ Claim → line.reply ≡ Piece piece → GoesOn form (Holds piece) n added → GoesOn form Free n (line ∷ added)
 goes-claim form piece line added n said reply goes =
     record {
       free = holds form piece line added said reply ∙ goes.free;
@@ -67,7 +67,7 @@ goes-claim form piece line added n said reply goes =
       none = given_back-claim line added said ∙ goes.none;
     }
 
-work-claim : (form : Form) (piece : Portion) (line : Line) (added : List Line) (counts : Counts) → line.said ≡ Claim → line.reply ≡ Piece piece → IsWorkFrom form (Holds piece) counts added → IsWorkFrom form Free counts (line ∷ added)
+work-claim : (form : Form) (piece : PieceValue) (line : Line) (added : List Line) (counts : Counts) → line.said ≡ Claim → line.reply ≡ Piece piece → IsWorkFrom form (Holds piece) counts added → IsWorkFrom form Free counts (line ∷ added)
 work-claim form piece line added counts said reply work =
     let r : returns (line ∷ added) ≡ returns added = returns-claim line added said in
     let least : returns added ≤ counts.evaluated = work.least in
@@ -79,12 +79,12 @@ work-claim form piece line added counts said reply work =
       back = work.back ∙ sym (given_back-claim line added said);
     }
 
-tells-claim : (form : Form) (piece : Portion) (line : Line) (added : List Line) (turn : Turn) → line.said ≡ Claim → line.reply ≡ Piece piece → Tells form (Holds piece) turn added → Tells form Free turn (line ∷ added)
+tells-claim : (form : Form) (piece : PieceValue) (line : Line) (added : List Line) (turn : Turn) → line.said ≡ Claim → line.reply ≡ Piece piece → Tells form (Holds piece) turn added → Tells form Free turn (line ∷ added)
 tells-claim form piece line added Waited said reply t = (goes-claim form piece line added 0 said reply t.0, omega arith)
 tells-claim form piece line added Returned said reply t = (goes-claim form piece line added 1 said reply t.0, omega arith)
 tells-claim form piece line added (Ended counts) said reply t = (work-claim form piece line added counts said reply t.0, t.1)
 
-same_piece : (a b : Portion) → Some a ≡ Some b → a ≡ b
+same_piece : (a b : PieceValue) → Some a ≡ Some b → a ≡ b
 same_piece a b e = cc
 
 pub held-turn : (form : Form) (before mid now : PassView) (turn : Turn) → Replied before mid Claim (λ (reply : Reply). Held ≡ claimed_of reply) → Settles mid now turn → IsTurn form Free before now turn

@@ -1,7 +1,7 @@
 -- What a call adds to a pass, and what a worker reads off its reply.
 use Rattle.std.specs.Prelude.{◌≡◌, ◌-◌, Bool, true, false, List, [], ◌∷◌, ◌++◌, length, Option, Some, None, slice_get, option_and_then}
 use Rattle.journal.specs.declared.records.Said.{Said}
-use Rattle.slices.specs.Parts.{Portion}
+use Rattle.slices.specs.Parts.{PieceValue}
 use Rattle.journal.specs.declared.records.Refusal.TheVariants.{Closed}
 use Rattle.journal.specs.declared.records.Reply.{Reply}
 use Rattle.journal.specs.declared.records.Reply.TheVariants.{Piece, Nothing, Done, Refused}
@@ -32,10 +32,10 @@ abbrev pub is_done : Reply → Bool
 is_done Done = true
 is_done reply = false
 
-abbrev pub piece_of : Reply → Option Portion
+abbrev pub piece_of : Reply → Option PieceValue
 piece_of (Piece piece) = Some piece
 piece_of reply = None
 
 -- the piece that the last receipt gave
-abbrev pub last_piece : List Line → Option Portion
+abbrev pub last_piece : List Line → Option PieceValue
 last_piece lines = option_and_then (λ line. piece_of line.reply) (slice_get lines (length lines - 1))

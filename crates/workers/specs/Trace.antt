@@ -2,7 +2,7 @@
 use Rattle.std.specs.Prelude.{◌≡◌, ℕ, ◌+◌, ◌-◌, ◌≤◌, ◌&&◌, ◌==◌, Bool, true, false, List, [], ◌∷◌, ◌++◌, count_by, if◌then◌else◌}
 use Rattle.journal.specs.declared.records.Said.{Said}
 use Rattle.journal.specs.declared.records.Said.TheVariants.{Claim, Return, GiveBack}
-use Rattle.slices.specs.Parts.{Portion}
+use Rattle.slices.specs.Parts.{PieceValue}
 use Rattle.journal.specs.declared.records.Refusal.{Refusal}
 use Rattle.journal.specs.declared.records.Refusal.TheVariants.{Closed, ClaimsSpent}
 use Rattle.journal.specs.declared.records.Reply.{Reply}
@@ -17,7 +17,7 @@ use Rattle.workers.specs.declared.working.Form.TheVariants.{UntilIdle, UntilClos
 -- where a worker stands: it may claim, it owes a return or a give-back of this piece, it has ended, or no worker comes here
 pub data Stage : Type 0 where
   Free : Stage
-  Holds : Portion → Stage
+  Holds : PieceValue → Stage
   Ended : Stage
   Wrong : Stage
 

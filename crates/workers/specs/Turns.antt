@@ -1,6 +1,6 @@
 -- What one turn of a worker adds.
 use Rattle.std.specs.Prelude.{◌≡◌, ℕ, ◌<◌, ◌≤◌, List, ◌++◌, length, Some}
-use Rattle.slices.specs.Parts.{Portion}
+use Rattle.slices.specs.Parts.{PieceValue}
 use Rattle.journal.specs.Lines.{Line}
 use Rattle.sessions.specs.Views.{PassView}
 use Rattle.workers.specs.Replies.{last_piece}
@@ -29,7 +29,7 @@ pub record IsTurn (form : Form) (stage : Stage) (before now : PassView) (turn : 
 
 -- those that follow the receipt of a piece
 pub record Settles (before now : PassView) (turn : Turn) : Type 0 where
-  pub piece : Portion
+  pub piece : PieceValue
   pub given : last_piece before.receipts ≡ Some piece
   pub turns : (form : Form) → IsTurn form (Holds piece) before now turn
 

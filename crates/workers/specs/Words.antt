@@ -2,7 +2,7 @@
 use Rattle.std.specs.Prelude.{◌≡◌, ℕ, ◌<◌, true, List, [], ◌∷◌}
 use Rattle.journal.specs.declared.records.Said.{Said}
 use Rattle.journal.specs.declared.records.Said.TheVariants.{Claim, Return, GiveBack}
-use Rattle.slices.specs.Parts.{Portion}
+use Rattle.slices.specs.Parts.{PieceValue}
 use Rattle.journal.specs.declared.records.Refusal.{Refusal}
 use Rattle.journal.specs.declared.records.Refusal.TheVariants.{Closed, ClaimsSpent}
 use Rattle.journal.specs.declared.records.Reply.{Reply}
@@ -13,19 +13,19 @@ use Rattle.workers.specs.declared.working.Form.{Form}
 use Rattle.workers.specs.declared.working.Form.TheVariants.{UntilIdle}
 
 -- a return or a give-back of this piece's claim
-abbrev pub IsFor : Portion → Said → Type 0
+abbrev pub IsFor : PieceValue → Said → Type 0
 IsFor piece (Return r) = r.claim ≡ piece.claim
 IsFor piece (GiveBack number) = number ≡ piece.claim
 IsFor piece said = ⊥
 
-abbrev pub FollowedBy : ℕ → Portion → List Line → Type 0
+abbrev pub FollowedBy : ℕ → PieceValue → List Line → Type 0
 FollowedBy refused piece [] = 0 < refused
 FollowedBy refused piece (line ∷ lines) = IsFor piece line.said
 
 -- each claim that was given is followed by one return or give-back of it, except that the last may lack it where a call was refused
 abbrev pub EachFollowed : ℕ → List Line → Type 0
 EachFollowed refused [] = Unit {0}
-EachFollowed refused (line ∷ lines) = ((piece : Portion) → line.said ≡ Claim → line.reply ≡ Piece piece → FollowedBy refused piece lines) × EachFollowed refused lines
+EachFollowed refused (line ∷ lines) = ((piece : PieceValue) → line.said ≡ Claim → line.reply ≡ Piece piece → FollowedBy refused piece lines) × EachFollowed refused lines
 
 -- a give-back is the last
 abbrev pub BackIsLast : List Line → Type 0

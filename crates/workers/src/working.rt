@@ -1,7 +1,7 @@
 //! What one worker does.
 
 ghost use Rattle.std.specs.Prelude.{◌≡◌, ◌≤◌, Some, IsSome, IfOk};
-ghost use Rattle.slices.specs.Parts.{Portion};
+ghost use Rattle.slices.specs.Parts.{PieceValue};
 ghost use Rattle.workers.specs.Replies.{last_piece};
 ghost use Rattle.workers.specs.Trace.{Stage, Worked};
 ghost use Rattle.workers.specs.Turns.{IsTurn, Settles};
@@ -132,7 +132,7 @@ fn evaluated<L: Ledger, G: Gate, R: Wait>(
     pass: &Pass<L>,
 ) -> (u32, Result<PieceResult, AllocError>)
     requires { IsSome (last_piece pass.now.receipts) }
-    ensures { (piece : Portion) × (last_piece pass.now.receipts ≡ Some piece) × (result.0 ≡ piece.claim) × IfOk result.1 (λ f. f.piece.claim ≡ piece.claim) }
+    ensures { (piece : PieceValue) × (last_piece pass.now.receipts ≡ Some piece) × (result.0 ≡ piece.claim) × IfOk result.1 (λ f. f.piece.claim ≡ piece.claim) }
 {
     match held(pass) {
         Some(piece) => {
@@ -155,7 +155,7 @@ fn give_up<L: Ledger, C: Calls<L>, R: Wait>(
 ) -> Turn
     requires shares { pass.old.parts ≡ 1 }
     requires few { refused ≤ 1 }
-    requires held { (piece : Portion) × (last_piece pass.old.receipts ≡ Some piece) × (number ≡ piece.claim) }
+    requires held { (piece : PieceValue) × (last_piece pass.old.receipts ≡ Some piece) × (number ≡ piece.claim) }
     ensures { Settles pass.old pass.new result }
 {
     match calls.give_back(rt, pass, number) {

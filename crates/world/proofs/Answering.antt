@@ -6,10 +6,10 @@ use Rattle.std.proofs.lemmas.Option.{slice_get_within, slice_get-get_or}
 use Rattle.std.specs.List.{list_all}
 use Rattle.listings.specs.Lists.{IsIn, NoRepeats}
 use Rattle.listings.proofs.Listings.{in_map, map_in}
-use Rattle.slices.specs.Judgements.{Judged}
-use Rattle.slices.specs.Parts.{Part, IsPart}
+use Rattle.slices.specs.VerdictValues.{VerdictValue}
+use Rattle.slices.specs.Parts.{PieceResultValue, IsPart}
 use Rattle.slices.specs.Verdicts.{IsVerdict}
-use Rattle.slices.specs.Works.{Task}
+use Rattle.slices.specs.Works.{WorkValue}
 use Rattle.book.specs.Jobs.{Job, is_done}
 use Rattle.book.specs.Step.{HasRange}
 use Rattle.book.specs.declared.slice.Slice.{Slice}
@@ -21,10 +21,10 @@ use Rattle.world.specs.World.{Result, IsPutTogether, results_of, slot}
 use Rattle.world.proofs.Holds.{Holds}
 use Rattle.world.proofs.Told.{merged_verdict}
 
-abbrev slice_no : Part → ℕ
+abbrev slice_no : PieceResultValue → ℕ
 slice_no r = r.piece.slice
 
-abbrev result : ℕ → Part → Result
+abbrev result : ℕ → PieceResultValue → Result
 result id part = record { job = id; part = part }
 
 mine : (r : Result) (rs : List Result) (id : ℕ) → r.job ≡ id → results_of (r ∷ rs) id ≡ r.part ∷ results_of rs id
@@ -39,21 +39,21 @@ others' r rs id e = elim (eqb_tells r.job id) [
   | inr q ↦ ap (λ b. if b then r.part ∷ results_of rs id else results_of rs id) q.0
 ]
 
-pub in_results : (rs : List Result) (id : ℕ) (p : Part) → IsIn p (results_of rs id) → IsIn (result id p) rs
+pub in_results : (rs : List Result) (id : ℕ) (p : PieceResultValue) → IsIn p (results_of rs id) → IsIn (result id p) rs
 in_results [] id p h = absurd h
 in_results (r ∷ rs) id p h = elim (eqb_tells r.job id) [
-  | inl e ↦ (let P : List Part → Type 0 = λ l. IsIn p l in
+  | inl e ↦ (let P : List PieceResultValue → Type 0 = λ l. IsIn p l in
       elim (subst P (mine r rs id e.1) h) [
         | inl q ↦ inl (ap (λ n. record { job = n; part = p }) (sym e.1) ∙ ap (result r.job) q)
         | inr q ↦ inr (in_results rs id p q)
       ])
-  | inr e ↦ (let P : List Part → Type 0 = λ l. IsIn p l in inr (in_results rs id p (subst P (others' r rs id e.1) h)))
+  | inr e ↦ (let P : List PieceResultValue → Type 0 = λ l. IsIn p l in inr (in_results rs id p (subst P (others' r rs id e.1) h)))
 ]
 
 in_slices : (rs : List Result) (id i : ℕ) → IsIn (id, i) (map slot rs) → IsIn i (map slice_no (results_of rs id))
 in_slices [] id i h = absurd h
 in_slices (r ∷ rs) id i h =
-    let P : List Part → Type 0 = λ l. IsIn i (map slice_no l) in
+    let P : List PieceResultValue → Type 0 = λ l. IsIn i (map slice_no l) in
     elim (eqb_tells r.job id) [
       | inl e ↦ subst P (sym (mine r rs id e.1)) (elim h [ inl q ↦ inl (ap (λ k. k.1) q) | inr q ↦ inr (in_slices rs id i q) ])
       | inr e ↦ subst P (sym (others' r rs id e.1)) (elim h [ inl q ↦ absurd (e.1 (sym (ap (λ k. k.0) q))) | inr q ↦ in_slices rs id i q ])
@@ -68,7 +68,7 @@ slices_in rs id i h =
 once_slices : (rs : List Result) (id : ℕ) → NoRepeats (map slot rs) → NoRepeats (map slice_no (results_of rs id))
 once_slices [] id once = tt
 once_slices (r ∷ rs) id once =
-    let P : List Part → Type 0 = λ l. NoRepeats (map slice_no l) in
+    let P : List PieceResultValue → Type 0 = λ l. NoRepeats (map slice_no l) in
     let Q : ℕ → Type 0 = λ n. IsIn (n, r.part.piece.slice) (map slot rs) in
     elim (eqb_tells r.job id) [
       | inl e ↦ subst P (sym (mine r rs id e.1)) ((λ h. once.0 (subst Q (sym e.1) (slices_in rs id r.part.piece.slice h))), once_slices rs id once.1)
@@ -101,7 +101,7 @@ answering js live last rs id job h e done = record {
       subst G (same_job f.0 job (job_of js id) f.1 e) f.4);
 }
 
-pub verdict_right : (js : List Job) (live : List Live) (last : ℕ) (rs : List Result) (id : ℕ) (v : Judged) (job : Job) → Holds js live last rs → job_of js id ≡ Some job → IsPutTogether rs id v (Some job) → IsVerdict v.work.test v.work.model.items v.outcome
+pub verdict_right : (js : List Job) (live : List Live) (last : ℕ) (rs : List Result) (id : ℕ) (v : VerdictValue) (job : Job) → Holds js live last rs → job_of js id ≡ Some job → IsPutTogether rs id v (Some job) → IsVerdict v.work.test v.work.model.items v.finding
 verdict_right js live last rs id v job h e p =
-    let P : Task → Type 0 = λ w. IsVerdict w.test w.model.items v.outcome in
-    subst P (sym p.1) (merged_verdict job.work job.slices (results_of rs id) v.outcome (h.covers id job e) (answering js live last rs id job h e p.0) p.3)
+    let P : WorkValue → Type 0 = λ w. IsVerdict w.test w.model.items v.finding in
+    subst P (sym p.1) (merged_verdict job.work job.slices (results_of rs id) v.finding (h.covers id job e) (answering js live last rs id job h e p.0) p.3)

@@ -5,8 +5,8 @@ use Rattle.candidates.specs.Candidates.{no_execution}
 use Rattle.cat_eval.specs.Judging.{Allowed}
 use Rattle.conditions.specs.States.{AreObserved}
 use Rattle.slices.specs.Verdicts.{Tells}
-use Rattle.slices.specs.Parts.{AreThose, at_end, taken, Part, Portion, IsPart}
-use Rattle.slices.specs.Outcomes.{Outcome}
+use Rattle.slices.specs.Parts.{AreThose, at_end, taken, PieceResultValue, PieceValue, IsPart}
+use Rattle.slices.specs.Findings.{FindingValue}
 use Rattle.cat_model.specs.Files.{entry_of}
 use Rattle.book.specs.Step.{elsewhere, others, Step}
 use Rattle.book.specs.Workbench.{Workbench}
@@ -27,10 +27,10 @@ use Rattle.world.specs.World.{World, Result, left, with_taken, claimed_job, with
 abbrev called : World → ℕ → ℕ → Said → Reply → Workbench → World
 called w actor seat said reply s = record w { book = record { state = s; results = left said reply w.book.results }; journal = with_line w.journal seat said reply; pieces = with_piece actor reply w.pieces }
 
-abbrev given : World → ℕ → Part → Reply → Workbench → World
+abbrev given : World → ℕ → PieceResultValue → Reply → Workbench → World
 given w seat r reply s = record w { book = record { state = s; results = with_taken reply (claimed_job w.book.state r.piece.claim seat) r w.book.results }; journal = with_line w.journal seat (Return (returned r)) reply }
 
-abbrev found : World → ℕ → Portion → Outcome → World
+abbrev found : World → ℕ → PieceValue → FindingValue → World
 found w actor p q = record w { parts = (actor, record { piece = p; found = q }) ∷ w.parts }
 
 abbrev after_loss : World → ℕ → World
@@ -87,25 +87,25 @@ lost_worker = (
   refl,
 )
 
-abbrev found_one : Outcome → World
+abbrev found_one : FindingValue → World
 found_one q = found first 1 (piece 1) q
 
-abbrev let_go : Outcome → World
+abbrev let_go : FindingValue → World
 let_go q = called (found_one q) 0 0 (Release 1) (Freed 1) (bench loaded (one false) [] 1)
 
-abbrev claimed_again : Outcome → World
+abbrev claimed_again : FindingValue → World
 claimed_again q = called (let_go q) 2 2 Claim (Piece (piece 2)) (bench loaded (one false) (claim 2 2 ∷ []) 2)
 
-abbrev late : Outcome → World
+abbrev late : FindingValue → World
 late q = given (claimed_again q) 1 (part 1 q) (Refused (NoClaim 1)) (bench loaded (one false) (claim 2 2 ∷ []) 2)
 
-abbrev found_again : Outcome → World
+abbrev found_again : FindingValue → World
 found_again q = found (late q) 2 (piece 2) q
 
-abbrev returned_one : Outcome → World
+abbrev returned_one : FindingValue → World
 returned_one q = given (found_again q) 2 (part 2 q) (Taken 1 1) (bench loaded (one true) [] 2)
 
-abbrev returned_twice : Outcome → World
+abbrev returned_twice : FindingValue → World
 returned_twice q = given (returned_one q) 2 (part 2 q) (Refused (NoClaim 2)) (bench loaded (one true) [] 2)
 
 pub late_return : LateReturn
@@ -151,16 +151,16 @@ late_return q right = (
   refl,
 )
 
-abbrev away : Outcome → World
+abbrev away : FindingValue → World
 away q = called (found_one q) 0 0 (DropTest name) (Version name 2) (bench dropped (one false) (claim 1 1 ∷ []) 1)
 
-abbrev no_more : Outcome → World
+abbrev no_more : FindingValue → World
 no_more q = called (away q) 2 2 Claim Nothing (bench dropped (one false) (claim 1 1 ∷ []) 1)
 
-abbrev refused : Outcome → World
+abbrev refused : FindingValue → World
 refused q = given (no_more q) 1 (part 1 q) (Refused (Replaced (record { kind = Test; name = name; version = 2 }))) (bench dropped (one false) [] 1)
 
-abbrev refused_again : Outcome → World
+abbrev refused_again : FindingValue → World
 refused_again q = given (refused q) 1 (part 1 q) (Refused (NoClaim 1)) (bench dropped (one false) [] 1)
 
 pub replaced_return : ReplacedReturn
@@ -240,14 +240,14 @@ none_part : IsPart test [] 1 1 none
 none_part = let here : AreThose (Allowed []) [] [] = at_end in ([], here, none_told)
 
 -- only the first has a state, and none has a flag
-in_first : (s : List ℕ) (w : Outcome) → IsIn w (tiny ∷ none ∷ []) → IsIn s w.states → IsIn s tiny.states
-in_first s w (inl e) p = let P : Outcome → Type 0 = λ v. IsIn s v.states in subst P e p
-in_first s w (inr (inl e)) p = let P : Outcome → Type 0 = λ v. IsIn s v.states in absurd (subst P e p)
+in_first : (s : List ℕ) (w : FindingValue) → IsIn w (tiny ∷ none ∷ []) → IsIn s w.states → IsIn s tiny.states
+in_first s w (inl e) p = let P : FindingValue → Type 0 = λ v. IsIn s v.states in subst P e p
+in_first s w (inr (inl e)) p = let P : FindingValue → Type 0 = λ v. IsIn s v.states in absurd (subst P e p)
 in_first s w (inr (inr out)) p = absurd out
 
-no_flag : (x : List ℕ) (w : Outcome) → IsIn w (tiny ∷ none ∷ []) → IsIn x w.flags → ⊥
-no_flag x w (inl e) p = let P : Outcome → Type 0 = λ v. IsIn x v.flags in subst P e p
-no_flag x w (inr (inl e)) p = let P : Outcome → Type 0 = λ v. IsIn x v.flags in subst P e p
+no_flag : (x : List ℕ) (w : FindingValue) → IsIn w (tiny ∷ none ∷ []) → IsIn x w.flags → ⊥
+no_flag x w (inl e) p = let P : FindingValue → Type 0 = λ v. IsIn x v.flags in subst P e p
+no_flag x w (inr (inl e)) p = let P : FindingValue → Type 0 = λ v. IsIn x v.flags in subst P e p
 no_flag x w (inr (inr out)) p = out
 
 both_merged : IsMerged test (tiny ∷ none ∷ []) tiny
@@ -266,7 +266,7 @@ both_merged = record {
 
 -- two workers, of which one is lost
 
-abbrev made : Workbench → List Result → List Line → List (ℕ × Portion) → List (ℕ × Part) → World
+abbrev made : Workbench → List Result → List Line → List (ℕ × PieceValue) → List (ℕ × PieceResultValue) → World
 made s results journal pieces parts = record { limits = s.limits; book = record { state = s; results = results }; journal = journal; pieces = pieces; parts = parts }
 
 abbrev line : ℕ → ℕ → Said → Reply → Line
@@ -294,7 +294,7 @@ abbrev l6 : Line
 l6 = line 6 2 (Return (returned (part 3 tiny))) (Taken 2 2)
 
 abbrev l7 : Line
-l7 = line 7 0 (Poll 1) (Verdict (record { work = task; version = 1; outcome = tiny }))
+l7 = line 7 0 (Poll 1) (Verdict (record { work = task; version = 1; finding = tiny }))
 
 abbrev w1 : World
 w1 = made (bench loaded (two false false) (claim 1 1 ∷ []) 1) ([]) (l0 ∷ []) ((1, piece 1) ∷ []) ([])

@@ -5,8 +5,8 @@ use Rattle.std.specs.List.{list_all}
 use Rattle.std.proofs.lemmas.Bool.Decides.{eqb_tells}
 use Rattle.listings.specs.Lists.{IsIn, NoRepeats, Lists}
 use Rattle.listings.proofs.Listings.{in_append, in_map, map_in}
-use Rattle.slices.specs.Parts.{Part, IsPart, test_size}
-use Rattle.slices.specs.Works.{Task}
+use Rattle.slices.specs.Parts.{PieceResultValue, IsPart, test_size}
+use Rattle.slices.specs.Works.{WorkValue}
 use Rattle.book.specs.Cuts.{IsCover}
 use Rattle.book.specs.Jobs.{Job, mark, marked}
 use Rattle.book.specs.Step.{HasRange, IsCut, is_of, others}
@@ -253,7 +253,7 @@ same_place (l ∷ ls) p c d once (inl a) (inr b) py pn e = let P : ℕ × ℕ �
 same_place (l ∷ ls) p c d once (inr a) (inl b) py pn e = let P : ℕ × ℕ → Type 0 = λ k. IsIn k (map place ls) in once.0 (subst P (e ∙ ap place b) (map_in place ls c a))
 same_place (l ∷ ls) p c d once (inr a) (inr b) py pn e = same_place ls p c d once.1 a b py pn e
 
-pub takes : (js : List Job) (live : List Live) (last : ℕ) (rs : List Result) (c : Live) (n seat : ℕ) (job : Job) (part : Part) → claim_of live n seat ≡ Some c → job_of js c.job ≡ Some job → part.piece.slice ≡ c.slice → part.piece.work ≡ job.work
+pub takes : (js : List Job) (live : List Live) (last : ℕ) (rs : List Result) (c : Live) (n seat : ℕ) (job : Job) (part : PieceResultValue) → claim_of live n seat ≡ Some c → job_of js c.job ≡ Some job → part.piece.slice ≡ c.slice → part.piece.work ≡ job.work
     → HasRange (slice_get job.slices part.piece.slice) part.piece.from part.piece.to → IsRight part → Holds js live last rs
     → Holds (marked_in js c.job part.piece.slice) (others n seat live) last (record { job = c.job; part = part } ∷ rs)
 unfolding others
@@ -324,7 +324,7 @@ takes js live last rs c n seat job part claim found slice work range right h =
       };
       right = λ r p. elim p [
         | inl e ↦ (let P : Result → Type 0 = λ z. IsRightFor js' z in
-            subst P (sym e) (marked i job, now, work, marked_range job.slices i x part.piece.from part.piece.to at range, (let T : Task → Type 0 = λ w. IsPart w.test w.model.items part.piece.from part.piece.to part.found in subst T work right)))
+            subst P (sym e) (marked i job, now, work, marked_range job.slices i x part.piece.from part.piece.to at range, (let T : WorkValue → Type 0 = λ w. IsPart w.test w.model.items part.piece.from part.piece.to part.found in subst T work right)))
         | inr q ↦ right_on js c.job i job r found now (h.right r q)
       ];
     }

@@ -3,8 +3,8 @@ use Rattle.std.proofs.Common.{◌≡◌, ℕ, ◌+◌, List, [], ◌∷◌, ◌+
 use Rattle.std.specs.Option.{option_map_or}
 use Rattle.litmus_tree.specs.Tree.{Word, Litmus}
 use Rattle.cat_model.specs.Models.{Assembly}
-use Rattle.slices.specs.Judgements.{Judged}
-use Rattle.slices.specs.Parts.{Part, Portion}
+use Rattle.slices.specs.VerdictValues.{VerdictValue}
+use Rattle.slices.specs.Parts.{PieceResultValue, PieceValue}
 use Rattle.slices.specs.Verdicts.{IsVerdict}
 use Rattle.book.specs.Jobs as jobs
 use Rattle.book.specs.Step.{PutsCat, PutsTest, DropsCat, DropsTest, AsksFor, Asks, Polls, is_of, elsewhere, without, Forgets, Releases, Claims, others, ReturnsTo, Returns, GivesBack, ListsAll, Closes, OpenStep, Step, LeadsFrom}
@@ -66,10 +66,10 @@ claims s seat Nothing s' rs h k = moved s' s rs h.1 k
 claims s seat (Refused ClaimsSpent) s' rs h k = moved s' s rs h.2 k
 claims s seat (Piece p) s' rs h k =
     let c : Live = record { number = p.claim; seat = seat; job = p.job; slice = p.slice } in
-    moved s' _ rs h.2 (gives s.jobs s.live s.last_job rs s c h.1.0 h.1.2.0 refl refl h.1.1 (ap (λ (q : Portion). q.job) h.1.2.3) h.1.2.1 h.1.2.2 k)
+    moved s' _ rs h.2 (gives s.jobs s.live s.last_job rs s c h.1.0 h.1.2.0 refl refl h.1.1 (ap (λ (q : PieceValue). q.job) h.1.2.3) h.1.2.1 h.1.2.2 k)
 claims s seat reply s' rs h k = absurd h
 
-returns_to : (s : Workbench) (seat : ℕ) (part : Part) (c : Live) (o : Option jobs.Job) (reply : Reply) (s' : Workbench) (rs : List Result) → claim_of s.live part.piece.claim seat ≡ Some c → job_of s.jobs c.job ≡ o → IsRight part → ReturnsTo s seat (returned part) c o reply s' → Stands s rs → Stands s' (with_taken reply c.job part rs)
+returns_to : (s : Workbench) (seat : ℕ) (part : PieceResultValue) (c : Live) (o : Option jobs.Job) (reply : Reply) (s' : Workbench) (rs : List Result) → claim_of s.live part.piece.claim seat ≡ Some c → job_of s.jobs c.job ≡ o → IsRight part → ReturnsTo s seat (returned part) c o reply s' → Stands s rs → Stands s' (with_taken reply c.job part rs)
 unfolding others
 returns_to s seat part c None (Refused (NoClaim n)) s' rs ec ej right h k = moved s' s rs h.1 k
 returns_to s seat part c (Some job) (Refused (Replaced x)) s' rs ec ej right h k = moved s' _ rs h.1 (ends (λ d. not (is_claim part.piece.claim seat d)) s.jobs s.live s.last_job rs k)
@@ -78,7 +78,7 @@ returns_to s seat part c (Some job) (Taken d n) s' rs ec ej right h k =
     moved s' _ (record { job = c.job; part = part } ∷ rs) h.2 (takes s.jobs s.live s.last_job rs c part.piece.claim seat job part ec ej h.1.0 h.1.2 h.1.1 right k)
 returns_to s seat part c o reply s' rs ec ej right h k = absurd h
 
-returned_to : (s : Workbench) (seat : ℕ) (part : Part) (o : Option Live) (reply : Reply) (s' : Workbench) (rs : List Result) → claim_of s.live part.piece.claim seat ≡ o → IsRight part → Returns s seat (returned part) o reply s' → Stands s rs → Stands s' (with_taken reply (option_map_or (λ c. c.job) o 0) part rs)
+returned_to : (s : Workbench) (seat : ℕ) (part : PieceResultValue) (o : Option Live) (reply : Reply) (s' : Workbench) (rs : List Result) → claim_of s.live part.piece.claim seat ≡ o → IsRight part → Returns s seat (returned part) o reply s' → Stands s rs → Stands s' (with_taken reply (option_map_or (λ c. c.job) o 0) part rs)
 returned_to s seat part None (Refused (NoClaim n)) s' rs ec right h k = moved s' s rs h.1 k
 returned_to s seat part None reply s' rs ec right h k = absurd h
 returned_to s seat part (Some c) reply s' rs ec right h k = returns_to s seat part c (job_of s.jobs c.job) reply s' rs ec refl right h k
@@ -88,7 +88,7 @@ refused_closed s reply s' rs after none e same k =
     let P : List Result → Type 0 = λ l. Stands s' l in
     subst P (sym (ap after e ∙ none)) (moved s' s rs same k)
 
-pub return_keeps : (s : Workbench) (seat : ℕ) (part : Part) (reply : Reply) (s' : Workbench) (rs : List Result) → IsRight part → Step s seat (Return (returned part)) reply s' → Stands s rs → Stands s' (with_taken reply (claimed_job s part.piece.claim seat) part rs)
+pub return_keeps : (s : Workbench) (seat : ℕ) (part : PieceResultValue) (reply : Reply) (s' : Workbench) (rs : List Result) → IsRight part → Step s seat (Return (returned part)) reply s' → Stands s rs → Stands s' (with_taken reply (claimed_job s part.piece.claim seat) part rs)
 return_keeps s seat part reply s' rs right (inl h) k = refused_closed s reply s' rs (λ a. with_taken a (claimed_job s part.piece.claim seat) part rs) refl h.1 h.2 k
 return_keeps s seat part reply s' rs right (inr h) k = returned_to s seat part (claim_of s.live part.piece.claim seat) reply s' rs refl right h.1 k
 
@@ -157,7 +157,7 @@ call_keeps s seat said reply s' rs n (inr h) k = open_keeps s seat said reply s'
 
 -- what the kept book does is a step of its workbench
 
-put_together : (k : KeptBook) (id : ℕ) (v : Judged) (s' : Workbench) (o : Option jobs.Job) → job_of k.state.jobs id ≡ o → Stands k.state k.results → IsPutTogether k.results id v o → s' ≡ k.state → Polls k.state id o (Verdict v) s'
+put_together : (k : KeptBook) (id : ℕ) (v : VerdictValue) (s' : Workbench) (o : Option jobs.Job) → job_of k.state.jobs id ≡ o → Stands k.state k.results → IsPutTogether k.results id v o → s' ≡ k.state → Polls k.state id o (Verdict v) s'
 put_together k id v s' None e st h same = absurd h
 put_together k id v s' (Some job) e st h same = (h.0, h.1, h.2, verdict_right k.state.jobs k.state.live k.state.last_job k.results id v job st e h, same)
 
@@ -171,23 +171,23 @@ kept_full k seat said reply s' st (inr h) = inr (h.0, open_full k seat said repl
 
 -- a verdict is right
 
-ask_says : (s : Workbench) (test cat : Word) (o : Option Litmus) (v : Judged) (s' : Workbench) → Asks s test cat o (Verdict v) s' → ⊥
+ask_says : (s : Workbench) (test cat : Word) (o : Option Litmus) (v : VerdictValue) (s' : Workbench) → Asks s test cat o (Verdict v) s' → ⊥
 ask_says s test cat None v s' h = h
 ask_says s test cat (Some t) v s' h = h.2
 
-poll_says : (s : Workbench) (id : ℕ) (o : Option jobs.Job) (v : Judged) (s' : Workbench) → Polls s id o (Verdict v) s' → IsVerdict v.work.test v.work.model.items v.outcome
+poll_says : (s : Workbench) (id : ℕ) (o : Option jobs.Job) (v : VerdictValue) (s' : Workbench) → Polls s id o (Verdict v) s' → IsVerdict v.work.test v.work.model.items v.finding
 poll_says s id None v s' h = absurd h
 poll_says s id (Some job) v s' h = h.3
 
-return_to_says : (s : Workbench) (seat : ℕ) (r : Returned) (c : Live) (o : Option jobs.Job) (v : Judged) (s' : Workbench) → ReturnsTo s seat r c o (Verdict v) s' → ⊥
+return_to_says : (s : Workbench) (seat : ℕ) (r : Returned) (c : Live) (o : Option jobs.Job) (v : VerdictValue) (s' : Workbench) → ReturnsTo s seat r c o (Verdict v) s' → ⊥
 return_to_says s seat r c None v s' h = h
 return_to_says s seat r c (Some job) v s' h = h
 
-return_says : (s : Workbench) (seat : ℕ) (r : Returned) (o : Option Live) (v : Judged) (s' : Workbench) → Returns s seat r o (Verdict v) s' → ⊥
+return_says : (s : Workbench) (seat : ℕ) (r : Returned) (o : Option Live) (v : VerdictValue) (s' : Workbench) → Returns s seat r o (Verdict v) s' → ⊥
 return_says s seat r None v s' h = h
 return_says s seat r (Some c) v s' h = return_to_says s seat r c (job_of s.jobs c.job) v s' h
 
-open_says : (s : Workbench) (seat : ℕ) (said : Said) (v : Judged) (s' : Workbench) → OpenStep s seat said (Verdict v) s' → IsVerdict v.work.test v.work.model.items v.outcome
+open_says : (s : Workbench) (seat : ℕ) (said : Said) (v : VerdictValue) (s' : Workbench) → OpenStep s seat said (Verdict v) s' → IsVerdict v.work.test v.work.model.items v.finding
 open_says s seat (PutCat name text) v s' h = absurd h
 open_says s seat (PutTest text) v s' h = absurd h
 open_says s seat (Ask test cat) v s' h = absurd (ask_says s test cat (test_of s.tests test) v s' h)

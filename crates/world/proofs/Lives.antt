@@ -2,7 +2,7 @@
 use Rattle.std.proofs.Common.{◌≡◌, ℕ, ◌+◌, [], ◌∷◌, ◌++◌, filter, Bool, not, Option, Some, None, refl, sym, ap, subst, inl, inr}
 use Rattle.cat_model.specs.Models.{Assembly}
 use Rattle.litmus_tree.specs.Tree.{Word, Litmus}
-use Rattle.slices.specs.Parts.{Portion}
+use Rattle.slices.specs.Parts.{PieceValue}
 use Rattle.slices.specs.Works.{IsModelOf}
 use Rattle.book.specs.Jobs as jobs
 use Rattle.book.specs.Jobs.{marked}
@@ -64,7 +64,7 @@ claims : (s : Workbench) (seat : ℕ) (reply : Reply) (s' : Workbench) → Claim
 claims s seat Nothing s' h = still s s' h.1
 claims s seat (Refused ClaimsSpent) s' h = still s s' h.2
 claims s seat (Piece p) s' h =
-    let number : p.claim ≡ s.last_claim + 1 = ap (λ (q : Portion). q.claim) h.1.2.3 in
+    let number : p.claim ≡ s.last_claim + 1 = ap (λ (q : PieceValue). q.claim) h.1.2.3 in
     become s s' _ h.2 (one_more (record { number = p.claim; seat = seat; job = p.job; slice = p.slice }) number refl number)
 claims s seat reply s' h = absurd h
 

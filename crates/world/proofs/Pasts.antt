@@ -13,10 +13,10 @@ use Rattle.cat_model.specs.declared.model.FileVersion.{FileVersion}
 use Rattle.cat_model.proofs.Ordered.{closure_one}
 use Rattle.cat_tree.specs.Tree.{Clause}
 use Rattle.litmus_tree.specs.Tree.{Word, Litmus}
-use Rattle.slices.specs.Judgements.{Judged}
-use Rattle.slices.specs.Outcomes.{Outcome}
+use Rattle.slices.specs.VerdictValues.{VerdictValue}
+use Rattle.slices.specs.Findings.{FindingValue}
 use Rattle.slices.specs.Verdicts.{IsVerdict}
-use Rattle.slices.specs.Works.{Task, IsModelOf}
+use Rattle.slices.specs.Works.{WorkValue, IsModelOf}
 use Rattle.book.specs.Jobs as jobs
 use Rattle.book.specs.Step.{Polls, Step, LeadsFrom}
 use Rattle.book.specs.Workbench.{Workbench, empty, job_of, test_of, test_version}
@@ -37,7 +37,7 @@ use Rattle.world.proofs.Told.{one_verdict}
 -- a work, and the version of its test
 
 abbrev Asked : Type 0
-Asked = Task × ℕ
+Asked = WorkValue × ℕ
 
 abbrev IsCurrent : List Entry → List FileVersion → Type 0
 IsCurrent cats files = (f : FileVersion) → IsIn f files → f.version ≡ version_of f.name cats
@@ -256,48 +256,48 @@ record Past (s : Workbench) (es : List Line) (past : List Asked) : Type 0 where
   numbers : (j : jobs.Job) → IsIn j s.jobs → j.number ≤ s.last_job
   one_job : (i j : jobs.Job) → IsIn i s.jobs → IsIn j s.jobs → i.number ≡ j.number → (i.work ≡ j.work) × (i.version ≡ j.version)
   known : Known s past
-  ids : (id : ℕ) (v : Judged) → Replied id v es → id ≤ s.last_job
-  of_job : (id : ℕ) (v : Judged) → Replied id v es → (j : jobs.Job) → IsIn j s.jobs → j.number ≡ id → (v.work ≡ j.work) × (v.version ≡ j.version)
-  one : (id : ℕ) (v w : Judged) → Replied id v es → Replied id w es → v ≡ w
-  right : (id : ℕ) (v : Judged) → Replied id v es → IsVerdict v.work.test v.work.model.items v.outcome
-  verdicts : (id : ℕ) (v : Judged) → Replied id v es → IsIn (v.work, v.version) past
+  ids : (id : ℕ) (v : VerdictValue) → Replied id v es → id ≤ s.last_job
+  of_job : (id : ℕ) (v : VerdictValue) → Replied id v es → (j : jobs.Job) → IsIn j s.jobs → j.number ≡ id → (v.work ≡ j.work) × (v.version ≡ j.version)
+  one : (id : ℕ) (v w : VerdictValue) → Replied id v es → Replied id w es → v ≡ w
+  right : (id : ℕ) (v : VerdictValue) → Replied id v es → IsVerdict v.work.test v.work.model.items v.finding
+  verdicts : (id : ℕ) (v : VerdictValue) → Replied id v es → IsIn (v.work, v.version) past
   works : Works s.tests s.cats past
 
-abbrev judged : Task → ℕ → Outcome → Judged
-judged work version outcome = record { work = work; version = version; outcome = outcome }
+abbrev judged : WorkValue → ℕ → FindingValue → VerdictValue
+judged work version finding = record { work = work; version = version; finding = finding }
 
-same_judged : (v w : Judged) → v.work ≡ w.work → v.version ≡ w.version → IsVerdict v.work.test v.work.model.items v.outcome → IsVerdict w.work.test w.work.model.items w.outcome → v ≡ w
+same_judged : (v w : VerdictValue) → v.work ≡ w.work → v.version ≡ w.version → IsVerdict v.work.test v.work.model.items v.finding → IsVerdict w.work.test w.work.model.items w.finding → v ≡ w
 same_judged v w work version p q =
-    let P : Task → Type 0 = λ t. IsVerdict t.test t.model.items v.outcome in
-    let outcome : v.outcome ≡ w.outcome = one_verdict w.work.test w.work.model.items v.outcome w.outcome (subst P work p) q in
-    ap (λ t. judged t v.version v.outcome) work ∙ ap (λ n. judged w.work n v.outcome) version ∙ ap (judged w.work w.version) outcome
+    let P : WorkValue → Type 0 = λ t. IsVerdict t.test t.model.items v.finding in
+    let finding : v.finding ≡ w.finding = one_verdict w.work.test w.work.model.items v.finding w.finding (subst P work p) q in
+    ap (λ t. judged t v.version v.finding) work ∙ ap (λ n. judged w.work n v.finding) version ∙ ap (judged w.work w.version) finding
 
 -- what a reply of a verdict tells
-record Polled (s s' : Workbench) (id : ℕ) (v : Judged) : Type 0 where
+record Polled (s s' : Workbench) (id : ℕ) (v : VerdictValue) : Type 0 where
   job : jobs.Job
   found : job_of s.jobs id ≡ Some job
   work : v.work ≡ job.work
   version : v.version ≡ job.version
-  right : IsVerdict v.work.test v.work.model.items v.outcome
+  right : IsVerdict v.work.test v.work.model.items v.finding
 
-polled_by : (s s' : Workbench) (id : ℕ) (v : Judged) (o : Option jobs.Job) → job_of s.jobs id ≡ o → Polls s id o (Verdict v) s' → Polled s s' id v
+polled_by : (s s' : Workbench) (id : ℕ) (v : VerdictValue) (o : Option jobs.Job) → job_of s.jobs id ≡ o → Polls s id o (Verdict v) s' → Polled s s' id v
 polled_by s s' id v None e h = absurd h
 polled_by s s' id v (Some job) e h = record { job = job; found = e; work = h.1; version = h.2; right = h.3 }
 
-not_closed : (v : Judged) → Verdict v ≡ Refused Closed → ⊥
+not_closed : (v : VerdictValue) → Verdict v ≡ Refused Closed → ⊥
 not_closed v e = cc
 
-polled_step : (s s' : Workbench) (seat id : ℕ) (v : Judged) → Step s seat (Poll id) (Verdict v) s' → Polled s s' id v
+polled_step : (s s' : Workbench) (seat id : ℕ) (v : VerdictValue) → Step s seat (Poll id) (Verdict v) s' → Polled s s' id v
 polled_step s s' seat id v (inl h) = absurd (not_closed v h.1)
 polled_step s s' seat id v (inr h) = polled_by s s' id v (job_of s.jobs id) refl h.1
 
-polled : (s s' : Workbench) (e : Line) (id : ℕ) (v : Judged) → Step s e.seat e.said e.reply s' → e.said ≡ Poll id → e.reply ≡ Verdict v → Polled s s' id v
+polled : (s s' : Workbench) (e : Line) (id : ℕ) (v : VerdictValue) → Step s e.seat e.said e.reply s' → e.said ≡ Poll id → e.reply ≡ Verdict v → Polled s s' id v
 polled s s' e id v h a b =
     let P : Said → Type 0 = λ o. Step s e.seat o e.reply s' in
     let Q : Reply → Type 0 = λ x. Step s e.seat (Poll id) x s' in
     polled_step s s' e.seat id v (subst Q b (subst P a h))
 
-replied_push : (es : List Line) (e : Line) (id : ℕ) (v : Judged) → Replied id v (es ++ e ∷ []) → Replied id v es ⊎ ((e.said ≡ Poll id) × (e.reply ≡ Verdict v))
+replied_push : (es : List Line) (e : Line) (id : ℕ) (v : VerdictValue) → Replied id v (es ++ e ∷ []) → Replied id v es ⊎ ((e.said ≡ Poll id) × (e.reply ≡ Verdict v))
 replied_push es e id v r = elim (in_append es (e ∷ []) r.0 r.1) [
   | inl a ↦ inl (r.0, a, r.2, r.3)
   | inr b ↦ elim b [
@@ -310,29 +310,29 @@ last_same : (xs : List jobs.Job) (j k : jobs.Job) → xs ++ j ∷ [] ≡ xs ++ k
 last_same [] j k e = cc
 last_same (x ∷ xs) j k e = last_same xs j k (let f : xs ++ j ∷ [] ≡ xs ++ k ∷ [] = cc in f)
 
-same_verdict : (v w : Judged) (r : Reply) → r ≡ Verdict v → r ≡ Verdict w → v ≡ w
+same_verdict : (v w : VerdictValue) (r : Reply) → r ≡ Verdict v → r ≡ Verdict w → v ≡ w
 same_verdict v w r a b = let e : Verdict v ≡ Verdict w = sym a ∙ b in let f : v ≡ w = cc in f
 
 past_step : (s s' : Workbench) (es : List Line) (e : Line) (past : List Asked) → Step s e.seat e.said e.reply s' → Past s es past → (past' : List Asked) × Past s' (es ++ e ∷ []) past'
 past_step s s' es e past step h =
     let n = next s s' past (step_moves s e.seat e.said e.reply s' step) h.known h.works in
     let m = n.1 in
-    let tell : (id : ℕ) (v : Judged) → (e.said ≡ Poll id) × (e.reply ≡ Verdict v) → Polled s s' id v = λ id v r. polled s s' e id v step r.0 r.1 in
-    let ids : (id : ℕ) (v : Judged) → Replied id v (es ++ e ∷ []) → id ≤ s.last_job = λ id v r. elim (replied_push es e id v r) [
+    let tell : (id : ℕ) (v : VerdictValue) → (e.said ≡ Poll id) × (e.reply ≡ Verdict v) → Polled s s' id v = λ id v r. polled s s' e id v step r.0 r.1 in
+    let ids : (id : ℕ) (v : VerdictValue) → Replied id v (es ++ e ∷ []) → id ≤ s.last_job = λ id v r. elim (replied_push es e id v r) [
       | inl a ↦ h.ids id v a
       | inr b ↦ (let q = tell id v b in
           let f = job_number s.jobs id q.job q.found in
           let le = h.numbers q.job f.0 in
           omega (arith, le, f.1))
     ] in
-    let of_old : (id : ℕ) (v : Judged) → Replied id v (es ++ e ∷ []) → (i : jobs.Job) → IsIn i s.jobs → i.number ≡ id → (v.work ≡ i.work) × (v.version ≡ i.version) = λ id v r i p k. elim (replied_push es e id v r) [
+    let of_old : (id : ℕ) (v : VerdictValue) → Replied id v (es ++ e ∷ []) → (i : jobs.Job) → IsIn i s.jobs → i.number ≡ id → (v.work ≡ i.work) × (v.version ≡ i.version) = λ id v r i p k. elim (replied_push es e id v r) [
       | inl a ↦ h.of_job id v a i p k
       | inr b ↦ (let q = tell id v b in
           let f = job_number s.jobs id q.job q.found in
           let o = h.one_job q.job i f.0 p (f.1 ∙ sym k) in
           (q.work ∙ o.0, q.version ∙ o.1))
     ] in
-    let right : (id : ℕ) (v : Judged) → Replied id v (es ++ e ∷ []) → IsVerdict v.work.test v.work.model.items v.outcome = λ id v r. elim (replied_push es e id v r) [
+    let right : (id : ℕ) (v : VerdictValue) → Replied id v (es ++ e ∷ []) → IsVerdict v.work.test v.work.model.items v.finding = λ id v r. elim (replied_push es e id v r) [
       | inl a ↦ h.right id v a
       | inr b ↦ (tell id v b).right
     ] in (
@@ -415,9 +415,9 @@ no_past limits = record {
 pub verdicts_stay : VerdictsStay
 verdicts_stay limits journal legal id v w a b = let h = past_all 0 (empty limits) legal.0 [] journal [] legal.1 (no_past limits) in h.1.one id v w a b
 
-same_work : (v w : Task) → v.test ≡ w.test → v.model.items ≡ w.model.items → v.model.files ≡ w.model.files → v ≡ w
+same_work : (v w : WorkValue) → v.test ≡ w.test → v.model.items ≡ w.model.items → v.model.files ≡ w.model.files → v ≡ w
 same_work v w t i f =
-    let made : Litmus → List Clause → List FileVersion → Task = λ x is fs. record { test = x; model = record { items = is; files = fs } } in
+    let made : Litmus → List Clause → List FileVersion → WorkValue = λ x is fs. record { test = x; model = record { items = is; files = fs } } in
     ap (λ x. made x v.model.items v.model.files) t ∙ ap (λ is. made w.test is v.model.files) i ∙ ap (λ fs. made w.test w.model.items fs) f
 
 pub versions_tell : VersionsTell

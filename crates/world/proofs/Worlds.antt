@@ -3,7 +3,7 @@ use Rattle.std.proofs.Common.{◌≡◌, ℕ, zero, suc, ◌⊎◌, List, [], �
 use Rattle.std.specs.Prelude.{slice_get, slice_set, ◌==◌}
 use Rattle.listings.specs.Lists.{IsIn}
 use Rattle.listings.proofs.Listings.{in_append}
-use Rattle.slices.specs.Parts.{Part}
+use Rattle.slices.specs.Parts.{PieceResultValue}
 use Rattle.book.specs.Step.{Step, Leads}
 use Rattle.book.specs.declared.limits.Limits.{Limits}
 use Rattle.journal.specs.Lines.{Line, returned}
@@ -20,7 +20,7 @@ pub record Fine (w : World) : Type 0 where
   pub leads : Leads w.limits w.journal w.book.state
   pub stands : Stands w.book.state w.book.results
   pub said : (e : Line) → IsIn e w.journal → SaysRight e.reply
-  pub held : (h : ℕ × Part) → IsIn h w.parts → IsRight h.1
+  pub held : (h : ℕ × PieceResultValue) → IsIn h w.parts → IsRight h.1
 
 pub set_in : {X : Type 0} (xs : List X) (i : ℕ) (y x : X) → IsIn x (slice_set xs i y) → (x ≡ y) ⊎ IsIn x xs
 set_in [] i y x h = absurd h
@@ -43,8 +43,8 @@ said_push journal seat said reply old new e p = elim (in_append journal (record 
 becomes : (w' v : World) → w' ≡ v → Fine v → Fine w'
 becomes w' v e f = subst Fine (sym e) f
 
-right_of : (actor : ℕ) (part : Part) (h : ℕ × Part) → h ≡ (actor, part) → IsRight part → IsRight h.1
-right_of actor part h e r = let P : ℕ × Part → Type 0 = λ k. IsRight k.1 in subst P (sym e) r
+right_of : (actor : ℕ) (part : PieceResultValue) (h : ℕ × PieceResultValue) → h ≡ (actor, part) → IsRight part → IsRight h.1
+right_of actor part h e r = let P : ℕ × PieceResultValue → Type 0 = λ k. IsRight k.1 in subst P (sym e) r
 
 pub happens_fine : (w : World) (e : Event) (w' : World) → Happens w e w' → Fine w → Fine w'
 happens_fine w (calls actor seat said reply) w' h f =
@@ -74,7 +74,7 @@ happens_fine w (hands_part from to place part) w' h f =
 happens_fine w (brings actor part) w' h f =
     becomes w' _ h.1 (record { leads = f.leads; stands = f.stands; said = f.said; held = λ k p. elim p [ inl e ↦ right_of actor part k e h.0 | inr q ↦ f.held k q ] })
 happens_fine w (vanishes actor) w' h f =
-    becomes w' _ h (record { leads = f.leads; stands = f.stands; said = f.said; held = λ k p. f.held k (filter_in (λ (x : ℕ × Part). not (x.0 == actor)) w.parts k p).0 })
+    becomes w' _ h (record { leads = f.leads; stands = f.stands; said = f.said; held = λ k p. f.held k (filter_in (λ (x : ℕ × PieceResultValue). not (x.0 == actor)) w.parts k p).0 })
 
 pub passes_fine : (w : World) (es : List Event) (w' : World) → Passes w es w' → Fine w → Fine w'
 passes_fine w [] w' h f = becomes w' w h f

@@ -1,7 +1,7 @@
 -- What the entries of a legal journal say of one another.
 use Rattle.std.specs.Prelude.{◌≡◌, ℕ, List, [], ◌∷◌, ◌++◌, None, Some, map}
 use Rattle.listings.specs.Lists.{IsIn, NoRepeats}
-use Rattle.slices.specs.Judgements.{Judged}
+use Rattle.slices.specs.VerdictValues.{VerdictValue}
 use Rattle.book.specs.Jobs.{Job}
 use Rattle.book.specs.Step.{IsOwn, Leads, Legal}
 use Rattle.book.specs.Workbench.{Workbench, job_of, claim_of, replaced}
@@ -16,16 +16,16 @@ use Rattle.journal.specs.declared.records.Reply.TheVariants.{Verdict, Taken}
 use Rattle.world.specs.World.{World, Event, Passes, beginning, slot}
 
 -- a poll of this job was replied this verdict
-abbrev pub Replied : ℕ → Judged → List Line → Type 0
+abbrev pub Replied : ℕ → VerdictValue → List Line → Type 0
 Replied id v journal = (e : Line) × IsIn e journal × (e.said ≡ Poll id) × (e.reply ≡ Verdict v)
 
 -- A verdict, once replied, never changes.
 abbrev pub VerdictsStay : Type 0
-VerdictsStay = (limits : Limits) (journal : List Line) → Legal limits journal → (id : ℕ) (v w : Judged) → Replied id v journal → Replied id w journal → v ≡ w
+VerdictsStay = (limits : Limits) (journal : List Line) → Legal limits journal → (id : ℕ) (v w : VerdictValue) → Replied id v journal → Replied id w journal → v ≡ w
 
 -- Two verdicts for one version of a test under one set of file versions say the same.
 abbrev pub VersionsTell : Type 0
-VersionsTell = (limits : Limits) (journal : List Line) → Legal limits journal → (i j : ℕ) (v w : Judged) → Replied i v journal → Replied j w journal
+VersionsTell = (limits : Limits) (journal : List Line) → Legal limits journal → (i j : ℕ) (v w : VerdictValue) → Replied i v journal → Replied j w journal
     → v.work.test.name ≡ w.work.test.name → v.version ≡ w.version → v.work.model.files ≡ w.work.model.files → v ≡ w
 
 -- No slice is counted twice: of a slice of a job there is one result at most.

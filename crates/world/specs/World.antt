@@ -3,9 +3,9 @@
 use Rattle.std.specs.Prelude.{◌≡◌, ℕ, ◌<◌, ◌⊎◌, Bool, true, false, not, ◌==◌, List, [], ◌∷◌, ◌++◌, length, filter, map, Option, None, Some, slice_get, slice_set, if◌then◌else◌}
 use Rattle.std.specs.Option.{option_map_or}
 use Rattle.listings.specs.Lists.{IsIn, Lists, NoRepeats}
-use Rattle.slices.specs.Judgements.{Judged}
-use Rattle.slices.specs.Outcomes.{Outcome}
-use Rattle.slices.specs.Parts.{IsPart, Part, Portion}
+use Rattle.slices.specs.VerdictValues.{VerdictValue}
+use Rattle.slices.specs.Findings.{FindingValue}
+use Rattle.slices.specs.Parts.{IsPart, PieceResultValue, PieceValue}
 use Rattle.slices.specs.Verdicts.{IsVerdict}
 use Rattle.book.specs.Jobs.{Job, is_done}
 use Rattle.book.specs.Step.{HasRange, Step, OpenStep, Leads}
@@ -18,12 +18,12 @@ use Rattle.journal.specs.declared.records.Said.TheVariants.{Poll, Forget, Return
 use Rattle.journal.specs.declared.records.Refusal.TheVariants.{Closed}
 use Rattle.journal.specs.declared.records.Reply.{Reply}
 use Rattle.journal.specs.declared.records.Reply.TheVariants.{Verdict, Piece, Taken, Done, Refused}
-use Rattle.world.specs.Merging.{IsMerged, outcomes}
+use Rattle.world.specs.Merging.{IsMerged, findings}
 
 -- A taken result, with the number of the job that took it.
 pub record Result : Type 0 where
   pub job : ℕ
-  pub part : Part
+  pub part : PieceResultValue
 
 -- A workbench with its results beside it, the newest first.
 pub record KeptBook : Type 0 where
@@ -35,22 +35,22 @@ pub record World : Type 0 where
   pub limits : Limits
   pub book : KeptBook
   pub journal : List Line
-  pub pieces : List (ℕ × Portion)
-  pub parts : List (ℕ × Part)
+  pub pieces : List (ℕ × PieceValue)
+  pub parts : List (ℕ × PieceResultValue)
 
 -- an empty book, and nobody holds anything
 abbrev pub beginning : Limits → World
 beginning limits = record { limits = limits; book = record { state = empty limits; results = [] }; journal = []; pieces = []; parts = [] }
 
 -- the results of a job
-abbrev pub results_of : List Result → ℕ → List Part
+abbrev pub results_of : List Result → ℕ → List PieceResultValue
 results_of [] id = []
 results_of (r ∷ rs) id = if r.job == id then r.part ∷ results_of rs id else results_of rs id
 
 -- The verdict is put together from the job's results, once all slices are returned. Nothing says here that it is right.
-abbrev pub IsPutTogether : List Result → ℕ → Judged → Option Job → Type 0
+abbrev pub IsPutTogether : List Result → ℕ → VerdictValue → Option Job → Type 0
 IsPutTogether results id v None = ⊥
-IsPutTogether results id v (Some job) = (is_done job ≡ true) × (v.work ≡ job.work) × (v.version ≡ job.version) × IsMerged job.work.test (outcomes (results_of results id)) v.outcome
+IsPutTogether results id v (Some job) = (is_done job ≡ true) × (v.work ≡ job.work) × (v.version ≡ job.version) × IsMerged job.work.test (findings (results_of results id)) v.finding
 
 -- a call to a book that is not closed: as the workbench has it, but for a poll's verdict
 abbrev pub OpenKept : KeptBook → ℕ → Said → Reply → Workbench → Type 0
@@ -66,7 +66,7 @@ left (Forget id) Done rs = filter (λ r. not (r.job == id)) rs
 left said reply rs = rs
 
 -- and a taken one is added, for the job of its claim
-abbrev pub with_taken : Reply → ℕ → Part → List Result → List Result
+abbrev pub with_taken : Reply → ℕ → PieceResultValue → List Result → List Result
 with_taken (Taken d n) job part rs = record { job = job; part = part } ∷ rs
 with_taken reply job part rs = rs
 
@@ -74,7 +74,7 @@ abbrev pub claimed_job : Workbench → ℕ → ℕ → ℕ
 claimed_job s claim seat = option_map_or (λ c. c.job) (claim_of s.live claim seat) 0
 
 -- who claims gets the piece
-abbrev pub with_piece : ℕ → Reply → List (ℕ × Portion) → List (ℕ × Portion)
+abbrev pub with_piece : ℕ → Reply → List (ℕ × PieceValue) → List (ℕ × PieceValue)
 with_piece actor (Piece p) pieces = (actor, p) ∷ pieces
 with_piece actor reply pieces = pieces
 
@@ -84,7 +84,7 @@ IsNoReturn (Return r) = ⊥
 IsNoReturn said = Unit {0}
 
 -- The result is right for its own work and range.
-abbrev pub IsRight : Part → Type 0
+abbrev pub IsRight : PieceResultValue → Type 0
 IsRight r = IsPart r.piece.work.test r.piece.work.model.items r.piece.from r.piece.to r.found
 
 -- those that others hold
@@ -95,13 +95,13 @@ of_others actor held = filter (λ h. not (h.0 == actor)) held
 -- is held, done or refused, a piece or a result handed on, a result that was made elsewhere, an actor that vanishes.
 pub data Event : Type 0 where
   calls : (actor seat : ℕ) → Said → Reply → Event
-  returns : (actor seat : ℕ) → Part → Reply → Event
+  returns : (actor seat : ℕ) → PieceResultValue → Reply → Event
   refused_whole : (actor seat : ℕ) → Said → Event
-  evaluates : (actor : ℕ) → Portion → Outcome → Event
-  fails : (actor : ℕ) → Portion → Event
-  hands_piece : (from to place : ℕ) → Portion → Event
-  hands_part : (from to place : ℕ) → Part → Event
-  brings : (actor : ℕ) → Part → Event
+  evaluates : (actor : ℕ) → PieceValue → FindingValue → Event
+  fails : (actor : ℕ) → PieceValue → Event
+  hands_piece : (from to place : ℕ) → PieceValue → Event
+  hands_part : (from to place : ℕ) → PieceResultValue → Event
+  brings : (actor : ℕ) → PieceResultValue → Event
   vanishes : (actor : ℕ) → Event
 
 -- the journal with this call
@@ -149,7 +149,7 @@ IsRightFor js r = (job : Job) × (job_of js r.job ≡ Some job) × (r.part.piece
 
 -- A replied verdict is right.
 abbrev pub SaysRight : Reply → Type 0
-SaysRight (Verdict v) = IsVerdict v.work.test v.work.model.items v.outcome
+SaysRight (Verdict v) = IsVerdict v.work.test v.work.model.items v.finding
 SaysRight reply = Unit {0}
 
 -- What holds of the world.
@@ -165,7 +165,7 @@ pub record IsSound (w : World) : Type 0 where
   -- Each verdict replied is right.
   pub said : (e : Line) → IsIn e w.journal → SaysRight e.reply
   -- What is put together from a job's results, once all are there, is right.
-  pub verdict : (id : ℕ) (v : Judged) (job : Job) → job_of w.book.state.jobs id ≡ Some job → IsPutTogether w.book.results id v (Some job) → IsVerdict v.work.test v.work.model.items v.outcome
+  pub verdict : (id : ℕ) (v : VerdictValue) (job : Job) → job_of w.book.state.jobs id ≡ Some job → IsPutTogether w.book.results id v (Some job) → IsVerdict v.work.test v.work.model.items v.finding
 
 -- The law: after every list of events.
 abbrev pub SoundWorld : Type 0

@@ -26,10 +26,10 @@ pub(super) struct Numbered<'a> {
 
 impl<'a> Model for Numbered<'a> {
     ghost use Rattle.std.specs.Prelude.{◌≡◌, ◌≤◌, length};
-    ghost use Rattle.events.specs.Executions.{Execution};
+    ghost use Rattle.events.specs.Executions.{GraphValue};
     ghost use Rattle.events.specs.Named.{event_names, event_count, read_names};
 
-    ghost Value = { Execution };
+    ghost Value = { GraphValue };
 
     ghost view = { λ v. v.graph.now };
 

@@ -1,6 +1,6 @@
 use Rattle.std.proofs.Common.{◌∙◌, ◌/◌, List, ap, subst, sym}
 use Rattle.events.specs.declared.event.Event.{Event}
-use Rattle.events.specs.Executions.{Execution, IsGraph}
+use Rattle.events.specs.Executions.{GraphValue, IsGraph}
 use Rattle.candidates.specs.Readings.{read_at}
 use Rattle.candidates.proofs.Graphs.{is_candidate, is_graph}
 use Rattle.candidates.proofs.Listed.{by_writes}
@@ -19,5 +19,5 @@ new-requires c =
     let e = is_candidate init runs orders number c.in_ok-values.values.items c.in_ok-copy_runs.field-0.items c.in_ok-rf.rf.items c.in_ok-co.co.items
     c.in_ok-values.ensures.items (c.in_ok-copy_runs.ensures ∙ c.deref-2.ensures.value) c.requires.page.orders
     (c.in_ok-rf.ensures ∙ ap (λ (rs : List Event). read_at runs rs (number / orders)) (c.deref.ensures.value ∙ c.requires.page.reads_are)) c.in_ok-co.ensures in
-    let P : Execution → Type 0 = IsGraph in
+    let P : GraphValue → Type 0 = IsGraph in
     subst P (sym e) (is_graph init runs number c.requires.page.within c.requires.number)

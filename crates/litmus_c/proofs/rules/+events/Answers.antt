@@ -1,7 +1,7 @@
 use Rattle.std.proofs.Common.{◌≡◌, map, take, ap, sym, ◌∙◌, arith}
 use Rattle.std.specs.Prelude.{sum_by}
 use Rattle.std.proofs.lemmas.List.{take_all}
-use Rattle.litmus_test.specs.Limits.{step_events, steps_events}
+use Rattle.litmus_value.specs.Limits.{step_events, steps_events}
 use Rattle.litmus_tree.specs.Tree.{step_of, steps_of}
 use Rattle.litmus_c.proofs.Steps.{row_events}
 use Rattle.litmus_c.proofs.rules.+events.Goals as goal

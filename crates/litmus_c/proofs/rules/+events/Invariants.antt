@@ -1,5 +1,5 @@
 use Rattle.std.proofs.Common.{◌≡◌, ◌+◌, take, map, sum_by}
-use Rattle.litmus_test.specs.Limits.{step_events}
+use Rattle.litmus_value.specs.Limits.{step_events}
 use Rattle.litmus_tree.specs.Tree.{step_of}
 use Rattle.litmus_c.proofs.rules.+events.Given as goal
 

@@ -1,5 +1,5 @@
 use Rattle.std.proofs.Common.{◌≡◌, ◌+◌, take, map, sum_by}
-use Rattle.litmus_test.specs.Limits.{optional_events}
+use Rattle.litmus_value.specs.Limits.{optional_events}
 use Rattle.litmus_tree.specs.Tree.{declared_of}
 use Rattle.litmus_c.proofs.rules.after_declarators.Given as goal
 

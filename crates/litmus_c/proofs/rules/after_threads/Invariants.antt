@@ -1,5 +1,5 @@
 use Rattle.std.proofs.Common.{◌≡◌, ◌+◌, take, sum_by}
-use Rattle.litmus_test.specs.Limits.{program_events}
+use Rattle.litmus_value.specs.Limits.{program_events}
 use Rattle.litmus_c.proofs.rules.after_threads.Given as goal
 
 abbrev pub invariant-loop-thread : goal.invariant-loop-thread

@@ -1,5 +1,5 @@
 use Rattle.std.proofs.Common.{ap, ◌≡◌, ℕ, List, ◌++◌, codes, decimal, append_assoc}
-use Rattle.slices.specs.Outcomes.{word}
+use Rattle.slices.specs.Findings.{word}
 use Rattle.report.proofs.Written.{same}
 use Rattle.report.proofs.summary.write_observation.Goals as goal
 

@@ -1,69 +1,69 @@
 use Rattle.std.proofs.Common.{◌≡◌, ◌∙◌, ◌<◌, ◌++◌, [], ◌∷◌, ap, inl, inr, sym, refl, subst, Err, arith, rules}
 use Rattle.std.proofs.KnownBytes.{Appends-nil}
-use Rattle.orders.specs.Lines.{ahead, AreLines, nothing_read}
-use Rattle.orders.specs.Scripts.{IsNextOrder, IsSpent, no_order}
-use Rattle.orders.proofs.Counted.{joined, longer_still}
+use Rattle.script_lines.specs.Lines.{ahead, AreLines, nothing_read}
+use Rattle.script_lines.specs.Scripts.{IsNextInstruction, IsSpent, no_instruction}
+use Rattle.script_lines.proofs.Counted.{joined, longer_still}
 use Rattle.scripts.specs.Passes.{Have, ending}
 use Rattle.scripts.specs.Serving.{Call, IsRead, Tells, calls_text, entries_at, no_call}
 use Rattle.scripts.proofs.Calls.{answered_more, have_more, none_among, same_entries}
-use Rattle.scripts.proofs.Served.{ordered, read_failed, stopped, tells_ending, write_ending, written, written_partly}
+use Rattle.scripts.proofs.Served.{instructed, read_failed, stopped, tells_ending, write_ending, written, written_partly}
 use Rattle.scripts.proofs.run.answer_all.Goals as goal
 
-pub loop-order-init : goal.loop-order-init
-loop-order-init g c = record {
-  told = ([], no_call, c.requires.fresh, Appends-nil (g.W.Sink.held c.args.writer.now), no_order);
+pub loop-instruction-init : goal.loop-instruction-init
+loop-instruction-init g c = record {
+  told = ([], no_call, c.requires.fresh, Appends-nil (g.W.Sink.held c.args.writer.now), no_instruction);
   lines = nothing_read;
   table = c.requires.table;
   desk = refl;
 }
 
 pub call-requires-clause-table : goal.call-requires-clause-table
-call-requires-clause-table g c κs within = c.loop-order.invariant.table
+call-requires-clause-table g c κs within = c.loop-instruction.invariant.table
 
-pub loop-order-smaller : goal.loop-order-smaller
-loop-order-smaller g c =
-    let more : (c.loop-order.script.lines.count < 1000000) × (c.loop-order.script.lines.count < c.next.new.self.lines.count) = rw c.in-Ok-Some.field-0-is at c.in-Ok-Some.ensures.more in
+pub loop-instruction-smaller : goal.loop-instruction-smaller
+loop-instruction-smaller g c =
+    let more : (c.loop-instruction.script.lines.count < 1000000) × (c.loop-instruction.script.lines.count < c.next.new.self.lines.count) = rw c.in-Ok-Some.field-0-is at c.in-Ok-Some.ensures.more in
     let few = more.0 in
     let rises = more.1 in
     omega (arith, few, rises)
 
-pub loop-order-preserved : goal.loop-order-preserved
-loop-order-preserved g c =
-    let told = c.loop-order.invariant.told in
-    let before = ahead c.loop-order.script.lines.block (g.R.Source.left c.loop-order.reader) in
+pub loop-instruction-preserved : goal.loop-instruction-preserved
+loop-instruction-preserved g c =
+    let told = c.loop-instruction.invariant.told in
+    let before = ahead c.loop-instruction.script.lines.block (g.R.Source.left c.loop-instruction.reader) in
     let after = ahead c.next.new.self.lines.block (g.R.Source.left c.next.new.reader) in
-    let m = c.loop-order.script.lines.count in
+    let m = c.loop-instruction.script.lines.count in
     let k = c.next.new.self.lines.count in
-    let next : IsNextOrder before after c.in-Ok-Some.order = rw c.in-Ok-Some.field-0-is at c.in-Ok-Some.ensures.next in
+    let next : IsNextInstruction before after c.in-Ok-Some.instruction = rw c.in-Ok-Some.field-0-is at c.in-Ok-Some.ensures.next in
     let lines : AreLines before m after k = rw c.in-Ok-Some.field-0-is at c.in-Ok-Some.ensures.lines in
     let a = c.in-Ok.ensures.answered in
-    let call : Call = record { order = c.in-Ok-Some.order; answer = a.answer } in
-    let passes = c.loop-order.seats.passes.items in
-    let table = c.loop-order.invariant.table in
-    let answered = answered_more c.args.seats.now.desk c.loop-order.seats.desk told.0 call passes c.loop-order.invariant.desk told.1 table told.2 a.is in
-    let have = have_more c.loop-order.seats.desk told.0 call passes c.call.new.self.passes.items table a.become told.2 in
+    let call : Call = record { instruction = c.in-Ok-Some.instruction; answer = a.answer } in
+    let passes = c.loop-instruction.seats.passes.items in
+    let table = c.loop-instruction.invariant.table in
+    let answered = answered_more c.args.seats.now.desk c.loop-instruction.seats.desk told.0 call passes c.loop-instruction.invariant.desk told.1 table told.2 a.is in
+    let have = have_more c.loop-instruction.seats.desk told.0 call passes c.call.new.self.passes.items table a.become told.2 in
     record {
-      told = (told.0 ++ call ∷ [], answered, have, written _ _ _ told.0 call told.3 (c.in_ok-give_answer-in-Ok.ensures a.answer a.shows), ordered _ before after told.0 call told.4 next);
-      lines = joined _ before _ _ after _ c.loop-order.invariant.lines lines;
+      told = (told.0 ++ call ∷ [], answered, have, written _ _ _ told.0 call told.3 (c.in_ok-give_answer-in-Ok.ensures a.answer a.shows), instructed _ before after told.0 call told.4 next);
+      lines = joined _ before _ _ after _ c.loop-instruction.invariant.lines lines;
       table = c.call.ensures.table;
-      desk = c.call.ensures.desk ∙ c.loop-order.invariant.desk;
+      desk = c.call.ensures.desk ∙ c.loop-instruction.invariant.desk;
     }
 
 pub returns-in_err-give_answer-in-Ok-clause-told : goal.returns-in_err-give_answer-in-Ok-clause-told
 returns-in_err-give_answer-in-Ok-clause-told g c =
-    let told = c.loop-order.invariant.told in
-    let before = ahead c.loop-order.script.lines.block (g.R.Source.left c.loop-order.reader) in
+    let told = c.loop-instruction.invariant.told in
+    let before = ahead c.loop-instruction.script.lines.block (g.R.Source.left c.loop-instruction.reader) in
     let after = ahead c.next.new.self.lines.block (g.R.Source.left c.next.new.reader) in
-    let m = c.loop-order.script.lines.count in
+    let m = c.loop-instruction.script.lines.count in
     let k = c.next.new.self.lines.count in
-    let next : IsNextOrder before after c.in-Ok-Some.order = rw c.in-Ok-Some.field-0-is at c.in-Ok-Some.ensures.next in
+    let next : IsNextInstruction before after c.in-Ok-Some.instruction = rw c.in-Ok-Some.field-0-is at c.in-Ok-Some.ensures.next in
     let lines : AreLines before m after k = rw c.in-Ok-Some.field-0-is at c.in-Ok-Some.ensures.lines in
     let a = c.in-Ok.ensures.answered in
-    let call : Call = record { order = c.in-Ok-Some.order; answer = a.answer } in
-    let passes = c.loop-order.seats.passes.items in
-    let table = c.loop-order.invariant.table in
-    let answered = answered_more c.args.seats.now.desk c.loop-order.seats.desk told.0 call passes c.loop-order.invariant.desk told.1 table told.2 a.is in
-    let have = have_more c.loop-order.seats.desk told.0 call passes c.call.new.self.passes.items table a.become told.2 in
+    let call : Call = record { instruction = c.in-Ok-Some.instruction; answer = a.answer } in
+    let passes = c.loop-instruction.seats.passes.items in
+    let table = c.loop-instruction.invariant.table in
+    let answered = answered_more c.args.seats.now.desk c.loop-instruction.seats.desk told.0 call passes c.loop-instruction.invariant.desk told.1 table told.2 a.is in
+    let have = have_more c.loop-instruction.seats.desk told.0 call passes c.call.new.self.passes.items table a.become told.2 in
     let calls = told.0 ++ call ∷ [] in
     let failed = write_ending _ c.from_residual.result c.from_residual.ensures.1 in
     let part = written_partly _ _ _ told.0 call told.3 (c.in_err-give_answer-in-Ok.ensures a.answer a.shows).0 in (
@@ -74,26 +74,26 @@ returns-in_err-give_answer-in-Ok-clause-told g c =
       subst (λ r. IsRead (ahead c.args.script.now.lines.block (g.R.Source.left c.args.reader.now)) c.args.script.now.lines.count r calls) (sym failed) (record {
         end = after;
         count = k;
-        orders = ordered _ before after told.0 call told.4 next;
-        lines = joined _ before _ _ after _ c.loop-order.invariant.lines lines;
+        instructions = instructed _ before after told.0 call told.4 next;
+        lines = joined _ before _ _ after _ c.loop-instruction.invariant.lines lines;
         stops = tt;
       }),
     )
 
 pub returns-in_err-give_answer-in-Ok-clause-desk : goal.returns-in_err-give_answer-in-Ok-clause-desk
-returns-in_err-give_answer-in-Ok-clause-desk g c = c.call.ensures.desk ∙ c.loop-order.invariant.desk
+returns-in_err-give_answer-in-Ok-clause-desk g c = c.call.ensures.desk ∙ c.loop-instruction.invariant.desk
 
 pub returns-in-Err-call-clause-told : goal.returns-in-Err-call-clause-told
 returns-in-Err-call-clause-told g c =
-    let told = c.loop-order.invariant.told in
-    let before = ahead c.loop-order.script.lines.block (g.R.Source.left c.loop-order.reader) in
+    let told = c.loop-instruction.invariant.told in
+    let before = ahead c.loop-instruction.script.lines.block (g.R.Source.left c.loop-instruction.reader) in
     let after = ahead c.next.new.self.lines.block (g.R.Source.left c.next.new.reader) in
-    let m = c.loop-order.script.lines.count in
+    let m = c.loop-instruction.script.lines.count in
     let k = c.next.new.self.lines.count in
-    let next : IsNextOrder before after c.in-Ok-Some.order = rw c.in-Ok-Some.field-0-is at c.in-Ok-Some.ensures.next in
+    let next : IsNextInstruction before after c.in-Ok-Some.instruction = rw c.in-Ok-Some.field-0-is at c.in-Ok-Some.ensures.next in
     let lines : AreLines before m after k = rw c.in-Ok-Some.field-0-is at c.in-Ok-Some.ensures.lines in
-    let passes = c.loop-order.seats.passes.items in
-    let same = same_entries _ c.loop-order.seats.desk told.0 passes told.1 c.loop-order.invariant.table told.2 in
+    let passes = c.loop-instruction.seats.passes.items in
+    let same = same_entries _ c.loop-instruction.seats.desk told.0 passes told.1 c.loop-instruction.invariant.table told.2 in
     let unclaimed = c.in-Err-call.ensures.none in (
       told.0,
       told.1,
@@ -102,11 +102,11 @@ returns-in-Err-call-clause-told g c =
       record {
         end = before;
         count = m;
-        orders = told.4;
-        lines = c.loop-order.invariant.lines;
+        instructions = told.4;
+        lines = c.loop-instruction.invariant.lines;
         stops = inr (record {
           after = after;
-          order = c.in-Ok-Some.order;
+          instruction = c.in-Ok-Some.instruction;
           seat = unclaimed.0;
           claim = unclaimed.1;
           next = next;
@@ -118,39 +118,39 @@ returns-in-Err-call-clause-told g c =
     )
 
 pub returns-in-Err-call-clause-desk : goal.returns-in-Err-call-clause-desk
-returns-in-Err-call-clause-desk g c = c.call.ensures.desk ∙ c.loop-order.invariant.desk
+returns-in-Err-call-clause-desk g c = c.call.ensures.desk ∙ c.loop-instruction.invariant.desk
 
 pub returns-in-Ok-None-clause-told : goal.returns-in-Ok-None-clause-told
 returns-in-Ok-None-clause-told g c =
-    let told = c.loop-order.invariant.told in
-    let before = ahead c.loop-order.script.lines.block (g.R.Source.left c.loop-order.reader) in
+    let told = c.loop-instruction.invariant.told in
+    let before = ahead c.loop-instruction.script.lines.block (g.R.Source.left c.loop-instruction.reader) in
     let after = ahead c.next.new.self.lines.block (g.R.Source.left c.next.new.reader) in
-    let m = c.loop-order.script.lines.count in
+    let m = c.loop-instruction.script.lines.count in
     let spent : IsSpent before m after = rw c.in-Ok-None.field-0-is at c.in-Ok-None.ensures.spent in
-    (told.0, told.1, told.2, told.3, record { end = before; count = m; orders = told.4; lines = c.loop-order.invariant.lines; stops = (after, spent) })
+    (told.0, told.1, told.2, told.3, record { end = before; count = m; instructions = told.4; lines = c.loop-instruction.invariant.lines; stops = (after, spent) })
 
 pub returns-in-Ok-None-clause-table : goal.returns-in-Ok-None-clause-table
-returns-in-Ok-None-clause-table g c = c.loop-order.invariant.table
+returns-in-Ok-None-clause-table g c = c.loop-instruction.invariant.table
 
 pub returns-in-Ok-None-clause-desk : goal.returns-in-Ok-None-clause-desk
-returns-in-Ok-None-clause-desk g c = c.loop-order.invariant.desk
+returns-in-Ok-None-clause-desk g c = c.loop-instruction.invariant.desk
 
 pub returns-in-Err-clause-told : goal.returns-in-Err-clause-told
 returns-in-Err-clause-told g c =
-    let told = c.loop-order.invariant.told in (
+    let told = c.loop-instruction.invariant.told in (
       told.0,
       told.1,
       told.2,
       tells_ending _ _ c.in-Err.fault _ told.3,
-      stopped c.in-Err.fault told.0 told.4 c.loop-order.invariant.lines (λ n e. inl (c.next.ensures.line n (c.in-Err.is ∙ ap Err e))),
+      stopped c.in-Err.fault told.0 told.4 c.loop-instruction.invariant.lines (λ n e. inl (c.next.ensures.line n (c.in-Err.is ∙ ap Err e))),
     )
 
 pub returns-in-Err-clause-read : goal.returns-in-Err-clause-read
 returns-in-Err-clause-read g c e =
-    longer_still _ _ _ _ c.loop-order.invariant.lines (c.next.ensures.read (c.in-Err.is ∙ ap Err (read_failed c.in-Err.fault e)))
+    longer_still _ _ _ _ c.loop-instruction.invariant.lines (c.next.ensures.read (c.in-Err.is ∙ ap Err (read_failed c.in-Err.fault e)))
 
 pub returns-in-Err-clause-table : goal.returns-in-Err-clause-table
-returns-in-Err-clause-table g c = c.loop-order.invariant.table
+returns-in-Err-clause-table g c = c.loop-instruction.invariant.table
 
 pub returns-in-Err-clause-desk : goal.returns-in-Err-clause-desk
-returns-in-Err-clause-desk g c = c.loop-order.invariant.desk
+returns-in-Err-clause-desk g c = c.loop-instruction.invariant.desk

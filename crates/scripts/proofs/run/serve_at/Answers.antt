@@ -1,5 +1,5 @@
 use Rattle.std.proofs.Common.{◌≡◌, ◌∙◌, ◌+◌, ◌-◌, arith, sym, subst}
-use Rattle.orders.specs.Lines.{ahead}
+use Rattle.script_lines.specs.Lines.{ahead}
 use Rattle.scripts.specs.Answers.{worker_count}
 use Rattle.scripts.specs.Passes.{ending}
 use Rattle.scripts.specs.Serving.{AreAnswered}

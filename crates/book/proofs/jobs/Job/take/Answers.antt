@@ -1,7 +1,7 @@
 use Rattle.std.proofs.Common.{◌≡◌, ◌∙◌, ap, sym, subst, Some}
 use Rattle.std.specs.Prelude.{slice_get, IfSome}
-use Rattle.slices.specs.Parts.{Portion}
-use Rattle.slices.specs.Tallies.{Results, span_of}
+use Rattle.slices.specs.Parts.{PieceValue}
+use Rattle.slices.specs.Tallies.{TallyValue, span_of}
 use Rattle.book.specs.Jobs.{Job, marked}
 use Rattle.book.specs.Results.{IsVerdictOn}
 use Rattle.book.specs.Step.{HasRange}
@@ -13,7 +13,7 @@ pub returns-then-slice-clause-ok : goal.returns-then-slice-clause-ok
 returns-then-slice-clause-ok c =
     let p = c.args.part.piece in
     let x = c.index-slice.result.now in
-    let place : c.slice-place.result ≡ p.slice = c.slice-place.ensures ∙ ap (λ (q : Portion). q.slice) c.piece.ensures in
+    let place : c.slice-place.result ≡ p.slice = c.slice-place.ensures ∙ ap (λ (q : PieceValue). q.slice) c.piece.ensures in
     let R : Job → Type 0 = λ j. HasRange (slice_get j.slices p.slice) p.from p.to in
     let at = here_range c.self.inside.slices.items p.slice c.slice-place.result p.from p.to x place (subst R (sym c.self.view_is) c.requires.range) c.index-slice.ensures in
     let G : Job → Type 0 = λ j. slice_get j.slices p.slice ≡ Some x in
@@ -23,7 +23,7 @@ pub merge-requires-clause-apart : goal.merge-requires-clause-apart
 merge-requires-clause-apart c =
     let p = c.args.part.piece in
     let x = c.index-slice.result.now in
-    let place : c.slice-place.result ≡ p.slice = c.slice-place.ensures ∙ ap (λ (q : Portion). q.slice) c.piece.ensures in
+    let place : c.slice-place.result ≡ p.slice = c.slice-place.ensures ∙ ap (λ (q : PieceValue). q.slice) c.piece.ensures in
     let R : Job → Type 0 = λ j. HasRange (slice_get j.slices p.slice) p.from p.to in
     let at = here_range c.self.inside.slices.items p.slice c.slice-place.result p.from p.to x place (subst R (sym c.self.view_is) c.requires.range) c.index-slice.ensures in
     apart c.self.inside.tally c.self.inside.slices.items p.slice x (span_of c.args.part) c.self.invariant.tied at.0 c.if-slice.false (sym at.1) (sym at.2)
@@ -32,18 +32,18 @@ pub invariant_of-self : goal.invariant_of-self
 invariant_of-self c =
     let p = c.args.part.piece in
     let x = c.index-slice.result.now in
-    let place : c.slice-place.result ≡ p.slice = c.slice-place.ensures ∙ ap (λ (q : Portion). q.slice) c.piece.ensures in
+    let place : c.slice-place.result ≡ p.slice = c.slice-place.ensures ∙ ap (λ (q : PieceValue). q.slice) c.piece.ensures in
     let R : Job → Type 0 = λ j. HasRange (slice_get j.slices p.slice) p.from p.to in
     let at = here_range c.self.inside.slices.items p.slice c.slice-place.result p.from p.to x place (subst R (sym c.self.view_is) c.requires.range) c.index-slice.ensures in
     let tied = merged_tied c.self.inside.tally c.merge.new.self c.self.inside.slices.items p.slice c.slice-place.result x (span_of c.args.part) c.self.invariant.tied at.0 place (sym at.1) (sym at.2) c.in-Ok.ensures.merged in
-    let K : Results → Type 0 = λ r. IfSome c.self.inside.verdict (IsVerdictOn r.work c.self.inside.version) in
+    let K : TallyValue → Type 0 = λ r. IfSome c.self.inside.verdict (IsVerdictOn r.work c.self.inside.version) in
     record { tied = tied; kept = subst K (sym c.in-Ok.ensures.merged) c.self.invariant.kept }
 
 pub returns-clause-ok : goal.returns-clause-ok
 returns-clause-ok c =
     let p = c.args.part.piece in
     let x = c.index-slice.result.now in
-    let place : c.slice-place.result ≡ p.slice = c.slice-place.ensures ∙ ap (λ (q : Portion). q.slice) c.piece.ensures in
+    let place : c.slice-place.result ≡ p.slice = c.slice-place.ensures ∙ ap (λ (q : PieceValue). q.slice) c.piece.ensures in
     let R : Job → Type 0 = λ j. HasRange (slice_get j.slices p.slice) p.from p.to in
     let at = here_range c.self.inside.slices.items p.slice c.slice-place.result p.from p.to x place (subst R (sym c.self.view_is) c.requires.range) c.index-slice.ensures in
     elim c.match-merge.branch [

@@ -2,7 +2,7 @@ use Rattle.std.proofs.Common.{◌≡◌, refl, rules, take}
 use Rattle.journal.specs.Lines.{seen}
 use Rattle.journal.specs.declared.records.Command.TheVariants as commands
 use Rattle.book.specs.declared.kept.Refused.TheVariants.{NoMemory}
-use Rattle.orders.specs.declared.order.Request.TheVariants.{Return}
+use Rattle.script_lines.specs.declared.instruction.Request.TheVariants.{Return}
 use Rattle.scripts.specs.Answers.{Asks}
 use Rattle.scripts.specs.Passes.{session_receipts}
 use Rattle.scripts.proofs.Pieces.{none_in_all, some_in_all}

@@ -1,6 +1,6 @@
-use Rattle.slices.specs.Codes.{coded_portion}
+use Rattle.slices.specs.Codes.{coded_piece}
 use Rattle.slices.specs.Same.{one_test}
 use Rattle.slices.proofs.equality.PiecePartialEq.eq.Goals as goal
 
 pub returns-clause-value : goal.returns-clause-value
-returns-clause-value c = one_test coded_portion c.args.self.now c.args.other.now c.is_same.result c.is_same.ensures
+returns-clause-value c = one_test coded_piece c.args.self.now c.args.other.now c.is_same.result c.is_same.ensures

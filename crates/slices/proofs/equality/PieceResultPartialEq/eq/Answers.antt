@@ -1,6 +1,6 @@
-use Rattle.slices.specs.Codes.{coded_part}
+use Rattle.slices.specs.Codes.{coded_piece_result}
 use Rattle.slices.specs.Same.{one_test}
 use Rattle.slices.proofs.equality.PieceResultPartialEq.eq.Goals as goal
 
 pub returns-clause-value : goal.returns-clause-value
-returns-clause-value c = one_test coded_part c.args.self.now c.args.other.now c.is_same.result c.is_same.ensures
+returns-clause-value c = one_test coded_piece_result c.args.self.now c.args.other.now c.is_same.result c.is_same.ensures

@@ -1,6 +1,6 @@
-use Rattle.slices.specs.Codes.{coded_task}
+use Rattle.slices.specs.Codes.{coded_work}
 use Rattle.slices.specs.Same.{one_test}
 use Rattle.slices.proofs.equality.WorkRefPartialEq.eq.Goals as goal
 
 pub returns-clause-value : goal.returns-clause-value
-returns-clause-value c = one_test coded_task c.args.self.now c.args.other.now c.same.result c.same.ensures
+returns-clause-value c = one_test coded_work c.args.self.now c.args.other.now c.same.result c.same.ensures

@@ -1,5 +1,5 @@
 use Rattle.std.proofs.Common.{◌∙◌, ap, sym, arith}
-use Rattle.slices.specs.Tallies.{Results}
+use Rattle.slices.specs.Tallies.{TallyValue}
 use Rattle.slices.proofs.Together.{at_piece, part_of, part_few, part_merged, tally_same, taken_back}
 use Rattle.slices.proofs.tally.Tally.add.Goals as goal
 
@@ -8,8 +8,8 @@ add-requires c =
     let w = c.self.inside.work in
     let spans = c.self.inside.spans.items in
     let v = c.finding.result.now in
-    let work = sym (ap (λ (x : Results). x.work) c.self.view_is) in
-    let ranges = sym (ap (λ (x : Results). x.spans) c.self.view_is) in
+    let work = sym (ap (λ (x : TallyValue). x.work) c.self.view_is) in
+    let ranges = sym (ap (λ (x : TallyValue). x.spans) c.self.view_is) in
     let h = part_of w c.work.result.now c.args.self.now spans c.span-span.result c.args.part.now c.piece-piece.result.now v c.work.ensures c.size-size.ensures.admitted work ranges c.requires.work c.requires.apart c.piece-piece.ensures c.span-span.ensures.range c.found.ensures.right (c.finding.ensures ∙ c.found.ensures.found) (c.span-span.ensures.value ∙ ap at_piece c.piece-piece.ensures) in
     record { few = part_few w spans c.span-span.result v c.self.inside.sum c.numbering.ensures h c.self.invariant }
 
@@ -18,8 +18,8 @@ invariant_of-self-in-Ok c =
     let w = c.self.inside.work in
     let spans = c.self.inside.spans.items in
     let v = c.finding.result.now in
-    let work = sym (ap (λ (x : Results). x.work) c.self.view_is) in
-    let ranges = sym (ap (λ (x : Results). x.spans) c.self.view_is) in
+    let work = sym (ap (λ (x : TallyValue). x.work) c.self.view_is) in
+    let ranges = sym (ap (λ (x : TallyValue). x.spans) c.self.view_is) in
     let h = part_of w c.work.result.now c.args.self.now spans c.span-span.result c.args.part.now c.piece-piece.result.now v c.work.ensures c.size-size.ensures.admitted work ranges c.requires.work c.requires.apart c.piece-piece.ensures c.span-span.ensures.range c.found.ensures.right (c.finding.ensures ∙ c.found.ensures.found) (c.span-span.ensures.value ∙ ap at_piece c.piece-piece.ensures) in
     part_merged w spans c.push.new.self.items c.span-span.result v c.self.inside.sum c.add.new.self c.numbering.ensures h c.self.invariant c.in-Ok.ensures.added c.in_ok-push.ensures.items
 

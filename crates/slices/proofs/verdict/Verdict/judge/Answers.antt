@@ -1,29 +1,29 @@
 use Rattle.std.proofs.Common.{◌≡◌, ◌∙◌, ap, arith}
-use Rattle.slices.specs.Parts.{Portion, test_size}
-use Rattle.slices.specs.Tallies.{Results}
-use Rattle.slices.specs.Works.{Task}
+use Rattle.slices.specs.Parts.{PieceValue, test_size}
+use Rattle.slices.specs.Tallies.{TallyValue}
+use Rattle.slices.specs.Works.{WorkValue}
 use Rattle.slices.proofs.Cuts.{next_apart, next_below, next_held, all_held}
 use Rattle.slices.proofs.verdict.Verdict.judge.Goals as goal
 
 pub merge-requires-clause-apart : goal.merge-requires-clause-apart
 merge-requires-clause-apart c =
-    let first = ap (λ (p : Portion). p.from) c.in_ok-part.ensures ∙ c.in_ok-slice_of.ensures.from in
+    let first = ap (λ (p : PieceValue). p.from) c.in_ok-part.ensures ∙ c.in_ok-slice_of.ensures.from in
     next_apart (test_size c.args.work.test) c.args.total c.loop-slice.slice c.in_ok-part.part c.loop-slice.tally.spans c.loop-slice.invariant.below first
 
 pub loop-slice-preserved : goal.loop-slice-preserved
 loop-slice-preserved c =
     let n = test_size c.args.work.test in
-    let first = ap (λ (p : Portion). p.from) c.in_ok-part.ensures ∙ c.in_ok-slice_of.ensures.from in
-    let last = ap (λ (p : Portion). p.to) c.in_ok-part.ensures ∙ c.in_ok-slice_of.ensures.to in
-    let pushed = ap (λ (t : Results). t.spans) c.in-Ok.ensures.merged in
+    let first = ap (λ (p : PieceValue). p.from) c.in_ok-part.ensures ∙ c.in_ok-slice_of.ensures.from in
+    let last = ap (λ (p : PieceValue). p.to) c.in_ok-part.ensures ∙ c.in_ok-slice_of.ensures.to in
+    let pushed = ap (λ (t : TallyValue). t.spans) c.in-Ok.ensures.merged in
     record {
-      same = ap (λ (t : Results). t.work) c.in-Ok.ensures.merged ∙ c.loop-slice.invariant.same;
+      same = ap (λ (t : TallyValue). t.work) c.in-Ok.ensures.merged ∙ c.loop-slice.invariant.same;
       below = next_below n c.args.total c.loop-slice.slice c.in_ok-part.part c.loop-slice.tally.spans c.merge.new.self.spans c.requires.0 pushed last c.loop-slice.invariant.below;
       held = next_held n c.args.total c.loop-slice.slice c.in_ok-part.part c.loop-slice.tally.spans c.merge.new.self.spans pushed first last c.loop-slice.invariant.held;
     }
 
 pub verdict-requires : goal.verdict-requires
 verdict-requires c =
-    let size : test_size c.loop-slice.tally.work.test ≡ test_size c.args.work.test = ap (λ (w : Task). test_size w.test) c.loop-slice.invariant.same in
+    let size : test_size c.loop-slice.tally.work.test ≡ test_size c.args.work.test = ap (λ (w : WorkValue). test_size w.test) c.loop-slice.invariant.same in
     let done : c.loop-slice.slice ≡ c.args.total = omega arith in
     λ j l. all_held (test_size c.args.work.test) c.args.total c.loop-slice.slice c.loop-slice.tally.spans c.requires.0 done c.loop-slice.invariant.held j (omega (arith, size, l))

@@ -1,5 +1,0 @@
-use Rattle.book.proofs.Listed.{CatsListed}
-use Rattle.book.proofs.bench.listed.loaded_cats.Given as goal
-
-abbrev pub invariant-loop-place : goal.invariant-loop-place
-invariant-loop-place l = CatsListed l.cats l.place l.listed.items

@@ -1,0 +1,187 @@
+//! Texts, and what is asked of the tests that they spell. A call that memory was wanting for is made again.
+
+use c11_threads::{RunFault, runs};
+use candidates::{Space, SpaceFault, Walk};
+use events::{Graph, Run};
+use litmus_c::{Test, TestFault, read_test};
+use std::alloc::{AllocError, Global};
+use std::process::Abort;
+
+/// Store buffering.
+pub const SB: &str = "C SB\n{}\n\
+P0 (atomic_int* x, atomic_int* y) { atomic_store_explicit(x, 1, memory_order_relaxed); int r0 = atomic_load_explicit(y, memory_order_relaxed); }\n\
+P1 (atomic_int* x, atomic_int* y) { atomic_store_explicit(y, 1, memory_order_relaxed); int r0 = atomic_load_explicit(x, memory_order_relaxed); }\n\
+exists (0:r0=0 /\\ 1:r0=0)\n";
+
+/// A call's answer, made again once where it was refused so.
+macro_rules! again {
+    ($refused:pat, $call:expr) => {
+        match $call {
+            Err($refused) => $call,
+            answer => answer,
+        }
+    };
+}
+
+pub(crate) use again;
+
+/// The answer to a text.
+fn answer_to(alloc: Global, text: &str) -> Result<Test, TestFault> {
+    again!(TestFault::NoMemory, read_test(alloc, text.as_bytes()))
+}
+
+/// How many runs a thread has, or why they aren't listed; `None` where the thread isn't there.
+pub type Count = Option<Result<usize, RunFault>>;
+
+/// What may hold of the runs of a thread.
+pub type Check = fn(&[Run]) -> bool;
+
+/// Whether a thread of a test has so many runs, of which this holds.
+fn has_runs_in(alloc: Global, test: &Test, thread: usize, wanted: Count, check: Check) -> bool
+    requires { IsAlwaysCallable check }
+{
+    if thread >= test.threads().len() {
+        return wanted == None;
+    }
+    match again!(RunFault::NoMemory, runs(alloc, test, thread)) {
+        Ok(runs) => wanted == Some(Ok(runs.len())) && check(&runs),
+        Err(fault) => wanted == Some(Err(fault)),
+    }
+}
+
+/// Whether a thread of the test that a text spells has so many runs, of which this holds.
+pub fn has_runs(alloc: Global, text: &str, thread: usize, wanted: Count, check: Check) -> bool
+    requires { IsAlwaysCallable check }
+{
+    match answer_to(alloc, text) {
+        Ok(test) => has_runs_in(alloc, &test, thread, wanted, check),
+        Err(_) => false,
+    }
+}
+
+/// Holds of any runs.
+pub fn any(_runs: &[Run]) -> bool {
+    true
+}
+
+/// What is asked of the space of a test's candidates.
+#[derive(Clone, Copy)]
+pub enum Question {
+    /// How many candidates it has.
+    Size,
+    /// How many of them are executions.
+    Executions,
+    /// How many executions a walk finds.
+    Walked,
+}
+
+/// What is reported of a space, or why there is none.
+pub type Told = Result<u64, SpaceFault>;
+
+/// A text, what is asked of the space of its test, and what is reported.
+pub type Row = (&'static str, Question, Told);
+
+fn answer(alloc: Global, space: &Space, question: Question) -> Result<u64, AllocError> {
+    match question {
+        Question::Size => Ok(space.size()),
+        Question::Executions => count_executions(alloc, space),
+        Question::Walked => count_walked(alloc, space),
+    }
+}
+
+fn tells_in(alloc: Global, space: &Space, question: Question, wanted: Told) -> bool {
+    match answer(alloc, space, question) {
+        Ok(number) => wanted == Ok(number),
+        Err(_) => false,
+    }
+}
+
+/// Whether this is reported of the space of a test.
+fn tells_of(alloc: Global, test: &Test, question: Question, wanted: Told) -> bool {
+    match again!(SpaceFault::NoMemory, Space::new(alloc, test)) {
+        Ok(space) => tells_in(alloc, &space, question, wanted),
+        Err(fault) => wanted == Err(fault),
+    }
+}
+
+/// Whether this is reported of the space of the test that a text spells.
+pub fn tells(alloc: Global, text: &str, question: Question, wanted: Told) -> bool {
+    match answer_to(alloc, text) {
+        Ok(test) => tells_of(alloc, &test, question, wanted),
+        Err(_) => false,
+    }
+}
+
+/// Fails at the first text of which something else is reported.
+pub fn all_tell(rt: &impl Abort, alloc: Global, rows: &[Row]) {
+    for (text, question, wanted) in rows {
+        assert!(rt; tells(alloc, text, *question, *wanted), "{text}");
+    }
+}
+
+/// How many candidates of a space are executions.
+fn count_executions(alloc: Global, space: &Space) -> Result<u64, AllocError> {
+    let mut count: u64 = 0;
+    for number in 0..space.size() {
+        if again!(_, space.graph(alloc, number))?.is_some() {
+            count = count.saturating_add(1);
+        }
+    }
+    Ok(count)
+}
+
+/// Whether the execution at a number has the same map of reads as this one.
+fn stands_at(
+    alloc: Global,
+    space: &Space,
+    number: u64,
+    execution: &Graph,
+) -> Result<bool, AllocError> {
+    if number >= space.size() {
+        return Ok(false);
+    }
+    match again!(_, space.graph(alloc, number))? {
+        Some(graph) => Ok(graph.rf() == execution.rf()),
+        None => Ok(false),
+    }
+}
+
+/// How many executions a walk over a space finds from here on, each behind the one before, and each at its number; none
+/// where one isn't.
+fn count_on(alloc: Global, space: &Space, walk: &mut Walk) -> Result<u64, AllocError> {
+    let mut count: u64 = 0;
+    let mut least: u64 = 0;
+    for _ in 0..space.size() {
+        let Some(number) = again!(_, walk.next(alloc))? else {
+            return Ok(count);
+        };
+        if number < least || !stands_at(alloc, space, number, walk.graph())? {
+            return Ok(0);
+        }
+        least = number.saturating_add(1);
+        count = count.saturating_add(1);
+    }
+    Ok(count)
+}
+
+/// How many executions a walk over a whole space finds so.
+fn count_walked(alloc: Global, space: &Space) -> Result<u64, AllocError> {
+    let mut walk = space.walk(alloc, 0, space.size());
+    count_on(alloc, space, &mut walk)
+}
+
+/// A text, then a part some times, then an end.
+pub fn repeated(
+    alloc: Global,
+    start: &str,
+    part: &str,
+    times: usize,
+    end: &str,
+) -> Result<String, AllocError> {
+    let mut text = String::from_str(alloc, start)?;
+    for _ in 0..times {
+        text.push_str(part)?;
+    }
+    text.push_str(end)?;
+    Ok(text)
+}

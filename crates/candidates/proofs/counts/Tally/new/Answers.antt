@@ -1,6 +1,0 @@
-use Rattle.candidates.proofs.Adding.{tally_next}
-use Rattle.candidates.proofs.counts.Tally.new.Goals as goal
-
-pub loop-location-preserved : goal.loop-location-preserved
-loop-location-preserved c =
-    tally_next c.loop-location.location c.args.events.now c.loop-location.counts.items c.push.new.self.items c.count.result c.loop-location.invariant c.count.ensures.reads c.count.ensures.writes c.in_ok-push.ensures.items

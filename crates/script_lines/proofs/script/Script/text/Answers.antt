@@ -1,0 +1,42 @@
+use Rattle.std.proofs.Common.{◌++◌, ◌-◌, [], length, take, sym, refl, ap, ◌∙◌, Ok, Err}
+use Rattle.std.proofs.lemmas.Bool.{false≢true}
+use Rattle.script_lines.specs.Lines.{nothing_read}
+use Rattle.script_lines.specs.Scripts.{no_text, long_line, open_text}
+use Rattle.script_lines.specs.declared.fault.ScriptFault.TheVariants as faults
+use Rattle.script_lines.proofs.Counted.{counted, same_number, told_on}
+use Rattle.script_lines.proofs.Taken.{ended}
+use Rattle.script_lines.proofs.Texts.{gathered}
+use Rattle.script_lines.proofs.script.Script.text.Goals as goal
+
+pub returns-then-is_last-clause-lines : goal.returns-then-is_last-clause-lines
+returns-then-is_last-clause-lines g c =
+    let is = c.in_ok-next.was ∙ ap Ok c.if-branch.true in
+    counted _ _ _ _ _ _ _ c.loop-bytes.invariant.lines (c.next.ensures.room is) (c.next.ensures.next is) (c.next.ensures.count is)
+
+pub returns-in_err-next-clause-line : goal.returns-in_err-next-clause-line
+returns-in_err-next-clause-line g c n e =
+    let p = c.next.ensures.line n (c.in_err-next.was ∙ ap Err (told_on c.from_residual.result c.in_err-next.field-0.0 (faults.BadLine n) c.from_residual.ensures.1 e)) in
+    long_line c.loop-bytes.invariant.text.lines c.loop-bytes.invariant.lines p.1 p.0
+
+pub returns-clause-line : goal.returns-clause-line
+returns-clause-line g c n e =
+    let is = c.in_ok-next.was ∙ ap Ok c.if-branch.false in
+    let number = same_number (Err (faults.BadLine c.count.result)) c.count.result n refl e in
+    open_text c.loop-bytes.invariant.text.lines c.loop-bytes.invariant.lines
+    (ended _ c.next.new.self.block (g.R.Source.left c.next.new.reader) (c.next.ensures.kept is) (c.next.ensures.none is) (c.next.ensures.end is))
+    (number ∙ c.count.ensures ∙ c.next.ensures.still is)
+
+pub loop-bytes-init : goal.loop-bytes-init
+loop-bytes-init g c = record { text = record { whole = []; lines = no_text; kept = c.new-bytes.ensures.items }; lines = nothing_read }
+
+pub loop-bytes-preserved : goal.loop-bytes-preserved
+loop-bytes-preserved g c =
+    let old = c.loop-bytes.bytes.items in
+    let is = c.in_ok-next.was ∙ ap Ok c.if-branch.true in
+    let next = c.next.ensures.next is in record {
+      text = gathered _ _ _ c.next.new.self.line.items old c.add_front.new.text.items c.add_front-in-loop-bytes.new.text.items c.loop-bytes.invariant.text next
+          (λ e. false≢true (sym c.if-is_last.false ∙ c.is_last.ensures.1 (c.line.ensures ∙ e)))
+          (c.in_ok-add_front.ensures ∙ ap (λ line. old ++ take (65537 - length old) line) c.line-in-loop-bytes.ensures)
+          c.in_ok-add_front-2.ensures;
+      lines = counted _ _ _ _ _ _ _ c.loop-bytes.invariant.lines (c.next.ensures.room is) next (c.next.ensures.count is);
+    }

@@ -1,0 +1,14 @@
+use Rattle.std.specs.Prelude.{◌-◌}
+use Rattle.script_lines.specs.Lines.{ahead, AreLines}
+use Rattle.script_lines.proofs.Texts.{Gathered}
+use Rattle.script_lines.proofs.script.Script.text.Given as goal
+
+-- what came to the text so far, and the lines that it came from
+abbrev pub invariant-loop-bytes : goal.invariant-loop-bytes
+invariant-loop-bytes g l = record {
+  text : Gathered (ahead l.initial.self.lines.block (g.R.Source.left l.initial.reader)) (ahead l.self.lines.block (g.R.Source.left l.reader)) l.bytes.items;
+  lines : AreLines (ahead l.initial.self.lines.block (g.R.Source.left l.initial.reader)) l.initial.self.lines.count (ahead l.self.lines.block (g.R.Source.left l.reader)) l.self.lines.count;
+}
+
+abbrev pub decreases-loop-bytes : goal.decreases-loop-bytes
+decreases-loop-bytes g l = 1000000 - l.self.lines.count
