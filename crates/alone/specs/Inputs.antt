@@ -1,7 +1,7 @@
 -- What is answered to an input under a cat text.
 use Rattle.std.specs.Prelude.{ℕ, List, [], ◌∷◌, take, Option, Some, codes}
 use Rattle.std.specs.Io.KnownBytes.{Appends}
-use Rattle.wb_text.specs.Memory.{AppendsFront}
+use Rattle.wb_text.specs.Memory.{AppendsPrefix}
 use Rattle.litmus_tree.specs.Tree.{Litmus, Word}
 use Rattle.litmus_c.specs.Reads.{Reads, IsRefused}
 use Rattle.litmus_c.specs.declared.fault.TestFault.TheVariants as of_test
@@ -47,7 +47,7 @@ Summarizes text cat old new = (v : FindingValue) × HasFinding text cat v × App
 
 -- The writer has been given a prefix of it.
 abbrev pub SummarizesPartly : List ℕ → List ℕ → Option (List ℕ) → Option (List ℕ) → Type 0
-SummarizesPartly text cat old new = (v : FindingValue) × HasFinding text cat v × AppendsFront old new (Text v)
+SummarizesPartly text cat old new = (v : FindingValue) × HasFinding text cat v × AppendsPrefix old new (Text v)
 
 -- Why there is no summary: the text reads as no test; or it does, and the cat text reads as no file; or both do, and the
 -- file gives no model; or it gives one, and the test has too many runs or candidates. The fault's own cause holds, and want

@@ -2,6 +2,8 @@
 #![tactic(auto)]
 
 mod main_file;
+mod refusal;
 mod summary;
 
+pub use refusal::write_refusal;
 pub use summary::{OneFault, one};

@@ -3,6 +3,7 @@
 ghost use Rattle.std.specs.Prelude.{◌≡◌, ◌≤◌, ◌↔◌, true, Err, IfSome, IfOk, IfErr, OnOk};
 ghost use Rattle.std.specs.Io.KnownBytes.{Keeps};
 ghost use Rattle.wb_text.specs.Memory.{LosesAtMost};
+ghost use Rattle.alone.specs.Refusals.{one_label};
 ghost use Rattle.alone.specs.Inputs.{text_of, HasFinding, Summarizes, SummarizesPartly, IsRefusal, IsFaultOf, IsOfTexts};
 
 use crate::main_file::model_of;
@@ -19,11 +20,11 @@ use wb_text::{ReadFault, Sink, Source, read_up_to};
 /// The most bytes of an input that are read.
 const MOST_BYTES: usize = 65_537;
 
-/// Why there is no summary, or not all of it. What it prints follows `refused`.
+/// Why there is no summary, or not all of it.
 #[derive(Debug, Drop, PartialEq, Eq, Error)]
+#[error("{}", self.label())]
 pub enum OneFault {
     /// The reader failed.
-    #[error("96 Read")]
     Read,
     /// The input is no test.
     #[error("{0}")]
@@ -38,9 +39,7 @@ pub enum OneFault {
     #[error("{0}")]
     Space(SpaceFault),
     /// The writer failed.
-    #[error("97 Write")]
     Write,
-    #[error("NoMemory")]
     NoMemory,
 }
 
@@ -93,6 +92,21 @@ fn judge(alloc: Global, text: &[u8], cat: &[u8], total: u16) -> Result<Verdict, 
 }
 
 impl OneFault {
+    /// The number and the name of this fault.
+    pub fn label(&self) -> &'static str
+        ensures { result.now ≡ one_label self.now }
+    {
+        match self {
+            OneFault::Read => "96 Read",
+            OneFault::Test(fault) => fault.label(),
+            OneFault::Cat(fault) => fault.label(),
+            OneFault::Model(fault) => fault.label(),
+            OneFault::Space(fault) => fault.label(),
+            OneFault::Write => "97 Write",
+            OneFault::NoMemory => "NoMemory",
+        }
+    }
+
     /// Whether the input or the cat text is refused: as a test, as a model, or by the space of the candidates.
     pub fn is_refusal(&self) -> bool
         ensures { (result ≡ true) ↔ IsOfTexts self.now }

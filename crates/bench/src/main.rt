@@ -3,7 +3,7 @@
 
 ghost use Rattle.std.specs.Prelude.{◌≤◌};
 
-use alone::{OneFault, one};
+use alone::{OneFault, one, write_refusal};
 use clap::error::ErrorKind;
 use command_line::{Task, read_task};
 use scripts::{Options, ServeFault, serve};
@@ -67,10 +67,16 @@ fn serve_script(
 fn evaluate_one(rt: &(impl Input + Print + AllocGlobal)) -> ExitCode {
     match summarize(rt) {
         Ok(()) => ExitCode::SUCCESS,
-        Err(fault) if fault.is_refusal() => match println!(rt; "refused {fault}") {
-            Ok(()) => ExitCode::from(BAD),
-            Err(_) => ExitCode::FAILURE,
-        },
+        Err(fault) if fault.is_refusal() => print_refusal(rt, &fault),
+        Err(_) => ExitCode::FAILURE,
+    }
+}
+
+/// Prints why the test is refused.
+fn print_refusal(rt: &impl Print, fault: &OneFault) -> ExitCode {
+    let mut writer = WriteSink::new(io::writer(rt));
+    match write_refusal(fault, &mut writer) {
+        Ok(()) => ExitCode::from(BAD),
         Err(_) => ExitCode::FAILURE,
     }
 }

@@ -4,6 +4,7 @@ pub mod Executions
 pub mod Faults
 pub mod Groups
 pub mod Impossible
+pub mod Labels
 pub mod Located
 pub mod Parts
 pub mod Readings

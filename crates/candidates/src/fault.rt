@@ -1,6 +1,7 @@
 //! Why there is no space.
 
 ghost use Rattle.std.specs.Prelude.{◌≡◌};
+ghost use Rattle.candidates.specs.Labels.{space_label};
 
 use c11_threads::RunFault;
 use std::alloc::{AllocError, AllocFailed};
@@ -11,15 +12,27 @@ pub const MOST_CANDIDATES: u64 = 1 << 32;
 
 /// Why a test's candidates aren't numbered.
 #[derive(Clone, Copy, Debug, Drop, PartialEq, Eq, Error)]
+#[error("{}", self.label())]
 pub enum SpaceFault {
     /// The thread has more than 4,096 runs.
-    #[error("31 TooManyRuns {0}")]
+    #[error("{label} {0}", label = self.label())]
     TooManyRuns(usize),
     /// There are more than 2^32 candidates.
-    #[error("41 TooManyCandidates")]
     TooManyCandidates,
-    #[error("NoMemory")]
     NoMemory,
+}
+
+impl SpaceFault {
+    /// The number and the name that a printed refusal has for this fault.
+    pub fn label(self) -> &'static str
+        ensures { result.now ≡ space_label self }
+    {
+        match self {
+            SpaceFault::TooManyRuns(thread) => RunFault::TooManyRuns(thread).label(),
+            SpaceFault::TooManyCandidates => "41 TooManyCandidates",
+            SpaceFault::NoMemory => "NoMemory",
+        }
+    }
 }
 
 impl From<AllocError> for SpaceFault {

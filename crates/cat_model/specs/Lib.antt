@@ -13,3 +13,4 @@ pub mod Closure
 pub mod Faults
 pub mod Walks
 pub mod Examples
+pub mod Labels

@@ -1,4 +1,4 @@
--- What is told of the place at which reading stops.
+-- What is reported of the place at which reading stops.
 use Rattle.std.proofs.Common.{◌≡◌, ◌≢◌, ℕ, ◌+◌, ◌-◌, ◌<◌, ◌≤◌, List, ◌∷◌, length, take, drop, min, refl, ap, sym, ◌∙◌, subst, arith, ◌⊎◌, inl, inr}
 use Rattle.std.specs.Prelude.{Ok, Err}
 use Rattle.std.proofs.lemmas.List.{take_rest}
@@ -24,29 +24,29 @@ use Rattle.cat_syntax.proofs.Places.{stops-of, take-take, take-length, take-whol
 fault_there : (cause fault : SyntaxFault) (ss : List Symbol) (place : ℕ) → fault ≡ cause → OrNoMemory fault (StopsAt ss fault place) → OrNoMemory cause (StopsAt ss cause place)
 fault_there cause fault ss place is stops = subst (λ f. OrNoMemory f (StopsAt ss f place)) is stops
 
-unexpected-told : (e : CatFault) (ss : List Symbol) (tokens : List Token) (end place : ℕ) (rest : List Symbol) → FaultAt ss faults.Unexpected place → drop place ss ≡ rest →
+unexpected-reported : (e : CatFault) (ss : List Symbol) (tokens : List Token) (end place : ℕ) (rest : List Symbol) → FaultAt ss faults.Unexpected place → drop place ss ≡ rest →
     IsUnexpected e rest (offset_of (drop place tokens) end) → Tells e ss tokens end
-unexpected-told (Syntax n) ss tokens end place rest fault is told =
-    record { place = place; cause = faults.Unexpected; fault = fault; wrong = subst (λ (l : List Symbol). IsWrong faults.Unexpected l) (sym is) told.0; told = told.1 }
-unexpected-told (Unsupported w) ss tokens end place (symbols.Unsupported v ∷ rest) fault is told =
-    record { place = place; behind = rest; fault = fault; word = is ∙ ap (λ (x : List ℕ). symbols.Unsupported x ∷ rest) (sym told) }
-unexpected-told NoMemory ss tokens end place rest fault is told = tt
-unexpected-told e ss tokens end place rest fault is told = absurd told
+unexpected-reported (Syntax n) ss tokens end place rest fault is reported =
+    record { place = place; cause = faults.Unexpected; fault = fault; wrong = subst (λ (l : List Symbol). IsWrong faults.Unexpected l) (sym is) reported.0; reported = reported.1 }
+unexpected-reported (Unsupported w) ss tokens end place (symbols.Unsupported v ∷ rest) fault is reported =
+    record { place = place; behind = rest; fault = fault; word = is ∙ ap (λ (x : List ℕ). symbols.Unsupported x ∷ rest) (sym reported) }
+unexpected-reported NoMemory ss tokens end place rest fault is reported = tt
+unexpected-reported e ss tokens end place rest fault is reported = absurd reported
 
 pub unexpected_told : (e : CatFault) (ss : List Symbol) (tokens : List Token) (end place : ℕ) (fault : SyntaxFault) → fault ≡ faults.Unexpected → OrNoMemory fault (StopsAt ss fault place) →
     ((n : ℕ) → IsExcess ss n → place ≤ n) → IsUnexpected e (take (length ss - place) (drop place ss)) (offset_of (take (length tokens - place) (drop place tokens)) end) → Tells e ss tokens end
-unexpected_told e ss tokens end place fault is stops within told =
-    unexpected-told e ss tokens end place (drop place ss) (record { stops = fault_there faults.Unexpected fault ss place is stops; within = within }) refl
-    (rw (take_rest ss place, take_rest tokens place) at told)
+unexpected_told e ss tokens end place fault is stops within reported =
+    unexpected-reported e ss tokens end place (drop place ss) (record { stops = fault_there faults.Unexpected fault ss place is stops; within = within }) refl
+    (rw (take_rest ss place, take_rest tokens place) at reported)
 
 pub twice_told : (n : ℕ) (ss : List Symbol) (tokens : List Token) (end place : ℕ) (fault : SyntaxFault) → fault ≡ faults.BoundTwice → OrNoMemory fault (StopsAt ss fault place) →
     ((n : ℕ) → IsExcess ss n → place ≤ n) → n ≡ offset_of (take (length tokens - place) (drop place tokens)) end → Tells (Syntax n) ss tokens end
-twice_told n ss tokens end place fault is stops within told = record {
+twice_told n ss tokens end place fault is stops within reported = record {
   place = place;
   cause = faults.BoundTwice;
   fault = record { stops = fault_there faults.BoundTwice fault ss place is stops; within = within };
   wrong = tt;
-  told = rw (take_rest tokens place) at told;
+  reported = rw (take_rest tokens place) at reported;
 }
 
 pub deep_told : (ss : List Symbol) (tokens : List Token) (end place : ℕ) (fault : SyntaxFault) → fault ≡ faults.TooDeep → OrNoMemory fault (StopsAt ss fault place) →
@@ -59,7 +59,7 @@ pub within_of : (ss : List Symbol) (n place : ℕ) → IsExcess ss n → place �
 within_of ss n place e h m f = omega (arith, h, one_excess ss n m e f)
 
 pub no_excess : (ss : List Symbol) (place n : ℕ) → weight Naming ss ≤ 4096 → IsExcess ss n → place ≤ n
-no_excess ss place n h (excess_at counted s behind few many here told) = absurd (omega (arith, h, many, front_all Naming ss (counted + 1)))
+no_excess ss place n h (excess_at counted s behind few many here reported) = absurd (omega (arith, h, many, front_all Naming ss (counted + 1)))
 
 -- where the reader stopped
 

@@ -62,29 +62,29 @@ counted-not_less ss i j few many = elim (le_or i j) [
   | inr h ↦ absurd (omega (arith, many, few, front-le contexts.Naming ss (j + 1) i (omega (arith, h))))
 ]
 
-excess-told : (ss : List Symbol) (i j : ℕ) (s t : Symbol) (ts us : List Symbol) → drop i ss ≡ s ∷ ts → drop j ss ≡ t ∷ us → i ≡ j → (if announces_node s then i + 1 else i) ≡ (if announces_node t then j + 1 else j)
-excess-told ss i j s t ts us here there same =
+excess-reported : (ss : List Symbol) (i j : ℕ) (s t : Symbol) (ts us : List Symbol) → drop i ss ≡ s ∷ ts → drop j ss ≡ t ∷ us → i ≡ j → (if announces_node s then i + 1 else i) ≡ (if announces_node t then j + 1 else j)
+excess-reported ss i j s t ts us here there same =
     let pair : s ∷ ts ≡ t ∷ us = sym here ∙ (ap (λ k. drop k ss) same ∙ there) in
     let symbols : s ≡ t = cc in
     rw (symbols, same) refl
 
 pub one_excess : (ss : List Symbol) (m n : ℕ) → IsExcess ss m → IsExcess ss n → m ≡ n
-one_excess ss m n (excess_at i s ts few many here told) (excess_at j t us few' many' there told') =
+one_excess ss m n (excess_at i s ts few many here reported) (excess_at j t us few' many' there reported') =
     let same : i ≡ j = omega (arith, counted-not_less ss i j few many', counted-not_less ss j i few' many) in
-    told ∙ (excess-told ss i j s t ts us here there same ∙ sym told')
+    reported ∙ (excess-reported ss i j s t ts us here there same ∙ sym reported')
 
 -- the symbol that makes it too many
 pub excess_here : (c : Context) (ss : List Symbol) (i n place : ℕ) (d : Symbol) → i < length ss → ((m : ℕ) → n + weight c (take m (drop i ss)) ≡ weight contexts.Naming (take (i + m) ss)) → n ≤ 4096 →
     4096 < n + cost c (get_or ss i d) → place ≡ (if announces_node (get_or ss i d) then i + 1 else i) → IsExcess ss place
 unfolding weight
-excess_here c ss i n place d h f few over told =
+excess_here c ss i n place d h f few over reported =
     let before : n + 0 ≡ weight contexts.Naming (take (i + 0) ss) = f 0 in
     let none : i + 0 ≡ i = omega arith in
     let same : weight contexts.Naming (take (i + 0) ss) ≡ weight contexts.Naming (take i ss) = ap (λ j. weight contexts.Naming (take j ss)) none in
     let g = front_next contexts.Naming c ss i n d h f 0 in
     let e : (i + 1) + 0 ≡ i + 1 = omega arith in
     let k = ap (λ j. weight contexts.Naming (take j ss)) e in
-    excess_at i (get_or ss i d) (drop (suc i) ss) (omega (arith, before, same, few)) (omega (arith, g, k, over)) (drop-cons ss i d h) told
+    excess_at i (get_or ss i d) (drop (suc i) ss) (omega (arith, before, same, few)) (omega (arith, g, k, over)) (drop-cons ss i d h) reported
 
 abbrev plain : List Symbol → ℕ
 plain ss = weight contexts.Plain ss

@@ -73,19 +73,19 @@ text_refused text (Err g) e is h = subst (IsRefused text) (sym is) (text_cause t
 
 -- a refusal that tells of the symbols stands, since a model would have been read
 refused_of : (text : List ℕ) (ts : List Token) (e : CatFault) → IsTokenList Cat text ts → Tells e (symbols_of text ts) ts (length text) → ((f : File) → Reads text f → e ≡ NoMemory) → IsRefused text e
-refused_of text ts NoMemory list told only = tt
-refused_of text ts (Text f) list told only = absurd told
-refused_of text ts (Syntax n) list told only = record { tokens = ts; is_list = list; none = λ f d. let e = only f d in cc; told = told }
-refused_of text ts (Unsupported w) list told only = record { tokens = ts; is_list = list; none = λ f d. let e = only f d in cc; told = told }
-refused_of text ts TooDeep list told only = record { tokens = ts; is_list = list; none = λ f d. let e = only f d in cc; told = told }
-refused_of text ts TooLarge list told only = record { tokens = ts; is_list = list; none = λ f d. let e = only f d in cc; told = told }
+refused_of text ts NoMemory list reported only = tt
+refused_of text ts (Text f) list reported only = absurd reported
+refused_of text ts (Syntax n) list reported only = record { tokens = ts; is_list = list; none = λ f d. let e = only f d in cc; reported = reported }
+refused_of text ts (Unsupported w) list reported only = record { tokens = ts; is_list = list; none = λ f d. let e = only f d in cc; reported = reported }
+refused_of text ts TooDeep list reported only = record { tokens = ts; is_list = list; none = λ f d. let e = only f d in cc; reported = reported }
+refused_of text ts TooLarge list reported only = record { tokens = ts; is_list = list; none = λ f d. let e = only f d in cc; reported = reported }
 
 refused_in : (text : List ℕ) (ts : List Token) (r : Result File CatFault) → IsTokenList Cat text ts → IfErr r (λ e. Tells e (symbols_of text ts) ts (length text)) →
     ((f : File) → Reads text f → MatchResult r (λ g. g ≡ f) (λ e. e ≡ NoMemory)) → IfErr r (λ e. IsRefused text e)
-refused_in text ts (Ok g) list told only = tt
-refused_in text ts (Err e) list told only = refused_of text ts e list told only
+refused_in text ts (Ok g) list reported only = tt
+refused_in text ts (Err e) list reported only = refused_of text ts e list reported only
 
 pub refused : (text : List ℕ) (ts us : List Token) (ss : List Symbol) (r : Result File CatFault) → IsTokenList Cat text ts → ss ≡ symbols_of text ts → us ≡ ts →
     IfErr r (λ e. Tells e ss us (length text)) → ((f : File) → Reads text f → MatchResult r (λ g. g ≡ f) (λ e. e ≡ NoMemory)) → IfErr r (λ e. IsRefused text e)
-refused text ts us ss r list p q told only =
-    refused_in text ts r list (subst (λ u. IfErr r (λ e. Tells e (symbols_of text ts) u (length text))) q (subst (λ s. IfErr r (λ e. Tells e s us (length text))) p told)) only
+refused text ts us ss r list p q reported only =
+    refused_in text ts r list (subst (λ u. IfErr r (λ e. Tells e (symbols_of text ts) u (length text))) q (subst (λ s. IfErr r (λ e. Tells e s us (length text))) p reported)) only

@@ -7,3 +7,4 @@ pub mod Nodes
 pub mod Counting
 pub mod Stops
 pub mod Reads
+pub mod Labels

@@ -36,7 +36,7 @@ IsWrong faults.Unexpected (symbols.Unsupported w ∷ rest) = ⊥
 IsWrong faults.Unexpected rest = Unit {0}
 IsWrong cause rest = ⊥
 
--- what is told of the first of these symbols, which nothing takes
+-- what is reported of the first of these symbols, which nothing takes
 abbrev pub IsUnexpected : CatFault → List Symbol → (offset : ℕ) → Type 0
 IsUnexpected (Syntax n) rest offset = IsWrong faults.Unexpected rest × (n ≡ offset)
 IsUnexpected (Unsupported w) (symbols.Unsupported v ∷ rest) offset = w ≡ v
@@ -49,7 +49,7 @@ pub record IsWrongAt (ss : List Symbol) (tokens : List Token) (end n : ℕ) : Ty
   pub cause : SyntaxFault
   pub fault : FaultAt ss cause place
   pub wrong : IsWrong cause (drop place ss)
-  pub told : n ≡ offset_of (drop place tokens) end
+  pub reported : n ≡ offset_of (drop place tokens) end
 
 -- reading stops at the word w, which is left out
 pub record LeavesOut (ss : List Symbol) (w : List ℕ) : Type 0 where
@@ -72,7 +72,7 @@ pub record SpellsNone (text : List ℕ) (e : CatFault) : Type 0 where
   pub tokens : List Token
   pub is_list : IsTokenList Cat text tokens
   pub none : (f : File) → ¬ Reads text f
-  pub told : Tells e (symbols_of text tokens) tokens (length text)
+  pub reported : Tells e (symbols_of text tokens) tokens (length text)
 
 -- The cause of a refusal. Want of memory is one by itself, and none of the text.
 abbrev pub IsRefused : List ℕ → CatFault → Type 0

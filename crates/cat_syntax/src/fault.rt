@@ -1,6 +1,7 @@
 //! Why a text is no model.
 
 ghost use Rattle.std.specs.Prelude.{◌≡◌};
+ghost use Rattle.cat_syntax.specs.Labels.{cat_label};
 
 use std::alloc::{AllocError, AllocFailed};
 use thiserror::Error;
@@ -8,24 +9,38 @@ use wb_text::{Name, TextFault};
 
 /// Why a text is no model. The numbers are those of the printed refusals.
 #[derive(Debug, Drop, PartialEq, Eq, Error)]
+#[error("{}", self.label())]
 pub enum CatFault {
     /// The text has no tokens.
-    #[error("51 Text {0}")]
+    #[error("{label} {0}", label = self.label())]
     Text(TextFault),
     /// The first token that no continuation takes, by its offset; the text's length at its end.
-    #[error("52 Syntax {0}")]
+    #[error("{label} {0}", label = self.label())]
     Syntax(usize),
     /// A word of herd7's language that this one leaves out.
-    #[error("53 Unsupported {0}")]
+    #[error("{label} {0}", label = self.label())]
     Unsupported(Name),
     /// Parentheses, brackets and complements nest more than 64 deep.
-    #[error("54 TooDeep")]
     TooDeep,
     /// More than 4,096 nodes.
-    #[error("55 TooLarge")]
     TooLarge,
-    #[error("NoMemory")]
     NoMemory,
+}
+
+impl CatFault {
+    /// The number and the name that a printed refusal has for this fault.
+    pub fn label(&self) -> &'static str
+        ensures { result.now ≡ cat_label self.now }
+    {
+        match self {
+            CatFault::Text(_) => "51 Text",
+            CatFault::Syntax(_) => "52 Syntax",
+            CatFault::Unsupported(_) => "53 Unsupported",
+            CatFault::TooDeep => "54 TooDeep",
+            CatFault::TooLarge => "55 TooLarge",
+            CatFault::NoMemory => "NoMemory",
+        }
+    }
 }
 
 impl From<AllocError> for CatFault {

@@ -143,7 +143,7 @@ fn refusal<'a>(
     requires one_each { length symbols.now ≡ length tokens.now }
     requires stops { OrNoMemory fault (StopsAt symbols.now fault place) }
     requires first { (n : ℕ) → IsExcess symbols.now n → place ≤ n }
-    ensures told { Tells result symbols.now tokens.now end }
+    ensures reported { Tells result symbols.now tokens.now end }
     ensures memory { fault ≡ NoSpace → result ≡ NoMemory }
 {
     match fault {
@@ -203,7 +203,7 @@ fn read_symbols<'a>(
     requires { length symbols.now ≡ length tokens.now }
     ensures found { IfOk result (λ f. IsFile symbols.now f × (nodes f ≤ 4096)) }
     ensures only { (f : File) → IsFile symbols.now f → nodes f ≤ 4096 → MatchResult result (λ g. g ≡ f) (λ e. e ≡ NoMemory) }
-    ensures told { IfErr result (λ e. Tells e symbols.now tokens.now end) }
+    ensures reported { IfErr result (λ e. Tells e symbols.now tokens.now end) }
 {
     if let Some(place) = excess(symbols) {
         return Err(refusal_up_to(alloc, symbols, tokens, end, place));

@@ -1,6 +1,7 @@
 //! Why a test is refused.
 
 ghost use Rattle.std.specs.Prelude.{◌≡◌};
+ghost use Rattle.litmus_c.specs.Labels.{test_label};
 
 use std::alloc::{AllocError, AllocFailed};
 use thiserror::Error;
@@ -8,43 +9,57 @@ use wb_text::{Name, TextFault};
 
 /// Why a text is no test. The numbers are those of the printed refusals.
 #[derive(Debug, Drop, PartialEq, Eq, Error)]
+#[error("{}", self.label())]
 pub enum TestFault {
-    #[error("11 Text {0}")]
+    #[error("{label} {0}", label = self.label())]
     Text(TextFault),
-    #[error("12 Syntax {0}")]
+    #[error("{label} {0}", label = self.label())]
     Syntax(usize),
     /// A call with an order that it doesn't take.
-    #[error("13 BadOrder")]
     BadOrder,
     /// A name, a thread or a location that isn't there, or a parameter in a register's place.
-    #[error("14 UnknownName")]
     UnknownName,
     /// A plain access to a location that is a parameter of type `atomic_int*`.
-    #[error("15 PlainOnAtomic")]
     PlainOnAtomic,
     /// A call on a location that is a parameter of type `int*`.
-    #[error("16 AtomicOnPlain")]
     AtomicOnPlain,
     /// A word of C or of the kernel that the language leaves out.
-    #[error("17 Unsupported {0}")]
+    #[error("{label} {0}", label = self.label())]
     Unsupported(Name),
     /// More than 32 levels of nesting.
-    #[error("18 TooDeep")]
     TooDeep,
     /// More than 8 threads.
-    #[error("19 TooManyThreads")]
     TooManyThreads,
     /// More than 8 locations.
-    #[error("20 TooManyLocations")]
     TooManyLocations,
     /// More than 64 events, one initial write of each location among them.
-    #[error("21 TooManyEvents")]
     TooManyEvents,
     /// More than 16 values.
-    #[error("22 TooManyValues")]
     TooManyValues,
-    #[error("NoMemory")]
     NoMemory,
+}
+
+impl TestFault {
+    /// The number and the name that a printed refusal has for this fault.
+    pub fn label(&self) -> &'static str
+        ensures { result.now ≡ test_label self.now }
+    {
+        match self {
+            TestFault::Text(_) => "11 Text",
+            TestFault::Syntax(_) => "12 Syntax",
+            TestFault::BadOrder => "13 BadOrder",
+            TestFault::UnknownName => "14 UnknownName",
+            TestFault::PlainOnAtomic => "15 PlainOnAtomic",
+            TestFault::AtomicOnPlain => "16 AtomicOnPlain",
+            TestFault::Unsupported(_) => "17 Unsupported",
+            TestFault::TooDeep => "18 TooDeep",
+            TestFault::TooManyThreads => "19 TooManyThreads",
+            TestFault::TooManyLocations => "20 TooManyLocations",
+            TestFault::TooManyEvents => "21 TooManyEvents",
+            TestFault::TooManyValues => "22 TooManyValues",
+            TestFault::NoMemory => "NoMemory",
+        }
+    }
 }
 
 impl From<AllocError> for TestFault {

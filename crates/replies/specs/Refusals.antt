@@ -1,9 +1,11 @@
--- The printed refusals of a book: the number, the name and the fields, parted by spaces. A refusal that holds another
--- fault has that one's number, name and fields behind its own name.
+-- The printed refusals of a book: the label, which is the number and the name, and the fields, parted by spaces. A refusal
+-- that holds another fault has that one's label and fields behind its own label.
 use Rattle.std.specs.Prelude.{ℕ, List, ◌++◌, codes, decimal}
-use Rattle.litmus_tree.specs.Tree.{Word}
-use Rattle.wb_text.specs.declared.fault.TextFault.{TextFault}
-use Rattle.wb_text.specs.declared.fault.TextFault.TheVariants as of_text
+use Rattle.wb_text.specs.Labels.{text_label}
+use Rattle.litmus_c.specs.Labels.{test_label}
+use Rattle.candidates.specs.Labels.{space_label}
+use Rattle.cat_syntax.specs.Labels.{cat_label}
+use Rattle.cat_model.specs.Labels.{model_label}
 use Rattle.litmus_c.specs.declared.fault.TestFault.{TestFault}
 use Rattle.litmus_c.specs.declared.fault.TestFault.TheVariants as of_test
 use Rattle.candidates.specs.declared.fault.SpaceFault.{SpaceFault}
@@ -18,61 +20,48 @@ use Rattle.journal.specs.declared.records.SourceKind.TheVariants as kinds
 use Rattle.journal.specs.declared.records.Refusal.{Refusal}
 use Rattle.journal.specs.declared.records.Refusal.TheVariants.{Closed, ReadingTest, ReadingCat, NoTest, Model, Space, JobsFull, NoJob, NoClaim, Replaced, Stranger, VersionsSpent, ClaimsSpent}
 
-abbrev pub text_fault_text : TextFault → List ℕ
-text_fault_text of_text.NotAscii = codes "1 NotAscii"
-text_fault_text of_text.BadByte = codes "2 BadByte"
-text_fault_text of_text.OpenComment = codes "3 OpenComment"
-text_fault_text of_text.OpenString = codes "4 OpenString"
-text_fault_text of_text.NumberTooBig = codes "5 NumberTooBig"
-text_fault_text of_text.TooLong = codes "6 TooLong"
-text_fault_text of_text.NoMemory = codes "NoMemory"
-
--- words with a name or a number behind them
-
-abbrev pub named : List ℕ → Word → List ℕ
-named words name = words ++ name
-
-abbrev pub numbered : List ℕ → ℕ → List ℕ
-numbered words n = words ++ decimal n
+-- a label with a field behind it
+abbrev pub with_field : List ℕ → List ℕ → List ℕ
+with_field label field = label ++ codes " " ++ field
 
 abbrev pub test_fault_text : TestFault → List ℕ
-test_fault_text (of_test.Text f) = named (codes "11 Text ") (text_fault_text f)
-test_fault_text (of_test.Syntax offset) = numbered (codes "12 Syntax ") offset
-test_fault_text of_test.BadOrder = codes "13 BadOrder"
-test_fault_text of_test.UnknownName = codes "14 UnknownName"
-test_fault_text of_test.PlainOnAtomic = codes "15 PlainOnAtomic"
-test_fault_text of_test.AtomicOnPlain = codes "16 AtomicOnPlain"
-test_fault_text (of_test.Unsupported word) = named (codes "17 Unsupported ") word
-test_fault_text of_test.TooDeep = codes "18 TooDeep"
-test_fault_text of_test.TooManyThreads = codes "19 TooManyThreads"
-test_fault_text of_test.TooManyLocations = codes "20 TooManyLocations"
-test_fault_text of_test.TooManyEvents = codes "21 TooManyEvents"
-test_fault_text of_test.TooManyValues = codes "22 TooManyValues"
-test_fault_text of_test.NoMemory = codes "NoMemory"
+test_fault_text (of_test.Text f) = with_field (test_label (of_test.Text f)) (text_label f)
+test_fault_text (of_test.Syntax offset) = with_field (test_label (of_test.Syntax offset)) (decimal offset)
+test_fault_text (of_test.Unsupported word) = with_field (test_label (of_test.Unsupported word)) word
+test_fault_text of_test.BadOrder = test_label of_test.BadOrder
+test_fault_text of_test.UnknownName = test_label of_test.UnknownName
+test_fault_text of_test.PlainOnAtomic = test_label of_test.PlainOnAtomic
+test_fault_text of_test.AtomicOnPlain = test_label of_test.AtomicOnPlain
+test_fault_text of_test.TooDeep = test_label of_test.TooDeep
+test_fault_text of_test.TooManyThreads = test_label of_test.TooManyThreads
+test_fault_text of_test.TooManyLocations = test_label of_test.TooManyLocations
+test_fault_text of_test.TooManyEvents = test_label of_test.TooManyEvents
+test_fault_text of_test.TooManyValues = test_label of_test.TooManyValues
+test_fault_text of_test.NoMemory = test_label of_test.NoMemory
 
 abbrev pub cat_fault_text : CatFault → List ℕ
-cat_fault_text (of_cat.Text f) = named (codes "51 Text ") (text_fault_text f)
-cat_fault_text (of_cat.Syntax offset) = numbered (codes "52 Syntax ") offset
-cat_fault_text (of_cat.Unsupported word) = named (codes "53 Unsupported ") word
-cat_fault_text of_cat.TooDeep = codes "54 TooDeep"
-cat_fault_text of_cat.TooLarge = codes "55 TooLarge"
-cat_fault_text of_cat.NoMemory = codes "NoMemory"
+cat_fault_text (of_cat.Text f) = with_field (cat_label (of_cat.Text f)) (text_label f)
+cat_fault_text (of_cat.Syntax offset) = with_field (cat_label (of_cat.Syntax offset)) (decimal offset)
+cat_fault_text (of_cat.Unsupported word) = with_field (cat_label (of_cat.Unsupported word)) word
+cat_fault_text of_cat.TooDeep = cat_label of_cat.TooDeep
+cat_fault_text of_cat.TooLarge = cat_label of_cat.TooLarge
+cat_fault_text of_cat.NoMemory = cat_label of_cat.NoMemory
 
 abbrev pub model_fault_text : ModelFault → List ℕ
-model_fault_text (of_model.NoCat name) = named (codes "61 NoCat ") name
-model_fault_text (of_model.NoInclude name) = named (codes "62 NoInclude ") name
-model_fault_text (of_model.IncludeCycle name) = named (codes "63 IncludeCycle ") name
-model_fault_text (of_model.Unbound name) = named (codes "64 Unbound ") name
-model_fault_text (of_model.WrongSort name) = named (codes "65 WrongSort ") name
-model_fault_text (of_model.NotMonotone name) = named (codes "66 NotMonotone ") name
-model_fault_text of_model.FlagWithoutName = codes "67 FlagWithoutName"
-model_fault_text of_model.ModelTooLarge = codes "68 ModelTooLarge"
-model_fault_text of_model.NoMemory = codes "NoMemory"
+model_fault_text (of_model.NoCat name) = with_field (model_label (of_model.NoCat name)) name
+model_fault_text (of_model.NoInclude name) = with_field (model_label (of_model.NoInclude name)) name
+model_fault_text (of_model.IncludeCycle name) = with_field (model_label (of_model.IncludeCycle name)) name
+model_fault_text (of_model.Unbound name) = with_field (model_label (of_model.Unbound name)) name
+model_fault_text (of_model.WrongSort name) = with_field (model_label (of_model.WrongSort name)) name
+model_fault_text (of_model.NotMonotone name) = with_field (model_label (of_model.NotMonotone name)) name
+model_fault_text of_model.FlagWithoutName = model_label of_model.FlagWithoutName
+model_fault_text of_model.ModelTooLarge = model_label of_model.ModelTooLarge
+model_fault_text of_model.NoMemory = model_label of_model.NoMemory
 
 abbrev pub space_fault_text : SpaceFault → List ℕ
-space_fault_text (of_space.TooManyRuns thread) = numbered (codes "31 TooManyRuns ") thread
-space_fault_text of_space.TooManyCandidates = codes "41 TooManyCandidates"
-space_fault_text of_space.NoMemory = codes "NoMemory"
+space_fault_text (of_space.TooManyRuns thread) = with_field (space_label (of_space.TooManyRuns thread)) (decimal thread)
+space_fault_text of_space.TooManyCandidates = space_label of_space.TooManyCandidates
+space_fault_text of_space.NoMemory = space_label of_space.NoMemory
 
 abbrev pub reading_test_text : TestFault → List ℕ
 reading_test_text f = codes "72 Reading " ++ test_fault_text f
@@ -97,15 +86,15 @@ abbrev pub cause_text : Refusal → List ℕ
 cause_text Closed = codes "71 Closed"
 cause_text (ReadingTest f) = reading_test_text f
 cause_text (ReadingCat f) = reading_cat_text f
-cause_text (NoTest name) = named (codes "73 NoTest ") name
+cause_text (NoTest name) = with_field (codes "73 NoTest") name
 cause_text (Model f) = model_text f
 cause_text (Space f) = space_text f
 cause_text JobsFull = codes "76 JobsFull"
-cause_text (NoJob job) = numbered (codes "77 NoJob ") job
-cause_text (NoClaim claim) = numbered (codes "78 NoClaim ") claim
+cause_text (NoJob job) = with_field (codes "77 NoJob") (decimal job)
+cause_text (NoClaim claim) = with_field (codes "78 NoClaim") (decimal claim)
 cause_text (Replaced r) = replacement_text r
-cause_text (Stranger claim) = numbered (codes "80 Stranger ") claim
-cause_text (VersionsSpent name) = named (codes "81 VersionsSpent ") name
+cause_text (Stranger claim) = with_field (codes "80 Stranger") (decimal claim)
+cause_text (VersionsSpent name) = with_field (codes "81 VersionsSpent") name
 cause_text ClaimsSpent = codes "82 ClaimsSpent"
 
 -- the line of a refusal

@@ -1,6 +1,6 @@
 //! The printed refusals of a book.
 
-ghost use Rattle.std.specs.Prelude.{◌≡◌};
+ghost use Rattle.std.specs.Prelude.{◌≡◌, decimal};
 ghost use Rattle.report.specs.Writing.{Writes};
 ghost use Rattle.replies.specs.Refusals as texts;
 
@@ -11,7 +11,7 @@ use itoa::Buffer;
 use journal::{Refusal, Replacement, SourceKind};
 use litmus_c::TestFault;
 use report::{write_bytes, write_parts};
-use wb_text::{Failed, Name, Sink, TextFault};
+use wb_text::{Failed, Sink};
 
 /// Writes the line of a refusal.
 pub fn write_refusal<W: Sink>(refusal: &Refusal, writer: &mut W) -> Result<(), Failed>
@@ -30,33 +30,32 @@ fn write_cause<W: Sink>(refusal: &Refusal, writer: &mut W) -> Result<(), Failed>
         Refusal::Closed => write_bytes(b"71 Closed", writer),
         Refusal::ReadingTest(fault) => write_reading_test(fault, writer),
         Refusal::ReadingCat(fault) => write_reading_cat(fault, writer),
-        Refusal::NoTest(name) => write_named(b"73 NoTest ", name, writer),
+        Refusal::NoTest(name) => write_field(b"73 NoTest", name.bytes(), writer),
         Refusal::Model(fault) => write_model(fault, writer),
         Refusal::Space(fault) => write_space(*fault, writer),
         Refusal::JobsFull => write_bytes(b"76 JobsFull", writer),
-        Refusal::NoJob(job) => write_numbered(b"77 NoJob ", *job as usize, writer),
-        Refusal::NoClaim(claim) => write_numbered(b"78 NoClaim ", *claim as usize, writer),
+        Refusal::NoJob(job) => write_numbered(b"77 NoJob", *job as usize, writer),
+        Refusal::NoClaim(claim) => write_numbered(b"78 NoClaim", *claim as usize, writer),
         Refusal::Replaced(replacement) => write_replacement(replacement, writer),
-        Refusal::Stranger(claim) => write_numbered(b"80 Stranger ", *claim as usize, writer),
-        Refusal::VersionsSpent(name) => write_named(b"81 VersionsSpent ", name, writer),
+        Refusal::Stranger(claim) => write_numbered(b"80 Stranger", *claim as usize, writer),
+        Refusal::VersionsSpent(name) => write_field(b"81 VersionsSpent", name.bytes(), writer),
         Refusal::ClaimsSpent => write_bytes(b"82 ClaimsSpent", writer),
     }
 }
 
-/// Writes a name behind its words.
-fn write_named<W: Sink>(words: &[u8], name: &Name, writer: &mut W) -> Result<(), Failed>
-    ensures { Writes W.held W.has_failed writer.old writer.new result (texts.named words.now name.now) }
+/// Writes a field behind a label.
+fn write_field<W: Sink>(label: &[u8], field: &[u8], writer: &mut W) -> Result<(), Failed>
+    ensures { Writes W.held W.has_failed writer.old writer.new result (texts.with_field label.now field.now) }
 {
-    write_parts(&[words, name.bytes()], writer)
+    write_parts(&[label, b" ", field], writer)
 }
 
-/// Writes a number behind its words.
-fn write_numbered<W: Sink>(words: &[u8], number: usize, writer: &mut W) -> Result<(), Failed>
-    ensures { Writes W.held W.has_failed writer.old writer.new result (texts.numbered words.now number) }
+/// Writes a number behind a label.
+fn write_numbered<W: Sink>(label: &[u8], number: usize, writer: &mut W) -> Result<(), Failed>
+    ensures { Writes W.held W.has_failed writer.old writer.new result (texts.with_field label.now (decimal number)) }
 {
     let mut digits = Buffer::new();
-    let digits = digits.format(number).as_bytes();
-    write_parts(&[words, digits], writer)
+    write_field(label, digits.format(number).as_bytes(), writer)
 }
 
 /// Writes whose version is no longer a job's, and its version now.
@@ -86,23 +85,16 @@ fn write_reading_test<W: Sink>(fault: &TestFault, writer: &mut W) -> Result<(), 
     write_test_fault(fault, writer)
 }
 
-fn write_test_fault<W: Sink>(fault: &TestFault, writer: &mut W) -> Result<(), Failed>
+/// Writes why a text is no test: its label and its fields.
+pub fn write_test_fault<W: Sink>(fault: &TestFault, writer: &mut W) -> Result<(), Failed>
     ensures { Writes W.held W.has_failed writer.old writer.new result (texts.test_fault_text fault.now) }
 {
+    let label = fault.label().as_bytes();
     match fault {
-        TestFault::Text(fault) => write_text_fault(b"11 Text ", *fault, writer),
-        TestFault::Syntax(offset) => write_numbered(b"12 Syntax ", *offset, writer),
-        TestFault::BadOrder => write_bytes(b"13 BadOrder", writer),
-        TestFault::UnknownName => write_bytes(b"14 UnknownName", writer),
-        TestFault::PlainOnAtomic => write_bytes(b"15 PlainOnAtomic", writer),
-        TestFault::AtomicOnPlain => write_bytes(b"16 AtomicOnPlain", writer),
-        TestFault::Unsupported(word) => write_named(b"17 Unsupported ", word, writer),
-        TestFault::TooDeep => write_bytes(b"18 TooDeep", writer),
-        TestFault::TooManyThreads => write_bytes(b"19 TooManyThreads", writer),
-        TestFault::TooManyLocations => write_bytes(b"20 TooManyLocations", writer),
-        TestFault::TooManyEvents => write_bytes(b"21 TooManyEvents", writer),
-        TestFault::TooManyValues => write_bytes(b"22 TooManyValues", writer),
-        TestFault::NoMemory => write_bytes(b"NoMemory", writer),
+        TestFault::Text(cause) => write_field(label, cause.label().as_bytes(), writer),
+        TestFault::Syntax(offset) => write_numbered(label, *offset, writer),
+        TestFault::Unsupported(word) => write_field(label, word.bytes(), writer),
+        _ => write_bytes(label, writer),
     }
 }
 
@@ -113,16 +105,16 @@ fn write_reading_cat<W: Sink>(fault: &CatFault, writer: &mut W) -> Result<(), Fa
     write_cat_fault(fault, writer)
 }
 
-fn write_cat_fault<W: Sink>(fault: &CatFault, writer: &mut W) -> Result<(), Failed>
+/// Writes why a text is no cat file: its label and its fields.
+pub fn write_cat_fault<W: Sink>(fault: &CatFault, writer: &mut W) -> Result<(), Failed>
     ensures { Writes W.held W.has_failed writer.old writer.new result (texts.cat_fault_text fault.now) }
 {
+    let label = fault.label().as_bytes();
     match fault {
-        CatFault::Text(fault) => write_text_fault(b"51 Text ", *fault, writer),
-        CatFault::Syntax(offset) => write_numbered(b"52 Syntax ", *offset, writer),
-        CatFault::Unsupported(word) => write_named(b"53 Unsupported ", word, writer),
-        CatFault::TooDeep => write_bytes(b"54 TooDeep", writer),
-        CatFault::TooLarge => write_bytes(b"55 TooLarge", writer),
-        CatFault::NoMemory => write_bytes(b"NoMemory", writer),
+        CatFault::Text(cause) => write_field(label, cause.label().as_bytes(), writer),
+        CatFault::Syntax(offset) => write_numbered(label, *offset, writer),
+        CatFault::Unsupported(word) => write_field(label, word.bytes(), writer),
+        _ => write_bytes(label, writer),
     }
 }
 
@@ -133,19 +125,19 @@ fn write_model<W: Sink>(fault: &ModelFault, writer: &mut W) -> Result<(), Failed
     write_model_fault(fault, writer)
 }
 
-fn write_model_fault<W: Sink>(fault: &ModelFault, writer: &mut W) -> Result<(), Failed>
+/// Writes why files give no model: its label and its fields.
+pub fn write_model_fault<W: Sink>(fault: &ModelFault, writer: &mut W) -> Result<(), Failed>
     ensures { Writes W.held W.has_failed writer.old writer.new result (texts.model_fault_text fault.now) }
 {
+    let label = fault.label().as_bytes();
     match fault {
-        ModelFault::NoCat(name) => write_named(b"61 NoCat ", name, writer),
-        ModelFault::NoInclude(name) => write_named(b"62 NoInclude ", name, writer),
-        ModelFault::IncludeCycle(name) => write_named(b"63 IncludeCycle ", name, writer),
-        ModelFault::Unbound(name) => write_named(b"64 Unbound ", name, writer),
-        ModelFault::WrongSort(name) => write_named(b"65 WrongSort ", name, writer),
-        ModelFault::NotMonotone(name) => write_named(b"66 NotMonotone ", name, writer),
-        ModelFault::FlagWithoutName => write_bytes(b"67 FlagWithoutName", writer),
-        ModelFault::ModelTooLarge => write_bytes(b"68 ModelTooLarge", writer),
-        ModelFault::NoMemory => write_bytes(b"NoMemory", writer),
+        ModelFault::NoCat(name) => write_field(label, name.bytes(), writer),
+        ModelFault::NoInclude(name) => write_field(label, name.bytes(), writer),
+        ModelFault::IncludeCycle(name) => write_field(label, name.bytes(), writer),
+        ModelFault::Unbound(name) => write_field(label, name.bytes(), writer),
+        ModelFault::WrongSort(name) => write_field(label, name.bytes(), writer),
+        ModelFault::NotMonotone(name) => write_field(label, name.bytes(), writer),
+        _ => write_bytes(label, writer),
     }
 }
 
@@ -156,34 +148,13 @@ fn write_space<W: Sink>(fault: SpaceFault, writer: &mut W) -> Result<(), Failed>
     write_space_fault(fault, writer)
 }
 
-fn write_space_fault<W: Sink>(fault: SpaceFault, writer: &mut W) -> Result<(), Failed>
+/// Writes why a test's candidates aren't numbered: its label and its fields.
+pub fn write_space_fault<W: Sink>(fault: SpaceFault, writer: &mut W) -> Result<(), Failed>
     ensures { Writes W.held W.has_failed writer.old writer.new result (texts.space_fault_text fault) }
 {
+    let label = fault.label().as_bytes();
     match fault {
-        SpaceFault::TooManyRuns(thread) => write_numbered(b"31 TooManyRuns ", thread, writer),
-        SpaceFault::TooManyCandidates => write_bytes(b"41 TooManyCandidates", writer),
-        SpaceFault::NoMemory => write_bytes(b"NoMemory", writer),
-    }
-}
-
-/// Writes the fault of a text behind its words.
-fn write_text_fault<W: Sink>(words: &[u8], fault: TextFault, writer: &mut W) -> Result<(), Failed>
-    ensures { Writes W.held W.has_failed writer.old writer.new result (texts.named words.now (texts.text_fault_text fault)) }
-{
-    let name = text_fault_text(fault);
-    write_parts(&[words, name], writer)
-}
-
-fn text_fault_text<'a>(fault: TextFault) -> &'a [u8]
-    ensures { result.now ≡ texts.text_fault_text fault }
-{
-    match fault {
-        TextFault::NotAscii => b"1 NotAscii",
-        TextFault::BadByte => b"2 BadByte",
-        TextFault::OpenComment => b"3 OpenComment",
-        TextFault::OpenString => b"4 OpenString",
-        TextFault::NumberTooBig => b"5 NumberTooBig",
-        TextFault::TooLong => b"6 TooLong",
-        TextFault::NoMemory => b"NoMemory",
+        SpaceFault::TooManyRuns(thread) => write_numbered(label, thread, writer),
+        _ => write_bytes(label, writer),
     }
 }

@@ -5,16 +5,16 @@ use Rattle.std.specs.List.{flat_map}
 use Rattle.std.proofs.lemmas.Grind.{flat_map-append}
 use Rattle.std.specs.Io.KnownBytes.{Appends}
 use Rattle.std.proofs.KnownBytes.{Appends-trans}
-use Rattle.wb_text.specs.Memory.{AppendsFront}
+use Rattle.wb_text.specs.Memory.{AppendsPrefix}
 
 -- `Writes`, of what the writer holds and of its mark
 abbrev pub Wrote : {A E : Type 0} → Option (List ℕ) → Option (List ℕ) → Bool → Result A E → List ℕ → Type 0
 Wrote old new failed (Ok done) bytes = Appends old new bytes
-Wrote old new failed (Err fault) bytes = AppendsFront old new bytes × (failed ≡ true)
+Wrote old new failed (Err fault) bytes = AppendsPrefix old new bytes × (failed ≡ true)
 
--- a front part of what stands behind what was written, whatever would have followed
-pub front_of : (old mid new : Option (List ℕ)) (as' bs cs whole : List ℕ) → Appends old mid as' → AppendsFront mid new bs → whole ≡ as' ++ (bs ++ cs) → AppendsFront old new whole
-front_of old mid new as' bs cs whole done part e =
+-- a prefix of what follows what was written, whatever would have come next
+pub prefix_of : (old mid new : Option (List ℕ)) (as' bs cs whole : List ℕ) → Appends old mid as' → AppendsPrefix mid new bs → whole ≡ as' ++ (bs ++ cs) → AppendsPrefix old new whole
+prefix_of old mid new as' bs cs whole done part e =
     let given = part.1.given in (
       part.0 ++ cs,
       record {
@@ -24,21 +24,21 @@ front_of old mid new as' bs cs whole done part e =
       },
     )
 
-pub at_err : {A E : Type 0} (old new : Option (List ℕ)) (failed : Bool) (r : Result A E) (bytes : List ℕ) → IsErr r → AppendsFront old new bytes → failed ≡ true → Wrote old new failed r bytes
+pub at_err : {A E : Type 0} (old new : Option (List ℕ)) (failed : Bool) (r : Result A E) (bytes : List ℕ) → IsErr r → AppendsPrefix old new bytes → failed ≡ true → Wrote old new failed r bytes
 at_err old new failed (Ok done) bytes is part mark = cc
 at_err old new failed (Err fault) bytes is part mark = (part, mark)
 
 -- The exit at a write of bs that failed, after as' was written: cs would have followed.
-pub exit : {A E : Type 0} (old mid new : Option (List ℕ)) (failed : Bool) (r : Result A E) (as' bs cs whole : List ℕ) → IsErr r → Appends old mid as' → AppendsFront mid new bs × (failed ≡ true) → whole ≡ as' ++ (bs ++ cs) → Wrote old new failed r whole
+pub exit : {A E : Type 0} (old mid new : Option (List ℕ)) (failed : Bool) (r : Result A E) (as' bs cs whole : List ℕ) → IsErr r → Appends old mid as' → AppendsPrefix mid new bs × (failed ≡ true) → whole ≡ as' ++ (bs ++ cs) → Wrote old new failed r whole
 exit old mid new failed r as' bs cs whole is done part e =
-    at_err old new failed r whole is (front_of old mid new as' bs cs whole done part.0 e) part.1
+    at_err old new failed r whole is (prefix_of old mid new as' bs cs whole done part.0 e) part.1
 
 -- a write behind another that was done
 pub after : {A E : Type 0} (old mid new : Option (List ℕ)) (failed : Bool) (r : Result A E) (as' bs whole : List ℕ) → Appends old mid as' → Wrote mid new failed r bs → whole ≡ as' ++ bs → Wrote old new failed r whole
 after old mid new failed (Ok done) as' bs whole a b e =
     let P : List ℕ → Type 0 = λ l. Appends old new l in subst P (sym e) (Appends-trans old mid new as' bs a b)
 after old mid new failed (Err fault) as' bs whole a b e =
-    (front_of old mid new as' bs [] whole a b.0 (e ∙ ap (λ l. as' ++ l) (sym (append-nil bs))), b.1)
+    (prefix_of old mid new as' bs [] whole a b.0 (e ∙ ap (λ l. as' ++ l) (sym (append-nil bs))), b.1)
 
 -- a list of pieces at its kth
 pub flat_map-at : {X : Type 0} (f : X → List ℕ) (xs : List X) (k : ℕ) (d : X) → k < length xs → flat_map f xs ≡ flat_map f (take k xs) ++ (f (get_or xs k d) ++ flat_map f (drop (k + 1) xs))
@@ -59,7 +59,7 @@ pub done_is : {A E : Type 0} (old new : Option (List ℕ)) (failed : Bool) (r : 
 done_is old new failed (Ok y) x bytes e w = w
 done_is old new failed (Err y) x bytes e w = cc
 
-pub part_is : {A E : Type 0} (old new : Option (List ℕ)) (failed : Bool) (r : Result A E) (x : E) (bytes : List ℕ) → r ≡ Err x → Wrote old new failed r bytes → AppendsFront old new bytes
+pub part_is : {A E : Type 0} (old new : Option (List ℕ)) (failed : Bool) (r : Result A E) (x : E) (bytes : List ℕ) → r ≡ Err x → Wrote old new failed r bytes → AppendsPrefix old new bytes
 part_is old new failed (Ok y) x bytes e w = cc
 part_is old new failed (Err y) x bytes e w = w.0
 

@@ -3,7 +3,7 @@
 ghost use Rattle.std.specs.Prelude.{◌≡◌, ◌++◌, ◌∷◌, [], List, IfOk, OnErr, OnOk, true, length, codes, decimal};
 ghost use Rattle.std.specs.Io.KnownBytes.{Appends};
 ghost use Rattle.std.specs.List.{flat_map};
-ghost use Rattle.wb_text.specs.Memory.{AppendsFront};
+ghost use Rattle.wb_text.specs.Memory.{AppendsPrefix};
 ghost use Rattle.report.specs.Writing.{Writes};
 ghost use Rattle.report.specs.Texts as texts;
 
@@ -27,7 +27,7 @@ pub enum WriteFault {
 /// Writes the summary, or a prefix of it where the writer fails. It takes no memory.
 pub fn write_summary<W: Sink>(verdict: &Verdict, writer: &mut W) -> Result<(), WriteFault>
     ensures written { OnOk result (Appends (W.held writer.old) (W.held writer.new) (texts.Text verdict.now.finding)) }
-    ensures part { OnErr result (AppendsFront (W.held writer.old) (W.held writer.new) (texts.Text verdict.now.finding)) }
+    ensures part { OnErr result (AppendsPrefix (W.held writer.old) (W.held writer.new) (texts.Text verdict.now.finding)) }
     ensures marked { OnErr result (W.has_failed writer.new ≡ true) }
 {
     match write_lines(verdict.finding(), writer) {

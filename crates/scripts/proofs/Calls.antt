@@ -237,4 +237,4 @@ pub done : (desk entries : ℕ) (calls : List Call) (passes : List PassView) (jo
 done desk entries calls passes journal table h legal count shared =
     let least = table.least in
     let whole : desk ≡ 8 + (desk - 8) = omega (arith, least) in
-    record { journal = journal; legal = legal; seats = by_seat (desk - 8) desk calls passes journal whole table h shared; told = ap finish_text count }
+    record { journal = journal; legal = legal; seats = by_seat (desk - 8) desk calls passes journal whole table h shared; reported = ap finish_text count }

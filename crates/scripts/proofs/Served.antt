@@ -6,10 +6,10 @@ use Rattle.std.specs.List.{flat_map}
 use Rattle.std.proofs.KnownBytes.{Appends-trans, Appends-nil, prepend_known-nil}
 use Rattle.std.proofs.lemmas.Grind.{flat_map-append}
 use Rattle.std.proofs.lemmas.List.{map-append}
-use Rattle.wb_text.specs.Memory.{AppendsFront}
+use Rattle.wb_text.specs.Memory.{AppendsPrefix}
 use Rattle.wb_text.specs.declared.fault.Failed.{Failed}
 use Rattle.sessions.specs.declared.ending.FinishCause.{FinishCause}
-use Rattle.report.proofs.Written.{front_of}
+use Rattle.report.proofs.Written.{prefix_of}
 use Rattle.script_lines.specs.Lines.{ahead, AreLines, IsTooLong, nothing_read}
 use Rattle.script_lines.specs.Scripts.{AreInstructions, IsNextInstruction, IsBadLine, IsSpent, no_instruction, next_instruction}
 use Rattle.script_lines.specs.declared.fault.ScriptFault.{ScriptFault}
@@ -29,9 +29,9 @@ written old mid new calls c done more =
     let P : List ℕ → Type 0 = λ l. Appends old new l in
     subst P (sym (flat_map-last (λ d. answer_text d.answer) calls c)) (Appends-trans old mid new (calls_text calls) (answer_text c.answer) done more)
 
-pub written_partly : (old mid new : Option (List ℕ)) (calls : List Call) (c : Call) → Appends old mid (calls_text calls) → AppendsFront mid new (answer_text c.answer) → AppendsFront old new (calls_text (calls ++ c ∷ []))
+pub written_partly : (old mid new : Option (List ℕ)) (calls : List Call) (c : Call) → Appends old mid (calls_text calls) → AppendsPrefix mid new (answer_text c.answer) → AppendsPrefix old new (calls_text (calls ++ c ∷ []))
 written_partly old mid new calls c done more =
-    front_of old mid new (calls_text calls) (answer_text c.answer) [] (calls_text (calls ++ c ∷ [])) done more
+    prefix_of old mid new (calls_text calls) (answer_text c.answer) [] (calls_text (calls ++ c ∷ [])) done more
     (flat_map-last (λ d. answer_text d.answer) calls c ∙ ap (λ l. calls_text calls ++ l) (sym (append-nil (answer_text c.answer))))
 
 -- the calls ask what the instructions ask
@@ -80,7 +80,7 @@ stopped {end} {count} reading.NoMemory calls instructions lines bad = record { e
 
 -- ---- what stands behind the answers
 
-pub tells_part : {A : Type 0} (old new : Option (List ℕ)) (r : Result A ServeFault) (text : List ℕ) → IsErrAnd r (λ e. e ≡ faults.Write) → AppendsFront old new text → Tells old new r text
+pub tells_part : {A : Type 0} (old new : Option (List ℕ)) (r : Result A ServeFault) (text : List ℕ) → IsErrAnd r (λ e. e ≡ faults.Write) → AppendsPrefix old new text → Tells old new r text
 tells_part old new (Ok done) text is part = absurd is
 tells_part old new (Err faults.Read) text is part = cc
 tells_part old new (Err faults.Write) text is part = part
@@ -96,14 +96,14 @@ closes_partly workers calls (Err (faults.BadLine line)) text is last = cc
 closes_partly workers calls (Err (faults.Finish cause)) text is last = cc
 closes_partly workers calls (Err faults.NoMemory) text is last = cc
 
-pub front_behind : (old mid new : Option (List ℕ)) (text closing : List ℕ) → Appends old mid text → AppendsFront mid new closing → AppendsFront old new (text ++ closing)
-front_behind old mid new text closing done part =
-    front_of old mid new text closing [] (text ++ closing) done part (ap (λ l. text ++ l) (sym (append-nil closing)))
+pub prefix_behind : (old mid new : Option (List ℕ)) (text closing : List ℕ) → Appends old mid text → AppendsPrefix mid new closing → AppendsPrefix old new (text ++ closing)
+prefix_behind old mid new text closing done part =
+    prefix_of old mid new text closing [] (text ++ closing) done part (ap (λ l. text ++ l) (sym (append-nil closing)))
 
 pub told_behind : {A : Type 0} (old mid new : Option (List ℕ)) (r : Result A ServeFault) (text closing : List ℕ) → Appends old mid text → Tells mid new r closing → Tells old new r (text ++ closing)
 told_behind old mid new (Ok done) text closing w t = Appends-trans old mid new text closing w t
 told_behind old mid new (Err faults.Read) text closing w t = Appends-trans old mid new text closing w t
-told_behind old mid new (Err faults.Write) text closing w t = front_behind old mid new text closing w t
+told_behind old mid new (Err faults.Write) text closing w t = prefix_behind old mid new text closing w t
 told_behind old mid new (Err (faults.BadLine line)) text closing w t = Appends-trans old mid new text closing w t
 told_behind old mid new (Err (faults.Finish cause)) text closing w t = Appends-trans old mid new text closing w t
 told_behind old mid new (Err faults.NoMemory) text closing w t = Appends-trans old mid new text closing w t
@@ -119,7 +119,7 @@ unserved workers script held (Err faults.NoMemory) is = record {
   answered = no_call;
   closing = [];
   closes = refl;
-  told = Appends-nil held;
+  reported = Appends-nil held;
 }
 unserved workers script held (Err faults.Read) is = cc
 unserved workers script held (Err faults.Write) is = cc
@@ -134,9 +134,9 @@ IsTold workers calls mid new r = (closing : List ℕ) × Closes workers calls r 
 
 pub end_told : (workers : ℕ) (calls : List Call) (mid new : Option (List ℕ)) (outcome : Result (Result (Unit {0}) ScriptFault) Failed) (r : Result (Unit {0}) ServeFault) → outcome ≡ Ok (Ok tt)
     → IsTold workers calls mid new r → EndsWith workers calls mid new (ending outcome) r
-end_told workers calls mid new outcome r is told old text before =
+end_told workers calls mid new outcome r is reported old text before =
     let done : Appends old mid text = subst (λ o. Tells old mid (ending o) text) is before in
-    (told.0, told.1, told_behind old mid new r text told.0 done told.2)
+    (reported.0, reported.1, told_behind old mid new r text reported.0 done reported.2)
 
 pub end_follows : (outcome : Result (Result (Unit {0}) ScriptFault) Failed) (r : Result (Unit {0}) ServeFault) → outcome ≡ Ok (Ok tt)
     → IfErr r (λ e. (e ≡ faults.Write) ⊎ ((cause : FinishCause) × (e ≡ faults.Finish cause))) → Follows (ending outcome) r
@@ -154,14 +154,14 @@ end_follows outcome (Err faults.NoMemory) is (inr e) = (let same = e.1 in cc)
 
 pub fault_told : (workers : ℕ) (calls : List Call) (mid new : Option (List ℕ)) (outcome : Result (Result (Unit {0}) ScriptFault) Failed) (fault : ScriptFault) (r : Result (Unit {0}) ServeFault)
     → outcome ≡ Ok (Err fault) → IsTold workers calls mid new r → EndsWith workers calls mid new (ending outcome) r
-fault_told workers calls mid new outcome fault r is told old text before =
+fault_told workers calls mid new outcome fault r is reported old text before =
     let done : Appends old mid text = told_ending old mid fault text (subst (λ o. Tells old mid (ending o) text) is before) in
-    (told.0, told.1, told_behind old mid new r text told.0 done told.2)
+    (reported.0, reported.1, told_behind old mid new r text reported.0 done reported.2)
 
 pub fault_follows : (outcome : Result (Result (Unit {0}) ScriptFault) Failed) (fault : ScriptFault) (r : Result (Unit {0}) ServeFault) → outcome ≡ Ok (Err fault) → IsErr r
     → IfErr r (λ e. (e ≡ faults.Write) ⊎ (ending (Ok (Err fault)) ≡ Err e)) → Follows (ending outcome) r
-fault_follows outcome fault (Ok done) is err told = cc
-fault_follows outcome fault (Err faults.Write) is err told = tt
+fault_follows outcome fault (Ok done) is err reported = cc
+fault_follows outcome fault (Err faults.Write) is err reported = tt
 fault_follows outcome fault (Err faults.Read) is err (inl e) = cc
 fault_follows outcome fault (Err faults.Read) is err (inr e) = ap ending is ∙ e
 fault_follows outcome fault (Err (faults.BadLine n)) is err (inl e) = cc
@@ -180,8 +180,8 @@ fault_follows outcome reading.NoMemory (Err (faults.Finish cause)) is err (inr e
 pub failed_told : (workers : ℕ) (calls : List Call) (mid : Option (List ℕ)) (outcome : Result (Result (Unit {0}) ScriptFault) Failed) → ending outcome ≡ Err faults.Write
     → EndsWith workers calls mid mid (ending outcome) (Err faults.Write)
 failed_told workers calls mid outcome is old text before =
-    let part : AppendsFront old mid text = subst (λ r. Tells old mid r text) is before in
-    ([], no_last_line, front_of old old mid [] text [] (text ++ []) (Appends-nil old) part refl)
+    let part : AppendsPrefix old mid text = subst (λ r. Tells old mid r text) is before in
+    ([], no_last_line, prefix_of old old mid [] text [] (text ++ []) (Appends-nil old) part refl)
 
 pub read_follows : {script : Option (List ℕ)} {m : ℕ} (end r : Result (Unit {0}) ServeFault) (calls : List Call) → Follows end r → IsRead script m end calls → IsRead script m r calls
 read_follows end (Ok done) calls f h = record { end = h.end; count = h.count; instructions = h.instructions; lines = h.lines; stops = subst (λ q. StopsAt h.end h.count q (entries_of calls)) f h.stops }
@@ -205,7 +205,7 @@ end_ok end (Err fault) P f p = tt
 
 pub served : (n workers : ℕ) (script old mid new : Option (List ℕ)) (end r : Result (Unit {0}) ServeFault) (calls : List Call) → n ≡ workers → AreAnswered n calls → Tells old mid end (calls_text calls)
     → IsRead script 0 end calls → Follows end r → EndsWith n calls mid new end r → IsServed workers script old new r
-served n workers script old mid new end r calls same answered told read follows ends =
-    let closed = ends old (calls_text calls) told in
+served n workers script old mid new end r calls same answered reported read follows ends =
+    let closed = ends old (calls_text calls) reported in
     let P : ℕ → Type 0 = λ w. IsServed w script old new r in
-    subst P same (record { calls = calls; read = read_follows end r calls follows read; answered = answered; closing = closed.0; closes = closed.1; told = closed.2 })
+    subst P same (record { calls = calls; read = read_follows end r calls follows read; answered = answered; closing = closed.0; closes = closed.1; reported = closed.2 })

@@ -89,7 +89,7 @@ sums runs = record {
 -- what is shown of an answer
 abbrev pub Shows : List PassView → Outcome → Answer → Type 0
 Shows passes (outcomes.Made seat) (Made line) = IsLastAt seat passes line
-Shows passes (outcomes.NotTaken why) (NotTaken told) = told ≡ why
+Shows passes (outcomes.NotTaken why) (NotTaken reported) = reported ≡ why
 Shows passes (outcomes.Worked counted) (Worked runs) = counted ≡ sums runs
 Shows passes outcome answer = ⊥
 
@@ -121,7 +121,7 @@ Follows end (Err (faults.Finish cause)) = end ≡ Ok tt
 Follows end (Err faults.Write) = Unit {0}
 Follows end (Err fault) = end ≡ Err fault
 
--- Behind any text that was told of answering a script, what is to stand there is told.
+-- Behind any text that was written of answering a script, what is to follow is reported.
 abbrev pub EndsWith : ℕ → List Call → Option (List ℕ) → Option (List ℕ) → Result (Unit {0}) ServeFault → Result (Unit {0}) ServeFault → Type 0
 EndsWith workers calls held new end result = (old : Option (List ℕ)) → (text : List ℕ) → Tells old held end text
     → (closing : List ℕ) × Closes workers calls result closing × Tells old new result (text ++ closing)

@@ -2,7 +2,7 @@
 use Rattle.std.specs.Prelude.{◌≡◌, ◌<◌, ◌+◌, ℕ, List, [], ◌∷◌, ◌++◌, length, map, All, Option, Result, Ok, Err, codes, decimal, ◌⊎◌}
 use Rattle.std.specs.Io.KnownBytes.{Appends}
 use Rattle.std.specs.List.{flat_map, sum_by}
-use Rattle.wb_text.specs.Memory.{AppendsFront}
+use Rattle.wb_text.specs.Memory.{AppendsPrefix}
 use Rattle.journal.specs.Lines.{Line}
 use Rattle.journal.specs.declared.records.Reply.TheVariants.{Piece}
 use Rattle.slices.specs.Parts.{PieceValue}
@@ -78,7 +78,7 @@ pub record IsDone (workers : ℕ) (calls : List Call) (text : List ℕ) : Type 0
   pub journal : List Line
   pub legal : IsLegal journal
   pub seats : IsBySeat workers calls journal
-  pub told : text ≡ finish_text (length journal)
+  pub reported : text ≡ finish_text (length journal)
 
 -- The journal is legal, and an entry of this place that was made at some seat isn't the journal's there, or doesn't stand
 -- behind the one before it. No seat is missing.
@@ -106,7 +106,7 @@ Closes workers calls (Err faults.NoMemory) text = text ≡ []
 -- The writer was given the text; where it failed, a prefix of it.
 abbrev pub Tells : {A : Type 0} → Option (List ℕ) → Option (List ℕ) → Result A ServeFault → List ℕ → Type 0
 Tells old new (Ok done) text = Appends old new text
-Tells old new (Err faults.Write) text = AppendsFront old new text
+Tells old new (Err faults.Write) text = AppendsPrefix old new text
 Tells old new (Err fault) text = Appends old new text
 
 -- The entry gives the piece of this claim.
@@ -152,4 +152,4 @@ pub record IsServed {A : Type 0} (workers : ℕ) (script old new : Option (List 
   pub answered : AreAnswered workers calls
   pub closing : List ℕ
   pub closes : Closes workers calls result closing
-  pub told : Tells old new result (calls_text calls ++ closing)
+  pub reported : Tells old new result (calls_text calls ++ closing)

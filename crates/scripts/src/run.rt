@@ -80,7 +80,7 @@ fn end<L: Ledger, W: Sink>(
 ) -> Result<(), ServeFault>
     requires table { IsTable seats.desk seats.passes.items }
     requires write { OnErr outcome (W.has_failed writer.now ≡ true) }
-    ensures told { (calls : List Call) → AreAnswered (seats.desk - 8) calls → Have (λ seat. entries_at seat calls) 0 seats.passes.items
+    ensures reported { (calls : List Call) → AreAnswered (seats.desk - 8) calls → Have (λ seat. entries_at seat calls) 0 seats.passes.items
         → EndsWith (seats.desk - 8) calls (W.held writer.old) (W.held writer.new) (ending outcome) result }
     ensures follows { Follows (ending outcome) result }
     ensures write { result ≡ Err ServeFault.Write → W.has_failed writer.new ≡ true }
@@ -109,7 +109,7 @@ fn answer_all<L: Ledger + Send + Sync, R: Source, W: Sink, T: Threads + Wait + S
 ) -> Result<Result<(), ScriptFault>, Failed>
     requires table { IsTable seats.old.desk seats.old.passes.items }
     requires fresh { Have (λ _. []) 0 seats.old.passes.items }
-    ensures told { (calls : List Call)
+    ensures reported { (calls : List Call)
         × AreAnswered (seats.old.desk - 8) calls
         × Have (λ seat. entries_at seat calls) 0 seats.new.passes.items
         × Tells (W.held writer.old) (W.held writer.new) (ending result) (calls_text calls)
@@ -136,7 +136,7 @@ fn answer_all<L: Ledger + Send + Sync, R: Source, W: Sink, T: Threads + Wait + S
 /// Ends the desk of a script that is read to its end, and writes the last line.
 fn conclude<L: Ledger, W: Sink>(seats: Seats<L>, writer: &mut W) -> Result<(), ServeFault>
     requires { IsTable seats.desk seats.passes.items }
-    ensures told { (calls : List Call) → AreAnswered (seats.desk - 8) calls → Have (λ seat. entries_at seat calls) 0 seats.passes.items
+    ensures reported { (calls : List Call) → AreAnswered (seats.desk - 8) calls → Have (λ seat. entries_at seat calls) 0 seats.passes.items
         → (closing : List ℕ) × Closes (seats.desk - 8) calls result closing × Tells (W.held writer.old) (W.held writer.new) result closing }
     ensures fault { IfErr result (λ e. (e ≡ ServeFault.Write) ⊎ ((cause : FinishCauseOf) × (e ≡ ServeFault.Finish cause))) }
     ensures write { result ≡ Err ServeFault.Write → W.has_failed writer.new ≡ true }
@@ -152,7 +152,7 @@ fn conclude<L: Ledger, W: Sink>(seats: Seats<L>, writer: &mut W) -> Result<(), S
 
 /// Tells why a script isn't read to its end: writes which line is bad, and else nothing.
 fn tell<W: Sink>(fault: ScriptFault, writer: &mut W) -> Result<(), ServeFault>
-    ensures told { (workers : ℕ) (calls : List Call) → (closing : List ℕ) × Closes workers calls result closing × Tells (W.held writer.old) (W.held writer.new) result closing }
+    ensures reported { (workers : ℕ) (calls : List Call) → (closing : List ℕ) × Closes workers calls result closing × Tells (W.held writer.old) (W.held writer.new) result closing }
     ensures fault { IfErr result (λ e. (e ≡ ServeFault.Write) ⊎ (ending (Ok (Err fault)) ≡ Err e)) }
     ensures err { IsErr result }
     ensures write { result ≡ Err ServeFault.Write → W.has_failed writer.new ≡ true }

@@ -1,6 +1,7 @@
 pub mod Bytes
 pub mod Faults
 pub mod Gaps
+pub mod Labels
 pub mod Memory
 pub mod Names
 pub mod Numbers

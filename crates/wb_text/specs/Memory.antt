@@ -24,6 +24,6 @@ pub record AppendsUpTo (old new : Option (List ℕ)) (bs rest : List ℕ) : Type
   pub split : bs ≡ given ++ rest
   pub grown : Appends old new given
 
--- known bytes have grown by some front of bs
-abbrev pub AppendsFront : Option (List ℕ) → Option (List ℕ) → List ℕ → Type 0
-AppendsFront old new bs = (rest : List ℕ) × AppendsUpTo old new bs rest
+-- known bytes have grown by a prefix of bs
+abbrev pub AppendsPrefix : Option (List ℕ) → Option (List ℕ) → List ℕ → Type 0
+AppendsPrefix old new bs = (rest : List ℕ) × AppendsUpTo old new bs rest

@@ -1,33 +1,45 @@
 //! Why a text or a name is refused, and why bytes did not move.
 
 ghost use Rattle.std.specs.Prelude.{◌≡◌};
+ghost use Rattle.wb_text.specs.Labels.{text_label};
 
 use std::alloc::{AllocError, AllocFailed};
 use thiserror::Error;
 
-/// Why a text has no token list. The numbers are those of the printed refusals.
+/// Why a text has no token list.
 #[derive(Clone, Copy, Debug, Drop, PartialEq, Eq, Error)]
+#[error("{}", self.label())]
 pub enum TextFault {
     /// A byte above 127 outside comments and a test's information.
-    #[error("1 NotAscii")]
     NotAscii,
     /// A byte that begins no token.
-    #[error("2 BadByte")]
     BadByte,
     /// A comment that is never closed.
-    #[error("3 OpenComment")]
     OpenComment,
     /// A quoted text that is never closed.
-    #[error("4 OpenString")]
     OpenString,
     /// A number above 2,147,483,647.
-    #[error("5 NumberTooBig")]
     NumberTooBig,
     /// A text of more than 65,536 bytes.
-    #[error("6 TooLong")]
     TooLong,
-    #[error("NoMemory")]
     NoMemory,
+}
+
+impl TextFault {
+    /// The number and the name that a printed refusal has for this fault.
+    pub fn label(self) -> &'static str
+        ensures { result.now ≡ text_label self }
+    {
+        match self {
+            TextFault::NotAscii => "1 NotAscii",
+            TextFault::BadByte => "2 BadByte",
+            TextFault::OpenComment => "3 OpenComment",
+            TextFault::OpenString => "4 OpenString",
+            TextFault::NumberTooBig => "5 NumberTooBig",
+            TextFault::TooLong => "6 TooLong",
+            TextFault::NoMemory => "NoMemory",
+        }
+    }
 }
 
 /// Why bytes are no name.

@@ -2,7 +2,7 @@
 
 ghost use Rattle.std.specs.Prelude.{◌≡◌, ◌≤◌, ◌<◌, ◌-◌, ℕ, List, Option, Some, None, Bool, true, false, [], length, take, min, ◌↔◌, IfOk, IsErr, OnOk, OnErr};
 ghost use Rattle.std.specs.Io.KnownBytes.{Keeps, Appends};
-ghost use Rattle.wb_text.specs.Memory.{AppendsFront};
+ghost use Rattle.wb_text.specs.Memory.{AppendsPrefix};
 
 use crate::fault::Failed;
 use std::alloc::{AllocError, Global};
@@ -32,7 +32,7 @@ pub trait Sink {
 pub fn give_all<S: Sink>(sink: &mut S, bytes: &[u8]) -> Result<(), Failed>
     ensures given { OnOk result (Appends (S.held sink.old) (S.held sink.new) bytes.now) }
     // A sink that fails has taken some first part of them.
-    ensures partly { OnErr result (AppendsFront (S.held sink.old) (S.held sink.new) bytes.now) }
+    ensures partly { OnErr result (AppendsPrefix (S.held sink.old) (S.held sink.new) bytes.now) }
     ensures marked { OnErr result (S.has_failed sink.new ≡ true) }
     ensures lasting { S.has_failed sink.old ≡ true → S.has_failed sink.new ≡ true }
 {

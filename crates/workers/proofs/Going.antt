@@ -32,7 +32,7 @@ last_is before after said line a h =
 
 -- a call whose last receipt is this line
 pub replied : (before after : PassView) (said : Said) (tells : Reply → Type 0) (line : Line) → Adds before after said → slice_get after.receipts (length after.receipts - 1) ≡ Some line → answers line.said line.reply ≡ true → tells line.reply → Replied before after said tells
-replied before after said tells line a h kind told =
+replied before after said tells line a h kind reported =
     let same : a.line ≡ line = last_is before after said line a h in
     let of : line.said ≡ said = subst (λ (l : Line). l.said ≡ said) same a.of_command in
     record {
@@ -40,5 +40,5 @@ replied before after said tells line a h kind told =
       is = a.is;
       of = a.of_command;
       kind = subst (λ (l : Line). answers said l.reply ≡ true) (sym same) (subst (λ (s : Said). answers s line.reply ≡ true) of kind);
-      told = subst (λ (l : Line). tells l.reply) (sym same) told;
+      reported = subst (λ (l : Line). tells l.reply) (sym same) reported;
     }

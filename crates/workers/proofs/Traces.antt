@@ -90,14 +90,14 @@ same_piece a b e = cc
 pub held-turn : (form : Form) (before mid now : PassView) (turn : Turn) → Replied before mid Claim (λ (reply : Reply). Held ≡ claimed_of reply) → Settles mid now turn → IsTurn form Free before now turn
 held-turn form before mid now turn claim rest =
     let line = claim.line in
-    let given = given_of line.reply claim.told in
+    let given = given_of line.reply claim.reported in
     let same : given.0 ≡ rest.piece = same_piece _ _ (sym (ap (λ (p : PassView). last_piece p.receipts) claim.is ∙ last_piece-push before.receipts line ∙ ap piece_of given.1) ∙ rest.given) in
     let reply : line.reply ≡ Piece rest.piece = given.1 ∙ ap Piece same in
     let t = rest.turns form in
     record {
       added = line ∷ t.added;
       is = t.is ∙ ap (λ (p : PassView). record p { receipts = p.receipts ++ t.added }) claim.is ∙ ap (λ (xs : List Line). record before { receipts = xs }) (append_assoc before.receipts (line ∷ []) t.added);
-      told = tells-claim form rest.piece line t.added turn claim.of reply t.told;
+      reported = tells-claim form rest.piece line t.added turn claim.of reply t.reported;
     }
 
 pub so_far-none : (form : Form) (pass : PassView) → SoFar form pass pass 0
@@ -130,14 +130,14 @@ pub so_far-waited : (form : Form) (before mid now : PassView) (n : ℕ) → SoFa
 so_far-waited form before mid now n a t = record {
   added = a.added ++ t.added;
   is = chained before mid now a.added t.added a.is t.is;
-  goes = subst (λ (k : ℕ). GoesOn form Free k (a.added ++ t.added)) (let e : n + 0 ≡ n = omega arith in e) (goes-more form n 0 a.added t.added a.goes t.told.0);
+  goes = subst (λ (k : ℕ). GoesOn form Free k (a.added ++ t.added)) (let e : n + 0 ≡ n = omega arith in e) (goes-more form n 0 a.added t.added a.goes t.reported.0);
 }
 
 pub so_far-returned : (form : Form) (before mid now : PassView) (n : ℕ) → SoFar form before mid n → IsTurn form Free mid now Returned → SoFar form before now (n + 1)
 so_far-returned form before mid now n a t = record {
   added = a.added ++ t.added;
   is = chained before mid now a.added t.added a.is t.is;
-  goes = goes-more form n 1 a.added t.added a.goes t.told.0;
+  goes = goes-more form n 1 a.added t.added a.goes t.reported.0;
 }
 
 -- the work of a worker ends with this turn
@@ -145,7 +145,7 @@ pub so_far-ended : (form : Form) (before mid now : PassView) (n : ℕ) (last : C
 so_far-ended form before mid now n last a t =
     let xs = a.added in
     let ys = t.added in
-    let w = t.told.0 in
+    let w = t.reported.0 in
     let r : returns xs ≡ n = a.goes.returned in
     let g : given_back xs ≡ 0 = a.goes.none in
     let least : returns ys ≤ last.evaluated = w.least in

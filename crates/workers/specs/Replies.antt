@@ -16,7 +16,7 @@ pub record Replied (before after : PassView) (said : Said) (tells : Reply → Ty
   pub is : after ≡ record before { receipts = before.receipts ++ line ∷ [] }
   pub of : line.said ≡ said
   pub kind : answers said line.reply ≡ true
-  pub told : tells line.reply
+  pub reported : tells line.reply
 
 abbrev pub claimed_of : Reply → Claimed
 claimed_of (Piece piece) = Held

@@ -25,7 +25,7 @@ Tells form stage (Ended counts) added = IsWorkFrom form stage counts added × (c
 pub record IsTurn (form : Form) (stage : Stage) (before now : PassView) (turn : Turn) : Type 0 where
   pub added : List Line
   pub is : now ≡ record before { receipts = before.receipts ++ added }
-  pub told : Tells form stage turn added
+  pub reported : Tells form stage turn added
 
 -- those that follow the receipt of a piece
 pub record Settles (before now : PassView) (turn : Turn) : Type 0 where

@@ -20,7 +20,7 @@ pub enum Form {
     UntilClosed,
 }
 
-/// Is told when an evaluation begins and ends. A worker holds no lock then.
+/// Is notified when an evaluation begins and ends. A worker holds no lock then.
 pub trait Gate {
     fn enter<R: Wait>(&self, rt: &R, pass: usize, piece: &Piece);
 

@@ -8,20 +8,20 @@ pub returns-then-announces-clause-place : goal.returns-then-announces-clause-pla
 returns-then-announces-clause-place c =
     let symbol = c.index-symbols-i.result in
     let counted : c.cost.result ≡ cost c.loop-i.context (get_or c.args.symbols.now c.loop-i.i symbol) = c.cost.ensures.value ∙ ap (cost c.loop-i.context) c.index-symbols-i.is in
-    let told : announces_node (get_or c.args.symbols.now c.loop-i.i symbol) ≡ true = sym (ap announces_node c.index-symbols-i.is) ∙ (sym c.announces.ensures ∙ c.if-announces.true) in (
+    let reported : announces_node (get_or c.args.symbols.now c.loop-i.i symbol) ≡ true = sym (ap announces_node c.index-symbols-i.is) ∙ (sym c.announces.ensures ∙ c.if-announces.true) in (
       omega (arith, c.loop-i-test.true),
       excess_here c.loop-i.context c.args.symbols.now c.loop-i.i c.loop-i.nodes (c.loop-i.i + 1) symbol c.loop-i-test.true c.loop-i.invariant.3 c.loop-i.invariant.1
-          (omega (arith, c.if-nodes-gt-NODES.true, counted)) (rw told refl),
+          (omega (arith, c.if-nodes-gt-NODES.true, counted)) (rw reported refl),
     )
 
 pub returns-else-announces-clause-place : goal.returns-else-announces-clause-place
 returns-else-announces-clause-place c =
     let symbol = c.index-symbols-i.result in
     let counted : c.cost.result ≡ cost c.loop-i.context (get_or c.args.symbols.now c.loop-i.i symbol) = c.cost.ensures.value ∙ ap (cost c.loop-i.context) c.index-symbols-i.is in
-    let told : announces_node (get_or c.args.symbols.now c.loop-i.i symbol) ≡ false = sym (ap announces_node c.index-symbols-i.is) ∙ (sym c.announces.ensures ∙ c.if-announces.false) in (
+    let reported : announces_node (get_or c.args.symbols.now c.loop-i.i symbol) ≡ false = sym (ap announces_node c.index-symbols-i.is) ∙ (sym c.announces.ensures ∙ c.if-announces.false) in (
       omega (arith, c.loop-i-test.true),
       excess_here c.loop-i.context c.args.symbols.now c.loop-i.i c.loop-i.nodes c.loop-i.i symbol c.loop-i-test.true c.loop-i.invariant.3 c.loop-i.invariant.1
-          (omega (arith, c.if-nodes-gt-NODES.true, counted)) (rw told refl),
+          (omega (arith, c.if-nodes-gt-NODES.true, counted)) (rw reported refl),
     )
 
 pub loop-i-preserved : goal.loop-i-preserved

@@ -21,7 +21,7 @@ pub returns-clause-cause : goal.returns-clause-cause
 returns-clause-cause c =
     refused c.args.text.now c.in_ok-tokens.tokens.items c.deref-3.result.now c.deref-2.result.now c.read_symbols.result c.in_ok-tokens.ensures.found
     (c.deref-2.ensures.value ∙ c.in_ok-symbols.ensures ∙ ap (symbols_of c.args.text.now) c.deref.ensures.value) c.deref-3.ensures.value
-    c.read_symbols.ensures.told (returns-clause-only c)
+    c.read_symbols.ensures.reported (returns-clause-only c)
 
 pub returns-in_err-tokens-clause-cause : goal.returns-in_err-tokens-clause-cause
 returns-in_err-tokens-clause-cause c = text_refused c.args.text.now c.from_residual.result c.in_err-tokens.field-0.0 c.from_residual.ensures.1 c.in_err-tokens.ensures.cause

@@ -1,3 +1,4 @@
+use Rattle.std.proofs.Common.{◌≡◌}
 use Rattle.replies.proofs.refusal.write_cause.Goals as goal
 
 pub returns-in-ReadingTest : goal.returns-in-ReadingTest
@@ -22,7 +23,9 @@ pub returns-in-Stranger : goal.returns-in-Stranger
 returns-in-Stranger g c = rw c.in-Stranger.is c.write_numbered-in-Stranger.ensures
 
 pub returns-in-VersionsSpent : goal.returns-in-VersionsSpent
-returns-in-VersionsSpent g c = rw c.in-VersionsSpent.is c.write_named-in-VersionsSpent.ensures
+returns-in-VersionsSpent g c =
+    let name : c.bytes-in-VersionsSpent.result.now ≡ c.in-VersionsSpent.name = cc in
+    rw c.in-VersionsSpent.is (rw name at c.write_field-in-VersionsSpent.ensures)
 
 pub returns-in-ClaimsSpent : goal.returns-in-ClaimsSpent
 returns-in-ClaimsSpent g c = rw c.in-ClaimsSpent.is c.write_bytes-in-ClaimsSpent.ensures

@@ -1,6 +1,6 @@
 use Rattle.std.proofs.Common.{subst}
 use Rattle.std.specs.Io.KnownBytes.{Appends}
-use Rattle.wb_text.specs.Memory.{AppendsFront}
+use Rattle.wb_text.specs.Memory.{AppendsPrefix}
 use Rattle.slices.specs.Findings.{FindingValue}
 use Rattle.report.specs.Texts.{Text}
 use Rattle.report.proofs.Written.{done_is, part_is}
@@ -13,5 +13,5 @@ returns-in-Ok-clause-written g c =
 
 pub returns-in-Err-clause-part : goal.returns-in-Err-clause-part
 returns-in-Err-clause-part g c =
-    let P : FindingValue → Type 0 = λ v. AppendsFront (g.W.Sink.held c.args.writer.now) (g.W.Sink.held c.write_lines.new.writer) (Text v) in
+    let P : FindingValue → Type 0 = λ v. AppendsPrefix (g.W.Sink.held c.args.writer.now) (g.W.Sink.held c.write_lines.new.writer) (Text v) in
     subst P c.finding.ensures.finding (part_is _ _ _ _ _ _ c.in-Err.is c.write_lines.ensures)

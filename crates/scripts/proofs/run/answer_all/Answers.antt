@@ -11,7 +11,7 @@ use Rattle.scripts.proofs.run.answer_all.Goals as goal
 
 pub loop-instruction-init : goal.loop-instruction-init
 loop-instruction-init g c = record {
-  told = ([], no_call, c.requires.fresh, Appends-nil (g.W.Sink.held c.args.writer.now), no_instruction);
+  reported = ([], no_call, c.requires.fresh, Appends-nil (g.W.Sink.held c.args.writer.now), no_instruction);
   lines = nothing_read;
   table = c.requires.table;
   desk = refl;
@@ -29,7 +29,7 @@ loop-instruction-smaller g c =
 
 pub loop-instruction-preserved : goal.loop-instruction-preserved
 loop-instruction-preserved g c =
-    let told = c.loop-instruction.invariant.told in
+    let reported = c.loop-instruction.invariant.reported in
     let before = ahead c.loop-instruction.script.lines.block (g.R.Source.left c.loop-instruction.reader) in
     let after = ahead c.next.new.self.lines.block (g.R.Source.left c.next.new.reader) in
     let m = c.loop-instruction.script.lines.count in
@@ -40,18 +40,18 @@ loop-instruction-preserved g c =
     let call : Call = record { instruction = c.in-Ok-Some.instruction; answer = a.answer } in
     let passes = c.loop-instruction.seats.passes.items in
     let table = c.loop-instruction.invariant.table in
-    let answered = answered_more c.args.seats.now.desk c.loop-instruction.seats.desk told.0 call passes c.loop-instruction.invariant.desk told.1 table told.2 a.is in
-    let have = have_more c.loop-instruction.seats.desk told.0 call passes c.call.new.self.passes.items table a.become told.2 in
+    let answered = answered_more c.args.seats.now.desk c.loop-instruction.seats.desk reported.0 call passes c.loop-instruction.invariant.desk reported.1 table reported.2 a.is in
+    let have = have_more c.loop-instruction.seats.desk reported.0 call passes c.call.new.self.passes.items table a.become reported.2 in
     record {
-      told = (told.0 ++ call ∷ [], answered, have, written _ _ _ told.0 call told.3 (c.in_ok-give_answer-in-Ok.ensures a.answer a.shows), instructed _ before after told.0 call told.4 next);
+      reported = (reported.0 ++ call ∷ [], answered, have, written _ _ _ reported.0 call reported.3 (c.in_ok-give_answer-in-Ok.ensures a.answer a.shows), instructed _ before after reported.0 call reported.4 next);
       lines = joined _ before _ _ after _ c.loop-instruction.invariant.lines lines;
       table = c.call.ensures.table;
       desk = c.call.ensures.desk ∙ c.loop-instruction.invariant.desk;
     }
 
-pub returns-in_err-give_answer-in-Ok-clause-told : goal.returns-in_err-give_answer-in-Ok-clause-told
-returns-in_err-give_answer-in-Ok-clause-told g c =
-    let told = c.loop-instruction.invariant.told in
+pub returns-in_err-give_answer-in-Ok-clause-reported : goal.returns-in_err-give_answer-in-Ok-clause-reported
+returns-in_err-give_answer-in-Ok-clause-reported g c =
+    let reported = c.loop-instruction.invariant.reported in
     let before = ahead c.loop-instruction.script.lines.block (g.R.Source.left c.loop-instruction.reader) in
     let after = ahead c.next.new.self.lines.block (g.R.Source.left c.next.new.reader) in
     let m = c.loop-instruction.script.lines.count in
@@ -62,11 +62,11 @@ returns-in_err-give_answer-in-Ok-clause-told g c =
     let call : Call = record { instruction = c.in-Ok-Some.instruction; answer = a.answer } in
     let passes = c.loop-instruction.seats.passes.items in
     let table = c.loop-instruction.invariant.table in
-    let answered = answered_more c.args.seats.now.desk c.loop-instruction.seats.desk told.0 call passes c.loop-instruction.invariant.desk told.1 table told.2 a.is in
-    let have = have_more c.loop-instruction.seats.desk told.0 call passes c.call.new.self.passes.items table a.become told.2 in
-    let calls = told.0 ++ call ∷ [] in
+    let answered = answered_more c.args.seats.now.desk c.loop-instruction.seats.desk reported.0 call passes c.loop-instruction.invariant.desk reported.1 table reported.2 a.is in
+    let have = have_more c.loop-instruction.seats.desk reported.0 call passes c.call.new.self.passes.items table a.become reported.2 in
+    let calls = reported.0 ++ call ∷ [] in
     let failed = write_ending _ c.from_residual.result c.from_residual.ensures.1 in
-    let part = written_partly _ _ _ told.0 call told.3 (c.in_err-give_answer-in-Ok.ensures a.answer a.shows).0 in (
+    let part = written_partly _ _ _ reported.0 call reported.3 (c.in_err-give_answer-in-Ok.ensures a.answer a.shows).0 in (
       calls,
       answered,
       have,
@@ -74,7 +74,7 @@ returns-in_err-give_answer-in-Ok-clause-told g c =
       subst (λ r. IsRead (ahead c.args.script.now.lines.block (g.R.Source.left c.args.reader.now)) c.args.script.now.lines.count r calls) (sym failed) (record {
         end = after;
         count = k;
-        instructions = instructed _ before after told.0 call told.4 next;
+        instructions = instructed _ before after reported.0 call reported.4 next;
         lines = joined _ before _ _ after _ c.loop-instruction.invariant.lines lines;
         stops = tt;
       }),
@@ -83,9 +83,9 @@ returns-in_err-give_answer-in-Ok-clause-told g c =
 pub returns-in_err-give_answer-in-Ok-clause-desk : goal.returns-in_err-give_answer-in-Ok-clause-desk
 returns-in_err-give_answer-in-Ok-clause-desk g c = c.call.ensures.desk ∙ c.loop-instruction.invariant.desk
 
-pub returns-in-Err-call-clause-told : goal.returns-in-Err-call-clause-told
-returns-in-Err-call-clause-told g c =
-    let told = c.loop-instruction.invariant.told in
+pub returns-in-Err-call-clause-reported : goal.returns-in-Err-call-clause-reported
+returns-in-Err-call-clause-reported g c =
+    let reported = c.loop-instruction.invariant.reported in
     let before = ahead c.loop-instruction.script.lines.block (g.R.Source.left c.loop-instruction.reader) in
     let after = ahead c.next.new.self.lines.block (g.R.Source.left c.next.new.reader) in
     let m = c.loop-instruction.script.lines.count in
@@ -93,16 +93,16 @@ returns-in-Err-call-clause-told g c =
     let next : IsNextInstruction before after c.in-Ok-Some.instruction = rw c.in-Ok-Some.field-0-is at c.in-Ok-Some.ensures.next in
     let lines : AreLines before m after k = rw c.in-Ok-Some.field-0-is at c.in-Ok-Some.ensures.lines in
     let passes = c.loop-instruction.seats.passes.items in
-    let same = same_entries _ c.loop-instruction.seats.desk told.0 passes told.1 c.loop-instruction.invariant.table told.2 in
+    let same = same_entries _ c.loop-instruction.seats.desk reported.0 passes reported.1 c.loop-instruction.invariant.table reported.2 in
     let unclaimed = c.in-Err-call.ensures.none in (
-      told.0,
-      told.1,
-      subst (Have (λ seat. entries_at seat told.0) 0) (sym c.in-Err-call.ensures.same) told.2,
-      told.3,
+      reported.0,
+      reported.1,
+      subst (Have (λ seat. entries_at seat reported.0) 0) (sym c.in-Err-call.ensures.same) reported.2,
+      reported.3,
       record {
         end = before;
         count = m;
-        instructions = told.4;
+        instructions = reported.4;
         lines = c.loop-instruction.invariant.lines;
         stops = inr (record {
           after = after;
@@ -120,14 +120,14 @@ returns-in-Err-call-clause-told g c =
 pub returns-in-Err-call-clause-desk : goal.returns-in-Err-call-clause-desk
 returns-in-Err-call-clause-desk g c = c.call.ensures.desk ∙ c.loop-instruction.invariant.desk
 
-pub returns-in-Ok-None-clause-told : goal.returns-in-Ok-None-clause-told
-returns-in-Ok-None-clause-told g c =
-    let told = c.loop-instruction.invariant.told in
+pub returns-in-Ok-None-clause-reported : goal.returns-in-Ok-None-clause-reported
+returns-in-Ok-None-clause-reported g c =
+    let reported = c.loop-instruction.invariant.reported in
     let before = ahead c.loop-instruction.script.lines.block (g.R.Source.left c.loop-instruction.reader) in
     let after = ahead c.next.new.self.lines.block (g.R.Source.left c.next.new.reader) in
     let m = c.loop-instruction.script.lines.count in
     let spent : IsSpent before m after = rw c.in-Ok-None.field-0-is at c.in-Ok-None.ensures.spent in
-    (told.0, told.1, told.2, told.3, record { end = before; count = m; instructions = told.4; lines = c.loop-instruction.invariant.lines; stops = (after, spent) })
+    (reported.0, reported.1, reported.2, reported.3, record { end = before; count = m; instructions = reported.4; lines = c.loop-instruction.invariant.lines; stops = (after, spent) })
 
 pub returns-in-Ok-None-clause-table : goal.returns-in-Ok-None-clause-table
 returns-in-Ok-None-clause-table g c = c.loop-instruction.invariant.table
@@ -135,14 +135,14 @@ returns-in-Ok-None-clause-table g c = c.loop-instruction.invariant.table
 pub returns-in-Ok-None-clause-desk : goal.returns-in-Ok-None-clause-desk
 returns-in-Ok-None-clause-desk g c = c.loop-instruction.invariant.desk
 
-pub returns-in-Err-clause-told : goal.returns-in-Err-clause-told
-returns-in-Err-clause-told g c =
-    let told = c.loop-instruction.invariant.told in (
-      told.0,
-      told.1,
-      told.2,
-      tells_ending _ _ c.in-Err.fault _ told.3,
-      stopped c.in-Err.fault told.0 told.4 c.loop-instruction.invariant.lines (λ n e. inl (c.next.ensures.line n (c.in-Err.is ∙ ap Err e))),
+pub returns-in-Err-clause-reported : goal.returns-in-Err-clause-reported
+returns-in-Err-clause-reported g c =
+    let reported = c.loop-instruction.invariant.reported in (
+      reported.0,
+      reported.1,
+      reported.2,
+      tells_ending _ _ c.in-Err.fault _ reported.3,
+      stopped c.in-Err.fault reported.0 reported.4 c.loop-instruction.invariant.lines (λ n e. inl (c.next.ensures.line n (c.in-Err.is ∙ ap Err e))),
     )
 
 pub returns-in-Err-clause-read : goal.returns-in-Err-clause-read

@@ -8,7 +8,7 @@ use Rattle.scripts.proofs.run.answer_all.Given as goal
 
 abbrev pub invariant-loop-instruction : goal.invariant-loop-instruction
 invariant-loop-instruction g l = record {
-  told : (calls : List Call)
+  reported : (calls : List Call)
       × AreAnswered (l.initial.seats.desk - 8) calls
       × Have (λ seat. entries_at seat calls) 0 l.seats.passes.items
       × Appends (g.W.Sink.held l.initial.writer) (g.W.Sink.held l.writer) (calls_text calls)

@@ -14,16 +14,16 @@ returns-in_err-seats-clause-served g c = unserved _ _ _ c.from_residual-in_err-s
 
 pub returns-clause-served : goal.returns-clause-served
 returns-clause-served g c =
-    let told = c.answer_all-outcome.ensures.told in
+    let reported = c.answer_all-outcome.ensures.reported in
     let old = c.in_ok-seats.seats.desk in
     let new = c.answer_all-outcome.new.seats.desk in
     let same : new ≡ old = c.answer_all-outcome.ensures.desk in
     let size : old ≡ 8 + worker_count c.args.options.now.workers = c.in_ok-seats.ensures.desk ∙ c.seat_count.ensures in
     let workers : new - 8 ≡ worker_count c.args.options.now.workers = omega (arith, same, size) in
-    let answered : AreAnswered (new - 8) told.0 = subst (λ d. AreAnswered (d - 8) told.0) (sym same) told.1 in
+    let answered : AreAnswered (new - 8) reported.0 = subst (λ d. AreAnswered (d - 8) reported.0) (sym same) reported.1 in
     let end = ending c.answer_all-outcome.result in
-    served (new - 8) (worker_count c.args.options.now.workers) _ _ _ _ end c.end.result told.0 workers answered told.3
-    (from_start (g.R.Source.left c.args.reader.now) end told.0 c.in_ok-script.ensures.block c.in_ok-script.ensures.count told.4) c.end.ensures.follows (c.end.ensures.told told.0 answered told.2)
+    served (new - 8) (worker_count c.args.options.now.workers) _ _ _ _ end c.end.result reported.0 workers answered reported.3
+    (from_start (g.R.Source.left c.args.reader.now) end reported.0 c.in_ok-script.ensures.block c.in_ok-script.ensures.count reported.4) c.end.ensures.follows (c.end.ensures.reported reported.0 answered reported.2)
 
 pub returns-clause-end : goal.returns-clause-end
 returns-clause-end g c = end_ok (ending c.answer_all-outcome.result) c.end.result _ c.end.ensures.follows c.answer_all-outcome.ensures.end
