@@ -133,6 +133,10 @@ place_behind_takes ps qs ts rest e =
 pub places_turn_takes : (ts mid rest : List Symbol) (o : Unit {0}) (a b : List Place) → after Semicolon ts ≡ Some (o, mid) → place_behind a mid ≡ Ok (b, rest) → length rest < length ts
 places_turn_takes ts mid rest o a b e f = omega (arith, after_takes Semicolon ts mid o e, place_behind_takes a b mid rest f)
 
+-- The same, from the place to what stands behind it.
+pub places_loop_takes : (ts mid rest : List Symbol) (o : Unit {0}) (a b : List Place) → place_behind a ts ≡ Ok (b, mid) → after Semicolon mid ≡ Some (o, rest) → length rest < length ts
+places_loop_takes ts mid rest o a b f e = omega (arith, after_takes Semicolon mid rest o e, place_behind_takes a b ts mid f)
+
 pub places_turn : (a : List Place) (ts : List Symbol) →
     repeated (syntax 0) (after Semicolon) (λ _ ps us. place_behind ps us) a ts ≡
     match_option (after Semicolon ts) (Ok (a, ts)) (λ x. place_behind a x.1 >>= λ y. repeated (syntax 0) (after Semicolon) (λ _ ps us. place_behind ps us) y.0 y.1)

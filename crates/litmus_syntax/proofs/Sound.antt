@@ -16,7 +16,7 @@ use Rattle.litmus_syntax.specs.declared.symbol.Terminal.{Terminal}
 use Rattle.litmus_syntax.specs.declared.symbol.Terminal.TheVariants.{Int, AtomicInt, Volatile, LeftParen, RightParen, LeftBrace, RightBrace, Semicolon, Comma, Assign, Star}
 use Rattle.litmus_tree.specs.declared.tree.LocationKind.{LocationKind}
 use Rattle.litmus_tree.specs.declared.tree.Parameter.{Parameter}
-use Rattle.litmus_syntax.specs.Drafts.{is_parameter}
+use Rattle.litmus_syntax.specs.Drafts.{Written, is_parameter}
 use Rattle.litmus_syntax.specs.Grammar.{IsLocation, IsPlace, place_register, place_location, type_int, type_atomic, IsUntyped, untyped_zero, untyped_value, IsEntry, entry_untyped, entry_typed, IsEntries, entries_none, entries_one, entries_empty, entries_more, HasKind, kind_atomic, kind_plain, IsParameter, parameter_typed, parameter_volatile, IsNew, IsParameters, parameters_one, parameters_more as parameters_and, IsParameterList, list_none, list_some, IsThread, thread_body, IsThreads, threads_one, threads_more as threads_and, IsCondition, IsWritten, written}
 use Rattle.litmus_syntax.specs.Reading.{Reading, syntax, after, expected, name_at, number_at, before_name, open_at, place_at, bare, bound_at, behind_type, entry_at, ends_entry, entry_behind, entries_at, kind_at, behind_volatile, parameter_behind, parameters_more, parameters_at, parameters_closed, parameter_list_at, steps_at, names_thread, thread_name_at, thread_at, threads_more, threads_at, listed_at, condition_at, word_at, language_at, end_at, initial_at, test_at}
 use Rattle.litmus_tree.specs.Tree.{Word}
@@ -255,14 +255,15 @@ test-sound n ts rest w e =
       | inl g ↦
           let is : c.0.0 ≡ codes "C" = bytes_eq-true c.0.0 (codes "C") g.0 in
           let a1 : ts ≡ head_word c.0.0 ∷ c.0.1 = word-ok ts c.0.1 c.0.0 c.1 in
-          let a2 : c.0.1 ≡ l.0.1 = moved (λ l t. c.0.1 ≡ l) g.1 refl in
+          let a2 : c.0.1 ≡ l.0.1 = moved (λ l t. c.0.1 ≡ l) {x = tt} {ts = c.0.1} g.1 refl in
           let a3 : l.0.1 ≡ head_word x.0.0 ∷ x.0.1 = word-ok l.0.1 x.0.1 x.0.0 x.1 in
           let a4 : x.0.1 ≡ Fixed LeftBrace ∷ y.0.1 = expected-ok LeftBrace x.0.1 y.0.1 y.0.0 y.1 in
           let head : ts ≡ head_word (codes "C") ∷ head_word x.0.0 ∷ Fixed LeftBrace ∷ y.0.1 = cc in
           let entries : IsEntries y.0.1 (Fixed RightBrace ∷ z.0.1) bs.0.0 = subst (λ l. IsEntries y.0.1 l bs.0.0) (expected-ok RightBrace bs.0.1 z.0.1 z.0.0 z.1) (entries-sound y.0.1 bs.0.1 bs.0.0 bs.1) in
-          let whole : IsEntries y.0.1 (Fixed RightBrace ∷ i.0.1) i.0.0 = moved (λ l t. IsEntries y.0.1 (Fixed RightBrace ∷ l) t) z.2 entries in
+          let whole : IsEntries y.0.1 (Fixed RightBrace ∷ i.0.1) i.0.0 = moved (λ l t. IsEntries y.0.1 (Fixed RightBrace ∷ l) t) {x = bs.0.0} {ts = z.0.1} z.2 entries in
           let ending : IsCondition n qs.0.1 [] k.0.0 = subst (λ l. IsCondition n qs.0.1 l k.0.0) ends.0 (condition-sound n qs.0.1 k.0.1 k.0.0 k.1) in
-          moved (λ l t. IsWritten n ts [] t × (l ≡ [])) f.2
-          (subst (λ l. IsWritten n l [] (record { name = x.0.0; entries = i.0.0; threads = ps.0.0; listed = qs.0.0; condition = k.0.0 })) (sym head) (written whole (threads-sound n i.0.1 ps.0.1 ps.0.0 ps.1) (listed-sound ps.0.1 qs.0.1 qs.0.0 qs.1) ending), ends.1)
+          let w : Written = record { name = x.0.0; entries = i.0.0; threads = ps.0.0; listed = qs.0.0; condition = k.0.0 } in
+          moved (λ l t. IsWritten n ts [] t × (l ≡ [])) {x = w} {ts = f.0.1} f.2
+          (subst (λ l. IsWritten n l [] w) (sym head) (written whole (threads-sound n i.0.1 ps.0.1 ps.0.0 ps.1) (listed-sound ps.0.1 qs.0.1 qs.0.0 qs.1) ending), ends.1)
       | inr g ↦ absurd (refused l.0 g.1)
     ]

@@ -4,10 +4,11 @@ ghost use Rattle.std.specs.Prelude.{◌≡◌};
 ghost use Rattle.litmus_syntax.specs.Atomics.{calls, orders, accepted, has_value};
 ghost use Rattle.litmus_syntax.specs.Symbols.{looked_up};
 
+use crate::table::looked_up;
 use events::Order;
 
 /// A call of C's atomics.
-#[derive(Clone, Copy, Debug, PartialEq, Eq)]
+#[derive(Clone, Copy, PartialEq, Eq)]
 pub enum Operation {
     Load,
     LoadExplicit,
@@ -50,22 +51,16 @@ macro_rules! orders {
 
 pub(crate) use calls;
 
-/// The call of the row that spells these bytes.
-macro_rules! call_spelled {
-    (($bytes:ident) $($call:ident: $word:literal, $reads:ident, $takes:tt, $valued:literal;)*) => {
-        $(if $bytes == $word.as_slice() {
-            return Some(Operation::$call);
-        })*
+/// The words of all rows, each with its call.
+macro_rules! call_words {
+    (() $($call:ident: $word:literal, $reads:ident, $takes:tt, $valued:literal;)*) => {
+        [$(($word, Operation::$call)),*]
     };
 }
 
-/// The order of the row that spells these bytes.
-macro_rules! order_spelled {
-    (($bytes:ident) $($order:ident: $word:literal;)*) => {
-        $(if $bytes == $word.as_slice() {
-            return Some(Order::$order);
-        })*
-    };
+/// The words of all rows, each with its order.
+macro_rules! order_words {
+    (() $($order:ident: $word:literal;)*) => { [$(($word, Order::$order)),*] };
 }
 
 /// The orders that the call's row says.
@@ -98,20 +93,22 @@ macro_rules! valued {
     };
 }
 
+const CALLS: [(&[u8], Operation); 7] = calls!(call_words());
+
+const ORDERS: [(&[u8], Order); 5] = orders!(order_words());
+
 /// The call of this name.
 pub fn call_named(bytes: &[u8]) -> Option<Operation>
     ensures { result ≡ looked_up calls bytes.now }
 {
-    calls!(call_spelled(bytes));
-    None
+    looked_up(&CALLS, bytes)
 }
 
 /// The order of this name.
 pub fn order_named(bytes: &[u8]) -> Option<Order>
     ensures { result ≡ looked_up orders bytes.now }
 {
-    orders!(order_spelled(bytes));
-    None
+    looked_up(&ORDERS, bytes)
 }
 
 /// The orders that a call takes as its last argument. One that takes none has no such argument, and its order is `sc`.

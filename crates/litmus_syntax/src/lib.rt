@@ -7,6 +7,7 @@ pub mod laws;
 mod symbol;
 mod syntax;
 mod syntax_fault;
+mod table;
 
 pub use atomics::Operation;
 pub use draft::{Body, Draft};

@@ -1,17 +1,18 @@
 //! The terminal symbols of the grammar of tests.
 
-ghost use Rattle.std.specs.Prelude.{◌≡◌, IfOk, MatchOption, length, drop, All, true, false};
+ghost use Rattle.std.specs.Prelude.{◌≡◌, IfOk, MatchOption, length, All, true, false};
 ghost use Rattle.wb_text.specs.Numbers.{decimal_value};
 ghost use Rattle.wb_text.specs.Tokens.{IsWithin};
 ghost use Rattle.litmus_syntax.specs.Symbols.{looked_up, signs, words, foreign_words, is_foreign_order, is_foreign_call, is_foreign, is_name, is_number, name_symbol, symbol_by, spelling, is_opened, symbols_of};
 ghost use Rattle.litmus_tree.specs.Names.{is_one_of};
 
 use crate::atomics::{Operation, call_named, order_named};
+use crate::table::{is_one_of, looked_up};
 use std::alloc::{AllocError, Global};
 use wb_text::{Name, NameFault, Token, TokenKind, decimal};
 
 /// A reserved word, that is none of a call, or a sign.
-#[derive(Clone, Copy, Debug, PartialEq, Eq)]
+#[derive(Clone, Copy, PartialEq, Eq)]
 pub enum Terminal {
     Int,
     AtomicInt,
@@ -66,76 +67,77 @@ pub enum Symbol {
     Other,
 }
 
-/// What stands beside the first row that spells these bytes.
-macro_rules! looked_up {
-    ($bytes:ident: $($spelling:literal => $meaning:expr),*) => {
-        $(if $bytes == $spelling.as_slice() {
-            return Some($meaning);
-        })*
-    };
-}
+const SIGNS: [(&[u8], Terminal); 20] = [
+    (b"(", Terminal::LeftParen),
+    (b")", Terminal::RightParen),
+    (b"{", Terminal::LeftBrace),
+    (b"}", Terminal::RightBrace),
+    (b"[", Terminal::LeftBracket),
+    (b"]", Terminal::RightBracket),
+    (b";", Terminal::Semicolon),
+    (b":", Terminal::Colon),
+    (b",", Terminal::Comma),
+    (b"=", Terminal::Assign),
+    (b"*", Terminal::Star),
+    (b"~", Terminal::Tilde),
+    (b"!", Terminal::Bang),
+    (b"==", Terminal::EqualEqual),
+    (b"!=", Terminal::BangEqual),
+    (b"&&", Terminal::AndAnd),
+    (b"||", Terminal::OrOr),
+    (b"/\\", Terminal::And),
+    (b"\\/", Terminal::Or),
+    (b"=>", Terminal::Arrow),
+];
 
-/// Whether the bytes are one of these words.
-macro_rules! is_one_of {
-    ($bytes:ident: $($spelling:literal),*) => {
-        $(if $bytes == $spelling.as_slice() {
-            return true;
-        })*
-    };
-}
+const WORDS: [(&[u8], Terminal); 11] = [
+    (b"int", Terminal::Int),
+    (b"atomic_int", Terminal::AtomicInt),
+    (b"volatile", Terminal::Volatile),
+    (b"if", Terminal::If),
+    (b"else", Terminal::Else),
+    (b"true", Terminal::True),
+    (b"false", Terminal::False),
+    (b"exists", Terminal::Exists),
+    (b"forall", Terminal::Forall),
+    (b"not", Terminal::Not),
+    (b"locations", Terminal::Locations),
+];
 
-/// The sign of these bytes, the brackets first.
+/// Words of C and of the kernel that no test has.
+const FOREIGN_WORDS: [&[u8]; 11] = [
+    b"while",
+    b"for",
+    b"do",
+    b"switch",
+    b"goto",
+    b"break",
+    b"continue",
+    b"return",
+    b"filter",
+    b"READ_ONCE",
+    b"WRITE_ONCE",
+];
+
+/// The sign of these bytes.
 fn sign(bytes: &[u8]) -> Option<Terminal>
     ensures { result ≡ looked_up signs bytes.now }
 {
-    looked_up!(bytes: b"(" => Terminal::LeftParen, b")" => Terminal::RightParen, b"{" => Terminal::LeftBrace,
-        b"}" => Terminal::RightBrace, b"[" => Terminal::LeftBracket, b"]" => Terminal::RightBracket);
-    mark(bytes)
+    looked_up(&SIGNS, bytes)
 }
 
-/// A sign that is no bracket, those of one character first.
-fn mark(bytes: &[u8]) -> Option<Terminal>
-    ensures { result ≡ looked_up (drop 6 signs) bytes.now }
-{
-    looked_up!(bytes: b";" => Terminal::Semicolon, b":" => Terminal::Colon, b"," => Terminal::Comma,
-        b"=" => Terminal::Assign, b"*" => Terminal::Star, b"~" => Terminal::Tilde, b"!" => Terminal::Bang);
-    long_mark(bytes)
-}
-
-/// A sign of two characters.
-fn long_mark(bytes: &[u8]) -> Option<Terminal>
-    ensures { result ≡ looked_up (drop 13 signs) bytes.now }
-{
-    looked_up!(bytes: b"==" => Terminal::EqualEqual, b"!=" => Terminal::BangEqual, b"&&" => Terminal::AndAnd,
-        b"||" => Terminal::OrOr, b"/\\" => Terminal::And, b"\\/" => Terminal::Or, b"=>" => Terminal::Arrow);
-    None
-}
-
-/// The reserved word of these bytes, those of statements first.
+/// The reserved word of these bytes.
 fn word(bytes: &[u8]) -> Option<Terminal>
     ensures { result ≡ looked_up words bytes.now }
 {
-    looked_up!(bytes: b"int" => Terminal::Int, b"atomic_int" => Terminal::AtomicInt, b"volatile" => Terminal::Volatile,
-        b"if" => Terminal::If, b"else" => Terminal::Else);
-    condition_word(bytes)
+    looked_up(&WORDS, bytes)
 }
 
-/// A reserved word of conditions and of the places that they list.
-fn condition_word(bytes: &[u8]) -> Option<Terminal>
-    ensures { result ≡ looked_up (drop 5 words) bytes.now }
-{
-    looked_up!(bytes: b"true" => Terminal::True, b"false" => Terminal::False, b"exists" => Terminal::Exists,
-        b"forall" => Terminal::Forall, b"not" => Terminal::Not, b"locations" => Terminal::Locations);
-    None
-}
-
-/// Words of C and of the kernel that no test has.
+/// Whether the language leaves this word out wherever it stands.
 fn is_foreign_word(bytes: &[u8]) -> bool
     ensures { result ≡ is_one_of foreign_words bytes.now }
 {
-    is_one_of!(bytes: b"while", b"for", b"do", b"switch", b"goto", b"break", b"continue", b"return", b"filter",
-        b"READ_ONCE", b"WRITE_ONCE");
-    false
+    is_one_of(&FOREIGN_WORDS, bytes)
 }
 
 /// Named as an order, and none of the five.

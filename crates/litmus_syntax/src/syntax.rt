@@ -162,8 +162,7 @@ impl<'a> Reader<'a> {
     fn open(&mut self, nesting: u32) -> Result<u32, SyntaxFault>
         ensures { Gives (λ n. n) result self.new.rest.now (open_at nesting self.old.rest.now) }
     {
-        self.expect(Terminal::LeftParen)?;
-        self.deeper(nesting)
+        self.expect(Terminal::LeftParen).and(self.deeper(nesting))
     }
 
     /// location := name | "[" name "]"
@@ -175,8 +174,7 @@ impl<'a> Reader<'a> {
             return self.name();
         }
         let name = self.name()?;
-        self.expect(Terminal::RightBracket)?;
-        Ok(name)
+        self.expect(Terminal::RightBracket).and(Ok(name))
     }
 
     /// The rest of a register: ":" name
@@ -259,16 +257,17 @@ impl<'a> Reader<'a> {
     }
 
     /// entries := [entry] {";" [entry]}
-    #[tactic(auto, unfolding(crate::specs::Reading::entries_at), using(crate::proofs::Levels::entries_turn, crate::proofs::Levels::entries_turn_takes))]
+    #[tactic(auto, unfolding(crate::specs::Reading::entries_at), using(crate::proofs::Levels::entries_turn, crate::proofs::Levels::entries_loop_takes))]
     fn entries(&mut self) -> Result<Vec<Binding>, SyntaxFault>
         ensures { Gives (λ v. v.items) result self.new.rest.now (entries_at self.old.rest.now) }
     {
         let mut entries = Vec::new(self.alloc);
-        self.entry_into(&mut entries)?;
-        while self.take(Terminal::Semicolon) {
+        loop {
             self.entry_into(&mut entries)?;
+            if !self.take(Terminal::Semicolon) {
+                return Ok(entries);
+            }
         }
-        Ok(entries)
     }
 
     /// The kind of the locations that a type gives: "atomic_int" | "int"
@@ -325,17 +324,18 @@ impl<'a> Reader<'a> {
     }
 
     /// parameters := parameter {"," parameter}
-    #[tactic(auto, unfolding(crate::specs::Reading::parameters_at), using(crate::proofs::Levels::parameters_turn, crate::proofs::Levels::parameters_turn_takes))]
+    #[tactic(auto, unfolding(crate::specs::Reading::parameters_at), using(crate::proofs::Levels::parameters_turn, crate::proofs::Levels::parameters_loop_takes))]
     fn parameters(&mut self) -> Result<Vec<Parameter>, SyntaxFault>
         ensures { Gives (λ v. v.items) result self.new.rest.now (parameters_at self.old.rest.now) }
     {
         let mut parameters = Vec::new(self.alloc);
         let mut names = IndexSet::new(self.alloc);
-        self.parameter_into(&mut parameters, &mut names)?;
-        while self.take(Terminal::Comma) {
+        loop {
             self.parameter_into(&mut parameters, &mut names)?;
+            if !self.take(Terminal::Comma) {
+                return Ok(parameters);
+            }
         }
-        Ok(parameters)
     }
 
     /// "(" [parameters] ")"
@@ -348,8 +348,7 @@ impl<'a> Reader<'a> {
             return Ok(Vec::new(self.alloc));
         }
         let parameters = self.parameters()?;
-        self.expect(Terminal::RightParen)?;
-        Ok(parameters)
+        self.expect(Terminal::RightParen).and(Ok(parameters))
     }
 
     /// "P0" for thread 0, and so on
@@ -421,16 +420,17 @@ impl<'a> Reader<'a> {
     }
 
     /// places := [place] {";" [place]}
-    #[tactic(auto, unfolding(crate::specs::Reading::places_at), using(crate::proofs::Places::places_turn, crate::proofs::Places::places_turn_takes))]
+    #[tactic(auto, unfolding(crate::specs::Reading::places_at), using(crate::proofs::Places::places_turn, crate::proofs::Places::places_loop_takes))]
     fn places(&mut self) -> Result<Vec<Place>, SyntaxFault>
         ensures { Gives (λ v. v.items) result self.new.rest.now (places_at self.old.rest.now) }
     {
         let mut places = Vec::new(self.alloc);
-        self.place_into(&mut places)?;
-        while self.take(Terminal::Semicolon) {
+        loop {
             self.place_into(&mut places)?;
+            if !self.take(Terminal::Semicolon) {
+                return Ok(places);
+            }
         }
-        Ok(places)
     }
 
     /// listed := ["locations" "[" places "]"]
@@ -443,8 +443,7 @@ impl<'a> Reader<'a> {
         }
         self.expect(Terminal::LeftBracket)?;
         let places = self.places()?;
-        self.expect(Terminal::RightBracket)?;
-        Ok(places)
+        self.expect(Terminal::RightBracket).and(Ok(places))
     }
 
     /// A word of the head.
@@ -494,8 +493,7 @@ impl<'a> Reader<'a> {
     {
         self.expect(Terminal::LeftBrace)?;
         let entries = self.entries()?;
-        self.expect(Terminal::RightBrace)?;
-        Ok(entries)
+        self.expect(Terminal::RightBrace).and(Ok(entries))
     }
 
     /// test := "C" name "{" entries "}" thread {thread} listed condition

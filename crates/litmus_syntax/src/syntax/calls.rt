@@ -28,7 +28,7 @@ macro_rules! read {
 fn is_among(orders: &[Order], order: Order) -> bool
     ensures { result ≡ is_among orders.now order }
 {
-    orders.iter().any(|other| *other == order)
+    orders.contains(&order)
 }
 
 impl<'a> Reader<'a> {
@@ -55,8 +55,7 @@ impl<'a> Reader<'a> {
         ensures { Gives (λ o. o) result self.new.rest.now (last_order_at accepted.now self.old.rest.now) }
     {
         let order = self.order(accepted)?;
-        self.expect(Terminal::RightParen)?;
-        Ok(order)
+        self.expect(Terminal::RightParen).and(Ok(order))
     }
 
     /// The end of a call: "," order ")", or ")" alone where none is accepted, and the order is `sc`.
