@@ -1,5 +1,5 @@
 -- Orders, calls and right sides: what is read is in the grammar, and what is in the grammar is read.
-use Rattle.std.proofs.Common.{◌≡◌, ℕ, suc, ◌<◌, List, [], ◌∷◌, ◌⊎◌, length, sym, subst, arith, inl, inr, refl, ap, ◌∙◌, rules, tests}
+use Rattle.std.proofs.Common.{◌≡◌, ℕ, suc, ◌<◌, List, [], ◌∷◌, length, sym, subst, arith, inl, inr, refl, ap, ◌∙◌, rules, tests}
 use Rattle.std.specs.Prelude.{Bool, true, false, ◌||◌, ◌==◌, Some, None, Ok, Err, if◌then◌else◌}
 use Rattle.std.proofs.lemmas.Bool.{or_cases}
 use Rattle.descent.specs.Reading.{◌>>=◌, required}

@@ -1,6 +1,6 @@
 -- How many right operands stand in one another: an operand of the tightest level nests its own parentheses, and each level
 -- above it adds one.
-use Rattle.std.proofs.Common.{◌≡◌, ◌≤◌, ◌+◌, ◌*◌, ℕ, List, arith, refl, sym, subst}
+use Rattle.std.proofs.Common.{◌≡◌, ◌≤◌, ◌+◌, ◌*◌, ℕ, List, arith, refl}
 use Rattle.std.specs.Prelude.{max}
 use Rattle.conditions.specs.Conditions.{Formula}
 use Rattle.litmus_tree.specs.declared.expression.Operator.{Operator}

@@ -278,8 +278,7 @@ impl<'a> Reader<'a> {
         if self.take(Terminal::AtomicInt) {
             return Ok(LocationKind::Atomic);
         }
-        self.expect(Terminal::Int)?;
-        Ok(LocationKind::Plain)
+        self.expect(Terminal::Int).and(Ok(LocationKind::Plain))
     }
 
     #[tactic(auto, unfolding(crate::specs::Reading::behind_volatile))]

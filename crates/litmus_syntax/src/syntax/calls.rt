@@ -64,8 +64,7 @@ impl<'a> Reader<'a> {
         ensures { Gives (λ o. o) result self.new.rest.now (closing_at accepted.now self.old.rest.now) }
     {
         if accepted.is_empty() {
-            self.expect(Terminal::RightParen)?;
-            return Ok(Order::Sc);
+            return self.expect(Terminal::RightParen).and(Ok(Order::Sc));
         }
         self.expect(Terminal::Comma)?;
         self.last_order(accepted)

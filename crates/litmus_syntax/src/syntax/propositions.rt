@@ -117,11 +117,9 @@ impl<'a> Reader<'a> {
             return Ok(Kind::Forall);
         }
         if self.take_denial() {
-            self.expect(Terminal::Exists)?;
-            return Ok(Kind::NotExists);
+            return self.expect(Terminal::Exists).and(Ok(Kind::NotExists));
         }
-        self.expect(Terminal::Exists)?;
-        Ok(Kind::Exists)
+        self.expect(Terminal::Exists).and(Ok(Kind::Exists))
     }
 
     /// condition := kind proposition

@@ -115,12 +115,11 @@ impl<'a> Reader<'a> {
 
     /// The rest of an if: "(" expression ")" statement ["else" statement]
     #[cycle(statements)]
-    #[tactic(auto, unfolding(crate::specs::Reading::if_with, crate::specs::Reading::else_with, crate::specs::Reading::inside), using(litmus_tree::proofs::Steps::only_if, litmus_tree::proofs::Steps::if_and_else))]
+    #[tactic(auto, unfolding(crate::specs::Reading::if_with, crate::specs::Reading::else_with, crate::specs::Reading::open_at, crate::specs::Reading::opened, crate::specs::Reading::inside), using(litmus_tree::proofs::Steps::only_if, litmus_tree::proofs::Steps::if_and_else))]
     fn branch(&mut self, nesting: u32) -> Result<Statement, SyntaxFault>
         ensures { Gives step_of result self.new.rest.now (if_with (inside nesting) self.old.rest.now) }
     {
-        self.expect(Terminal::LeftParen)?;
-        let nesting = self.deeper(nesting)?;
+        let nesting = self.open(nesting)?;
         let test = self.expression(nesting)?;
         self.expect(Terminal::RightParen)?;
         let arm = Box::new(self.alloc, self.statement(nesting)?)?;
