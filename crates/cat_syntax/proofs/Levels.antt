@@ -1,19 +1,22 @@
 -- What the loops and the recursion of the levels use.
-use Rattle.std.proofs.Common.{◌≡◌, ◌∙◌, ℕ, zero, suc, ◌<◌, List, [], ◌∷◌, ◌++◌, map, length, arith, ap, sym, refl, inl, inr}
+use Rattle.std.proofs.Common.{◌≡◌, ◌∙◌, ℕ, zero, suc, ◌<◌, ◌≤◌, List, [], ◌∷◌, ◌++◌, map, length, arith, ap, sym, refl, inl, inr}
 use Rattle.std.specs.Prelude.{Some, None, Ok, Err}
 use Rattle.cat_syntax.specs.declared.symbol.Terminal.{Terminal}
+use Rattle.cat_syntax.specs.declared.symbol.Terminal.TheVariants.{Domain, Range, LeftParen, RightParen, LeftBracket}
 use Rattle.descent.specs.Reading.{required, Look, match_option, ◌>>=◌, repeated}
-use Rattle.descent.proofs.Tools.{required_ok, bind_ok, moved, none_or_some, ok_or_err}
+use Rattle.descent.proofs.Tools.{required_ok, bind_ok, moved, moved_look, none_or_some, ok_or_err}
 use Rattle.descent.proofs.Turns.{repeated-more}
 use Rattle.cat_tree.specs.declared.node.Infix.{Infix}
+use Rattle.cat_syntax.specs.declared.operator.Enclosure.{Enclosure}
 use Rattle.cat_syntax.specs.declared.operator.Postfix.{Postfix}
 use Rattle.cat_syntax.specs.declared.syntax_fault.SyntaxFault.TheVariants.{Unexpected}
 use Rattle.cat_syntax.specs.declared.symbol.Symbol.{Symbol}
+use Rattle.cat_syntax.specs.declared.symbol.Symbol.TheVariants.{Fixed}
 use Rattle.cat_tree.specs.declared.expression.Expression.{Expression}
 use Rattle.cat_tree.specs.Terms.{nest}
 use Rattle.cat_tree.specs.Tree.{Term, term_of, pair_of}
 use Rattle.cat_syntax.specs.Grammar.{joined}
-use Rattle.cat_syntax.specs.Reading.{Stop, Reading, after, infix_at, postfix_at, applied_at, next_operand, chain_right, right, level_with, below, cut}
+use Rattle.cat_syntax.specs.Reading.{Stop, Reading, after, infix_at, postfix_at, applied_at, next_operand, chain_right, right, signed, enclosure_at, leaf_at, enclosed_with, primary_with, level_with, below, cut}
 use Rattle.cat_syntax.proofs.Symbols as symbols
 use Rattle.cat_syntax.proofs.Sound.{level-shorter, level_is}
 
@@ -28,6 +31,27 @@ level_takes n k ts rest a e = level-shorter (level_is n k ts rest a e)
 
 pub required_takes : (t : Terminal) (ts rest : List Symbol) (u : Unit {0}) → required {F = Stop} (Unexpected, ts) (after t ts) ≡ Ok (u, rest) → length rest < length ts
 required_takes t ts rest u e = symbols.after_takes t ts rest u (required_ok (Unexpected, ts) (after t ts) (u, rest) e)
+
+-- the ways into an operand
+
+without-sign : (r : Reading Term) → r ≡ (r >>= λ x. Ok (x.0, x.1))
+without-sign (Ok x) = refl
+without-sign (Err d) = refl
+
+pub primary_parts : (n : ℕ) (ts : List Symbol) →
+    primary_with (below n) ts ≡ match_option (enclosure_at ts) (leaf_at ts) (λ y. enclosed_with (below n) y.0.opening y.0.closing y.1 >>= λ x. Ok (signed y.0.sign x.0, x.1))
+unfolding primary_with enclosure_at leaf_at
+primary_parts n (Fixed LeftParen ∷ ts) = without-sign (enclosed_with (below n) LeftParen RightParen (Fixed LeftParen ∷ ts))
+primary_parts n [] = refl
+primary_parts n (t ∷ ts) = refl
+
+pub enclosure_takes : (ts rest : List Symbol) (o : Enclosure) → enclosure_at ts ≡ Some (o, rest) → length rest ≤ length ts
+unfolding enclosure_at
+enclosure_takes (Fixed LeftParen ∷ ts) rest o e = moved_look (λ l p. length l ≤ suc (length ts)) e (omega arith)
+enclosure_takes (Fixed LeftBracket ∷ ts) rest o e = moved_look (λ l p. length l ≤ suc (length ts)) e (omega arith)
+enclosure_takes (Fixed Domain ∷ ts) rest o e = moved_look (λ l p. length l ≤ suc (length ts)) e (omega arith)
+enclosure_takes (Fixed Range ∷ ts) rest o e = moved_look (λ l p. length l ≤ suc (length ts)) e (omega arith)
+enclosure_takes ts rest o e = absurd (cc)
 
 -- a turn of each loop
 

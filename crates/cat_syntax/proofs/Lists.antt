@@ -1,9 +1,9 @@
 -- What the loops over lists use.
-use Rattle.std.proofs.Common.{◌≡◌, ◌<◌, ◌≤◌, List, [], ◌∷◌, ◌++◌, length, map, arith, ap}
+use Rattle.std.proofs.Common.{◌≡◌, ◌<◌, ◌≤◌, List, [], ◌∷◌, ◌++◌, length, map, arith, ap, refl, inl, inr}
 use Rattle.std.proofs.lemmas.List.{map-append}
-use Rattle.std.specs.Prelude.{Some, Ok}
+use Rattle.std.specs.Prelude.{Bool, Some, Ok}
 use Rattle.descent.specs.Reading.{Look, match_option, ◌>>=◌, repeated}
-use Rattle.descent.proofs.Tools.{bind_ok, moved}
+use Rattle.descent.proofs.Tools.{bind_ok, moved, ok_or_err}
 use Rattle.descent.proofs.Turns.{repeated-more}
 use Rattle.cat_syntax.specs.declared.symbol.Symbol.{Symbol}
 use Rattle.cat_syntax.specs.declared.symbol.Terminal.{Terminal}
@@ -11,8 +11,8 @@ use Rattle.cat_syntax.specs.declared.symbol.Terminal.TheVariants.{And, Comma, Eq
 use Rattle.cat_tree.specs.declared.tree.Binding.{Binding}
 use Rattle.cat_tree.specs.declared.tree.Element.{Element}
 use Rattle.cat_tree.specs.declared.tree.Item.{Item}
-use Rattle.cat_tree.specs.Tree.{Word, Term, Bound, Shown, Clause, bound_of, shown_of, clause_of}
-use Rattle.cat_syntax.specs.Reading.{Reading, after, expected, name_at, new_name_at, binding_at, element_at, item_at, push_item, unless_end, expression_at, cut}
+use Rattle.cat_tree.specs.Tree.{Word, Term, Bound, Shown, Clause, bound_of, shown_of, clause_of, check}
+use Rattle.cat_syntax.specs.Reading.{Reading, after, expected, name_at, new_name_at, binding_at, alias_at, kind_at, check_with, element_at, item_at, push_item, unless_end, expression_at, cut}
 use Rattle.cat_syntax.proofs.Symbols as symbols
 use Rattle.cat_syntax.proofs.ItemsSound as sound
 use Rattle.cat_syntax.proofs.Sound.{level-shorter}
@@ -94,6 +94,22 @@ names_shorter = turn_shorter (after Comma) (λ _. name_at) (after_no_longer Comm
 
 pub items_shorter : (ts mid rest : List Symbol) (o : Unit {0}) (cs ds : List Clause) → unless_end ts ≡ Some (o, mid) → push_item (λ _. item_at) o cs mid ≡ Ok (ds, rest) → length rest < length ts
 items_shorter = turn_shorter unless_end (λ _. item_at) sound.unless_end_takes (λ _. item_takes)
+
+-- a check is one element, behind the word that says what is checked
+pub check_parts : (flag negated : Bool) (ts : List Symbol) →
+    check_with flag negated ts ≡ (kind_at ts >>= λ k. element_at k.1 >>= λ e. Ok (check flag negated k.0 e.0.value e.0.alias, e.1))
+unfolding check_with element_at
+check_parts flag negated ts =
+    elim (ok_or_err (kind_at ts)) [
+      | inl (d, f) ↦ rw f refl
+      | inr (k, f) ↦ rw f (elim (ok_or_err (expression_at k.1)) [
+        | inl (d, g) ↦ rw g refl
+        | inr (a, g) ↦ rw g (elim (ok_or_err (alias_at a.1)) [
+          | inl (d, h) ↦ rw h refl
+          | inr (x, h) ↦ rw h refl
+        ])
+      ])
+    ]
 
 -- one more in memory
 

@@ -1,6 +1,7 @@
 -- Single symbols.
-use Rattle.std.proofs.Common.{◌≡◌, ℕ, zero, suc, ◌<◌, List, ◌∷◌, length, true, false, refl, ap, subst, arith, rules, inl, inr}
-use Rattle.std.specs.Prelude.{Bool, Option, Some, None, Ok, if◌then◌else◌}
+use Rattle.std.proofs.Common.{◌≡◌, ◌∙◌, ℕ, zero, suc, ◌<◌, List, [], ◌∷◌, length, true, false, refl, ap, subst, sym, arith, inl, inr}
+use Rattle.std.proofs.lemmas.Cmp.{nat_eq_equiv}
+use Rattle.std.specs.Prelude.{find, Bool, Option, Some, None, Ok, if◌then◌else◌}
 use Rattle.descent.proofs.Tools.{required_ok, cases_of, moved_look}
 use Rattle.cat_tree.specs.declared.node.Infix.{Infix}
 use Rattle.cat_syntax.specs.declared.operator.Postfix.{Postfix}
@@ -8,15 +9,29 @@ use Rattle.cat_syntax.specs.declared.syntax_fault.SyntaxFault.TheVariants.{Unexp
 use Rattle.cat_syntax.specs.declared.symbol.Symbol.{Symbol}
 use Rattle.cat_syntax.specs.declared.symbol.Symbol.TheVariants.{Fixed, Name}
 use Rattle.cat_syntax.specs.declared.symbol.Terminal.{Terminal}
-use Rattle.cat_syntax.specs.declared.symbol.Terminal.TheVariants.{Bar, Semicolon, Backslash, Ampersand, Star, Plus, Question, Inverse}
+use Rattle.cat_syntax.specs.declared.symbol.Terminal.TheVariants.{Let, Bar, Semicolon, Backslash, Ampersand, Star, Plus, Question, Inverse}
 use Rattle.cat_syntax.specs.Grammar.{JoinsLeft, joins_product, joins_difference, JoinsRight, joins_intersection, joins_sequence, joins_union, begins_operand}
+use Rattle.cat_syntax.specs.Symbols.{terminals}
 use Rattle.cat_syntax.specs.Reading.{terminal_eq, after, expected, name_at, sign, infix_at, associates_left, postfix_at}
 
-pub terminal_eq-true : (a b : Terminal) → terminal_eq a b ≡ true → a ≡ b
-terminal_eq-true a b e = search rules
-
 pub terminal_eq-refl : (a : Terminal) → terminal_eq a a ≡ true
-terminal_eq-refl a = search rules
+terminal_eq-refl a = nat_eq_equiv.refl _
+
+-- terminals that are equal are equal to the same ones
+terminal_eq-congr : (a b t : Terminal) → terminal_eq a b ≡ true → terminal_eq a t ≡ terminal_eq b t
+terminal_eq-congr a b t e = nat_eq_equiv.congr _ _ _ e
+
+found-alike : (a b : Terminal) → terminal_eq a b ≡ true → (ts : List Terminal) → find (terminal_eq a) ts ≡ find (terminal_eq b) ts
+found-alike a b e [] = refl
+found-alike a b e (t ∷ ts) = rw (terminal_eq-congr a b t e, found-alike a b e ts) refl
+
+-- the first of all terminals that is equal to one is that one
+found-itself : (a : Terminal) → find (terminal_eq a) terminals ≡ Some a
+found-itself Let = refl
+found-itself a = refl
+
+pub terminal_eq-true : (a b : Terminal) → terminal_eq a b ≡ true → a ≡ b
+terminal_eq-true a b e = let same : Some a ≡ Some b = sym (found-itself a) ∙ found-alike a b e terminals ∙ found-itself b in cc
 
 pub after-some : (t : Terminal) (ts rest : List Symbol) (u : Unit {0}) → after t ts ≡ Some (u, rest) → ts ≡ Fixed t ∷ rest
 unfolding after

@@ -9,6 +9,10 @@ use Rattle.cat_syntax.specs.declared.syntax_fault.SyntaxFault.{SyntaxFault}
 use Rattle.cat_syntax.specs.declared.syntax_fault.SyntaxFault.TheVariants.{Unexpected, BoundTwice, TooDeep, NoMemory}
 use Rattle.cat_tree.specs.declared.node.Infix.{Infix}
 use Rattle.cat_tree.specs.declared.node.Infix.TheVariants.{Union, Sequence, Difference, Intersection, Product}
+use Rattle.cat_tree.specs.declared.node.Sign.{Sign}
+use Rattle.cat_tree.specs.declared.node.Sign.TheVariants as signs
+use Rattle.cat_tree.specs.Terms.{applied as sign_applied}
+use Rattle.cat_syntax.specs.declared.operator.Enclosure.{Enclosure}
 use Rattle.cat_syntax.specs.declared.operator.Postfix.{Postfix}
 use Rattle.cat_syntax.specs.declared.operator.Postfix.TheVariants as postfixes
 use Rattle.cat_syntax.specs.declared.symbol.Symbol.{Symbol}
@@ -85,6 +89,17 @@ associates_left zero = true
 associates_left (suc (suc zero)) = true
 associates_left k = false
 
+-- an operand begins with this terminal, whatever follows it
+abbrev pub opens_operand : Terminal → Bool
+opens_operand Domain = true
+opens_operand Range = true
+opens_operand Underscore = true
+opens_operand Zero = true
+opens_operand LeftParen = true
+opens_operand LeftBracket = true
+opens_operand LeftBrace = true
+opens_operand t = false
+
 unfoldable pub postfix_at : List Symbol → Look Symbol Postfix
 postfix_at (Fixed Plus ∷ ts) = Some (postfixes.Plus, ts)
 postfix_at (Fixed Star ∷ ts) = if begins_operand ts then None else Some (postfixes.Star, ts)
@@ -128,6 +143,33 @@ enclosed_with r opening closing ts = do
   a ← r.level ts x.1
   y ← expected closing a.1
   Ok (a.0, y.1)
+
+-- what a sign makes of a term, if one stands there
+abbrev pub signed : Option Sign → Term → Term
+signed None a = a
+signed (Some s) a = sign_applied s a
+
+abbrev pub parentheses : Option Sign → Enclosure
+parentheses s = record { opening = LeftParen; closing = RightParen; sign = s }
+
+abbrev pub brackets : Enclosure
+brackets = record { opening = LeftBracket; closing = RightBracket; sign = Some signs.Identity }
+
+-- what stands around the expression that comes next, and the symbols from its opening sign on
+unfoldable pub enclosure_at : List Symbol → Look Symbol Enclosure
+enclosure_at (Fixed LeftParen ∷ ts) = Some (parentheses None, Fixed LeftParen ∷ ts)
+enclosure_at (Fixed LeftBracket ∷ ts) = Some (brackets, Fixed LeftBracket ∷ ts)
+enclosure_at (Fixed Domain ∷ ts) = Some (parentheses (Some signs.Domain), ts)
+enclosure_at (Fixed Range ∷ ts) = Some (parentheses (Some signs.Range), ts)
+enclosure_at ts = None
+
+-- a leaf of a tree
+unfoldable pub leaf_at : List Symbol → Reading Term
+leaf_at (Name x ∷ ts) = Ok (name x, ts)
+leaf_at (Fixed Underscore ∷ ts) = Ok (universe, ts)
+leaf_at (Fixed Zero ∷ ts) = Ok (empty_relation, ts)
+leaf_at (Fixed LeftBrace ∷ ts) = expected RightBrace ts >>= λ y. Ok (empty_set, y.1)
+leaf_at ts = Err (Unexpected, ts)
 
 unfoldable pub primary_with : Inner → List Symbol → Reading Term
 primary_with r (Name x ∷ ts) = Ok (name x, ts)

@@ -11,7 +11,7 @@ use crate::symbol::{Symbol, Terminal};
 const NODES: usize = 4096;
 
 /// What stands before a symbol, as far as it tells whether the symbol is a node.
-#[derive(Clone, Copy, Debug, PartialEq, Eq)]
+#[derive(Clone, Copy)]
 pub enum Context {
     Plain,
     /// The beginning, or `as`: a name here is no node.

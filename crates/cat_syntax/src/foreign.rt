@@ -4,7 +4,7 @@ ghost use Rattle.std.specs.Prelude.{◌≡◌};
 ghost use Rattle.cat_syntax.specs.Symbols.{foreign_spelling, is_left_out as leaves_out};
 
 /// A word or a sign that is left out.
-#[derive(Clone, Copy, Debug, PartialEq, Eq)]
+#[derive(Clone, Copy)]
 pub enum Foreign {
     With,
     From,

@@ -12,7 +12,7 @@ use std::marker::Model;
 use wb_text::{Name, NameFault, Token, TokenKind};
 
 /// A reserved word, a constant or a sign.
-#[derive(Clone, Copy, Debug, PartialEq, Eq)]
+#[derive(Clone, Copy, PartialEq, Eq)]
 pub enum Terminal {
     Let,
     Rec,
@@ -297,7 +297,6 @@ fn symbol_at<'a>(text: &'a [u8], token: Token, following: &[Token]) -> Symbol<'a
 }
 
 /// The symbols of a text with these tokens.
-#[tactic(auto, using(crate::proofs::Tokens::all_drop, crate::proofs::Tokens::symbols_next, std::proofs::Common::append_assoc))]
 pub fn symbols<'a>(
     alloc: Global,
     text: &'a [u8],

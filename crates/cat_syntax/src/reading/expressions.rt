@@ -3,9 +3,9 @@
 ghost use Rattle.std.specs.Prelude.{◌≡◌, ℕ, List, IfOk};
 ghost use Rattle.cat_tree.specs.Tree.{Term, term_of};
 ghost use Rattle.cat_syntax.specs.Grammar.{begins_operand as operand_next, begins_check as check_next};
-ghost use Rattle.cat_syntax.specs.Reading.{Gives, Takes, applied, infix_at, associates_left as is_left, postfix_at, enclosed_with, primary_with, postfix_with, unary_with, left, right, level_with, below, expression_at};
+ghost use Rattle.cat_syntax.specs.Reading.{Gives, Takes, applied, infix_at, associates_left as is_left, postfix_at, enclosed_with, parentheses, signed as sign_over, enclosure_at, leaf_at, opens_operand as terminal_opens, primary_with, postfix_with, unary_with, left, right, level_with, below, expression_at};
 
-use crate::operator::Postfix;
+use crate::operator::{Enclosure, Postfix};
 use crate::reading::Reader;
 use crate::symbol::{Symbol, Terminal};
 use crate::syntax_fault::SyntaxFault;
@@ -17,6 +17,13 @@ const NESTING: u32 = 64;
 
 /// How many levels of operators there are.
 const LEVELS: u32 = 5;
+
+/// `[` and `]`.
+const IN_BRACKETS: Enclosure = Enclosure {
+    opening: Terminal::LeftBracket,
+    closing: Terminal::RightBracket,
+    sign: Some(Sign::Identity),
+};
 
 /// Whether a check's word comes next.
 #[tactic(auto, unfolding(crate::specs::Grammar::begins_check))]
@@ -32,6 +39,22 @@ fn begins_check(symbols: &[Symbol]) -> bool
     }
 }
 
+/// Whether an operand begins with this terminal, whatever follows it.
+fn opens_operand(terminal: Terminal) -> bool
+    ensures { result ≡ terminal_opens terminal }
+{
+    matches!(
+        terminal,
+        Terminal::Domain
+            | Terminal::Range
+            | Terminal::Underscore
+            | Terminal::Zero
+            | Terminal::LeftParen
+            | Terminal::LeftBracket
+            | Terminal::LeftBrace
+    )
+}
+
 /// Whether an operand comes next.
 #[tactic(auto, unfolding(crate::specs::Grammar::begins_operand))]
 fn begins_operand(symbols: &[Symbol]) -> bool
@@ -40,16 +63,9 @@ fn begins_operand(symbols: &[Symbol]) -> bool
     match symbols {
         [first, rest @ ..] => match first {
             Symbol::Name(_) | Symbol::Unsupported(_) => true,
-            Symbol::Fixed(
-                Terminal::Domain
-                | Terminal::Range
-                | Terminal::Underscore
-                | Terminal::Zero
-                | Terminal::LeftParen
-                | Terminal::LeftBracket
-                | Terminal::LeftBrace,
-            ) => true,
-            Symbol::Fixed(Terminal::Tilde) => !begins_check(rest),
+            Symbol::Fixed(terminal) => {
+                opens_operand(*terminal) || (*terminal == Terminal::Tilde && !begins_check(rest))
+            }
             _ => false,
         },
         [] => false,
@@ -73,6 +89,27 @@ fn apply(operator: Postfix, operand: Expression) -> Result<Expression, AllocErro
         Postfix::Star => operand.applied(Sign::Star),
         Postfix::Optional => operand.applied(Sign::Optional),
         Postfix::Inverse => operand.applied(Sign::Inverse),
+    }
+}
+
+/// The expression that a sign makes of another, if one stands there.
+fn signed(sign: Option<Sign>, operand: Expression) -> Result<Expression, AllocError>
+    ensures { IfOk result (λ e. term_of e ≡ sign_over sign (term_of operand)) }
+{
+    match sign {
+        Some(sign) => operand.applied(sign),
+        None => Ok(operand),
+    }
+}
+
+/// Parentheses, and the sign that the word before them is.
+fn in_parentheses(sign: Option<Sign>) -> Enclosure
+    ensures { result ≡ parentheses sign }
+{
+    Enclosure {
+        opening: Terminal::LeftParen,
+        closing: Terminal::RightParen,
+        sign,
     }
 }
 
@@ -195,53 +232,63 @@ impl<'a> Reader<'a> {
         Ok(operand)
     }
 
-    /// primary := name | "_" | "0" | "{" "}" | "(" level 5 ")" | "[" level 5 "]" | ("domain" | "range") "(" level 5 ")"
-    #[cycle(expressions)]
-    #[tactic(auto, unfolding(crate::specs::Reading::primary_with))]
-    fn primary(&mut self, nesting: u32) -> Result<Expression, SyntaxFault>
-        ensures { Gives term_of result self.new.rest.now (primary_with (below nesting) self.old.rest.now) }
+    /// What stands around the expression that comes next, if it is one in parentheses or brackets; a word before them is taken.
+    #[tactic(auto, unfolding(crate::specs::Reading::enclosure_at))]
+    fn enclosure(&mut self) -> Option<Enclosure>
+        ensures { Takes result self.old.rest.now self.new.rest.now (enclosure_at self.old.rest.now) }
+    {
+        let [first, rest @ ..] = self.rest else {
+            return None;
+        };
+        match first {
+            Symbol::Fixed(Terminal::LeftParen) => Some(in_parentheses(None)),
+            Symbol::Fixed(Terminal::LeftBracket) => Some(IN_BRACKETS),
+            Symbol::Fixed(Terminal::Domain) => {
+                self.rest = rest;
+                Some(in_parentheses(Some(Sign::Domain)))
+            }
+            Symbol::Fixed(Terminal::Range) => {
+                self.rest = rest;
+                Some(in_parentheses(Some(Sign::Range)))
+            }
+            _ => None,
+        }
+    }
+
+    /// name | "_" | "0" | "{" "}"
+    #[tactic(auto, unfolding(crate::specs::Reading::leaf_at))]
+    fn leaf(&mut self) -> Result<Expression, SyntaxFault>
+        ensures { Gives term_of result self.new.rest.now (leaf_at self.old.rest.now) }
     {
         let [first, rest @ ..] = self.rest else {
             return Err(SyntaxFault::Unexpected);
         };
-        match first {
-            Symbol::Name(spelling) => {
-                let name = spelling.name(self.alloc)?;
-                self.rest = rest;
-                Ok(Expression::leaf(self.alloc, Leaf::Name(name))?)
-            }
-            Symbol::Fixed(Terminal::Underscore) => {
-                self.rest = rest;
-                Ok(Expression::leaf(self.alloc, Leaf::Universe)?)
-            }
-            Symbol::Fixed(Terminal::Zero) => {
-                self.rest = rest;
-                Ok(Expression::leaf(self.alloc, Leaf::EmptyRelation)?)
-            }
+        let leaf = match first {
+            Symbol::Name(spelling) => Leaf::Name(spelling.name(self.alloc)?),
+            Symbol::Fixed(Terminal::Underscore) => Leaf::Universe,
+            Symbol::Fixed(Terminal::Zero) => Leaf::EmptyRelation,
             Symbol::Fixed(Terminal::LeftBrace) => {
                 self.rest = rest;
                 self.expect(Terminal::RightBrace)?;
-                Ok(Expression::leaf(self.alloc, Leaf::EmptySet)?)
+                return Ok(Expression::leaf(self.alloc, Leaf::EmptySet)?);
             }
-            Symbol::Fixed(Terminal::LeftParen) => {
-                self.enclosed(Terminal::LeftParen, Terminal::RightParen, nesting)
-            }
-            Symbol::Fixed(Terminal::LeftBracket) => {
-                let set = self.enclosed(Terminal::LeftBracket, Terminal::RightBracket, nesting)?;
-                Ok(set.applied(Sign::Identity)?)
-            }
-            Symbol::Fixed(Terminal::Domain) => {
-                self.rest = rest;
-                let relation = self.enclosed(Terminal::LeftParen, Terminal::RightParen, nesting)?;
-                Ok(relation.applied(Sign::Domain)?)
-            }
-            Symbol::Fixed(Terminal::Range) => {
-                self.rest = rest;
-                let relation = self.enclosed(Terminal::LeftParen, Terminal::RightParen, nesting)?;
-                Ok(relation.applied(Sign::Range)?)
-            }
-            _ => Err(SyntaxFault::Unexpected),
-        }
+            _ => return Err(SyntaxFault::Unexpected),
+        };
+        self.rest = rest;
+        Ok(Expression::leaf(self.alloc, leaf)?)
+    }
+
+    /// primary := leaf | "(" level 5 ")" | "[" level 5 "]" | ("domain" | "range") "(" level 5 ")"
+    #[cycle(expressions)]
+    #[tactic(auto, using(crate::proofs::Levels::primary_parts, crate::proofs::Levels::enclosure_takes))]
+    fn primary(&mut self, nesting: u32) -> Result<Expression, SyntaxFault>
+        ensures { Gives term_of result self.new.rest.now (primary_with (below nesting) self.old.rest.now) }
+    {
+        let Some(enclosure) = self.enclosure() else {
+            return self.leaf();
+        };
+        let inner = self.enclosed(enclosure.opening, enclosure.closing, nesting)?;
+        Ok(signed(enclosure.sign, inner)?)
     }
 
     /// An expression between two signs.

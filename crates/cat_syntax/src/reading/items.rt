@@ -86,13 +86,13 @@ impl<'a> Reader<'a> {
         ensures { Gives (λ v. map bound_of v.items) result self.new.rest.now (separated And binding_at self.old.rest.now) }
     {
         let mut bindings = Vec::new(self.alloc);
-        let first = self.binding(&bindings)?;
-        bindings.push(first)?;
-        while self.take(Terminal::And) {
+        loop {
             let next = self.binding(&bindings)?;
             bindings.push(next)?;
+            if !self.take(Terminal::And) {
+                return Ok(bindings);
+            }
         }
-        Ok(bindings)
     }
 
     /// What stands behind `let`: ["rec"] bindings
@@ -123,13 +123,13 @@ impl<'a> Reader<'a> {
         ensures { Gives (λ v. map shown_of v.items) result self.new.rest.now (separated Comma (λ _. element_at) self.old.rest.now) }
     {
         let mut elements = Vec::new(self.alloc);
-        let first = self.element()?;
-        elements.push(first)?;
-        while self.take(Terminal::Comma) {
+        loop {
             let next = self.element()?;
             elements.push(next)?;
+            if !self.take(Terminal::Comma) {
+                return Ok(elements);
+            }
         }
-        Ok(elements)
     }
 
     /// name {"," name}
@@ -138,13 +138,13 @@ impl<'a> Reader<'a> {
         ensures { Gives (λ v. v.items) result self.new.rest.now (separated Comma (λ _. name_at) self.old.rest.now) }
     {
         let mut names = Vec::new(self.alloc);
-        let first = self.name()?;
-        names.push(first)?;
-        while self.take(Terminal::Comma) {
+        loop {
             let next = self.name()?;
             names.push(next)?;
+            if !self.take(Terminal::Comma) {
+                return Ok(names);
+            }
         }
-        Ok(names)
     }
 
     /// "acyclic" | "irreflexive" | "empty"
@@ -166,15 +166,14 @@ impl<'a> Reader<'a> {
     }
 
     /// ["flag"] ["~"] kind expression ["as" name]
-    #[tactic(auto, unfolding(crate::specs::Reading::check_at, crate::specs::Reading::check_with, crate::specs::Reading::optional_at))]
+    #[tactic(auto, unfolding(crate::specs::Reading::check_at, crate::specs::Reading::optional_at), using(crate::proofs::Lists::check_parts))]
     fn check(&mut self) -> Result<Check, SyntaxFault>
         ensures { Gives check_of result self.new.rest.now (check_at self.old.rest.now) }
     {
         let flag = self.take(Terminal::Flag);
         let negated = self.take(Terminal::Tilde);
         let kind = self.check_kind()?;
-        let expression = self.expression()?;
-        let name = self.alias()?;
+        let Element { expression, name } = self.element()?;
         Ok(Check {
             flag,
             negated,
