@@ -18,13 +18,25 @@ use wb_text::Name;
 
 /// A job: its work is cut into slices, and the results of those that are returned are merged. The verdict is kept once it was
 /// asked for. Contracts see the job without the results and the verdict.
-#[derive(Drop)]
 pub struct Job {
     number: u32,
     version: u32,
     slices: Vec<Slice>,
     tally: Tally,
     verdict: Option<VerdictRef>,
+}
+
+// A function of its own: whoever holds one drops it by a call.
+impl Drop for Job {
+    fn drop(self) {
+        let Job {
+            number: _,
+            version: _,
+            slices: _,
+            tally: _,
+            verdict: _,
+        } = self;
+    }
 }
 
 impl Model for Job {

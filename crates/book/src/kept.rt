@@ -23,12 +23,23 @@ pub enum Refused {
 }
 
 /// The book. Its journal leads to its state.
-#[derive(Drop)]
 pub struct Book {
     alloc: Global,
     limits: Limits,
     bench: Bench,
     journal: Vec<Arc<Entry>>,
+}
+
+// A function of its own: whoever holds one drops it by a call.
+impl Drop for Book {
+    fn drop(self) {
+        let Book {
+            alloc: _,
+            limits: _,
+            bench: _,
+            journal: _,
+        } = self;
+    }
 }
 
 impl Model for Book {
@@ -134,7 +145,13 @@ impl Book {
         ensures journal { lines result.items ≡ self.journal }
         ensures legal { Legal self.limits (lines result.items) }
     {
-        self.journal
+        let Book {
+            alloc: _,
+            limits: _,
+            bench: _,
+            journal,
+        } = self;
+        journal
     }
 
     /// Whether a worker has something to do: a slice is free, the book is closed or the journal is full.

@@ -34,11 +34,21 @@ struct Held {
 
 /// The live claims by their numbers, beside the slices that they hold, and the last number that was given. Contracts see
 /// the claims in the order in which they were given, and that number.
-#[derive(Drop)]
 pub struct LiveClaims {
     claims: BTreeMap<u32, Held>,
     places: HashSet<Place>,
     last: u32,
+}
+
+// A function of its own: whoever holds one drops it by a call.
+impl Drop for LiveClaims {
+    fn drop(self) {
+        let LiveClaims {
+            claims: _,
+            places: _,
+            last: _,
+        } = self;
+    }
 }
 
 impl Model for LiveClaims {

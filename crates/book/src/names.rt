@@ -21,9 +21,15 @@ pub struct TestSlot {
 }
 
 /// The tests. Contracts see the names with their slots, in order.
-#[derive(Drop)]
 pub struct Tests {
     slots: IndexMap<Name, TestSlot>,
+}
+
+// A function of its own: whoever holds one drops it by a call.
+impl Drop for Tests {
+    fn drop(self) {
+        let Tests { slots: _ } = self;
+    }
 }
 
 impl Model for Tests {

@@ -27,7 +27,6 @@ use std::alloc::{AllocError, Global};
 pub(crate) const MOST_JOBS: usize = 256;
 
 /// The state of the book. Contracts see the workbench, which has no results.
-#[derive(Drop)]
 pub struct Bench {
     limits: Limits,
     tests: Tests,
@@ -38,6 +37,22 @@ pub struct Bench {
     mark: Mark,
     last_job: u32,
     closed: bool,
+}
+
+// A function of its own: whoever holds one drops it by a call.
+impl Drop for Bench {
+    fn drop(self) {
+        let Bench {
+            limits: _,
+            tests: _,
+            cats: _,
+            jobs: _,
+            live: _,
+            mark: _,
+            last_job: _,
+            closed: _,
+        } = self;
+    }
 }
 
 impl std::marker::Model for Bench {

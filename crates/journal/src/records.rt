@@ -16,9 +16,15 @@ use std::sync::Arc;
 use wb_text::Name;
 
 /// A text that is kept more than once. Contracts see its bytes.
-#[derive(Drop)]
 pub struct Text {
     bytes: Arc<Vec<u8>>,
+}
+
+// A function of its own: whoever holds one drops it by a call.
+impl Drop for Text {
+    fn drop(self) {
+        let Text { bytes: _ } = self;
+    }
 }
 
 impl Model for Text {
@@ -31,7 +37,6 @@ impl Model for Text {
 }
 
 /// What a session asks of the book.
-#[derive(Drop)]
 pub enum Command {
     PutCat(Name, Text),
     PutTest(Text),
@@ -48,8 +53,28 @@ pub enum Command {
     Close,
 }
 
+// A function of its own: whoever holds one drops it by a call.
+impl Drop for Command {
+    fn drop(self) {
+        match self {
+            Command::PutCat(_, _) => {}
+            Command::PutTest(_) => {}
+            Command::DropCat(_) => {}
+            Command::DropTest(_) => {}
+            Command::Ask(_, _) => {}
+            Command::Poll(_) => {}
+            Command::Forget(_) => {}
+            Command::Release(_) => {}
+            Command::List => {}
+            Command::Claim => {}
+            Command::Return(_) => {}
+            Command::GiveBack(_) => {}
+            Command::Close => {}
+        }
+    }
+}
+
 /// A result as the journal shows it.
-#[derive(Drop)]
 pub struct Returned {
     pub claim: u32,
     pub slice: u16,
@@ -58,8 +83,20 @@ pub struct Returned {
     pub work: WorkRef,
 }
 
+// A function of its own: whoever holds one drops it by a call.
+impl Drop for Returned {
+    fn drop(self) {
+        let Returned {
+            claim: _,
+            slice: _,
+            from: _,
+            to: _,
+            work: _,
+        } = self;
+    }
+}
+
 /// A command as the journal shows it.
-#[derive(Drop)]
 pub enum Said {
     PutCat(Name, Text),
     PutTest(Text),
@@ -74,6 +111,27 @@ pub enum Said {
     Return(Returned),
     GiveBack(u32),
     Close,
+}
+
+// A function of its own: whoever holds one drops it by a call.
+impl Drop for Said {
+    fn drop(self) {
+        match self {
+            Said::PutCat(_, _) => {}
+            Said::PutTest(_) => {}
+            Said::DropCat(_) => {}
+            Said::DropTest(_) => {}
+            Said::Ask(_, _) => {}
+            Said::Poll(_) => {}
+            Said::Forget(_) => {}
+            Said::Release(_) => {}
+            Said::List => {}
+            Said::Claim => {}
+            Said::Return(_) => {}
+            Said::GiveBack(_) => {}
+            Said::Close => {}
+        }
+    }
 }
 
 /// What a name is of.
@@ -92,7 +150,6 @@ pub struct Replacement {
 }
 
 /// A refusal that the journal records. The numbers are those of the printed refusals.
-#[derive(Drop)]
 pub enum Refusal {
     /// 71
     Closed,
@@ -122,8 +179,28 @@ pub enum Refusal {
     ClaimsSpent,
 }
 
+// A function of its own: whoever holds one drops it by a call.
+impl Drop for Refusal {
+    fn drop(self) {
+        match self {
+            Refusal::Closed => {}
+            Refusal::ReadingTest(_) => {}
+            Refusal::ReadingCat(_) => {}
+            Refusal::NoTest(_) => {}
+            Refusal::Model(_) => {}
+            Refusal::Space(_) => {}
+            Refusal::JobsFull => {}
+            Refusal::NoJob(_) => {}
+            Refusal::NoClaim(_) => {}
+            Refusal::Replaced(_) => {}
+            Refusal::Stranger(_) => {}
+            Refusal::VersionsSpent(_) => {}
+            Refusal::ClaimsSpent => {}
+        }
+    }
+}
+
 /// What the book replies.
-#[derive(Drop)]
 pub enum Reply {
     Version(Name, u32),
     Job(u32),
@@ -139,13 +216,43 @@ pub enum Reply {
     Refused(Refusal),
 }
 
+// A function of its own: whoever holds one drops it by a call.
+impl Drop for Reply {
+    fn drop(self) {
+        match self {
+            Reply::Version(_, _) => {}
+            Reply::Job(_) => {}
+            Reply::Pending(_, _) => {}
+            Reply::Verdict(_) => {}
+            Reply::Piece(_) => {}
+            Reply::Nothing => {}
+            Reply::Taken(_, _) => {}
+            Reply::Freed(_) => {}
+            Reply::Listed(_) => {}
+            Reply::Done => {}
+            Reply::Refused(_) => {}
+        }
+    }
+}
+
 /// An entry of the journal. Its reply is of a kind that its command can have.
-#[derive(Drop)]
 pub struct Entry {
     place: u32,
     seat: u8,
     said: Said,
     reply: Reply,
+}
+
+// A function of its own: whoever holds one drops it by a call.
+impl Drop for Entry {
+    fn drop(self) {
+        let Entry {
+            place: _,
+            seat: _,
+            said: _,
+            reply: _,
+        } = self;
+    }
 }
 
 impl Model for Entry {

@@ -22,9 +22,15 @@ pub struct Counts {
 }
 
 /// An entry of the journal, kept by the pass whose call it is. Contracts see the entry.
-#[derive(Drop)]
 pub struct Receipt {
     entry: Arc<Entry>,
+}
+
+// A function of its own: whoever holds one drops it by a call.
+impl Drop for Receipt {
+    fn drop(self) {
+        let Receipt { entry: _ } = self;
+    }
 }
 
 impl Model for Receipt {
@@ -55,12 +61,23 @@ impl Receipt {
 }
 
 /// A seat at a desk, with the receipts of its calls in their order, and a share of the desk's count of calls.
-#[derive(Drop)]
 pub struct Pass<L: Ledger> {
     pub(crate) seat: u8,
     pub(crate) receipts: Vec<Receipt>,
     pub(crate) counts: Counts,
     pub(crate) share: Share<L>,
+}
+
+// A function of its own: whoever holds one drops it by a call.
+impl<L: Ledger> Drop for Pass<L> {
+    fn drop(self) {
+        let Pass {
+            seat: _,
+            receipts: _,
+            counts: _,
+            share: _,
+        } = self;
+    }
 }
 
 impl<L: Ledger> Model for Pass<L> {

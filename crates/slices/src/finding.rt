@@ -26,7 +26,6 @@ pub struct Totals {
 }
 
 /// What is found of some executions of a work's test: of those that the work's model allows. Its states may be kept elsewhere too.
-#[derive(Drop)]
 pub struct Finding {
     work: WorkRef,
     places: Vec<Place>,
@@ -34,6 +33,20 @@ pub struct Finding {
     negative: u64,
     states: Arc<BTreeSet<Row>>,
     flags: Vec<Name>,
+}
+
+// A function of its own: whoever holds one drops it by a call.
+impl Drop for Finding {
+    fn drop(self) {
+        let Finding {
+            work: _,
+            places: _,
+            positive: _,
+            negative: _,
+            states: _,
+            flags: _,
+        } = self;
+    }
 }
 
 impl Model for Finding {
@@ -58,9 +71,15 @@ impl Model for Finding {
 }
 
 /// A finding that is kept more than once. Contracts see the finding.
-#[derive(Drop)]
 pub struct FindingRef {
     finding: Arc<Finding>,
+}
+
+// A function of its own: whoever holds one drops it by a call.
+impl Drop for FindingRef {
+    fn drop(self) {
+        let FindingRef { finding: _ } = self;
+    }
 }
 
 impl Model for FindingRef {

@@ -14,7 +14,6 @@ use std::alloc::{AllocError, Global};
 use std::marker::Model;
 
 /// The numbers from `from` to `to - 1` of a work, as a slice of a job, given under a claim.
-#[derive(Drop)]
 pub struct Piece {
     claim: u32,
     job: u32,
@@ -22,6 +21,20 @@ pub struct Piece {
     from: u64,
     to: u64,
     work: WorkRef,
+}
+
+// A function of its own: whoever holds one drops it by a call.
+impl Drop for Piece {
+    fn drop(self) {
+        let Piece {
+            claim: _,
+            job: _,
+            slice: _,
+            from: _,
+            to: _,
+            work: _,
+        } = self;
+    }
 }
 
 impl Model for Piece {
@@ -38,10 +51,16 @@ impl Model for Piece {
 }
 
 /// What is found of a piece: it is right for the piece's work and range.
-#[derive(Drop)]
 pub struct PieceResult {
     piece: Piece,
     found: FindingRef,
+}
+
+// A function of its own: whoever holds one drops it by a call.
+impl Drop for PieceResult {
+    fn drop(self) {
+        let PieceResult { piece: _, found: _ } = self;
+    }
 }
 
 impl Model for PieceResult {

@@ -20,12 +20,23 @@ use wb_text::Name;
 
 /// How many executions have the test's proposition and how many have it not, which final states there are, and which flags, in
 /// the order in which they came. States are kept in order and are shared when they are asked for, so that none has to be sorted or copied then.
-#[derive(Drop)]
 pub struct Sum {
     pub positive: u64,
     pub negative: u64,
     pub states: Arc<BTreeSet<Row>>,
     pub flags: IndexSet<Name>,
+}
+
+// A function of its own: whoever holds one drops it by a call.
+impl Drop for Sum {
+    fn drop(self) {
+        let Sum {
+            positive: _,
+            negative: _,
+            states: _,
+            flags: _,
+        } = self;
+    }
 }
 
 impl Sum {

@@ -16,11 +16,21 @@ use std::sync::Arc;
 use wb_text::Name;
 
 /// The verdict on a work: it is right for the work's test under its model.
-#[derive(Drop)]
 pub struct Verdict {
     work: WorkRef,
     version: u32,
     found: FindingRef,
+}
+
+// A function of its own: whoever holds one drops it by a call.
+impl Drop for Verdict {
+    fn drop(self) {
+        let Verdict {
+            work: _,
+            version: _,
+            found: _,
+        } = self;
+    }
 }
 
 impl Model for Verdict {
@@ -38,9 +48,15 @@ impl Model for Verdict {
 }
 
 /// A verdict that is kept more than once. Contracts see the verdict.
-#[derive(Drop)]
 pub struct VerdictRef {
     verdict: Arc<Verdict>,
+}
+
+// A function of its own: whoever holds one drops it by a call.
+impl Drop for VerdictRef {
+    fn drop(self) {
+        let VerdictRef { verdict: _ } = self;
+    }
 }
 
 impl Model for VerdictRef {

@@ -11,9 +11,15 @@ use std::alloc::{AllocError, Global};
 use std::sync::Arc;
 
 /// A test that is kept more than once. Contracts see the test.
-#[derive(Drop)]
 pub struct TestRef {
     test: Arc<Test>,
+}
+
+// A function of its own: whoever holds one drops it by a call.
+impl Drop for TestRef {
+    fn drop(self) {
+        let TestRef { test: _ } = self;
+    }
 }
 
 impl std::marker::Model for TestRef {
@@ -29,11 +35,21 @@ impl std::marker::Model for TestRef {
 }
 
 /// A test under a model, and how many numbers the test has.
-#[derive(Drop)]
 pub struct Work {
     test: TestRef,
     model: Model,
     size: u64,
+}
+
+// A function of its own: whoever holds one drops it by a call.
+impl Drop for Work {
+    fn drop(self) {
+        let Work {
+            test: _,
+            model: _,
+            size: _,
+        } = self;
+    }
 }
 
 impl std::marker::Model for Work {
@@ -52,9 +68,15 @@ impl std::marker::Model for Work {
 }
 
 /// A work that is kept more than once. Contracts see the work.
-#[derive(Drop)]
 pub struct WorkRef {
     work: Arc<Work>,
+}
+
+// A function of its own: whoever holds one drops it by a call.
+impl Drop for WorkRef {
+    fn drop(self) {
+        let WorkRef { work: _ } = self;
+    }
 }
 
 impl std::marker::Model for WorkRef {
