@@ -1,4 +1,5 @@
 pub mod Examples
+pub mod Filling
 pub mod Reaching
 pub mod Few
 pub mod Kept

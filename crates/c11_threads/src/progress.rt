@@ -10,10 +10,19 @@ use std::alloc::{AllocError, Global};
 use std::marker::Model;
 
 /// A thread on its way: its events so far, and what each of its registers holds.
-#[derive(Drop)]
 pub(crate) struct Progress {
     events: Vec<Event>,
     registers: Vec<Content>,
+}
+
+// A function of its own: whoever holds one drops it by a call.
+impl Drop for Progress {
+    fn drop(self) {
+        let Progress {
+            events: _,
+            registers: _,
+        } = self;
+    }
 }
 
 impl Model for Progress {
@@ -107,7 +116,11 @@ impl Progress {
     pub(crate) fn run(self, alloc: Global) -> Result<Run, AllocError>
         ensures { IfOk result (λ r. r ≡ run_of self) }
     {
-        let registers = values_of(alloc, &self.registers)?;
-        Ok(Run::new(self.events, registers))
+        let values = values_of(alloc, &self.registers)?;
+        let Progress {
+            events,
+            registers: _,
+        } = self;
+        Ok(Run::new(events, values))
     }
 }

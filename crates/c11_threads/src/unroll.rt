@@ -1,8 +1,8 @@
 //! The runs of a thread, unrolled choice by choice.
 
-ghost use Rattle.std.specs.Prelude.{◌≡◌, ◌++◌, ◌+◌, ◌<◌, ◌≤◌, ◌∷◌, [], length, map, IfOk, IfErr, OnOk, None, Some};
+ghost use Rattle.std.specs.Prelude.{◌≡◌, ℕ, ◌++◌, ◌+◌, ◌<◌, ◌≤◌, ◌∷◌, [], length, map, IfOk, IfErr, OnOk, None, Some};
 ghost use Rattle.std.specs.List.{flat_map};
-ghost use Rattle.litmus_tree.specs.Tree.{term_of, action_of, right_of, declared_of, step_of, steps_of};
+ghost use Rattle.litmus_tree.specs.Tree.{load, store, exchange, term_of, action_of, right_of, declared_of, step_of, steps_of};
 ghost use Rattle.events.specs.declared.event.Access.TheVariants.{Fence};
 ghost use Rattle.c11_threads.specs.Contents.{place_of, nothing};
 ghost use Rattle.c11_threads.specs.Runs.{after, next_read};
@@ -47,9 +47,10 @@ fn single(alloc: Global, end: Progress) -> Result<Vec<Progress>, AllocError>
 }
 
 /// Adds one way to the ends.
-fn add(ends: &mut Vec<Progress>, end: Progress) -> Result<(), AllocError>
+fn add(ends: &mut Vec<Progress>, end: Progress) -> Result<(), RunFault>
     ensures items { OnOk result (ends.new.items ≡ ends.old.items ++ (end ∷ [])) }
     ensures len { OnOk result (length ends.new.items ≡ length ends.old.items + 1) }
+    ensures fault { (k most n : ℕ) → IfErr result (IsFaultAt k most n) }
 {
     ends.push(end)?;
     Ok(())
@@ -70,9 +71,10 @@ fn given(
     from: Progress,
     register: usize,
     content: Content,
-) -> Result<(), AllocError>
+) -> Result<(), RunFault>
     ensures items { OnOk result (ends.new.items ≡ ends.old.items ++ (giving (Some register) content from ∷ [])) }
     ensures len { OnOk result (length ends.new.items ≡ length ends.old.items + 1) }
+    ensures fault { (k most n : ℕ) → IfErr result (IsFaultAt k most n) }
 {
     let mut end = from;
     end.give(Some(register), content);
@@ -85,9 +87,10 @@ fn happen(
     from: Progress,
     event: Event,
     register: Option<usize>,
-) -> Result<(), AllocError>
+) -> Result<(), RunFault>
     ensures items { OnOk result (ends.new.items ≡ ends.old.items ++ event_runs event register from) }
     ensures len { OnOk result (length ends.new.items ≡ length ends.old.items + 1) }
+    ensures fault { (k most n : ℕ) → IfErr result (IsFaultAt k most n) }
 {
     let mut end = from;
     end.push(event)?;
@@ -116,13 +119,12 @@ fn read_one(
 ) -> Result<Progress, AllocError>
     ensures { IfOk result (λ q. q ≡ giving register (next_read from.now value) (after from.now (reading read.now value ∷ perhaps then.now))) }
 {
-    let content = from.next_read(value);
     let mut end = from.copy(alloc)?;
     end.push(reading(read, value))?;
     if let Some(event) = then {
         end.push(event.copy())?;
     }
-    end.give(register, content);
+    end.give(register, from.next_read(value));
     Ok(end)
 }
 
@@ -182,24 +184,87 @@ impl Setting<'_> {
     fn read_each(
         &self,
         alloc: Global,
-        from: Progress,
-        read: Event,
-        then: Option<Event>,
+        from: &Progress,
+        read: &Event,
+        then: &Option<Event>,
         register: Option<usize>,
         most: usize,
         ends: &mut Vec<Progress>,
     ) -> Result<(), RunFault>
         requires most { length ends.old.items < most }
-        ensures done { OnOk result ((ends.new.items ≡ ends.old.items ++ read_runs self.now read then register from) × (length ends.new.items ≤ most)) }
-        ensures fault { IfErr result (IsFaultAt self.now.thread most (length ends.old.items + length (read_runs self.now read then register from))) }
+        ensures done { OnOk result ((ends.new.items ≡ ends.old.items ++ read_runs self.now read.now then.now register from.now) × (length ends.new.items ≤ most)) }
+        ensures fault { IfErr result (IsFaultAt self.now.thread most (length ends.old.items + length (read_runs self.now read.now then.now register from.now))) }
     {
         for value in self.values {
             if ends.len() >= most {
                 return Err(RunFault::TooManyRuns(self.thread));
             }
-            ends.push(read_one(alloc, &from, &read, *value, &then, register)?)?;
+            ends.push(read_one(alloc, from, read, *value, then, register)?)?;
         }
         Ok(())
+    }
+
+    /// Adds the ways on of a load.
+    fn load(
+        &self,
+        alloc: Global,
+        ctrl: &Places,
+        location: &Name,
+        order: Order,
+        from: &Progress,
+        register: Option<usize>,
+        most: usize,
+        ends: &mut Vec<Progress>,
+    ) -> Result<(), RunFault>
+        requires { length ends.old.items < most }
+        ensures done { OnOk result ((ends.new.items ≡ ends.old.items ++ call_runs self.now ctrl.now (load location.now order) register from.now) × (length ends.new.items ≤ most)) }
+        ensures fault { IfErr result (IsFaultAt self.now.thread most (length ends.old.items + length (call_runs self.now ctrl.now (load location.now order) register from.now))) }
+    {
+        let read = self.access(ctrl, Access::Read, location, order, Content::nothing());
+        self.read_each(alloc, from, &read, &None, register, most, ends)
+    }
+
+    /// Adds the way on of a store.
+    fn store(
+        &self,
+        ctrl: &Places,
+        location: &Name,
+        expression: &Expression,
+        order: Order,
+        from: Progress,
+        register: Option<usize>,
+        ends: &mut Vec<Progress>,
+    ) -> Result<(), RunFault>
+        ensures items { OnOk result (ends.new.items ≡ ends.old.items ++ call_runs self.now ctrl.now (store location.now (term_of expression.now) order) register from) }
+        ensures len { OnOk result (length ends.new.items ≡ length ends.old.items + 1) }
+        ensures fault { (k most n : ℕ) → IfErr result (IsFaultAt k most n) }
+    {
+        let content = self.content(&from, expression);
+        let write = self.access(ctrl, Access::Write, location, order, content);
+        happen(ends, from, write, register)
+    }
+
+    /// Adds the ways on of an exchange.
+    fn exchange(
+        &self,
+        alloc: Global,
+        ctrl: &Places,
+        location: &Name,
+        expression: &Expression,
+        order: Order,
+        from: &Progress,
+        register: Option<usize>,
+        most: usize,
+        ends: &mut Vec<Progress>,
+    ) -> Result<(), RunFault>
+        requires { length ends.old.items < most }
+        ensures done { OnOk result ((ends.new.items ≡ ends.old.items ++ call_runs self.now ctrl.now (exchange location.now (term_of expression.now) order) register from.now) × (length ends.new.items ≤ most)) }
+        ensures fault { IfErr result (IsFaultAt self.now.thread most (length ends.old.items + length (call_runs self.now ctrl.now (exchange location.now (term_of expression.now) order) register from.now))) }
+    {
+        let content = self.content(from, expression);
+        let write = self.access(ctrl, Access::ExWrite, location, order, content);
+        let read = self.access(ctrl, Access::ExRead, location, order, Content::nothing());
+        self.read_each(alloc, from, &read, &Some(write), register, most, ends)
     }
 
     /// Adds the ways on of a call, whose value is given to the register, if there is one.
@@ -219,21 +284,17 @@ impl Setting<'_> {
     {
         match call {
             Call::Load(location, order) => {
-                let read = self.access(ctrl, Access::Read, location, *order, Content::nothing());
-                self.read_each(alloc, from, read, None, register, most, ends)
+                self.load(alloc, ctrl, location, *order, &from, register, most, ends)
             }
             Call::Store(location, expression, order) => {
-                let content = self.content(&from, expression);
-                let write = self.access(ctrl, Access::Write, location, *order, content);
-                Ok(happen(ends, from, write, register)?)
+                self.store(ctrl, location, expression, *order, from, register, ends)
             }
             Call::Exchange(location, expression, order) => {
-                let content = self.content(&from, expression);
-                let write = self.access(ctrl, Access::ExWrite, location, *order, content);
-                let read = self.access(ctrl, Access::ExRead, location, *order, Content::nothing());
-                self.read_each(alloc, from, read, Some(write), register, most, ends)
+                self.exchange(
+                    alloc, ctrl, location, expression, *order, &from, register, most, ends,
+                )
             }
-            Call::Fence(order) => Ok(happen(ends, from, self.fence(ctrl, *order), register)?),
+            Call::Fence(order) => happen(ends, from, self.fence(ctrl, *order), register),
         }
     }
 
@@ -255,11 +316,19 @@ impl Setting<'_> {
         match right {
             RightSide::Value(expression) => {
                 let content = self.content(&from, expression);
-                Ok(given(ends, from, register, content)?)
+                given(ends, from, register, content)
             }
             RightSide::Read(location) => {
-                let read = self.access(ctrl, Access::Read, location, Order::Na, Content::nothing());
-                self.read_each(alloc, from, read, None, Some(register), most, ends)
+                self.load(
+                    alloc,
+                    ctrl,
+                    location,
+                    Order::Na,
+                    &from,
+                    Some(register),
+                    most,
+                    ends,
+                )
             }
             RightSide::Call(call) => self.call(alloc, ctrl, call, from, Some(register), most, ends),
         }
@@ -282,7 +351,7 @@ impl Setting<'_> {
         let register = self.register(&declarator.register);
         match &declarator.value {
             Some(right) => self.assign(alloc, ctrl, right, from, register, most, ends),
-            None => Ok(given(ends, from, register, Content::nothing())?),
+            None => given(ends, from, register, Content::nothing()),
         }
     }
 
@@ -383,7 +452,7 @@ impl Setting<'_> {
         ensures fault { IfErr result (IsFaultAt self.now.thread most (length ends.old.items + length (step_runs (step_of statement.now) self.now ctrl.now from))) }
     {
         match statement {
-            Statement::Empty => Ok(add(ends, from)?),
+            Statement::Empty => add(ends, from),
             Statement::Block(statements) => {
                 self.perform_onto(alloc, ctrl, statements.as_slice(), from, most, ends)
             }
@@ -402,9 +471,7 @@ impl Setting<'_> {
                 )
             }
             Statement::Write(location, expression) => {
-                let content = self.content(&from, expression);
-                let write = self.access(ctrl, Access::Write, location, Order::Na, content);
-                Ok(happen(ends, from, write, None)?)
+                self.store(ctrl, location, expression, Order::Na, from, None, ends)
             }
             Statement::Perform(call) => self.call(alloc, ctrl, call, from, None, most, ends),
             Statement::If(expression, first, second) => {
@@ -415,7 +482,7 @@ impl Setting<'_> {
                 }
                 match second {
                     Some(second) => self.perform(alloc, &inside, second, from, most, ends),
-                    None => Ok(add(ends, from)?),
+                    None => add(ends, from),
                 }
             }
         }

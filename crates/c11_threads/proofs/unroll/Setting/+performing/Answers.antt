@@ -1,4 +1,4 @@
-use Rattle.std.proofs.Common.{◌≡◌, ◌∷◌, ◌∙◌, ◌-◌, ◌≤◌, length, ap, sym, subst, arith, IfOk, IfErr}
+use Rattle.std.proofs.Common.{◌≡◌, ◌∷◌, ◌++◌, ◌∙◌, List, ◌-◌, ◌≤◌, length, ap, sym, subst, arith, IfOk, IfErr}
 use Rattle.std.specs.List.{flat_map}
 use Rattle.std.specs.Vec.Iter.{into_iter_items}
 use Rattle.std.proofs.lemmas.Result.{err_from_is_err_and}
@@ -6,10 +6,21 @@ use Rattle.std.proofs.lemmas.List.{length-map}
 use Rattle.litmus_tree.specs.declared.tree.RightSide.TheVariants.{Value as Value'}
 use Rattle.litmus_tree.specs.declared.tree.Statement.TheVariants.{Assign as Assign'}
 use Rattle.litmus_tree.specs.Tree.{step_of}
+use Rattle.c11_threads.specs.Runs.{Progress}
 use Rattle.c11_threads.specs.Unrolled.{step_runs}
 use Rattle.c11_threads.specs.Faults.{IsFaultAt}
+use Rattle.c11_threads.proofs.Filling.{joined_on, all_joined, still_within}
 use Rattle.c11_threads.proofs.Turns.{Ways, some_step, way_fault, further, turned, turn_fault, after_idle, in_value, in_block}
 use Rattle.c11_threads.proofs.unroll.Setting.+performing.Goals as goal
+
+pub perform-returns-in-Empty-clause-fault : goal.perform-returns-in-Empty-clause-fault
+perform-returns-in-Empty-clause-fault n c = c.add.ensures.fault _ _ _
+
+pub perform-returns-in-Write-clause-fault : goal.perform-returns-in-Write-clause-fault
+perform-returns-in-Write-clause-fault n c = c.store.ensures.fault _ _ _
+
+pub perform-returns-in-None-clause-fault : goal.perform-returns-in-None-clause-fault
+perform-returns-in-None-clause-fault n c = c.add-in-None.ensures.fault _ _ _
 
 pub perform_all-returns-in_err-ends-clause-fault : goal.perform_all-returns-in_err-ends-clause-fault
 perform_all-returns-in_err-ends-clause-fault n c =
@@ -43,6 +54,26 @@ perform_apart-returns-in_err-perform-clause-fault n c =
     rw (p.1, p.2) (way_fault (step_runs a s c.args.ctrl.now) (some_step a s c.requires.values c.args.ctrl.now) s.thread (c.args.most - waiting) c.args.most waiting (into_iter_items at.from-iterator) rest c.in-Some.from
     at.ends.items _ c.in_err-perform.field-0.0 steps at.invariant.is (omega (arith, at.invariant.waiting, short)) (omega (arith, at.invariant.within, at.invariant.waiting, short)) c.in_err-perform.ensures.fault)
 
+pub perform_apart-loop-from-preserved : goal.perform_apart-loop-from-preserved
+perform_apart-loop-from-preserved n c =
+    let at = c.loop-from in
+    let rest = into_iter_items c.next.new.self in
+    let steps : into_iter_items at.from-iterator ≡ c.in-Some.from ∷ rest = c.in-Some.ensures.steps.0 in
+    let short = ap length steps in
+    let told = c.in_ok-perform.ensures.done in
+    record {
+      is = joined_on (step_runs (step_of c.args.statement.now) c.args.self.now c.args.ctrl.now) (into_iter_items at.from-iterator) rest c.in-Some.from at.ends.items c.perform.new.ends.items _ steps told.0 at.invariant.is;
+      within = omega (arith, told.1, at.invariant.within, at.invariant.waiting, short);
+      waiting = omega (arith, at.invariant.waiting, short);
+      left = omega (arith, c.in-Some.ensures.steps.1, at.invariant.left, short);
+    }
+
+pub perform_apart-returns-clause-done : goal.perform_apart-returns-clause-done
+perform_apart-returns-clause-done n c =
+    let at = c.loop-from in
+    let none : length (into_iter_items at.from-iterator) ≡ 0 = omega (arith, c.in-None.ensures.steps.0, at.invariant.left) in
+    (all_joined (step_runs (step_of c.args.statement.now) c.args.self.now c.args.ctrl.now) (into_iter_items at.from-iterator) at.ends.items _ none at.invariant.is, omega (arith, at.invariant.within))
+
 pub perform_each-returns-then-is_idle-clause-done : goal.perform_each-returns-then-is_idle-clause-done
 perform_each-returns-then-is_idle-clause-done n c =
     (after_idle c.args.self.now c.args.ctrl.now (step_of c.args.statement.now) c.args.starts.items (sym c.is_idle.ensures ∙ c.if-is_idle.true), c.requires.most)
@@ -62,3 +93,10 @@ perform_each-returns-in-Value-clause-done n c =
     let is : c.args.statement.now ≡ Assign' c.in-Assign.register (Value' c.in-Value.expression) = c.in-Assign.is ∙ ap (Assign' c.in-Assign.register) c.in-Value.is in
     let kept = in_value c.args.self.now c.args.ctrl.now c.args.statement.now c.in-Assign.register c.in-Value.expression c.register.result c.args.starts.items is c.register.ensures in
     (c.give_each.ensures ∙ kept, simp (c.give_each.ensures, length-map) c.requires.most)
+
+pub perform_onto-returns-clause-done : goal.perform_onto-returns-clause-done
+perform_onto-returns-clause-done n c =
+    let old = c.args.ends.now.items in
+    let told = c.in_ok-more.ensures.done in
+    let items = c.in_ok-add_all.ensures.items in
+    (items ∙ ap (λ (more : List Progress). old ++ more) told.0, still_within old c.in_ok-more.more.items _ c.args.most c.requires.most (omega (arith, told.1, c.len.ensures)) items)

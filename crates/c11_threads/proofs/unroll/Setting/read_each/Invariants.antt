@@ -5,6 +5,6 @@ use Rattle.c11_threads.proofs.unroll.Setting.read_each.Given as goal
 
 abbrev pub invariant-loop-value : goal.invariant-loop-value
 invariant-loop-value l = record {
-  is : l.ends.items ++ map (λ v. giving l.register (next_read l.fn.from v) (after l.fn.from (reading l.read v ∷ perhaps l.then))) (drop l.value-index l.self.values) ≡ l.fn.ends.items ++ read_runs l.self l.read l.then l.register l.fn.from;
+  is : l.ends.items ++ map (λ v. giving l.register (next_read l.from v) (after l.from (reading l.read v ∷ perhaps l.then))) (drop l.value-index l.self.values) ≡ l.fn.ends.items ++ read_runs l.self l.read l.then l.register l.from;
   within : length l.ends.items ≤ l.most;
 }
