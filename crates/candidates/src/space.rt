@@ -27,13 +27,25 @@ use std::alloc::{AllocError, Global};
 use std::marker::Model;
 
 /// The numbered candidates of a test. It holds the runs of each thread, in groups, and no candidate.
-#[derive(Drop)]
 pub struct Space {
     init: Vec<u32>,
     threads: Vec<RunList>,
     groups: Vec<Groups>,
     marks: Vec<Marks>,
     size: u64,
+}
+
+// A function of its own: whoever holds one drops it by a call.
+impl Drop for Space {
+    fn drop(self) {
+        let Space {
+            init: _,
+            threads: _,
+            groups: _,
+            marks: _,
+            size: _,
+        } = self;
+    }
 }
 
 impl Model for Space {

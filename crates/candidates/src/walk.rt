@@ -15,12 +15,23 @@ use std::alloc::{AllocError, Global};
 use std::marker::Model;
 
 /// A walk over the executions at some numbers of a space, in the order of their numbers.
-#[derive(Drop)]
 pub struct Walk<'a> {
     space: &'a Space,
     next: u64,
     to: u64,
     scene: Scene,
+}
+
+// A function of its own: whoever holds one drops it by a call.
+impl<'a> Drop for Walk<'a> {
+    fn drop(self) {
+        let Walk {
+            space: _,
+            next: _,
+            to: _,
+            scene: _,
+        } = self;
+    }
 }
 
 impl<'a> Model for Walk<'a> {
