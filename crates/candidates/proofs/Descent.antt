@@ -1,8 +1,6 @@
 -- Down the threads to the choice that a number is in.
-use Rattle.std.proofs.Common.{◌≡◌, ℕ, zero, suc, ◌+◌, ◌-◌, ◌<◌, ◌≤◌, List, [], ◌∷◌, ◌++◌, append_assoc, map, length, take, drop, get_or, drop-cons, add-one, refl, sym, ◌∙◌, ap, subst, inl, inr, arith, Option, None, Some}
+use Rattle.std.proofs.Common.{◌≡◌, ℕ, zero, suc, ◌+◌, ◌-◌, ◌<◌, ◌≤◌, List, [], ◌∷◌, ◌++◌, append_assoc, map, length, take, drop, get_or, drop-cons, add-one, refl, sym, ◌∙◌, ap, subst, inl, inr, arith}
 use Rattle.std.specs.List.{flat_map}
-use Rattle.std.specs.Option.{IsSome}
-use Rattle.std.specs.Prelude.{MatchOption}
 use Rattle.std.proofs.lemmas.List.{get_or_default}
 use Rattle.events.specs.Executions.{ThreadRun, empty_run}
 use Rattle.listings.specs.Lists.{IsIn, sum_of}
@@ -74,8 +72,8 @@ sizes_total n row number rest tally chosen runs more sizes h e =
     ap (sum_of (λ k. k)) (e ∙ sizes_are n tally chosen runs more h.tally_is h.within) ∙ sum_ids (going_on n chosen more) runs
     ∙ sym (sum_flat (block n) (λ run. behind (chosen ++ run ∷ []) more) runs) ∙ ap (sum_of (block n)) (sym (behind_step chosen runs more))
 
-pub sizes_sum : (n : ℕ) (row : List (List ThreadRun)) (number rest : ℕ) (tally : List Counts) (chosen runs : List ThreadRun) (more : List (List ThreadRun)) (sizes : List ℕ) → IsDown n row number rest tally chosen (runs ∷ more) → sizes ≡ sizes_of tally (tallies_of n runs) (map (tallies_of n) more) → rest < sum_of (λ k. k) sizes
-sizes_sum n row number rest tally chosen runs more sizes h e = omega (arith, sizes_total n row number rest tally chosen runs more sizes h e, h.below)
+pub sizes_by : (tally : List Counts) (here : List (List Counts)) (after : List (List (List Counts))) (sizes : List ℕ) → sizes ≡ sizes_of tally here after → sum_of (λ k. k) sizes ≡ size_by tally (here ∷ after)
+sizes_by tally here after sizes e = ap (sum_of (λ k. k)) e ∙ sum_ids (λ t. size_by (sum_tally tally t) after) here
 
 pub sizes_length : (n : ℕ) (tally : List Counts) (runs : List ThreadRun) (rest : List (List (List Counts))) (sizes : List ℕ) → sizes ≡ sizes_of tally (tallies_of n runs) rest → length sizes ≡ length runs
 sizes_length n tally runs rest sizes e =
@@ -124,14 +122,6 @@ down_end n row number rest tally chosen left e h =
     let p = subst P (behind_end chosen) (g.below, g.part) in
     (h.order, omega (arith, p.0), p.1)
 
--- No size is above the limit.
-pub sized : {V : Type 0} (n limit : ℕ) (row : List (List ThreadRun)) (number rest : ℕ) (tally : List Counts) (chosen runs : List ThreadRun) (more : List (List ThreadRun)) (P : V → Type 0) (o : Option V) → IsDown n row number rest tally chosen (runs ∷ more) → sum_of (block n) row ≤ limit → MatchOption o (limit < size_by tally (map (tallies_of n) (runs ∷ more))) P → IsSome o
-sized n limit row number rest tally chosen runs more P None h l c =
-    let T : List Counts → Type 0 = λ u. limit < size_by u (map (tallies_of n) (runs ∷ more)) in
-    let s = counted n (runs ∷ more) chosen h.within in
-    absurd (omega (arith, subst T h.tally_is c, s, part_end n row (number - rest) (behind chosen (runs ∷ more)) h.part, l))
-sized n limit row number rest tally chosen runs more P (Some v) h l c = refl
-
 pub drop_mapped : {A B : Type 0} (f : A → B) (xs : List A) (i : ℕ) → drop i (map f xs) ≡ map f (drop i xs)
 drop_mapped f [] zero = refl
 drop_mapped f [] (suc i) = refl
@@ -165,15 +155,21 @@ room_on n row number rest tally chosen runs more here after h e f t m =
     let Q : List (List (List Counts)) → Type 0 = λ gs. HasRoom (sum_tally tally t) gs in
     subst Q (sym f) (h.room.1 t (subst P e m))
 
-pub sized_on : {V : Type 0} (n limit : ℕ) (row : List (List ThreadRun)) (number rest : ℕ) (tally : List Counts) (chosen runs : List ThreadRun) (more : List (List ThreadRun)) (here : List (List Counts)) (after : List (List (List Counts))) (P : V → Type 0) (o : Option V) → IsDown n row number rest tally chosen (runs ∷ more) → sum_of (block n) row ≤ limit → here ≡ tallies_of n runs → after ≡ map (tallies_of n) more → MatchOption o (limit < size_by tally (here ∷ after)) P → IsSome o
-sized_on n limit row number rest tally chosen runs more here after P o h l e f m =
-    let T : List (List Counts) → List (List (List Counts)) → Type 0 = λ us gs. MatchOption o (limit < size_by tally (us ∷ gs)) P in
-    let U : List (List Counts) → Type 0 = λ us. T us after in
-    let A : List (List (List Counts)) → Type 0 = T (tallies_of n runs) in
-    sized n limit row number rest tally chosen runs more P o h l (subst A f (subst U e m))
-
 pub sizes_on : (n : ℕ) (tally : List Counts) (runs : List ThreadRun) (more : List (List ThreadRun)) (here : List (List Counts)) (after : List (List (List Counts))) (sizes : List ℕ) → here ≡ tallies_of n runs → after ≡ map (tallies_of n) more → sizes ≡ sizes_of tally here after → sizes ≡ sizes_of tally (tallies_of n runs) (map (tallies_of n) more)
 sizes_on n tally runs more here after sizes e f s = s ∙ ap (λ us. sizes_of tally us after) e ∙ ap (λ gs. sizes_of tally (tallies_of n runs) gs) f
+
+-- What is counted by the tallies are the candidates with the chosen runs.
+pub counted_on : (n : ℕ) (row : List (List ThreadRun)) (number rest : ℕ) (tally : List Counts) (chosen runs : List ThreadRun) (more : List (List ThreadRun)) (here : List (List Counts)) (after : List (List (List Counts))) → IsDown n row number rest tally chosen (runs ∷ more) → here ≡ tallies_of n runs → after ≡ map (tallies_of n) more → size_by tally (here ∷ after) ≡ sum_of (block n) (behind chosen (runs ∷ more))
+counted_on n row number rest tally chosen runs more here after h e f =
+    let sizes = sizes_of tally here after in
+    sym (sizes_by tally here after sizes refl) ∙ sizes_total n row number rest tally chosen runs more sizes h (sizes_on n tally runs more here after sizes e f refl)
+
+pub below_on : (n : ℕ) (row : List (List ThreadRun)) (number rest : ℕ) (tally : List Counts) (chosen runs : List ThreadRun) (more : List (List ThreadRun)) (here : List (List Counts)) (after : List (List (List Counts))) → IsDown n row number rest tally chosen (runs ∷ more) → here ≡ tallies_of n runs → after ≡ map (tallies_of n) more → rest < size_by tally (here ∷ after)
+below_on n row number rest tally chosen runs more here after h e f = omega (arith, counted_on n row number rest tally chosen runs more here after h e f, h.below)
+
+pub most_on : (n : ℕ) (row : List (List ThreadRun)) (number rest : ℕ) (tally : List Counts) (chosen runs : List ThreadRun) (more : List (List ThreadRun)) (here : List (List Counts)) (after : List (List (List Counts))) → IsDown n row number rest tally chosen (runs ∷ more) → here ≡ tallies_of n runs → after ≡ map (tallies_of n) more → size_by tally (here ∷ after) ≤ sum_of (block n) row
+most_on n row number rest tally chosen runs more here after h e f =
+    omega (arith, counted_on n row number rest tally chosen runs more here after h e f, part_end n row (number - rest) (behind chosen (runs ∷ more)) h.part)
 
 -- A thread on the way down: the candidates with the chosen runs go on with its runs, and these are the sizes of what goes on with each.
 pub record IsEntered (n : ℕ) (row : List (List ThreadRun)) (number rest : ℕ) (tally : List Counts) (chosen : List ThreadRun) (threads : List (List ThreadRun)) (i : ℕ) (sizes : List ℕ) : Type 0 where

@@ -156,11 +156,6 @@ passed_over s stores number rest left tally chosen runs more sizes marks d k has
   λ m a c. none_marked s stores runs marks m has are (passed_at (length s.init) (choices s.threads) number rest left tally chosen runs more sizes marks d k m h e is p a c),
 )
 
--- The sizes are no more than all candidates.
-pub sizes_most : (n : ℕ) (row : List (List ThreadRun)) (number rest : ℕ) (tally : List Counts) (chosen runs : List ThreadRun) (more : List (List ThreadRun)) (sizes : List ℕ) → IsDown n row number rest tally chosen (runs ∷ more) → sizes ≡ sizes_of tally (tallies_of n runs) (map (tallies_of n) more) → sum_of (λ k. k) sizes ≤ sum_of (block n) row
-sizes_most n row number rest tally chosen runs more sizes h e =
-    omega (arith, sizes_total n row number rest tally chosen runs more sizes h e, part_end n row (number - rest) (behind chosen (runs ∷ more)) h.part)
-
 -- The marks of the runs of a thread.
 pub marks_here : (init : List ℕ) (stores : List Store) (threads : List (List ThreadRun)) (marks : List (List Bool)) (i : ℕ) (here : List Bool) → marks ≡ map (λ runs. map (is_impossible init stores) runs) threads → i < length threads → here ≡ get_or marks i here → here ≡ map (is_impossible init stores) (get_or threads i [])
 marks_here init stores threads marks i here e l h =

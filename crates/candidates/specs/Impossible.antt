@@ -51,6 +51,13 @@ pub record IsPassed (marks : List Bool) (sizes : List ℕ) (d n : ℕ) : Type 0 
   pub sum : sum_of (λ k. k) (take d sizes) + n ≡ sum_of (λ k. k) (take end sizes)
   pub marked : (i : ℕ) → d ≤ i → i < end → slice_index_or marks i false ≡ true
 
+-- A number is `rest` into the size at the place d, and from d on `passed` candidates have runs that are marked.
+pub record IsChosen (marks : List Bool) (sizes : List ℕ) (number d rest passed : ℕ) : Type 0 where
+  pub place : d < length sizes
+  pub within : rest < slice_index_or sizes d 0
+  pub sum : number ≡ sum_of (λ k. k) (take d sizes) + rest
+  pub passed_are : IsPassed marks sizes d passed
+
 -- The marks tell which runs have a read of a value that nothing writes.
 pub record AreMarks (init : List ℕ) (threads : List (List ThreadRun)) (marks : List (List Bool)) : Type 0 where
   pub stores : List Store

@@ -1,12 +1,13 @@
 //! Choices of one run of each thread.
 
-ghost use Rattle.std.specs.Prelude.{◌≡◌, ◌+◌, ◌-◌, ◌<◌, ◌≤◌, [], List, length, map, take, drop, slice_index_or, IfOk};
-ghost use Rattle.listings.specs.Lists.{sum_of};
+ghost use Rattle.std.specs.Prelude.{◌≡◌, ◌+◌, ◌-◌, ◌<◌, ◌≤◌, [], ◌∷◌, List, length, map, take, drop, slice_index_or, IfOk};
+ghost use Rattle.listings.specs.Lists.{IsIn, sum_of};
 ghost use Rattle.events.specs.Executions.{ThreadRun};
 ghost use Rattle.candidates.specs.Executions.{block};
 ghost use Rattle.candidates.specs.Candidates.{choices};
-ghost use Rattle.candidates.specs.Groups.{tally_of, HasRoom};
-ghost use Rattle.candidates.specs.Impossible.{AreMarks};
+ghost use Rattle.candidates.specs.Groups.{tally_of, sum_tally, size_by, sizes_of, HasRoom};
+ghost use Rattle.candidates.specs.declared.counts.Counts.{Counts};
+ghost use Rattle.candidates.specs.Impossible.{AreMarks, IsChosen};
 ghost use Rattle.candidates.specs.Parts.{AreAllWithin};
 ghost use Rattle.candidates.specs.Located.{IsLocated};
 
@@ -88,6 +89,40 @@ fn part_at(sizes: &[u64], number: u64) -> Part
     unreachable!()
 }
 
+/// The run of a thread that a number is in, how far into this run's candidates the number is, and how many candidates from
+/// this run's first on are in no execution.
+#[derive(Clone, Copy)]
+struct Choice {
+    place: usize,
+    rest: u64,
+    passed: u64,
+}
+
+/// The run that a number is in, of a thread of these groups and marks: it counts the candidates with the runs that are tallied.
+fn choose_run(
+    alloc: Global,
+    group: &Groups,
+    marks: &Marks,
+    tally: &AccessTally,
+    behind: &[Groups],
+    number: u64,
+) -> Result<Choice, AllocError>
+    requires room { (t : List Counts) → IsIn t group.now → HasRoom (sum_tally tally.now t) behind.now }
+    requires most { size_by tally.now (group.now ∷ behind.now) ≤ MOST_CANDIDATES }
+    requires marks { length marks.now ≡ length group.now }
+    requires number { number < size_by tally.now (group.now ∷ behind.now) }
+    ensures { IfOk result (λ c. IsChosen marks.now (sizes_of tally.now group.now behind.now) number c.place c.rest c.passed) }
+{
+    let sizes = group.sizes(alloc, tally, behind)?.unwrap();
+    let part = part_at(&sizes, number);
+    let passed = marks.passed(&sizes, part.place);
+    Ok(Choice {
+        place: part.place,
+        rest: part.rest,
+        passed,
+    })
+}
+
 /// The threads behind this one.
 fn after(groups: &[Groups], thread: usize) -> &[Groups]
     requires { thread < length groups.now }
@@ -134,18 +169,15 @@ pub(crate) fn locate(
     let mut runs = Vec::new(alloc);
     let mut rest = number;
     for thread in 0..threads.len() {
-        let sizes = groups[thread]
-            .sizes(alloc, &tally, after(groups, thread))?
-            .unwrap();
-        let part = part_at(&sizes, rest);
-        let passed = marks[thread].passed(&sizes, part.place);
-        if passed > 0 {
-            return Ok(Located::Until(number - part.rest + passed));
+        let behind = after(groups, thread);
+        let choice = choose_run(alloc, &groups[thread], &marks[thread], &tally, behind, rest)?;
+        if choice.passed > 0 {
+            return Ok(Located::Until(number - choice.rest + choice.passed));
         }
-        let run = &threads[thread].runs()[part.place];
-        tally = tally.plus(alloc, &AccessTally::new(alloc, run.events(), locations)?)?;
+        let run = &threads[thread].runs()[choice.place];
+        tally = tally.plus_events(alloc, run.events(), locations)?;
         runs.push(run.copy()?)?;
-        rest = part.rest;
+        rest = choice.rest;
     }
     Ok(Located::At(Position { runs, rest }))
 }

@@ -145,6 +145,20 @@ impl AccessTally {
         Ok(AccessTally { counts })
     }
 
+    /// This together with how often events read and write each location.
+    pub(crate) fn plus_events(
+        &self,
+        alloc: Global,
+        events: &[Event],
+        locations: usize,
+    ) -> Result<Self, AllocError>
+        requires small { IsSmall (sum_tally self.now (tally_of locations events.now)) }
+        ensures { IfOk result (λ t. t ≡ sum_tally self.now (tally_of locations events.now)) }
+    {
+        let more = AccessTally::new(alloc, events, locations)?;
+        self.plus(alloc, &more)
+    }
+
     /// Whether both are the same.
     pub(crate) fn is_same(&self, other: &AccessTally) -> bool
         ensures { result ≡ true → self.now ≡ other.now }

@@ -99,6 +99,19 @@ pub(crate) fn count(
     }
 }
 
+/// How many candidates have a run of each thread, if that is at most the limit.
+pub(crate) fn count_all(
+    alloc: Global,
+    threads: &[Groups],
+    locations: usize,
+) -> Result<Option<u64>, AllocError>
+    requires room { HasRoom (tally_of locations []) threads.now }
+    ensures { IfOk result (IsCapped MOST_CANDIDATES (size_by (tally_of locations []) threads.now)) }
+{
+    let empty = AccessTally::new(alloc, &[], locations)?;
+    count(alloc, &empty, threads)
+}
+
 impl Groups {
     /// The groups of these runs.
     pub(crate) fn new(alloc: Global, runs: &[Run], locations: usize) -> Result<Self, AllocError>

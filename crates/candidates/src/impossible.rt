@@ -3,7 +3,7 @@
 ghost use Rattle.std.specs.Prelude.{◌≡◌, ◌<◌, ◌≤◌, List, Bool, true, length, map, IfOk, OnOk};
 ghost use Rattle.std.specs.List.{list_any};
 ghost use Rattle.listings.specs.Lists.{sum_of};
-ghost use Rattle.candidates.specs.Impossible.{has_store, is_wanting, is_impossible, Keeps, HasWrite, HasWrites, HasRuns, HasThreads, IsPassed};
+ghost use Rattle.candidates.specs.Impossible.{AreMarks, has_store, is_wanting, is_impossible, Keeps, HasWrite, HasWrites, HasRuns, HasThreads, IsPassed};
 
 use crate::choosing::RunList;
 use crate::fault::MOST_CANDIDATES;
@@ -73,7 +73,7 @@ fn add_runs(stores: &mut Vec<Store>, runs: &[Run]) -> Result<(), AllocError>
 }
 
 /// What the runs of all threads write.
-pub(crate) fn all_stores(alloc: Global, threads: &[RunList]) -> Result<Vec<Store>, AllocError>
+fn all_stores(alloc: Global, threads: &[RunList]) -> Result<Vec<Store>, AllocError>
     ensures { IfOk result (λ v. HasThreads v.items threads.now) }
 {
     let mut stores = Vec::new(alloc);
@@ -159,17 +159,30 @@ fn passed(marks: &[bool], sizes: &[u64], place: usize) -> u64
 }
 
 /// The marks of the runs of each thread.
-pub(crate) fn all_marks(
+fn all_marks(
     alloc: Global,
     init: &[u32],
     stores: &[Store],
     threads: &[RunList],
 ) -> Result<Vec<Marks>, AllocError>
-    ensures { IfOk result (λ v. v.items ≡ map (λ runs. map (is_impossible init.now stores.now) runs) threads.now) }
+    requires stores { HasThreads stores.now threads.now }
+    ensures { IfOk result (λ v. AreMarks init.now threads.now v.items) }
 {
     let mut all = Vec::new(alloc);
     for thread in threads {
         all.push(Marks::new(alloc, init, stores, thread.runs())?)?;
     }
     Ok(all)
+}
+
+/// The marks of the runs of each thread, by what the runs of all write.
+pub(crate) fn mark_all(
+    alloc: Global,
+    init: &[u32],
+    threads: &[RunList],
+) -> Result<Vec<Marks>, AllocError>
+    ensures { IfOk result (λ v. AreMarks init.now threads.now v.items) }
+{
+    let stores = all_stores(alloc, threads)?;
+    all_marks(alloc, init, &stores, threads)
 }

@@ -62,13 +62,25 @@ impl Writes {
 
 /// The runs of a choice, their reads, the later writes of each location, and in how many ways the reads can read and the
 /// writes be ordered.
-#[derive(Drop)]
 pub(crate) struct Page {
     pub(crate) runs: Vec<Run>,
     pub(crate) reads: Vec<Event>,
     pub(crate) writes: Vec<Writes>,
     pub(crate) ways: u64,
     pub(crate) orders: u64,
+}
+
+// Functions of their own, here and below: whoever holds one drops it by a call.
+impl Drop for Page {
+    fn drop(self) {
+        let Page {
+            runs: _,
+            reads: _,
+            writes: _,
+            ways: _,
+            orders: _,
+        } = self;
+    }
 }
 
 impl Page {
@@ -90,11 +102,20 @@ impl Page {
 }
 
 /// The numbers of the candidates with the same runs, from `first` on.
-#[derive(Drop)]
 pub(crate) struct Stretch {
     pub(crate) first: u64,
     pub(crate) size: u64,
     pub(crate) page: Page,
+}
+
+impl Drop for Stretch {
+    fn drop(self) {
+        let Stretch {
+            first: _,
+            size: _,
+            page: _,
+        } = self;
+    }
 }
 
 /// The stretch in which a number is, or up to which number no execution stands.
@@ -106,9 +127,18 @@ pub(crate) enum Reach {
 
 /// What a walk has at hand: a stretch, the execution that it shows, and the number in the stretch of the candidate that this
 /// is, where it is one of it.
-#[derive(Drop)]
 pub(crate) struct Scene {
     pub(crate) stretch: Stretch,
     pub(crate) graph: Graph,
     pub(crate) at: Option<u64>,
+}
+
+impl Drop for Scene {
+    fn drop(self) {
+        let Scene {
+            stretch: _,
+            graph: _,
+            at: _,
+        } = self;
+    }
 }

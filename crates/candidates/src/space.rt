@@ -1,6 +1,7 @@
 //! The numbered candidates of a test.
 
 ghost use Rattle.std.specs.Prelude.{◌≡◌, ◌<◌, ◌≤◌, ◌^◌, [], length, map, IfOk, IfErr};
+ghost use Rattle.conditions.specs.States.{value_at};
 ghost use Rattle.candidates.specs.Executions.{initial_values};
 ghost use Rattle.candidates.specs.Executions.{IsSize, upto};
 ghost use Rattle.candidates.specs.Candidates.{choices, choices_of, size_of, graph_at, no_execution};
@@ -13,10 +14,9 @@ ghost use Rattle.candidates.specs.Walks.{IsReach};
 
 use crate::assembly::open_page;
 use crate::choosing::{Located, RunList, group_all, locate};
-use crate::counts::AccessTally;
 use crate::fault::{MOST_CANDIDATES, SpaceFault};
-use crate::groups::{Groups, count};
-use crate::impossible::{Marks, all_marks, all_stores};
+use crate::groups::{Groups, count_all};
+use crate::impossible::{Marks, mark_all};
 use crate::page::{Reach, Stretch};
 use crate::walk::{Walk, find};
 use c11_threads::{initial_value, runs};
@@ -63,6 +63,13 @@ impl Model for Space {
     ghost invariant = { λ s. record { size : s.size ≡ size_of (record { init = s.init.items; threads = s.threads.items }); most : s.size ≤ MOST_CANDIDATES; within : AreAllWithin (length s.init.items) (choices s.threads.items); tallied : s.groups.items ≡ map (λ runs. map (λ run. tally_of (length s.init.items) run.events) runs) s.threads.items; room : HasRoom (tally_of (length s.init.items) []) s.groups.items; marked : AreMarks s.init.items s.threads.items s.marks.items } };
 }
 
+/// The initial value of a place of a test.
+fn value_of(test: &Test, place: Place) -> u32
+    ensures { result ≡ value_at test.now.initial place }
+{
+    initial_value(test.initial(), &place)
+}
+
 /// The initial value of each location of a test.
 fn initial_values(alloc: Global, test: &Test) -> Result<Vec<u32>, AllocError>
     ensures { IfOk result (λ v. v.items ≡ initial_values test.now) }
@@ -70,7 +77,7 @@ fn initial_values(alloc: Global, test: &Test) -> Result<Vec<u32>, AllocError>
     let mut values = Vec::new(alloc);
     for location in test.locations() {
         let place = Place::Loc(location.copy()?);
-        values.push(initial_value(test.initial(), &place))?;
+        values.push(value_of(test, place))?;
     }
     Ok(values)
 }
@@ -134,12 +141,10 @@ impl Space {
         let init = initial_values(alloc, test)?;
         let locations = init.len();
         let groups = group_all(alloc, &threads, locations)?;
-        let empty = AccessTally::new(alloc, &[], locations)?;
-        let Some(size) = count(alloc, &empty, &groups)? else {
+        let Some(size) = count_all(alloc, &groups, locations)? else {
             return Err(SpaceFault::TooManyCandidates);
         };
-        let stores = all_stores(alloc, &threads)?;
-        let marks = all_marks(alloc, &init, &stores, &threads)?;
+        let marks = mark_all(alloc, &init, &threads)?;
         Ok(Space {
             init,
             threads,

@@ -4,17 +4,16 @@ use Rattle.listings.specs.Lists.{sum_of}
 use Rattle.candidates.specs.Executions.{initial_values, block}
 use Rattle.candidates.specs.Candidates.{Choices, choices, choices_of, size_of}
 use Rattle.candidates.specs.Groups.{tally_of, HasRoom}
-use Rattle.candidates.specs.Impossible.{HasThreads}
 use Rattle.candidates.specs.Parts.{AreAllWithin}
 use Rattle.candidates.proofs.Grouping.{tallies_of}
 use Rattle.candidates.proofs.Spaces.{room_all, counted_of, too_many_in_all, size_within}
 use Rattle.candidates.proofs.space.Space.new.Goals as goal
 
-pub count-requires : goal.count-requires
-count-requires c =
+pub count_all-requires : goal.count_all-requires
+count_all-requires c =
     let n = c.len-locations.result in
     let groups = c.deref-2.ensures.value ∙ c.in_ok-groups.ensures ∙ ap (map (tallies_of n)) c.deref.ensures.value in
-    record { room = room_all n c.in_ok-threads.threads.items c.in_ok-empty.empty c.deref-2.result.now c.in_ok-threads.ensures.short c.in_ok-empty.ensures groups }
+    record { room = room_all n c.in_ok-threads.threads.items (tally_of n []) c.deref-2.result.now c.in_ok-threads.ensures.short refl groups }
 
 pub returns-in_default-clause-fault : goal.returns-in_default-clause-fault
 returns-in_default-clause-fault c =
@@ -23,7 +22,7 @@ returns-in_default-clause-fault c =
     let n = c.len-locations.result in
     let l : n ≡ length c.in_ok-init.init.items = omega (arith, c.len-locations.ensures) in
     let groups = c.deref-2.ensures.value ∙ c.in_ok-groups.ensures ∙ ap (map (tallies_of n)) c.deref.ensures.value in
-    let k = counted_of t c.in_ok-init.init.items n lists c.in_ok-empty.empty c.deref-2.result.now l c.in_ok-init.ensures c.in_ok-threads.ensures.within c.in_ok-empty.ensures groups in
+    let k = counted_of t c.in_ok-init.init.items n lists (tally_of n []) c.deref-2.result.now l c.in_ok-init.ensures c.in_ok-threads.ensures.within refl groups in
     too_many_in_all t lists n c.in_ok-threads.ensures.few c.in_ok-threads.ensures.lists k.0 (omega (arith, k.2, (rw c.in_default.is at c.in_ok-size.ensures)))
 
 pub invariant_of-result : goal.invariant_of-result
@@ -32,11 +31,10 @@ invariant_of-result c =
     let n = c.len-locations.result in
     let l : n ≡ length c.in_ok-init.init.items = omega (arith, c.len-locations.ensures) in
     let own = c.in_ok-groups.ensures ∙ ap (map (tallies_of n)) c.deref.ensures.value in
-    let k = counted_of c.args.test.now c.in_ok-init.init.items n lists c.in_ok-empty.empty c.deref-2.result.now l c.in_ok-init.ensures c.in_ok-threads.ensures.within c.in_ok-empty.ensures (c.deref-2.ensures.value ∙ own) in
+    let k = counted_of c.args.test.now c.in_ok-init.init.items n lists (tally_of n []) c.deref-2.result.now l c.in_ok-init.ensures c.in_ok-threads.ensures.within refl (c.deref-2.ensures.value ∙ own) in
     let q = rw c.in-Some.is at c.in_ok-size.ensures in
     let W : ℕ → Type 0 = λ m. AreAllWithin m (choices lists) in
     let G : ℕ → Type 0 = λ m. c.in_ok-groups.groups.items ≡ map (tallies_of m) lists in
-    let H : List (List ThreadRun) → Type 0 = HasThreads c.in_ok-stores.stores.items in
     let R : ℕ → Type 0 = λ m. HasRoom (tally_of m []) c.in_ok-groups.groups.items in
     record {
       size = q.0 ∙ k.2 ∙ ap (λ m. sum_of (block m) (choices lists)) l;
@@ -44,11 +42,7 @@ invariant_of-result c =
       within = subst W l k.1;
       tallied = subst G l own;
       room = subst R l (room_all n lists (tally_of n []) c.in_ok-groups.groups.items c.in_ok-threads.ensures.short refl own);
-      marked = record {
-        stores = c.in_ok-stores.stores.items;
-        has = subst H c.deref-3.ensures.value c.in_ok-stores.ensures;
-        are = rw (c.deref-4.ensures.value, c.deref-5.ensures.value, c.deref-6.ensures.value) at c.in_ok-marks.ensures;
-      };
+      marked = rw (c.deref-3.ensures.value, c.deref-4.ensures.value) at c.in_ok-marks.ensures;
     }
 
 pub returns-clause-size : goal.returns-clause-size
@@ -58,7 +52,7 @@ returns-clause-size c =
     let n = c.len-locations.result in
     let l : n ≡ length c.in_ok-init.init.items = omega (arith, c.len-locations.ensures) in
     let groups = c.deref-2.ensures.value ∙ c.in_ok-groups.ensures ∙ ap (map (tallies_of n)) c.deref.ensures.value in
-    let k = counted_of t c.in_ok-init.init.items n lists c.in_ok-empty.empty c.deref-2.result.now l c.in_ok-init.ensures c.in_ok-threads.ensures.within c.in_ok-empty.ensures groups in
+    let k = counted_of t c.in_ok-init.init.items n lists (tally_of n []) c.deref-2.result.now l c.in_ok-init.ensures c.in_ok-threads.ensures.within refl groups in
     let s : Choices = record { init = c.in_ok-init.init.items; threads = lists } in
     let e : s ≡ choices_of t =
     ap (λ (vs : List ℕ). let u : Choices = record { init = vs; threads = lists } in u) c.in_ok-init.ensures
