@@ -133,7 +133,7 @@ fn is_full<L: Ledger, R: Wait>(rt: &R, desk: &Desk<L>, pass: &mut Pass<L>) -> bo
     ensures { pass.new.parts ≡ 1 }
 {
     let answer = desk.call(rt, pass, Command::List);
-    matches!(answer, Err((Command::List, Refused::JournalFull)))
+    matches!(&answer, Err((Command::List, Refused::JournalFull)))
 }
 
 /// How many entries a journal has that takes three, how many calls were recorded, and whether the fourth was handed back.
