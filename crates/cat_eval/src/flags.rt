@@ -1,6 +1,6 @@
 //! Lists of names without repeats.
 
-ghost use Rattle.std.specs.Prelude.{◌≡◌, ◌↔◌, ◌⊎◌, OnOk, OnErr};
+ghost use Rattle.std.specs.Prelude.{◌≡◌, ◌↔◌, ◌⊎◌, OnOk, OnErr, option_map, Some};
 ghost use Rattle.std.specs.List.{list_any};
 ghost use Rattle.std.specs.Str.{bytes_eq};
 ghost use Rattle.listings.specs.Lists.{IsIn, NoRepeats};
@@ -28,4 +28,16 @@ pub fn add(names: &mut Vec<Name>, name: &Name) -> Result<(), AllocError>
     let copy = name.copy()?;
     names.push(copy)?;
     Ok(())
+}
+
+/// Puts the name of a flag in, if one is raised.
+pub(crate) fn add_raised(names: &mut Vec<Name>, raised: Option<&Name>) -> Result<(), AllocError>
+    requires { NoRepeats names.old.items }
+    ensures once { NoRepeats names.new.items }
+    ensures added { OnOk result ((x : Word) → IsIn x names.new.items ↔ (IsIn x names.old.items ⊎ (option_map (λ f. f.now) raised.entry ≡ Some x))) }
+{
+    match raised {
+        Some(name) => add(names, name),
+        None => Ok(()),
+    }
 }

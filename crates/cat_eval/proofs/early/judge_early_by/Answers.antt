@@ -1,16 +1,14 @@
-use Rattle.std.proofs.Common.{◌≡◌, ℕ, ◌↔◌, ◌⊎◌, List, Option, option_map, true, false, ap, subst, sym, refl, ◌∙◌, arith, rules, map}
-use Rattle.listings.specs.Lists.{IsIn, NoRepeats}
+use Rattle.std.proofs.Common.{ℕ, Option, option_map, true, false, refl, ◌∙◌, arith, rules, map}
 use Rattle.cat_tree.specs.Tree.{Word, Clause}
 use Rattle.events.specs.Named.{event_count}
 use Rattle.cat_eval.specs.Code.{entries_of, planned_clause}
 use Rattle.cat_eval.specs.Meaning.{Under}
 use Rattle.cat_eval.specs.Names.{Names}
 use Rattle.cat_eval.specs.Judging.{Permits, RaisedBy, Allowed, Raised}
-use Rattle.cat_eval.proofs.Lawful.{forbidden_by, forbidden_is, no_flag_told, kept, next_item, flag_more, no_flag}
+use Rattle.cat_eval.proofs.Lawful.{forbidden_by, forbidden_is, no_flag_told, kept, next_item, flag_told, all_told}
 use Rattle.cat_eval.proofs.Held.{holds_more}
-use Rattle.cat_eval.proofs.Reaching.{reached_next, reached_more}
+use Rattle.cat_eval.proofs.Reaching.{reached_none, reached_next, reached_more, reached_done}
 use Rattle.cat_eval.proofs.early.judge_early_by.Goals as goal
-use Rattle.cat_eval.proofs.early.judge_early_by.Goals.{in-Some+in_ok-add, in_default}
 
 pub weigh-weighed-requires-clause-order : goal.weigh-weighed-requires-clause-order
 weigh-weighed-requires-clause-order c =
@@ -50,20 +48,11 @@ loop-item-preserved c =
     record {
       long = c.weigh-weighed.ensures.length ∙ c.loop-item.invariant.long;
       holds = holds_more c.args.view.now c.args.steps.now c.args.bases.now c.loop-item.kept c.with.result c.weigh-weighed.new.values c.item-item.result.to c.with.ensures.order c.with.ensures.runs c.with.ensures.sources c.weigh-weighed.ensures.ran c.weigh-weighed.ensures.holds;
-      reached = reached_more c.args.view.now c.args.steps.now c.args.items.now c.loop-item.values c.weigh-weighed.new.values c.loop-item.item-index true true c.loop-item.flags.items c.match-weighed.flags.items
+      reached = reached_more c.args.view.now c.args.steps.now c.args.items.now c.loop-item.values c.weigh-weighed.new.values c.loop-item.item-index true true c.loop-item.flags.items c.add_raised.new.names.items
           c.item-item.result c.loop-item.invariant.reached c.loop-item-test.true c.item-item.is c.weigh-weighed.ensures.same c.weigh-weighed.ensures.ran (c.weigh-weighed.ensures.binds c.loop-item.invariant.reached.names ready)
           (kept true c.weigh-weighed.result.permits true (Permits n E item) c.if-not-weighed.false refl permits)
-          (elim c.match-weighed.branch [
-            | in-Some+in_ok-add w ↦ (let P : List Word → Type 0 = λ xs. NoRepeats xs in subst P (sym (ap (λ v. v.items) w.flags-is)) w.add.ensures.once)
-            | in_default w ↦ (let P : List Word → Type 0 = λ xs. NoRepeats xs in subst P (sym (ap (λ v. v.items) w.flags-is)) c.loop-item.invariant.reached.so_far.once)
-          ])
-          (elim c.match-weighed.branch [
-            | in-Some+in_ok-add w ↦ flag_more c.loop-item.flags.items c.match-weighed.flags.items w.in-Some.name.now flagged (RaisedBy n E item)
-                (ap (option_map (λ f. f.now)) w.in-Some.is)
-                (let P : List Word → Type 0 = λ xs. (x : Word) → IsIn x xs ↔ (IsIn x c.loop-item.flags.items ⊎ (x ≡ w.in-Some.name.now)) in subst P (sym (ap (λ v. v.items) w.flags-is)) w.in_ok-add.ensures.added) raised
-            | in_default w ↦ no_flag c.loop-item.flags.items c.match-weighed.flags.items flagged (RaisedBy n E item)
-                (ap (option_map (λ f. f.now)) w.in_default.is) (ap (λ v. v.items) w.flags-is) raised
-          ]);
+          c.add_raised.ensures.once
+          (flag_told c.loop-item.flags.items c.add_raised.new.names.items flagged (RaisedBy n E item) c.in_ok-add_raised.ensures.added raised);
     }
 
 pub returns-then-not-weighed-clause-allowed : goal.returns-then-not-weighed-clause-allowed
@@ -87,6 +76,33 @@ pub returns-then-not-weighed-clause-holds : goal.returns-then-not-weighed-clause
 returns-then-not-weighed-clause-holds c =
     holds_more c.args.view.now c.args.steps.now c.args.bases.now c.loop-item.kept c.with.result c.weigh-weighed.new.values c.item-item.result.to c.with.ensures.order c.with.ensures.runs c.with.ensures.sources c.weigh-weighed.ensures.ran c.weigh-weighed.ensures.holds
 
-pub returns-in_err-add-clause-holds : goal.returns-in_err-add-clause-holds
-returns-in_err-add-clause-holds c =
+pub returns-in_err-add_raised-clause-holds : goal.returns-in_err-add_raised-clause-holds
+returns-in_err-add_raised-clause-holds c =
     holds_more c.args.view.now c.args.steps.now c.args.bases.now c.loop-item.kept c.with.result c.weigh-weighed.new.values c.item-item.result.to c.with.ensures.order c.with.ensures.runs c.with.ensures.sources c.weigh-weighed.ensures.ran c.weigh-weighed.ensures.holds
+
+pub weigh-weighed-requires-clause-graded : goal.weigh-weighed-requires-clause-graded
+weigh-weighed-requires-clause-graded c = c.requires.graded
+
+pub add_raised-requires : goal.add_raised-requires
+add_raised-requires c = c.loop-item.invariant.reached.so_far.once
+
+pub loop-item-init : goal.loop-item-init
+loop-item-init c = record {
+  long = c.requires.values;
+  holds = c.requires.holds;
+  reached = reached_none c.args.view.now c.args.steps.now c.args.items.now c.args.values.now c.new-flags.result.items c.requires.plan c.requires.model c.new-flags.ensures.items;
+}
+
+pub weigh-weighed-requires-clause-holds : goal.weigh-weighed-requires-clause-holds
+weigh-weighed-requires-clause-holds c = c.loop-item.invariant.holds
+
+pub returns-clause-holds : goal.returns-clause-holds
+returns-clause-holds c = c.loop-item.invariant.holds
+
+pub returns-clause-allowed : goal.returns-clause-allowed
+returns-clause-allowed c = (reached_done c.args.view.now c.args.steps.now c.args.items.now c.loop-item.values c.loop-item.item-index true c.loop-item.flags.items c.loop-item-test.false c.loop-item.invariant.reached).0
+
+pub returns-clause-flags : goal.returns-clause-flags
+returns-clause-flags c =
+    (all_told true (Allowed (map planned_clause c.args.items.now) c.args.view.now) (Raised (map planned_clause c.args.items.now) c.args.view.now) c.loop-item.flags.items refl
+    (reached_done c.args.view.now c.args.steps.now c.args.items.now c.loop-item.values c.loop-item.item-index true c.loop-item.flags.items c.loop-item-test.false c.loop-item.invariant.reached)).1

@@ -1,13 +1,22 @@
 use Rattle.std.proofs.Common.{List, map, ap, subst, ◌∙◌}
-use Rattle.std.specs.Prelude.{IfOk}
+use Rattle.std.specs.Prelude.{◌↔◌, IfOk, IsTrue}
 use Rattle.listings.specs.Lists.{Lists}
 use Rattle.cat_tree.specs.Tree.{Word, Clause}
 use Rattle.cat_eval.specs.declared.plan.PlannedItem.{PlannedItem}
 use Rattle.cat_eval.specs.Code.{planned_clause}
 use Rattle.cat_eval.specs.Judging.{Allowed, Raised}
+use Rattle.cat_eval.proofs.Held.{holds_nothing}
 use Rattle.cat_eval.proofs.plan.Plan.judge_early.Goals as goal
 
 pub returns-clause-flags : goal.returns-clause-flags
 returns-clause-flags c =
     let P : List Clause → Type 0 = λ items. IfOk c.judge_early_by.result (λ j. Lists {X = Word} (λ name. Allowed items c.args.view.now × Raised items c.args.view.now name) j.flags) in
     subst P (ap (λ (xs : List PlannedItem). map planned_clause xs) c.deref-4.ensures.value ∙ c.self.view_is) c.judge_early_by.ensures.flags
+
+pub returns-clause-allowed : goal.returns-clause-allowed
+returns-clause-allowed c =
+    let P : List Clause → Type 0 = λ items. IfOk c.judge_early_by.result (λ j. IsTrue j.allowed ↔ Allowed items c.args.view.now) in
+    subst P (ap (λ (xs : List PlannedItem). map planned_clause xs) c.deref-4.ensures.value ∙ c.self.view_is) c.judge_early_by.ensures.allowed
+
+pub judge_early_by-requires-clause-holds : goal.judge_early_by-requires-clause-holds
+judge_early_by-requires-clause-holds c = holds_nothing _ _ _ _ _ c.nothing-kept.ensures.runs c.nothing-kept.ensures.sources
