@@ -88,9 +88,10 @@ impl Files {
     pub fn new(alloc: Global) -> Result<Self, AllocError>
         ensures { IfOk result (λ f. f ≡ []) }
     {
+        let built_in = BuiltIn::new(alloc)?;
         Ok(Files {
             slots: IndexMap::new(alloc),
-            built_in: BuiltIn::new(alloc)?,
+            built_in,
         })
     }
 

@@ -1,6 +1,6 @@
 //! The built-in model `rc11.cat`.
 
-ghost use Rattle.std.specs.Prelude.{◌≡◌, map, IfOk};
+ghost use Rattle.std.specs.Prelude.{◌≡◌, ◌++◌, map, take, drop, IfOk, OnOk};
 ghost use Rattle.cat_tree.specs.Tree.{clause_of};
 ghost use Rattle.cat_model.specs.Rc11.{rc11 as rc11_tree};
 ghost use Rattle.cat_model.specs.Sketches.{line_of};
@@ -13,7 +13,8 @@ use crate::sketch::{Line, item};
 use cat_tree::{CatFile, CheckKind, Item, Title};
 use std::alloc::{AllocError, Global};
 
-const RC11: [Line; 20] = [
+/// The orders, up to what happens before what.
+const ORDERS: [Line; 8] = [
     // let sb = po | (IW * (_ \ IW))
     Line::Let(
         b"sb",
@@ -78,6 +79,10 @@ const RC11: [Line; 20] = [
     ),
     // let hb = (sb | sw)+
     Line::Let(b"hb", Plus(&Union(&Name(b"sb"), &Name(b"sw")))),
+];
+
+/// The checks, with the relations that are only for them.
+const CHECKS: [Line; 12] = [
     // irreflexive (hb ; eco?) as coherence
     Line::Check(
         CheckKind::Irreflexive,
@@ -180,14 +185,38 @@ const RC11: [Line; 20] = [
     Line::FlagNot(CheckKind::Empty, Name(b"race"), b"data-race"),
 ];
 
-/// The items of these lines.
-fn items(alloc: Global, lines: &[Line]) -> Result<Vec<Item>, AllocError>
-    ensures { IfOk result (λ v. map clause_of v.items ≡ map line_of lines.now) }
+/// Adds the items of these lines.
+fn add(alloc: Global, lines: &[Line], items: &mut Vec<Item>) -> Result<(), AllocError>
+    ensures { OnOk result (map clause_of items.new.items ≡ map clause_of items.old.items ++ map line_of lines.now) }
 {
-    let mut items = Vec::new(alloc);
     for line in lines {
         items.push(item(alloc, line)?)?;
     }
+    Ok(())
+}
+
+#[tactic(auto, unfolding(crate::specs::Rc11::rc11))]
+fn add_orders(alloc: Global, items: &mut Vec<Item>) -> Result<(), AllocError>
+    ensures { OnOk result (map clause_of items.new.items ≡ map clause_of items.old.items ++ take 8 rc11_tree.items) }
+{
+    add(alloc, &ORDERS, items)
+}
+
+#[tactic(auto, unfolding(crate::specs::Rc11::rc11))]
+fn add_checks(alloc: Global, items: &mut Vec<Item>) -> Result<(), AllocError>
+    ensures { OnOk result (map clause_of items.new.items ≡ map clause_of items.old.items ++ drop 8 rc11_tree.items) }
+{
+    add(alloc, &CHECKS, items)
+}
+
+/// The items of `rc11.cat`.
+#[tactic(auto, unfolding(crate::specs::Rc11::rc11))]
+fn rc11_items(alloc: Global) -> Result<Vec<Item>, AllocError>
+    ensures { IfOk result (λ v. map clause_of v.items ≡ rc11_tree.items) }
+{
+    let mut items = Vec::new(alloc);
+    add_orders(alloc, &mut items)?;
+    add_checks(alloc, &mut items)?;
     Ok(items)
 }
 
@@ -196,7 +225,7 @@ fn items(alloc: Global, lines: &[Line]) -> Result<Vec<Item>, AllocError>
 pub fn rc11(alloc: Global) -> Result<CatFile, AllocError>
     ensures { IfOk result (λ f. f ≡ rc11_tree) }
 {
-    let items = items(alloc, &RC11)?;
     let title = Title::new(Vec::from_slice(alloc, b"RC11")?);
+    let items = rc11_items(alloc)?;
     Ok(CatFile::new(Some(title), items))
 }

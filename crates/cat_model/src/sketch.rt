@@ -1,8 +1,8 @@
 //! Items as literals, and the trees that they stand for.
 
-ghost use Rattle.std.specs.Prelude.{◌≡◌, Some, IfOk};
-ghost use Rattle.cat_tree.specs.Terms.{joined as joined_by};
-ghost use Rattle.cat_tree.specs.Tree.{term_of, clause_of};
+ghost use Rattle.std.specs.Prelude.{◌≡◌, ◌∷◌, [], Some, IfOk};
+ghost use Rattle.cat_tree.specs.Terms.{applied as applied_by, joined as joined_by};
+ghost use Rattle.cat_tree.specs.Tree.{term_of, clause_of, bind as let_clause, check as check_clause};
 ghost use Rattle.cat_model.specs.Sketches.{sketched, line_of};
 
 use crate::words::word;
@@ -48,12 +48,20 @@ pub fn expression(alloc: Global, sketch: &Sketch) -> Result<Expression, AllocErr
         Sketch::Difference(a, b) => joined(alloc, a, Infix::Difference, b),
         Sketch::Intersection(a, b) => joined(alloc, a, Infix::Intersection, b),
         Sketch::Product(a, b) => joined(alloc, a, Infix::Product, b),
-        Sketch::Plus(a) => expression(alloc, a)?.applied(Sign::Plus),
-        Sketch::Star(a) => expression(alloc, a)?.applied(Sign::Star),
-        Sketch::Optional(a) => expression(alloc, a)?.applied(Sign::Optional),
-        Sketch::Inverse(a) => expression(alloc, a)?.applied(Sign::Inverse),
-        Sketch::Identity(a) => expression(alloc, a)?.applied(Sign::Identity),
+        Sketch::Plus(a) => applied(alloc, Sign::Plus, a),
+        Sketch::Star(a) => applied(alloc, Sign::Star, a),
+        Sketch::Optional(a) => applied(alloc, Sign::Optional, a),
+        Sketch::Inverse(a) => applied(alloc, Sign::Inverse, a),
+        Sketch::Identity(a) => applied(alloc, Sign::Identity, a),
     }
+}
+
+/// What a sign makes of an expression.
+#[cycle(drawing)]
+fn applied(alloc: Global, sign: Sign, operand: &Sketch) -> Result<Expression, AllocError>
+    ensures { IfOk result (λ e. term_of e ≡ applied_by sign (sketched operand.now)) }
+{
+    expression(alloc, operand)?.applied(sign)
 }
 
 /// What an operator makes of two expressions.
@@ -71,26 +79,36 @@ fn joined(
     left.joined(operator, right)
 }
 
+/// An item that binds one name.
+fn definition(alloc: Global, name: &[u8], value: &Sketch) -> Result<Item, AllocError>
+    ensures { IfOk result (λ i. clause_of i ≡ let_clause (record { name = name.now; value = sketched value.now } ∷ [])) }
+{
+    let name = word(alloc, name)?;
+    let value = expression(alloc, value)?;
+    let mut bindings = Vec::new(alloc);
+    bindings.push(Binding { name, value })?;
+    Ok(Item::Let(bindings))
+}
+
+/// A check, or a flag of what fails it.
 fn check(
     alloc: Global,
     flagged: bool,
     kind: CheckKind,
     sketch: &Sketch,
     name: &[u8],
-) -> Result<Check, AllocError>
-    ensures flag { IfOk result (λ c. c.flag ≡ flagged) }
-    ensures negated { IfOk result (λ c. c.negated ≡ flagged) }
-    ensures kind { IfOk result (λ c. c.kind ≡ kind) }
-    ensures expression { IfOk result (λ c. term_of c.expression ≡ sketched sketch.now) }
-    ensures name { IfOk result (λ c. c.name ≡ Some name.now) }
+) -> Result<Item, AllocError>
+    ensures { IfOk result (λ i. clause_of i ≡ check_clause flagged flagged kind (sketched sketch.now) (Some name.now)) }
 {
-    Ok(Check {
+    let name = word(alloc, name)?;
+    let expression = expression(alloc, sketch)?;
+    Ok(Item::Check(Check {
         flag: flagged,
         negated: flagged,
         kind,
-        expression: expression(alloc, sketch)?,
-        name: Some(word(alloc, name)?),
-    })
+        expression,
+        name: Some(name),
+    }))
 }
 
 /// The item.
@@ -98,17 +116,8 @@ pub fn item(alloc: Global, line: &Line) -> Result<Item, AllocError>
     ensures { IfOk result (λ i. clause_of i ≡ line_of line.now) }
 {
     match line {
-        Line::Let(name, value) => {
-            let mut bindings = Vec::new(alloc);
-            bindings.push(Binding {
-                name: word(alloc, name)?,
-                value: expression(alloc, value)?,
-            })?;
-            Ok(Item::Let(bindings))
-        }
-        Line::Check(kind, value, name) => Ok(Item::Check(check(alloc, false, *kind, value, name)?)),
-        Line::FlagNot(kind, value, name) => Ok(Item::Check(check(
-            alloc, true, *kind, value, name,
-        )?)),
+        Line::Let(name, value) => definition(alloc, name, value),
+        Line::Check(kind, value, name) => check(alloc, false, *kind, value, name),
+        Line::FlagNot(kind, value, name) => check(alloc, true, *kind, value, name),
     }
 }

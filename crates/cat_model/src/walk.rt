@@ -184,8 +184,7 @@ impl<'a> Walk<'a> {
         };
         let mut draft = Draft::new(self.alloc);
         draft.note(self.files, self.root)?;
-        let path = lengthened(self.alloc, &[], self.root)?;
-        self.items(&path, file.items(), &mut draft)?;
+        self.items(&[self.root], file.items(), &mut draft)?;
         Ok(draft)
     }
 }
