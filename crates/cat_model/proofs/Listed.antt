@@ -1,5 +1,5 @@
 -- Tests of mapped lists, what is in them, and loops over them.
-use Rattle.std.proofs.Common.{◌≡◌, ℕ, ◌+◌, ◌<◌, ◌≤◌, List, [], ◌∷◌, ◌++◌, Bool, true, false, ◌||◌, map, refl, sym, ◌∙◌, inl, inr, ap, subst, take, length, get_or, Bor, arith}
+use Rattle.std.proofs.Common.{◌≡◌, ℕ, ◌+◌, ◌<◌, ◌≤◌, List, [], ◌∷◌, Bool, true, false, ◌||◌, map, refl, sym, ◌∙◌, inl, inr, ap, subst, take, length, get_or, Bor, arith}
 use Rattle.std.specs.List.{list_any, Contains, All}
 use Rattle.std.specs.Str.{bytes_eq}
 use Rattle.std.proofs.lemmas.List.{take_all, get_or-map, length-map}
@@ -40,9 +40,6 @@ all_end_map f P xs k l h = let long : length (map f xs) ≤ k = omega (arith, le
 -- the names that were gathered
 abbrev pub told : List (Bor Word) → List Word
 told xs = map (λ x. x.now) xs
-
-pub gathered : (items found start : List (Bor Word)) (ns : List Word) → items ≡ found → told found ≡ told start ++ ns → start ≡ [] → told items ≡ ns
-gathered items found start ns e h s = ap told e ∙ (h ∙ ap (λ us. told us ++ ns) s)
 
 pub bound_any : (group : List Binding) (x : Word) → list_any (λ b. bytes_eq b.name x) (map bound_of group) ≡ list_any (λ b. bytes_eq b.name x) group
 bound_any group x = any_map bound_of (λ b. bytes_eq b.name x) group

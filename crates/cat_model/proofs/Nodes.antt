@@ -1,7 +1,9 @@
 -- Names and sorts of terms along their nodes.
-use Rattle.std.proofs.Common.{◌≡◌, ◌↔◌, ◌∙◌, arith, length, ℕ, ◌+◌, zero, suc, List, [], ◌∷◌, ◌++◌, map, Option, None, Some, ap, sym, subst, refl}
+use Rattle.std.proofs.Common.{◌≡◌, ◌<◌, ◌↔◌, ◌∙◌, arith, length, drop, get_or, inl, inr, ℕ, ◌+◌, zero, suc, List, [], ◌∷◌, ◌++◌, map, Option, None, Some, ap, sym, subst, refl}
 use Rattle.std.specs.Prelude.{reverse, MatchOption}
-use Rattle.std.proofs.lemmas.List.{append_assoc, append-nil, map-append, reverse-append}
+use Rattle.std.proofs.lemmas.List.{append_assoc, append-nil, drop_more, map-append, reverse-append}
+use Rattle.std.proofs.lemmas.List.Elements.{Contains-append_left, Contains-append_right, Contains-append_cases}
+use Rattle.std.specs.List.{Contains}
 use Rattle.cat_tree.specs.declared.node.Infix.{Infix}
 use Rattle.cat_tree.specs.declared.node.Infix.TheVariants.{Union, Sequence, Difference, Intersection, Product}
 use Rattle.cat_tree.specs.declared.node.Leaf.{Leaf}
@@ -57,6 +59,22 @@ named = by_nodes Named
 pub names_along : (ns : List Node) → postorder (term_in ns) ≡ ns → along_names ns ≡ names (term_in ns)
 names_along ns w =
     ap (λ ms. along_names ms) (sym w ∙ sym (append-nil (postorder (term_in ns)))) ∙ named (term_in ns) [] ∙ append-nil (names (term_in ns))
+
+-- what holds of the names of a node and of those behind it
+pub named_from : (P : Word → Type 0) (ns : List Node) (k : ℕ) (n : Node) → k < length ns → n ≡ get_or ns k n →
+    ((x : Word) → Contains (names_at n) x → P x) → ((x : Word) → Contains (along_names (drop (k + 1) ns)) x → P x) → (x : Word) → Contains (along_names (drop k ns)) x → P x
+named_from P ns k n l at here rest x h =
+    let e = ap (λ ms. along_names ms) (drop_more ns k n l) ∙ ap (λ m. names_at m ++ along_names (drop (k + 1) ns)) (sym at) in
+    elim (Contains-append_cases (names_at n) (along_names (drop (k + 1) ns)) x (subst (λ ws. Contains ws x) e h)) [ inl m ↦ here x m | inr r ↦ rest x r ]
+
+name_within : (ns : List Node) (k : ℕ) (n : Node) (x : Word) → k < length ns → n ≡ get_or ns k n → Contains (names_at n) x → Contains (along_names ns) x
+name_within [] k n x l at h = absurd (omega (arith, l))
+name_within (m ∷ ns) zero n x l at h = Contains-append_left (names_at m) (along_names ns) x (subst (λ z. Contains (names_at z) x) at h)
+name_within (m ∷ ns) (suc k) n x l at h = let less : k < length ns = omega (arith, l) in Contains-append_right (names_at m) (along_names ns) x (name_within ns k n x less at h)
+
+-- the name of a node is one of the term
+pub name_along : (ns : List Node) (k : ℕ) (n : Node) (x : Word) → postorder (term_in ns) ≡ ns → k < length ns → n ≡ get_or ns k n → Contains (names_at n) x → Contains (names (term_in ns)) x
+name_along ns k n x w l at h = subst (λ ws. Contains ws x) (names_along ns w) (name_within ns k n x l at h)
 
 -- denied names
 

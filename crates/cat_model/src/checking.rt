@@ -4,6 +4,7 @@ ghost use Rattle.std.specs.Prelude.{◌≡◌, ◌≢◌, ◌⊎◌, ◌↔◌, 
 ghost use Rattle.std.specs.List.{Contains, list_any};
 ghost use Rattle.std.specs.Str.{bytes_eq};
 ghost use Rattle.cat_tree.specs.Tree.{Word, Bound, Clause, term_of, bound_of, check_of, clause_of, bind as let_clause, bind_recursively, is_bound as is_bound_in};
+ghost use Rattle.cat_model.specs.Along.{names_at};
 ghost use Rattle.cat_model.specs.Closure.{IsOwn};
 ghost use Rattle.cat_model.specs.Faults.{IsBound, IsItemFault, IsFaulty, word_of};
 ghost use Rattle.cat_model.specs.Scopes.{Bind, recursive, IsMonotone, IsTestable, Follows, IsModel};
@@ -15,42 +16,46 @@ ghost use Rattle.cat_model.specs.declared.sort.Sort.TheVariants.{Relation};
 use crate::fault::ModelFault;
 use crate::scope::Scope;
 use crate::sort::Sort;
-use crate::typing::{denied_names, has_sort, names, sort_of};
+use crate::typing::{denied_names, has_sort, sort_of};
 use crate::words::word;
-use cat_tree::{Binding, Check, CheckKind, Expression, Item};
+use cat_tree::{Binding, Check, CheckKind, Expression, Item, Leaf, Node};
 use std::alloc::{AllocError, Global};
 use wb_text::Name;
 
+/// Whether the name of a node is bound, if it is one.
+fn require_node_bound<'a>(scope: &Scope<'a>, node: &Node) -> Result<(), ModelFault>
+    ensures ok { OnOk result ((x : Word) → Contains (names_at node.now) x → sort_of_name scope.now x ≢ None) }
+    ensures err { IfErr result (λ e. (e ≡ NoMemory) ⊎ ((x : Word) × (e ≡ Unbound x) × Contains (names_at node.now) x × (sort_of_name scope.now x ≡ None))) }
+{
+    match node {
+        Node::Leaf(Leaf::Name(name)) => {
+            if scope.sort_of(name).is_none() {
+                return Err(ModelFault::Unbound(name.copy()?));
+            }
+            Ok(())
+        }
+        _ => Ok(()),
+    }
+}
+
 /// Whether each name of an expression is bound.
-fn require_bound<'a>(
-    alloc: Global,
-    scope: &Scope<'a>,
-    expression: &Expression,
-) -> Result<(), ModelFault>
+fn require_bound<'a>(scope: &Scope<'a>, expression: &Expression) -> Result<(), ModelFault>
     ensures ok { OnOk result (IsBound scope.now (term_of expression.now)) }
     ensures err { IfErr result (λ e. (e ≡ NoMemory) ⊎ ((x : Word) × (e ≡ Unbound x) × Contains (names_in (term_of expression.now)) x × (sort_of_name scope.now x ≡ None))) }
 {
-    let mut found = Vec::new(alloc);
-    names(expression, &mut found)?;
-    for name in &found {
-        if scope.sort_of(name).is_none() {
-            return Err(ModelFault::Unbound(name.copy()?));
-        }
+    for node in &expression.nodes {
+        require_node_bound(scope, node)?;
     }
     Ok(())
 }
 
 /// Whether each name of a group's expressions is bound.
-fn require_all_bound<'a>(
-    alloc: Global,
-    scope: &Scope<'a>,
-    bindings: &[Binding],
-) -> Result<(), ModelFault>
+fn require_all_bound<'a>(scope: &Scope<'a>, bindings: &[Binding]) -> Result<(), ModelFault>
     ensures ok { OnOk result (All (λ b. IsBound scope.now (term_of b.value)) bindings.now) }
     ensures err { IfErr result (λ e. (e ≡ NoMemory) ⊎ ((x : Word) × (b : Bound) × (e ≡ Unbound x) × Contains (map bound_of bindings.now) b × Contains (names_in b.value) x × (sort_of_name scope.now x ≡ None))) }
 {
     for binding in bindings {
-        require_bound(alloc, scope, &binding.value)?;
+        require_bound(scope, &binding.value)?;
     }
     Ok(())
 }
@@ -104,16 +109,11 @@ fn is_bound(bindings: &[Binding], name: &Name) -> bool
 }
 
 /// Whether no name of a group stands in an expression under a complement or right of a difference.
-fn require_no_denial(
-    alloc: Global,
-    group: &[Binding],
-    expression: &Expression,
-) -> Result<(), ModelFault>
+fn require_no_denial(group: &[Binding], expression: &Expression) -> Result<(), ModelFault>
     ensures ok { OnOk result (All (λ x. is_bound_in (map bound_of group.now) x ≡ false) (denied_in (term_of expression.now))) }
     ensures err { IfErr result (λ e. (e ≡ NoMemory) ⊎ ((x : Word) × (e ≡ NotMonotone x) × Contains (denied_in (term_of expression.now)) x × (is_bound_in (map bound_of group.now) x ≡ true))) }
 {
-    let mut found = Vec::new(alloc);
-    denied_names(expression, &mut found)?;
+    let found = denied_names(expression)?;
     for name in &found {
         if is_bound(group, name) {
             return Err(ModelFault::NotMonotone(name.copy()?));
@@ -123,12 +123,12 @@ fn require_no_denial(
 }
 
 /// Whether a group is monotone in its own names.
-fn require_monotone(alloc: Global, group: &[Binding]) -> Result<(), ModelFault>
+fn require_monotone(group: &[Binding]) -> Result<(), ModelFault>
     ensures ok { OnOk result (IsMonotone (map bound_of group.now)) }
     ensures err { IfErr result (λ e. (e ≡ NoMemory) ⊎ ((x : Word) × (b : Bound) × (e ≡ NotMonotone x) × Contains (map bound_of group.now) b × Contains (denied_in b.value) x × (is_bound_in (map bound_of group.now) x ≡ true))) }
 {
     for binding in group {
-        require_no_denial(alloc, group, &binding.value)?;
+        require_no_denial(group, &binding.value)?;
     }
     Ok(())
 }
@@ -167,7 +167,7 @@ fn follow_check<'a>(alloc: Global, scope: &Scope<'a>, check: &Check) -> Result<(
     if check.flag && check.name.is_none() {
         return Err(ModelFault::FlagWithoutName);
     }
-    require_bound(alloc, scope, &check.expression)?;
+    require_bound(scope, &check.expression)?;
     if !is_testable(scope, check.kind, &check.expression)? {
         return Err(ModelFault::WrongSort(word(alloc, spelling(check.kind))?));
     }
@@ -175,31 +175,23 @@ fn follow_check<'a>(alloc: Global, scope: &Scope<'a>, check: &Check) -> Result<(
 }
 
 /// The scope behind `let`.
-fn follow_let<'a>(
-    alloc: Global,
-    scope: Scope<'a>,
-    bindings: &'a [Binding],
-) -> Result<Scope<'a>, ModelFault>
+fn follow_let<'a>(scope: Scope<'a>, bindings: &'a [Binding]) -> Result<Scope<'a>, ModelFault>
     ensures ok { IfOk result (λ t. Follows scope.entry (let_clause (map bound_of bindings.now)) t) }
     ensures err { IfErr result (λ e. (e ≡ NoMemory) ⊎ IsItemFault e scope.entry (let_clause (map bound_of bindings.now))) }
 {
-    require_all_bound(alloc, &scope, bindings)?;
+    require_all_bound(&scope, bindings)?;
     bound(&scope, bindings)
 }
 
 /// The scope behind `let rec`.
-fn follow_recursion<'a>(
-    alloc: Global,
-    scope: Scope<'a>,
-    bindings: &'a [Binding],
-) -> Result<Scope<'a>, ModelFault>
+fn follow_recursion<'a>(scope: Scope<'a>, bindings: &'a [Binding]) -> Result<Scope<'a>, ModelFault>
     ensures ok { IfOk result (λ t. Follows scope.entry (bind_recursively (map bound_of bindings.now)) t) }
     ensures err { IfErr result (λ e. (e ≡ NoMemory) ⊎ IsItemFault e scope.entry (bind_recursively (map bound_of bindings.now))) }
 {
     let inner = with_relations(scope, bindings)?;
-    require_all_bound(alloc, &inner, bindings)?;
+    require_all_bound(&inner, bindings)?;
     require_relations(&inner, bindings)?;
-    require_monotone(alloc, bindings)?;
+    require_monotone(bindings)?;
     Ok(inner)
 }
 
@@ -210,8 +202,8 @@ fn follow<'a>(alloc: Global, scope: Scope<'a>, item: &'a Item) -> Result<Scope<'
     ensures err { IfErr result (λ e. (e ≡ NoMemory) ⊎ IsItemFault e scope.entry (clause_of item.now)) }
 {
     match item {
-        Item::Let(bindings) => follow_let(alloc, scope, bindings),
-        Item::LetRec(bindings) => follow_recursion(alloc, scope, bindings),
+        Item::Let(bindings) => follow_let(scope, bindings),
+        Item::LetRec(bindings) => follow_recursion(scope, bindings),
         Item::Check(check) => {
             follow_check(alloc, &scope, check)?;
             Ok(scope)

@@ -195,6 +195,7 @@ fn add(alloc: Global, lines: &[Line], items: &mut Vec<Item>) -> Result<(), Alloc
     Ok(())
 }
 
+/// Adds the items of the orders.
 #[tactic(auto, unfolding(crate::specs::Rc11::rc11))]
 fn add_orders(alloc: Global, items: &mut Vec<Item>) -> Result<(), AllocError>
     ensures { OnOk result (map clause_of items.new.items ≡ map clause_of items.old.items ++ take 8 rc11_tree.items) }
@@ -202,6 +203,7 @@ fn add_orders(alloc: Global, items: &mut Vec<Item>) -> Result<(), AllocError>
     add(alloc, &ORDERS, items)
 }
 
+/// Adds the items of the checks.
 #[tactic(auto, unfolding(crate::specs::Rc11::rc11))]
 fn add_checks(alloc: Global, items: &mut Vec<Item>) -> Result<(), AllocError>
     ensures { OnOk result (map clause_of items.new.items ≡ map clause_of items.old.items ++ drop 8 rc11_tree.items) }

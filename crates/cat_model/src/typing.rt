@@ -1,10 +1,10 @@
-//! Names and sorts of expressions. Nothing here recurses: loops go over the nodes.
+//! Denied names and sorts of expressions. Nothing here recurses: loops go over the nodes.
 
-ghost use Rattle.std.specs.Prelude.{◌≡◌, ◌++◌, ◌+◌, ◌≤◌, Some, map, reverse, IfOk, OnOk, MatchOption, IsTrue, ◌↔◌};
+ghost use Rattle.std.specs.Prelude.{◌≡◌, ◌+◌, ◌≤◌, Some, map, reverse, IfOk, OnOk, MatchOption, IsTrue, ◌↔◌};
 ghost use Rattle.cat_tree.specs.Terms.{latest as latest_of, earlier};
 ghost use Rattle.cat_tree.specs.Tree.{term_of, bound_of};
-ghost use Rattle.cat_model.specs.Along.{names_at, denied_by, sort_of_leaf, sort_applied, sort_joined, sorts_left_by};
-ghost use Rattle.cat_model.specs.Sorts.{HasSort, names as names_in, denied_names as denied_in};
+ghost use Rattle.cat_model.specs.Along.{denied_by, sort_of_leaf, sort_applied, sort_joined, sorts_left_by};
+ghost use Rattle.cat_model.specs.Sorts.{HasSort, denied_names as denied_in};
 ghost use Rattle.cat_model.specs.declared.sort.Sort.{Sort as Kind};
 ghost use Rattle.cat_model.specs.declared.sort.Sort.TheVariants.{Set as OfEvents};
 
@@ -13,29 +13,6 @@ use crate::sort::Sort;
 use cat_tree::{Expression, Infix, Leaf, Node, Sign};
 use std::alloc::AllocError;
 use wb_text::Name;
-
-/// Adds the name of a node, if it is one.
-fn name_of<'a>(node: &'a Node, found: &mut Vec<&'a Name>) -> Result<(), AllocError>
-    ensures { OnOk result (map (λ x. x.now) found.new.items ≡ map (λ x. x.now) found.old.items ++ names_at node.now) }
-{
-    match node {
-        Node::Leaf(Leaf::Name(name)) => {
-            found.push(name)?;
-            Ok(())
-        }
-        _ => Ok(()),
-    }
-}
-
-/// Adds the names of an expression, from left to right.
-pub fn names<'a>(expression: &'a Expression, found: &mut Vec<&'a Name>) -> Result<(), AllocError>
-    ensures { OnOk result (map (λ x. x.now) found.new.items ≡ map (λ x. x.now) found.old.items ++ names_in (term_of expression.now)) }
-{
-    for node in &expression.nodes {
-        name_of(node, found)?;
-    }
-    Ok(())
-}
 
 /// How many operands of what is denied are still to come before a node, and the names of those that came.
 fn deny<'a>(node: &'a Node, pending: usize, found: &mut Vec<&'a Name>) -> Result<usize, AllocError>
@@ -68,9 +45,9 @@ fn deny<'a>(node: &'a Node, pending: usize, found: &mut Vec<&'a Name>) -> Result
     }
 }
 
-/// The names that stand under a complement or to the right of a difference, from right to left.
-fn denied_backwards<'a>(expression: &'a Expression) -> Result<Vec<&'a Name>, AllocError>
-    ensures { IfOk result (λ v. reverse (map (λ x. x.now) v.items) ≡ denied_in (term_of expression.now)) }
+/// The names that stand under a complement or to the right of a difference, from left to right. They are found from right to left.
+pub fn denied_names<'a>(expression: &'a Expression) -> Result<Vec<&'a Name>, AllocError>
+    ensures { IfOk result (λ v. map (λ x. x.now) v.items ≡ denied_in (term_of expression.now)) }
 {
     let mut found = Vec::new(*expression.nodes.allocator());
     let mut pending = 0;
@@ -79,20 +56,8 @@ fn denied_backwards<'a>(expression: &'a Expression) -> Result<Vec<&'a Name>, All
         pending = deny(last, pending, &mut found)?;
         nodes = before;
     }
+    found.reverse();
     Ok(found)
-}
-
-/// Adds the names that stand under a complement or to the right of a difference, from left to right.
-pub fn denied_names<'a>(
-    expression: &'a Expression,
-    found: &mut Vec<&'a Name>,
-) -> Result<(), AllocError>
-    ensures { OnOk result (map (λ x. x.now) found.new.items ≡ map (λ x. x.now) found.old.items ++ denied_in (term_of expression.now)) }
-{
-    let mut denied = denied_backwards(expression)?;
-    denied.reverse();
-    found.append(&mut denied)?;
-    Ok(())
 }
 
 /// The sort of a leaf, if it has one.

@@ -4,12 +4,12 @@ use Rattle.cat_tree.specs.Tree.{Word, term_of, bound_of, is_bound}
 use Rattle.cat_model.specs.Sorts.{denied_names}
 use Rattle.cat_model.specs.declared.fault.ModelFault.TheVariants.{NotMonotone}
 use Rattle.std.specs.List.{Contains}
-use Rattle.cat_model.proofs.Listed.{all_more_map, all_end_map, contains_at, gathered, told, bound_any}
+use Rattle.cat_model.proofs.Listed.{all_more_map, all_end_map, contains_at, told, bound_any}
 use Rattle.cat_model.proofs.checking.require_no_denial.Goals as goal
 
 pub returns-then-is_bound-clause-err : goal.returns-then-is_bound-clause-err
 returns-then-is_bound-clause-err c =
-    let same : told c.deref-name-items.result.now ≡ denied_names (term_of c.args.expression.now) = gathered c.deref-name-items.result.now c.denied_names.new.found.items c.new-found.result.items (denied_names (term_of c.args.expression.now)) c.deref-name-items.ensures.value c.in_ok-denied_names.ensures c.new-found.ensures.items in
+    let same : told c.deref-name-items.result.now ≡ denied_names (term_of c.args.expression.now) = ap (λ xs. told xs) c.deref-name-items.ensures.value ∙ c.in_ok-found.ensures in
     inr (
       c.name-item.result.now,
       ap NotMonotone c.in_ok-copy.ensures,
@@ -24,6 +24,6 @@ loop-name-preserved c =
 
 pub returns-clause-ok : goal.returns-clause-ok
 returns-clause-ok c =
-    let same : told c.deref-name-items.result.now ≡ denied_names (term_of c.args.expression.now) = gathered c.deref-name-items.result.now c.denied_names.new.found.items c.new-found.result.items (denied_names (term_of c.args.expression.now)) c.deref-name-items.ensures.value c.in_ok-denied_names.ensures c.new-found.ensures.items in
+    let same : told c.deref-name-items.result.now ≡ denied_names (term_of c.args.expression.now) = ap (λ xs. told xs) c.deref-name-items.ensures.value ∙ c.in_ok-found.ensures in
     let P = λ (x : Word). is_bound (map bound_of c.args.group.now) x ≡ false in
     subst (All P) same (all_end_map (λ x. x.now) P c.deref-name-items.result.now c.loop-name.name-index c.loop-name-test.false c.loop-name.invariant)

@@ -1,7 +1,7 @@
 use Rattle.std.proofs.Common.{◌≡◌, ◌+◌, ◌≤◌, [], length, map}
 use Rattle.std.specs.Prelude.{reverse}
 use Rattle.cat_model.specs.Along.{denied_along}
-use Rattle.cat_model.proofs.typing.denied_backwards.Given as goal
+use Rattle.cat_model.proofs.typing.denied_names.Given as goal
 
 -- the nodes that are left, on what is found so far, give what all give
 abbrev pub invariant-loop-last : goal.invariant-loop-last
