@@ -4,24 +4,30 @@ ghost use Rattle.std.specs.Prelude.{◌≡◌};
 ghost use Rattle.cat_model.specs.Labels.{model_label};
 
 use std::alloc::{AllocError, AllocFailed};
-use std::error::Error;
-use std::fmt;
+use thiserror::Error;
 use wb_text::Name;
 
 /// Why files give no model. The numbers are those of the printed refusals.
-#[derive(Debug, Drop, PartialEq, Eq)]
+#[derive(Debug, Drop, PartialEq, Eq, Error)]
+#[error("{}", self.label())]
 pub enum ModelFault {
     /// The root is no file.
+    #[error("{label} {0}", label = self.label())]
     NoCat(Name),
     /// An included name is no file.
+    #[error("{label} {0}", label = self.label())]
     NoInclude(Name),
     /// A file that is included on its own path.
+    #[error("{label} {0}", label = self.label())]
     IncludeCycle(Name),
     /// A name that is neither bound earlier nor beforehand.
+    #[error("{label} {0}", label = self.label())]
     Unbound(Name),
     /// What is bound to this name, or what this check tests, is of the wrong sort.
+    #[error("{label} {0}", label = self.label())]
     WrongSort(Name),
     /// A name of a recursive group that stands in the group under a complement or right of a difference.
+    #[error("{label} {0}", label = self.label())]
     NotMonotone(Name),
     FlagWithoutName,
     /// More than 4,096 items, or more than 16 files on a path.
@@ -47,33 +53,6 @@ impl ModelFault {
         }
     }
 }
-
-impl ModelFault {
-    /// The name that a printed refusal has for this fault, if it has one.
-    fn name(&self) -> Option<&Name> {
-        match self {
-            ModelFault::NoCat(name) => Some(name),
-            ModelFault::NoInclude(name) => Some(name),
-            ModelFault::IncludeCycle(name) => Some(name),
-            ModelFault::Unbound(name) => Some(name),
-            ModelFault::WrongSort(name) => Some(name),
-            ModelFault::NotMonotone(name) => Some(name),
-            _ => None,
-        }
-    }
-}
-
-impl fmt::Display for ModelFault {
-    fn fmt<W: fmt::Write>(&self, f: &mut fmt::Formatter<W>) -> fmt::Result {
-        f.write_str(self.label())?;
-        match self.name() {
-            Some(name) => write!(f, " {name}"),
-            None => Ok(()),
-        }
-    }
-}
-
-impl Error for ModelFault {}
 
 impl From<AllocError> for ModelFault {
     ghost use Rattle.cat_model.specs.declared.fault.ModelFault.TheVariants.{NoMemory};

@@ -63,10 +63,19 @@ impl BuiltIn {
 
 /// Names in order of first put, each with its version and its file or none, over the built-in files `rc11.cat`,
 /// `stdlib.cat`, `cos.cat` and `c11_cos.cat`. A loaded file hides a built-in one of its name.
-#[derive(Drop)]
 pub struct Files {
     slots: IndexMap<Name, Slot>,
     built_in: BuiltIn,
+}
+
+// A function of its own: whoever holds one drops it by a call.
+impl Drop for Files {
+    fn drop(self) {
+        let Files {
+            slots: _,
+            built_in: _,
+        } = self;
+    }
 }
 
 impl Model for Files {

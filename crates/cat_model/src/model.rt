@@ -40,10 +40,16 @@ impl Eq for FileVersion {
 
 /// The items of a model with all includes in place, and the files that they come from. Its type keeps that each item
 /// is well sorted in the scope of the earlier ones, that recursive bindings are monotone, and that flags have names.
-#[derive(Drop)]
 pub struct Model {
     items: Vec<Item>,
     files: Vec<FileVersion>,
+}
+
+// A function of its own: whoever holds one drops it by a call.
+impl Drop for Model {
+    fn drop(self) {
+        let Model { items: _, files: _ } = self;
+    }
 }
 
 impl std::marker::Model for Model {
