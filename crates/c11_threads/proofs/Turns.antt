@@ -1,5 +1,5 @@
 -- Ways that are taken part by part.
-use Rattle.std.proofs.Common.{◌≡◌, ℕ, suc, ◌+◌, ◌≤◌, ◌<◌, List, [], ◌∷◌, ◌++◌, length, map, get_or, drop, drop-cons, add-one, refl, sym, ◌∙◌, ap, arith, append_assoc, append-nil, Option, None, Some, Bool, true, false, if◌then◌else◌, length-append, Vec, ◌-◌}
+use Rattle.std.proofs.Common.{◌≡◌, ℕ, suc, ◌+◌, ◌≤◌, ◌<◌, List, [], ◌∷◌, ◌++◌, length, map, get_or, drop, drop-cons, add-one, refl, sym, ◌∙◌, ap, arith, append-nil, Option, None, Some, Bool, true, false, if◌then◌else◌, length-append, Vec, ◌-◌}
 use Rattle.std.specs.Prelude.{◌&&◌}
 use Rattle.std.proofs.lemmas.Bool.{false≢true}
 use Rattle.std.proofs.lemmas.List.{drop_all, length-map, length-drop}
@@ -22,6 +22,7 @@ use Rattle.c11_threads.specs.Contents.{place_of}
 use Rattle.c11_threads.specs.Idle.{is_idle, are_idle}
 use Rattle.c11_threads.specs.Runs.{Progress}
 use Rattle.c11_threads.specs.Unrolled.{Setting, giving, given_at, call_runs, right_runs, declare_runs, declares_runs, under, holds, step_runs, steps_runs}
+use Rattle.c11_threads.proofs.Filling.{joined_on}
 use Rattle.c11_threads.proofs.RunLists.{some_flat_map}
 
 abbrev pub Ways : Type 0
@@ -136,21 +137,11 @@ mutual
   some_steps no_steps s v c p = omega arith
   some_steps (in_turn a rest) s v c p = omega (arith, some_step a s v c p, some_flat_map (steps_runs rest s c) (step_runs a s c p) (some_steps rest s v c))
 
--- From each of the ways in turn: one is taken, and the rest are left.
-
-pub next_way : (f : Ways) (left rest : List Progress) (from : Progress) (done all : List Progress) → left ≡ from ∷ rest → done ++ flat_map f left ≡ all → (done ++ f from) ++ flat_map f rest ≡ all
-next_way f left rest from done all is whole =
-    append_assoc done (f from) (flat_map f rest) ∙ ap (λ (ps : List Progress). done ++ flat_map f ps) (sym is) ∙ whole
-
-pub last_way : (f : Ways) (left done all : List Progress) → length left ≡ 0 → done ++ flat_map f left ≡ all → done ≡ all
-last_way f [] done all none whole = sym (append-nil done) ∙ whole
-last_way f (p ∷ left) done all none whole = absurd (omega (arith, none))
-
 -- Each way that is left has an end.
 pub way_fault : (f : Ways) → ((p : Progress) → 1 ≤ length (f p)) → (k room most waiting : ℕ) (left rest : List Progress) (from : Progress) (done all : List Progress) (e : RunFault) → left ≡ from ∷ rest → done ++ flat_map f left ≡ all →
     waiting ≡ length rest → room + waiting ≡ most → IsFaultAt k room (length done + length (f from)) e → IsFaultAt k most (length all) e
 way_fault f some k room most waiting left rest from done all e is whole w r h =
-    let x = next_way f left rest from done all is whole in
+    let x = joined_on f left rest from done (done ++ f from) all is refl whole in
     still_fault k room most (length done + length (f from)) (length all) e
     (omega (arith, ap (λ (ps : List Progress). length ps) x, length-append (done ++ f from) (flat_map f rest), length-append done (f from), some_flat_map f rest some, w, r)) h
 
