@@ -162,7 +162,8 @@ impl<'a> Reader<'a> {
     fn open(&mut self, nesting: u32) -> Result<u32, SyntaxFault>
         ensures { Gives (λ n. n) result self.new.rest.now (open_at nesting self.old.rest.now) }
     {
-        self.expect(Terminal::LeftParen).and(self.deeper(nesting))
+        self.expect(Terminal::LeftParen)?;
+        self.deeper(nesting)
     }
 
     /// location := name | "[" name "]"
