@@ -1,16 +1,18 @@
 -- Products and sums grow: once one is above the limit, it stays above.
 use Rattle.std.proofs.Common.{◌≡◌, ℕ, zero, suc, ◌+◌, ◌-◌, ◌*◌, ◌/◌, ◌%◌, ◌^◌, Option, None, Some, ◌<◌, ◌≤◌, List, [], ◌∷◌, ◌++◌, append_assoc, length, drop, get_or, drop-cons, add-one, refl, sym, ◌∙◌, ap, subst, inl, inr, arith}
-use Rattle.std.proofs.Math.Nat.{mul-le-mul_left, mul_assoc, mul_comm, mul-one, pow-suc, one-le-pow}
+use Rattle.std.proofs.Math.Nat.{mul-le-mul_left, mul_assoc, mul_comm, pow-suc, one-le-pow}
 use Rattle.std.proofs.lemmas.Nat.{pow-add}
 use Rattle.std.proofs.lemmas.Bool.{cases_lt}
 use Rattle.std.proofs.lemmas.List.{drop_all}
 use Rattle.std.specs.Option.{IsSome}
 use Rattle.events.specs.declared.event.Event.{Event}
+use Rattle.events.specs.declared.event.EventId.{EventId}
 use Rattle.events.specs.Executions.{ThreadRun}
 use Rattle.listings.specs.Lists.{factorial, product_by, tabulate}
 use Rattle.listings.specs.Numbered.{digits}
 use Rattle.candidates.specs.Executions.{later_writes, upto, reads, block}
 use Rattle.candidates.specs.Candidates.{count_sources, count_orders, IsCapped}
+use Rattle.candidates.specs.Readings.{sources_among, orders_among}
 
 pub factor_le : (a b : ℕ) → 1 ≤ b → a ≤ a * b
 factor_le a b l = omega (arith, mul-le-mul_left a l)
@@ -93,15 +95,6 @@ sources_positive runs r = omega arith
 pub orders_positive : (runs : List ThreadRun) (x : ℕ) → 1 ≤ count_orders runs x
 orders_positive runs x = factorial_positive (length (later_writes runs x))
 
-pub kept_positive : (p n q : ℕ) → 1 ≤ p → 1 ≤ n → q ≡ p * n → 1 ≤ q
-kept_positive p n q k l e = let f : p ≤ p * n = factor_le p n l in omega (arith, e, f, k)
-
-pub whole : (size : ℕ → ℕ) (n i p : ℕ) → n ≤ i → p * product_by size (drop i (upto n)) ≡ product_by size (upto n) → p ≡ product_by size (upto n)
-whole size n i p l e =
-    let h : length (upto n) ≤ i = rw (length_tabulate n (λ k. k)) l in
-    let f : drop i (upto n) ≡ [] = drop_all i (upto n) h in
-    sym (mul-one p) ∙ ap (λ (rest : List ℕ). p * product_by size rest) (sym f) ∙ e
-
 pub capped_some : (limit n : ℕ) (o : Option ℕ) → IsCapped limit n o → n ≤ limit → (m : ℕ) × (o ≡ Some m) × (m ≡ n)
 capped_some limit n None c l = absurd (omega (arith, c, l))
 capped_some limit n (Some m) c l = (m, refl, c.0)
@@ -178,3 +171,9 @@ pub passes_power : (limit p b k n : ℕ) → p ≡ b ^ k → limit < p * b → k
 passes_power limit p b k n e l h one =
     let f : p * b ≡ b ^ (k + 1) = ap (λ q. q * b) e ∙ power_step b k in
     omega (arith, f, l, power_le b (k + 1) n one (omega (arith, h)))
+
+pub some_order : (later : List EventId) → 1 ≤ orders_among later
+some_order later = factorial_positive (length later)
+
+pub some_source : (writes : List (List EventId)) (r : Event) → 1 ≤ sources_among writes r
+some_source writes r = omega arith

@@ -32,10 +32,10 @@ named init runs (Own k p) x v l h =
 each : {X : Type 0} (P : X → Type 0) (xs : List X) → ((x : X) → IsIn x xs → P x) → All P xs
 each P xs h k d l = h _ (in_get_or xs k d l)
 
-filter_yes : (e : Event) (es : List Event) → is_read e.access ≡ true → e ∷ filter (λ e. is_read e.access) es ≡ filter (λ e. is_read e.access) (e ∷ es)
+pub filter_yes : (e : Event) (es : List Event) → is_read e.access ≡ true → e ∷ filter (λ e. is_read e.access) es ≡ filter (λ e. is_read e.access) (e ∷ es)
 filter_yes e es h = rw h refl
 
-filter_no : (e : Event) (es : List Event) → is_read e.access ≡ false → filter (λ e. is_read e.access) es ≡ filter (λ e. is_read e.access) (e ∷ es)
+pub filter_no : (e : Event) (es : List Event) → is_read e.access ≡ false → filter (λ e. is_read e.access) es ≡ filter (λ e. is_read e.access) (e ∷ es)
 filter_no e es h = rw h refl
 
 abbrev pub IsAt : ℕ → Event → Type 0

@@ -4,6 +4,7 @@ pub mod ByLocation
 pub mod Caps
 pub mod Descent
 pub mod Excluded
+pub mod Gathered
 pub mod Graphs
 pub mod Grouping
 pub mod Law

@@ -1,15 +1,17 @@
 -- The later writes of each location, in a list.
-use Rattle.std.proofs.Common.{◌≡◌, ℕ, zero, suc, ◌+◌, ◌<◌, ◌≤◌, ◌/◌, ◌%◌, List, [], ◌∷◌, ◌++◌, length, map, get_or, drop, append_assoc, append-nil, refl, sym, ◌∙◌, ap, subst, arith}
-use Rattle.std.proofs.lemmas.List.{drop_all, length-map}
+use Rattle.std.proofs.Common.{◌≡◌, ℕ, zero, suc, ◌+◌, ◌*◌, ◌<◌, ◌≤◌, ◌/◌, ◌%◌, List, [], ◌∷◌, ◌++◌, length, map, get_or, drop, append_assoc, append-nil, refl, sym, ◌∙◌, ap, subst, arith}
+use Rattle.std.proofs.lemmas.List.{drop_all, get_or_default, length-map}
+use Rattle.std.proofs.lemmas.List.Elements.{All-head, All-tail}
 use Rattle.std.specs.List.{All}
 use Rattle.events.specs.declared.event.Event.{Event}
 use Rattle.events.specs.declared.event.EventId.{EventId}
 use Rattle.events.specs.declared.event.EventId.TheVariants.{Initial}
 use Rattle.events.specs.Executions.{ThreadRun}
+use Rattle.listings.specs.Lists.{product_by}
 use Rattle.candidates.specs.Executions.{later_writes, reads, upto}
-use Rattle.candidates.specs.Candidates.{count_sources, source_at}
+use Rattle.candidates.specs.Candidates.{count_co, count_orders, count_sources, source_at}
 use Rattle.candidates.specs.Bounds.{AreWithin}
-use Rattle.candidates.specs.Readings.{IsPage}
+use Rattle.candidates.specs.Readings.{IsPage, orders_among, sources_among}
 use Rattle.candidates.specs.declared.page.Page.{Page}
 use Rattle.candidates.proofs.Caps.{drop_upto, length_tabulate, get_or_tabulate, below_upto}
 use Rattle.candidates.proofs.Graphs.{IsAt, reads_at_locations}
@@ -67,3 +69,36 @@ by_writes n p h =
     let e : length p.writes.items ≡ n = ap (λ (ls : List (List EventId)). length ls) h.writes_are ∙ length-map (upto n) (later_writes p.runs.items) ∙ length_tabulate n (λ i. i) in
     let P : ℕ → Type 0 = λ m. IsPage m p in
     subst P (sym e) h
+
+-- A read may read from one write more than its location has later ones.
+pub sources_there : (writes : List (List EventId)) (rs : List Event) (i : ℕ) (r : Event) (listed later : List EventId) → All (λ r. r.loc < length writes) rs → i < length rs → r ≡ get_or rs i r → listed ≡ get_or writes r.loc listed → later ≡ listed → length later + 1 ≡ sources_among writes (get_or rs i r)
+sources_there writes rs i r listed later w l is at e =
+    let P : Event → Type 0 = λ r. r.loc < length writes in
+    let m : r.loc < length writes = subst P (sym is) (w i r l) in
+    let d = ap (λ (ws : List EventId). length ws) (e ∙ at ∙ get_or_default writes r.loc listed [] m) in
+    let f : length later + 1 ≡ sources_among writes r = omega (arith, d) in
+    f ∙ ap (sources_among writes) is
+
+-- The lists stand for all locations of the reads, and count the ways to read and the orders of the runs.
+pub reads_listed : (n : ℕ) (runs : List ThreadRun) (rs : List Event) (writes : List (List EventId)) → AreWithin n runs → rs ≡ reads runs → writes ≡ map (later_writes runs) (upto n) → All (λ r. r.loc < length writes) rs
+reads_listed n runs rs writes w e f =
+    let many : n ≡ length writes = sym (ap (λ (ls : List (List EventId)). length ls) f ∙ length-map (upto n) (later_writes runs) ∙ length_tabulate n (λ i. i)) in
+    let P : List Event → Type 0 = All (IsAt n) in
+    let Q : ℕ → Type 0 = λ m. All (IsAt m) rs in
+    subst Q many (subst P (sym e) (reads_at_locations n runs w.places))
+
+each_source : (n : ℕ) (runs : List ThreadRun) (rs : List Event) (writes : List (List EventId)) → writes ≡ map (later_writes runs) (upto n) → All (IsAt n) rs → product_by (sources_among writes) rs ≡ product_by (count_sources runs) rs
+each_source n runs [] writes f h = refl
+each_source n runs (r ∷ rs) writes f h =
+    ap (λ (later : List EventId). suc (length later) * product_by (sources_among writes) rs) (written_at runs n r.loc writes f (All-head (IsAt n) r rs h)).1
+    ∙ ap (λ k. count_sources runs r * k) (each_source n runs rs writes f (All-tail (IsAt n) r rs h))
+
+pub ways_listed : (n : ℕ) (runs : List ThreadRun) (rs : List Event) (writes : List (List EventId)) → AreWithin n runs → rs ≡ reads runs → writes ≡ map (later_writes runs) (upto n) → product_by (sources_among writes) rs ≡ product_by (count_sources runs) (reads runs)
+ways_listed n runs rs writes w e f = ap (product_by (sources_among writes)) e ∙ each_source n runs (reads runs) writes f (reads_at_locations n runs w.places)
+
+each_order : (runs : List ThreadRun) (xs : List ℕ) → product_by orders_among (map (later_writes runs) xs) ≡ product_by (count_orders runs) xs
+each_order runs [] = refl
+each_order runs (x ∷ xs) = ap (λ k. count_orders runs x * k) (each_order runs xs)
+
+pub orders_listed : (n : ℕ) (runs : List ThreadRun) (writes : List (List EventId)) → writes ≡ map (later_writes runs) (upto n) → product_by orders_among writes ≡ count_co n runs
+orders_listed n runs writes f = ap (product_by orders_among) f ∙ each_order runs (upto n)

@@ -1,10 +1,8 @@
 -- What a loop over a walk has found.
-use Rattle.std.proofs.Common.{◌≡◌, ℕ, zero, suc, ◌+◌, ◌-◌, ◌<◌, ◌≤◌, List, [], ◌∷◌, ◌++◌, Option, None, Some, append-nil, refl, ◌∙◌, ap, arith}
+use Rattle.std.proofs.Common.{◌≡◌, ℕ, zero, suc, ◌+◌, ◌-◌, ◌<◌, ◌≤◌, List, [], ◌∷◌, ◌++◌, Option, None, Some, append-nil, ◌∙◌, ap, arith}
 use Rattle.events.specs.Executions.{GraphValue}
-use Rattle.candidates.specs.Candidates.{Choices, candidate, graph_at, found, some_of}
-use Rattle.candidates.specs.declared.page.Stretch.{Stretch}
-use Rattle.candidates.specs.Walks.{Walking, NoneFrom, IsFind, IsHit, IsMiss}
-use Rattle.candidates.proofs.Stretches.{found_here}
+use Rattle.candidates.specs.Candidates.{Choices, graph_at, found, some_of}
+use Rattle.candidates.specs.Walks.{Walking, NoneFrom, IsHit, IsMiss}
 
 -- what stands at the numbers of a space from a to before b
 abbrev pub found_from : Choices → ℕ → ℕ → List GraphValue
@@ -43,20 +41,3 @@ found_on from v w n l h =
 -- At the end of a walk all has been found.
 pub found_at : (from : ℕ) (v w : Walking) → from ≤ v.next → IsMiss v w → found_from v.space from v.to ≡ found_from v.space from v.next
 found_at from v w l h = pass_from v.space from v.next v.to l h.order h.none
-
--- What has been found is a hit or a miss of the walk.
-pub hit_of : (s : Choices) (b : Stretch) (from to n : ℕ) (before x : GraphValue) → IsFind s b from to (Some n) → x ≡ candidate s.init b.page.runs.items (n - b.first) → IsHit (let v : Walking = record { space = s; next = from; to = to; shown = before } in v) (let w : Walking = record { space = s; next = n + 1; to = to; shown = x } in w) n
-hit_of s b from to n before x f is = record {
-  step = record { space = refl; to = refl; next = refl };
-  later = f.0;
-  below = f.1;
-  none = f.2;
-  at = found_here s n b x f.3 is;
-}
-
-pub miss_of : (s : Choices) (b : Stretch) (from to : ℕ) (before shown : GraphValue) → from ≤ to → shown ≡ before → IsFind s b from to None → IsMiss (let v : Walking = record { space = s; next = from; to = to; shown = before } in v) (let w : Walking = record { space = s; next = to; to = to; shown = shown } in w)
-miss_of s b from to before shown l is f = record {
-  step = record { space = refl; to = refl; next = refl };
-  order = l;
-  none = f;
-}

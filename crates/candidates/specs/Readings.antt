@@ -1,9 +1,9 @@
 -- What is found at a number of some runs: that its candidate is an execution, or up to which number none is.
-use Rattle.std.specs.Prelude.{◌≡◌, ℕ, ◌+◌, ◌<◌, ◌≤◌, List, length, map, true, false, Option, IfSome}
+use Rattle.std.specs.Prelude.{◌≡◌, ℕ, suc, ◌+◌, ◌<◌, ◌≤◌, List, [], length, slice_index_or, map, true, false, Option, IfSome}
 use Rattle.events.specs.declared.event.Event.{Event}
 use Rattle.events.specs.declared.event.EventId.{EventId}
 use Rattle.events.specs.Executions.{GraphValue, ThreadRun}
-use Rattle.listings.specs.Lists.{product_by}
+use Rattle.listings.specs.Lists.{factorial, product_by}
 use Rattle.candidates.specs.declared.reading.Fit.{Fit}
 use Rattle.candidates.specs.declared.reading.Fit.TheVariants as of_fit
 use Rattle.candidates.specs.declared.reading.Look.{Look}
@@ -37,6 +37,14 @@ pub record IsPage (locations : ℕ) (p : Page) : Type 0 where
   pub writes_are : p.writes.items ≡ map (later_writes p.runs.items) (upto locations)
   pub ways : p.ways ≡ product_by (count_sources p.runs.items) (reads p.runs.items)
   pub orders : p.orders ≡ count_co locations p.runs.items
+
+-- how many writes a read may read from, where these are the later writes of each location
+abbrev pub sources_among : List (List EventId) → Event → ℕ
+sources_among writes r = suc (length (slice_index_or writes r.loc []))
+
+-- how many orders of these later writes there are
+abbrev pub orders_among : List EventId → ℕ
+orders_among later = factorial (length later)
 
 -- The page is one of some locations, and the read is at one of them.
 abbrev pub IsReadOf : Page → Event → Type 0

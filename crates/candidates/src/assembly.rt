@@ -1,14 +1,13 @@
 //! The parts of the candidates with the same runs, and the candidates.
 
-ghost use Rattle.std.specs.Prelude.{◌≡◌, ◌++◌, ◌<◌, ◌≤◌, length, map, filter, IfOk, IfSome, OnOk, OnErr};
+ghost use Rattle.std.specs.Prelude.{◌≡◌, ◌++◌, ◌<◌, ◌≤◌, length, map, filter, All, IfOk, IfSome, OnOk, OnErr};
 ghost use Rattle.events.specs.Executions.{is_read};
 ghost use Rattle.listings.specs.Lists.{product_by};
 ghost use Rattle.candidates.specs.Bounds.{AreWithin};
 ghost use Rattle.candidates.specs.Executions.{writes_from, later_writes, reads, upto, block};
-ghost use Rattle.candidates.specs.Candidates.{sources, count_sources, count_orders, count_co, candidate, no_execution, write_value};
-ghost use Rattle.candidates.specs.Readings.{IsPage};
+ghost use Rattle.candidates.specs.Candidates.{count_co, candidate, no_execution, write_value};
+ghost use Rattle.candidates.specs.Readings.{IsPage, sources_among, orders_among};
 
-use crate::capped::capped_factorial;
 use crate::fault::MOST_CANDIDATES;
 use crate::ordering::{coherence, turn_orders};
 use crate::page::{Page, Writes};
@@ -57,15 +56,6 @@ fn all_writes(alloc: Global, runs: &[Run], locations: usize) -> Result<Vec<Write
     Ok(all)
 }
 
-/// All writes to a location, the initial one first.
-fn sources(alloc: Global, runs: &[Run], location: usize) -> Result<Vec<EventId>, AllocError>
-    ensures { IfOk result (λ v. v.items ≡ sources runs.now location) }
-{
-    let mut sources = vec![in alloc; EventId::Initial(location)]?;
-    sources.extend_from_slice(&later_writes(alloc, runs, location)?)?;
-    Ok(sources)
-}
-
 /// Adds the reads among the events of a thread.
 fn push_reads(reads: &mut Vec<Event>, events: &[Event]) -> Result<(), AllocError>
     ensures { OnOk result (reads.new.items ≡ reads.old.items ++ filter (λ e. is_read e.access) events.now) }
@@ -89,23 +79,17 @@ fn reads(alloc: Global, runs: &[Run]) -> Result<Vec<Event>, AllocError>
     Ok(reads)
 }
 
-/// How many writes a read may read from, whatever their values.
-fn count_sources(alloc: Global, runs: &[Run], read: &Event) -> Result<u64, AllocError>
-    ensures { IfOk result (λ n. n ≡ count_sources runs.now read.now) }
-{
-    Ok(sources(alloc, runs, read.loc)?.len() as u64)
-}
-
-/// How many ways there are for the reads to read.
-fn count_ways(alloc: Global, runs: &[Run], reads: &[Event]) -> Result<u64, AllocError>
-    requires { product_by (count_sources runs.now) reads.now ≤ MOST_CANDIDATES }
-    ensures { IfOk result (λ n. (n ≡ product_by (count_sources runs.now) reads.now) × (1 ≤ n)) }
+/// How many ways there are for the reads to read, whatever the values, where these are the later writes of each location.
+fn count_ways(reads: &[Event], writes: &[Writes]) -> u64
+    requires within { All (λ r. r.loc < length writes.now) reads.now }
+    requires most { product_by (sources_among writes.now) reads.now ≤ MOST_CANDIDATES }
+    ensures { result ≡ product_by (sources_among writes.now) reads.now }
 {
     let mut product = 1;
     for read in reads {
-        product *= count_sources(alloc, runs, read)?;
+        product *= writes[read.loc].list().len() as u64 + 1;
     }
-    Ok(product)
+    product
 }
 
 /// The value that a write writes.
@@ -124,25 +108,16 @@ pub fn write_value(init: &[u32], runs: &[Run], write: EventId) -> u32
     }
 }
 
-/// How many orders of the later writes of a location there are.
-fn count_orders(alloc: Global, runs: &[Run], location: usize) -> Result<u64, AllocError>
-    requires { count_orders runs.now location ≤ MOST_CANDIDATES }
-    ensures { IfOk result (λ n. (n ≡ count_orders runs.now location) × (1 ≤ n)) }
-{
-    let count = later_writes(alloc, runs, location)?.len();
-    Ok(capped_factorial(count).unwrap())
-}
-
-/// How many orders there are of the writes of all locations.
-fn count_all_orders(alloc: Global, runs: &[Run], locations: usize) -> Result<u64, AllocError>
-    requires { count_co locations runs.now ≤ MOST_CANDIDATES }
-    ensures { IfOk result (λ n. (n ≡ count_co locations runs.now) × (1 ≤ n)) }
+/// How many orders there are of the writes of all locations, where these are the later ones of each.
+fn count_orders(writes: &[Writes]) -> u64
+    requires { product_by orders_among writes.now ≤ MOST_CANDIDATES }
+    ensures { result ≡ product_by orders_among writes.now }
 {
     let mut product = 1;
-    for location in 0..locations {
-        product *= count_orders(alloc, runs, location)?;
+    for later in writes {
+        product *= later.orders();
     }
-    Ok(product)
+    product
 }
 
 /// The page of these runs.
@@ -153,9 +128,9 @@ pub(crate) fn open_page(alloc: Global, runs: Vec<Run>, locations: usize) -> Resu
     ensures runs { IfOk result (λ p. p.runs.items ≡ runs.items) }
 {
     let reads = reads(alloc, &runs)?;
-    let ways = count_ways(alloc, &runs, &reads)?;
     let writes = all_writes(alloc, &runs, locations)?;
-    let orders = count_all_orders(alloc, &runs, locations)?;
+    let ways = count_ways(&reads, &writes);
+    let orders = count_orders(&writes);
     Ok(Page {
         runs,
         reads,
@@ -176,10 +151,11 @@ pub(crate) fn assemble(
     requires number { number < block (length init.now) page.now.runs.items }
     ensures { IfOk result (λ g. g ≡ candidate init.now page.now.runs.items number) }
 {
-    let rf = read_from(alloc, page, &page.reads, number / page.orders)?;
-    let co = coherence(alloc, page, init.len(), number % page.orders)?;
     let values = Vec::from_slice(alloc, init)?;
-    Ok(Graph::new(values, copy_runs(alloc, &page.runs)?, rf, co))
+    let rf = read_from(alloc, page, &page.reads, number / page.orders)?;
+    let runs = copy_runs(alloc, &page.runs)?;
+    let co = coherence(alloc, page, init.len(), number % page.orders)?;
+    Ok(Graph::new(values, runs, rf, co))
 }
 
 /// The candidate of the page's runs with another number, made from the one with this number.

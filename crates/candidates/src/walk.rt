@@ -205,7 +205,6 @@ impl<'a> Walk<'a> {
     }
 
     /// Goes on to the next execution and gives its number, or to the end if there is none.
-    #[tactic(auto, using(crate::proofs::Walked::hit_of, crate::proofs::Walked::miss_of))]
     pub fn next(&mut self, alloc: Global) -> Result<Option<u64>, AllocError>
         // The number is the least at which an execution stands that the walk has not passed, and the walk shows that execution.
         ensures found { IfOk result (λ found. MatchOption found (IsMiss self.old self.new) (IsHit self.old self.new)) }

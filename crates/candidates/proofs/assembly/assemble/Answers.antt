@@ -16,8 +16,8 @@ new-requires c =
     let runs = page.runs.items in
     let number = c.args.number in
     let orders = page.orders in
-    let e = is_candidate init runs orders number c.in_ok-values.values.items c.in_ok-copy_runs.field-0.items c.in_ok-rf.rf.items c.in_ok-co.co.items
-    c.in_ok-values.ensures.items (c.in_ok-copy_runs.ensures ∙ c.deref-2.ensures.value) c.requires.page.orders
+    let e = is_candidate init runs orders number c.in_ok-values.values.items c.in_ok-runs.runs.items c.in_ok-rf.rf.items c.in_ok-co.co.items
+    c.in_ok-values.ensures.items (c.in_ok-runs.ensures ∙ c.deref-2.ensures.value) c.requires.page.orders
     (c.in_ok-rf.ensures ∙ ap (λ (rs : List Event). read_at runs rs (number / orders)) (c.deref.ensures.value ∙ c.requires.page.reads_are)) c.in_ok-co.ensures in
     let P : GraphValue → Type 0 = IsGraph in
     subst P (sym e) (is_graph init runs number c.requires.page.within c.requires.number)

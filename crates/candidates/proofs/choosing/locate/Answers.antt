@@ -1,11 +1,11 @@
 use Rattle.std.proofs.Common.{◌∙◌, ◌+◌, [], ◌∷◌, ◌++◌, List, length, drop, get_or, sym, ap, subst, refl, arith}
-use Rattle.std.proofs.lemmas.List.{drop_all}
+use Rattle.std.proofs.lemmas.List.{drop_all, get_or_default}
 use Rattle.events.specs.Executions.{ThreadRun}
 use Rattle.candidates.specs.Groups.{tally_of, sizes_of}
 use Rattle.candidates.specs.Candidates.{Choices, choices}
 use Rattle.candidates.specs.Impossible.{is_impossible}
 use Rattle.candidates.proofs.Excluded.{marks_here, passed_within, passed_over}
-use Rattle.candidates.proofs.Grouping.{length_mapped}
+use Rattle.candidates.proofs.Grouping.{length_mapped, tallies_of}
 use Rattle.candidates.proofs.Descent.{IsDown, down_first, down_at, tallies_here, tallies_after, room_on, most_on, below_on, enter, run_within, run_there, small_on, down_next, down_end}
 use Rattle.candidates.proofs.choosing.locate.Goals as goal
 
@@ -16,6 +16,28 @@ loop-thread-init c =
       down = subst P (sym c.new-runs.ensures.items) (down_first (length c.args.init.now) c.args.threads.now c.args.groups.now c.args.number c.in_ok-tally.tally c.requires.tallied c.requires.room c.requires.within c.requires.number c.in_ok-tally.ensures);
       within = omega arith;
     }
+
+pub after-behind-requires : goal.after-behind-requires
+after-behind-requires c =
+    omega (arith, c.loop-thread-test.true, ap (λ gs. length gs) c.requires.tallied, length_mapped (tallies_of (length c.args.init.now)) c.args.threads.now)
+
+pub bounds-groups-thread : goal.bounds-groups-thread
+bounds-groups-thread c =
+    omega (arith, c.loop-thread-test.true, ap (λ gs. length gs) c.requires.tallied, length_mapped (tallies_of (length c.args.init.now)) c.args.threads.now)
+
+pub bounds-runs-choice : goal.bounds-runs-choice
+bounds-runs-choice c =
+    let n = length c.args.init.now in
+    let threads = c.args.threads.now in
+    let at = c.loop-thread in
+    let l = c.loop-thread-test.true in
+    let choice = c.in_ok-choice.choice in
+    let sizes = sizes_of at.tally c.index-groups-thread.result c.after-behind.result.now in
+    let e = enter n (choices threads) c.args.number at.rest at.tally at.runs.items threads c.args.groups.now at.thread c.index-groups-thread.result c.after-behind.result.now sizes c.requires.tallied l
+    c.index-groups-thread.is c.after-behind.ensures at.invariant.down refl in
+    let m = run_within n (choices threads) c.args.number at.rest at.tally at.runs.items threads at.thread sizes choice.place e c.in_ok-choice.ensures.place in
+    let runs = c.runs.ensures ∙ c.index-threads-thread.is ∙ get_or_default threads at.thread c.index-threads-thread.result [] l in
+    omega (arith, m, ap (λ (rs : List ThreadRun). length rs) runs)
 
 pub choose_run-requires-clause-room : goal.choose_run-requires-clause-room
 choose_run-requires-clause-room c =

@@ -1,10 +1,12 @@
-use Rattle.std.proofs.Common.{◌∙◌, List, ℕ, sym, ap, subst, arith}
+use Rattle.std.proofs.Common.{◌≡◌, ◌∙◌, ◌<◌, List, [], ◌∷◌, ◌++◌, ℕ, length, refl, sym, ap, subst, arith}
+use Rattle.std.specs.List.{All}
 use Rattle.listings.specs.Lists.{IsIn}
 use Rattle.candidates.specs.declared.counts.Counts.{Counts}
 use Rattle.candidates.specs.declared.fault.TheConstants.{MOST_CANDIDATES}
 use Rattle.candidates.specs.Candidates.{IsCapped}
-use Rattle.candidates.specs.Groups.{sum_tally, size_by, HasRoom}
-use Rattle.candidates.proofs.Grouping.{placed_sizes, one_above, room_of_groups, room_small, sum_sizes, in_row, front_rest}
+use Rattle.candidates.specs.Groups.{sum_tally, size_by, sizes_of, HasRoom}
+use Rattle.candidates.proofs.Gathered.{gathered_on}
+use Rattle.candidates.proofs.Grouping.{placed_sizes, placed_within, one_above, room_of_groups, room_small, sum_sizes, in_row, front_rest}
 use Rattle.candidates.proofs.groups.+counting.Goals as goal
 
 pub Groups::sizes-group_sizes-requires : goal.Groups::sizes-group_sizes-requires
@@ -49,3 +51,26 @@ group_sizes-returns-in_default t c =
     let g = c.group-item.result in
     let m = in_row c.args.tallies.now c.loop-group.group-index g c.loop-group-test.true c.group-item.is in
     (g, m, rw (c.in_default.is, c.in_ok-more.ensures) at c.in_ok-size.ensures)
+
+pub Groups::sizes-at_places-requires : goal.Groups::sizes-at_places-requires
+Groups::sizes-at_places-requires t c =
+    let sizes = c.deref-in-Some.result.now in
+    let e = c.deref-in-Some.ensures.value ∙ (rw (c.in-Some.is, c.deref.ensures.value) at c.in_ok-sizes.ensures) in
+    let P : List ℕ → Type 0 = All (λ p. p < length sizes) in
+    subst P (sym c.deref-in-Some-2.ensures.value) (placed_within c.args.tally.now c.self.inside.tallies.items c.self.inside.places.items sizes c.args.rest.now c.self.invariant e)
+
+pub count-returns-in-None : goal.count-returns-in-None
+count-returns-in-None t c =
+    let P : List (List (List Counts)) → Type 0 = λ ts. MOST_CANDIDATES < size_by c.args.tally.now ts in
+    subst P (front_rest c.args.threads.now c.first-item.result c.in-len1-up.len_at_least c.first-item.is) (rw c.in-None.is at c.in_ok-sizes-in-len1-up.ensures)
+
+pub group_sizes-loop-group-preserved : goal.group_sizes-loop-group-preserved
+group_sizes-loop-group-preserved t c =
+    let tally = c.args.tally.now in
+    let rest = c.args.rest.now in
+    let at = c.loop-group in
+    let g = c.group-item.result in
+    let F : List (List Counts) → List ℕ = λ ts. sizes_of tally ts rest in
+    let size : c.in-Some.size ≡ size_by (sum_tally tally g) rest = (rw c.in-Some.is at c.in_ok-size.ensures).0 ∙ ap (λ (u : List Counts). size_by u rest) c.in_ok-more.ensures in
+    gathered_on F F c.args.tallies.now at.group-index g (size_by (sum_tally tally g) rest ∷ []) at.sizes.items c.push.new.self.items _ c.loop-group-test.true c.group-item.is refl
+    (c.in_ok-push.ensures.items ∙ ap (λ (n : ℕ). at.sizes.items ++ n ∷ []) size) at.invariant
