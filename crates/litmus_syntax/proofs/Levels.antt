@@ -47,8 +47,8 @@ parameters_turn_takes ts mid rest o a b e f = omega (arith, after_takes Comma ts
 pub entries_loop_takes : (ts mid rest : List Symbol) (o : Unit {0}) (a b : List Binding) → entry_behind a ts ≡ Ok (b, mid) → after Semicolon mid ≡ Some (o, rest) → length rest < length ts
 entries_loop_takes ts mid rest o a b f e = omega (arith, after_takes Semicolon mid rest o e, entry_behind_takes a b ts mid f)
 
-pub parameters_loop_takes : (ts mid rest : List Symbol) (o : Unit {0}) (a b : List Parameter) → parameters_more a ts ≡ Ok (b, mid) → after Comma mid ≡ Some (o, rest) → length rest < length ts
-parameters_loop_takes ts mid rest o a b f e = omega (arith, after_takes Comma mid rest o e, parameters_more_takes a b ts mid f)
+pub parameter_loop_takes : (ps : List Parameter) (p : Parameter) (ts mid rest : List Symbol) → parameter_behind ps ts ≡ Ok (p, mid) → after Comma mid ≡ Some (tt, rest) → length rest < length ts
+parameter_loop_takes ps p ts mid rest f e = omega (arith, after_takes Comma mid rest tt e, parameter_shorter (parameter-sound ps p ts mid f).0)
 
 pub threads_turn_takes : (n : ℕ) (ts mid rest : List Symbol) (o : Unit {0}) (a b : List Listing) → before_name ts ≡ Some (o, mid) → threads_more n o a mid ≡ Ok (b, rest) → length rest < length ts
 threads_turn_takes n ts mid rest o a b e f = omega (arith, ap length (before_name-same ts mid o e), threads_more_takes n a b mid rest f)

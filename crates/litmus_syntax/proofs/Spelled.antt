@@ -2,7 +2,9 @@
 use Rattle.std.proofs.Common.{◌≡◌, ℕ, suc, ◌<◌, ◌≤◌, List, [], ◌∷◌, ◌++◌, ap, subst, length, inl, inr, refl, sym, ◌∙◌, arith, tests, rules}
 use Rattle.std.specs.Prelude.{Bool, true, false, not, ◌&&◌, nat_lt, nat_le, All, Option, Some, None, SomeIff, MatchOption}
 use Rattle.std.specs.Bool.{Decides}
-use Rattle.std.specs.List.{list_all}
+use Rattle.std.specs.List.{list_all, list_any}
+use Rattle.std.specs.Str.{bytes_eq}
+use Rattle.std.proofs.lemmas.Cmp.{nat_list_eq_equiv}
 use Rattle.std.proofs.lemmas.Bool.{and_parts, cases_Bool}
 use Rattle.std.proofs.lemmas.Bool.Decides.{Decides-by_and}
 use Rattle.wb_text.specs.Bytes.{is_digit}
@@ -98,3 +100,8 @@ symbols_step text xs s t ts us all split is so_far =
 pub symbols_len : (text : List ℕ) (ts : List Token) → length (symbols_of text ts) ≡ length ts
 symbols_len text [] = refl
 symbols_len text (t ∷ ts) = ap (λ n. suc n) (symbols_len text ts)
+
+-- which of two words stands first makes no difference
+pub any_same : (ws : List Word) (w : Word) → list_any (λ v. bytes_eq v w) ws ≡ list_any (bytes_eq w) ws
+any_same [] w = refl
+any_same (v ∷ ws) w = rw (nat_list_eq_equiv.symm v w, any_same ws w) refl

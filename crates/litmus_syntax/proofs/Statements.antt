@@ -1,6 +1,6 @@
 -- Statements: what is read is in the grammar, and what is in the grammar is read.
-use Rattle.std.proofs.Common.{◌≡◌, ℕ, zero, suc, ◌<◌, ◌≤◌, List, [], ◌∷◌, length, sym, subst, arith, inl, inr, refl, ap, ◌∙◌}
-use Rattle.std.specs.Prelude.{◌++◌, Option, Some, None, Result, Ok, Err}
+use Rattle.std.proofs.Common.{◌≡◌, ℕ, zero, suc, ◌<◌, ◌≤◌, List, [], ◌∷◌, length, sym, subst, arith, inl, inr, refl, ap}
+use Rattle.std.specs.Prelude.{◌++◌, Some, None, Ok}
 use Rattle.descent.specs.Reading.{match_option, ◌>>=◌, repeated}
 use Rattle.descent.proofs.Tools.{bind_ok, cases_of, none_or_some, moved, Yields, Shows}
 use Rattle.descent.proofs.Turns.{repeated-keeps, repeated-more, items-more, Arrives, last, next}
@@ -10,9 +10,7 @@ use Rattle.litmus_syntax.specs.declared.symbol.Symbol.TheVariants.{Fixed, Call, 
 use Rattle.litmus_syntax.specs.declared.symbol.Terminal.{Terminal}
 use Rattle.litmus_syntax.specs.declared.symbol.Terminal.TheVariants.{Int, If, Else, LeftParen, RightParen, LeftBrace, RightBrace, Semicolon, Comma, Assign, Star}
 use Rattle.litmus_syntax.specs.Grammar.{IsExpression, IsDeclarator, declarator_bare, declarator_value, IsDeclarators, declarators_one, declarators_more as declarators_and, IsSimple, simple_declare, simple_assign, simple_write, simple_perform, NotNext, IsStep, step_empty, step_block, step_simple, step_if, step_else, IsSteps, steps_none, steps_more as steps_and}
-use Rattle.litmus_syntax.specs.Reading.{Reading, Cause, syntax, deep, misordered, Gives, after, expected, unless, name_at, before_name, call_word, expression_at, operation_at, right_at, declarator_at, declarators_more, declarators_at, assignment_at, write_at, declaration_at, performed_at, simple_at, closed_at, Inside, else_with, if_with, block_with, step_with, steps_more, steps_with, inside, step_at, steps_at}
-use Rattle.litmus_syntax.specs.declared.syntax_fault.SyntaxFault.{SyntaxFault}
-use Rattle.litmus_syntax.specs.declared.syntax_fault.SyntaxFault.TheVariants.{Syntax, BadOrder, TooDeep, NoMemory}
+use Rattle.litmus_syntax.specs.Reading.{syntax, after, expected, unless, name_at, before_name, call_word, expression_at, operation_at, right_at, declarator_at, declarators_more, declarators_at, assignment_at, write_at, declaration_at, performed_at, simple_at, closed_at, Inside, else_with, if_with, block_with, step_with, steps_more, steps_with, inside, step_at, steps_at}
 use Rattle.litmus_tree.specs.Tree.{Word, Term, Action, Right, Declared, Step, empty, block, declare, assign, plain_write, perform, if_only, if_else, Steps, no_steps, followed}
 use Rattle.litmus_syntax.proofs.Calls.{operation-sound, right-sound, call_shorter, right_shorter, call-complete, right-complete, after-call, call_word-first}
 use Rattle.litmus_syntax.proofs.Expressions.{Ends, level_shorter, expression-sound, expression-complete, paren-ends, comma-ends, semicolon-ends}
@@ -65,6 +63,9 @@ pub declarators_turn : (n : ℕ) (a : List Declared) (ts : List Symbol) →
     repeated (syntax 0) (after Comma) (λ _ ds us. declarators_more n ds us) a ts ≡
     match_option (after Comma ts) (Ok (a, ts)) (λ x. declarators_more n a x.1 >>= λ y. repeated (syntax 0) (after Comma) (λ _ ds us. declarators_more n ds us) y.0 y.1)
 declarators_turn n = repeated-more (syntax 0) (after Comma) (λ _ ds us. declarators_more n ds us) (declarators_turn_takes n)
+
+pub declarators_loop_takes : (n : ℕ) (ts mid rest : List Symbol) (d : Declared) → declarator_at n ts ≡ Ok (d, mid) → after Comma mid ≡ Some (tt, rest) → length rest < length ts
+declarators_loop_takes n ts mid rest d f e = omega (arith, after_takes Comma mid rest tt e, declarator_shorter (declarator-sound n ts mid d f))
 
 -- what follows a right side
 record EndsRight (rest : List Symbol) : Type 0 where
@@ -435,45 +436,3 @@ mutual
 
 pub steps-complete : {n : ℕ} {ts rest : List Symbol} {ss : Steps} → IsSteps n ts (Fixed RightBrace ∷ rest) ss → Yields (steps_at n) ts rest ss
 steps-complete {n} d = steps-end n (steps-arrive d)
-
--- Turns over declarators, told by equations.
-
-matched_none : {A B : Type 0} (o : Option A) (d : B) (f : A → B) → o ≡ None → match_option o d f ≡ d
-matched_none None d f e = refl
-matched_none (Some x) d f e = absurd (cc)
-
-matched_some : {A B : Type 0} (o : Option A) (d : B) (f : A → B) (x : A) → o ≡ Some x → match_option o d f ≡ f x
-matched_some o d f x e = ap (λ p. match_option p d f) e
-
-bound_ok : {A B F : Type 0} (o : Result A F) (f : A → Result B F) (x : A) → o ≡ Ok x → (o >>= f) ≡ f x
-bound_ok o f x e = ap (λ p. p >>= f) e
-
-bound_err : {A B F : Type 0} (o : Result A F) (f : A → Result B F) (k : F) → o ≡ Err k → (o >>= f) ≡ Err k
-bound_err o f k e = ap (λ p. p >>= f) e
-
-abbrev ok_with : List Declared → List Symbol → Reading (List Declared)
-ok_with a l = Ok (a, l)
-
-abbrev Declarators : ℕ → List Declared → List Symbol → Reading (List Declared)
-Declarators n a ts = repeated (syntax 0) (after Comma) (λ _ ds us. declarators_more n ds us) a ts
-
-pub declarators_go : (n : ℕ) (a b : List Declared) (ts mid rest : List Symbol) (r : Reading (List Declared)) → after Comma ts ≡ Some (tt, mid) → declarators_more n a mid ≡ Ok (b, rest) →
-    Declarators n a ts ≡ r → Declarators n b rest ≡ r
-declarators_go n a b ts mid rest r was step is =
-    sym (declarators_turn n a ts ∙ matched_some (after Comma ts) _ _ (tt, mid) was ∙ bound_ok (declarators_more n a mid) _ (b, rest) step) ∙ is
-
-pub declarators_stop : (n : ℕ) (a : List Declared) (ts mid : List Symbol) (r : Reading (List Declared)) (k : Cause) → after Comma ts ≡ Some (tt, mid) → declarators_more n a mid ≡ Err k →
-    Declarators n a ts ≡ r → r ≡ Err k
-declarators_stop n a ts mid r k was step is =
-    sym is ∙ declarators_turn n a ts ∙ matched_some (after Comma ts) _ _ (tt, mid) was ∙ bound_err (declarators_more n a mid) _ k step
-
-pub declarators_end : (n : ℕ) (a : List Declared) (ts us : List Symbol) (r : Reading (List Declared)) → after Comma ts ≡ None → us ≡ ts → Declarators n a ts ≡ r → r ≡ Ok (a, us)
-declarators_end n a ts us r none same is =
-    sym is ∙ declarators_turn n a ts ∙ matched_none (after Comma ts) _ _ none ∙ ap (ok_with a) (sym same)
-
--- one refusal told of two readings
-pub gives_same : {X Y A B : Type 0} (v : X → A) (w : Y → B) (e : SyntaxFault) (ts us : List Symbol) (o : Reading A) (r : Reading B) → ((k : Cause) → o ≡ Err k → r ≡ Err k) → Gives v (Err e) ts o → Gives w (Err e) us r
-gives_same v w NoMemory ts us o r f g = tt
-gives_same v w (Syntax n) ts us o r f g = f (syntax n) g
-gives_same v w BadOrder ts us o r f g = f misordered g
-gives_same v w TooDeep ts us o r f g = f deep g

@@ -382,6 +382,10 @@ pub record Inside : Type 0 where
 unfoldable pub else_with : Inside → Term → Step → List Symbol → Reading Step
 else_with r c a ts = match_option (after Else ts) (Ok (if_only c a, ts)) (λ y. r.statement y.1 >>= λ b. Ok (if_else c a b.0, b.1))
 
+-- an expression and a closing parenthesis
+unfoldable pub tested_at : ℕ → List Symbol → Reading Term
+tested_at n ts = expression_at n ts >>= λ c. expected RightParen c.1 >>= λ y. Ok (c.0, y.1)
+
 -- behind the word if
 unfoldable pub if_with : Inside → List Symbol → Reading Step
 if_with r ts = do

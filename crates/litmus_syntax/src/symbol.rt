@@ -7,7 +7,7 @@ ghost use Rattle.litmus_syntax.specs.Symbols.{looked_up, signs, words, foreign_w
 ghost use Rattle.litmus_tree.specs.Names.{is_one_of};
 
 use crate::atomics::{Operation, call_named, order_named};
-use crate::table::{is_one_of, looked_up};
+use crate::table::looked_up;
 use std::alloc::{AllocError, Global};
 use wb_text::{Name, NameFault, Token, TokenKind, decimal};
 
@@ -137,7 +137,7 @@ fn word(bytes: &[u8]) -> Option<Terminal>
 fn is_foreign_word(bytes: &[u8]) -> bool
     ensures { result ≡ is_one_of foreign_words bytes.now }
 {
-    is_one_of(&FOREIGN_WORDS, bytes)
+    FOREIGN_WORDS.contains(&bytes)
 }
 
 /// Named as an order, and none of the five.
@@ -174,7 +174,6 @@ fn name(alloc: Global, bytes: &[u8]) -> Result<Option<Name>, AllocError>
 }
 
 /// The number of these digits, without a leading zero.
-#[tactic(auto, using(crate::proofs::Spelled::number_of))]
 fn number(bytes: &[u8]) -> Option<u32>
     ensures { MatchOption result (is_number bytes.now ≡ false) (λ n. (is_number bytes.now ≡ true) × (n ≡ decimal_value bytes.now)) }
 {

@@ -5,14 +5,12 @@ mod expressions;
 mod propositions;
 mod statements;
 
-ghost use Rattle.std.specs.Prelude.{◌≡◌, ◌≤◌, ◌∷◌, ◌++◌, [], ℕ, List, length, map, false, Option, Some, None, Ok, Err, IfOk, IfErr, OnOk, MatchBool, MatchOption, MatchResult};
-ghost use Rattle.std.specs.Str.{bytes_eq};
+ghost use Rattle.std.specs.Prelude.{◌≡◌, ◌≤◌, ◌∷◌, ◌++◌, [], ℕ, List, length, map, Option, Some, None, Ok, Err, IfOk, IfErr, MatchBool, MatchOption, MatchResult};
 ghost use Rattle.std.proofs.Common.{suc};
-ghost use Rattle.indexmap.specs.IndexSet.{contains};
 ghost use Rattle.litmus_syntax.specs.Drafts.{Written, is_parameter, listing_of, written_of};
 ghost use Rattle.litmus_syntax.specs.Grammar.{Spells};
 ghost use Rattle.litmus_tree.specs.declared.tree.Parameter.{Parameter};
-ghost use Rattle.litmus_syntax.specs.Reading.{Gives, after, expected, name_at, number_look, number_at, call_word, before_name, open_at, location_at, register_at, place_at, bound_at, behind_type, entry_at, ends_entry, entry_behind, entries_at, kind_at, behind_volatile, parameter_behind, parameters_more, parameters_at, parameters_closed, parameter_list_at, names_thread, thread_name_at, thread_at, threads_at, ends_place, place_behind, places_at, listed_at, word_at, language_at, end_at, initial_at, test_at};
+ghost use Rattle.litmus_syntax.specs.Reading.{Gives, after, expected, name_at, number_look, number_at, call_word, before_name, open_at, location_at, register_at, place_at, bound_at, behind_type, entry_at, ends_entry, entry_behind, entries_at, kind_at, behind_volatile, parameter_behind, parameters_at, parameters_closed, parameter_list_at, names_thread, thread_name_at, thread_at, threads_at, ends_place, place_behind, places_at, listed_at, word_at, language_at, end_at, initial_at, test_at};
 ghost use Rattle.litmus_syntax.specs.Unspelled.{IsUnspelled};
 ghost use Rattle.litmus_syntax.specs.declared.syntax_fault.SyntaxFault.TheVariants.{NoMemory};
 
@@ -289,49 +287,36 @@ impl<'a> Reader<'a> {
         let _ = self.take(Terminal::Volatile);
     }
 
-    /// parameter := ["volatile"] type "*" name, which is none of the earlier ones
+    /// parameter := ["volatile"] type "*" name, which is none of the earlier ones and becomes one of them
     #[tactic(auto, unfolding(crate::specs::Reading::parameter_behind), using(crate::proofs::ParameterNames::is_named))]
-    fn parameter(&mut self, earlier: &IndexSet<Name>) -> Result<Parameter, SyntaxFault>
-        ensures gives { (ps : List Parameter) → map (λ p. p.name) ps ≡ earlier.now.keys → Gives (λ p. p) result self.new.rest.now (parameter_behind ps self.old.rest.now) }
-        ensures new { IfOk result (λ p. contains bytes_eq earlier.now p.name ≡ false) }
+    fn parameter(&mut self, names: &mut IndexSet<Name>) -> Result<Parameter, SyntaxFault>
+        ensures gives { (ps : List Parameter) → map (λ p. p.name) ps ≡ names.old.keys → Gives (λ p. p) result self.new.rest.now (parameter_behind ps self.old.rest.now) }
+        ensures names { IfOk result (λ p. names.new.keys ≡ names.old.keys ++ p.name ∷ []) }
     {
         self.skip_volatile();
         let kind = self.kind()?;
         self.expect(Terminal::Star)?;
         let stuck = self.stuck();
-        let name = self.name()?;
-        if earlier.contains(&name) {
+        let name = self.name_ref()?;
+        if !names.insert(name.copy()?)? {
             return Err(stuck);
         }
-        Ok(Parameter { name, kind })
-    }
-
-    /// Adds the next parameter, and its name.
-    #[tactic(auto, unfolding(crate::specs::Reading::parameters_more), using(crate::proofs::ParameterNames::names_push))]
-    fn parameter_into(
-        &mut self,
-        parameters: &mut Vec<Parameter>,
-        names: &mut IndexSet<Name>,
-    ) -> Result<(), SyntaxFault>
-        requires { map (λ p. p.name) parameters.old.items ≡ names.old.keys }
-        ensures gives { Gives (λ _. parameters.new.items) result self.new.rest.now (parameters_more parameters.old.items self.old.rest.now) }
-        ensures names { OnOk result (map (λ p. p.name) parameters.new.items ≡ names.new.keys) }
-    {
-        let parameter = self.parameter(names)?;
-        names.insert(parameter.name.copy()?)?;
-        parameters.push(parameter)?;
-        Ok(())
+        Ok(Parameter {
+            name: name.copy()?,
+            kind,
+        })
     }
 
     /// parameters := parameter {"," parameter}
-    #[tactic(auto, unfolding(crate::specs::Reading::parameters_at), using(crate::proofs::Levels::parameters_turn, crate::proofs::Levels::parameters_loop_takes))]
+    #[tactic(auto, unfolding(crate::specs::Reading::parameters_at, crate::specs::Reading::parameters_more))]
     fn parameters(&mut self) -> Result<Vec<Parameter>, SyntaxFault>
         ensures { Gives (λ v. v.items) result self.new.rest.now (parameters_at self.old.rest.now) }
     {
         let mut parameters = Vec::new(self.alloc);
         let mut names = IndexSet::new(self.alloc);
         loop {
-            self.parameter_into(&mut parameters, &mut names)?;
+            let parameter = self.parameter(&mut names)?;
+            parameters.push(parameter)?;
             if !self.take(Terminal::Comma) {
                 return Ok(parameters);
             }
@@ -381,17 +366,18 @@ impl<'a> Reader<'a> {
     }
 
     /// thread {thread}
-    #[tactic(auto, unfolding(crate::specs::Reading::threads_at, crate::specs::Reading::threads_more), using(crate::proofs::Levels::threads_turn, crate::proofs::Levels::thread_takes, crate::proofs::Levels::listings_push, crate::proofs::Levels::listings_len))]
+    #[tactic(auto, unfolding(crate::specs::Reading::threads_at, crate::specs::Reading::threads_more))]
     fn threads(&mut self, nesting: u32) -> Result<Vec<Body>, SyntaxFault>
         ensures { Gives (λ v. map listing_of v.items) result self.new.rest.now (threads_at nesting self.old.rest.now) }
     {
         let mut bodies = Vec::new(self.alloc);
-        bodies.push(self.thread(nesting, 0)?)?;
-        while self.is_before_name() {
+        loop {
             let body = self.thread(nesting, bodies.len())?;
             bodies.push(body)?;
+            if !self.is_before_name() {
+                return Ok(bodies);
+            }
         }
-        Ok(bodies)
     }
 
     #[tactic(auto, unfolding(crate::specs::Reading::ends_place))]

@@ -1,7 +1,7 @@
 //! Calls of C's atomics, and what a register is given.
 
 ghost use Rattle.std.specs.Prelude.{◌≡◌};
-ghost use Rattle.litmus_syntax.specs.Reading.{Gives, order_at, last_order_at, closing_at, located_at, target_at, valued_at, load_at, store_at, exchange_at, fence_at, operation_at, is_among, value_at, computed_at, plain_at, right_at};
+ghost use Rattle.litmus_syntax.specs.Reading.{Gives, order_at, last_order_at, closing_at, located_at, valued_at, load_at, store_at, exchange_at, fence_at, operation_at, is_among, value_at, computed_at, plain_at, right_at};
 ghost use Rattle.litmus_tree.specs.Tree.{term_of, action_of, right_of};
 
 use crate::atomics::{Operation, accepted, calls, has_value, order_named};
@@ -80,22 +80,13 @@ impl<'a> Reader<'a> {
         Ok((location, inside))
     }
 
-    /// "(" name ","
-    #[tactic(auto, unfolding(crate::specs::Reading::target_at))]
-    fn target(&mut self, nesting: u32) -> Result<(Name, u32), SyntaxFault>
-        ensures { Gives (λ x. x) result self.new.rest.now (target_at nesting self.old.rest.now) }
-    {
-        let target = self.located(nesting)?;
-        self.expect(Terminal::Comma)?;
-        Ok(target)
-    }
-
     /// "(" name "," expression
-    #[tactic(auto, unfolding(crate::specs::Reading::valued_at))]
+    #[tactic(auto, unfolding(crate::specs::Reading::target_at, crate::specs::Reading::valued_at))]
     fn valued(&mut self, nesting: u32) -> Result<(Name, Expression), SyntaxFault>
         ensures { Gives (λ v. (v.0, term_of v.1)) result self.new.rest.now (valued_at nesting self.old.rest.now) }
     {
-        let (location, inside) = self.target(nesting)?;
+        let (location, inside) = self.located(nesting)?;
+        self.expect(Terminal::Comma)?;
         let value = self.expression(inside)?;
         Ok((location, value))
     }

@@ -66,7 +66,7 @@ impl<'a> Reader<'a> {
 
     /// Operands of a level, joined from the left.
     #[cycle(expressions)]
-    #[tactic(auto, unfolding(crate::specs::Reading::operands), using(crate::proofs::Expressions::operands_more, crate::proofs::Expressions::level_takes, crate::proofs::Expressions::operator_takes))]
+    #[tactic(auto, unfolding(crate::specs::Reading::operands))]
     fn operands(&mut self, level: u32, nesting: u32) -> Result<Expression, SyntaxFault>
         ensures { Gives term_of result self.new.rest.now (operands (operator_at level) (level_with (terms_below nesting) level) self.old.rest.now) }
     {

@@ -67,7 +67,7 @@ impl<'a> Reader<'a> {
 
     /// conjunction := atomic {"/\" atomic}
     #[cycle(propositions)]
-    #[tactic(auto, unfolding(crate::specs::Reading::conjunction_with), using(crate::proofs::Propositions::conjunction_turn, crate::proofs::Propositions::atomic_takes, crate::proofs::SingleSymbols::after_takes))]
+    #[tactic(auto, unfolding(crate::specs::Reading::conjunction_with))]
     fn conjunction(&mut self, nesting: u32) -> Result<Prop, SyntaxFault>
         ensures { Gives formula_of result self.new.rest.now (conjunction_with (propositions_below nesting) self.old.rest.now) }
     {
@@ -81,7 +81,7 @@ impl<'a> Reader<'a> {
 
     /// or := conjunction {"\/" conjunction}
     #[cycle(propositions)]
-    #[tactic(auto, unfolding(crate::specs::Reading::or_with), using(crate::proofs::Propositions::or_turn, crate::proofs::Propositions::conjunction_takes, crate::proofs::SingleSymbols::after_takes))]
+    #[tactic(auto, unfolding(crate::specs::Reading::or_with))]
     fn disjunction(&mut self, nesting: u32) -> Result<Prop, SyntaxFault>
         ensures { Gives formula_of result self.new.rest.now (or_with (propositions_below nesting) self.old.rest.now) }
     {

@@ -1,13 +1,13 @@
 //! Statements.
 
 ghost use Rattle.std.specs.Prelude.{◌≡◌, map};
-ghost use Rattle.litmus_syntax.specs.Reading.{Gives, declarator_at, declarators_more, declarators_at, assignment_at, write_at, declaration_at, performed_at, simple_at, closed_at, if_with, block_with, step_with, steps_with, inside, step_at, steps_at};
-ghost use Rattle.litmus_tree.specs.Tree.{declared_of, step_of, steps_of};
+ghost use Rattle.litmus_syntax.specs.Reading.{Gives, declarator_at, declarators_at, assignment_at, write_at, declaration_at, performed_at, simple_at, closed_at, tested_at, if_with, block_with, step_with, steps_with, inside, step_at, steps_at};
+ghost use Rattle.litmus_tree.specs.Tree.{declared_of, step_of, steps_of, term_of};
 
 use crate::symbol::Terminal;
 use crate::syntax::Reader;
 use crate::syntax_fault::SyntaxFault;
-use litmus_tree::{Declarator, Statement};
+use litmus_tree::{Declarator, Expression, Statement};
 
 impl<'a> Reader<'a> {
     /// declarator := name ["=" right]
@@ -29,30 +29,19 @@ impl<'a> Reader<'a> {
         })
     }
 
-    #[tactic(auto, unfolding(crate::specs::Reading::declarators_more), using(litmus_tree::proofs::Steps::declared_push))]
-    fn declarator_into(
-        &mut self,
-        declarators: &mut Vec<Declarator>,
-        nesting: u32,
-    ) -> Result<(), SyntaxFault>
-        ensures { Gives (λ _. map declared_of declarators.new.items) result self.new.rest.now (declarators_more nesting (map declared_of declarators.old.items) self.old.rest.now) }
-    {
-        let declarator = self.declarator(nesting)?;
-        declarators.push(declarator)?;
-        Ok(())
-    }
-
     /// declarators := declarator {"," declarator}
-    #[tactic(auto, unfolding(crate::specs::Reading::declarators_at), using(crate::proofs::Statements::declarators_turn, crate::proofs::Statements::declarators_turn_takes))]
+    #[tactic(auto, unfolding(crate::specs::Reading::declarators_at, crate::specs::Reading::declarators_more))]
     fn declarators(&mut self, nesting: u32) -> Result<Vec<Declarator>, SyntaxFault>
         ensures { Gives (λ v. map declared_of v.items) result self.new.rest.now (declarators_at nesting self.old.rest.now) }
     {
         let mut declarators = Vec::new(self.alloc);
-        self.declarator_into(&mut declarators, nesting)?;
-        while self.take(Terminal::Comma) {
-            self.declarator_into(&mut declarators, nesting)?;
+        loop {
+            let declarator = self.declarator(nesting)?;
+            declarators.push(declarator)?;
+            if !self.take(Terminal::Comma) {
+                return Ok(declarators);
+            }
         }
-        Ok(declarators)
     }
 
     /// name "=" right
@@ -113,20 +102,36 @@ impl<'a> Reader<'a> {
         self.expect(Terminal::Semicolon).and(Ok(statement))
     }
 
+    /// The rest of an if's test: expression ")"
+    #[tactic(auto, unfolding(crate::specs::Reading::tested_at))]
+    fn tested(&mut self, nesting: u32) -> Result<Expression, SyntaxFault>
+        ensures { Gives term_of result self.new.rest.now (tested_at nesting self.old.rest.now) }
+    {
+        let test = self.expression(nesting)?;
+        self.expect(Terminal::RightParen).and(Ok(test))
+    }
+
+    /// A statement that stands in an if.
+    #[cycle(statements)]
+    fn arm(&mut self, nesting: u32) -> Result<Box<Statement>, SyntaxFault>
+        ensures { Gives (λ b. step_of b.value) result self.new.rest.now (step_at nesting self.old.rest.now) }
+    {
+        Ok(Box::new(self.alloc, self.statement(nesting)?)?)
+    }
+
     /// The rest of an if: "(" expression ")" statement ["else" statement]
     #[cycle(statements)]
-    #[tactic(auto, unfolding(crate::specs::Reading::if_with, crate::specs::Reading::else_with, crate::specs::Reading::open_at, crate::specs::Reading::opened, crate::specs::Reading::inside), using(litmus_tree::proofs::Steps::only_if, litmus_tree::proofs::Steps::if_and_else))]
+    #[tactic(auto, unfolding(crate::specs::Reading::if_with, crate::specs::Reading::else_with, crate::specs::Reading::tested_at, crate::specs::Reading::open_at, crate::specs::Reading::opened, crate::specs::Reading::inside))]
     fn branch(&mut self, nesting: u32) -> Result<Statement, SyntaxFault>
         ensures { Gives step_of result self.new.rest.now (if_with (inside nesting) self.old.rest.now) }
     {
         let nesting = self.open(nesting)?;
-        let test = self.expression(nesting)?;
-        self.expect(Terminal::RightParen)?;
-        let arm = Box::new(self.alloc, self.statement(nesting)?)?;
+        let test = self.tested(nesting)?;
+        let arm = self.arm(nesting)?;
         if !self.take(Terminal::Else) {
             return Ok(Statement::If(test, arm, None));
         }
-        let other = Box::new(self.alloc, self.statement(nesting)?)?;
+        let other = self.arm(nesting)?;
         Ok(Statement::If(test, arm, Some(other)))
     }
 
@@ -151,7 +156,7 @@ impl<'a> Reader<'a> {
 
     /// Statements up to a brace, and the brace.
     #[cycle(statements)]
-    #[tactic(auto, unfolding(crate::specs::Reading::steps_with, crate::specs::Reading::unless, crate::specs::Reading::expected), using(crate::proofs::Statements::steps_turn, crate::proofs::Statements::step_takes, litmus_tree::proofs::Steps::pushed))]
+    #[tactic(auto, unfolding(crate::specs::Reading::steps_with, crate::specs::Reading::unless, crate::specs::Reading::expected))]
     pub(super) fn statements(&mut self, nesting: u32) -> Result<Vec<Statement>, SyntaxFault>
         ensures { Gives (λ v. steps_of v.items) result self.new.rest.now (steps_at nesting self.old.rest.now) }
     {

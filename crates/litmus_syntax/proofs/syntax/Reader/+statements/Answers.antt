@@ -1,8 +1,35 @@
-use Rattle.std.proofs.Common.{arith, ap, length}
-use Rattle.litmus_tree.specs.Tree.{step_of}
-use Rattle.litmus_syntax.proofs.Statements.{step_takes}
+use Rattle.std.proofs.Common.{rules, arith, ap, length}
+use Rattle.litmus_tree.specs.Tree.{step_of, steps_of}
+use Rattle.litmus_syntax.proofs.Statements.{step_takes, steps_turn}
+use Rattle.litmus_tree.proofs.Steps.{only_if, if_and_else, pushed}
+use Rattle.litmus_syntax.specs.Reading.{unless, expected, steps_with, if_with, else_with, inside, tested_at, open_at, opened}
 use Rattle.litmus_syntax.proofs.syntax.Reader.+statements.Goals as goal
 
 pub statements-loop-self-smaller : goal.statements-loop-self-smaller
 statements-loop-self-smaller t c =
     omega (arith, step_takes c.args.nesting c.take.new.self.rest.now c.statement.new.self.rest.now (step_of c.in_ok-statement.statement) c.in_ok-statement.ensures, ap length c.loop-self-test.ensures.1)
+
+pub statements-loop-self-preserved : goal.statements-loop-self-preserved
+unfolding unless
+statements-loop-self-preserved t c =
+    let push = pushed c.loop-self.statements.items c.in_ok-statement.statement in
+    let turn = steps_turn c.args.nesting (steps_of c.loop-self.statements.items) c.loop-self.self.rest.now in
+    search (rules, push, turn)
+
+pub statements-returns-in_err-statement : goal.statements-returns-in_err-statement
+unfolding steps_with unless
+statements-returns-in_err-statement t c = let turn = steps_turn c.args.nesting (steps_of c.loop-self.statements.items) c.loop-self.self.rest.now in search (rules, turn)
+
+pub statements-returns : goal.statements-returns
+unfolding steps_with unless expected
+statements-returns t c = let turn = steps_turn c.args.nesting (steps_of c.loop-self.statements.items) c.loop-self.self.rest.now in search (rules, turn)
+
+-- the tree of an if
+
+pub branch-returns-then-not-take : goal.branch-returns-then-not-take
+unfolding if_with else_with inside tested_at open_at opened
+branch-returns-then-not-take t c = let tree = only_if c.in_ok-test.test c.in_ok-arm.arm in search (rules, tree)
+
+pub branch-returns : goal.branch-returns
+unfolding if_with else_with inside tested_at open_at opened
+branch-returns t c = let tree = if_and_else c.in_ok-test.test c.in_ok-arm.arm c.in_ok-other.other in search (rules, tree)

@@ -10,6 +10,9 @@ use Rattle.litmus_syntax.proofs.syntax.Reader.+statements.Given as goal
 abbrev pub decreases-branch : goal.decreases-branch
 decreases-branch l = 3 * l.nesting
 
+abbrev pub decreases-arm : goal.decreases-arm
+decreases-arm l = 3 * l.nesting + 2
+
 abbrev pub decreases-statement : goal.decreases-statement
 decreases-statement l = 3 * l.nesting + 1
 
