@@ -49,7 +49,7 @@ impl Bench {
         })
     }
 
-    #[tactic(auto, using(crate::proofs::Steps::test_unread, crate::proofs::Steps::test_spent, crate::proofs::Steps::test_put))]
+    #[tactic(auto)]
     pub(crate) fn decide_put_test(&self, alloc: Global, text: &Text) -> Result<Plan, AllocError>
         requires { self.now.closed ≡ false }
         ensures step { IfOk result (λ p. Step self.now 0 (Said.PutTest text.now) p.reply (changed self.now p.change)) }

@@ -20,3 +20,6 @@ returns-in_err-work-clause-refusal c =
     space_refusal c.args.text.now c.args.cat.now c.in_ok-test.test c.in_ok-model.model _ c.from_residual-in_err-work.result c.from_residual-in_err-work.ensures.1
     c.in_ok-test.ensures.found
     (c.in_ok-file.file, c.in_ok-file.ensures.found, c.in_ok-model.ensures.model) c.in_err-work.ensures.fault
+
+pub returns-clause-refusal : goal.returns-clause-refusal
+returns-clause-refusal c = tt

@@ -1,0 +1,8 @@
+use Rattle.std.proofs.Common.{List, length, sym, arith}
+use Rattle.std.proofs.lemmas.List.{length-map}
+use Rattle.std.specs.Arc.{arc_value}
+use Rattle.book.proofs.kept.Book.apply.Goals as goal
+
+pub returns-then-place-self-clause-only : goal.returns-then-place-self-clause-only
+returns-then-place-self-clause-only c = λ _.
+    rw (sym c.self.view_is) (omega (arith, c.self.invariant.within, length-map c.self.inside.journal.items arc_value, c.len-place.ensures, c.if-place-self.true))
