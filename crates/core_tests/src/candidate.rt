@@ -1,0 +1,7 @@
+//! Tests of conditions, the runs of threads and candidate executions, by public items alone.
+
+mod executions;
+mod growth;
+mod runs;
+mod states;
+mod texts;

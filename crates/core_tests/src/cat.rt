@@ -1,0 +1,9 @@
+//! Tests of the cat crates, by their public items alone.
+
+mod chains;
+mod growth;
+mod judging;
+mod loading;
+mod model;
+mod syntax;
+mod texts;

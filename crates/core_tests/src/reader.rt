@@ -1,0 +1,8 @@
+//! Tests of the reader of C litmus tests, by public items alone.
+
+mod answers;
+mod copies;
+mod growth;
+mod refusals;
+mod sizes;
+mod trees;

@@ -1,0 +1,292 @@
+//! Each call of `slices` and `book` that takes memory. What is refused has left things as they were, is made again, and
+//! then gets its own answer.
+
+ghost use Rattle.std.specs.Prelude.{◌≡◌, [], IfOk, OnOk};
+ghost use Rattle.desk_tests.specs.Whole.{IsOver, IsWhole};
+ghost use Rattle.slices.specs.Parts.{test_size};
+
+use crate::commands::{SB, name, put_cat};
+use book::{Command, Said};
+use cat_model::{Files, Model, resolve};
+use litmus_c::read_test;
+use slices::{Piece, PieceResult, Tally, TestRef, Verdict, VerdictRef, Work, WorkRef, evaluate};
+use std::alloc::{AllocError, Global};
+use std::test::Fail;
+use wb_text::Name;
+
+/// How many numbers SB has: two values of each of two loads, each of two writes, and one order of each location.
+const NUMBERS: u64 = 16;
+
+fn test_once(alloc: Global) -> Result<TestRef, AllocError> {
+    match read_test(alloc, SB) {
+        Ok(test) => TestRef::new(alloc, test),
+        Err(_) => Err(AllocError),
+    }
+}
+
+fn test(alloc: Global) -> Result<TestRef, AllocError> {
+    match test_once(alloc) {
+        Ok(test) => Ok(test),
+        Err(AllocError) => test_once(alloc),
+    }
+}
+
+fn resolved(alloc: Global, files: &Files, root: &Name) -> Result<Model, AllocError> {
+    match resolve(alloc, files, root) {
+        Ok(model) => Ok(model),
+        Err(_) => Err(AllocError),
+    }
+}
+
+fn model_once(alloc: Global) -> Result<Model, AllocError> {
+    let files = Files::new(alloc)?;
+    let root = name(alloc, b"stdlib.cat")?;
+    resolved(alloc, &files, &root)
+}
+
+/// The model of no constraint.
+fn model(alloc: Global) -> Result<Model, AllocError> {
+    match model_once(alloc) {
+        Ok(model) => Ok(model),
+        Err(AllocError) => model_once(alloc),
+    }
+}
+
+fn work_once(alloc: Global, test: TestRef) -> Result<Work, AllocError> {
+    match Work::of(alloc, test, model(alloc)?) {
+        Ok(work) => Ok(work),
+        Err(_) => Err(AllocError),
+    }
+}
+
+/// SB under no constraint. What is refused leaves the test, which is kept more than once.
+fn work(alloc: Global) -> Result<Work, AllocError> {
+    let test = test(alloc)?;
+    match work_once(alloc, test.share()?) {
+        Ok(work) => Ok(work),
+        Err(AllocError) => work_once(alloc, test),
+    }
+}
+
+fn work_ref(alloc: Global) -> Result<WorkRef, AllocError> {
+    match WorkRef::new(alloc, work(alloc)?) {
+        Ok(work) => Ok(work),
+        Err(AllocError) => WorkRef::new(alloc, work(alloc)?),
+    }
+}
+
+/// Fails with what was tried, unless it held.
+fn confirm(holds: bool, tried: &str) -> Result<(), Fail> {
+    if holds { Ok(()) } else { Err(Fail::new(tried)) }
+}
+
+#[test]
+fn works(rt: HostRuntime) -> Result<(), Fail> {
+    let work = work_ref(rt.alloc())?;
+    confirm(work.work().size() == NUMBERS, "how many numbers SB has")
+}
+
+/// The piece of all numbers.
+fn whole_piece(work: &WorkRef) -> Result<Piece, AllocError>
+    ensures work { IfOk result (λ p. p.work ≡ work.now) }
+    ensures first { IfOk result (λ p. p.from ≡ 0) }
+    ensures last { IfOk result (λ p. p.to ≡ test_size work.now.test) }
+{
+    let size = work.work().size();
+    Ok(Piece::new(3, 2, 0, 0, size, work.share()?))
+}
+
+/// The result of all numbers.
+fn whole_part(alloc: Global, work: &WorkRef) -> Result<PieceResult, AllocError>
+    ensures { IfOk result (IsOver work.now) }
+{
+    let piece = whole_piece(work)?;
+    match evaluate(alloc, &piece) {
+        Ok(part) => Ok(part),
+        Err(AllocError) => evaluate(alloc, &piece),
+    }
+}
+
+/// Whether these are the counts of SB under no constraint: one execution with the proposition and three without.
+fn is_found(part: &PieceResult) -> bool {
+    let finding = part.found().finding();
+    finding.positive() == 1 && finding.negative() == 3 && finding.states().len() == 4
+}
+
+/// Whether the result of all numbers has these counts.
+fn is_evaluated(alloc: Global, work: &WorkRef) -> bool {
+    match whole_part(alloc, work) {
+        Ok(part) => is_found(&part) && part.piece().to() == NUMBERS,
+        Err(AllocError) => false,
+    }
+}
+
+#[test]
+fn results(rt: HostRuntime) -> Result<(), Fail> {
+    let work = work_ref(rt.alloc())?;
+    confirm(is_evaluated(rt.alloc(), &work), "the result of all numbers")
+}
+
+fn is_piece_copied(piece: &Piece) -> bool {
+    match piece.share() {
+        Ok(copy) => copy == *piece,
+        Err(AllocError) => false,
+    }
+}
+
+fn is_part_copied(part: &PieceResult) -> bool {
+    match part.share() {
+        Ok(copy) => copy == *part,
+        Err(AllocError) => false,
+    }
+}
+
+/// Whether the copies of the result of all numbers and of its piece are their originals.
+fn is_copied(alloc: Global, work: &WorkRef) -> bool {
+    match whole_part(alloc, work) {
+        Ok(part) => is_piece_copied(part.piece()) && is_part_copied(&part),
+        Err(AllocError) => false,
+    }
+}
+
+#[test]
+fn copies(rt: HostRuntime) -> Result<(), Fail> {
+    let work = work_ref(rt.alloc())?;
+    confirm(is_copied(rt.alloc(), &work), "copies of the result")
+}
+
+/// Whether this is the verdict on SB under no constraint, for this version of the test.
+fn is_judged(verdict: &Verdict, version: u32) -> bool {
+    verdict.version() == version && verdict.ok() && verdict.word() == "Sometimes"
+}
+
+/// Adds the result of all numbers to a tally.
+#[tactic(auto, using(crate::proofs::Tallied::none_apart, crate::proofs::Tallied::whole))]
+fn add_once(tally: &mut Tally, part: PieceResult) -> Result<(), AllocError>
+    requires none { tally.old.spans ≡ [] }
+    requires over { IsOver tally.old.work part }
+    ensures { OnOk result (IsWhole tally.new) }
+{
+    match tally.merge(part) {
+        Ok(()) => Ok(()),
+        Err((_, AllocError)) => Err(AllocError),
+    }
+}
+
+/// The same, once more where it was refused: the result comes back, and the tally still has none.
+#[tactic(auto, using(crate::proofs::Tallied::none_apart, crate::proofs::Tallied::whole))]
+fn add(tally: &mut Tally, part: PieceResult) -> Result<(), AllocError>
+    requires none { tally.old.spans ≡ [] }
+    requires over { IsOver tally.old.work part }
+    ensures { OnOk result (IsWhole tally.new) }
+{
+    match tally.merge(part) {
+        Ok(()) => Ok(()),
+        Err((part, AllocError)) => {
+            if tally.spans().is_empty() && is_found(&part) {
+                add_once(tally, part)
+            } else {
+                Err(AllocError)
+            }
+        }
+    }
+}
+
+/// The verdict of a tally, which stays as it is.
+fn verdict_of(tally: &Tally) -> Result<Verdict, AllocError>
+    requires { IsWhole tally.now }
+{
+    match tally.verdict(1) {
+        Ok(verdict) => Ok(verdict),
+        Err(AllocError) => tally.verdict(1),
+    }
+}
+
+/// A tally of no result.
+fn tally_of(alloc: Global, work: &WorkRef) -> Result<Tally, AllocError>
+    ensures { IfOk result (λ t. t ≡ record { work = work.now; spans = [] }) }
+{
+    match Tally::new(alloc, work.share()?) {
+        Ok(tally) => Ok(tally),
+        Err(AllocError) => Tally::new(alloc, work.share()?),
+    }
+}
+
+fn tallied(alloc: Global, work: &WorkRef) -> Result<Verdict, AllocError> {
+    let part = whole_part(alloc, work)?;
+    let mut tally = tally_of(alloc, work)?;
+    add(&mut tally, part)?;
+    verdict_of(&tally)
+}
+
+fn is_tallied(alloc: Global, work: &WorkRef) -> bool {
+    match tallied(alloc, work) {
+        Ok(verdict) => is_judged(&verdict, 1),
+        Err(AllocError) => false,
+    }
+}
+
+#[test]
+fn sb_calls(rt: HostRuntime) -> Result<(), Fail> {
+    let work = work_ref(rt.alloc())?;
+    confirm(
+        is_tallied(rt.alloc(), &work),
+        "the verdict of a tally on version 1",
+    )
+}
+
+fn judged(alloc: Global, work: &WorkRef) -> Result<Verdict, AllocError> {
+    match Verdict::judge(alloc, work.share()?, 4, 7) {
+        Ok(verdict) => Ok(verdict),
+        Err(AllocError) => Verdict::judge(alloc, work.share()?, 4, 7),
+    }
+}
+
+fn kept_verdict(alloc: Global, work: &WorkRef) -> Result<VerdictRef, AllocError> {
+    match VerdictRef::new(alloc, judged(alloc, work)?) {
+        Ok(verdict) => Ok(verdict),
+        Err(AllocError) => VerdictRef::new(alloc, judged(alloc, work)?),
+    }
+}
+
+fn is_kept(alloc: Global, work: &WorkRef) -> bool {
+    match kept_verdict(alloc, work) {
+        Ok(verdict) => is_judged(verdict.verdict(), 7),
+        Err(AllocError) => false,
+    }
+}
+
+#[test]
+fn verdicts(rt: HostRuntime) -> Result<(), Fail> {
+    let work = work_ref(rt.alloc())?;
+    confirm(is_kept(rt.alloc(), &work), "the verdict on version 7")
+}
+
+/// Whether a command is shown as the put of SB as a cat file.
+fn is_put(said: &Said) -> bool {
+    match said {
+        Said::PutCat(name, text) => name.bytes() == b"a.cat".as_slice() && text.bytes() == SB,
+        _ => false,
+    }
+}
+
+/// The command as the journal shows it. What is refused leaves the command.
+fn seen(command: &Command) -> Result<Said, AllocError> {
+    match command.seen() {
+        Ok(said) => Ok(said),
+        Err(AllocError) => command.seen(),
+    }
+}
+
+fn is_shown(command: &Command) -> bool {
+    match seen(command) {
+        Ok(said) => is_put(&said),
+        Err(AllocError) => false,
+    }
+}
+
+#[test]
+fn shown_commands(rt: HostRuntime) -> Result<(), Fail> {
+    let command = put_cat(rt.alloc(), b"a.cat", SB)?;
+    confirm(is_shown(&command), "the put of SB as a cat file")
+}

@@ -1,0 +1,280 @@
+//! Sessions over one desk, each with a pass.
+
+ghost use Rattle.std.specs.Prelude.{◌≡◌, All};
+
+use crate::calls::{Answer, Call, TEST_A, TEST_B, are_answered, make_all, rise};
+use crate::commands::SB;
+use book::{Command, Limits, Refused};
+use sessions::{Desk, FinishCause, Pass, finish, open};
+use std::alloc::{AllocError, Global};
+use std::marker::Brand;
+use std::sync::Wait;
+use std::sync::ledger::{Blank, Ledger};
+
+pub const WIDE: Limits = Limits {
+    journal: 1_000_000,
+    versions: 1_000_000,
+    claims: 1_000_000,
+};
+
+pub const FIRST: [Call; 4] = [
+    Call::PutTest(TEST_A),
+    Call::Ask(b"A", b"rc11.cat"),
+    Call::Claim,
+    Call::Return,
+];
+
+pub const SECOND: [Call; 4] = [
+    Call::PutTest(TEST_B),
+    Call::Ask(b"B", b"rc11.cat"),
+    Call::Claim,
+    Call::Return,
+];
+
+/// Whether the places of each pass's receipts rise.
+pub fn all_rise<L: Ledger>(passes: &[Pass<L>]) -> bool {
+    for pass in passes {
+        if !rise(pass) {
+            return false;
+        }
+    }
+    true
+}
+
+/// How many entries the journal has, where `finish` answers Ok.
+pub fn entries<L: Ledger>(desk: Desk<L>, passes: Vec<Pass<L>>) -> Option<usize>
+    requires { All (λ p. p.parts ≡ 1) passes.items }
+{
+    match finish(desk, passes) {
+        Ok(closed) => Some(closed.journal.len()),
+        Err(_) => None,
+    }
+}
+
+/// Two sessions call in turn: what `finish` counts, how many calls were recorded, and whether the places of each pass's receipts rise.
+fn run_both<L: Ledger, R: Wait>(
+    rt: &R,
+    alloc: Global,
+    blank: Blank,
+) -> Result<(Option<usize>, usize, bool), AllocError>
+    requires { (blank.name ≡ L.name) × (blank.parts ≡ L.parts) × (blank.parts ≡ 2) }
+{
+    let (desk, mut passes) = open::<L>(alloc, blank, WIDE, 2)?;
+    let first = make_all(rt, alloc, &desk, &mut passes[0], &FIRST);
+    let second = make_all(rt, alloc, &desk, &mut passes[1], &SECOND);
+    let rising = all_rise(&passes);
+    let entries = entries(desk, passes);
+    Ok((entries, first.saturating_add(second), rising))
+}
+
+fn both<R: Wait>(rt: &R, alloc: Global) -> bool {
+    match run_both::<Brand, R>(rt, alloc, Blank::new(2)) {
+        Ok(found) => found == (Some(8), 8, true),
+        Err(AllocError) => false,
+    }
+}
+
+#[test]
+fn two_sessions_in_turn(rt: HostRuntime) {
+    assert!(rt; both(&rt, rt.alloc()));
+}
+
+/// What `finish` answers that isn't Ok: the cause, the journal's length and the passes that are handed back.
+fn amiss<L: Ledger>(desk: Desk<L>, passes: Vec<Pass<L>>) -> Option<(FinishCause, usize, usize)>
+    requires { All (λ p. p.parts ≡ 1) passes.items }
+{
+    match finish(desk, passes) {
+        Ok(_) => None,
+        Err(f) => Some((f.cause, f.closed.journal.len(), f.closed.passes.len())),
+    }
+}
+
+/// Without the pass of seat 1: what is amiss.
+fn run_missing<L: Ledger, R: Wait>(
+    rt: &R,
+    alloc: Global,
+    blank: Blank,
+) -> Result<Option<(FinishCause, usize, usize)>, AllocError>
+    requires { (blank.name ≡ L.name) × (blank.parts ≡ L.parts) × (blank.parts ≡ 3) }
+{
+    let (desk, mut passes) = open::<L>(alloc, blank, WIDE, 3)?;
+    drop(passes.remove(1));
+    let _ = make_all(rt, alloc, &desk, &mut passes[1], &[Call::List]);
+    Ok(amiss(desk, passes))
+}
+
+fn missing<R: Wait>(rt: &R, alloc: Global) -> bool {
+    match run_missing::<Brand, R>(rt, alloc, Blank::new(3)) {
+        Ok(found) => found == Some((FinishCause::MissingPass(1), 1, 2)),
+        Err(AllocError) => false,
+    }
+}
+
+#[test]
+fn missing_pass(rt: HostRuntime) {
+    assert!(rt; missing(&rt, rt.alloc()));
+}
+
+/// Whether a command is refused as the journal is full, and handed back.
+fn is_full<L: Ledger, R: Wait>(rt: &R, desk: &Desk<L>, pass: &mut Pass<L>) -> bool
+    requires { pass.old.parts ≡ 1 }
+    ensures { pass.new.parts ≡ 1 }
+{
+    let answer = desk.call(rt, pass, Command::List);
+    matches!(&answer, Err((Command::List, Refused::JournalFull)))
+}
+
+/// How many entries a journal has that takes three, how many calls were recorded, and whether the fourth was handed back.
+fn run_full<L: Ledger, R: Wait>(
+    rt: &R,
+    alloc: Global,
+    blank: Blank,
+) -> Result<(Option<usize>, usize, bool), AllocError>
+    requires { (blank.name ≡ L.name) × (blank.parts ≡ L.parts) × (blank.parts ≡ 1) }
+{
+    let limits = Limits {
+        journal: 3,
+        versions: 2,
+        claims: 1,
+    };
+    let (desk, mut passes) = open::<L>(alloc, blank, limits, 1)?;
+    let recorded = make_all(
+        rt,
+        alloc,
+        &desk,
+        &mut passes[0],
+        &[Call::List, Call::List, Call::List],
+    );
+    let full = is_full(rt, &desk, &mut passes[0]);
+    let entries = entries(desk, passes);
+    Ok((entries, recorded, full))
+}
+
+fn full<R: Wait>(rt: &R, alloc: Global) -> bool {
+    match run_full::<Brand, R>(rt, alloc, Blank::new(1)) {
+        Ok(found) => found == (Some(3), 3, true),
+        Err(AllocError) => false,
+    }
+}
+
+#[test]
+fn journal_full(rt: HostRuntime) {
+    assert!(rt; full(&rt, rt.alloc()));
+}
+
+/// Two versions of a file, and the third spent; one claim given back, and the second spent.
+const SPENDING: [Call; 8] = [
+    Call::PutCat(b"a.cat", b""),
+    Call::DropCat(b"a.cat"),
+    Call::PutCat(b"a.cat", b""),
+    Call::PutTest(SB),
+    Call::Ask(b"SB", b"rc11.cat"),
+    Call::Claim,
+    Call::GiveBack(1),
+    Call::Claim,
+];
+
+const SPENT: [(usize, Answer); 6] = [
+    (0, Answer::Version(b"a.cat", 1)),
+    (1, Answer::Version(b"a.cat", 2)),
+    (2, Answer::VersionsSpent(b"a.cat")),
+    (5, Answer::Piece(1)),
+    (6, Answer::Done),
+    (7, Answer::ClaimsSpent),
+];
+
+/// How many calls of a session alone were recorded, and whether they were answered so.
+fn run_calls<L: Ledger, R: Wait>(
+    rt: &R,
+    alloc: Global,
+    blank: Blank,
+    limits: Limits,
+    calls: &[Call],
+    answers: &[(usize, Answer)],
+) -> Result<(usize, bool), AllocError>
+    requires { (blank.name ≡ L.name) × (blank.parts ≡ L.parts) × (blank.parts ≡ 1) }
+{
+    let (desk, mut passes) = open::<L>(alloc, blank, limits, 1)?;
+    let recorded = make_all(rt, alloc, &desk, &mut passes[0], calls);
+    Ok((recorded, are_answered(&passes[0], answers)))
+}
+
+fn through_a_desk<R: Wait>(
+    rt: &R,
+    alloc: Global,
+    limits: Limits,
+    calls: &[Call],
+    answers: &[(usize, Answer)],
+) -> Result<(usize, bool), AllocError> {
+    run_calls::<Brand, R>(rt, alloc, Blank::new(1), limits, calls, answers)
+}
+
+fn is_spent<R: Wait>(rt: &R, alloc: Global) -> bool {
+    let limits = Limits {
+        journal: 20,
+        versions: 2,
+        claims: 1,
+    };
+    through_a_desk(rt, alloc, limits, &SPENDING, &SPENT) == Ok((8, true))
+}
+
+#[test]
+fn spent(rt: HostRuntime) {
+    assert!(rt; is_spent(&rt, rt.alloc()));
+}
+
+/// Each command once, and what there is between.
+const EACH: [Call; 20] = [
+    Call::PutCat(b"a.cat", b"acyclic po | rf | co | fr as sc"),
+    Call::PutTest(SB),
+    Call::List,
+    Call::Ask(b"SB", b"a.cat"),
+    Call::Poll(1),
+    Call::Claim,
+    Call::List,
+    Call::Release(1),
+    Call::Claim,
+    Call::GiveBack(2),
+    Call::Claim,
+    Call::Return,
+    Call::Poll(1),
+    Call::Forget(1),
+    Call::List,
+    Call::DropCat(b"a.cat"),
+    Call::DropTest(b"SB"),
+    Call::List,
+    Call::Close,
+    Call::Poll(1),
+];
+
+const EACH_ANSWERED: [(usize, Answer); 14] = [
+    (0, Answer::Version(b"a.cat", 1)),
+    (1, Answer::Version(b"SB", 1)),
+    (2, Answer::Listed(1, 1, 0)),
+    (5, Answer::Piece(1)),
+    (6, Answer::Listed(1, 1, 1)),
+    (7, Answer::Freed(1)),
+    (9, Answer::Done),
+    (11, Answer::Taken(1, 1)),
+    (13, Answer::Done),
+    (14, Answer::Listed(1, 1, 0)),
+    (15, Answer::Version(b"a.cat", 2)),
+    (16, Answer::Version(b"SB", 2)),
+    (17, Answer::Listed(0, 0, 0)),
+    (18, Answer::Done),
+];
+
+/// The calls are answered so at a desk. One that isn't opened for want of memory is opened again.
+fn are_each_answered<R: Wait>(rt: &R, alloc: Global) -> bool {
+    let answered = match through_a_desk(rt, alloc, WIDE, &EACH, &EACH_ANSWERED) {
+        Ok(found) => Ok(found),
+        Err(AllocError) => through_a_desk(rt, alloc, WIDE, &EACH, &EACH_ANSWERED),
+    };
+    answered == Ok((20, true))
+}
+
+/// `tools/refuse-each-growth` runs this once for each request for memory.
+#[test]
+fn each_call(rt: HostRuntime) {
+    assert!(rt; are_each_answered(&rt, rt.alloc()));
+}

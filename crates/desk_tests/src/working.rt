@@ -1,0 +1,8 @@
+//! Tests of the workers: several on real threads, beside sessions, and one whose calls are refused.
+
+mod calls;
+mod closing;
+mod gates;
+mod refusals;
+mod running;
+mod sharing;

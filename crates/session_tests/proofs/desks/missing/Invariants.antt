@@ -1,4 +1,0 @@
-use Rattle.session_tests.proofs.desks.missing.Given as goal
-
-abbrev pub ghosts-run_missing : goal.ghosts-run_missing
-ghosts-run_missing g a = record { name = a.blank.name; parts = a.blank.parts }

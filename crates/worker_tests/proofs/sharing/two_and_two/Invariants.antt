@@ -1,4 +1,0 @@
-use Rattle.worker_tests.proofs.sharing.two_and_two.Given as goal
-
-abbrev pub ghosts-run : goal.ghosts-run
-ghosts-run g a = record { name = a.blank.name; parts = a.blank.parts }
