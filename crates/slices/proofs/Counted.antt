@@ -1,13 +1,13 @@
 -- Counts and verdicts.
 use Rattle.std.proofs.Common.{◌≡◌, ℕ, ◌+◌, ◌-◌, ◌≤◌, ◌^◌, List, [], ◌∷◌, ◌++◌, length, Bool, true, false, cond, not, count_by, map, Option, None, Some, unwrap_or, refl, sym, ap, ◌∙◌, subst, inl, inr, arith}
 use Rattle.std.specs.Option.{is_some}
-use Rattle.std.specs.Prelude.{slice_get, MatchOption, Result, Ok, Err, OnOk, fold, IsTrue, ◌↔◌, ◌⊎◌}
+use Rattle.std.specs.Prelude.{slice_get, MatchOption, Result, Ok, Err, OnOk, fold, ◌↔◌, ◌⊎◌}
 use Rattle.std.specs.BTreeSet.{insert_key}
 use Rattle.std.specs.List.Sorted.{IsStrictlySortedBy}
 use Rattle.std.proofs.lemmas.List.Sums.{fold-append, sum_by-append}
 use Rattle.events.specs.declared.event.EventId.{EventId}
 use Rattle.events.specs.Executions.{GraphValue}
-use Rattle.cat_eval.specs.Judging.{Allowed, Raised}
+use Rattle.cat_eval.specs.Judging.{Raised}
 use Rattle.cat_tree.specs.Tree.{Clause}
 use Rattle.listings.specs.Lists.{IsIn, NoRepeats, Lists}
 use Rattle.conditions.specs.declared.place.Place.{Place}
@@ -226,20 +226,6 @@ one_more t items places x state old new flags raised e p n s f =
 pub on_ok : {X E P Q : Type 0} (r : Result X E) → (P → Q) → OnOk r P → OnOk r Q
 on_ok (Ok x) f p = f p
 on_ok (Err e) f p = tt
-
--- an execution is counted where the model allows it
-
-pub weighed_allowed : (t : Litmus) (items : List Clause) (places : List Place) (x : GraphValue) (old new : Counter) (allowed : Bool) → (IsTrue allowed ↔ Allowed items x) → allowed ≡ true → IsOneMore t items places x old new → IsWeighed t items places x old new
-weighed_allowed t items places x old new allowed judged is more = inl (judged.0 is, more)
-
-pub weighed_forbidden : (t : Litmus) (items : List Clause) (places : List Place) (x : GraphValue) (old new : Counter) (allowed : Bool) → (IsTrue allowed ↔ Allowed items x) → allowed ≡ false → new ≡ old → IsWeighed t items places x old new
-weighed_forbidden t items places x old new allowed judged is same = inr ((λ a. (let is' = judged.1 a in cc)), same)
-
--- the flags that are told of an allowed execution are those that are raised
-pub raised_when_allowed : (items : List Clause) (x : GraphValue) (allowed : Bool) (flags : List Word) → (IsTrue allowed ↔ Allowed items x) → allowed ≡ true →
-    Lists (λ name. Allowed items x × Raised items x name) flags → Lists (Raised items x) flags
-raised_when_allowed items x allowed flags judged is h =
-    record { once = h.once; only = λ name m. (h.only name m).1; all = λ name r. h.all name (judged.0 is, r) }
 
 -- the finding of a count
 

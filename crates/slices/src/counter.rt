@@ -98,7 +98,6 @@ impl Counter {
     }
 
     /// Counts an execution, if the work's model allows it: what the model says of it is handed in.
-    #[tactic(auto, using(crate::proofs::Counted::weighed_allowed, crate::proofs::Counted::weighed_forbidden, crate::proofs::Counted::raised_when_allowed))]
     fn weigh(
         &mut self,
         alloc: Global,
