@@ -1,21 +1,17 @@
 //! Runs a script of litmus tests at a desk, or evaluates one test.
 #![tactic(auto)]
 
-ghost use Rattle.std.specs.Prelude.{◌≤◌};
+ghost use Rattle.command_line.specs.Words.{IsInRange};
 
-use alone::{OneFault, one, write_refusal};
 use clap::error::ErrorKind;
 use command_line::{Task, read_task};
-use scripts::{Options, ServeFault, serve};
+use program::{BAD, FAILED, do_task};
 use std::io::BufWriter;
 use std::process::ExitCode;
 use std::sync::Wait;
 use std::thread::Threads;
 use std::{env, io};
 use wb_text::{ReadSource, WriteSink};
-
-/// The status where the words, a line of the script or the test is bad.
-const BAD: u8 = 2;
 
 /// Ends with 0, with 2 where the words, a line of the script or the test is bad, and with 1 where reading, writing or
 /// memory fails.
@@ -29,8 +25,7 @@ fn main(rt: HostRuntime) -> ExitCode {
         Err(_) => return reject_bytes(&rt),
     };
     match read_task(rt.alloc(), words.as_slice()) {
-        Ok(Task::Alone) => evaluate_one(&rt),
-        Ok(Task::Script(journal, workers)) => serve_script(&rt, &Options::new(workers, journal)),
+        Ok(task) => ExitCode::from(perform(&rt, task)),
         Err(error) if error.kind() == ErrorKind::OutOfMemory => ExitCode::FAILURE,
         Err(error) => match error.print(&rt) {
             Ok(()) => ExitCode::from(error.exit_code() as u8),
@@ -47,49 +42,23 @@ fn reject_bytes(rt: &impl Eprint) -> ExitCode {
     }
 }
 
-/// Reads the input as a script.
-fn serve_script(
-    rt: &(impl Input + Print + AllocGlobal + Threads + Wait + Sync),
-    options: &Options,
-) -> ExitCode
-    requires { options.now.workers ≤ 8 }
+/// Does a task over the standard input and output, and answers the status. What is written of one test is kept back to the end,
+/// and each answer of a script is sent on at once.
+fn perform(rt: &(impl Input + Print + AllocGlobal + Threads + Wait + Sync), task: Task) -> u8
+    requires { IsInRange task }
 {
     let mut reader = ReadSource::new(rt.reader());
-    let mut writer = WriteSink::new(io::writer(rt));
-    match serve(rt, rt.alloc(), &mut reader, &mut writer, options) {
-        Ok(()) => ExitCode::SUCCESS,
-        Err(ServeFault::BadLine(_)) => ExitCode::from(BAD),
-        Err(_) => ExitCode::FAILURE,
+    if matches!(&task, Task::Script(_, _)) {
+        let mut writer = WriteSink::new(io::writer(rt));
+        return do_task(rt, rt.alloc(), task, &mut reader, &mut writer);
     }
-}
-
-/// Reads the input as one test, and prints its summary or why it is refused.
-fn evaluate_one(rt: &(impl Input + Print + AllocGlobal)) -> ExitCode {
-    match summarize(rt) {
-        Ok(()) => ExitCode::SUCCESS,
-        Err(fault) if fault.is_refusal() => print_refusal(rt, &fault),
-        Err(_) => ExitCode::FAILURE,
-    }
-}
-
-/// Prints why the test is refused.
-fn print_refusal(rt: &impl Print, fault: &OneFault) -> ExitCode {
-    let mut writer = WriteSink::new(io::writer(rt));
-    match write_refusal(fault, &mut writer) {
-        Ok(()) => ExitCode::from(BAD),
-        Err(_) => ExitCode::FAILURE,
-    }
-}
-
-fn summarize(rt: &(impl Input + Print + AllocGlobal)) -> Result<(), OneFault> {
     let Ok(buffer) = BufWriter::new(rt.alloc(), io::writer(rt)) else {
-        return Err(OneFault::NoMemory);
+        return FAILED;
     };
-    let mut reader = ReadSource::new(rt.reader());
     let mut writer = WriteSink::new(buffer);
-    one(rt.alloc(), &mut reader, b"", 1, &mut writer)?;
+    let status = do_task(rt, rt.alloc(), task, &mut reader, &mut writer);
     match writer.flush() {
-        Ok(()) => Ok(()),
-        Err(_) => Err(OneFault::Write),
+        Ok(()) => status,
+        Err(_) => FAILED,
     }
 }

@@ -11,11 +11,11 @@ use Rattle.events.specs.declared.event.Access.TheVariants.{Read, Write, ExRead, 
 use Rattle.events.specs.declared.event.Event.{Event}
 use Rattle.events.specs.declared.event.Order.TheVariants.{Na}
 use Rattle.events.specs.Executions.{ThreadRun}
-use Rattle.litmus_tree.specs.Tree.{Word, Action, load, store, exchange, fence, Right, computed, plain_read, value_of, Declared, Step, empty, block, declare, assign, plain_write, perform, if_only, if_else, Steps, no_steps, in_turn}
+use Rattle.litmus_tree.specs.Tree.{Word, Action, load, store, exchange, modify, fence, Right, computed, plain_read, value_of, Declared, Step, empty, block, declare, assign, plain_write, perform, if_only, if_else, Steps, no_steps, in_turn}
 use Rattle.litmus_value.specs.Limits.{action_events, right_events, optional_events, step_events, steps_events, program_events, ActionNames, RightNames, OptionalNames, StepNames, StepsNames}
 use Rattle.c11_threads.specs.declared.content.Content.{Content}
-use Rattle.c11_threads.specs.Contents.{place_of, is_true}
-use Rattle.c11_threads.specs.Runs.{Progress, after, Site, thread_of, names, given_by, inside, reads_from, writes_into, fences, Calls, Gives, Assigns, Declares, DeclaresAll, Branches, Performs, PerformsAll, body, start}
+use Rattle.c11_threads.specs.Contents.{place_of, is_true, modified}
+use Rattle.c11_threads.specs.Runs.{Progress, after, next_read, Site, thread_of, names, given_by, inside, reads_from, writes_into, fences, Calls, Gives, Assigns, Declares, DeclaresAll, Branches, Performs, PerformsAll, body, start}
 use Rattle.c11_threads.specs.Bounds.{IsPlaced, AreFew, Bounding}
 
 place_yes : (w name : Word) (names : List Word) → bytes_eq name w ≡ true → place_of w (name ∷ names) ≡ 0
@@ -81,6 +81,8 @@ few_calls s (load x o) p w q c h = one_more (count s) p q (reads_from s Read x o
 few_calls s (store x e o) p w q c h = one_more (count s) p q (writes_into s Write x o (given_by s p e)) (inr (below s x c.0)) h.1
 few_calls s (exchange x e o) p w q c h =
     two_more (count s) p q (reads_from s ExRead x o h.0) (writes_into s ExWrite x o (given_by s p e)) (inr (below s x c.0)) (inr (below s x c.0)) h.3
+few_calls s (modify x f k o) p w q c h =
+    two_more (count s) p q (reads_from s ExRead x o h.0) (writes_into s ExWrite x o (modified f k (next_read p h.0))) (inr (below s x c)) (inr (below s x c)) h.3
 few_calls s (fence o) p w q c h = one_more (count s) p q (fences s o) (inl refl) h.1
 
 few_gives : (s : Site) (r : Right) (p : Progress) (w : Content) (q : Progress) → RightNames s.test.locations (names s) r → Gives s r p w q → Adds (right_events r) (count s) p q

@@ -2,7 +2,9 @@ pub mod Examples
 pub mod Filling
 pub mod Reaching
 pub mod Few
+pub mod Filtered
 pub mod Kept
+pub mod Numerals
 pub mod RunLists
 pub mod Sets
 pub mod Turns

@@ -8,9 +8,9 @@ use Rattle.events.specs.declared.event.Event.{Event}
 use Rattle.events.specs.declared.event.Order.TheVariants.{Na}
 use Rattle.events.specs.Executions.{ThreadRun, no_places, is_read}
 use Rattle.listings.specs.Lists.{StandsAt}
-use Rattle.litmus_tree.specs.Tree.{Word, Term, number, held, denied, equal, unequal, both, either, Action, load, store, exchange, fence, Right, computed, plain_read, value_of, Declared, Step, empty, block, declare, assign, plain_write, perform, if_only, if_else, Steps, no_steps, in_turn, Litmus}
+use Rattle.litmus_tree.specs.Tree.{Word, Term, number, held, denied, equal, unequal, both, either, Action, load, store, exchange, modify, fence, Right, computed, plain_read, value_of, Declared, Step, empty, block, declare, assign, plain_write, perform, if_only, if_else, Steps, no_steps, in_turn, Litmus}
 use Rattle.c11_threads.specs.declared.content.Content.{Content}
-use Rattle.c11_threads.specs.Contents.{place_of, joined, nothing, is_true, reads_in}
+use Rattle.c11_threads.specs.Contents.{place_of, joined, nothing, is_true, reads_in, modified}
 use Rattle.c11_threads.specs.Runs.{Progress, after, holding, next_read, Site, thread_of, names, given_by, inside, reads_from, writes_into, fences, Calls, Gives, Assigns, Declares, DeclaresAll, Branches, Performs, PerformsAll, body, initial_content, start}
 use Rattle.c11_threads.specs.Bounds.{IsReadAt, Depends}
 use Rattle.c11_threads.proofs.Sets.{none_in, in_just, in_joined}
@@ -137,6 +137,17 @@ calls_go s (exchange x e o) p w q h t c =
     goes_same s w (next_read p c.0) (after m (f ∷ [])) q c.2 (c.3 ∙ sym (two_are p r f)) (record {
       rests = rests_one m f (rests_one p r h (none_on p.events) t) (set_on p.events (r ∷ []) (given_by s p e).reads (given_on s p e h)) u;
       value = set_on m.events (f ∷ []) (next_read p c.0).reads (next_on p c.0 r refl);
+      tests = set_on m.events (f ∷ []) s.ctrl u;
+    })
+calls_go s (modify x g k o) p w q h t c =
+    let r = reads_from s ExRead x o c.0 in
+    let f = writes_into s ExWrite x o (modified g k (next_read p c.0)) in
+    let m = after p (r ∷ []) in
+    let u = set_on p.events (r ∷ []) s.ctrl t in
+    let read = next_on p c.0 r refl in
+    goes_same s w (next_read p c.0) (after m (f ∷ [])) q c.2 (c.3 ∙ sym (two_are p r f)) (record {
+      rests = rests_one m f (rests_one p r h (none_on p.events) t) read u;
+      value = set_on m.events (f ∷ []) (next_read p c.0).reads read;
       tests = set_on m.events (f ∷ []) s.ctrl u;
     })
 calls_go s (fence o) p w q h t c =

@@ -1,7 +1,7 @@
 -- The runs of a thread are listed.
 use Rattle.std.proofs.Common.{◌≡◌, ℕ, ◌≤◌, List, [], ◌∷◌, ◌++◌, length, map, refl, sym, ◌∙◌, ap, subst, inl, inr, arith, append_assoc, append-nil, Option, None, Some, Bool, true, false, if◌then◌else◌, length-append}
-use Rattle.std.specs.List.{flat_map}
-use Rattle.std.proofs.lemmas.List.{length-map}
+use Rattle.std.specs.List.{flat_map, list_any}
+use Rattle.std.proofs.Common.{filter, ◌==◌}
 use Rattle.relations.specs.Events.{EventSet}
 use Rattle.events.specs.declared.event.Access.{Access}
 use Rattle.events.specs.declared.event.Access.TheVariants.{Read, Write, ExRead, ExWrite}
@@ -11,17 +11,16 @@ use Rattle.events.specs.declared.event.Order.TheVariants.{Na}
 use Rattle.events.specs.Executions.{ThreadRun, no_places}
 use Rattle.listings.specs.Lists.{IsIn, NoRepeats, Lists}
 use Rattle.listings.proofs.Listings.{in_map, map_in, once_map, in_flat_map, flat_map_in, once_flat_map_of}
-use Rattle.litmus_tree.specs.Tree.{Word, Action, load, store, exchange, fence, Right, computed, plain_read, value_of, Declared, Step, empty, block, declare, assign, plain_write, perform, if_only, if_else, Steps, no_steps, in_turn, Litmus}
+use Rattle.litmus_tree.specs.declared.tree.Computation.{Computation}
+use Rattle.litmus_tree.specs.Tree.{Word, Action, load, store, exchange, modify, fence, computed_by, Right, computed, plain_read, value_of, Declared, Step, empty, block, declare, assign, plain_write, perform, if_only, if_else, Steps, no_steps, in_turn, Litmus}
 use Rattle.litmus_value.specs.Values.{values_of, InDom}
-use Rattle.litmus_value.proofs.Distinct.{lists_values}
+use Rattle.litmus_value.proofs.Distinct.{any_in, in_any}
+use Rattle.litmus_value.proofs.Sums.{lists_values}
+use Rattle.c11_threads.proofs.Filtered.{lists_filter, all_pass}
 use Rattle.c11_threads.specs.declared.content.Content.{Content}
-use Rattle.c11_threads.specs.Contents.{place_of, nothing}
-use Rattle.c11_threads.specs.Runs.{Progress, after, next_read, Site, thread_of, given_by, inside, reads_from, writes_into, fences, Calls, Assigns, Declares, DeclaresAll, Branches, Performs, PerformsAll, body, start, run_of, IsRun}
+use Rattle.c11_threads.specs.Contents.{place_of, nothing, modified}
+use Rattle.c11_threads.specs.Runs.{Progress, after, next_read, Site, thread_of, given_by, inside, reads_from, writes_into, fences, CanModify, Calls, Assigns, Declares, DeclaresAll, Branches, Performs, PerformsAll, body, start, run_of, IsRun}
 use Rattle.c11_threads.specs.Unrolled.{setting_of, giving, call_runs, right_runs, declare_runs, declares_runs, under, holds, step_runs, steps_runs, ends_of, runs_of}
-
-in_some : {X : Type 0} (xs : List X) (x : X) → IsIn x xs → 1 ≤ length xs
-in_some [] x h = absurd h
-in_some (y ∷ xs) x h = omega arith
 
 append_cancel : {X : Type 0} (xs ys zs : List X) → xs ++ ys ≡ xs ++ zs → ys ≡ zs
 append_cancel [] ys zs e = e
@@ -35,14 +34,12 @@ pub record IsListed (p : Progress) (P : Progress → Type 0) (ends : List Progre
   pub lists : Lists P ends
   pub grows : (q : Progress) → IsIn q ends → (more : List Event) × (q.events ≡ p.events ++ more)
   pub told : (a b : Progress) (x y : List Event) → IsIn a ends → IsIn b ends → a.events ++ x ≡ b.events ++ y → a ≡ b
-  pub some : 1 ≤ length ends
 
 reworded : (p : Progress) (P Q : Progress → Type 0) (ends : List Progress) → ((q : Progress) → P q → Q q) → ((q : Progress) → Q q → P q) → IsListed p P ends → IsListed p Q ends
 reworded p P Q ends f g h = record {
   lists = record { once = h.lists.once; only = λ q i. f q (h.lists.only q i); all = λ q m. h.lists.all q (g q m) };
   grows = h.grows;
   told = h.told;
-  some = h.some;
 }
 
 -- One way alone.
@@ -55,7 +52,6 @@ alone p q P more e does only = record {
   };
   grows = λ r h. elim h [ inl f ↦ (more, ap (λ (u : Progress). u.events) f ∙ e) | inr n ↦ absurd n ];
   told = λ a b x y h m f. elim h [ inl g ↦ elim m [ inl i ↦ g ∙ sym i | inr n ↦ absurd n ] | inr n ↦ absurd n ];
-  some = omega arith;
 }
 
 still : (p : Progress) → p.events ≡ p.events ++ []
@@ -94,7 +90,6 @@ followed p P Q ends g first next = record {
       let same : m.0 ≡ n.0 = first.told m.0 n.0 (u.0 ++ x) (v.0 ++ y) m.1 n.1 (sym left ∙ e ∙ right) in
       let F : Progress → Type 0 = λ r. IsIn b (g r) in
       (next m.0).told a b x y m.2 (subst F (sym same) n.2) e);
-  some = omega (arith, first.some, some_flat_map g ends (λ m. (next m).some));
 }
 
 branched : (p : Progress) (b : Bool) (P Q : Progress → Type 0) (xs ys : List Progress) → IsListed p P xs → IsListed p Q ys → IsListed p (λ q. Branches b (P q) (Q q)) (if b then xs else ys)
@@ -110,8 +105,9 @@ made p w0 events r =
     alone p (giving r w0 (after p events)) (Making p w0 events r) events refl (w0, after p events, (refl, refl), refl)
     (λ q h. h.3 ∙ ap (λ (w : Content). giving r w h.1) h.2.0 ∙ ap (λ (m : Progress). giving r w0 m) h.2.1)
 
-abbrev pub Reading : Litmus → Progress → (ℕ → List Event) → Option ℕ → Progress → Type 0
-Reading t p events r q = (w : Content) × (m : Progress) × ((v : ℕ) × InDom t v × (w ≡ next_read p v) × (m ≡ after p (events v))) × (q ≡ giving r w m)
+-- A read of a value with P, with the events that come with it, and its value given to a register or to none.
+abbrev pub Reading : (ℕ → Type 0) → Progress → (ℕ → List Event) → Option ℕ → Progress → Type 0
+Reading P p events r q = (w : Content) × (m : Progress) × ((v : ℕ) × P v × (w ≡ next_read p v) × (m ≡ after p (events v))) × (q ≡ giving r w m)
 
 once_map_of : {A X : Type 0} (f : A → X) (as' : List A) → ((a b : A) → IsIn a as' → IsIn b as' → f a ≡ f b → a ≡ b) → NoRepeats as' → NoRepeats (map f as')
 once_map_of f [] same o = tt
@@ -122,32 +118,48 @@ once_map_of {A} f (a ∷ rest) same o = (
   once_map_of f rest (λ b c h k. same b c (inr h) (inr k)) o.1,
 )
 
-pub some_values : (t : Litmus) → 1 ≤ length (values_of t)
-some_values t = in_some (values_of t) 0 ((lists_values t.initial t.threads).all 0 (inl refl))
-
-read_listed : (t : Litmus) (p : Progress) (events : ℕ → List Event) (r : Option ℕ) → ((v w : ℕ) (x y : List Event) → events v ++ x ≡ events w ++ y → v ≡ w) → IsListed p (Reading t p events r) (map (λ v. giving r (next_read p v) (after p (events v))) (values_of t))
-read_listed t p events r apart =
+read_listed : (P : ℕ → Type 0) (vs : List ℕ) → Lists P vs → (p : Progress) (events : ℕ → List Event) (r : Option ℕ) → ((v w : ℕ) (x y : List Event) → events v ++ x ≡ events w ++ y → v ≡ w) →
+    IsListed p (Reading P p events r) (map (λ v. giving r (next_read p v) (after p (events v))) vs)
+read_listed P vs dom p events r apart =
     let make : ℕ → Progress = λ v. giving r (next_read p v) (after p (events v)) in
-    let dom = lists_values t.initial t.threads in
-    let P : Progress → Type 0 = Reading t p events r in
+    let R : Progress → Type 0 = Reading P p events r in
     let same : (v w : ℕ) (x y : List Event) → (make v).events ++ x ≡ (make w).events ++ y → v ≡ w = λ v w x y e.
     apart v w x y (append_cancel p.events (events v ++ x) (events w ++ y) (sym (append_assoc p.events (events v) x) ∙ e ∙ append_assoc p.events (events w) y)) in
     record {
       lists = record {
-        once = once_map make (values_of t) (λ v w e. same v w [] [] (ap (λ (q : Progress). q.events ++ []) e)) dom.once;
-        only = λ q h. (let m = in_map make (values_of t) q h in
-            subst P m.2 (next_read p m.0, after p (events m.0), (m.0, dom.only m.0 m.1, refl, refl), refl));
-        all = λ q h. (let F : Progress → Type 0 = λ u. IsIn u (map make (values_of t)) in
+        once = once_map make vs (λ v w e. same v w [] [] (ap (λ (q : Progress). q.events ++ []) e)) dom.once;
+        only = λ q h. (let m = in_map make vs q h in
+            subst R m.2 (next_read p m.0, after p (events m.0), (m.0, dom.only m.0 m.1, refl, refl), refl));
+        all = λ q h. (let F : Progress → Type 0 = λ u. IsIn u (map make vs) in
             let v = h.2.0 in
             let e : q ≡ make v = h.3 ∙ ap (λ (w : Content). giving r w h.1) h.2.2 ∙ ap (λ (m : Progress). giving r (next_read p v) m) h.2.3 in
-            subst F (sym e) (map_in make (values_of t) v (dom.all v h.2.1)));
+            subst F (sym e) (map_in make vs v (dom.all v h.2.1)));
       };
-      grows = λ q h. (let m = in_map make (values_of t) q h in (events m.0, ap (λ (u : Progress). u.events) (sym m.2)));
-      told = λ a b x y h k e. (let m = in_map make (values_of t) a h in
-          let n = in_map make (values_of t) b k in
+      grows = λ q h. (let m = in_map make vs q h in (events m.0, ap (λ (u : Progress). u.events) (sym m.2)));
+      told = λ a b x y h k e. (let m = in_map make vs a h in
+          let n = in_map make vs b k in
           let f : (make m.0).events ++ x ≡ (make n.0).events ++ y = ap (λ (u : Progress). u.events ++ x) m.2 ∙ e ∙ ap (λ (u : Progress). u.events ++ y) (sym n.2) in
           sym m.2 ∙ ap make (same m.0 n.0 x y f) ∙ n.2);
-      some = simp length-map (some_values t);
+    }
+
+-- A read of any value of the test.
+any_listed : (t : Litmus) (p : Progress) (events : ℕ → List Event) (r : Option ℕ) → ((v w : ℕ) (x y : List Event) → events v ++ x ≡ events w ++ y → v ≡ w) →
+    IsListed p (Reading (InDom t) p events r) (map (λ v. giving r (next_read p v) (after p (events v))) (filter (λ v. true) (values_of t)))
+any_listed t p events r apart =
+    let make : ℕ → Progress = λ v. giving r (next_read p v) (after p (events v)) in
+    let F : List ℕ → Type 0 = λ vs. IsListed p (Reading (InDom t) p events r) (map make vs) in
+    subst F (sym (all_pass (λ v. true) (values_of t) (λ v. refl))) (read_listed (InDom t) (values_of t) (lists_values t.initial t.threads) p events r apart)
+
+-- The values that a modification can read.
+modifiable : (t : Litmus) (f : Computation) (k : ℕ) → Lists (CanModify t f k) (filter (λ v. list_any (λ u. u == computed_by f v k) (values_of t)) (values_of t))
+modifiable t f k =
+    let vs = values_of t in
+    let dom = lists_values t.initial t.threads in
+    let l = lists_filter (InDom t) (λ v. list_any (λ u. u == computed_by f v k) vs) vs dom in
+    record {
+      once = l.once;
+      only = λ v h. (let m = l.only v h in (m.0, dom.only (computed_by f v k) (any_in vs (computed_by f v k) m.1)));
+      all = λ v h. l.all v (h.0, in_any vs (computed_by f v k) (dom.all (computed_by f v k) h.1));
     }
 
 first_value : List Event → ℕ
@@ -168,14 +180,19 @@ Giving s a r p q = (w : Content) × (m : Progress) × Calls s a p w m × (q ≡ 
 call_listed : (t : Litmus) (k : ℕ) (c : EventSet) (a : Action) (r : Option ℕ) (p : Progress) → IsListed p (Giving (site t k c) a r p) (call_runs (setting_of t k) c a r p)
 call_listed t k c (load x o) r p =
     let s = site t k c in
-    read_listed t p (λ v. reads_from s Read x o v ∷ []) r (λ v w xs ys e. read_apart s Read x o v w xs ys e)
+    any_listed t p (λ v. reads_from s Read x o v ∷ []) r (λ v w xs ys e. read_apart s Read x o v w xs ys e)
 call_listed t k c (store x e o) r p =
     let s = site t k c in
     made p nothing (writes_into s Write x o (given_by s p e) ∷ []) r
 call_listed t k c (exchange x e o) r p =
     let s = site t k c in
     let write = writes_into s ExWrite x o (given_by s p e) in
-    read_listed t p (λ v. reads_from s ExRead x o v ∷ write ∷ []) r (λ v w xs ys e. read_apart s ExRead x o v w (write ∷ xs) (write ∷ ys) e)
+    any_listed t p (λ v. reads_from s ExRead x o v ∷ write ∷ []) r (λ v w xs ys e. read_apart s ExRead x o v w (write ∷ xs) (write ∷ ys) e)
+call_listed t k c (modify x f n o) r p =
+    let s = site t k c in
+    let write : ℕ → Event = λ v. writes_into s ExWrite x o (modified f n (next_read p v)) in
+    read_listed (CanModify t f n) (filter (λ v. list_any (λ u. u == computed_by f v n) (values_of t)) (values_of t)) (modifiable t f n) p (λ v. reads_from s ExRead x o v ∷ write v ∷ []) r
+    (λ v w xs ys e. read_apart s ExRead x o v w (write v ∷ xs) (write w ∷ ys) e)
 call_listed t k c (fence o) r p = made p nothing (fences (site t k c) o ∷ []) r
 
 right_listed : (t : Litmus) (k : ℕ) (c : EventSet) (name : Word) (right : Right) (p : Progress) → IsListed p (Assigns (site t k c) name right p) (right_runs (setting_of t k) c right (place_of name (thread_of t k).registers) p)
@@ -187,7 +204,7 @@ right_listed t k c name (computed e) p =
     (λ q h. h.3 ∙ ap (λ (w : Content). giving (Some r) w h.1) h.2.0 ∙ ap (λ (m : Progress). giving (Some r) w0 m) h.2.1)
 right_listed t k c name (plain_read x) p =
     let s = site t k c in
-    read_listed t p (λ v. reads_from s Read x Na v ∷ []) (Some (place_of name (thread_of t k).registers)) (λ v w xs ys e. read_apart s Read x Na v w xs ys e)
+    any_listed t p (λ v. reads_from s Read x Na v ∷ []) (Some (place_of name (thread_of t k).registers)) (λ v w xs ys e. read_apart s Read x Na v w xs ys e)
 right_listed t k c name (value_of a) p = call_listed t k c a (Some (place_of name (thread_of t k).registers)) p
 
 declare_listed : (t : Litmus) (k : ℕ) (c : EventSet) (name : Word) (right : Option Right) (p : Progress) → IsListed p (Declares (site t k c) name right p) (declare_runs (setting_of t k) c name right p)
@@ -246,6 +263,3 @@ lists_runs_of t k =
       only = λ run h. (let m = in_map run_of (ends_of t k) run h in subst P m.2 (m.0, ends.lists.only m.0 m.1, refl));
       all = λ run r. subst F (sym r.2) (map_in run_of (ends_of t k) r.0 (ends.lists.all r.0 r.1));
     }
-
-pub some_runs : (t : Litmus) (k : ℕ) → 1 ≤ length (runs_of t k)
-some_runs t k = simp length-map ((ends_listed t k).some)

@@ -1,9 +1,9 @@
 -- Sets of places, told by what is in them.
-use Rattle.std.proofs.Common.{◌≡◌, ℕ, ◌+◌, ◌<◌, ◌≤◌, ◌⊎◌, refl, sym, ◌∙◌, ap, subst, inl, inr, arith, Bool, true, false, ◌==◌, ◌||◌}
-use Rattle.std.proofs.lemmas.Bool.{or_cases, cases_Bool, eqb-true, eq-eqb, false≢true, cases_lt}
+use Rattle.std.proofs.Common.{◌≡◌, ℕ, ◌<◌, ◌⊎◌, refl, sym, ◌∙◌, inl, inr, Bool, true, false, ◌==◌, ◌||◌}
+use Rattle.std.proofs.lemmas.Bool.{or_cases, eqb-true, eq-eqb, false≢true}
 use Rattle.relations.specs.Tables.{place}
-use Rattle.relations.specs.TableFacts.{place_line, line_below, line_again, same_line}
-use Rattle.relations.specs.Events.{EventSet, Has, IsExactlySet, IsCanonicalSet, event_set}
+use Rattle.relations.specs.TableFacts.{place_line, line_below, line_again}
+use Rattle.relations.specs.Events.{EventSet, Has, IsExactlySet, event_set}
 use Rattle.relations.specs.Equality.{one_set}
 use Rattle.events.specs.Executions.{no_places}
 use Rattle.c11_threads.specs.Contents.{just, joined}

@@ -1,8 +1,8 @@
 -- Ways that are taken part by part.
-use Rattle.std.proofs.Common.{◌≡◌, ℕ, suc, ◌+◌, ◌≤◌, ◌<◌, List, [], ◌∷◌, ◌++◌, length, map, get_or, drop, drop-cons, add-one, refl, sym, ◌∙◌, ap, arith, append-nil, Option, None, Some, Bool, true, false, if◌then◌else◌, length-append, Vec, ◌-◌}
+use Rattle.std.proofs.Common.{◌≡◌, ℕ, zero, suc, filter, subst, ◌+◌, ◌≤◌, ◌<◌, List, [], ◌∷◌, ◌++◌, length, map, get_or, drop, drop-cons, add-one, refl, sym, ◌∙◌, ap, arith, append-nil, Option, None, Some, Bool, true, false, if◌then◌else◌, length-append, Vec, ◌-◌}
 use Rattle.std.specs.Prelude.{◌&&◌}
 use Rattle.std.proofs.lemmas.Bool.{false≢true}
-use Rattle.std.proofs.lemmas.List.{drop_all, length-map, length-drop}
+use Rattle.std.proofs.lemmas.List.{drop_all, length-map}
 use Rattle.std.proofs.lemmas.Grind.{flat_map-append}
 use Rattle.std.specs.Global.{Global}
 use Rattle.std.specs.List.{flat_map}
@@ -14,16 +14,29 @@ use Rattle.litmus_tree.specs.declared.tree.Statement.{Statement}
 use Rattle.litmus_tree.specs.declared.tree.Statement.TheVariants.{Block as Block', Assign as Assign', rolls-Block, rolls-Assign}
 use Rattle.litmus_tree.specs.declared.tree.Statement.TheOpen.{Statement-F}
 use Rattle.litmus_tree.specs.declared.tree.Statement.TheFolds.{fold-roll-Statement}
-use Rattle.litmus_tree.specs.Tree.{Word, Action, load, store, exchange, fence, Right, computed, plain_read, value_of, Declared, Step, empty, block, declare, assign, plain_write, perform, if_only, if_else, Steps, no_steps, in_turn, layer, step_of, steps_of, term_of, declared_of}
+use Rattle.litmus_tree.specs.Tree.{Word, Action, load, store, exchange, modify, fence, computed_by, Right, computed, plain_read, value_of, Declared, Step, empty, block, declare, assign, plain_write, perform, if_only, if_else, Steps, no_steps, in_turn, layer, step_of, steps_of, term_of, declared_of}
 use Rattle.c11_threads.specs.declared.fault.RunFault.{RunFault}
 use Rattle.c11_threads.specs.declared.fault.RunFault.TheVariants.{TooManyRuns, NoMemory}
 use Rattle.c11_threads.specs.Faults.{IsFaultAt}
-use Rattle.c11_threads.specs.Contents.{place_of}
+use Rattle.c11_threads.specs.Contents.{place_of, nothing}
+use Rattle.c11_threads.specs.Serving.{AreValues, IsComputable, ServesRead, ServesCall, ServesRight, ServesOption, ServesAll, Serves, ServesSteps}
+use Rattle.c11_threads.specs.declared.behind.Behind.{Behind}
+use Rattle.c11_threads.specs.declared.behind.Behind.TheVariants.{Nothing, Write as Writes, Modify}
 use Rattle.c11_threads.specs.Idle.{is_idle, are_idle}
 use Rattle.c11_threads.specs.Runs.{Progress}
-use Rattle.c11_threads.specs.Unrolled.{Setting, giving, given_at, call_runs, right_runs, declare_runs, declares_runs, under, holds, step_runs, steps_runs}
+use Rattle.c11_threads.specs.Unrolled.{Setting, giving, given_at, accesses, may_read, read_runs, call_runs, right_runs, declare_runs, declares_runs, under, holds, step_runs, steps_runs}
 use Rattle.c11_threads.proofs.Filling.{joined_on}
+use Rattle.c11_threads.proofs.Filtered.{filter_in}
 use Rattle.c11_threads.proofs.RunLists.{some_flat_map}
+use Rattle.events.specs.declared.event.Access.TheVariants.{Read, ExRead, ExWrite}
+use Rattle.events.specs.declared.event.Order.TheVariants.{Na}
+use Rattle.events.specs.declared.event.Event.{Event}
+use Rattle.listings.specs.Lists.{IsIn}
+use Rattle.listings.proofs.Listings.{place_of as place_of_element}
+use Rattle.litmus_tree.specs.declared.tree.Computation.{Computation}
+use Rattle.litmus_tree.specs.declared.tree.Computation.TheVariants.{Addition}
+use Rattle.litmus_value.proofs.Distinct.{in_any}
+use Rattle.std.proofs.lemmas.List.Elements.{All-head, All-tail}
 
 abbrev pub Ways : Type 0
 Ways = Progress → List Progress
@@ -98,44 +111,72 @@ still_fault k room most n m NoMemory l h = h
 drop_first : {A : Type 0} (a : A) (xs : List A) (i : ℕ) → i < length xs → a ≡ get_or xs i a → drop i xs ≡ a ∷ drop (i + 1) xs
 drop_first a xs i l e = rw add-one (drop-cons xs i a l ∙ ap (λ y. y ∷ drop (suc i) xs) (sym e))
 
--- Each way has an end.
-some_call : (s : Setting) → 1 ≤ length s.values → (c : EventSet) (a : Action) (r : Option ℕ) (p : Progress) → 1 ≤ length (call_runs s c a r p)
-some_call s v c (load x o) r p = simp length-map v
-some_call s v c (store x e o) r p = omega arith
-some_call s v c (exchange x e o) r p = simp length-map v
-some_call s v c (fence o) r p = omega arith
+-- Each way has an end: 0 can be read.
 
-some_right : (s : Setting) → 1 ≤ length s.values → (c : EventSet) (a : Right) (r : ℕ) (p : Progress) → 1 ≤ length (right_runs s c a r p)
-some_right s v c (computed e) r p = omega arith
-some_right s v c (plain_read x) r p = simp length-map v
-some_right s v c (value_of a) r p = some_call s v c a (Some r) p
+some_in : {X : Type 0} (xs : List X) (x : X) → IsIn x xs → 1 ≤ length xs
+some_in [] x h = absurd h
+some_in (y ∷ xs) x h = omega arith
 
-pub some_declare : (s : Setting) → 1 ≤ length s.values → (c : EventSet) (r : Word) (a : Option Right) (p : Progress) → 1 ≤ length (declare_runs s c r a p)
-some_declare s v c r None p = omega arith
-some_declare s v c r (Some a) p = some_right s v c a _ p
+-- what is computed of 0 and a constant is the constant
+of_zero : (f : Computation) (k : ℕ) → computed_by f 0 k ≡ k
+of_zero Addition k = omega arith
 
-pub some_declares : (s : Setting) → 1 ≤ length s.values → (c : EventSet) (ds : List Declared) (p : Progress) → 1 ≤ length (declares_runs s c ds p)
-some_declares s v c [] p = omega arith
-some_declares s v c (d ∷ ds) p = omega (arith, some_declare s v c d.register d.value p, some_flat_map (declares_runs s c ds) (declare_runs s c d.register d.value p) (some_declares s v c ds))
+zero_may : (values : List ℕ) (b : Behind) → ServesRead values b → may_read values b 0 ≡ true
+zero_may values Nothing h = refl
+zero_may values (Writes e) h = refl
+zero_may values (Modify f k e) h =
+    let P : ℕ → Type 0 = λ u. IsIn u values in
+    in_any values (computed_by f 0 k) (subst P (sym (of_zero f k)) h)
+
+some_read : (s : Setting) → AreValues s.values → (b : Behind) → ServesRead s.values b → (e : Event) (r : Option ℕ) (p : Progress) → 1 ≤ length (read_runs s e b r p)
+some_read s v b h e r p = simp length-map (some_in (filter (may_read s.values b) s.values) 0 (filter_in (may_read s.values b) s.values 0 v.zero (zero_may s.values b h)))
+
+some_call : (s : Setting) → AreValues s.values → (c : EventSet) (a : Action) → ServesCall s.values a → (r : Option ℕ) (p : Progress) → 1 ≤ length (call_runs s c a r p)
+some_call s v c (load x o) h r p = some_read s v Nothing tt (accesses s c Read x o nothing) r p
+some_call s v c (store x e o) h r p = omega arith
+some_call s v c (exchange x e o) h r p = some_read s v (Writes (accesses s c ExWrite x o (given_at s p e))) tt (accesses s c ExRead x o nothing) r p
+some_call s v c (modify x f k o) h r p = some_read s v (Modify f k (accesses s c ExWrite x o nothing)) h (accesses s c ExRead x o nothing) r p
+some_call s v c (fence o) h r p = omega arith
+
+some_right : (s : Setting) → AreValues s.values → (c : EventSet) (a : Right) → ServesRight s.values a → (r : ℕ) (p : Progress) → 1 ≤ length (right_runs s c a r p)
+some_right s v c (computed e) h r p = omega arith
+some_right s v c (plain_read x) h r p = some_read s v Nothing tt (accesses s c Read x Na nothing) (Some r) p
+some_right s v c (value_of a) h r p = some_call s v c a h (Some r) p
+
+pub some_declare : (s : Setting) → AreValues s.values → (c : EventSet) (r : Word) (a : Option Right) → ServesOption s.values a → (p : Progress) → 1 ≤ length (declare_runs s c r a p)
+some_declare s v c r None h p = omega arith
+some_declare s v c r (Some a) h p = some_right s v c a h _ p
+
+abbrev Serving : List ℕ → Declared → Type 0
+Serving values d = ServesOption values d.value
+
+pub some_declares : (s : Setting) → AreValues s.values → (c : EventSet) (ds : List Declared) → ServesAll s.values ds → (p : Progress) → 1 ≤ length (declares_runs s c ds p)
+some_declares s v c [] h p = omega arith
+some_declares s v c (d ∷ ds) h p =
+    omega (
+      arith,
+      some_declare s v c d.register d.value (All-head (Serving s.values) d ds h) p,
+      some_flat_map (declares_runs s c ds) (declare_runs s c d.register d.value p) (some_declares s v c ds (All-tail (Serving s.values) d ds h)),
+    )
 
 either_some : (b : Bool) (xs ys : List Progress) → 1 ≤ length xs → 1 ≤ length ys → 1 ≤ length (if b then xs else ys)
 either_some true xs ys h k = h
 either_some false xs ys h k = k
 
 mutual
-  pub some_step : (a : Step) (s : Setting) → 1 ≤ length s.values → (c : EventSet) (p : Progress) → 1 ≤ length (step_runs a s c p)
-  some_step empty s v c p = omega arith
-  some_step (block steps) s v c p = some_steps steps s v c p
-  some_step (declare ds) s v c p = some_declares s v c ds p
-  some_step (assign r right) s v c p = some_right s v c right _ p
-  some_step (plain_write x e) s v c p = omega arith
-  some_step (perform a) s v c p = some_call s v c a None p
-  some_step (if_only e a) s v c p = either_some (holds s e p) _ _ (some_step a s v (under s c e p) p) (let h : 1 ≤ length (p ∷ []) = omega arith in h)
-  some_step (if_else e a b) s v c p = either_some (holds s e p) _ _ (some_step a s v (under s c e p) p) (some_step b s v (under s c e p) p)
+  pub some_step : (a : Step) (s : Setting) → AreValues s.values → Serves s.values a → (c : EventSet) (p : Progress) → 1 ≤ length (step_runs a s c p)
+  some_step empty s v h c p = omega arith
+  some_step (block steps) s v h c p = some_steps steps s v h c p
+  some_step (declare ds) s v h c p = some_declares s v c ds h p
+  some_step (assign r right) s v h c p = some_right s v c right h _ p
+  some_step (plain_write x e) s v h c p = omega arith
+  some_step (perform a) s v h c p = some_call s v c a h None p
+  some_step (if_only e a) s v h c p = either_some (holds s e p) _ _ (some_step a s v h (under s c e p) p) (let g : 1 ≤ length (p ∷ []) = omega arith in g)
+  some_step (if_else e a b) s v h c p = either_some (holds s e p) _ _ (some_step a s v h.0 (under s c e p) p) (some_step b s v h.1 (under s c e p) p)
 
-  pub some_steps : (steps : Steps) (s : Setting) → 1 ≤ length s.values → (c : EventSet) (p : Progress) → 1 ≤ length (steps_runs steps s c p)
-  some_steps no_steps s v c p = omega arith
-  some_steps (in_turn a rest) s v c p = omega (arith, some_step a s v c p, some_flat_map (steps_runs rest s c) (step_runs a s c p) (some_steps rest s v c))
+  pub some_steps : (steps : Steps) (s : Setting) → AreValues s.values → ServesSteps s.values steps → (c : EventSet) (p : Progress) → 1 ≤ length (steps_runs steps s c p)
+  some_steps no_steps s v h c p = omega arith
+  some_steps (in_turn a rest) s v h c p = omega (arith, some_step a s v h.0 c p, some_flat_map (steps_runs rest s c) (step_runs a s c p) (some_steps rest s v h.1 c))
 
 -- Each way that is left has an end.
 pub way_fault : (f : Ways) → ((p : Progress) → 1 ≤ length (f p)) → (k room most waiting : ℕ) (left rest : List Progress) (from : Progress) (done all : List Progress) (e : RunFault) → left ≡ from ∷ rest → done ++ flat_map f left ≡ all →
@@ -150,9 +191,31 @@ pub onto_fault : (k old most n : ℕ) (e : RunFault) → old < most → IsFaultA
 onto_fault k old most n e l h = still_fault k (most - old) most n (old + n) e (omega (arith, l)) h
 
 -- Where the ends are as many as are wanted and a value is left, the ways on are more.
-pub too_many : (f : ℕ → Progress) (values : List ℕ) (i : ℕ) (done old all : List Progress) (most : ℕ) → i < length values → most ≤ length done → done ++ map f (drop i values) ≡ old ++ all → most < length old + length all
-too_many f values i done old all most l m e =
-    omega (arith, l, m, ap (λ (ps : List Progress). length ps) e, length-append done (map f (drop i values)), length-append old all, length-map (drop i values) f, length-drop i values)
+pub too_many : (f : ℕ → Progress) (v : ℕ) (left rest : List ℕ) (done old all : List Progress) (most : ℕ) → left ≡ v ∷ rest → most ≤ length done → done ++ map f left ≡ old ++ all → most < length old + length all
+too_many f v left rest done old all most l m e =
+    omega (arith, ap (λ (vs : List ℕ). length vs) l, m, ap (λ (ps : List Progress). length ps) e, length-append done (map f left), length-append old all, length-map left f)
+
+-- What serves statements serves those behind a place, and the one at a place.
+
+pub serves_behind : (values : List ℕ) (i : ℕ) (statements : List Statement) → ServesSteps values (steps_of statements) → ServesSteps values (steps_of (drop i statements))
+serves_behind values zero statements h = h
+serves_behind values (suc i) [] h = tt
+serves_behind values (suc i) (a ∷ statements) h = serves_behind values i statements h.1
+
+pub serves_at : (values : List ℕ) (statements : List Statement) (i : ℕ) (a : Statement) → ServesSteps values (steps_of statements) → i < length statements → a ≡ get_or statements i a → Serves values (step_of a)
+serves_at values statements i a h l is =
+    let P : List Statement → Type 0 = λ as'. ServesSteps values (steps_of as') in
+    (subst P (drop_first a statements i l is) (serves_behind values i statements h)).0
+
+served_behind : (values : List ℕ) (i : ℕ) (ds : List Declarator) → ServesAll values (map declared_of ds) → ServesAll values (map declared_of (drop i ds))
+served_behind values zero ds h = h
+served_behind values (suc i) [] h = h
+served_behind values (suc i) (d ∷ ds) h = served_behind values i ds (All-tail (Serving values) (declared_of d) (map declared_of ds) h)
+
+pub served_at : (values : List ℕ) (ds : List Declarator) (i : ℕ) (d : Declarator) → ServesAll values (map declared_of ds) → i < length ds → d ≡ get_or ds i d → ServesOption values (declared_of d).value
+served_at values ds i d h l is =
+    let P : List Declarator → Type 0 = λ es. ServesAll values (map declared_of es) in
+    All-head (Serving values) (declared_of d) (map declared_of (drop (i + 1) ds)) (subst P (drop_first d ds i l is) (served_behind values i ds h))
 
 -- One statement more.
 pub turn : (s : Setting) (c : EventSet) (statements : List Statement) (i : ℕ) (a : Statement) (ends : List Progress) → i < length statements → a ≡ get_or statements i a → flat_map (steps_runs (steps_of (drop (i + 1) statements)) s c) (flat_map (step_runs (step_of a) s c) ends) ≡ flat_map (steps_runs (steps_of (drop i statements)) s c) ends
@@ -169,13 +232,13 @@ further s c statements i a ends next all l is done whole =
     ∙ turn s c statements i a ends l is ∙ whole
 
 -- A fault at one statement is a fault of all.
-pub turn_fault : (s : Setting) (most : ℕ) → 1 ≤ length s.values → (c : EventSet) (statements : List Statement) (i : ℕ) (a : Statement) (ends all : List Progress) (e : RunFault) → i < length statements → a ≡ get_or statements i a → flat_map (steps_runs (steps_of (drop i statements)) s c) ends ≡ all → IsFaultAt s.thread most (length (flat_map (step_runs (step_of a) s c) ends)) e → IsFaultAt s.thread most (length all) e
-turn_fault s most v c statements i a ends all e l is whole h =
+pub turn_fault : (s : Setting) (most : ℕ) → AreValues s.values → (c : EventSet) (statements : List Statement) → ServesSteps s.values (steps_of statements) → (i : ℕ) (a : Statement) (ends all : List Progress) (e : RunFault) → i < length statements → a ≡ get_or statements i a → flat_map (steps_runs (steps_of (drop i statements)) s c) ends ≡ all → IsFaultAt s.thread most (length (flat_map (step_runs (step_of a) s c) ends)) e → IsFaultAt s.thread most (length all) e
+turn_fault s most v c statements g i a ends all e l is whole h =
     let done = flat_map (step_runs (step_of a) s c) ends in
     let rest = steps_runs (steps_of (drop (i + 1) statements)) s c in
     let t = further s c statements i a ends done all l is refl whole in
     still_fault s.thread most most (length done) (length all) e
-    (omega (arith, some_flat_map rest done (some_steps (steps_of (drop (i + 1) statements)) s v c), ap (λ (ps : List Progress). length ps) t)) h
+    (omega (arith, some_flat_map rest done (some_steps (steps_of (drop (i + 1) statements)) s v (serves_behind s.values (i + 1) statements g) c), ap (λ (ps : List Progress). length ps) t)) h
 
 -- The same of declarations.
 pub declare_turn : (s : Setting) (c : EventSet) (ds : List Declarator) (i : ℕ) (d : Declarator) (ends : List Progress) → i < length ds → d ≡ get_or ds i d → flat_map (declares_runs s c (map declared_of (drop (i + 1) ds))) (flat_map (declare_runs s c (declared_of d).register (declared_of d).value) ends) ≡ flat_map (declares_runs s c (map declared_of (drop i ds))) ends
@@ -191,10 +254,24 @@ declared_further s c ds i d ends next all l is done whole =
     ap (flat_map (declares_runs s c (map declared_of (drop (i + 1) ds)))) done
     ∙ declare_turn s c ds i d ends l is ∙ whole
 
-pub declare_fault : (s : Setting) (most : ℕ) → 1 ≤ length s.values → (c : EventSet) (ds : List Declarator) (i : ℕ) (d : Declarator) (ends all : List Progress) (e : RunFault) → i < length ds → d ≡ get_or ds i d → flat_map (declares_runs s c (map declared_of (drop i ds))) ends ≡ all → IsFaultAt s.thread most (length (flat_map (declare_runs s c (declared_of d).register (declared_of d).value) ends)) e → IsFaultAt s.thread most (length all) e
-declare_fault s most v c ds i d ends all e l is whole h =
+pub declare_fault : (s : Setting) (most : ℕ) → AreValues s.values → (c : EventSet) (ds : List Declarator) → ServesAll s.values (map declared_of ds) → (i : ℕ) (d : Declarator) (ends all : List Progress) (e : RunFault) → i < length ds → d ≡ get_or ds i d → flat_map (declares_runs s c (map declared_of (drop i ds))) ends ≡ all → IsFaultAt s.thread most (length (flat_map (declare_runs s c (declared_of d).register (declared_of d).value) ends)) e → IsFaultAt s.thread most (length all) e
+declare_fault s most v c ds g i d ends all e l is whole h =
     let done = flat_map (declare_runs s c (declared_of d).register (declared_of d).value) ends in
     let rest = declares_runs s c (map declared_of (drop (i + 1) ds)) in
     let t = declared_further s c ds i d ends done all l is refl whole in
     still_fault s.thread most most (length done) (length all) e
-    (omega (arith, some_flat_map rest done (some_declares s v c (map declared_of (drop (i + 1) ds))), ap (λ (ps : List Progress). length ps) t)) h
+    (omega (arith, some_flat_map rest done (some_declares s v c (map declared_of (drop (i + 1) ds)) (served_behind s.values (i + 1) ds g)), ap (λ (ps : List Progress). length ps) t)) h
+
+-- What is computed of two numbers of a text has 32 bits.
+pub computable : (values : List ℕ) → AreValues values → (b : Behind) → ServesRead values b → (v : ℕ) → v ≤ 2147483647 → IsComputable b v
+computable values a Nothing h v l = tt
+computable values a (Writes e) h v l = tt
+computable values a (Modify Addition k e) h v l =
+    let p = place_of_element values 0 k h in
+    let P : ℕ → Type 0 = λ u. u ≤ 2147483647 in
+    let m : k ≤ 2147483647 = subst P p.2 (a.small p.0 0 p.1) in
+    omega (arith, l, m)
+
+-- Each of the values is a number of a text.
+pub small_at : {inside values : List ℕ} → inside ≡ values → AreValues values → (i : ℕ) → i < length inside → get_or inside i 0 ≤ 2147483647
+small_at {inside} {values} e a i l = (let P : List ℕ → Type 0 = AreValues in subst P (sym e) a).small i 0 l

@@ -6,9 +6,10 @@ use Rattle.relations.specs.Tables.{place}
 use Rattle.relations.specs.Events.{EventSet, event_set}
 use Rattle.events.specs.Executions.{no_places}
 use Rattle.c11_threads.specs.declared.content.Content.{Content}
+use Rattle.litmus_tree.specs.declared.tree.Computation.{Computation}
 use Rattle.litmus_tree.specs.declared.expression.Operator.{Operator}
 use Rattle.litmus_tree.specs.declared.expression.Operator.TheVariants.{Equal, Unequal, Both, Either}
-use Rattle.litmus_tree.specs.Tree.{Word, Term, number, held, denied, equal, unequal, both, either, Growth, denies, joins}
+use Rattle.litmus_tree.specs.Tree.{Word, Term, number, held, denied, equal, unequal, both, either, Growth, denies, joins, computed_by}
 
 -- the first place of the name among the names
 abbrev pub place_of : Word → List Word → ℕ
@@ -72,3 +73,7 @@ holds Either v w = is_true v || is_true w
 abbrev pub passed : List Word → List Content → Content → Growth → Content
 passed names registers c denies = record { value = truth (not (is_true c.value)); reads = c.reads }
 passed names registers c (joins o b) = record { value = truth (holds o c.value (value_in names registers b)); reads = joined c.reads (reads_in names registers b) }
+
+-- what is computed of what was read and a constant, by which no read but that one reached it
+abbrev pub modified : Computation → ℕ → Content → Content
+modified f k w = record { value = computed_by f w.value k; reads = w.reads }

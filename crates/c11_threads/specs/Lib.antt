@@ -5,4 +5,5 @@ pub mod Idle
 pub mod Labels
 pub mod RunExamples
 pub mod Runs
+pub mod Serving
 pub mod Unrolled

@@ -2,7 +2,7 @@
 --   r = atomic_load_explicit(x, memory_order_relaxed);
 --   if (r) atomic_store_explicit(y, 1, memory_order_relaxed);
 --   atomic_store(y, r);
-use Rattle.std.specs.Prelude.{◌≡◌, ℕ, [], ◌∷◌}
+use Rattle.std.specs.Prelude.{◌≡◌, ℕ, [], ◌∷◌, ◌+◌}
 use Rattle.relations.specs.Events.{EventSet}
 use Rattle.events.specs.declared.event.Access.{Access}
 use Rattle.events.specs.declared.event.Access.TheVariants.{Read, Write, ExRead, ExWrite}
@@ -12,7 +12,8 @@ use Rattle.events.specs.declared.event.Order.TheVariants.{Rlx, AcqRel, Sc}
 use Rattle.events.specs.Executions.{ThreadRun, no_places}
 use Rattle.conditions.specs.declared.condition.Kind.TheVariants.{Exists}
 use Rattle.conditions.specs.Conditions.{truth}
-use Rattle.litmus_tree.specs.Tree.{Word, number, held, load, store, exchange, value_of, assign, perform, if_only, Steps, no_steps, in_turn, Litmus}
+use Rattle.litmus_tree.specs.declared.tree.Computation.TheVariants.{Addition}
+use Rattle.litmus_tree.specs.Tree.{Word, number, held, load, store, exchange, modify, value_of, assign, perform, if_only, Steps, no_steps, in_turn, Litmus}
 use Rattle.c11_threads.specs.Contents.{just}
 use Rattle.c11_threads.specs.Unrolled.{runs_of}
 
@@ -71,3 +72,14 @@ exchanged v = record {
 
 abbrev pub ExchangeRuns : Type 0
 ExchangeRuns = runs_of (test_of (in_turn (assign r (value_of (exchange x (number 1) AcqRel))) no_steps)) 0 ≡ exchanged 0 ∷ exchanged 1 ∷ []
+
+-- r = atomic_fetch_add_explicit(x, 1, memory_order_acq_rel), the only add: the values are 0, 1 and 2. It reads 0 or 1, which r gets,
+-- and writes one more, which depends on its own read; 2 it can't read, since 3 is no value.
+abbrev pub added : ℕ → ThreadRun
+added v = record {
+  events = event ExRead 0 v AcqRel no_places no_places ∷ event ExWrite 0 (v + 1) AcqRel (just 0) no_places ∷ [];
+  registers = v ∷ [];
+}
+
+abbrev pub AdditionRuns : Type 0
+AdditionRuns = runs_of (test_of (in_turn (assign r (value_of (modify x Addition 1 AcqRel))) no_steps)) 0 ≡ added 0 ∷ added 1 ∷ []

@@ -10,11 +10,12 @@ use Rattle.events.specs.declared.event.Order.{Order}
 use Rattle.events.specs.declared.event.Order.TheVariants.{Na}
 use Rattle.events.specs.Executions.{ThreadRun, no_places}
 use Rattle.conditions.specs.declared.place.Place.TheVariants.{Reg}
-use Rattle.litmus_tree.specs.Tree.{Word, Term, Action, load, store, exchange, fence, Right, computed, plain_read, value_of, Declared, Step, empty, block, declare, assign, plain_write, perform, if_only, if_else, Steps, no_steps, in_turn, Program, Litmus}
+use Rattle.litmus_tree.specs.declared.tree.Computation.{Computation}
+use Rattle.litmus_tree.specs.Tree.{Word, Term, Action, load, store, exchange, modify, fence, computed_by, Right, computed, plain_read, value_of, Declared, Step, empty, block, declare, assign, plain_write, perform, if_only, if_else, Steps, no_steps, in_turn, Program, Litmus}
 use Rattle.conditions.specs.States.{value_at}
 use Rattle.litmus_value.specs.Values.{InDom}
 use Rattle.c11_threads.specs.declared.content.Content.{Content}
-use Rattle.c11_threads.specs.Contents.{place_of, just, joined, nothing, is_true, content_in}
+use Rattle.c11_threads.specs.Contents.{place_of, just, joined, nothing, is_true, content_in, modified}
 
 -- A thread on its way: its events so far, and what each of its registers holds.
 pub record Progress : Type 0 where
@@ -69,13 +70,21 @@ writes_into s a x o w = record { thread = s.thread; access = a; loc = place_of x
 abbrev pub fences : Site → Order → Event
 fences s o = record { thread = s.thread; access = Fence; loc = 0; value = 0; order = o; data_from = no_places; ctrl_from = s.ctrl }
 
+-- What it writes when it reads v is a value of the test, as v is.
+abbrev pub CanModify : Litmus → Computation → ℕ → ℕ → Type 0
+CanModify t f k v = InDom t v × InDom t (computed_by f v k)
+
 -- The call leads from p to q and gives w. A load reads any value of the test. An exchange reads any, and then writes, with
--- the same order. A store and a fence give nothing.
+-- the same order. What modifies reads any of which it computes a value of the test, writes that, with the same order, and gives
+-- what it read: what it writes depends on its own read alone. A store and a fence give nothing.
 abbrev pub Calls : Site → Action → Progress → Content → Progress → Type 0
 Calls s (load x o) p w q = (v : ℕ) × InDom s.test v × (w ≡ next_read p v) × (q ≡ after p (reads_from s Read x o v ∷ []))
 Calls s (store x e o) p w q = (w ≡ nothing) × (q ≡ after p (writes_into s Write x o (given_by s p e) ∷ []))
 Calls s (exchange x e o) p w q =
     (v : ℕ) × InDom s.test v × (w ≡ next_read p v) × (q ≡ after p (reads_from s ExRead x o v ∷ writes_into s ExWrite x o (given_by s p e) ∷ []))
+Calls s (modify x f k o) p w q =
+    (v : ℕ) × CanModify s.test f k v × (w ≡ next_read p v)
+    × (q ≡ after p (reads_from s ExRead x o v ∷ writes_into s ExWrite x o (modified f k (next_read p v)) ∷ []))
 Calls s (fence o) p w q = (w ≡ nothing) × (q ≡ after p (fences s o ∷ []))
 
 -- The right side of an assignment leads from p to q and gives w. A plain read reads any value of the test.

@@ -1,11 +1,11 @@
 //! What a register holds, and what an expression gives.
 
-ghost use Rattle.std.specs.Prelude.{◌≡◌};
-ghost use Rattle.litmus_tree.specs.Tree.{leaf_of, growth_of, term_of};
-ghost use Rattle.c11_threads.specs.Contents.{place_of, just, joined, nothing, truth, content, holds, content_in, passed};
+ghost use Rattle.std.specs.Prelude.{◌≡◌, ◌<◌, ◌^◌};
+ghost use Rattle.litmus_tree.specs.Tree.{leaf_of, growth_of, term_of, computed_by};
+ghost use Rattle.c11_threads.specs.Contents.{place_of, just, joined, nothing, truth, content, holds, content_in, passed, modified};
 
 use events::no_places;
-use litmus_tree::{Expression, Leaf, Link, Operator};
+use litmus_tree::{Computation, Expression, Leaf, Link, Operator};
 use relations::Places;
 use wb_text::Name;
 
@@ -62,6 +62,17 @@ impl Content {
             value: self.value,
             reads: self.reads.copy(),
         }
+    }
+}
+
+/// What is computed of what was read and a constant.
+pub(crate) fn modified(computation: Computation, constant: u32, read: Content) -> Content
+    requires { computed_by computation read.value constant < 2 ^ 32 }
+    ensures { result ≡ modified computation constant read }
+{
+    Content {
+        value: computation.of(read.value, constant),
+        reads: read.reads,
     }
 }
 

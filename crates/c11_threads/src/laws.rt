@@ -2,7 +2,7 @@
 
 ghost use Rattle.c11_threads.specs.Unrolled.{Listing};
 ghost use Rattle.c11_threads.specs.Bounds.{Bounding, Keeping, Depends};
-ghost use Rattle.c11_threads.specs.RunExamples.{BranchingRuns, ExchangeRuns};
+ghost use Rattle.c11_threads.specs.RunExamples.{BranchingRuns, ExchangeRuns, AdditionRuns};
 
 /// The runs of a thread as a list are its runs, each once.
 pub fn listing()
@@ -25,8 +25,9 @@ pub fn depending()
     ensures { Depends }
 {}
 
-/// The runs of a branch and of an exchange, computed from the definitions.
+/// The runs of a branch, of an exchange and of an addition, computed from the definitions.
 pub fn examples()
     ensures branch { BranchingRuns }
     ensures exchange { ExchangeRuns }
+    ensures addition { AdditionRuns }
 {}

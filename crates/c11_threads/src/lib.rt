@@ -1,6 +1,7 @@
 //! The runs of a thread of C11 atomics.
 #![tactic(auto)]
 
+mod behind;
 mod content;
 mod fault;
 mod idle;

@@ -73,7 +73,7 @@ impl Progress {
         &self.registers
     }
 
-    /// The same once more, with room for an exchange's two events.
+    /// The same once more, with room for the two events of a call that reads and writes.
     pub(crate) fn copy(&self, alloc: Global) -> Result<Self, AllocError>
         ensures { IfOk result (λ p. p ≡ self.now) }
     {

@@ -4,6 +4,7 @@ ghost use Rattle.std.specs.Prelude.{◌≡◌, ◌<◌, ◌≤◌, ◌∷◌, []
 ghost use Rattle.listings.specs.Lists.{Lists};
 ghost use Rattle.litmus_value.specs.Values.{values_of};
 ghost use Rattle.litmus_tree.specs.Tree.{steps_of};
+ghost use Rattle.c11_threads.specs.Serving.{AreValues};
 ghost use Rattle.c11_threads.specs.Runs.{IsRun, thread_of, start, run_of};
 ghost use Rattle.c11_threads.specs.Unrolled.{setting_of, runs_of};
 ghost use Rattle.c11_threads.specs.Faults.{IsRunFault};
@@ -29,7 +30,8 @@ fn start(alloc: Global, test: &Test, thread: usize) -> Result<Progress, AllocErr
 fn within<'a>(test: &'a Test, thread: usize, values: &'a [u32]) -> Setting<'a>
     requires thread { thread < length test.now.threads }
     requires values { values.now ≡ values_of test.now }
-    ensures { result ≡ setting_of test.entry.now thread }
+    ensures setting { result ≡ setting_of test.entry.now thread }
+    ensures fit { AreValues result.values }
 {
     Setting {
         thread,

@@ -1,15 +1,17 @@
 //! The runs of a thread, unrolled choice by choice.
 
-ghost use Rattle.std.specs.Prelude.{◌≡◌, ℕ, ◌++◌, ◌+◌, ◌<◌, ◌≤◌, ◌∷◌, [], length, map, IfOk, IfErr, OnOk, None, Some};
+ghost use Rattle.std.specs.Prelude.{◌≡◌, ℕ, ◌++◌, ◌+◌, ◌<◌, ◌≤◌, ◌∷◌, [], length, map, IfOk, IfErr, OnOk, Some};
 ghost use Rattle.std.specs.List.{flat_map};
-ghost use Rattle.litmus_tree.specs.Tree.{load, store, exchange, term_of, action_of, right_of, declared_of, step_of, steps_of};
-ghost use Rattle.events.specs.declared.event.Access.TheVariants.{Fence};
+ghost use Rattle.litmus_tree.specs.Tree.{load, store, term_of, action_of, right_of, declared_of, step_of, steps_of};
+ghost use Rattle.events.specs.declared.event.Access.TheVariants.{ExRead, ExWrite, Fence};
 ghost use Rattle.c11_threads.specs.Contents.{place_of, nothing};
 ghost use Rattle.c11_threads.specs.Runs.{after, next_read};
-ghost use Rattle.c11_threads.specs.Unrolled.{giving, event, accesses, reading, perhaps, event_runs, read_runs, given_at, call_runs, right_runs, declare_runs, declares_runs, step_runs, steps_runs};
+ghost use Rattle.c11_threads.specs.Serving.{AreValues, ServesRead, IsComputable, ServesCall, ServesRight, ServesOption, ServesAll, Serves, ServesSteps};
+ghost use Rattle.c11_threads.specs.Unrolled.{giving, event, accesses, reading, writing, events_behind, may_read, event_runs, read_runs, given_at, call_runs, right_runs, declare_runs, declares_runs, step_runs, steps_runs};
 ghost use Rattle.c11_threads.specs.Faults.{IsFaultAt};
 
-use crate::content::{Content, content_of, joined, place_of};
+use crate::behind::Behind;
+use crate::content::{Content, content_of, joined, modified, place_of};
 use crate::fault::RunFault;
 use crate::idle::is_idle;
 use crate::progress::Progress;
@@ -107,23 +109,46 @@ fn reading(event: &Event, value: u32) -> Event
     read
 }
 
-/// The way on that reads the value by the event, then has another event, if there is one, and gives the
-/// value to the register, if there is one.
+/// The event with a value and what that depends on.
+fn writing(event: &Event, content: Content) -> Event
+    ensures { result ≡ writing event.now content }
+{
+    let mut write = event.copy();
+    write.value = content.value;
+    write.data_from = content.reads;
+    write
+}
+
+/// Has the events that stand behind a read.
+fn follow(way: &mut Progress, behind: &Behind, read: Content) -> Result<(), AllocError>
+    requires { IsComputable behind.now read.value }
+    ensures { OnOk result (way.new ≡ after way.old (events_behind behind.now read)) }
+{
+    match behind {
+        Behind::Nothing => Ok(()),
+        Behind::Write(event) => way.push(event.copy()),
+        Behind::Modify(computation, constant, event) => {
+            way.push(writing(event, modified(*computation, *constant, read)))
+        }
+    }
+}
+
+/// The way on that reads the value by the event, then has what stands behind it, and gives the value to the register, if
+/// there is one.
 fn read_one(
     alloc: Global,
     from: &Progress,
     read: &Event,
     value: u32,
-    then: &Option<Event>,
+    behind: &Behind,
     register: Option<usize>,
 ) -> Result<Progress, AllocError>
-    ensures { IfOk result (λ q. q ≡ giving register (next_read from.now value) (after from.now (reading read.now value ∷ perhaps then.now))) }
+    requires { IsComputable behind.now value }
+    ensures { IfOk result (λ q. q ≡ giving register (next_read from.now value) (after from.now (reading read.now value ∷ events_behind behind.now (next_read from.now value)))) }
 {
     let mut end = from.copy(alloc)?;
     end.push(reading(read, value))?;
-    if let Some(event) = then {
-        end.push(event.copy())?;
-    }
+    follow(&mut end, behind, from.next_read(value))?;
     end.give(register, from.next_read(value));
     Ok(end)
 }
@@ -180,26 +205,52 @@ impl Setting<'_> {
         }
     }
 
-    /// Adds the ways on that read each of the values by the event, and then have another event, if there is one.
+    /// The write of a call that modifies, which has no value yet.
+    fn unwritten(&self, ctrl: &Places, location: &Name, order: Order) -> Event
+        ensures { result ≡ accesses self.now ctrl.now ExWrite location.now order nothing }
+    {
+        self.access(ctrl, Access::ExWrite, location, order, Content::nothing())
+    }
+
+    /// Whether a read may read the value: what is then computed is one of the values.
+    fn may_read(&self, behind: &Behind, value: u32) -> bool
+        requires { IsComputable behind.now value }
+        ensures { result ≡ may_read self.now.values behind.now value }
+    {
+        match behind {
+            Behind::Nothing => true,
+            Behind::Write(_) => true,
+            Behind::Modify(computation, constant, _) => {
+                self.values.contains(&computation.of(value, *constant))
+            }
+        }
+    }
+
+    /// Adds the ways on that read each of the values by the event that it may read, with what stands behind it.
     fn read_each(
         &self,
         alloc: Global,
         from: &Progress,
         read: &Event,
-        then: &Option<Event>,
+        behind: &Behind,
         register: Option<usize>,
         most: usize,
         ends: &mut Vec<Progress>,
     ) -> Result<(), RunFault>
+        requires fit { AreValues self.now.values }
+        requires serves { ServesRead self.now.values behind.now }
         requires most { length ends.old.items < most }
-        ensures done { OnOk result ((ends.new.items ≡ ends.old.items ++ read_runs self.now read.now then.now register from.now) × (length ends.new.items ≤ most)) }
-        ensures fault { IfErr result (IsFaultAt self.now.thread most (length ends.old.items + length (read_runs self.now read.now then.now register from.now))) }
+        ensures done { OnOk result ((ends.new.items ≡ ends.old.items ++ read_runs self.now read.now behind.now register from.now) × (length ends.new.items ≤ most)) }
+        ensures fault { IfErr result (IsFaultAt self.now.thread most (length ends.old.items + length (read_runs self.now read.now behind.now register from.now))) }
     {
         for value in self.values {
+            if !self.may_read(behind, *value) {
+                continue;
+            }
             if ends.len() >= most {
                 return Err(RunFault::TooManyRuns(self.thread));
             }
-            ends.push(read_one(alloc, from, read, *value, then, register)?)?;
+            ends.push(read_one(alloc, from, read, *value, behind, register)?)?;
         }
         Ok(())
     }
@@ -216,12 +267,13 @@ impl Setting<'_> {
         most: usize,
         ends: &mut Vec<Progress>,
     ) -> Result<(), RunFault>
-        requires { length ends.old.items < most }
+        requires fit { AreValues self.now.values }
+        requires most { length ends.old.items < most }
         ensures done { OnOk result ((ends.new.items ≡ ends.old.items ++ call_runs self.now ctrl.now (load location.now order) register from.now) × (length ends.new.items ≤ most)) }
         ensures fault { IfErr result (IsFaultAt self.now.thread most (length ends.old.items + length (call_runs self.now ctrl.now (load location.now order) register from.now))) }
     {
         let read = self.access(ctrl, Access::Read, location, order, Content::nothing());
-        self.read_each(alloc, from, &read, &None, register, most, ends)
+        self.read_each(alloc, from, &read, &Behind::Nothing, register, most, ends)
     }
 
     /// Adds the way on of a store.
@@ -244,27 +296,27 @@ impl Setting<'_> {
         happen(ends, from, write, register)
     }
 
-    /// Adds the ways on of an exchange.
-    fn exchange(
+    /// Adds the ways on of a call that reads and writes.
+    fn update(
         &self,
         alloc: Global,
         ctrl: &Places,
         location: &Name,
-        expression: &Expression,
         order: Order,
+        behind: &Behind,
         from: &Progress,
         register: Option<usize>,
         most: usize,
         ends: &mut Vec<Progress>,
     ) -> Result<(), RunFault>
-        requires { length ends.old.items < most }
-        ensures done { OnOk result ((ends.new.items ≡ ends.old.items ++ call_runs self.now ctrl.now (exchange location.now (term_of expression.now) order) register from.now) × (length ends.new.items ≤ most)) }
-        ensures fault { IfErr result (IsFaultAt self.now.thread most (length ends.old.items + length (call_runs self.now ctrl.now (exchange location.now (term_of expression.now) order) register from.now))) }
+        requires fit { AreValues self.now.values }
+        requires serves { ServesRead self.now.values behind.now }
+        requires most { length ends.old.items < most }
+        ensures done { OnOk result ((ends.new.items ≡ ends.old.items ++ read_runs self.now (accesses self.now ctrl.now ExRead location.now order nothing) behind.now register from.now) × (length ends.new.items ≤ most)) }
+        ensures fault { IfErr result (IsFaultAt self.now.thread most (length ends.old.items + length (read_runs self.now (accesses self.now ctrl.now ExRead location.now order nothing) behind.now register from.now))) }
     {
-        let content = self.content(from, expression);
-        let write = self.access(ctrl, Access::ExWrite, location, order, content);
         let read = self.access(ctrl, Access::ExRead, location, order, Content::nothing());
-        self.read_each(alloc, from, &read, &Some(write), register, most, ends)
+        self.read_each(alloc, from, &read, behind, register, most, ends)
     }
 
     /// Adds the ways on of a call, whose value is given to the register, if there is one.
@@ -278,7 +330,9 @@ impl Setting<'_> {
         most: usize,
         ends: &mut Vec<Progress>,
     ) -> Result<(), RunFault>
-        requires { length ends.old.items < most }
+        requires fit { AreValues self.now.values }
+        requires values { ServesCall self.now.values (action_of call.now) }
+        requires most { length ends.old.items < most }
         ensures done { OnOk result ((ends.new.items ≡ ends.old.items ++ call_runs self.now ctrl.now (action_of call.now) register from) × (length ends.new.items ≤ most)) }
         ensures fault { IfErr result (IsFaultAt self.now.thread most (length ends.old.items + length (call_runs self.now ctrl.now (action_of call.now) register from))) }
     {
@@ -290,8 +344,18 @@ impl Setting<'_> {
                 self.store(ctrl, location, expression, *order, from, register, ends)
             }
             Call::Exchange(location, expression, order) => {
-                self.exchange(
-                    alloc, ctrl, location, expression, *order, &from, register, most, ends,
+                let content = self.content(&from, expression);
+                let write = self.access(ctrl, Access::ExWrite, location, *order, content);
+                let behind = Behind::Write(write);
+                self.update(
+                    alloc, ctrl, location, *order, &behind, &from, register, most, ends,
+                )
+            }
+            Call::Modify(location, computation, constant, order) => {
+                let write = self.unwritten(ctrl, location, *order);
+                let behind = Behind::Modify(*computation, *constant, write);
+                self.update(
+                    alloc, ctrl, location, *order, &behind, &from, register, most, ends,
                 )
             }
             Call::Fence(order) => happen(ends, from, self.fence(ctrl, *order), register),
@@ -309,7 +373,9 @@ impl Setting<'_> {
         most: usize,
         ends: &mut Vec<Progress>,
     ) -> Result<(), RunFault>
-        requires { length ends.old.items < most }
+        requires fit { AreValues self.now.values }
+        requires values { ServesRight self.now.values (right_of right.now) }
+        requires most { length ends.old.items < most }
         ensures done { OnOk result ((ends.new.items ≡ ends.old.items ++ right_runs self.now ctrl.now (right_of right.now) register from) × (length ends.new.items ≤ most)) }
         ensures fault { IfErr result (IsFaultAt self.now.thread most (length ends.old.items + length (right_runs self.now ctrl.now (right_of right.now) register from))) }
     {
@@ -344,7 +410,9 @@ impl Setting<'_> {
         most: usize,
         ends: &mut Vec<Progress>,
     ) -> Result<(), RunFault>
-        requires { length ends.old.items < most }
+        requires fit { AreValues self.now.values }
+        requires values { ServesOption self.now.values (declared_of declarator.now).value }
+        requires most { length ends.old.items < most }
         ensures done { OnOk result ((ends.new.items ≡ ends.old.items ++ declare_runs self.now ctrl.now (declared_of declarator.now).register (declared_of declarator.now).value from) × (length ends.new.items ≤ most)) }
         ensures fault { IfErr result (IsFaultAt self.now.thread most (length ends.old.items + length (declare_runs self.now ctrl.now (declared_of declarator.now).register (declared_of declarator.now).value from))) }
     {
@@ -364,7 +432,8 @@ impl Setting<'_> {
         starts: Vec<Progress>,
         most: usize,
     ) -> Result<Vec<Progress>, RunFault>
-        requires values { 1 ≤ length self.now.values }
+        requires fit { AreValues self.now.values }
+        requires values { ServesOption self.now.values (declared_of declarator.now).value }
         requires most { length starts.items ≤ most }
         ensures done { IfOk result (λ v. (v.items ≡ flat_map (declare_runs self.now ctrl.now (declared_of declarator.now).register (declared_of declarator.now).value) starts.items) × (length v.items ≤ most)) }
         ensures fault { IfErr result (IsFaultAt self.now.thread most (length (flat_map (declare_runs self.now ctrl.now (declared_of declarator.now).register (declared_of declarator.now).value) starts.items))) }
@@ -387,7 +456,8 @@ impl Setting<'_> {
         from: Progress,
         most: usize,
     ) -> Result<Vec<Progress>, RunFault>
-        requires values { 1 ≤ length self.now.values }
+        requires fit { AreValues self.now.values }
+        requires values { ServesAll self.now.values (map declared_of declarators.now) }
         requires most { 1 ≤ most }
         ensures done { IfOk result (λ v. (v.items ≡ declares_runs self.now ctrl.now (map declared_of declarators.now) from) × (length v.items ≤ most)) }
         ensures fault { IfErr result (IsFaultAt self.now.thread most (length (declares_runs self.now ctrl.now (map declared_of declarators.now) from))) }
@@ -409,7 +479,8 @@ impl Setting<'_> {
         most: usize,
         ends: &mut Vec<Progress>,
     ) -> Result<(), RunFault>
-        requires values { 1 ≤ length self.now.values }
+        requires fit { AreValues self.now.values }
+        requires values { ServesAll self.now.values (map declared_of declarators.now) }
         requires most { length ends.old.items < most }
         ensures done { OnOk result ((ends.new.items ≡ ends.old.items ++ declares_runs self.now ctrl.now (map declared_of declarators.now) from) × (length ends.new.items ≤ most)) }
         ensures fault { IfErr result (IsFaultAt self.now.thread most (length ends.old.items + length (declares_runs self.now ctrl.now (map declared_of declarators.now) from))) }
@@ -446,7 +517,8 @@ impl Setting<'_> {
         most: usize,
         ends: &mut Vec<Progress>,
     ) -> Result<(), RunFault>
-        requires values { 1 ≤ length self.now.values }
+        requires fit { AreValues self.now.values }
+        requires values { Serves self.now.values (step_of statement.now) }
         requires most { length ends.old.items < most }
         ensures done { OnOk result ((ends.new.items ≡ ends.old.items ++ step_runs (step_of statement.now) self.now ctrl.now from) × (length ends.new.items ≤ most)) }
         ensures fault { IfErr result (IsFaultAt self.now.thread most (length ends.old.items + length (step_runs (step_of statement.now) self.now ctrl.now from))) }
@@ -499,7 +571,8 @@ impl Setting<'_> {
         starts: Vec<Progress>,
         most: usize,
     ) -> Result<Vec<Progress>, RunFault>
-        requires values { 1 ≤ length self.now.values }
+        requires fit { AreValues self.now.values }
+        requires values { Serves self.now.values (step_of statement.now) }
         requires most { length starts.items ≤ most }
         ensures done { IfOk result (λ v. (v.items ≡ flat_map (step_runs (step_of statement.now) self.now ctrl.now) starts.items) × (length v.items ≤ most)) }
         ensures fault { IfErr result (IsFaultAt self.now.thread most (length (flat_map (step_runs (step_of statement.now) self.now ctrl.now) starts.items))) }
@@ -524,7 +597,8 @@ impl Setting<'_> {
         starts: Vec<Progress>,
         most: usize,
     ) -> Result<Vec<Progress>, RunFault>
-        requires values { 1 ≤ length self.now.values }
+        requires fit { AreValues self.now.values }
+        requires values { Serves self.now.values (step_of statement.now) }
         requires most { length starts.items ≤ most }
         ensures done { IfOk result (λ v. (v.items ≡ flat_map (step_runs (step_of statement.now) self.now ctrl.now) starts.items) × (length v.items ≤ most)) }
         ensures fault { IfErr result (IsFaultAt self.now.thread most (length (flat_map (step_runs (step_of statement.now) self.now ctrl.now) starts.items))) }
@@ -556,7 +630,8 @@ impl Setting<'_> {
         starts: Vec<Progress>,
         most: usize,
     ) -> Result<Vec<Progress>, RunFault>
-        requires values { 1 ≤ length self.now.values }
+        requires fit { AreValues self.now.values }
+        requires values { ServesSteps self.now.values (steps_of statements.now) }
         requires most { length starts.items ≤ most }
         ensures done { IfOk result (λ v. (v.items ≡ flat_map (steps_runs (steps_of statements.now) self.now ctrl.now) starts.items) × (length v.items ≤ most)) }
         ensures fault { IfErr result (IsFaultAt self.now.thread most (length (flat_map (steps_runs (steps_of statements.now) self.now ctrl.now) starts.items))) }
@@ -578,7 +653,8 @@ impl Setting<'_> {
         from: Progress,
         most: usize,
     ) -> Result<Vec<Progress>, RunFault>
-        requires values { 1 ≤ length self.now.values }
+        requires fit { AreValues self.now.values }
+        requires values { ServesSteps self.now.values (steps_of statements.now) }
         requires most { 1 ≤ most }
         ensures done { IfOk result (λ v. (v.items ≡ steps_runs (steps_of statements.now) self.now ctrl.now from) × (length v.items ≤ most)) }
         ensures fault { IfErr result (IsFaultAt self.now.thread most (length (steps_runs (steps_of statements.now) self.now ctrl.now from))) }
@@ -597,7 +673,8 @@ impl Setting<'_> {
         most: usize,
         ends: &mut Vec<Progress>,
     ) -> Result<(), RunFault>
-        requires values { 1 ≤ length self.now.values }
+        requires fit { AreValues self.now.values }
+        requires values { ServesSteps self.now.values (steps_of statements.now) }
         requires most { length ends.old.items < most }
         ensures done { OnOk result ((ends.new.items ≡ ends.old.items ++ steps_runs (steps_of statements.now) self.now ctrl.now from) × (length ends.new.items ≤ most)) }
         ensures fault { IfErr result (IsFaultAt self.now.thread most (length ends.old.items + length (steps_runs (steps_of statements.now) self.now ctrl.now from))) }

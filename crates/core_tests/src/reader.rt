@@ -1,5 +1,6 @@
 //! Tests of the reader of C litmus tests, by public items alone.
 
+mod adds;
 mod answers;
 mod copies;
 mod growth;

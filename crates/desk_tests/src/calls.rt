@@ -155,7 +155,8 @@ fn is_refusal(refusal: &Refusal, answer: Answer) -> bool {
     }
 }
 
-fn is_reply(reply: &Reply, answer: Answer) -> bool {
+/// Whether a reply is such an answer.
+pub fn is_reply(reply: &Reply, answer: Answer) -> bool {
     match (reply, answer) {
         (Reply::Version(name, found), Answer::Version(file, version)) => {
             name.bytes() == file && *found == version

@@ -170,7 +170,7 @@ IsNext (Initial x) e = ⊥
 IsNext (Own k p) (Initial y) = ⊥
 IsNext (Own k p) (Own l q) = (k ≡ l) × (q ≡ suc p)
 
--- d is the read and e the write of one exchange
+-- d is the read and e the write of one exchange, or of one addition
 abbrev pub IsExchange : GraphValue → EventId → EventId → Type 0
 IsExchange g d e = IsNext d e × (access_of g d ≡ ExRead) × (access_of g e ≡ ExWrite)
 

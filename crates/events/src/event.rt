@@ -27,9 +27,9 @@ pub enum Access {
     Read,
     Write,
     Fence,
-    /// The read of an exchange.
+    /// The read of a call that also writes: of an exchange or an addition.
     ExRead,
-    /// The write of an exchange.
+    /// The write of a call that also reads.
     ExWrite,
 }
 
@@ -117,7 +117,7 @@ impl EventId {
 }
 
 impl Access {
-    /// Whether it is of an exchange.
+    /// Whether it is of a call that reads and writes: an exchange or an addition.
     pub fn is_of_exchange(self) -> bool
         ensures { IsTrue result ↔ ((self ≡ ExRead) ⊎ (self ≡ ExWrite)) }
     {

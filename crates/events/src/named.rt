@@ -31,7 +31,7 @@ pub enum SetName {
     AcquireRelease,
     /// `SC`: the events with the order sequentially consistent.
     SeqCst,
-    /// `RMW`: both events of each exchange.
+    /// `RMW`: both events of each exchange and of each addition.
     Exchanges,
 }
 
@@ -66,7 +66,7 @@ pub enum RelName {
     Coe,
     /// `fre`: from-reads within `ext`.
     Fre,
-    /// `rmw`: from the read to the write of each exchange.
+    /// `rmw`: from the read to the write of each exchange and of each addition.
     Rmw,
     /// `data`: data dependencies.
     Data,

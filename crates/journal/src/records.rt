@@ -319,7 +319,43 @@ impl Command {
     }
 }
 
+impl Said {
+    /// The same command. Its texts and works are kept once more.
+    pub fn copy(&self) -> Result<Self, AllocError>
+        ensures { IfOk result (λ s. s ≡ self.now) }
+    {
+        Ok(match self {
+            Said::PutCat(name, text) => Said::PutCat(name.copy()?, text.share()?),
+            Said::PutTest(text) => Said::PutTest(text.share()?),
+            Said::Ask(test, cat) => Said::Ask(test.copy()?, cat.copy()?),
+            Said::DropCat(name) => Said::DropCat(name.copy()?),
+            Said::DropTest(name) => Said::DropTest(name.copy()?),
+            Said::Poll(job) => Said::Poll(*job),
+            Said::Forget(job) => Said::Forget(*job),
+            Said::Release(job) => Said::Release(*job),
+            Said::List => Said::List,
+            Said::Claim => Said::Claim,
+            Said::Return(returned) => Said::Return(returned.copy()?),
+            Said::GiveBack(claim) => Said::GiveBack(*claim),
+            Said::Close => Said::Close,
+        })
+    }
+}
+
 impl Returned {
+    /// The same result as shown. Its work is kept once more.
+    pub fn copy(&self) -> Result<Self, AllocError>
+        ensures { IfOk result (λ r. r ≡ self.now) }
+    {
+        Ok(Returned {
+            claim: self.claim,
+            slice: self.slice,
+            from: self.from,
+            to: self.to,
+            work: self.work.share()?,
+        })
+    }
+
     /// What the journal shows of a result.
     fn of(part: &PieceResult) -> Result<Self, AllocError>
         ensures { IfOk result (λ r. r ≡ returned part.now) }

@@ -10,7 +10,7 @@ use Rattle.wb_text.specs.declared.token.Dialect.TheVariants as dialects
 use Rattle.wb_text.specs.declared.token.Token.{Token}
 use Rattle.conditions.specs.declared.place.Binding.{Binding}
 use Rattle.litmus_c.specs.declared.fault.TestFault.{TestFault}
-use Rattle.litmus_c.specs.declared.fault.TestFault.TheVariants.{Text, Syntax, BadOrder, UnknownName, PlainOnAtomic, AtomicOnPlain, Unsupported, TooDeep, TooManyThreads, TooManyLocations, TooManyEvents, TooManyValues, NoMemory}
+use Rattle.litmus_c.specs.declared.fault.TestFault.TheVariants.{Text, Syntax, BadOrder, UnknownName, PlainOnAtomic, AtomicOnPlain, Unsupported, TooDeep, TooManyThreads, TooManyLocations, TooManyEvents, TooManyValues, ValueTooBig, NoMemory}
 use Rattle.litmus_syntax.specs.declared.symbol.Symbol.{Symbol}
 use Rattle.litmus_syntax.specs.Drafts.{Written}
 use Rattle.litmus_syntax.specs.Grammar.{Spells}
@@ -44,7 +44,8 @@ no_cause es t TooManyThreads k h = absurd (omega (arith, k.threads))
 no_cause es t TooManyLocations k h = absurd (omega (arith, k.locations, h.1))
 no_cause es t UnknownName k h = absurd (false≢true (sym h.1 ∙ k.names))
 no_cause es t TooManyValues k h = absurd (omega (arith, k.values, h.1))
-no_cause es t TooManyEvents k h = absurd (omega (arith, k.events, h.2))
+no_cause es t ValueTooBig k h = let b = h.2 in absurd (omega (arith, k.small b.0 b.1 b.2, b.3, b.4))
+no_cause es t TooManyEvents k h = absurd (omega (arith, k.events, h.3))
 no_cause es t (Text f) k h = absurd h
 no_cause es t (Syntax n) k h = absurd h
 no_cause es t BadOrder k h = absurd h
@@ -109,6 +110,7 @@ module _ (text : List ℕ) (ts : List Token) (symbols : List Symbol) (list : IsT
   draft_cause TooManyLocations g = absurd g
   draft_cause TooManyEvents g = absurd g
   draft_cause TooManyValues g = absurd g
+  draft_cause ValueTooBig g = absurd g
 
 pub unwritten_cause : (text : List ℕ) (e : TestFault) → IsUnwritten text e → IsRefused text e
 unwritten_cause text NoMemory h = h
@@ -124,6 +126,7 @@ unwritten_cause text TooManyThreads h = absurd h
 unwritten_cause text TooManyLocations h = absurd h
 unwritten_cause text TooManyEvents h = absurd h
 unwritten_cause text TooManyValues h = absurd h
+unwritten_cause text ValueTooBig h = absurd h
 
 rule_of : (text : List ℕ) (w : Written) (e : TestFault) → IsWrittenIn text w → Explains w.entries (litmus_of w) e → IsRefused text e
 rule_of text w NoMemory d h = tt
@@ -139,6 +142,7 @@ rule_of text w TooManyThreads d h = (w, d, h)
 rule_of text w TooManyLocations d h = (w, d, h)
 rule_of text w TooManyEvents d h = (w, d, h)
 rule_of text w TooManyValues d h = (w, d, h)
+rule_of text w ValueTooBig d h = (w, d, h)
 
 pub rule_cause : (text : List ℕ) (w : Written) (r : Result Litmus TestFault) → IsWrittenIn text w → IfErr r (λ e. Explains w.entries (litmus_of w) e) → IfErr r (λ e. IsRefused text e)
 rule_cause text w (Ok t) d h = tt

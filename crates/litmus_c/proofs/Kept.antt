@@ -1,6 +1,6 @@
 -- A written test that keeps the rules makes a test.
 use Rattle.std.proofs.Common.{◌≡◌, ℕ, suc, ◌≤◌, ◌<◌, ◌⊎◌, List, [], ◌∷◌, ◌++◌, length, refl, sym, ◌∙◌, ap, subst, inl, inr, arith, map}
-use Rattle.std.specs.Prelude.{Bool, true, false, not, if◌then◌else◌, ◌||◌, ◌&&◌, Option, Some, None, All, Contains, sum_by, ◌+◌}
+use Rattle.std.specs.Prelude.{Bool, true, false, not, if◌then◌else◌, ◌||◌, ◌&&◌, Option, Some, None, All, Any, Contains, sum_by, ◌+◌}
 use Rattle.std.specs.List.{flat_map, list_all}
 use Rattle.std.specs.Str.{bytes_eq}
 use Rattle.std.proofs.lemmas.Bool.{or_cases, and_parts, cases_Bool, false≢true}
@@ -13,11 +13,11 @@ use Rattle.litmus_c.specs.declared.rules.Rule.TheVariants.{Names, PlainAccess, A
 use Rattle.litmus_tree.specs.declared.tree.Parameter.{Parameter}
 use Rattle.litmus_syntax.specs.Drafts.{Listing, Written, is_parameter}
 use Rattle.litmus_c.specs.declared.fault.TestFault.{TestFault}
-use Rattle.litmus_c.specs.declared.fault.TestFault.TheVariants.{Text, Syntax, BadOrder, UnknownName, PlainOnAtomic, AtomicOnPlain, Unsupported, TooDeep, TooManyThreads, TooManyLocations, TooManyEvents, TooManyValues, NoMemory}
+use Rattle.litmus_c.specs.declared.fault.TestFault.TheVariants.{Text, Syntax, BadOrder, UnknownName, PlainOnAtomic, AtomicOnPlain, Unsupported, TooDeep, TooManyThreads, TooManyLocations, TooManyEvents, TooManyValues, ValueTooBig, NoMemory}
 use Rattle.litmus_value.specs.Limits.{program_events, IsTest, TermNames, ActionNames, RightNames, OptionalNames, StepNames, StepsNames, ProgramNames}
 use Rattle.litmus_c.specs.Rules.{lasting, place_locations, parameter_names, locations_of, place_registers, step_registers, steps_registers, registers_of, program_of, programs_of, litmus_of, term_keeps, action_keeps, right_keeps, optional_keeps, declared_keeps, step_keeps, steps_keep, program_keeps, entry_is_fair, places_are_there, names_hold, formula_is_fair, KeepsRules, IsSmall, IsNamed, Explains, ExplainsNames, ExplainsLocations, ExplainsValues, events_of}
 use Rattle.litmus_tree.specs.Names.{is_one_of, with_name, with_names}
-use Rattle.litmus_tree.specs.Tree.{Word, Term, number, held, denied, equal, unequal, both, either, Action, load, store, exchange, fence, Right, computed, plain_read, value_of, Declared, Step, empty, block, declare, assign, plain_write, perform, if_only, if_else, Steps, no_steps, in_turn, Program, Litmus}
+use Rattle.litmus_tree.specs.Tree.{Word, Term, number, held, denied, equal, unequal, both, either, Action, load, store, exchange, modify, fence, Right, computed, plain_read, value_of, Declared, Step, empty, block, declare, assign, plain_write, perform, if_only, if_else, Steps, no_steps, in_turn, Program, Litmus}
 use Rattle.litmus_value.specs.Values.{values_among, values_of}
 use Rattle.litmus_c.proofs.Names.{programs_len}
 use Rattle.litmus_syntax.proofs.SingleSymbols.{bytes_eq-true, bytes_eq-refl}
@@ -86,6 +86,7 @@ action-names : (ps : List Parameter) (xs rs : List Word) (a : Action) → Within
 action-names ps xs rs (load x o) w h = w x h
 action-names ps xs rs (store x e o) w h = let p = and_parts (is_parameter ps x) (term_keeps Names ps rs e) h in (w x p.0, term-names ps rs e p.1)
 action-names ps xs rs (exchange x e o) w h = let p = and_parts (is_parameter ps x) (term_keeps Names ps rs e) h in (w x p.0, term-names ps rs e p.1)
+action-names ps xs rs (modify x f c o) w h = w x h
 action-names ps xs rs (fence o) w h = tt
 
 right-names : (ps : List Parameter) (xs rs : List Word) (v : Right) → Within ps xs → right_keeps Names ps rs v ≡ true → RightNames xs rs v
@@ -161,6 +162,8 @@ is_test w h =
     record {
       threads = h.threads;
       locations = h.locations;
+      values = h.values;
+      small = h.small;
       events = h.events;
       names = programs-names 0 w.entries w.threads (locations_of w)
           (λ l m x e. contains (locations_of w) x (noted (with_names [] (flat_map (λ b. place_locations b.place) w.entries)) (flat_map parameter_names w.threads) x
@@ -182,8 +185,8 @@ pub kept_rules : (w : Written) (initial : List Binding) (threads : List Program)
     initial ≡ lasting w.entries → threads ≡ programs_of 0 w.entries w.threads → locations ≡ locations_of w →
     length w.threads ≤ 8 → length locations ≤ 8 →
     names_hold w.entries threads locations w.listed w.condition.formula ≡ true → list_all (program_keeps PlainAccess) threads ≡ true → list_all (program_keeps AtomicAccess) threads ≡ true →
-    length (values_among initial threads) ≤ 16 → length locations + sum_by program_events threads ≤ 64 → KeepsRules w.entries (litmus_of w)
-kept_rules w initial threads locations e f g few here names plain atomic values events =
+    length (values_among initial threads) ≤ 16 → All (λ v. v ≤ 2147483647) (values_among initial threads) → length locations + sum_by program_events threads ≤ 64 → KeepsRules w.entries (litmus_of w)
+kept_rules w initial threads locations e f g few here names plain atomic values small events =
     subst (λ (t : Litmus). KeepsRules w.entries t) (parts w initial threads locations e f g) (record {
       threads = omega (arith, ap length f, programs_len 0 w.entries w.threads);
       locations = here;
@@ -191,6 +194,7 @@ kept_rules w initial threads locations e f g few here names plain atomic values 
       plain = plain;
       atomic = atomic;
       values = values;
+      small = small;
       events = events;
     })
 
@@ -219,6 +223,7 @@ explained w TooManyThreads s h = absurd h
 explained w TooManyLocations s h = absurd h
 explained w TooManyEvents s h = absurd h
 explained w TooManyValues s h = absurd h
+explained w ValueTooBig s h = absurd h
 explained w NoMemory s h = absurd h
 
 -- what explains a refusal of names explains it of the test
@@ -244,6 +249,7 @@ locations_cause w TooDeep few h = absurd h
 locations_cause w TooManyThreads few h = absurd h
 locations_cause w TooManyEvents few h = absurd h
 locations_cause w TooManyValues few h = absurd h
+locations_cause w ValueTooBig few h = absurd h
 
 -- names that are there, of the test from its parts
 pub named_of : (w : Written) (initial : List Binding) (threads : List Program) (locations : List Word) →
@@ -265,6 +271,9 @@ pub values_cause : (w : Written) (initial : List Binding) (threads : List Progra
 values_cause w initial threads locations NoMemory e f g named h = tt
 values_cause w initial threads locations TooManyValues e f g named h =
     (named, subst (λ (t : Litmus). 16 < length (values_of t)) (parts w initial threads locations e f g) h)
+values_cause w initial threads locations ValueTooBig e f g named h =
+    let is = parts w initial threads locations e f g in
+    (named, subst (λ (t : Litmus). length (values_of t) ≤ 16) is h.0, subst (λ (t : Litmus). Any (λ v. 2147483647 < v) (values_of t)) is h.1)
 values_cause w initial threads locations TooManyLocations e f g named h = absurd h
 values_cause w initial threads locations UnknownName e f g named h = absurd h
 values_cause w initial threads locations PlainOnAtomic e f g named h = absurd h
@@ -280,7 +289,7 @@ values_cause w initial threads locations TooManyEvents e f g named h = absurd h
 -- too many events, of the test from its parts
 pub events_cause : (w : Written) (initial : List Binding) (threads : List Program) (locations : List Word) →
     initial ≡ lasting w.entries → threads ≡ programs_of 0 w.entries w.threads → locations ≡ locations_of w → IsNamed w.entries (litmus_of w) →
-    length (values_among initial threads) ≤ 16 → 64 < length locations + sum_by program_events threads → Explains w.entries (litmus_of w) TooManyEvents
-events_cause w initial threads locations e f g named few many =
+    length (values_among initial threads) ≤ 16 → All (λ v. v ≤ 2147483647) (values_among initial threads) → 64 < length locations + sum_by program_events threads → Explains w.entries (litmus_of w) TooManyEvents
+events_cause w initial threads locations e f g named few small many =
     let is = parts w initial threads locations e f g in
-    (named, subst (λ (t : Litmus). length (values_of t) ≤ 16) is few, subst (λ (t : Litmus). 64 < events_of t) is many)
+    (named, subst (λ (t : Litmus). length (values_of t) ≤ 16) is few, subst (λ (t : Litmus). All (λ v. v ≤ 2147483647) (values_of t)) is small, subst (λ (t : Litmus). 64 < events_of t) is many)

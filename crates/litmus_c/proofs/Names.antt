@@ -1,12 +1,12 @@
 -- Names that are noted one after another.
-use Rattle.std.proofs.Common.{◌≡◌, ℕ, suc, ◌+◌, ◌<◌, ◌≤◌, ◌⊎◌, List, [], ◌∷◌, ◌++◌, length, refl, sym, ◌∙◌, ap, subst, inl, inr, arith, drop, get_or, drop-cons, add-one, map, length-append}
-use Rattle.std.specs.Prelude.{Bool, true, false, if◌then◌else◌}
+use Rattle.std.proofs.Common.{◌≡◌, ℕ, suc, ◌+◌, ◌<◌, ◌≤◌, List, [], ◌∷◌, ◌++◌, length, refl, sym, ◌∙◌, ap, subst, inl, inr, arith, drop, get_or, drop-cons, add-one, map, length-append}
+use Rattle.std.specs.Prelude.{Bool, if◌then◌else◌}
 use Rattle.std.specs.List.{flat_map}
 use Rattle.std.proofs.lemmas.Bool.{cases_Bool}
 use Rattle.conditions.specs.declared.place.Binding.{Binding}
 use Rattle.litmus_syntax.specs.declared.draft.Body.{Body}
 use Rattle.litmus_c.specs.declared.fault.TestFault.{TestFault}
-use Rattle.litmus_c.specs.declared.fault.TestFault.TheVariants.{Text, Syntax, BadOrder, UnknownName, PlainOnAtomic, AtomicOnPlain, Unsupported, TooDeep, TooManyThreads, TooManyLocations, TooManyEvents, TooManyValues, NoMemory}
+use Rattle.litmus_c.specs.declared.fault.TestFault.TheVariants.{Text, Syntax, BadOrder, UnknownName, PlainOnAtomic, AtomicOnPlain, Unsupported, TooDeep, TooManyThreads, TooManyLocations, TooManyEvents, TooManyValues, ValueTooBig, NoMemory}
 use Rattle.litmus_syntax.specs.Drafts.{Listing, listing_of}
 use Rattle.litmus_c.specs.Rules.{program_of, programs_of, ExplainsLocations}
 use Rattle.litmus_tree.specs.Names.{is_one_of, with_name, with_names}
@@ -68,6 +68,7 @@ explained xs ys TooManyLocations l h = omega arith
 explained xs ys TooManyThreads l h = h
 explained xs ys TooManyEvents l h = h
 explained xs ys TooManyValues l h = h
+explained xs ys ValueTooBig l h = h
 explained xs ys UnknownName l h = h
 explained xs ys BadOrder l h = h
 explained xs ys PlainOnAtomic l h = h

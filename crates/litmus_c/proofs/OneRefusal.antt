@@ -8,7 +8,7 @@ use Rattle.wb_text.specs.declared.fault.TextFault.TheVariants as text_faults
 use Rattle.wb_text.specs.declared.token.Dialect.TheVariants as dialects
 use Rattle.wb_text.specs.declared.token.Token.{Token}
 use Rattle.litmus_c.specs.declared.fault.TestFault.{TestFault}
-use Rattle.litmus_c.specs.declared.fault.TestFault.TheVariants.{Text, Syntax, BadOrder, UnknownName, PlainOnAtomic, AtomicOnPlain, Unsupported, TooDeep, TooManyThreads, TooManyLocations, TooManyEvents, TooManyValues, NoMemory}
+use Rattle.litmus_c.specs.declared.fault.TestFault.TheVariants.{Text, Syntax, BadOrder, UnknownName, PlainOnAtomic, AtomicOnPlain, Unsupported, TooDeep, TooManyThreads, TooManyLocations, TooManyEvents, TooManyValues, ValueTooBig, NoMemory}
 use Rattle.litmus_c.specs.Reads.{left_out_at, offset_of, StopsAt, SpellNoTest, IsNoTest, BreaksRule, IsRefused}
 use Rattle.litmus_syntax.specs.declared.symbol.Symbol.{Symbol}
 use Rattle.litmus_syntax.specs.Drafts.{Written}
@@ -46,6 +46,7 @@ is_told ts tokens end TooManyThreads some h = absurd h
 is_told ts tokens end TooManyLocations some h = absurd h
 is_told ts tokens end TooManyEvents some h = absurd h
 is_told ts tokens end TooManyValues some h = absurd h
+is_told ts tokens end ValueTooBig some h = absurd h
 
 -- the stage at which a text is refused
 data Stage (text : List ℕ) : TestFault → Type 0 where
@@ -67,6 +68,7 @@ stage text TooManyThreads some h = of_rules h
 stage text TooManyLocations some h = of_rules h
 stage text TooManyEvents some h = of_rules h
 stage text TooManyValues some h = of_rules h
+stage text ValueTooBig some h = of_rules h
 
 module _ (text : List ℕ) (unique : (ts us : List Token) → IsTokenList dialects.Litmus text ts → IsTokenList dialects.Litmus text us → ts ≡ us)
     (one : (f g : TextFault) → f ≢ text_faults.NoMemory → g ≢ text_faults.NoMemory → HasCause dialects.Litmus text f → HasCause dialects.Litmus text g → f ≡ g)

@@ -1,7 +1,7 @@
 -- What a printed refusal has for a text that is no test: its number and its name.
 use Rattle.std.specs.Prelude.{ℕ, List, codes}
 use Rattle.litmus_c.specs.declared.fault.TestFault.{TestFault}
-use Rattle.litmus_c.specs.declared.fault.TestFault.TheVariants.{Text, Syntax, BadOrder, UnknownName, PlainOnAtomic, AtomicOnPlain, Unsupported, TooDeep, TooManyThreads, TooManyLocations, TooManyEvents, TooManyValues, NoMemory}
+use Rattle.litmus_c.specs.declared.fault.TestFault.TheVariants.{Text, Syntax, BadOrder, UnknownName, PlainOnAtomic, AtomicOnPlain, Unsupported, TooDeep, TooManyThreads, TooManyLocations, TooManyEvents, TooManyValues, ValueTooBig, NoMemory}
 
 abbrev pub test_label : TestFault → List ℕ
 test_label (Text fault) = codes "11 Text"
@@ -16,4 +16,5 @@ test_label TooManyThreads = codes "19 TooManyThreads"
 test_label TooManyLocations = codes "20 TooManyLocations"
 test_label TooManyEvents = codes "21 TooManyEvents"
 test_label TooManyValues = codes "22 TooManyValues"
+test_label ValueTooBig = codes "23 ValueTooBig"
 test_label NoMemory = codes "NoMemory"

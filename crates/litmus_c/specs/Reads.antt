@@ -7,7 +7,7 @@ use Rattle.wb_text.specs.declared.token.Token.{Token}
 use Rattle.wb_text.specs.declared.fault.TextFault.{TextFault}
 use Rattle.wb_text.specs.declared.fault.TextFault.TheVariants as text_faults
 use Rattle.litmus_c.specs.declared.fault.TestFault.{TestFault}
-use Rattle.litmus_c.specs.declared.fault.TestFault.TheVariants.{Text, Syntax, BadOrder, UnknownName, PlainOnAtomic, AtomicOnPlain, Unsupported, TooDeep, TooManyThreads, TooManyLocations, TooManyEvents, TooManyValues, NoMemory}
+use Rattle.litmus_c.specs.declared.fault.TestFault.TheVariants.{Text, Syntax, BadOrder, UnknownName, PlainOnAtomic, AtomicOnPlain, Unsupported, TooDeep, TooManyThreads, TooManyLocations, TooManyEvents, TooManyValues, ValueTooBig, NoMemory}
 use Rattle.litmus_syntax.specs.Drafts.{Written}
 use Rattle.litmus_syntax.specs.Grammar.{Spells}
 use Rattle.litmus_c.specs.Rules.{litmus_of, KeepsRules, Explains}
@@ -102,6 +102,7 @@ IsRefused text TooManyThreads = BreaksRule text TooManyThreads
 IsRefused text TooManyLocations = BreaksRule text TooManyLocations
 IsRefused text TooManyEvents = BreaksRule text TooManyEvents
 IsRefused text TooManyValues = BreaksRule text TooManyValues
+IsRefused text ValueTooBig = BreaksRule text ValueTooBig
 
 -- The same before the rules are tried.
 abbrev pub IsUnwritten : List ℕ → TestFault → Type 0

@@ -1,5 +1,5 @@
 -- The test that the written parts make, and the rules and limits that it keeps. (herd7 manual, C litmus tests.)
-use Rattle.std.specs.Prelude.{◌≡◌, ℕ, suc, ◌+◌, ◌≤◌, ◌<◌, ◌==◌, List, [], ◌∷◌, ◌++◌, map, length, sum_by, Bool, true, false, not, ◌&&◌, if◌then◌else◌, Option, Some, None, slice_get}
+use Rattle.std.specs.Prelude.{◌≡◌, ℕ, suc, ◌+◌, ◌≤◌, ◌<◌, ◌==◌, List, [], ◌∷◌, ◌++◌, map, length, sum_by, Bool, true, false, not, ◌&&◌, if◌then◌else◌, Option, Some, None, slice_get, All, Any}
 use Rattle.std.specs.List.{flat_map, list_any, list_all}
 use Rattle.std.specs.Str.{bytes_eq}
 use Rattle.conditions.specs.declared.place.Binding.{Binding}
@@ -7,7 +7,7 @@ use Rattle.conditions.specs.declared.place.Place.{Place}
 use Rattle.conditions.specs.declared.place.Place.TheVariants.{Reg, Loc}
 use Rattle.conditions.specs.contracts.place.PlacePartialEq.TheImpl.{ghosts as place_equality}
 use Rattle.litmus_c.specs.declared.fault.TestFault.{TestFault}
-use Rattle.litmus_c.specs.declared.fault.TestFault.TheVariants.{Text, Syntax, BadOrder, UnknownName, PlainOnAtomic, AtomicOnPlain, Unsupported, TooDeep, TooManyThreads, TooManyLocations, TooManyEvents, TooManyValues, NoMemory}
+use Rattle.litmus_c.specs.declared.fault.TestFault.TheVariants.{Text, Syntax, BadOrder, UnknownName, PlainOnAtomic, AtomicOnPlain, Unsupported, TooDeep, TooManyThreads, TooManyLocations, TooManyEvents, TooManyValues, ValueTooBig, NoMemory}
 use Rattle.litmus_tree.specs.contracts.tree.LocationKindPartialEq.TheImpl.{ghosts as kind_equality}
 use Rattle.litmus_c.specs.declared.rules.Rule.{Rule}
 use Rattle.litmus_c.specs.declared.rules.Rule.TheVariants.{Names, PlainAccess, AtomicAccess}
@@ -19,7 +19,7 @@ use Rattle.conditions.specs.Conditions.{Formula, truth, falsehood, equals, negat
 use Rattle.litmus_syntax.specs.Drafts.{Listing, Written, is_parameter}
 use Rattle.litmus_value.specs.Limits.{program_events}
 use Rattle.litmus_tree.specs.Names.{is_one_of, with_names}
-use Rattle.litmus_tree.specs.Tree.{Word, Term, number, held, denied, equal, unequal, both, either, Growth, denies, joins, Action, load, store, exchange, fence, Right, computed, plain_read, value_of, Declared, Step, empty, block, declare, assign, plain_write, perform, if_only, if_else, Steps, no_steps, in_turn, Program, Litmus}
+use Rattle.litmus_tree.specs.Tree.{Word, Term, number, held, denied, equal, unequal, both, either, Growth, denies, joins, Action, load, store, exchange, modify, fence, Right, computed, plain_read, value_of, Declared, Step, empty, block, declare, assign, plain_write, perform, if_only, if_else, Steps, no_steps, in_turn, Program, Litmus}
 use Rattle.litmus_value.specs.Values.{values_of}
 
 -- The initial state.
@@ -145,6 +145,7 @@ abbrev pub action_keeps : Rule → List Parameter → List Word → Action → B
 action_keeps k ps rs (load x o) = may_call k ps rs x
 action_keeps k ps rs (store x e o) = may_call k ps rs x && term_keeps k ps rs e
 action_keeps k ps rs (exchange x e o) = may_call k ps rs x && term_keeps k ps rs e
+action_keeps k ps rs (modify x f c o) = may_call k ps rs x
 action_keeps k ps rs (fence o) = true
 
 abbrev pub right_keeps : Rule → List Parameter → List Word → Right → Bool
@@ -219,6 +220,7 @@ pub record KeepsRules (es : List Binding) (t : Litmus) : Type 0 where
   pub plain : list_all (program_keeps PlainAccess) t.threads ≡ true
   pub atomic : list_all (program_keeps AtomicAccess) t.threads ≡ true
   pub values : length (values_of t) ≤ 16
+  pub small : All (λ v. v ≤ 2147483647) (values_of t)
   pub events : events_of t ≤ 64
 
 -- it has few threads and few locations
@@ -243,7 +245,8 @@ Explains es t PlainOnAtomic = IsSmall t × (names_are_there es t ≡ true) × (l
 Explains es t AtomicOnPlain =
     IsSmall t × (names_are_there es t ≡ true) × (list_all (program_keeps PlainAccess) t.threads ≡ true) × (list_all (program_keeps AtomicAccess) t.threads ≡ false)
 Explains es t TooManyValues = IsNamed es t × (16 < length (values_of t))
-Explains es t TooManyEvents = IsNamed es t × (length (values_of t) ≤ 16) × (64 < events_of t)
+Explains es t ValueTooBig = IsNamed es t × (length (values_of t) ≤ 16) × Any (λ v. 2147483647 < v) (values_of t)
+Explains es t TooManyEvents = IsNamed es t × (length (values_of t) ≤ 16) × All (λ v. v ≤ 2147483647) (values_of t) × (64 < events_of t)
 Explains es t (Text f) = ⊥
 Explains es t (Syntax n) = ⊥
 Explains es t BadOrder = ⊥
@@ -263,8 +266,9 @@ ExplainsLocations xs NoMemory = Unit {0}
 ExplainsLocations xs TooManyLocations = 8 < length xs
 ExplainsLocations xs e = ⊥
 
--- More than 16 values, or no memory.
+-- More than 16 values; else one above 2,147,483,647; or no memory.
 abbrev pub ExplainsValues : List ℕ → TestFault → Type 0
 ExplainsValues vs NoMemory = Unit {0}
 ExplainsValues vs TooManyValues = 16 < length vs
+ExplainsValues vs ValueTooBig = (length vs ≤ 16) × Any (λ v. 2147483647 < v) vs
 ExplainsValues vs e = ⊥

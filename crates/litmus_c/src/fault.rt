@@ -36,6 +36,8 @@ pub enum TestFault {
     TooManyEvents,
     /// More than 16 values.
     TooManyValues,
+    /// A value above 2,147,483,647.
+    ValueTooBig,
     NoMemory,
 }
 
@@ -57,6 +59,7 @@ impl TestFault {
             TestFault::TooManyLocations => "20 TooManyLocations",
             TestFault::TooManyEvents => "21 TooManyEvents",
             TestFault::TooManyValues => "22 TooManyValues",
+            TestFault::ValueTooBig => "23 ValueTooBig",
             TestFault::NoMemory => "NoMemory",
         }
     }

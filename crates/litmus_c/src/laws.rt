@@ -15,7 +15,7 @@ pub fn one_test()
     one_token_list();
 }
 
-/// A test that is written in a text is refused for one rule or limit at most: of those that it breaks the first of 19, 20, 14, 15, 16, 22, 21.
+/// A test that is written in a text is refused for one rule or limit at most: of those that it breaks the first of 19, 20, 14, 15, 16, 22, 23, 21.
 pub fn first_refusal()
     ensures { (text : List ℕ) (e f : TestFault) → e ≢ NoMemory → f ≢ NoMemory → BreaksRule text e → BreaksRule text f → e ≡ f }
 {

@@ -9,8 +9,8 @@ mod rules;
 
 pub use fault::TestFault;
 pub use litmus_tree::{
-    Call, Declarator, Expression, Leaf, Link, LocationKind, Operator, Parameter, RightSide,
-    Statement, Thread,
+    Call, Computation, Declarator, Expression, Leaf, Link, LocationKind, Operator, Parameter,
+    RightSide, Statement, Thread,
 };
 pub use litmus_value::Test;
 pub use reading::read_test;

@@ -1,6 +1,6 @@
 //! From a test as it is written to the test that it means.
 
-ghost use Rattle.std.specs.Prelude.{◌≡◌, ◌≤◌, ◌<◌, ◌+◌, ◌&&◌, ◌||◌, ◌∷◌, [], ℕ, List, map, length, not, reverse, sum_by, if◌then◌else◌, IfOk, IfErr, OnOk, true};
+ghost use Rattle.std.specs.Prelude.{◌≡◌, ◌≤◌, ◌<◌, ◌+◌, ◌&&◌, ◌||◌, ◌∷◌, [], ℕ, List, map, length, not, reverse, sum_by, if◌then◌else◌, All, IfOk, IfErr, OnOk, true};
 ghost use Rattle.conditions.specs.Equality.{same_place};
 ghost use Rattle.indexmap.specs.IndexSet.{contains};
 ghost use Rattle.std.specs.List.{flat_map, list_all};
@@ -28,8 +28,6 @@ use wb_text::Name;
 const MAX_THREADS: usize = 8;
 
 const MAX_LOCATIONS: usize = 8;
-
-const MAX_VALUES: usize = 16;
 
 const MAX_EVENTS: usize = 64;
 
@@ -327,14 +325,16 @@ fn check_names(
     Ok(())
 }
 
-/// Refuses more values than a test has.
+/// Refuses more values than a test has, and then a value that is too great for one.
 fn check_values(alloc: Global, initial: &[Binding], threads: &[Thread]) -> Result<(), TestFault>
     ensures few { OnOk result (length (values_among initial.now threads.now) ≤ 16) }
+    ensures small { OnOk result (All (λ v. v ≤ 2147483647) (values_among initial.now threads.now)) }
     ensures cause { IfErr result (λ e. ExplainsValues (values_among initial.now threads.now) e) }
 {
-    match values_among(alloc, initial, threads, MAX_VALUES) {
+    match values_among(alloc, initial, threads) {
         Ok(_) => Ok(()),
         Err(ValuesFault::TooMany) => Err(TestFault::TooManyValues),
+        Err(ValuesFault::TooBig) => Err(TestFault::ValueTooBig),
         Err(ValuesFault::NoMemory) => Err(TestFault::NoMemory),
     }
 }

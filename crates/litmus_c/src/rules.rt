@@ -178,7 +178,7 @@ impl<'a> Scope<'a> {
         ensures { result ≡ action_keeps self.now.rule self.now.thread.now.parameters self.now.thread.now.registers (action_of call.now) }
     {
         match call {
-            Call::Load(location, _) => self.may_call(location),
+            Call::Load(location, _) | Call::Modify(location, _, _, _) => self.may_call(location),
             Call::Store(location, value, _) | Call::Exchange(location, value, _) => {
                 self.may_call(location) && self.term_keeps(value)
             }
@@ -335,7 +335,7 @@ fn after_call(room: usize, call: &Call) -> Option<usize>
 {
     match call {
         Call::Load(_, _) | Call::Store(_, _, _) | Call::Fence(_) => room.checked_sub(1),
-        Call::Exchange(_, _, _) => room.checked_sub(2),
+        Call::Exchange(_, _, _) | Call::Modify(_, _, _, _) => room.checked_sub(2),
     }
 }
 

@@ -9,14 +9,16 @@ use Rattle.litmus_syntax.specs.declared.symbol.Symbol.{Symbol}
 use Rattle.litmus_syntax.specs.declared.symbol.Symbol.TheVariants.{Fixed, Call, Name, Number}
 use Rattle.litmus_syntax.specs.declared.symbol.Terminal.TheVariants.{Int, If, Else, LeftParen, RightParen, LeftBrace, RightBrace, Semicolon, Comma, Assign, Star, Bang, And, Or, Arrow}
 use Rattle.litmus_tree.specs.declared.expression.Operator.{Operator}
-use Rattle.litmus_syntax.specs.Atomics.{Effect, loads, stores, exchanges, fences, effect_of, accepted, has_value}
+use Rattle.litmus_syntax.specs.Atomics.{effect_of, accepted, has_value}
+use Rattle.litmus_syntax.specs.declared.atomics.Effect.{Effect}
+use Rattle.litmus_syntax.specs.declared.atomics.Effect.TheVariants.{Loads, Stores, Exchanges, Modifies, Fences}
 use Rattle.litmus_syntax.specs.Drafts.{Listing}
-use Rattle.litmus_syntax.specs.Reading.{Reading, syntax, misordered, after, unless, call_word, before_name, opened, open_at, parameter_list_at, operator_at, Terms, unary_with, next_operand, operands, level_with, terms_below, expression_at, located_at, target_at, valued_at, load_at, store_at, exchange_at, fence_at, effect_at, operation_at, value_at, computed_at, plain_at, right_at, declarator_at, declarators_more, declarators_at, assignment_at, write_at, declaration_at, performed_at, simple_at, closed_at, Inside, else_with, if_with, block_with, step_with, steps_more, steps_with, inside, thread_at, threads_more, threads_at, Propositions, denied_with, enclosed_with, atomic_with, conjunction_more, conjunction_with, or_more, or_with, proposition_with, propositions_below, condition_at, test_at}
+use Rattle.litmus_syntax.specs.Reading.{Reading, syntax, misordered, after, unless, call_word, before_name, opened, open_at, parameter_list_at, operator_at, Terms, unary_with, next_operand, operands, level_with, terms_below, expression_at, located_at, target_at, valued_at, constant_at, load_at, store_at, exchange_at, modify_at, fence_at, effect_at, operation_at, value_at, computed_at, plain_at, right_at, declarator_at, declarators_more, declarators_at, assignment_at, write_at, declaration_at, performed_at, simple_at, closed_at, Inside, else_with, if_with, block_with, step_with, steps_more, steps_with, inside, thread_at, threads_more, threads_at, Propositions, denied_with, enclosed_with, atomic_with, conjunction_more, conjunction_with, or_more, or_with, proposition_with, propositions_below, condition_at, test_at}
 use Rattle.litmus_syntax.specs.Unspelled.{SpellsNone, BeginsNone, IsStuck}
 use Rattle.litmus_tree.specs.Tree.{Term, Right, Declared, Step, Steps, no_steps}
 use Rattle.descent.proofs.Causes.{Raised, tail_length, never_ok, first}
 use Rattle.litmus_syntax.proofs.Alike.{Any, Tells, Alike, alike_last, alike_next, Agree, agree_ok, agree_stuck, agree_past, Both, both_bind, both_ok, both_deep, both_match, both_repeated}
-use Rattle.litmus_syntax.proofs.AlikeParts.{Taken, taken_here, taken_stuck, taken_on, taken_call, taken_if, both_first, at_end, seen_after, seen_operator, seen_denial, seen_before, seen_unless, both_expected, both_name, both_word, both_language, both_thread_name, both_end, both_initial, both_parameters_behind, both_listed, both_plain_atomic, both_kind_of, both_last_order, both_closing}
+use Rattle.litmus_syntax.proofs.AlikeParts.{Taken, taken_here, taken_stuck, taken_on, taken_call, taken_if, both_first, at_end, seen_after, seen_operator, seen_denial, seen_before, seen_unless, both_expected, both_name, both_number, both_word, both_language, both_thread_name, both_end, both_initial, both_parameters_behind, both_listed, both_plain_atomic, both_kind_of, both_last_order, both_closing}
 use Rattle.litmus_syntax.proofs.Complete.{test-complete}
 use Rattle.litmus_syntax.proofs.Expressions.{operand_shorter}
 use Rattle.litmus_syntax.proofs.Levels.{threads_turn_takes}
@@ -99,16 +101,21 @@ module _ {M : List Symbol → Type 0} where
   unfolding valued_at
   both_valued n ts us = both_bind _ _ (both_target n ts us) (λ x ts us. both_bind _ _ (both_expression x.1 ts us) (λ e ts us. both_ok))
 
+  pub both_constant : (n : ℕ) (ts us : List Symbol) → Both (Unit {0}) M ts us (constant_at n ts) (constant_at n us)
+  unfolding constant_at
+  both_constant n ts us = both_bind _ _ (both_target n ts us) (λ x ts us. both_bind _ _ (both_number ts us) (λ v ts us. both_ok))
+
   both_computed : (n : ℕ) (ts us : List Symbol) → Both (Unit {0}) M ts us (computed_at n ts) (computed_at n us)
   unfolding computed_at
   both_computed n ts us = both_bind _ _ (both_expression n ts us) (λ e ts us. both_ok)
 
 both_effect : (f : Effect) (os : List Order) (n : ℕ) (ts us : List Symbol) → Both (Unit {0}) Any ts us (effect_at f os n ts) (effect_at f os n us)
-unfolding load_at store_at exchange_at fence_at
-both_effect loads os n ts us = both_bind _ _ (both_located n ts us) (λ x ts us. both_bind _ _ (both_closing os ts us) (λ o ts us. both_ok))
-both_effect stores os n ts us = both_bind _ _ (both_valued n ts us) (λ x ts us. both_bind _ _ (both_closing os ts us) (λ o ts us. both_ok))
-both_effect exchanges os n ts us = both_bind _ _ (both_valued n ts us) (λ x ts us. both_bind _ _ (both_closing os ts us) (λ o ts us. both_ok))
-both_effect fences os n ts us = both_bind _ _ (both_open n ts us) (λ x ts us. both_bind _ _ (both_last_order os ts us) (λ o ts us. both_ok))
+unfolding load_at store_at exchange_at modify_at fence_at
+both_effect Loads os n ts us = both_bind _ _ (both_located n ts us) (λ x ts us. both_bind _ _ (both_closing os ts us) (λ o ts us. both_ok))
+both_effect Stores os n ts us = both_bind _ _ (both_valued n ts us) (λ x ts us. both_bind _ _ (both_closing os ts us) (λ o ts us. both_ok))
+both_effect Exchanges os n ts us = both_bind _ _ (both_valued n ts us) (λ x ts us. both_bind _ _ (both_closing os ts us) (λ o ts us. both_ok))
+both_effect (Modifies f) os n ts us = both_bind _ _ (both_constant n ts us) (λ x ts us. both_bind _ _ (both_closing os ts us) (λ o ts us. both_ok))
+both_effect Fences os n ts us = both_bind _ _ (both_open n ts us) (λ x ts us. both_bind _ _ (both_last_order os ts us) (λ o ts us. both_ok))
 
 pub both_operation : (c : Operation) (n : ℕ) (ts us : List Symbol) → Both (Unit {0}) Any ts us (operation_at c n ts) (operation_at c n us)
 unfolding operation_at

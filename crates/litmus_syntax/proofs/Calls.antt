@@ -10,17 +10,20 @@ use Rattle.events.specs.declared.event.Order.TheVariants.{Sc}
 use Rattle.listings.specs.Lists.{IsIn}
 use Rattle.litmus_syntax.specs.declared.atomics.Operation.{Operation}
 use Rattle.litmus_syntax.specs.declared.symbol.Symbol.{Symbol}
-use Rattle.litmus_syntax.specs.declared.symbol.Symbol.TheVariants.{Fixed, Call, Name}
+use Rattle.litmus_syntax.specs.declared.symbol.Symbol.TheVariants.{Fixed, Call, Name, Number}
 use Rattle.litmus_syntax.specs.declared.symbol.Terminal.{Terminal}
 use Rattle.litmus_syntax.specs.declared.symbol.Terminal.TheVariants.{LeftParen, RightParen, Comma, Star}
-use Rattle.litmus_syntax.specs.Atomics.{orders, Effect, loads, stores, exchanges, fences, effect_of, accepted, is_valued, has_value}
-use Rattle.litmus_syntax.specs.Grammar.{IsExpression, level_unary, level_tighter, level_joined, IsLevel, IsUnary, unary_denied, unary_paren, unary_name, unary_number, IsLastOrder, last_order, IsClosing, closing_sc, closing_order, IsCall, call_load, call_store, call_exchange, call_fence, HasValue, load_has, exchange_has, IsRight, right_computed, right_read, right_call}
-use Rattle.litmus_syntax.specs.Reading.{syntax, misordered, after, expected, name_at, call_word, open_at, expression_at, is_among, order_at, last_order_at, closing_at, located_at, target_at, valued_at, load_at, store_at, exchange_at, fence_at, effect_at, operation_at, value_at, computed_at, plain_at, right_at}
+use Rattle.litmus_syntax.specs.Atomics.{orders, effect_of, accepted, is_valued, has_value}
+use Rattle.litmus_syntax.specs.declared.atomics.Effect.{Effect}
+use Rattle.litmus_syntax.specs.declared.atomics.Effect.TheVariants.{Loads, Stores, Exchanges, Modifies, Fences}
+use Rattle.litmus_syntax.specs.Grammar.{IsExpression, level_unary, level_tighter, level_joined, IsLevel, IsUnary, unary_denied, unary_paren, unary_name, unary_number, IsLastOrder, last_order, IsClosing, closing_sc, closing_order, IsCall, call_load, call_store, call_exchange, call_modify, call_fence, HasValue, load_has, exchange_has, modify_has, IsRight, right_computed, right_read, right_call}
+use Rattle.litmus_syntax.specs.Reading.{syntax, misordered, after, expected, name_at, call_word, open_at, expression_at, is_among, order_at, last_order_at, closing_at, number_at, located_at, target_at, valued_at, constant_at, number_look, load_at, store_at, exchange_at, modify_at, fence_at, effect_at, operation_at, value_at, computed_at, plain_at, right_at}
 use Rattle.litmus_syntax.specs.Symbols.{looked_up}
-use Rattle.litmus_tree.specs.Tree.{Word, Term, Action, load, store, exchange, fence, Right, computed, plain_read, value_of}
+use Rattle.litmus_tree.specs.declared.tree.Computation.{Computation}
+use Rattle.litmus_tree.specs.Tree.{Word, Term, Action, load, store, exchange, modify, fence, Right, computed, plain_read, value_of}
 use Rattle.litmus_syntax.proofs.Expressions.{Ends, level_shorter, expression-sound, expression-complete, paren-ends, comma-ends}
 use Rattle.litmus_syntax.proofs.Sounds.{Sound}
-use Rattle.litmus_syntax.proofs.SingleSymbols.{after-some, after-first, expected-ok, expected-first, name-ok, open-ok, open-first, call_word-some}
+use Rattle.litmus_syntax.proofs.SingleSymbols.{after-some, after-first, expected-ok, expected-first, name-ok, number-ok, open-ok, open-first, call_word-some}
 
 -- orders
 
@@ -180,6 +183,26 @@ valued-first : (n : ℕ) (x : Word) {ts rest : List Symbol} {e : Term} → IsExp
 unfolding valued_at
 valued-first n x {ts} d ends = record { is = rw (target-first n x ts, (expression-complete d ends).is) }
 
+-- a location and a number
+pub record IsNumbered (n : ℕ) (ts rest : List Symbol) (v : Word × ℕ) : Type 0 where
+  pub inner : ℕ
+  pub level : n ≡ suc inner
+  pub front : ts ≡ Fixed LeftParen ∷ Name v.0 ∷ Fixed Comma ∷ Number v.1 ∷ rest
+
+pub constant-sound : (n : ℕ) → Sound (constant_at n) (IsNumbered n)
+unfolding constant_at
+constant-sound n ts rest a e =
+    let x = bind_ok (target_at n ts) _ _ e in
+    let v = bind_ok (number_at x.0.1) _ _ x.2 in
+    let d = target-sound n ts x.0.1 x.0.0 x.1 in
+    let b : ts ≡ Fixed LeftParen ∷ Name x.0.0.0 ∷ Fixed Comma ∷ x.0.1 = d.front in
+    let c : x.0.1 ≡ Number v.0.0 ∷ v.0.1 = number-ok x.0.1 v.0.1 v.0.0 v.1 in
+    moved (λ l t. IsNumbered n ts l t) v.2 (record { inner = x.0.0.1; level = d.level; front = (cc) })
+
+constant-first : (n : ℕ) (x : Word) (v : ℕ) (rest : List Symbol) → constant_at (suc n) (Fixed LeftParen ∷ Name x ∷ Fixed Comma ∷ Number v ∷ rest) ≡ Ok ((x, v), rest)
+unfolding constant_at number_at number_look
+constant-first n x v rest = rw (target-first n x (Number v ∷ rest))
+
 -- calls, by what they do
 
 -- what stands behind the word of a call
@@ -192,7 +215,7 @@ placed c n m ts us rest a e f d =
     let P : ℕ → List Symbol → Type 0 = λ k l. Behind c k l rest a in
     subst (λ k. P k ts) (sym e) (subst (λ l. P (suc m) l) (sym f) d)
 
-load-sound : (c : Operation) → effect_of c ≡ loads → (n : ℕ) → Sound (load_at (accepted c) n) (Behind c n)
+load-sound : (c : Operation) → effect_of c ≡ Loads → (n : ℕ) → Sound (load_at (accepted c) n) (Behind c n)
 unfolding load_at
 load-sound c k n ts rest a e =
     let x = bind_ok (located_at n ts) _ _ e in
@@ -200,7 +223,7 @@ load-sound c k n ts rest a e =
     let d = located-sound n ts x.0.1 x.0.0 x.1 in
     moved (λ l t. Behind c n ts l t) o.2 (placed c n x.0.0.1 ts _ o.0.1 _ d.level d.front (call_load k (closing-sound (accepted c) x.0.1 o.0.1 o.0.0 o.1)))
 
-store-sound : (c : Operation) → effect_of c ≡ stores → (n : ℕ) → Sound (store_at (accepted c) n) (Behind c n)
+store-sound : (c : Operation) → effect_of c ≡ Stores → (n : ℕ) → Sound (store_at (accepted c) n) (Behind c n)
 unfolding store_at
 store-sound c k n ts rest a e =
     let v = bind_ok (valued_at n ts) _ _ e in
@@ -208,7 +231,7 @@ store-sound c k n ts rest a e =
     let d = valued-sound n ts v.0.1 v.0.0 v.1 in
     moved (λ l t. Behind c n ts l t) o.2 (placed c n d.inner ts _ o.0.1 _ d.level d.front (call_store k d.value (closing-sound (accepted c) v.0.1 o.0.1 o.0.0 o.1)))
 
-exchange-sound : (c : Operation) → effect_of c ≡ exchanges → (n : ℕ) → Sound (exchange_at (accepted c) n) (Behind c n)
+exchange-sound : (c : Operation) → effect_of c ≡ Exchanges → (n : ℕ) → Sound (exchange_at (accepted c) n) (Behind c n)
 unfolding exchange_at
 exchange-sound c k n ts rest a e =
     let v = bind_ok (valued_at n ts) _ _ e in
@@ -216,7 +239,15 @@ exchange-sound c k n ts rest a e =
     let d = valued-sound n ts v.0.1 v.0.0 v.1 in
     moved (λ l t. Behind c n ts l t) o.2 (placed c n d.inner ts _ o.0.1 _ d.level d.front (call_exchange k d.value (closing-sound (accepted c) v.0.1 o.0.1 o.0.0 o.1)))
 
-fence-sound : (c : Operation) → effect_of c ≡ fences → (n : ℕ) → Sound (fence_at (accepted c) n) (Behind c n)
+modify-sound : (c : Operation) (f : Computation) → effect_of c ≡ Modifies f → (n : ℕ) → Sound (modify_at f (accepted c) n) (Behind c n)
+unfolding modify_at
+modify-sound c f k n ts rest a e =
+    let v = bind_ok (constant_at n ts) _ _ e in
+    let o = bind_ok (closing_at (accepted c) v.0.1) _ _ v.2 in
+    let d = constant-sound n ts v.0.1 v.0.0 v.1 in
+    moved (λ l t. Behind c n ts l t) o.2 (placed c n d.inner ts _ o.0.1 _ d.level d.front (call_modify k (closing-sound (accepted c) v.0.1 o.0.1 o.0.0 o.1)))
+
+fence-sound : (c : Operation) → effect_of c ≡ Fences → (n : ℕ) → Sound (fence_at (accepted c) n) (Behind c n)
 unfolding fence_at
 fence-sound c k n ts rest a e =
     let m = bind_ok (open_at n ts) _ _ e in
@@ -225,10 +256,11 @@ fence-sound c k n ts rest a e =
     moved (λ l t. Behind c n ts l t) o.2 (placed c n m.0.0 ts _ o.0.1 _ p.0 p.1 (call_fence k (last_order-sound (accepted c) m.0.1 o.0.1 o.0.0 o.1)))
 
 effect-sound : (c : Operation) (f : Effect) → effect_of c ≡ f → (n : ℕ) → Sound (effect_at f (accepted c) n) (Behind c n)
-effect-sound c loads k n ts rest a e = load-sound c k n ts rest a e
-effect-sound c stores k n ts rest a e = store-sound c k n ts rest a e
-effect-sound c exchanges k n ts rest a e = exchange-sound c k n ts rest a e
-effect-sound c fences k n ts rest a e = fence-sound c k n ts rest a e
+effect-sound c Loads k n ts rest a e = load-sound c k n ts rest a e
+effect-sound c Stores k n ts rest a e = store-sound c k n ts rest a e
+effect-sound c Exchanges k n ts rest a e = exchange-sound c k n ts rest a e
+effect-sound c (Modifies f) k n ts rest a e = modify-sound c f k n ts rest a e
+effect-sound c Fences k n ts rest a e = fence-sound c k n ts rest a e
 
 pub operation-sound : (c : Operation) (n : ℕ) → Sound (operation_at c n) (Behind c n)
 unfolding operation_at
@@ -244,9 +276,10 @@ never_valued c d f k lacks same h =
 
 called : (c : Operation) {n : ℕ} {us rest : List Symbol} {a : Action} → IsCall n us rest a → (ts : List Symbol) → us ≡ Call c ∷ ts → has_value c ≡ true → HasValue a
 called c (call_load k o) ts e h = load_has
-called c (call_store {c = d} k v o) ts e h = let same : d ≡ c = cc in absurd (never_valued c d stores k refl same h)
+called c (call_store {c = d} k v o) ts e h = let same : d ≡ c = cc in absurd (never_valued c d Stores k refl same h)
 called c (call_exchange k v o) ts e h = exchange_has
-called c (call_fence {c = d} k o) ts e h = let same : d ≡ c = cc in absurd (never_valued c d fences k refl same h)
+called c (call_modify k o) ts e h = modify_has
+called c (call_fence {c = d} k o) ts e h = let same : d ≡ c = cc in absurd (never_valued c d Fences k refl same h)
 
 value-sound : (left : ℕ) (c : Operation) (n : ℕ) → Sound (value_at left c n) (λ ts rest v. IsRight n (Call c ∷ ts) rest v)
 unfolding value_at
@@ -283,6 +316,7 @@ pub call_shorter : {n : ℕ} {ts rest : List Symbol} {a : Action} → IsCall n t
 call_shorter (call_load k o) = omega (arith, closing_shorter o)
 call_shorter (call_store k d o) = omega (arith, level_shorter d, closing_shorter o)
 call_shorter (call_exchange k d o) = omega (arith, level_shorter d, closing_shorter o)
+call_shorter (call_modify k o) = omega (arith, closing_shorter o)
 call_shorter (call_fence k o) = omega (arith, last_order_shorter o)
 
 pub right_shorter : {n : ℕ} {ts rest : List Symbol} {v : Right} → IsRight n ts rest v → length rest < length ts
@@ -317,15 +351,21 @@ exchange-first : (os : List Order) (n : ℕ) (x : Word) {ts us rest : List Symbo
 unfolding exchange_at
 exchange-first os n x d o = rw ((valued-first n x d (closing-ends o)).is, (closing-first o).is)
 
+modify-first : (os : List Order) (n : ℕ) (f : Computation) (x : Word) (v : ℕ) {ts rest : List Symbol} {o : Order} → IsClosing os ts rest o →
+    modify_at f os (suc n) (Fixed LeftParen ∷ Name x ∷ Fixed Comma ∷ Number v ∷ ts) ≡ Ok (modify x f v o, rest)
+unfolding modify_at
+modify-first os n f x v {ts} o = rw (constant-first n x v ts, (closing-first o).is)
+
 fence-first : (os : List Order) (n : ℕ) {ts rest : List Symbol} {o : Order} → IsLastOrder os ts rest o → fence_at os (suc n) (Fixed LeftParen ∷ ts) ≡ Ok (fence o, rest)
 unfolding fence_at
 fence-first os n {ts} o = rw (open-first n ts, (last_order-first o).is)
 
 pub call-complete : {n : ℕ} {ts rest : List Symbol} {a : Action} → IsCall n ts rest a → CallsFirst n ts rest a
-call-complete (call_load {n} {c} {x} {ts = ts} k o) = record { word = c; behind = Fixed LeftParen ∷ Name x ∷ ts; front = refl; reads = operation-by c loads k (suc n) _ ∙ load-first (accepted c) n x o }
-call-complete (call_store {n} {c} {x} {ts = ts} k d o) = record { word = c; behind = Fixed LeftParen ∷ Name x ∷ Fixed Comma ∷ ts; front = refl; reads = operation-by c stores k (suc n) _ ∙ store-first (accepted c) n x d o }
-call-complete (call_exchange {n} {c} {x} {ts = ts} k d o) = record { word = c; behind = Fixed LeftParen ∷ Name x ∷ Fixed Comma ∷ ts; front = refl; reads = operation-by c exchanges k (suc n) _ ∙ exchange-first (accepted c) n x d o }
-call-complete (call_fence {n} {c} {ts = ts} k o) = record { word = c; behind = Fixed LeftParen ∷ ts; front = refl; reads = operation-by c fences k (suc n) _ ∙ fence-first (accepted c) n o }
+call-complete (call_load {n} {c} {x} {ts = ts} k o) = record { word = c; behind = Fixed LeftParen ∷ Name x ∷ ts; front = refl; reads = operation-by c Loads k (suc n) _ ∙ load-first (accepted c) n x o }
+call-complete (call_store {n} {c} {x} {ts = ts} k d o) = record { word = c; behind = Fixed LeftParen ∷ Name x ∷ Fixed Comma ∷ ts; front = refl; reads = operation-by c Stores k (suc n) _ ∙ store-first (accepted c) n x d o }
+call-complete (call_exchange {n} {c} {x} {ts = ts} k d o) = record { word = c; behind = Fixed LeftParen ∷ Name x ∷ Fixed Comma ∷ ts; front = refl; reads = operation-by c Exchanges k (suc n) _ ∙ exchange-first (accepted c) n x d o }
+call-complete (call_modify {n} {v} {c} {f} {x} {ts = ts} k o) = record { word = c; behind = Fixed LeftParen ∷ Name x ∷ Fixed Comma ∷ Number v ∷ ts; front = refl; reads = operation-by c (Modifies f) k (suc n) _ ∙ modify-first (accepted c) n f x v o }
+call-complete (call_fence {n} {c} {ts = ts} k o) = record { word = c; behind = Fixed LeftParen ∷ ts; front = refl; reads = operation-by c Fences k (suc n) _ ∙ fence-first (accepted c) n o }
 
 -- the word of a call that has a value
 
@@ -333,9 +373,10 @@ valued_by : (c d : Operation) (f : Effect) → effect_of d ≡ f → is_valued f
 valued_by c d f k has same = subst (λ (b : Operation). has_value b ≡ true) same (ap is_valued k ∙ has)
 
 valued : {n : ℕ} {us rest : List Symbol} {a : Action} → IsCall n us rest a → HasValue a → (c : Operation) (ts : List Symbol) → us ≡ Call c ∷ ts → has_value c ≡ true
-valued (call_load {c = d} k o) h c ts e = let same : d ≡ c = cc in valued_by c d loads k refl same
+valued (call_load {c = d} k o) h c ts e = let same : d ≡ c = cc in valued_by c d Loads k refl same
 valued (call_store k v o) h c ts e = elim h [ ]
-valued (call_exchange {c = d} k v o) h c ts e = let same : d ≡ c = cc in valued_by c d exchanges k refl same
+valued (call_exchange {c = d} k v o) h c ts e = let same : d ≡ c = cc in valued_by c d Exchanges k refl same
+valued (call_modify {c = d} {f} k o) h c ts e = let same : d ≡ c = cc in valued_by c d (Modifies f) k refl same
 valued (call_fence k o) h c ts e = elim h [ ]
 
 -- an expression begins with a name, a number, `!` or `(`

@@ -3,16 +3,19 @@ use Rattle.std.proofs.Common.{◌≡◌, ℕ, zero, suc, List, ◌∷◌, sym, s
 use Rattle.std.specs.Prelude.{length, Err}
 use Rattle.descent.proofs.Causes.{never_ok, never_made, either, first}
 use Rattle.descent.proofs.Tools.{bind_ok, chosen, moved}
+use Rattle.litmus_tree.specs.declared.tree.Computation.{Computation}
 use Rattle.litmus_syntax.specs.declared.atomics.Operation.{Operation}
 use Rattle.litmus_syntax.specs.declared.symbol.Symbol.{Symbol}
 use Rattle.litmus_syntax.specs.declared.symbol.Symbol.TheVariants.{Fixed, Call, Name, Number}
 use Rattle.litmus_syntax.specs.declared.symbol.Terminal.TheVariants.{LeftParen, RightParen, Comma, Star, Bang}
-use Rattle.litmus_syntax.specs.Atomics.{Effect, loads, stores, exchanges, fences, effect_of, accepted, TakesValue, store_takes, exchange_takes, has_value}
+use Rattle.litmus_syntax.specs.Atomics.{effect_of, accepted, TakesValue, store_takes, exchange_takes, has_value}
+use Rattle.litmus_syntax.specs.declared.atomics.Effect.{Effect}
+use Rattle.litmus_syntax.specs.declared.atomics.Effect.TheVariants.{Loads, Stores, Exchanges, Modifies, Fences}
 use Rattle.litmus_syntax.specs.Depth.{DeepLevel, deep_unary, deep_tighter, deep_joined, DeepUnary, deep_operand, deep_not, deep_paren, DeepExpression, DeepCall, deep_call, deep_value, DeepRight, deep_computed, deep_given}
 use Rattle.litmus_syntax.specs.Grammar.{IsLevel, level_tighter, level_joined}
-use Rattle.litmus_syntax.specs.Reading.{deep, after, call_word, open_at, Terms, operator_at, unary_with, next_operand, operands, level_with, terms_below, expression_at, located_at, target_at, valued_at, load_at, store_at, exchange_at, fence_at, effect_at, operation_at, value_at, computed_at, plain_at, right_at}
+use Rattle.litmus_syntax.specs.Reading.{deep, after, call_word, open_at, Terms, operator_at, unary_with, next_operand, operands, level_with, terms_below, expression_at, located_at, target_at, valued_at, constant_at, load_at, store_at, exchange_at, modify_at, fence_at, effect_at, operation_at, value_at, computed_at, plain_at, right_at}
 use Rattle.litmus_syntax.proofs.Calls.{target-sound}
-use Rattle.litmus_syntax.proofs.AlikeParts.{both_closing, both_last_order}
+use Rattle.litmus_syntax.proofs.AlikeParts.{both_number, both_closing, both_last_order}
 use Rattle.litmus_syntax.proofs.DeepTools.{fine, fine_expected, fine_name, chosen_deep, repeated_deep, open_deep}
 use Rattle.litmus_syntax.proofs.Expressions.{operator-some, level_is}
 use Rattle.litmus_syntax.proofs.Sounds.{Sound}
@@ -96,29 +99,38 @@ valued_deep c takes n ts e =
     (λ g. subst (λ m. P m ts) (sym d.level) (subst (λ l. P (suc x.0.1) l) (sym d.front) (deep_value takes (expression_deep x.0.1 x.1 g))))
     (λ v. never_ok))
 
+constant_deep : (c : Operation) (n : ℕ) (ts : List Symbol) → constant_at n ts ≡ Err deep → DeepCall c (suc n) ts
+unfolding constant_at
+constant_deep c n ts e = first (target_at n ts) e (target_deep c n ts) (λ x. never_made _ (fine (both_number x.1 x.1)))
+
 -- Calls, by what they do.
 
 load_deep : (c : Operation) (n : ℕ) (ts : List Symbol) → load_at (accepted c) n ts ≡ Err deep → DeepCall c (suc n) ts
 unfolding load_at
 load_deep c n ts e = first (located_at n ts) e (located_deep c n ts) (λ x. never_made _ (fine (both_closing (accepted c) x.1 x.1)))
 
-store_deep : (c : Operation) → effect_of c ≡ stores → (n : ℕ) (ts : List Symbol) → store_at (accepted c) n ts ≡ Err deep → DeepCall c (suc n) ts
+store_deep : (c : Operation) → effect_of c ≡ Stores → (n : ℕ) (ts : List Symbol) → store_at (accepted c) n ts ≡ Err deep → DeepCall c (suc n) ts
 unfolding store_at
 store_deep c k n ts e = first (valued_at n ts) e (valued_deep c (store_takes k) n ts) (λ v. never_made _ (fine (both_closing (accepted c) v.1 v.1)))
 
-exchange_deep : (c : Operation) → effect_of c ≡ exchanges → (n : ℕ) (ts : List Symbol) → exchange_at (accepted c) n ts ≡ Err deep → DeepCall c (suc n) ts
+exchange_deep : (c : Operation) → effect_of c ≡ Exchanges → (n : ℕ) (ts : List Symbol) → exchange_at (accepted c) n ts ≡ Err deep → DeepCall c (suc n) ts
 unfolding exchange_at
 exchange_deep c k n ts e = first (valued_at n ts) e (valued_deep c (exchange_takes k) n ts) (λ v. never_made _ (fine (both_closing (accepted c) v.1 v.1)))
+
+modify_deep : (c : Operation) (f : Computation) (n : ℕ) (ts : List Symbol) → modify_at f (accepted c) n ts ≡ Err deep → DeepCall c (suc n) ts
+unfolding modify_at
+modify_deep c f n ts e = first (constant_at n ts) e (constant_deep c n ts) (λ v. never_made _ (fine (both_closing (accepted c) v.1 v.1)))
 
 fence_deep : (c : Operation) (n : ℕ) (ts : List Symbol) → fence_at (accepted c) n ts ≡ Err deep → DeepCall c (suc n) ts
 unfolding fence_at
 fence_deep c n ts e = first (open_at n ts) e (closed_call c n ts) (λ m. never_made _ (fine (both_last_order (accepted c) m.1 m.1)))
 
 effect_deep : (c : Operation) (f : Effect) → effect_of c ≡ f → (n : ℕ) (ts : List Symbol) → effect_at f (accepted c) n ts ≡ Err deep → DeepCall c (suc n) ts
-effect_deep c loads k n ts e = load_deep c n ts e
-effect_deep c stores k n ts e = store_deep c k n ts e
-effect_deep c exchanges k n ts e = exchange_deep c k n ts e
-effect_deep c fences k n ts e = fence_deep c n ts e
+effect_deep c Loads k n ts e = load_deep c n ts e
+effect_deep c Stores k n ts e = store_deep c k n ts e
+effect_deep c Exchanges k n ts e = exchange_deep c k n ts e
+effect_deep c (Modifies f) k n ts e = modify_deep c f n ts e
+effect_deep c Fences k n ts e = fence_deep c n ts e
 
 pub operation_deep : (c : Operation) (n : ℕ) (ts : List Symbol) → operation_at c n ts ≡ Err deep → DeepCall c (suc n) ts
 unfolding operation_at

@@ -8,18 +8,21 @@ use Rattle.events.specs.declared.event.Order.{Order}
 use Rattle.listings.specs.Lists.{IsIn}
 use Rattle.litmus_syntax.specs.declared.atomics.Operation.{Operation}
 use Rattle.litmus_syntax.specs.declared.symbol.Symbol.{Symbol}
-use Rattle.litmus_syntax.specs.declared.symbol.Symbol.TheVariants.{Fixed, Call, Name}
+use Rattle.litmus_syntax.specs.declared.symbol.Symbol.TheVariants.{Fixed, Call, Name, Number}
 use Rattle.litmus_syntax.specs.declared.symbol.Terminal.TheVariants.{LeftParen, RightParen, Comma}
-use Rattle.litmus_syntax.specs.Atomics.{orders, Effect, loads, stores, exchanges, fences, effect_of, accepted, TakesValue, store_takes, exchange_takes}
+use Rattle.litmus_syntax.specs.Atomics.{orders, effect_of, accepted, TakesValue, store_takes, exchange_takes}
+use Rattle.litmus_syntax.specs.declared.atomics.Effect.{Effect}
+use Rattle.litmus_syntax.specs.declared.atomics.Effect.TheVariants.{Loads, Stores, Exchanges, Modifies, Fences}
 use Rattle.litmus_syntax.specs.Grammar.{IsExpression, IsOrder}
-use Rattle.litmus_syntax.specs.Misordered.{misordered_load, misordered_value, misordered_fence, IsMisordered, HasMisordered, misordered_first, misordered_later}
-use Rattle.litmus_syntax.specs.Reading.{Reading, Cause, syntax, misordered, open_at, is_among, order_at, last_order_at, closing_at, located_at, valued_at, load_at, store_at, exchange_at, fence_at, effect_at, operation_at, test_at}
+use Rattle.litmus_syntax.specs.Misordered.{misordered_load, misordered_value, misordered_modify, misordered_fence, IsMisordered, HasMisordered, misordered_first, misordered_later}
+use Rattle.litmus_syntax.specs.Reading.{Reading, Cause, syntax, misordered, open_at, is_among, order_at, last_order_at, closing_at, located_at, valued_at, constant_at, load_at, store_at, exchange_at, modify_at, fence_at, effect_at, operation_at, test_at}
 use Rattle.litmus_syntax.specs.Symbols.{looked_up}
+use Rattle.litmus_tree.specs.declared.tree.Computation.{Computation}
 use Rattle.litmus_tree.specs.Tree.{Word, Term}
 use Rattle.litmus_syntax.proofs.Alike.{Both}
 use Rattle.litmus_syntax.proofs.AlikeParts.{both_expected, both_name}
-use Rattle.litmus_syntax.proofs.AlikeTests.{both_open, both_located, both_valued, both_tests}
-use Rattle.litmus_syntax.proofs.Calls.{in-among, closing-some, located-sound, valued-sound}
+use Rattle.litmus_syntax.proofs.AlikeTests.{both_open, both_located, both_valued, both_constant, both_tests}
+use Rattle.litmus_syntax.proofs.Calls.{in-among, closing-some, located-sound, valued-sound, constant-sound}
 use Rattle.litmus_syntax.proofs.SingleSymbols.{name-ok, expected-ok, open-ok}
 
 -- what has no order in it
@@ -74,7 +77,7 @@ closing_other (p ∷ os) ts e = later (ordered (both_expected Comma ts ts)) (sym
 
 -- Calls.
 
-load_misordered : (c : Operation) → effect_of c ≡ loads → (n : ℕ) (ts rest : List Symbol) (x : Word × ℕ) → located_at n ts ≡ Ok (x, rest) → IsOtherBehind (accepted c) rest → IsMisordered (Call c ∷ ts)
+load_misordered : (c : Operation) → effect_of c ≡ Loads → (n : ℕ) (ts rest : List Symbol) (x : Word × ℕ) → located_at n ts ≡ Ok (x, rest) → IsOtherBehind (accepted c) rest → IsMisordered (Call c ∷ ts)
 load_misordered c k n ts rest x e b =
     let d = located-sound n ts rest x e in
     let a1 : ts ≡ Fixed LeftParen ∷ Name x.0 ∷ rest = d.front in
@@ -93,7 +96,16 @@ value_misordered c k n ts rest v e b =
     let same : Call c ∷ ts ≡ Call c ∷ Fixed LeftParen ∷ Name v.0 ∷ Fixed Comma ∷ d.from = (cc) in
     subst IsMisordered (sym same) (misordered_value k b.some (subst (λ l. IsExpression d.inner d.from l v.1) behind d.value) b.other.names b.other.none)
 
-fence_misordered : (c : Operation) → effect_of c ≡ fences → (n m : ℕ) (ts rest : List Symbol) → open_at n ts ≡ Ok (m, rest) → IsOther (accepted c) rest → IsMisordered (Call c ∷ ts)
+modify_misordered : (c : Operation) (f : Computation) → effect_of c ≡ Modifies f → (n : ℕ) (ts rest : List Symbol) (v : Word × ℕ) → constant_at n ts ≡ Ok (v, rest) → IsOtherBehind (accepted c) rest → IsMisordered (Call c ∷ ts)
+modify_misordered c f k n ts rest v e b =
+    let d = constant-sound n ts rest v e in
+    let a1 : ts ≡ Fixed LeftParen ∷ Name v.0 ∷ Fixed Comma ∷ Number v.1 ∷ rest = d.front in
+    let a2 : rest ≡ Fixed Comma ∷ b.inside = b.comma in
+    let a3 : b.inside ≡ Name b.other.word ∷ b.other.behind = b.other.front in
+    let same : Call c ∷ ts ≡ Call c ∷ Fixed LeftParen ∷ Name v.0 ∷ Fixed Comma ∷ Number v.1 ∷ Fixed Comma ∷ Name b.other.word ∷ b.other.behind = (cc) in
+    subst IsMisordered (sym same) (misordered_modify k b.some b.other.names b.other.none)
+
+fence_misordered : (c : Operation) → effect_of c ≡ Fences → (n m : ℕ) (ts rest : List Symbol) → open_at n ts ≡ Ok (m, rest) → IsOther (accepted c) rest → IsMisordered (Call c ∷ ts)
 fence_misordered c k n m ts rest e b =
     let a1 : ts ≡ Fixed LeftParen ∷ rest = (open-ok n m ts rest e).1 in
     let a2 : rest ≡ Name b.word ∷ b.behind = b.front in
@@ -101,11 +113,12 @@ fence_misordered c k n m ts rest e b =
     subst IsMisordered (sym same) (misordered_fence k b.names b.none)
 
 effect_misordered : (c : Operation) (f : Effect) → effect_of c ≡ f → (n : ℕ) (ts : List Symbol) → effect_at f (accepted c) n ts ≡ Err misordered → IsMisordered (Call c ∷ ts)
-unfolding load_at store_at exchange_at fence_at
-effect_misordered c loads k n ts e = later (ordered (both_located n ts ts)) e (λ x is d. load_misordered c k n ts x.1 x.0 is (first (closing_at (accepted c) x.1) d (closing_other (accepted c) x.1) (λ o. never_ok)))
-effect_misordered c stores k n ts e = later (ordered (both_valued n ts ts)) e (λ v is d. value_misordered c (store_takes k) n ts v.1 v.0 is (first (closing_at (accepted c) v.1) d (closing_other (accepted c) v.1) (λ o. never_ok)))
-effect_misordered c exchanges k n ts e = later (ordered (both_valued n ts ts)) e (λ v is d. value_misordered c (exchange_takes k) n ts v.1 v.0 is (first (closing_at (accepted c) v.1) d (closing_other (accepted c) v.1) (λ o. never_ok)))
-effect_misordered c fences k n ts e = later (ordered (both_open n ts ts)) e (λ m is d. fence_misordered c k n m.0 ts m.1 is (first (last_order_at (accepted c) m.1) d (last_other (accepted c) m.1) (λ o. never_ok)))
+unfolding load_at store_at exchange_at modify_at fence_at
+effect_misordered c Loads k n ts e = later (ordered (both_located n ts ts)) e (λ x is d. load_misordered c k n ts x.1 x.0 is (first (closing_at (accepted c) x.1) d (closing_other (accepted c) x.1) (λ o. never_ok)))
+effect_misordered c Stores k n ts e = later (ordered (both_valued n ts ts)) e (λ v is d. value_misordered c (store_takes k) n ts v.1 v.0 is (first (closing_at (accepted c) v.1) d (closing_other (accepted c) v.1) (λ o. never_ok)))
+effect_misordered c Exchanges k n ts e = later (ordered (both_valued n ts ts)) e (λ v is d. value_misordered c (exchange_takes k) n ts v.1 v.0 is (first (closing_at (accepted c) v.1) d (closing_other (accepted c) v.1) (λ o. never_ok)))
+effect_misordered c (Modifies f) k n ts e = later (ordered (both_constant n ts ts)) e (λ v is d. modify_misordered c f k n ts v.1 v.0 is (first (closing_at (accepted c) v.1) d (closing_other (accepted c) v.1) (λ o. never_ok)))
+effect_misordered c Fences k n ts e = later (ordered (both_open n ts ts)) e (λ m is d. fence_misordered c k n m.0 ts m.1 is (first (last_order_at (accepted c) m.1) d (last_other (accepted c) m.1) (λ o. never_ok)))
 
 operation_misordered : (c : Operation) (n : ℕ) (ts : List Symbol) → operation_at c n ts ≡ Err misordered → IsMisordered (Call c ∷ ts)
 unfolding operation_at

@@ -21,13 +21,15 @@ use Rattle.litmus_syntax.specs.declared.symbol.Symbol.{Symbol}
 use Rattle.litmus_syntax.specs.declared.symbol.Symbol.TheVariants.{Fixed, Call, Name, Number, Word as head_word}
 use Rattle.litmus_syntax.specs.declared.symbol.Terminal.{Terminal}
 use Rattle.litmus_syntax.specs.declared.symbol.Terminal.TheVariants.{Int, AtomicInt, Volatile, If, Else, True, False, Exists, Forall, Not, Locations, LeftParen, RightParen, LeftBrace, RightBrace, LeftBracket, RightBracket, Semicolon, Colon, Comma, Assign, Star, Tilde, Bang, EqualEqual, BangEqual, AndAnd, OrOr, And, Or, Arrow}
+use Rattle.litmus_tree.specs.declared.tree.Computation.{Computation}
 use Rattle.litmus_tree.specs.declared.tree.LocationKind.{LocationKind}
 use Rattle.litmus_tree.specs.declared.tree.LocationKind.TheVariants.{Atomic, Plain}
 use Rattle.litmus_tree.specs.declared.tree.Parameter.{Parameter}
-use Rattle.litmus_syntax.specs.Atomics.{orders, loads, stores, exchanges, fences, effect_of, accepted}
+use Rattle.litmus_syntax.specs.Atomics.{orders, effect_of, accepted}
+use Rattle.litmus_syntax.specs.declared.atomics.Effect.TheVariants.{Loads, Stores, Exchanges, Modifies, Fences}
 use Rattle.litmus_syntax.specs.Drafts.{Listing, Written}
 use Rattle.litmus_syntax.specs.Symbols.{looked_up}
-use Rattle.litmus_tree.specs.Tree.{Word, Term, number, held, denied, Action, load, store, exchange, fence, Right, computed, plain_read, value_of, Declared, Step, empty, block, declare, assign, plain_write, perform, if_only, if_else, Steps, no_steps, followed, joined}
+use Rattle.litmus_tree.specs.Tree.{Word, Term, number, held, denied, Action, load, store, exchange, modify, fence, Right, computed, plain_read, value_of, Declared, Step, empty, block, declare, assign, plain_write, perform, if_only, if_else, Steps, no_steps, followed, joined}
 
 -- Places and the initial state.
 
@@ -133,21 +135,24 @@ pub data IsClosing : List Order → List Symbol → List Symbol → Order → Ty
   closing_sc : {rest : List Symbol} → IsClosing [] (Fixed RightParen ∷ rest) rest Sc
   closing_order : {os : List Order} {o : Order} {ts rest : List Symbol} → IsLastOrder os ts rest o → IsClosing os (Fixed Comma ∷ ts) rest o
 
--- a call: its word, and in parentheses its location and value, by what it does, and its order
+-- a call: its word, and in parentheses its location and its value or its number, by what it does, and its order
 pub data IsCall : ℕ → List Symbol → List Symbol → Action → Type 0 where
-  call_load : {n : ℕ} {c : Operation} {x : Word} {o : Order} {ts rest : List Symbol} → effect_of c ≡ loads → IsClosing (accepted c) ts rest o →
+  call_load : {n : ℕ} {c : Operation} {x : Word} {o : Order} {ts rest : List Symbol} → effect_of c ≡ Loads → IsClosing (accepted c) ts rest o →
       IsCall (suc n) (Call c ∷ Fixed LeftParen ∷ Name x ∷ ts) rest (load x o)
-  call_store : {n : ℕ} {c : Operation} {x : Word} {e : Term} {o : Order} {ts us rest : List Symbol} → effect_of c ≡ stores → IsExpression n ts us e → IsClosing (accepted c) us rest o →
+  call_store : {n : ℕ} {c : Operation} {x : Word} {e : Term} {o : Order} {ts us rest : List Symbol} → effect_of c ≡ Stores → IsExpression n ts us e → IsClosing (accepted c) us rest o →
       IsCall (suc n) (Call c ∷ Fixed LeftParen ∷ Name x ∷ Fixed Comma ∷ ts) rest (store x e o)
-  call_exchange : {n : ℕ} {c : Operation} {x : Word} {e : Term} {o : Order} {ts us rest : List Symbol} → effect_of c ≡ exchanges → IsExpression n ts us e → IsClosing (accepted c) us rest o →
+  call_exchange : {n : ℕ} {c : Operation} {x : Word} {e : Term} {o : Order} {ts us rest : List Symbol} → effect_of c ≡ Exchanges → IsExpression n ts us e → IsClosing (accepted c) us rest o →
       IsCall (suc n) (Call c ∷ Fixed LeftParen ∷ Name x ∷ Fixed Comma ∷ ts) rest (exchange x e o)
-  call_fence : {n : ℕ} {c : Operation} {o : Order} {ts rest : List Symbol} → effect_of c ≡ fences → IsLastOrder (accepted c) ts rest o →
+  call_modify : {n v : ℕ} {c : Operation} {f : Computation} {x : Word} {o : Order} {ts rest : List Symbol} → effect_of c ≡ Modifies f → IsClosing (accepted c) ts rest o →
+      IsCall (suc n) (Call c ∷ Fixed LeftParen ∷ Name x ∷ Fixed Comma ∷ Number v ∷ ts) rest (modify x f v o)
+  call_fence : {n : ℕ} {c : Operation} {o : Order} {ts rest : List Symbol} → effect_of c ≡ Fences → IsLastOrder (accepted c) ts rest o →
       IsCall (suc n) (Call c ∷ Fixed LeftParen ∷ ts) rest (fence o)
 
 -- the calls that have a value
 pub data HasValue : Action → Type 0 where
   load_has : {x : Word} {o : Order} → HasValue (load x o)
   exchange_has : {x : Word} {e : Term} {o : Order} → HasValue (exchange x e o)
+  modify_has : {x : Word} {f : Computation} {v : ℕ} {o : Order} → HasValue (modify x f v o)
 
 -- right := expression | "*" name | call that has a value
 pub data IsRight : ℕ → List Symbol → List Symbol → Right → Type 0 where

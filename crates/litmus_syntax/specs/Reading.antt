@@ -26,13 +26,16 @@ use Rattle.litmus_syntax.specs.declared.symbol.Terminal.{Terminal}
 use Rattle.litmus_syntax.specs.declared.symbol.Terminal.TheVariants.{Int, AtomicInt, Volatile, If, Else, True, False, Exists, Forall, Not, Locations, LeftParen, RightParen, LeftBrace, RightBrace, LeftBracket, RightBracket, Semicolon, Colon, Comma, Assign, Star, Tilde, Bang, EqualEqual, BangEqual, AndAnd, OrOr, And, Or, Arrow}
 use Rattle.litmus_syntax.specs.declared.syntax_fault.SyntaxFault.{SyntaxFault}
 use Rattle.litmus_syntax.specs.declared.syntax_fault.SyntaxFault.TheVariants.{Syntax, BadOrder, TooDeep, NoMemory}
+use Rattle.litmus_tree.specs.declared.tree.Computation.{Computation}
 use Rattle.litmus_tree.specs.declared.tree.LocationKind.{LocationKind}
 use Rattle.litmus_tree.specs.declared.tree.LocationKind.TheVariants.{Atomic, Plain}
 use Rattle.litmus_tree.specs.declared.tree.Parameter.{Parameter}
 use Rattle.litmus_syntax.specs.Drafts.{Listing, Written, is_parameter}
-use Rattle.litmus_syntax.specs.Atomics.{orders, Effect, loads, stores, exchanges, fences, effect_of, accepted, has_value}
+use Rattle.litmus_syntax.specs.Atomics.{orders, effect_of, accepted, has_value}
+use Rattle.litmus_syntax.specs.declared.atomics.Effect.{Effect}
+use Rattle.litmus_syntax.specs.declared.atomics.Effect.TheVariants.{Loads, Stores, Exchanges, Modifies, Fences}
 use Rattle.litmus_syntax.specs.Symbols.{looked_up}
-use Rattle.litmus_tree.specs.Tree.{Word, Term, number, held, denied, Action, load, store, exchange, fence, Right, computed, plain_read, value_of, Declared, Step, empty, block, declare, assign, plain_write, perform, if_only, if_else, Steps, no_steps, followed, joined}
+use Rattle.litmus_tree.specs.Tree.{Word, Term, number, held, denied, Action, load, store, exchange, modify, fence, Right, computed, plain_read, value_of, Declared, Step, empty, block, declare, assign, plain_write, perform, if_only, if_else, Steps, no_steps, followed, joined}
 
 -- why there is no reading: `syntax n` where the symbols from the left can't be read on, and the last n of them are left
 pub data Cause : Type 0 where
@@ -272,6 +275,13 @@ valued_at n ts = do
   e ← expression_at x.0.1 x.1
   Ok ((x.0.0, e.0), e.1)
 
+-- or a number
+unfoldable pub constant_at : ℕ → List Symbol → Reading (Word × ℕ)
+constant_at n ts = do
+  x ← target_at n ts
+  v ← number_at x.1
+  Ok ((x.0.0, v.0), v.1)
+
 -- the end of a call that takes these orders: a closing parenthesis, and in front of it an order, if it takes any
 unfoldable pub closing_at : List Order → List Symbol → Reading Order
 closing_at os ts = if length os == 0 then (expected RightParen ts >>= λ y. Ok (Sc, y.1)) else (expected Comma ts >>= λ y. last_order_at os y.1)
@@ -296,6 +306,12 @@ exchange_at os n ts = do
   o ← closing_at os v.1
   Ok (exchange v.0.0 v.0.1 o.0, o.1)
 
+unfoldable pub modify_at : Computation → List Order → ℕ → List Symbol → Reading Action
+modify_at f os n ts = do
+  v ← constant_at n ts
+  o ← closing_at os v.1
+  Ok (modify v.0.0 f v.0.1 o.0, o.1)
+
 unfoldable pub fence_at : List Order → ℕ → List Symbol → Reading Action
 fence_at os n ts = do
   m ← open_at n ts
@@ -303,10 +319,11 @@ fence_at os n ts = do
   Ok (fence o.0, o.1)
 
 abbrev pub effect_at : Effect → List Order → ℕ → List Symbol → Reading Action
-effect_at loads os n ts = load_at os n ts
-effect_at stores os n ts = store_at os n ts
-effect_at exchanges os n ts = exchange_at os n ts
-effect_at fences os n ts = fence_at os n ts
+effect_at Loads os n ts = load_at os n ts
+effect_at Stores os n ts = store_at os n ts
+effect_at Exchanges os n ts = exchange_at os n ts
+effect_at (Modifies f) os n ts = modify_at f os n ts
+effect_at Fences os n ts = fence_at os n ts
 
 unfoldable pub operation_at : Operation → ℕ → List Symbol → Reading Action
 operation_at c n ts = effect_at (effect_of c) (accepted c) n ts

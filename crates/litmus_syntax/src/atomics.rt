@@ -1,11 +1,12 @@
 //! The calls of C's atomics that a test has, and their orders: a row for each. (ISO/IEC 9899:2011, 7.17.)
 
 ghost use Rattle.std.specs.Prelude.{◌≡◌};
-ghost use Rattle.litmus_syntax.specs.Atomics.{calls, orders, accepted, has_value};
+ghost use Rattle.litmus_syntax.specs.Atomics.{calls, orders, effect_of, accepted, is_valued};
 ghost use Rattle.litmus_syntax.specs.Symbols.{looked_up};
 
 use crate::table::looked_up;
 use events::Order;
+use litmus_tree::Computation;
 
 /// A call of C's atomics.
 #[derive(Clone, Copy, PartialEq, Eq)]
@@ -16,22 +17,52 @@ pub enum Operation {
     StoreExplicit,
     Exchange,
     ExchangeExplicit,
+    FetchAdd,
+    FetchAddExplicit,
     Fence,
 }
 
-/// Hands the table of calls to a macro, behind what that macro is given. A row has the call, its word, the method of
-/// `Reader` that reads its arguments, the orders that it takes, and whether it has a value. `sc`: it has no argument
-/// for its order.
+/// What a call does: its arguments and the call of the tree that it becomes follow from it.
+#[derive(Clone, Copy)]
+pub enum Effect {
+    /// Reads.
+    Loads,
+    /// Writes the value of its second argument.
+    Stores,
+    /// Reads, and writes the value of its second argument.
+    Exchanges,
+    /// Reads, and writes what is computed of the value read and of its second argument, a number.
+    Modifies(Computation),
+    /// Is a fence, and has no location.
+    Fences,
+}
+
+impl Effect {
+    /// Whether the call has a value: that of its read.
+    pub fn is_valued(self) -> bool
+        ensures { result ≡ is_valued self }
+    {
+        match self {
+            Effect::Loads | Effect::Exchanges | Effect::Modifies(_) => true,
+            Effect::Stores | Effect::Fences => false,
+        }
+    }
+}
+
+/// Hands the table of calls to a macro, behind what that macro is given. A row has the call, its word, its effect, and the
+/// orders that it takes. `sc`: it has no argument for its order.
 macro_rules! calls {
     ($act:ident $given:tt) => {
         $act! { $given
-            Load: b"atomic_load", load, sc, true;
-            LoadExplicit: b"atomic_load_explicit", load, [Rlx, Acq, Sc], true;
-            Store: b"atomic_store", store, sc, false;
-            StoreExplicit: b"atomic_store_explicit", store, [Rlx, Rel, Sc], false;
-            Exchange: b"atomic_exchange", exchange, sc, true;
-            ExchangeExplicit: b"atomic_exchange_explicit", exchange, all, true;
-            Fence: b"atomic_thread_fence", fence, all, false;
+            Load: b"atomic_load", Loads, sc;
+            LoadExplicit: b"atomic_load_explicit", Loads, [Rlx, Acq, Sc];
+            Store: b"atomic_store", Stores, sc;
+            StoreExplicit: b"atomic_store_explicit", Stores, [Rlx, Rel, Sc];
+            Exchange: b"atomic_exchange", Exchanges, sc;
+            ExchangeExplicit: b"atomic_exchange_explicit", Exchanges, all;
+            FetchAdd: b"atomic_fetch_add", Modifies(Addition), sc;
+            FetchAddExplicit: b"atomic_fetch_add_explicit", Modifies(Addition), all;
+            Fence: b"atomic_thread_fence", Fences, all;
         }
     };
 }
@@ -49,11 +80,9 @@ macro_rules! orders {
     };
 }
 
-pub(crate) use calls;
-
 /// The words of all rows, each with its call.
 macro_rules! call_words {
-    (() $($call:ident: $word:literal, $reads:ident, $takes:tt, $valued:literal;)*) => {
+    (() $($call:ident: $word:literal, $effect:ident $(($computation:ident))?, $takes:tt;)*) => {
         [$(($word, Operation::$call)),*]
     };
 }
@@ -65,7 +94,7 @@ macro_rules! order_words {
 
 /// The orders that the call's row says.
 macro_rules! taken {
-    (($operation:ident) $($call:ident: $word:literal, $reads:ident, $takes:tt, $valued:literal;)*) => {
+    (($operation:ident) $($call:ident: $word:literal, $effect:ident $(($computation:ident))?, $takes:tt;)*) => {
         match $operation {
             $(Operation::$call => written!($takes),)*
         }
@@ -84,16 +113,16 @@ macro_rules! listed {
     (() $($order:ident: $word:literal;)*) => { &[$(Order::$order),*] };
 }
 
-/// What the call's row says of its value.
-macro_rules! valued {
-    (($operation:ident) $($call:ident: $word:literal, $reads:ident, $takes:tt, $valued:literal;)*) => {
+/// The effect that the call's row says.
+macro_rules! caused {
+    (($operation:ident) $($call:ident: $word:literal, $effect:ident $(($computation:ident))?, $takes:tt;)*) => {
         match $operation {
-            $(Operation::$call => $valued,)*
+            $(Operation::$call => Effect::$effect $((Computation::$computation))?,)*
         }
     };
 }
 
-const CALLS: [(&[u8], Operation); 7] = calls!(call_words());
+const CALLS: [(&[u8], Operation); 9] = calls!(call_words());
 
 const ORDERS: [(&[u8], Order); 5] = orders!(order_words());
 
@@ -118,9 +147,9 @@ pub fn accepted(operation: Operation) -> &'static [Order]
     calls!(taken(operation))
 }
 
-/// Whether a call has a value.
-pub fn has_value(operation: Operation) -> bool
-    ensures { result ≡ has_value operation }
+/// What a call does.
+pub fn effect_of(operation: Operation) -> Effect
+    ensures { result ≡ effect_of operation }
 {
-    calls!(valued(operation))
+    calls!(caused(operation))
 }

@@ -11,7 +11,7 @@ use Rattle.litmus_tree.specs.declared.expression.Leaf.TheVariants.{Number, Regis
 use Rattle.litmus_tree.specs.declared.expression.Operator.{Operator}
 use Rattle.litmus_tree.specs.declared.expression.Operator.TheVariants.{Equal, Unequal, Both, Either}
 use Rattle.litmus_tree.specs.declared.expression.Expression.{Expression, fold-Expression, fold_out-Expression}
-use Rattle.litmus_tree.specs.declared.expression.Link.{Link, Link-F, Join, fold-roll-Link}
+use Rattle.litmus_tree.specs.declared.expression.Link.{Link-F, Join, fold-roll-Link}
 use Rattle.litmus_tree.specs.declared.expression.Link.TheVariants.{rolls-Join}
 use Rattle.litmus_tree.specs.Tree as trees
 use Rattle.litmus_tree.specs.Tree.{Term, number, held, denied, equal, unequal, either, leaf_of, Growth, denies, joins, grown, along, link_layer, expression_layer, growth_of, term_of}

@@ -10,9 +10,10 @@ use Rattle.conditions.specs.contracts.place.Place.{the_row as place_row}
 use Rattle.conditions.specs.declared.place.Binding.{Binding}
 use Rattle.conditions.specs.declared.place.Place.{Place}
 use Rattle.events.specs.contracts.event.Order.{the_row as order_row}
+use Rattle.litmus_tree.specs.contracts.tree.Computation.{the_row as computation_row}
 use Rattle.litmus_tree.specs.contracts.tree.Parameter.{the_row as parameter_row}
 use Rattle.litmus_tree.specs.declared.tree.Parameter.{Parameter}
-use Rattle.litmus_tree.specs.Tree.{Word, Term, number, held, denied, equal, unequal, both, either, Action, load, store, exchange, fence, Right, computed, plain_read, value_of, Declared, Step, empty, block, declare, assign, plain_write, perform, if_only, if_else, Steps, no_steps, in_turn, Program, Litmus}
+use Rattle.litmus_tree.specs.Tree.{Word, Term, number, held, denied, equal, unequal, both, either, Action, load, store, exchange, modify, fence, Right, computed, plain_read, value_of, Declared, Step, empty, block, declare, assign, plain_write, perform, if_only, if_else, Steps, no_steps, in_turn, Program, Litmus}
 
 -- An expression and a statement are coded by the number of their case, and the codes of its parts.
 
@@ -56,12 +57,14 @@ action_code (load a0 a1) = gcons (gnum 0) (gcons (coded_word.code a0) (order_row
 action_code (store a0 a1 a2) = gcons (gnum 1) (gcons (coded_word.code a0) (gcons (coded_term.code a1) (order_row.coded.code a2)))
 action_code (exchange a0 a1 a2) = gcons (gnum 2) (gcons (coded_word.code a0) (gcons (coded_term.code a1) (order_row.coded.code a2)))
 action_code (fence a0) = gcons (gnum 3) (order_row.coded.code a0)
+action_code (modify a0 a1 a2 a3) = gcons (gnum 4) (gcons (coded_word.code a0) (gcons (computation_row.coded.code a1) (gcons (coded_ℕ.code a2) (order_row.coded.code a3))))
 
 pub action_inj : (x y : Action) → action_code x ≡ action_code y → x ≡ y
 action_inj (load a0 a1) (load b0 b1) p = λ i. load (coded_word.inj a0 b0 (ap (λ g. head (tail g)) p) i) (order_row.coded.inj a1 b1 (ap (λ g. tail (tail g)) p) i)
 action_inj (store a0 a1 a2) (store b0 b1 b2) p = λ i. store (coded_word.inj a0 b0 (ap (λ g. head (tail g)) p) i) (coded_term.inj a1 b1 (ap (λ g. head (tail (tail g))) p) i) (order_row.coded.inj a2 b2 (ap (λ g. tail (tail (tail g))) p) i)
 action_inj (exchange a0 a1 a2) (exchange b0 b1 b2) p = λ i. exchange (coded_word.inj a0 b0 (ap (λ g. head (tail g)) p) i) (coded_term.inj a1 b1 (ap (λ g. head (tail (tail g))) p) i) (order_row.coded.inj a2 b2 (ap (λ g. tail (tail (tail g))) p) i)
 action_inj (fence a0) (fence b0) p = λ i. fence (order_row.coded.inj a0 b0 (ap (λ g. tail g) p) i)
+action_inj (modify a0 a1 a2 a3) (modify b0 b1 b2 b3) p = λ i. modify (coded_word.inj a0 b0 (ap (λ g. head (tail g)) p) i) (computation_row.coded.inj a1 b1 (ap (λ g. head (tail (tail g))) p) i) (coded_ℕ.inj a2 b2 (ap (λ g. head (tail (tail (tail g)))) p) i) (order_row.coded.inj a3 b3 (ap (λ g. tail (tail (tail (tail g)))) p) i)
 action_inj x y p = absurd (cc)
 
 abbrev pub coded_action : Coded Action

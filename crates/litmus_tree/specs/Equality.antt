@@ -4,9 +4,10 @@ use Rattle.std.specs.Cmp.Lexicographic.{pointwise}
 use Rattle.std.specs.Str.{bytes_eq}
 use Rattle.conditions.specs.Equality.{same_place, same_binding, same_condition}
 use Rattle.events.specs.contracts.event.OrderPartialEq.TheImpl.{ghosts as order_equality}
+use Rattle.litmus_tree.specs.contracts.tree.ComputationPartialEq.TheImpl.{ghosts as computation_equality}
 use Rattle.litmus_tree.specs.contracts.tree.LocationKindPartialEq.TheImpl.{ghosts as kind_equality}
 use Rattle.litmus_tree.specs.declared.tree.Parameter.{Parameter}
-use Rattle.litmus_tree.specs.Tree.{Term, number, held, denied, equal, unequal, both, either, Action, load, store, exchange, fence, Right, computed, plain_read, value_of, Declared, Step, empty, block, declare, assign, plain_write, perform, if_only, if_else, Steps, no_steps, in_turn, Program, Litmus}
+use Rattle.litmus_tree.specs.Tree.{Term, number, held, denied, equal, unequal, both, either, Action, load, store, exchange, modify, fence, Right, computed, plain_read, value_of, Declared, Step, empty, block, declare, assign, plain_write, perform, if_only, if_else, Steps, no_steps, in_turn, Program, Litmus}
 
 abbrev pub same_parameter : Parameter → Parameter → Bool
 same_parameter a b = bytes_eq a.name b.name && kind_equality.eq a.kind b.kind
@@ -25,6 +26,7 @@ abbrev pub same_action : Action → Action → Bool
 same_action (load x o) (load y p) = bytes_eq x y && order_equality.eq o p
 same_action (store x e o) (store y f p) = bytes_eq x y && same_term e f && order_equality.eq o p
 same_action (exchange x e o) (exchange y f p) = bytes_eq x y && same_term e f && order_equality.eq o p
+same_action (modify x f c o) (modify y g d p) = bytes_eq x y && computation_equality.eq f g && c == d && order_equality.eq o p
 same_action (fence o) (fence p) = order_equality.eq o p
 same_action a b = false
 

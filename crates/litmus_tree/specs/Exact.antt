@@ -13,8 +13,10 @@ use Rattle.conditions.specs.declared.place.Binding.{Binding}
 use Rattle.conditions.specs.declared.place.Place.{Place}
 use Rattle.events.specs.contracts.event.OrderPartialEq.TheImpl.{ghosts as order_equality}
 use Rattle.events.specs.declared.event.Order.{Order}
+use Rattle.litmus_tree.specs.contracts.tree.ComputationPartialEq.TheImpl.{ghosts as computation_equality}
 use Rattle.litmus_tree.specs.contracts.tree.LocationKindPartialEq.TheImpl.{ghosts as kind_equality}
 use Rattle.litmus_tree.specs.declared.tree.Call as calls
+use Rattle.litmus_tree.specs.declared.tree.Computation.{Computation}
 use Rattle.litmus_tree.specs.declared.tree.Declarator.{Declarator}
 use Rattle.litmus_tree.specs.declared.expression.Expression.{Expression}
 use Rattle.litmus_tree.specs.declared.tree.LocationKind.{LocationKind}
@@ -23,10 +25,13 @@ use Rattle.litmus_tree.specs.declared.tree.RightSide.{RightSide}
 use Rattle.litmus_tree.specs.declared.tree.Statement.{Statement}
 use Rattle.litmus_tree.specs.Equality.{same_parameter, same_term, same_action, same_right, same_optional, same_declared, same_step, same_steps, same_program, same_litmus}
 use Rattle.litmus_tree.specs.Tree as trees
-use Rattle.litmus_tree.specs.Tree.{Word, Term, number, held, denied, equal, unequal, either, term_of, Action, load, store, exchange, fence, action_of, Right, computed, plain_read, value_of, right_of, Declared, declared_of, Step, empty, block, declare, assign, plain_write, perform, if_only, if_else, step_of, Steps, no_steps, in_turn, Program, Litmus}
+use Rattle.litmus_tree.specs.Tree.{Word, Term, number, held, denied, equal, unequal, either, term_of, Action, load, store, exchange, modify, fence, action_of, Right, computed, plain_read, value_of, right_of, Declared, declared_of, Step, empty, block, declare, assign, plain_write, perform, if_only, if_else, step_of, Steps, no_steps, in_turn, Program, Litmus}
 
 kind_exact : (a b : LocationKind) → Decides (kind_equality.eq a b) (a ≡ b)
 kind_exact a b = search rules
+
+computation_exact : (a b : Computation) → Decides (computation_equality.eq a b) (a ≡ b)
+computation_exact a b = search rules
 
 order_exact : (a b : Order) → Decides (order_equality.eq a b) (a ≡ b)
 order_exact a b = search rules
@@ -58,6 +63,9 @@ action_exact (store x e o) (store y f p) =
 action_exact (exchange x e o) (exchange y f p) =
     by_parts _ (both _ _ (both _ _ (bytes_eq-Decides x y) (term_exact e f)) (order_exact o p)) (λ h. let d = h.0.0 in let m = h.0.1 in let n = h.1 in cc)
     (λ h. (((let t : x ≡ y = cc in t), (let t : e ≡ f = cc in t)), (let t : o ≡ p = cc in t)))
+action_exact (modify x f c o) (modify y g d p) =
+    by_parts _ (both _ _ (both _ _ (both _ _ (bytes_eq-Decides x y) (computation_exact f g)) (Decides-eqb c d)) (order_exact o p)) (λ h. let i = h.0.0.0 in let j = h.0.0.1 in let m = h.0.1 in let n = h.1 in cc)
+    (λ h. ((((let t : x ≡ y = cc in t), (let t : f ≡ g = cc in t)), (let t : c ≡ d = cc in t)), (let t : o ≡ p = cc in t)))
 action_exact (fence o) (fence p) = by_parts _ (order_exact o p) (λ h. ap fence h) (λ e. cc)
 action_exact a b = (λ h. cc, λ e. cc)
 

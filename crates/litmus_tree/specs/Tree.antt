@@ -1,5 +1,5 @@
 -- Litmus tests as trees, apart from where they lie in memory. (herd7 manual, C litmus tests; ISO/IEC 9899:2011, 7.17.)
-use Rattle.std.specs.Prelude.{ℕ, List, [], ◌∷◌, map, Option, None, Some}
+use Rattle.std.specs.Prelude.{ℕ, ◌+◌, List, [], ◌∷◌, map, Option, None, Some}
 use Rattle.events.specs.declared.event.Order.{Order}
 use Rattle.conditions.specs.declared.place.Binding.{Binding}
 use Rattle.conditions.specs.declared.place.Place.{Place}
@@ -11,7 +11,9 @@ use Rattle.litmus_tree.specs.declared.expression.Operator.TheVariants.{Equal, Un
 use Rattle.litmus_tree.specs.declared.expression.Expression.{Expression, Expression-F}
 use Rattle.litmus_tree.specs.declared.expression.Link.{Link, Link-F, fold-Link}
 use Rattle.litmus_tree.specs.declared.tree.Call as calls
-use Rattle.litmus_tree.specs.declared.tree.Call.TheVariants.{Load, Store, Exchange, Fence}
+use Rattle.litmus_tree.specs.declared.tree.Call.TheVariants.{Load, Store, Exchange, Modify, Fence}
+use Rattle.litmus_tree.specs.declared.tree.Computation.{Computation}
+use Rattle.litmus_tree.specs.declared.tree.Computation.TheVariants.{Addition}
 use Rattle.litmus_tree.specs.declared.tree.RightSide.{RightSide}
 use Rattle.litmus_tree.specs.declared.tree.RightSide.TheVariants as rights
 use Rattle.litmus_tree.specs.declared.tree.Declarator.{Declarator}
@@ -34,11 +36,18 @@ pub data Term : Type 0 where
   both : Term → Term → Term
   either : Term → Term → Term
 
--- a call of an atomic operation, with its location
+-- What a call that modifies a location writes there, of the value v that it read and of its constant c.
+-- (ISO/IEC 9899:2011, 7.17.7.5.)
+abbrev pub computed_by : Computation → ℕ → ℕ → ℕ
+computed_by Addition v c = v + c
+
+-- A call of an atomic operation, with its location. modify x f c o: it reads x, and writes there what f makes of the
+-- value read and of c.
 pub data Action : Type 0 where
   load : Word → Order → Action
   store : Word → Term → Order → Action
   exchange : Word → Term → Order → Action
+  modify : Word → Computation → ℕ → Order → Action
   fence : Order → Action
 
 -- what a register is given: the value of an expression, of a plain read of a location, or of a call
@@ -141,6 +150,7 @@ abbrev pub action_of : calls.Call → Action
 action_of (Load x o) = load x o
 action_of (Store x e o) = store x (term_of e) o
 action_of (Exchange x e o) = exchange x (term_of e) o
+action_of (Modify x f c o) = modify x f c o
 action_of (Fence o) = fence o
 
 abbrev pub right_of : RightSide → Right

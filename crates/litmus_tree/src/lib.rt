@@ -6,4 +6,6 @@ pub mod laws;
 mod tree;
 
 pub use expression::{Expression, Leaf, Link, Operator};
-pub use tree::{Call, Declarator, LocationKind, Parameter, RightSide, Statement, Thread};
+pub use tree::{
+    Call, Computation, Declarator, LocationKind, Parameter, RightSide, Statement, Thread,
+};

@@ -1,8 +1,8 @@
 //! The tree of a thread.
 
-ghost use Rattle.std.specs.Prelude.{◌≡◌};
+ghost use Rattle.std.specs.Prelude.{◌≡◌, ◌<◌, ◌^◌};
 ghost use Rattle.litmus_tree.specs.Names.{is_one_of};
-ghost use Rattle.litmus_tree.specs.Tree.{steps_of};
+ghost use Rattle.litmus_tree.specs.Tree.{computed_by, steps_of};
 
 mod copying;
 mod equality;
@@ -29,6 +29,26 @@ pub struct Parameter {
     pub kind: LocationKind,
 }
 
+/// What a call that modifies a location writes there, of the value that it read and of a constant.
+/// (ISO/IEC 9899:2011, 7.17.7.5.)
+#[derive(Clone, Copy, Debug, PartialEq, Eq)]
+pub enum Computation {
+    /// Their sum.
+    Addition,
+}
+
+impl Computation {
+    /// What it gives of these two.
+    pub fn of(self, value: u32, constant: u32) -> u32
+        requires { computed_by self value constant < 2 ^ 32 }
+        ensures { result ≡ computed_by self value constant }
+    {
+        match self {
+            Computation::Addition => value + constant,
+        }
+    }
+}
+
 /// A call of an atomic operation: the location first, the order last. A short form, as `atomic_load(x)`, is
 /// the explicit one with `memory_order_seq_cst`.
 #[derive(Drop)]
@@ -36,6 +56,8 @@ pub enum Call {
     Load(Name, Order),
     Store(Name, Expression, Order),
     Exchange(Name, Expression, Order),
+    /// Reads, and writes what is computed of the value read and a constant, in one step.
+    Modify(Name, Computation, u32, Order),
     Fence(Order),
 }
 
@@ -46,7 +68,7 @@ pub enum RightSide {
     Value(Expression),
     /// A plain read of a location.
     Read(Name),
-    /// The value of a call that has one: a load, or an exchange.
+    /// The value of a call that has one: that of its read.
     Call(Call),
 }
 

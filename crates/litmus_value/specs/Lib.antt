@@ -1,2 +1,4 @@
+pub mod Gathering
 pub mod Limits
+pub mod ValueExamples
 pub mod Values

@@ -1,14 +1,16 @@
 -- The limits and the names of a test.
 use Rattle.std.specs.Prelude.{ℕ, ◌+◌, ◌≤◌, List, length, sum_by, Contains, Option, None, Some, All, max}
-use Rattle.litmus_tree.specs.Tree.{Word, Term, number, held, denied, equal, unequal, both, either, Action, load, store, exchange, fence, Right, computed, plain_read, value_of, Step, empty, block, declare, assign, plain_write, perform, if_only, if_else, Steps, no_steps, in_turn, Program, Litmus}
+use Rattle.litmus_tree.specs.Tree.{Word, Term, number, held, denied, equal, unequal, both, either, Action, load, store, exchange, modify, fence, Right, computed, plain_read, value_of, Step, empty, block, declare, assign, plain_write, perform, if_only, if_else, Steps, no_steps, in_turn, Program, Litmus}
+use Rattle.litmus_value.specs.Values.{values_of}
 
--- How many events a statement has, on its longest way: an exchange reads and writes, and an `if` counts by the arm
--- that has more. A plain access is one event, as a call is.
+-- How many events a statement has, on its longest way: an exchange and a modification read and write, and an `if` counts
+-- by the arm that has more. A plain access is one event, as a call is.
 
 abbrev pub action_events : Action → ℕ
 action_events (load x o) = 1
 action_events (store x e o) = 1
 action_events (exchange x e o) = 2
+action_events (modify x f c o) = 2
 action_events (fence o) = 1
 
 abbrev pub right_events : Right → ℕ
@@ -53,6 +55,7 @@ abbrev pub ActionNames : List Word → List Word → Action → Type 0
 ActionNames xs rs (load x o) = Contains xs x
 ActionNames xs rs (store x e o) = Contains xs x × TermNames rs e
 ActionNames xs rs (exchange x e o) = Contains xs x × TermNames rs e
+ActionNames xs rs (modify x f c o) = Contains xs x
 ActionNames xs rs (fence o) = Unit {0}
 
 abbrev pub RightNames : List Word → List Word → Right → Type 0
@@ -82,10 +85,12 @@ abbrev mutual
 abbrev pub ProgramNames : List Word → Program → Type 0
 ProgramNames xs p = StepsNames xs p.registers p.steps
 
--- What every test keeps: at most 8 threads, 8 locations, and 64 events with one initial write of each
--- location; and the locations and registers of its statements are among its own.
+-- What every test keeps: at most 8 threads, 8 locations, 16 values that are no greater than 2,147,483,647, and 64 events
+-- with one initial write of each location; and the locations and registers of its statements are among its own.
 pub record IsTest (t : Litmus) : Type 0 where
   pub threads : length t.threads ≤ 8
   pub locations : length t.locations ≤ 8
+  pub values : length (values_of t) ≤ 16
+  pub small : All (λ v. v ≤ 2147483647) (values_of t)
   pub events : length t.locations + sum_by program_events t.threads ≤ 64
   pub names : All (ProgramNames t.locations) t.threads

@@ -1,69 +1,111 @@
--- The values of a test: 0, 1, and every constant of its initial state and of its programs.
-use Rattle.std.specs.Prelude.{◌≡◌, ℕ, ◌⊎◌, List, [], ◌∷◌, ◌++◌, map, Option, None, Some, if◌then◌else◌, ◌==◌}
+-- The values of a test: each constant of its initial state and of its programs, 0 and 1 among them, and each of these
+-- with a sum of numbers that its calls add. (ISO/IEC 9899:2011, 7.17.7.5.)
+use Rattle.std.specs.Prelude.{◌≡◌, ℕ, ◌+◌, ◌<◌, ◌≤◌, length, Any, ◌⊎◌, List, [], ◌∷◌, ◌++◌, map, Option, None, Some, if◌then◌else◌, ◌==◌}
 use Rattle.std.specs.List.{flat_map, list_any}
 use Rattle.conditions.specs.declared.place.Binding.{Binding}
 use Rattle.listings.specs.Lists.{IsIn}
-use Rattle.litmus_tree.specs.Tree.{Term, number, held, denied, equal, unequal, both, either, Growth, denies, joins, Action, load, store, exchange, fence, Right, computed, plain_read, value_of, Step, empty, block, declare, assign, plain_write, perform, if_only, if_else, Steps, no_steps, in_turn, Program, Litmus}
+use Rattle.litmus_tree.specs.declared.tree.Computation.{Computation}
+use Rattle.litmus_tree.specs.declared.tree.Computation.TheVariants.{Addition}
+use Rattle.litmus_tree.specs.Tree.{Term, number, held, denied, equal, unequal, both, either, Growth, denies, joins, Action, load, store, exchange, modify, fence, Right, computed, plain_read, value_of, Step, empty, block, declare, assign, plain_write, perform, if_only, if_else, Steps, no_steps, in_turn, Program, Litmus}
+use Rattle.litmus_value.specs.declared.values.ValuesFault.{ValuesFault}
+use Rattle.litmus_value.specs.declared.values.ValuesFault.TheVariants.{TooMany, TooBig, NoMemory}
 
--- Constants in order, those of an arm that is never taken among them.
+-- A number that stands in a program: a constant, or what a call adds to a location.
+pub data Numeral : Type 0 where
+  literal : ℕ → Numeral
+  addend : ℕ → Numeral
 
-abbrev pub term_constants : Term → List ℕ
-term_constants (number n) = n ∷ []
-term_constants (held r) = []
-term_constants (denied a) = term_constants a
-term_constants (equal a b) = term_constants a ++ term_constants b
-term_constants (unequal a b) = term_constants a ++ term_constants b
-term_constants (both a b) = term_constants a ++ term_constants b
-term_constants (either a b) = term_constants a ++ term_constants b
+-- Numerals in order, those of an arm that is never taken among them.
+
+abbrev pub term_numerals : Term → List Numeral
+term_numerals (number n) = literal n ∷ []
+term_numerals (held r) = []
+term_numerals (denied a) = term_numerals a
+term_numerals (equal a b) = term_numerals a ++ term_numerals b
+term_numerals (unequal a b) = term_numerals a ++ term_numerals b
+term_numerals (both a b) = term_numerals a ++ term_numerals b
+term_numerals (either a b) = term_numerals a ++ term_numerals b
 
 -- those that a link adds to what stands before it
-abbrev pub growth_constants : Growth → List ℕ
-growth_constants denies = []
-growth_constants (joins o b) = term_constants b
+abbrev pub growth_numerals : Growth → List Numeral
+growth_numerals denies = []
+growth_numerals (joins o b) = term_numerals b
 
-abbrev pub action_constants : Action → List ℕ
-action_constants (load x o) = []
-action_constants (store x e o) = term_constants e
-action_constants (exchange x e o) = term_constants e
-action_constants (fence o) = []
+-- what the constant is that a call computes with
+abbrev pub operand_numerals : Computation → ℕ → List Numeral
+operand_numerals Addition c = addend c ∷ []
 
-abbrev pub right_constants : Right → List ℕ
-right_constants (computed e) = term_constants e
-right_constants (plain_read x) = []
-right_constants (value_of a) = action_constants a
+abbrev pub action_numerals : Action → List Numeral
+action_numerals (load x o) = []
+action_numerals (store x e o) = term_numerals e
+action_numerals (exchange x e o) = term_numerals e
+action_numerals (modify x f c o) = operand_numerals f c
+action_numerals (fence o) = []
 
-abbrev pub optional_constants : Option Right → List ℕ
-optional_constants None = []
-optional_constants (Some r) = right_constants r
+abbrev pub right_numerals : Right → List Numeral
+right_numerals (computed e) = term_numerals e
+right_numerals (plain_read x) = []
+right_numerals (value_of a) = action_numerals a
+
+abbrev pub optional_numerals : Option Right → List Numeral
+optional_numerals None = []
+optional_numerals (Some r) = right_numerals r
 
 abbrev mutual
-  pub step_constants : Step → List ℕ
-  step_constants empty = []
-  step_constants (block ss) = steps_constants ss
-  step_constants (declare ds) = flat_map (λ d. optional_constants d.value) ds
-  step_constants (assign r v) = right_constants v
-  step_constants (plain_write x e) = term_constants e
-  step_constants (perform a) = action_constants a
-  step_constants (if_only c a) = term_constants c ++ step_constants a
-  step_constants (if_else c a b) = term_constants c ++ step_constants a ++ step_constants b
+  pub step_numerals : Step → List Numeral
+  step_numerals empty = []
+  step_numerals (block ss) = steps_numerals ss
+  step_numerals (declare ds) = flat_map (λ d. optional_numerals d.value) ds
+  step_numerals (assign r v) = right_numerals v
+  step_numerals (plain_write x e) = term_numerals e
+  step_numerals (perform a) = action_numerals a
+  step_numerals (if_only c a) = term_numerals c ++ step_numerals a
+  step_numerals (if_else c a b) = term_numerals c ++ step_numerals a ++ step_numerals b
 
-  pub steps_constants : Steps → List ℕ
-  steps_constants no_steps = []
-  steps_constants (in_turn s ss) = step_constants s ++ steps_constants ss
+  pub steps_numerals : Steps → List Numeral
+  steps_numerals no_steps = []
+  steps_numerals (in_turn s ss) = step_numerals s ++ steps_numerals ss
 
-abbrev pub program_constants : Program → List ℕ
-program_constants p = steps_constants p.steps
+abbrev pub program_numerals : Program → List Numeral
+program_numerals p = steps_numerals p.steps
+
+abbrev pub numerals_among : List Program → List Numeral
+numerals_among threads = flat_map program_numerals threads
+
+abbrev pub constants_in : List Numeral → List ℕ
+constants_in [] = []
+constants_in (literal k ∷ ns) = k ∷ constants_in ns
+constants_in (addend c ∷ ns) = constants_in ns
+
+abbrev pub adds_in : List Numeral → List ℕ
+adds_in [] = []
+adds_in (literal k ∷ ns) = adds_in ns
+adds_in (addend c ∷ ns) = c ∷ adds_in ns
 
 -- the constants of an initial state, and then those of programs, as they stand
 abbrev pub constants_among : List Binding → List Program → List ℕ
-constants_among initial threads = map (λ b. b.value) initial ++ flat_map program_constants threads
+constants_among initial threads = map (λ b. b.value) initial ++ constants_in (numerals_among threads)
 
-abbrev pub constants : Litmus → List ℕ
-constants t = constants_among t.initial t.threads
+-- what the calls of programs add, as they stand
+abbrev pub adds_among : List Program → List ℕ
+adds_among threads = adds_in (numerals_among threads)
 
--- v is 0, 1 or a constant of an initial state or of programs
-abbrev pub IsValue : List Binding → List Program → ℕ → Type 0
-IsValue initial threads v = (v ≡ 0) ⊎ (v ≡ 1) ⊎ IsIn v (constants_among initial threads)
+-- the sums over the subsets of a list, in which each place counts once
+abbrev pub sums : List ℕ → List ℕ
+sums [] = 0 ∷ []
+sums (c ∷ cs) = sums cs ++ map (λ s. c + s) (sums cs)
+
+-- k is 0, 1 or a constant of an initial state or of programs
+abbrev pub IsConstant : List Binding → List Program → ℕ → Type 0
+IsConstant initial threads k = (k ≡ 0) ⊎ (k ≡ 1) ⊎ IsIn k (constants_among initial threads)
+
+-- v is such a constant and a sum over a subset of the adds
+pub record IsValue (initial : List Binding) (threads : List Program) (v : ℕ) : Type 0 where
+  pub constant : ℕ
+  pub sum : ℕ
+  pub is_constant : IsConstant initial threads constant
+  pub is_sum : IsIn sum (sums (adds_among threads))
+  pub is : v ≡ constant + sum
 
 -- v is a value of the test
 abbrev pub InDom : Litmus → ℕ → Type 0
@@ -78,9 +120,23 @@ abbrev pub with_values : List ℕ → List ℕ → List ℕ
 with_values vs [] = vs
 with_values vs (c ∷ cs) = with_values (with_value vs c) cs
 
--- 0, 1, and then each constant where it first stands
+-- vs, and then each of them and c where that first stands
+abbrev pub with_sum : List ℕ → ℕ → List ℕ
+with_sum vs c = with_values vs (map (λ v. v + c) vs)
+
+abbrev pub with_sums : List ℕ → List ℕ → List ℕ
+with_sums vs [] = vs
+with_sums vs (c ∷ cs) = with_sums (with_sum vs c) cs
+
+-- 0, 1, and then each constant where it first stands; and then, one add after another, what it makes of those before
 abbrev pub values_among : List Binding → List Program → List ℕ
-values_among initial threads = with_values (0 ∷ 1 ∷ []) (constants_among initial threads)
+values_among initial threads = with_sums (with_values (0 ∷ 1 ∷ []) (constants_among initial threads)) (adds_among threads)
 
 abbrev pub values_of : Litmus → List ℕ
 values_of t = values_among t.initial t.threads
+
+-- why vs is no list of values of a test
+abbrev pub Refuses : List ℕ → ValuesFault → Type 0
+Refuses vs TooMany = 16 < length vs
+Refuses vs TooBig = (length vs ≤ 16) × Any (λ v. 2147483647 < v) vs
+Refuses vs NoMemory = Unit {0}

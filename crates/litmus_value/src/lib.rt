@@ -1,6 +1,7 @@
 //! Litmus tests within their limits, and their values.
 #![tactic(auto)]
 
+pub mod laws;
 mod test;
 mod values;
 

@@ -1,22 +1,31 @@
 //! The values of a test.
 
-ghost use Rattle.std.specs.Prelude.{◌≡◌, ◌<◌, ◌≤◌, ◌∷◌, [], length, map, IfOk, IfErr, OnOk};
-ghost use Rattle.std.specs.List.{flat_map};
+ghost use Rattle.std.specs.Prelude.{◌≡◌, ◌≤◌, ◌<◌, ◌^◌, length, All, Any, IfOk, IfErr, OnOk};
 ghost use Rattle.listings.specs.Lists.{Lists};
-ghost use Rattle.litmus_tree.specs.Tree.{leaf_of, growth_of, term_of, action_of, right_of, declared_of, step_of, steps_of};
-ghost use Rattle.litmus_value.specs.Values.{term_constants, growth_constants, action_constants, right_constants, optional_constants, step_constants, steps_constants, program_constants, with_value, with_values, values_among, values_of, IsValue, InDom};
-ghost use Rattle.litmus_value.specs.declared.values.ValuesFault.TheVariants.{TooMany};
+ghost use Rattle.litmus_value.specs.Gathering.{AreFew, IsFull};
+ghost use Rattle.litmus_value.specs.Values.{with_value, with_sum, with_sums, values_among, values_of, IsValue, InDom, Refuses};
+
+mod numbers;
 
 use crate::test::Test;
+use crate::values::numbers::Numbers;
 use conditions::Binding;
-use litmus_tree::{Call, Declarator, Expression, Leaf, Link, RightSide, Statement, Thread};
+use litmus_tree::Thread;
 use std::alloc::{AllocError, AllocFailed, Global};
+
+/// As many values as a test has at most.
+const MAX_VALUES: usize = 16;
+
+/// The greatest value that a test may have.
+const MAX_VALUE: u128 = 2_147_483_647;
 
 /// Why there is no list of values.
 #[derive(Clone, Copy, Debug, Drop, PartialEq, Eq)]
 pub enum ValuesFault {
-    /// There are more than were asked for.
+    /// There are more than 16.
     TooMany,
+    /// There are no more than 16, and one is above 2,147,483,647.
+    TooBig,
     NoMemory,
 }
 
@@ -43,267 +52,101 @@ impl<T: Drop> From<AllocFailed<T>> for ValuesFault {
 }
 
 /// Adds a value that isn't there yet.
-fn add(values: &mut Vec<u32>, value: u32, most: usize) -> Result<(), ValuesFault>
-    requires { length values.old.items ≤ most }
+fn insert(values: &mut Vec<u128>, value: u128) -> Result<(), ValuesFault>
+    requires { length values.old.items ≤ 16 }
     ensures done { OnOk result (values.new.items ≡ with_value values.old.items value) }
-    ensures within { OnOk result (length values.new.items ≤ most) }
-    ensures fault { IfErr result (λ e. e ≡ TooMany → most < length (with_value values.old.items value)) }
-    ensures limited { IfErr result (λ e. e ≡ TooMany → most < usize.MAX) }
+    ensures within { OnOk result (length values.new.items ≤ 16) }
+    ensures fault { IfErr result (IsFull (with_value values.old.items value)) }
 {
     if values.contains(&value) {
         return Ok(());
     }
-    if values.len() >= most {
+    if values.len() >= MAX_VALUES {
         return Err(ValuesFault::TooMany);
     }
     values.push(value)?;
     Ok(())
 }
 
-/// Adds the constant of a leaf, if it is one.
-fn add_leaf(values: &mut Vec<u32>, leaf: &Leaf, most: usize) -> Result<(), ValuesFault>
-    requires { length values.old.items ≤ most }
-    ensures done { OnOk result (values.new.items ≡ with_values values.old.items (term_constants (leaf_of leaf.now))) }
-    ensures within { OnOk result (length values.new.items ≤ most) }
-    ensures fault { IfErr result (λ e. e ≡ TooMany → most < length (with_values values.old.items (term_constants (leaf_of leaf.now)))) }
-    ensures limited { IfErr result (λ e. e ≡ TooMany → most < usize.MAX) }
+/// Adds the sums of each value and of this number.
+fn insert_sums(values: &mut Vec<u128>, add: u32) -> Result<(), ValuesFault>
+    requires few { length values.old.items ≤ 16 }
+    requires narrow { All (λ v. v < 2 ^ 100) values.old.items }
+    ensures done { OnOk result (values.new.items ≡ with_sum values.old.items add) }
+    ensures within { OnOk result (length values.new.items ≤ 16) }
+    ensures fault { IfErr result (IsFull (with_sum values.old.items add)) }
 {
-    match leaf {
-        Leaf::Number(value) => add(values, *value, most),
-        Leaf::Register(_) => Ok(()),
-    }
-}
-
-/// Adds the constants of an expression. Recursion goes into right operands alone.
-#[cycle(expressions)]
-#[tactic(auto, using(crate::proofs::Terms::term_values, crate::proofs::Terms::leaf_values))]
-fn add_expression(
-    values: &mut Vec<u32>,
-    expression: &Expression,
-    most: usize,
-) -> Result<(), ValuesFault>
-    requires { length values.old.items ≤ most }
-    ensures done { OnOk result (values.new.items ≡ with_values values.old.items (term_constants (term_of expression.now))) }
-    ensures within { OnOk result (length values.new.items ≤ most) }
-    ensures fault { IfErr result (λ e. e ≡ TooMany → most < length (with_values values.old.items (term_constants (term_of expression.now)))) }
-    ensures limited { IfErr result (λ e. e ≡ TooMany → most < usize.MAX) }
-{
-    add_leaf(values, &expression.first, most)?;
-    add_links(values, &expression.rest, most)
-}
-
-/// Adds the constants of the operands behind a leaf.
-#[cycle(expressions)]
-fn add_links(values: &mut Vec<u32>, links: &Vec<Link>, most: usize) -> Result<(), ValuesFault>
-    requires { length values.old.items ≤ most }
-    ensures done { OnOk result (values.new.items ≡ with_values values.old.items (flat_map growth_constants (map growth_of links.now.items))) }
-    ensures within { OnOk result (length values.new.items ≤ most) }
-    ensures fault { IfErr result (λ e. e ≡ TooMany → most < length (with_values values.old.items (flat_map growth_constants (map growth_of links.now.items)))) }
-    ensures limited { IfErr result (λ e. e ≡ TooMany → most < usize.MAX) }
-{
-    for link in links {
-        add_link(values, link, most)?;
+    for place in 0..values.len() {
+        let value = values[place];
+        insert(values, value + u128::from(add))?;
     }
     Ok(())
 }
 
-#[cycle(expressions)]
-#[tactic(auto, using(litmus_tree::specs::Chains::join_is))]
-fn add_link(values: &mut Vec<u32>, link: &Link, most: usize) -> Result<(), ValuesFault>
-    requires { length values.old.items ≤ most }
-    ensures done { OnOk result (values.new.items ≡ with_values values.old.items (growth_constants (growth_of link.now))) }
-    ensures within { OnOk result (length values.new.items ≤ most) }
-    ensures fault { IfErr result (λ e. e ≡ TooMany → most < length (with_values values.old.items (growth_constants (growth_of link.now)))) }
-    ensures limited { IfErr result (λ e. e ≡ TooMany → most < usize.MAX) }
+/// Adds, one add after another, what it makes of those before.
+fn insert_all_sums(values: &mut Vec<u128>, adds: &[u32]) -> Result<(), ValuesFault>
+    requires { AreFew values.old.items }
+    ensures done { OnOk result (values.new.items ≡ with_sums values.old.items adds.now) }
+    ensures within { OnOk result (length values.new.items ≤ 16) }
+    ensures fault { IfErr result (IsFull (with_sums values.old.items adds.now)) }
 {
-    match link {
-        Link::Not => Ok(()),
-        Link::Join(_, operand) => add_expression(values, operand, most),
-    }
-}
-
-/// Adds the constants of a call.
-fn add_call(values: &mut Vec<u32>, call: &Call, most: usize) -> Result<(), ValuesFault>
-    requires { length values.old.items ≤ most }
-    ensures done { OnOk result (values.new.items ≡ with_values values.old.items (action_constants (action_of call.now))) }
-    ensures within { OnOk result (length values.new.items ≤ most) }
-    ensures fault { IfErr result (λ e. e ≡ TooMany → most < length (with_values values.old.items (action_constants (action_of call.now)))) }
-    ensures limited { IfErr result (λ e. e ≡ TooMany → most < usize.MAX) }
-{
-    match call {
-        Call::Load(_, _) | Call::Fence(_) => Ok(()),
-        Call::Store(_, value, _) | Call::Exchange(_, value, _) => add_expression(
-            values, value, most,
-        ),
-    }
-}
-
-/// Adds the constants of what is assigned.
-fn add_right(values: &mut Vec<u32>, right: &RightSide, most: usize) -> Result<(), ValuesFault>
-    requires { length values.old.items ≤ most }
-    ensures done { OnOk result (values.new.items ≡ with_values values.old.items (right_constants (right_of right.now))) }
-    ensures within { OnOk result (length values.new.items ≤ most) }
-    ensures fault { IfErr result (λ e. e ≡ TooMany → most < length (with_values values.old.items (right_constants (right_of right.now)))) }
-    ensures limited { IfErr result (λ e. e ≡ TooMany → most < usize.MAX) }
-{
-    match right {
-        RightSide::Value(value) => add_expression(values, value, most),
-        RightSide::Read(_) => Ok(()),
-        RightSide::Call(call) => add_call(values, call, most),
-    }
-}
-
-/// Adds the constants of a declarator.
-fn add_declarator(
-    values: &mut Vec<u32>,
-    declarator: &Declarator,
-    most: usize,
-) -> Result<(), ValuesFault>
-    requires { length values.old.items ≤ most }
-    ensures done { OnOk result (values.new.items ≡ with_values values.old.items (optional_constants (declared_of declarator.now).value)) }
-    ensures within { OnOk result (length values.new.items ≤ most) }
-    ensures fault { IfErr result (λ e. e ≡ TooMany → most < length (with_values values.old.items (optional_constants (declared_of declarator.now).value))) }
-    ensures limited { IfErr result (λ e. e ≡ TooMany → most < usize.MAX) }
-{
-    match &declarator.value {
-        Some(right) => add_right(values, right, most),
-        None => Ok(()),
-    }
-}
-
-/// Adds the constants of declarators.
-fn add_declarators(
-    values: &mut Vec<u32>,
-    declarators: &[Declarator],
-    most: usize,
-) -> Result<(), ValuesFault>
-    requires { length values.old.items ≤ most }
-    ensures done { OnOk result (values.new.items ≡ with_values values.old.items (flat_map (λ d. optional_constants d.value) (map declared_of declarators.now))) }
-    ensures within { OnOk result (length values.new.items ≤ most) }
-    ensures fault { IfErr result (λ e. e ≡ TooMany → most < length (with_values values.old.items (flat_map (λ d. optional_constants d.value) (map declared_of declarators.now)))) }
-    ensures limited { IfErr result (λ e. e ≡ TooMany → most < usize.MAX) }
-{
-    for declarator in declarators {
-        add_declarator(values, declarator, most)?;
+    for place in 0..adds.len() {
+        insert_sums(values, adds[place])?;
     }
     Ok(())
 }
 
-/// Adds the constants of a statement.
-#[cycle(constants)]
-#[tactic(auto, using(crate::proofs::Distinct::branch_only, crate::proofs::Distinct::branch_else, crate::proofs::Distinct::branch_only_first, crate::proofs::Distinct::branch_else_first, crate::proofs::Distinct::branch_else_second))]
-fn add_statement(
-    values: &mut Vec<u32>,
-    statement: &Statement,
-    most: usize,
-) -> Result<(), ValuesFault>
-    requires { length values.old.items ≤ most }
-    ensures done { OnOk result (values.new.items ≡ with_values values.old.items (step_constants (step_of statement.now))) }
-    ensures within { OnOk result (length values.new.items ≤ most) }
-    ensures fault { IfErr result (λ e. e ≡ TooMany → most < length (with_values values.old.items (step_constants (step_of statement.now)))) }
-    ensures limited { IfErr result (λ e. e ≡ TooMany → most < usize.MAX) }
+/// The same values, if none of them is too great for a test.
+fn narrowed(alloc: Global, values: &[u128]) -> Result<Vec<u32>, ValuesFault>
+    requires { length values.now ≤ 16 }
+    ensures value { IfOk result (λ v. v.items ≡ values.now) }
+    ensures small { OnOk result (All (λ v. v ≤ 2147483647) values.now) }
+    ensures fault { IfErr result (Refuses values.now) }
 {
-    match statement {
-        Statement::Empty => Ok(()),
-        Statement::Block(statements) => add_program(values, statements.as_slice(), most),
-        Statement::Declare(declarators) => add_declarators(values, declarators.as_slice(), most),
-        Statement::Assign(_, right) => add_right(values, right, most),
-        Statement::Write(_, value) => add_expression(values, value, most),
-        Statement::Perform(call) => add_call(values, call, most),
-        Statement::If(test, arm, other) => match other {
-            None => {
-                add_expression(values, test, most)?;
-                add_statement(values, arm, most)
-            }
-            Some(other) => {
-                add_expression(values, test, most)?;
-                add_statement(values, arm, most)?;
-                add_statement(values, other, most)
-            }
-        },
+    let mut narrow = Vec::with_capacity(alloc, values.len())?;
+    for value in values {
+        if *value > MAX_VALUE {
+            return Err(ValuesFault::TooBig);
+        }
+        narrow.push(*value as u32)?;
     }
-}
-
-/// Adds the constants of statements.
-#[cycle(constants)]
-fn add_program(
-    values: &mut Vec<u32>,
-    statements: &[Statement],
-    most: usize,
-) -> Result<(), ValuesFault>
-    requires { length values.old.items ≤ most }
-    ensures done { OnOk result (values.new.items ≡ with_values values.old.items (steps_constants (steps_of statements.now))) }
-    ensures within { OnOk result (length values.new.items ≤ most) }
-    ensures fault { IfErr result (λ e. e ≡ TooMany → most < length (with_values values.old.items (steps_constants (steps_of statements.now)))) }
-    ensures limited { IfErr result (λ e. e ≡ TooMany → most < usize.MAX) }
-{
-    for statement in statements {
-        add_statement(values, statement, most)?;
-    }
-    Ok(())
-}
-
-/// Adds the constants of programs.
-fn add_threads(values: &mut Vec<u32>, threads: &[Thread], most: usize) -> Result<(), ValuesFault>
-    requires { length values.old.items ≤ most }
-    ensures done { OnOk result (values.new.items ≡ with_values values.old.items (flat_map program_constants threads.now)) }
-    ensures within { OnOk result (length values.new.items ≤ most) }
-    ensures fault { IfErr result (λ e. e ≡ TooMany → most < length (with_values values.old.items (flat_map program_constants threads.now))) }
-    ensures limited { IfErr result (λ e. e ≡ TooMany → most < usize.MAX) }
-{
-    for thread in threads {
-        add_program(values, thread.statements(), most)?;
-    }
-    Ok(())
-}
-
-/// Adds the constants of an initial state.
-fn add_initial(values: &mut Vec<u32>, bindings: &[Binding], most: usize) -> Result<(), ValuesFault>
-    requires { length values.old.items ≤ most }
-    ensures done { OnOk result (values.new.items ≡ with_values values.old.items (map (λ b. b.value) bindings.now)) }
-    ensures within { OnOk result (length values.new.items ≤ most) }
-    ensures fault { IfErr result (λ e. e ≡ TooMany → most < length (with_values values.old.items (map (λ b. b.value) bindings.now))) }
-    ensures limited { IfErr result (λ e. e ≡ TooMany → most < usize.MAX) }
-{
-    for binding in bindings {
-        add(values, binding.value, most)?;
-    }
-    Ok(())
+    Ok(narrow)
 }
 
 /// The values of a test with this initial state and these threads: 0, 1, and each constant, in the
-/// order in which they first stand. It stops as soon as there are more than `most`, which has room
-/// for 0 and 1.
-#[tactic(auto, using(crate::proofs::Distinct::with_append, crate::proofs::Distinct::longer, crate::proofs::Distinct::lists_values))]
+/// order in which they first stand; and then, one add after another, what it makes of those before.
+/// It stops as soon as there are more than 16.
 pub fn values_among(
     alloc: Global,
     initial: &[Binding],
     threads: &[Thread],
-    most: usize,
 ) -> Result<Vec<u32>, ValuesFault>
-    requires { 2 ≤ most }
     ensures value { IfOk result (λ v. v.items ≡ values_among initial.now threads.now) }
     ensures each { IfOk result (λ v. Lists (IsValue initial.now threads.now) v.items) }
-    ensures within { IfOk result (λ v. length v.items ≤ most) }
-    ensures fault { IfErr result (λ e. e ≡ TooMany → most < length (values_among initial.now threads.now)) }
-    ensures limited { IfErr result (λ e. e ≡ TooMany → most < usize.MAX) }
+    ensures few { OnOk result (length (values_among initial.now threads.now) ≤ 16) }
+    ensures small { OnOk result (All (λ v. v ≤ 2147483647) (values_among initial.now threads.now)) }
+    ensures fault { IfErr result (Refuses (values_among initial.now threads.now)) }
 {
-    let mut values = vec![in alloc; 0, 1]?;
-    add_initial(&mut values, initial, most)?;
-    add_threads(&mut values, threads, most)?;
-    Ok(values)
+    let mut numbers = Numbers::new(alloc)?;
+    numbers.note_initial(initial)?;
+    numbers.note_threads(threads)?;
+    let Numbers { mut values, adds } = numbers;
+    insert_all_sums(&mut values, &adds)?;
+    narrowed(alloc, &values)
 }
 
 impl Test {
-    /// The values of the test: 0, 1, and each constant, in the order in which they first stand.
+    /// The values of the test: 0, 1, and each constant, in the order in which they first stand; and
+    /// then, one add after another, what it makes of those before.
     pub fn values(&self, alloc: Global) -> Result<Vec<u32>, AllocError>
         ensures value { IfOk result (λ v. v.items ≡ values_of self.now) }
         ensures each { IfOk result (λ v. Lists (InDom self.now) v.items) }
     {
-        match values_among(alloc, self.initial(), self.threads(), usize::MAX) {
+        match values_among(alloc, self.initial(), self.threads()) {
             Ok(values) => Ok(values),
             Err(ValuesFault::NoMemory) => Err(AllocError),
             Err(ValuesFault::TooMany) => unreachable!(),
+            Err(ValuesFault::TooBig) => unreachable!(),
         }
     }
 }

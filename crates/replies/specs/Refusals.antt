@@ -37,6 +37,7 @@ test_fault_text of_test.TooManyThreads = test_label of_test.TooManyThreads
 test_fault_text of_test.TooManyLocations = test_label of_test.TooManyLocations
 test_fault_text of_test.TooManyEvents = test_label of_test.TooManyEvents
 test_fault_text of_test.TooManyValues = test_label of_test.TooManyValues
+test_fault_text of_test.ValueTooBig = test_label of_test.ValueTooBig
 test_fault_text of_test.NoMemory = test_label of_test.NoMemory
 
 abbrev pub cat_fault_text : CatFault → List ℕ

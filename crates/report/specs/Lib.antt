@@ -1,3 +1,4 @@
 pub mod Chains
+pub mod Labels
 pub mod Texts
 pub mod Writing

@@ -4,6 +4,7 @@ ghost use Rattle.std.specs.Prelude.{◌≡◌, ◌++◌, ◌∷◌, [], List, If
 ghost use Rattle.std.specs.Io.KnownBytes.{Appends};
 ghost use Rattle.std.specs.List.{flat_map};
 ghost use Rattle.wb_text.specs.Memory.{AppendsPrefix};
+ghost use Rattle.report.specs.Labels.{write_label};
 ghost use Rattle.report.specs.Writing.{Writes};
 ghost use Rattle.report.specs.Texts as texts;
 
@@ -18,10 +19,21 @@ use wb_text::{Failed, Name, Sink};
 
 /// Why a summary was not written whole.
 #[derive(Clone, Copy, Debug, Drop, PartialEq, Eq, Error)]
+#[error("{}", self.label())]
 pub enum WriteFault {
     /// The writer failed.
-    #[error("95 Write")]
     Write,
+}
+
+impl WriteFault {
+    /// The number and the name of this fault.
+    pub fn label(self) -> &'static str
+        ensures { result.now ≡ write_label self }
+    {
+        match self {
+            WriteFault::Write => "95 Write",
+        }
+    }
 }
 
 /// Writes the summary, or a prefix of it where the writer fails. It takes no memory.

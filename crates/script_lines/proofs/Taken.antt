@@ -2,10 +2,10 @@
 use Rattle.std.proofs.Common.{◌≡◌, ◌<◌, ◌≤◌, ◌+◌, ℕ, List, [], ◌∷◌, ◌++◌, length, sym, ap, subst, ◌∙◌, inl, inr, append_assoc, append-nil, length-append, arith}
 use Rattle.std.specs.Prelude.{◌≢◌, Option, None, Some, codes}
 use Rattle.std.specs.Io.KnownBytes.{Consumes, Keeps, IsAtEnd}
-use Rattle.std.proofs.KnownBytes.{Consumes-trans}
+use Rattle.std.proofs.KnownBytes.{Consumes-kept, Consumes-nil, Consumes-trans}
 use Rattle.std.proofs.lemmas.List.Elements.{All-append, All-take}
 use Rattle.std.proofs.Math.Seq.{take-append_seam}
-use Rattle.script_lines.specs.Lines.{ahead, IsUnbroken, IsTrimmed, Grows, HasMore, IsNextLine, IsLong, fed, returned, last}
+use Rattle.script_lines.specs.Lines.{ahead, IsUnbroken, IsTrimmed, Grows, HasMore, IsNextLine, IsLong, Loses, fed, returned, last}
 
 -- a block loses its front
 taken : (left : Option (List ℕ)) (before after bytes : List ℕ) → before ≡ bytes ++ after → Consumes (ahead before left) (ahead after left) bytes
@@ -73,3 +73,17 @@ ended None block left kept none end = tt
 ended (Some xs) block None kept none end = absurd kept
 ended (Some xs) [] (Some ys) kept none end = sym kept ∙ end
 ended (Some xs) (b ∷ bs) (Some ys) kept none end = cc
+
+-- ---- that no bytes are gone but the first
+
+pub lost_none : (a b : Option (List ℕ)) → Keeps a b → Loses a b
+lost_none a b kept = ([], Consumes-kept a a b [] (Consumes-nil a) kept)
+
+pub lost_both : (a b c : Option (List ℕ)) → Loses a b → Loses b c → Loses a c
+lost_both a b c first second = (first.0 ++ second.0, Consumes-trans a b c first.0 second.0 first.1 second.1)
+
+pub lost_part : (a b : Option (List ℕ)) (old new ending : List ℕ) → Grows a b old new ending → Loses a b
+lost_part a b old new ending h = (h.part ++ ending, h.taken)
+
+pub lost_front : (left : Option (List ℕ)) (before after bytes : List ℕ) → before ≡ bytes ++ after → Loses (ahead before left) (ahead after left)
+lost_front left before after bytes split = (bytes, taken left before after bytes split)

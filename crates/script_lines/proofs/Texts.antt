@@ -11,8 +11,8 @@ pub opened : (line : List ℕ) (seat : ℕ) (head other : Head) → Spells line 
 opened line seat head other spells less sound same text = (seat, head, spells, less, sound, subst HasText (sym same) text)
 
 -- the line where a text is cut off
-pub cut_text : (a b c : Option (List ℕ)) (m k l n : ℕ) (line : List ℕ) → AreSkipped a b → AreLines a m b k → IsNextLine b c line → OpensText line → l ≡ k + 1 → IsCutOff c l n → IsBadLine a m n
-cut_text a b c m k l n line skipped lines next opens count cut = bad_text skipped lines next opens (subst (λ j. IsCutOff c j n) count cut)
+pub cut_text : (a b c : Option (List ℕ)) (m k l n : ℕ) (line : List ℕ) → AreSkipped a b → AreLines a m b k → k < 1000000 → IsNextLine b c line → OpensText line → l ≡ k + 1 → IsCutOff c l n → IsBadLine a m n
+cut_text a b c m k l n line skipped lines room next opens count cut = bad_text skipped lines room next opens (subst (λ j. IsCutOff c j n) count cut)
 
 -- what came to a text so far
 pub record Gathered (before now : Option (List ℕ)) (bytes : List ℕ) : Type 0 where

@@ -48,6 +48,10 @@ pub data AreLines (before : Option (List ℕ)) (m : ℕ) : Option (List ℕ) →
   nothing_read : AreLines before m before m
   line_read : {mid after : Option (List ℕ)} {line : List ℕ} {n : ℕ} → AreLines before m mid n → n < 1000000 → IsNextLine mid after line → AreLines before m after (n + 1)
 
+-- Bytes from the front of what was ahead are taken, and no others.
+abbrev pub Loses : Option (List ℕ) → Option (List ℕ) → Type 0
+Loses before after = (bytes : List ℕ) × Consumes before after bytes
+
 -- A line is ahead that is longer than 65,536 bytes.
 pub record IsLong (before : Option (List ℕ)) : Type 0 where
   pub after : Option (List ℕ)

@@ -1,5 +1,5 @@
 -- Which instructions a script spells. What is ahead before and after is told where the reader tells its bytes.
-use Rattle.std.specs.Prelude.{◌≡◌, ◌≢◌, ◌+◌, ◌++◌, ◌∷◌, [], ℕ, List, Option, take, codes}
+use Rattle.std.specs.Prelude.{◌≡◌, ◌≢◌, ◌<◌, ◌+◌, ◌++◌, ◌∷◌, [], ℕ, List, Option, take, codes}
 use Rattle.std.specs.Io.KnownBytes.{IsAtEnd, Keeps}
 use Rattle.script_lines.specs.Lines.{IsNextLine, AreLines, IsLong}
 use Rattle.script_lines.specs.Spelled.{Begins, OpensText, IsSkipped, IsBad}
@@ -58,15 +58,16 @@ pub data AreInstructions (before : Option (List ℕ)) : Option (List ℕ) → Li
   next_instruction : {mid after : Option (List ℕ)} {instructions : List Instruction} {instruction : Instruction} → AreInstructions before mid instructions → IsNextInstruction mid after instruction
       → AreInstructions before after (instructions ++ instruction ∷ [])
 
--- A text that was to begin here is cut off: the line of number n is too long, or the script ends with it, and lines of
--- the text stand before. Before them the count of lines stood at m.
+-- A text that was to begin here is cut off: the line of number n, one of the first 1,000,000, is too long, or the script ends
+-- with it, and lines of the text stand before. Before them the count of lines stood at m.
 pub data IsCutOff (before : Option (List ℕ)) (m n : ℕ) : Type 0 where
-  long_line : {end : Option (List ℕ)} {text : List ℕ} {k : ℕ} → AreOfText before end text → AreLines before m end k → IsLong end → n ≡ k + 1 → IsCutOff before m n
+  long_line : {end : Option (List ℕ)} {text : List ℕ} {k : ℕ} → AreOfText before end text → AreLines before m end k → k < 1000000 → IsLong end → n ≡ k + 1 → IsCutOff before m n
   open_text : {end : Option (List ℕ)} {text : List ℕ} {k : ℕ} → AreOfText before end text → AreLines before m end k → IsAtEnd end → n ≡ k → IsCutOff before m n
 
--- The line of number n is bad: behind lines that are skipped, where an instruction was to begin, it begins none or is too
--- long; or the text of an instruction that begins there is cut off by it. Before them the count of lines stood at m.
+-- The line of number n, one of the first 1,000,000, is bad: behind lines that are skipped, where an instruction was to begin, it
+-- begins none or is too long; or the text of an instruction that begins there is cut off by it. Before them the count of lines
+-- stood at m.
 pub data IsBadLine (before : Option (List ℕ)) (m n : ℕ) : Type 0 where
-  no_head : {mid after : Option (List ℕ)} {line : List ℕ} {k : ℕ} → AreSkipped before mid → AreLines before m mid k → IsNextLine mid after line → ¬ IsSkipped line → IsBad line → n ≡ k + 1 → IsBadLine before m n
-  long_head : {mid : Option (List ℕ)} {k : ℕ} → AreSkipped before mid → AreLines before m mid k → IsLong mid → n ≡ k + 1 → IsBadLine before m n
-  bad_text : {mid after : Option (List ℕ)} {line : List ℕ} {k : ℕ} → AreSkipped before mid → AreLines before m mid k → IsNextLine mid after line → OpensText line → IsCutOff after (k + 1) n → IsBadLine before m n
+  no_head : {mid after : Option (List ℕ)} {line : List ℕ} {k : ℕ} → AreSkipped before mid → AreLines before m mid k → k < 1000000 → IsNextLine mid after line → ¬ IsSkipped line → IsBad line → n ≡ k + 1 → IsBadLine before m n
+  long_head : {mid : Option (List ℕ)} {k : ℕ} → AreSkipped before mid → AreLines before m mid k → k < 1000000 → IsLong mid → n ≡ k + 1 → IsBadLine before m n
+  bad_text : {mid after : Option (List ℕ)} {line : List ℕ} {k : ℕ} → AreSkipped before mid → AreLines before m mid k → k < 1000000 → IsNextLine mid after line → OpensText line → IsCutOff after (k + 1) n → IsBadLine before m n

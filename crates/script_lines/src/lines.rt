@@ -2,7 +2,7 @@
 
 ghost use Rattle.std.specs.Prelude.{◌≡◌, ◌≤◌, ◌<◌, ◌≢◌, ◌++◌, ◌+◌, ◌⊎◌, ℕ, List, Option, [], length, Ok, Err, true, false, IfOk, IfErr, OnOk, OnErr, codes};
 ghost use Rattle.std.specs.Io.KnownBytes.{IsAtEnd, Keeps};
-ghost use Rattle.script_lines.specs.Lines.{ahead, IsUnbroken, IsTrimmed, Grows, IsNextLine, IsLong, HasMore};
+ghost use Rattle.script_lines.specs.Lines.{ahead, IsUnbroken, IsTrimmed, Grows, IsNextLine, IsLong, HasMore, Loses};
 ghost use Rattle.script_lines.specs.declared.fault.ScriptFault.TheVariants as faults;
 
 use crate::block::Block;
@@ -52,16 +52,19 @@ impl Lines {
         self.count
     }
 
-    /// Goes to the next line, and answers whether there is one.
+    /// Goes to the next line, and answers whether there is one. At a fault some bytes of that line may be gone.
     pub fn next<R: Source>(&mut self, reader: &mut R) -> Result<bool, ScriptFault>
         // The number of a line is one more than that of the line before it.
-        ensures line { (n : ℕ) → result ≡ Err (faults.BadLine n) → (n ≡ self.old.count + 1) × IsLong (ahead self.old.block (R.left reader.old)) }
+        ensures line { (n : ℕ) → result ≡ Err (faults.BadLine n) → (n ≡ self.old.count + 1) × (self.old.count < 1000000) × IsLong (ahead self.old.block (R.left reader.old)) }
         ensures count { result ≡ Ok true → self.new.count ≡ self.old.count + 1 }
         ensures still { result ≡ Ok false → self.new.count ≡ self.old.count }
         ensures room { result ≡ Ok true → self.old.count < 1000000 }
         // Reading fails where the reader does, or where a script has too many lines.
         ensures read { result ≡ Err faults.Read → (R.has_failed reader.new ≡ true)
             ⊎ ((1000000 ≤ self.old.count) × HasMore (ahead self.old.block (R.left reader.old))) }
+        // However it ends, no bytes are gone but the first of what was ahead, and no more than one line is counted.
+        ensures counted { (self.old.count ≤ self.new.count) × (self.new.count ≤ self.old.count + 1) }
+        ensures lost { Loses (ahead self.old.block (R.left reader.old)) (ahead self.new.block (R.left reader.new)) }
         // The line is the next of what was ahead, or nothing was.
         ensures next { result ≡ Ok true → IsNextLine (ahead self.old.block (R.left reader.old)) (ahead self.new.block (R.left reader.new)) self.new.line.items }
         ensures end { result ≡ Ok false → IsAtEnd (R.left reader.new) }
@@ -116,9 +119,10 @@ impl Lines {
         ensures line { (n : ℕ) → result ≡ Err (faults.BadLine n) → n ≡ self.old.count }
         ensures long { (n : ℕ) → result ≡ Err (faults.BadLine n) → (after : Option (List ℕ)) × (ending : List ℕ)
             × Grows (ahead self.old.block (R.left reader.old)) after self.old.line.items self.new.line.items ending × (65536 < length self.new.line.items) }
-        ensures count { OnOk result (self.new.count ≡ self.old.count) }
+        ensures count { self.new.count ≡ self.old.count }
         ensures short { OnOk result (length self.old.line.items ≤ 65536 → length self.new.line.items ≤ 65536) }
         ensures read { result ≡ Err faults.Read → R.has_failed reader.new ≡ true }
+        ensures lost { Loses (ahead self.old.block (R.left reader.old)) (ahead self.new.block (R.left reader.new)) }
         ensures fed { result ≡ Ok true → Grows (ahead self.old.block (R.left reader.old)) (ahead self.new.block (R.left reader.new)) self.old.line.items self.new.line.items (codes "\n") }
         ensures last { result ≡ Ok false → Grows (ahead self.old.block (R.left reader.old)) (ahead self.new.block (R.left reader.new)) self.old.line.items self.new.line.items []
             × IsAtEnd (ahead self.new.block (R.left reader.new)) }
@@ -141,6 +145,7 @@ impl Lines {
             × (self.old.block ≡ part ++ (codes "\n" ++ self.new.block)) }
         ensures whole { result ≡ Ok false → IsUnbroken self.old.block × (self.new.line.items ≡ self.old.line.items ++ self.old.block) × (self.new.block ≡ []) }
         ensures count { self.new.count ≡ self.old.count }
+        ensures same { OnErr result (self.new.block ≡ self.old.block) }
     {
         let rest = self.block.rest();
         match memchr(b'\n', rest) {

@@ -1,7 +1,7 @@
 //! The instructions of a script.
 
 ghost use Rattle.std.specs.Prelude.{◌≡◌, [], ◌⊎◌, ◌↔◌, ◌<◌, ◌≤◌, ◌≢◌, ◌++◌, ◌-◌, ℕ, true, Err, IfOk, IfErr, IfSome, IfNone, OnOk, length, take, vec_len, codes};
-ghost use Rattle.script_lines.specs.Lines.{ahead, AreLines, IsNextLine, IsTooLong};
+ghost use Rattle.script_lines.specs.Lines.{ahead, AreLines, IsNextLine, IsTooLong, Loses};
 ghost use Rattle.script_lines.specs.Scripts.{IsText, IsFollowed, IsNextInstruction, IsSpent, IsBadLine, IsCutOff};
 ghost use Rattle.script_lines.specs.Spelled.{Begins, OpensText, IsSeated, IsSkipped, IsBad, IsWork, SpellsNone};
 ghost use Rattle.std.specs.Io.KnownBytes.{IsAtEnd};
@@ -43,7 +43,7 @@ impl Script {
         self.lines.count()
     }
 
-    /// The next instruction, if there is one.
+    /// The next instruction, if there is one. Behind a fault what is ahead may begin in the midst of an instruction.
     pub fn next<R: Source>(&mut self, reader: &mut R) -> Result<Option<Instruction>, ScriptFault>
         ensures seat { IfOk result (λ next. IfSome next IsSeated) }
         // It is the next of what was ahead, or none is left.
@@ -54,6 +54,9 @@ impl Script {
         ensures more { IfOk result (λ next. IfSome next (λ _. (self.old.lines.count < 1000000) × (self.old.lines.count < self.new.lines.count))) }
         ensures lines { IfOk result (λ next. IfSome next (λ _. AreLines (ahead self.old.lines.block (R.left reader.old)) self.old.lines.count (ahead self.new.lines.block (R.left reader.new)) self.new.lines.count)) }
         ensures line { (n : ℕ) → result ≡ Err (faults.BadLine n) → IsBadLine (ahead self.old.lines.block (R.left reader.old)) self.old.lines.count n }
+        // However it ends, no bytes are gone but the first of what was ahead, and lines are only counted.
+        ensures lost { Loses (ahead self.old.lines.block (R.left reader.old)) (ahead self.new.lines.block (R.left reader.new)) }
+        ensures counted { self.old.lines.count ≤ self.new.lines.count }
         ensures read { result ≡ Err faults.Read → (R.has_failed reader.new ≡ true)
             ⊎ IsTooLong (ahead self.old.lines.block (R.left reader.old)) self.old.lines.count }
     {
@@ -73,6 +76,8 @@ impl Script {
         ensures begins { IfOk result (Begins self.old.lines.line.items) }
         ensures followed { IfOk result (IsFollowed (ahead self.old.lines.block (R.left reader.old)) (ahead self.new.lines.block (R.left reader.new))) }
         ensures lines { OnOk result (AreLines (ahead self.old.lines.block (R.left reader.old)) self.old.lines.count (ahead self.new.lines.block (R.left reader.new)) self.new.lines.count) }
+        ensures lost { Loses (ahead self.old.lines.block (R.left reader.old)) (ahead self.new.lines.block (R.left reader.new)) }
+        ensures counted { self.old.lines.count ≤ self.new.lines.count }
         ensures read { result ≡ Err faults.Read → (R.has_failed reader.new ≡ true)
             ⊎ IsTooLong (ahead self.old.lines.block (R.left reader.old)) self.old.lines.count }
     {
@@ -90,6 +95,8 @@ impl Script {
         ensures begins { IfOk result (Begins self.old.lines.line.items) }
         ensures followed { IfOk result (IsFollowed (ahead self.old.lines.block (R.left reader.old)) (ahead self.new.lines.block (R.left reader.new))) }
         ensures lines { OnOk result (AreLines (ahead self.old.lines.block (R.left reader.old)) self.old.lines.count (ahead self.new.lines.block (R.left reader.new)) self.new.lines.count) }
+        ensures lost { Loses (ahead self.old.lines.block (R.left reader.old)) (ahead self.new.lines.block (R.left reader.new)) }
+        ensures counted { self.old.lines.count ≤ self.new.lines.count }
         ensures read { result ≡ Err faults.Read → (R.has_failed reader.new ≡ true)
             ⊎ IsTooLong (ahead self.old.lines.block (R.left reader.old)) self.old.lines.count }
     {
@@ -111,6 +118,8 @@ impl Script {
         ensures text { IfOk result (IsText (ahead self.old.lines.block (R.left reader.old)) (ahead self.new.lines.block (R.left reader.new))) }
         ensures lines { OnOk result (AreLines (ahead self.old.lines.block (R.left reader.old)) self.old.lines.count (ahead self.new.lines.block (R.left reader.new)) self.new.lines.count) }
         ensures line { (n : ℕ) → result ≡ Err (faults.BadLine n) → IsCutOff (ahead self.old.lines.block (R.left reader.old)) self.old.lines.count n }
+        ensures lost { Loses (ahead self.old.lines.block (R.left reader.old)) (ahead self.new.lines.block (R.left reader.new)) }
+        ensures counted { self.old.lines.count ≤ self.new.lines.count }
         ensures read { result ≡ Err faults.Read → (R.has_failed reader.new ≡ true)
             ⊎ IsTooLong (ahead self.old.lines.block (R.left reader.old)) self.old.lines.count }
     {

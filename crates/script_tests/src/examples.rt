@@ -7,10 +7,10 @@ mod texts;
 use crate::calls::{Answer, Case, Scene, WIDE, all_go_well, all_hold};
 use std::test::Fail;
 use texts::{
-    BROKEN_SEQUENCE, BUFFERS, COHERENT_READS, EXCHANGES, GUARDED_MESSAGE, INDEPENDENT_READS,
-    INDEPENDENT_READS_SC, INITIAL_VALUES, LOAD_BUFFERING, MESSAGE, MESSAGE_ACQUIRED,
-    MESSAGE_RELEASED, OWN_SEQUENCE, PLAIN_MESSAGE, RC11, RELEASE_SEQUENCE, SEQUENTIAL,
-    STORE_BUFFERING, STORE_BUFFERING_ALL, STORE_BUFFERING_FENCES, STORE_BUFFERING_SC,
+    ADDED_SEQUENCE, BROKEN_SEQUENCE, BUFFERS, COHERENT_READS, COUNTER, EXCHANGES, GUARDED_MESSAGE,
+    INDEPENDENT_READS, INDEPENDENT_READS_SC, INITIAL_VALUES, LOAD_BUFFERING, MESSAGE,
+    MESSAGE_ACQUIRED, MESSAGE_RELEASED, OWN_SEQUENCE, PLAIN_MESSAGE, RC11, RELEASE_SEQUENCE,
+    SEQUENTIAL, STORE_BUFFERING, STORE_BUFFERING_ALL, STORE_BUFFERING_FENCES, STORE_BUFFERING_SC,
     TEACHING_ANSWERS, TEACHING_SCRIPT, TWO_WRITES, VERSIONS_ANSWERS, VERSIONS_SCRIPT,
 };
 
@@ -512,6 +512,45 @@ Observation swap Never 0 2
         )],
     },
     Case {
+        name: "rs_add",
+        test: ADDED_SEQUENCE,
+        rows: &[(
+            ALL,
+            Answer::Says(
+                "Test RS+add Allowed
+States 5
+",
+                "No
+Witnesses
+Positive: 0 Negative: 9
+Condition exists (2:r0=2 /\\ 2:r1=0)
+Observation RS+add Never 0 9
+",
+            ),
+        )],
+    },
+    Case {
+        name: "counter",
+        test: COUNTER,
+        rows: &[
+            (
+                ALL,
+                Answer::Is(
+                    "Test counter Allowed
+States 1
+[x]=2;
+No
+Witnesses
+Positive: 0 Negative: 2
+Condition exists ([x]=1)
+Observation counter Never 0 2
+",
+                ),
+            ),
+            (&[""], Answer::Ends("Observation counter Sometimes 4 2\n")),
+        ],
+    },
+    Case {
         name: "initial",
         test: INITIAL_VALUES,
         rows: &[(
@@ -620,6 +659,25 @@ Witnesses
 Positive: 2 Negative: 2
 Condition exists (0:r0=0 /\\ 1:r0=0)
 Observation swap Sometimes 2 2
+",
+            ),
+        )],
+    },
+    Case {
+        name: "without_atomicity: COUNTER",
+        test: COUNTER,
+        rows: &[(
+            &[WITHOUT_ATOMICITY],
+            Answer::Is(
+                "Test counter Allowed
+States 2
+[x]=1;
+[x]=2;
+Ok
+Witnesses
+Positive: 2 Negative: 2
+Condition exists ([x]=1)
+Observation counter Sometimes 2 2
 ",
             ),
         )],

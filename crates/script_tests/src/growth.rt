@@ -155,7 +155,8 @@ fn answers_again<T: Threads + Wait + Sync>(
 }
 
 /// Whether a script has its own answers or, where a line isn't taken, those of a row. A script that is refused memory as a whole has
-/// the first of its own answers, and is given again.
+/// the first of its own answers. Whatever is refused, the script is given again, and then has its own answers: so a line that isn't taken
+/// with ample memory is no answer.
 fn answers<T: Threads + Wait + Sync>(
     rt: &T,
     alloc: Global,
@@ -168,7 +169,9 @@ fn answers<T: Threads + Wait + Sync>(
             is_front_of(writer.bytes(), own.1) && answers_again(rt, alloc, script, own)
         }
         Ok((outcome, writer)) => {
-            is_answer(&outcome, writer.bytes(), own) || is_one_of(&outcome, writer.bytes(), rows)
+            is_answer(&outcome, writer.bytes(), own)
+                || (is_one_of(&outcome, writer.bytes(), rows)
+                    && answers_again(rt, alloc, script, own))
         }
         Err(_) => false,
     }
@@ -230,7 +233,7 @@ fn one_refusals(rt: HostRuntime) -> Result<(), Fail> {
     Ok(())
 }
 
-/// The script of the stored run, a session's put, ask, claim, return and poll.
+/// The script of row script_first, a session's put, ask, claim, return and poll.
 const SESSION: &str = "0 cat none.cat
 .
 0 test

@@ -15,9 +15,13 @@ mod in_turn;
 #[cfg(test)]
 mod models;
 #[cfg(test)]
+mod pieces;
+#[cfg(test)]
 mod rows;
 #[cfg(test)]
 mod served;
+#[cfg(test)]
+mod tasks;
 #[cfg(test)]
 mod threads;
 #[cfg(test)]

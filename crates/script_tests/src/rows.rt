@@ -1,6 +1,8 @@
 //! Worked rows of sizes: texts that are made of parts, each so many times.
 
-use crate::calls::{Answer, Parts, STORE_BUFFERING, confirm, is_answered, repeated};
+use crate::calls::{
+    Answer, Parts, STORE_BUFFERING, STORE_BUFFERING_SUMMARY, confirm, is_answered, repeated,
+};
 use std::alloc::{AllocError, Global};
 use std::test::Fail;
 
@@ -23,6 +25,8 @@ const FENCE: &str = "atomic_thread_fence(memory_order_seq_cst);\n";
 
 const END: (&str, usize) = ("}\nexists (x=0)\n", 1);
 
+const END_AT_A_REGISTER: (&str, usize) = ("}\nexists (0:r0=0)\n", 1);
+
 /// Tests of one thread on x that makes a statement so often.
 const SIZES: &[Long] = &[
     Long {
@@ -33,7 +37,7 @@ const SIZES: &[Long] = &[
     },
     Long {
         name: "12 loads",
-        test: &[HEAD, (LOAD, 12), END],
+        test: &[HEAD, (LOAD, 12), END_AT_A_REGISTER],
         cat: &[],
         answer: Answer::Ends("Observation E Always 1 0\n"),
     },
@@ -45,7 +49,7 @@ const SIZES: &[Long] = &[
     },
     Long {
         name: "13 loads",
-        test: &[HEAD, (LOAD, 13), END],
+        test: &[HEAD, (LOAD, 13), END_AT_A_REGISTER],
         cat: &[],
         answer: Answer::Refused("31 TooManyRuns 0"),
     },
@@ -56,6 +60,14 @@ const SIZES: &[Long] = &[
         answer: Answer::Refused("41 TooManyCandidates"),
     },
 ];
+
+/// A model of many items that each hold is judged as one of none.
+const MANY_ITEMS: &[Long] = &[Long {
+    name: "2,047 items",
+    test: &[(STORE_BUFFERING, 1)],
+    cat: &[("empty 0 ", 2047)],
+    answer: Answer::Is(STORE_BUFFERING_SUMMARY),
+}];
 
 const HOSTILE_CAT_TEXTS: &[Long] = &[
     Long {
@@ -95,6 +107,11 @@ fn all_long_hold(alloc: Global, rows: &[Long]) -> Result<(), Fail> {
 #[test]
 fn sizes(rt: HostRuntime) -> Result<(), Fail> {
     all_long_hold(rt.alloc(), SIZES)
+}
+
+#[test]
+fn many_items(rt: HostRuntime) -> Result<(), Fail> {
+    all_long_hold(rt.alloc(), MANY_ITEMS)
 }
 
 #[test]

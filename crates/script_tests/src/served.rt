@@ -5,12 +5,15 @@ use crate::calls::{
 };
 use crate::commands::REPLACED;
 use book::Limits;
-use scripts::{Options, ServeFault};
+use scripts::{Options, ServeFault, serve};
 use sessions::FinishCause;
-use std::alloc::Global;
+use std::alloc::{AllocError, Global};
+use std::io;
+use std::io::Read;
 use std::sync::Wait;
 use std::test::Fail;
 use std::thread::Threads;
+use wb_text::{MemSink, ReadSource};
 
 /// One worker, on the thread of the script.
 const ALONE: Options = Options {
@@ -18,7 +21,7 @@ const ALONE: Options = Options {
     limits: WIDE,
 };
 
-/// The stored run.
+/// The script of row script_first.
 const FIRST: &str = "0 cat none.cat
 .
 0 test
@@ -122,6 +125,9 @@ Observation SB Never 0 3
 finish ok 13
 ";
 
+/// A name of 64 bytes.
+const LONG_NAME: &str = "abcdefghijklmnopqrstuvwxyzabcdefghijklmnopqrstuvwxyzabcdefghijkl";
+
 const ANSWERED: &[Scene] = &[
     Scene {
         name: "script_first",
@@ -171,6 +177,48 @@ const ANSWERED: &[Scene] = &[
         end: Ok(()),
         answers: &[
             "version SB 1\njob 1\nversion stdlib.cat 1\nrefused 79 Replaced cat stdlib.cat 1\nfinish ok 4\n",
+        ],
+    },
+    Scene {
+        name: "names of 64 bytes",
+        limits: WIDE,
+        script: &[
+            ("0 cat ", 1),
+            (LONG_NAME, 1),
+            ("\n.\n0 test\nC ", 1),
+            (LONG_NAME, 1),
+            ("\n{}\nP0 () {}\nexists true\n.\n0 ask ", 1),
+            (LONG_NAME, 1),
+            (" ", 1),
+            (LONG_NAME, 1),
+            ("\n0 list\n0 dropcat ", 1),
+            (LONG_NAME, 1),
+            ("\n0 droptest ", 1),
+            (LONG_NAME, 1),
+            ("\n0 poll 1\n", 1),
+        ],
+        fails: false,
+        end: Ok(()),
+        answers: &[
+            "version ",
+            LONG_NAME,
+            " 1\nversion ",
+            LONG_NAME,
+            " 1\njob 1\ntest ",
+            LONG_NAME,
+            " 1\ncat ",
+            LONG_NAME,
+            " 1\njob 1 ",
+            LONG_NAME,
+            " ",
+            LONG_NAME,
+            " 0 1\nend\nversion ",
+            LONG_NAME,
+            " 2\nversion ",
+            LONG_NAME,
+            " 2\nrefused 79 Replaced test ",
+            LONG_NAME,
+            " 2\nfinish ok 7\n",
         ],
     },
     Scene {
@@ -520,6 +568,33 @@ const LONG: &[Scene] = &[
 #[test]
 fn long_scripts(rt: HostRuntime) -> Result<(), Fail> {
     all_go_well(&rt, rt.alloc(), LONG, 0)
+}
+
+/// Empty lines without end.
+#[derive(Drop)]
+struct Endless;
+
+impl Read for Endless {
+    fn read(&mut self, buf: &mut [u8]) -> io::Result<usize> {
+        buf.fill(b'\n');
+        Ok(buf.len())
+    }
+}
+
+/// How a script ends whose lines don't, and how many bytes are written.
+fn served_without_end<T: Threads + Wait + Sync>(
+    rt: &T,
+    alloc: Global,
+) -> Result<(Result<(), ServeFault>, usize), AllocError> {
+    let mut reader = ReadSource::new(Endless);
+    let mut writer = MemSink::new(alloc, 100)?;
+    let outcome = serve(rt, alloc, &mut reader, &mut writer, &ALONE);
+    Ok((outcome, writer.bytes().len()))
+}
+
+#[test]
+fn hostile_input_row_7_endless(rt: HostRuntime) {
+    assert!(rt; served_without_end(&rt, rt.alloc()) == Ok((Err(ServeFault::Read), 0)));
 }
 
 /// Whether a line of the bytes, the last, begins so.

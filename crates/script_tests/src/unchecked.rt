@@ -1,5 +1,7 @@
 //! Tests of `one` on a test with the model that has no checks.
 
+ghost use Rattle.std.specs.Prelude.{◌≤◌};
+
 use crate::calls::{
     Answer, Case, STORE_BUFFERING, STORE_BUFFERING_SUMMARY, all_hold, confirm, summarized,
 };
@@ -39,6 +41,24 @@ const CASES: &[Case] = &[
 #[test]
 fn whole_summaries(rt: HostRuntime) -> Result<(), Fail> {
     all_hold(rt.alloc(), CASES)
+}
+
+/// Whether the summary is the same where the test is evaluated in so many slices.
+fn is_the_same_in(alloc: Global, total: u16) -> bool
+    requires { (1 ≤ total) × (total ≤ 256) }
+{
+    let mut reader = MemSource::new(STORE_BUFFERING.as_bytes(), false);
+    let Ok(mut writer) = MemSink::new(alloc, 1000) else {
+        return false;
+    };
+    one(alloc, &mut reader, b"", total, &mut writer) == Ok(())
+        && writer.bytes() == STORE_BUFFERING_SUMMARY.as_bytes()
+}
+
+#[test]
+fn one_in_several_slices(rt: HostRuntime) {
+    let alloc = rt.alloc();
+    assert!(rt; is_the_same_in(alloc, 2) && is_the_same_in(alloc, 7) && is_the_same_in(alloc, 256));
 }
 
 /// Whether a writer of too little room has just the prefix of the summary, with the fault that says so.

@@ -28,7 +28,7 @@ const WORDS: &[(&str, &[&str], Result<(u32, u8), i32>)] = &[
 ];
 
 /// The program's name, and words behind it.
-fn called(alloc: Global, words: &[&str]) -> Result<Vec<String>, AllocError> {
+pub fn called(alloc: Global, words: &[&str]) -> Result<Vec<String>, AllocError> {
     let mut all = Vec::new(alloc);
     all.push(String::from_str(alloc, "bench")?)?;
     for word in words {
@@ -52,6 +52,42 @@ fn is_asked(alloc: Global, words: &[&str], wanted: Result<(u32, u8), i32>) -> bo
         Ok(all) => asked(alloc, &all) == wanted,
         Err(_) => false,
     }
+}
+
+/// Words that are refused, where the text of their error goes, and its first words.
+const TEXTS: &[(&[&str], bool, &str)] = &[
+    (&["--help"], false, "Evaluates litmus tests\n"),
+    (&["--workers", "9"], true, "error: "),
+    (&["--journal", "0"], true, "error: "),
+    (&["SB"], true, "error: "),
+];
+
+/// Whether the words are refused with a text that begins so and goes to the standard error or not.
+fn is_refused(alloc: Global, words: &[String], to_stderr: bool, start: &str) -> bool {
+    match read_task(alloc, words) {
+        Ok(_) => false,
+        Err(error) => match error.to_string(alloc) {
+            Ok(text) => error.use_stderr() == to_stderr && text.as_str().starts_with(start),
+            Err(_) => false,
+        },
+    }
+}
+
+/// Whether the words, behind the program's name, are refused so.
+fn are_refused(alloc: Global, words: &[&str], to_stderr: bool, start: &str) -> bool {
+    match called(alloc, words) {
+        Ok(all) => is_refused(alloc, &all, to_stderr, start),
+        Err(_) => false,
+    }
+}
+
+#[test]
+fn refused_words_have_a_text(rt: HostRuntime) -> Result<(), Fail> {
+    let alloc = rt.alloc();
+    for (words, to_stderr, start) in TEXTS {
+        confirm(are_refused(alloc, words, *to_stderr, start), start)?;
+    }
+    Ok(())
 }
 
 #[test]

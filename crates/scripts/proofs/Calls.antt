@@ -150,7 +150,7 @@ asks_among xs ys Close said to asks = asks
 
 pub answers_among : (workers : ℕ) (xs ys : List Line) (instruction : Instruction) (answer : Answer) → AreSame xs ys → Answers workers xs instruction answer → Answers workers ys instruction answer
 answers_among workers xs ys (instructions.Call seat request) (Made line) same answers = (answers.0, answers.1, asks_among xs ys request line.said same.to answers.2, answers.3)
-answers_among workers xs ys (instructions.Call seat request) (NotTaken why) same answers = answers
+answers_among workers xs ys (instructions.Call seat request) (NotTaken why) same answers = (answers.0, asks_among xs ys request answers.0 same.to answers.1)
 answers_among workers xs ys (instructions.Call seat request) (Worked runs) same answers = answers
 answers_among workers xs ys instructions.Work (Made line) same answers = answers
 answers_among workers xs ys instructions.Work (NotTaken why) same answers = answers

@@ -164,14 +164,15 @@ call_answered seat said before after P c right p = record {
   is = (c.at, subst P (sym c.of) p, right);
 }
 
-pub not_taken : (seat : ℕ) (why : Refused) (before after : List PassView) (P : Said → Type 0) → after ≡ before → IsAnswered before after (outcomes.NotTaken why) (IsCall seat P)
-not_taken seat why before after P same = record { answer = NotTaken why; shows = refl; become = same; is = tt }
+pub not_taken : (seat : ℕ) (why : Refused) (before after : List PassView) (P : Said → Type 0) (said : Said) → P said → after ≡ before
+    → IsAnswered before after (outcomes.NotTaken why) (IsCall seat P)
+not_taken seat why before after P said asked same = record { answer = NotTaken why; shows = refl; become = same; is = (said, asked) }
 
 -- ---- what a call asks
 
 call_with : (seat : ℕ) (P Q : Said → Type 0) → ((said : Said) → P said → Q said) → (answer : Answer) → IsCall seat P answer → IsCall seat Q answer
 call_with seat P Q all (Made line) call = (call.0, all line.said call.1, call.2)
-call_with seat P Q all (NotTaken why) call = call
+call_with seat P Q all (NotTaken why) call = (call.0, all call.0 call.1)
 call_with seat P Q all (Worked runs) call = call
 
 pub answered_with : (seat : ℕ) (before after : List PassView) (outcome : Outcome) (P Q : Said → Type 0) → ((said : Said) → P said → Q said)

@@ -1,5 +1,5 @@
 -- Answers one after another, and what stands behind them.
-use Rattle.std.proofs.Common.{◌≡◌, ◌≢◌, ◌⊎◌, ◌∙◌, ◌+◌, ◌-◌, ℕ, List, [], ◌∷◌, ◌++◌, length, map, Option, Result, Ok, Err, inl, inr, refl, sym, ap, subst, append-nil, max, arith}
+use Rattle.std.proofs.Common.{◌≡◌, ◌≢◌, ◌⊎◌, ◌∙◌, ◌+◌, ◌-◌, ℕ, List, [], ◌∷◌, ◌++◌, length, map, Option, None, Some, Result, Ok, Err, inl, inr, refl, sym, ap, subst, append-nil, max, arith}
 use Rattle.std.specs.Prelude.{IfErr, IsErr, IsErrAnd, OnOk}
 use Rattle.std.specs.Io.KnownBytes.{Appends}
 use Rattle.std.specs.List.{flat_map}
@@ -10,7 +10,8 @@ use Rattle.wb_text.specs.Memory.{AppendsPrefix}
 use Rattle.wb_text.specs.declared.fault.Failed.{Failed}
 use Rattle.sessions.specs.declared.ending.FinishCause.{FinishCause}
 use Rattle.report.proofs.Written.{prefix_of}
-use Rattle.script_lines.specs.Lines.{ahead, AreLines, IsTooLong, nothing_read}
+use Rattle.script_lines.specs.Lines.{ahead, AreLines, IsTooLong, Loses, nothing_read}
+use Rattle.script_lines.proofs.Taken.{lost_both}
 use Rattle.script_lines.specs.Scripts.{AreInstructions, IsNextInstruction, IsBadLine, IsSpent, no_instruction, next_instruction}
 use Rattle.script_lines.specs.declared.fault.ScriptFault.{ScriptFault}
 use Rattle.script_lines.specs.declared.fault.ScriptFault.TheVariants as reading
@@ -49,6 +50,15 @@ from_start {block} left r calls empty zero_lines h =
 pub too_long_from_start : {P : Type 0} {block : List ℕ} {count : ℕ} (left : Option (List ℕ)) → block ≡ [] → count ≡ 0 → P ⊎ IsTooLong (ahead block left) count → P ⊎ IsTooLong left 0
 too_long_from_start {P} {block} left empty zero_lines h =
     subst (λ script. P ⊎ IsTooLong script 0) (ap (λ b. ahead b left) empty ∙ prepend_known-nil left) (subst (λ m. P ⊎ IsTooLong (ahead block left) m) zero_lines h)
+
+-- what a block keeps is gone from the reader, too
+lost_block : (block : List ℕ) (left : Option (List ℕ)) → Loses (ahead block left) left
+lost_block block None = (block, tt)
+lost_block block (Some bytes) = (block, refl)
+
+pub left_behind : {old : List ℕ} (block : List ℕ) (left next : Option (List ℕ)) → old ≡ [] → Loses (ahead old left) (ahead block next) → Loses left next
+left_behind block left next empty h =
+    subst (λ script. Loses script next) (ap (λ b. ahead b left) empty ∙ prepend_known-nil left) (lost_both _ (ahead block next) next h (lost_block block next))
 
 -- ---- how a script ended
 

@@ -77,9 +77,9 @@ IsRight (Verdict v) = IsVerdict v.work.test v.work.model.items v.finding
 IsRight reply = Unit {0}
 
 -- An instruction is answered, behind these entries of sessions, at a desk with so many workers: a session's call by an entry of its
--- seat and its command, or by none; and work by what each worker did.
+-- seat and its command, or by none, where there is a command that it asks for; and work by what each worker did.
 abbrev pub Answers : ℕ → List Line → Instruction → Answer → Type 0
 Answers workers entries (Call seat request) (Made line) = (seat < 8) × (line.seat ≡ seat) × Asks entries request line.said × IsRight line.reply
-Answers workers entries (Call seat request) (NotTaken why) = Unit {0}
+Answers workers entries (Call seat request) (NotTaken why) = (said : Said) × Asks entries request said
 Answers workers entries Work (Worked runs) = (length runs ≡ workers) × AreRuns 8 runs
 Answers workers entries instruction answer = ⊥

@@ -93,10 +93,10 @@ Shows passes (outcomes.NotTaken why) (NotTaken reported) = reported ≡ why
 Shows passes (outcomes.Worked counted) (Worked runs) = counted ≡ sums runs
 Shows passes outcome answer = ⊥
 
--- a call of the session at this seat was made by an entry whose command has P, or by none
+-- a call of the session at this seat, of a command that has P, was made by an entry, or by none
 abbrev pub IsCall : ℕ → (Said → Type 0) → Answer → Type 0
 IsCall seat P (Made line) = (line.seat ≡ seat) × P line.said × IsRight line.reply
-IsCall seat P (NotTaken why) = Unit {0}
+IsCall seat P (NotTaken why) = (said : Said) × P said
 IsCall seat P (Worked runs) = ⊥
 
 -- an answer of which this is shown has P, and the passes are what it makes of them

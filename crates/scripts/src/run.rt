@@ -2,7 +2,7 @@
 
 ghost use Rattle.std.specs.Prelude.{◌≡◌, ◌+◌, ◌-◌, ◌≤◌, ◌⊎◌, [], ℕ, List, true, Ok, Err, IfErr, IsErr, OnErr, OnOk};
 ghost use Rattle.std.specs.Io.KnownBytes.{IsAtEnd};
-ghost use Rattle.script_lines.specs.Lines.{ahead, IsTooLong};
+ghost use Rattle.script_lines.specs.Lines.{ahead, IsTooLong, Loses};
 ghost use Rattle.sessions.specs.declared.ending.FinishCause.{FinishCause as FinishCauseOf};
 ghost use Rattle.scripts.specs.Answers.{worker_count};
 ghost use Rattle.scripts.specs.Passes.{EndsWith, Follows, Have, IsTable, ending};
@@ -33,7 +33,9 @@ pub fn serve<R: Source, W: Sink, T: Threads + Wait + Sync>(
     // journal, or that the line behind them is bad: by its number one that is, or that asks to return a piece which no claim
     // of a session gave before. In the journal the entries of each seat are those that answered it.
     ensures served { IsServed (worker_count options.now.workers) (R.left reader.old) (W.held writer.old) (W.held writer.new) result }
+    // The whole script is read only at Ok. However it ends, no bytes of the reader's are gone but the first.
     ensures end { OnOk result (IsAtEnd (R.left reader.new)) }
+    ensures left { Loses (R.left reader.old) (R.left reader.new) }
     // Reading fails where the reader does, or where a script has too many lines.
     ensures read { result ≡ Err ServeFault.Read → (R.has_failed reader.new ≡ true) ⊎ IsTooLong (R.left reader.old) 0 }
     ensures write { result ≡ Err ServeFault.Write → W.has_failed writer.new ≡ true }
@@ -63,6 +65,7 @@ fn serve_at<L: Ledger + Send + Sync, R: Source, W: Sink, T: Threads + Wait + Syn
     requires blank { (blank.name ≡ L.name) × (blank.parts ≡ L.parts) × (blank.parts ≡ 8 + worker_count options.now.workers) }
     ensures served { IsServed (worker_count options.now.workers) (R.left reader.old) (W.held writer.old) (W.held writer.new) result }
     ensures end { OnOk result (IsAtEnd (R.left reader.new)) }
+    ensures left { Loses (R.left reader.old) (R.left reader.new) }
     ensures read { result ≡ Err ServeFault.Read → (R.has_failed reader.new ≡ true) ⊎ IsTooLong (R.left reader.old) 0 }
     ensures write { result ≡ Err ServeFault.Write → W.has_failed writer.new ≡ true }
 {
@@ -115,6 +118,7 @@ fn answer_all<L: Ledger + Send + Sync, R: Source, W: Sink, T: Threads + Wait + S
         × Tells (W.held writer.old) (W.held writer.new) (ending result) (calls_text calls)
         × IsRead (ahead script.old.lines.block (R.left reader.old)) script.old.lines.count (ending result) calls }
     ensures end { ending result ≡ Ok tt → IsAtEnd (R.left reader.new) }
+    ensures left { Loses (ahead script.old.lines.block (R.left reader.old)) (ahead script.new.lines.block (R.left reader.new)) }
     ensures read { ending result ≡ Err ServeFault.Read → (R.has_failed reader.new ≡ true)
         ⊎ IsTooLong (ahead script.old.lines.block (R.left reader.old)) script.old.lines.count }
     ensures write { OnErr result (W.has_failed writer.new ≡ true) }

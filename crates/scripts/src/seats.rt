@@ -1,6 +1,6 @@
 //! The sessions and the workers of a script, at one desk.
 
-ghost use Rattle.std.specs.Prelude.{◌≡◌, ◌<◌, ◌≤◌, ◌-◌, [], ℕ, List, length, take, Some, Ok, slice_get, IfOk, IfErr, IfNone, IsErr, OnErr, OnSome, MatchOption};
+ghost use Rattle.std.specs.Prelude.{◌≡◌, ◌<◌, ◌≤◌, ◌-◌, [], ℕ, List, length, take, Some, Ok, slice_get, IfOk, IfErr, IfNone, IfSome, IsErr, OnErr, OnSome, MatchOption};
 ghost use Rattle.journal.specs.Lines.{Line, seen};
 ghost use Rattle.sessions.specs.Finish.{IsFault, IsLegal, IsShared};
 ghost use Rattle.script_lines.specs.Spelled.{IsSeated};
@@ -204,6 +204,7 @@ fn work_behind<L: Ledger + Send + Sync, R: Threads + Wait + Sync>(
 fn refusal(answer: Result<(), (Command, Refused)>) -> Option<Refused>
     ensures made { IfNone result (answer ≡ Ok tt) }
     ensures refused { OnSome result (IsErr answer) }
+    ensures why { IfSome result (λ why. IfErr answer (λ e. e.1 ≡ why)) }
 {
     match answer {
         Ok(()) => None,

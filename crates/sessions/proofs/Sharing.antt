@@ -7,7 +7,9 @@ use Rattle.std.proofs.lemmas.Option.{slice_get_within, get_or_from_slice_get}
 use Rattle.std.proofs.Math.Seq.{drop-cons}
 use Rattle.journal.specs.Lines.{Line}
 use Rattle.sessions.specs.Views.{PassView, IsOfSeat}
-use Rattle.sessions.specs.Finish.{has_seat, AllHere, receipts_of, of_seat, Fits, AllFit, IsShared}
+use Rattle.sessions.specs.Finish.{has_seat, AllHere, receipts_of, of_seat, Fits, AllFit, IsShared, IsAmiss, IsFault}
+use Rattle.sessions.specs.declared.ending.FinishCause.{FinishCause}
+use Rattle.sessions.specs.declared.ending.FinishCause.TheVariants.{MissingPass, Mismatch}
 
 equal_or_not : (a b : ℕ) → (a ≡ b) ⊎ (a ≢ b)
 equal_or_not a b = elim (cases_order a b) [ inl e ↦ inl e | inr o ↦ inr (elim o [ inl lt ↦ (let ne : a ≢ b = omega (arith, lt) in ne) | inr gt ↦ (let ne : a ≢ b = omega (arith, gt) in ne) ]) ]
@@ -223,3 +225,10 @@ counted journal n parts amount total all ps here n_is parts_is bound amount_is w
 
 pub no_more : (n parts all : ℕ) (ps : List PassView) → n ≡ all → parts ≡ length ps → parts ≤ all → length ps ≤ n
 no_more n parts all ps n_is parts_is bound = omega arith
+
+-- what is amiss is the fault, once the shares are joined: whoever is missing, the receipts are among the journal's entries
+pub fault : (journal : List Line) (n parts amount total all : ℕ) (ps : List PassView) (cause : FinishCause) → IsAmiss n ps journal cause → n ≡ all → parts ≡ length ps → parts ≤ all → amount ≡ receipts_of ps → amount ≤ total
+    → (parts ≡ all → amount ≡ total) → total ≡ length journal → IsFault n ps journal cause
+fault journal n parts amount total all ps (MissingPass seat) amiss n_is parts_is bound amount_is within whole total_is = (amiss.0, amiss.1, amiss.2, omega (arith, amount_is, within, total_is))
+fault journal n parts amount total all ps (Mismatch place) amiss n_is parts_is bound amount_is within whole total_is =
+    (amiss.0, counted journal n parts amount total all ps amiss.0 n_is parts_is bound amount_is whole total_is, amiss.1)

@@ -53,7 +53,12 @@ pub record IsShared (journal : List Line) (passes : List PassView) : Type 0 wher
   pub each : AllByRecursion (λ p. p.receipts ≡ of_seat p.seat journal) passes
   pub no_other : AllByRecursion (λ line. has_seat passes line.seat ≡ true) journal
 
--- when each fault comes
+-- what is amiss: the lowest seat that has no pass, or where each has one, a receipt that doesn't fit
+abbrev pub IsAmiss : ℕ → List PassView → List Line → FinishCause → Type 0
+IsAmiss n passes journal (MissingPass seat) = (seat < n) × (has_seat passes seat ≡ false) × AllHere seat passes
+IsAmiss n passes journal (Mismatch place) = AllHere n passes × SomeUnfit journal passes place
+
+-- When each fault comes. Each receipt is counted in the journal: where a pass is missing, so are its receipts, and the journal has at least the others.
 abbrev pub IsFault : ℕ → List PassView → List Line → FinishCause → Type 0
-IsFault n passes journal (MissingPass seat) = (seat < n) × (has_seat passes seat ≡ false) × AllHere seat passes
+IsFault n passes journal (MissingPass seat) = (seat < n) × (has_seat passes seat ≡ false) × AllHere seat passes × (receipts_of passes ≤ length journal)
 IsFault n passes journal (Mismatch place) = AllHere n passes × (length journal ≡ receipts_of passes) × SomeUnfit journal passes place

@@ -3,7 +3,8 @@
 ghost use Rattle.std.specs.Prelude.{◌≡◌, ◌<◌, ◌≤◌, ◌+◌, ℕ, true, false, IfOk, IfErr, All, map, MatchOption, length, slice_get, ◌≢◌};
 ghost use Rattle.book.specs.Kept.{lines};
 ghost use Rattle.sessions.specs.Views.{spent};
-ghost use Rattle.sessions.specs.Finish.{has_seat, AllHere, AllFit, SomeUnfit, Fits, Unfit, receipts_of, IsLegal, IsShared, IsFault};
+ghost use Rattle.sessions.specs.Finish.{has_seat, AllHere, AllFit, SomeUnfit, Fits, Unfit, receipts_of, IsLegal, IsShared, IsAmiss, IsFault};
+ghost use Rattle.sessions.specs.Labels.{finish_label};
 
 use crate::desks::{Desk, Shared};
 use crate::passes::{Pass, Receipt};
@@ -24,11 +25,23 @@ pub struct Closed<L: Ledger> {
 #[derive(Clone, Copy, Debug, Drop, PartialEq, Eq, Error)]
 pub enum FinishCause {
     /// A seat has no pass. It is the lowest such seat.
-    #[error("91 MissingPass {0}")]
+    #[error("{label} {0}", label = self.label())]
     MissingPass(u8),
     /// A receipt of this place isn't the journal's entry there, or its place isn't above that of the receipt before it.
-    #[error("92 Mismatch {0}")]
+    #[error("{label} {0}", label = self.label())]
     Mismatch(u32),
+}
+
+impl FinishCause {
+    /// The number and the name that a printed fault has for this cause.
+    pub fn label(self) -> &'static str
+        ensures { result.now ≡ finish_label self }
+    {
+        match self {
+            FinishCause::MissingPass(_) => "91 MissingPass",
+            FinishCause::Mismatch(_) => "92 Mismatch",
+        }
+    }
 }
 
 /// A cause, with the journal and the passes.
@@ -58,26 +71,30 @@ pub fn finish<L: Ledger>(desk: Desk<L>, passes: Vec<Pass<L>>) -> Result<Closed<L
     let Shared { book, count, rest } = shared.into_inner();
     let journal = book.into_journal();
     let mut passes = passes;
-    match lowest_missing(passes.as_slice(), seats) {
-        None => {}
-        Some(seat) => {
-            return Err(FinishFault {
-                cause: FinishCause::MissingPass(seat),
-                closed: Closed { journal, passes },
-            });
-        }
-    }
-    let unfit = first_unfit(journal.as_slice(), passes.as_slice());
+    let amiss = first_amiss(seats, journal.as_slice(), passes.as_slice());
     let mut all = rest;
     let mut count = count;
     gather(&mut passes, &mut all);
     count.audit(&mut all);
-    match unfit {
+    match amiss {
         None => Ok(Closed { journal, passes }),
-        Some(place) => Err(FinishFault {
-            cause: FinishCause::Mismatch(place),
+        Some(cause) => Err(FinishFault {
+            cause,
             closed: Closed { journal, passes },
         }),
+    }
+}
+
+// The lowest seat without a pass, or else the first receipt that isn't the journal's.
+fn first_amiss<L: Ledger>(n: u8, journal: &[Arc<Entry>], passes: &[Pass<L>]) -> Option<FinishCause>
+    ensures { MatchOption result (AllHere n passes.now × AllFit (lines journal.now) passes.now) (λ cause. IsAmiss n passes.now (lines journal.now) cause) }
+{
+    match lowest_missing(passes, n) {
+        Some(seat) => Some(FinishCause::MissingPass(seat)),
+        None => match first_unfit(journal, passes) {
+            Some(place) => Some(FinishCause::Mismatch(place)),
+            None => None,
+        },
     }
 }
 

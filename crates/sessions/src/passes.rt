@@ -1,6 +1,6 @@
 //! Passes, each of which makes the calls of one session.
 
-ghost use Rattle.std.specs.Prelude.{◌≡◌, ◌<◌, ◌≤◌, ◌+◌, length};
+ghost use Rattle.std.specs.Prelude.{◌≡◌, ◌<◌, ◌≤◌, ◌+◌, ◌↔◌, IsTrue, length};
 ghost use Rattle.std.specs.Arc.{arc_value};
 ghost use Rattle.sessions.specs.Views.{IsOfSeat, fresh, spent};
 
@@ -58,6 +58,29 @@ impl Receipt {
     {
         &self.entry
     }
+}
+
+impl PartialEq for Receipt {
+    ghost use Rattle.journal.specs.LineCodes.{coded_line};
+    ghost use Rattle.slices.specs.Same.{same, same_partial_equivalence};
+
+    ghost eq = { same coded_line };
+
+    ghost laws = { same_partial_equivalence coded_line };
+
+    fn eq(&self, other: &Receipt) -> bool
+        ensures value { result ≡ same coded_line self.now other.now }
+        ensures exact { IsTrue result ↔ (self.now ≡ other.now) }
+    {
+        Entry::eq(self.entry(), other.entry())
+    }
+}
+
+impl Eq for Receipt {
+    ghost use Rattle.journal.specs.LineCodes.{coded_line};
+    ghost use Rattle.slices.specs.Same.{same_equivalence};
+
+    ghost laws = { same_equivalence coded_line };
 }
 
 /// A seat at a desk, with the receipts of its calls in their order, and a share of the desk's count of calls.

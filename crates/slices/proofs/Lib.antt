@@ -1,3 +1,4 @@
+pub mod Admitted
 pub mod Counted
 pub mod Cuts
 pub mod Members

@@ -7,7 +7,24 @@ ghost use Rattle.slices.specs.Same.{same, same_finding, same_equivalence, same_p
 use crate::finding::{Finding, FindingRef};
 use crate::piece::{Piece, PieceResult};
 use crate::verdict::{Verdict, VerdictRef};
-use crate::work::WorkRef;
+use crate::work::{Work, WorkRef};
+
+impl PartialEq for Work {
+    ghost eq = { same coded_work };
+
+    ghost laws = { same_partial_equivalence coded_work };
+
+    fn eq(&self, other: &Work) -> bool
+        ensures value { result ≡ same coded_work self.now other.now }
+        ensures exact { IsTrue result ↔ (self.now ≡ other.now) }
+    {
+        self.is_same(other)
+    }
+}
+
+impl Eq for Work {
+    ghost laws = { same_equivalence coded_work };
+}
 
 impl PartialEq for WorkRef {
     ghost eq = { same coded_work };

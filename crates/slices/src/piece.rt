@@ -8,7 +8,7 @@ use crate::counter::count;
 use crate::finding::{Finding, FindingRef};
 use crate::span::Span;
 use crate::work::{Work, WorkRef};
-use candidates::Space;
+use candidates::{Space, SpaceFault};
 use conditions::observed;
 use std::alloc::{AllocError, Global};
 use std::marker::Model;
@@ -88,9 +88,12 @@ pub fn evaluate(alloc: Global, piece: &Piece) -> Result<PieceResult, AllocError>
 pub fn space_of(alloc: Global, work: &Work) -> Result<Space, AllocError>
     ensures { IfOk result (λ s. s ≡ choices_of work.now.test) }
 {
+    let _size = work.size();
     match Space::new(alloc, work.test()) {
         Ok(space) => Ok(space),
-        Err(_) => Err(AllocError),
+        Err(SpaceFault::NoMemory) => Err(AllocError),
+        Err(SpaceFault::TooManyRuns(_)) => unreachable!(),
+        Err(SpaceFault::TooManyCandidates) => unreachable!(),
     }
 }
 

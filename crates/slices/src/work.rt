@@ -174,6 +174,14 @@ impl Work {
         &self.model
     }
 
+    /// Whether it is the same test under the same model, of the same files and versions.
+    #[tactic(auto, using(litmus_tree::specs::Exact::litmus_exact, cat_model::specs::Equality::assembly_exact))]
+    pub(crate) fn is_same(&self, other: &Work) -> bool
+        ensures { IsTrue result ↔ (self.now ≡ other.now) }
+    {
+        self.test() == other.test() && self.model() == other.model()
+    }
+
     /// How many numbers the test has.
     pub fn size(&self) -> u64
         ensures size { result ≡ test_size self.now.test }
@@ -201,11 +209,10 @@ impl WorkRef {
     }
 
     /// Whether it is the same test under the same model, of the same files and versions.
-    #[tactic(auto, using(litmus_tree::specs::Exact::litmus_exact, cat_model::specs::Equality::assembly_exact))]
     pub fn same(&self, other: &WorkRef) -> bool
         ensures { IsTrue result ↔ (self.now ≡ other.now) }
     {
-        self.work().test() == other.work().test() && self.work().model() == other.work().model()
+        self.work().is_same(other.work())
     }
 
     /// The same work, kept once more.

@@ -5,6 +5,5 @@ pub mod Labels
 pub mod Memory
 pub mod Names
 pub mod Numbers
-pub mod Offsets
 pub mod Signs
 pub mod Tokens

@@ -19,4 +19,4 @@ pub use name::Name;
 pub use number::decimal;
 pub use sink::{MemSink, Sink, WriteSink, give_all};
 pub use source::{MemSource, ReadSource, Source, read_up_to};
-pub use token::{Dialect, Token, TokenKind, offset_at, tokens};
+pub use token::{Dialect, Token, TokenKind, tokens};

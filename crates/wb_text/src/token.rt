@@ -2,7 +2,6 @@
 
 ghost use Rattle.std.specs.Prelude.{◌≡◌, ◌<◌, ◌↔◌, List, All, Err, IfErr, IfOk, MatchResult, length};
 ghost use Rattle.wb_text.specs.Faults.{HasCause};
-ghost use Rattle.wb_text.specs.Offsets.{IsOffset};
 ghost use Rattle.wb_text.specs.Tokens.{IsTokenList, IsWithin};
 ghost use Rattle.wb_text.specs.declared.token.Token.{Token};
 ghost use Rattle.wb_text.specs.declared.fault.TextFault.TheVariants.{NoMemory, TooLong};
@@ -81,15 +80,5 @@ pub fn tokens(alloc: Global, text: &[u8], dialect: Dialect) -> Result<Vec<Token>
             to: from + len,
         })?;
         rest = &next[len..];
-    }
-}
-
-/// The offset of the token at a place, or the text's length where there is none.
-pub fn offset_at(tokens: &[Token], end: usize, place: usize) -> usize
-    ensures { IsOffset result tokens.now end }
-{
-    match tokens.get(place) {
-        Some(token) => token.from,
-        None => end,
     }
 }

@@ -1,23 +1,27 @@
 -- Traces that are put together.
-use Rattle.std.proofs.Common.{◌≡◌, ℕ, ◌+◌, ◌-◌, ◌<◌, ◌≤◌, ◌&&◌, cond, List, [], ◌∷◌, ◌++◌, length, refl, sym, ap, ◌∙◌, subst, arith, append_assoc, append-nil, length-append, Some}
+use Rattle.std.proofs.Common.{◌≡◌, ℕ, zero, suc, Bool, true, false, ◌+◌, ◌-◌, ◌<◌, ◌≤◌, ◌&&◌, cond, List, [], ◌∷◌, ◌++◌, length, refl, sym, ap, ◌∙◌, subst, arith, append_assoc, append-nil, length-append, Some}
 use Rattle.std.specs.Prelude.{slice_get, option_and_then}
 use Rattle.std.proofs.lemmas.List.Sums.{sum_by-append}
 use Rattle.std.proofs.lemmas.Option.{slice_get-get_or}
 use Rattle.std.proofs.Math.Seq.{get_or-append_seam}
 use Rattle.journal.specs.declared.records.Said.{Said}
-use Rattle.journal.specs.declared.records.Said.TheVariants.{Claim}
+use Rattle.journal.specs.declared.records.Said.TheVariants.{Claim, Return, GiveBack}
+use Rattle.journal.specs.EntryCodes.{coded_returned}
 use Rattle.slices.specs.Parts.{PieceValue}
+use Rattle.slices.specs.Same.{same, same_exact}
 use Rattle.journal.specs.declared.records.Reply.{Reply}
-use Rattle.journal.specs.declared.records.Reply.TheVariants.{Piece}
-use Rattle.journal.specs.Lines.{Line}
+use Rattle.journal.specs.declared.records.Reply.TheVariants.{Piece, Refused}
+use Rattle.journal.specs.declared.records.Refusal.TheVariants.{Closed}
+use Rattle.journal.specs.Lines.{Line, shown}
 use Rattle.sessions.specs.declared.passes.Counts.{Counts}
 use Rattle.sessions.specs.Views.{PassView}
 use Rattle.workers.specs.declared.calls.Claimed.TheVariants.{Held}
 use Rattle.workers.specs.declared.working.Form.{Form}
 use Rattle.workers.specs.declared.working.Turn.{Turn}
 use Rattle.workers.specs.declared.working.Turn.TheVariants.{Waited, Returned, Ended}
-use Rattle.workers.specs.Replies.{Replied, claimed_of, piece_of, last_piece, is_done}
-use Rattle.workers.specs.Trace.{Stage, Free, Holds, after, stage_after, EndsAt, is_return, returns, is_give_back, given_back, IsWorkFrom, Worked}
+use Rattle.workers.specs.Deeds.{Deed, call}
+use Rattle.workers.specs.Replies.{Replied, claimed_of, goes_on, piece_of, last_piece, is_done}
+use Rattle.workers.specs.Trace.{Stage, Free, Holds, Gave, Ended as HasEnded, Wrong, after, stage_after, Excuses, EndsAt, is_return, returns, is_give_back, given_back, IsWorkUnder, WorkedUnder}
 use Rattle.workers.specs.Turns.{GoesOn, Tells, IsTurn, Settles, SoFar}
 
 returns-append : (xs ys : List Line) → returns (xs ++ ys) ≡ returns xs + returns ys
@@ -67,28 +71,28 @@ goes-claim form piece line added n said reply goes =
       none = given_back-claim line added said ∙ goes.none;
     }
 
-work-claim : (form : Form) (piece : PieceValue) (line : Line) (added : List Line) (counts : Counts) → line.said ≡ Claim → line.reply ≡ Piece piece → IsWorkFrom form (Holds piece) counts added → IsWorkFrom form Free counts (line ∷ added)
-work-claim form piece line added counts said reply work =
+work-claim : (D : Deed → Type 0) (form : Form) (piece : PieceValue) (line : Line) (added : List Line) (counts : Counts) → line.said ≡ Claim → line.reply ≡ Piece piece → IsWorkUnder D form (Holds piece) counts added → IsWorkUnder D form Free counts (line ∷ added)
+work-claim D form piece line added counts said reply work =
     let r : returns (line ∷ added) ≡ returns added = returns-claim line added said in
     let least : returns added ≤ counts.evaluated = work.least in
     let most : counts.evaluated ≤ returns added + 1 = work.most in
     record {
-      ended = subst (λ (n : ℕ). EndsAt (counts.evaluated - n) counts.refused (stage_after form Free (line ∷ added))) (sym r) (subst (λ (s : Stage). EndsAt (counts.evaluated - returns added) counts.refused s) (sym (holds form piece line added said reply)) work.ended);
+      ended = subst (λ (n : ℕ). EndsAt D (counts.evaluated - n) counts.refused (stage_after form Free (line ∷ added))) (sym r) (subst (λ (s : Stage). EndsAt D (counts.evaluated - returns added) counts.refused s) (sym (holds form piece line added said reply)) work.ended);
       least = omega (arith, r, least);
       most = omega (arith, r, most);
       back = work.back ∙ sym (given_back-claim line added said);
     }
 
-tells-claim : (form : Form) (piece : PieceValue) (line : Line) (added : List Line) (turn : Turn) → line.said ≡ Claim → line.reply ≡ Piece piece → Tells form (Holds piece) turn added → Tells form Free turn (line ∷ added)
-tells-claim form piece line added Waited said reply t = (goes-claim form piece line added 0 said reply t.0, omega arith)
-tells-claim form piece line added Returned said reply t = (goes-claim form piece line added 1 said reply t.0, omega arith)
-tells-claim form piece line added (Ended counts) said reply t = (work-claim form piece line added counts said reply t.0, t.1)
+tells-claim : (D : Deed → Type 0) (form : Form) (piece : PieceValue) (line : Line) (added : List Line) (turn : Turn) → line.said ≡ Claim → line.reply ≡ Piece piece → Tells D form (Holds piece) turn added → Tells D form Free turn (line ∷ added)
+tells-claim D form piece line added Waited said reply t = (goes-claim form piece line added 0 said reply t.0, omega arith)
+tells-claim D form piece line added Returned said reply t = (goes-claim form piece line added 1 said reply t.0, omega arith)
+tells-claim D form piece line added (Ended counts) said reply t = (work-claim D form piece line added counts said reply t.0, t.1)
 
 same_piece : (a b : PieceValue) → Some a ≡ Some b → a ≡ b
 same_piece a b e = cc
 
-pub held-turn : (form : Form) (before mid now : PassView) (turn : Turn) → Replied before mid Claim (λ (reply : Reply). Held ≡ claimed_of reply) → Settles mid now turn → IsTurn form Free before now turn
-held-turn form before mid now turn claim rest =
+pub held-turn : (D : Deed → Type 0) (form : Form) (before mid now : PassView) (turn : Turn) → Replied before mid Claim (λ (reply : Reply). Held ≡ claimed_of reply) → Settles D mid now turn → IsTurn D form Free before now turn
+held-turn D form before mid now turn claim rest =
     let line = claim.line in
     let given = given_of line.reply claim.reported in
     let same : given.0 ≡ rest.piece = same_piece _ _ (sym (ap (λ (p : PassView). last_piece p.receipts) claim.is ∙ last_piece-push before.receipts line ∙ ap piece_of given.1) ∙ rest.given) in
@@ -97,7 +101,7 @@ held-turn form before mid now turn claim rest =
     record {
       added = line ∷ t.added;
       is = t.is ∙ ap (λ (p : PassView). record p { receipts = p.receipts ++ t.added }) claim.is ∙ ap (λ (xs : List Line). record before { receipts = xs }) (append_assoc before.receipts (line ∷ []) t.added);
-      reported = tells-claim form rest.piece line t.added turn claim.of reply t.reported;
+      reported = tells-claim D form rest.piece line t.added turn claim.of reply t.reported;
     }
 
 pub so_far-none : (form : Form) (pass : PassView) → SoFar form pass pass 0
@@ -126,23 +130,23 @@ goes-more form n k xs ys a b =
       none = omega (arith, g, h, given_back-append xs ys);
     }
 
-pub so_far-waited : (form : Form) (before mid now : PassView) (n : ℕ) → SoFar form before mid n → IsTurn form Free mid now Waited → SoFar form before now n
-so_far-waited form before mid now n a t = record {
+pub so_far-waited : (D : Deed → Type 0) (form : Form) (before mid now : PassView) (n : ℕ) → SoFar form before mid n → IsTurn D form Free mid now Waited → SoFar form before now n
+so_far-waited D form before mid now n a t = record {
   added = a.added ++ t.added;
   is = chained before mid now a.added t.added a.is t.is;
   goes = subst (λ (k : ℕ). GoesOn form Free k (a.added ++ t.added)) (let e : n + 0 ≡ n = omega arith in e) (goes-more form n 0 a.added t.added a.goes t.reported.0);
 }
 
-pub so_far-returned : (form : Form) (before mid now : PassView) (n : ℕ) → SoFar form before mid n → IsTurn form Free mid now Returned → SoFar form before now (n + 1)
-so_far-returned form before mid now n a t = record {
+pub so_far-returned : (D : Deed → Type 0) (form : Form) (before mid now : PassView) (n : ℕ) → SoFar form before mid n → IsTurn D form Free mid now Returned → SoFar form before now (n + 1)
+so_far-returned D form before mid now n a t = record {
   added = a.added ++ t.added;
   is = chained before mid now a.added t.added a.is t.is;
   goes = goes-more form n 1 a.added t.added a.goes t.reported.0;
 }
 
 -- the work of a worker ends with this turn
-pub so_far-ended : (form : Form) (before mid now : PassView) (n : ℕ) (last : Counts) → SoFar form before mid n → IsTurn form Free mid now (Ended last) → Worked form before (record now { counts = record last { evaluated = n + last.evaluated } })
-so_far-ended form before mid now n last a t =
+pub so_far-ended : (D : Deed → Type 0) (form : Form) (before mid now : PassView) (n : ℕ) (last : Counts) → SoFar form before mid n → IsTurn D form Free mid now (Ended last) → WorkedUnder D form before (record now { counts = record last { evaluated = n + last.evaluated } })
+so_far-ended D form before mid now n last a t =
     let xs = a.added in
     let ys = t.added in
     let w = t.reported.0 in
@@ -159,7 +163,7 @@ so_far-ended form before mid now n last a t =
       added = xs ++ ys;
       is = ap (λ (p : PassView). record p { counts = record last { evaluated = n + last.evaluated } }) (chained before mid now xs ys a.is t.is);
       work = record {
-        ended = subst (λ (k : ℕ). EndsAt k last.refused (stage_after form Free (xs ++ ys))) lost (subst (λ (s : Stage). EndsAt (last.evaluated - returns ys) last.refused s) (sym at) w.ended);
+        ended = subst (λ (k : ℕ). EndsAt D k last.refused (stage_after form Free (xs ++ ys))) lost (subst (λ (s : Stage). EndsAt D (last.evaluated - returns ys) last.refused s) (sym at) w.ended);
         least = omega (arith, r, least, m);
         most = omega (arith, r, most, m);
         back = omega (arith, g, back, k);

@@ -7,14 +7,14 @@ use Rattle.journal.specs.declared.records.Refusal.{Refusal}
 use Rattle.journal.specs.declared.records.Refusal.TheVariants.{Closed, ClaimsSpent}
 use Rattle.journal.specs.declared.records.Reply.{Reply}
 use Rattle.journal.specs.declared.records.Reply.TheVariants.{Piece, Nothing, Refused}
-use Rattle.journal.specs.Lines.{Line}
+use Rattle.journal.specs.Lines.{Line, shown}
 use Rattle.workers.specs.Trace.{is_give_back}
 use Rattle.workers.specs.declared.working.Form.{Form}
 use Rattle.workers.specs.declared.working.Form.TheVariants.{UntilIdle}
 
--- a return or a give-back of this piece's claim
+-- a return of this piece, or a give-back of its claim
 abbrev pub IsFor : PieceValue → Said → Type 0
-IsFor piece (Return r) = r.claim ≡ piece.claim
+IsFor piece (Return r) = r ≡ shown piece
 IsFor piece (GiveBack number) = number ≡ piece.claim
 IsFor piece said = ⊥
 
@@ -22,7 +22,7 @@ abbrev pub FollowedBy : ℕ → PieceValue → List Line → Type 0
 FollowedBy refused piece [] = 0 < refused
 FollowedBy refused piece (line ∷ lines) = IsFor piece line.said
 
--- each claim that was given is followed by one return or give-back of it, except that the last may lack it where a call was refused
+-- each claim that was given is followed by one return of its piece or one give-back, except that the last may lack it where a call was refused
 abbrev pub EachFollowed : ℕ → List Line → Type 0
 EachFollowed refused [] = Unit {0}
 EachFollowed refused (line ∷ lines) = ((piece : PieceValue) → line.said ≡ Claim → line.reply ≡ Piece piece → FollowedBy refused piece lines) × EachFollowed refused lines

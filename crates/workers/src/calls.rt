@@ -1,15 +1,17 @@
-//! The calls that a worker makes, and how a desk makes them.
+//! The calls that a worker makes and how it evaluates, and how both are done at a desk.
 
 ghost use Rattle.std.specs.Prelude.{◌≡◌, ◌≢◌, ◌-◌, ◌<◌, length, slice_get, IfOk, OnOk, OnErr, MatchBool, MatchOption};
 ghost use Rattle.journal.specs.declared.records.Refusal.TheVariants.{Closed};
 ghost use Rattle.journal.specs.Lines.{returned, seen};
 ghost use Rattle.journal.specs.declared.records.Said.{Said};
 ghost use Rattle.sessions.specs.Calls.{Adds};
+ghost use Rattle.workers.specs.Deeds.{call, evaluation};
 ghost use Rattle.workers.specs.Replies.{Replied, claimed_of, goes_on, is_done, last_piece};
 
 use book::{Command, Entry, Refusal, Refused, Reply};
 use sessions::{Desk, Pass};
 use slices::{Piece, PieceResult};
+use std::alloc::{AllocError, Global};
 use std::sync::Wait;
 use std::sync::ledger::Ledger;
 
@@ -24,12 +26,24 @@ pub enum Claimed {
     Over,
 }
 
-/// The calls of a worker. Each adds one receipt to its pass, or is refused and leaves the pass as it was.
+/// The calls of a worker, and the evaluation between them. Each call adds one receipt to its pass, or is refused and leaves the
+/// pass as it was.
 pub trait Calls<L: Ledger> {
+    ghost use Rattle.workers.specs.Deeds.{Deed};
+
+    /// That this is refused. Of that a worker is told by an `Err`, and by nothing else.
+    ghost refuses: { Self → Deed → Type 0 };
+
     fn claim<R: Wait>(&self, rt: &R, pass: &mut Pass<L>) -> Result<Claimed, Refused>
         requires { pass.old.parts ≡ 1 }
         ensures ok { IfOk result (λ r. Replied pass.old pass.new Said.Claim (λ reply. r ≡ claimed_of reply)) }
-        ensures err { OnErr result (pass.new ≡ pass.old) };
+        ensures err { OnErr result (pass.new ≡ pass.old) }
+        ensures refused { OnErr result (refuses self.now (call Said.Claim)) };
+
+    /// Evaluates a piece. That is no call of the desk.
+    fn evaluate(&self, alloc: Global, piece: &Piece) -> Result<PieceResult, AllocError>
+        ensures piece { IfOk result (λ f. f.piece ≡ piece.now) }
+        ensures refused { OnErr result (refuses self.now (evaluation piece.now)) };
 
     /// Returns what was found, and answers whether the book still stands open.
     fn hand_in<R: Wait>(
@@ -40,19 +54,25 @@ pub trait Calls<L: Ledger> {
     ) -> Result<bool, Refused>
         requires { pass.old.parts ≡ 1 }
         ensures ok { IfOk result (λ r. Replied pass.old pass.new (Said.Return (returned found)) (λ reply. r ≡ goes_on reply)) }
-        ensures err { OnErr result (pass.new ≡ pass.old) };
+        ensures err { OnErr result (pass.new ≡ pass.old) }
+        ensures refused { OnErr result (refuses self.now (call (Said.Return (returned found)))) };
 
     /// Gives a claim back, and answers whether that was done.
     fn give_back<R: Wait>(&self, rt: &R, pass: &mut Pass<L>, number: u32) -> Result<bool, Refused>
         requires { pass.old.parts ≡ 1 }
         ensures ok { IfOk result (λ r. Replied pass.old pass.new (Said.GiveBack number) (λ reply. r ≡ is_done reply)) }
-        ensures err { OnErr result (pass.new ≡ pass.old) };
+        ensures err { OnErr result (pass.new ≡ pass.old) }
+        ensures refused { OnErr result (refuses self.now (call (Said.GiveBack number))) };
 
     /// Waits until there may be work.
     fn wait_work<R: Wait>(&self, rt: &R);
 }
 
 impl<L: Ledger> Calls<L> for Desk<L> {
+    ghost use Rattle.workers.specs.Trace.{anything};
+
+    ghost refuses = { λ desk. anything };
+
     fn claim<R: Wait>(&self, rt: &R, pass: &mut Pass<L>) -> Result<Claimed, Refused> {
         match called(self, rt, pass, Command::Claim) {
             Ok(()) => Ok(match last_entry(pass).reply() {
@@ -62,6 +82,10 @@ impl<L: Ledger> Calls<L> for Desk<L> {
             }),
             Err(refused) => Err(refused),
         }
+    }
+
+    fn evaluate(&self, alloc: Global, piece: &Piece) -> Result<PieceResult, AllocError> {
+        slices::evaluate(alloc, piece)
     }
 
     fn hand_in<R: Wait>(

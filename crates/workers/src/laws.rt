@@ -7,7 +7,7 @@ ghost use Rattle.workers.specs.declared.working.Form.{Form};
 ghost use Rattle.workers.specs.Trace.{Stage, IsWorkFrom, returns};
 ghost use Rattle.workers.specs.Words.{EachFollowed, BackIsLast, EndsIn};
 
-/// Each claim that was given is followed by one return or give-back of it.
+/// Each claim that was given is followed by one return of its piece, or by one give-back of it.
 pub fn each_followed()
     ensures { (form : Form) (counts : Counts) (added : List Line) → IsWorkFrom form Stage.Free counts added → EachFollowed counts.refused added }
 {}

@@ -1,14 +1,15 @@
 //! What one worker does.
 
-ghost use Rattle.std.specs.Prelude.{◌≡◌, ◌≤◌, Some, IsSome, IfOk};
+ghost use Rattle.std.specs.Prelude.{◌≡◌, ◌≤◌, Some, IsSome, IfOk, OnErr};
 ghost use Rattle.slices.specs.Parts.{PieceValue};
+ghost use Rattle.workers.specs.Deeds.{evaluation};
 ghost use Rattle.workers.specs.Replies.{last_piece};
-ghost use Rattle.workers.specs.Trace.{Stage, Worked};
+ghost use Rattle.workers.specs.Trace.{Stage, Excuses, WorkedUnder};
 ghost use Rattle.workers.specs.Turns.{IsTurn, Settles};
 
 use crate::calls::{Calls, Claimed, held};
 use sessions::{Counts, Pass};
-use slices::{Piece, PieceResult, evaluate};
+use slices::{Piece, PieceResult};
 use std::alloc::{AllocError, Global};
 use std::sync::Wait;
 use std::sync::ledger::Ledger;
@@ -56,7 +57,7 @@ pub fn work<L: Ledger, C: Calls<L>, G: Gate, R: Wait>(
     pass: &mut Pass<L>,
 )
     requires { pass.old.parts ≡ 1 }
-    ensures { Worked form pass.old pass.new }
+    ensures { WorkedUnder (C.refuses calls.now) form pass.old pass.new }
 {
     let mut evaluated = 0;
     loop {
@@ -83,7 +84,7 @@ fn one_turn<L: Ledger, C: Calls<L>, G: Gate, R: Wait>(
     pass: &mut Pass<L>,
 ) -> Turn
     requires { pass.old.parts ≡ 1 }
-    ensures { IsTurn form Stage.Free pass.old pass.new result }
+    ensures { IsTurn (C.refuses calls.now) form Stage.Free pass.old pass.new result }
 {
     match calls.claim(rt, pass) {
         Ok(Claimed::Held) => settle(rt, alloc, calls, gate, place, pass),
@@ -110,9 +111,9 @@ fn settle<L: Ledger, C: Calls<L>, G: Gate, R: Wait>(
 ) -> Turn
     requires shares { pass.old.parts ≡ 1 }
     requires held { IsSome (last_piece pass.old.receipts) }
-    ensures { Settles pass.old pass.new result }
+    ensures { Settles (C.refuses calls.now) pass.old pass.new result }
 {
-    let (number, found) = evaluated(rt, alloc, gate, place, pass);
+    let (number, found) = evaluated(rt, alloc, calls, gate, place, pass);
     match found {
         Ok(found) => match calls.hand_in(rt, pass, found) {
             Ok(true) => Turn::Returned,
@@ -124,20 +125,21 @@ fn settle<L: Ledger, C: Calls<L>, G: Gate, R: Wait>(
 }
 
 // The number of the claim, and what was found.
-fn evaluated<L: Ledger, G: Gate, R: Wait>(
+fn evaluated<L: Ledger, C: Calls<L>, G: Gate, R: Wait>(
     rt: &R,
     alloc: Global,
+    calls: &C,
     gate: &G,
     place: usize,
     pass: &Pass<L>,
 ) -> (u32, Result<PieceResult, AllocError>)
     requires { IsSome (last_piece pass.now.receipts) }
-    ensures { (piece : PieceValue) × (last_piece pass.now.receipts ≡ Some piece) × (result.0 ≡ piece.claim) × IfOk result.1 (λ f. f.piece.claim ≡ piece.claim) }
+    ensures { (piece : PieceValue) × (last_piece pass.now.receipts ≡ Some piece) × (result.0 ≡ piece.claim) × IfOk result.1 (λ f. f.piece ≡ piece) × OnErr result.1 (C.refuses calls.now (evaluation piece)) }
 {
     match held(pass) {
         Some(piece) => {
             gate.enter(rt, place, piece);
-            let found = evaluate(alloc, piece);
+            let found = calls.evaluate(alloc, piece);
             gate.leave(rt, place, piece);
             (piece.claim(), found)
         }
@@ -155,8 +157,8 @@ fn give_up<L: Ledger, C: Calls<L>, R: Wait>(
 ) -> Turn
     requires shares { pass.old.parts ≡ 1 }
     requires few { refused ≤ 1 }
-    requires held { (piece : PieceValue) × (last_piece pass.old.receipts ≡ Some piece) × (number ≡ piece.claim) }
-    ensures { Settles pass.old pass.new result }
+    requires held { (piece : PieceValue) × (last_piece pass.old.receipts ≡ Some piece) × (number ≡ piece.claim) × Excuses (C.refuses calls.now) refused piece }
+    ensures { Settles (C.refuses calls.now) pass.old pass.new result }
 {
     match calls.give_back(rt, pass, number) {
         Ok(true) => Turn::Ended(counts(refused, 1, refused)),

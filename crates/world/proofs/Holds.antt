@@ -50,7 +50,7 @@ is_elsewhere id c = not (is_of id c)
 
 -- lists
 
-once_push : (live : List Live) (c : Live) → NoRepeats (map place live) → ¬ IsIn (place c) (map place live) → NoRepeats (map place (live ++ c ∷ []))
+pub once_push : (live : List Live) (c : Live) → NoRepeats (map place live) → ¬ IsIn (place c) (map place live) → NoRepeats (map place (live ++ c ∷ []))
 once_push [] c once out = ((λ p. p), tt)
 once_push (l ∷ ls) c once out = (
   λ h. (let r = in_map place (ls ++ c ∷ []) (place l) h in
@@ -70,7 +70,7 @@ numbers_pushed js new n last h e p =
       | inr b ↦ elim b [ inl k ↦ (let same : r.0.number ≡ new.number = ap number k in omega (arith, same, e, r.2)) | inr out ↦ absurd out ]
     ]
 
-distinct_pushed : (js : List Job) (new : Job) → NoRepeats (map number js) → ¬ IsIn new.number (map number js) → NoRepeats (map number (js ++ new ∷ []))
+pub distinct_pushed : (js : List Job) (new : Job) → NoRepeats (map number js) → ¬ IsIn new.number (map number js) → NoRepeats (map number (js ++ new ∷ []))
 distinct_pushed [] new once out = ((λ p. p), tt)
 distinct_pushed (j ∷ js) new once out = (
   λ h. (let r = in_map number (js ++ new ∷ []) j.number h in
@@ -137,7 +137,7 @@ no_and true true h x y = cc
 no_and true false h x y = cc
 no_and false b h x y = cc
 
-unclaimed : (live : List Live) (j i : ℕ) → is_claimed live j i ≡ false → ¬ IsIn (j, i) (map place live)
+pub unclaimed : (live : List Live) (j i : ℕ) → is_claimed live j i ≡ false → ¬ IsIn (j, i) (map place live)
 unclaimed live j i e q =
     let r = in_map place live (j, i) q in
     let no = none_is (λ (c : Live). (c.job == j) && (c.slice == i)) live r.0 e r.1 in
@@ -246,7 +246,7 @@ forgets id js live last rs h =
 
 -- a result is taken
 
-same_place : (live : List Live) (p : Live → Bool) (c d : Live) → NoRepeats (map place live) → IsIn c live → IsIn d live → p c ≡ true → p d ≡ false → place c ≢ place d
+pub same_place : (live : List Live) (p : Live → Bool) (c d : Live) → NoRepeats (map place live) → IsIn c live → IsIn d live → p c ≡ true → p d ≡ false → place c ≢ place d
 same_place [] p c d once pc pd py pn e = absurd pc
 same_place (l ∷ ls) p c d once (inl a) (inl b) py pn e = let k : c ≡ d = a ∙ sym b in let same : p c ≡ p d = ap p k in cc
 same_place (l ∷ ls) p c d once (inl a) (inr b) py pn e = let P : ℕ × ℕ → Type 0 = λ k. IsIn k (map place ls) in once.0 (subst P (sym e ∙ ap place a) (map_in place ls d b))

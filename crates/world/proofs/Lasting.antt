@@ -1,8 +1,8 @@
 -- What follows for slices and works.
-use Rattle.std.proofs.Common.{◌≡◌, ℕ, ◌+◌, List, [], ◌∷◌, ◌++◌, Option, Some, None, refl, subst, inl, inr}
+use Rattle.std.proofs.Common.{◌≡◌, ℕ, Option, Some, None, refl, subst, inl, inr}
 use Rattle.book.specs.Jobs.{Job}
-use Rattle.book.specs.Step.{ReturnsTo, Returns, Step, LeadsFrom}
-use Rattle.book.specs.Workbench.{Workbench, empty, job_of, claim_of}
+use Rattle.book.specs.Step.{ReturnsTo, Returns, Step}
+use Rattle.book.specs.Workbench.{Workbench, job_of, claim_of}
 use Rattle.book.specs.declared.live.Live.{Live}
 use Rattle.journal.specs.Lines.{Line}
 use Rattle.journal.specs.declared.records.Returned.{Returned}
@@ -40,14 +40,5 @@ owed_by s s' e d n r a b h =
     let Q : Reply → Type 0 = λ x. Step s e.seat (Return r) x s' in
     owed s s' e.seat d n r (subst Q b (subst P a h))
 
--- where the journal stands before a line
-before_line : (place : ℕ) (s s' : Workbench) (before : List Line) (e : Line) (after : List Line) → LeadsFrom place s (before ++ e ∷ after) s' → (mid : Workbench) × LeadsFrom place s before mid × ((next : Workbench) × Step mid e.seat e.said e.reply next)
-before_line place s s' [] e after leads = (s, refl, (leads.1.0, leads.1.1))
-before_line place s s' (x ∷ xs) e after leads =
-    let rest = before_line (place + 1) leads.1.0 s' xs e after leads.1.2 in
-    (rest.0, (leads.0, (leads.1.0, leads.1.1, rest.1)), rest.2)
-
 pub own_work : OwnWork
-own_work limits before after e r d n legal a b =
-    let found = before_line 0 (empty limits) legal.0 before e after legal.1 in
-    (found.0, found.1, owed_by found.0 found.2.0 e d n r a b found.2.1)
+own_work limits before after e r d n s u start leads a b = owed_by s leads.1.0 e d n r a b leads.1.1

@@ -10,6 +10,7 @@ pub mod Members
 pub mod Merged
 pub mod Moves
 pub mod Pasts
+pub mod Slots
 pub mod Sources
 pub mod Spent
 pub mod Told

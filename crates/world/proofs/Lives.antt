@@ -1,5 +1,7 @@
 -- What a step does to the live claims.
-use Rattle.std.proofs.Common.{◌≡◌, ℕ, ◌+◌, [], ◌∷◌, ◌++◌, filter, Bool, not, Option, Some, None, refl, sym, ap, subst, inl, inr}
+use Rattle.std.proofs.Common.{◌≡◌, ℕ, ◌+◌, [], ◌∷◌, ◌++◌, filter, Bool, true, not, Option, Some, None, refl, sym, ap, subst, inl, inr}
+use Rattle.std.specs.Prelude.{slice_get}
+use Rattle.listings.specs.Lists.{IsIn}
 use Rattle.cat_model.specs.Models.{Assembly}
 use Rattle.litmus_tree.specs.Tree.{Word, Litmus}
 use Rattle.slices.specs.Parts.{PieceValue}
@@ -7,8 +9,9 @@ use Rattle.slices.specs.Works.{IsModelOf}
 use Rattle.book.specs.Jobs as jobs
 use Rattle.book.specs.Jobs.{marked}
 use Rattle.book.specs.Step.{PutsCat, PutsTest, DropsCat, DropsTest, AsksFor, Asks, Polls, is_of, elsewhere, Forgets, Releases, Claims, others, ReturnsTo, Returns, GivesBack, ListsAll, Closes, OpenStep, Step}
-use Rattle.book.specs.Workbench.{Workbench, job_of, claim_of, is_claim, test_of}
+use Rattle.book.specs.Workbench.{Workbench, job_of, claim_of, is_claim, is_free, test_of}
 use Rattle.book.specs.declared.live.Live.{Live}
+use Rattle.book.specs.declared.slice.Slice.{Slice}
 use Rattle.journal.specs.declared.records.Returned.{Returned}
 use Rattle.journal.specs.declared.records.Said.{Said}
 use Rattle.journal.specs.declared.records.Said.TheVariants.{PutCat, PutTest, DropCat, DropTest, Ask, Poll, Forget, Release, List as ListAll, Claim, Return, GiveBack, Close}
@@ -16,10 +19,14 @@ use Rattle.journal.specs.declared.records.Refusal.TheVariants.{ReadingTest, Read
 use Rattle.journal.specs.declared.records.Reply.{Reply}
 use Rattle.journal.specs.declared.records.Reply.TheVariants.{Version, Job, Pending, Verdict, Piece, Nothing, Taken, Freed, Listed, Done, Refused}
 
+-- it is of a slice that was free
+abbrev pub IsOfFree : Workbench → Live → Type 0
+IsOfFree s c = (job : jobs.Job) × IsIn job s.jobs × (c.job ≡ job.number) × ((x : Slice) × (slice_get job.slices c.slice ≡ Some x) × (is_free s job c.slice x ≡ true))
+
 pub data Lives (s s' : Workbench) : Type 0 where
   same_live : s'.live ≡ s.live → s'.last_claim ≡ s.last_claim → Lives s s'
   fewer : (p : Live → Bool) → s'.live ≡ filter p s.live → s'.last_claim ≡ s.last_claim → Lives s s'
-  one_more : (c : Live) → c.number ≡ s.last_claim + 1 → s'.live ≡ s.live ++ c ∷ [] → s'.last_claim ≡ s.last_claim + 1 → Lives s s'
+  one_more : (c : Live) → c.number ≡ s.last_claim + 1 → IsOfFree s c → s'.live ≡ s.live ++ c ∷ [] → s'.last_claim ≡ s.last_claim + 1 → Lives s s'
 
 still : (s s' : Workbench) → s' ≡ s → Lives s s'
 still s s' e = subst (Lives s) (sym e) (same_live refl refl)
@@ -65,7 +72,7 @@ claims s seat Nothing s' h = still s s' h.1
 claims s seat (Refused ClaimsSpent) s' h = still s s' h.2
 claims s seat (Piece p) s' h =
     let number : p.claim ≡ s.last_claim + 1 = ap (λ (q : PieceValue). q.claim) h.1.2.3 in
-    become s s' _ h.2 (one_more (record { number = p.claim; seat = seat; job = p.job; slice = p.slice }) number refl number)
+    become s s' _ h.2 (one_more (record { number = p.claim; seat = seat; job = p.job; slice = p.slice }) number (h.1.0, h.1.1, ap (λ (q : PieceValue). q.job) h.1.2.3, (h.1.2.0, h.1.2.1, h.1.2.2)) refl number)
 claims s seat reply s' h = absurd h
 
 returns_to : (s : Workbench) (seat : ℕ) (r : Returned) (c : Live) (o : Option jobs.Job) (reply : Reply) (s' : Workbench) → ReturnsTo s seat r c o reply s' → Lives s s'

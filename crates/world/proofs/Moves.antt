@@ -1,34 +1,39 @@
 -- What a step does to the jobs and to the tests and files.
-use Rattle.std.proofs.Common.{◌≡◌, ℕ, ◌+◌, ◌<◌, List, [], ◌∷◌, ◌++◌, Bool, true, false, not, Option, Some, None, refl, sym, ap, ◌∙◌, subst, inl, inr, arith}
-use Rattle.std.specs.Prelude.{◌==◌, if◌then◌else◌}
+use Rattle.std.proofs.Common.{◌≡◌, ℕ, ◌+◌, ◌<◌, List, [], ◌∷◌, ◌++◌, map, zero, suc, Bool, true, false, not, Option, Some, None, refl, sym, ap, ◌∙◌, subst, inl, inr, arith}
+use Rattle.std.specs.Prelude.{slice_get, ◌==◌, if◌then◌else◌}
 use Rattle.std.specs.Str.{bytes_eq}
 use Rattle.indexmap.specs.IndexMap.{insert_entry}
-use Rattle.listings.specs.Lists.{IsIn}
+use Rattle.listings.specs.Lists.{IsIn, NoRepeats}
 use Rattle.cat_model.specs.Files.{version_of, store}
 use Rattle.cat_model.specs.declared.files.Entry.{Entry}
 use Rattle.cat_model.specs.Models.{Assembly}
 use Rattle.litmus_tree.specs.Tree.{Word, Litmus}
 use Rattle.slices.specs.Works.{IsModelOf}
 use Rattle.book.specs.Jobs as jobs
-use Rattle.book.specs.Jobs.{marked}
+use Rattle.book.specs.Jobs.{mark, marked}
 use Rattle.book.specs.Step.{PutsCat, PutsTest, DropsCat, DropsTest, AsksFor, Asks, Polls, without, Forgets, Releases, Claims, ReturnsTo, Returns, GivesBack, ListsAll, Closes, OpenStep, Step}
 use Rattle.book.specs.Workbench.{Workbench, job_of, claim_of, test_of, test_version, marked_in}
 use Rattle.book.specs.declared.live.Live.{Live}
 use Rattle.book.specs.declared.names.TestSlot.{TestSlot}
+use Rattle.book.specs.declared.slice.Slice.{Slice}
 use Rattle.journal.specs.declared.records.Returned.{Returned}
 use Rattle.journal.specs.declared.records.Said.{Said}
 use Rattle.journal.specs.declared.records.Said.TheVariants.{PutCat, PutTest, DropCat, DropTest, Ask, Poll, Forget, Release, List as ListAll, Claim, Return, GiveBack, Close}
 use Rattle.journal.specs.declared.records.Refusal.TheVariants.{ReadingTest, ReadingCat, NoTest, Model, Space, JobsFull, NoJob, NoClaim, Replaced, Stranger, VersionsSpent, ClaimsSpent}
 use Rattle.journal.specs.declared.records.Reply.{Reply}
 use Rattle.journal.specs.declared.records.Reply.TheVariants.{Version, Job, Pending, Verdict, Piece, Nothing, Taken, Freed, Listed, Done, Refused}
-use Rattle.world.proofs.ByNumber.{filter_in}
+use Rattle.world.proofs.ByNumber.{number, filter_in, once_filter, marked_numbers}
+
+-- what was returned stays so
+abbrev pub Keeps : List Slice → List Slice → Type 0
+Keeps old now = (k : ℕ) (x : Slice) → slice_get now k ≡ Some x → (y : Slice) × (slice_get old k ≡ Some y) × (y.returned ≡ true → x.returned ≡ true)
 
 -- a job that was there, but for its marks
 abbrev pub Was : Workbench → jobs.Job → Type 0
-Was s j = (i : jobs.Job) × IsIn i s.jobs × (i.number ≡ j.number) × (i.version ≡ j.version) × (i.work ≡ j.work)
+Was s j = (i : jobs.Job) × IsIn i s.jobs × (i.number ≡ j.number) × (i.version ≡ j.version) × (i.work ≡ j.work) × Keeps i.slices j.slices
 
 pub data Moves (s s' : Workbench) : Type 0 where
-  quiet : ((j : jobs.Job) → IsIn j s'.jobs → Was s j) → s'.last_job ≡ s.last_job → s'.tests ≡ s.tests → s'.cats ≡ s.cats → Moves s s'
+  quiet : ((j : jobs.Job) → IsIn j s'.jobs → Was s j) → (NoRepeats (map number s.jobs) → NoRepeats (map number s'.jobs)) → s'.last_job ≡ s.last_job → s'.tests ≡ s.tests → s'.cats ≡ s.cats → Moves s s'
   asked : (new : jobs.Job) (test cat : Word) → new.number ≡ s.last_job + 1 → test_of s.tests test ≡ Some new.work.test → new.version ≡ test_version s.tests test → IsModelOf s.cats cat new.work.model
       → s'.jobs ≡ s.jobs ++ new ∷ [] → s'.last_job ≡ s.last_job + 1 → s'.tests ≡ s.tests → s'.cats ≡ s.cats → Moves s s'
   test_put : (name : Word) (slot : TestSlot) → test_version s.tests name < slot.version → ((t : Litmus) → slot.tree ≡ Some t → t.name ≡ name)
@@ -37,10 +42,10 @@ pub data Moves (s s' : Workbench) : Type 0 where
       → s'.jobs ≡ s.jobs → s'.last_job ≡ s.last_job → s'.tests ≡ s.tests → s'.cats ≡ store e s.cats → Moves s s'
 
 pub was : (s : Workbench) (j : jobs.Job) → IsIn j s.jobs → Was s j
-was s j p = (j, p, refl, refl, refl)
+was s j p = (j, p, refl, refl, refl, λ k x e. (x, e, λ h. h))
 
 pub still : (s s' : Workbench) → s' ≡ s → Moves s s'
-still s s' e = subst (Moves s) (sym e) (quiet (was s) refl refl refl)
+still s s' e = subst (Moves s) (sym e) (quiet (was s) (λ h. h) refl refl refl)
 
 become : (s s' v : Workbench) → s' ≡ v → Moves s v → Moves s s'
 become s s' v e m = subst (Moves s) (sym e) m
@@ -88,30 +93,38 @@ polls s id o reply s' h = absurd h
 claims : (s : Workbench) (seat : ℕ) (reply : Reply) (s' : Workbench) → Claims s seat reply s' → Moves s s'
 claims s seat Nothing s' h = still s s' h.1
 claims s seat (Refused ClaimsSpent) s' h = still s s' h.2
-claims s seat (Piece p) s' h = become s s' _ h.2 (quiet (was s) refl refl refl)
+claims s seat (Piece p) s' h = become s s' _ h.2 (quiet (was s) (λ h. h) refl refl refl)
 claims s seat reply s' h = absurd h
 
-marked_was : (js : List jobs.Job) (n i : ℕ) (j : jobs.Job) → IsIn j (marked_in js n i) → (k : jobs.Job) × IsIn k js × (k.number ≡ j.number) × (k.version ≡ j.version) × (k.work ≡ j.work)
+mark_keeps : (xs : List Slice) (i : ℕ) → Keeps xs (mark i xs)
+mark_keeps [] i k x e = (x, e, λ h. h)
+mark_keeps (z ∷ zs) zero zero x e = (z, refl, λ h. (let same : record z { returned = true } ≡ x = cc in ap (λ (y : Slice). y.returned) (sym same)))
+mark_keeps (z ∷ zs) zero (suc k) x e = (x, e, λ h. h)
+mark_keeps (z ∷ zs) (suc i) zero x e = (x, e, λ h. h)
+mark_keeps (z ∷ zs) (suc i) (suc k) x e = mark_keeps zs i k x e
+
+marked_was : (js : List jobs.Job) (n i : ℕ) (j : jobs.Job) → IsIn j (marked_in js n i) → (k : jobs.Job) × IsIn k js × (k.number ≡ j.number) × (k.version ≡ j.version) × (k.work ≡ j.work) × Keeps k.slices j.slices
 marked_was [] n i j p = absurd p
 marked_was (k ∷ ks) n i j p =
-    let Goal : Type 0 = (l : jobs.Job) × IsIn l (k ∷ ks) × (l.number ≡ j.number) × (l.version ≡ j.version) × (l.work ≡ j.work) in
+    let Goal : Type 0 = (l : jobs.Job) × IsIn l (k ∷ ks) × (l.number ≡ j.number) × (l.version ≡ j.version) × (l.work ≡ j.work) × Keeps l.slices j.slices in
+    let same : Keeps j.slices j.slices = λ m x h. (x, h, λ t. t) in
     let at : (b : Bool) → IsIn j (if b then marked i k ∷ ks else k ∷ marked_in ks n i) → Goal = elim [
       | true ↦ λ q. elim q [
-        | inl e ↦ (k, inl refl, ap (λ (x : jobs.Job). x.number) (sym e), ap (λ (x : jobs.Job). x.version) (sym e), ap (λ (x : jobs.Job). x.work) (sym e))
-        | inr r ↦ (j, inr r, refl, refl, refl)
+        | inl e ↦ (k, inl refl, ap (λ (x : jobs.Job). x.number) (sym e), ap (λ (x : jobs.Job). x.version) (sym e), ap (λ (x : jobs.Job). x.work) (sym e), (let P : jobs.Job → Type 0 = λ z. Keeps k.slices z.slices in subst P (sym e) (mark_keeps k.slices i)))
+        | inr r ↦ (j, inr r, refl, refl, refl, same)
       ]
       | false ↦ λ q. elim q [
-        | inl e ↦ (j, inl e, refl, refl, refl)
-        | inr r ↦ (let f = marked_was ks n i j r in (f.0, inr f.1, f.2, f.3, f.4))
+        | inl e ↦ (j, inl e, refl, refl, refl, same)
+        | inr r ↦ (let f = marked_was ks n i j r in (f.0, inr f.1, f.2, f.3, f.4, f.5))
       ]
     ] in
     at (k.number == n) p
 
 returns_to : (s : Workbench) (seat : ℕ) (r : Returned) (c : Live) (o : Option jobs.Job) (reply : Reply) (s' : Workbench) → ReturnsTo s seat r c o reply s' → Moves s s'
 returns_to s seat r c None (Refused (NoClaim n)) s' h = still s s' h.1
-returns_to s seat r c (Some job) (Refused (Replaced x)) s' h = become s s' _ h.1 (quiet (was s) refl refl refl)
+returns_to s seat r c (Some job) (Refused (Replaced x)) s' h = become s s' _ h.1 (quiet (was s) (λ h. h) refl refl refl)
 returns_to s seat r c (Some job) (Refused (Stranger n)) s' h = still s s' h.3
-returns_to s seat r c (Some job) (Taken d n) s' h = become s s' _ h.2 (quiet (λ j p. marked_was s.jobs c.job r.slice j p) refl refl refl)
+returns_to s seat r c (Some job) (Taken d n) s' h = become s s' _ h.2 (quiet (λ j p. marked_was s.jobs c.job r.slice j p) (λ h. (let P : List ℕ → Type 0 = λ l. NoRepeats l in subst P (sym (marked_numbers s.jobs c.job r.slice)) h)) refl refl refl)
 returns_to s seat r c o reply s' h = absurd h
 
 returned_to : (s : Workbench) (seat : ℕ) (r : Returned) (o : Option Live) (reply : Reply) (s' : Workbench) → Returns s seat r o reply s' → Moves s s'
@@ -137,17 +150,17 @@ drops_test s name reply s' h = absurd h
 forgets : (s : Workbench) (id : ℕ) (reply : Reply) (s' : Workbench) → Forgets s id reply s' → Moves s s'
 unfolding without
 forgets s id (Refused (NoJob n)) s' h = still s s' h.2
-forgets s id Done s' h = become s s' _ h.1 (quiet (λ j p. was s j (filter_in (λ (x : jobs.Job). not (x.number == id)) s.jobs j p).0) refl refl refl)
+forgets s id Done s' h = become s s' _ h.1 (quiet (λ j p. was s j (filter_in (λ (x : jobs.Job). not (x.number == id)) s.jobs j p).0) (λ h. once_filter number (λ (x : jobs.Job). not (x.number == id)) s.jobs h) refl refl refl)
 forgets s id reply s' h = absurd h
 
 releases : (s : Workbench) (id : ℕ) (reply : Reply) (s' : Workbench) → Releases s id reply s' → Moves s s'
 releases s id (Refused (NoJob n)) s' h = still s s' h.2
-releases s id (Freed n) s' h = become s s' _ h.2 (quiet (was s) refl refl refl)
+releases s id (Freed n) s' h = become s s' _ h.2 (quiet (was s) (λ h. h) refl refl refl)
 releases s id reply s' h = absurd h
 
 gives_back : (s : Workbench) (seat claim : ℕ) (reply : Reply) (s' : Workbench) → GivesBack s seat claim reply s' → Moves s s'
 gives_back s seat claim (Refused (NoClaim n)) s' h = still s s' h.2
-gives_back s seat claim Done s' h = become s s' _ h.1 (quiet (was s) refl refl refl)
+gives_back s seat claim Done s' h = become s s' _ h.1 (quiet (was s) (λ h. h) refl refl refl)
 gives_back s seat claim reply s' h = absurd h
 
 lists_all : (s : Workbench) (reply : Reply) (s' : Workbench) → ListsAll s reply s' → Moves s s'
@@ -155,7 +168,7 @@ lists_all s (Listed l) s' h = still s s' h.1
 lists_all s reply s' h = absurd h
 
 closes : (s : Workbench) (reply : Reply) (s' : Workbench) → Closes s reply s' → Moves s s'
-closes s Done s' h = become s s' _ h (quiet (was s) refl refl refl)
+closes s Done s' h = become s s' _ h (quiet (was s) (λ h. h) refl refl refl)
 closes s reply s' h = absurd h
 
 open_moves : (s : Workbench) (seat : ℕ) (said : Said) (reply : Reply) (s' : Workbench) → OpenStep s seat said reply s' → Moves s s'

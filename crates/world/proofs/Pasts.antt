@@ -216,7 +216,7 @@ old_next s s' past last old known works = record {
 }
 
 next : (s s' : Workbench) (past : List Asked) → Moves s s' → Known s past → Works s.tests s.cats past → (past' : List Asked) × Next s s' past past'
-next s s' past (quiet old last t c) known works = (past, old_next s s' past last old known (works_same s s' past t c works))
+next s s' past (quiet old once last t c) known works = (past, old_next s s' past last old known (works_same s s' past t c works))
 next s s' past (asked new test cat number found version model js last t c) known works = (
   (new.work, new.version) ∷ past,
   record {

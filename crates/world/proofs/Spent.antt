@@ -64,7 +64,7 @@ moves_spent s s' ns (fewer p l n) h =
       apart = once_filter claim_no p s.live h.apart;
       once = h.once;
     }))
-moves_spent s s' ns (one_more c e l n) h =
+moves_spent s s' ns (one_more c e free l n) h =
     let P : List Live → Type 0 = λ v. Spent v s'.last_claim ns in
     let Q : ℕ → Type 0 = λ k. Spent (s.live ++ c ∷ []) k ns in
     subst P (sym l) (subst Q (sym n) (record {

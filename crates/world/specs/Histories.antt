@@ -1,9 +1,9 @@
 -- What the entries of a legal journal say of one another.
-use Rattle.std.specs.Prelude.{◌≡◌, ℕ, List, [], ◌∷◌, ◌++◌, None, Some, map}
+use Rattle.std.specs.Prelude.{◌≡◌, ℕ, ◌+◌, List, [], ◌∷◌, ◌++◌, length, None, Some, map}
 use Rattle.listings.specs.Lists.{IsIn, NoRepeats}
 use Rattle.slices.specs.VerdictValues.{VerdictValue}
 use Rattle.book.specs.Jobs.{Job}
-use Rattle.book.specs.Step.{IsOwn, Leads, Legal}
+use Rattle.book.specs.Step.{IsOwn, Leads, LeadsFrom, Legal}
 use Rattle.book.specs.Workbench.{Workbench, job_of, claim_of, replaced}
 use Rattle.book.specs.declared.limits.Limits.{Limits}
 use Rattle.book.specs.declared.live.Live.{Live}
@@ -36,10 +36,20 @@ CountedOnce = (limits : Limits) (es : List Event) (w : World) → Passes (beginn
 abbrev pub IsOwed : Workbench → ℕ → Returned → Type 0
 IsOwed s seat r = (c : Live) × (job : Job) × (claim_of s.live r.claim seat ≡ Some c) × (job_of s.jobs c.job ≡ Some job) × (replaced s job ≡ None) × IsOwn c job r
 
--- No result of another work, or of a version that was replaced by then, is ever taken.
+-- No result of another work, or of a version that was replaced by then, is ever taken, at any workbench that the entries before it lead to and the
+-- others go on from. (There may be several, since an ask's cut is free.)
 abbrev pub OwnWork : Type 0
-OwnWork = (limits : Limits) (before after : List Line) (e : Line) (r : Returned) (d n : ℕ) → Legal limits (before ++ e ∷ after) → e.said ≡ Return r → e.reply ≡ Taken d n
-    → (s : Workbench) × Leads limits before s × IsOwed s e.seat r
+OwnWork = (limits : Limits) (before after : List Line) (e : Line) (r : Returned) (d n : ℕ) (s u : Workbench) → Leads limits before s → LeadsFrom (length before) s (e ∷ after) u → e.said ≡ Return r → e.reply ≡ Taken d n
+    → IsOwed s e.seat r
+
+-- This entry takes, at this workbench, a result for the slice at this place of the job of this number.
+abbrev pub Takes : Workbench → Line → ℕ → ℕ → Type 0
+Takes s e job slice = (r : Returned) × (d : ℕ) × (n : ℕ) × (e.said ≡ Return r) × (e.reply ≡ Taken d n) × ((c : Live) × (claim_of s.live r.claim e.seat ≡ Some c) × (c.job ≡ job) × (c.slice ≡ slice))
+
+-- No slice of a job is taken twice, as long as the job stands and ever after: its number is given to no other.
+abbrev pub SlicesOnce : Type 0
+SlicesOnce = (limits : Limits) (before mid after : List Line) (e f : Line) (s t u : Workbench) (job slice : ℕ)
+    → Leads limits before s → LeadsFrom (length before) s (e ∷ mid) t → LeadsFrom (length before + length (e ∷ mid)) t (f ∷ after) u → Takes s e job slice → Takes t f job slice → ⊥
 
 -- the claims under which results were taken
 abbrev pub claim_taken : Said → Reply → List ℕ

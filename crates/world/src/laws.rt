@@ -1,7 +1,7 @@
 //! What holds of the definitions alone.
 
 ghost use Rattle.world.specs.Examples.{LateReturn, LostWorker, ReplacedReturn, WholeWay};
-ghost use Rattle.world.specs.Histories.{CountedOnce, OwnWork, TakenOnce, VerdictsStay, VersionsTell};
+ghost use Rattle.world.specs.Histories.{CountedOnce, OwnWork, SlicesOnce, TakenOnce, VerdictsStay, VersionsTell};
 ghost use Rattle.world.specs.Merging.{MergedVerdict, OneVerdict};
 ghost use Rattle.world.specs.World.{SoundWorld};
 
@@ -11,7 +11,7 @@ pub fn world()
     ensures { SoundWorld }
 {}
 
-/// No slice is counted twice.
+/// No slice is counted twice: of each there is one result at most.
 pub fn counted_once()
     ensures { CountedOnce }
 {}
@@ -24,6 +24,11 @@ pub fn taken_once()
 /// No result of another work counts, nor one of a version that is replaced by then.
 pub fn own_work()
     ensures { OwnWork }
+{}
+
+/// No slice of a job is taken twice, in any legal journal.
+pub fn slices_once()
+    ensures { SlicesOnce }
 {}
 
 /// A verdict, once replied, never changes.

@@ -57,6 +57,27 @@ fn all_told(rt: &impl Abort, alloc: Global, rows: &[Row]) {
     }
 }
 
+/// The rows `tokens_and_names`.
+const TOKENS_AND_NAMES: &[Row] = &[
+    (
+        Cat,
+        b"let a = r*",
+        Tokens(&[
+            (TokenKind::Name, 0, 3),
+            (TokenKind::Name, 4, 5),
+            (Sign, 6, 7),
+            (TokenKind::Name, 8, 9),
+            (Sign, 9, 10),
+        ]),
+    ),
+    (Cat, b"(* (* *)", Fault(OpenComment)),
+];
+
+#[test]
+fn tokens_and_names(rt: HostRuntime) {
+    all_told(&rt, rt.alloc(), TOKENS_AND_NAMES);
+}
+
 const HEADS: &[Row] = &[
     (Litmus, b"", Tokens(&[])),
     (Litmus, b" (* no run *) // here\n", Tokens(&[])),
@@ -268,11 +289,12 @@ fn longest_text(rt: HostRuntime) {
 }
 
 /// Bytes, and why they are no name, if they are none.
-const NAMES: [(&[u8], Option<NameFault>); 6] = [
+const NAMES: [(&[u8], Option<NameFault>); 7] = [
     (&[b'a'; 64], None),
     (b"", Some(NameFault::BadName)),
     (&[b'a'; 65], Some(NameFault::BadName)),
     (b"a b", Some(NameFault::BadName)),
+    (b"a.cat", None),
     (b"a\x7f", Some(NameFault::BadName)),
     (b"\xff", Some(NameFault::BadName)),
 ];

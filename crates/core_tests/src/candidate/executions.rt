@@ -15,6 +15,11 @@ P0 (atomic_int* x) { int r0 = atomic_exchange_explicit(x, 1, memory_order_relaxe
 P1 (atomic_int* x) { int r1 = atomic_exchange_explicit(x, 2, memory_order_relaxed); }\n\
 exists (0:r0=0 /\\ 1:r1=0)\n";
 
+const ADDITIONS: &str = "C A\n{}\n\
+P0 (atomic_int* x) { int r0 = atomic_fetch_add_explicit(x, 1, memory_order_relaxed); }\n\
+P1 (atomic_int* x) { int r1 = atomic_fetch_add_explicit(x, 1, memory_order_relaxed); }\n\
+exists (0:r0=0 /\\ 1:r1=0)\n";
+
 const BRANCHES: &str = "C CT\n{}\n\
 P0 (atomic_int* x, atomic_int* y) { int r0 = atomic_load_explicit(x, memory_order_relaxed); if (r0 == 1) { atomic_store_explicit(y, 1, memory_order_relaxed); } }\n\
 P1 (atomic_int* x, atomic_int* y) { int r0 = atomic_load_explicit(y, memory_order_relaxed); if (r0 == 1) { atomic_store_explicit(x, 1, memory_order_relaxed); } }\n\
@@ -31,6 +36,7 @@ exists (2:r0=1 /\\ 2:r1=0 /\\ 3:r0=1 /\\ 3:r1=0)\n";
 const SIZES_OF_SPACES: &[Row] = &[
     (SB, Question::Size, Ok(16)),
     (LB_DATA, Question::Size, Ok(16)),
+    (ADDITIONS, Question::Size, Ok(162)),
 ];
 
 #[test]
@@ -42,6 +48,7 @@ const EXECUTIONS: &[Row] = &[
     (SB, Question::Executions, Ok(4)),
     (LB_DATA, Question::Executions, Ok(5)),
     (EXCHANGES, Question::Executions, Ok(18)),
+    (ADDITIONS, Question::Executions, Ok(6)),
     (BRANCHES, Question::Executions, Ok(2)),
     (IRIW, Question::Executions, Ok(16)),
 ];
@@ -55,6 +62,7 @@ const WALKS: &[Row] = &[
     (SB, Question::Walked, Ok(4)),
     (LB_DATA, Question::Walked, Ok(5)),
     (EXCHANGES, Question::Walked, Ok(18)),
+    (ADDITIONS, Question::Walked, Ok(6)),
     (BRANCHES, Question::Walked, Ok(2)),
     (IRIW, Question::Walked, Ok(16)),
 ];
@@ -121,6 +129,23 @@ const TWELVE_LOADS: &[Calls] = &[(LOAD, 12, "}\nexists (0:r0=0)\n", Question::Wa
 #[test]
 fn walk_over_twelve_loads(rt: HostRuntime) {
     all_tell_of_calls(&rt, rt.alloc(), TWELVE_LOADS);
+}
+
+/// Each of the 12! candidates is an execution, far from the first ones, too.
+const FAR: &[Calls] = &[
+    (STORE, 12, AT_ZERO, Question::WalkedFrom(1 << 20), Ok(16)),
+    (
+        STORE,
+        12,
+        AT_ZERO,
+        Question::WalkedFrom(479_001_584),
+        Ok(16),
+    ),
+];
+
+#[test]
+fn walk_past_a_million(rt: HostRuntime) {
+    all_tell_of_calls(&rt, rt.alloc(), FAR);
 }
 
 /// Loads of locations that nobody writes, by three threads of ten loads each.

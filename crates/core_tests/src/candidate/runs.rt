@@ -28,8 +28,8 @@ fn runs_as(alloc: Global, statements: &str, wanted: Count, check: Check) -> bool
 
 const LOAD: &str = "r = atomic_load_explicit(x, memory_order_relaxed);\n";
 
-/// How often a thread loads, its last statement, and how many runs it has.
-const SIZES: [(usize, &str, Count); 4] = [
+/// How often a thread loads, its last statements, and how many runs it has. Where four calls add 2, the values are 0, 1 and up to 8 and 9, and each of the calls reads one of the eight that are at most 7.
+const SIZES: [(usize, &str, Count); 6] = [
     (12, "", Some(Ok(4096))),
     (12, "if (r) {} else ;\nr = 0;\n", Some(Ok(4096))),
     (
@@ -38,6 +38,16 @@ const SIZES: [(usize, &str, Count); 4] = [
         Some(Err(RunFault::TooManyRuns(0))),
     ),
     (0, ";", Some(Ok(1))),
+    (
+        0,
+        "atomic_fetch_add(x, 2); atomic_fetch_add(x, 2); atomic_fetch_add(x, 2); atomic_fetch_add(x, 2);",
+        Some(Ok(4096)),
+    ),
+    (
+        0,
+        "atomic_fetch_add(x, 2); atomic_fetch_add(x, 2); atomic_fetch_add(x, 2); atomic_fetch_add(x, 2); r = atomic_load(x);",
+        Some(Err(RunFault::TooManyRuns(0))),
+    ),
 ];
 
 /// Whether a thread that loads so often, and ends so, has so many runs.
@@ -106,4 +116,17 @@ fn exchange_so(runs: &[Run]) -> bool {
 fn exchange(rt: HostRuntime) {
     let statements = "atomic_exchange_explicit(x, 2, memory_order_acq_rel);\n";
     assert!(rt; runs_as(rt.alloc(), statements, Some(Ok(3)), exchange_so));
+}
+
+/// Whether in the second of these runs an addition reads 1 and writes 3, which depends on its own read alone.
+fn addition_so(runs: &[Run]) -> bool {
+    is_of(event_at(runs, 1, 0), Access::ExRead, 1, Order::AcqRel)
+        && is_of(event_at(runs, 1, 1), Access::ExWrite, 3, Order::AcqRel)
+        && is_so(event_at(runs, 1, 1), 3, true, false)
+}
+
+#[test]
+fn addition(rt: HostRuntime) {
+    let statements = "atomic_fetch_add_explicit(x, 2, memory_order_acq_rel);\n";
+    assert!(rt; runs_as(rt.alloc(), statements, Some(Ok(2)), addition_so));
 }

@@ -2,7 +2,7 @@
 
 use c11_threads::{RunFault, runs};
 use candidates::{Space, SpaceFault, Walk};
-use events::{Graph, Run};
+use events::{Coherence, Graph, Run};
 use litmus_c::{Test, TestFault, read_test};
 use std::alloc::{AllocError, Global};
 use std::process::Abort;
@@ -73,6 +73,8 @@ pub enum Question {
     Executions,
     /// How many executions a walk finds.
     Walked,
+    /// How many a walk finds at this number and the fifteen behind it.
+    WalkedFrom(u64),
 }
 
 /// What is reported of a space, or why there is none.
@@ -86,6 +88,7 @@ fn answer(alloc: Global, space: &Space, question: Question) -> Result<u64, Alloc
         Question::Size => Ok(space.size()),
         Question::Executions => count_executions(alloc, space),
         Question::Walked => count_walked(alloc, space),
+        Question::WalkedFrom(number) => count_next(alloc, space, number),
     }
 }
 
@@ -130,7 +133,41 @@ fn count_executions(alloc: Global, space: &Space) -> Result<u64, AllocError> {
     Ok(count)
 }
 
-/// Whether the execution at a number has the same map of reads as this one.
+/// Whether each coherence order has the writes of the other at its place.
+fn are_same_orders(orders: &[Coherence], others: &[Coherence]) -> bool {
+    if orders.len() != others.len() {
+        return false;
+    }
+    for (place, order) in orders.iter().enumerate() {
+        if order.writes() != others[place].writes() {
+            return false;
+        }
+    }
+    true
+}
+
+/// Whether each run is like the other at its place.
+fn are_same_runs(runs: &[Run], others: &[Run]) -> bool {
+    if runs.len() != others.len() {
+        return false;
+    }
+    for (place, run) in runs.iter().enumerate() {
+        if !run.is_same(&others[place]) {
+            return false;
+        }
+    }
+    true
+}
+
+/// Whether two executions are the same: their initial values, runs, read-from maps and coherence orders.
+fn is_same(execution: &Graph, other: &Graph) -> bool {
+    execution.init() == other.init()
+        && execution.rf() == other.rf()
+        && are_same_runs(execution.runs(), other.runs())
+        && are_same_orders(execution.co(), other.co())
+}
+
+/// Whether the execution at a number is this one.
 fn stands_at(
     alloc: Global,
     space: &Space,
@@ -141,7 +178,7 @@ fn stands_at(
         return Ok(false);
     }
     match again!(_, space.graph(alloc, number))? {
-        Some(graph) => Ok(graph.rf() == execution.rf()),
+        Some(graph) => Ok(is_same(&graph, execution)),
         None => Ok(false),
     }
 }
@@ -167,6 +204,16 @@ fn count_on(alloc: Global, space: &Space, walk: &mut Walk) -> Result<u64, AllocE
 /// How many executions a walk over a whole space finds so.
 fn count_walked(alloc: Global, space: &Space) -> Result<u64, AllocError> {
     let mut walk = space.walk(alloc, 0, space.size());
+    count_on(alloc, space, &mut walk)
+}
+
+/// How many a walk finds at a number and the fifteen behind it.
+fn count_next(alloc: Global, space: &Space, number: u64) -> Result<u64, AllocError> {
+    let end = number.saturating_add(16);
+    if end > space.size() {
+        return Ok(0);
+    }
+    let mut walk = space.walk(alloc, number, end);
     count_on(alloc, space, &mut walk)
 }
 

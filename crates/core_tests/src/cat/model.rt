@@ -109,7 +109,8 @@ fn built_in_files_are_hidden(rt: HostRuntime) -> Result<(), Fail> {
     follow(rt.alloc(), HIDDEN)
 }
 
-/// Files f1.cat to f17.cat, of which each includes the next, and what holds of the first and the second.
+/// Files f1.cat to f17.cat, of which each includes the next, and what holds of the first and the second. Where the 17th file of
+/// the path isn't there, or is on it already, that is told.
 const CHAIN: &[Step] = &[
     Step::Put("f1.cat", "include \"f2.cat\""),
     Step::Put("f2.cat", "include \"f3.cat\""),
@@ -130,6 +131,10 @@ const CHAIN: &[Step] = &[
     Step::Put("f17.cat", "empty 0"),
     Step::Has("f1.cat", Fact::Answer("68 ModelTooLarge")),
     Step::Has("f2.cat", Fact::Files(16)),
+    Step::Put("f16.cat", "include \"f1.cat\""),
+    Step::Has("f1.cat", Fact::Answer("63 IncludeCycle f1.cat")),
+    Step::Put("f16.cat", "include \"gone.cat\""),
+    Step::Has("f1.cat", Fact::Answer("62 NoInclude gone.cat")),
 ];
 
 #[test]
@@ -137,7 +142,8 @@ fn hostile_input_row_5_path(rt: HostRuntime) -> Result<(), Fail> {
     follow(rt.alloc(), CHAIN)
 }
 
-/// Some checks and two includes of a file with 2,000 checks: the root with 94 of them, and then with 95.
+/// Some checks and two includes of a file with 2,000 checks: the root with 94 of them, and then with 95. Where the 4,097th item includes
+/// what isn't there, or its own file, that is told.
 const MANY_ITEMS: &[Step] = &[
     Step::PutRepeated("b.cat", &[("empty 0 ", 2_000)]),
     Step::PutRepeated(
@@ -150,6 +156,28 @@ const MANY_ITEMS: &[Step] = &[
         &[("empty 0 ", 95), ("include \"b.cat\" include \"b.cat\"", 1)],
     ),
     Step::Has("root.cat", Fact::Answer("68 ModelTooLarge")),
+    Step::PutRepeated(
+        "root.cat",
+        &[
+            ("empty 0 ", 94),
+            (
+                "include \"b.cat\" include \"b.cat\" include \"gone.cat\"",
+                1,
+            ),
+        ],
+    ),
+    Step::Has("root.cat", Fact::Answer("62 NoInclude gone.cat")),
+    Step::PutRepeated(
+        "root.cat",
+        &[
+            ("empty 0 ", 94),
+            (
+                "include \"b.cat\" include \"b.cat\" include \"root.cat\"",
+                1,
+            ),
+        ],
+    ),
+    Step::Has("root.cat", Fact::Answer("63 IncludeCycle root.cat")),
 ];
 
 #[test]

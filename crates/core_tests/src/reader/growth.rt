@@ -9,7 +9,6 @@ use crate::reader::copies::{
 use conditions::{Place, observed};
 use litmus_c::Test;
 use litmus_syntax::{Draft, Symbol, SyntaxFault, Terminal, read_draft, symbols};
-use litmus_value::{ValuesFault, values_among};
 use std::alloc::{AllocError, Global};
 use std::test::Fail;
 use wb_text::{Dialect, TextFault, tokens};
@@ -187,26 +186,32 @@ fn symbols_and_drafts(rt: HostRuntime) -> Result<(), Fail> {
 }
 
 /// Whether a test has the values 0, 1, 3, 2 and 4, in this order.
-fn has_values(alloc: Global, test: &Test) -> Result<bool, AllocError> {
+fn has_five_values(alloc: Global, test: &Test) -> Result<bool, AllocError> {
     let all = again!(_, test.values(alloc))?;
     Ok(all.as_slice() == [0, 1, 3, 2, 4].as_slice())
-}
-
-/// Whether a test has no list of at most four values.
-fn has_no_four(alloc: Global, test: &Test) -> bool {
-    let few = again!(
-        ValuesFault::NoMemory,
-        values_among(alloc, test.initial(), test.threads(), 4)
-    );
-    matches!(few, Err(ValuesFault::TooMany))
-}
-
-/// Whether a test has those five values, and no list of four.
-fn has_five_values(alloc: Global, test: &Test) -> Result<bool, AllocError> {
-    Ok(has_values(alloc, test)? && has_no_four(alloc, test))
 }
 
 #[test]
 fn values(rt: HostRuntime) -> Result<(), Fail> {
     expect(rt.alloc(), TEXT, has_five_values)
+}
+
+/// Whether a test has the values 0 to 5, in this order.
+fn has_six_values(alloc: Global, test: &Test) -> Result<bool, AllocError> {
+    let all = again!(_, test.values(alloc))?;
+    Ok(all.as_slice() == [0, 1, 2, 3, 4, 5].as_slice())
+}
+
+/// Two adds of 2 make 4 of 0, and 5 of 1.
+#[test]
+fn sums(rt: HostRuntime) -> Result<(), Fail> {
+    const ADDS: &str = "C G
+{}
+P0 (atomic_int* x) {
+  atomic_fetch_add(x, 2);
+  int r = atomic_fetch_add_explicit(x, 2, memory_order_release);
+}
+exists (x=4)
+";
+    expect(rt.alloc(), ADDS, has_six_values)
 }

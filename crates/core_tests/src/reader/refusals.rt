@@ -192,7 +192,7 @@ fn is_cut_off(alloc: Global, text: &[u8]) -> bool {
     )
 }
 
-/// Whether each of the prefixes of a text that are shorter than it by so much is refused as cut off.
+/// Whether each of the prefixes of a text that are shorter than it by more than so much is refused as cut off.
 fn all_are_cut_off(alloc: Global, text: &[u8], by: usize) -> bool {
     for length in 0..text.len().saturating_sub(by) {
         if !is_cut_off(alloc, &text[..length]) {
@@ -204,8 +204,8 @@ fn all_are_cut_off(alloc: Global, text: &[u8], by: usize) -> bool {
 
 #[test]
 fn hostile_input_row_1(rt: HostRuntime) {
-    // The text ends with `)` and a line feed.
-    assert!(rt; all_are_cut_off(rt.alloc(), SB.as_bytes(), 2));
+    // The text ends with `)` and a line feed; the longest prefix lacks both.
+    assert!(rt; SB.as_bytes().ends_with(b")\n") && all_are_cut_off(rt.alloc(), SB.as_bytes(), 1));
 }
 
 /// Each text has two faults, of which the first is reported.

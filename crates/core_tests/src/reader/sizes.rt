@@ -9,7 +9,7 @@ const FENCE: &str = "atomic_thread_fence(memory_order_seq_cst);";
 const LOAD: &str = "atomic_load_explicit(x,memory_order_relaxed);";
 
 /// A text that is a start, a part some times, and an end; and its answer.
-type Repeats = (
+pub type Repeats = (
     &'static str,
     &'static str,
     usize,
@@ -41,7 +41,7 @@ fn nests_to(
 }
 
 /// Fails at the first row that isn't answered by its last text.
-fn all_repeats_answered(alloc: Global, rows: &[Repeats]) -> Result<(), Fail> {
+pub fn all_repeats_answered(alloc: Global, rows: &[Repeats]) -> Result<(), Fail> {
     for (start, part, times, end, wanted) in rows {
         if !nests_to(alloc, &(*start, *part, *end, "", ""), *times, wanted)? {
             return Err(Fail::new(*start));

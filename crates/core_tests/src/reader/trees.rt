@@ -218,9 +218,9 @@ const OTHERS: [&str; 6] = [
     "C a\n{x=1}P0(atomic_int*y){atomic_store_explicit(y,1,memory_order_relaxed);}P1(){}exists x=0",
 ];
 
-/// Whether each of those texts spells another test.
-fn others_differ(alloc: Global, test: &Test) -> Result<bool, AllocError> {
-    for text in &OTHERS {
+/// Whether each of these texts spells another test.
+fn all_differ(alloc: Global, texts: &[&str], test: &Test) -> Result<bool, AllocError> {
+    for text in texts {
         if !is_another(alloc, text, test)? {
             return Ok(false);
         }
@@ -228,9 +228,39 @@ fn others_differ(alloc: Global, test: &Test) -> Result<bool, AllocError> {
     Ok(true)
 }
 
+fn others_differ(alloc: Global, test: &Test) -> Result<bool, AllocError> {
+    all_differ(alloc, &OTHERS, test)
+}
+
 #[test]
 fn other_texts_are_other_tests(rt: HostRuntime) -> Result<(), Fail> {
     let text =
         "C a\n{x=1}P0(atomic_int*y){atomic_store_explicit(y,1,memory_order_relaxed);}exists x=0";
     expect(rt.alloc(), text, others_differ)
+}
+
+/// A test with an add.
+const ADD: &str =
+    "C a\n{}P0(atomic_int*y){int r=atomic_fetch_add_explicit(y,1,memory_order_relaxed);}exists y=0";
+
+/// Texts that differ from it in one place each.
+const OTHER_ADDS: [&str; 4] = [
+    "C a\n{}P0(atomic_int*y){int r=atomic_fetch_add_explicit(y,2,memory_order_relaxed);}exists y=0",
+    "C a\n{}P0(atomic_int*y){int r=atomic_fetch_add_explicit(y,1,memory_order_acquire);}exists y=0",
+    "C a\n{}P0(atomic_int*y){int r=atomic_exchange_explicit(y,1,memory_order_relaxed);}exists y=0",
+    "C a\n{}P0(atomic_int*y,atomic_int*z){int r=atomic_fetch_add_explicit(z,1,memory_order_relaxed);}exists y=0",
+];
+
+fn other_adds_differ(alloc: Global, test: &Test) -> Result<bool, AllocError> {
+    all_differ(alloc, &OTHER_ADDS, test)
+}
+
+#[test]
+fn adds_are_copied(rt: HostRuntime) -> Result<(), Fail> {
+    expect(rt.alloc(), ADD, is_copied)
+}
+
+#[test]
+fn other_adds_are_other_tests(rt: HostRuntime) -> Result<(), Fail> {
+    expect(rt.alloc(), ADD, other_adds_differ)
 }

@@ -17,17 +17,17 @@ use wb_text::Name;
 /// How many numbers SB has: two values of each of two loads, each of two writes, and one order of each location.
 const NUMBERS: u64 = 16;
 
-fn test_once(alloc: Global) -> Result<TestRef, AllocError> {
-    match read_test(alloc, SB) {
+fn test_once(alloc: Global, text: &[u8]) -> Result<TestRef, AllocError> {
+    match read_test(alloc, text) {
         Ok(test) => TestRef::new(alloc, test),
         Err(_) => Err(AllocError),
     }
 }
 
-fn test(alloc: Global) -> Result<TestRef, AllocError> {
-    match test_once(alloc) {
+fn test(alloc: Global, text: &[u8]) -> Result<TestRef, AllocError> {
+    match test_once(alloc, text) {
         Ok(test) => Ok(test),
-        Err(AllocError) => test_once(alloc),
+        Err(AllocError) => test_once(alloc, text),
     }
 }
 
@@ -59,20 +59,24 @@ fn work_once(alloc: Global, test: TestRef) -> Result<Work, AllocError> {
     }
 }
 
-/// SB under no constraint. What is refused leaves the test, which is kept more than once.
-fn work(alloc: Global) -> Result<Work, AllocError> {
-    let test = test(alloc)?;
+/// A test under no constraint. What is refused leaves the test, which is kept more than once.
+fn work(alloc: Global, text: &[u8]) -> Result<Work, AllocError> {
+    let test = test(alloc, text)?;
     match work_once(alloc, test.share()?) {
         Ok(work) => Ok(work),
         Err(AllocError) => work_once(alloc, test),
     }
 }
 
-fn work_ref(alloc: Global) -> Result<WorkRef, AllocError> {
-    match WorkRef::new(alloc, work(alloc)?) {
+fn work_of(alloc: Global, text: &[u8]) -> Result<WorkRef, AllocError> {
+    match WorkRef::new(alloc, work(alloc, text)?) {
         Ok(work) => Ok(work),
-        Err(AllocError) => WorkRef::new(alloc, work(alloc)?),
+        Err(AllocError) => WorkRef::new(alloc, work(alloc, text)?),
     }
+}
+
+fn work_ref(alloc: Global) -> Result<WorkRef, AllocError> {
+    work_of(alloc, SB)
 }
 
 /// Fails with what was tried, unless it held.
@@ -83,7 +87,55 @@ fn confirm(holds: bool, tried: &str) -> Result<(), Fail> {
 #[test]
 fn works(rt: HostRuntime) -> Result<(), Fail> {
     let work = work_ref(rt.alloc())?;
-    confirm(work.work().size() == NUMBERS, "how many numbers SB has")
+    confirm(
+        work.work().size() == NUMBERS && work.work() == work.work(),
+        "how many numbers SB has",
+    )
+}
+
+/// A store, and twelve loads of its location: two values of each load and two writes that it may read from, and one order. So many
+/// numbers has a slice of a job of 2^32, which is cut into 256.
+const LARGEST: (&[u8], u64) = (
+    b"C LARGEST
+{}
+P0 (atomic_int* x) {
+  atomic_store_explicit(x, 1, memory_order_relaxed);
+}
+P1 (atomic_int* x) {
+  int r0 = atomic_load_explicit(x, memory_order_relaxed);
+  int r1 = atomic_load_explicit(x, memory_order_relaxed);
+  int r2 = atomic_load_explicit(x, memory_order_relaxed);
+  int r3 = atomic_load_explicit(x, memory_order_relaxed);
+  int r4 = atomic_load_explicit(x, memory_order_relaxed);
+  int r5 = atomic_load_explicit(x, memory_order_relaxed);
+  int r6 = atomic_load_explicit(x, memory_order_relaxed);
+  int r7 = atomic_load_explicit(x, memory_order_relaxed);
+  int r8 = atomic_load_explicit(x, memory_order_relaxed);
+  int r9 = atomic_load_explicit(x, memory_order_relaxed);
+  int r10 = atomic_load_explicit(x, memory_order_relaxed);
+  int r11 = atomic_load_explicit(x, memory_order_relaxed);
+}
+exists (1:r0=1 /\\ 1:r11=1)
+",
+    1 << 24,
+);
+
+/// Whether of the executions a quarter has the proposition: each load reads from the one write or the other.
+fn is_largest(alloc: Global, work: &WorkRef) -> bool {
+    match whole_part(alloc, work) {
+        Ok(part) => {
+            let finding = part.found().finding();
+            let counts = (finding.positive(), finding.negative());
+            part.piece().to() == LARGEST.1 && counts == (1_024, 3_072)
+        }
+        Err(AllocError) => false,
+    }
+}
+
+#[test]
+fn largest_piece(rt: HostRuntime) -> Result<(), Fail> {
+    let work = work_of(rt.alloc(), LARGEST.0)?;
+    confirm(is_largest(rt.alloc(), &work), "the largest piece")
 }
 
 /// The piece of all numbers.
@@ -278,9 +330,24 @@ fn seen(command: &Command) -> Result<Said, AllocError> {
     }
 }
 
+/// A copy of what is shown. What is refused leaves it.
+fn copied(said: &Said) -> Result<Said, AllocError> {
+    match said.copy() {
+        Ok(copy) => Ok(copy),
+        Err(AllocError) => said.copy(),
+    }
+}
+
+fn is_copy(said: &Said) -> bool {
+    match copied(said) {
+        Ok(copy) => is_put(&copy) && copy == *said,
+        Err(AllocError) => false,
+    }
+}
+
 fn is_shown(command: &Command) -> bool {
     match seen(command) {
-        Ok(said) => is_put(&said),
+        Ok(said) => is_put(&said) && is_copy(&said),
         Err(AllocError) => false,
     }
 }

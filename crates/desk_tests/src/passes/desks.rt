@@ -2,14 +2,16 @@
 
 ghost use Rattle.std.specs.Prelude.{◌≡◌, All};
 
-use crate::calls::{Answer, Call, TEST_A, TEST_B, are_answered, make_all, rise};
+use crate::calls::{
+    Answer, Call, TEST_A, TEST_B, are_answered, is_reply, last_reply, made, make_all, rise,
+};
 use crate::commands::SB;
-use book::{Command, Limits, Refused};
-use sessions::{Desk, FinishCause, Pass, finish, open};
+use book::{Command, Entry, Limits, Refused};
+use sessions::{Desk, FinishCause, FinishFault, Pass, Receipt, finish, open};
 use std::alloc::{AllocError, Global};
 use std::marker::Brand;
-use std::sync::Wait;
 use std::sync::ledger::{Blank, Ledger};
+use std::sync::{Arc, Wait};
 
 pub const WIDE: Limits = Limits {
     journal: 1_000_000,
@@ -79,40 +81,97 @@ fn two_sessions_in_turn(rt: HostRuntime) {
     assert!(rt; both(&rt, rt.alloc()));
 }
 
-/// What `finish` answers that isn't Ok: the cause, the journal's length and the passes that are handed back.
-fn amiss<L: Ledger>(desk: Desk<L>, passes: Vec<Pass<L>>) -> Option<(FinishCause, usize, usize)>
+fn is_entry(entry: &Entry, place: u32, seat: u8, answer: Answer) -> bool {
+    entry.place() == place && entry.seat() == seat && is_reply(entry.reply(), answer)
+}
+
+fn is_put_and_list(journal: &[Arc<Entry>]) -> bool {
+    match journal {
+        [put, list] => {
+            is_entry(put, 0, 1, Answer::Version(b"a.cat", 1))
+                && is_entry(list, 1, 2, Answer::Listed(0, 1, 0))
+        }
+        _ => false,
+    }
+}
+
+fn is_only(receipts: &[Receipt], entry: &Entry) -> bool {
+    match receipts {
+        [receipt] => receipt.entry() == entry,
+        _ => false,
+    }
+}
+
+fn are_left<L: Ledger>(passes: &[Pass<L>], list: &Entry) -> bool {
+    match passes {
+        [first, last] => {
+            let seated = first.seat() == 0 && last.seat() == 2;
+            seated && first.receipts().is_empty() && is_only(last.receipts(), list)
+        }
+        _ => false,
+    }
+}
+
+/// Whether seat 1 is told as missing, the journal has its put and the list of seat 2, and the other passes have what they had.
+fn lacks_seat_1<L: Ledger>(fault: &FinishFault<L>) -> bool {
+    let journal = fault.closed.journal.as_slice();
+    match journal.last() {
+        Some(list) => {
+            fault.cause == FinishCause::MissingPass(1)
+                && is_put_and_list(journal)
+                && are_left(&fault.closed.passes, list)
+        }
+        None => false,
+    }
+}
+
+fn is_amiss<L: Ledger>(desk: Desk<L>, passes: Vec<Pass<L>>) -> bool
     requires { All (λ p. p.parts ≡ 1) passes.items }
 {
     match finish(desk, passes) {
-        Ok(_) => None,
-        Err(f) => Some((f.cause, f.closed.journal.len(), f.closed.passes.len())),
+        Ok(_) => false,
+        Err(fault) => lacks_seat_1(&fault),
     }
 }
 
-/// Without the pass of seat 1: what is amiss.
-fn run_missing<L: Ledger, R: Wait>(
-    rt: &R,
-    alloc: Global,
-    blank: Blank,
-) -> Result<Option<(FinishCause, usize, usize)>, AllocError>
+/// Seat 1 puts a file and seat 2 lists. Then the pass of seat 1 is lost.
+fn run_missing<L: Ledger, R: Wait>(rt: &R, alloc: Global, blank: Blank) -> Result<bool, AllocError>
     requires { (blank.name ≡ L.name) × (blank.parts ≡ L.parts) × (blank.parts ≡ 3) }
 {
     let (desk, mut passes) = open::<L>(alloc, blank, WIDE, 3)?;
+    let put = Call::PutCat(b"a.cat", b"");
+    let _ = made(rt, alloc, &desk, &mut passes[1], put);
+    let _ = made(rt, alloc, &desk, &mut passes[2], Call::List);
     drop(passes.remove(1));
-    let _ = make_all(rt, alloc, &desk, &mut passes[1], &[Call::List]);
-    Ok(amiss(desk, passes))
+    Ok(is_amiss(desk, passes))
 }
 
 fn missing<R: Wait>(rt: &R, alloc: Global) -> bool {
-    match run_missing::<Brand, R>(rt, alloc, Blank::new(3)) {
-        Ok(found) => found == Some((FinishCause::MissingPass(1), 1, 2)),
-        Err(AllocError) => false,
-    }
+    run_missing::<Brand, R>(rt, alloc, Blank::new(3)) == Ok(true)
 }
 
 #[test]
 fn missing_pass(rt: HostRuntime) {
     assert!(rt; missing(&rt, rt.alloc()));
+}
+
+const LABELS: [(FinishCause, &str); 2] = [
+    (FinishCause::MissingPass(3), "91 MissingPass"),
+    (FinishCause::Mismatch(7), "92 Mismatch"),
+];
+
+fn are_labelled() -> bool {
+    for (cause, label) in LABELS {
+        if cause.label() != label {
+            return false;
+        }
+    }
+    true
+}
+
+#[test]
+fn labels(rt: HostRuntime) {
+    assert!(rt; are_labelled());
 }
 
 /// Whether a command is refused as the journal is full, and handed back.
@@ -122,6 +181,14 @@ fn is_full<L: Ledger, R: Wait>(rt: &R, desk: &Desk<L>, pass: &mut Pass<L>) -> bo
 {
     let answer = desk.call(rt, pass, Command::List);
     matches!(&answer, Err((Command::List, Refused::JournalFull)))
+}
+
+/// Whether the first two receipts differ, and each is equal to itself.
+fn differ<L: Ledger>(pass: &Pass<L>) -> bool {
+    match pass.receipts() {
+        [first, second, ..] => first == first && first != second,
+        _ => false,
+    }
 }
 
 /// How many entries a journal has that takes three, how many calls were recorded, and whether the fourth was handed back.
@@ -145,7 +212,7 @@ fn run_full<L: Ledger, R: Wait>(
         &mut passes[0],
         &[Call::List, Call::List, Call::List],
     );
-    let full = is_full(rt, &desk, &mut passes[0]);
+    let full = is_full(rt, &desk, &mut passes[0]) && differ(&passes[0]);
     let entries = entries(desk, passes);
     Ok((entries, recorded, full))
 }
@@ -221,6 +288,63 @@ fn is_spent<R: Wait>(rt: &R, alloc: Global) -> bool {
 #[test]
 fn spent(rt: HostRuntime) {
     assert!(rt; is_spent(&rt, rt.alloc()));
+}
+
+/// How often a file is put, and a slice claimed, at a desk of the widest limits.
+const OFTEN: u32 = 1_001;
+
+fn is_last<L: Ledger>(pass: &Pass<L>, answer: Answer) -> bool {
+    match last_reply(pass) {
+        Some(reply) => is_reply(reply, answer),
+        None => false,
+    }
+}
+
+fn put_often<L: Ledger, R: Wait>(rt: &R, alloc: Global, desk: &Desk<L>, pass: &mut Pass<L>) -> bool
+    requires { pass.old.parts ≡ 1 }
+    ensures { pass.new.parts ≡ 1 }
+{
+    for _ in 0..OFTEN {
+        let _ = made(rt, alloc, desk, pass, Call::PutCat(b"a.cat", b""));
+    }
+    is_last(pass, Answer::Version(b"a.cat", OFTEN))
+}
+
+fn claim_often<L: Ledger, R: Wait>(
+    rt: &R,
+    alloc: Global,
+    desk: &Desk<L>,
+    pass: &mut Pass<L>,
+) -> bool
+    requires { pass.old.parts ≡ 1 }
+    ensures { pass.new.parts ≡ 1 }
+{
+    let _ = make_all(rt, alloc, desk, pass, &FIRST[..2]);
+    for claim in 1..OFTEN {
+        let _ = made(rt, alloc, desk, pass, Call::Claim);
+        let _ = made(rt, alloc, desk, pass, Call::GiveBack(claim));
+    }
+    let _ = made(rt, alloc, desk, pass, Call::Claim);
+    is_last(pass, Answer::Piece(OFTEN))
+}
+
+/// Whether version 1,001 and claim 1,001 are reached where the limits are 1,000,000 each.
+fn run_often<L: Ledger, R: Wait>(rt: &R, alloc: Global, blank: Blank) -> Result<bool, AllocError>
+    requires { (blank.name ≡ L.name) × (blank.parts ≡ L.parts) × (blank.parts ≡ 1) }
+{
+    let (desk, mut passes) = open::<L>(alloc, blank, WIDE, 1)?;
+    let put = put_often(rt, alloc, &desk, &mut passes[0]);
+    let claimed = claim_often(rt, alloc, &desk, &mut passes[0]);
+    Ok(put && claimed)
+}
+
+fn often<R: Wait>(rt: &R, alloc: Global) -> bool {
+    run_often::<Brand, R>(rt, alloc, Blank::new(1)) == Ok(true)
+}
+
+#[test]
+fn a_thousand_versions_and_claims(rt: HostRuntime) {
+    assert!(rt; often(&rt, rt.alloc()));
 }
 
 /// Each command once, and what there is between.

@@ -76,6 +76,27 @@ pub fn alternates<L: Ledger>(pass: &Pass<L>) -> bool {
     true
 }
 
+/// The claim of the last piece that the pass was given, or 0.
+pub fn last_claim<L: Ledger>(pass: &Pass<L>) -> u32 {
+    let mut last = 0;
+    for receipt in pass.receipts() {
+        if let Some(claim) = claim_of(receipt.entry().reply()) {
+            last = claim;
+        }
+    }
+    last
+}
+
+/// Whether a call of the pass was replied a verdict.
+pub fn had_verdict<L: Ledger>(pass: &Pass<L>) -> bool {
+    for receipt in pass.receipts() {
+        if matches!(receipt.entry().reply(), Reply::Verdict(_)) {
+            return true;
+        }
+    }
+    false
+}
+
 /// The last pass, apart from the others.
 pub fn take_last<L: Ledger>(passes: &mut Vec<Pass<L>>) -> Option<Pass<L>>
     requires { All (λ p. p.parts ≡ 1) passes.old.items }

@@ -1,15 +1,15 @@
-//! One worker some of whose calls are refused.
+//! One worker some of whose calls and evaluations are refused.
 
 ghost use Rattle.std.specs.Prelude.{◌≡◌};
 ghost use Rattle.journal.specs.Lines.{returned};
 ghost use Rattle.workers.specs.Replies.{Replied, claimed_of, goes_on, is_done};
 
-use crate::working::calls::{ask_often, take_last};
-use crate::working::gates::Open;
+use crate::working::calls::{ask_often, last_claim, take_last};
+use crate::working::gates::Watching;
 use crate::working::running::LIMITS;
 use book::Refused;
 use sessions::{Desk, Pass, open};
-use slices::PieceResult;
+use slices::{Piece, PieceResult};
 use std::alloc::{AllocError, Global};
 use std::marker::Brand;
 use std::sync::Wait;
@@ -18,27 +18,53 @@ use std::sync::ledger::{Blank, Ledger};
 use std::test::*;
 use workers::{Calls, Claimed, Form, work};
 
-/// Refuses the calls whose numbers, from 0, are in a set of bits.
+/// Refuses the calls, and the evaluations, whose numbers, from 0, are in a set of bits.
+#[derive(Clone, Copy)]
+struct Denied {
+    calls: u64,
+    evaluations: u64,
+}
+
+/// A desk that refuses so. It tells the gate of each evaluation.
 #[derive(Drop)]
 struct Refusing<'a, L: Ledger> {
     desk: &'a Desk<L>,
+    gate: &'a Watching,
     made: AtomicU64,
-    refused: u64,
+    evaluated: AtomicU64,
+    refused: Denied,
+}
+
+/// Counts on, and says whether the number that it was at is in a set of bits.
+fn is_next(count: &AtomicU64, bits: u64) -> bool {
+    let number = count.fetch_add(1, Ordering::SeqCst);
+    number < 64 && (bits >> number) & 1 == 1
 }
 
 impl<'a, L: Ledger> Refusing<'a, L> {
     fn refuses(&self) -> bool {
-        let number = self.made.fetch_add(1, Ordering::SeqCst);
-        number < 64 && (self.refused >> number) & 1 == 1
+        is_next(&self.made, self.refused.calls)
     }
 }
 
 impl<'a, L: Ledger> Calls<L> for Refusing<'a, L> {
+    ghost use Rattle.workers.specs.Trace.{anything};
+
+    ghost refuses = { λ desk. anything };
+
     fn claim<R: Wait>(&self, rt: &R, pass: &mut Pass<L>) -> Result<Claimed, Refused> {
         if self.refuses() {
             return Err(Refused::NoMemory);
         }
         self.desk.claim(rt, pass)
+    }
+
+    fn evaluate(&self, alloc: Global, piece: &Piece) -> Result<PieceResult, AllocError> {
+        self.gate.door.evaluate(piece);
+        if is_next(&self.evaluated, self.refused.evaluations) {
+            return Err(AllocError);
+        }
+        self.desk.evaluate(alloc, piece)
     }
 
     fn hand_in<R: Wait>(
@@ -68,74 +94,79 @@ impl<'a, L: Ledger> Calls<L> for Refusing<'a, L> {
 /// What a worker did: the evaluations, give-backs and refusals that it counted, and its receipts.
 type Done = (u64, u64, u64, usize);
 
-/// What one worker does with so many jobs of one piece, where these calls are refused.
+/// What one worker does with two jobs of one piece, where these are refused.
 fn run_refused<L: Ledger, R: Wait>(
     rt: &R,
     alloc: Global,
     blank: Blank,
-    jobs: u8,
-    refused: u64,
+    refused: Denied,
 ) -> Result<Option<Done>, AllocError>
     requires { (blank.name ≡ L.name) × (blank.parts ≡ L.parts) × (blank.parts ≡ 2) }
 {
     let (desk, mut passes) = open::<L>(alloc, blank, LIMITS, 2)?;
     match (take_last(&mut passes), take_last(&mut passes)) {
         (Some(mut session), Some(mut pass)) => {
-            let _ = ask_often(rt, alloc, &desk, &mut session, jobs);
-            Ok(Some(worked(rt, alloc, &desk, &mut pass, refused)))
+            let _ = ask_often(rt, alloc, &desk, &mut session, 2);
+            Ok(worked(rt, alloc, &desk, &mut pass, refused))
         }
         _ => Ok(None),
     }
 }
 
+/// None where the gate wasn't told of each evaluation, before and behind it, at the place of the pass.
 fn worked<L: Ledger, R: Wait>(
     rt: &R,
     alloc: Global,
     desk: &Desk<L>,
     pass: &mut Pass<L>,
-    refused: u64,
-) -> Done
+    refused: Denied,
+) -> Option<Done>
     requires { pass.old.parts ≡ 1 }
 {
+    let gate = Watching::new(5);
     let calls = Refusing {
         desk,
+        gate: &gate,
         made: AtomicU64::new(0),
+        evaluated: AtomicU64::new(0),
         refused,
     };
-    work(rt, alloc, Form::UntilIdle, &calls, &Open, 0, pass);
+    work(rt, alloc, Form::UntilIdle, &calls, &gate, 5, pass);
+    if !gate.door.is_left_by(last_claim(pass)) || gate.strange.load(Ordering::SeqCst) > 0 {
+        return None;
+    }
     let counts = pass.counts();
-    (
+    Some((
         counts.evaluated,
         counts.given_back,
         counts.refused,
         pass.receipts().len(),
-    )
+    ))
 }
 
-fn done_under<R: Wait>(
-    rt: &R,
-    alloc: Global,
-    jobs: u8,
-    refused: u64,
-) -> Result<Option<Done>, AllocError> {
-    run_refused::<Brand, R>(rt, alloc, Blank::new(2), jobs, refused)
+fn done_under<R: Wait>(rt: &R, alloc: Global, refused: Denied) -> Result<Option<Done>, AllocError> {
+    run_refused::<Brand, R>(rt, alloc, Blank::new(2), refused)
 }
 
-/// The calls that are refused, of a worker over two pieces, and what it did.
-const REFUSALS: [(u64, Done); 5] = [
-    (0b0, (2, 0, 0, 5)),
-    (0b1, (0, 0, 1, 0)),
-    (0b10, (1, 1, 1, 2)),
-    (0b110, (1, 0, 2, 1)),
-    (0b1000, (2, 1, 1, 4)),
+/// The calls and the evaluations that are refused, of a worker over two pieces, and what it did.
+const REFUSALS: [(u64, u64, Done); 8] = [
+    (0b0, 0b0, (2, 0, 0, 5)),
+    (0b1, 0b0, (0, 0, 1, 0)),
+    (0b10, 0b0, (1, 1, 1, 2)),
+    (0b110, 0b0, (1, 0, 2, 1)),
+    (0b1000, 0b0, (2, 1, 1, 4)),
+    (0b0, 0b1, (0, 1, 0, 2)),
+    (0b0, 0b10, (1, 1, 0, 4)),
+    (0b10, 0b1, (0, 0, 1, 1)),
 ];
 
 #[test]
 fn refusals(rt: HostRuntime) -> Result<(), Fail> {
-    for (refused, wanted) in REFUSALS {
+    for (calls, evaluations, wanted) in REFUSALS {
+        let refused = Denied { calls, evaluations };
         assert!(rt;
-            done_under(&rt, rt.alloc(), 2, refused)? == Some(wanted),
-            "{refused}"
+            done_under(&rt, rt.alloc(), refused)? == Some(wanted),
+            "{calls} {evaluations}"
         );
     }
     Ok(())

@@ -3,7 +3,7 @@
 ghost use Rattle.std.specs.Prelude.{◌≡◌, ◌+◌, ◌≤◌, All, length};
 
 use crate::calls::{Call, last_reply, made};
-use crate::working::calls::{alternates, job_of, put_back, take_last};
+use crate::working::calls::{alternates, had_verdict, job_of, last_claim, put_back, take_last};
 use crate::working::gates::Meeting;
 use book::{Limits, Reply};
 use sessions::{Desk, Pass, finish, open};
@@ -52,8 +52,8 @@ pub struct Outcome {
     evaluated: u64,
     given_back: u64,
     refused: u64,
-    /// Whether each worker returned a piece before it claimed the next.
-    alternate: bool,
+    /// Whether all else was as the test wants it.
+    whole: bool,
     /// How many pieces waited for another in vain.
     missed: u64,
 }
@@ -72,7 +72,7 @@ fn total_of<L: Ledger>(
     desk: Desk<L>,
     passes: Vec<Pass<L>>,
     report: &Report,
-    alternate: bool,
+    whole: bool,
     missed: u64,
 ) -> Outcome
     requires { All (λ p. p.parts ≡ 1) passes.items }
@@ -90,8 +90,20 @@ fn total_of<L: Ledger>(
         evaluated,
         given_back,
         refused,
-        alternate,
+        whole,
         missed,
+    }
+}
+
+/// Whether each of two workers returned a piece before it claimed the next, and the gate saw each piece come in and leave at its own pass's place.
+fn are_alternating<L: Ledger, C>(passes: &[Pass<L>], gate: &Meeting<'_, C>) -> bool {
+    match passes {
+        [first, second] => {
+            let watched = gate.first.is_left_by(last_claim(first))
+                && gate.second.is_left_by(last_claim(second));
+            watched && alternates(first) && alternates(second)
+        }
+        _ => false,
     }
 }
 
@@ -122,11 +134,12 @@ fn idle_beside<L: Ledger + Send + Sync, R: Threads + Wait + Clock + Sync>(
     requires one { session.parts ≡ 1 }
 {
     let asked = asked(rt, alloc, &desk, &mut session);
-    let gate = Meeting::new(rt, 2);
+    let gate = Meeting::new(rt);
     let report = work_until_idle(rt, alloc, &desk, &mut passes, &gate);
-    let alternate = passes.iter().all(|p| alternates(p));
+    let polled = made(rt, alloc, &desk, &mut session, Call::Poll(1));
+    let told = asked && polled && had_verdict(&session) && are_alternating(&passes, &gate);
     let missed = gate.missed.load(Ordering::SeqCst);
-    ended(desk, passes, session, &report, asked && alternate, missed)
+    ended(desk, passes, session, &report, told, missed)
 }
 
 /// The last pass asks, polls and closes once it has the verdict; the others are workers until then.
@@ -156,11 +169,11 @@ fn closed_beside<L: Ledger + Send + Sync, R: Threads + Wait + Clock + Sync>(
     requires one { session.parts ≡ 1 }
 {
     let asked = asked(rt, alloc, &desk, &mut session);
-    let gate = Meeting::new(rt, 2);
+    let gate = Meeting::new(rt);
     let (passes, report, session) = both(rt, alloc, &desk, passes, session, &gate);
-    let alternate = passes.iter().all(|p| alternates(p));
+    let told = asked && had_verdict(&session) && are_alternating(&passes, &gate);
     let missed = gate.missed.load(Ordering::SeqCst);
-    ended(desk, passes, session, &report, asked && alternate, missed)
+    ended(desk, passes, session, &report, told, missed)
 }
 
 /// The session's pass stands with the others again, and the desk is closed.
@@ -169,14 +182,14 @@ pub fn ended<L: Ledger>(
     mut passes: Vec<Pass<L>>,
     session: Pass<L>,
     report: &Report,
-    alternate: bool,
+    whole: bool,
     missed: u64,
 ) -> Result<Option<Outcome>, AllocError>
     requires shares { All (λ p. p.parts ≡ 1) passes.items }
     requires one { session.parts ≡ 1 }
 {
     put_back(&mut passes, session)?;
-    Ok(Some(total_of(desk, passes, report, alternate, missed)))
+    Ok(Some(total_of(desk, passes, report, whole, missed)))
 }
 
 /// The workers in a thread, and the session in this one. Each takes its passes by value, and gives them back.
@@ -282,7 +295,7 @@ pub fn shows(outcome: Option<Outcome>, entries: Option<usize>, evaluated: u64) -
                 && o.evaluated == evaluated
                 && o.given_back == 0
                 && o.refused == 0
-                && o.alternate
+                && o.whole
                 && o.missed == 0
         }
         None => false,
@@ -291,7 +304,7 @@ pub fn shows(outcome: Option<Outcome>, entries: Option<usize>, evaluated: u64) -
 
 #[test]
 fn two_pieces_at_once(rt: HostRuntime) -> Result<(), Fail> {
-    assert!(rt; shows(idle_of_two(&rt, rt.alloc())?, Some(2 + 32 + 2), 16));
+    assert!(rt; shows(idle_of_two(&rt, rt.alloc())?, Some(2 + 32 + 2 + 1), 16));
     assert!(rt; shows(closed_of_two(&rt, rt.alloc())?, None, 16));
     Ok(())
 }

@@ -102,7 +102,7 @@ impl Graph {
             && self.location(first) == self.location(second)
     }
 
-    /// Are they the read and the write of one exchange?
+    /// Are they the read and the write of one exchange, or of one addition?
     pub(super) fn is_exchange(&self, first: EventId, second: EventId) -> bool
         ensures { IsTrue result ↔ IsExchange self.now first second }
     {

@@ -1,28 +1,16 @@
 //! Calls of C's atomics, and what a register is given.
 
 ghost use Rattle.std.specs.Prelude.{◌≡◌};
-ghost use Rattle.litmus_syntax.specs.Reading.{Gives, order_at, last_order_at, closing_at, located_at, valued_at, load_at, store_at, exchange_at, fence_at, operation_at, is_among, value_at, computed_at, plain_at, right_at};
+ghost use Rattle.litmus_syntax.specs.Reading.{Gives, order_at, last_order_at, closing_at, located_at, valued_at, constant_at, load_at, store_at, exchange_at, modify_at, fence_at, operation_at, is_among, value_at, computed_at, plain_at, right_at};
 ghost use Rattle.litmus_tree.specs.Tree.{term_of, action_of, right_of};
 
-use crate::atomics::{Operation, accepted, calls, has_value, order_named};
+use crate::atomics::{Effect, Operation, accepted, effect_of, order_named};
 use crate::symbol::Terminal;
 use crate::syntax::Reader;
 use crate::syntax_fault::SyntaxFault;
 use events::Order;
-use litmus_tree::{Call, Expression, RightSide};
+use litmus_tree::{Call, Computation, Expression, RightSide};
 use wb_text::Name;
-
-/// What the method of the call's row reads.
-macro_rules! read {
-    (
-        ($reader:ident, $operation:ident, $nesting:ident)
-        $($call:ident: $word:literal, $reads:ident, $takes:tt, $valued:literal;)*
-    ) => {
-        match $operation {
-            $(Operation::$call => $reader.$reads(accepted($operation), $nesting),)*
-        }
-    };
-}
 
 /// Whether the order is one of these.
 fn is_among(orders: &[Order], order: Order) -> bool
@@ -91,6 +79,17 @@ impl<'a> Reader<'a> {
         Ok((location, value))
     }
 
+    /// "(" name "," number
+    #[tactic(auto, unfolding(crate::specs::Reading::target_at, crate::specs::Reading::constant_at))]
+    fn constant(&mut self, nesting: u32) -> Result<(Name, u32), SyntaxFault>
+        ensures { Gives (λ v. v) result self.new.rest.now (constant_at nesting self.old.rest.now) }
+    {
+        let (location, _) = self.located(nesting)?;
+        self.expect(Terminal::Comma)?;
+        let constant = self.number()?;
+        Ok((location, constant))
+    }
+
     #[tactic(auto, unfolding(crate::specs::Reading::load_at))]
     fn load(&mut self, accepted: &[Order], nesting: u32) -> Result<Call, SyntaxFault>
         ensures { Gives action_of result self.new.rest.now (load_at accepted.now nesting self.old.rest.now) }
@@ -118,6 +117,20 @@ impl<'a> Reader<'a> {
         Ok(Call::Exchange(location, value, order))
     }
 
+    #[tactic(auto, unfolding(crate::specs::Reading::modify_at))]
+    fn modify(
+        &mut self,
+        computation: Computation,
+        accepted: &[Order],
+        nesting: u32,
+    ) -> Result<Call, SyntaxFault>
+        ensures { Gives action_of result self.new.rest.now (modify_at computation accepted.now nesting self.old.rest.now) }
+    {
+        let (location, constant) = self.constant(nesting)?;
+        let order = self.closing(accepted)?;
+        Ok(Call::Modify(location, computation, constant, order))
+    }
+
     #[tactic(auto, unfolding(crate::specs::Reading::fence_at))]
     fn fence(&mut self, accepted: &[Order], nesting: u32) -> Result<Call, SyntaxFault>
         ensures { Gives action_of result self.new.rest.now (fence_at accepted.now nesting self.old.rest.now) }
@@ -136,7 +149,14 @@ impl<'a> Reader<'a> {
     ) -> Result<Call, SyntaxFault>
         ensures { Gives action_of result self.new.rest.now (operation_at operation nesting self.old.rest.now) }
     {
-        calls!(read(self, operation, nesting))
+        let accepted = accepted(operation);
+        match effect_of(operation) {
+            Effect::Loads => self.load(accepted, nesting),
+            Effect::Stores => self.store(accepted, nesting),
+            Effect::Exchanges => self.exchange(accepted, nesting),
+            Effect::Modifies(computation) => self.modify(computation, accepted, nesting),
+            Effect::Fences => self.fence(accepted, nesting),
+        }
     }
 
     /// What stands behind the word of a call that has a value. With its word so many symbols are left.
@@ -149,7 +169,7 @@ impl<'a> Reader<'a> {
     ) -> Result<RightSide, SyntaxFault>
         ensures { Gives right_of result self.new.rest.now (value_at left operation nesting self.old.rest.now) }
     {
-        if !has_value(operation) {
+        if !effect_of(operation).is_valued() {
             return Err(SyntaxFault::Syntax(left));
         }
         Ok(RightSide::Call(self.operation(operation, nesting)?))

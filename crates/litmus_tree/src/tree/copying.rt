@@ -34,6 +34,9 @@ impl Call {
             Call::Exchange(location, value, order) => {
                 Ok(Call::Exchange(location.copy()?, value.copy()?, *order))
             }
+            Call::Modify(location, computation, constant, order) => {
+                Ok(Call::Modify(location.copy()?, *computation, *constant, *order))
+            }
             Call::Fence(order) => Ok(Call::Fence(*order)),
         }
     }

@@ -57,6 +57,15 @@ impl Call {
                 Call::Exchange(location, value, order),
                 Call::Exchange(other_location, other_value, other_order),
             ) => location == other_location && value == other_value && order == other_order,
+            (
+                Call::Modify(location, computation, constant, order),
+                Call::Modify(other_location, other_computation, other_constant, other_order),
+            ) => {
+                location == other_location
+                    && computation == other_computation
+                    && constant == other_constant
+                    && order == other_order
+            }
             (Call::Fence(order), Call::Fence(other_order)) => order == other_order,
             _ => false,
         }

@@ -9,14 +9,14 @@ pub const SEQUENTIAL: &str = "\"Sequential consistency\"
 (* An execution is one interleaving of the threads, in which each read sees the last write. *)
 let com = rf | co | fr
 acyclic po | com as sc
-(* Nothing comes between the read and the write of an exchange. *)
+(* Nothing comes between the read and the write of an exchange or of an addition. *)
 empty rmw & (fr ; co) as atomicity
 ";
 
 /// examples/tso.cat
 pub const BUFFERS: &str = "\"TSO\"
-(* Stores wait in a buffer of their thread, and its later loads from other locations may go ahead of them. A seq_cst fence
-   and an exchange wait until the buffer is empty, and a seq_cst store is followed by such a wait: x86, as compilers use it. *)
+(* Stores wait in a buffer of their thread, and its later loads from other locations may go ahead of them. A seq_cst fence,
+   an exchange and an addition wait until the buffer is empty, and a seq_cst store is followed by such a wait: x86, as compilers use it. *)
 let com = rf | co | fr
 acyclic po-loc | com as coherence
 empty rmw & (fr ; co) as atomicity
@@ -301,6 +301,37 @@ P1 (atomic_int* x, atomic_int* y) {
 exists (1:r0=2 /\\ 1:r1=0)
 ";
 
+/// examples/counter.litmus
+pub const COUNTER: &str = "C counter
+Two threads count up with relaxed additions: neither overwrites what the other has counted.
+{}
+P0 (atomic_int* x) {
+  int r0 = atomic_fetch_add_explicit(x, 1, memory_order_relaxed);
+}
+P1 (atomic_int* x) {
+  int r0 = atomic_fetch_add_explicit(x, 1, memory_order_relaxed);
+}
+exists ([x]=1)
+";
+
+/// examples/RS+add.litmus
+pub const ADDED_SEQUENCE: &str = "C RS+add
+A release sequence through an addition: who acquires from it synchronizes with the release that it read from.
+{}
+P0 (atomic_int* x, atomic_int* y) {
+  atomic_store_explicit(x, 1, memory_order_relaxed);
+  atomic_store_explicit(y, 1, memory_order_release);
+}
+P1 (atomic_int* y) {
+  int r0 = atomic_fetch_add_explicit(y, 1, memory_order_relaxed);
+}
+P2 (atomic_int* x, atomic_int* y) {
+  int r0 = atomic_load_explicit(y, memory_order_acquire);
+  int r1 = atomic_load_explicit(x, memory_order_relaxed);
+}
+exists (2:r0=2 /\\ 2:r1=0)
+";
+
 /// examples/swap.litmus
 pub const EXCHANGES: &str = "C swap
 Two exchanges: only one of them can be the first.
@@ -337,7 +368,7 @@ pub const TEACHING_SCRIPT: &str =
 (* An execution is one interleaving of the threads, in which each read sees the last write. *)
 let com = rf | co | fr
 acyclic po | com as sc
-(* Nothing comes between the read and the write of an exchange. *)
+(* Nothing comes between the read and the write of an exchange or of an addition. *)
 empty rmw & (fr ; co) as atomicity
 .
 0 test

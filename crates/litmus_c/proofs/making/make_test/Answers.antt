@@ -31,9 +31,10 @@ new-requires c =
     let plain = rw c.as_slice-2.ensures.value at c.in_ok-check_names.ensures.plain in
     let atomic = rw c.as_slice-2.ensures.value at c.in_ok-check_names.ensures.atomic in
     let values = rw (c.as_slice-5.ensures.value, c.as_slice-6.ensures.value) at c.in_ok-check_values.ensures.few in
+    let small_values = rw (c.as_slice-5.ensures.value, c.as_slice-6.ensures.value) at c.in_ok-check_values.ensures.small in
     let events = rw (c.as_slice-7.ensures.value, c.as_slice-8.ensures.value) at c.in_ok-check_events.ensures.few in
     made_test w c.in_ok-initial.initial.items ts xs initial threads locations
-    (kept_rules w c.in_ok-initial.initial.items ts xs initial threads locations (omega (arith, map_len listing_of c.args.draft.bodies.items)) c.in_ok-locations.ensures.few names plain atomic values events)
+    (kept_rules w c.in_ok-initial.initial.items ts xs initial threads locations (omega (arith, map_len listing_of c.args.draft.bodies.items)) c.in_ok-locations.ensures.few names plain atomic values small_values events)
 
 pub returns-clause-kept : goal.returns-clause-kept
 returns-clause-kept c =
@@ -51,8 +52,9 @@ returns-clause-kept c =
     let plain = rw c.as_slice-2.ensures.value at c.in_ok-check_names.ensures.plain in
     let atomic = rw c.as_slice-2.ensures.value at c.in_ok-check_names.ensures.atomic in
     let values = rw (c.as_slice-5.ensures.value, c.as_slice-6.ensures.value) at c.in_ok-check_values.ensures.few in
+    let small_values = rw (c.as_slice-5.ensures.value, c.as_slice-6.ensures.value) at c.in_ok-check_values.ensures.small in
     let events = rw (c.as_slice-7.ensures.value, c.as_slice-8.ensures.value) at c.in_ok-check_events.ensures.few in
-    kept_rules w c.in_ok-initial.initial.items ts xs initial threads locations (omega (arith, map_len listing_of c.args.draft.bodies.items)) c.in_ok-locations.ensures.few names plain atomic values events
+    kept_rules w c.in_ok-initial.initial.items ts xs initial threads locations (omega (arith, map_len listing_of c.args.draft.bodies.items)) c.in_ok-locations.ensures.few names plain atomic values small_values events
 
 pub returns-in_err-check_names-clause-cause : goal.returns-in_err-check_names-clause-cause
 returns-in_err-check_names-clause-cause c =
@@ -118,6 +120,7 @@ returns-in_err-check_events-clause-cause c =
     let atomic = rw c.as_slice-2.ensures.value at c.in_ok-check_names.ensures.atomic in
     let named = named_of w c.in_ok-initial.initial.items ts xs initial threads locations few c.in_ok-locations.ensures.few names plain atomic in
     let values = rw (c.as_slice-5.ensures.value, c.as_slice-6.ensures.value) at c.in_ok-check_values.ensures.few in
+    let small_values = rw (c.as_slice-5.ensures.value, c.as_slice-6.ensures.value) at c.in_ok-check_values.ensures.small in
     let events = rw (c.as_slice-7.ensures.value, c.as_slice-8.ensures.value) at c.in_err-check_events.ensures.cause.1 in
     let p = err_from_is_err_and c.from_residual-in_err-check_events.result c.from_residual-in_err-check_events.ensures.1 in
-    rw (p.1, p.2, c.in_err-check_events.ensures.cause.0) (events_cause w c.in_ok-initial.initial.items ts xs initial threads locations named values events)
+    rw (p.1, p.2, c.in_err-check_events.ensures.cause.0) (events_cause w c.in_ok-initial.initial.items ts xs initial threads locations named values small_values events)

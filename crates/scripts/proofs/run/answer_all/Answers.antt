@@ -1,8 +1,9 @@
 use Rattle.std.proofs.Common.{◌≡◌, ◌∙◌, ◌<◌, ◌++◌, [], ◌∷◌, ap, inl, inr, sym, refl, subst, Err, arith, rules}
-use Rattle.std.proofs.KnownBytes.{Appends-nil}
+use Rattle.std.proofs.KnownBytes.{Appends-nil, Keeps-refl}
 use Rattle.script_lines.specs.Lines.{ahead, AreLines, nothing_read}
 use Rattle.script_lines.specs.Scripts.{IsNextInstruction, IsSpent, no_instruction}
 use Rattle.script_lines.proofs.Counted.{joined, longer_still}
+use Rattle.script_lines.proofs.Taken.{lost_both, lost_none}
 use Rattle.scripts.specs.Passes.{Have, ending}
 use Rattle.scripts.specs.Serving.{Call, IsRead, Tells, calls_text, entries_at, no_call}
 use Rattle.scripts.proofs.Calls.{answered_more, have_more, none_among, same_entries}
@@ -13,6 +14,7 @@ pub loop-instruction-init : goal.loop-instruction-init
 loop-instruction-init g c = record {
   reported = ([], no_call, c.requires.fresh, Appends-nil (g.W.Sink.held c.args.writer.now), no_instruction);
   lines = nothing_read;
+  left = lost_none _ _ (Keeps-refl _);
   table = c.requires.table;
   desk = refl;
 }
@@ -45,9 +47,13 @@ loop-instruction-preserved g c =
     record {
       reported = (reported.0 ++ call ∷ [], answered, have, written _ _ _ reported.0 call reported.3 (c.in_ok-give_answer-in-Ok.ensures a.answer a.shows), instructed _ before after reported.0 call reported.4 next);
       lines = joined _ before _ _ after _ c.loop-instruction.invariant.lines lines;
+      left = lost_both _ _ _ c.loop-instruction.invariant.left c.next.ensures.lost;
       table = c.call.ensures.table;
       desk = c.call.ensures.desk ∙ c.loop-instruction.invariant.desk;
     }
+
+pub returns-in_err-give_answer-in-Ok-clause-left : goal.returns-in_err-give_answer-in-Ok-clause-left
+returns-in_err-give_answer-in-Ok-clause-left g c = lost_both _ _ _ c.loop-instruction.invariant.left c.next.ensures.lost
 
 pub returns-in_err-give_answer-in-Ok-clause-reported : goal.returns-in_err-give_answer-in-Ok-clause-reported
 returns-in_err-give_answer-in-Ok-clause-reported g c =
@@ -82,6 +88,9 @@ returns-in_err-give_answer-in-Ok-clause-reported g c =
 
 pub returns-in_err-give_answer-in-Ok-clause-desk : goal.returns-in_err-give_answer-in-Ok-clause-desk
 returns-in_err-give_answer-in-Ok-clause-desk g c = c.call.ensures.desk ∙ c.loop-instruction.invariant.desk
+
+pub returns-in-Err-call-clause-left : goal.returns-in-Err-call-clause-left
+returns-in-Err-call-clause-left g c = lost_both _ _ _ c.loop-instruction.invariant.left c.next.ensures.lost
 
 pub returns-in-Err-call-clause-reported : goal.returns-in-Err-call-clause-reported
 returns-in-Err-call-clause-reported g c =
@@ -120,6 +129,9 @@ returns-in-Err-call-clause-reported g c =
 pub returns-in-Err-call-clause-desk : goal.returns-in-Err-call-clause-desk
 returns-in-Err-call-clause-desk g c = c.call.ensures.desk ∙ c.loop-instruction.invariant.desk
 
+pub returns-in-Ok-None-clause-left : goal.returns-in-Ok-None-clause-left
+returns-in-Ok-None-clause-left g c = lost_both _ _ _ c.loop-instruction.invariant.left c.next.ensures.lost
+
 pub returns-in-Ok-None-clause-reported : goal.returns-in-Ok-None-clause-reported
 returns-in-Ok-None-clause-reported g c =
     let reported = c.loop-instruction.invariant.reported in
@@ -134,6 +146,9 @@ returns-in-Ok-None-clause-table g c = c.loop-instruction.invariant.table
 
 pub returns-in-Ok-None-clause-desk : goal.returns-in-Ok-None-clause-desk
 returns-in-Ok-None-clause-desk g c = c.loop-instruction.invariant.desk
+
+pub returns-in-Err-clause-left : goal.returns-in-Err-clause-left
+returns-in-Err-clause-left g c = lost_both _ _ _ c.loop-instruction.invariant.left c.next.ensures.lost
 
 pub returns-in-Err-clause-reported : goal.returns-in-Err-clause-reported
 returns-in-Err-clause-reported g c =

@@ -1,6 +1,6 @@
 use Rattle.std.proofs.Common.{◌≡◌, ◌-◌, List, map}
 use Rattle.std.specs.Io.KnownBytes.{Appends}
-use Rattle.script_lines.specs.Lines.{ahead, AreLines}
+use Rattle.script_lines.specs.Lines.{ahead, AreLines, Loses}
 use Rattle.script_lines.specs.Scripts.{AreInstructions}
 use Rattle.scripts.specs.Passes.{Have, IsTable}
 use Rattle.scripts.specs.Serving.{Call, AreAnswered, calls_text, entries_at}
@@ -14,6 +14,7 @@ invariant-loop-instruction g l = record {
       × Appends (g.W.Sink.held l.initial.writer) (g.W.Sink.held l.writer) (calls_text calls)
       × AreInstructions (ahead l.initial.script.lines.block (g.R.Source.left l.initial.reader)) (ahead l.script.lines.block (g.R.Source.left l.reader)) (map (λ c. c.instruction) calls);
   lines : AreLines (ahead l.initial.script.lines.block (g.R.Source.left l.initial.reader)) l.initial.script.lines.count (ahead l.script.lines.block (g.R.Source.left l.reader)) l.script.lines.count;
+  left : Loses (ahead l.initial.script.lines.block (g.R.Source.left l.initial.reader)) (ahead l.script.lines.block (g.R.Source.left l.reader));
   table : IsTable l.seats.desk l.seats.passes.items;
   desk : l.seats.desk ≡ l.initial.seats.desk;
 }

@@ -1,9 +1,11 @@
 use Rattle.std.proofs.Common.{◌≡◌, ◌∙◌, ◌+◌, ◌-◌, arith, sym, subst}
+use Rattle.std.proofs.KnownBytes.{Keeps-refl}
 use Rattle.script_lines.specs.Lines.{ahead}
+use Rattle.script_lines.proofs.Taken.{lost_none}
 use Rattle.scripts.specs.Answers.{worker_count}
 use Rattle.scripts.specs.Passes.{ending}
 use Rattle.scripts.specs.Serving.{AreAnswered}
-use Rattle.scripts.proofs.Served.{end_ok, from_start, read_fault, served, too_long_from_start, unserved}
+use Rattle.scripts.proofs.Served.{end_ok, from_start, left_behind, read_fault, served, too_long_from_start, unserved}
 use Rattle.scripts.proofs.run.serve_at.Goals as goal
 
 pub returns-in_err-script-clause-served : goal.returns-in_err-script-clause-served
@@ -32,3 +34,12 @@ pub returns-clause-read : goal.returns-clause-read
 returns-clause-read g c e =
     too_long_from_start (g.R.Source.left c.args.reader.now) c.in_ok-script.ensures.block c.in_ok-script.ensures.count
     (c.answer_all-outcome.ensures.read (read_fault (ending c.answer_all-outcome.result) c.end.result c.end.ensures.follows e))
+
+pub returns-in_err-script-clause-left : goal.returns-in_err-script-clause-left
+returns-in_err-script-clause-left g c = lost_none _ _ (Keeps-refl _)
+
+pub returns-in_err-seats-clause-left : goal.returns-in_err-seats-clause-left
+returns-in_err-seats-clause-left g c = lost_none _ _ (Keeps-refl _)
+
+pub returns-clause-left : goal.returns-clause-left
+returns-clause-left g c = left_behind c.answer_all-outcome.new.script.lines.block (g.R.Source.left c.args.reader.now) (g.R.Source.left c.answer_all-outcome.new.reader) c.in_ok-script.ensures.block c.answer_all-outcome.ensures.left

@@ -5,12 +5,14 @@ use Rattle.std.proofs.lemmas.Result.{err_from_is_err_and}
 use Rattle.std.proofs.lemmas.List.{length-map}
 use Rattle.litmus_tree.specs.declared.tree.RightSide.TheVariants.{Value as Value'}
 use Rattle.litmus_tree.specs.declared.tree.Statement.TheVariants.{Assign as Assign'}
+use Rattle.litmus_tree.proofs.tree.Statement.TheLaws.{the_size}
 use Rattle.litmus_tree.specs.Tree.{step_of}
+use denote.Param.Weighed.{at_most}
 use Rattle.c11_threads.specs.Runs.{Progress}
 use Rattle.c11_threads.specs.Unrolled.{step_runs}
 use Rattle.c11_threads.specs.Faults.{IsFaultAt}
 use Rattle.c11_threads.proofs.Filling.{joined_on, all_joined, still_within}
-use Rattle.c11_threads.proofs.Turns.{Ways, some_step, way_fault, further, turned, turn_fault, after_idle, in_value, in_block}
+use Rattle.c11_threads.proofs.Turns.{Ways, some_step, way_fault, further, turned, turn_fault, after_idle, in_value, in_block, serves_at}
 use Rattle.c11_threads.proofs.unroll.Setting.+performing.Goals as goal
 
 pub perform-returns-in-Empty-clause-fault : goal.perform-returns-in-Empty-clause-fault
@@ -25,7 +27,7 @@ perform-returns-in-None-clause-fault n c = c.add-in-None.ensures.fault _ _ _
 pub perform_all-returns-in_err-ends-clause-fault : goal.perform_all-returns-in_err-ends-clause-fault
 perform_all-returns-in_err-ends-clause-fault n c =
     let p = err_from_is_err_and c.from_residual.result c.from_residual.ensures.1 in
-    rw (p.1, p.2) (turn_fault c.args.self.now c.args.most c.requires.values c.args.ctrl.now c.args.statements.now c.loop-statement.statement-index c.statement-item.result c.loop-statement.ends.items _ c.in_err-ends.field-0.0
+    rw (p.1, p.2) (turn_fault c.args.self.now c.args.most c.requires.fit c.args.ctrl.now c.args.statements.now c.requires.values c.loop-statement.statement-index c.statement-item.result c.loop-statement.ends.items _ c.in_err-ends.field-0.0
     c.loop-statement-test.true c.statement-item.is c.loop-statement.invariant.is c.in_err-ends.ensures.fault)
 
 pub perform_all-loop-statement-preserved : goal.perform_all-loop-statement-preserved
@@ -51,7 +53,7 @@ perform_apart-returns-in_err-perform-clause-fault n c =
     let steps : into_iter_items at.from-iterator ≡ c.in-Some.from ∷ rest = c.in-Some.ensures.steps.0 in
     let short = ap length steps in
     let waiting = at.waiting - 1 in
-    rw (p.1, p.2) (way_fault (step_runs a s c.args.ctrl.now) (some_step a s c.requires.values c.args.ctrl.now) s.thread (c.args.most - waiting) c.args.most waiting (into_iter_items at.from-iterator) rest c.in-Some.from
+    rw (p.1, p.2) (way_fault (step_runs a s c.args.ctrl.now) (some_step a s c.requires.fit c.requires.values c.args.ctrl.now) s.thread (c.args.most - waiting) c.args.most waiting (into_iter_items at.from-iterator) rest c.in-Some.from
     at.ends.items _ c.in_err-perform.field-0.0 steps at.invariant.is (omega (arith, at.invariant.waiting, short)) (omega (arith, at.invariant.within, at.invariant.waiting, short)) c.in_err-perform.ensures.fault)
 
 pub perform_apart-loop-from-preserved : goal.perform_apart-loop-from-preserved
@@ -100,3 +102,12 @@ perform_onto-returns-clause-done n c =
     let told = c.in_ok-more.ensures.done in
     let items = c.in_ok-add_all.ensures.items in
     (items ∙ ap (λ (more : List Progress). old ++ more) told.0, still_within old c.in_ok-more.more.items _ c.args.most c.requires.most (omega (arith, told.1, c.len.ensures)) items)
+
+pub perform_all-perform_each-requires : goal.perform_all-perform_each-requires
+perform_all-perform_each-requires n c =
+    let statements = c.args.statements.now in
+    let at = c.loop-statement.statement-index in
+    let item = c.statement-item.result in (
+      omega (arith, c.decreases, at_most the_size statements at item c.loop-statement-test.true, ap the_size c.statement-item.is),
+      (c.requires.fit, (serves_at c.args.self.now.values statements at item c.requires.values c.loop-statement-test.true c.statement-item.is, omega (arith, c.loop-statement.invariant.within))),
+    )

@@ -17,7 +17,7 @@ returns-in_err-declare-clause-fault c =
     let steps : into_iter_items at.from-iterator ≡ c.in-Some.from ∷ rest = c.in-Some.ensures.steps.0 in
     let short = ap length steps in
     let waiting = at.waiting - 1 in
-    rw (p.1, p.2) (way_fault (declare_runs s c.args.ctrl.now d.register d.value) (some_declare s c.requires.values c.args.ctrl.now d.register d.value) s.thread (c.args.most - waiting) c.args.most waiting (into_iter_items at.from-iterator) rest c.in-Some.from
+    rw (p.1, p.2) (way_fault (declare_runs s c.args.ctrl.now d.register d.value) (some_declare s c.requires.fit c.args.ctrl.now d.register d.value c.requires.values) s.thread (c.args.most - waiting) c.args.most waiting (into_iter_items at.from-iterator) rest c.in-Some.from
     at.ends.items _ c.in_err-declare.field-0.0 steps at.invariant.is (omega (arith, at.invariant.waiting, short)) (omega (arith, at.invariant.within, at.invariant.waiting, short)) c.in_err-declare.ensures.fault)
 
 pub loop-from-preserved : goal.loop-from-preserved

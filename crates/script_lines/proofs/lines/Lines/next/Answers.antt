@@ -1,4 +1,4 @@
-use Rattle.std.proofs.Common.{◌≡◌, ◌≤◌, ◌+◌, [], length, sym, ap, subst, inr, arith, ◌∙◌, Ok, Err, codes}
+use Rattle.std.proofs.Common.{◌≡◌, ◌≤◌, ◌<◌, ◌+◌, [], length, sym, ap, subst, inr, arith, ◌∙◌, Ok, Err, codes}
 use Rattle.std.specs.Prelude.{OnOk}
 use Rattle.script_lines.specs.Lines.{ahead, Grows, IsNextLine}
 use Rattle.script_lines.specs.declared.fault.ScriptFault.TheVariants as faults
@@ -19,8 +19,9 @@ returns-in_err-read_line-clause-line g c n e =
     let raw = c.read_line.new.self.line.items in
     let is = c.in_err-read_line.was ∙ ap Err (told_on c.from_residual-in_err-read_line.result c.in_err-read_line.field-0.0 (faults.BadLine n) c.from_residual-in_err-read_line.ensures.1 e) in
     let long = c.read_line.ensures.long n is in
+    let room : c.args.self.now.count < 1000000 = omega (arith, c.if-self-ge-MOST_LINES.false, c.is_at_end.ensures.count) in
     let number : n ≡ c.args.self.now.count + 1 = omega (arith, c.read_line.ensures.line n is, c.is_at_end.ensures.count) in
-    (number, too_long before filled long.0 raw long.1 c.is_at_end.ensures.kept (subst (λ old. Grows filled long.0 old raw long.1) c.clear.ensures.items long.2) long.3)
+    (number, room, too_long before filled long.0 raw long.1 c.is_at_end.ensures.kept (subst (λ old. Grows filled long.0 old raw long.1) c.clear.ensures.items long.2) long.3)
 
 pub returns-then-branch-2-clause-next : goal.returns-then-branch-2-clause-next
 returns-then-branch-2-clause-next g c _ =

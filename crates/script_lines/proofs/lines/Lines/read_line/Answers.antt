@@ -1,7 +1,7 @@
-use Rattle.std.proofs.Common.{◌<◌, ◌++◌, [], length, refl, ap, sym, inl, inr, arith, ◌∙◌, Ok, codes, append-nil}
+use Rattle.std.proofs.Common.{◌<◌, ◌++◌, [], length, refl, ap, sym, inl, inr, arith, ◌∙◌, Ok, codes, append-nil, append_assoc}
 use Rattle.std.proofs.lemmas.Bool.{cases_Bool}
 use Rattle.script_lines.specs.Lines.{ahead}
-use Rattle.script_lines.proofs.Taken.{on}
+use Rattle.script_lines.proofs.Taken.{lost_both, lost_front, lost_none, lost_part, on}
 use Rattle.script_lines.proofs.lines.Lines.read_line.Goals as goal
 
 -- the line was kept while the block was filled
@@ -27,6 +27,20 @@ returns-then-len-gt-MOST_BYTES-clause-long g c n e =
         long,
       ))
     ]
+
+pub returns-then-is_fed-clause-lost : goal.returns-then-is_fed-clause-lost
+returns-then-is_fed-clause-lost g c = lost_part _ _ _ _ _ (returns-then-is_fed-clause-fed g c refl)
+
+pub returns-then-len-gt-MOST_BYTES-clause-lost : goal.returns-then-len-gt-MOST_BYTES-clause-lost
+returns-then-len-gt-MOST_BYTES-clause-lost g c =
+    let left = g.R.Source.left c.is_at_end.new.reader in
+    let block = c.is_at_end.new.self.block in
+    let behind = c.take_part.new.self.block in
+    let filled = lost_both _ _ _ (lost_part _ _ _ _ _ c.loop-self.invariant.grows) (lost_none _ (ahead block left) c.is_at_end.ensures.kept) in
+    lost_both _ (ahead block left) _ filled (elim (cases_Bool c.in_ok-is_fed.is_fed) [
+      | inl t ↦ (let p = c.take_part.ensures.fed (c.in_ok-is_fed.was ∙ ap Ok t) in lost_front left block behind (p.0 ++ codes "\n") (p.3 ∙ sym (append_assoc p.0 (codes "\n") behind)))
+      | inr f ↦ (let p = c.take_part.ensures.whole (c.in_ok-is_fed.was ∙ ap Ok f) in lost_front left block behind block (sym (append-nil block) ∙ ap (λ l. block ++ l) (sym p.2)))
+    ])
 
 pub loop-self-preserved : goal.loop-self-preserved
 loop-self-preserved g c =

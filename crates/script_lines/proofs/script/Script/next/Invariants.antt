@@ -1,5 +1,5 @@
-use Rattle.std.specs.Prelude.{◌-◌}
-use Rattle.script_lines.specs.Lines.{ahead, AreLines}
+use Rattle.std.specs.Prelude.{◌≤◌, ◌-◌}
+use Rattle.script_lines.specs.Lines.{ahead, AreLines, Loses}
 use Rattle.script_lines.specs.Scripts.{AreSkipped}
 use Rattle.script_lines.proofs.script.Script.next.Given as goal
 
@@ -8,6 +8,8 @@ abbrev pub invariant-loop-self : goal.invariant-loop-self
 invariant-loop-self g l = record {
   skipped : AreSkipped (ahead l.initial.self.lines.block (g.R.Source.left l.initial.reader)) (ahead l.self.lines.block (g.R.Source.left l.reader));
   lines : AreLines (ahead l.initial.self.lines.block (g.R.Source.left l.initial.reader)) l.initial.self.lines.count (ahead l.self.lines.block (g.R.Source.left l.reader)) l.self.lines.count;
+  lost : Loses (ahead l.initial.self.lines.block (g.R.Source.left l.initial.reader)) (ahead l.self.lines.block (g.R.Source.left l.reader));
+  counted : l.initial.self.lines.count ≤ l.self.lines.count;
 }
 
 abbrev pub decreases-loop-self : goal.decreases-loop-self

@@ -1,5 +1,5 @@
-use Rattle.std.specs.Prelude.{◌-◌}
-use Rattle.script_lines.specs.Lines.{ahead, AreLines}
+use Rattle.std.specs.Prelude.{◌≤◌, ◌-◌}
+use Rattle.script_lines.specs.Lines.{ahead, AreLines, Loses}
 use Rattle.script_lines.proofs.Texts.{Gathered}
 use Rattle.script_lines.proofs.script.Script.text.Given as goal
 
@@ -8,6 +8,8 @@ abbrev pub invariant-loop-bytes : goal.invariant-loop-bytes
 invariant-loop-bytes g l = record {
   text : Gathered (ahead l.initial.self.lines.block (g.R.Source.left l.initial.reader)) (ahead l.self.lines.block (g.R.Source.left l.reader)) l.bytes.items;
   lines : AreLines (ahead l.initial.self.lines.block (g.R.Source.left l.initial.reader)) l.initial.self.lines.count (ahead l.self.lines.block (g.R.Source.left l.reader)) l.self.lines.count;
+  lost : Loses (ahead l.initial.self.lines.block (g.R.Source.left l.initial.reader)) (ahead l.self.lines.block (g.R.Source.left l.reader));
+  counted : l.initial.self.lines.count ≤ l.self.lines.count;
 }
 
 abbrev pub decreases-loop-bytes : goal.decreases-loop-bytes

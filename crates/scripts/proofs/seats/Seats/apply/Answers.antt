@@ -40,4 +40,4 @@ returns-in-Some-clause-call g c =
     let before = c.args.self.now.passes.items in
     let after = slice_set before c.args.seat c.call-answer.new.pass in
     let same = of_err c.call-answer.result c.call-answer.ensures.same c.in-Some.ensures.refused in
-    not_taken c.args.seat c.in-Some.why before after (λ said. said ≡ seen c.args.command) (unchanged c.args.seat before after c.index_mut.result.now c.call-answer.new.pass c.index_mut.ensures.value refl same)
+    not_taken c.args.seat c.in-Some.why before after (λ said. said ≡ seen c.args.command) (seen c.args.command) refl (unchanged c.args.seat before after c.index_mut.result.now c.call-answer.new.pass c.index_mut.ensures.value refl same)
