@@ -12,4 +12,4 @@ mod tree;
 pub use expression::Expression;
 pub use file::{CatFile, Title};
 pub use node::{Infix, Leaf, Node, Sign};
-pub use tree::{Binding, Check, CheckKind, Element, Item};
+pub use tree::{Binding, Check, CheckKind, Definition, Element, Item};

@@ -57,4 +57,6 @@ pub enum Node {
     Leaf(Leaf),
     Sign(Sign),
     Infix(Infix),
+    /// A call of a function, `f(a, b)`, with its number of arguments.
+    Call(Name, usize),
 }

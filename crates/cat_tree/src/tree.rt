@@ -11,7 +11,15 @@ pub enum CheckKind {
     Empty,
 }
 
-/// A name with what it is bound to.
+/// A name with what a `let` binds it to: a value, or a function where there are parameters. The value of a function is its body.
+#[derive(Drop)]
+pub struct Definition {
+    pub name: Name,
+    pub parameters: Vec<Name>,
+    pub value: Expression,
+}
+
+/// A name with what a `let rec` binds it to.
 #[derive(Drop)]
 pub struct Binding {
     pub name: Name,
@@ -38,8 +46,8 @@ pub struct Element {
 /// An item of a model.
 #[derive(Drop)]
 pub enum Item {
-    /// `let a = e and b = f`: all names are bound at once.
-    Let(Vec<Binding>),
+    /// `let a = e and f(x) = g`: all names are bound at once.
+    Let(Vec<Definition>),
     /// `let rec a = e and b = f`: the names stand in their own expressions.
     LetRec(Vec<Binding>),
     Check(Check),
