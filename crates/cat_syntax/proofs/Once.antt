@@ -5,7 +5,8 @@ use Rattle.std.proofs.lemmas.List.{map-append}
 use Rattle.std.specs.List.{list_any}
 use Rattle.cat_tree.specs.declared.tree.Binding.{Binding}
 use Rattle.cat_tree.specs.declared.tree.Definition.{Definition}
-use Rattle.std.specs.Prelude.{Bool, ◌||◌}
+use Rattle.std.specs.Prelude.{Bool, Option, Some, ◌||◌}
+use Rattle.descent.specs.Reading.{match_option}
 use Rattle.std.specs.Str.{bytes_eq}
 use Rattle.std.proofs.lemmas.Bool.{or_parts, cases_Bool}
 use Rattle.cat_tree.specs.Tree.{Word, bound_of, defined_of}
@@ -63,3 +64,7 @@ bound_view (b ∷ bs) x = rw (bound_view bs x)
 pub defined_view : (ds : List Definition) (x : Word) → list_any (λ d. bytes_eq d.name x) ds ≡ is_among (names_defined (map defined_of ds)) x
 defined_view [] x = refl
 defined_view (d ∷ ds) x = rw (defined_view ds x)
+
+-- the name that comes next is the one that is looked for
+pub repeated_name : (xs : List Word) (next : Option Word) (x : Word) (r : Bool) → next ≡ Some x → r ≡ is_among xs x → r ≡ match_option next false (is_among xs)
+repeated_name xs next x r e f = rw e f

@@ -1,9 +1,10 @@
 //! Items and whole models.
 
-ghost use Rattle.std.specs.Prelude.{◌≡◌, List, map, option_map, Option, IfOk, false};
-ghost use Rattle.descent.specs.Reading.{match_option};
+ghost use Rattle.std.specs.Prelude.{◌≡◌, List, map, option_map, Option, IfOk};
+ghost use Rattle.std.specs.List.{list_any};
+ghost use Rattle.std.specs.Str.{bytes_eq};
 ghost use Rattle.cat_tree.specs.Tree.{defined_of, bound_of, shown_of, check_of, clause_of, File};
-ghost use Rattle.cat_syntax.specs.Reading.{Gives, alias_at, name_unless as name_at_unless, value_name_unless as value_name_at_unless, new_name_at, parameters_at, definition_at, binding_at, group_at, element_at, kind_at, check_with, check_at, quoted_at, separated, name_at, item_at, title_at, items_at, file_at, unless_end};
+ghost use Rattle.cat_syntax.specs.Reading.{Gives, alias_at, repeats as name_repeats, name_unless as name_at_unless, value_name_unless as value_name_at_unless, new_name_at, parameters_at, definition_at, binding_at, group_at, element_at, kind_at, check_with, check_at, quoted_at, separated, name_at, item_at, title_at, items_at, file_at, unless_end};
 ghost use Rattle.cat_syntax.specs.Items.{is_among, names_defined, names_bound};
 ghost use Rattle.cat_syntax.specs.declared.symbol.Terminal.TheVariants.{And, Comma};
 
@@ -15,39 +16,28 @@ use cat_tree::{Binding, CatFile, Check, CheckKind, Definition, Element, Item, Ti
 use std::alloc::{AllocError, Global};
 use wb_text::Name;
 
-/// Whether the name that comes next, if one does, is among those that a `let` binds.
-#[tactic(auto, using(crate::proofs::Once::defined_view))]
-fn is_defined(definitions: &[Definition], next: Option<&Spelling>) -> bool
-    ensures { result ≡ match_option (option_map (λ x. x.now) next) false (is_among (names_defined (map defined_of definitions.now))) }
+/// Whether a name is among those that a `let` binds.
+fn is_defined(definitions: &[Definition], name: &Spelling) -> bool
+    ensures { result ≡ list_any (λ d. bytes_eq d.name name.now) definitions.now }
 {
-    let Some(name) = next else {
-        return false;
-    };
     definitions
         .iter()
         .any(|definition| definition.name.bytes() == name.bytes())
 }
 
-/// Whether it is among those that a `let rec` binds.
-#[tactic(auto, using(crate::proofs::Once::bound_view))]
-fn is_bound(bindings: &[Binding], next: Option<&Spelling>) -> bool
-    ensures { result ≡ match_option (option_map (λ x. x.now) next) false (is_among (names_bound (map bound_of bindings.now))) }
+/// Whether a name is among those that a `let rec` binds.
+fn is_bound(bindings: &[Binding], name: &Spelling) -> bool
+    ensures { result ≡ list_any (λ b. bytes_eq b.name name.now) bindings.now }
 {
-    let Some(name) = next else {
-        return false;
-    };
     bindings
         .iter()
         .any(|binding| binding.name.bytes() == name.bytes())
 }
 
-/// Whether it is among these names.
-fn is_listed(names: &[Name], next: Option<&Spelling>) -> bool
-    ensures { result ≡ match_option (option_map (λ x. x.now) next) false (is_among names.now) }
+/// Whether a name is among these.
+fn is_listed(names: &[Name], name: &Spelling) -> bool
+    ensures { result ≡ is_among names.now name.now }
 {
-    let Some(name) = next else {
-        return false;
-    };
     names.iter().any(|listed| listed.bytes() == name.bytes())
 }
 
@@ -68,6 +58,36 @@ impl<'a> Reader<'a> {
             Ok(Some(self.name()?))
         } else {
             Ok(None)
+        }
+    }
+
+    /// Whether the next symbol is a name that a `let` binds already.
+    fn repeats_defined(&self, definitions: &[Definition]) -> bool
+        ensures { result ≡ name_repeats (names_defined (map defined_of definitions.now)) self.now.rest.now }
+    {
+        match self.next_name() {
+            Some(name) => is_defined(definitions, name),
+            None => false,
+        }
+    }
+
+    /// Whether the next symbol is a name that a `let rec` binds already.
+    fn repeats_bound(&self, bindings: &[Binding]) -> bool
+        ensures { result ≡ name_repeats (names_bound (map bound_of bindings.now)) self.now.rest.now }
+    {
+        match self.next_name() {
+            Some(name) => is_bound(bindings, name),
+            None => false,
+        }
+    }
+
+    /// Whether the next symbol is a name that stands already.
+    fn repeats_listed(&self, names: &[Name]) -> bool
+        ensures { result ≡ name_repeats names.now self.now.rest.now }
+    {
+        match self.next_name() {
+            Some(name) => is_listed(names, name),
+            None => false,
         }
     }
 
@@ -103,7 +123,7 @@ impl<'a> Reader<'a> {
     {
         let mut names = Vec::new(self.alloc);
         loop {
-            let repeated = is_listed(&names, self.next_name());
+            let repeated = self.repeats_listed(&names);
             let next = self.name_unless(repeated)?;
             names.push(next)?;
             if !self.take(Terminal::Comma) {
@@ -130,7 +150,7 @@ impl<'a> Reader<'a> {
     fn definition(&mut self, defined: &[Definition]) -> Result<Definition, SyntaxFault>
         ensures { Gives defined_of result self.new.rest.now (definition_at (map defined_of defined.now) self.old.rest.now) }
     {
-        let repeated = is_defined(defined, self.next_name());
+        let repeated = self.repeats_defined(defined);
         let name = self.name_unless(repeated)?;
         let parameters = self.parameters()?;
         self.expect(Terminal::Equals)?;
@@ -162,7 +182,7 @@ impl<'a> Reader<'a> {
     fn binding(&mut self, bound: &[Binding]) -> Result<Binding, SyntaxFault>
         ensures { Gives bound_of result self.new.rest.now (binding_at (map bound_of bound.now) self.old.rest.now) }
     {
-        let repeated = is_bound(bound, self.next_name());
+        let repeated = self.repeats_bound(bound);
         let name = self.value_name_unless(repeated)?;
         self.expect(Terminal::Equals)?;
         let value = self.expression()?;
