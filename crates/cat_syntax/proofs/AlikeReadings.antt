@@ -12,7 +12,7 @@ use Rattle.cat_syntax.specs.declared.symbol.Terminal.{Terminal}
 use Rattle.cat_syntax.specs.declared.symbol.Terminal.TheVariants.{Let, Rec, And, Acyclic, Irreflexive, Empty, As, Flag, Show, Unshow, Include, Comma, Equals, Domain, Range, Underscore, Zero, LeftParen, RightParen, LeftBracket, RightBracket, LeftBrace, RightBrace, Star, Tilde, Plus, Question, Inverse}
 use Rattle.cat_tree.specs.Terms.{terms_of}
 use Rattle.cat_syntax.specs.Items.{names_defined, names_bound}
-use Rattle.cat_tree.specs.Tree.{Word, Term, Defined, Bound, Clause, bind, bind_recursively, include, show, unshow, name, call, identity, domain, range, empty_set, complement}
+use Rattle.cat_tree.specs.Tree.{Word, Defined, Bound, Clause, bind, bind_recursively, include, show, unshow, name, call, identity, domain, range, empty_set, complement}
 use Rattle.cat_syntax.specs.Symbols.{is_name}
 use Rattle.cat_syntax.specs.Grammar.{joined, begins_check, begins_operand}
 use Rattle.cat_syntax.specs.Reading.{Reading, cut, terminal_eq, after, expected, name_at, sign, infix_at, associates_left, postfix_at, applied, applied_at, next_operand, right, left, enclosed_with, primary_with, postfix_with, unary_with, level_with, below, expression_at, push_item, separated, alias_at, next_name, repeats, opens_arguments, begins_call, arguments_with, name_unless, value_name_unless, new_name_at, parameters_at, definition_at, binding_at, group_at, element_at, optional_at, kind_at, check_with, check_at, quoted_at, item_at, unless_end, title_at, items_at, file_at}

@@ -2,7 +2,6 @@
 use Rattle.std.proofs.Common.{◌≡◌, ℕ, zero, suc, ◌<◌, ◌≤◌, List, [], ◌∷◌, ◌++◌, append_assoc, true, false, refl, ap, sym, ◌∙◌, arith, inl, inr}
 use Rattle.std.specs.Prelude.{None, Ok}
 use Rattle.std.proofs.lemmas.Bool.{cases_Bool}
-use Rattle.descent.specs.Reading.{◌>>=◌, repeated}
 use Rattle.descent.proofs.Tools.{Yields, Shows}
 use Rattle.descent.proofs.Turns.{Arrives, last, next}
 use Rattle.cat_tree.specs.declared.node.Infix.{Infix}
@@ -15,7 +14,7 @@ use Rattle.cat_syntax.specs.declared.symbol.Terminal.TheVariants.{Let, And, Acyc
 use Rattle.cat_tree.specs.Postorder.{listed, terms_of-listed}
 use Rattle.cat_tree.specs.Tree.{Term, Terms, complement, domain, range, identity, name, empty_relation, empty_set, universe, call}
 use Rattle.cat_syntax.specs.Grammar.{joined, begins_check, begins_operand, JoinsLeft, joins_product, joins_difference, JoinsRight, joins_intersection, joins_sequence, joins_union, IsLevel, level_unary, level_tighter, level_left, level_right, IsUnary, unary_complement, unary_postfix, IsPostfix, postfix_primary, postfix_plus, postfix_star, postfix_optional, postfix_inverse, IsPrimary, primary_name, primary_universe, primary_empty_relation, primary_empty_set, primary_paren, primary_identity, primary_domain, primary_range, primary_call, AreArguments, last_argument, more_arguments}
-use Rattle.cat_syntax.specs.Reading.{Reading, terminal_eq, after, infix_at, associates_left, postfix_at, applied, applied_at, next_operand, right, left, Inner, push_item, separated, opens_arguments, arguments_with, enclosed_with, primary_with, postfix_with, unary_with, level_with, below, cut}
+use Rattle.cat_syntax.specs.Reading.{Reading, terminal_eq, after, infix_at, associates_left, postfix_at, applied, applied_at, next_operand, right, left, Inner, separated, opens_arguments, arguments_with, enclosed_with, primary_with, postfix_with, unary_with, level_with, below, cut}
 use Rattle.cat_syntax.proofs.Symbols.{after-first, expected-first}
 use Rattle.cat_syntax.proofs.Levels.{left_shorter, postfix_shorter, right_more, arguments_from, arguments_turn}
 

@@ -2,11 +2,11 @@
 use Rattle.std.proofs.Common.{◌≡◌, ◌<◌, List, [], ◌∷◌, ◌++◌, map, length, true, false, refl, ap, sym, ◌∙◌, subst, arith, append_assoc}
 use Rattle.std.proofs.lemmas.List.{append-nil}
 use Rattle.std.specs.Prelude.{Bool, Option, Some, None, Ok}
-use Rattle.descent.specs.Reading.{match_option, ◌>>=◌, repeated}
+use Rattle.descent.specs.Reading.{repeated}
 use Rattle.cat_syntax.specs.declared.symbol.Symbol.{Symbol}
 use Rattle.cat_syntax.specs.declared.symbol.Symbol.TheVariants.{Fixed, Name, Quoted}
 use Rattle.cat_syntax.specs.declared.symbol.Terminal.{Terminal}
-use Rattle.cat_syntax.specs.declared.symbol.Terminal.TheVariants.{Let, Rec, And, Acyclic, Irreflexive, Empty, As, Flag, Show, Unshow, Include, LeftParen, RightParen, Comma, Equals, Tilde}
+use Rattle.cat_syntax.specs.declared.symbol.Terminal.TheVariants.{Let, Rec, And, Acyclic, Irreflexive, Empty, As, Flag, Show, Unshow, Include, RightParen, Comma, Equals, Tilde}
 use Rattle.cat_tree.specs.declared.tree.CheckKind.{CheckKind}
 use Rattle.cat_tree.specs.Tree.{Word, Term, Defined, Bound, Shown, Clause, bind, bind_recursively, check, include, show, unshow, File}
 use Rattle.cat_syntax.specs.Symbols.{is_name}
@@ -204,7 +204,7 @@ new_names-complete ts rest xs d k =
 parameters-complete : (ts us : List Symbol) (xs : List Word) → AreParameters ts (Fixed Equals ∷ us) xs → parameters_at ts ≡ Ok (xs, Fixed Equals ∷ us)
 unfolding parameters_at after
 parameters-complete ts us xs no_parameters = refl
-parameters-complete ts us xs (with_parameters {ts = vs} d k) = rw (after-first LeftParen vs, new_names-complete vs (Fixed Equals ∷ us) xs d k, expected-first RightParen (Fixed Equals ∷ us))
+parameters-complete ts us xs (with_parameters {ts = vs} d k) = rw (new_names-complete vs (Fixed Equals ∷ us) xs d k, expected-first RightParen (Fixed Equals ∷ us))
 
 definition-complete : (ds : List Defined) (ts rest : List Symbol) (d : Defined) → IsDefinition ts rest d → is_among (names_defined ds) d.name ≡ false → Ends 5 rest → definition_at ds ts ≡ Ok (d, rest)
 unfolding definition_at

@@ -11,8 +11,8 @@ use Rattle.cat_syntax.specs.declared.symbol.Terminal.TheVariants.{Let, Rec, And,
 use Rattle.cat_tree.specs.declared.tree.CheckKind.{CheckKind}
 use Rattle.cat_tree.specs.Tree.{Word, Defined, Bound, Shown, Clause, include, File}
 use Rattle.cat_syntax.specs.Symbols.{is_name}
-use Rattle.cat_syntax.specs.Items.{IsExpression, AreSeparated, one, more, IsOptional, absent, present, IsNamed, named, IsAlias, no_alias, alias, is_among, AreOnce, AreParameters, no_parameters, with_parameters, IsDefinition, definition, names_defined, names_bound, IsBinding, binding, IsElement, element, Checks, checks_acyclic, checks_irreflexive, checks_empty, IsItem, item_let, item_rec, item_check, item_include, item_show, item_unshow, AreItems, no_items, more_items, IsFile, untitled, title_name, title_quoted}
-use Rattle.cat_syntax.specs.Reading.{Reading, after, expected, name_at, expression_at, push_item, separated, alias_at, next_name, repeats, begins_call, name_unless, value_name_unless, new_name_at, parameters_at, definition_at, binding_at, group_at, element_at, optional_at, kind_at, check_with, check_at, quoted_at, item_at, unless_end, title_at, items_at, file_at, cut}
+use Rattle.cat_syntax.specs.Items.{IsExpression, AreSeparated, IsOptional, absent, present, IsNamed, named, IsAlias, no_alias, alias, is_among, AreOnce, AreParameters, no_parameters, with_parameters, IsDefinition, definition, names_defined, names_bound, IsBinding, binding, IsElement, element, Checks, checks_acyclic, checks_irreflexive, checks_empty, IsItem, item_let, item_rec, item_check, item_include, item_show, item_unshow, AreItems, no_items, more_items, IsFile, untitled, title_name, title_quoted}
+use Rattle.cat_syntax.specs.Reading.{after, expected, name_at, expression_at, push_item, separated, alias_at, next_name, repeats, begins_call, name_unless, value_name_unless, new_name_at, parameters_at, definition_at, binding_at, group_at, element_at, optional_at, kind_at, check_with, check_at, quoted_at, item_at, unless_end, title_at, items_at, file_at, cut}
 use Rattle.cat_syntax.proofs.Symbols.{after-some, expected-ok, name-ok}
 use Rattle.cat_syntax.proofs.Names.{name_is}
 use Rattle.cat_syntax.proofs.Once.{once-push, named-push}

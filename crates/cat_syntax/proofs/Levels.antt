@@ -13,12 +13,12 @@ use Rattle.cat_syntax.specs.declared.operator.Postfix.{Postfix}
 use Rattle.cat_syntax.specs.declared.syntax_fault.SyntaxFault.{SyntaxFault}
 use Rattle.cat_syntax.specs.declared.syntax_fault.SyntaxFault.TheVariants.{Unexpected, BoundTwice, RecursiveFunction, TooDeep, NoMemory}
 use Rattle.cat_syntax.specs.declared.symbol.Symbol.{Symbol}
-use Rattle.cat_syntax.specs.declared.symbol.Symbol.TheVariants.{Fixed, Name}
+use Rattle.cat_syntax.specs.declared.symbol.Symbol.TheVariants.{Fixed}
 use Rattle.cat_tree.specs.declared.expression.Expression.{Expression}
 use Rattle.cat_tree.specs.Terms.{nest}
 use Rattle.cat_tree.specs.Tree.{Word, Term, term_of, pair_of}
 use Rattle.cat_syntax.specs.Grammar.{joined}
-use Rattle.cat_syntax.specs.Reading.{Stop, Reading, OrNoMemory, after, expected, name_at, push_item, separated, begins_call, opens_arguments, arguments_with, call_with, infix_at, postfix_at, applied_at, next_operand, chain_right, right, signed, enclosure_at, leaf_at, enclosed_with, primary_with, level_with, below, cut}
+use Rattle.cat_syntax.specs.Reading.{Stop, Reading, OrNoMemory, after, expected, name_at, push_item, separated, begins_call, arguments_with, call_with, infix_at, postfix_at, applied_at, next_operand, chain_right, right, signed, enclosure_at, leaf_at, enclosed_with, primary_with, level_with, below, cut}
 use Rattle.cat_syntax.proofs.Separated.{turn_shorter, list-more, after_no_longer}
 use Rattle.cat_syntax.proofs.Symbols as symbols
 use Rattle.cat_syntax.proofs.Sound.{level-shorter, level_is}

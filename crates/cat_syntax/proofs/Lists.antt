@@ -1,19 +1,18 @@
 -- What the loops over lists use.
-use Rattle.std.proofs.Common.{◌≡◌, ◌<◌, ◌≤◌, List, [], ◌∷◌, ◌++◌, length, map, arith, ap, refl, inl, inr}
+use Rattle.std.proofs.Common.{◌≡◌, ◌<◌, List, [], ◌∷◌, ◌++◌, length, map, arith, ap, refl, inl, inr}
 use Rattle.std.proofs.lemmas.List.{map-append}
 use Rattle.std.specs.Prelude.{Bool, Some, Ok}
-use Rattle.descent.specs.Reading.{Look, match_option, ◌>>=◌, repeated}
+use Rattle.descent.specs.Reading.{match_option, ◌>>=◌, repeated}
 use Rattle.descent.proofs.Tools.{bind_ok, moved, ok_or_err}
-use Rattle.descent.proofs.Turns.{repeated-more}
 use Rattle.cat_syntax.specs.declared.symbol.Symbol.{Symbol}
 use Rattle.cat_syntax.specs.declared.symbol.Terminal.{Terminal}
-use Rattle.cat_syntax.specs.declared.symbol.Terminal.TheVariants.{And, Comma, Equals, LeftParen}
+use Rattle.cat_syntax.specs.declared.symbol.Terminal.TheVariants.{And, Comma, Equals}
 use Rattle.cat_tree.specs.declared.tree.Binding.{Binding}
 use Rattle.cat_tree.specs.declared.tree.Definition.{Definition}
 use Rattle.cat_tree.specs.declared.tree.Element.{Element}
 use Rattle.cat_tree.specs.declared.tree.Item.{Item}
 use Rattle.cat_tree.specs.Tree.{Word, Term, Defined, Bound, Shown, Clause, defined_of, bound_of, shown_of, clause_of, check}
-use Rattle.cat_syntax.specs.Reading.{Reading, after, expected, name_at, new_name_at, value_name_unless, repeats, parameters_at, definition_at, binding_at, alias_at, kind_at, check_with, element_at, item_at, push_item, unless_end, expression_at, cut}
+use Rattle.cat_syntax.specs.Reading.{after, expected, name_at, new_name_at, value_name_unless, repeats, parameters_at, definition_at, binding_at, alias_at, kind_at, check_with, element_at, item_at, push_item, unless_end, expression_at, cut}
 use Rattle.cat_syntax.specs.Items.{names_defined, names_bound}
 use Rattle.cat_syntax.proofs.Separated.{turn_shorter, list-more, after_no_longer}
 use Rattle.cat_syntax.proofs.Symbols as symbols

@@ -1,5 +1,5 @@
 -- The nodes of the symbols are the nodes of the tree that they spell.
-use Rattle.std.proofs.Common.{◌≡◌, ℕ, zero, suc, ◌+◌, ◌<◌, ◌≤◌, List, [], ◌∷◌, length, take, drop, get_or, refl, ap, sym, ◌∙◌, arith, add-one, drop-cons, ◌⊎◌, inl, inr}
+use Rattle.std.proofs.Common.{◌≡◌, ℕ, zero, suc, ◌+◌, ◌-◌, ◌<◌, ◌≤◌, List, [], ◌∷◌, length, take, drop, get_or, refl, ap, sym, ◌∙◌, arith, add-one, drop-cons, ◌⊎◌, inl, inr}
 use Rattle.std.proofs.lemmas.List.Sums.{sum_by-cons}
 use Rattle.std.specs.Prelude.{Bool, Option, sum_by, if◌then◌else◌}
 use Rattle.cat_syntax.specs.declared.counting.Context.{Context}
@@ -139,12 +139,12 @@ mutual
 -- a parenthesis is closed
 closed-weight : (p : ℕ) (ss : List Symbol) → plain (p + 1) (Fixed RightParen ∷ ss) ≡ plain p ss
 unfolding weight cost context_after depth_after
-closed-weight p ss = (let same : (p + 1) - 1 ≡ p = omega arith in ap (λ q. plain q ss) same)
+closed-weight p ss = (let same : (p + 1) - 1 ≡ p = omega arith in omega (arith, ap (λ q. plain q ss) same))
 
 -- a comma between arguments
 inner-comma : (p : ℕ) (ss : List Symbol) → plain (p + 1) (Fixed Comma ∷ ss) ≡ plain (p + 1) ss
 unfolding weight cost context_after depth_after
-inner-comma p ss = rw add-one refl
+inner-comma p ss = rw add-one (omega arith)
 
 mutual
   unfolding weight cost context_after depth_after
@@ -217,7 +217,7 @@ listed-weight ts rest xs (more {mid = mid} {x = x} {xs = ys} d ds) = omega (arit
 
 parameters-weight : (ts rest : List Symbol) (xs : List Word) → AreParameters ts rest xs → plain 0 ts ≡ length xs + plain 0 rest
 unfolding weight cost context_after depth_after
-parameters-weight ts rest xs no_parameters = refl
+parameters-weight ts rest xs no_parameters = omega arith
 parameters-weight ts rest xs (with_parameters {ts = us} d k) = omega (arith, listed-weight us (Fixed RightParen ∷ rest) xs d, closed-weight 0 rest)
 
 equals-weight : (ss : List Symbol) → plain 0 (Fixed Equals ∷ ss) ≡ plain 0 ss

@@ -1,7 +1,7 @@
-use Rattle.std.proofs.Common.{◌≡◌, ◌∙◌, ap, sym, arith, map, rules}
+use Rattle.std.proofs.Common.{◌∙◌, ap, sym, arith, map}
 use Rattle.std.proofs.lemmas.Result.{err_from_is_err_and}
 use Rattle.cat_tree.specs.Tree.{term_of}
-use Rattle.cat_syntax.proofs.Levels.{arguments_from, arguments_start, arguments_open, arguments_read, arguments_stop, arguments_left}
+use Rattle.cat_syntax.proofs.Levels.{arguments_from, arguments_start, arguments_read, arguments_stop, arguments_left}
 use Rattle.cat_syntax.proofs.reading.Reader.+expressions.Goals as goal
 
 pub arguments-returns-in_err-arguments : goal.arguments-returns-in_err-arguments

@@ -1,8 +1,8 @@
 use Rattle.std.proofs.Common.{◌≡◌, ◌+◌, ◌*◌, ◌≤◌, length, map}
-use Rattle.descent.specs.Reading.{◌>>=◌, repeated}
+use Rattle.descent.specs.Reading.{repeated}
 use Rattle.cat_syntax.specs.declared.symbol.Terminal.TheVariants.{Comma}
 use Rattle.cat_tree.specs.Tree.{term_of}
-use Rattle.cat_syntax.specs.Reading.{after, push_item, separated, infix_at, postfix_at, applied_at, next_operand, left, right, postfix_with, level_with, below, cut}
+use Rattle.cat_syntax.specs.Reading.{separated, infix_at, postfix_at, applied_at, next_operand, left, right, postfix_with, level_with, below, cut}
 use Rattle.cat_syntax.proofs.Levels.{chained, arguments_from}
 use Rattle.cat_syntax.proofs.reading.Reader.+expressions.Given as goal
 
