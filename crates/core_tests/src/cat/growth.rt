@@ -61,7 +61,7 @@ fn leaves_out(alloc: Global, text: &str, word: &[u8]) -> Option<bool> {
 
 #[test]
 fn reading_a_fault(rt: HostRuntime) -> Result<(), Fail> {
-    let text = "let r = f(a)";
+    let text = "let rec f(x) = x";
     let told = match leaves_out(rt.alloc(), text, b"f") {
         Some(told) => Some(told),
         None => leaves_out(rt.alloc(), text, b"f"),

@@ -5,6 +5,7 @@ use crate::cat::texts::{EACH_KIND, RC11, confirm, repeated};
 use cat_syntax::{CatFault, CatFile, Expression, Infix, Item, Leaf, Node, Sign, read_cat};
 use std::alloc::{AllocError, Global};
 use std::test::Fail;
+use wb_text::Name;
 
 /// What is written before the operand of a sign.
 fn opening(sign: Sign) -> &'static str {
@@ -56,6 +57,25 @@ fn latest(alloc: Global, texts: &mut Vec<String>) -> String {
     }
 }
 
+/// The text of a call, where the latest texts are those of its arguments.
+fn show_call(
+    alloc: Global,
+    name: &Name,
+    count: usize,
+    texts: &mut Vec<String>,
+) -> Result<String, AllocError> {
+    let mut arguments = String::new(alloc);
+    for _ in 0..count {
+        let argument = latest(alloc, texts);
+        arguments = if arguments.is_empty() {
+            argument
+        } else {
+            format!(in alloc; "{argument},{arguments}")?
+        };
+    }
+    format!(in alloc; "{name}({arguments})")
+}
+
 /// The text of a node, with parentheses round it, where the latest texts are those of its operands.
 fn show_node(alloc: Global, node: &Node, texts: &mut Vec<String>) -> Result<String, AllocError> {
     match node {
@@ -69,6 +89,7 @@ fn show_node(alloc: Global, node: &Node, texts: &mut Vec<String>) -> Result<Stri
             let left = latest(alloc, texts);
             format!(in alloc; "({}{}{})", left, between(*operator), right)
         }
+        Node::Call(name, count) => show_call(alloc, name, *count, texts),
     }
 }
 
@@ -136,6 +157,14 @@ const OPERATORS: &[(&str, &str)] = &[
         "let r = domain(a) | range(b) | [{}] | 0 | _",
         "(domain(a)|(range(b)|(id({})|(0|_))))",
     ),
+    ("let r = f(a)", "f(a)"),
+    (
+        "let r = f (a | b, g(c)*) ; d",
+        "(f((a|b),(g(c))*);d)",
+    ),
+    ("let r = a * f(~a, 0, [b])+", "(ax(f(~(a),0,id(b)))+)"),
+    ("let r = b and f(x, y) = y and g(x) = x", "b"),
+    ("let f(f, x) = f(x)", "f(x)"),
 ];
 
 #[test]
@@ -149,7 +178,24 @@ const FAULTS: &[(&str, &str)] = &[
     ("let r =", "52 Syntax 7"),
     ("let _ = a", "52 Syntax 4"),
     ("let r = 1", "52 Syntax 8"),
-    ("let r = f(a)", "53 Unsupported f"),
+    ("let r = f()", "52 Syntax 10"),
+    ("let r = f(a", "52 Syntax 11"),
+    ("let r = f(a,)", "52 Syntax 12"),
+    ("let r = _ (a)", "52 Syntax 10"),
+    ("let f() = a", "52 Syntax 6"),
+    ("let f(_) = a", "52 Syntax 6"),
+    ("let f(x, x) = x", "52 Syntax 9"),
+    ("let f(x = x", "52 Syntax 8"),
+    ("let f(x) x", "52 Syntax 9"),
+    ("let f(with) = a", "53 Unsupported with"),
+    ("let rec f(x) = x", "53 Unsupported f"),
+    ("let rec f(x) = x and f = r", "53 Unsupported f"),
+    ("let rec r = r and f (x) = x", "53 Unsupported f"),
+    ("let rec f = r and f(x) = x", "52 Syntax 18"),
+    ("f(x)", "52 Syntax 1"),
+    ("empty r as f(x)", "52 Syntax 12"),
+    ("unshow f(x)", "52 Syntax 8"),
+    ("show f, f(x)", "a tree"),
     ("let r = a and r (x) = b", "52 Syntax 14"),
     ("let r = a ++ b", "53 Unsupported ++"),
     ("let r = if a", "53 Unsupported if"),
@@ -211,6 +257,32 @@ fn all_repeat_to(alloc: Global, rows: &[(&[(&str, usize)], &str)]) -> Result<(),
 const DEEP_AND_LARGE: &[(&[(&str, usize)], &str)] = &[
     (&[("empty ", 1), ("(", 64), ("0", 1), (")", 64)], "a tree"),
     (&[("empty ", 1), ("(", 65), ("0", 1)], "54 TooDeep"),
+    (
+        &[("empty ", 1), ("f(", 64), ("0", 1), (")", 64)],
+        "a tree",
+    ),
+    (&[("empty ", 1), ("f(", 65), ("0", 1)], "54 TooDeep"),
+    (
+        &[("empty ", 1), ("f(a, ", 64), ("0", 1), (")", 64)],
+        "a tree",
+    ),
+    (&[("empty f(rf", 1), (", rf", 4_093), (")", 1)], "a tree"),
+    (
+        &[("empty f(rf", 1), (", rf", 4_094), (")", 1)],
+        "55 TooLarge",
+    ),
+    (
+        &[("empty f(rf", 1), (", rf", 4_093), (", )", 1)],
+        "52 Syntax 16384",
+    ),
+    (
+        &[("let f(x) = x ", 1_365), ("include \"a\"", 1)],
+        "x",
+    ),
+    (
+        &[("let f(x) = x ", 1_365), ("show f(x)", 1)],
+        "55 TooLarge",
+    ),
     (&[("empty rf", 1), (" | rf", 2_047)], "a tree"),
     (
         &[("empty rf", 1), (" | rf", 2_048), (")", 1)],
@@ -278,6 +350,13 @@ const EQUALITY: &[(&str, &str, bool)] = &[
     ("let a = r ; s | t", "let a = r ; (s | t)", false),
     ("let a = r", "let rec a = r", false),
     ("let a = r and b = s", "let b = s and a = r", false),
+    ("let r = f(a ; b, c)", "let r = f (((a ; b)), c)", true),
+    ("let r = f(a)", "let r = g(a)", false),
+    ("let r = f(a, b)", "let r = f(b, a)", false),
+    ("let r = f(a, b)", "let r = f(a)", false),
+    ("let r = f(a)", "let r = f", false),
+    ("let f(x, y) = a", "let f(y, x) = a", false),
+    ("let f(x) = a", "let f = a", false),
     ("show a as b", "show a", false),
     ("unshow a, b", "unshow a", false),
     ("include \"a\"", "include \"b\"", false),
