@@ -158,10 +158,7 @@ const OPERATORS: &[(&str, &str)] = &[
         "(domain(a)|(range(b)|(id({})|(0|_))))",
     ),
     ("let r = f(a)", "f(a)"),
-    (
-        "let r = f (a | b, g(c)*) ; d",
-        "(f((a|b),(g(c))*);d)",
-    ),
+    ("let r = f (a | b, g(c)*) ; d", "(f((a|b),(g(c))*);d)"),
     ("let r = a * f(~a, 0, [b])+", "(ax(f(~(a),0,id(b)))+)"),
     ("let r = b and f(x, y) = y and g(x) = x", "b"),
     ("let f(f, x) = f(x)", "f(x)"),
@@ -257,10 +254,7 @@ fn all_repeat_to(alloc: Global, rows: &[(&[(&str, usize)], &str)]) -> Result<(),
 const DEEP_AND_LARGE: &[(&[(&str, usize)], &str)] = &[
     (&[("empty ", 1), ("(", 64), ("0", 1), (")", 64)], "a tree"),
     (&[("empty ", 1), ("(", 65), ("0", 1)], "54 TooDeep"),
-    (
-        &[("empty ", 1), ("f(", 64), ("0", 1), (")", 64)],
-        "a tree",
-    ),
+    (&[("empty ", 1), ("f(", 64), ("0", 1), (")", 64)], "a tree"),
     (&[("empty ", 1), ("f(", 65), ("0", 1)], "54 TooDeep"),
     (
         &[("empty ", 1), ("f(a, ", 64), ("0", 1), (")", 64)],
@@ -275,14 +269,8 @@ const DEEP_AND_LARGE: &[(&[(&str, usize)], &str)] = &[
         &[("empty f(rf", 1), (", rf", 4_093), (", )", 1)],
         "52 Syntax 16384",
     ),
-    (
-        &[("let f(x) = x ", 1_365), ("include \"a\"", 1)],
-        "x",
-    ),
-    (
-        &[("let f(x) = x ", 1_365), ("show f(x)", 1)],
-        "55 TooLarge",
-    ),
+    (&[("let f(x) = x ", 1_365), ("include \"a\"", 1)], "x"),
+    (&[("let f(x) = x ", 1_365), ("show f(x)", 1)], "55 TooLarge"),
     (&[("empty rf", 1), (" | rf", 2_047)], "a tree"),
     (
         &[("empty rf", 1), (" | rf", 2_048), (")", 1)],
