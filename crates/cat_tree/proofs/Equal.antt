@@ -2,12 +2,16 @@
 use Rattle.std.proofs.Common.{◌≡◌, List, map, Bool, IsTrue, ◌↔◌, sym}
 use Rattle.std.specs.Cmp.Derive.Mapped.{pointwise-map}
 use Rattle.std.specs.Cmp.Lexicographic.{pointwise}
-use Rattle.cat_tree.specs.Equality.{same_bound, same_shown, same_clause, same_file}
-use Rattle.cat_tree.specs.Exact.{clause_exact, file_exact}
-use Rattle.cat_tree.specs.Tree.{bound_of, shown_of, clause_of, Clause, File}
+use Rattle.cat_tree.specs.Equality.{same_defined, same_bound, same_shown, same_clause, same_file}
+use Rattle.cat_tree.specs.Exact.{defined_exact, clause_exact, file_exact}
+use Rattle.cat_tree.specs.Tree.{defined_of, bound_of, shown_of, clause_of, Defined, Clause, File}
 use Rattle.cat_tree.specs.declared.tree.Binding.{Binding}
+use Rattle.cat_tree.specs.declared.tree.Definition.{Definition}
 use Rattle.cat_tree.specs.declared.tree.Element.{Element}
 use Rattle.cat_tree.specs.declared.tree.Item.{Item}
+
+pub defined_told : (xs ys : List Definition) → pointwise (λ a b. same_defined (defined_of a) (defined_of b)) xs ys ≡ pointwise same_defined (map defined_of xs) (map defined_of ys)
+defined_told xs ys = sym (pointwise-map defined_of same_defined xs ys)
 
 pub bounds_told : (xs ys : List Binding) → pointwise (λ a b. same_bound (bound_of a) (bound_of b)) xs ys ≡ pointwise same_bound (map bound_of xs) (map bound_of ys)
 bounds_told xs ys = sym (pointwise-map bound_of same_bound xs ys)
@@ -19,6 +23,9 @@ pub clauses_told : (xs ys : List Item) → pointwise (λ a b. same_clause (claus
 clauses_told xs ys = sym (pointwise-map clause_of same_clause xs ys)
 
 -- what a test that was made has told
+
+pub definition_told : (a b : Defined) (r : Bool) → r ≡ same_defined a b → IsTrue r ↔ (a ≡ b)
+definition_told a b r e = rw e (defined_exact a b)
 
 pub clause_told : (a b : Clause) (r : Bool) → r ≡ same_clause a b → IsTrue r ↔ (a ≡ b)
 clause_told a b r e = rw e (clause_exact a b)

@@ -1,10 +1,10 @@
 -- Lists of nodes that are those of a tree.
-use Rattle.std.proofs.Common.{◌≡◌, List, [], ◌∷◌, ◌++◌, map, ◌∙◌, ap, sym, refl}
+use Rattle.std.proofs.Common.{◌≡◌, ℕ, List, [], ◌∷◌, ◌++◌, length, map, suc, ◌∙◌, ap, sym, refl}
 use Rattle.std.proofs.Common.{rules}
 use Rattle.std.specs.Prelude.{reverse}
 use Rattle.std.specs.Bool.{Decides, one_answer}
 use Rattle.std.specs.Cmp.Lexicographic.{pointwise, pointwise_decides}
-use Rattle.std.proofs.lemmas.List.{append_assoc, append-nil, reverse-append}
+use Rattle.std.proofs.lemmas.List.{append_assoc, append-nil, reverse-append, length-map}
 use Rattle.cat_tree.specs.contracts.node.NodePartialEq.TheImpl.{ghosts as node_equality}
 use Rattle.cat_tree.specs.declared.node.Infix.{Infix}
 use Rattle.cat_tree.specs.declared.node.Leaf.{Leaf}
@@ -14,7 +14,9 @@ use Rattle.cat_tree.specs.declared.node.Sign.{Sign}
 use Rattle.cat_tree.specs.Equality.{same_term}
 use Rattle.cat_tree.specs.Exact.{by_parts, term_exact}
 use Rattle.cat_tree.specs.Postorder.{postorder-leaf, postorder-sign, postorder-infix, term_in-postorder}
-use Rattle.cat_tree.specs.Terms.{Term, leaf_of, applied, joined, nest, operands_in, operators_in, postorder, term_in}
+use Rattle.cat_tree.specs.Terms.{Word, Term, call, leaf_of, applied, joined, nest, count_terms, terms_of, operands_in, operators_in, postorder, postorders, term_in}
+use Rattle.cat_tree.specs.Tree.{term_of}
+use Rattle.cat_tree.specs.declared.expression.Expression.{Expression}
 
 -- nodes that are those of a tree are read as it, and are those of what they are read as
 
@@ -47,6 +49,21 @@ infix_term ns b o e = term_by ((ns ++ postorder b) ++ nodes.Infix o ∷ []) (joi
 
 pub infix_whole : (ns : List Node) (b : Term) (o : Infix) → postorder (term_in ns) ≡ ns → postorder (term_in ((ns ++ postorder b) ++ nodes.Infix o ∷ [])) ≡ (ns ++ postorder b) ++ nodes.Infix o ∷ []
 infix_whole ns b o e = whole_by ((ns ++ postorder b) ++ nodes.Infix o ∷ []) (joined o (term_in ns) b) (infix_is ns b o e)
+
+-- calls
+
+count_is : (as' : List Term) → count_terms (terms_of as') ≡ length as'
+count_is [] = refl
+count_is (a ∷ as') = ap suc (count_is as')
+
+call_is : (f : Word) (es : List Expression) (n : ℕ) → n ≡ length es → postorders (terms_of (map term_of es)) ++ nodes.Call f n ∷ [] ≡ postorder (call f (terms_of (map term_of es)))
+call_is f es n e = ap (λ m. postorders (terms_of (map term_of es)) ++ nodes.Call f m ∷ []) (e ∙ sym (count_is (map term_of es) ∙ length-map es term_of))
+
+pub call_term : (f : Word) (es : List Expression) (n : ℕ) → n ≡ length es → term_in (postorders (terms_of (map term_of es)) ++ nodes.Call f n ∷ []) ≡ call f (terms_of (map term_of es))
+call_term f es n e = term_by (postorders (terms_of (map term_of es)) ++ nodes.Call f n ∷ []) (call f (terms_of (map term_of es))) (call_is f es n e)
+
+pub call_whole : (f : Word) (es : List Expression) (n : ℕ) → n ≡ length es → postorder (term_in (postorders (terms_of (map term_of es)) ++ nodes.Call f n ∷ [])) ≡ postorders (terms_of (map term_of es)) ++ nodes.Call f n ∷ []
+call_whole f es n e = whole_by (postorders (terms_of (map term_of es)) ++ nodes.Call f n ∷ []) (call f (terms_of (map term_of es))) (call_is f es n e)
 
 pub same_whole : (ns ms : List Node) → ns ≡ ms → postorder (term_in ms) ≡ ms → postorder (term_in ns) ≡ ns
 same_whole ns ms e w = whole_by ns (term_in ms) (e ∙ sym w)

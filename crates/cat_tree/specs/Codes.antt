@@ -5,7 +5,7 @@ use Rattle.std.specs.Prelude.{◌⊎◌}
 use Rattle.std.proofs.Common.{◌≡◌, inl, inr}
 use Rattle.cat_tree.specs.Postorder.{term_in-postorder}
 use Rattle.cat_tree.specs.Terms.{postorder, term_in}
-use Rattle.cat_tree.specs.Tree.{Word, Term, Bound, Shown, Clause, bind, bind_recursively, check, include, show, unshow, File}
+use Rattle.cat_tree.specs.Tree.{Word, Term, Defined, Bound, Shown, Clause, bind, bind_recursively, check, include, show, unshow, File}
 use Rattle.cat_tree.specs.contracts.tree.CheckKind.{the_row as kind_row}
 use Rattle.cat_tree.specs.contracts.node.Node.{the_row as node_row}
 use Rattle.cat_tree.specs.declared.tree.CheckKind.{CheckKind}
@@ -17,6 +17,10 @@ coded_term = code_by (List Node) (coded_list node_row.coded) postorder term_in t
 
 abbrev pub coded_word : Coded Word
 coded_word = coded_list coded_ℕ
+
+abbrev pub coded_defined : Coded Defined
+coded_defined =
+    code_by (Word × (List Word × Term)) (coded× coded_word (coded× (coded_list coded_word) coded_term)) (λ d. (d.name, (d.parameters, d.value))) (λ p. record { name = p.0; parameters = p.1.0; value = p.1.1 }) (λ _. refl)
 
 abbrev pub coded_bound : Coded Bound
 coded_bound = code_by (Word × Term) (coded× coded_word coded_term) (λ b. (b.name, b.value)) (λ p. record { name = p.0; value = p.1 }) (λ _. refl)
@@ -30,10 +34,10 @@ Parts = Bool × (Bool × (CheckKind × (Term × Option Word)))
 
 -- the parts of an item
 abbrev pub Choice : Type 0
-Choice = List Bound ⊎ (List Bound ⊎ (Parts ⊎ (Word ⊎ (List Shown ⊎ List Word))))
+Choice = List Defined ⊎ (List Bound ⊎ (Parts ⊎ (Word ⊎ (List Shown ⊎ List Word))))
 
 abbrev pub choice_of : Clause → Choice
-choice_of (bind bs) = inl bs
+choice_of (bind ds) = inl ds
 choice_of (bind_recursively bs) = inr (inl bs)
 choice_of (check flag negated kind a x) = inr (inr (inl (flag, (negated, (kind, (a, x))))))
 choice_of (include x) = inr (inr (inr (inl x)))
@@ -41,7 +45,7 @@ choice_of (show es) = inr (inr (inr (inr (inl es))))
 choice_of (unshow xs) = inr (inr (inr (inr (inr xs))))
 
 abbrev pub clause_with : Choice → Clause
-clause_with (inl bs) = bind bs
+clause_with (inl ds) = bind ds
 clause_with (inr (inl bs)) = bind_recursively bs
 clause_with (inr (inr (inl p))) = check p.0 p.1.0 p.1.1.0 p.1.1.1.0 p.1.1.1.1
 clause_with (inr (inr (inr (inl x)))) = include x
@@ -49,7 +53,7 @@ clause_with (inr (inr (inr (inr (inl es))))) = show es
 clause_with (inr (inr (inr (inr (inr xs))))) = unshow xs
 
 pub clause_with-choice_of : (c : Clause) → clause_with (choice_of c) ≡ c
-clause_with-choice_of (bind bs) = refl
+clause_with-choice_of (bind ds) = refl
 clause_with-choice_of (bind_recursively bs) = refl
 clause_with-choice_of (check flag negated kind a x) = refl
 clause_with-choice_of (include x) = refl
@@ -59,7 +63,7 @@ clause_with-choice_of (unshow xs) = refl
 abbrev pub coded_clause : Coded Clause
 coded_clause =
     code_by Choice
-    (coded⊎ (coded_list coded_bound) (coded⊎ (coded_list coded_bound) (coded⊎ (coded× coded_bool (coded× coded_bool (coded× kind_row.coded (coded× coded_term (coded_option coded_word))))) (coded⊎ coded_word (coded⊎ (coded_list coded_shown) (coded_list coded_word))))))
+    (coded⊎ (coded_list coded_defined) (coded⊎ (coded_list coded_bound) (coded⊎ (coded× coded_bool (coded× coded_bool (coded× kind_row.coded (coded× coded_term (coded_option coded_word))))) (coded⊎ coded_word (coded⊎ (coded_list coded_shown) (coded_list coded_word))))))
     choice_of clause_with clause_with-choice_of
 
 abbrev pub coded_file : Coded File

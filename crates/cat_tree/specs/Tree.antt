@@ -1,5 +1,5 @@
 -- Models as trees, apart from where they lie in memory. (herd7 manual, the cat language.)
-use Rattle.std.specs.Prelude.{ℕ, List, [], ◌∷◌, map, Bool, Option}
+use Rattle.std.specs.Prelude.{List, [], ◌∷◌, map, Bool, Option}
 use Rattle.std.specs.List.{list_any}
 use Rattle.std.specs.Str.{bytes_eq}
 pub use Rattle.cat_tree.specs.Terms.{Word, Term, Terms, union, sequence, difference, intersection, product, complement, plus, star, optional, inverse, domain, range, identity, name, empty_relation, empty_set, universe, call, no_terms, term}

@@ -1,9 +1,9 @@
 //! Second values that are equal. What a copy owns comes from the allocators that its first has.
 
 ghost use Rattle.std.specs.Prelude.{◌≡◌, IfOk, map};
-ghost use Rattle.cat_tree.specs.Tree.{bound_of, shown_of, check_of, clause_of};
+ghost use Rattle.cat_tree.specs.Tree.{defined_of, bound_of, shown_of, check_of, clause_of};
 
-use crate::tree::{Binding, Check, Element, Item};
+use crate::tree::{Binding, Check, Definition, Element, Item};
 use std::alloc::AllocError;
 use wb_text::Name;
 
@@ -13,6 +13,29 @@ fn alias_copy(first: &Option<Name>) -> Result<Option<Name>, AllocError>
     match first {
         Some(name) => Ok(Some(name.copy()?)),
         None => Ok(None),
+    }
+}
+
+fn names_copy(first: &Vec<Name>) -> Result<Vec<Name>, AllocError>
+    ensures { IfOk result (λ v. v.items ≡ first.now.items) }
+{
+    let mut copies = Vec::new(*first.allocator());
+    for name in first {
+        copies.push(name.copy()?)?;
+    }
+    Ok(copies)
+}
+
+impl Definition {
+    /// A second definition that is equal.
+    pub fn copy(&self) -> Result<Definition, AllocError>
+        ensures { IfOk result (λ d. defined_of d ≡ defined_of self.now) }
+    {
+        Ok(Definition {
+            name: self.name.copy()?,
+            parameters: names_copy(&self.parameters)?,
+            value: self.value.copy()?,
+        })
     }
 }
 
@@ -55,6 +78,16 @@ impl Element {
     }
 }
 
+fn definitions_copy(first: &Vec<Definition>) -> Result<Vec<Definition>, AllocError>
+    ensures { IfOk result (λ v. map defined_of v.items ≡ map defined_of first.now.items) }
+{
+    let mut copies = Vec::new(*first.allocator());
+    for definition in first {
+        copies.push(definition.copy()?)?;
+    }
+    Ok(copies)
+}
+
 fn bindings_copy(first: &Vec<Binding>) -> Result<Vec<Binding>, AllocError>
     ensures { IfOk result (λ v. map bound_of v.items ≡ map bound_of first.now.items) }
 {
@@ -75,23 +108,13 @@ fn elements_copy(first: &Vec<Element>) -> Result<Vec<Element>, AllocError>
     Ok(copies)
 }
 
-fn names_copy(first: &Vec<Name>) -> Result<Vec<Name>, AllocError>
-    ensures { IfOk result (λ v. v.items ≡ first.now.items) }
-{
-    let mut copies = Vec::new(*first.allocator());
-    for name in first {
-        copies.push(name.copy()?)?;
-    }
-    Ok(copies)
-}
-
 impl Item {
     /// A second item that is equal.
     pub fn copy(&self) -> Result<Item, AllocError>
         ensures { IfOk result (λ i. clause_of i ≡ clause_of self.now) }
     {
         match self {
-            Item::Let(bindings) => Ok(Item::Let(bindings_copy(bindings)?)),
+            Item::Let(definitions) => Ok(Item::Let(definitions_copy(definitions)?)),
             Item::LetRec(bindings) => Ok(Item::LetRec(bindings_copy(bindings)?)),
             Item::Check(check) => Ok(Item::Check(check.copy()?)),
             Item::Include(name) => Ok(Item::Include(name.copy()?)),

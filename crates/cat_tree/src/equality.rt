@@ -1,6 +1,31 @@
 //! Equality: true exactly of equal trees.
 
-use crate::tree::{Binding, Check, Element, Item};
+use crate::tree::{Binding, Check, Definition, Element, Item};
+
+impl PartialEq for Definition {
+    ghost use Rattle.std.specs.Prelude.{◌≡◌, ◌↔◌, IsTrue};
+    ghost use Rattle.std.specs.Cmp.{partial_equiv_from_equiv};
+    ghost use Rattle.cat_tree.specs.Tree.{defined_of};
+    ghost use Rattle.cat_tree.specs.Equality.{same_defined};
+    ghost use Rattle.cat_tree.specs.Exact.{definition_equivalence};
+
+    ghost eq = { λ a b. same_defined (defined_of a) (defined_of b) };
+
+    ghost laws = { partial_equiv_from_equiv definition_equivalence };
+
+    fn eq(&self, other: &Definition) -> bool
+        ensures value { result ≡ same_defined (defined_of self.now) (defined_of other.now) }
+        ensures exact { IsTrue result ↔ (defined_of self.now ≡ defined_of other.now) }
+    {
+        self.name == other.name && self.parameters == other.parameters && self.value == other.value
+    }
+}
+
+impl Eq for Definition {
+    ghost use Rattle.cat_tree.specs.Exact.{definition_equivalence};
+
+    ghost laws = { definition_equivalence };
+}
 
 impl PartialEq for Binding {
     ghost use Rattle.std.specs.Prelude.{◌≡◌, ◌↔◌, IsTrue};
@@ -92,7 +117,7 @@ impl PartialEq for Item {
 
     ghost laws = { partial_equiv_from_equiv item_equivalence };
 
-    #[tactic(auto, using(crate::proofs::Equal::bounds_told, crate::proofs::Equal::shown_told))]
+    #[tactic(auto, using(crate::proofs::Equal::defined_told, crate::proofs::Equal::bounds_told, crate::proofs::Equal::shown_told))]
     fn eq(&self, other: &Item) -> bool
         ensures value { result ≡ same_clause (clause_of self.now) (clause_of other.now) }
         ensures exact { IsTrue result ↔ (clause_of self.now ≡ clause_of other.now) }

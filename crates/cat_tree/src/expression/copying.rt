@@ -30,6 +30,7 @@ impl Node {
             Node::Leaf(leaf) => Ok(Node::Leaf(leaf.copy()?)),
             Node::Sign(sign) => Ok(Node::Sign(*sign)),
             Node::Infix(operator) => Ok(Node::Infix(*operator)),
+            Node::Call(name, count) => Ok(Node::Call(name.copy()?, *count)),
         }
     }
 }

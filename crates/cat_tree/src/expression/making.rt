@@ -1,12 +1,13 @@
 //! Expressions of their parts.
 
 ghost use Rattle.std.specs.Prelude.{◌≡◌, ◌++◌, map, IfOk, OnOk};
-ghost use Rattle.cat_tree.specs.Terms.{applied, joined, leaf_of, nest, operands_in, operators_in, postorder};
+ghost use Rattle.cat_tree.specs.Terms.{applied, joined, call, terms_of, leaf_of, nest, operands_in, operators_in, postorder, postorders};
 ghost use Rattle.cat_tree.specs.Tree.{term_of, pair_of};
 
 use crate::expression::Expression;
 use crate::node::{Infix, Leaf, Node, Sign};
 use std::alloc::{AllocError, Global};
+use wb_text::Name;
 
 /// Puts the nodes of an expression behind others.
 fn append(nodes: &mut Vec<Node>, expression: Expression) -> Result<(), AllocError>
@@ -30,6 +31,17 @@ fn unjoined(
     for (operator, left) in lefts {
         append(&mut nodes, left)?;
         operators.push(Node::Infix(operator))?;
+    }
+    Ok(nodes)
+}
+
+/// The nodes of arguments, one behind another.
+fn argument_nodes(alloc: Global, arguments: Vec<Expression>) -> Result<Vec<Node>, AllocError>
+    ensures { IfOk result (λ v. v.items ≡ postorders (terms_of (map term_of arguments.items))) }
+{
+    let mut nodes = Vec::new(alloc);
+    for argument in arguments {
+        append(&mut nodes, argument)?;
     }
     Ok(nodes)
 }
@@ -84,6 +96,21 @@ impl Expression {
         append(&mut nodes, last)?;
         operators.reverse();
         nodes.append(&mut operators)?;
+        Ok(Expression { nodes })
+    }
+
+    /// A call of the function of this name with these arguments.
+    #[tactic(auto, using(crate::proofs::Nodes::call_whole, crate::proofs::Nodes::call_term))]
+    pub fn call(
+        alloc: Global,
+        name: Name,
+        arguments: Vec<Expression>,
+    ) -> Result<Expression, AllocError>
+        ensures { IfOk result (λ e. term_of e ≡ call name (terms_of (map term_of arguments.items))) }
+    {
+        let count = arguments.len();
+        let mut nodes = argument_nodes(alloc, arguments)?;
+        nodes.push(Node::Call(name, count))?;
         Ok(Expression { nodes })
     }
 

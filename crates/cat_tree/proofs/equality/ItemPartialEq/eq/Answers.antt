@@ -1,10 +1,10 @@
 use Rattle.std.proofs.Common.{arith, rules}
-use Rattle.cat_tree.proofs.Equal.{bounds_told, shown_told, clause_told}
+use Rattle.cat_tree.proofs.Equal.{defined_told, bounds_told, shown_told, clause_told}
 use Rattle.cat_tree.specs.Tree.{clause_of}
 use Rattle.cat_tree.proofs.equality.ItemPartialEq.eq.Goals as goal
 
 pub returns-in-Let-Let-clause-exact : goal.returns-in-Let-Let-clause-exact
-returns-in-Let-Let-clause-exact c = clause_told (clause_of c.args.self.now) (clause_of c.args.other.now) c.eq.result (grind (arith, bounds_told))
+returns-in-Let-Let-clause-exact c = clause_told (clause_of c.args.self.now) (clause_of c.args.other.now) c.eq.result (grind (arith, defined_told))
 
 pub returns-in-LetRec-LetRec-clause-exact : goal.returns-in-LetRec-LetRec-clause-exact
 returns-in-LetRec-LetRec-clause-exact c = clause_told (clause_of c.args.self.now) (clause_of c.args.other.now) c.eq-in-LetRec-LetRec.result (grind (arith, bounds_told))
