@@ -237,6 +237,19 @@ Observation R Never 0 6
         )],
     },
     Case {
+        name: "an add of 0, which may read its own write",
+        test: "C Z {}
+P0 (atomic_int* x) { atomic_fetch_add_explicit(x, 0, memory_order_relaxed); }
+exists true",
+        rows: &[
+            (
+                &["", "empty RMW \\ (A & RLX) ~empty rmw & data"],
+                Answer::Ends("Observation Z Always 3 0\n"),
+            ),
+            (&[RC11], Answer::Ends("Observation Z Always 1 0\n")),
+        ],
+    },
+    Case {
         name: "sb_fences",
         test: "C SB {}
 P0 (atomic_int* x, atomic_int* y) {
