@@ -324,7 +324,7 @@ fn resolving_a_fault(rt: HostRuntime) -> Result<(), Fail> {
     confirm_files(rt.alloc(), LATER, Fact::Unbound(b"later"))
 }
 
-/// The union of two calls doubles 17 times.
+/// Three bindings that make half a million nodes of one.
 const DOUBLED: &[(&str, &str)] = &[(
     "root.cat",
     "let f(x) = x | x | x | x let f(x) = f(f(f(x))) let f(x) = f(f(f(x))) empty f(0)",

@@ -2,7 +2,9 @@
 
 use crate::cat::loading::{has_parts, is_read_as, read};
 use crate::cat::texts::{EACH_KIND, RC11, confirm, repeated};
-use cat_syntax::{CatFault, CatFile, Definition, Expression, Infix, Item, Leaf, Node, Sign, read_cat};
+use cat_syntax::{
+    CatFault, CatFile, Definition, Expression, Infix, Item, Leaf, Node, Sign, read_cat,
+};
 use std::alloc::{AllocError, Global};
 use std::test::Fail;
 
