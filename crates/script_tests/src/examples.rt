@@ -2,14 +2,15 @@
 //!
 //! The verdicts were worked out by hand from the models' checks.
 
+mod fences;
 mod texts;
 
-use crate::calls::{Answer, Case, Scene, WIDE, all_go_well, all_hold, confirm, is_answered};
+use crate::calls::{Answer, Case, Scene, WIDE, all_go_well, all_hold};
 use std::test::Fail;
 use texts::{
-    ADDED_SEQUENCE, BROKEN_SEQUENCE, BUFFERS, COHERENT_READS, COUNTER, EXCHANGES, FENCES,
-    GUARDED_MESSAGE, INDEPENDENT_READS, INDEPENDENT_READS_SC, INITIAL_VALUES, LOAD_BUFFERING,
-    MESSAGE, MESSAGE_ACQUIRED, MESSAGE_FENCES, MESSAGE_RELEASED, OWN_SEQUENCE, PLAIN_MESSAGE, RC11,
+    ADDED_SEQUENCE, BROKEN_SEQUENCE, BUFFERS, COHERENT_READS, COUNTER, EXCHANGES, GUARDED_MESSAGE,
+    INDEPENDENT_READS, INDEPENDENT_READS_SC, INITIAL_VALUES, LOAD_BUFFERING, MESSAGE,
+    MESSAGE_ACQUIRED, MESSAGE_MESSAGE_RELEASED, OWN_SEQUENCE, PLAIN_MESSAGE, RC11,
     RELEASE_SEQUENCE, SEQUENTIAL, STORE_BUFFERING, STORE_BUFFERING_ALL, STORE_BUFFERING_FENCES,
     STORE_BUFFERING_SC, TEACHING_ANSWERS, TEACHING_SCRIPT, TWO_WRITES, VERSIONS_ANSWERS,
     VERSIONS_SCRIPT,
@@ -236,24 +237,6 @@ Witnesses
 Positive: 0 Negative: 3
 Condition exists (1:r0=1 /\\ 1:r1=0)
 Observation MP+rel+acq Never 0 3
-",
-            ),
-        )],
-    },
-    Case {
-        name: "mp_fences",
-        test: MESSAGE_FENCES,
-        rows: &[(
-            &[RC11, SEQUENTIAL, BUFFERS, FENCES],
-            Answer::Says(
-                "Test MP+fences Allowed
-States 3
-",
-                "No
-Witnesses
-Positive: 0 Negative: 3
-Condition exists (1:r0=1 /\\ 1:r1=0)
-Observation MP+fences Never 0 3
 ",
             ),
         )],
@@ -763,29 +746,6 @@ Observation race Sometimes 1 3
 #[test]
 fn models_of_ones_own(rt: HostRuntime) -> Result<(), Fail> {
     all_hold(rt.alloc(), OWN_MODELS)
-}
-
-/// What each example ends with under the model of fences.
-const OF_FENCES: &[(&str, &str)] = &[
-    (STORE_BUFFERING, "Observation SB Sometimes 1 3\n"),
-    (STORE_BUFFERING_FENCES, "Observation SB+fences Never 0 3\n"),
-    (MESSAGE, "Observation MP Sometimes 1 3\n"),
-    (MESSAGE_ACQUIRED, "Observation MP+rel+acq Sometimes 1 3\n"),
-    (LOAD_BUFFERING, "Observation LB Sometimes 1 3\n"),
-    (TWO_WRITES, "Observation 2+2W Sometimes 1 3\n"),
-    (COHERENT_READS, "Observation CoRR Never 0 3\n"),
-    (EXCHANGES, "Observation swap Never 0 2\n"),
-];
-
-#[test]
-fn fences_alone(rt: HostRuntime) -> Result<(), Fail> {
-    for (test, end) in OF_FENCES {
-        confirm(
-            is_answered(rt.alloc(), test, FENCES, Answer::Ends(end)),
-            end,
-        )?;
-    }
-    Ok(())
 }
 
 const SCRIPTS: &[Scene] = &[
