@@ -385,7 +385,7 @@ const REFUSED: &str = "0 test
 C E { 0:r0 = 1; } P0 () { while (r0) {} } exists true
 .
 0 cat a.cat
-let f(x) = x
+let rec f(x) = x
 .
 0 ask SB a.cat
 0 poll 9
