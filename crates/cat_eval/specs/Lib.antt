@@ -2,6 +2,10 @@ pub mod Operators
 pub mod Meaning
 pub mod Names
 pub mod Judging
+pub mod Core
+pub mod CoreMeaning
+pub mod CoreJudging
+pub mod Replacing
 pub mod Steps
 pub mod Code
 pub mod Keeping

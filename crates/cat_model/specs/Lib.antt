@@ -1,5 +1,10 @@
 pub mod Named
+pub mod Beforehand
+pub mod Names
 pub mod Sorts
+pub mod Sizes
+pub mod Depths
+pub mod Denials
 pub mod Along
 pub mod Scopes
 pub mod Models

@@ -26,7 +26,7 @@ a ⊗ b = product a b
 
 -- let x = a
 abbrev pub define : Word → Term → Clause
-define x a = bind (record { name = x; value = a } ∷ [])
+define x a = bind (record { name = x; parameters = []; value = a } ∷ [])
 
 -- the names
 abbrev pub W : Term

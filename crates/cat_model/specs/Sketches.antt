@@ -20,6 +20,6 @@ sketched (Inverse' p a) = inverse (sketched a)
 sketched (Identity' p a) = identity (sketched a)
 
 abbrev pub line_of : Line → Clause
-line_of (lines.Let x a) = bind (record { name = x.now; value = sketched a } ∷ [])
+line_of (lines.Let x a) = bind (record { name = x.now; parameters = []; value = sketched a } ∷ [])
 line_of (lines.Check k a x) = check false false k (sketched a) (Some x.now)
 line_of (lines.FlagNot k a x) = check true true k (sketched a) (Some x.now)

@@ -32,6 +32,10 @@ pub enum ModelFault {
     FlagWithoutName,
     /// More than 4,096 items, or more than 16 files on a path.
     ModelTooLarge,
+    /// With each call replaced by its body, the expressions up to that of this name, or of this check, have more than 65,536 nodes in
+    /// all, or bodies stand inside one another more than 64 deep.
+    #[error("{label} {0}", label = self.label())]
+    CallsTooLarge(Name),
     NoMemory,
 }
 
@@ -49,6 +53,7 @@ impl ModelFault {
             ModelFault::NotMonotone(_) => "66 NotMonotone",
             ModelFault::FlagWithoutName => "67 FlagWithoutName",
             ModelFault::ModelTooLarge => "68 ModelTooLarge",
+            ModelFault::CallsTooLarge(_) => "69 CallsTooLarge",
             ModelFault::NoMemory => "NoMemory",
         }
     }

@@ -6,7 +6,7 @@ ghost use Rattle.cat_tree.specs.Tree.{term_of, clause_of, bind as let_clause, ch
 ghost use Rattle.cat_model.specs.Sketches.{sketched, line_of};
 
 use crate::words::word;
-use cat_tree::{Binding, Check, CheckKind, Expression, Infix, Item, Leaf, Sign};
+use cat_tree::{Definition, Check, CheckKind, Expression, Infix, Item, Leaf, Sign};
 use std::alloc::{AllocError, Global};
 
 /// An expression that the program's text holds.
@@ -81,12 +81,12 @@ fn joined(
 
 /// An item that binds one name.
 fn definition(alloc: Global, name: &[u8], value: &Sketch) -> Result<Item, AllocError>
-    ensures { IfOk result (λ i. clause_of i ≡ let_clause (record { name = name.now; value = sketched value.now } ∷ [])) }
+    ensures { IfOk result (λ i. clause_of i ≡ let_clause (record { name = name.now; parameters = []; value = sketched value.now } ∷ [])) }
 {
     let name = word(alloc, name)?;
     let value = expression(alloc, value)?;
     let mut bindings = Vec::new(alloc);
-    bindings.push(Binding { name, value })?;
+    bindings.push(Definition { name, parameters: Vec::new(alloc), value })?;
     Ok(Item::Let(bindings))
 }
 

@@ -1,5 +1,5 @@
 -- Models as trees, apart from where they lie in memory. (herd7 manual, the cat language.)
-use Rattle.std.specs.Prelude.{List, map, Bool, Option}
+use Rattle.std.specs.Prelude.{List, [], ◌∷◌, map, Bool, Option}
 use Rattle.std.specs.List.{list_any}
 use Rattle.std.specs.Str.{bytes_eq}
 pub use Rattle.cat_tree.specs.Terms.{Word, Term, Terms, union, sequence, difference, intersection, product, complement, plus, star, optional, inverse, domain, range, identity, name, empty_relation, empty_set, universe, call, no_terms, term}
@@ -24,6 +24,24 @@ pub record Defined : Type 0 where
 pub record Bound : Type 0 where
   pub name : Word
   pub value : Term
+
+-- the values that a `let` binds, and the functions
+
+abbrev pub value_if : List Word → Defined → List Bound → List Bound
+value_if [] d bs = record { name = d.name; value = d.value } ∷ bs
+value_if (x ∷ xs) d bs = bs
+
+abbrev pub values_in : List Defined → List Bound
+values_in [] = []
+values_in (d ∷ ds) = value_if d.parameters d (values_in ds)
+
+abbrev pub function_if : List Word → Defined → List Defined → List Defined
+function_if [] d fs = fs
+function_if (x ∷ xs) d fs = d ∷ fs
+
+abbrev pub functions_in : List Defined → List Defined
+functions_in [] = []
+functions_in (d ∷ ds) = function_if d.parameters d (functions_in ds)
 
 -- an element of a show, with the name that it gets
 pub record Shown : Type 0 where

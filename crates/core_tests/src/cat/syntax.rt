@@ -2,10 +2,11 @@
 
 use crate::cat::loading::{has_parts, is_read_as, read};
 use crate::cat::texts::{EACH_KIND, RC11, confirm, repeated};
-use cat_syntax::{CatFault, CatFile, Expression, Infix, Item, Leaf, Node, Sign, read_cat};
+use cat_syntax::{
+    CatFault, CatFile, Definition, Expression, Infix, Item, Leaf, Node, Sign, read_cat,
+};
 use std::alloc::{AllocError, Global};
 use std::test::Fail;
-use wb_text::Name;
 
 /// What is written before the operand of a sign.
 fn opening(sign: Sign) -> &'static str {
@@ -57,23 +58,18 @@ fn latest(alloc: Global, texts: &mut Vec<String>) -> String {
     }
 }
 
-/// The text of a call, where the latest texts are those of its arguments.
-fn show_call(
+/// Takes the texts of the latest operands, so many, with commas between them.
+fn latest_joined(
     alloc: Global,
-    name: &Name,
-    count: usize,
     texts: &mut Vec<String>,
+    count: usize,
 ) -> Result<String, AllocError> {
-    let mut arguments = String::new(alloc);
-    for _ in 0..count {
-        let argument = latest(alloc, texts);
-        arguments = if arguments.is_empty() {
-            argument
-        } else {
-            format!(in alloc; "{argument},{arguments}")?
-        };
+    let mut joined = latest(alloc, texts);
+    for _ in 1..count {
+        let before = latest(alloc, texts);
+        joined = format!(in alloc; "{},{}", before, joined)?;
     }
-    format!(in alloc; "{name}({arguments})")
+    Ok(joined)
 }
 
 /// The text of a node, with parentheses round it, where the latest texts are those of its operands.
@@ -89,7 +85,10 @@ fn show_node(alloc: Global, node: &Node, texts: &mut Vec<String>) -> Result<Stri
             let left = latest(alloc, texts);
             format!(in alloc; "({}{}{})", left, between(*operator), right)
         }
-        Node::Call(name, count) => show_call(alloc, name, *count, texts),
+        Node::Call(name, count) => {
+            let arguments = latest_joined(alloc, texts, *count)?;
+            format!(in alloc; "{}({})", name, arguments)
+        }
     }
 }
 
@@ -103,11 +102,24 @@ fn show(alloc: Global, text: &mut String, expression: &Expression) -> Result<(),
     text.push_str(latest(alloc, &mut texts).as_str())
 }
 
-/// Adds the expression of a file's first item, if that is `let r = ..`.
+/// Adds what a name is bound to: its parameters, each with a dot behind it, and its expression.
+fn show_definition(
+    alloc: Global,
+    text: &mut String,
+    definition: &Definition,
+) -> Result<(), AllocError> {
+    for parameter in &definition.parameters {
+        let shown = format!(in alloc; "{parameter}.")?;
+        text.push_str(shown.as_str())?;
+    }
+    show(alloc, text, &definition.value)
+}
+
+/// Adds what a file's first item binds first, if that is `let r = ..`.
 fn show_first(alloc: Global, text: &mut String, file: &CatFile) -> Result<(), AllocError> {
     match file.items().first() {
-        Some(Item::Let(bindings)) => match bindings.first() {
-            Some(binding) => show(alloc, text, &binding.value),
+        Some(Item::Let(definitions)) => match definitions.first() {
+            Some(definition) => show_definition(alloc, text, definition),
             None => text.push_str("no binding"),
         },
         _ => text.push_str("a tree"),
@@ -120,7 +132,7 @@ fn first_shown(alloc: Global, file: &CatFile) -> Result<String, AllocError> {
     Ok(text)
 }
 
-/// What a text is read as: the expression of a first item `let r = ..`, else `a tree`, or the fault.
+/// What a text is read as: what a first item `let r = ..` binds, else `a tree`, or the fault.
 fn shown(alloc: Global, text: &str) -> Result<String, AllocError> {
     match read_cat(alloc, text.as_bytes()) {
         Ok(file) => first_shown(alloc, &file),
@@ -135,8 +147,8 @@ fn reads_as(alloc: Global, text: &str, wanted: &str) -> bool {
     }
 }
 
-/// Each text is `let r = ..` with the expression beside it, or with the fault beside it.
-fn all_read_as(alloc: Global, rows: &[(&str, &str)]) -> Result<(), Fail> {
+/// Each text binds what is beside it, or has the fault beside it.
+pub fn all_read_as(alloc: Global, rows: &[(&str, &str)]) -> Result<(), Fail> {
     for (text, wanted) in rows {
         confirm(reads_as(alloc, text, wanted), text)?;
     }
@@ -157,11 +169,6 @@ const OPERATORS: &[(&str, &str)] = &[
         "let r = domain(a) | range(b) | [{}] | 0 | _",
         "(domain(a)|(range(b)|(id({})|(0|_))))",
     ),
-    ("let r = f(a)", "f(a)"),
-    ("let r = f (a | b, g(c)*) ; d", "(f((a|b),(g(c))*);d)"),
-    ("let r = a * f(~a, 0, [b])+", "(ax(f(~(a),0,id(b)))+)"),
-    ("let r = b and f(x, y) = y and g(x) = x", "b"),
-    ("let f(f, x) = f(x)", "f(x)"),
 ];
 
 #[test]
@@ -175,24 +182,6 @@ const FAULTS: &[(&str, &str)] = &[
     ("let r =", "52 Syntax 7"),
     ("let _ = a", "52 Syntax 4"),
     ("let r = 1", "52 Syntax 8"),
-    ("let r = f()", "52 Syntax 10"),
-    ("let r = f(a", "52 Syntax 11"),
-    ("let r = f(a,)", "52 Syntax 12"),
-    ("let r = _ (a)", "52 Syntax 10"),
-    ("let f() = a", "52 Syntax 6"),
-    ("let f(_) = a", "52 Syntax 6"),
-    ("let f(x, x) = x", "52 Syntax 9"),
-    ("let f(x = x", "52 Syntax 8"),
-    ("let f(x) x", "52 Syntax 9"),
-    ("let f(with) = a", "53 Unsupported with"),
-    ("let rec f(x) = x", "53 Unsupported f"),
-    ("let rec f(x) = x and f = r", "53 Unsupported f"),
-    ("let rec r = r and f (x) = x", "53 Unsupported f"),
-    ("let rec f = r and f(x) = x", "52 Syntax 18"),
-    ("f(x)", "52 Syntax 1"),
-    ("empty r as f(x)", "52 Syntax 12"),
-    ("unshow f(x)", "52 Syntax 8"),
-    ("show f, f(x)", "a tree"),
     ("let r = a and r (x) = b", "52 Syntax 14"),
     ("let r = a ++ b", "53 Unsupported ++"),
     ("let r = if a", "53 Unsupported if"),
@@ -244,7 +233,7 @@ fn repeats_to(alloc: Global, parts: &[(&str, usize)], wanted: &str) -> bool {
 }
 
 /// Each text of parts, each so many times, is answered as is said beside it.
-fn all_repeat_to(alloc: Global, rows: &[(&[(&str, usize)], &str)]) -> Result<(), Fail> {
+pub fn all_repeat_to(alloc: Global, rows: &[(&[(&str, usize)], &str)]) -> Result<(), Fail> {
     for (parts, wanted) in rows {
         confirm(repeats_to(alloc, parts, wanted), wanted)?;
     }
@@ -254,23 +243,6 @@ fn all_repeat_to(alloc: Global, rows: &[(&[(&str, usize)], &str)]) -> Result<(),
 const DEEP_AND_LARGE: &[(&[(&str, usize)], &str)] = &[
     (&[("empty ", 1), ("(", 64), ("0", 1), (")", 64)], "a tree"),
     (&[("empty ", 1), ("(", 65), ("0", 1)], "54 TooDeep"),
-    (&[("empty ", 1), ("f(", 64), ("0", 1), (")", 64)], "a tree"),
-    (&[("empty ", 1), ("f(", 65), ("0", 1)], "54 TooDeep"),
-    (
-        &[("empty ", 1), ("f(a, ", 64), ("0", 1), (")", 64)],
-        "a tree",
-    ),
-    (&[("empty f(rf", 1), (", rf", 4_093), (")", 1)], "a tree"),
-    (
-        &[("empty f(rf", 1), (", rf", 4_094), (")", 1)],
-        "55 TooLarge",
-    ),
-    (
-        &[("empty f(rf", 1), (", rf", 4_093), (", )", 1)],
-        "52 Syntax 16384",
-    ),
-    (&[("let f(x) = x ", 1_365), ("include \"a\"", 1)], "x"),
-    (&[("let f(x) = x ", 1_365), ("show f(x)", 1)], "55 TooLarge"),
     (&[("empty rf", 1), (" | rf", 2_047)], "a tree"),
     (
         &[("empty rf", 1), (" | rf", 2_048), (")", 1)],
@@ -338,16 +310,21 @@ const EQUALITY: &[(&str, &str, bool)] = &[
     ("let a = r ; s | t", "let a = r ; (s | t)", false),
     ("let a = r", "let rec a = r", false),
     ("let a = r and b = s", "let b = s and a = r", false),
-    ("let r = f(a ; b, c)", "let r = f (((a ; b)), c)", true),
-    ("let r = f(a)", "let r = g(a)", false),
-    ("let r = f(a, b)", "let r = f(b, a)", false),
-    ("let r = f(a, b)", "let r = f(a)", false),
-    ("let r = f(a)", "let r = f", false),
-    ("let f(x, y) = a", "let f(y, x) = a", false),
-    ("let f(x) = a", "let f = a", false),
     ("show a as b", "show a", false),
     ("unshow a, b", "unshow a", false),
     ("include \"a\"", "include \"b\"", false),
+    ("let f(x) = x", "let f (x) = (x)", true),
+    ("let f(x) = x", "let f(y) = y", false),
+    ("let f(x) = x", "let g(x) = x", false),
+    ("let f(x) = x", "let f = x", false),
+    ("let f(x, y) = x", "let f(y, x) = x", false),
+    ("let f(x, y) = x", "let f(x) = x", false),
+    ("let r = f(a, b)", "let r = f (a, (b))", true),
+    ("let r = f(a, b)", "let r = f(b, a)", false),
+    ("let r = f(a, b)", "let r = f(a)", false),
+    ("let r = f(a)", "let r = g(a)", false),
+    ("let r = f(a)", "let r = f", false),
+    ("let r = f(g(a), b)", "let r = f(g(a, b))", false),
 ];
 
 #[test]
