@@ -1,12 +1,4 @@
-pub mod Sorting
-pub mod Nodes
-pub mod Walking
-pub mod Noted
-pub mod Astray
-pub mod Ordered
-pub mod Listed
+pub mod Latest
 pub mod Stored
-pub mod Scoped
-pub mod Faulty
-pub mod Whole
+pub mod Noted
 pub mod Equal

@@ -5,8 +5,15 @@ pub mod Sorts
 pub mod Sizes
 pub mod Depths
 pub mod Denials
-pub mod Along
 pub mod Scopes
+pub mod Lookups
+pub mod Along
+pub mod Sizing
+pub mod Nesting
+pub mod Schemes
+pub mod Marked
+pub mod Behind
+pub mod Counts
 pub mod Models
 pub mod Equality
 pub mod Rc11
