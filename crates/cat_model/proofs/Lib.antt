@@ -1,4 +1,7 @@
 pub mod Latest
+pub mod Waiting
+pub mod Contained
+pub mod Loose
 pub mod Stored
 pub mod Noted
 pub mod Equal

@@ -1,5 +1,6 @@
 -- Names of a term, node by node. (No statement on what a model is rests on this.)
-use Rattle.std.specs.Prelude.{◌≡◌, List, [], ◌∷◌, Option, None, Some, Bool, ◌||◌, not, Bor, option_map, find}
+use Rattle.std.specs.Prelude.{◌≡◌, List, [], ◌∷◌, Option, None, Some, Bool, ◌||◌, not, option_map, find}
+use Rattle.std.specs.Borrow.{Bor}
 use Rattle.std.specs.Option.{option_or}
 use Rattle.cat_tree.specs.Tree.{Word, Term}
 use Rattle.cat_model.specs.Lookups.{is_known}

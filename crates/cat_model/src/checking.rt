@@ -13,7 +13,7 @@ ghost use Rattle.cat_model.specs.declared.fault.ModelFault.TheVariants.{NoMemory
 use crate::binding::{
     bind_functions, bind_group, bind_values, first_denied_in, require_relations,
 };
-use crate::counting::{charge, charge_bindings, charge_definitions};
+use crate::charging::{charge, charge_bindings, charge_definitions};
 use crate::fault::ModelFault;
 use crate::naming::{require_bindings_bound, require_bound, require_definitions_bound};
 use crate::schemes::sort_of;
@@ -80,7 +80,7 @@ fn follow_check<'a>(
     if check.flag && check.name.is_none() {
         return Err(ModelFault::FlagWithoutName);
     }
-    require_bound(alloc, scope, &check.expression)?;
+    require_bound(alloc, scope, &[], &check.expression)?;
     let sum = charge_check(alloc, scope, total, check)?;
     if !is_testable(alloc, scope, check.kind, &check.expression)? {
         return Err(ModelFault::WrongSort(word(alloc, spelling(check.kind))?));

@@ -3,8 +3,8 @@
 
 mod beforehand;
 mod binding;
+mod charging;
 mod checking;
-mod counting;
 mod denials;
 mod depths;
 mod draft;

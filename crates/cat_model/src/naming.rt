@@ -3,11 +3,10 @@
 ghost use Rattle.std.specs.Prelude.{◌≡◌, ◌⊎◌, List, map, reverse, take, drop, option_map, true, false, IfOk, OnOk, IfErr, Some, None, if◌then◌else◌};
 ghost use Rattle.std.specs.List.{Contains};
 ghost use Rattle.cat_tree.specs.Terms.{latest as latest_of, earlier, left_by, leaf_of, terms_of, call};
-ghost use Rattle.cat_tree.specs.Tree.{Word, Term, Bound, term_of, defined_of, bound_of, bind as let_clause};
+ghost use Rattle.cat_tree.specs.Tree.{Word, Term, Bound, Defined, term_of, defined_of, bound_of};
 ghost use Rattle.cat_model.specs.Along.{ForEach, is_loose, IsFirstLoose, first_some};
-ghost use Rattle.cat_model.specs.Faults.{IsNamed};
 ghost use Rattle.cat_model.specs.Lookups.{is_known};
-ghost use Rattle.cat_model.specs.Names.{names as names_in, is_among};
+ghost use Rattle.cat_model.specs.Names.{names as names_in, free_names, is_among};
 ghost use Rattle.cat_model.specs.declared.fault.ModelFault.TheVariants.{NoMemory, Unbound};
 
 use crate::fault::ModelFault;
@@ -135,19 +134,38 @@ fn first_loose<'a, 'e>(
     Ok(latest(&mut waiting))
 }
 
+/// Whether each name of an expression is bound, or one of these parameters.
+pub fn require_bound<'a>(
+    alloc: Global,
+    scope: &Scope<'a>,
+    parameters: &[Name],
+    expression: &Expression,
+) -> Result<(), ModelFault>
+    ensures ok { OnOk result ((x : Word) → Contains (names_in (term_of expression.now)) x → is_loose scope.now.names.items parameters.now x ≡ false) }
+    ensures err { IfErr result (λ e. (e ≡ NoMemory) ⊎ ((x : Word) × (e ≡ Unbound x) × Contains (names_in (term_of expression.now)) x × (is_loose scope.now.names.items parameters.now x ≡ true))) }
+{
+    match first_loose(alloc, scope, parameters, expression)? {
+        Some(name) => Err(ModelFault::Unbound(name.copy()?)),
+        None => Ok(()),
+    }
+}
+
 /// Whether each name that the bindings of a `let` look up is bound.
 pub fn require_definitions_bound<'a>(
     alloc: Global,
     scope: &Scope<'a>,
     definitions: &[Definition],
 ) -> Result<(), ModelFault>
-    ensures ok { OnOk result ((x : Word) → IsNamed (let_clause (map defined_of definitions.now)) x → is_known scope.now.names.items x ≡ true) }
-    ensures err { IfErr result (λ e. (e ≡ NoMemory) ⊎ ((x : Word) × (e ≡ Unbound x) × IsNamed (let_clause (map defined_of definitions.now)) x × (is_known scope.now.names.items x ≡ false))) }
+    ensures ok { OnOk result ((d : Defined) → Contains (map defined_of definitions.now) d → (x : Word) → Contains (free_names d) x → is_known scope.now.names.items x ≡ true) }
+    ensures err { IfErr result (λ e. (e ≡ NoMemory) ⊎ ((x : Word) × (d : Defined) × (e ≡ Unbound x) × Contains (map defined_of definitions.now) d × Contains (free_names d) x × (is_known scope.now.names.items x ≡ false))) }
 {
     for definition in definitions {
-        if let Some(name) = first_loose(alloc, scope, &definition.parameters, &definition.value)? {
-            return Err(ModelFault::Unbound(name.copy()?));
-        }
+        require_bound(
+            alloc,
+            scope,
+            &definition.parameters,
+            &definition.value,
+        )?;
     }
     Ok(())
 }
@@ -158,28 +176,11 @@ pub fn require_bindings_bound<'a>(
     scope: &Scope<'a>,
     bindings: &[Binding],
 ) -> Result<(), ModelFault>
-    ensures ok { OnOk result ((x : Word) (b : Bound) → Contains (map bound_of bindings.now) b → Contains (names_in b.value) x → is_known scope.now.names.items x ≡ true) }
+    ensures ok { OnOk result ((b : Bound) → Contains (map bound_of bindings.now) b → (x : Word) → Contains (names_in b.value) x → is_known scope.now.names.items x ≡ true) }
     ensures err { IfErr result (λ e. (e ≡ NoMemory) ⊎ ((x : Word) × (b : Bound) × (e ≡ Unbound x) × Contains (map bound_of bindings.now) b × Contains (names_in b.value) x × (is_known scope.now.names.items x ≡ false))) }
 {
     for binding in bindings {
-        if let Some(name) = first_loose(alloc, scope, &[], &binding.value)? {
-            return Err(ModelFault::Unbound(name.copy()?));
-        }
+        require_bound(alloc, scope, &[], &binding.value)?;
     }
     Ok(())
-}
-
-/// Whether each name of an expression is bound.
-pub fn require_bound<'a>(
-    alloc: Global,
-    scope: &Scope<'a>,
-    expression: &Expression,
-) -> Result<(), ModelFault>
-    ensures ok { OnOk result ((x : Word) → Contains (names_in (term_of expression.now)) x → is_known scope.now.names.items x ≡ true) }
-    ensures err { IfErr result (λ e. (e ≡ NoMemory) ⊎ ((x : Word) × (e ≡ Unbound x) × Contains (names_in (term_of expression.now)) x × (is_known scope.now.names.items x ≡ false))) }
-{
-    match first_loose(alloc, scope, &[], expression)? {
-        Some(name) => Err(ModelFault::Unbound(name.copy()?)),
-        None => Ok(()),
-    }
 }
