@@ -17,6 +17,12 @@ pub record IsCount (n : ℕ) (cs : List Charge) : Type 0 where
   pub total : n ≡ total_nodes cs
   pub few : AreFew cs
 
+-- behind cs and those of all that aren't left
+pub record CountsUpTo (n : ℕ) (cs left all : List Charge) : Type 0 where
+  pub done : List Charge
+  pub count : IsCount n (cs ++ done)
+  pub whole : done ++ left ≡ all
+
 -- with what is named w the charges ds, behind cs, first come to too much
 pub record IsOver (cs ds : List Charge) (w : Word) : Type 0 where
   pub before : List Charge

@@ -4,7 +4,7 @@ ghost use Rattle.std.specs.Prelude.{◌≡◌, ◌⊎◌, ◌≤◌, ℕ, List, 
 ghost use Rattle.cat_tree.specs.Tree.{Word, term_of, defined_of, bound_of, values_in};
 ghost use Rattle.cat_model.specs.Behind.{World, Fit};
 ghost use Rattle.cat_model.specs.Counts.{IsCharged, IsCount, IsOver};
-ghost use Rattle.cat_model.specs.Scopes.{Charge, charge as charge_for, charges_for, AreFew};
+ghost use Rattle.cat_model.specs.Scopes.{Charge, charge as charge_for, charges_for};
 ghost use Rattle.cat_model.specs.declared.fault.ModelFault.TheVariants.{NoMemory, CallsTooLarge};
 
 use crate::depths::depth;
@@ -48,7 +48,7 @@ fn charge_value<'a>(
     value: &Expression,
 ) -> Result<u32, ModelFault>
     ensures ok { IfOk result (λ n. (W : World) (cs : List Charge) → Fit scope.now.names.items W → IsCount total cs → IsCount n (cs ++ charge_for W.sizes W.depths name.now (term_of value.now) ∷ [])) }
-    ensures err { IfErr result (λ e. (e ≡ NoMemory) ⊎ ((e ≡ CallsTooLarge name.now) × ((W : World) (cs : List Charge) → Fit scope.now.names.items W → IsCount total cs → ¬ AreFew (cs ++ charge_for W.sizes W.depths name.now (term_of value.now) ∷ [])))) }
+    ensures err { IfErr result (λ e. (e ≡ NoMemory) ⊎ ((W : World) (cs : List Charge) → Fit scope.now.names.items W → IsCount total cs → (w : Word) × (e ≡ CallsTooLarge w) × IsOver cs (charge_for W.sizes W.depths name.now (term_of value.now) ∷ []) w)) }
 {
     match charge(alloc, scope, total, value)? {
         Some(sum) => Ok(sum),

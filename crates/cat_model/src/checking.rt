@@ -1,13 +1,13 @@
 //! Items in order: names, sizes, sorts and recursion.
 
 ghost use Rattle.std.specs.Prelude.{◌≡◌, ◌⊎◌, ◌↔◌, List, [], ◌∷◌, ◌++◌, map, OnOk, IfOk, IfErr, IsTrue, All};
-ghost use Rattle.cat_tree.specs.Tree.{Clause, term_of, defined_of, bound_of, check_of, clause_of, bind as let_clause, bind_recursively};
+ghost use Rattle.cat_tree.specs.Tree.{Word, Clause, term_of, defined_of, bound_of, check_of, clause_of, bind as let_clause, bind_recursively};
 ghost use Rattle.cat_model.specs.Beforehand.{beforehand as functions_beforehand};
 ghost use Rattle.cat_model.specs.Behind.{World, Fit, first};
 ghost use Rattle.cat_model.specs.Closure.{IsOwn};
-ghost use Rattle.cat_model.specs.Counts.{IsCount, Stands};
+ghost use Rattle.cat_model.specs.Counts.{IsCount, IsOver, Stands};
 ghost use Rattle.cat_model.specs.Faults.{IsItemFault, IsFaulty};
-ghost use Rattle.cat_model.specs.Scopes.{Charge, charge as charge_for, word_of, AreFew, IsTestable, IsModel};
+ghost use Rattle.cat_model.specs.Scopes.{Charge, charge as charge_for, word_of, IsTestable, IsModel};
 ghost use Rattle.cat_model.specs.declared.fault.ModelFault.TheVariants.{NoMemory, CallsTooLarge};
 
 use crate::binding::{
@@ -59,7 +59,7 @@ fn charge_check<'a>(
     check: &Check,
 ) -> Result<u32, ModelFault>
     ensures ok { IfOk result (λ n. (W : World) (cs : List Charge) → Fit scope.now.names.items W → IsCount total cs → IsCount n (cs ++ charge_for W.sizes W.depths (word_of check.now.kind) (term_of check.now.expression) ∷ [])) }
-    ensures err { IfErr result (λ e. (e ≡ NoMemory) ⊎ ((e ≡ CallsTooLarge (word_of check.now.kind)) × ((W : World) (cs : List Charge) → Fit scope.now.names.items W → IsCount total cs → ¬ AreFew (cs ++ charge_for W.sizes W.depths (word_of check.now.kind) (term_of check.now.expression) ∷ [])))) }
+    ensures err { IfErr result (λ e. (e ≡ NoMemory) ⊎ ((W : World) (cs : List Charge) → Fit scope.now.names.items W → IsCount total cs → (w : Word) × (e ≡ CallsTooLarge w) × IsOver cs (charge_for W.sizes W.depths (word_of check.now.kind) (term_of check.now.expression) ∷ []) w)) }
 {
     match charge(alloc, scope, total, &check.expression)? {
         Some(sum) => Ok(sum),
