@@ -1,9 +1,9 @@
 -- What is in a list.
 use Rattle.std.proofs.Common.{◌≡◌, ℕ, ◌+◌, ◌<◌, ◌≤◌, List, [], ◌∷◌, ◌++◌, Bool, true, false, Option, None, Some, cond, map, refl, sym, ◌∙◌, inl, inr, ◌⊎◌, ap, subst, take, length, get_or, arith, filter}
-use Rattle.std.specs.List.{Contains, find, list_any}
+use Rattle.std.specs.List.{All, Contains, find}
 use Rattle.std.proofs.lemmas.Bool.{cases_Bool}
 use Rattle.std.proofs.lemmas.List.{take_all, take_more, get_or-map, length-map}
-use Rattle.std.proofs.lemmas.List.Elements.{Contains-append_cases, Contains-append_left, Contains-append_right, Contains-push, Contains-push_cases}
+use Rattle.std.proofs.lemmas.List.Elements.{All-nil, All-cons, Contains-append_cases, Contains-append_left, Contains-append_right, Contains-push, Contains-push_cases}
 
 pub contains_nothing : {X : Type 0} (x : X) → Contains [] x → ⊥
 contains_nothing x h = absurd (omega (arith, h.1))
@@ -80,3 +80,7 @@ was_kept {X} p (y ∷ xs) x c =
       ]
       | inr f ↦ (let h = was_kept p xs x (subst P (ap (λ b. cond b (y ∷ filter p xs) (filter p xs)) f) c) in (contains_later y xs x h.0, h.1))
     ]
+
+pub all_from : {X : Type 0} (P : X → Type 0) (xs : List X) → ((x : X) → Contains xs x → P x) → All P xs
+all_from P [] h = All-nil P
+all_from P (x ∷ xs) h = All-cons P x xs (h x (contains_first x xs)) (all_from P xs (λ c k. h c (contains_later x xs c k)))

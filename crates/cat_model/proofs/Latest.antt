@@ -1,14 +1,16 @@
 -- The latest of a name.
-use Rattle.std.proofs.Common.{◌≡◌, List, [], ◌∷◌, ◌++◌, Option, Some, None, Bool, cond, option_map, true, false, refl, sym, ◌∙◌, ap, inl, inr, Bor}
+use Rattle.std.proofs.Common.{◌≡◌, List, [], ◌∷◌, ◌++◌, Option, Some, None, Bool, cond, option_map, true, false, refl, sym, ◌∙◌, ap, inl, inr, Bor, ◌||◌}
 use Rattle.std.specs.Prelude.{reverse}
 use Rattle.std.specs.List.{find}
-use Rattle.std.specs.Option.{option_or}
+use Rattle.std.specs.Option.{option_or, is_some}
 use Rattle.std.specs.Str.{bytes_eq}
 use Rattle.std.proofs.lemmas.Bool.{cases_Bool}
 use Rattle.std.proofs.lemmas.List.{reverse-append}
 use Rattle.std.proofs.lemmas.List.Folds.{find-append}
 use Rattle.cat_tree.specs.Tree.{Word}
-use Rattle.cat_model.specs.Lookups.{latest_in, held_in}
+use Rattle.cat_model.specs.Lookups.{latest_in, held_in, is_known}
+use Rattle.cat_model.specs.Named.{named_of}
+use Rattle.cat_model.specs.declared.scope.Held.{Held}
 use Rattle.cat_model.specs.declared.scope.BoundName.{BoundName}
 
 map_or : {Y Z : Type 0} (f : Y → Z) (o p : Option Y) → option_map f (option_or o p) ≡ option_or (option_map f o) (option_map f p)
@@ -35,3 +37,22 @@ held_latest ns ms x o e h = two o ∙ ap (option_map (λ b. b.held)) h ∙ ap (�
     two : (p : Option (Bor BoundName)) → option_map (λ b. b.now.held) p ≡ option_map (λ b. b.held) (option_map (λ b. b.now) p)
     two None = refl
     two (Some b) = refl
+
+or_cond : {Z : Type 0} (b : Bool) (k : Z) (o c : Option Z) → option_or (cond b (Some k) o) c ≡ cond b (Some k) (option_or o c)
+or_cond true k o c = refl
+or_cond false k o c = refl
+
+pub latest_push : {Y Z : Type 0} (label : Y → Word) (what : Y → Z) (ys : List Y) (y : Y) (x : Word) → latest_in label what (ys ++ y ∷ []) x ≡ cond (bytes_eq (label y) x) (Some (what y)) (latest_in label what ys x)
+latest_push label what [] y x = refl
+latest_push {Y} {Z} label what (c ∷ ys) y x =
+    let d : Option Z = cond (bytes_eq (label c) x) (Some (what c)) None in
+    ap (λ o. option_or o d) (latest_push label what ys y x) ∙ or_cond (bytes_eq (label y) x) (what y) (latest_in label what ys x) d
+
+known_cond : (b : Bool) (h : Held) (o : Option Held) (n : Bool) → (is_some (cond b (Some h) o) || n) ≡ (b || (is_some o || n))
+known_cond true h o n = refl
+known_cond false h o n = refl
+
+-- one more name is known
+pub known_push : (ns : List BoundName) (y : BoundName) (x : Word) → is_known (ns ++ y ∷ []) x ≡ (bytes_eq y.name.now x || is_known ns x)
+known_push ns y x =
+    ap (λ o. is_some o || is_some (named_of x)) (latest_push (λ n. n.name.now) (λ n. n.held) ns y x) ∙ known_cond (bytes_eq y.name.now x) y.held (held_in ns x) (is_some (named_of x))

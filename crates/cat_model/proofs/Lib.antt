@@ -1,8 +1,16 @@
 pub mod Latest
 pub mod Waiting
 pub mod Contained
+pub mod Listed
 pub mod Loose
 pub mod Charged
+pub mod Owed
+pub mod Pushed
+pub mod Driven
 pub mod Stored
+pub mod Walking
+pub mod Astray
+pub mod Ordered
+pub mod Whole
 pub mod Noted
 pub mod Equal

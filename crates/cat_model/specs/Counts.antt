@@ -3,6 +3,7 @@ use Rattle.std.specs.Prelude.{◌≡◌, ℕ, ◌+◌, ◌<◌, ◌≤◌, ◌�
 use Rattle.cat_tree.specs.Tree.{Word, Clause}
 use Rattle.cat_model.specs.Behind.{behind, first, Fit}
 use Rattle.cat_model.specs.Denials.{first_marks}
+use Rattle.cat_model.specs.Names.{AreBound}
 use Rattle.cat_model.specs.Scopes.{Charge, charges, total_nodes, AreFew, AreOrdered}
 use Rattle.cat_model.specs.Sorts.{first_sorts}
 use Rattle.cat_model.specs.declared.scope.BoundName.{BoundName}
@@ -33,8 +34,9 @@ pub record IsOver (cs ds : List Charge) (w : Word) : Type 0 where
   pub few : AreFew (cs ++ before)
   pub large : ¬ AreFew ((cs ++ before) ++ at ∷ [])
 
--- behind these items, which are in order, the names stand for what they are bound to, and n nodes are counted
+-- behind these items, which are in order, the names of the code stand for what they are bound to, and n nodes are counted
 pub record Stands (ns : List BoundName) (n : ℕ) (front : List Clause) : Type 0 where
   pub fit : Fit ns (behind first front)
   pub count : IsCount n (charges front)
+  pub bound : AreBound [] front
   pub ordered : AreOrdered first_sorts first_marks front

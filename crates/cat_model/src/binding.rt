@@ -1,8 +1,8 @@
 //! Names that are bound at an item.
 
-ghost use Rattle.std.specs.Prelude.{◌≡◌, ◌≢◌, ◌⊎◌, List, [], ◌∷◌, ◌++◌, map, IfOk, OnOk, IfErr, IsSome, All, Some, None, MatchOption};
+ghost use Rattle.std.specs.Prelude.{◌≡◌, ◌≢◌, ◌⊎◌, ◌↔◌, List, [], ◌∷◌, ◌++◌, map, IfOk, OnOk, IfErr, IsSome, IsTrue, All, Some, None, MatchOption};
 ghost use Rattle.std.specs.List.{Contains};
-ghost use Rattle.cat_tree.specs.Tree.{Word, Bound, defined_of, bound_of, values_in, functions_in};
+ghost use Rattle.cat_tree.specs.Tree.{Bound, term_of, defined_of, bound_of, values_in, functions_in};
 ghost use Rattle.cat_model.specs.Behind.{World, Fit, IsSummary, values_above, functions_above, group_above};
 ghost use Rattle.cat_model.specs.Denials.{marks as marks_in, grouped, denied_in};
 ghost use Rattle.cat_model.specs.Scopes.{IsMonotone};
@@ -17,12 +17,36 @@ use crate::schemes::{make_scheme, sort_of};
 use crate::scope::{BoundName, Held, Scope, Summary};
 use crate::sizes::make_sizing;
 use crate::sort::Sort;
-use cat_tree::{Binding, Definition};
+use cat_tree::{Binding, Definition, Expression};
 use std::alloc::{AllocError, Global};
 use wb_text::Name;
 
-/// Binds a value above these names, if the definition is one.
+/// Binds a value above these names.
 fn bind_value<'a>(
+    alloc: Global,
+    scope: &Scope<'a>,
+    name: &'a Name,
+    value: &Expression,
+    above: &mut Vec<BoundName<'a>>,
+) -> Result<(), ModelFault>
+    ensures ok { OnOk result ((B W : World) → Fit scope.now.names.items B → Fit (scope.now.names.items ++ above.old.items) W → Fit (scope.now.names.items ++ above.new.items) (values_above B (record { name = name.now; value = term_of value.now } ∷ []) W)) }
+    ensures sorted { OnOk result ((B : World) → Fit scope.now.names.items B → IsSome (sort_in B.sorts (term_of value.now))) }
+    ensures err { IfErr result (λ e. (e ≡ NoMemory) ⊎ ((e ≡ WrongSort name.now) × ((B : World) → Fit scope.now.names.items B → sort_in B.sorts (term_of value.now) ≡ None))) }
+{
+    match sort_of(alloc, scope, value)? {
+        Some(sort) => {
+            above.push(BoundName {
+                name,
+                held: Held::Value(sort),
+            })?;
+            Ok(())
+        }
+        None => Err(ModelFault::WrongSort(name.copy()?)),
+    }
+}
+
+/// Binds a value above these names, if the definition is one.
+fn bind_if_value<'a>(
     alloc: Global,
     scope: &Scope<'a>,
     definition: &'a Definition,
@@ -32,18 +56,10 @@ fn bind_value<'a>(
     ensures sorted { OnOk result ((B : World) → Fit scope.now.names.items B → All (λ b. IsSome (sort_in B.sorts b.value)) (values_in (defined_of definition.now ∷ []))) }
     ensures err { IfErr result (λ e. (e ≡ NoMemory) ⊎ ((b : Bound) × (e ≡ WrongSort b.name) × Contains (values_in (defined_of definition.now ∷ [])) b × ((B : World) → Fit scope.now.names.items B → sort_in B.sorts b.value ≡ None))) }
 {
-    if !definition.parameters.is_empty() {
-        return Ok(());
-    }
-    match sort_of(alloc, scope, &definition.value)? {
-        Some(sort) => {
-            above.push(BoundName {
-                name: &definition.name,
-                held: Held::Value(sort),
-            })?;
-            Ok(())
-        }
-        None => Err(ModelFault::WrongSort(definition.name.copy()?)),
+    if definition.parameters.is_empty() {
+        bind_value(alloc, scope, &definition.name, &definition.value, above)
+    } else {
+        Ok(())
     }
 }
 
@@ -59,7 +75,7 @@ pub fn bind_values<'a>(
     ensures err { IfErr result (λ e. (e ≡ NoMemory) ⊎ ((b : Bound) × (e ≡ WrongSort b.name) × Contains (values_in (map defined_of definitions.now)) b × ((B : World) → Fit scope.now.names.items B → sort_in B.sorts b.value ≡ None))) }
 {
     for definition in definitions {
-        bind_value(alloc, scope, definition, above)?;
+        bind_if_value(alloc, scope, definition, above)?;
     }
     Ok(())
 }
@@ -84,8 +100,25 @@ fn make_summary<'a>(
     })
 }
 
-/// Binds a function above these names, if the definition is one.
+/// Binds a function above these names.
 fn bind_function<'a>(
+    alloc: Global,
+    scope: &Scope<'a>,
+    function: &'a Definition,
+    above: &mut Vec<BoundName<'a>>,
+) -> Result<(), AllocError>
+    ensures { OnOk result ((B W : World) → Fit scope.now.names.items B → Fit (scope.now.names.items ++ above.old.items) W → Fit (scope.now.names.items ++ above.new.items) (functions_above B (defined_of function.now ∷ []) W)) }
+{
+    let summary = make_summary(alloc, scope, function)?;
+    above.push(BoundName {
+        name: &function.name,
+        held: Held::Function(summary),
+    })?;
+    Ok(())
+}
+
+/// Binds a function above these names, if the definition is one.
+fn bind_if_function<'a>(
     alloc: Global,
     scope: &Scope<'a>,
     definition: &'a Definition,
@@ -94,14 +127,10 @@ fn bind_function<'a>(
     ensures { OnOk result ((B W : World) → Fit scope.now.names.items B → Fit (scope.now.names.items ++ above.old.items) W → Fit (scope.now.names.items ++ above.new.items) (functions_above B (functions_in (defined_of definition.now ∷ [])) W)) }
 {
     if definition.parameters.is_empty() {
-        return Ok(());
+        Ok(())
+    } else {
+        bind_function(alloc, scope, definition, above)
     }
-    let summary = make_summary(alloc, scope, definition)?;
-    above.push(BoundName {
-        name: &definition.name,
-        held: Held::Function(summary),
-    })?;
-    Ok(())
 }
 
 /// Binds the functions of a `let` above these names.
@@ -114,7 +143,7 @@ pub fn bind_functions<'a>(
     ensures { OnOk result ((B W : World) → Fit scope.now.names.items B → Fit (scope.now.names.items ++ above.old.items) W → Fit (scope.now.names.items ++ above.new.items) (functions_above B (functions_in (map defined_of definitions.now)) W)) }
 {
     for definition in definitions {
-        bind_function(alloc, scope, definition, above)?;
+        bind_if_function(alloc, scope, definition, above)?;
     }
     Ok(())
 }
@@ -132,6 +161,17 @@ pub fn bind_group<'a>(scope: &mut Scope<'a>, bindings: &'a [Binding]) -> Result<
     Ok(())
 }
 
+/// Whether this is the sort of relations.
+pub fn is_relation(sort: Option<Sort>) -> bool
+    ensures { IsTrue result ↔ (sort ≡ Some Relation) }
+{
+    match sort {
+        Some(Sort::Relation) => true,
+        Some(Sort::Set) => false,
+        None => false,
+    }
+}
+
 /// Whether each expression of a recursive group is a relation, where the group's names are bound.
 pub fn require_relations<'a>(
     alloc: Global,
@@ -142,9 +182,8 @@ pub fn require_relations<'a>(
     ensures err { IfErr result (λ e. (e ≡ NoMemory) ⊎ ((b : Bound) × (e ≡ WrongSort b.name) × Contains (map bound_of bindings.now) b × ((W : World) → Fit scope.now.names.items W → sort_in W.sorts b.value ≢ Some Relation))) }
 {
     for binding in bindings {
-        match sort_of(alloc, scope, &binding.value)? {
-            Some(Sort::Relation) => {}
-            _ => return Err(ModelFault::WrongSort(binding.name.copy()?)),
+        if !is_relation(sort_of(alloc, scope, &binding.value)?) {
+            return Err(ModelFault::WrongSort(binding.name.copy()?));
         }
     }
     Ok(())
@@ -159,9 +198,9 @@ pub fn first_denied_in<'a, 'g>(
     ensures { IfOk result (λ o. (W : World) → Fit scope.now.names.items W → MatchOption o (IsMonotone W.marks (map bound_of group.now)) (λ x. (b : Bound) × Contains (map bound_of group.now) b × Contains (denied_in (marks_in (grouped (map bound_of group.now) W.marks) b.value)) x.now)) }
 {
     for binding in group {
-        let found = first_denied(alloc, scope, group, &binding.value)?;
-        if found.is_some() {
-            return Ok(found);
+        match first_denied(alloc, scope, group, &binding.value)? {
+            Some(name) => return Ok(Some(name)),
+            None => {}
         }
     }
     Ok(None)

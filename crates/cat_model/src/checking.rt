@@ -1,6 +1,6 @@
 //! Items in order: names, sizes, sorts and recursion.
 
-ghost use Rattle.std.specs.Prelude.{◌≡◌, ◌⊎◌, ◌↔◌, List, [], ◌∷◌, ◌++◌, map, OnOk, IfOk, IfErr, IsTrue, All};
+ghost use Rattle.std.specs.Prelude.{◌≡◌, ◌⊎◌, ◌↔◌, List, [], ◌∷◌, ◌++◌, map, OnOk, IfOk, IfErr, IsSome, IsTrue, true, None, All};
 ghost use Rattle.cat_tree.specs.Tree.{Word, Clause, term_of, defined_of, bound_of, check_of, clause_of, bind as let_clause, bind_recursively};
 ghost use Rattle.cat_model.specs.Beforehand.{beforehand as functions_beforehand};
 ghost use Rattle.cat_model.specs.Behind.{World, Fit, first};
@@ -8,17 +8,16 @@ ghost use Rattle.cat_model.specs.Closure.{IsOwn};
 ghost use Rattle.cat_model.specs.Counts.{IsCount, IsOver, Stands};
 ghost use Rattle.cat_model.specs.Faults.{IsItemFault, IsFaulty};
 ghost use Rattle.cat_model.specs.Scopes.{Charge, charge as charge_for, word_of, IsTestable, IsModel};
-ghost use Rattle.cat_model.specs.declared.fault.ModelFault.TheVariants.{NoMemory, CallsTooLarge};
+ghost use Rattle.cat_model.specs.declared.fault.ModelFault.TheVariants.{NoMemory, CallsTooLarge, WrongSort, FlagWithoutName};
 
 use crate::binding::{
-    bind_functions, bind_group, bind_values, first_denied_in, require_relations,
+    bind_functions, bind_group, bind_values, first_denied_in, is_relation, require_relations,
 };
 use crate::charging::{charge, charge_bindings, charge_definitions};
 use crate::fault::ModelFault;
 use crate::naming::{require_bindings_bound, require_bound, require_definitions_bound};
 use crate::schemes::sort_of;
 use crate::scope::Scope;
-use crate::sort::Sort;
 use crate::words::word;
 use cat_tree::{Binding, Check, CheckKind, Definition, Expression, Item};
 use std::alloc::{AllocError, Global};
@@ -34,8 +33,8 @@ fn is_testable<'a>(
 {
     let sort = sort_of(alloc, scope, expression)?;
     match kind {
-        CheckKind::Acyclic => Ok(sort == Some(Sort::Relation)),
-        CheckKind::Irreflexive => Ok(sort == Some(Sort::Relation)),
+        CheckKind::Acyclic => Ok(is_relation(sort)),
+        CheckKind::Irreflexive => Ok(is_relation(sort)),
         CheckKind::Empty => Ok(sort.is_some()),
     }
 }
@@ -67,6 +66,35 @@ fn charge_check<'a>(
     }
 }
 
+/// Whether a check that is a flag has a name.
+fn require_name(check: &Check) -> Result<(), ModelFault>
+    ensures ok { OnOk result (check.now.flag ≡ true → IsSome check.now.name) }
+    ensures err { IfErr result (λ e. (e ≡ FlagWithoutName) × (check.now.flag ≡ true) × (check.now.name ≡ None)) }
+{
+    if !check.flag {
+        return Ok(());
+    }
+    match check.name {
+        Some(_) => Ok(()),
+        None => Err(ModelFault::FlagWithoutName),
+    }
+}
+
+/// Whether a check can test its expression.
+fn require_testable<'a>(
+    alloc: Global,
+    scope: &Scope<'a>,
+    check: &Check,
+) -> Result<(), ModelFault>
+    ensures ok { OnOk result ((W : World) → Fit scope.now.names.items W → IsTestable W.sorts check.now.kind (term_of check.now.expression)) }
+    ensures err { IfErr result (λ e. (e ≡ NoMemory) ⊎ ((e ≡ WrongSort (word_of check.now.kind)) × ((W : World) → Fit scope.now.names.items W → ¬ IsTestable W.sorts check.now.kind (term_of check.now.expression)))) }
+{
+    if !is_testable(alloc, scope, check.kind, &check.expression)? {
+        return Err(ModelFault::WrongSort(word(alloc, spelling(check.kind))?));
+    }
+    Ok(())
+}
+
 /// The total behind a check, if it is in order.
 fn follow_check<'a>(
     alloc: Global,
@@ -77,14 +105,10 @@ fn follow_check<'a>(
     ensures ok { IfOk result (λ n. (front : List Clause) → Stands scope.now.names.items total front → Stands scope.now.names.items n (front ++ check_of check.now ∷ [])) }
     ensures err { IfErr result (λ e. (front : List Clause) → Stands scope.now.names.items total front → (e ≡ NoMemory) ⊎ IsItemFault e front (check_of check.now)) }
 {
-    if check.flag && check.name.is_none() {
-        return Err(ModelFault::FlagWithoutName);
-    }
+    require_name(check)?;
     require_bound(alloc, scope, &[], &check.expression)?;
     let sum = charge_check(alloc, scope, total, check)?;
-    if !is_testable(alloc, scope, check.kind, &check.expression)? {
-        return Err(ModelFault::WrongSort(word(alloc, spelling(check.kind))?));
-    }
+    require_testable(alloc, scope, check)?;
     Ok(sum)
 }
 
