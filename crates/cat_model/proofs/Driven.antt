@@ -5,7 +5,13 @@ use Rattle.std.proofs.lemmas.List.{take_more, take-append-drop}
 use Rattle.std.specs.Option.{is_some}
 use Rattle.std.specs.Str.{bytes_eq}
 use Rattle.std.proofs.lemmas.List.Folds.{list_any-append}
-use Rattle.cat_tree.specs.Tree.{Word, Term, Bound, Defined, values_in, functions_in, Clause, bind, bind_recursively, check, include, show, unshow, is_bound}
+use Rattle.std.specs.declared.alloc.Global.{Global}
+use Rattle.std.specs.declared.vec.Vec.{Vec}
+use Rattle.wb_text.specs.declared.name.Name.{Name}
+use Rattle.cat_tree.specs.declared.tree.Element.{Element}
+use Rattle.cat_tree.specs.declared.tree.Item.{Item}
+use Rattle.cat_tree.specs.declared.tree.Item.TheVariants as items
+use Rattle.cat_tree.specs.Tree.{clause_of, shown_of, Word, Term, Bound, Defined, values_in, functions_in, Clause, bind, bind_recursively, check, include, show, unshow, is_bound}
 use Rattle.cat_model.specs.Beforehand.{beforehand}
 use Rattle.cat_model.specs.Behind.{World, Fit, values_above, functions_above, group_above, past, behind, first, with_bound}
 use Rattle.cat_model.specs.Counts.{IsCount, IsOver, Stands}
@@ -231,5 +237,13 @@ faulty_at e is k i l at h f = record {
   fault = f;
 }
 
-pub model_of : (ns : List BoundName) (n : ℕ) (items : List Clause) → Stands ns n items → IsModel items
-model_of ns n items s = record { bound = s.bound; ordered = s.ordered; few = s.count.few }
+pub model_of : (ns : List BoundName) (n : ℕ) (is : List Clause) → Stands ns n is → IsModel is
+model_of ns n is s = record { bound = s.bound; ordered = s.ordered; few = s.count.few }
+
+-- what is shown changes nothing
+
+pub shown_idle : (ns : List BoundName) (n : ℕ) (front : List Clause) (i : Item) (v : Vec Element Global) → i ≡ items.Show v → Stands ns n front → Stands ns n (front ++ clause_of i ∷ [])
+shown_idle ns n front i v e s = subst (λ j. Stands ns n (front ++ clause_of j ∷ [])) (sym e) (stands_idle ns n front (show (map shown_of v.items)) s refl refl (λ x h. absurd h) tt)
+
+pub unshown_idle : (ns : List BoundName) (n : ℕ) (front : List Clause) (i : Item) (v : Vec Name Global) → i ≡ items.Unshow v → Stands ns n front → Stands ns n (front ++ clause_of i ∷ [])
+unshown_idle ns n front i v e s = subst (λ j. Stands ns n (front ++ clause_of j ∷ [])) (sym e) (stands_idle ns n front (unshow v.items) s refl refl (λ x h. absurd h) tt)
