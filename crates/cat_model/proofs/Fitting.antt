@@ -1,6 +1,5 @@
 -- What is known of parameters and of bound names, as weights.
-use Rattle.std.proofs.Common.{◌≡◌, ◌⊎◌, ◌<◌, ℕ, zero, suc, ◌+◌, List, [], ◌∷◌, ◌++◌, length, take, get_or, Option, None, Some, cond, Bool, true, false, refl, sym, ◌∙◌, ap, subst, inl, inr, arith}
-use Rattle.std.proofs.lemmas.List.{take_more}
+use Rattle.std.proofs.Common.{◌≡◌, ◌⊎◌, ℕ, zero, suc, List, [], ◌∷◌, ◌++◌, length, get_or, Option, None, Some, cond, Bool, true, false, refl, sym, ◌∙◌, ap, inl, inr, arith}
 use Rattle.std.specs.Option.{option_or}
 use Rattle.std.specs.Str.{bytes_eq}
 use Rattle.cat_tree.specs.Tree.{Word}
@@ -36,7 +35,7 @@ or_cond : {Z : Type 0} (b : Bool) (k : Z) (o c : Option Z) → option_or (cond b
 or_cond true k o c = refl
 or_cond false k o c = refl
 
-latest_push : {Y Z : Type 0} (label : Y → Word) (what : Y → Z) (ys : List Y) (y : Y) (x : Word) → latest_in label what (ys ++ y ∷ []) x ≡ cond (bytes_eq (label y) x) (Some (what y)) (latest_in label what ys x)
+pub latest_push : {Y Z : Type 0} (label : Y → Word) (what : Y → Z) (ys : List Y) (y : Y) (x : Word) → latest_in label what (ys ++ y ∷ []) x ≡ cond (bytes_eq (label y) x) (Some (what y)) (latest_in label what ys x)
 latest_push label what [] y x = refl
 latest_push {Y} {Z} label what (c ∷ ys) y x =
     let d : Option Z = cond (bytes_eq (label c) x) (Some (what c)) None in
@@ -47,21 +46,8 @@ held_cond m true h o ns = refl
 held_cond m false h o ns = refl
 
 -- one more name hides what it stood for
-pub held_more : (m : Measure) (names more : List BoundName) (y : BoundName) (x : Word) (ns : List ℕ) → more ≡ names ++ y ∷ [] → by_held m (held_in more x) ns ≡ cond (bytes_eq y.name.now x) (by_held m (Some y.held) ns) (by_held m (held_in names x) ns)
-held_more m names more y x ns e = ap (λ l. by_held m (held_in l x) ns) e ∙ ap (λ o. by_held m o ns) (latest_push (λ n. n.name.now) (λ n. n.held) names y x) ∙ held_cond m (bytes_eq y.name.now x) y.held (held_in names x) ns
-
-held_next : (ys : List BoundName) (i : ℕ) (y : BoundName) (x : Word) → i < length ys → y ≡ get_or ys i y → held_in (take (i + 1) ys) x ≡ cond (bytes_eq y.name.now x) (Some y.held) (held_in (take i ys) x)
-held_next ys i y x l e = ap (λ bs. held_in bs x) (take_more ys i y l ∙ ap (λ z. take i ys ++ z ∷ []) (sym e)) ∙ latest_push (λ n. n.name.now) (λ n. n.held) (take i ys) y x
-
-pub held_is : (ys zs : List BoundName) (i : ℕ) (y : BoundName) (x : Word) (o : Option Held) → zs ≡ ys → i < length zs → y ≡ get_or zs i y → bytes_eq y.name.now x ≡ true → o ≡ Some y.held → o ≡ held_in (take (i + 1) ys) x
-held_is ys zs i y x o d l e t s =
-    let P : List BoundName → Type 0 = λ l. o ≡ held_in (take (i + 1) l) x in
-    subst P d (s ∙ sym (ap (λ b. cond b (Some y.held) (held_in (take i zs) x)) t) ∙ sym (held_next zs i y x l e))
-
-pub held_stays : (ys zs : List BoundName) (i : ℕ) (y : BoundName) (x : Word) (o : Option Held) → zs ≡ ys → i < length zs → y ≡ get_or zs i y → bytes_eq y.name.now x ≡ false → o ≡ held_in (take i ys) x → o ≡ held_in (take (i + 1) ys) x
-held_stays ys zs i y x o d l e t s =
-    let P : List BoundName → Type 0 = λ l. o ≡ held_in (take i l) x → o ≡ held_in (take (i + 1) l) x in
-    subst P d (λ s. s ∙ sym (ap (λ b. cond b (Some y.held) (held_in (take i zs) x)) t) ∙ sym (held_next zs i y x l e)) s
+pub held_more : (m : Measure) (names : List BoundName) (y : BoundName) (x : Word) (ns : List ℕ) → by_held m (held_in (names ++ y ∷ []) x) ns ≡ cond (bytes_eq y.name.now x) (by_held m (Some y.held) ns) (by_held m (held_in names x) ns)
+held_more m names y x ns = ap (λ o. by_held m o ns) (latest_push (λ n. n.name.now) (λ n. n.held) names y x) ∙ held_cond m (bytes_eq y.name.now x) y.held (held_in names x) ns
 
 pub only_weight : (ws : List ℕ) (n : ℕ) → length ws ≡ 1 → n ≡ get_or ws 0 n → ws ≡ n ∷ []
 only_weight [] n l e = absurd (omega (arith, l))

@@ -134,21 +134,18 @@ first_just : (ns : List ℕ) → node_over Depth (map suc ns) ≡ suc (just_dept
 first_just [] = omega arith
 first_just (n ∷ ns) = deepest_is (n ∷ ns)
 
-pub no_depths : (names : List BoundName) → names ≡ [] → FitDepths names (λ x. just_depth 0)
-no_depths names e x ns =
-    let P : List BoundName → Type 0 = λ l. Weighs (by_held Depth (held_in l x) (map suc ns)) (just_depth 0 ns) in
-    subst P (sym e) (inl (first_just ns))
+pub fit_depths_none : FitDepths [] (λ x. just_depth 0)
+fit_depths_none x ns = inl (first_just ns)
 
-fit_more : (names more : List BoundName) (y : BoundName) (D : Depths) (F : List ℕ → ℕ) → more ≡ names ++ y ∷ [] → ((ns : List ℕ) → Weighs (by_held Depth (Some y.held) (map suc ns)) (F ns)) → FitDepths names D → FitDepths more (with_depth D y.name.now F)
-fit_more names more y D F e h f x ns =
+fit_more : (names : List BoundName) (y : BoundName) (D : Depths) (F : List ℕ → ℕ) → ((ns : List ℕ) → Weighs (by_held Depth (Some y.held) (map suc ns)) (F ns)) → FitDepths names D → FitDepths (names ++ y ∷ []) (with_depth D y.name.now F)
+fit_more names y D F h f x ns =
     let P : ℕ → Type 0 = λ k. Weighs k (with_depth D y.name.now F x ns) in
     let Q : ℕ → Type 0 = λ k. Alike Depth (cond (bytes_eq y.name.now x) (by_held Depth (Some y.held) (map suc ns)) (by_held Depth (held_in names x) (map suc ns))) k in
-    subst P (sym (held_more Depth names more y x (map suc ns) e))
+    subst P (sym (held_more Depth names y x (map suc ns)))
     (subst Q (cond_suc (bytes_eq y.name.now x) (F ns) (D x ns)) (alike_cond Depth (bytes_eq y.name.now x) (by_held Depth (Some y.held) (map suc ns)) (by_held Depth (held_in names x) (map suc ns)) (suc (F ns)) (suc (D x ns)) (h ns) (f x ns)))
 
-pub fit_value_depth : (names more : List BoundName) (y : BoundName) (k : Sort) (D : Depths) → more ≡ names ++ y ∷ [] → y.held ≡ Value k → FitDepths names D → FitDepths more (with_depth D y.name.now (just_depth 0))
-fit_value_depth names more y k D e d f = fit_more names more y D (just_depth 0) e (λ ns. inl (ap (λ h. by_held Depth (Some h) (map suc ns)) d ∙ first_just ns)) f
+pub fit_depths_value : (names : List BoundName) (y : BoundName) (k : Sort) (D : Depths) → y.held ≡ Value k → FitDepths names D → FitDepths (names ++ y ∷ []) (with_depth D y.name.now (just_depth 0))
+fit_depths_value names y k D e f = fit_more names y D (just_depth 0) (λ ns. inl (ap (λ h. by_held Depth (Some h) (map suc ns)) e ∙ first_just ns)) f
 
-pub fit_function_depth : (names more : List BoundName) (y : BoundName) (s : Summary) (D : Depths) (F : List ℕ → ℕ) → more ≡ names ++ y ∷ [] → y.held ≡ Function s → IsNesting s.nesting F → FitDepths names D → FitDepths more (with_depth D y.name.now F)
-fit_function_depth names more y s D F e d h f =
-    fit_more names more y D F e (λ ns. (let P : ℕ → Type 0 = λ k. Weighs k (F ns) in subst P (sym (ap (λ h. by_held Depth (Some h) (map suc ns)) d)) (h ns))) f
+pub fit_depths_function : (names : List BoundName) (y : BoundName) (s : Summary) (D : Depths) (F : List ℕ → ℕ) → y.held ≡ Function s → FitDepths names D → IsNesting s.nesting F → FitDepths (names ++ y ∷ []) (with_depth D y.name.now F)
+fit_depths_function names y s D F e f h = fit_more names y D F (λ ns. (let P : ℕ → Type 0 = λ k. Weighs k (F ns) in subst P (sym (ap (λ h. by_held Depth (Some h) (map suc ns)) e)) (h ns))) f

@@ -113,19 +113,16 @@ first_just : (ns : List ℕ) → node_over Size ns ≡ just 1 ns
 first_just [] = refl
 first_just (n ∷ ns) = wrong_is (n ∷ ns)
 
-pub no_sizes : (names : List BoundName) → names ≡ [] → FitSizes names (λ x. just 1)
-no_sizes names e x ns =
-    let P : List BoundName → Type 0 = λ l. Near (by_held Size (held_in l x) ns) (just 1 ns) in
-    subst P (sym e) (inl (first_just ns))
+pub fit_sizes_none : FitSizes [] (λ x. just 1)
+fit_sizes_none x ns = inl (first_just ns)
 
-fit_more : (names more : List BoundName) (y : BoundName) (Z : Sizes) (F : List ℕ → ℕ) → more ≡ names ++ y ∷ [] → ((ns : List ℕ) → Near (by_held Size (Some y.held) ns) (F ns)) → FitSizes names Z → FitSizes more (with_size Z y.name.now F)
-fit_more names more y Z F e h f x ns =
+fit_more : (names : List BoundName) (y : BoundName) (Z : Sizes) (F : List ℕ → ℕ) → ((ns : List ℕ) → Near (by_held Size (Some y.held) ns) (F ns)) → FitSizes names Z → FitSizes (names ++ y ∷ []) (with_size Z y.name.now F)
+fit_more names y Z F h f x ns =
     let P : ℕ → Type 0 = λ k. Near k (with_size Z y.name.now F x ns) in
-    subst P (sym (held_more Size names more y x ns e)) (alike_cond Size (bytes_eq y.name.now x) (by_held Size (Some y.held) ns) (by_held Size (held_in names x) ns) (F ns) (Z x ns) (h ns) (f x ns))
+    subst P (sym (held_more Size names y x ns)) (alike_cond Size (bytes_eq y.name.now x) (by_held Size (Some y.held) ns) (by_held Size (held_in names x) ns) (F ns) (Z x ns) (h ns) (f x ns))
 
-pub fit_value_size : (names more : List BoundName) (y : BoundName) (k : Sort) (Z : Sizes) → more ≡ names ++ y ∷ [] → y.held ≡ Value k → FitSizes names Z → FitSizes more (with_size Z y.name.now (just 1))
-fit_value_size names more y k Z e d f = fit_more names more y Z (just 1) e (λ ns. inl (ap (λ h. by_held Size (Some h) ns) d ∙ first_just ns)) f
+pub fit_sizes_value : (names : List BoundName) (y : BoundName) (k : Sort) (Z : Sizes) → y.held ≡ Value k → FitSizes names Z → FitSizes (names ++ y ∷ []) (with_size Z y.name.now (just 1))
+fit_sizes_value names y k Z e f = fit_more names y Z (just 1) (λ ns. inl (ap (λ h. by_held Size (Some h) ns) e ∙ first_just ns)) f
 
-pub fit_function_size : (names more : List BoundName) (y : BoundName) (s : Summary) (Z : Sizes) (F : List ℕ → ℕ) → more ≡ names ++ y ∷ [] → y.held ≡ Function s → IsSizing s.sizing F → FitSizes names Z → FitSizes more (with_size Z y.name.now F)
-fit_function_size names more y s Z F e d h f =
-    fit_more names more y Z F e (λ ns. (let P : ℕ → Type 0 = λ k. Near k (F ns) in subst P (sym (ap (λ h. by_held Size (Some h) ns) d)) (h ns))) f
+pub fit_sizes_function : (names : List BoundName) (y : BoundName) (s : Summary) (Z : Sizes) (F : List ℕ → ℕ) → y.held ≡ Function s → FitSizes names Z → IsSizing s.sizing F → FitSizes (names ++ y ∷ []) (with_size Z y.name.now F)
+fit_sizes_function names y s Z F e f h = fit_more names y Z F (λ ns. (let P : ℕ → Type 0 = λ k. Near k (F ns) in subst P (sym (ap (λ h. by_held Size (Some h) ns) e)) (h ns))) f

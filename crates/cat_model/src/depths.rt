@@ -6,7 +6,7 @@ ghost use Rattle.cat_model.specs.Depths.{Depths, depth as depth_in, applied_dept
 ghost use Rattle.cat_model.specs.Nesting.{NearDepth, IsNesting, FitDepths};
 
 use crate::scope::Scope;
-use crate::weights::{weigh, Measure};
+use crate::weights::{Measure, weigh};
 use cat_tree::Expression;
 use std::alloc::{AllocError, Global};
 use wb_text::Name;

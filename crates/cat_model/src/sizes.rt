@@ -6,7 +6,7 @@ ghost use Rattle.cat_model.specs.Sizes.{Sizes, size as size_in, applied_size};
 ghost use Rattle.cat_model.specs.Sizing.{Near, IsSizing, FitSizes};
 
 use crate::scope::Scope;
-use crate::weights::{weigh, Measure};
+use crate::weights::{Measure, weigh};
 use cat_tree::Expression;
 use std::alloc::{AllocError, Global};
 use wb_text::Name;
