@@ -8,9 +8,11 @@ pub mod Denials
 pub mod Scopes
 pub mod Lookups
 pub mod Along
+pub mod Weights
 pub mod Sizing
 pub mod Nesting
 pub mod Schemes
+pub mod Classing
 pub mod Marked
 pub mod Behind
 pub mod Counts

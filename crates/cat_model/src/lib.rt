@@ -14,6 +14,7 @@ pub mod laws;
 mod model;
 mod named;
 mod naming;
+mod places;
 mod rc11_text;
 mod resolving;
 mod schemes;
@@ -22,6 +23,7 @@ mod sizes;
 mod sketch;
 mod sort;
 mod walk;
+mod weights;
 mod words;
 
 pub use fault::ModelFault;
