@@ -1,5 +1,5 @@
 -- Which parameters stand in a function's body once calls are replaced, and which of them are denied.
-use Rattle.std.specs.Prelude.{◌≡◌, ◌↔◌, ◌≤◌, ℕ, List, [], ◌∷◌, ◌++◌, map, length, Bool, true, false, ◌||◌, Option, None, Some, get_or}
+use Rattle.std.specs.Prelude.{◌≡◌, ◌↔◌, ◌<◌, ◌≤◌, ℕ, List, [], ◌∷◌, ◌++◌, map, length, Bool, true, false, cond, ◌||◌, Option, None, Some, get_or}
 use Rattle.std.specs.List.{Contains}
 use Rattle.cat_tree.specs.declared.node.Infix.{Infix}
 use Rattle.cat_tree.specs.declared.node.Infix.TheVariants.{Difference}
@@ -10,6 +10,7 @@ use Rattle.cat_model.specs.Denials.{Mark, Marking, marks, with_mark}
 use Rattle.cat_model.specs.Classing.{place_in}
 use Rattle.cat_model.specs.Lookups.{held_in}
 use Rattle.cat_model.specs.declared.denials.Marked.{Marked}
+use Rattle.cat_model.specs.declared.denials.Once.{Once}
 use Rattle.cat_model.specs.declared.denials.Trace.{Trace}
 use Rattle.cat_model.specs.declared.scope.BoundName.{BoundName}
 use Rattle.cat_model.specs.declared.scope.Held.{Held}
@@ -47,7 +48,7 @@ given_marks M (x ∷ xs) (m ∷ ms) = given_marks (with_mark M x (λ _. m)) xs m
 
 -- these traces tell what stands in the term
 abbrev pub Traced : List BoundName → List Word → List Trace → Term → Type 0
-Traced ns xs ts t = (M : Marking) → FitMarks ns M → (ms : List (List Mark)) → length ms ≡ length xs → (m : Mark) → Contains (marks (given_marks M xs ms) t) m ↔ Comes ts ms m
+Traced ns xs ts t = (M : Marking) → FitMarks ns M → (ms : List (List Mark)) → length xs ≤ length ms → (m : Mark) → Contains (marks (given_marks M xs ms) t) m ↔ Comes ts ms m
 
 abbrev pub trace_if : Bool → Trace → Trace
 trace_if d t = record { place = t.place; denied = d || t.denied }
@@ -60,12 +61,29 @@ pub record Composes (ts : List Trace) (as' : List (List Trace)) (q : Trace) : Ty
   pub there : Contains (get_or as' trace.place []) inner
   pub is : q ≡ trace_if trace.denied inner
 
+abbrev pub ForEach : {A X : Type 0} → (A → X → Type 0) → List A → List X → Type 0
+ForEach R [] [] = Unit {0}
+ForEach R [] (x ∷ xs) = ⊥
+ForEach R (a ∷ as') [] = ⊥
+ForEach R (a ∷ as') (x ∷ xs) = R a x × ForEach R as' xs
+
 -- so for each of these
 abbrev pub AreTraced : List BoundName → List Word → List (List Trace) → List Term → Type 0
-AreTraced ns xs [] [] = Unit {0}
-AreTraced ns xs [] (t ∷ ts) = ⊥
-AreTraced ns xs (v ∷ vs) [] = ⊥
-AreTraced ns xs (v ∷ vs) (t ∷ ts) = Traced ns xs v t × AreTraced ns xs vs ts
+AreTraced ns xs = ForEach (Traced ns xs)
+
+-- the trace is noted as listed
+abbrev pub IsSeen : Once → Trace → Type 0
+IsSeen o q = get_or (cond q.denied o.denied.items o.allowed.items) q.place false ≡ true
+
+abbrev pub AreListed : Once → Type 0
+AreListed o = (q : Trace) → IsSeen o q → Contains o.listed.items q
+
+-- x is one of these names, and denied
+pub record IsDeniedName (ts : List Trace) (xs : List Word) (x : Word) : Type 0 where
+  pub place : ℕ
+  pub inside : place < length xs
+  pub among : Contains ts (record { place = place; denied = true })
+  pub is : x ≡ get_or xs place []
 
 abbrev pub traces_applied : Sign → List Trace → List Trace
 traces_applied Complement ts = map (trace_if true) ts
