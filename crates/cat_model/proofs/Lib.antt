@@ -16,7 +16,10 @@ pub mod Making
 pub mod Standing
 pub mod Ending
 pub mod SortsFit
-pub mod Owed
+pub mod MarksFit
+pub mod Members
+pub mod Tracing
+pub mod Denying
 pub mod Pushed
 pub mod Driven
 pub mod Stored

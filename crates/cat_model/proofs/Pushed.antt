@@ -7,7 +7,7 @@ use Rattle.cat_model.proofs.Contained.{contains_nothing, contains_one, contains_
 use Rattle.cat_tree.specs.Tree.{Word, Bound, Defined, values_in, function_if, functions_in}
 use Rattle.cat_model.proofs.Latest.{known_push}
 use Rattle.cat_model.proofs.Nested.{fit_depths_none, fit_depths_value, fit_depths_function}
-use Rattle.cat_model.proofs.Owed.{fit_marks_none, fit_marks_value, fit_marks_function}
+use Rattle.cat_model.proofs.MarksFit.{fit_marks_none, fit_marks_value, fit_marks_function}
 use Rattle.cat_model.proofs.Sized.{fit_sizes_none, fit_sizes_value, fit_sizes_function}
 use Rattle.cat_model.proofs.SortsFit.{fit_sorts_none, fit_sorts_value, fit_sorts_function}
 use Rattle.cat_model.specs.Behind.{World, Fit, IsSummary, values_above, functions_above, group_above, unbound}

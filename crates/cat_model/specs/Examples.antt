@@ -51,6 +51,7 @@ unfolding named_of written spelling_of
 no_identity_of_a_relation = refl
 
 pub wrong_number_of_arguments : sort (sorts_past first_sorts f_is_identity) (call (codes "f") (term (name (codes "W")) (term (name (codes "R")) no_terms))) ≡ None
+unfolding named_of written spelling_of
 wrong_number_of_arguments = refl
 
 pub no_value_of_a_function : sort (sorts_past first_sorts f_is_identity) (name (codes "f")) ≡ None
