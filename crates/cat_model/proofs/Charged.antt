@@ -1,9 +1,8 @@
 -- Charges that are counted.
-use Rattle.std.proofs.Common.{◌≡◌, ◌<◌, ◌≤◌, ◌⊎◌, inl, inr, ℕ, ◌+◌, List, [], ◌∷◌, ◌++◌, Option, None, Some, map, drop, length, get_or, refl, sym, ◌∙◌, ap, subst, arith, append_assoc, append-nil}
-use Rattle.std.specs.List.{Contains, All}
+use Rattle.std.proofs.Common.{◌≡◌, ◌<◌, ◌≤◌, inl, inr, ℕ, ◌+◌, List, [], ◌∷◌, ◌++◌, None, Some, map, drop, length, get_or, refl, sym, ◌∙◌, ap, subst, arith, append_assoc, append-nil}
 use Rattle.std.proofs.lemmas.List.{drop_more}
 use Rattle.std.proofs.lemmas.List.Elements.{All-nil, All-cons, All-append, All-contains}
-use Rattle.cat_tree.specs.Tree.{Word, Bound, Defined, values_in}
+use Rattle.cat_tree.specs.Tree.{Word, Defined, values_in}
 use Rattle.cat_model.proofs.Contained.{contains_first}
 use Rattle.cat_model.specs.Counts.{IsCharged, IsCount, CountsUpTo, IsOver}
 use Rattle.cat_model.specs.Depths.{Depths}

@@ -1,11 +1,11 @@
 -- Names of a group that are denied.
-use Rattle.std.proofs.Common.{◌≡◌, ◌<◌, ◌≤◌, ◌⊎◌, ◌↔◌, ◌∙◌, arith, ℕ, zero, suc, ◌+◌, length, take, get_or, List, [], ◌∷◌, map, Bool, true, false, ◌||◌, inl, inr, Option, None, Some, ap, sym, subst, refl}
+use Rattle.std.proofs.Common.{◌≡◌, ◌<◌, ◌≤◌, ◌⊎◌, ◌∙◌, arith, ℕ, zero, suc, ◌+◌, length, take, get_or, List, [], ◌∷◌, map, Bool, true, false, ◌||◌, inl, inr, Option, None, Some, ap, sym, subst, refl}
 use Rattle.std.specs.Prelude.{MatchOption}
 use Rattle.std.specs.List.{Contains}
 use Rattle.std.proofs.lemmas.List.{length-map}
 use Rattle.cat_tree.specs.Tree.{Word, Term, Bound}
 use Rattle.cat_model.specs.Denials.{Mark, Marking, marks, with_mark, grouped, denied_in, denied_if}
-use Rattle.cat_model.specs.Marked.{mark_if, Comes, FitMarks, given_marks, Traced, IsDeniedName}
+use Rattle.cat_model.specs.Marked.{Comes, FitMarks, given_marks, Traced, IsDeniedName}
 use Rattle.cat_model.specs.declared.denials.Trace.{Trace}
 use Rattle.cat_model.specs.declared.scope.BoundName.{BoundName}
 use Rattle.cat_model.proofs.Members.{nothing_in, contains_first, contains_later, contains_cases, contains_one, taken_more, all_taken}

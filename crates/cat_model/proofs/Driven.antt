@@ -1,6 +1,5 @@
 -- One item more: what stands behind it, and its faults.
-use Rattle.std.proofs.Common.{◌≡◌, ◌≢◌, ◌<◌, ℕ, ◌+◌, take, drop, length, get_or, List, [], ◌∷◌, ◌++◌, Option, None, Some, Bool, true, false, ◌||◌, map, refl, sym, ◌∙◌, ap, subst, inl, inr, ◌⊎◌, append_assoc, append-nil, IsSome}
-use Rattle.std.specs.List.{Contains, list_any, All}
+use Rattle.std.proofs.Common.{◌≡◌, ◌<◌, ℕ, ◌+◌, take, drop, length, get_or, List, [], ◌∷◌, ◌++◌, Bool, true, false, ◌||◌, map, refl, sym, ◌∙◌, ap, subst, append_assoc, append-nil}
 use Rattle.std.proofs.lemmas.List.{take_more, take-append-drop}
 use Rattle.std.specs.Option.{is_some}
 use Rattle.std.specs.Str.{bytes_eq}
@@ -11,17 +10,17 @@ use Rattle.wb_text.specs.declared.name.Name.{Name}
 use Rattle.cat_tree.specs.declared.tree.Element.{Element}
 use Rattle.cat_tree.specs.declared.tree.Item.{Item}
 use Rattle.cat_tree.specs.declared.tree.Item.TheVariants as items
-use Rattle.cat_tree.specs.Tree.{clause_of, shown_of, Word, Term, Bound, Defined, values_in, functions_in, Clause, bind, bind_recursively, check, include, show, unshow, is_bound}
+use Rattle.cat_tree.specs.Tree.{clause_of, shown_of, Word, Bound, Defined, values_in, functions_in, Clause, bind, bind_recursively, check, include, show, unshow, is_bound}
 use Rattle.cat_model.specs.Beforehand.{beforehand}
-use Rattle.cat_model.specs.Behind.{World, Fit, values_above, functions_above, group_above, past, behind, first, with_bound}
+use Rattle.cat_model.specs.Behind.{World, Fit, group_above, past, behind, first, with_bound}
 use Rattle.cat_model.specs.Counts.{IsCount, IsOver, Stands}
 use Rattle.cat_model.specs.Denials.{Marking, marks_past, first_marks}
 use Rattle.cat_model.specs.Depths.{depths_past}
-use Rattle.cat_model.specs.Faults.{IsUnbound, IsTooLarge, IsMissorted, marks_behind, IsDenied, IsItemFault, IsFaulty}
+use Rattle.cat_model.specs.Faults.{IsTooLarge, IsMissorted, marks_behind, IsDenied, IsItemFault, IsFaulty}
 use Rattle.cat_model.specs.Lookups.{is_known}
 use Rattle.cat_model.specs.Named.{named_of}
 use Rattle.cat_model.specs.Names.{IsNamed, IsBound, AreBound, is_among, bound_by, bound_by_all, is_bound_behind}
-use Rattle.cat_model.specs.Scopes.{IsOrdered, AreOrdered, Charge, charges_of, all_charges, charges, AreFew, IsModel}
+use Rattle.cat_model.specs.Scopes.{IsOrdered, AreOrdered, charges_of, all_charges, charges, AreFew, IsModel}
 use Rattle.cat_model.specs.Sizes.{sizes_past}
 use Rattle.cat_model.specs.Sorts.{Sorting, sorts_past, sorts_behind, first_sorts}
 use Rattle.cat_model.specs.declared.fault.ModelFault.{ModelFault}

@@ -1,6 +1,5 @@
 -- What is known of parameters and of bound names, as weights.
-use Rattle.std.proofs.Common.{◌≡◌, ◌⊎◌, ℕ, zero, suc, List, [], ◌∷◌, ◌++◌, length, get_or, Option, None, Some, cond, Bool, true, false, refl, sym, ◌∙◌, ap, inl, inr, arith}
-use Rattle.std.specs.Option.{option_or}
+use Rattle.std.proofs.Common.{◌≡◌, ◌⊎◌, ℕ, zero, suc, List, [], ◌∷◌, ◌++◌, length, get_or, Option, Some, cond, Bool, true, false, refl, sym, ◌∙◌, ap, inl, inr, arith}
 use Rattle.std.specs.Str.{bytes_eq}
 use Rattle.cat_tree.specs.Tree.{Word}
 pub use Rattle.cat_model.proofs.Latest.{latest_push}

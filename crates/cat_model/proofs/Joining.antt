@@ -1,6 +1,6 @@
 -- Classes that are joined, and the sorts that agree with them.
-use Rattle.std.proofs.Common.{◌≡◌, ◌<◌, ◌≤◌, ◌⊎◌, ◌↔◌, ◌∙◌, arith, ℕ, zero, suc, length, get_or, List, [], ◌∷◌, ◌++◌, map, Bool, true, false, cond, nat_eq, inl, inr, Option, None, Some, ap, sym, subst, refl}
-use Rattle.std.proofs.lemmas.Bool.{cases_lt, eqb-true, eq-eqb, false_from_ne_true}
+use Rattle.std.proofs.Common.{◌≡◌, ◌<◌, ◌≤◌, ◌⊎◌, ◌↔◌, ◌∙◌, arith, ℕ, zero, suc, length, get_or, List, [], ◌∷◌, ◌++◌, map, Bool, true, false, cond, nat_eq, inl, inr, ap, sym, subst, refl}
+use Rattle.std.proofs.lemmas.Bool.{cases_lt, eqb-true, eq-eqb}
 use Rattle.std.proofs.lemmas.List.{length_push}
 use Rattle.cat_model.specs.Classing.{class_of, swapped, own_classes, AreFlat, Agree}
 use Rattle.cat_model.specs.Schemes.{sort_of_class, same_sort}
@@ -77,9 +77,10 @@ flat_swapped cs ds a b h e d =
 joined_first : (old new : Classes) (a : ℕ) (b : Class) → new.possible ≡ old.possible → new.items.items ≡ map (swapped a b) old.items.items → class_of old.items.items (Same a) ≡ Same a →
     (js : List Sort) → Agree new js ↔ (Agree old js × (get_or js a Set ≡ sort_of_class js b))
 joined_first old new a b p d own js =
-    let P : List Class → Type 0 = λ l. Say l js in
-    (λ h. (let m = say_more old.items.items a b js own (subst P d h.1) in ((sym p ∙ h.0, m.0), m.1)),
-    λ h. (p ∙ h.0.0, subst P (sym d) (say_less old.items.items a b js h.0.1 h.1)))
+    let P : List Class → Type 0 = λ l. Say l js in (
+      λ h. (let m = say_more old.items.items a b js own (subst P d h.1) in ((sym p ∙ h.0, m.0), m.1)),
+      λ h. (p ∙ h.0.0, subst P (sym d) (say_less old.items.items a b js h.0.1 h.1)),
+    )
 
 joined_second : (old new : Classes) (a : ℕ) (b : Class) → new.possible ≡ old.possible → new.items.items ≡ map (swapped a b) old.items.items → class_of old.items.items (Same a) ≡ Same a →
     (js : List Sort) → Agree new js ↔ (Agree old js × (sort_of_class js b ≡ get_or js a Set))
@@ -124,9 +125,10 @@ joined_apart old new left right k l e f t never js = (λ h. absurd (never js h),
 -- any two classes, by those that stand for them
 joined_any : (old new : Classes) (a b : Class) → ((js : List Sort) → Agree new js ↔ (Agree old js × (sort_of_class js (class_of old.items.items a) ≡ sort_of_class js (class_of old.items.items b)))) →
     (js : List Sort) → Agree new js ↔ (Agree old js × (sort_of_class js a ≡ sort_of_class js b))
-joined_any old new a b f js =
-    (λ h. (let g = (f js).0 h in (g.0, sym (class_sort old.items.items js a g.0.1) ∙ g.1 ∙ class_sort old.items.items js b g.0.1)),
-    λ h. (f js).1 (h.0, class_sort old.items.items js a h.0.1 ∙ h.1 ∙ sym (class_sort old.items.items js b h.0.1)))
+joined_any old new a b f js = (
+  λ h. (let g = (f js).0 h in (g.0, sym (class_sort old.items.items js a g.0.1) ∙ g.1 ∙ class_sort old.items.items js b g.0.1)),
+  λ h. (f js).1 (h.0, class_sort old.items.items js a h.0.1 ∙ h.1 ∙ sym (class_sort old.items.items js b h.0.1)),
+)
 
 -- a class's class is its own
 pub own_class : (cs : List Class) (c : Class) → AreFlat cs → class_of cs (class_of cs c) ≡ class_of cs c

@@ -1,6 +1,6 @@
 -- Tests of mapped lists, what is in them, and loops over them.
-use Rattle.std.proofs.Common.{◌≡◌, ℕ, ◌+◌, ◌<◌, ◌≤◌, List, [], ◌∷◌, Bool, true, false, ◌||◌, map, refl, sym, ◌∙◌, inl, inr, ap, subst, take, length, get_or, Bor, arith}
-use Rattle.std.specs.List.{list_any, Contains, All}
+use Rattle.std.proofs.Common.{◌≡◌, ℕ, ◌+◌, ◌<◌, ◌≤◌, List, [], ◌∷◌, Bool, true, false, ◌||◌, map, refl, sym, ◌∙◌, ap, subst, take, length, get_or, Bor, arith}
+use Rattle.std.specs.List.{list_any, All}
 use Rattle.std.specs.Str.{bytes_eq}
 use Rattle.std.proofs.lemmas.List.{take_all, get_or-map, length-map}
 use Rattle.std.proofs.lemmas.List.Elements.{All-more}

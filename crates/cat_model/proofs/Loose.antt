@@ -1,11 +1,9 @@
 -- The first name of a term that is not bound.
-use Rattle.std.proofs.Common.{◌≡◌, List, [], ◌∷◌, ◌++◌, Option, None, Some, Bool, true, false, cond, ap, sym, ◌∙◌, subst, refl, Bor, option_map, inl, inr}
+use Rattle.std.proofs.Common.{◌≡◌, List, [], ◌∷◌, ◌++◌, Option, None, Some, Bool, true, false, cond, ap, sym, ◌∙◌, subst, refl, Bor, option_map}
 use Rattle.std.specs.Prelude.{reverse, ◌||◌, not}
 use Rattle.std.specs.List.{find, Contains}
 use Rattle.std.specs.Option.{option_or}
-use Rattle.std.proofs.lemmas.Bool.{cases_Bool}
 use Rattle.std.proofs.lemmas.List.Folds.{find-append}
-use Rattle.std.proofs.lemmas.List.Elements.{Contains-append_left, Contains-append_right, Contains-append_cases}
 use Rattle.cat_tree.specs.declared.node.Infix.{Infix}
 use Rattle.cat_tree.specs.declared.node.Infix.TheVariants.{Union, Sequence, Difference, Intersection, Product}
 use Rattle.cat_tree.specs.declared.node.Sign.{Sign}
@@ -13,7 +11,7 @@ use Rattle.cat_tree.specs.declared.node.Sign.TheVariants.{Complement, Plus, Star
 use Rattle.cat_tree.specs.Tree.{Defined}
 use Rattle.cat_tree.specs.declared.node.Node.{Node}
 use Rattle.cat_tree.specs.declared.node.Node.TheVariants as nodes
-use Rattle.cat_tree.specs.Terms.{Word, Term, Terms, call, terms_of, applied, joined, name, empty_relation, empty_set, universe, latest, earlier, left_by}
+use Rattle.cat_tree.specs.Terms.{Word, Term, call, terms_of, applied, joined, name, universe, latest, earlier, left_by}
 use Rattle.cat_model.proofs.Waiting.{for_latest, node_as, pushed}
 use Rattle.cat_model.specs.Along.{is_loose, IsFirstLoose, first_some, ForEach}
 use Rattle.cat_model.proofs.Contained.{kept, was_kept}

@@ -1,5 +1,5 @@
 -- What nodes make of sorts, where classes are joined.
-use Rattle.std.proofs.Common.{◌≡◌, ◌<◌, ◌≤◌, ◌⊎◌, ◌↔◌, ◌∙◌, arith, ℕ, zero, suc, ◌+◌, length, get_or, List, [], ◌∷◌, map, Bool, true, false, ◌&&◌, cond, nat_eq, inl, inr, Option, None, Some, ap, sym, subst, refl}
+use Rattle.std.proofs.Common.{◌≡◌, ◌<◌, ◌⊎◌, ◌↔◌, ◌∙◌, arith, ℕ, zero, suc, ◌+◌, length, get_or, List, [], ◌∷◌, map, Bool, true, false, ◌&&◌, cond, nat_eq, inl, inr, Option, None, Some, ap, sym, subst, refl}
 use Rattle.std.specs.Prelude.{option_map}
 use Rattle.std.proofs.lemmas.Bool.{eqb-true, eq-eqb}
 use Rattle.std.proofs.lemmas.List.{length-map}
@@ -253,9 +253,10 @@ taken_next js ws cs i h e k l = by (nat_eq k i) refl
 -- joined with one more argument
 pub joined_next : (old mid new : Classes) (ws cs : List Class) (i : ℕ) (a b : Class) → a ≡ get_or cs i (Known Set) → b ≡ class_of cs (get_or ws i (Known Set)) → ((js : List Sort) → Agree mid js ↔ (Agree old js × AreTaken js ws cs i)) →
     ((js : List Sort) → Agree new js ↔ (Agree mid js × (sort_of_class js a ≡ sort_of_class js b))) → (js : List Sort) → Agree new js ↔ (Agree old js × AreTaken js ws cs (i + 1))
-joined_next old mid new ws cs i a b d e f g js =
-    (λ h. (let x = (g js).0 h in let y = (f js).0 x.0 in (y.0, taken_next js ws cs i y.1 (sym (ap (sort_of_class js) d) ∙ x.1 ∙ ap (sort_of_class js) e))),
-    λ h. (g js).1 ((f js).1 (h.0, λ k l. h.1 k (omega (arith, l))), ap (sort_of_class js) d ∙ h.1 i (omega arith) ∙ sym (ap (sort_of_class js) e)))
+joined_next old mid new ws cs i a b d e f g js = (
+  λ h. (let x = (g js).0 h in let y = (f js).0 x.0 in (y.0, taken_next js ws cs i y.1 (sym (ap (sort_of_class js) d) ∙ x.1 ∙ ap (sort_of_class js) e))),
+  λ h. (g js).1 ((f js).1 (h.0, λ k l. h.1 k (omega (arith, l))), ap (sort_of_class js) d ∙ h.1 i (omega arith) ∙ sym (ap (sort_of_class js) e)),
+)
 
 pub joined_none : (old : Classes) (ws cs : List Class) (js : List Sort) → Agree old js ↔ (Agree old js × AreTaken js ws cs 0)
 joined_none old ws cs js = (λ h. (h, λ k l. absurd (omega (arith, l))), λ h. h.0)

@@ -1,7 +1,6 @@
 -- Names stand for what they are bound to: marks.
-use Rattle.std.proofs.Common.{◌≡◌, ◌∙◌, List, [], ◌∷◌, ◌++◌, Bool, true, false, cond, Option, Some, None, ap, sym, subst, refl}
+use Rattle.std.proofs.Common.{◌≡◌, List, [], ◌∷◌, ◌++◌, Bool, true, false, cond, Option, Some, sym, subst, refl}
 use Rattle.std.specs.Str.{bytes_eq}
-use Rattle.cat_tree.specs.Tree.{Word}
 use Rattle.cat_model.specs.Denials.{Mark, Marking, with_mark}
 use Rattle.cat_model.specs.Lookups.{held_in}
 use Rattle.cat_model.specs.Marked.{IsMarked, IsMarkedBy, FitMarks}

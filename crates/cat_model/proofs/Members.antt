@@ -1,9 +1,9 @@
 -- Members of lists, and lists that are listed once.
-use Rattle.std.proofs.Common.{◌≡◌, ◌<◌, ◌≤◌, ◌⊎◌, ◌↔◌, ◌∙◌, arith, ℕ, zero, suc, ◌+◌, length, take, get_or, List, [], ◌∷◌, ◌++◌, map, Bool, true, false, cond, inl, inr, Result, Ok, Err, Vec, Global, ap, sym, subst, refl}
+use Rattle.std.proofs.Common.{◌≡◌, ◌<◌, ◌≤◌, ◌⊎◌, ◌↔◌, ◌∙◌, arith, ℕ, zero, suc, ◌+◌, length, take, get_or, List, [], ◌∷◌, ◌++◌, map, Bool, inl, inr, Result, Ok, Err, Vec, Global, ap, sym, subst, refl}
 use Rattle.std.specs.Prelude.{IfOk}
 use Rattle.std.specs.List.{Contains}
 use Rattle.std.proofs.lemmas.List.{take_more, map-append}
-use Rattle.std.proofs.lemmas.List.Elements.{Contains-append_left, Contains-append_right, Contains-append_cases, Contains-push, Contains-push_cases}
+use Rattle.std.proofs.lemmas.List.Elements.{Contains-append_left, Contains-append_right, Contains-append_cases, Contains-push_cases}
 use Rattle.cat_model.specs.Marked.{Composes, trace_if}
 use Rattle.cat_model.specs.declared.denials.Trace.{Trace}
 

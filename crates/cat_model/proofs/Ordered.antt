@@ -1,8 +1,8 @@
 -- Items of a model have no fault, and a root gives one list of items.
-use Rattle.std.proofs.Common.{◌≡◌, ◌≤◌, ◌+◌, List, [], ◌∷◌, ◌++◌, Some, None, true, false, map, Bool, Option, refl, sym, ◌∙◌, inl, inr, ◌⊎◌, subst, ap, IsSome, append_assoc, append-nil, arith}
+use Rattle.std.proofs.Common.{◌≡◌, ◌≤◌, List, [], ◌∷◌, ◌++◌, Some, None, true, false, map, Bool, Option, refl, sym, ◌∙◌, inl, inr, ◌⊎◌, subst, ap, IsSome, append_assoc, append-nil, arith}
 use Rattle.std.specs.List.{Contains, All}
 use Rattle.std.proofs.lemmas.List.Elements.{All-contains, Contains-append_left}
-use Rattle.cat_tree.specs.Tree.{Word, Term, Bound, values_in, Clause, bind, bind_recursively, check, include, show, unshow, File}
+use Rattle.cat_tree.specs.Tree.{Word, values_in, Clause, bind, bind_recursively, check, include, show, unshow, File}
 use Rattle.cat_model.proofs.Contained.{contains_nothing, all_from}
 use Rattle.cat_model.proofs.Charged.{total_append}
 use Rattle.cat_model.specs.Closure.{IsOwn, Expands, done, own, included, IsClosure, once, versioned}
@@ -10,8 +10,8 @@ use Rattle.cat_model.specs.Denials.{Marking, marks, marks_past, first_marks, gro
 use Rattle.cat_model.specs.Depths.{Depths, depths_past, first_depths}
 use Rattle.cat_model.specs.Faults.{IsCause, IsAstray, IsItemFault, IsFaulty, IsMissorted, marks_behind, IsDenied, IsNameless}
 use Rattle.cat_model.specs.Files.{file_of}
-use Rattle.cat_model.specs.Names.{IsNamed, IsBound, AreBound, is_bound_behind}
-use Rattle.cat_model.specs.Scopes.{IsMonotone, IsTestable, IsOrdered, AreOrdered, Charge, charges_of, all_charges, charges, total_nodes, AreFew, IsModel}
+use Rattle.cat_model.specs.Names.{IsBound, AreBound, is_bound_behind}
+use Rattle.cat_model.specs.Scopes.{IsOrdered, AreOrdered, Charge, charges_of, all_charges, charges, AreFew, IsModel}
 use Rattle.cat_model.specs.Sizes.{Sizes, sizes_past, first_sizes}
 use Rattle.cat_model.specs.Sorts.{Sorting, sort, recursive, sorts_past, sorts_behind, first_sorts}
 use Rattle.cat_model.specs.declared.fault.ModelFault.{ModelFault}

@@ -1,5 +1,5 @@
 -- Places of names.
-use Rattle.std.proofs.Common.{◌≡◌, ◌<◌, ◌≤◌, ◌∙◌, arith, ℕ, zero, suc, ◌+◌, length, get_or, take, List, [], ◌∷◌, ◌++◌, map, Bool, true, false, cond, inl, inr, Option, None, Some, ap, sym, subst, refl}
+use Rattle.std.proofs.Common.{◌≡◌, ◌<◌, ◌∙◌, arith, ℕ, suc, ◌+◌, length, get_or, take, List, [], ◌∷◌, ◌++◌, map, Bool, true, false, cond, Option, None, Some, ap, sym, refl}
 use Rattle.std.specs.Prelude.{option_map}
 use Rattle.std.specs.Option.{option_or}
 use Rattle.std.specs.Str.{bytes_eq}

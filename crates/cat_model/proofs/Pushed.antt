@@ -1,5 +1,5 @@
 -- Names that are bound one by one stand for what they are bound to.
-use Rattle.std.proofs.Common.{◌≡◌, ℕ, ◌+◌, ◌<◌, List, [], ◌∷◌, ◌++◌, Option, None, Some, Bool, ◌||◌, map, drop, length, get_or, refl, sym, ◌∙◌, ap, subst, append_assoc, append-nil, arith}
+use Rattle.std.proofs.Common.{◌≡◌, List, [], ◌∷◌, ◌++◌, Option, Some, ◌||◌, length, refl, sym, ◌∙◌, ap, subst, append_assoc, arith}
 use Rattle.std.specs.List.{Contains, All}
 use Rattle.std.specs.Str.{bytes_eq}
 use Rattle.std.proofs.lemmas.List.Elements.{All-cons, All-contains}
@@ -15,7 +15,7 @@ use Rattle.cat_model.specs.Denials.{applied_marks}
 use Rattle.cat_model.specs.Depths.{applied_depth}
 use Rattle.cat_model.specs.Lookups.{is_known}
 use Rattle.cat_model.specs.Sizes.{applied_size}
-use Rattle.cat_model.specs.Sorts.{Sorting, sort, with_sort, just_sort, applied_sort}
+use Rattle.cat_model.specs.Sorts.{sort, with_sort, just_sort, applied_sort}
 use Rattle.cat_model.specs.Schemes.{FitSorts}
 use Rattle.cat_model.specs.declared.scope.BoundName.{BoundName}
 use Rattle.cat_model.specs.declared.scope.Held.TheVariants.{Value, Function}

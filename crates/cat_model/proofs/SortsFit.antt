@@ -1,12 +1,11 @@
 -- Names stand for what they are bound to: sorts.
-use Rattle.std.proofs.Common.{◌≡◌, ◌∙◌, List, [], ◌∷◌, ◌++◌, Bool, true, false, cond, Option, Some, None, ap, sym, refl}
+use Rattle.std.proofs.Common.{◌≡◌, ◌∙◌, List, [], ◌∷◌, ◌++◌, Bool, true, false, cond, Option, Some, ap, sym, refl}
 use Rattle.std.specs.Str.{bytes_eq}
 use Rattle.cat_tree.specs.Tree.{Word}
 use Rattle.cat_model.specs.Lookups.{held_in}
 use Rattle.cat_model.specs.Schemes.{by_scheme, sort_by, FitSorts}
 use Rattle.cat_model.specs.Sorts.{Sorting, just_sort, with_sort, named_sorts}
 use Rattle.cat_model.specs.declared.scope.BoundName.{BoundName}
-use Rattle.cat_model.specs.declared.scope.Held.{Held}
 use Rattle.cat_model.specs.declared.scope.Held.TheVariants.{Value, Function}
 use Rattle.cat_model.specs.declared.scope.Summary.{Summary}
 use Rattle.cat_model.specs.declared.sort.Sort.{Sort}

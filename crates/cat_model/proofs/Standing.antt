@@ -15,7 +15,7 @@ use Rattle.cat_tree.specs.declared.node.Node.TheVariants as nodes
 use Rattle.cat_tree.specs.declared.node.Sign.{Sign}
 use Rattle.cat_tree.specs.declared.node.Sign.TheVariants.{Complement, Plus, Star, Optional, Inverse, Domain, Range, Identity}
 use Rattle.cat_tree.specs.Postorder.{left_alone}
-use Rattle.cat_tree.specs.Terms.{Word, Term, Terms, universe, leaf_of, applied, joined, terms_of, latest, earlier, left_by, left_by_all, postorder, term_in}
+use Rattle.cat_tree.specs.Terms.{Word, Term, universe, leaf_of, applied, joined, terms_of, latest, earlier, left_by, left_by_all, postorder, term_in}
 use Rattle.cat_model.specs.Classing.{place_in, given_sorts, Agree, Makes, sort_applied, sort_joined, sort_of_leaf, sorts_of_classes, HasNone, Stand, Kept, Names, IsLeaf}
 use Rattle.cat_model.specs.Lookups.{held_in}
 use Rattle.cat_model.specs.Named.{named_of, sort_of_named}
@@ -287,25 +287,31 @@ pub kept_sign : (ns : List BoundName) (xs : List Word) (n : Node) (u : Sign) (ol
 kept_sign ns xs n u old new cs ds a k ts e f g m h =
     node_by ns xs n (nodes.Sign u) new (k ∷ ds) ts e
     (kept_step ns xs (nodes.Sign u) old new cs ds k ts
-    (λ S fit js i. (sort_applied u (Some (sort_of_class js a)), m js,
-    ap (λ o. sort_applied u o ∷ earlier (sorts_of_classes js cs)) (latest_map (λ c. Some (sort_of_class js c)) (Known Set) cs ∙ ap (λ c. Some (sort_of_class js c)) (sym f)) ∙
-    ap (λ os. sort_applied u (Some (sort_of_class js a)) ∷ os) (earlier_map (λ c. Some (sort_of_class js c)) cs ∙ ap (sorts_of_classes js) (sym g)))) h)
+    (λ S fit js i. (
+      sort_applied u (Some (sort_of_class js a)),
+      m js,
+      ap (λ o. sort_applied u o ∷ earlier (sorts_of_classes js cs)) (latest_map (λ c. Some (sort_of_class js c)) (Known Set) cs ∙ ap (λ c. Some (sort_of_class js c)) (sym f)) ∙
+          ap (λ os. sort_applied u (Some (sort_of_class js a)) ∷ os) (earlier_map (λ c. Some (sort_of_class js c)) cs ∙ ap (sorts_of_classes js) (sym g)),
+    )) h)
 
 pub kept_infix : (ns : List BoundName) (xs : List Word) (n : Node) (o : Infix) (old new : Classes) (cs ds es : List Class) (a b k : Class) (ts : List Term) → n ≡ nodes.Infix o → b ≡ latest (Known Set) cs → ds ≡ earlier cs → a ≡ latest (Known Set) ds → es ≡ earlier ds →
     ((js : List Sort) → Makes old new js (sort_joined o (Some (sort_of_class js a)) (Some (sort_of_class js b))) (sort_of_class js k)) → Kept ns xs old cs ts → Kept ns xs new (k ∷ es) (left_by n ts)
 kept_infix ns xs n o old new cs ds es a b k ts e f g x y m h =
     node_by ns xs n (nodes.Infix o) new (k ∷ es) ts e
     (kept_step ns xs (nodes.Infix o) old new cs es k ts
-    (λ S fit js i. (sort_joined o (Some (sort_of_class js a)) (Some (sort_of_class js b)), m js,
-    (let one : Class → Option Sort = λ c. Some (sort_of_class js c) in
-    let p : latest (Some Set) (sorts_of_classes js cs) ≡ Some (sort_of_class js b) = latest_map one (Known Set) cs ∙ ap one (sym f) in
-    let q : earlier (sorts_of_classes js cs) ≡ sorts_of_classes js ds = earlier_map one cs ∙ ap (sorts_of_classes js) (sym g) in
-    let r : latest (Some Set) (sorts_of_classes js ds) ≡ Some (sort_of_class js a) = latest_map one (Known Set) ds ∙ ap one (sym x) in
-    let z : earlier (sorts_of_classes js ds) ≡ sorts_of_classes js es = earlier_map one ds ∙ ap (sorts_of_classes js) (sym y) in
-    ap (λ w. sort_joined o (latest (Some Set) (earlier (sorts_of_classes js cs))) w ∷ earlier (earlier (sorts_of_classes js cs))) p ∙
-    ap (λ w. sort_joined o (latest (Some Set) w) (Some (sort_of_class js b)) ∷ earlier w) q ∙
-    ap (λ w. sort_joined o w (Some (sort_of_class js b)) ∷ earlier (sorts_of_classes js ds)) r ∙
-    ap (λ w. sort_joined o (Some (sort_of_class js a)) (Some (sort_of_class js b)) ∷ w) z))) h)
+    (λ S fit js i. (
+      sort_joined o (Some (sort_of_class js a)) (Some (sort_of_class js b)),
+      m js,
+      (let one : Class → Option Sort = λ c. Some (sort_of_class js c) in
+          let p : latest (Some Set) (sorts_of_classes js cs) ≡ Some (sort_of_class js b) = latest_map one (Known Set) cs ∙ ap one (sym f) in
+          let q : earlier (sorts_of_classes js cs) ≡ sorts_of_classes js ds = earlier_map one cs ∙ ap (sorts_of_classes js) (sym g) in
+          let r : latest (Some Set) (sorts_of_classes js ds) ≡ Some (sort_of_class js a) = latest_map one (Known Set) ds ∙ ap one (sym x) in
+          let z : earlier (sorts_of_classes js ds) ≡ sorts_of_classes js es = earlier_map one ds ∙ ap (sorts_of_classes js) (sym y) in
+          ap (λ w. sort_joined o (latest (Some Set) (earlier (sorts_of_classes js cs))) w ∷ earlier (earlier (sorts_of_classes js cs))) p ∙
+          ap (λ w. sort_joined o (latest (Some Set) w) (Some (sort_of_class js b)) ∷ earlier w) q ∙
+          ap (λ w. sort_joined o w (Some (sort_of_class js b)) ∷ earlier (sorts_of_classes js ds)) r ∙
+          ap (λ w. sort_joined o (Some (sort_of_class js a)) (Some (sort_of_class js b)) ∷ w) z),
+    )) h)
 
 -- the latest of a vector, as many as count, and those before them
 taken_last : {A : Type 0} (xs : List A) (m n : ℕ) → m ≡ length xs - n → (reverse (take n (reverse xs)) ≡ drop m xs) × (drop n (reverse xs) ≡ reverse (take m xs))
@@ -316,9 +322,10 @@ taken_last xs m n e =
       | inl l ↦ (let z : m ≡ 0 = omega (arith, l, e) in
           let few : length (reverse xs) ≤ n = (let k = length-reverse xs in omega (arith, k, l)) in
           (ap (λ l. reverse l) (take_few n (reverse xs) few) ∙ reverse-reverse xs ∙ sym (ap (λ k. drop k xs) z), drop_few n (reverse xs) few ∙ sym (ap (λ k. reverse (take k xs)) z)))
-      | inr l ↦ (let k : length (reverse (drop m xs)) ≡ n = omega (arith, l, e, long) in
-          (ap (λ l. reverse (take n l)) whole ∙ ap (λ j. reverse (take j (reverse (drop m xs) ++ reverse (take m xs)))) (sym k) ∙ ap (λ l. reverse l) (take-append_seam (reverse (drop m xs)) (reverse (take m xs))) ∙ reverse-reverse (drop m xs),
-          ap (λ l. drop n l) whole ∙ ap (λ j. drop j (reverse (drop m xs) ++ reverse (take m xs))) (sym k) ∙ drop-append_seam (reverse (drop m xs)) (reverse (take m xs))))
+      | inr l ↦ (let k : length (reverse (drop m xs)) ≡ n = omega (arith, l, e, long) in (
+        ap (λ l. reverse (take n l)) whole ∙ ap (λ j. reverse (take j (reverse (drop m xs) ++ reverse (take m xs)))) (sym k) ∙ ap (λ l. reverse l) (take-append_seam (reverse (drop m xs)) (reverse (take m xs))) ∙ reverse-reverse (drop m xs),
+        ap (λ l. drop n l) whole ∙ ap (λ j. drop j (reverse (drop m xs) ++ reverse (take m xs))) (sym k) ∙ drop-append_seam (reverse (drop m xs)) (reverse (take m xs)),
+      ))
     ]
   where
     take_few : {A : Type 0} (n : ℕ) (xs : List A) → length xs ≤ n → take n xs ≡ xs
@@ -339,12 +346,15 @@ kept_call ns xs n f count m old new vs ws k ts e l g made h =
     let split = taken_last vs m count l in
     node_by ns xs n (nodes.Call f count) new (k ∷ reverse ws) ts e
     (kept_step ns xs (nodes.Call f count) old new (reverse vs) (reverse ws) k ts
-    (λ S fit js i. (given_sorts S xs js f (sorts_of_classes js (drop m vs)), made S fit js i,
-    (let one : Class → Option Sort = λ c. Some (sort_of_class js c) in
-    let E : Sorting = given_sorts S xs js in
-    let p : reverse (take count (sorts_of_classes js (reverse vs))) ≡ sorts_of_classes js (drop m vs) = ap (λ l. reverse l) (take_map one count (reverse vs)) ∙ reverse_map one (take count (reverse vs)) ∙ ap (sorts_of_classes js) split.0 in
-    let q : drop count (sorts_of_classes js (reverse vs)) ≡ sorts_of_classes js (reverse ws) = drop_map one count (reverse vs) ∙ ap (sorts_of_classes js) (split.1 ∙ ap (λ l. reverse l) (sym g)) in
-    ap (λ w. E f w ∷ drop count (sorts_of_classes js (reverse vs))) p ∙ ap (λ w. E f (sorts_of_classes js (drop m vs)) ∷ w) q))) h)
+    (λ S fit js i. (
+      given_sorts S xs js f (sorts_of_classes js (drop m vs)),
+      made S fit js i,
+      (let one : Class → Option Sort = λ c. Some (sort_of_class js c) in
+          let E : Sorting = given_sorts S xs js in
+          let p : reverse (take count (sorts_of_classes js (reverse vs))) ≡ sorts_of_classes js (drop m vs) = ap (λ l. reverse l) (take_map one count (reverse vs)) ∙ reverse_map one (take count (reverse vs)) ∙ ap (sorts_of_classes js) split.0 in
+          let q : drop count (sorts_of_classes js (reverse vs)) ≡ sorts_of_classes js (reverse ws) = drop_map one count (reverse vs) ∙ ap (sorts_of_classes js) (split.1 ∙ ap (λ l. reverse l) (sym g)) in
+          ap (λ w. E f w ∷ drop count (sorts_of_classes js (reverse vs))) p ∙ ap (λ w. E f (sorts_of_classes js (drop m vs)) ∷ w) q),
+    )) h)
 
 -- the whole
 

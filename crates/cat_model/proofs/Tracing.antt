@@ -1,6 +1,6 @@
 -- What stands in terms, and the traces that tell it.
-use Rattle.std.proofs.Common.{◌≡◌, ◌<◌, ◌≤◌, ◌-◌, ◌⊎◌, ◌↔◌, ◌∙◌, arith, ℕ, zero, suc, ◌+◌, length, take, drop, get_or, List, [], ◌∷◌, ◌++◌, map, Bool, true, false, ◌||◌, cond, inl, inr, Option, None, Some, Vec, Global, ap, sym, subst, refl}
-use Rattle.std.specs.Prelude.{option_map, reverse, MatchOption}
+use Rattle.std.proofs.Common.{◌≡◌, ◌<◌, ◌≤◌, ◌-◌, ◌⊎◌, ◌↔◌, ◌∙◌, arith, ℕ, zero, suc, length, take, drop, get_or, List, [], ◌∷◌, ◌++◌, map, Bool, true, false, ◌||◌, cond, inl, inr, Option, None, Some, Vec, Global, ap, sym, subst, refl}
+use Rattle.std.specs.Prelude.{option_map, reverse}
 use Rattle.std.specs.List.{Contains}
 use Rattle.std.specs.Option.{option_or}
 use Rattle.std.specs.Str.{bytes_eq}
@@ -16,7 +16,7 @@ use Rattle.cat_tree.specs.declared.node.Node.TheVariants as nodes
 use Rattle.cat_tree.specs.declared.node.Sign.{Sign}
 use Rattle.cat_tree.specs.declared.node.Sign.TheVariants.{Complement, Plus, Star, Optional, Inverse, Domain, Range, Identity}
 use Rattle.cat_tree.specs.Postorder.{left_alone}
-use Rattle.cat_tree.specs.Terms.{Word, Term, name, empty_relation, empty_set, universe, call, leaf_of, applied, joined, terms_of, latest, earlier, left_by, left_by_all, postorder, term_in}
+use Rattle.cat_tree.specs.Terms.{Word, Term, name, universe, call, leaf_of, applied, joined, terms_of, latest, earlier, left_by, left_by_all, postorder, term_in}
 use Rattle.cat_model.specs.Classing.{place_in}
 use Rattle.cat_model.specs.Denials.{Mark, Marking, denied_mark, deny, marks, all_marks, with_mark, applied_marks}
 use Rattle.cat_model.specs.Lookups.{held_in}
@@ -167,14 +167,16 @@ body_traced s vs ls ms ts L e at f g m = (λ h. to ((f m).0 h), λ h. (f m).1 (b
         let c = (g h.trace).0 h.among in
         let n = c.0 in
         let d = c.1 in
-        let there : Contains (get_or ms d.inner.place []) h.inner = (let P : Trace → Type 0 = λ u. Contains (get_or ms u.place []) h.inner in subst P d.is h.there) in
-        (omega (arith, n, e), record {
-          trace = d.trace;
-          among = d.among;
-          inner = mark_if d.inner.denied h.inner;
-          there = (at d.trace.place (mark_if d.inner.denied h.inner)).1 (record { trace = d.inner; among = d.there; inner = h.inner; there = there; is = refl });
-          is = h.is ∙ ap (λ u. mark_if u.denied h.inner) d.is ∙ or_true d.trace.denied d.inner.denied h.inner;
-        })
+        let there : Contains (get_or ms d.inner.place []) h.inner = (let P : Trace → Type 0 = λ u. Contains (get_or ms u.place []) h.inner in subst P d.is h.there) in (
+          omega (arith, n, e),
+          record {
+            trace = d.trace;
+            among = d.among;
+            inner = mark_if d.inner.denied h.inner;
+            there = (at d.trace.place (mark_if d.inner.denied h.inner)).1 (record { trace = d.inner; among = d.there; inner = h.inner; there = there; is = refl });
+            is = h.is ∙ ap (λ u. mark_if u.denied h.inner) d.is ∙ or_true d.trace.denied d.inner.denied h.inner;
+          },
+        )
 
 none_traced : (L : List Mark) (ts : List Trace) (ms : List (List Mark)) (m : Mark) → L ≡ [] → ts ≡ [] → Contains L m ↔ Comes ts ms m
 none_traced L ts ms m d e = (

@@ -1,5 +1,5 @@
 -- Names of a term, node by node. (No statement on what a model is rests on this.)
-use Rattle.std.specs.Prelude.{◌≡◌, List, [], ◌∷◌, Option, None, Some, Bool, ◌||◌, not, option_map, find}
+use Rattle.std.specs.Prelude.{◌≡◌, List, [], ◌∷◌, Option, None, Bool, ◌||◌, not, option_map, find}
 use Rattle.std.specs.Borrow.{Bor}
 use Rattle.std.specs.Option.{option_or}
 use Rattle.cat_tree.specs.Tree.{Word, Term}

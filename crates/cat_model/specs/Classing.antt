@@ -1,5 +1,5 @@
 -- A scheme on the way, node by node. (No statement on what a model is rests on this.)
-use Rattle.std.specs.Prelude.{◌≡◌, ◌⊎◌, ◌↔◌, ◌<◌, ℕ, List, [], ◌∷◌, ◌++◌, map, length, Bool, true, Option, None, Some, cond, nat_eq, get_or}
+use Rattle.std.specs.Prelude.{◌≡◌, ◌⊎◌, ◌<◌, ℕ, List, [], ◌∷◌, ◌++◌, map, length, true, Option, None, Some, cond, nat_eq, get_or}
 use Rattle.std.specs.Option.{option_or}
 use Rattle.std.specs.Str.{bytes_eq}
 use Rattle.std.proofs.Common.{zero, suc, option_map}
@@ -10,7 +10,7 @@ use Rattle.cat_tree.specs.declared.node.Leaf.TheVariants as leaves
 use Rattle.cat_tree.specs.declared.node.Sign.{Sign}
 use Rattle.cat_tree.specs.declared.node.Sign.TheVariants.{Complement, Plus, Star, Optional, Inverse, Domain, Range, Identity}
 use Rattle.cat_tree.specs.Tree.{Word, Term}
-use Rattle.cat_model.specs.Schemes.{sort_of_class, same_sort, FitSorts}
+use Rattle.cat_model.specs.Schemes.{sort_of_class, FitSorts}
 use Rattle.cat_model.specs.Sorts.{Sorting, sort, just_sort, with_sort, of_relation, of_set, of_both}
 use Rattle.cat_model.specs.declared.schemes.Class.{Class}
 use Rattle.cat_model.specs.declared.schemes.Class.TheVariants.{Known, Same}

@@ -1,14 +1,13 @@
 -- Examples, computed.
-use Rattle.std.specs.Prelude.{◌≡◌, [], ◌∷◌, codes, refl, Some, None, true, false}
-use Rattle.cat_tree.specs.declared.tree.CheckKind.TheVariants.{Acyclic, Empty}
-use Rattle.cat_tree.specs.Tree.{Term, Clause, name, union, product, difference, complement, plus, identity, empty_relation, call, no_terms, term, bind, bind_recursively, check}
+use Rattle.std.specs.Prelude.{◌≡◌, [], ◌∷◌, codes, refl, Some, None}
+use Rattle.cat_tree.specs.Tree.{Term, Clause, name, union, product, difference, complement, identity, empty_relation, call, no_terms, term, bind}
 use Rattle.cat_model.specs.Denials.{marks, marks_past, first_marks, grouped, denied_in}
 use Rattle.cat_model.specs.Depths.{depth, depths_past, first_depths}
 use Rattle.cat_model.specs.Named.{named_of, written, spelling_of}
 use Rattle.cat_model.specs.Names.{names}
 use Rattle.cat_model.specs.Sizes.{size, sizes_past, first_sizes}
 use Rattle.cat_model.specs.Sorts.{sort, sorts_past, first_sorts}
-use Rattle.cat_model.specs.declared.sort.Sort.TheVariants.{Set, Relation}
+use Rattle.cat_model.specs.declared.sort.Sort.TheVariants.{Relation}
 
 pub initial_writes_have_two_names : named_of (codes "I") ≡ named_of (codes "IW")
 unfolding named_of written spelling_of

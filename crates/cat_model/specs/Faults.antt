@@ -1,7 +1,7 @@
 -- When a model is refused.
-use Rattle.std.specs.Prelude.{◌≡◌, ◌<◌, ◌⊎◌, List, [], ◌∷◌, ◌++◌, ◌≢◌, true, false, None, Some, length, map, IsSome, All}
+use Rattle.std.specs.Prelude.{◌≡◌, ◌<◌, ◌⊎◌, List, [], ◌∷◌, ◌++◌, ◌≢◌, true, false, None, Some, length, IsSome}
 use Rattle.std.specs.List.{Contains}
-use Rattle.cat_tree.specs.Tree.{Word, Term, Bound, values_in, Clause, bind, bind_recursively, check, include, show, unshow}
+use Rattle.cat_tree.specs.Tree.{Word, Bound, values_in, Clause, bind, bind_recursively, check, include, show, unshow}
 use Rattle.cat_model.specs.Closure.{IsPath, IsClosure, root_count}
 use Rattle.cat_model.specs.Denials.{Marking, marks, marks_past, first_marks, grouped, denied_in}
 use Rattle.cat_model.specs.Files.{file_of}

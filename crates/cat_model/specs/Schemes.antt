@@ -1,11 +1,10 @@
 -- Which sorts a function's parameters and its result have, for all arguments at once.
-use Rattle.std.specs.Prelude.{◌≡◌, ℕ, List, [], ◌∷◌, map, Bool, true, false, ◌&&◌, Option, None, Some, option_map, cond, get_or}
-use Rattle.cat_tree.specs.Tree.{Word, Term}
+use Rattle.std.specs.Prelude.{◌≡◌, List, [], ◌∷◌, Bool, true, false, ◌&&◌, Option, None, Some, option_map, cond, get_or}
+use Rattle.cat_tree.specs.Tree.{Word}
 use Rattle.cat_model.specs.Lookups.{held_in}
-use Rattle.cat_model.specs.Sorts.{Sorting, sort, named_sorts, just_sort, with_sort}
+use Rattle.cat_model.specs.Sorts.{Sorting, named_sorts, just_sort}
 use Rattle.cat_model.specs.declared.schemes.Class.{Class}
 use Rattle.cat_model.specs.declared.schemes.Class.TheVariants.{Known, Same}
-use Rattle.cat_model.specs.declared.schemes.Classes.{Classes}
 use Rattle.cat_model.specs.declared.schemes.Scheme.{Scheme}
 use Rattle.cat_model.specs.declared.scope.BoundName.{BoundName}
 use Rattle.cat_model.specs.declared.scope.Held.{Held}

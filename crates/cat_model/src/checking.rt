@@ -81,11 +81,7 @@ fn require_name(check: &Check) -> Result<(), ModelFault>
 }
 
 /// Whether a check can test its expression.
-fn require_testable<'a>(
-    alloc: Global,
-    scope: &Scope<'a>,
-    check: &Check,
-) -> Result<(), ModelFault>
+fn require_testable<'a>(alloc: Global, scope: &Scope<'a>, check: &Check) -> Result<(), ModelFault>
     ensures ok { OnOk result ((W : World) → Fit scope.now.names.items W → IsTestable W.sorts check.now.kind (term_of check.now.expression)) }
     ensures err { IfErr result (λ e. (e ≡ NoMemory) ⊎ ((e ≡ WrongSort (word_of check.now.kind)) × ((W : World) → Fit scope.now.names.items W → ¬ IsTestable W.sorts check.now.kind (term_of check.now.expression)))) }
 {

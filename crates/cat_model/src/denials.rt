@@ -124,11 +124,7 @@ fn add_inner(once: &mut Once, denied: bool, argument: &[Trace]) -> Result<(), Al
 }
 
 /// Adds what stands in the argument of a trace of the callee, where there is one.
-fn add_argument(
-    once: &mut Once,
-    trace: Trace,
-    arguments: &[Vec<Trace>],
-) -> Result<(), AllocError>
+fn add_argument(once: &mut Once, trace: Trace, arguments: &[Vec<Trace>]) -> Result<(), AllocError>
     requires { AreListed once.old }
     ensures listed { OnOk result (AreListed once.new) }
     ensures added { OnOk result ((q : Step) → Contains once.new.listed.items q ↔ (Contains once.old.listed.items q ⊎ Contains (map (trace_if trace.denied) (get_or (map (λ a. a.items) arguments.now) trace.place [])) q)) }

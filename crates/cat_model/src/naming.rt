@@ -36,11 +36,7 @@ fn loose<'a, 'e>(scope: &Scope<'a>, parameters: &[Name], name: &'e Name) -> Opti
 }
 
 /// The name of a leaf, if it has one that is neither bound nor a parameter.
-fn loose_in_leaf<'a, 'e>(
-    scope: &Scope<'a>,
-    parameters: &[Name],
-    leaf: &'e Leaf,
-) -> Option<&'e Name>
+fn loose_in_leaf<'a, 'e>(scope: &Scope<'a>, parameters: &[Name], leaf: &'e Leaf) -> Option<&'e Name>
     ensures { IsFirstLoose scope.now.names.items parameters.now result (leaf_of leaf.now) }
 {
     match leaf {
@@ -160,12 +156,7 @@ pub fn require_definitions_bound<'a>(
     ensures err { IfErr result (λ e. (e ≡ NoMemory) ⊎ ((x : Word) × (d : Defined) × (e ≡ Unbound x) × Contains (map defined_of definitions.now) d × Contains (free_names d) x × (is_known scope.now.names.items x ≡ false))) }
 {
     for definition in definitions {
-        require_bound(
-            alloc,
-            scope,
-            &definition.parameters,
-            &definition.value,
-        )?;
+        require_bound(alloc, scope, &definition.parameters, &definition.value)?;
     }
     Ok(())
 }

@@ -60,13 +60,7 @@ fn swapped(from: usize, to: Class, class: Class) -> Class
 {
     match class {
         Class::Known(_) => class,
-        Class::Same(place) => {
-            if place == from {
-                to
-            } else {
-                class
-            }
-        }
+        Class::Same(place) => { if place == from { to } else { class } }
     }
 }
 

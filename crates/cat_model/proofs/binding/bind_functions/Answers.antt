@@ -1,7 +1,7 @@
 use Rattle.std.proofs.Common.{◌≡◌, ◌+◌, ◌++◌, ◌∷◌, ◌∙◌, [], List, map, drop, refl, sym, ap, subst}
 use Rattle.std.proofs.Math.ListN.{drop_of_length-le}
 use Rattle.cat_tree.specs.Tree.{Defined, defined_of, functions_in}
-use Rattle.cat_model.specs.Behind.{World, Fit, functions_above}
+use Rattle.cat_model.specs.Behind.{Fit, functions_above}
 use Rattle.cat_model.proofs.Charged.{mapped_more}
 use Rattle.cat_model.proofs.Pushed.{functions_first}
 use Rattle.cat_model.proofs.binding.bind_functions.Goals as goal

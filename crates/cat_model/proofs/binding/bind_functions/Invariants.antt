@@ -1,4 +1,4 @@
-use Rattle.std.proofs.Common.{◌≡◌, ◌++◌, List, map, drop}
+use Rattle.std.proofs.Common.{◌≡◌, ◌++◌, map, drop}
 use Rattle.cat_tree.specs.Tree.{defined_of, functions_in}
 use Rattle.cat_model.specs.Behind.{World, Fit, functions_above}
 use Rattle.cat_model.proofs.binding.bind_functions.Given as goal

@@ -1,7 +1,7 @@
 use Rattle.std.proofs.Common.{◌≡◌, ◌+◌, ◌∷◌, ◌∙◌, [], List, map, drop, refl, sym, ap, subst}
 use Rattle.std.proofs.Math.ListN.{drop_of_length-le}
 use Rattle.cat_tree.specs.Tree.{Bound, bound_of}
-use Rattle.cat_model.specs.Behind.{World, Fit, group_above}
+use Rattle.cat_model.specs.Behind.{Fit, group_above}
 use Rattle.cat_model.proofs.Charged.{mapped_more}
 use Rattle.cat_model.proofs.Pushed.{relation_pushed}
 use Rattle.cat_model.proofs.binding.bind_group.Goals as goal

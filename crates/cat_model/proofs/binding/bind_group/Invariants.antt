@@ -1,4 +1,4 @@
-use Rattle.std.proofs.Common.{◌≡◌, List, map, drop}
+use Rattle.std.proofs.Common.{◌≡◌, map, drop}
 use Rattle.cat_tree.specs.Tree.{bound_of}
 use Rattle.cat_model.specs.Behind.{World, Fit, group_above}
 use Rattle.cat_model.proofs.binding.bind_group.Given as goal

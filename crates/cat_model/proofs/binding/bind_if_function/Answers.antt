@@ -1,7 +1,7 @@
-use Rattle.std.proofs.Common.{◌≡◌, ◌++◌, ◌∷◌, [], List, sym, subst, arith, vec_len}
+use Rattle.std.proofs.Common.{◌≡◌, ◌++◌, ◌∷◌, [], sym, subst, arith, vec_len}
 use Rattle.std.proofs.lemmas.Bool.{eqb-false}
 use Rattle.std.proofs.lemmas.Result.{on_ok_weaker}
-use Rattle.cat_tree.specs.Tree.{Word, Defined, defined_of, function_if}
+use Rattle.cat_tree.specs.Tree.{Defined, defined_of, function_if}
 use Rattle.cat_model.specs.Behind.{Fit, functions_above}
 use Rattle.cat_model.proofs.Pushed.{some_function}
 use Rattle.cat_model.proofs.binding.bind_if_function.Goals as goal

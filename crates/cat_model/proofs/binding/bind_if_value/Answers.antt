@@ -1,4 +1,4 @@
-use Rattle.std.proofs.Common.{◌≡◌, ◌++◌, ◌∷◌, [], List, IsSome, All, sym, subst, inl, inr, arith, vec_len}
+use Rattle.std.proofs.Common.{◌≡◌, ◌++◌, [], List, IsSome, All, sym, subst, inl, inr, arith, vec_len}
 use Rattle.std.specs.List.{Contains}
 use Rattle.std.proofs.lemmas.Bool.{eqb-true}
 use Rattle.std.proofs.lemmas.List.Elements.{All-cons, All-nil}

@@ -1,6 +1,5 @@
-use Rattle.std.proofs.Common.{◌≡◌, ◌++◌, ◌∷◌, ◌∙◌, [], List, Option, Some, None, refl, sym, ap, subst, inr, IsSome}
+use Rattle.std.proofs.Common.{◌≡◌, Option, Some, refl, sym, ap, subst, inr, IsSome}
 use Rattle.cat_tree.specs.Tree.{Bound, term_of}
-use Rattle.cat_model.specs.Behind.{World, Fit, values_above}
 use Rattle.cat_model.specs.Sorts.{sort}
 use Rattle.cat_model.specs.declared.fault.ModelFault.TheVariants.{WrongSort}
 use Rattle.cat_model.specs.declared.sort.Sort.{Sort}
@@ -20,6 +19,9 @@ returns-in_ok-push-in-Some-clause-sorted c = λ B f.
     subst IsSome e refl)
 
 pub returns-in_ok-copy-in-None-clause-err : goal.returns-in_ok-copy-in-None-clause-err
-returns-in_ok-copy-in-None-clause-err c = inr (ap WrongSort c.in_ok-copy-in-None.ensures, λ B f.
-    (let P : Option Sort → Type 0 = λ o. o ≡ sort B.sorts (term_of c.args.value.now) in
-    sym (subst P c.in-None.is (c.in_ok-sort.ensures B.sorts f.sorts))))
+returns-in_ok-copy-in-None-clause-err c = inr (
+  ap WrongSort c.in_ok-copy-in-None.ensures,
+  λ B f.
+      (let P : Option Sort → Type 0 = λ o. o ≡ sort B.sorts (term_of c.args.value.now) in
+      sym (subst P c.in-None.is (c.in_ok-sort.ensures B.sorts f.sorts))),
+)

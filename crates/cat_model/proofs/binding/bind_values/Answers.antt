@@ -4,7 +4,7 @@ use Rattle.std.proofs.Math.ListN.{drop_of_length-le}
 use Rattle.std.proofs.lemmas.List.Elements.{All-nil}
 use Rattle.std.proofs.lemmas.Result.{err_from_is_err_and}
 use Rattle.cat_tree.specs.Tree.{Bound, Defined, defined_of, values_in}
-use Rattle.cat_model.specs.Behind.{World, Fit, values_above}
+use Rattle.cat_model.specs.Behind.{Fit, values_above}
 use Rattle.cat_model.specs.Sorts.{sort}
 use Rattle.cat_model.proofs.Charged.{mapped_more}
 use Rattle.cat_model.proofs.Pushed.{values_first, values_all, value_first, value_later}

@@ -1,4 +1,4 @@
-use Rattle.std.proofs.Common.{◌≡◌, ◌++◌, List, map, drop, IsSome, All}
+use Rattle.std.proofs.Common.{◌≡◌, ◌++◌, map, drop, IsSome, All}
 use Rattle.std.specs.List.{Contains}
 use Rattle.cat_tree.specs.Tree.{Bound, defined_of, values_in}
 use Rattle.cat_model.specs.Behind.{World, Fit, values_above}

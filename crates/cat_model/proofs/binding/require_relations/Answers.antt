@@ -1,5 +1,5 @@
-use Rattle.std.proofs.Common.{◌≡◌, ◌∙◌, Some, sym, subst, inr, ap}
-use Rattle.cat_tree.specs.Tree.{Bound, bound_of}
+use Rattle.std.proofs.Common.{◌≡◌, ◌∙◌, Some, sym, inr, ap}
+use Rattle.cat_tree.specs.Tree.{bound_of}
 use Rattle.cat_model.specs.Sorts.{sort}
 use Rattle.cat_model.specs.declared.fault.ModelFault.TheVariants.{WrongSort}
 use Rattle.cat_model.specs.declared.sort.Sort.TheVariants.{Relation}

@@ -1,4 +1,4 @@
-use Rattle.std.proofs.Common.{◌≡◌, ◌++◌, List, map, drop}
+use Rattle.std.proofs.Common.{List, map, drop}
 use Rattle.cat_tree.specs.Tree.{bound_of}
 use Rattle.cat_model.specs.Behind.{World, Fit}
 use Rattle.cat_model.specs.Counts.{IsCount, CountsUpTo}

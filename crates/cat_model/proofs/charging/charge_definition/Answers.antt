@@ -1,9 +1,9 @@
-use Rattle.std.proofs.Common.{◌≡◌, ◌∷◌, [], List, inl, inr, ap, subst, sym, arith, vec_len}
+use Rattle.std.proofs.Common.{◌≡◌, [], List, inl, inr, subst, sym, arith, vec_len}
 use Rattle.std.proofs.lemmas.Bool.{eqb-true}
 use Rattle.std.proofs.lemmas.Result.{IfErr-weaker}
 use Rattle.cat_tree.specs.Tree.{Word, Defined, defined_of, value_if}
 use Rattle.cat_model.specs.Counts.{IsOver}
-use Rattle.cat_model.specs.Scopes.{Charge, charges_for}
+use Rattle.cat_model.specs.Scopes.{charges_for}
 use Rattle.cat_model.proofs.Waiting.{nothing}
 use Rattle.cat_model.proofs.charging.charge_definition.Goals as goal
 

@@ -1,4 +1,4 @@
-use Rattle.std.proofs.Common.{◌≡◌, ◌∙◌, ◌+◌, ◌++◌, ◌∷◌, [], List, inl, inr, ap, map, drop}
+use Rattle.std.proofs.Common.{◌∙◌, ◌+◌, ◌∷◌, [], List, inl, inr, ap, map, drop}
 use Rattle.std.proofs.Math.ListN.{drop_of_length-le}
 use Rattle.std.proofs.lemmas.Result.{err_from_is_err_and}
 use Rattle.cat_tree.specs.Tree.{Defined, defined_of, values_in}

@@ -1,4 +1,4 @@
-use Rattle.std.proofs.Common.{◌≡◌, ◌∙◌, ℕ, Option, Some, None, inr, ap, subst}
+use Rattle.std.proofs.Common.{◌∙◌, ℕ, Option, inr, ap, subst}
 use Rattle.cat_tree.specs.Tree.{term_of}
 use Rattle.cat_model.specs.Counts.{IsCharged}
 use Rattle.cat_model.specs.Scopes.{charge, word_of}

@@ -1,6 +1,6 @@
-use Rattle.std.proofs.Common.{◌≡◌, ◌++◌, ◌∙◌, [], List, map, sym, ap, subst, append-nil}
-use Rattle.cat_tree.specs.Tree.{Defined, defined_of, functions_in}
-use Rattle.cat_model.specs.Behind.{World, Fit, functions_above, unbound}
+use Rattle.std.proofs.Common.{◌++◌, ◌∙◌, List, map, sym, ap, subst, append-nil}
+use Rattle.cat_tree.specs.Tree.{defined_of, functions_in}
+use Rattle.cat_model.specs.Behind.{Fit, functions_above, unbound}
 use Rattle.cat_model.specs.declared.scope.BoundName.{BoundName}
 use Rattle.cat_model.proofs.Pushed.{fit_none}
 use Rattle.cat_model.proofs.checking.first_scope.Goals as goal

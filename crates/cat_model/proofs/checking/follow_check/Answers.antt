@@ -1,6 +1,6 @@
-use Rattle.std.proofs.Common.{◌≡◌, inl, inr, true, false, refl}
+use Rattle.std.proofs.Common.{inl, inr, true, false, refl}
 use Rattle.std.proofs.lemmas.Result.{err_from_is_err_and}
-use Rattle.cat_tree.specs.Tree.{Clause, check_of}
+use Rattle.cat_tree.specs.Tree.{check_of}
 use Rattle.cat_model.specs.Behind.{behind, first}
 use Rattle.cat_model.specs.Lookups.{is_known}
 use Rattle.cat_model.specs.Names.{IsBound}

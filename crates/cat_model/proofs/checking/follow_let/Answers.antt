@@ -1,6 +1,6 @@
-use Rattle.std.proofs.Common.{◌≡◌, ◌++◌, ◌∙◌, List, map, inl, inr, true, false, refl, sym, ap, subst, append-nil}
+use Rattle.std.proofs.Common.{◌++◌, ◌∙◌, List, map, inl, inr, true, false, refl, sym, ap, subst, append-nil}
 use Rattle.std.proofs.lemmas.Result.{err_from_is_err_and}
-use Rattle.cat_tree.specs.Tree.{Clause, Defined, defined_of, values_in, functions_in, bind}
+use Rattle.cat_tree.specs.Tree.{Defined, defined_of, values_in, functions_in, bind}
 use Rattle.cat_model.specs.Behind.{World, Fit, values_above, functions_above, behind, first}
 use Rattle.cat_model.specs.Names.{IsBound}
 use Rattle.cat_model.specs.Scopes.{charges}

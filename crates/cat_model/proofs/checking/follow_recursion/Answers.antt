@@ -1,14 +1,13 @@
-use Rattle.std.proofs.Common.{◌≡◌, List, Option, Bor, map, inl, inr, true, false, refl, ap, subst}
+use Rattle.std.proofs.Common.{List, Option, Bor, map, inl, inr, refl, ap, subst}
 use Rattle.std.specs.Prelude.{MatchOption}
 use Rattle.std.specs.List.{Contains}
 use Rattle.std.proofs.lemmas.Result.{err_from_is_err_and}
-use Rattle.cat_tree.specs.Tree.{Word, Clause, Bound, bound_of, bind_recursively}
-use Rattle.cat_model.specs.Behind.{World, Fit, group_above, behind, first}
+use Rattle.cat_tree.specs.Tree.{Word, Bound, bound_of, bind_recursively}
+use Rattle.cat_model.specs.Behind.{group_above, behind, first}
 use Rattle.cat_model.specs.Denials.{marks, grouped, denied_in}
 use Rattle.cat_model.specs.Names.{IsBound}
 use Rattle.cat_model.specs.Scopes.{IsMonotone, charges}
 use Rattle.cat_model.specs.declared.fault.ModelFault.TheVariants.{NotMonotone}
-use Rattle.cat_model.specs.declared.scope.BoundName.{BoundName}
 use Rattle.cat_model.proofs.Driven.{stands_push, group_unknown, group_known, unbound_fault, large_fault, sort_fault, denied_fault}
 use Rattle.cat_model.proofs.checking.follow_recursion.Goals as goal
 

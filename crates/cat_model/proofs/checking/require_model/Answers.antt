@@ -1,4 +1,4 @@
-use Rattle.std.proofs.Common.{◌≡◌, ◌+◌, List, map, take, inl, inr, subst}
+use Rattle.std.proofs.Common.{List, map, take, inl, inr, subst}
 use Rattle.std.proofs.lemmas.List.Elements.{All-contains}
 use Rattle.std.proofs.lemmas.Result.{err_from_is_err_and}
 use Rattle.cat_tree.specs.Tree.{Clause, clause_of}

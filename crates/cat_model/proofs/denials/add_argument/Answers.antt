@@ -1,4 +1,4 @@
-use Rattle.std.proofs.Common.{◌≡◌, ◌↔◌, ◌⊎◌, ◌∙◌, List, [], map, get_or, ap, sym, subst, rules}
+use Rattle.std.proofs.Common.{◌↔◌, ◌⊎◌, ◌∙◌, List, map, subst, rules}
 use Rattle.std.specs.Prelude.{OnOk}
 use Rattle.std.specs.List.{Contains}
 use Rattle.cat_model.specs.Marked.{trace_if}

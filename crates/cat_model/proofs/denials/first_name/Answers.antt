@@ -1,6 +1,5 @@
-use Rattle.std.proofs.Common.{◌≡◌, ℕ, false, length, get_or, rules, subst, ◌<◌, true}
-use Rattle.std.specs.List.{Contains}
-use Rattle.std.proofs.lemmas.List.{get_or_default, take_all}
+use Rattle.std.proofs.Common.{◌≡◌, ℕ, false, length, get_or, rules}
+use Rattle.std.proofs.lemmas.List.{get_or_default}
 use Rattle.cat_model.specs.declared.denials.Trace.{Trace}
 use Rattle.cat_model.proofs.Denying.{passed_allowed, passed_nowhere, passed_all}
 use Rattle.cat_model.proofs.denials.first_name.Goals.{then-trace+in_default, else-trace}

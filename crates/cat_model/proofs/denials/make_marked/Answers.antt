@@ -1,4 +1,4 @@
-use Rattle.std.proofs.Common.{◌≡◌, ◌↔◌, ◌∙◌, List, map, ap, length, refl, subst}
+use Rattle.std.proofs.Common.{◌↔◌, ◌∙◌, List, map, ap, length, refl, subst}
 use Rattle.std.specs.List.{Contains}
 use Rattle.cat_tree.specs.Tree.{Word, term_of}
 use Rattle.cat_model.specs.Marked.{Traced}

@@ -1,5 +1,4 @@
-use Rattle.std.proofs.Common.{◌≡◌, ◌↔◌, ◌≤◌, List, length, map, arith, subst, sym}
-use Rattle.std.specs.Prelude.{IfOk}
+use Rattle.std.proofs.Common.{◌↔◌, List, map, arith, subst}
 use Rattle.std.specs.List.{Contains}
 use Rattle.cat_model.specs.Marked.{Composes}
 use Rattle.cat_model.specs.declared.denials.Trace.{Trace}

@@ -1,4 +1,4 @@
-use Rattle.std.proofs.Common.{[], map}
+use Rattle.std.proofs.Common.{map}
 use Rattle.cat_model.proofs.Members.{ok_if}
 use Rattle.cat_model.proofs.Tracing.{traced_name, leaf_by}
 use Rattle.cat_model.proofs.denials.trace_leaf.Goals as goal

@@ -1,4 +1,4 @@
-use Rattle.std.proofs.Common.{map, arith, subst}
+use Rattle.std.proofs.Common.{map, arith}
 use Rattle.std.specs.Prelude.{reverse}
 use Rattle.cat_model.proofs.Members.{ok_if}
 use Rattle.cat_model.proofs.Tracing.{trace_leaves, trace_signs, trace_operators, call_items, rest_items}

@@ -1,4 +1,4 @@
-use Rattle.std.proofs.Common.{◌≡◌, inl, inr, true, false}
+use Rattle.std.proofs.Common.{◌≡◌, inl, inr, true}
 use Rattle.std.specs.List.{Contains}
 use Rattle.std.proofs.lemmas.Result.{err_from_is_err_and}
 use Rattle.cat_tree.specs.Tree.{Word, Bound, bound_of}

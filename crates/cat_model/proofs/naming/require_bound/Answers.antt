@@ -1,4 +1,4 @@
-use Rattle.std.proofs.Common.{◌≡◌, Option, Bor, Some, None, inr, ap, subst, sym, ◌∙◌, true, option_map}
+use Rattle.std.proofs.Common.{Option, Bor, inr, ap, subst}
 use Rattle.cat_tree.specs.Tree.{Word, term_of}
 use Rattle.cat_model.specs.Along.{is_loose, IsFirstLoose}
 use Rattle.cat_model.specs.Names.{names}

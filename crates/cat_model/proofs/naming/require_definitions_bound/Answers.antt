@@ -1,7 +1,7 @@
-use Rattle.std.proofs.Common.{◌≡◌, List, inl, inr, true, false, subst, ◌⊎◌}
+use Rattle.std.proofs.Common.{◌≡◌, List, inl, inr, true, false, subst}
 use Rattle.std.specs.List.{Contains}
 use Rattle.std.proofs.lemmas.Result.{err_from_is_err_and}
-use Rattle.cat_tree.specs.Tree.{Word, Defined, defined_of, term_of}
+use Rattle.cat_tree.specs.Tree.{Word, Defined, defined_of}
 use Rattle.cat_model.specs.Along.{is_loose}
 use Rattle.cat_model.specs.Lookups.{is_known}
 use Rattle.cat_model.specs.Names.{names, free_names}

@@ -1,5 +1,5 @@
 use Rattle.std.proofs.Common.{◌≡◌, ◌∙◌, List, ap, sym, subst}
-use Rattle.cat_model.specs.Classing.{class_of, AreFlat}
+use Rattle.cat_model.specs.Classing.{class_of}
 use Rattle.cat_model.specs.declared.schemes.Class.{Class}
 use Rattle.cat_model.proofs.Joining.{own_class, joined_by}
 use Rattle.cat_model.proofs.schemes.join.Goals as goal

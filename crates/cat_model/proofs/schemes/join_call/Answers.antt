@@ -1,4 +1,4 @@
-use Rattle.std.proofs.Common.{◌≡◌, ◌↔◌, ◌∙◌, List, arith, ap, length, sym, subst, rules}
+use Rattle.std.proofs.Common.{◌≡◌, ◌↔◌, List, arith, length, subst, rules}
 use Rattle.cat_model.specs.Classing.{Agree, AreTaken}
 use Rattle.cat_model.specs.declared.schemes.Class.{Class}
 use Rattle.cat_model.specs.declared.sort.Sort.{Sort}

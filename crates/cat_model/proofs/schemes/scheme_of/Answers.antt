@@ -1,7 +1,7 @@
-use Rattle.std.proofs.Common.{◌∙◌, ◌≡◌, ◌∷◌, List, [], map, length, refl, ap, sym, subst}
+use Rattle.std.proofs.Common.{◌∙◌, ◌∷◌, List, [], map, refl, ap, sym, subst}
 use Rattle.std.specs.Prelude.{reverse}
 use Rattle.std.proofs.lemmas.List.{length-map, reverse-append}
-use Rattle.cat_tree.specs.Terms.{Term, left_by, left_by_all}
+use Rattle.cat_tree.specs.Terms.{left_by, left_by_all}
 use Rattle.cat_model.specs.Classing.{Kept}
 use Rattle.cat_model.specs.declared.schemes.Class.{Class}
 use Rattle.cat_model.proofs.Standing.{walk_next, walk_end, kept_first, kept_last}
@@ -23,10 +23,11 @@ loop-node-preserved c =
       flat = c.join_node-class.ensures.flat;
       long = c.join_node-class.ensures.long ∙ c.loop-node.invariant.long;
       kept =
-          let P : List Class → Type 0 = λ cs. Kept c.args.scope.now.names.items (map (λ x. x.now) c.args.parameters.now) c.join_node-class.new.classes cs (left_by c.node-item.result k.0) in
-          (left_by c.node-item.result k.0,
-          walk_next c.deref-node-items.result.now c.args.body.now.nodes.items c.loop-node.node-index c.node-item.result k.0 (left_by_all [] c.args.body.now.nodes.items) c.deref-node-items.ensures.value c.loop-node-test.true c.node-item.is k.1,
-          subst P (sym (ap (λ l. reverse l) c.in_ok-push.ensures.items ∙ reverse-append c.join_node-class.new.waiting.items (c.join_node-class.result ∷ []))) (c.join_node-class.ensures.kept k.0 k.2));
+          let P : List Class → Type 0 = λ cs. Kept c.args.scope.now.names.items (map (λ x. x.now) c.args.parameters.now) c.join_node-class.new.classes cs (left_by c.node-item.result k.0) in (
+            left_by c.node-item.result k.0,
+            walk_next c.deref-node-items.result.now c.args.body.now.nodes.items c.loop-node.node-index c.node-item.result k.0 (left_by_all [] c.args.body.now.nodes.items) c.deref-node-items.ensures.value c.loop-node-test.true c.node-item.is k.1,
+            subst P (sym (ap (λ l. reverse l) c.in_ok-push.ensures.items ∙ reverse-append c.join_node-class.new.waiting.items (c.join_node-class.result ∷ []))) (c.join_node-class.ensures.kept k.0 k.2),
+          );
     }
 
 pub returns : goal.returns

@@ -1,4 +1,4 @@
-use Rattle.std.proofs.Common.{◌∙◌, Some, None, ap}
+use Rattle.std.proofs.Common.{Some, None}
 use Rattle.cat_model.proofs.Latest.{held_latest}
 use Rattle.cat_model.proofs.scope.Scope.held.Goals as goal
 
