@@ -2,11 +2,11 @@
 use Rattle.std.proofs.Common.{◌≡◌, ℕ, List, [], ◌∷◌, ◌++◌, refl, sym, subst}
 use Rattle.std.specs.List.{All}
 use Rattle.std.proofs.lemmas.List.Elements.{All-nil, All-cons, All-head, All-tail}
-use Rattle.cat_tree.specs.Tree.{Word, Term, union, sequence, difference, intersection, product, complement, plus, star, optional, inverse, domain, range, identity, name, empty_relation, empty_set, universe}
-use Rattle.cat_model.specs.Sorts.{names, denied_names}
+use Rattle.cat_tree.specs.Tree.{Word}
 use Rattle.cat_eval.specs.declared.value.Value.{Value}
 use Rattle.cat_eval.specs.Operators.{IsUnion, IsIntersection, IsDifference, IsComplement, IsSequence, IsProduct, IsPlus, IsStar, IsOptional, IsInverse, IsDomain, IsRange, IsIdentity}
-use Rattle.cat_eval.specs.Meaning.{Made, MadeOfTwo, Means, Lies}
+use Rattle.cat_eval.specs.Core.{Term, union, sequence, difference, intersection, product, complement, plus, star, optional, inverse, domain, range, identity, name, empty_relation, empty_set, universe, names, denied_names}
+use Rattle.cat_eval.specs.CoreMeaning.{Made, MadeOfTwo, Means, Lies}
 use Rattle.cat_eval.specs.Steps.{IsOver}
 use Rattle.cat_eval.proofs.Values as values
 use Rattle.cat_eval.proofs.Values.{union_operator, intersection_operator, difference_operator, sequence_operator, product_operator, complement_operator, plus_operator, star_operator, optional_operator, inverse_operator, domain_operator, range_operator, identity_operator}
