@@ -18,6 +18,9 @@ pub mod Graded
 pub mod Held
 pub mod Lawful
 pub mod Cores
+pub mod Replaced
+pub mod Labels
+pub mod Binding
 pub mod Bridge
 pub mod Reaching
 pub mod Solving
