@@ -20,7 +20,12 @@ pub mod Lawful
 pub mod Cores
 pub mod Replaced
 pub mod Labels
+pub mod Before
 pub mod Binding
+pub mod Sorted
+pub mod Denied
+pub mod Models
+pub mod Single
 pub mod Bridge
 pub mod Reaching
 pub mod Solving

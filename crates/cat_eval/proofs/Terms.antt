@@ -47,13 +47,13 @@ means_over n E f empty_relation v h = values.relation_over n n (λ i j. ⊥) v r
 means_over n E f empty_set v h = values.set_over n n (λ i. ⊥) v refl h
 means_over n E f universe v h = values.set_over n n (λ i. Unit {0}) v refl h
 
-one_same : (A C : Value → Type 0) (Op : Value → Value → Type 0) → ((v w : Value) → A v → C w → v ≡ w) → ((x v w : Value) → Op x v → Op x w → v ≡ w) →
+pub one_same : (A C : Value → Type 0) (Op : Value → Value → Type 0) → ((v w : Value) → A v → C w → v ≡ w) → ((x v w : Value) → Op x v → Op x w → v ≡ w) →
     (v w : Value) → Made A Op v → Made C Op w → v ≡ w
 one_same A C Op f one v w h k =
     let F : Value → Type 0 = λ x. Op x w in
     one h.operand v w h.made (subst F (sym (f h.operand k.operand h.given k.given)) k.made)
 
-two_same : (A C B D : Value → Type 0) (Op : Value → Value → Value → Type 0) → ((v w : Value) → A v → C w → v ≡ w) → ((v w : Value) → B v → D w → v ≡ w) →
+pub two_same : (A C B D : Value → Type 0) (Op : Value → Value → Value → Type 0) → ((v w : Value) → A v → C w → v ≡ w) → ((v w : Value) → B v → D w → v ≡ w) →
     ((x y v w : Value) → Op x y v → Op x y w → v ≡ w) → (v w : Value) → MadeOfTwo A B Op v → MadeOfTwo C D Op w → v ≡ w
 two_same A C B D Op f g one v w h k =
     let F : Value → Type 0 = λ x. Op x k.right w in
