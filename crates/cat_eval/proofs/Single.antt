@@ -1,9 +1,9 @@
 -- An expression has at most one value, whatever is bound.
-use Rattle.std.proofs.Common.{◌≡◌, ℕ, List, [], ◌∷◌, refl, sym, ◌∙◌, inl, inr}
+use Rattle.std.proofs.Common.{◌≡◌, ℕ, List, [], ◌∷◌, sym, ◌∙◌, inl, inr}
 use Rattle.std.specs.List.{All}
 use Rattle.std.proofs.lemmas.List.Elements.{All-head, All-tail}
 use Rattle.listings.specs.Lists.{ForEach}
-use Rattle.cat_tree.specs.Tree.{Word, Term, Terms, union, sequence, difference, intersection, product, complement, plus, star, optional, inverse, domain, range, identity, name, empty_relation, empty_set, universe, call, no_terms, term, Bound, Defined, values_in, functions_in, Clause, bind, bind_recursively, check, include, show, unshow}
+use Rattle.cat_tree.specs.Tree.{Word, Term, Terms, union, sequence, difference, intersection, product, complement, plus, star, optional, inverse, domain, range, identity, name, empty_relation, empty_set, universe, call, no_terms, term, Bound, Defined, functions_in, Clause, bind, bind_recursively, check, include, show, unshow}
 use Rattle.cat_model.specs.Beforehand.{beforehand}
 use Rattle.events.specs.Executions.{GraphValue}
 use Rattle.events.specs.Named.{event_count}

@@ -10,7 +10,7 @@ use Rattle.cat_tree.specs.Tree.{Term, Bound, Defined, name, call, no_terms, term
 use Rattle.cat_eval.specs.declared.value.Value.{Value}
 use Rattle.cat_eval.specs.declared.value.Value.TheVariants.{Pairs}
 use Rattle.cat_eval.specs.declared.value.Entry.{Entry}
-use Rattle.cat_eval.specs.Meaning.{Environment, Predicate, Means, Just, Applied, With, Under, BindsRelation, Solves, IsLeast, Lies, LieWithin}
+use Rattle.cat_eval.specs.Meaning.{Environment, Means, Under, BindsRelation, Solves, IsLeast, Lies, LieWithin}
 use Rattle.cat_eval.specs.Judging.{Permits, Behind}
 
 no_flag : true ≡ false → ⊥
