@@ -22,7 +22,8 @@ pub struct BoundName<'m> {
 }
 
 /// What the latest of these names that is this one is bound to.
-pub fn held<'m>(names: &[BoundName<'m>], name: &Name) -> Option<Held>
+#[tactic(auto, using(crate::proofs::Looked::held_is, crate::proofs::Looked::held_stays))]
+pub fn holding<'m>(names: &[BoundName<'m>], name: &Name) -> Option<Held>
     ensures { result ≡ held_in names.now name.now }
 {
     let mut found = None;
@@ -35,6 +36,7 @@ pub fn held<'m>(names: &[BoundName<'m>], name: &Name) -> Option<Held>
 }
 
 /// The number of the latest of these parameters that has this name.
+#[tactic(auto, using(crate::proofs::Looked::index_is, crate::proofs::Looked::index_stays))]
 pub fn parameter(parameters: &[Name], name: &Name) -> Option<usize>
     ensures { result ≡ index_in parameters.now name.now }
 {
