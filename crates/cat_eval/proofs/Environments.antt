@@ -9,10 +9,10 @@ use Rattle.std.proofs.lemmas.List.Folds.{find-append}
 use Rattle.std.proofs.lemmas.List.Elements.{All-head, All-tail}
 use Rattle.std.proofs.lemmas.Slice.Eq.{bytes_eq-Decides}
 use Rattle.cat_tree.specs.Tree.{Word}
-use Rattle.cat_model.specs.Sorts.{Scope, sort_of_name}
 use Rattle.cat_eval.specs.declared.value.Value.{Value}
 use Rattle.cat_eval.specs.declared.value.Entry.{Entry}
-use Rattle.cat_eval.specs.Meaning.{With, Under}
+use Rattle.cat_eval.specs.Core.{Scope, sort_of_name}
+use Rattle.cat_eval.specs.CoreMeaning.{With, Under}
 use Rattle.cat_eval.specs.Steps.{IsOver, sort_of, scope_of, latest}
 use Rattle.cat_eval.proofs.Sorting.{Fits}
 

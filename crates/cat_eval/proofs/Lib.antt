@@ -6,6 +6,7 @@ pub mod Execution
 pub mod Groups
 pub mod Climbing
 pub mod Once
+pub mod Below
 pub mod Standing
 pub mod Stacks
 pub mod Running
@@ -16,5 +17,15 @@ pub mod Following
 pub mod Graded
 pub mod Held
 pub mod Lawful
+pub mod Cores
+pub mod Replaced
+pub mod Labels
+pub mod Before
+pub mod Binding
+pub mod Sorted
+pub mod Denied
+pub mod Models
+pub mod Single
+pub mod Bridge
 pub mod Reaching
 pub mod Solving

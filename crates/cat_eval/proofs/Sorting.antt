@@ -3,14 +3,14 @@ use Rattle.std.proofs.Common.{◌≡◌, ℕ, ◌⊎◌, Option, Some, sym, ◌�
 use Rattle.relations.specs.Events.{Has}
 use Rattle.relations.specs.Relation.{In}
 use Rattle.relations.specs.Algebra.{Through, Chain, Domain, Range}
-use Rattle.cat_tree.specs.Tree.{Word, Term, union, sequence, difference, intersection, product, complement, plus, star, optional, inverse, domain, range, identity, name, empty_relation, empty_set, universe}
-use Rattle.cat_model.specs.Sorts.{Scope, HasSort, sort_of_name}
+use Rattle.cat_tree.specs.Tree.{Word}
 use Rattle.cat_model.specs.declared.sort.Sort.{Sort}
 use Rattle.cat_model.specs.declared.sort.Sort.TheVariants.{Set, Relation}
 use Rattle.cat_eval.specs.declared.value.Value.{Value}
 use Rattle.cat_eval.specs.declared.value.Value.TheVariants.{Events, Pairs}
 use Rattle.cat_eval.specs.Operators.{IsSet, IsRelation, IsUnion, IsIntersection, IsDifference, IsComplement, IsSequence, IsProduct, IsPlus, IsStar, IsOptional, IsInverse, IsDomain, IsRange, IsIdentity}
-use Rattle.cat_eval.specs.Meaning.{Means}
+use Rattle.cat_eval.specs.Core.{Term, union, sequence, difference, intersection, product, complement, plus, star, optional, inverse, domain, range, identity, name, empty_relation, empty_set, universe, Scope, HasSort, sort_of_name}
+use Rattle.cat_eval.specs.CoreMeaning.{Means}
 use Rattle.cat_eval.specs.Steps.{sort_of}
 
 pub set_sort : (n : ℕ) (P : ℕ → Type 0) (v : Value) → IsSet n P v → sort_of v ≡ Set

@@ -2,11 +2,11 @@
 use Rattle.std.proofs.Common.{◌≡◌, ℕ, List, [], ◌∷◌, ◌++◌, refl, sym, subst}
 use Rattle.std.specs.List.{All}
 use Rattle.std.proofs.lemmas.List.Elements.{All-nil, All-cons, All-head, All-tail}
-use Rattle.cat_tree.specs.Tree.{Word, Term, union, sequence, difference, intersection, product, complement, plus, star, optional, inverse, domain, range, identity, name, empty_relation, empty_set, universe}
-use Rattle.cat_model.specs.Sorts.{names, denied_names}
+use Rattle.cat_tree.specs.Tree.{Word}
 use Rattle.cat_eval.specs.declared.value.Value.{Value}
 use Rattle.cat_eval.specs.Operators.{IsUnion, IsIntersection, IsDifference, IsComplement, IsSequence, IsProduct, IsPlus, IsStar, IsOptional, IsInverse, IsDomain, IsRange, IsIdentity}
-use Rattle.cat_eval.specs.Meaning.{Made, MadeOfTwo, Means, Lies}
+use Rattle.cat_eval.specs.Core.{Term, union, sequence, difference, intersection, product, complement, plus, star, optional, inverse, domain, range, identity, name, empty_relation, empty_set, universe, names, denied_names}
+use Rattle.cat_eval.specs.CoreMeaning.{Made, MadeOfTwo, Means, Lies}
 use Rattle.cat_eval.specs.Steps.{IsOver}
 use Rattle.cat_eval.proofs.Values as values
 use Rattle.cat_eval.proofs.Values.{union_operator, intersection_operator, difference_operator, sequence_operator, product_operator, complement_operator, plus_operator, star_operator, optional_operator, inverse_operator, domain_operator, range_operator, identity_operator}
@@ -47,13 +47,13 @@ means_over n E f empty_relation v h = values.relation_over n n (λ i j. ⊥) v r
 means_over n E f empty_set v h = values.set_over n n (λ i. ⊥) v refl h
 means_over n E f universe v h = values.set_over n n (λ i. Unit {0}) v refl h
 
-one_same : (A C : Value → Type 0) (Op : Value → Value → Type 0) → ((v w : Value) → A v → C w → v ≡ w) → ((x v w : Value) → Op x v → Op x w → v ≡ w) →
+pub one_same : (A C : Value → Type 0) (Op : Value → Value → Type 0) → ((v w : Value) → A v → C w → v ≡ w) → ((x v w : Value) → Op x v → Op x w → v ≡ w) →
     (v w : Value) → Made A Op v → Made C Op w → v ≡ w
 one_same A C Op f one v w h k =
     let F : Value → Type 0 = λ x. Op x w in
     one h.operand v w h.made (subst F (sym (f h.operand k.operand h.given k.given)) k.made)
 
-two_same : (A C B D : Value → Type 0) (Op : Value → Value → Value → Type 0) → ((v w : Value) → A v → C w → v ≡ w) → ((v w : Value) → B v → D w → v ≡ w) →
+pub two_same : (A C B D : Value → Type 0) (Op : Value → Value → Value → Type 0) → ((v w : Value) → A v → C w → v ≡ w) → ((v w : Value) → B v → D w → v ≡ w) →
     ((x y v w : Value) → Op x y v → Op x y w → v ≡ w) → (v w : Value) → MadeOfTwo A B Op v → MadeOfTwo C D Op w → v ≡ w
 two_same A C B D Op f g one v w h k =
     let F : Value → Type 0 = λ x. Op x k.right w in

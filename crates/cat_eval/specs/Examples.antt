@@ -2,6 +2,7 @@
 use Rattle.std.proofs.Common.{◌≡◌, ℕ, ◌<◌, List, [], ◌∷◌, codes, refl, sym, ◌∙◌, subst, inl, inr, true, false, Some}
 use Rattle.std.proofs.lemmas.Bool.{false≢true}
 use Rattle.std.proofs.lemmas.List.Elements.{All-nil, All-cons, All-head}
+use Rattle.std.proofs.lemmas.Slice.Eq.{bytes_eq-Decides}
 use Rattle.relations.specs.Relation.{Relation, In, relation}
 use Rattle.relations.specs.TableFacts.{cell_square, square_below, square_again}
 use Rattle.cat_tree.specs.declared.tree.CheckKind.TheVariants.{Acyclic}
@@ -9,7 +10,7 @@ use Rattle.cat_tree.specs.Tree.{Term, Bound, Defined, name, call, no_terms, term
 use Rattle.cat_eval.specs.declared.value.Value.{Value}
 use Rattle.cat_eval.specs.declared.value.Value.TheVariants.{Pairs}
 use Rattle.cat_eval.specs.declared.value.Entry.{Entry}
-use Rattle.cat_eval.specs.Meaning.{Environment, Predicate, Means, Just, Applied, With, Under, BindsRelation, Solves, IsLeast, Lies, LieWithin}
+use Rattle.cat_eval.specs.Meaning.{Environment, Means, Under, BindsRelation, Solves, IsLeast, Lies, LieWithin}
 use Rattle.cat_eval.specs.Judging.{Permits, Behind}
 
 no_flag : true ≡ false → ⊥
@@ -67,7 +68,7 @@ abbrev pub constant : Defined
 constant = record { name = codes "f"; parameters = codes "x" ∷ []; value = name (codes "y") }
 
 no_parameter : codes "y" ≡ codes "x" → ⊥
-no_parameter e = cc
+no_parameter e = false≢true ((bytes_eq-Decides (codes "y") (codes "x")).1 e)
 
 pub a_function_sees_what_stood_before_it : (n : ℕ) (E : Environment) (a : Term) (v : Value) → E (codes "y") [] v → Means n (Behind n E (bind (constant ∷ [])) []) (call (codes "f") (term a no_terms)) v
 a_function_sees_what_stood_before_it n E a v h = inl (refl, inr (no_parameter, h))

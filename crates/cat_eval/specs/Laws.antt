@@ -5,7 +5,7 @@ use Rattle.events.specs.Executions.{GraphValue}
 use Rattle.events.specs.Named.{event_count}
 use Rattle.cat_eval.specs.declared.value.Value.{Value}
 use Rattle.cat_eval.specs.declared.value.Entry.{Entry}
-use Rattle.cat_eval.specs.Meaning.{Environment, Means, Under, IsLeast}
+use Rattle.cat_eval.specs.Meaning.{Environment, Means, IsLeast}
 use Rattle.cat_eval.specs.Judging.{Behind, First}
 
 -- what names stand for behind items, the values that each binds being these

@@ -4,21 +4,23 @@ use Rattle.std.specs.Prelude.{Bool, Some, None, Ok, Err}
 use Rattle.std.proofs.lemmas.Bool.{cases_Bool}
 use Rattle.descent.specs.Reading.{Look, match_option, ◌>>=◌, repeated}
 use Rattle.descent.proofs.Tools.{cases_of, moved_look, none_or_some}
-use Rattle.cat_syntax.specs.declared.syntax_fault.SyntaxFault.TheVariants.{Unexpected, BoundTwice, TooDeep}
+use Rattle.cat_syntax.specs.declared.syntax_fault.SyntaxFault.TheVariants.{Unexpected, BoundTwice, RecursiveFunction, TooDeep}
 use Rattle.cat_tree.specs.declared.node.Infix.{Infix}
 use Rattle.cat_syntax.specs.declared.symbol.Symbol.{Symbol}
-use Rattle.cat_syntax.specs.declared.symbol.Symbol.TheVariants.{Fixed, Name, Quoted, Unsupported}
+use Rattle.cat_syntax.specs.declared.symbol.Symbol.TheVariants.{Fixed, Name, Quoted}
 use Rattle.cat_syntax.specs.declared.symbol.Terminal.{Terminal}
 use Rattle.cat_syntax.specs.declared.symbol.Terminal.TheVariants.{Let, Rec, And, Acyclic, Irreflexive, Empty, As, Flag, Show, Unshow, Include, Comma, Equals, Domain, Range, Underscore, Zero, LeftParen, RightParen, LeftBracket, RightBracket, LeftBrace, RightBrace, Star, Tilde, Plus, Question, Inverse}
-use Rattle.cat_tree.specs.Tree.{Term, Bound, Clause, bind, bind_recursively, include, show, unshow, identity, domain, range, empty_set, complement}
+use Rattle.cat_tree.specs.Terms.{terms_of}
+use Rattle.cat_syntax.specs.Items.{names_defined, names_bound}
+use Rattle.cat_tree.specs.Tree.{Word, Defined, Bound, Clause, bind, bind_recursively, include, show, unshow, name, call, identity, domain, range, empty_set, complement}
 use Rattle.cat_syntax.specs.Symbols.{is_name}
 use Rattle.cat_syntax.specs.Grammar.{joined, begins_check, begins_operand}
-use Rattle.cat_syntax.specs.Reading.{Reading, cut, terminal_eq, after, expected, name_at, sign, infix_at, associates_left, postfix_at, applied, applied_at, next_operand, right, left, enclosed_with, primary_with, postfix_with, unary_with, level_with, below, expression_at, push_item, separated, alias_at, repeats, new_name_at, binding_at, group_at, element_at, optional_at, kind_at, check_with, check_at, quoted_at, item_at, unless_end, title_at, items_at, file_at}
+use Rattle.cat_syntax.specs.Reading.{Reading, cut, terminal_eq, after, expected, name_at, sign, infix_at, associates_left, postfix_at, applied, applied_at, next_operand, right, left, enclosed_with, primary_with, postfix_with, unary_with, level_with, below, expression_at, push_item, separated, alias_at, next_name, repeats, opens_arguments, begins_call, arguments_with, name_unless, value_name_unless, new_name_at, parameters_at, definition_at, binding_at, group_at, element_at, optional_at, kind_at, check_with, check_at, quoted_at, item_at, unless_end, title_at, items_at, file_at}
 use Rattle.cat_syntax.specs.declared.operator.Postfix.{Postfix}
 use Rattle.cat_syntax.proofs.Symbols.{after_takes, if-none, postfix_takes}
 use Rattle.cat_syntax.proofs.ItemsSound.{unless_end-same}
-use Rattle.cat_syntax.proofs.Levels.{left_more, left_shorter, right_more, postfix_more, postfix_shorter, level_takes, infix_takes}
-use Rattle.cat_syntax.proofs.Lists.{bindings_more, elements_more, names_more, items_more, bindings_shorter, elements_shorter, names_shorter, items_shorter}
+use Rattle.cat_syntax.proofs.Levels.{left_more, left_shorter, right_more, postfix_more, postfix_shorter, level_takes, infix_takes, arguments_more, arguments_shorter}
+use Rattle.cat_syntax.proofs.Lists.{definitions_more, definitions_shorter, new_names_more, new_names_shorter, bindings_more, elements_more, names_more, items_more, bindings_shorter, elements_shorter, names_shorter, items_shorter}
 use Rattle.cat_syntax.proofs.Alike.{Same, same_end, same_more, Far, Agree, AgreeLook, AlikeAt, Alike, AlikeLook, agree-weaken, agree-ok, agree-err, agree-bind, agree-look, agree-if, agree-required, alike-repeated, stopped}
 
 -- the symbols ahead
@@ -117,13 +119,17 @@ unfolding begins_operand
 operand-same (Fixed Tilde) u ts us = rw (check-same u ts us) refl
 operand-same t u ts us = refl
 
-operand-far : (x y ts us : List Symbol) → Same x y ts us → length x + 2 ≤ length ts → begins_operand ts ≡ begins_operand us
-operand-far x y ts us s far =
+-- a test of the first two symbols
+two-far : (f : List Symbol → Bool) → ((t u : Symbol) (ts us : List Symbol) → f (t ∷ u ∷ ts) ≡ f (t ∷ u ∷ us)) → (x y ts us : List Symbol) → Same x y ts us → length x + 2 ≤ length ts → f ts ≡ f us
+two-far f same x y ts us s far =
     let h = heads x y ts us s (omega (arith, far)) in
     let l : length ts ≡ suc (length h.ts_behind) = ap length h.ts_is in
     let k = heads x y h.ts_behind h.us_behind h.behind (omega (arith, far, l)) in
-    ap begins_operand h.ts_is ∙ (ap (λ v. begins_operand (h.first ∷ v)) k.ts_is ∙ (operand-same h.first k.first k.ts_behind k.us_behind ∙
-    (sym (ap (λ v. begins_operand (h.first ∷ v)) k.us_is) ∙ sym (ap begins_operand h.us_is))))
+    ap f h.ts_is ∙ (ap (λ v. f (h.first ∷ v)) k.ts_is ∙ (same h.first k.first k.ts_behind k.us_behind ∙
+    (sym (ap (λ v. f (h.first ∷ v)) k.us_is) ∙ sym (ap f h.us_is))))
+
+operand-far : (x y ts us : List Symbol) → Same x y ts us → length x + 2 ≤ length ts → begins_operand ts ≡ begins_operand us
+operand-far = two-far begins_operand operand-same
 
 postfix-none : (t : Symbol) (ts us : List Symbol) → begins_operand ts ≡ begins_operand us → postfix_at (t ∷ ts) ≡ None → postfix_at (t ∷ us) ≡ None
 unfolding postfix_at
@@ -204,14 +210,17 @@ alike-name = by-first name_at (agree-err Unexpected same_end) name-cons
 -- expressions
 
 -- where the lists begin with what opens, and nothing may nest
-closed-agree : (opening closing : Terminal) → Alike (enclosed_with (below zero) opening closing)
-unfolding enclosed_with expected below
-closed-agree opening closing ts x y us s = record {
+refusing : {A : Type 0} → Terminal → List Symbol → Reading A
+refusing opening ts = expected opening ts >>= λ _. Err (TooDeep, ts)
+
+closed-agree : {A : Type 0} (opening : Terminal) → Alike (refusing {A = A} opening)
+unfolding refusing expected
+closed-agree {A} opening ts x y us s = record {
   ok = λ a rest e. absurd (elim (none_or_some (after opening ts)) [ inl n ↦ let f = rw n at e in cc | inr (w, is) ↦ let f = rw is at e in cc ]);
   err = λ c rest e. elim (none_or_some (after opening ts)) [
-    | inl n ↦ stopped {A = Term} (λ l d. (length l ≤ length ts) × (Far x l → (end : List Symbol) × (enclosed_with (below zero) opening closing us ≡ Err (d, end)) × Same x y l end)) (rw n at e)
+    | inl n ↦ stopped {A = A} (λ l d. (length l ≤ length ts) × (Far x l → (end : List Symbol) × (refusing {A = A} opening us ≡ Err (d, end)) × Same x y l end)) (rw n at e)
         (omega arith, λ far. (us, rw ((look-after opening ts x y us s).none n far) refl, s))
-    | inr (w, is) ↦ stopped {A = Term} (λ l d. (length l ≤ length ts) × (Far x l → (end : List Symbol) × (enclosed_with (below zero) opening closing us ≡ Err (d, end)) × Same x y l end)) (rw is at e) (
+    | inr (w, is) ↦ stopped {A = A} (λ l d. (length l ≤ length ts) × (Far x l → (end : List Symbol) × (refusing {A = A} opening us ≡ Err (d, end)) × Same x y l end)) (rw is at e) (
       omega arith,
       λ far.
           let h = heads x y ts us s (omega (arith, far)) in
@@ -222,12 +231,55 @@ closed-agree opening closing ts x y us s = record {
   ];
 }
 
+closed-enclosed : (opening closing : Terminal) → Alike (enclosed_with (below zero) opening closing)
+unfolding enclosed_with below refusing
+closed-enclosed opening closing = closed-agree opening
+
+closed-arguments : Alike (arguments_with (below zero))
+unfolding arguments_with separated below refusing
+closed-arguments = closed-agree LeftParen
+
 open-agree : (n : ℕ) → Alike (level_with (below n) 5) → (opening closing : Terminal) → Alike (enclosed_with (below (suc n)) opening closing)
 unfolding enclosed_with below
 open-agree n level opening closing ts x y us s =
     agree-bind _ (alike-expected opening ts x y us s) (λ u l e x y us s.
     agree-bind _ (level l x y us s) (λ a l e x y us s.
     agree-bind _ (alike-expected closing l x y us s) (λ v l e x y us s. agree-ok a s)))
+
+-- lists
+
+alike-push : {A : Type 0} (item : List A → List Symbol → Reading A) → ((xs : List A) → Alike (item xs)) → (o : Unit {0}) (xs : List A) → Alike (push_item item o xs)
+alike-push item each o xs ts x y us s = agree-bind _ (each xs ts x y us s) (λ a l e x y us s. agree-ok _ s)
+
+alike-separated : {A : Type 0} (t : Terminal) (item : List A → List Symbol → Reading A) → ((xs : List A) → Alike (item xs)) →
+    ((xs : List A) (ts : List Symbol) → repeated cut (after t) (push_item item) xs ts ≡ match_option (after t ts) (Ok (xs, ts)) (λ x. push_item item x.0 xs x.1 >>= λ y. repeated cut (after t) (push_item item) y.0 y.1)) →
+    ((ts mid rest : List Symbol) (o : Unit {0}) (xs ys : List A) → after t ts ≡ Some (o, mid) → push_item item o xs mid ≡ Ok (ys, rest) → length rest < length ts) → Alike (separated t item)
+unfolding separated
+alike-separated t item each turn shorter ts x y us s =
+    agree-bind _ (alike-push item each tt [] ts x y us s) (λ xs l e.
+    alike-repeated (after t) (push_item item) turn shorter (look-after t) (alike-push item each) xs l)
+
+open-arguments : (n : ℕ) → Alike (level_with (below n) 5) → Alike (arguments_with (below (suc n)))
+unfolding arguments_with below
+open-arguments n level ts x y us s =
+    agree-bind _ (alike-expected LeftParen ts x y us s) (λ u l e x y us s.
+    agree-bind _ (alike-separated Comma (λ _. level_with (below n) 5) (λ _. level) (arguments_more n) (arguments_shorter n) l x y us s) (λ as' l e x y us s.
+    agree-bind _ (alike-expected RightParen l x y us s) (λ v l e x y us s. agree-ok as' s)))
+
+-- what opens is seen by its first symbol
+
+opens-same : (t : Symbol) (ts us : List Symbol) → opens_arguments (t ∷ ts) ≡ opens_arguments (t ∷ us)
+unfolding opens_arguments
+opens-same (Fixed LeftParen) ts us = refl
+opens-same t ts us = refl
+
+opens-far : (x y ts us : List Symbol) → Same x y ts us → length x < length ts → opens_arguments ts ≡ opens_arguments us
+opens-far x y ts us s far = let h = heads x y ts us s far in ap opens_arguments h.ts_is ∙ (opens-same h.first h.ts_behind h.us_behind ∙ sym (ap opens_arguments h.us_is))
+
+calls-same : (t u : Symbol) (ts us : List Symbol) → begins_call (t ∷ u ∷ ts) ≡ begins_call (t ∷ u ∷ us)
+unfolding begins_call
+calls-same (Name w) u ts us = opens-same u ts us
+calls-same t u ts us = refl
 
 closed-complement : (ts x y us : List Symbol) → Same x y ts us → Agree x y (suc (length ts)) (unary_with (below zero) (Fixed Tilde ∷ ts)) (unary_with (below zero) (Fixed Tilde ∷ us))
 unfolding unary_with below
@@ -240,12 +292,15 @@ open-complement n unary ts x y us s = one-less (agree-bind (λ w. Ok (complement
 -- what nests
 pub record Nested (n : ℕ) : Type 0 where
   pub enclosed : (opening closing : Terminal) → Alike (enclosed_with (below n) opening closing)
+  pub arguments : Alike (arguments_with (below n))
   pub complemented : (ts x y us : List Symbol) → Same x y ts us → Agree x y (suc (length ts)) (unary_with (below n) (Fixed Tilde ∷ ts)) (unary_with (below n) (Fixed Tilde ∷ us))
 
 module _ (n : ℕ) (nested : Nested n) where
   primary-cons : (t : Symbol) (ts x y us : List Symbol) → Same x y ts us → Agree x y (suc (length ts)) (primary_with (below n) (t ∷ ts)) (primary_with (below n) (t ∷ us))
   unfolding primary_with
-  primary-cons (Name w) ts x y us s = one-less (agree-ok _ s)
+  primary-cons (Name w) ts x y us s =
+      one-less (agree-if (opens_arguments ts) (opens_arguments us) (λ far. opens-far x y ts us s (omega (arith, far)))
+      (agree-bind _ (nested.arguments ts x y us s) (λ as' l e x y us s. agree-ok (call w (terms_of as')) s)) (agree-ok (name w) s))
   primary-cons (Fixed Underscore) ts x y us s = one-less (agree-ok _ s)
   primary-cons (Fixed Zero) ts x y us s = one-less (agree-ok _ s)
   primary-cons (Fixed LeftBrace) ts x y us s = one-less (agree-bind _ (alike-expected RightBrace ts x y us s) (λ a l e x y us s. agree-ok empty_set s))
@@ -305,8 +360,8 @@ module _ (n : ℕ) (nested : Nested n) where
   ]
 
 nested-at : (n : ℕ) → Nested n
-nested-at zero = record { enclosed = closed-agree; complemented = closed-complement }
-nested-at (suc n) = record { enclosed = open-agree n (alike-level n (nested-at n) 5); complemented = open-complement n (alike-unary n (nested-at n)) }
+nested-at zero = record { enclosed = closed-enclosed; arguments = closed-arguments; complemented = closed-complement }
+nested-at (suc n) = record { enclosed = open-agree n (alike-level n (nested-at n) 5); arguments = open-arguments n (alike-level n (nested-at n) 5); complemented = open-complement n (alike-unary n (nested-at n)) }
 
 alike-expression : Alike expression_at
 unfolding expression_at
@@ -320,35 +375,54 @@ alike-alias ts x y us s =
     agree-look _ (look-after As ts x y us s) (agree-ok None s) (λ u l e x y us s.
     agree-bind _ (alike-name l x y us s) (λ w l e x y us s. agree-ok (Some w) s))
 
-repeats-same : (bs : List Bound) (t : Symbol) (ts us : List Symbol) → repeats bs (t ∷ ts) ≡ repeats bs (t ∷ us)
-unfolding repeats
-repeats-same bs (Name w) ts us = refl
-repeats-same bs (Unsupported w) ts us = refl
-repeats-same bs t ts us = refl
+repeats-same : (xs : List Word) (t : Symbol) (ts us : List Symbol) → repeats xs (t ∷ ts) ≡ repeats xs (t ∷ us)
+unfolding next_name
+repeats-same xs (Name w) ts us = refl
+repeats-same xs t ts us = refl
 
-alike-new_name : (bs : List Bound) → Alike (new_name_at bs)
-unfolding new_name_at
-alike-new_name bs ts x y us s =
-    agree-if (repeats bs ts) (repeats bs us) (λ far. let h = heads x y ts us s (omega (arith, far)) in ap (repeats bs) h.ts_is ∙ (repeats-same bs h.first h.ts_behind h.us_behind ∙ sym (ap (repeats bs) h.us_is)))
+repeats-far : (xs : List Word) (x y ts us : List Symbol) → Same x y ts us → length x < length ts → repeats xs ts ≡ repeats xs us
+repeats-far xs x y ts us s far = let h = heads x y ts us s far in ap (repeats xs) h.ts_is ∙ (repeats-same xs h.first h.ts_behind h.us_behind ∙ sym (ap (repeats xs) h.us_is))
+
+alike-new_name : (xs : List Word) → Alike (new_name_at xs)
+unfolding name_unless
+alike-new_name xs ts x y us s =
+    agree-if (repeats xs ts) (repeats xs us) (λ far. repeats-far xs x y ts us s (omega (arith, far)))
     (agree-err BoundTwice s) (alike-name ts x y us s)
+
+alike-value_name : (xs : List Word) → Alike (λ ts. value_name_unless (repeats xs ts) ts)
+unfolding value_name_unless
+alike-value_name xs ts x y us s =
+    agree-if (repeats xs ts) (repeats xs us) (λ far. repeats-far xs x y ts us s (omega (arith, far)))
+    (agree-err BoundTwice s)
+    (agree-if (begins_call ts) (begins_call us) (λ far. two-far begins_call calls-same x y ts us s (omega (arith, far))) (agree-err RecursiveFunction s) (alike-name ts x y us s))
+
+alike-new_names : Alike (separated Comma new_name_at)
+alike-new_names = alike-separated Comma new_name_at alike-new_name new_names_more new_names_shorter
+
+alike-parameters : Alike parameters_at
+unfolding parameters_at
+alike-parameters ts x y us s =
+    agree-look _ (look-after LeftParen ts x y us s) (agree-ok [] s) (λ u l e x y us s.
+    agree-bind _ (alike-new_names l x y us s) (λ xs l e x y us s.
+    agree-bind _ (alike-expected RightParen l x y us s) (λ v l e x y us s. agree-ok xs s)))
+
+alike-definition : (ds : List Defined) → Alike (definition_at ds)
+unfolding definition_at
+alike-definition ds ts x y us s =
+    agree-bind _ (alike-new_name (names_defined ds) ts x y us s) (λ w l e x y us s.
+    agree-bind _ (alike-parameters l x y us s) (λ ps l e x y us s.
+    agree-bind _ (alike-expected Equals l x y us s) (λ v l e x y us s.
+    agree-bind _ (alike-expression l x y us s) (λ a l e x y us s. agree-ok _ s))))
 
 alike-binding : (bs : List Bound) → Alike (binding_at bs)
 unfolding binding_at
 alike-binding bs ts x y us s =
-    agree-bind _ (alike-new_name bs ts x y us s) (λ w l e x y us s.
+    agree-bind _ (alike-value_name (names_bound bs) ts x y us s) (λ w l e x y us s.
     agree-bind _ (alike-expected Equals l x y us s) (λ v l e x y us s.
     agree-bind _ (alike-expression l x y us s) (λ a l e x y us s. agree-ok _ s)))
 
-alike-push : {A : Type 0} (item : List A → List Symbol → Reading A) → ((xs : List A) → Alike (item xs)) → (o : Unit {0}) (xs : List A) → Alike (push_item item o xs)
-alike-push item each o xs ts x y us s = agree-bind _ (each xs ts x y us s) (λ a l e x y us s. agree-ok _ s)
-
-alike-separated : {A : Type 0} (t : Terminal) (item : List A → List Symbol → Reading A) → ((xs : List A) → Alike (item xs)) →
-    ((xs : List A) (ts : List Symbol) → repeated cut (after t) (push_item item) xs ts ≡ match_option (after t ts) (Ok (xs, ts)) (λ x. push_item item x.0 xs x.1 >>= λ y. repeated cut (after t) (push_item item) y.0 y.1)) →
-    ((ts mid rest : List Symbol) (o : Unit {0}) (xs ys : List A) → after t ts ≡ Some (o, mid) → push_item item o xs mid ≡ Ok (ys, rest) → length rest < length ts) → Alike (separated t item)
-unfolding separated
-alike-separated t item each turn shorter ts x y us s =
-    agree-bind _ (alike-push item each tt [] ts x y us s) (λ xs l e.
-    alike-repeated (after t) (push_item item) turn shorter (look-after t) (alike-push item each) xs l)
+alike-definitions : Alike (separated And definition_at)
+alike-definitions = alike-separated And definition_at alike-definition definitions_more definitions_shorter
 
 alike-bindings : Alike (separated And binding_at)
 alike-bindings = alike-separated And binding_at alike-binding bindings_more bindings_shorter
@@ -356,7 +430,7 @@ alike-bindings = alike-separated And binding_at alike-binding bindings_more bind
 alike-group : Alike group_at
 unfolding group_at
 alike-group ts x y us s =
-    agree-look _ (look-after Rec ts x y us s) (agree-bind _ (alike-bindings ts x y us s) (λ bs l e x y us s. agree-ok (bind bs) s)) (λ u l e x y us s.
+    agree-look _ (look-after Rec ts x y us s) (agree-bind _ (alike-definitions ts x y us s) (λ ds l e x y us s. agree-ok (bind ds) s)) (λ u l e x y us s.
     agree-bind _ (alike-bindings l x y us s) (λ bs l e x y us s. agree-ok (bind_recursively bs) s))
 
 alike-element : Alike element_at

@@ -1,5 +1,5 @@
 -- Expressions that are in the grammar are read.
-use Rattle.std.proofs.Common.{◌≡◌, ℕ, zero, suc, ◌<◌, ◌≤◌, List, [], ◌∷◌, true, false, refl, ap, sym, ◌∙◌, arith, inl, inr}
+use Rattle.std.proofs.Common.{◌≡◌, ℕ, zero, suc, ◌<◌, ◌≤◌, List, [], ◌∷◌, ◌++◌, append_assoc, true, false, refl, ap, sym, ◌∙◌, arith, inl, inr}
 use Rattle.std.specs.Prelude.{None, Ok}
 use Rattle.std.proofs.lemmas.Bool.{cases_Bool}
 use Rattle.descent.proofs.Tools.{Yields, Shows}
@@ -11,19 +11,21 @@ use Rattle.cat_syntax.specs.declared.symbol.Symbol.{Symbol}
 use Rattle.cat_syntax.specs.declared.symbol.Symbol.TheVariants.{Fixed, Name}
 use Rattle.cat_syntax.specs.declared.symbol.Terminal.{Terminal}
 use Rattle.cat_syntax.specs.declared.symbol.Terminal.TheVariants.{Let, And, Acyclic, Irreflexive, Empty, As, Flag, Show, Unshow, Include, Comma, Domain, Range, Underscore, Zero, LeftParen, RightParen, LeftBracket, RightBracket, LeftBrace, RightBrace, Bar, Semicolon, Backslash, Ampersand, Star, Tilde, Plus, Question, Inverse}
-use Rattle.cat_tree.specs.Tree.{Term, complement, domain, range, identity, name, empty_relation, empty_set, universe}
-use Rattle.cat_syntax.specs.Grammar.{joined, begins_check, begins_operand, JoinsLeft, joins_product, joins_difference, JoinsRight, joins_intersection, joins_sequence, joins_union, IsLevel, level_unary, level_tighter, level_left, level_right, IsUnary, unary_complement, unary_postfix, IsPostfix, postfix_primary, postfix_plus, postfix_star, postfix_optional, postfix_inverse, IsPrimary, primary_name, primary_universe, primary_empty_relation, primary_empty_set, primary_paren, primary_identity, primary_domain, primary_range}
-use Rattle.cat_syntax.specs.Reading.{Reading, terminal_eq, after, infix_at, associates_left, postfix_at, applied, applied_at, next_operand, right, left, Inner, enclosed_with, primary_with, postfix_with, unary_with, level_with, below, cut}
-use Rattle.cat_syntax.proofs.Symbols.{expected-first}
-use Rattle.cat_syntax.proofs.Levels.{left_shorter, postfix_shorter, right_more}
+use Rattle.cat_tree.specs.Postorder.{listed, terms_of-listed}
+use Rattle.cat_tree.specs.Tree.{Term, Terms, complement, domain, range, identity, name, empty_relation, empty_set, universe, call}
+use Rattle.cat_syntax.specs.Grammar.{joined, begins_check, begins_operand, JoinsLeft, joins_product, joins_difference, JoinsRight, joins_intersection, joins_sequence, joins_union, IsLevel, level_unary, level_tighter, level_left, level_right, IsUnary, unary_complement, unary_postfix, IsPostfix, postfix_primary, postfix_plus, postfix_star, postfix_optional, postfix_inverse, IsPrimary, primary_name, primary_universe, primary_empty_relation, primary_empty_set, primary_paren, primary_identity, primary_domain, primary_range, primary_call, AreArguments, last_argument, more_arguments}
+use Rattle.cat_syntax.specs.Reading.{Reading, terminal_eq, after, infix_at, associates_left, postfix_at, applied, applied_at, next_operand, right, left, Inner, separated, opens_arguments, arguments_with, enclosed_with, primary_with, postfix_with, unary_with, level_with, below, cut}
+use Rattle.cat_syntax.proofs.Symbols.{after-first, expected-first}
+use Rattle.cat_syntax.proofs.Levels.{left_shorter, postfix_shorter, right_more, arguments_from, arguments_turn}
 
--- what stands next is no operator below level k, and none that stands behind its operand
+-- what stands next is no operator below level k, none that stands behind its operand, and no list of arguments
 pub record Ends (k : ℕ) (rest : List Symbol) : Type 0 where
   pub none_between : (j : ℕ) → j < k → infix_at j rest ≡ None
   pub none_behind : postfix_at rest ≡ None
+  pub no_call : opens_arguments rest ≡ false
 
 ends-below : (k m : ℕ) (rest : List Symbol) → m ≤ k → Ends k rest → Ends m rest
-ends-below k m rest h e = record { none_between = λ j i. e.none_between j (omega arith); none_behind = e.none_behind }
+ends-below k m rest h e = record { none_between = λ j i. e.none_between j (omega arith); none_behind = e.none_behind; no_call = e.no_call }
 
 -- symbols
 
@@ -55,25 +57,25 @@ pub data Stops : Terminal → Type 0 where
   stops_unshow : Stops Unshow
 
 stopped : (t : Terminal) (rest : List Symbol) → terminal_eq t Star ≡ false → terminal_eq t Ampersand ≡ false → terminal_eq t Backslash ≡ false → terminal_eq t Semicolon ≡ false → terminal_eq t Bar ≡ false →
-    postfix_at (Fixed t ∷ rest) ≡ None → Ends 5 (Fixed t ∷ rest)
-stopped t rest a b c d e p = record { none_between = λ j h. no-infix t rest a b c d e j; none_behind = p }
+    postfix_at (Fixed t ∷ rest) ≡ None → opens_arguments (Fixed t ∷ rest) ≡ false → Ends 5 (Fixed t ∷ rest)
+stopped t rest a b c d e p q = record { none_between = λ j h. no-infix t rest a b c d e j; none_behind = p; no_call = q }
 
 pub stops-ends : {t : Terminal} → Stops t → (rest : List Symbol) → Ends 5 (Fixed t ∷ rest)
-unfolding postfix_at
-stops-ends stops_paren rest = stopped RightParen rest refl refl refl refl refl refl
-stops-ends stops_bracket rest = stopped RightBracket rest refl refl refl refl refl refl
-stops-ends stops_and rest = stopped And rest refl refl refl refl refl refl
-stops-ends stops_as rest = stopped As rest refl refl refl refl refl refl
-stops-ends stops_comma rest = stopped Comma rest refl refl refl refl refl refl
-stops-ends stops_let rest = stopped Let rest refl refl refl refl refl refl
-stops-ends stops_flag rest = stopped Flag rest refl refl refl refl refl refl
-stops-ends stops_tilde rest = stopped Tilde rest refl refl refl refl refl refl
-stops-ends stops_acyclic rest = stopped Acyclic rest refl refl refl refl refl refl
-stops-ends stops_irreflexive rest = stopped Irreflexive rest refl refl refl refl refl refl
-stops-ends stops_empty rest = stopped Empty rest refl refl refl refl refl refl
-stops-ends stops_include rest = stopped Include rest refl refl refl refl refl refl
-stops-ends stops_show rest = stopped Show rest refl refl refl refl refl refl
-stops-ends stops_unshow rest = stopped Unshow rest refl refl refl refl refl refl
+unfolding postfix_at opens_arguments
+stops-ends stops_paren rest = stopped RightParen rest refl refl refl refl refl refl refl
+stops-ends stops_bracket rest = stopped RightBracket rest refl refl refl refl refl refl refl
+stops-ends stops_and rest = stopped And rest refl refl refl refl refl refl refl
+stops-ends stops_as rest = stopped As rest refl refl refl refl refl refl refl
+stops-ends stops_comma rest = stopped Comma rest refl refl refl refl refl refl refl
+stops-ends stops_let rest = stopped Let rest refl refl refl refl refl refl refl
+stops-ends stops_flag rest = stopped Flag rest refl refl refl refl refl refl refl
+stops-ends stops_tilde rest = stopped Tilde rest refl refl refl refl refl refl refl
+stops-ends stops_acyclic rest = stopped Acyclic rest refl refl refl refl refl refl refl
+stops-ends stops_irreflexive rest = stopped Irreflexive rest refl refl refl refl refl refl refl
+stops-ends stops_empty rest = stopped Empty rest refl refl refl refl refl refl refl
+stops-ends stops_include rest = stopped Include rest refl refl refl refl refl refl refl
+stops-ends stops_show rest = stopped Show rest refl refl refl refl refl refl refl
+stops-ends stops_unshow rest = stopped Unshow rest refl refl refl refl refl refl refl
 
 no-infix-nothing : (j : ℕ) → infix_at j [] ≡ None
 unfolding infix_at after
@@ -85,8 +87,8 @@ no-infix-nothing (suc (suc (suc (suc zero)))) = refl
 no-infix-nothing (suc (suc (suc (suc (suc j))))) = refl
 
 pub nothing-ends : (k : ℕ) → Ends k []
-unfolding postfix_at
-nothing-ends k = record { none_between = λ j h. no-infix-nothing j; none_behind = refl }
+unfolding postfix_at opens_arguments
+nothing-ends k = record { none_between = λ j h. no-infix-nothing j; none_behind = refl; no_call = refl }
 
 -- the operators of a level
 
@@ -142,15 +144,15 @@ bar-below ts (suc (suc (suc (suc j)))) h = absurd (omega arith)
 
 -- an operator of a level is none of a level below it; an infix * stands before an operand
 left-ends : {k : ℕ} {t : Terminal} {o : Infix} → JoinsLeft k t o → (ts : List Symbol) → begins_operand ts ≡ true → Ends k (Fixed t ∷ ts)
-unfolding postfix_at
-left-ends joins_product ts h = record { none_between = λ j i. absurd (omega arith); none_behind = rw h }
-left-ends joins_difference ts h = record { none_between = backslash-below ts; none_behind = refl }
+unfolding postfix_at opens_arguments
+left-ends joins_product ts h = record { none_between = λ j i. absurd (omega arith); none_behind = rw h; no_call = refl }
+left-ends joins_difference ts h = record { none_between = backslash-below ts; none_behind = refl; no_call = refl }
 
 right-ends : {k : ℕ} {t : Terminal} {o : Infix} → JoinsRight k t o → (ts : List Symbol) → Ends k (Fixed t ∷ ts)
-unfolding postfix_at
-right-ends joins_intersection ts = record { none_between = ampersand-below ts; none_behind = refl }
-right-ends joins_sequence ts = record { none_between = semicolon-below ts; none_behind = refl }
-right-ends joins_union ts = record { none_between = bar-below ts; none_behind = refl }
+unfolding postfix_at opens_arguments
+right-ends joins_intersection ts = record { none_between = ampersand-below ts; none_behind = refl; no_call = refl }
+right-ends joins_sequence ts = record { none_between = semicolon-below ts; none_behind = refl; no_call = refl }
+right-ends joins_union ts = record { none_between = bar-below ts; none_behind = refl; no_call = refl }
 
 -- An operand begins as operands do.
 
@@ -194,6 +196,7 @@ mutual
   primary-opens (primary_identity d) = refl
   primary-opens (primary_domain d) = refl
   primary-opens (primary_range d) = refl
+  primary-opens (primary_call d) = refl
 
   primary-no_check : {n : ℕ} {ts rest : List Symbol} {a : Term} → IsPrimary n ts rest a → begins_check ts ≡ false
   primary-no_check primary_name = refl
@@ -204,6 +207,7 @@ mutual
   primary-no_check (primary_identity d) = refl
   primary-no_check (primary_domain d) = refl
   primary-no_check (primary_range d) = refl
+  primary-no_check (primary_call d) = refl
 
 -- An operand that begins with no ~ is read as such.
 
@@ -217,6 +221,7 @@ primary-plain (primary_paren d) r = refl
 primary-plain (primary_identity d) r = refl
 primary-plain (primary_domain d) r = refl
 primary-plain (primary_range d) r = refl
+primary-plain (primary_call d) r = refl
 
 postfix-plain : {n : ℕ} {ts rest : List Symbol} {a : Term} → IsPostfix n ts rest a → (r : Inner) → unary_with r ts ≡ postfix_with r ts
 postfix-plain (postfix_primary d) r = primary-plain d r
@@ -248,9 +253,27 @@ range-yields : (n : ℕ) {ts rest : List Symbol} {a : Term} → Yields (enclosed
 unfolding primary_with
 range-yields n y = record { is = rw y.is }
 
-name-yields : (n : ℕ) (x : List ℕ) (rest : List Symbol) → Yields (primary_with (below n)) (Name x ∷ rest) rest (name x)
+name-yields : (n : ℕ) (x : List ℕ) (rest : List Symbol) → opens_arguments rest ≡ false → Yields (primary_with (below n)) (Name x ∷ rest) rest (name x)
 unfolding primary_with
-name-yields n x rest = record { is = refl }
+name-yields n x rest none = record { is = rw none }
+
+-- arguments
+
+last-yields : (n : ℕ) (as' : List Term) {ts rest : List Symbol} {a : Term} → Yields (level_with (below n) 5) ts rest a → after Comma rest ≡ None → Yields (arguments_from n as') ts rest (as' ++ a ∷ [])
+last-yields n as' {ts} {rest} {a} y none = record { is = rw (arguments_turn n as' ts, y.is, none) refl }
+
+more-yields : (n : ℕ) (as' bs : List Term) {ts mid rest : List Symbol} {a : Term} → Yields (level_with (below n) 5) ts (Fixed Comma ∷ mid) a → Yields (arguments_from n (as' ++ a ∷ [])) mid rest ((as' ++ a ∷ []) ++ bs) →
+    Yields (arguments_from n as') ts rest (as' ++ a ∷ bs)
+more-yields n as' bs {ts} {mid} {rest} {a} y z =
+    record { is = rw (arguments_turn n as' ts, y.is, after-first Comma mid) (z.is ∙ ap (λ (l : List Term). Ok (l, rest)) (append_assoc as' (a ∷ []) bs)) }
+
+call-yields : (n : ℕ) (f : List ℕ) {ts rest : List Symbol} {bs : Terms} → Yields (arguments_from n []) ts (Fixed RightParen ∷ rest) (listed bs) → Yields (primary_with (below (suc n))) (Name f ∷ Fixed LeftParen ∷ ts) rest (call f bs)
+unfolding primary_with opens_arguments arguments_with separated below arguments_from
+call-yields n f {ts} {rest} {bs} y = record { is = rw (expected-first LeftParen ts, y.is, expected-first RightParen rest) (ap (λ (cs : Terms). Ok (call f cs, rest)) (terms_of-listed bs)) }
+
+no-comma : (rest : List Symbol) → after Comma (Fixed RightParen ∷ rest) ≡ None
+unfolding after
+no-comma rest = refl
 
 universe-yields : (n : ℕ) (rest : List Symbol) → Yields (primary_with (below n)) (Fixed Underscore ∷ rest) rest universe
 unfolding primary_with
@@ -263,6 +286,24 @@ empty_relation-yields n rest = record { is = refl }
 empty_set-yields : (n : ℕ) (rest : List Symbol) → Yields (primary_with (below n)) (Fixed LeftBrace ∷ Fixed RightBrace ∷ rest) rest empty_set
 unfolding primary_with
 empty_set-yields n rest = record { is = rw (expected-first RightBrace rest) }
+
+-- a sign behind an operand is no list of arguments
+
+plus-no_call : (rest : List Symbol) → opens_arguments (Fixed Plus ∷ rest) ≡ false
+unfolding opens_arguments
+plus-no_call rest = refl
+
+star-no_call : (rest : List Symbol) → opens_arguments (Fixed Star ∷ rest) ≡ false
+unfolding opens_arguments
+star-no_call rest = refl
+
+optional-no_call : (rest : List Symbol) → opens_arguments (Fixed Question ∷ rest) ≡ false
+unfolding opens_arguments
+optional-no_call rest = refl
+
+inverse-no_call : (rest : List Symbol) → opens_arguments (Fixed Inverse ∷ rest) ≡ false
+unfolding opens_arguments
+inverse-no_call rest = refl
 
 -- reading a postfix expression has come to rest, with a read so far
 abbrev PostfixTo : ℕ → List Symbol → List Symbol → Term → Type 0
@@ -352,12 +393,12 @@ LevelTo zero n ts rest a = Unit {0}
 LevelTo (suc k) n ts rest a = associates_left k ≡ true → LeftTo n k ts rest a
 
 so-far : (n k : ℕ) (ts rest : List Symbol) (a : Term) → Ends k rest →
-    (((i : ℕ) → suc i < suc k → infix_at i rest ≡ None) → postfix_at rest ≡ None → LevelTo (suc k) n ts rest a) → associates_left k ≡ true → LeftTo n k ts rest a
-so-far n k ts rest a ends f h = f (λ i l. ends.none_between i (omega arith)) ends.none_behind h
+    (((i : ℕ) → suc i < suc k → infix_at i rest ≡ None) → postfix_at rest ≡ None → opens_arguments rest ≡ false → LevelTo (suc k) n ts rest a) → associates_left k ≡ true → LeftTo n k ts rest a
+so-far n k ts rest a ends f h = f (λ i l. ends.none_between i (omega arith)) ends.none_behind ends.no_call h
 
 mutual
   pub level-complete : {k n : ℕ} {ts rest : List Symbol} {a : Term} → IsLevel k n ts rest a → Ends k rest → Yields (level_with (below n) k) ts rest a
-  level-complete (level_unary {n} d) ends = level-zero n (unary-complete d ends.none_behind)
+  level-complete (level_unary {n} d) ends = level-zero n (unary-complete d ends.none_behind ends.no_call)
   level-complete (level_tighter {k} {n} {rest = rest} d) ends = level-one n k (level-complete d (ends-below (suc k) k rest (omega arith) ends)) ends
   level-complete (level_left {k} {n} {mid = mid} {rest = rest} d o e) ends =
       last-left n k
@@ -365,33 +406,38 @@ mutual
       (left-is o) (ends.none_between k (omega arith))
   level-complete (level_right {k} {n} {mid = mid} d o e) ends = two-right n k (level-complete d (right-ends o mid)) o (level-complete e ends)
 
-  left-arrives : {j n : ℕ} {ts rest : List Symbol} {a : Term} → IsLevel j n ts rest a → ((i : ℕ) → suc i < j → infix_at i rest ≡ None) → postfix_at rest ≡ None → LevelTo j n ts rest a
-  left-arrives (level_unary d) e p = tt
-  left-arrives (level_tighter {k} {n} {rest = rest} d) e p = λ h. first-left n k (level-complete d (record { none_between = λ i l. e i (omega arith); none_behind = p }))
-  left-arrives (level_left {k} {n} {mid = mid} d o b) e p = λ h.
-      next-left n k (so-far _ _ _ _ _ (left-ends o mid (level-opens b)) (left-arrives d) h) o (level-complete b (record { none_between = λ i l. e i (omega arith); none_behind = p }))
-  left-arrives (level_right d o b) e p = λ h. absurd (not-right o h)
+  left-arrives : {j n : ℕ} {ts rest : List Symbol} {a : Term} → IsLevel j n ts rest a → ((i : ℕ) → suc i < j → infix_at i rest ≡ None) → postfix_at rest ≡ None → opens_arguments rest ≡ false → LevelTo j n ts rest a
+  left-arrives (level_unary d) e p q = tt
+  left-arrives (level_tighter {k} {n} {rest = rest} d) e p q = λ h. first-left n k (level-complete d (record { none_between = λ i l. e i (omega arith); none_behind = p; no_call = q }))
+  left-arrives (level_left {k} {n} {mid = mid} d o b) e p q = λ h.
+      next-left n k (so-far _ _ _ _ _ (left-ends o mid (level-opens b)) (left-arrives d) h) o (level-complete b (record { none_between = λ i l. e i (omega arith); none_behind = p; no_call = q }))
+  left-arrives (level_right d o b) e p q = λ h. absurd (not-right o h)
 
-  unary-complete : {n : ℕ} {ts rest : List Symbol} {a : Term} → IsUnary n ts rest a → postfix_at rest ≡ None → Yields (unary_with (below n)) ts rest a
-  unary-complete (unary_complement {n} d) e = unary-tilde n (unary-complete d e)
-  unary-complete (unary_postfix {n} d) e = unary-plain n d (postfix-arrives d) e
+  unary-complete : {n : ℕ} {ts rest : List Symbol} {a : Term} → IsUnary n ts rest a → postfix_at rest ≡ None → opens_arguments rest ≡ false → Yields (unary_with (below n)) ts rest a
+  unary-complete (unary_complement {n} d) e q = unary-tilde n (unary-complete d e q)
+  unary-complete (unary_postfix {n} d) e q = unary-plain n d (postfix-arrives d q) e
 
-  postfix-arrives : {n : ℕ} {ts rest : List Symbol} {a : Term} → IsPostfix n ts rest a → PostfixTo n ts rest a
-  postfix-arrives (postfix_primary {n} d) = first-postfix n (primary-complete d)
-  postfix-arrives (postfix_plus {n} {rest = rest} d) = next-postfix n postfixes.Plus (postfix-arrives d) (plus-shows rest)
-  postfix-arrives (postfix_star {n} {rest = rest} d f) = next-postfix n postfixes.Star (postfix-arrives d) (star-shows rest f)
-  postfix-arrives (postfix_optional {n} {rest = rest} d) = next-postfix n postfixes.Optional (postfix-arrives d) (optional-shows rest)
-  postfix-arrives (postfix_inverse {n} {rest = rest} d) = next-postfix n postfixes.Inverse (postfix-arrives d) (inverse-shows rest)
+  postfix-arrives : {n : ℕ} {ts rest : List Symbol} {a : Term} → IsPostfix n ts rest a → opens_arguments rest ≡ false → PostfixTo n ts rest a
+  postfix-arrives (postfix_primary {n} d) q = first-postfix n (primary-complete d q)
+  postfix-arrives (postfix_plus {n} {rest = rest} d) q = next-postfix n postfixes.Plus (postfix-arrives d (plus-no_call rest)) (plus-shows rest)
+  postfix-arrives (postfix_star {n} {rest = rest} d f) q = next-postfix n postfixes.Star (postfix-arrives d (star-no_call rest)) (star-shows rest f)
+  postfix-arrives (postfix_optional {n} {rest = rest} d) q = next-postfix n postfixes.Optional (postfix-arrives d (optional-no_call rest)) (optional-shows rest)
+  postfix-arrives (postfix_inverse {n} {rest = rest} d) q = next-postfix n postfixes.Inverse (postfix-arrives d (inverse-no_call rest)) (inverse-shows rest)
 
-  primary-complete : {n : ℕ} {ts rest : List Symbol} {a : Term} → IsPrimary n ts rest a → Yields (primary_with (below n)) ts rest a
-  primary-complete (primary_name {n} {x} {rest}) = name-yields n x rest
-  primary-complete (primary_universe {n} {rest}) = universe-yields n rest
-  primary-complete (primary_empty_relation {n} {rest}) = empty_relation-yields n rest
-  primary-complete (primary_empty_set {n} {rest}) = empty_set-yields n rest
-  primary-complete (primary_paren {n} {rest = rest} d) = paren-yields (suc n) (enclosed-yields n LeftParen RightParen (level-complete d (stops-ends stops_paren rest)))
-  primary-complete (primary_identity {n} {rest = rest} d) = identity-yields (suc n) (enclosed-yields n LeftBracket RightBracket (level-complete d (stops-ends stops_bracket rest)))
-  primary-complete (primary_domain {n} {rest = rest} d) = domain-yields (suc n) (enclosed-yields n LeftParen RightParen (level-complete d (stops-ends stops_paren rest)))
-  primary-complete (primary_range {n} {rest = rest} d) = range-yields (suc n) (enclosed-yields n LeftParen RightParen (level-complete d (stops-ends stops_paren rest)))
+  primary-complete : {n : ℕ} {ts rest : List Symbol} {a : Term} → IsPrimary n ts rest a → opens_arguments rest ≡ false → Yields (primary_with (below n)) ts rest a
+  primary-complete (primary_name {n} {x} {rest}) q = name-yields n x rest q
+  primary-complete (primary_universe {n} {rest}) q = universe-yields n rest
+  primary-complete (primary_empty_relation {n} {rest}) q = empty_relation-yields n rest
+  primary-complete (primary_empty_set {n} {rest}) q = empty_set-yields n rest
+  primary-complete (primary_paren {n} {rest = rest} d) q = paren-yields (suc n) (enclosed-yields n LeftParen RightParen (level-complete d (stops-ends stops_paren rest)))
+  primary-complete (primary_identity {n} {rest = rest} d) q = identity-yields (suc n) (enclosed-yields n LeftBracket RightBracket (level-complete d (stops-ends stops_bracket rest)))
+  primary-complete (primary_domain {n} {rest = rest} d) q = domain-yields (suc n) (enclosed-yields n LeftParen RightParen (level-complete d (stops-ends stops_paren rest)))
+  primary-complete (primary_range {n} {rest = rest} d) q = range-yields (suc n) (enclosed-yields n LeftParen RightParen (level-complete d (stops-ends stops_paren rest)))
+  primary-complete (primary_call {n} {f = f} {rest = rest} d) q = call-yields n f (arguments-complete d [] (stops-ends stops_paren rest) (no-comma rest))
+
+  arguments-complete : {n : ℕ} {ts rest : List Symbol} {bs : Terms} → AreArguments n ts rest bs → (as' : List Term) → Ends 5 rest → after Comma rest ≡ None → Yields (arguments_from n as') ts rest (as' ++ listed bs)
+  arguments-complete (last_argument {n} d) as' ends none = last-yields n as' (level-complete d ends) none
+  arguments-complete (more_arguments {n} {mid = mid} {a = a} {bs = bs} d e) as' ends none = more-yields n as' (listed bs) (level-complete d (stops-ends stops_comma mid)) (arguments-complete e (as' ++ a ∷ []) ends none)
 
 pub one_level : (k n : ℕ) (ts : List Symbol) (a b : Term) → IsLevel k n ts [] a → IsLevel k n ts [] b → a ≡ b
 one_level k n ts a b d e =

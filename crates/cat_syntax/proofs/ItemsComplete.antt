@@ -1,23 +1,24 @@
 -- Items that are in the grammar are read.
-use Rattle.std.proofs.Common.{◌≡◌, ◌<◌, List, [], ◌∷◌, ◌++◌, length, true, false, refl, ap, sym, ◌∙◌, subst, arith, append_assoc}
+use Rattle.std.proofs.Common.{◌≡◌, ◌<◌, List, [], ◌∷◌, ◌++◌, map, length, true, false, refl, ap, sym, ◌∙◌, subst, arith, append_assoc}
 use Rattle.std.proofs.lemmas.List.{append-nil}
 use Rattle.std.specs.Prelude.{Bool, Option, Some, None, Ok}
-use Rattle.descent.specs.Reading.{match_option, ◌>>=◌, repeated}
+use Rattle.descent.specs.Reading.{repeated}
 use Rattle.cat_syntax.specs.declared.symbol.Symbol.{Symbol}
 use Rattle.cat_syntax.specs.declared.symbol.Symbol.TheVariants.{Fixed, Name, Quoted}
 use Rattle.cat_syntax.specs.declared.symbol.Terminal.{Terminal}
-use Rattle.cat_syntax.specs.declared.symbol.Terminal.TheVariants.{Let, Rec, And, Acyclic, Irreflexive, Empty, As, Flag, Show, Unshow, Include, Comma, Equals, Tilde}
+use Rattle.cat_syntax.specs.declared.symbol.Terminal.TheVariants.{Let, Rec, And, Acyclic, Irreflexive, Empty, As, Flag, Show, Unshow, Include, RightParen, Comma, Equals, Tilde}
 use Rattle.cat_tree.specs.declared.tree.CheckKind.{CheckKind}
-use Rattle.cat_tree.specs.Tree.{Word, Term, Bound, Shown, Clause, bind, bind_recursively, check, include, show, unshow, File, is_bound}
+use Rattle.cat_tree.specs.Tree.{Word, Term, Defined, Bound, Shown, Clause, bind, bind_recursively, check, include, show, unshow, File}
 use Rattle.cat_syntax.specs.Symbols.{is_name}
-use Rattle.cat_syntax.specs.Items.{IsExpression, AreSeparated, one, more, IsOptional, absent, present, IsNamed, named, IsAlias, no_alias, alias, IsBinding, binding, IsElement, element, Checks, checks_acyclic, checks_irreflexive, checks_empty, BindOnce, IsItem, item_let, item_rec, item_check, item_include, item_show, item_unshow, AreItems, no_items, more_items, IsFile, untitled, title_name, title_quoted}
-use Rattle.cat_syntax.specs.Reading.{Reading, terminal_eq, after, name_at, expression_at, push_item, separated, alias_at, repeats, new_name_at, binding_at, group_at, element_at, optional_at, kind_at, check_with, check_at, quoted_at, item_at, unless_end, title_at, items_at, file_at, cut}
+use Rattle.cat_syntax.specs.Items.{IsExpression, AreSeparated, one, more, IsOptional, absent, present, IsNamed, named, IsAlias, no_alias, alias, is_among, AreOnce, AreParameters, no_parameters, with_parameters, IsDefinition, definition, names_defined, names_bound, IsBinding, binding, IsElement, element, Checks, checks_acyclic, checks_irreflexive, checks_empty, IsItem, item_let, item_rec, item_check, item_include, item_show, item_unshow, AreItems, no_items, more_items, IsFile, untitled, title_name, title_quoted}
+use Rattle.cat_syntax.specs.Reading.{Reading, terminal_eq, after, name_at, expression_at, push_item, separated, alias_at, next_name, repeats, begins_call, opens_arguments, name_unless, value_name_unless, new_name_at, parameters_at, definition_at, binding_at, group_at, element_at, optional_at, kind_at, check_with, check_at, quoted_at, item_at, unless_end, title_at, items_at, file_at, cut}
 use Rattle.cat_syntax.proofs.Symbols.{after-first, expected-first}
 use Rattle.cat_syntax.proofs.Names.{is_name-of}
-use Rattle.cat_syntax.proofs.Once.{once-fresh}
+use Rattle.cat_syntax.proofs.Once.{once-fresh, named-fresh}
+use Rattle.cat_syntax.proofs.Separated.{EachFits, separated-complete, each-any}
 use Rattle.cat_syntax.proofs.Complete.{Ends, Stops, stops_and, stops_as, stops_comma, stops_let, stops_flag, stops_tilde, stops_acyclic, stops_irreflexive, stops_empty, stops_include, stops_show, stops_unshow, stops-ends, nothing-ends, level-complete}
 use Rattle.cat_syntax.proofs.ItemsSound.{item-shorter}
-use Rattle.cat_syntax.proofs.Lists.{bindings_more, elements_more, names_more, items_more}
+use Rattle.cat_syntax.proofs.Lists.{definitions_more, new_names_more, bindings_more, elements_more, names_more, items_more}
 
 -- what begins an item
 
@@ -154,14 +155,21 @@ expression-complete : (ts rest : List Symbol) (a : Term) → IsExpression ts res
 unfolding expression_at
 expression-complete ts rest a d h = (level-complete d h).is
 
-new_name-first : (bs : List Bound) (x : Word) (ts : List Symbol) → is_bound bs x ≡ false → new_name_at bs (Name x ∷ ts) ≡ Ok (x, ts)
-unfolding new_name_at repeats name_at
-new_name-first bs x ts h = rw h
+new_name-first : (xs : List Word) (x : Word) (ts : List Symbol) → is_among xs x ≡ false → new_name_at xs (Name x ∷ ts) ≡ Ok (x, ts)
+unfolding name_unless next_name name_at
+new_name-first xs x ts h = rw h
 
-binding-complete : (bs : List Bound) (ts rest : List Symbol) (b : Bound) → IsBinding ts rest b → is_bound bs b.name ≡ false → Ends 5 rest → binding_at bs ts ≡ Ok (b, rest)
+value_name-first : (xs : List Word) (x : Word) (ts : List Symbol) → is_among xs x ≡ false → value_name_unless (repeats xs (Name x ∷ Fixed Equals ∷ ts)) (Name x ∷ Fixed Equals ∷ ts) ≡ Ok (x, Fixed Equals ∷ ts)
+unfolding value_name_unless next_name begins_call opens_arguments name_at
+value_name-first xs x ts h = rw h
+
+new_name-complete : (xs : List Word) (ts rest : List Symbol) (x : Word) → IsNamed ts rest x → is_among xs x ≡ false → new_name_at xs ts ≡ Ok (x, rest)
+new_name-complete xs ts rest x named h = new_name-first xs x rest h
+
+binding-complete : (bs : List Bound) (ts rest : List Symbol) (b : Bound) → IsBinding ts rest b → is_among (names_bound bs) b.name ≡ false → Ends 5 rest → binding_at bs ts ≡ Ok (b, rest)
 unfolding binding_at
 binding-complete bs ts rest b (binding {x = x} {ts = us} {a = a} d) h ends =
-    rw (new_name-first bs x (Fixed Equals ∷ us) h, expected-first Equals us, expression-complete us rest a d ends)
+    rw (value_name-first (names_bound bs) x us h, expected-first Equals us, expression-complete us rest a d ends)
 
 -- what may follow an element of a show
 record EndsElement (rest : List Symbol) : Type 0 where
@@ -175,37 +183,43 @@ element-complete ts rest b (element {mid = mid} {a = a} {x = x} d e) h =
 
 -- lists
 
-abbrev EachFits : {A : Type 0} → (List A → A → Type 0) → List A → List A → Type 0
-EachFits Fits xs [] = Unit {0}
-EachFits Fits xs (y ∷ ys) = Fits xs y × EachFits Fits (xs ++ y ∷ []) ys
+module _ {A : Type 0} (name : A → Word) where
+  once-each : (bs cs : List A) → AreOnce (map name (bs ++ cs)) → EachFits (λ ds b. is_among (map name ds) (name b) ≡ false) bs cs
+  once-each bs [] k = tt
+  once-each bs (c ∷ cs) k = (named-fresh name bs c cs k, once-each (bs ++ c ∷ []) cs (subst (λ l. AreOnce (map name l)) (sym (append_assoc bs (c ∷ []) cs)) k))
 
-module _ {A : Type 0} (separator : Terminal) (Is : List Symbol → List Symbol → A → Type 0) (item : List A → List Symbol → Reading A) (Fits : List A → A → Type 0) (Good : List Symbol → Type 0)
-    (good : (mid : List Symbol) → Good (Fixed separator ∷ mid))
-    (complete : (xs : List A) (ts rest : List Symbol) (x : A) → Is ts rest x → Fits xs x → Good rest → item xs ts ≡ Ok (x, rest))
-    (turn : (xs : List A) (ts : List Symbol) → repeated cut (after separator) (push_item item) xs ts ≡ match_option (after separator ts) (Ok (xs, ts)) (λ x. push_item item x.0 xs x.1 >>= λ y. repeated cut (after separator) (push_item item) y.0 y.1)) where
-  arrives : (xs : List A) (ts rest : List Symbol) (ys : List A) → AreSeparated separator Is ts rest ys → EachFits Fits xs ys → Good rest → after separator rest ≡ None →
-      (push_item item tt xs ts >>= λ y. repeated cut (after separator) (push_item item) y.0 y.1) ≡ Ok (xs ++ ys, rest)
-  arrives xs ts rest ys (one {x = x} d) f g none = rw (complete xs ts rest x d f.0 g, turn (xs ++ x ∷ []) rest, none)
-  arrives xs ts rest ys (more {mid = mid} {x = x} {xs = zs} d ds) f g none =
-      rw (complete xs ts (Fixed separator ∷ mid) x d f.0 (good mid), turn (xs ++ x ∷ []) (Fixed separator ∷ mid), after-first separator mid)
-      (arrives (xs ++ x ∷ []) mid rest zs ds f.1 g none ∙ ap (λ (l : List A). Ok (l, rest)) (append_assoc xs (x ∷ []) zs))
+each-fresh : (xs ys : List Word) → AreOnce (xs ++ ys) → EachFits (λ zs y. is_among zs y ≡ false) xs ys
+each-fresh xs [] k = tt
+each-fresh xs (y ∷ ys) k = (once-fresh xs y ys k, each-fresh (xs ++ y ∷ []) ys (subst AreOnce (sym (append_assoc xs (y ∷ []) ys)) k))
 
-  separated-complete : (ts rest : List Symbol) (ys : List A) → AreSeparated separator Is ts rest ys → EachFits Fits [] ys → Good rest → after separator rest ≡ None → separated separator item ts ≡ Ok (ys, rest)
-  unfolding separated
-  separated-complete ts rest ys d f g none = arrives [] ts rest ys d f g none
+no-comma : (rest : List Symbol) → after Comma (Fixed RightParen ∷ rest) ≡ None
+unfolding after
+no-comma rest = refl
 
-once-each : (bs cs : List Bound) → BindOnce (bs ++ cs) → EachFits (λ ds b. is_bound ds b.name ≡ false) bs cs
-once-each bs [] k = tt
-once-each bs (c ∷ cs) k = (once-fresh bs c cs k, once-each (bs ++ c ∷ []) cs (subst BindOnce (sym (append_assoc bs (c ∷ []) cs)) k))
+new_names-complete : (ts rest : List Symbol) (xs : List Word) → AreSeparated Comma IsNamed ts (Fixed RightParen ∷ rest) xs → AreOnce xs → separated Comma new_name_at ts ≡ Ok (xs, Fixed RightParen ∷ rest)
+new_names-complete ts rest xs d k =
+    separated-complete Comma IsNamed new_name_at (λ ys x. is_among ys x ≡ false) (λ _. Unit {0}) (λ _. tt) (λ ys us back x i h _. new_name-complete ys us back x i h) new_names_more
+    ts (Fixed RightParen ∷ rest) xs d (each-fresh [] xs k) tt (no-comma rest)
 
-each-any : {A : Type 0} (xs ys : List A) → EachFits (λ _ _. Unit {0}) xs ys
-each-any xs [] = tt
-each-any xs (y ∷ ys) = (tt, each-any (xs ++ y ∷ []) ys)
+parameters-complete : (ts us : List Symbol) (xs : List Word) → AreParameters ts (Fixed Equals ∷ us) xs → parameters_at ts ≡ Ok (xs, Fixed Equals ∷ us)
+unfolding parameters_at after
+parameters-complete ts us xs no_parameters = refl
+parameters-complete ts us xs (with_parameters {ts = vs} d k) = rw (new_names-complete vs (Fixed Equals ∷ us) xs d k, expected-first RightParen (Fixed Equals ∷ us))
 
-bindings-complete : (ts rest : List Symbol) (bs : List Bound) → AreSeparated And IsBinding ts rest bs → BindOnce bs → Follows rest → separated And binding_at ts ≡ Ok (bs, rest)
+definition-complete : (ds : List Defined) (ts rest : List Symbol) (d : Defined) → IsDefinition ts rest d → is_among (names_defined ds) d.name ≡ false → Ends 5 rest → definition_at ds ts ≡ Ok (d, rest)
+unfolding definition_at
+definition-complete ds ts rest d (definition {x = x} {ts = vs} {us = us} {ps = ps} {a = a} k e) h ends =
+    rw (new_name-first (names_defined ds) x vs h, parameters-complete vs us ps k, expected-first Equals us, expression-complete us rest a e ends)
+
+definitions-complete : (ts rest : List Symbol) (ds : List Defined) → AreSeparated And IsDefinition ts rest ds → AreOnce (names_defined ds) → Follows rest → separated And definition_at ts ≡ Ok (ds, rest)
+definitions-complete ts rest ds d k f =
+    separated-complete And IsDefinition definition_at (λ cs c. is_among (names_defined cs) c.name ≡ false) (λ l. Ends 5 l) (stops-ends stops_and) definition-complete definitions_more
+    ts rest ds d (once-each (λ c. c.name) [] ds k) (follows-ends f) (follows-no f goes_and)
+
+bindings-complete : (ts rest : List Symbol) (bs : List Bound) → AreSeparated And IsBinding ts rest bs → AreOnce (names_bound bs) → Follows rest → separated And binding_at ts ≡ Ok (bs, rest)
 bindings-complete ts rest bs d k f =
-    separated-complete And IsBinding binding_at (λ ds b. is_bound ds b.name ≡ false) (λ l. Ends 5 l) (stops-ends stops_and) binding-complete bindings_more
-    ts rest bs d (once-each [] bs k) (follows-ends f) (follows-no f goes_and)
+    separated-complete And IsBinding binding_at (λ ds b. is_among (names_bound ds) b.name ≡ false) (λ l. Ends 5 l) (stops-ends stops_and) binding-complete bindings_more
+    ts rest bs d (once-each (λ b. b.name) [] bs k) (follows-ends f) (follows-no f goes_and)
 
 comma-ends : (mid : List Symbol) → EndsElement (Fixed Comma ∷ mid)
 unfolding after
@@ -223,13 +237,13 @@ names-complete ts rest xs d f =
 
 -- items
 
-binding-no_rec : (ts rest : List Symbol) (b : Bound) → IsBinding ts rest b → after Rec ts ≡ None
+definition-no_rec : (ts rest : List Symbol) (d : Defined) → IsDefinition ts rest d → after Rec ts ≡ None
 unfolding after
-binding-no_rec ts rest b (binding d) = refl
+definition-no_rec ts rest d (definition k e) = refl
 
-bindings-no_rec : (ts rest : List Symbol) (bs : List Bound) → AreSeparated And IsBinding ts rest bs → after Rec ts ≡ None
-bindings-no_rec ts rest bs (one {x = b} d) = binding-no_rec ts rest b d
-bindings-no_rec ts rest bs (more {mid = mid} {x = b} d ds) = binding-no_rec ts (Fixed And ∷ mid) b d
+definitions-no_rec : (ts rest : List Symbol) (ds : List Defined) → AreSeparated And IsDefinition ts rest ds → after Rec ts ≡ None
+definitions-no_rec ts rest ds (one {x = d} e) = definition-no_rec ts rest d e
+definitions-no_rec ts rest ds (more {mid = mid} {x = d} e es) = definition-no_rec ts (Fixed And ∷ mid) d e
 
 optional-complete : (t : Terminal) (ts rest : List Symbol) (b : Bool) → IsOptional t ts rest b → after t rest ≡ None → ◌≡◌ {A = Bool × List Symbol} (optional_at t ts) (b, rest)
 unfolding optional_at
@@ -299,16 +313,16 @@ quoted-first : (x : Word) (rest : List Symbol) → is_name x ≡ true → quoted
 unfolding quoted_at
 quoted-first x rest h = rw h
 
-group-plain : (ts rest : List Symbol) (bs : List Bound) → after Rec ts ≡ None → separated And binding_at ts ≡ Ok (bs, rest) → group_at ts ≡ Ok (bind bs, rest)
+group-plain : (ts rest : List Symbol) (ds : List Defined) → after Rec ts ≡ None → separated And definition_at ts ≡ Ok (ds, rest) → group_at ts ≡ Ok (bind ds, rest)
 unfolding group_at
-group-plain ts rest bs h e = rw (h, e)
+group-plain ts rest ds h e = rw (h, e)
 
 group-rec : (ts rest : List Symbol) (bs : List Bound) → separated And binding_at ts ≡ Ok (bs, rest) → group_at (Fixed Rec ∷ ts) ≡ Ok (bind_recursively bs, rest)
 unfolding group_at
 group-rec ts rest bs e = rw (after-first Rec ts, e)
 
 item-complete : (ts rest : List Symbol) (c : Clause) → IsItem ts rest c → Follows rest → item_at ts ≡ Ok (c, rest)
-item-complete ts rest c (item_let {ts = us} {bs = bs} d k) f = let-first us rest c (group-plain us rest bs (bindings-no_rec us rest bs d) (bindings-complete us rest bs d k f))
+item-complete ts rest c (item_let {ts = us} {ds = ds} d k) f = let-first us rest c (group-plain us rest ds (definitions-no_rec us rest ds d) (definitions-complete us rest ds d k f))
 item-complete ts rest c (item_rec {ts = us} {bs = bs} d k) f = let-first (Fixed Rec ∷ us) rest c (group-rec us rest bs (bindings-complete us rest bs d k f))
 item-complete ts rest c (item_check {us = us} {vs = vs} {ws = ws} {flag = flag} {negated = negated} {t = t} {kind = kind} {a = a} {x = x} o n k d e) f =
     opened-check (optional-opens Flag check_flag ts us flag o (optional-opens Tilde check_tilde us (Fixed t ∷ vs) negated n (opens_check (kind-starts k)))) ∙

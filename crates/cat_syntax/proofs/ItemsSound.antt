@@ -7,54 +7,21 @@ use Rattle.descent.proofs.Turns.{repeated-keeps, repeated-stops}
 use Rattle.cat_syntax.specs.declared.symbol.Symbol.{Symbol}
 use Rattle.cat_syntax.specs.declared.symbol.Symbol.TheVariants.{Fixed, Name, Quoted}
 use Rattle.cat_syntax.specs.declared.symbol.Terminal.{Terminal}
-use Rattle.cat_syntax.specs.declared.symbol.Terminal.TheVariants.{Let, Rec, And, Acyclic, Irreflexive, Empty, As, Flag, Show, Unshow, Include, Comma, Equals, Tilde}
+use Rattle.cat_syntax.specs.declared.symbol.Terminal.TheVariants.{Let, Rec, And, Acyclic, Irreflexive, Empty, As, Flag, Show, Unshow, Include, LeftParen, RightParen, Comma, Equals, Tilde}
 use Rattle.cat_tree.specs.declared.tree.CheckKind.{CheckKind}
-use Rattle.cat_tree.specs.Tree.{Word, Bound, Shown, Clause, include, File, is_bound}
+use Rattle.cat_tree.specs.Tree.{Word, Defined, Bound, Shown, Clause, include, File}
 use Rattle.cat_syntax.specs.Symbols.{is_name}
-use Rattle.cat_syntax.specs.Items.{IsExpression, AreSeparated, one, more, IsOptional, absent, present, IsNamed, named, IsAlias, no_alias, alias, IsBinding, binding, IsElement, element, Checks, checks_acyclic, checks_irreflexive, checks_empty, BindOnce, IsItem, item_let, item_rec, item_check, item_include, item_show, item_unshow, AreItems, no_items, more_items, IsFile, untitled, title_name, title_quoted}
-use Rattle.cat_syntax.specs.Reading.{Reading, after, expected, name_at, expression_at, push_item, separated, alias_at, repeats, new_name_at, binding_at, group_at, element_at, optional_at, kind_at, check_with, check_at, quoted_at, item_at, unless_end, title_at, items_at, file_at, cut}
+use Rattle.cat_syntax.specs.Items.{IsExpression, AreSeparated, IsOptional, absent, present, IsNamed, named, IsAlias, no_alias, alias, is_among, AreOnce, AreParameters, no_parameters, with_parameters, IsDefinition, definition, names_defined, names_bound, IsBinding, binding, IsElement, element, Checks, checks_acyclic, checks_irreflexive, checks_empty, IsItem, item_let, item_rec, item_check, item_include, item_show, item_unshow, AreItems, no_items, more_items, IsFile, untitled, title_name, title_quoted}
+use Rattle.cat_syntax.specs.Reading.{after, expected, name_at, expression_at, push_item, separated, alias_at, next_name, repeats, begins_call, name_unless, value_name_unless, new_name_at, parameters_at, definition_at, binding_at, group_at, element_at, optional_at, kind_at, check_with, check_at, quoted_at, item_at, unless_end, title_at, items_at, file_at, cut}
 use Rattle.cat_syntax.proofs.Symbols.{after-some, expected-ok, name-ok}
 use Rattle.cat_syntax.proofs.Names.{name_is}
-use Rattle.cat_syntax.proofs.Once.{once-push}
+use Rattle.cat_syntax.proofs.Once.{once-push, named-push}
+use Rattle.cat_syntax.proofs.Separated.{separated-shorter, separated-sound}
 use Rattle.cat_syntax.proofs.Sound.{Sound, level-shorter, level_is}
 
 pub expression-sound : Sound expression_at IsExpression
 unfolding expression_at
 expression-sound ts rest a e = level_is 64 5 ts rest a e
-
--- lists
-
-pub separated-shorter : {A : Type 0} (separator : Terminal) (Is : List Symbol → List Symbol → A → Type 0) →
-    ((ts rest : List Symbol) (x : A) → Is ts rest x → length rest < length ts) →
-    (ts rest : List Symbol) (xs : List A) → AreSeparated separator Is ts rest xs → length rest < length ts
-separated-shorter separator Is shorter ts rest xs (one {x = x} d) = shorter ts rest x d
-separated-shorter separator Is shorter ts rest xs (more {mid = mid} {x = x} {xs = ys} d ds) =
-    omega (arith, shorter ts (Fixed separator ∷ mid) x d, separated-shorter separator Is shorter mid rest ys ds)
-
-separated-join : {A : Type 0} (separator : Terminal) (Is : List Symbol → List Symbol → A → Type 0) (ts end mid rest : List Symbol) (xs ys : List A) →
-    AreSeparated separator Is ts end xs → end ≡ Fixed separator ∷ mid → AreSeparated separator Is mid rest ys → AreSeparated separator Is ts rest (xs ++ ys)
-separated-join separator Is ts end mid rest xs ys (one {x = x} d) e es = more (subst (λ l. Is ts l x) e d) es
-separated-join separator Is ts end mid rest xs ys (more {mid = us} {xs = zs} d ds) e es = more d (separated-join separator Is us end mid rest zs ys ds e es)
-
--- Kept: what holds of the list so far
-module _ {A : Type 0} (separator : Terminal) (Is : List Symbol → List Symbol → A → Type 0) (item : List A → List Symbol → Reading A) (Kept : List A → Type 0) (kept : Kept [])
-    (sound : (xs : List A) (ts rest : List Symbol) (x : A) → Kept xs → item xs ts ≡ Ok (x, rest) → Is ts rest x × Kept (xs ++ x ∷ [])) where
-  push-sound : (xs : List A) (ts rest : List Symbol) (ys : List A) → Kept xs → push_item item tt xs ts ≡ Ok (ys, rest) → (x : A) × (ys ≡ xs ++ x ∷ []) × Is ts rest x × Kept ys
-  push-sound xs ts rest ys k e =
-      let y = bind_ok (item xs ts) _ _ e in
-      let s = sound xs ts y.0.1 y.0.0 k y.1 in
-      moved (λ l zs. (x : A) × (zs ≡ xs ++ x ∷ []) × Is ts l x × Kept zs) y.2 (y.0.0, refl, s.0, s.1)
-
-  pub separated-sound : (ts rest : List Symbol) (xs : List A) → separated separator item ts ≡ Ok (xs, rest) → AreSeparated separator Is ts rest xs × Kept xs
-  unfolding separated
-  separated-sound ts rest xs e =
-      let x = bind_ok (push_item item tt [] ts) _ _ e in
-      let p = push-sound [] ts x.0.1 x.0.0 kept x.1 in
-      repeated-keeps cut (after separator) (push_item item) (λ l ys. AreSeparated separator Is ts l ys × Kept ys)
-      (λ o us mid back ys zs d was f.
-      let q = push-sound ys mid back zs d.1 f in
-      (subst (λ (l : List A). AreSeparated separator Is ts back l) (sym q.1) (separated-join separator Is ts us mid back ys (q.0 ∷ []) d.0 (after-some separator us mid o was) (one q.2)), q.3))
-      x.0.0 x.0.1 xs rest (subst (λ (l : List A). AreSeparated separator Is ts x.0.1 l) (sym p.1) (one p.2), p.3) x.2
 
 -- parts of items
 
@@ -73,28 +40,77 @@ alias-sound ts rest x e =
           (moved (λ l t. IsAlias (Fixed As ∷ Name z.0.0 ∷ z.0.1) l t) z.2 alias))
     ]
 
-pub new_name-sound : (bs : List Bound) (ts rest : List Symbol) (x : Word) → new_name_at bs ts ≡ Ok (x, rest) → (ts ≡ Name x ∷ rest) × (is_bound bs x ≡ false)
-unfolding new_name_at repeats
-new_name-sound bs ts rest x e =
-    elim (chosen (repeats bs ts) _ _ _ e) [
+pub new_name-sound : (xs : List Word) (ts rest : List Symbol) (x : Word) → new_name_at xs ts ≡ Ok (x, rest) → (ts ≡ Name x ∷ rest) × (is_among xs x ≡ false)
+unfolding name_unless next_name
+new_name-sound xs ts rest x e =
+    elim (chosen (repeats xs ts) _ _ _ e) [
       | inl h ↦ absurd (cc)
       | inr h ↦
           let same : ts ≡ Name x ∷ rest = name-ok ts rest x h.1 in
-          (same, subst (λ l. repeats bs l ≡ false) same h.0)
+          (same, subst (λ l. repeats xs l ≡ false) same h.0)
     ]
 
-binding-sound : (bs : List Bound) (ts rest : List Symbol) (b : Bound) → BindOnce bs → binding_at bs ts ≡ Ok (b, rest) → IsBinding ts rest b × BindOnce (bs ++ b ∷ [])
+pub value_name-sound : (xs : List Word) (ts rest : List Symbol) (x : Word) → value_name_unless (repeats xs ts) ts ≡ Ok (x, rest) → (ts ≡ Name x ∷ rest) × (is_among xs x ≡ false)
+unfolding value_name_unless next_name
+value_name-sound xs ts rest x e =
+    elim (chosen (repeats xs ts) _ _ _ e) [
+      | inl h ↦ absurd (cc)
+      | inr h ↦ elim (chosen (begins_call ts) _ _ _ h.1) [
+        | inl k ↦ absurd (cc)
+        | inr k ↦
+            let same : ts ≡ Name x ∷ rest = name-ok ts rest x k.1 in
+            (same, subst (λ l. repeats xs l ≡ false) same h.0)
+      ]
+    ]
+
+-- one more name, where it doesn't stand already
+new_name-named : (xs : List Word) (ts rest : List Symbol) (x : Word) → AreOnce xs → new_name_at xs ts ≡ Ok (x, rest) → IsNamed ts rest x × AreOnce (xs ++ x ∷ [])
+new_name-named xs ts rest x k e =
+    let n = new_name-sound xs ts rest x e in
+    (subst (λ l. IsNamed l rest x) (sym n.0) named, once-push xs x k n.1)
+
+pub parameters-sound : Sound parameters_at AreParameters
+unfolding parameters_at
+parameters-sound ts rest xs e =
+    elim (cases_of (after LeftParen ts) _ _ _ e) [
+      | inl s ↦ moved (λ l t. AreParameters ts l t) s.1 no_parameters
+      | inr (y, was, f) ↦
+          let x = bind_ok (separated Comma new_name_at y.1) _ _ f in
+          let z = bind_ok (expected RightParen x.0.1) _ _ x.2 in
+          let d = separated-sound Comma IsNamed new_name_at AreOnce tt new_name-named y.1 x.0.1 x.0.0 x.1 in
+          subst (λ l. AreParameters l rest xs) (sym (after-some LeftParen ts y.1 y.0 was))
+          (moved (λ l t. AreParameters (Fixed LeftParen ∷ y.1) l t) z.2
+          (with_parameters (subst (λ l. AreSeparated Comma IsNamed y.1 l x.0.0) (expected-ok RightParen x.0.1 z.0.1 z.0.0 z.1) d.0) d.1))
+    ]
+
+definition-sound : (ds : List Defined) (ts rest : List Symbol) (d : Defined) → AreOnce (names_defined ds) → definition_at ds ts ≡ Ok (d, rest) → IsDefinition ts rest d × AreOnce (names_defined (ds ++ d ∷ []))
+unfolding definition_at
+definition-sound ds ts rest d k e =
+    let x = bind_ok (new_name_at (names_defined ds) ts) _ _ e in
+    let ps = bind_ok (parameters_at x.0.1) _ _ x.2 in
+    let y = bind_ok (expected Equals ps.0.1) _ _ ps.2 in
+    let a = bind_ok (expression_at y.0.1) _ _ y.2 in
+    let n = new_name-sound (names_defined ds) ts x.0.1 x.0.0 x.1 in
+    let is : Defined = record { name = x.0.0; parameters = ps.0.0; value = a.0.0 } in
+    moved (λ l c. IsDefinition ts l c × AreOnce (names_defined (ds ++ c ∷ []))) a.2 (
+      subst (λ l. IsDefinition l a.0.1 is) (sym n.0)
+          (definition (subst (λ l. AreParameters x.0.1 l ps.0.0) (expected-ok Equals ps.0.1 y.0.1 y.0.0 y.1) (parameters-sound x.0.1 ps.0.1 ps.0.0 ps.1)) (expression-sound y.0.1 a.0.1 a.0.0 a.1)),
+      named-push (λ c. c.name) ds is k n.1,
+    )
+
+binding-sound : (bs : List Bound) (ts rest : List Symbol) (b : Bound) → AreOnce (names_bound bs) → binding_at bs ts ≡ Ok (b, rest) → IsBinding ts rest b × AreOnce (names_bound (bs ++ b ∷ []))
 unfolding binding_at
 binding-sound bs ts rest b k e =
-    let x = bind_ok (new_name_at bs ts) _ _ e in
+    let x = bind_ok (value_name_unless (repeats (names_bound bs) ts) ts) _ _ e in
     let y = bind_ok (expected Equals x.0.1) _ _ x.2 in
     let a = bind_ok (expression_at y.0.1) _ _ y.2 in
-    let n = new_name-sound bs ts x.0.1 x.0.0 x.1 in
-    moved (λ l c. IsBinding ts l c × BindOnce (bs ++ c ∷ [])) a.2 (
-      subst (λ l. IsBinding l a.0.1 (record { name = x.0.0; value = a.0.0 })) (sym n.0)
-          (subst (λ l. IsBinding (Name x.0.0 ∷ l) a.0.1 (record { name = x.0.0; value = a.0.0 })) (sym (expected-ok Equals x.0.1 y.0.1 y.0.0 y.1))
+    let n = value_name-sound (names_bound bs) ts x.0.1 x.0.0 x.1 in
+    let is : Bound = record { name = x.0.0; value = a.0.0 } in
+    moved (λ l c. IsBinding ts l c × AreOnce (names_bound (bs ++ c ∷ []))) a.2 (
+      subst (λ l. IsBinding l a.0.1 is) (sym n.0)
+          (subst (λ l. IsBinding (Name x.0.0 ∷ l) a.0.1 is) (sym (expected-ok Equals x.0.1 y.0.1 y.0.0 y.1))
           (binding (expression-sound y.0.1 a.0.1 a.0.0 a.1))),
-      once-push bs (record { name = x.0.0; value = a.0.0 }) k n.1,
+      named-push (λ c. c.name) bs is k n.1,
     )
 
 pub element-sound : Sound element_at IsElement
@@ -104,8 +120,11 @@ element-sound ts rest b e =
     let x = bind_ok (alias_at a.0.1) _ _ a.2 in
     moved (λ l c. IsElement ts l c) x.2 (element (expression-sound ts a.0.1 a.0.0 a.1) (alias-sound a.0.1 x.0.1 x.0.0 x.1))
 
-pub bindings-sound : (ts rest : List Symbol) (bs : List Bound) → separated And binding_at ts ≡ Ok (bs, rest) → AreSeparated And IsBinding ts rest bs × BindOnce bs
-bindings-sound = separated-sound And IsBinding binding_at BindOnce tt binding-sound
+definitions-sound : (ts rest : List Symbol) (ds : List Defined) → separated And definition_at ts ≡ Ok (ds, rest) → AreSeparated And IsDefinition ts rest ds × AreOnce (names_defined ds)
+definitions-sound = separated-sound And IsDefinition definition_at (λ ds. AreOnce (names_defined ds)) tt definition-sound
+
+bindings-sound : (ts rest : List Symbol) (bs : List Bound) → separated And binding_at ts ≡ Ok (bs, rest) → AreSeparated And IsBinding ts rest bs × AreOnce (names_bound bs)
+bindings-sound = separated-sound And IsBinding binding_at (λ bs. AreOnce (names_bound bs)) tt binding-sound
 
 elements-sound : (ts rest : List Symbol) (es : List Shown) → separated Comma (λ _. element_at) ts ≡ Ok (es, rest) → AreSeparated Comma IsElement ts rest es
 elements-sound ts rest es e = (separated-sound Comma IsElement (λ _. element_at) (λ _. Unit {0}) tt (λ xs us back x k f. (element-sound us back x f, tt)) ts rest es e).0
@@ -120,8 +139,8 @@ unfolding group_at
 group-sound ts rest c e =
     elim (cases_of (after Rec ts) _ _ _ e) [
       | inl s ↦
-          let x = bind_ok (separated And binding_at ts) _ _ s.1 in
-          let d = bindings-sound ts x.0.1 x.0.0 x.1 in
+          let x = bind_ok (separated And definition_at ts) _ _ s.1 in
+          let d = definitions-sound ts x.0.1 x.0.0 x.1 in
           moved (λ l t. IsItem (Fixed Let ∷ ts) l t) x.2 (item_let d.0 d.1)
       | inr (y, was, f) ↦
           let x = bind_ok (separated And binding_at y.1) _ _ f in
@@ -206,6 +225,13 @@ optional-shorter t ts rest b present = omega arith
 pub named-shorter : (ts rest : List Symbol) (x : Word) → IsNamed ts rest x → length rest < length ts
 named-shorter ts rest x named = omega arith
 
+pub parameters-shorter : (ts rest : List Symbol) (xs : List Word) → AreParameters ts rest xs → length rest ≤ length ts
+parameters-shorter ts rest xs no_parameters = omega arith
+parameters-shorter ts rest xs (with_parameters {ts = us} d o) = omega (arith, separated-shorter Comma IsNamed named-shorter us (Fixed RightParen ∷ rest) xs d)
+
+pub definition-shorter : (ts rest : List Symbol) (d : Defined) → IsDefinition ts rest d → length rest < length ts
+definition-shorter ts rest d (definition {ts = us} {us = vs} {ps = ps} h k) = omega (arith, parameters-shorter us (Fixed Equals ∷ vs) ps h, level-shorter k)
+
 pub binding-shorter : (ts rest : List Symbol) (b : Bound) → IsBinding ts rest b → length rest < length ts
 binding-shorter ts rest b (binding d) = omega (arith, level-shorter d)
 
@@ -213,7 +239,7 @@ pub element-shorter : (ts rest : List Symbol) (b : Shown) → IsElement ts rest 
 element-shorter ts rest b (element {mid = mid} {x = x} d e) = omega (arith, level-shorter d, alias-shorter mid rest x e)
 
 pub item-shorter : (ts rest : List Symbol) (c : Clause) → IsItem ts rest c → length rest < length ts
-item-shorter ts rest c (item_let {ts = us} {bs = bs} d o) = omega (arith, separated-shorter And IsBinding binding-shorter us rest bs d)
+item-shorter ts rest c (item_let {ts = us} {ds = ds} d o) = omega (arith, separated-shorter And IsDefinition definition-shorter us rest ds d)
 item-shorter ts rest c (item_rec {ts = us} {bs = bs} d o) = omega (arith, separated-shorter And IsBinding binding-shorter us rest bs d)
 item-shorter ts rest c (item_check {us = us} {vs = vs} {ws = ws} {flag = flag} {negated = negated} {t = t} {x = x} f n k d e) =
     omega (arith, optional-shorter Flag ts us flag f, optional-shorter Tilde us (Fixed t ∷ vs) negated n, level-shorter d, alias-shorter ws rest x e)

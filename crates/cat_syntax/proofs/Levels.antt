@@ -1,22 +1,25 @@
 -- What the loops and the recursion of the levels use.
+use Rattle.std.proofs.lemmas.List.{map-append}
 use Rattle.std.proofs.Common.{◌≡◌, ◌∙◌, ℕ, zero, suc, ◌<◌, ◌≤◌, List, [], ◌∷◌, ◌++◌, map, length, arith, ap, sym, refl, inl, inr}
-use Rattle.std.specs.Prelude.{Some, None, Ok, Err}
+use Rattle.std.specs.Prelude.{Some, None, Ok, Err, if◌then◌else◌}
 use Rattle.cat_syntax.specs.declared.symbol.Terminal.{Terminal}
-use Rattle.cat_syntax.specs.declared.symbol.Terminal.TheVariants.{Domain, Range, LeftParen, RightParen, LeftBracket}
+use Rattle.cat_syntax.specs.declared.symbol.Terminal.TheVariants.{Domain, Range, LeftParen, RightParen, LeftBracket, Comma}
 use Rattle.descent.specs.Reading.{required, Look, match_option, ◌>>=◌, repeated}
 use Rattle.descent.proofs.Tools.{required_ok, bind_ok, moved, moved_look, none_or_some, ok_or_err}
 use Rattle.descent.proofs.Turns.{repeated-more}
 use Rattle.cat_tree.specs.declared.node.Infix.{Infix}
 use Rattle.cat_syntax.specs.declared.operator.Enclosure.{Enclosure}
 use Rattle.cat_syntax.specs.declared.operator.Postfix.{Postfix}
-use Rattle.cat_syntax.specs.declared.syntax_fault.SyntaxFault.TheVariants.{Unexpected}
+use Rattle.cat_syntax.specs.declared.syntax_fault.SyntaxFault.{SyntaxFault}
+use Rattle.cat_syntax.specs.declared.syntax_fault.SyntaxFault.TheVariants.{Unexpected, BoundTwice, RecursiveFunction, TooDeep, NoMemory}
 use Rattle.cat_syntax.specs.declared.symbol.Symbol.{Symbol}
 use Rattle.cat_syntax.specs.declared.symbol.Symbol.TheVariants.{Fixed}
 use Rattle.cat_tree.specs.declared.expression.Expression.{Expression}
 use Rattle.cat_tree.specs.Terms.{nest}
-use Rattle.cat_tree.specs.Tree.{Term, term_of, pair_of}
+use Rattle.cat_tree.specs.Tree.{Word, Term, term_of, pair_of}
 use Rattle.cat_syntax.specs.Grammar.{joined}
-use Rattle.cat_syntax.specs.Reading.{Stop, Reading, after, infix_at, postfix_at, applied_at, next_operand, chain_right, right, signed, enclosure_at, leaf_at, enclosed_with, primary_with, level_with, below, cut}
+use Rattle.cat_syntax.specs.Reading.{Stop, Reading, OrNoMemory, after, expected, name_at, push_item, separated, begins_call, arguments_with, call_with, infix_at, postfix_at, applied_at, next_operand, chain_right, right, signed, enclosure_at, leaf_at, enclosed_with, primary_with, level_with, below, cut}
+use Rattle.cat_syntax.proofs.Separated.{turn_shorter, list-more, after_no_longer}
 use Rattle.cat_syntax.proofs.Symbols as symbols
 use Rattle.cat_syntax.proofs.Sound.{level-shorter, level_is}
 
@@ -32,6 +35,12 @@ level_takes n k ts rest a e = level-shorter (level_is n k ts rest a e)
 pub required_takes : (t : Terminal) (ts rest : List Symbol) (u : Unit {0}) → required {F = Stop} (Unexpected, ts) (after t ts) ≡ Ok (u, rest) → length rest < length ts
 required_takes t ts rest u e = symbols.after_takes t ts rest u (required_ok (Unexpected, ts) (after t ts) (u, rest) e)
 
+pub after_takes : (t : Terminal) (ts rest : List Symbol) (u : Unit {0}) → after t ts ≡ Some (u, rest) → length rest < length ts
+after_takes = symbols.after_takes
+
+pub name_takes : (ts rest : List Symbol) (x : Word) → name_at ts ≡ Ok (x, rest) → length rest < length ts
+name_takes ts rest x e = omega (arith, ap length (symbols.name-ok ts rest x e))
+
 -- the ways into an operand
 
 without-sign : (r : Reading Term) → r ≡ (r >>= λ x. Ok (x.0, x.1))
@@ -39,8 +48,8 @@ without-sign (Ok x) = refl
 without-sign (Err d) = refl
 
 pub primary_parts : (n : ℕ) (ts : List Symbol) →
-    primary_with (below n) ts ≡ match_option (enclosure_at ts) (leaf_at ts) (λ y. enclosed_with (below n) y.0.opening y.0.closing y.1 >>= λ x. Ok (signed y.0.sign x.0, x.1))
-unfolding primary_with enclosure_at leaf_at
+    primary_with (below n) ts ≡ match_option (enclosure_at ts) (if begins_call ts then call_with (below n) ts else leaf_at ts) (λ y. enclosed_with (below n) y.0.opening y.0.closing y.1 >>= λ x. Ok (signed y.0.sign x.0, x.1))
+unfolding primary_with enclosure_at leaf_at begins_call call_with name_at
 primary_parts n (Fixed LeftParen ∷ ts) = without-sign (enclosed_with (below n) LeftParen RightParen (Fixed LeftParen ∷ ts))
 primary_parts n [] = refl
 primary_parts n (t ∷ ts) = refl
@@ -72,6 +81,73 @@ pub postfix_more : (a : Term) (ts : List Symbol) →
     repeated cut postfix_at applied_at a ts ≡
     match_option (postfix_at ts) (Ok (a, ts)) (λ x. applied_at x.0 a x.1 >>= λ y. repeated cut postfix_at applied_at y.0 y.1)
 postfix_more = repeated-more cut postfix_at applied_at postfix_shorter
+
+-- arguments
+
+pub arguments_none : (n : ℕ) (ts : List Symbol) → after LeftParen ts ≡ None → arguments_with (below n) ts ≡ Err (Unexpected, ts)
+unfolding arguments_with expected
+arguments_none n ts e = rw e refl
+
+pub arguments_closed : (n : ℕ) (ts : List Symbol) (y : Unit {0} × List Symbol) → n ≡ 0 → after LeftParen ts ≡ Some y → arguments_with (below n) ts ≡ Err (TooDeep, ts)
+unfolding arguments_with separated expected below
+arguments_closed n ts y z e = rw (z, e) refl
+
+-- what stands between the parentheses
+pub arguments_open : (m n : ℕ) (ts mid : List Symbol) (u : Unit {0}) → m ≡ suc n → expected LeftParen ts ≡ Ok (u, mid) →
+    arguments_with (below m) ts ≡ (separated Comma (λ _. level_with (below n) 5) mid >>= λ x. expected RightParen x.1 >>= λ z. Ok (x.0, z.1))
+unfolding arguments_with below
+arguments_open m n ts mid u s e = rw (s, e) refl
+
+pub arguments_read : (m n : ℕ) (ts mid behind rest : List Symbol) (u v : Unit {0}) (as' : List Term) → m ≡ suc n → expected LeftParen ts ≡ Ok (u, mid) → separated Comma (λ _. level_with (below n) 5) mid ≡ Ok (as', behind) →
+    expected RightParen behind ≡ Ok (v, rest) → arguments_with (below m) ts ≡ Ok (as', rest)
+arguments_read m n ts mid behind rest u v as' s e f g = rw (arguments_open m n ts mid u s e, f, g) refl
+
+or-memory : (e : SyntaxFault) (P Q : Type 0) → (P → Q) → OrNoMemory e P → OrNoMemory e Q
+or-memory NoMemory P Q f h = tt
+or-memory Unexpected P Q f h = f h
+or-memory BoundTwice P Q f h = f h
+or-memory RecursiveFunction P Q f h = f h
+or-memory TooDeep P Q f h = f h
+
+-- one of them isn't read
+pub arguments_stop : (m n : ℕ) (ts mid rest : List Symbol) (u : Unit {0}) (e : SyntaxFault) → m ≡ suc n → expected LeftParen ts ≡ Ok (u, mid) → OrNoMemory e (separated Comma (λ _. level_with (below n) 5) mid ≡ Err (e, rest)) →
+    OrNoMemory e (arguments_with (below m) ts ≡ Err (e, rest))
+arguments_stop m n ts mid rest u e s f h =
+    or-memory e (separated Comma (λ _. level_with (below n) 5) mid ≡ Err (e, rest)) (arguments_with (below m) ts ≡ Err (e, rest)) (λ g. rw (arguments_open m n ts mid u s f, g) refl) h
+
+-- the parenthesis isn't closed
+pub arguments_left : (m n : ℕ) (ts mid behind rest : List Symbol) (u : Unit {0}) (as' : List Term) (e : SyntaxFault) → m ≡ suc n → expected LeftParen ts ≡ Ok (u, mid) → separated Comma (λ _. level_with (below n) 5) mid ≡ Ok (as', behind) →
+    OrNoMemory e (expected RightParen behind ≡ Err (e, rest)) → OrNoMemory e (arguments_with (below m) ts ≡ Err (e, rest))
+arguments_left m n ts mid behind rest u as' e s f g h =
+    or-memory e (expected RightParen behind ≡ Err (e, rest)) (arguments_with (below m) ts ≡ Err (e, rest)) (λ k. rw (arguments_open m n ts mid u s f, g, k) refl) h
+
+pub arguments_more : (n : ℕ) (as' : List Term) (ts : List Symbol) →
+    repeated cut (after Comma) (push_item (λ _. level_with (below n) 5)) as' ts ≡
+    match_option (after Comma ts) (Ok (as', ts)) (λ x. push_item (λ _. level_with (below n) 5) x.0 as' x.1 >>= λ y. repeated cut (after Comma) (push_item (λ _. level_with (below n) 5)) y.0 y.1)
+arguments_more n = list-more (after Comma) (λ _. level_with (below n) 5) (after_no_longer Comma) (λ _. level_takes n 5)
+
+pub arguments_shorter : (n : ℕ) (ts mid rest : List Symbol) (o : Unit {0}) (as' bs : List Term) → after Comma ts ≡ Some (o, mid) → push_item (λ _. level_with (below n) 5) o as' mid ≡ Ok (bs, rest) → length rest < length ts
+arguments_shorter n = turn_shorter (after Comma) (λ _. level_with (below n) 5) (after_no_longer Comma) (λ _. level_takes n 5)
+
+-- what is read behind the arguments so far
+unfoldable pub arguments_from : ℕ → List Term → List Symbol → Reading (List Term)
+arguments_from n as' ts = push_item (λ _. level_with (below n) 5) tt as' ts >>= λ y. repeated cut (after Comma) (push_item (λ _. level_with (below n) 5)) y.0 y.1
+
+pub arguments_start : (n : ℕ) (ts : List Symbol) → separated Comma (λ _. level_with (below n) 5) ts ≡ arguments_from n [] ts
+unfolding separated arguments_from
+arguments_start n ts = refl
+
+pub arguments_turn : (n : ℕ) (as' : List Term) (ts : List Symbol) →
+    arguments_from n as' ts ≡ (level_with (below n) 5 ts >>= λ x. match_option (after Comma x.1) (Ok (as' ++ x.0 ∷ [], x.1)) (λ y. arguments_from n (as' ++ x.0 ∷ []) y.1))
+unfolding arguments_from
+arguments_turn n as' ts =
+    elim (ok_or_err (level_with (below n) 5 ts)) [
+      | inl (d, f) ↦ rw f refl
+      | inr (x, f) ↦ rw (f, arguments_more n (as' ++ x.0 ∷ []) x.1) refl
+    ]
+
+pub terms_push : (es : List Expression) (e : Expression) → map term_of (es ++ e ∷ []) ≡ map term_of es ++ term_of e ∷ []
+terms_push es e = map-append term_of es (e ∷ [])
 
 -- operators to the right
 

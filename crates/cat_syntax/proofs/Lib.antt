@@ -2,6 +2,7 @@ pub mod Names
 pub mod Symbols
 pub mod Tokens
 pub mod Once
+pub mod Separated
 pub mod Sound
 pub mod Levels
 pub mod ItemsSound

@@ -1,26 +1,26 @@
--- Names that are bound once.
-use Rattle.std.proofs.Common.{◌≡◌, List, [], ◌∷◌, ◌++◌, true, false, refl, sym, inl, inr, map, length, get_or, ◌≤◌, arith}
-use Rattle.cat_syntax.specs.declared.symbol.Symbol.{Symbol}
-use Rattle.cat_syntax.specs.declared.symbol.Symbol.TheVariants.{Name, Unsupported}
-use Rattle.cat_syntax.specs.Reading.{repeats}
+-- Names that stand once.
+use Rattle.std.proofs.Common.{◌≡◌, List, [], ◌∷◌, ◌++◌, true, false, refl, sym, subst, inl, inr, map}
 use Rattle.std.proofs.lemmas.Slice.Eq.{bytes_eq-Decides}
+use Rattle.std.proofs.lemmas.List.{map-append}
 use Rattle.std.specs.List.{list_any}
 use Rattle.cat_tree.specs.declared.tree.Binding.{Binding}
-use Rattle.std.specs.Prelude.{Bool, ◌||◌}
+use Rattle.cat_tree.specs.declared.tree.Definition.{Definition}
+use Rattle.std.specs.Prelude.{Bool, Option, Some, ◌||◌}
+use Rattle.descent.specs.Reading.{match_option}
 use Rattle.std.specs.Str.{bytes_eq}
 use Rattle.std.proofs.lemmas.Bool.{or_parts, cases_Bool}
-use Rattle.cat_tree.specs.Tree.{Word, Bound, bound_of, is_bound}
-use Rattle.cat_syntax.specs.Items.{BindOnce}
+use Rattle.cat_tree.specs.Tree.{Word, bound_of, defined_of}
+use Rattle.cat_syntax.specs.Items.{is_among, AreOnce, names_bound, names_defined}
 
 neither-or : (a b : Bool) → a ≡ false → b ≡ false → (a || b) ≡ false
 neither-or true b e f = absurd (cc)
 neither-or false b e f = f
 
-bound-push : (bs : List Bound) (b : Bound) (x : Word) → is_bound bs x ≡ false → bytes_eq b.name x ≡ false → is_bound (bs ++ b ∷ []) x ≡ false
-bound-push [] b x e f = neither-or (bytes_eq b.name x) false f refl
-bound-push (c ∷ bs) b x e f =
-    let h = or_parts (bytes_eq c.name x) (is_bound bs x) e in
-    neither-or (bytes_eq c.name x) (is_bound (bs ++ b ∷ []) x) h.0 (bound-push bs b x h.1 f)
+among-push : (ys : List Word) (y x : Word) → is_among ys x ≡ false → bytes_eq y x ≡ false → is_among (ys ++ y ∷ []) x ≡ false
+among-push [] y x e f = neither-or (bytes_eq y x) false f refl
+among-push (z ∷ ys) y x e f =
+    let h = or_parts (bytes_eq z x) (is_among ys x) e in
+    neither-or (bytes_eq z x) (is_among (ys ++ y ∷ []) x) h.0 (among-push ys y x h.1 f)
 
 eq-swap : (a b : Word) → bytes_eq a b ≡ false → bytes_eq b a ≡ false
 eq-swap a b e =
@@ -32,36 +32,39 @@ eq-swap a b e =
       | inr h ↦ h
     ]
 
-pub once-push : (bs : List Bound) (b : Bound) → BindOnce bs → is_bound bs b.name ≡ false → BindOnce (bs ++ b ∷ [])
-once-push [] b k e = (refl, tt)
-once-push (c ∷ bs) b k e =
-    let h = or_parts (bytes_eq c.name b.name) (is_bound bs b.name) e in
-    (bound-push bs b c.name k.0 (eq-swap c.name b.name h.0), once-push bs b k.1 h.1)
+pub once-push : (xs : List Word) (x : Word) → AreOnce xs → is_among xs x ≡ false → AreOnce (xs ++ x ∷ [])
+once-push [] x k e = (refl, tt)
+once-push (y ∷ xs) x k e =
+    let h = or_parts (bytes_eq y x) (is_among xs x) e in
+    (among-push xs x y k.0 (eq-swap y x h.0), once-push xs x k.1 h.1)
 
-later-free : (cs : List Bound) (b : Bound) (bs : List Bound) (x : Word) → is_bound (cs ++ b ∷ bs) x ≡ false → bytes_eq b.name x ≡ false
-later-free [] b bs x e = (or_parts (bytes_eq b.name x) (is_bound bs x) e).0
-later-free (c ∷ cs) b bs x e = later-free cs b bs x (or_parts (bytes_eq c.name x) (is_bound (cs ++ b ∷ bs) x) e).1
+later-free : (ys : List Word) (y : Word) (xs : List Word) (x : Word) → is_among (ys ++ y ∷ xs) x ≡ false → bytes_eq y x ≡ false
+later-free [] y xs x e = (or_parts (bytes_eq y x) (is_among xs x) e).0
+later-free (z ∷ ys) y xs x e = later-free ys y xs x (or_parts (bytes_eq z x) (is_among (ys ++ y ∷ xs) x) e).1
 
--- what is bound behind a list is not bound in it
-pub once-fresh : (cs : List Bound) (b : Bound) (bs : List Bound) → BindOnce (cs ++ b ∷ bs) → is_bound cs b.name ≡ false
-once-fresh [] b bs k = refl
-once-fresh (c ∷ cs) b bs k =
-    neither-or (bytes_eq c.name b.name) (is_bound cs b.name) (eq-swap b.name c.name (later-free cs b bs c.name k.0)) (once-fresh cs b bs k.1)
+-- what stands behind a list is not in it
+pub once-fresh : (ys : List Word) (y : Word) (xs : List Word) → AreOnce (ys ++ y ∷ xs) → is_among ys y ≡ false
+once-fresh [] y xs k = refl
+once-fresh (z ∷ ys) y xs k =
+    neither-or (bytes_eq z y) (is_among ys y) (eq-swap y z (later-free ys y xs z k.0)) (once-fresh ys y xs k.1)
 
-pub bound_view : (bs : List Binding) (x : Word) → list_any (λ b. bytes_eq b.name x) bs ≡ is_bound (map bound_of bs) x
+-- names of what is bound
+
+module _ {A : Type 0} (name : A → Word) where
+  pub named-push : (as' : List A) (a : A) → AreOnce (map name as') → is_among (map name as') (name a) ≡ false → AreOnce (map name (as' ++ a ∷ []))
+  named-push as' a k e = subst AreOnce (sym (map-append name as' (a ∷ []))) (once-push (map name as') (name a) k e)
+
+  pub named-fresh : (as' : List A) (a : A) (bs : List A) → AreOnce (map name (as' ++ a ∷ bs)) → is_among (map name as') (name a) ≡ false
+  named-fresh as' a bs k = once-fresh (map name as') (name a) (map name bs) (subst AreOnce (map-append name as' (a ∷ bs)) k)
+
+pub bound_view : (bs : List Binding) (x : Word) → list_any (λ b. bytes_eq b.name x) bs ≡ is_among (names_bound (map bound_of bs)) x
 bound_view [] x = refl
 bound_view (b ∷ bs) x = rw (bound_view bs x)
 
--- the next symbol is a name, or an unsupported one
+pub defined_view : (ds : List Definition) (x : Word) → list_any (λ d. bytes_eq d.name x) ds ≡ is_among (names_defined (map defined_of ds)) x
+defined_view [] x = refl
+defined_view (d ∷ ds) x = rw (defined_view ds x)
 
-pub repeats_name : (bs : List Binding) (ts : List Symbol) (s : Symbol) (x : Word) → 1 ≤ length ts → s ≡ get_or ts 0 s → s ≡ Name x →
-    list_any (λ b. bytes_eq b.name x) bs ≡ repeats (map bound_of bs) ts
-unfolding repeats
-repeats_name bs [] s x h e f = absurd (omega arith)
-repeats_name bs (t ∷ ts) s x h e f = let same : t ≡ Name x = cc in rw same (bound_view bs x)
-
-pub repeats_unsupported : (bs : List Binding) (ts : List Symbol) (s : Symbol) (x : Word) → 1 ≤ length ts → s ≡ get_or ts 0 s → s ≡ Unsupported x →
-    list_any (λ b. bytes_eq b.name x) bs ≡ repeats (map bound_of bs) ts
-unfolding repeats
-repeats_unsupported bs [] s x h e f = absurd (omega arith)
-repeats_unsupported bs (t ∷ ts) s x h e f = let same : t ≡ Unsupported x = cc in rw same (bound_view bs x)
+-- the name that comes next is the one that is looked for
+pub repeated_name : (xs : List Word) (next : Option Word) (x : Word) (r : Bool) → next ≡ Some x → r ≡ is_among xs x → r ≡ match_option next false (is_among xs)
+repeated_name xs next x r e f = rw e f

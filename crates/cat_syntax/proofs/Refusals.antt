@@ -1,6 +1,6 @@
 -- What is reported of the place at which reading stops.
-use Rattle.std.proofs.Common.{◌≡◌, ◌≢◌, ℕ, ◌+◌, ◌-◌, ◌<◌, ◌≤◌, List, ◌∷◌, length, take, drop, min, refl, ap, sym, ◌∙◌, subst, arith, ◌⊎◌, inl, inr}
-use Rattle.std.specs.Prelude.{Ok, Err}
+use Rattle.std.proofs.Common.{◌≡◌, ◌≢◌, ℕ, ◌+◌, ◌-◌, ◌<◌, ◌≤◌, List, length, take, drop, min, refl, ap, sym, ◌∙◌, subst, arith, ◌⊎◌, inl, inr}
+use Rattle.std.specs.Prelude.{None, Ok, Err}
 use Rattle.std.proofs.lemmas.List.{take_rest}
 use Rattle.wb_text.specs.declared.token.Token.{Token}
 use Rattle.cat_syntax.specs.declared.counting.Context.TheVariants.{Naming}
@@ -9,10 +9,9 @@ use Rattle.cat_syntax.specs.declared.fault.CatFault.TheVariants.{Syntax, Unsuppo
 use Rattle.cat_syntax.specs.declared.syntax_fault.SyntaxFault.{SyntaxFault}
 use Rattle.cat_syntax.specs.declared.syntax_fault.SyntaxFault.TheVariants as faults
 use Rattle.cat_syntax.specs.declared.symbol.Symbol.{Symbol}
-use Rattle.cat_syntax.specs.declared.symbol.Symbol.TheVariants as symbols
 use Rattle.cat_syntax.specs.Counting.{weight}
 use Rattle.cat_syntax.specs.Reading.{Stop, Reading, Gives, OrNoMemory, file_at}
-use Rattle.cat_syntax.specs.Reads.{Tells, IsUnexpected, IsWrong, offset_of}
+use Rattle.cat_syntax.specs.Reads.{Tells, IsUnexpected, IsWrong, left_out, offset_of}
 use Rattle.cat_syntax.specs.Stops.{StopsAt, IsExcess, excess_at, FaultAt, GrowsTooLarge}
 use Rattle.cat_tree.specs.Tree.{File}
 use Rattle.cat_syntax.proofs.Weights.{front_all, one_excess}
@@ -24,20 +23,35 @@ use Rattle.cat_syntax.proofs.Places.{stops-of, take-take, take-length, take-whol
 fault_there : (cause fault : SyntaxFault) (ss : List Symbol) (place : ℕ) → fault ≡ cause → OrNoMemory fault (StopsAt ss fault place) → OrNoMemory cause (StopsAt ss cause place)
 fault_there cause fault ss place is stops = subst (λ f. OrNoMemory f (StopsAt ss f place)) is stops
 
-unexpected-reported : (e : CatFault) (ss : List Symbol) (tokens : List Token) (end place : ℕ) (rest : List Symbol) → FaultAt ss faults.Unexpected place → drop place ss ≡ rest →
-    IsUnexpected e rest (offset_of (drop place tokens) end) → Tells e ss tokens end
-unexpected-reported (Syntax n) ss tokens end place rest fault is reported =
-    record { place = place; cause = faults.Unexpected; fault = fault; wrong = subst (λ (l : List Symbol). IsWrong faults.Unexpected l) (sym is) reported.0; reported = reported.1 }
-unexpected-reported (Unsupported w) ss tokens end place (symbols.Unsupported v ∷ rest) fault is reported =
-    record { place = place; behind = rest; fault = fault; word = is ∙ ap (λ (x : List ℕ). symbols.Unsupported x ∷ rest) (sym reported) }
-unexpected-reported NoMemory ss tokens end place rest fault is reported = tt
-unexpected-reported e ss tokens end place rest fault is reported = absurd reported
+no-wrong : (cause : SyntaxFault) (ss : List Symbol) (place : ℕ) → cause ≢ faults.TooDeep → cause ≢ faults.NoMemory → left_out cause (drop place ss) ≡ None → IsWrong cause (drop place ss)
+no-wrong faults.Unexpected ss place h k e = e
+no-wrong faults.BoundTwice ss place h k e = e
+no-wrong faults.RecursiveFunction ss place h k e = e
+no-wrong faults.TooDeep ss place h k e = absurd (h refl)
+no-wrong faults.NoMemory ss place h k e = absurd (k refl)
+
+told : (e : CatFault) (cause : SyntaxFault) (ss : List Symbol) (tokens : List Token) (end place : ℕ) → FaultAt ss cause place → cause ≢ faults.TooDeep → cause ≢ faults.NoMemory →
+    IsUnexpected cause e (drop place ss) (offset_of (drop place tokens) end) → Tells e ss tokens end
+told (Syntax n) cause ss tokens end place fault h k reported = record { place = place; cause = cause; fault = fault; wrong = no-wrong cause ss place h k reported.0; reported = reported.1 }
+told (Unsupported w) cause ss tokens end place fault h k reported = record { place = place; cause = cause; fault = fault; word = reported }
+told NoMemory cause ss tokens end place fault h k reported = tt
+told e cause ss tokens end place fault h k reported = absurd reported
+
+-- what is told of the first symbol that is left
+told_by : (e : CatFault) (cause : SyntaxFault) (ss : List Symbol) (tokens : List Token) (end place : ℕ) (fault : SyntaxFault) → fault ≡ cause → cause ≢ faults.TooDeep → cause ≢ faults.NoMemory → FaultAt ss cause place →
+    IsUnexpected fault e (take (length ss - place) (drop place ss)) (offset_of (take (length tokens - place) (drop place tokens)) end) → Tells e ss tokens end
+told_by e cause ss tokens end place fault is h k there reported =
+    told e cause ss tokens end place there h k (subst (λ f. IsUnexpected f e (drop place ss) (offset_of (drop place tokens) end)) is (rw (take_rest ss place, take_rest tokens place) at reported))
 
 pub unexpected_told : (e : CatFault) (ss : List Symbol) (tokens : List Token) (end place : ℕ) (fault : SyntaxFault) → fault ≡ faults.Unexpected → OrNoMemory fault (StopsAt ss fault place) →
-    ((n : ℕ) → IsExcess ss n → place ≤ n) → IsUnexpected e (take (length ss - place) (drop place ss)) (offset_of (take (length tokens - place) (drop place tokens)) end) → Tells e ss tokens end
+    ((n : ℕ) → IsExcess ss n → place ≤ n) → IsUnexpected fault e (take (length ss - place) (drop place ss)) (offset_of (take (length tokens - place) (drop place tokens)) end) → Tells e ss tokens end
 unexpected_told e ss tokens end place fault is stops within reported =
-    unexpected-reported e ss tokens end place (drop place ss) (record { stops = fault_there faults.Unexpected fault ss place is stops; within = within }) refl
-    (rw (take_rest ss place, take_rest tokens place) at reported)
+    told_by e faults.Unexpected ss tokens end place fault is (λ f. cc) (λ f. cc) (record { stops = fault_there faults.Unexpected fault ss place is stops; within = within }) reported
+
+pub function_told : (e : CatFault) (ss : List Symbol) (tokens : List Token) (end place : ℕ) (fault : SyntaxFault) → fault ≡ faults.RecursiveFunction → OrNoMemory fault (StopsAt ss fault place) →
+    ((n : ℕ) → IsExcess ss n → place ≤ n) → IsUnexpected fault e (take (length ss - place) (drop place ss)) (offset_of (take (length tokens - place) (drop place tokens)) end) → Tells e ss tokens end
+function_told e ss tokens end place fault is stops within reported =
+    told_by e faults.RecursiveFunction ss tokens end place fault is (λ f. cc) (λ f. cc) (record { stops = fault_there faults.RecursiveFunction fault ss place is stops; within = within }) reported
 
 pub twice_told : (n : ℕ) (ss : List Symbol) (tokens : List Token) (end place : ℕ) (fault : SyntaxFault) → fault ≡ faults.BoundTwice → OrNoMemory fault (StopsAt ss fault place) →
     ((n : ℕ) → IsExcess ss n → place ≤ n) → n ≡ offset_of (take (length tokens - place) (drop place tokens)) end → Tells (Syntax n) ss tokens end
@@ -45,7 +59,7 @@ twice_told n ss tokens end place fault is stops within reported = record {
   place = place;
   cause = faults.BoundTwice;
   fault = record { stops = fault_there faults.BoundTwice fault ss place is stops; within = within };
-  wrong = tt;
+  wrong = refl;
   reported = rw (take_rest tokens place) at reported;
 }
 
@@ -58,8 +72,8 @@ deep_told ss tokens end place fault is stops within = (place, record { stops = f
 pub within_of : (ss : List Symbol) (n place : ℕ) → IsExcess ss n → place ≤ n → (m : ℕ) → IsExcess ss m → place ≤ m
 within_of ss n place e h m f = omega (arith, h, one_excess ss n m e f)
 
-pub no_excess : (ss : List Symbol) (place n : ℕ) → weight Naming ss ≤ 4096 → IsExcess ss n → place ≤ n
-no_excess ss place n h (excess_at counted s behind few many here reported) = absurd (omega (arith, h, many, front_all Naming ss (counted + 1)))
+pub no_excess : (ss : List Symbol) (place n : ℕ) → weight Naming 0 ss ≤ 4096 → IsExcess ss n → place ≤ n
+no_excess ss place n h (excess_at counted s behind few many here reported) = absurd (omega (arith, h, many, front_all Naming 0 ss (counted + 1)))
 
 -- where the reader stopped
 
@@ -73,12 +87,14 @@ pub stopped_at : (ss rest : List Symbol) (c : SyntaxFault) → Gives {X = File} 
 stopped_at ss rest faults.NoMemory g = tt
 stopped_at ss rest faults.Unexpected g = stops-where ss rest faults.Unexpected g
 stopped_at ss rest faults.BoundTwice g = stops-where ss rest faults.BoundTwice g
+stopped_at ss rest faults.RecursiveFunction g = stops-where ss rest faults.RecursiveFunction g
 stopped_at ss rest faults.TooDeep g = stops-where ss rest faults.TooDeep g
 
 pub left_of : (ss rest : List Symbol) (c : SyntaxFault) → Gives {X = File} {A = File} (λ f. f) (Err c) rest (file_at ss) → c ≢ faults.NoMemory → length rest ≤ length ss
 left_of ss rest faults.NoMemory g h = absurd (h refl)
 left_of ss rest faults.Unexpected g h = no_more ss rest faults.Unexpected g
 left_of ss rest faults.BoundTwice g h = no_more ss rest faults.BoundTwice g
+left_of ss rest faults.RecursiveFunction g h = no_more ss rest faults.RecursiveFunction g
 left_of ss rest faults.TooDeep g h = no_more ss rest faults.TooDeep g
 
 -- all symbols, or those up to a place and two more
@@ -104,6 +120,7 @@ among ss rest shown place stopped c fits all is h g = of c (stopped_at (take sho
     of faults.NoMemory stops = tt
     of faults.Unexpected stops = whole faults.Unexpected stops
     of faults.BoundTwice stops = whole faults.BoundTwice stops
+    of faults.RecursiveFunction stops = whole faults.RecursiveFunction stops
     of faults.TooDeep stops = whole faults.TooDeep stops
 
 pub shown_of : (ss : List Symbol) (shown place : ℕ) → shown ≡ min (length ss) (place + 3) → (length ss ≤ shown) ⊎ (place + 3 ≤ shown)
@@ -143,4 +160,5 @@ pub large_behind : (ss rest : List Symbol) (shown place : ℕ) (c : SyntaxFault)
 large_behind ss rest shown place faults.NoMemory fits all many h g later = absurd (h refl)
 large_behind ss rest shown place faults.Unexpected fits all many h g later = large_stopped ss rest shown place faults.Unexpected fits all many g later
 large_behind ss rest shown place faults.BoundTwice fits all many h g later = large_stopped ss rest shown place faults.BoundTwice fits all many g later
+large_behind ss rest shown place faults.RecursiveFunction fits all many h g later = large_stopped ss rest shown place faults.RecursiveFunction fits all many g later
 large_behind ss rest shown place faults.TooDeep fits all many h g later = large_stopped ss rest shown place faults.TooDeep fits all many g later

@@ -1,17 +1,20 @@
 -- Expressions that are read are in the grammar.
-use Rattle.std.proofs.Common.{◌≡◌, ℕ, zero, suc, ◌<◌, List, ◌∷◌, length, true, false, sym, subst, arith, inl, inr}
+use Rattle.std.proofs.Common.{◌≡◌, ℕ, zero, suc, ◌<◌, List, ◌∷◌, length, refl, true, false, sym, subst, arith, inl, inr}
 use Rattle.std.specs.Prelude.{Some, Ok}
 use Rattle.std.proofs.lemmas.Bool.{cases_Bool}
-use Rattle.descent.proofs.Tools.{bind_ok, cases_of, moved, moved_look}
+use Rattle.descent.proofs.Tools.{bind_ok, cases_of, chosen, moved, moved_look}
 use Rattle.descent.proofs.Turns.{repeated-keeps}
 use Rattle.cat_syntax.specs.declared.operator.Postfix.{Postfix}
 use Rattle.cat_syntax.specs.declared.symbol.Symbol.{Symbol}
 use Rattle.cat_syntax.specs.declared.symbol.Symbol.TheVariants.{Fixed, Name}
 use Rattle.cat_syntax.specs.declared.symbol.Terminal.{Terminal}
-use Rattle.cat_syntax.specs.declared.symbol.Terminal.TheVariants.{Domain, Range, Underscore, Zero, LeftParen, RightParen, LeftBracket, RightBracket, LeftBrace, RightBrace, Star, Tilde, Plus, Question, Inverse}
-use Rattle.cat_tree.specs.Tree.{Term, complement, domain, range, identity}
-use Rattle.cat_syntax.specs.Grammar.{begins_operand, IsLevel, level_unary, level_tighter, level_left, level_right, IsUnary, unary_complement, unary_postfix, IsPostfix, postfix_primary, postfix_plus, postfix_star, postfix_optional, postfix_inverse, IsPrimary, primary_name, primary_universe, primary_empty_relation, primary_empty_set, primary_paren, primary_identity, primary_domain, primary_range}
-use Rattle.cat_syntax.specs.Reading.{Reading, expected, infix_at, associates_left, postfix_at, applied, applied_at, next_operand, chain_right, right, left, Inner, enclosed_with, primary_with, postfix_with, unary_with, level_with, below, cut}
+use Rattle.cat_syntax.specs.declared.symbol.Terminal.TheVariants.{Domain, Range, Underscore, Zero, LeftParen, RightParen, LeftBracket, RightBracket, LeftBrace, RightBrace, Comma, Star, Tilde, Plus, Question, Inverse}
+use Rattle.cat_tree.specs.Terms.{terms_of}
+use Rattle.cat_tree.specs.Tree.{Term, Terms, complement, domain, range, identity, call}
+use Rattle.cat_syntax.specs.Grammar.{begins_operand, IsLevel, level_unary, level_tighter, level_left, level_right, IsUnary, unary_complement, unary_postfix, IsPostfix, postfix_primary, postfix_plus, postfix_star, postfix_optional, postfix_inverse, IsPrimary, primary_name, primary_universe, primary_empty_relation, primary_empty_set, primary_paren, primary_identity, primary_domain, primary_range, primary_call, AreArguments, last_argument, more_arguments}
+use Rattle.cat_syntax.specs.Items.{AreSeparated, one, more}
+use Rattle.cat_syntax.specs.Reading.{Reading, expected, infix_at, associates_left, postfix_at, applied, applied_at, next_operand, chain_right, right, left, Inner, separated, enclosed_with, arguments_with, opens_arguments, primary_with, postfix_with, unary_with, level_with, below, cut}
+use Rattle.cat_syntax.proofs.Separated.{separated-sound}
 use Rattle.cat_syntax.proofs.Symbols.{expected-ok, infix-some, joins-left, joins-right, if-none}
 
 -- each level takes a symbol
@@ -43,6 +46,11 @@ mutual
   primary-shorter (primary_identity d) = omega (arith, level-shorter d)
   primary-shorter (primary_domain d) = omega (arith, level-shorter d)
   primary-shorter (primary_range d) = omega (arith, level-shorter d)
+  primary-shorter (primary_call d) = omega (arith, arguments-shorter d)
+
+  pub arguments-shorter : {n : ℕ} {ts rest : List Symbol} {bs : Terms} → AreArguments n ts rest bs → length rest < length ts
+  arguments-shorter (last_argument d) = level-shorter d
+  arguments-shorter (more_arguments d e) = omega (arith, level-shorter d, arguments-shorter e)
 
 -- what r reads is so
 abbrev pub Sound : {A : Type 0} → (List Symbol → Reading A) → (List Symbol → List Symbol → A → Type 0) → Type 0
@@ -71,6 +79,26 @@ deeper-domain (deeper d) = primary_domain d
 deeper-range : {n : ℕ} {ts rest : List Symbol} {a : Term} → Deeper (IsLevel 5) n ts (Fixed RightParen ∷ rest) a → IsPrimary n (Fixed Range ∷ Fixed LeftParen ∷ ts) rest (range a)
 deeper-range (deeper d) = primary_range d
 
+shallow-at : {m n : ℕ} {ts rest : List Symbol} {a : Term} → Deeper (IsLevel 5) m ts rest a → m ≡ suc n → IsLevel 5 n ts rest a
+shallow-at {n = n} {ts = ts} {rest = rest} {a = a} (deeper {n = k} d) e =
+    let same : k ≡ n = cc in
+    subst (λ m. IsLevel 5 m ts rest a) same d
+
+shallow-arguments : {n : ℕ} {ts rest : List Symbol} {as' : List Term} → AreSeparated Comma (Deeper (IsLevel 5) (suc n)) ts rest as' → AreArguments n ts rest (terms_of as')
+shallow-arguments (one d) = last_argument (shallow-at d refl)
+shallow-arguments (more d ds) = more_arguments (shallow-at d refl) (shallow-arguments ds)
+
+not-deeper : {m : ℕ} {ts rest : List Symbol} {a : Term} → Deeper (IsLevel 5) m ts rest a → m ≡ zero → ⊥
+not-deeper (deeper d) e = cc
+
+none-deeper : {ts rest : List Symbol} {as' : List Term} → AreSeparated Comma (Deeper (IsLevel 5) zero) ts rest as' → ⊥
+none-deeper (one d) = not-deeper d refl
+none-deeper (more d ds) = not-deeper d refl
+
+deeper-call : (n : ℕ) {f : List ℕ} {ts rest : List Symbol} {as' : List Term} → AreSeparated Comma (Deeper (IsLevel 5) n) ts (Fixed RightParen ∷ rest) as' → IsPrimary n (Name f ∷ Fixed LeftParen ∷ ts) rest (call f (terms_of as'))
+deeper-call zero d = absurd (none-deeper d)
+deeper-call (suc n) d = primary_call (shallow-arguments d)
+
 postfix-step : {n : ℕ} {ts : List Symbol} {a : Term} (us mid : List Symbol) (o : Postfix) → IsPostfix n ts us a → postfix_at us ≡ Some (o, mid) → IsPostfix n ts mid (applied o a)
 unfolding postfix_at
 postfix-step {n} {ts} {a} (Fixed Plus ∷ us) mid o d e = moved_look (λ l p. IsPostfix n ts l (applied p a)) e (postfix_plus d)
@@ -92,9 +120,29 @@ module _ (n : ℕ) (r : Inner) (inner : SoundInner n r) where
       moved (λ l t. (mid : List Symbol) × (ts ≡ Fixed opening ∷ mid) × Deeper (IsLevel 5) n mid (Fixed closing ∷ l) t) y.2
       (x.0.1, expected-ok opening ts x.0.1 x.0.0 x.1, subst (λ l. Deeper (IsLevel 5) n x.0.1 l b.0.0) (expected-ok closing b.0.1 y.0.1 y.0.0 y.1) (inner.level ts x.0.1 b.0.1 b.0.0 b.1))
 
+  arguments-sound : (ts rest : List Symbol) (as' : List Term) → arguments_with r ts ≡ Ok (as', rest) → (mid : List Symbol) × (ts ≡ Fixed LeftParen ∷ mid) × AreSeparated Comma (Deeper (IsLevel 5) n) mid (Fixed RightParen ∷ rest) as'
+  unfolding arguments_with
+  arguments-sound ts rest as' e =
+      let x = bind_ok (expected LeftParen ts) _ _ e in
+      let b = bind_ok (separated Comma (λ _. r.level ts) x.0.1) _ _ x.2 in
+      let y = bind_ok (expected RightParen b.0.1) _ _ b.2 in
+      moved (λ l t. (mid : List Symbol) × (ts ≡ Fixed LeftParen ∷ mid) × AreSeparated Comma (Deeper (IsLevel 5) n) mid (Fixed RightParen ∷ l) t) y.2 (
+        x.0.1,
+        expected-ok LeftParen ts x.0.1 x.0.0 x.1,
+        subst (λ l. AreSeparated Comma (Deeper (IsLevel 5) n) x.0.1 l b.0.0) (expected-ok RightParen b.0.1 y.0.1 y.0.0 y.1)
+            (separated-sound Comma (Deeper (IsLevel 5) n) (λ _. r.level ts) (λ _. Unit {0}) tt (λ xs us back c k f. (inner.level ts us back c f, tt)) x.0.1 b.0.1 b.0.0 b.1).0,
+      )
+
   primary-sound : Sound (primary_with r) (IsPrimary n)
   unfolding primary_with
-  primary-sound (Name x ∷ ts) rest a e = moved (λ l t. IsPrimary n (Name x ∷ ts) l t) e primary_name
+  primary-sound (Name x ∷ ts) rest a e =
+      elim (chosen (opens_arguments ts) _ _ _ e) [
+        | inl h ↦
+            let y = bind_ok (arguments_with r ts) _ _ h.1 in
+            let d = arguments-sound ts y.0.1 y.0.0 y.1 in
+            moved (λ l t. IsPrimary n (Name x ∷ ts) l t) y.2 (subst (λ l. IsPrimary n (Name x ∷ l) y.0.1 (call x (terms_of y.0.0))) (sym d.1) (deeper-call n d.2))
+        | inr h ↦ moved (λ l t. IsPrimary n (Name x ∷ ts) l t) h.1 primary_name
+      ]
   primary-sound (Fixed Underscore ∷ ts) rest a e = moved (λ l t. IsPrimary n (Fixed Underscore ∷ ts) l t) e primary_universe
   primary-sound (Fixed Zero ∷ ts) rest a e = moved (λ l t. IsPrimary n (Fixed Zero ∷ ts) l t) e primary_empty_relation
   primary-sound (Fixed LeftBrace ∷ ts) rest a e =

@@ -26,7 +26,7 @@ use Rattle.cat_syntax.proofs.Weights.{file-weight}
 use Rattle.cat_syntax.proofs.ItemsSound.{file-sound}
 use Rattle.cat_syntax.proofs.ItemsComplete.{file-complete}
 
-pub found_of : (ss rest : List Symbol) (r : Result File SyntaxFault) → weight Naming ss ≤ 4096 → Gives {X = File} {A = File} (λ f. f) r rest (file_at ss) → IfOk r (λ f. IsFile ss f × (nodes f ≤ 4096))
+pub found_of : (ss rest : List Symbol) (r : Result File SyntaxFault) → weight Naming 0 ss ≤ 4096 → Gives {X = File} {A = File} (λ f. f) r rest (file_at ss) → IfOk r (λ f. IsFile ss f × (nodes f ≤ 4096))
 found_of ss rest (Ok f) h g =
     let d = file-sound ss rest f g in
     (d, omega (arith, file-weight ss f d))
@@ -47,9 +47,10 @@ only_of ss rest (Ok g) f d h = same-file ss rest f g d h
 only_of ss rest (Err faults.NoMemory) f d h = refl
 only_of ss rest (Err faults.Unexpected) f d h = absurd (not-refused ss (faults.Unexpected, rest) f d h)
 only_of ss rest (Err faults.BoundTwice) f d h = absurd (not-refused ss (faults.BoundTwice, rest) f d h)
+only_of ss rest (Err faults.RecursiveFunction) f d h = absurd (not-refused ss (faults.RecursiveFunction, rest) f d h)
 only_of ss rest (Err faults.TooDeep) f d h = absurd (not-refused ss (faults.TooDeep, rest) f d h)
 
-pub small_of : (ss : List Symbol) (f : File) → IsFile ss f → nodes f ≤ 4096 → weight Naming ss ≤ 4096
+pub small_of : (ss : List Symbol) (f : File) → IsFile ss f → nodes f ≤ 4096 → weight Naming 0 ss ≤ 4096
 small_of ss f d h = omega (arith, file-weight ss f d)
 
 -- want of memory in the text layer

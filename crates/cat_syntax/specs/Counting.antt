@@ -1,5 +1,6 @@
 -- Counting nodes by their symbols. The limit does not rest on this file: proofs/ shows that it counts the nodes of the tree.
-use Rattle.std.specs.Prelude.{ℕ, ◌+◌, List, [], ◌∷◌, Bool, true, false, if◌then◌else◌}
+use Rattle.std.specs.Prelude.{ℕ, ◌+◌, ◌-◌, List, [], ◌∷◌, Bool, true, false, if◌then◌else◌}
+use Rattle.std.proofs.Common.{zero, suc}
 use Rattle.cat_syntax.specs.declared.counting.Context.{Context}
 use Rattle.cat_syntax.specs.declared.counting.Context.TheVariants as contexts
 use Rattle.cat_syntax.specs.declared.symbol.Symbol.{Symbol}
@@ -41,15 +42,21 @@ counts_word contexts.Flag = false
 counts_word contexts.Tilde = false
 counts_word c = true
 
-abbrev pub counts_terminal : Context → Terminal → Bool
-counts_terminal c Tilde = counts_tilde c
-counts_terminal c t = if is_check_word t then counts_word c else is_node t
+-- a comma between parameters or arguments is none
+abbrev pub counts_comma : (depth : ℕ) → Bool
+counts_comma zero = true
+counts_comma (suc n) = false
 
--- how many nodes a symbol is
-unfoldable pub cost : Context → Symbol → ℕ
-cost c (Name x) = if counts_name c then 1 else 0
-cost c (Fixed t) = if counts_terminal c t then 1 else 0
-cost c s = 0
+abbrev pub counts_terminal : Context → (depth : ℕ) → Terminal → Bool
+counts_terminal c n Tilde = counts_tilde c
+counts_terminal c n Comma = counts_comma n
+counts_terminal c n t = if is_check_word t then counts_word c else is_node t
+
+-- how many nodes a symbol is, where so many parentheses are open
+unfoldable pub cost : Context → (depth : ℕ) → Symbol → ℕ
+cost c n (Name x) = if counts_name c then 1 else 0
+cost c n (Fixed t) = if counts_terminal c n t then 1 else 0
+cost c n s = 0
 
 -- a symbol that counts for the node behind it
 abbrev pub announces_node : Symbol → Bool
@@ -75,7 +82,13 @@ context_after c (Name x) = after_name c
 context_after c (Fixed t) = after_terminal c t
 context_after c s = contexts.Plain
 
+-- how many parentheses are open behind a symbol
+unfoldable pub depth_after : (depth : ℕ) → Symbol → ℕ
+depth_after n (Fixed LeftParen) = n + 1
+depth_after n (Fixed RightParen) = n - 1
+depth_after n s = n
+
 -- how many nodes the symbols are
-unfoldable pub weight : Context → List Symbol → ℕ
-weight c [] = 0
-weight c (s ∷ ss) = cost c s + weight (context_after c s) ss
+unfoldable pub weight : Context → (depth : ℕ) → List Symbol → ℕ
+weight c n [] = 0
+weight c n (s ∷ ss) = cost c n s + weight (context_after c s) (depth_after n s) ss

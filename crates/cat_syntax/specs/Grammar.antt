@@ -8,9 +8,9 @@ use Rattle.cat_tree.specs.declared.node.Infix.TheVariants.{Union, Sequence, Diff
 use Rattle.cat_syntax.specs.declared.symbol.Symbol.{Symbol}
 use Rattle.cat_syntax.specs.declared.symbol.Symbol.TheVariants.{Fixed, Name, Unsupported}
 use Rattle.cat_syntax.specs.declared.symbol.Terminal.{Terminal}
-use Rattle.cat_syntax.specs.declared.symbol.Terminal.TheVariants.{Acyclic, Irreflexive, Empty, Domain, Range, Underscore, Zero, LeftParen, RightParen, LeftBracket, RightBracket, LeftBrace, RightBrace, Bar, Semicolon, Backslash, Ampersand, Star, Tilde, Plus, Question, Inverse}
+use Rattle.cat_syntax.specs.declared.symbol.Terminal.TheVariants.{Acyclic, Irreflexive, Empty, Domain, Range, Underscore, Zero, LeftParen, RightParen, LeftBracket, RightBracket, LeftBrace, RightBrace, Comma, Bar, Semicolon, Backslash, Ampersand, Star, Tilde, Plus, Question, Inverse}
 pub use Rattle.cat_tree.specs.Terms.{joined}
-use Rattle.cat_tree.specs.Tree.{Term, complement, plus, star, optional, inverse, domain, range, identity, name, empty_relation, empty_set, universe}
+use Rattle.cat_tree.specs.Tree.{Term, Terms, complement, plus, star, optional, inverse, domain, range, identity, name, empty_relation, empty_set, universe, call, no_terms, term}
 
 -- the operators that associate to the left, and those to the right, with their levels: the tightest first
 pub data JoinsLeft : ℕ → Terminal → Infix → Type 0 where
@@ -64,7 +64,7 @@ mutual
     postfix_optional : {n : ℕ} {ts rest : List Symbol} {a : Term} → IsPostfix n ts (Fixed Question ∷ rest) a → IsPostfix n ts rest (optional a)
     postfix_inverse : {n : ℕ} {ts rest : List Symbol} {a : Term} → IsPostfix n ts (Fixed Inverse ∷ rest) a → IsPostfix n ts rest (inverse a)
 
-  -- primary := name | "_" | "0" | "{" "}" | "(" level 5 ")" | "[" level 5 "]" | ("domain" | "range") "(" level 5 ")"
+  -- primary := name | "_" | "0" | "{" "}" | "(" level 5 ")" | "[" level 5 "]" | ("domain" | "range") "(" level 5 ")" | name "(" arguments ")"
   pub data IsPrimary : ℕ → List Symbol → List Symbol → Term → Type 0 where
     primary_name : {n : ℕ} {x : List ℕ} {rest : List Symbol} → IsPrimary n (Name x ∷ rest) rest (name x)
     primary_universe : {n : ℕ} {rest : List Symbol} → IsPrimary n (Fixed Underscore ∷ rest) rest universe
@@ -74,3 +74,9 @@ mutual
     primary_identity : {n : ℕ} {ts rest : List Symbol} {a : Term} → IsLevel 5 n ts (Fixed RightBracket ∷ rest) a → IsPrimary (suc n) (Fixed LeftBracket ∷ ts) rest (identity a)
     primary_domain : {n : ℕ} {ts rest : List Symbol} {a : Term} → IsLevel 5 n ts (Fixed RightParen ∷ rest) a → IsPrimary (suc n) (Fixed Domain ∷ Fixed LeftParen ∷ ts) rest (domain a)
     primary_range : {n : ℕ} {ts rest : List Symbol} {a : Term} → IsLevel 5 n ts (Fixed RightParen ∷ rest) a → IsPrimary (suc n) (Fixed Range ∷ Fixed LeftParen ∷ ts) rest (range a)
+    primary_call : {n : ℕ} {f : List ℕ} {ts rest : List Symbol} {bs : Terms} → AreArguments n ts (Fixed RightParen ∷ rest) bs → IsPrimary (suc n) (Name f ∷ Fixed LeftParen ∷ ts) rest (call f bs)
+
+  -- arguments := level 5 {"," level 5}
+  pub data AreArguments : ℕ → List Symbol → List Symbol → Terms → Type 0 where
+    last_argument : {n : ℕ} {ts rest : List Symbol} {a : Term} → IsLevel 5 n ts rest a → AreArguments n ts rest (term a no_terms)
+    more_arguments : {n : ℕ} {ts mid rest : List Symbol} {a : Term} {bs : Terms} → IsLevel 5 n ts (Fixed Comma ∷ mid) a → AreArguments n mid rest bs → AreArguments n ts rest (term a bs)

@@ -1,14 +1,16 @@
 -- The grammar of models. (herd7 manual, the cat language: instructions.)
 -- Each family says that the symbols ts begin with a part of a model, and that rest follows it.
-use Rattle.std.specs.Prelude.{◌≡◌, List, [], ◌∷◌, Bool, true, false, Option, Some, None}
+use Rattle.std.specs.Prelude.{◌≡◌, List, [], ◌∷◌, map, Bool, true, false, Option, Some, None}
+use Rattle.std.specs.List.{list_any}
+use Rattle.std.specs.Str.{bytes_eq}
 use Rattle.wb_text.specs.Names.{IsName}
 use Rattle.cat_syntax.specs.declared.symbol.Symbol.{Symbol}
 use Rattle.cat_syntax.specs.declared.symbol.Symbol.TheVariants.{Fixed, Name, Quoted}
 use Rattle.cat_syntax.specs.declared.symbol.Terminal.{Terminal}
-use Rattle.cat_syntax.specs.declared.symbol.Terminal.TheVariants.{Let, Rec, And, Acyclic, Irreflexive, Empty, As, Flag, Show, Unshow, Include, Comma, Equals, Tilde}
+use Rattle.cat_syntax.specs.declared.symbol.Terminal.TheVariants.{Let, Rec, And, Acyclic, Irreflexive, Empty, As, Flag, Show, Unshow, Include, LeftParen, RightParen, Comma, Equals, Tilde}
 use Rattle.cat_tree.specs.declared.tree.CheckKind.{CheckKind}
 use Rattle.cat_tree.specs.declared.tree.CheckKind.TheVariants as kinds
-use Rattle.cat_tree.specs.Tree.{Word, Term, Bound, Shown, Clause, bind, bind_recursively, check, include, show, unshow, File, is_bound}
+use Rattle.cat_tree.specs.Tree.{Word, Term, Defined, Bound, Shown, Clause, bind, bind_recursively, check, include, show, unshow, File}
 use Rattle.cat_syntax.specs.Grammar.{IsLevel}
 
 -- an expression, which nests at most 64 deep
@@ -34,6 +36,24 @@ pub data IsAlias : List Symbol → List Symbol → Option Word → Type 0 where
   no_alias : {rest : List Symbol} → IsAlias rest rest None
   alias : {x : Word} {rest : List Symbol} → IsAlias (Fixed As ∷ Name x ∷ rest) rest (Some x)
 
+-- whether x is among these names
+abbrev pub is_among : List Word → Word → Bool
+is_among ys x = list_any (λ y. bytes_eq y x) ys
+
+-- no name stands twice
+abbrev pub AreOnce : List Word → Type 0
+AreOnce [] = Unit {0}
+AreOnce (x ∷ xs) = (is_among xs x ≡ false) × AreOnce xs
+
+-- ["(" name {"," name} ")"], no name twice
+pub data AreParameters : List Symbol → List Symbol → List Word → Type 0 where
+  no_parameters : {rest : List Symbol} → AreParameters rest rest []
+  with_parameters : {ts rest : List Symbol} {xs : List Word} → AreSeparated Comma IsNamed ts (Fixed RightParen ∷ rest) xs → AreOnce xs → AreParameters (Fixed LeftParen ∷ ts) rest xs
+
+-- name parameters "=" expression
+pub data IsDefinition : List Symbol → List Symbol → Defined → Type 0 where
+  definition : {x : Word} {ts us rest : List Symbol} {ps : List Word} {a : Term} → AreParameters ts (Fixed Equals ∷ us) ps → IsExpression us rest a → IsDefinition (Name x ∷ ts) rest (record { name = x; parameters = ps; value = a })
+
 -- name "=" expression
 pub data IsBinding : List Symbol → List Symbol → Bound → Type 0 where
   binding : {x : Word} {ts rest : List Symbol} {a : Term} → IsExpression ts rest a → IsBinding (Name x ∷ Fixed Equals ∷ ts) rest (record { name = x; value = a })
@@ -48,14 +68,17 @@ pub data Checks : Terminal → CheckKind → Type 0 where
   checks_irreflexive : Checks Irreflexive kinds.Irreflexive
   checks_empty : Checks Empty kinds.Empty
 
--- no name is bound twice
-abbrev pub BindOnce : List Bound → Type 0
-BindOnce [] = Unit {0}
-BindOnce (b ∷ bs) = (is_bound bs b.name ≡ false) × BindOnce bs
+-- the names that a group binds
+
+abbrev pub names_defined : List Defined → List Word
+names_defined = map (λ d. d.name)
+
+abbrev pub names_bound : List Bound → List Word
+names_bound = map (λ b. b.name)
 
 pub data IsItem : List Symbol → List Symbol → Clause → Type 0 where
-  item_let : {ts rest : List Symbol} {bs : List Bound} → AreSeparated And IsBinding ts rest bs → BindOnce bs → IsItem (Fixed Let ∷ ts) rest (bind bs)
-  item_rec : {ts rest : List Symbol} {bs : List Bound} → AreSeparated And IsBinding ts rest bs → BindOnce bs → IsItem (Fixed Let ∷ Fixed Rec ∷ ts) rest (bind_recursively bs)
+  item_let : {ts rest : List Symbol} {ds : List Defined} → AreSeparated And IsDefinition ts rest ds → AreOnce (names_defined ds) → IsItem (Fixed Let ∷ ts) rest (bind ds)
+  item_rec : {ts rest : List Symbol} {bs : List Bound} → AreSeparated And IsBinding ts rest bs → AreOnce (names_bound bs) → IsItem (Fixed Let ∷ Fixed Rec ∷ ts) rest (bind_recursively bs)
   item_check : {ts us vs ws rest : List Symbol} {flag negated : Bool} {t : Terminal} {kind : CheckKind} {a : Term} {x : Option Word} →
       IsOptional Flag ts us flag → IsOptional Tilde us (Fixed t ∷ vs) negated → Checks t kind → IsExpression vs ws a → IsAlias ws rest x →
       IsItem ts rest (check flag negated kind a x)

@@ -6,24 +6,25 @@ use Rattle.std.proofs.Common.{zero, suc}
 use Rattle.descent.specs.Reading.{Read, Look, match_option, ◌>>=◌, required, repeated}
 use Rattle.cat_syntax.specs.contracts.symbol.TerminalPartialEq.TheImpl.{ghosts}
 use Rattle.cat_syntax.specs.declared.syntax_fault.SyntaxFault.{SyntaxFault}
-use Rattle.cat_syntax.specs.declared.syntax_fault.SyntaxFault.TheVariants.{Unexpected, BoundTwice, TooDeep, NoMemory}
+use Rattle.cat_syntax.specs.declared.syntax_fault.SyntaxFault.TheVariants.{Unexpected, BoundTwice, RecursiveFunction, TooDeep, NoMemory}
 use Rattle.cat_tree.specs.declared.node.Infix.{Infix}
 use Rattle.cat_tree.specs.declared.node.Infix.TheVariants.{Union, Sequence, Difference, Intersection, Product}
 use Rattle.cat_tree.specs.declared.node.Sign.{Sign}
 use Rattle.cat_tree.specs.declared.node.Sign.TheVariants as signs
-use Rattle.cat_tree.specs.Terms.{applied as sign_applied}
+use Rattle.cat_tree.specs.Terms.{terms_of, applied as sign_applied}
 use Rattle.cat_syntax.specs.declared.operator.Enclosure.{Enclosure}
 use Rattle.cat_syntax.specs.declared.operator.Postfix.{Postfix}
 use Rattle.cat_syntax.specs.declared.operator.Postfix.TheVariants as postfixes
 use Rattle.cat_syntax.specs.declared.symbol.Symbol.{Symbol}
-use Rattle.cat_syntax.specs.declared.symbol.Symbol.TheVariants.{Fixed, Name, Quoted, Unsupported}
+use Rattle.cat_syntax.specs.declared.symbol.Symbol.TheVariants.{Fixed, Name, Quoted}
 use Rattle.cat_syntax.specs.declared.symbol.Terminal.{Terminal}
 use Rattle.cat_syntax.specs.declared.symbol.Terminal.TheVariants.{Let, Rec, And, Acyclic, Irreflexive, Empty, As, Flag, Show, Unshow, Include, Comma, Equals, Domain, Range, Underscore, Zero, LeftParen, RightParen, LeftBracket, RightBracket, LeftBrace, RightBrace, Bar, Semicolon, Backslash, Ampersand, Star, Tilde, Plus, Question, Inverse}
 use Rattle.cat_tree.specs.declared.tree.CheckKind.{CheckKind}
 use Rattle.cat_tree.specs.declared.tree.CheckKind.TheVariants as kinds
 use Rattle.cat_syntax.specs.Symbols.{is_name}
-use Rattle.cat_tree.specs.Tree.{Bound, Shown, Clause, bind, bind_recursively, check, include, show, unshow, File, Word, Term, plus, star, optional, inverse, complement, domain, range, identity, name, empty_relation, empty_set, universe, is_bound}
+use Rattle.cat_tree.specs.Tree.{Defined, Bound, Shown, Clause, bind, bind_recursively, check, include, show, unshow, File, Word, Term, plus, star, optional, inverse, complement, domain, range, identity, name, empty_relation, empty_set, universe, call}
 use Rattle.cat_syntax.specs.Grammar.{joined, begins_operand}
+use Rattle.cat_syntax.specs.Items.{is_among, names_defined, names_bound}
 
 -- why reading stopped, and the symbols that were left: it is about the first of them, or about their end
 abbrev pub Stop : Type 0
@@ -69,6 +70,14 @@ expected t ts = required (Unexpected, ts) (after t ts)
 unfoldable pub name_at : List Symbol → Reading Word
 name_at (Name x ∷ ts) = Ok (x, ts)
 name_at ts = Err (Unexpected, ts)
+
+-- one more of a list; what comes may rest on those before it
+abbrev pub push_item : {A : Type 0} → (List A → List Symbol → Reading A) → Unit {0} → List A → List Symbol → Reading (List A)
+push_item item _ xs ts = item xs ts >>= λ y. Ok (xs ++ y.0 ∷ [], y.1)
+
+-- x {separator x}
+unfoldable pub separated : {A : Type 0} → Terminal → (List A → List Symbol → Reading A) → List Symbol → Reading (List A)
+separated separator item ts = push_item item tt [] ts >>= λ x. repeated cut (after separator) (push_item item) x.0 x.1
 
 -- this terminal, as an operator
 abbrev pub sign : Terminal → Infix → List Symbol → Look Symbol Infix
@@ -144,6 +153,30 @@ enclosed_with r opening closing ts = do
   y ← expected closing a.1
   Ok (a.0, y.1)
 
+-- the arguments of a call
+unfoldable pub arguments_with : Inner → List Symbol → Reading (List Term)
+arguments_with r ts = do
+  x ← expected LeftParen ts
+  as' ← separated Comma (λ _. r.level ts) x.1
+  y ← expected RightParen as'.1
+  Ok (as'.0, y.1)
+
+-- arguments come next
+unfoldable pub opens_arguments : List Symbol → Bool
+opens_arguments (Fixed LeftParen ∷ ts) = true
+opens_arguments ts = false
+
+-- a name comes next, with arguments or parameters behind it
+unfoldable pub begins_call : List Symbol → Bool
+begins_call (Name x ∷ ts) = opens_arguments ts
+begins_call ts = false
+
+unfoldable pub call_with : Inner → List Symbol → Reading Term
+call_with r ts = do
+  x ← name_at ts
+  as' ← arguments_with r x.1
+  Ok (call x.0 (terms_of as'.0), as'.1)
+
 -- what a sign makes of a term, if one stands there
 abbrev pub signed : Option Sign → Term → Term
 signed None a = a
@@ -172,7 +205,7 @@ leaf_at (Fixed LeftBrace ∷ ts) = expected RightBrace ts >>= λ y. Ok (empty_se
 leaf_at ts = Err (Unexpected, ts)
 
 unfoldable pub primary_with : Inner → List Symbol → Reading Term
-primary_with r (Name x ∷ ts) = Ok (name x, ts)
+primary_with r (Name x ∷ ts) = if opens_arguments ts then (arguments_with r ts >>= λ y. Ok (call x (terms_of y.0), y.1)) else Ok (name x, ts)
 primary_with r (Fixed Underscore ∷ ts) = Ok (universe, ts)
 primary_with r (Fixed Zero ∷ ts) = Ok (empty_relation, ts)
 primary_with r (Fixed LeftBrace ∷ ts) = expected RightBrace ts >>= λ y. Ok (empty_set, y.1)
@@ -206,36 +239,51 @@ below (suc n) = record { level = λ _. level_with (below n) 5; unary = λ _. una
 unfoldable pub expression_at : List Symbol → Reading Term
 expression_at ts = level_with (below 64) 5 ts
 
--- one more of a list; what comes may rest on those before it
-abbrev pub push_item : {A : Type 0} → (List A → List Symbol → Reading A) → Unit {0} → List A → List Symbol → Reading (List A)
-push_item item _ xs ts = item xs ts >>= λ y. Ok (xs ++ y.0 ∷ [], y.1)
-
--- x {separator x}
-unfoldable pub separated : {A : Type 0} → Terminal → (List A → List Symbol → Reading A) → List Symbol → Reading (List A)
-separated separator item ts = push_item item tt [] ts >>= λ x. repeated cut (after separator) (push_item item) x.0 x.1
-
 unfoldable pub alias_at : List Symbol → Reading (Option Word)
 alias_at ts = match_option (after As ts) (Ok (None, ts)) (λ y. name_at y.1 >>= λ x. Ok (Some x.0, x.1))
 
--- the next symbol is a name that is bound
-unfoldable pub repeats : List Bound → List Symbol → Bool
-repeats bs (Name x ∷ ts) = is_bound bs x
-repeats bs (Unsupported x ∷ ts) = is_bound bs x
-repeats bs ts = false
+-- the name that comes next
+unfoldable pub next_name : List Symbol → Option Word
+next_name (Name x ∷ ts) = Some x
+next_name ts = None
 
-unfoldable pub new_name_at : List Bound → List Symbol → Reading Word
-new_name_at bs ts = if repeats bs ts then Err (BoundTwice, ts) else name_at ts
+-- the next symbol is one of these names
+abbrev pub repeats : List Word → List Symbol → Bool
+repeats xs ts = match_option (next_name ts) false (is_among xs)
+
+-- a name, where it doesn't stand already
+unfoldable pub name_unless : (repeated : Bool) → List Symbol → Reading Word
+name_unless repeated ts = if repeated then Err (BoundTwice, ts) else name_at ts
+
+-- a name that stands for a value, where it doesn't stand already
+unfoldable pub value_name_unless : (repeated : Bool) → List Symbol → Reading Word
+value_name_unless repeated ts = if repeated then Err (BoundTwice, ts) else (if begins_call ts then Err (RecursiveFunction, ts) else name_at ts)
+
+abbrev pub new_name_at : List Word → List Symbol → Reading Word
+new_name_at xs ts = name_unless (repeats xs ts) ts
+
+-- parameters in parentheses, if there are any
+unfoldable pub parameters_at : List Symbol → Reading (List Word)
+parameters_at ts = match_option (after LeftParen ts) (Ok ([], ts)) (λ y. separated Comma new_name_at y.1 >>= λ x. expected RightParen x.1 >>= λ z. Ok (x.0, z.1))
+
+unfoldable pub definition_at : List Defined → List Symbol → Reading Defined
+definition_at ds ts = do
+  x ← new_name_at (names_defined ds) ts
+  ps ← parameters_at x.1
+  y ← expected Equals ps.1
+  a ← expression_at y.1
+  Ok (record { name = x.0; parameters = ps.0; value = a.0 }, a.1)
 
 unfoldable pub binding_at : List Bound → List Symbol → Reading Bound
 binding_at bs ts = do
-  x ← new_name_at bs ts
+  x ← value_name_unless (repeats (names_bound bs) ts) ts
   y ← expected Equals x.1
   a ← expression_at y.1
   Ok (record { name = x.0; value = a.0 }, a.1)
 
 -- what stands behind `let`
 unfoldable pub group_at : List Symbol → Reading Clause
-group_at ts = match_option (after Rec ts) (separated And binding_at ts >>= λ x. Ok (bind x.0, x.1)) (λ y. separated And binding_at y.1 >>= λ x. Ok (bind_recursively x.0, x.1))
+group_at ts = match_option (after Rec ts) (separated And definition_at ts >>= λ x. Ok (bind x.0, x.1)) (λ y. separated And binding_at y.1 >>= λ x. Ok (bind_recursively x.0, x.1))
 
 unfoldable pub element_at : List Symbol → Reading Shown
 element_at ts = do

@@ -1,5 +1,5 @@
 -- Which model a text spells, and why a text is refused. (herd7 manual, the cat language.)
-use Rattle.std.specs.Prelude.{◌≡◌, ◌≢◌, ℕ, ◌<◌, ◌≤◌, List, [], ◌∷◌, length, drop}
+use Rattle.std.specs.Prelude.{◌≡◌, ◌≢◌, ℕ, ◌<◌, ◌≤◌, List, [], ◌∷◌, Option, Some, None, length, drop}
 use Rattle.wb_text.specs.Faults.{HasCause}
 use Rattle.wb_text.specs.declared.fault.TextFault.TheVariants as texts
 use Rattle.wb_text.specs.declared.token.Dialect.TheVariants.{Cat}
@@ -29,19 +29,25 @@ abbrev pub offset_of : List Token → (end : ℕ) → ℕ
 offset_of [] end = end
 offset_of (t ∷ ts) end = t.from
 
--- the first of these symbols is what a 52 tells: a name that its group binds already, or what nothing takes and is no word that is left out
+-- The word that a 53 names, where a fault is about the first of these symbols: a word of herd7's language that this one leaves
+-- out, or the name of a function that a `let rec` group binds.
+abbrev pub left_out : SyntaxFault → List Symbol → Option (List ℕ)
+left_out faults.Unexpected (symbols.Unsupported w ∷ rest) = Some w
+left_out faults.RecursiveFunction (symbols.Name w ∷ rest) = Some w
+left_out cause rest = None
+
+-- the first of these symbols is what a 52 tells: a name that stands already, or what nothing takes and is no such word
 abbrev pub IsWrong : SyntaxFault → List Symbol → Type 0
-IsWrong faults.BoundTwice rest = Unit {0}
-IsWrong faults.Unexpected (symbols.Unsupported w ∷ rest) = ⊥
-IsWrong faults.Unexpected rest = Unit {0}
-IsWrong cause rest = ⊥
+IsWrong faults.TooDeep rest = ⊥
+IsWrong faults.NoMemory rest = ⊥
+IsWrong cause rest = left_out cause rest ≡ None
 
 -- what is reported of the first of these symbols, which nothing takes
-abbrev pub IsUnexpected : CatFault → List Symbol → (offset : ℕ) → Type 0
-IsUnexpected (Syntax n) rest offset = IsWrong faults.Unexpected rest × (n ≡ offset)
-IsUnexpected (Unsupported w) (symbols.Unsupported v ∷ rest) offset = w ≡ v
-IsUnexpected NoMemory rest offset = Unit {0}
-IsUnexpected e rest offset = ⊥
+abbrev pub IsUnexpected : SyntaxFault → CatFault → List Symbol → (offset : ℕ) → Type 0
+IsUnexpected cause (Syntax n) rest offset = (left_out cause rest ≡ None) × (n ≡ offset)
+IsUnexpected cause (Unsupported w) rest offset = left_out cause rest ≡ Some w
+IsUnexpected cause NoMemory rest offset = Unit {0}
+IsUnexpected cause e rest offset = ⊥
 
 -- reading stops at a symbol that a 52 tells, and n is the offset of its token
 pub record IsWrongAt (ss : List Symbol) (tokens : List Token) (end n : ℕ) : Type 0 where
@@ -54,9 +60,9 @@ pub record IsWrongAt (ss : List Symbol) (tokens : List Token) (end n : ℕ) : Ty
 -- reading stops at the word w, which is left out
 pub record LeavesOut (ss : List Symbol) (w : List ℕ) : Type 0 where
   pub place : ℕ
-  pub behind : List Symbol
-  pub fault : FaultAt ss faults.Unexpected place
-  pub word : drop place ss ≡ symbols.Unsupported w ∷ behind
+  pub cause : SyntaxFault
+  pub fault : FaultAt ss cause place
+  pub word : left_out cause (drop place ss) ≡ Some w
 
 -- what a refusal tells of the symbols of a text
 abbrev pub Tells : CatFault → List Symbol → List Token → (end : ℕ) → Type 0

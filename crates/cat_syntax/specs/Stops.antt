@@ -12,7 +12,7 @@ StopsAt ss cause place = (us : List Symbol) → take (place + 3) us ≡ take (pl
 
 -- The first symbol of the 4,097th node is that of this number.
 pub data IsExcess (ss : List Symbol) (place : ℕ) : Type 0 where
-  excess_at : (counted : ℕ) (s : Symbol) (behind : List Symbol) → weight Naming (take counted ss) ≤ 4096 → 4096 < weight Naming (take (counted + 1) ss) →
+  excess_at : (counted : ℕ) (s : Symbol) (behind : List Symbol) → weight Naming 0 (take counted ss) ≤ 4096 → 4096 < weight Naming 0 (take (counted + 1) ss) →
       drop counted ss ≡ s ∷ behind → place ≡ (if announces_node s then counted + 1 else counted) → IsExcess ss place
 
 -- Reading stops here for this cause, and no node too many begins before.

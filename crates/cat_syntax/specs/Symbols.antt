@@ -1,5 +1,5 @@
 -- The symbols of a text: what its tokens are in the grammar. (herd7 manual, the cat language: lexical conventions.)
-use Rattle.std.specs.Prelude.{ℕ, ◌-◌, List, [], ◌∷◌, Bool, true, false, ◌&&◌, nat_le, Option, codes, length, if◌then◌else◌, slice_range, find, ◌||◌, take, drop}
+use Rattle.std.specs.Prelude.{ℕ, ◌-◌, List, [], ◌∷◌, Bool, true, false, ◌&&◌, nat_le, Option, codes, length, if◌then◌else◌, slice_range, find, take, drop}
 use Rattle.std.specs.List.{list_any, list_all}
 use Rattle.std.specs.Str.{bytes_eq}
 use Rattle.wb_text.specs.declared.token.Token.{Token}
@@ -100,11 +100,6 @@ is_left_out x = list_any (λ w. bytes_eq (foreign_spelling w) x) foreigns
 abbrev pub bytes_of : List ℕ → Token → List ℕ
 bytes_of text t = slice_range text t.from t.to
 
--- an opening parenthesis comes next
-abbrev pub calls : List ℕ → List Token → Bool
-calls text [] = false
-calls text (t ∷ ts) = bytes_eq (bytes_of text t) (spelling_of LeftParen)
-
 abbrev pub is_quoted : TokenKind → Bool
 is_quoted kinds.Quoted = true
 is_quoted k = false
@@ -117,16 +112,16 @@ is_named k = false
 abbrev pub inside : List ℕ → List ℕ
 inside x = take (length x - 2) (drop 1 x)
 
--- A token that is no terminal. A word that is left out, and a name directly before an opening parenthesis, are
--- unsupported; a name of more than 64 bytes and a number other than 0 are taken by no production.
-abbrev pub free_symbol : (named called : Bool) → List ℕ → Symbol
-free_symbol named called x = if is_name x then (if is_left_out x || (named && called) then Unsupported x else (if named then Name x else Other)) else Other
+-- A token that is no terminal. A word that is left out is unsupported; a name of more than 64 bytes and a number other than 0
+-- are taken by no production.
+abbrev pub free_symbol : (named : Bool) → List ℕ → Symbol
+free_symbol named x = if is_name x then (if is_left_out x then Unsupported x else (if named then Name x else Other)) else Other
 
--- what a token is, where the tokens ts follow it
-abbrev pub symbol_of : List ℕ → Token → List Token → Symbol
-symbol_of text t ts = if is_quoted t.kind then Quoted (inside (bytes_of text t)) else match_option (terminal_of (bytes_of text t)) (free_symbol (is_named t.kind) (calls text ts) (bytes_of text t)) Fixed
+-- what a token is
+abbrev pub symbol_of : List ℕ → Token → Symbol
+symbol_of text t = if is_quoted t.kind then Quoted (inside (bytes_of text t)) else match_option (terminal_of (bytes_of text t)) (free_symbol (is_named t.kind) (bytes_of text t)) Fixed
 
 -- the symbols of a text with these tokens
 abbrev pub symbols_of : List ℕ → List Token → List Symbol
 symbols_of text [] = []
-symbols_of text (t ∷ ts) = symbol_of text t ts ∷ symbols_of text ts
+symbols_of text (t ∷ ts) = symbol_of text t ∷ symbols_of text ts

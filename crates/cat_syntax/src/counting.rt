@@ -1,7 +1,8 @@
 //! Counting nodes, symbol by symbol, before anything is read.
 
 ghost use Rattle.std.specs.Prelude.{◌≡◌, ◌≤◌, ◌<◌, MatchOption, IfSome, length};
-ghost use Rattle.cat_syntax.specs.Counting.{is_check_word as word_is, is_node as node_is, cost as cost_of, announces_node, context_after, weight};
+ghost use Rattle.std.proofs.Common.{suc};
+ghost use Rattle.cat_syntax.specs.Counting.{is_check_word as word_is, is_node as node_is, cost as cost_of, announces_node, context_after, depth_after, weight};
 ghost use Rattle.cat_syntax.specs.Stops.{IsExcess};
 ghost use Rattle.cat_syntax.specs.declared.counting.Context.TheVariants.{Naming};
 
@@ -51,15 +52,16 @@ fn is_node(terminal: Terminal) -> bool
     )
 }
 
-/// How many nodes a symbol is.
+/// How many nodes a symbol is, where so many parentheses are open: a comma between parameters or arguments is none.
 #[tactic(auto, unfolding(crate::specs::Counting::cost))]
-fn cost(context: Context, symbol: &Symbol) -> usize
-    ensures value { result ≡ cost_of context symbol.now }
+fn cost(context: Context, depth: usize, symbol: &Symbol) -> usize
+    ensures value { result ≡ cost_of context depth symbol.now }
     ensures small { result ≤ 1 }
 {
     let counts = match symbol {
         Symbol::Name(_) => !matches!(context, Context::Naming | Context::Unshow),
         Symbol::Fixed(Terminal::Tilde) => !matches!(context, Context::Flag),
+        Symbol::Fixed(Terminal::Comma) => depth == 0,
         Symbol::Fixed(terminal) if is_check_word(*terminal) => {
             !matches!(context, Context::Flag | Context::Tilde)
         }
@@ -86,6 +88,20 @@ fn following(context: Context, symbol: &Symbol) -> Context
     }
 }
 
+/// How many parentheses are open behind a symbol.
+#[tactic(auto, unfolding(crate::specs::Counting::depth_after))]
+fn depth_behind(depth: usize, symbol: &Symbol) -> usize
+    requires { depth < 18446744073709551615 }
+    ensures value { result ≡ depth_after depth symbol.now }
+    ensures most { result ≤ suc depth }
+{
+    match symbol {
+        Symbol::Fixed(Terminal::LeftParen) => depth + 1,
+        Symbol::Fixed(Terminal::RightParen) => depth.saturating_sub(1),
+        _ => depth,
+    }
+}
+
 /// Whether a symbol is the node of what stands behind it.
 fn announces(symbol: &Symbol) -> bool
     ensures { result ≡ announces_node symbol.now }
@@ -101,16 +117,18 @@ fn announces(symbol: &Symbol) -> bool
 pub fn excess(symbols: &[Symbol]) -> Option<usize>
     ensures long { IfSome result (λ _. 4096 < length symbols.now) }
     ensures place { IfSome result (λ n. (n ≤ length symbols.now) × IsExcess symbols.now n) }
-    ensures weight { MatchOption result (weight Naming symbols.now ≤ 4096) (λ _. 4096 < weight Naming symbols.now) }
+    ensures weight { MatchOption result (weight Naming 0 symbols.now ≤ 4096) (λ _. 4096 < weight Naming 0 symbols.now) }
 {
     let mut context = Context::Naming;
+    let mut depth = 0;
     let mut nodes = 0;
     for (i, symbol) in symbols.iter().enumerate() {
-        nodes += cost(context, symbol);
+        nodes += cost(context, depth, symbol);
         if nodes > NODES {
             return Some(if announces(symbol) { i + 1 } else { i });
         }
         context = following(context, symbol);
+        depth = depth_behind(depth, symbol);
     }
     None
 }

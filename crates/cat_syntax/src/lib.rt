@@ -11,7 +11,8 @@ mod symbol;
 mod syntax_fault;
 
 pub use cat_tree::{
-    Binding, CatFile, Check, CheckKind, Element, Expression, Infix, Item, Leaf, Node, Sign, Title,
+    Binding, CatFile, Check, CheckKind, Definition, Element, Expression, Infix, Item, Leaf, Node,
+    Sign, Title,
 };
 pub use fault::CatFault;
 pub use reading::read_cat;

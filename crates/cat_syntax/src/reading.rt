@@ -1,22 +1,22 @@
 //! The reader: recursive descent over the symbols of a text.
 
-ghost use Rattle.std.specs.Prelude.{◌≡◌, ◌<◌, ◌≤◌, ℕ, List, drop, length, Some, None, Ok, Err, IfOk, IfErr, MatchBool, MatchResult};
+ghost use Rattle.std.specs.Prelude.{◌≡◌, ◌<◌, ◌≤◌, ℕ, List, drop, length, Some, None, Ok, Err, IfOk, IfErr, MatchBool, MatchResult, option_map};
 ghost use Rattle.std.proofs.Common.{suc};
 ghost use Rattle.cat_syntax.specs.Items.{IsFile};
-ghost use Rattle.cat_syntax.specs.Reads.{Reads, IsRefused, Tells, IsUnexpected, offset_of as first_offset};
+ghost use Rattle.cat_syntax.specs.Reads.{Reads, IsRefused, Tells, IsUnexpected, left_out as word_left_out, offset_of as first_offset};
 ghost use Rattle.cat_syntax.specs.Stops.{StopsAt, IsExcess};
 ghost use Rattle.cat_syntax.specs.Nodes.{nodes};
 ghost use Rattle.cat_tree.specs.Tree.{File};
 ghost use Rattle.cat_syntax.specs.declared.fault.CatFault.TheVariants.{NoMemory};
 ghost use Rattle.cat_syntax.specs.declared.syntax_fault.SyntaxFault.TheVariants.{TooDeep, NoMemory as NoSpace};
-ghost use Rattle.cat_syntax.specs.Reading.{Gives, OrNoMemory, after, expected, name_at};
+ghost use Rattle.cat_syntax.specs.Reading.{Gives, OrNoMemory, after, expected, name_at, next_name as name_ahead};
 
 mod expressions;
 mod items;
 
 use crate::counting::excess;
 use crate::fault::CatFault;
-use crate::symbol::{Symbol, Terminal, symbols};
+use crate::symbol::{Spelling, Symbol, Terminal, symbols};
 use crate::syntax_fault::SyntaxFault;
 use cat_tree::CatFile;
 use std::alloc::Global;
@@ -84,6 +84,20 @@ impl<'a> Reader<'a> {
         }
     }
 
+    /// The name that comes next, if one does.
+    #[tactic(auto, unfolding(crate::specs::Reading::next_name))]
+    fn next_name(&self) -> Option<&Spelling<'a>>
+        ensures { option_map (λ x. x.now) result ≡ name_ahead self.now.rest.now }
+    {
+        match self.rest {
+            [first, ..] => match first {
+                Symbol::Name(spelling) => Some(spelling),
+                _ => None,
+            },
+            [] => None,
+        }
+    }
+
     /// Takes a name.
     #[tactic(auto, unfolding(crate::specs::Reading::name_at))]
     fn name(&mut self) -> Result<Name, SyntaxFault>
@@ -113,24 +127,41 @@ fn offset_of(tokens: &[Token], end: usize) -> usize
     }
 }
 
-/// The refusal of a text for the first of these symbols, which nothing takes, by its offset.
-fn unexpected<'a>(alloc: Global, rest: &[Symbol<'a>], offset: usize) -> CatFault
-    ensures { IsUnexpected result rest.now offset }
+/// The word that a 53 names, where a fault is about the first of these symbols and that is left out.
+fn left_out<'a, 'b>(fault: SyntaxFault, rest: &'b [Symbol<'a>]) -> Option<&'b Spelling<'a>>
+    ensures { option_map (λ x. x.now) result ≡ word_left_out fault rest.now }
 {
-    match rest {
-        [first, ..] => match first {
-            Symbol::Unsupported(word) => match word.name(alloc) {
-                Ok(name) => CatFault::Unsupported(name),
-                Err(_) => CatFault::NoMemory,
-            },
-            _ => CatFault::Syntax(offset),
+    let [first, ..] = rest else {
+        return None;
+    };
+    match fault {
+        SyntaxFault::Unexpected => match first {
+            Symbol::Unsupported(word) => Some(word),
+            _ => None,
         },
-        [] => CatFault::Syntax(offset),
+        SyntaxFault::RecursiveFunction => match first {
+            Symbol::Name(word) => Some(word),
+            _ => None,
+        },
+        _ => None,
+    }
+}
+
+/// The refusal of a text for a fault about the first of these symbols, which nothing takes, by its offset.
+fn unexpected<'a>(alloc: Global, fault: SyntaxFault, rest: &[Symbol<'a>], offset: usize) -> CatFault
+    ensures { IsUnexpected fault result rest.now offset }
+{
+    match left_out(fault, rest) {
+        Some(word) => match word.name(alloc) {
+            Ok(name) => CatFault::Unsupported(name),
+            Err(_) => CatFault::NoMemory,
+        },
+        None => CatFault::Syntax(offset),
     }
 }
 
 /// The refusal of a text for a fault at one of its symbols.
-#[tactic(auto, using(crate::proofs::Refusals::unexpected_told, crate::proofs::Refusals::twice_told, crate::proofs::Refusals::deep_told))]
+#[tactic(auto, using(crate::proofs::Refusals::unexpected_told, crate::proofs::Refusals::function_told, crate::proofs::Refusals::twice_told, crate::proofs::Refusals::deep_told))]
 fn refusal<'a>(
     alloc: Global,
     symbols: &[Symbol<'a>],
@@ -149,7 +180,11 @@ fn refusal<'a>(
     match fault {
         SyntaxFault::Unexpected => {
             let offset = offset_of(&tokens[place..], end);
-            unexpected(alloc, &symbols[place..], offset)
+            unexpected(alloc, fault, &symbols[place..], offset)
+        }
+        SyntaxFault::RecursiveFunction => {
+            let offset = offset_of(&tokens[place..], end);
+            unexpected(alloc, fault, &symbols[place..], offset)
         }
         SyntaxFault::BoundTwice => CatFault::Syntax(offset_of(&tokens[place..], end)),
         SyntaxFault::TooDeep => CatFault::TooDeep,

@@ -4,7 +4,7 @@ ghost use Rattle.std.specs.Prelude.{◌≡◌, true, false, length, All, IfOk, M
 ghost use Rattle.wb_text.specs.Names.{IsName};
 ghost use Rattle.std.specs.List.{list_all};
 ghost use Rattle.wb_text.specs.Tokens.{IsWithin};
-ghost use Rattle.cat_syntax.specs.Symbols.{is_printable as spells_printable, is_name as spells_name, spelling_of, terminal_of as terminal_written, inside, calls as calls_next, bytes_of, symbol_of, symbols_of};
+ghost use Rattle.cat_syntax.specs.Symbols.{is_printable as spells_printable, is_name as spells_name, spelling_of, terminal_of as terminal_written, inside, bytes_of, symbol_of, symbols_of};
 
 use crate::foreign::is_left_out;
 use std::alloc::{AllocError, Global};
@@ -245,7 +245,7 @@ pub enum Symbol<'a> {
     Fixed(Terminal),
     Name(Spelling<'a>),
     Quoted(Quotation<'a>),
-    /// A word or a sign that the language leaves out, or a name directly before an opening parenthesis.
+    /// A word or a sign that the language leaves out.
     Unsupported(Spelling<'a>),
     /// A token that no production takes.
     Other,
@@ -259,22 +259,10 @@ fn bytes_at(text: &[u8], token: Token) -> &[u8]
     &text[token.from..token.to]
 }
 
-/// Whether an opening parenthesis comes next.
-fn calls(text: &[u8], following: &[Token]) -> bool
-    requires { All (IsWithin (length text.now)) following.now }
-    ensures { result ≡ calls_next text.now following.now }
-{
-    match following {
-        [next, ..] => bytes_at(text, *next) == Terminal::LeftParen.spelling(),
-        [] => false,
-    }
-}
-
-/// What a token is, where others follow it.
-fn symbol_at<'a>(text: &'a [u8], token: Token, following: &[Token]) -> Symbol<'a>
-    requires token { IsWithin (length text.now) token }
-    requires following { All (IsWithin (length text.now)) following.now }
-    ensures { result ≡ symbol_of text.now token following.now }
+/// What a token is.
+fn symbol_at<'a>(text: &'a [u8], token: Token) -> Symbol<'a>
+    requires { IsWithin (length text.now) token }
+    ensures { result ≡ symbol_of text.now token }
 {
     let bytes = bytes_at(text, token);
     if matches!(token.kind, TokenKind::Quoted) {
@@ -286,10 +274,9 @@ fn symbol_at<'a>(text: &'a [u8], token: Token, following: &[Token]) -> Symbol<'a
     let Some(spelling) = Spelling::new(bytes) else {
         return Symbol::Other;
     };
-    let named = matches!(token.kind, TokenKind::Name);
-    if is_left_out(bytes) || (named && calls(text, following)) {
+    if is_left_out(bytes) {
         Symbol::Unsupported(spelling)
-    } else if named {
+    } else if matches!(token.kind, TokenKind::Name) {
         Symbol::Name(spelling)
     } else {
         Symbol::Other
@@ -306,8 +293,8 @@ pub fn symbols<'a>(
     ensures { IfOk result (λ v. v.items ≡ symbols_of text.now tokens.now) }
 {
     let mut symbols = Vec::new(alloc);
-    for (i, token) in tokens.iter().enumerate() {
-        symbols.push(symbol_at(text, *token, &tokens[i + 1..]))?;
+    for token in tokens {
+        symbols.push(symbol_at(text, *token))?;
     }
     Ok(symbols)
 }

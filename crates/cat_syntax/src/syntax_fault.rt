@@ -9,8 +9,10 @@ use std::alloc::{AllocError, AllocFailed};
 pub enum SyntaxFault {
     /// Nothing takes the symbol, or the end where more is wanted.
     Unexpected,
-    /// The symbol is a name that its group binds already.
+    /// The symbol is a name that its group binds already, or its list of parameters has.
     BoundTwice,
+    /// The symbol is the name of a function that a `let rec` group binds.
+    RecursiveFunction,
     /// Parentheses, brackets and complements nest more than 64 deep.
     TooDeep,
     NoMemory,

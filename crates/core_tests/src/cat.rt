@@ -1,6 +1,7 @@
 //! Tests of the cat crates, by their public items alone.
 
 mod chains;
+mod functions;
 mod growth;
 mod judging;
 mod loading;

@@ -55,6 +55,7 @@ model_fault_text (of_model.IncludeCycle name) = with_field (model_label (of_mode
 model_fault_text (of_model.Unbound name) = with_field (model_label (of_model.Unbound name)) name
 model_fault_text (of_model.WrongSort name) = with_field (model_label (of_model.WrongSort name)) name
 model_fault_text (of_model.NotMonotone name) = with_field (model_label (of_model.NotMonotone name)) name
+model_fault_text (of_model.CallsTooLarge name) = with_field (model_label (of_model.CallsTooLarge name)) name
 model_fault_text of_model.FlagWithoutName = model_label of_model.FlagWithoutName
 model_fault_text of_model.ModelTooLarge = model_label of_model.ModelTooLarge
 model_fault_text of_model.NoMemory = model_label of_model.NoMemory

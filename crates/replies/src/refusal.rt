@@ -137,6 +137,7 @@ pub fn write_model_fault<W: Sink>(fault: &ModelFault, writer: &mut W) -> Result<
         ModelFault::Unbound(name) => write_field(label, name.bytes(), writer),
         ModelFault::WrongSort(name) => write_field(label, name.bytes(), writer),
         ModelFault::NotMonotone(name) => write_field(label, name.bytes(), writer),
+        ModelFault::CallsTooLarge(name) => write_field(label, name.bytes(), writer),
         _ => write_bytes(label, writer),
     }
 }

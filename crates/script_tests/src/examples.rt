@@ -2,6 +2,7 @@
 //!
 //! The verdicts were worked out by hand from the models' checks.
 
+mod fences;
 mod texts;
 
 use crate::calls::{Answer, Case, Scene, WIDE, all_go_well, all_hold};

@@ -190,9 +190,9 @@ Condition exists (0:r0=0 /\\ 1:r0=0)
 Observation SB Never 0 3
 ";
 
-/// A model with a flag and with a recursive binding.
+/// A model with a flag, a function and a recursive binding.
 const KEPT: &str =
-    "include \"stdlib.cat\" let rec r = po | (r ; r) flag ~empty r as kept acyclic r | rf | co | fr";
+    "include \"stdlib.cat\" let twice(x) = x ; x let rec r = po | twice(r) flag ~empty r as kept acyclic r | rf | co | fr";
 
 #[test]
 fn one_summary(rt: HostRuntime) -> Result<(), Fail> {
@@ -214,13 +214,18 @@ const ONE_REFUSALS: &[(&str, &str, &str)] = &[
         "",
         "17 Unsupported while",
     ),
-    (STORE_BUFFERING, "let f(x) = x", "53 Unsupported f"),
+    (STORE_BUFFERING, "let rec f(x) = x", "53 Unsupported f"),
     (
         STORE_BUFFERING,
         "include \"none.cat\"",
         "62 NoInclude none.cat",
     ),
     (STORE_BUFFERING, "let r = po acyclic s", "64 Unbound s"),
+    (
+        STORE_BUFFERING,
+        "let f(x) = x | x | x | x let f(x) = f(f(f(x))) let f(x) = f(f(f(x))) empty f(0)",
+        "69 CallsTooLarge empty",
+    ),
     (THIRTEEN_STORES, "", "41 TooManyCandidates"),
 ];
 
@@ -380,7 +385,7 @@ const REFUSED: &str = "0 test
 C E { 0:r0 = 1; } P0 () { while (r0) {} } exists true
 .
 0 cat a.cat
-let f(x) = x
+let rec f(x) = x
 .
 0 ask SB a.cat
 0 poll 9

@@ -20,6 +20,20 @@ P1 (atomic_int* x, atomic_int* y) {
 }
 exists (0:r0=0 /\\ 1:r0=0)";
 
+/// Store buffering, in relaxed order, with a fence between the two accesses of each thread.
+const FENCED: &str = "C SB {}
+P0 (atomic_int* x, atomic_int* y) {
+  atomic_store_explicit(x, 1, memory_order_relaxed);
+  atomic_thread_fence(memory_order_seq_cst);
+  int r0 = atomic_load_explicit(y, memory_order_relaxed);
+}
+P1 (atomic_int* x, atomic_int* y) {
+  atomic_store_explicit(y, 1, memory_order_relaxed);
+  atomic_thread_fence(memory_order_seq_cst);
+  int r0 = atomic_load_explicit(x, memory_order_relaxed);
+}
+exists (0:r0=0 /\\ 1:r0=0)";
+
 /// Thirteen stores to one location.
 const STORES: &str = "C S {}
 P0 (atomic_int* x) {
@@ -237,19 +251,21 @@ Observation R Never 0 6
         )],
     },
     Case {
+        name: "an add of 0, which may read its own write",
+        test: "C Z {}
+P0 (atomic_int* x) { atomic_fetch_add_explicit(x, 0, memory_order_relaxed); }
+exists true",
+        rows: &[
+            (
+                &["", "empty RMW \\ (A & RLX) ~empty rmw & data"],
+                Answer::Ends("Observation Z Always 3 0\n"),
+            ),
+            (&[RC11], Answer::Ends("Observation Z Always 1 0\n")),
+        ],
+    },
+    Case {
         name: "sb_fences",
-        test: "C SB {}
-P0 (atomic_int* x, atomic_int* y) {
-  atomic_store_explicit(x, 1, memory_order_relaxed);
-  atomic_thread_fence(memory_order_seq_cst);
-  int r0 = atomic_load_explicit(y, memory_order_relaxed);
-}
-P1 (atomic_int* x, atomic_int* y) {
-  atomic_store_explicit(y, 1, memory_order_relaxed);
-  atomic_thread_fence(memory_order_seq_cst);
-  int r0 = atomic_load_explicit(x, memory_order_relaxed);
-}
-exists (0:r0=0 /\\ 1:r0=0)",
+        test: FENCED,
         rows: &[(&[RC11], Answer::Ends("Observation SB Never 0 3\n"))],
     },
     Case {
@@ -379,6 +395,73 @@ exists (0:r0=1 /\\ 1:r0=1)",
 #[test]
 fn worked_rows(rt: HostRuntime) -> Result<(), Fail> {
     all_hold(rt.alloc(), WORKED)
+}
+
+const FUNCTIONS: &[Case] = &[
+    Case {
+        name: "Cat-functions-row-1",
+        test: FENCED,
+        rows: &[
+            (
+                &[
+                    "acyclic (fencerel(F & SC) | fr)",
+                    "let fence(b) = (po & (_ * b)) ; po acyclic (fence(F & SC) | fr)",
+                    "let po = 0 acyclic (fencerel(F) | fr)",
+                ],
+                Answer::Ends("Observation SB Never 0 3\n"),
+            ),
+            (
+                &[
+                    "acyclic (fencerel(F & ACQ) | fr)",
+                    "let fencerel(b) = 0 acyclic (fencerel(F & SC) | fr)",
+                ],
+                Answer::Ends("Observation SB Sometimes 1 3\n"),
+            ),
+        ],
+    },
+    Case {
+        name: "Cat-functions-row-2",
+        test: BUFFERED,
+        rows: &[(
+            &["let r = po let f(x) = x | r let r = 0 flag ~empty (f(r) \\ 0) as kept"],
+            Answer::Ends(
+                "Positive: 1 Negative: 3
+Flag kept
+Condition exists (0:r0=0 /\\ 1:r0=0)
+Observation SB Sometimes 1 3
+",
+            ),
+        )],
+    },
+    Case {
+        name: "Cat-functions-row-3",
+        test: BUFFERED,
+        rows: &[
+            (
+                &["let f(x) = [x] acyclic f(W)"],
+                Answer::Ends("Observation SB Never 0 0\n"),
+            ),
+            (
+                &["let f(x) = ~x let rec r = f(r)"],
+                Answer::Refused("66 NotMonotone r"),
+            ),
+            (
+                &["let f(x) = [x] acyclic f(po)"],
+                Answer::Refused("65 WrongSort acyclic"),
+            ),
+            (
+                &["let f(x) = [x] empty f(W, R)"],
+                Answer::Refused("65 WrongSort empty"),
+            ),
+            (&["let f(x) = f(x)"], Answer::Refused("64 Unbound f")),
+            (&["let rec f(x) = x"], Answer::Refused("53 Unsupported f")),
+        ],
+    },
+];
+
+#[test]
+fn functions(rt: HostRuntime) -> Result<(), Fail> {
+    all_hold(rt.alloc(), FUNCTIONS)
 }
 
 const REFUSED: &[Case] = &[

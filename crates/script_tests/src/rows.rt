@@ -90,6 +90,40 @@ const HOSTILE_CAT_TEXTS: &[Long] = &[
     },
 ];
 
+/// Each next function is the union of two calls of the one before.
+const FUNCTIONS: &[Long] = &[
+    Long {
+        name: "65,536 nodes with each call replaced",
+        test: &[(STORE_BUFFERING, 1)],
+        cat: &[
+            ("let f(x) = x | x ", 1),
+            ("let f(x) = f(x) | f(x) ", 14),
+            ("empty f(0)", 1),
+        ],
+        answer: Answer::Is(STORE_BUFFERING_SUMMARY),
+    },
+    Long {
+        name: "131,072 nodes with each call replaced",
+        test: &[(STORE_BUFFERING, 1)],
+        cat: &[
+            ("let f(x) = x | x ", 1),
+            ("let f(x) = f(x) | f(x) ", 15),
+            ("empty f(0)", 1),
+        ],
+        answer: Answer::Refused("69 CallsTooLarge empty"),
+    },
+    Long {
+        name: "arguments that are dropped",
+        test: &[(STORE_BUFFERING, 1)],
+        cat: &[
+            ("let k(a, b) = a let f(x) = x ", 1),
+            ("let f(x) = k(0, f(x) | f(x)) ", 60),
+            ("empty f(po)", 1),
+        ],
+        answer: Answer::Is(STORE_BUFFERING_SUMMARY),
+    },
+];
+
 /// Whether the texts of a row are answered so.
 fn holds(alloc: Global, row: &Long) -> Result<bool, AllocError> {
     let test = repeated(alloc, row.test)?;
@@ -117,4 +151,9 @@ fn many_items(rt: HostRuntime) -> Result<(), Fail> {
 #[test]
 fn hostile_input_row_4(rt: HostRuntime) -> Result<(), Fail> {
     all_long_hold(rt.alloc(), HOSTILE_CAT_TEXTS)
+}
+
+#[test]
+fn functions(rt: HostRuntime) -> Result<(), Fail> {
+    all_long_hold(rt.alloc(), FUNCTIONS)
 }

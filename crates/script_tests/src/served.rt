@@ -263,6 +263,54 @@ const ANSWERED: &[Scene] = &[
         ],
     },
     Scene {
+        name: "Cat-functions-row-4",
+        limits: WIDE,
+        script: &[
+            ("0 test\n", 1),
+            (STORE_BUFFERING, 1),
+            (".\n0 cat a.cat\nlet f(x) = x | x\n", 1),
+            ("let f(x) = f(x) | f(x)\n", 15),
+            (
+                "empty f(0)\n.\n0 ask SB a.cat\n0 cat b.cat\nlet f(x) = x | x\n",
+                1,
+            ),
+            ("let f(x) = f(x) | f(x)\n", 14),
+            (
+                "empty f(0)\n.\n0 ask SB b.cat\n1 claim\n1 return 1\n0 poll 1\n",
+                1,
+            ),
+        ],
+        fails: false,
+        end: Ok(()),
+        answers: &[
+            "version SB 1\nversion a.cat 1\nrefused 74 Model 69 CallsTooLarge empty\nversion b.cat 1\njob 1\npiece 1 job 1 slice 0 from 0 to 16\ntaken 1 1\nverdict SB 1 b.cat 1\n",
+            STORE_BUFFERING_SUMMARY,
+            "finish ok 8\n",
+        ],
+    },
+    Scene {
+        name: "Cat-functions-row-5",
+        limits: WIDE,
+        script: &[
+            (
+                "0 cat base.cat\nlet f(x) = x | fr\n.\n0 cat sc.cat\ninclude \"base.cat\"\nacyclic f(po | rf | co) as sc\n.\n0 test\n",
+                1,
+            ),
+            (STORE_BUFFERING, 1),
+            (
+                ".\n0 ask SB sc.cat\n1 claim\n0 cat base.cat\nlet f(x) = x\n.\n1 return 1\n0 poll 1\n0 ask SB sc.cat\n1 claim\n1 return 2\n0 poll 2\n",
+                1,
+            ),
+        ],
+        fails: false,
+        end: Ok(()),
+        answers: &[
+            "version base.cat 1\nversion sc.cat 1\nversion SB 1\njob 1\npiece 1 job 1 slice 0 from 0 to 16\nversion base.cat 2\nrefused 79 Replaced cat base.cat 2\nrefused 79 Replaced cat base.cat 2\njob 2\npiece 2 job 2 slice 0 from 0 to 16\ntaken 1 1\nverdict SB 1 sc.cat 1 base.cat 2\n",
+            STORE_BUFFERING_SUMMARY,
+            "finish ok 12\n",
+        ],
+    },
+    Scene {
         name: "a_piece_is_returned_twice",
         limits: WIDE,
         script: &[

@@ -1,9 +1,10 @@
 //! Expressions, by a table of levels of operators.
 
-ghost use Rattle.std.specs.Prelude.{◌≡◌, ℕ, List, IfOk};
+ghost use Rattle.std.specs.Prelude.{◌≡◌, ℕ, List, map, IfOk};
 ghost use Rattle.cat_tree.specs.Tree.{Term, term_of};
 ghost use Rattle.cat_syntax.specs.Grammar.{begins_operand as operand_next, begins_check as check_next};
-ghost use Rattle.cat_syntax.specs.Reading.{Gives, Takes, applied, infix_at, associates_left as is_left, postfix_at, enclosed_with, parentheses, signed as sign_over, enclosure_at, leaf_at, opens_operand as terminal_opens, primary_with, postfix_with, unary_with, left, right, level_with, below, expression_at};
+ghost use Rattle.cat_syntax.specs.declared.symbol.Terminal.TheVariants.{Comma};
+ghost use Rattle.cat_syntax.specs.Reading.{Gives, Takes, applied, infix_at, associates_left as is_left, postfix_at, enclosed_with, separated, arguments_with, call_with, opens_arguments as arguments_next, begins_call as call_next, parentheses, signed as sign_over, enclosure_at, leaf_at, opens_operand as terminal_opens, primary_with, postfix_with, unary_with, left, right, level_with, below, expression_at};
 
 use crate::operator::{Enclosure, Postfix};
 use crate::reading::Reader;
@@ -66,6 +67,31 @@ fn begins_operand(symbols: &[Symbol]) -> bool
             Symbol::Fixed(terminal) => {
                 opens_operand(*terminal) || (*terminal == Terminal::Tilde && !begins_check(rest))
             }
+            _ => false,
+        },
+        [] => false,
+    }
+}
+
+/// Whether arguments come next.
+#[tactic(auto, unfolding(crate::specs::Reading::opens_arguments))]
+fn opens_arguments(symbols: &[Symbol]) -> bool
+    ensures { result ≡ arguments_next symbols.now }
+{
+    match symbols {
+        [first, ..] => matches!(first, Symbol::Fixed(Terminal::LeftParen)),
+        [] => false,
+    }
+}
+
+/// Whether a name comes next, with arguments or parameters behind it.
+#[tactic(auto, unfolding(crate::specs::Reading::begins_call))]
+pub fn begins_call(symbols: &[Symbol]) -> bool
+    ensures { result ≡ call_next symbols.now }
+{
+    match symbols {
+        [first, rest @ ..] => match first {
+            Symbol::Name(_) => opens_arguments(rest),
             _ => false,
         },
         [] => false,
@@ -278,13 +304,16 @@ impl<'a> Reader<'a> {
         Ok(Expression::leaf(self.alloc, leaf)?)
     }
 
-    /// primary := leaf | "(" level 5 ")" | "[" level 5 "]" | ("domain" | "range") "(" level 5 ")"
+    /// primary := leaf | "(" level 5 ")" | "[" level 5 "]" | ("domain" | "range") "(" level 5 ")" | call
     #[cycle(expressions)]
     #[tactic(auto, using(crate::proofs::Levels::primary_parts, crate::proofs::Levels::enclosure_takes))]
     fn primary(&mut self, nesting: u32) -> Result<Expression, SyntaxFault>
         ensures { Gives term_of result self.new.rest.now (primary_with (below nesting) self.old.rest.now) }
     {
         let Some(enclosure) = self.enclosure() else {
+            if begins_call(self.rest) {
+                return self.call(nesting);
+            }
             return self.leaf();
         };
         let inner = self.enclosed(enclosure.opening, enclosure.closing, nesting)?;
@@ -310,6 +339,49 @@ impl<'a> Reader<'a> {
         let inner = self.level(LEVELS, nesting)?;
         self.expect(closing)?;
         Ok(inner)
+    }
+
+    /// call := name arguments
+    #[cycle(expressions)]
+    #[tactic(auto, unfolding(crate::specs::Reading::call_with), using(crate::proofs::Levels::name_takes))]
+    fn call(&mut self, nesting: u32) -> Result<Expression, SyntaxFault>
+        ensures { Gives term_of result self.new.rest.now (call_with (below nesting) self.old.rest.now) }
+    {
+        let name = self.name()?;
+        let arguments = self.arguments(nesting)?;
+        Ok(Expression::call(self.alloc, name, arguments)?)
+    }
+
+    /// arguments := "(" listed ")"
+    #[cycle(expressions)]
+    #[tactic(auto, unfolding(crate::specs::Reading::expected), using(crate::proofs::Levels::required_takes, crate::proofs::Levels::arguments_none, crate::proofs::Levels::arguments_closed, crate::proofs::Levels::arguments_open))]
+    fn arguments(&mut self, nesting: u32) -> Result<Vec<Expression>, SyntaxFault>
+        ensures { Gives (λ v. map term_of v.items) result self.new.rest.now (arguments_with (below nesting) self.old.rest.now) }
+    {
+        if !self.sees(Terminal::LeftParen) {
+            return Err(SyntaxFault::Unexpected);
+        }
+        let nesting = self.deeper(nesting)?;
+        self.expect(Terminal::LeftParen)?;
+        let arguments = self.listed(nesting)?;
+        self.expect(Terminal::RightParen)?;
+        Ok(arguments)
+    }
+
+    /// listed := level 5 {"," level 5}
+    #[cycle(expressions)]
+    #[tactic(auto, using(crate::proofs::Levels::arguments_start, crate::proofs::Levels::arguments_turn, crate::proofs::Levels::terms_push, crate::proofs::Levels::after_takes, crate::proofs::Levels::level_takes))]
+    fn listed(&mut self, nesting: u32) -> Result<Vec<Expression>, SyntaxFault>
+        ensures { Gives (λ v. map term_of v.items) result self.new.rest.now (separated Comma (λ _. level_with (below nesting) 5) self.old.rest.now) }
+    {
+        let mut expressions = Vec::new(self.alloc);
+        loop {
+            let next = self.level(LEVELS, nesting)?;
+            expressions.push(next)?;
+            if !self.take(Terminal::Comma) {
+                return Ok(expressions);
+            }
+        }
     }
 
     /// An expression.

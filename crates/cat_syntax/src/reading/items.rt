@@ -3,24 +3,42 @@
 ghost use Rattle.std.specs.Prelude.{◌≡◌, List, map, option_map, Option, IfOk};
 ghost use Rattle.std.specs.List.{list_any};
 ghost use Rattle.std.specs.Str.{bytes_eq};
-ghost use Rattle.cat_tree.specs.Tree.{bound_of, shown_of, check_of, clause_of, File};
-ghost use Rattle.cat_syntax.specs.Reading.{Gives, alias_at, repeats as name_repeats, new_name_at, binding_at, group_at, element_at, kind_at, check_with, check_at, quoted_at, separated, name_at, item_at, title_at, items_at, file_at, unless_end};
+ghost use Rattle.cat_tree.specs.Tree.{defined_of, bound_of, shown_of, check_of, clause_of, File};
+ghost use Rattle.cat_syntax.specs.Reading.{Gives, alias_at, repeats as name_repeats, name_unless as name_at_unless, value_name_unless as value_name_at_unless, new_name_at, parameters_at, definition_at, binding_at, group_at, element_at, kind_at, check_with, check_at, quoted_at, separated, name_at, item_at, title_at, items_at, file_at, unless_end};
+ghost use Rattle.cat_syntax.specs.Items.{is_among, names_defined, names_bound};
 ghost use Rattle.cat_syntax.specs.declared.symbol.Terminal.TheVariants.{And, Comma};
 
 use crate::reading::Reader;
+use crate::reading::expressions::begins_call;
 use crate::symbol::{Spelling, Symbol, Terminal};
 use crate::syntax_fault::SyntaxFault;
-use cat_tree::{Binding, CatFile, Check, CheckKind, Element, Item, Title};
+use cat_tree::{Binding, CatFile, Check, CheckKind, Definition, Element, Item, Title};
 use std::alloc::{AllocError, Global};
 use wb_text::Name;
 
-/// Whether a name is among those that are bound.
+/// Whether a name is among those that a `let` binds.
+fn is_defined(definitions: &[Definition], name: &Spelling) -> bool
+    ensures { result ≡ list_any (λ d. bytes_eq d.name name.now) definitions.now }
+{
+    definitions
+        .iter()
+        .any(|definition| definition.name.bytes() == name.bytes())
+}
+
+/// Whether a name is among those that a `let rec` binds.
 fn is_bound(bindings: &[Binding], name: &Spelling) -> bool
     ensures { result ≡ list_any (λ b. bytes_eq b.name name.now) bindings.now }
 {
     bindings
         .iter()
         .any(|binding| binding.name.bytes() == name.bytes())
+}
+
+/// Whether a name is among these.
+fn is_listed(names: &[Name], name: &Spelling) -> bool
+    ensures { result ≡ is_among names.now name.now }
+{
+    names.iter().any(|listed| listed.bytes() == name.bytes())
 }
 
 /// A title of these bytes.
@@ -43,30 +61,120 @@ impl<'a> Reader<'a> {
         }
     }
 
-    /// Whether the next symbol is a name that is bound.
-    #[tactic(auto, unfolding(crate::specs::Reading::repeats))]
-    fn repeats(&self, bound: &[Binding]) -> bool
-        ensures { result ≡ name_repeats (map bound_of bound.now) self.now.rest.now }
+    /// Whether the next symbol is a name that a `let` binds already.
+    fn repeats_defined(&self, definitions: &[Definition]) -> bool
+        ensures { result ≡ name_repeats (names_defined (map defined_of definitions.now)) self.now.rest.now }
     {
-        match self.rest {
-            [first, ..] => match first {
-                Symbol::Name(name) => is_bound(bound, name),
-                Symbol::Unsupported(name) => is_bound(bound, name),
-                _ => false,
-            },
-            [] => false,
+        match self.next_name() {
+            Some(name) => is_defined(definitions, name),
+            None => false,
         }
     }
 
-    /// A name that is not bound.
-    #[tactic(auto, unfolding(crate::specs::Reading::new_name_at))]
-    fn new_name(&mut self, bound: &[Binding]) -> Result<Name, SyntaxFault>
-        ensures { Gives (λ x. x) result self.new.rest.now (new_name_at (map bound_of bound.now) self.old.rest.now) }
+    /// Whether the next symbol is a name that a `let rec` binds already.
+    fn repeats_bound(&self, bindings: &[Binding]) -> bool
+        ensures { result ≡ name_repeats (names_bound (map bound_of bindings.now)) self.now.rest.now }
     {
-        if self.repeats(bound) {
+        match self.next_name() {
+            Some(name) => is_bound(bindings, name),
+            None => false,
+        }
+    }
+
+    /// Whether the next symbol is a name that stands already.
+    fn repeats_listed(&self, names: &[Name]) -> bool
+        ensures { result ≡ name_repeats names.now self.now.rest.now }
+    {
+        match self.next_name() {
+            Some(name) => is_listed(names, name),
+            None => false,
+        }
+    }
+
+    /// A name, where it doesn't stand already.
+    #[tactic(auto, unfolding(crate::specs::Reading::name_unless))]
+    fn name_unless(&mut self, repeated: bool) -> Result<Name, SyntaxFault>
+        ensures { Gives (λ x. x) result self.new.rest.now (name_at_unless repeated self.old.rest.now) }
+    {
+        if repeated {
             return Err(SyntaxFault::BoundTwice);
         }
         self.name()
+    }
+
+    /// A name that stands for a value, where it doesn't stand already.
+    #[tactic(auto, unfolding(crate::specs::Reading::value_name_unless))]
+    fn value_name_unless(&mut self, repeated: bool) -> Result<Name, SyntaxFault>
+        ensures { Gives (λ x. x) result self.new.rest.now (value_name_at_unless repeated self.old.rest.now) }
+    {
+        if repeated {
+            return Err(SyntaxFault::BoundTwice);
+        }
+        if begins_call(self.rest) {
+            return Err(SyntaxFault::RecursiveFunction);
+        }
+        self.name()
+    }
+
+    /// name {"," name}, no name twice
+    #[tactic(auto, unfolding(crate::specs::Reading::separated), using(crate::proofs::Lists::new_names_more, crate::proofs::Lists::after_takes, crate::proofs::Lists::new_name_takes))]
+    fn new_names(&mut self) -> Result<Vec<Name>, SyntaxFault>
+        ensures { Gives (λ v. v.items) result self.new.rest.now (separated Comma new_name_at self.old.rest.now) }
+    {
+        let mut names = Vec::new(self.alloc);
+        loop {
+            let repeated = self.repeats_listed(&names);
+            let next = self.name_unless(repeated)?;
+            names.push(next)?;
+            if !self.take(Terminal::Comma) {
+                return Ok(names);
+            }
+        }
+    }
+
+    /// ["(" name {"," name} ")"], no name twice
+    #[tactic(auto, unfolding(crate::specs::Reading::parameters_at))]
+    fn parameters(&mut self) -> Result<Vec<Name>, SyntaxFault>
+        ensures { Gives (λ v. v.items) result self.new.rest.now (parameters_at self.old.rest.now) }
+    {
+        if !self.take(Terminal::LeftParen) {
+            return Ok(Vec::new(self.alloc));
+        }
+        let names = self.new_names()?;
+        self.expect(Terminal::RightParen)?;
+        Ok(names)
+    }
+
+    /// name parameters "=" expression, where the name is not bound
+    #[tactic(auto, unfolding(crate::specs::Reading::definition_at))]
+    fn definition(&mut self, defined: &[Definition]) -> Result<Definition, SyntaxFault>
+        ensures { Gives defined_of result self.new.rest.now (definition_at (map defined_of defined.now) self.old.rest.now) }
+    {
+        let repeated = self.repeats_defined(defined);
+        let name = self.name_unless(repeated)?;
+        let parameters = self.parameters()?;
+        self.expect(Terminal::Equals)?;
+        let value = self.expression()?;
+        Ok(Definition {
+            name,
+            parameters,
+            value,
+        })
+    }
+
+    /// definition {"and" definition}
+    #[tactic(auto, unfolding(crate::specs::Reading::separated), using(crate::proofs::Lists::definitions_more, crate::proofs::Lists::defined_push, crate::proofs::Lists::after_takes, crate::proofs::Lists::definition_takes))]
+    fn definitions(&mut self) -> Result<Vec<Definition>, SyntaxFault>
+        ensures { Gives (λ v. map defined_of v.items) result self.new.rest.now (separated And definition_at self.old.rest.now) }
+    {
+        let mut definitions = Vec::new(self.alloc);
+        loop {
+            let next = self.definition(&definitions)?;
+            definitions.push(next)?;
+            if !self.take(Terminal::And) {
+                return Ok(definitions);
+            }
+        }
     }
 
     /// name "=" expression, where the name is not bound
@@ -74,7 +182,8 @@ impl<'a> Reader<'a> {
     fn binding(&mut self, bound: &[Binding]) -> Result<Binding, SyntaxFault>
         ensures { Gives bound_of result self.new.rest.now (binding_at (map bound_of bound.now) self.old.rest.now) }
     {
-        let name = self.new_name(bound)?;
+        let repeated = self.repeats_bound(bound);
+        let name = self.value_name_unless(repeated)?;
         self.expect(Terminal::Equals)?;
         let value = self.expression()?;
         Ok(Binding { name, value })
@@ -95,7 +204,7 @@ impl<'a> Reader<'a> {
         }
     }
 
-    /// What stands behind `let`: ["rec"] bindings
+    /// What stands behind `let`: definitions | "rec" bindings
     #[tactic(auto, unfolding(crate::specs::Reading::group_at))]
     fn group(&mut self) -> Result<Item, SyntaxFault>
         ensures { Gives clause_of result self.new.rest.now (group_at self.old.rest.now) }
@@ -103,7 +212,7 @@ impl<'a> Reader<'a> {
         if self.take(Terminal::Rec) {
             Ok(Item::LetRec(self.bindings()?))
         } else {
-            Ok(Item::Let(self.bindings()?))
+            Ok(Item::Let(self.definitions()?))
         }
     }
 

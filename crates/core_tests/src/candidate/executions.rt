@@ -15,7 +15,7 @@ P0 (atomic_int* x) { int r0 = atomic_exchange_explicit(x, 1, memory_order_relaxe
 P1 (atomic_int* x) { int r1 = atomic_exchange_explicit(x, 2, memory_order_relaxed); }\n\
 exists (0:r0=0 /\\ 1:r1=0)\n";
 
-const ADDITIONS: &str = "C A\n{}\n\
+pub const ADDITIONS: &str = "C A\n{}\n\
 P0 (atomic_int* x) { int r0 = atomic_fetch_add_explicit(x, 1, memory_order_relaxed); }\n\
 P1 (atomic_int* x) { int r1 = atomic_fetch_add_explicit(x, 1, memory_order_relaxed); }\n\
 exists (0:r0=0 /\\ 1:r1=0)\n";

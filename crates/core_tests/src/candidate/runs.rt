@@ -1,17 +1,27 @@
 //! The runs of threads.
 
+use crate::candidate::executions::ADDITIONS;
 use crate::candidate::texts::{Check, Count, SB, any, has_runs, repeated};
 use c11_threads::RunFault;
 use events::{Access, Event, Order, Run};
 use std::alloc::Global;
 
-/// Threads of store buffering, and how many runs they have.
-const THREADS: [(usize, Count); 3] = [(0, Some(Ok(2))), (1, Some(Ok(2))), (2, None)];
+/// Threads of store buffering and of two adds of 1, whose values are 0 to 3, and how many runs they have.
+const THREADS: [(&str, usize, Count); 5] = [
+    (SB, 0, Some(Ok(2))),
+    (SB, 1, Some(Ok(2))),
+    (SB, 2, None),
+    (ADDITIONS, 0, Some(Ok(3))),
+    (ADDITIONS, 1, Some(Ok(3))),
+];
 
 #[test]
-fn threads_of_sb(rt: HostRuntime) {
-    for (thread, count) in &THREADS {
-        assert!(rt; has_runs(rt.alloc(), SB, *thread, *count, any), "P{thread}");
+fn threads(rt: HostRuntime) {
+    for (text, thread, count) in &THREADS {
+        assert!(rt;
+            has_runs(rt.alloc(), text, *thread, *count, any),
+            "P{thread} of {text}"
+        );
     }
 }
 

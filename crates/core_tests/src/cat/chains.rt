@@ -223,6 +223,68 @@ const NESTINGS: &[(Texts, Fact)] = &[
     ),
 ];
 
+const CALLS: &[(Texts, Fact)] = &[
+    (
+        (
+            &[("let f(x) = x empty ", 1), ("f(", 64), ("fr", 1), (")", 64)],
+            &[("let f(x) = x empty ", 1), ("f(", 63), ("fr", 1), (")", 63)],
+        ),
+        FORBIDS,
+    ),
+    (
+        (
+            &[
+                ("let f(x) = fr empty ", 1),
+                ("f(0 | ", 64),
+                ("fr", 1),
+                (")", 64),
+            ],
+            &[
+                ("let f(x) = fr empty ", 1),
+                ("f(0 | ", 64),
+                ("rf", 1),
+                (")", 64),
+            ],
+        ),
+        FORBIDS,
+    ),
+    (
+        (
+            &[
+                ("let f(x) = x ", 1),
+                ("let f(x) = f(x ; id) ", 63),
+                ("empty f(0)", 1),
+            ],
+            &[
+                ("let f(x) = x ", 1),
+                ("let f(x) = f(x ; id) ", 62),
+                ("empty f(0)", 1),
+            ],
+        ),
+        ALLOWS,
+    ),
+    (
+        (
+            &[
+                ("let f(x) = x | fr ", 1),
+                ("let f(x) = f(x) & f(fr) ", 13),
+                ("empty f(0)", 1),
+            ],
+            &[
+                ("let f(x) = x | fr ", 1),
+                ("let f(x) = f(x) & f(rf) ", 13),
+                ("empty f(0)", 1),
+            ],
+        ),
+        FORBIDS,
+    ),
+];
+
+#[test]
+fn calls(rt: HostRuntime) -> Result<(), Fail> {
+    all_hold(rt.alloc(), CALLS)
+}
+
 #[test]
 fn nestings(rt: HostRuntime) -> Result<(), Fail> {
     all_hold(rt.alloc(), NESTINGS)

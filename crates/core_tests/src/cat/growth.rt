@@ -61,7 +61,7 @@ fn leaves_out(alloc: Global, text: &str, word: &[u8]) -> Option<bool> {
 
 #[test]
 fn reading_a_fault(rt: HostRuntime) -> Result<(), Fail> {
-    let text = "let r = f(a)";
+    let text = "let rec f(x) = x";
     let told = match leaves_out(rt.alloc(), text, b"f") {
         Some(told) => Some(told),
         None => leaves_out(rt.alloc(), text, b"f"),
@@ -165,6 +165,8 @@ enum Fact {
     Forbids(&'static [&'static str]),
     /// The root is refused for this name as unbound.
     Unbound(&'static [u8]),
+    /// The root is refused for too large calls where this is bound or checked.
+    TooLarge(&'static [u8]),
 }
 
 /// Whether a file was put first as the one of this number, and is loaded at its first version.
@@ -188,10 +190,19 @@ fn is_unbound(name: &Name, fact: Fact) -> bool {
     }
 }
 
+/// Whether a fact is that a root is refused for too large calls where this is bound or checked.
+fn is_too_large(name: &Name, fact: Fact) -> bool {
+    match fact {
+        Fact::TooLarge(bytes) => name.bytes() == bytes,
+        _ => false,
+    }
+}
+
 /// Whether a fault is the one wanted; nothing at want of memory.
 fn fault_is(fault: &ModelFault, fact: Fact) -> Option<bool> {
     match fault {
         ModelFault::Unbound(name) => Some(is_unbound(name, fact)),
+        ModelFault::CallsTooLarge(name) => Some(is_too_large(name, fact)),
         ModelFault::NoMemory => None,
         _ => Some(false),
     }
@@ -279,10 +290,10 @@ fn confirm_files(alloc: Global, texts: &[(&str, &str)], fact: Fact) -> Result<()
 
 /// The files of a root that includes two others, one of them built in.
 const TWO_FILES: &[(&str, &str)] = &[
-    ("base.cat", "let com = rf | co | fr"),
+    ("base.cat", "let com = rf | co | fr and with_po(x) = x | po"),
     (
         "root.cat",
-        "include \"base.cat\" include \"rc11.cat\" flag ~empty fr as read acyclic po | com as sc",
+        "include \"base.cat\" include \"rc11.cat\" flag ~empty fr as read acyclic with_po(com) as sc",
     ),
 ];
 
@@ -311,4 +322,15 @@ const LATER: &[(&str, &str)] = &[("root.cat", "include \"rc11.cat\" let r = po |
 #[test]
 fn resolving_a_fault(rt: HostRuntime) -> Result<(), Fail> {
     confirm_files(rt.alloc(), LATER, Fact::Unbound(b"later"))
+}
+
+/// Three bindings that make half a million nodes of one.
+const DOUBLED: &[(&str, &str)] = &[(
+    "root.cat",
+    "let f(x) = x | x | x | x let f(x) = f(f(f(x))) let f(x) = f(f(f(x))) empty f(0)",
+)];
+
+#[test]
+fn resolving_too_large_calls(rt: HostRuntime) -> Result<(), Fail> {
+    confirm_files(rt.alloc(), DOUBLED, Fact::TooLarge(b"empty"))
 }

@@ -2,7 +2,9 @@
 
 use crate::cat::loading::{has_parts, is_read_as, read};
 use crate::cat::texts::{EACH_KIND, RC11, confirm, repeated};
-use cat_syntax::{CatFault, CatFile, Expression, Infix, Item, Leaf, Node, Sign, read_cat};
+use cat_syntax::{
+    CatFault, CatFile, Definition, Expression, Infix, Item, Leaf, Node, Sign, read_cat,
+};
 use std::alloc::{AllocError, Global};
 use std::test::Fail;
 
@@ -56,6 +58,20 @@ fn latest(alloc: Global, texts: &mut Vec<String>) -> String {
     }
 }
 
+/// Takes the texts of the latest operands, so many, with commas between them.
+fn latest_joined(
+    alloc: Global,
+    texts: &mut Vec<String>,
+    count: usize,
+) -> Result<String, AllocError> {
+    let mut joined = latest(alloc, texts);
+    for _ in 1..count {
+        let before = latest(alloc, texts);
+        joined = format!(in alloc; "{},{}", before, joined)?;
+    }
+    Ok(joined)
+}
+
 /// The text of a node, with parentheses round it, where the latest texts are those of its operands.
 fn show_node(alloc: Global, node: &Node, texts: &mut Vec<String>) -> Result<String, AllocError> {
     match node {
@@ -68,6 +84,10 @@ fn show_node(alloc: Global, node: &Node, texts: &mut Vec<String>) -> Result<Stri
             let right = latest(alloc, texts);
             let left = latest(alloc, texts);
             format!(in alloc; "({}{}{})", left, between(*operator), right)
+        }
+        Node::Call(name, count) => {
+            let arguments = latest_joined(alloc, texts, *count)?;
+            format!(in alloc; "{}({})", name, arguments)
         }
     }
 }
@@ -82,11 +102,24 @@ fn show(alloc: Global, text: &mut String, expression: &Expression) -> Result<(),
     text.push_str(latest(alloc, &mut texts).as_str())
 }
 
-/// Adds the expression of a file's first item, if that is `let r = ..`.
+/// Adds what a name is bound to: its parameters, each with a dot behind it, and its expression.
+fn show_definition(
+    alloc: Global,
+    text: &mut String,
+    definition: &Definition,
+) -> Result<(), AllocError> {
+    for parameter in &definition.parameters {
+        let shown = format!(in alloc; "{parameter}.")?;
+        text.push_str(shown.as_str())?;
+    }
+    show(alloc, text, &definition.value)
+}
+
+/// Adds what a file's first item binds first, if that is `let r = ..`.
 fn show_first(alloc: Global, text: &mut String, file: &CatFile) -> Result<(), AllocError> {
     match file.items().first() {
-        Some(Item::Let(bindings)) => match bindings.first() {
-            Some(binding) => show(alloc, text, &binding.value),
+        Some(Item::Let(definitions)) => match definitions.first() {
+            Some(definition) => show_definition(alloc, text, definition),
             None => text.push_str("no binding"),
         },
         _ => text.push_str("a tree"),
@@ -99,7 +132,7 @@ fn first_shown(alloc: Global, file: &CatFile) -> Result<String, AllocError> {
     Ok(text)
 }
 
-/// What a text is read as: the expression of a first item `let r = ..`, else `a tree`, or the fault.
+/// What a text is read as: what a first item `let r = ..` binds, else `a tree`, or the fault.
 fn shown(alloc: Global, text: &str) -> Result<String, AllocError> {
     match read_cat(alloc, text.as_bytes()) {
         Ok(file) => first_shown(alloc, &file),
@@ -114,8 +147,8 @@ fn reads_as(alloc: Global, text: &str, wanted: &str) -> bool {
     }
 }
 
-/// Each text is `let r = ..` with the expression beside it, or with the fault beside it.
-fn all_read_as(alloc: Global, rows: &[(&str, &str)]) -> Result<(), Fail> {
+/// Each text binds what is beside it, or has the fault beside it.
+pub fn all_read_as(alloc: Global, rows: &[(&str, &str)]) -> Result<(), Fail> {
     for (text, wanted) in rows {
         confirm(reads_as(alloc, text, wanted), text)?;
     }
@@ -149,7 +182,6 @@ const FAULTS: &[(&str, &str)] = &[
     ("let r =", "52 Syntax 7"),
     ("let _ = a", "52 Syntax 4"),
     ("let r = 1", "52 Syntax 8"),
-    ("let r = f(a)", "53 Unsupported f"),
     ("let r = a and r (x) = b", "52 Syntax 14"),
     ("let r = a ++ b", "53 Unsupported ++"),
     ("let r = if a", "53 Unsupported if"),
@@ -201,7 +233,7 @@ fn repeats_to(alloc: Global, parts: &[(&str, usize)], wanted: &str) -> bool {
 }
 
 /// Each text of parts, each so many times, is answered as is said beside it.
-fn all_repeat_to(alloc: Global, rows: &[(&[(&str, usize)], &str)]) -> Result<(), Fail> {
+pub fn all_repeat_to(alloc: Global, rows: &[(&[(&str, usize)], &str)]) -> Result<(), Fail> {
     for (parts, wanted) in rows {
         confirm(repeats_to(alloc, parts, wanted), wanted)?;
     }
@@ -281,6 +313,18 @@ const EQUALITY: &[(&str, &str, bool)] = &[
     ("show a as b", "show a", false),
     ("unshow a, b", "unshow a", false),
     ("include \"a\"", "include \"b\"", false),
+    ("let f(x) = x", "let f (x) = (x)", true),
+    ("let f(x) = x", "let f(y) = y", false),
+    ("let f(x) = x", "let g(x) = x", false),
+    ("let f(x) = x", "let f = x", false),
+    ("let f(x, y) = x", "let f(y, x) = x", false),
+    ("let f(x, y) = x", "let f(x) = x", false),
+    ("let r = f(a, b)", "let r = f (a, (b))", true),
+    ("let r = f(a, b)", "let r = f(b, a)", false),
+    ("let r = f(a, b)", "let r = f(a)", false),
+    ("let r = f(a)", "let r = g(a)", false),
+    ("let r = f(a)", "let r = f", false),
+    ("let r = f(g(a), b)", "let r = f(g(a, b))", false),
 ];
 
 #[test]

@@ -29,7 +29,7 @@ flag ~empty race as data-race
 
 /// A model with each kind of item and expression: seven items, and the title `T`.
 pub const EACH_KIND: &str =
-    "T let rec r = a | b ; c \\ d & W * R and s = ~(r+) let t = r* | r? | r^-1 | domain(r) | range(r) | [W] | 0 | {} | _ include \"b.cat\" flag ~empty r as none acyclic s show r as a, s unshow r, s";
+    "T let rec r = a | b ; c \\ d & W * R and s = ~(r+) let t = r* | r? | r^-1 | domain(r) | range(r) | [W] | 0 | {} | _ and f(x, y) = g(y, x | r) include \"b.cat\" flag ~empty r as none acyclic s show r as a, s unshow r, s";
 
 /// The text of these parts, each so many times.
 pub fn repeated(alloc: Global, parts: &[(&str, usize)]) -> Result<String, AllocError> {

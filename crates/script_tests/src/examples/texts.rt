@@ -26,6 +26,20 @@ let locked = [W] ; po ; [R & RMW] | [W & (RMW | SC)] ; po ; [R]
 acyclic kept | fenced | locked | rfe | co | fr as tso
 ";
 
+/// examples/fences.cat
+pub const FENCES: &str = "\"Fences\"
+(* Only a fence keeps accesses of a thread to different locations in order: a seq_cst fence all of them, a release fence what is
+   before it from later writes, an acquire fence earlier reads from what is behind it. *)
+let com = rf | co | fr
+acyclic po-loc | com as coherence
+empty rmw & (fr ; co) as atomicity
+(* from an event of a to a later one of c, with an event of b between them *)
+let over(a, b, c) = [a] ; fencerel(b) ; [c]
+let released = over(M, F & (REL | ACQ_REL), W)
+let acquired = over(R, F & (ACQ | ACQ_REL), M)
+acyclic fencerel(F & SC) | released | acquired | rfe | co | fr as fences
+";
+
 /// examples/SB.litmus
 pub const STORE_BUFFERING: &str = "C SB
 {}
@@ -127,6 +141,23 @@ P0 (atomic_int* x, atomic_int* y) {
 }
 P1 (atomic_int* x, atomic_int* y) {
   int r0 = atomic_load_explicit(y, memory_order_acquire);
+  int r1 = atomic_load_explicit(x, memory_order_relaxed);
+}
+exists (1:r0=1 /\\ 1:r1=0)
+";
+
+/// examples/MP+fences.litmus
+pub const MESSAGE_FENCES: &str = "C MP+fences
+Message passing with relaxed accesses and fences: release behind the message, acquire behind the load of the flag.
+{}
+P0 (atomic_int* x, atomic_int* y) {
+  atomic_store_explicit(x, 1, memory_order_relaxed); // the message
+  atomic_thread_fence(memory_order_release);
+  atomic_store_explicit(y, 1, memory_order_relaxed); // the flag
+}
+P1 (atomic_int* x, atomic_int* y) {
+  int r0 = atomic_load_explicit(y, memory_order_relaxed);
+  atomic_thread_fence(memory_order_acquire);
   int r1 = atomic_load_explicit(x, memory_order_relaxed);
 }
 exists (1:r0=1 /\\ 1:r1=0)

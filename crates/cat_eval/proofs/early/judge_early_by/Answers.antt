@@ -1,13 +1,13 @@
 use Rattle.std.proofs.Common.{ℕ, Option, option_map, true, false, refl, ◌∙◌, arith, rules, map}
-use Rattle.cat_tree.specs.Tree.{Word, Clause}
+use Rattle.cat_tree.specs.Tree.{Word}
 use Rattle.events.specs.Named.{event_count}
 use Rattle.cat_eval.specs.Code.{entries_of, planned_clause}
-use Rattle.cat_eval.specs.Meaning.{Under}
-use Rattle.cat_eval.specs.Names.{Names}
-use Rattle.cat_eval.specs.Judging.{Permits, RaisedBy, Allowed, Raised}
-use Rattle.cat_eval.proofs.Lawful.{forbidden_by, forbidden_is, no_flag_told, kept, next_item, flag_told, all_told}
+use Rattle.cat_eval.specs.CoreMeaning.{Under}
+use Rattle.cat_eval.specs.CoreJudging.{Names, Permits, RaisedBy}
+use Rattle.cat_eval.specs.Judging.{Allowed, Raised}
+use Rattle.cat_eval.proofs.Lawful.{forbidden_is, no_flag_told, kept, flag_told, all_told}
 use Rattle.cat_eval.proofs.Held.{holds_more}
-use Rattle.cat_eval.proofs.Reaching.{reached_none, reached_next, reached_more, reached_done}
+use Rattle.cat_eval.proofs.Reaching.{reached_none, reached_next, reached_more, reached_done, forbidden_at}
 use Rattle.cat_eval.proofs.early.judge_early_by.Goals as goal
 
 pub weigh-weighed-requires-clause-order : goal.weigh-weighed-requires-clause-order
@@ -32,44 +32,40 @@ weigh-weighed-requires-clause-ran c =
 pub weigh-weighed-requires-clause-ready : goal.weigh-weighed-requires-clause-ready
 weigh-weighed-requires-clause-ready c = (
   c.loop-item.invariant.reached.names,
+  (reached_next c.args.view.now c.args.steps.now c.args.items.now c.loop-item.values c.loop-item.item-index true c.loop-item.flags.items c.item-item.result c.loop-item.invariant.reached c.loop-item-test.true c.item-item.is).item_core,
+  (reached_next c.args.view.now c.args.steps.now c.args.items.now c.loop-item.values c.loop-item.item-index true c.loop-item.flags.items c.item-item.result c.loop-item.invariant.reached c.loop-item-test.true c.item-item.is).is_core,
   (reached_next c.args.view.now c.args.steps.now c.args.items.now c.loop-item.values c.loop-item.item-index true c.loop-item.flags.items c.item-item.result c.loop-item.invariant.reached c.loop-item-test.true c.item-item.is).ready,
 )
 
 pub loop-item-preserved : goal.loop-item-preserved
 loop-item-preserved c =
     let n : ℕ = event_count c.args.view.now in
-    let item : Clause = planned_clause c.item-item.result in
     let E : Word → _ → Type 0 = Under (Names c.args.view.now) (entries_of c.loop-item.invariant.reached.names c.loop-item.values) in
-    let ready =
-    (reached_next c.args.view.now c.args.steps.now c.args.items.now c.loop-item.values c.loop-item.item-index true c.loop-item.flags.items c.item-item.result c.loop-item.invariant.reached c.loop-item-test.true c.item-item.is).ready in
+    let next = reached_next c.args.view.now c.args.steps.now c.args.items.now c.loop-item.values c.loop-item.item-index true c.loop-item.flags.items c.item-item.result c.loop-item.invariant.reached c.loop-item-test.true c.item-item.is in
     let flagged : Option Word = option_map (λ f. f.now) c.weigh-weighed.result.raised in
-    let permits = c.weigh-weighed.ensures.permits c.loop-item.invariant.reached.names ready in
-    let raised = c.weigh-weighed.ensures.raised c.loop-item.invariant.reached.names ready in
+    let permits = c.weigh-weighed.ensures.permits c.loop-item.invariant.reached.names next.item_core next.is_core next.ready in
+    let raised = c.weigh-weighed.ensures.raised c.loop-item.invariant.reached.names next.item_core next.is_core next.ready in
     record {
       long = c.weigh-weighed.ensures.length ∙ c.loop-item.invariant.long;
       holds = holds_more c.args.view.now c.args.steps.now c.args.bases.now c.loop-item.kept c.with.result c.weigh-weighed.new.values c.item-item.result.to c.with.ensures.order c.with.ensures.runs c.with.ensures.sources c.weigh-weighed.ensures.ran c.weigh-weighed.ensures.holds;
       reached = reached_more c.args.view.now c.args.steps.now c.args.items.now c.loop-item.values c.weigh-weighed.new.values c.loop-item.item-index true true c.loop-item.flags.items c.add_raised.new.names.items
-          c.item-item.result c.loop-item.invariant.reached c.loop-item-test.true c.item-item.is c.weigh-weighed.ensures.same c.weigh-weighed.ensures.ran (c.weigh-weighed.ensures.binds c.loop-item.invariant.reached.names ready)
-          (kept true c.weigh-weighed.result.permits true (Permits n E item) c.if-not-weighed.false refl permits)
+          c.item-item.result c.loop-item.invariant.reached next c.weigh-weighed.ensures.same c.weigh-weighed.ensures.ran (c.weigh-weighed.ensures.binds c.loop-item.invariant.reached.names next.item_core next.is_core next.ready)
+          (kept true c.weigh-weighed.result.permits true (Permits n E next.item_core) c.if-not-weighed.false refl permits)
           c.add_raised.ensures.once
-          (flag_told c.loop-item.flags.items c.add_raised.new.names.items flagged (RaisedBy n E item) c.in_ok-add_raised.ensures.added raised);
+          (flag_told c.loop-item.flags.items c.add_raised.new.names.items flagged (RaisedBy n E next.item_core) c.in_ok-add_raised.ensures.added raised);
     }
 
 pub returns-then-not-weighed-clause-allowed : goal.returns-then-not-weighed-clause-allowed
 returns-then-not-weighed-clause-allowed c =
-    let ready =
-    (reached_next c.args.view.now c.args.steps.now c.args.items.now c.loop-item.values c.loop-item.item-index true c.loop-item.flags.items c.item-item.result c.loop-item.invariant.reached c.loop-item-test.true c.item-item.is).ready in
+    let next = reached_next c.args.view.now c.args.steps.now c.args.items.now c.loop-item.values c.loop-item.item-index true c.loop-item.flags.items c.item-item.result c.loop-item.invariant.reached c.loop-item-test.true c.item-item.is in
     forbidden_is false (Allowed (map planned_clause c.args.items.now) c.args.view.now) refl
-    (forbidden_by c.args.view.now (map planned_clause c.args.items.now) c.loop-item.item-index (entries_of c.loop-item.invariant.reached.names c.loop-item.values) c.loop-item.flags.items (planned_clause c.item-item.result) c.weigh-weighed.result.permits
-    c.loop-item.invariant.reached.so_far (next_item c.args.items.now c.loop-item.item-index c.item-item.result c.loop-item-test.true c.item-item.is) c.if-not-weighed.true (c.weigh-weighed.ensures.permits c.loop-item.invariant.reached.names ready))
+    (forbidden_at c.args.view.now c.args.steps.now c.args.items.now c.loop-item.values c.loop-item.item-index c.loop-item.flags.items c.item-item.result c.weigh-weighed.result.permits c.loop-item.invariant.reached next c.if-not-weighed.true (c.weigh-weighed.ensures.permits c.loop-item.invariant.reached.names next.item_core next.is_core next.ready))
 
 pub returns-then-not-weighed-clause-flags : goal.returns-then-not-weighed-clause-flags
 returns-then-not-weighed-clause-flags c =
-    let ready =
-    (reached_next c.args.view.now c.args.steps.now c.args.items.now c.loop-item.values c.loop-item.item-index true c.loop-item.flags.items c.item-item.result c.loop-item.invariant.reached c.loop-item-test.true c.item-item.is).ready in
+    let next = reached_next c.args.view.now c.args.steps.now c.args.items.now c.loop-item.values c.loop-item.item-index true c.loop-item.flags.items c.item-item.result c.loop-item.invariant.reached c.loop-item-test.true c.item-item.is in
     let told = no_flag_told (Allowed (map planned_clause c.args.items.now) c.args.view.now) (Raised (map planned_clause c.args.items.now) c.args.view.now)
-    (forbidden_by c.args.view.now (map planned_clause c.args.items.now) c.loop-item.item-index (entries_of c.loop-item.invariant.reached.names c.loop-item.values) c.loop-item.flags.items (planned_clause c.item-item.result) c.weigh-weighed.result.permits
-    c.loop-item.invariant.reached.so_far (next_item c.args.items.now c.loop-item.item-index c.item-item.result c.loop-item-test.true c.item-item.is) c.if-not-weighed.true (c.weigh-weighed.ensures.permits c.loop-item.invariant.reached.names ready)) in
+    (forbidden_at c.args.view.now c.args.steps.now c.args.items.now c.loop-item.values c.loop-item.item-index c.loop-item.flags.items c.item-item.result c.weigh-weighed.result.permits c.loop-item.invariant.reached next c.if-not-weighed.true (c.weigh-weighed.ensures.permits c.loop-item.invariant.reached.names next.item_core next.is_core next.ready)) in
     search (rules, told)
 
 pub returns-then-not-weighed-clause-holds : goal.returns-then-not-weighed-clause-holds

@@ -1,7 +1,7 @@
 use Rattle.std.proofs.Common.{◌≡◌, Option, Some, option_map, ap, refl}
 use Rattle.cat_tree.specs.Tree.{Word}
 use Rattle.cat_eval.proofs.Lawful.{flag_more, no_flag}
-use Rattle.cat_eval.proofs.Stepping.{ok_on}
+use Rattle.cat_eval.proofs.Below.{ok_on}
 use Rattle.cat_eval.proofs.flags.add_raised.Goals as goal
 
 pub returns-in-Some-clause-added : goal.returns-in-Some-clause-added

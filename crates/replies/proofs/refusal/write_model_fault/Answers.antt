@@ -25,3 +25,9 @@ returns-in-NotMonotone g c =
     let label : c.as_bytes-label.result.now ≡ model_label c.args.fault.now = cc in
     let name : c.bytes-in-NotMonotone.result.now ≡ c.in-NotMonotone.name = cc in
     rw c.in-NotMonotone.is (rw (label, name, c.in-NotMonotone.is) at c.write_field-in-NotMonotone.ensures)
+
+pub returns-in-CallsTooLarge : goal.returns-in-CallsTooLarge
+returns-in-CallsTooLarge g c =
+    let label : c.as_bytes-label.result.now ≡ model_label c.args.fault.now = cc in
+    let name : c.bytes-in-CallsTooLarge.result.now ≡ c.in-CallsTooLarge.name = cc in
+    rw c.in-CallsTooLarge.is (rw (label, name, c.in-CallsTooLarge.is) at c.write_field-in-CallsTooLarge.ensures)

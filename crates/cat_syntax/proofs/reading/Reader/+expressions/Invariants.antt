@@ -1,32 +1,51 @@
-use Rattle.std.proofs.Common.{◌≡◌, ◌+◌, ◌*◌, ◌≤◌, length}
+use Rattle.std.proofs.Common.{◌≡◌, ◌+◌, ◌*◌, ◌≤◌, length, map}
 use Rattle.descent.specs.Reading.{repeated}
+use Rattle.cat_syntax.specs.declared.symbol.Terminal.TheVariants.{Comma}
 use Rattle.cat_tree.specs.Tree.{term_of}
-use Rattle.cat_syntax.specs.Reading.{infix_at, postfix_at, applied_at, next_operand, left, right, postfix_with, level_with, below, cut}
-use Rattle.cat_syntax.proofs.Levels.{chained}
+use Rattle.cat_syntax.specs.Reading.{separated, infix_at, postfix_at, applied_at, next_operand, left, right, postfix_with, level_with, below, cut}
+use Rattle.cat_syntax.proofs.Levels.{chained, arguments_from}
 use Rattle.cat_syntax.proofs.reading.Reader.+expressions.Given as goal
 
 -- a call goes down one level, or has fewer symbols before it
 
+abbrev pub decreases-call : goal.decreases-call
+decreases-call l = 24 * length l.self.now.rest.now
+
+abbrev pub decreases-arguments : goal.decreases-arguments
+decreases-arguments l = 24 * length l.self.now.rest.now
+
+abbrev pub decreases-listed : goal.decreases-listed
+decreases-listed l = 24 * length l.self.now.rest.now + 20
+
+-- the arguments so far, and those that follow, are what is read
+abbrev pub invariant-listed-loop-expressions : goal.invariant-listed-loop-expressions
+invariant-listed-loop-expressions l =
+    (arguments_from l.nesting (map term_of l.expressions.items) l.self.rest.now ≡ separated Comma (λ _. level_with (below l.nesting) 5) l.fn.self.rest.now) ×
+    (length l.self.rest.now ≤ length l.fn.self.rest.now)
+
+abbrev pub decreases-listed-loop-expressions : goal.decreases-listed-loop-expressions
+decreases-listed-loop-expressions l = length l.self.rest.now
+
 abbrev pub decreases-enclosed : goal.decreases-enclosed
-decreases-enclosed l = 20 * length l.self.now.rest.now
+decreases-enclosed l = 24 * length l.self.now.rest.now
 
 abbrev pub decreases-primary : goal.decreases-primary
-decreases-primary l = 20 * length l.self.now.rest.now + 1
+decreases-primary l = 24 * length l.self.now.rest.now + 1
 
 abbrev pub decreases-postfix : goal.decreases-postfix
-decreases-postfix l = 20 * length l.self.now.rest.now + 2
+decreases-postfix l = 24 * length l.self.now.rest.now + 2
 
 abbrev pub decreases-unary : goal.decreases-unary
-decreases-unary l = 20 * length l.self.now.rest.now + 3
+decreases-unary l = 24 * length l.self.now.rest.now + 3
 
 abbrev pub decreases-level : goal.decreases-level
-decreases-level l = 20 * length l.self.now.rest.now + 3 * l.level + 4
+decreases-level l = 24 * length l.self.now.rest.now + 3 * l.level + 4
 
 abbrev pub decreases-left : goal.decreases-left
-decreases-left l = 20 * length l.self.now.rest.now + 3 * l.level + 5
+decreases-left l = 24 * length l.self.now.rest.now + 3 * l.level + 5
 
 abbrev pub decreases-right : goal.decreases-right
-decreases-right l = 20 * length l.self.now.rest.now + 3 * l.level + 5
+decreases-right l = 24 * length l.self.now.rest.now + 3 * l.level + 5
 
 -- what is behind the operand so far, read on, is what the level reads
 abbrev pub invariant-left-loop-operator : goal.invariant-left-loop-operator
