@@ -182,10 +182,12 @@ fn refusal<'a>(
             let offset = offset_of(&tokens[place..], end);
             unexpected(alloc, fault, &symbols[place..], offset)
         }
-        SyntaxFault::RecursiveFunction => {
-            let offset = offset_of(&tokens[place..], end);
-            unexpected(alloc, fault, &symbols[place..], offset)
-        }
+        SyntaxFault::RecursiveFunction => unexpected(
+            alloc,
+            fault,
+            &symbols[place..],
+            offset_of(&tokens[place..], end),
+        ),
         SyntaxFault::BoundTwice => CatFault::Syntax(offset_of(&tokens[place..], end)),
         SyntaxFault::TooDeep => CatFault::TooDeep,
         SyntaxFault::NoMemory => CatFault::NoMemory,

@@ -103,17 +103,14 @@ impl<'a> Reader<'a> {
     }
 
     /// A name that stands for a value, where it doesn't stand already.
-    #[tactic(auto, unfolding(crate::specs::Reading::value_name_unless))]
+    #[tactic(auto, unfolding(crate::specs::Reading::value_name_unless, crate::specs::Reading::name_unless))]
     fn value_name_unless(&mut self, repeated: bool) -> Result<Name, SyntaxFault>
         ensures { Gives (λ x. x) result self.new.rest.now (value_name_at_unless repeated self.old.rest.now) }
     {
-        if repeated {
-            return Err(SyntaxFault::BoundTwice);
-        }
-        if begins_call(self.rest) {
+        if !repeated && begins_call(self.rest) {
             return Err(SyntaxFault::RecursiveFunction);
         }
-        self.name()
+        self.name_unless(repeated)
     }
 
     /// name {"," name}, no name twice
