@@ -1,4 +1,4 @@
-use Rattle.std.proofs.Common.{◌≡◌, ◌++◌, ◌+◌, ℕ, List, length, map, take}
+use Rattle.std.proofs.Common.{◌≡◌, ◌≤◌, ◌++◌, ◌+◌, ℕ, List, length, map, take}
 use Rattle.cat_tree.specs.Tree.{defined_of, values_in}
 use Rattle.cat_eval.specs.Lowered.{AreBound, Replace}
 use Rattle.cat_eval.specs.Planned.{run_from}
@@ -12,4 +12,5 @@ invariant-loop-definition l = record {
   values : l.values.items ≡ l.fn.values.items ++ run_from l.from (length (values_in (map defined_of (take l.definition-index l.definitions))));
   replace : (fs : List Function) (R : Replacing) → Replace fs l.fn.names.items R → Replace fs l.names.items (with_value_texts (length l.fn.values.items) (values_in (map defined_of (take l.definition-index l.definitions))) R);
   bound : (n : ℕ) → AreBound n l.fn.names.items → AreBound n l.names.items;
+  kept : (n : ℕ) → n ≤ length l.fn.names.items → (n ≤ length l.names.items) × (take n l.names.items ≡ take n l.fn.names.items);
 }
