@@ -27,3 +27,15 @@ pub mod Single
 pub mod Bridge
 pub mod Reaching
 pub mod Solving
+pub mod Wanted
+pub mod Trees
+pub mod Looked
+pub mod Functions
+pub mod Standins
+pub mod Noted
+pub mod Handed
+pub mod Begun
+pub mod Stood
+pub mod Scoped
+pub mod Past
+pub mod Behind
