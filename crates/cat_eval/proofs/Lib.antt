@@ -8,11 +8,9 @@ pub mod Climbing
 pub mod Once
 pub mod Below
 pub mod Standing
-pub mod Stacks
 pub mod Running
 pub mod Stepping
 pub mod Copies
-pub mod Nodes
 pub mod Following
 pub mod Graded
 pub mod Held
@@ -29,3 +27,15 @@ pub mod Single
 pub mod Bridge
 pub mod Reaching
 pub mod Solving
+pub mod Wanted
+pub mod Trees
+pub mod Looked
+pub mod Functions
+pub mod Standins
+pub mod Noted
+pub mod Handed
+pub mod Begun
+pub mod Stood
+pub mod Scoped
+pub mod Past
+pub mod Behind

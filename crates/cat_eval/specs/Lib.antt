@@ -6,8 +6,10 @@ pub mod Core
 pub mod CoreMeaning
 pub mod CoreJudging
 pub mod Replacing
+pub mod Lowered
 pub mod Steps
 pub mod Code
+pub mod Planned
 pub mod Keeping
 pub mod Examples
 pub mod Laws

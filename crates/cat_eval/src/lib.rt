@@ -1,19 +1,24 @@
 //! Judges executions under models: which checks hold, and which flags are raised.
 #![tactic(auto)]
 
+mod drafting;
 mod early;
 mod evaluator;
 mod flags;
 mod grading;
+mod instruction;
 mod judging;
 mod keeping;
 pub mod laws;
+mod lowering;
 mod making;
 mod naming;
 mod plan;
 mod planning;
 mod rounds;
+mod scoping;
 mod step;
+mod steps;
 mod value;
 
 pub use early::judge_early;
