@@ -8,11 +8,9 @@ pub mod Climbing
 pub mod Once
 pub mod Below
 pub mod Standing
-pub mod Stacks
 pub mod Running
 pub mod Stepping
 pub mod Copies
-pub mod Nodes
 pub mod Following
 pub mod Graded
 pub mod Held

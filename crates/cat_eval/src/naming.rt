@@ -1,26 +1,49 @@
-//! Names with the places of their values.
+//! Names with what they stand for.
 
-ghost use Rattle.std.specs.Prelude.{◌≡◌, map};
-ghost use Rattle.cat_eval.specs.Code.{name_at, place_in};
+ghost use Rattle.std.specs.Prelude.{◌≡◌};
+ghost use Rattle.cat_eval.specs.Lowered.{held_in, index_in};
 
 use wb_text::Name;
 
-/// A name that is bound, with the place of its value.
+/// What a name is bound to.
+#[derive(Clone, Copy)]
+pub enum Held {
+    /// The value of the binding of this number.
+    Value(usize),
+    /// The function of this number.
+    Function(usize),
+}
+
+/// A name that is bound.
 #[derive(Clone, Copy)]
 pub struct BoundName<'m> {
     pub name: &'m Name,
-    pub place: usize,
+    pub held: Held,
 }
 
-/// The place of the latest of these names that is this one.
-#[tactic(auto, using(crate::proofs::Stepping::place_is, crate::proofs::Stepping::place_stays))]
-pub fn place_of<'m>(names: &[BoundName<'m>], name: &Name) -> Option<usize>
-    ensures { result ≡ place_in (map name_at names.now) name.now }
+/// What the latest of these names that is this one is bound to.
+#[tactic(auto, using(crate::proofs::Looked::held_is, crate::proofs::Looked::held_stays))]
+pub fn holding<'m>(names: &[BoundName<'m>], name: &Name) -> Option<Held>
+    ensures { result ≡ held_in names.now name.now }
 {
     let mut found = None;
     for bound in names {
         if *bound.name == *name {
-            found = Some(bound.place);
+            found = Some(bound.held);
+        }
+    }
+    found
+}
+
+/// The number of the latest of these parameters that has this name.
+#[tactic(auto, using(crate::proofs::Looked::index_is, crate::proofs::Looked::index_stays))]
+pub fn parameter(parameters: &[Name], name: &Name) -> Option<usize>
+    ensures { result ≡ index_in parameters.now name.now }
+{
+    let mut found = None;
+    for (number, parameter) in parameters.iter().enumerate() {
+        if *parameter == *name {
+            found = Some(number);
         }
     }
     found
