@@ -8,13 +8,13 @@ use Rattle.std.proofs.Common.{rules}
 use Rattle.std.specs.Cmp.{IsEquivalence}
 use Rattle.std.specs.Cmp.Rules.{comparing}
 use Rattle.cat_tree.specs.Tree.{Word, Clause, include, File}
-use Rattle.cat_model.proofs.Sorting.{contains_nothing, contains_one}
+use Rattle.cat_model.proofs.Contained.{contains_nothing, contains_one}
 use Rattle.cat_model.specs.Closure.{IsPath, IsOwn, is_on, root_count, Expands, done, own, included}
 use Rattle.cat_model.specs.Faults.{IsAstray}
 use Rattle.cat_model.specs.Files.{file_of}
 use Rattle.cat_model.specs.Walks.{Walks, walk_end, walk_own, walk_into}
 use Rattle.cat_model.specs.declared.fault.ModelFault.{ModelFault}
-use Rattle.cat_model.specs.declared.fault.ModelFault.TheVariants.{NoCat, NoInclude, IncludeCycle, Unbound, WrongSort, NotMonotone, FlagWithoutName, ModelTooLarge, NoMemory}
+use Rattle.cat_model.specs.declared.fault.ModelFault.TheVariants.{NoCat, NoInclude, IncludeCycle, Unbound, WrongSort, NotMonotone, FlagWithoutName, ModelTooLarge, CallsTooLarge, NoMemory}
 use Rattle.cat_model.specs.declared.files.Entry.{Entry}
 
 pub expands-walked : {es : List Entry} {path : List Word} {is js : List Clause} {xs : List Word} → Walks es path is js xs → Expands es is js xs
@@ -85,5 +85,6 @@ none-astray es root f js xs e w n ModelTooLarge h =
 none-astray es root f js xs e w n (Unbound x) h = h
 none-astray es root f js xs e w n (WrongSort x) h = h
 none-astray es root f js xs e w n (NotMonotone x) h = h
+none-astray es root f js xs e w n (CallsTooLarge x) h = h
 none-astray es root f js xs e w n FlagWithoutName h = h
 none-astray es root f js xs e w n NoMemory h = h

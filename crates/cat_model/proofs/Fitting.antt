@@ -1,9 +1,9 @@
 -- What is known of parameters and of bound names, as weights.
-use Rattle.std.proofs.Common.{◌≡◌, ◌⊎◌, ℕ, zero, suc, List, [], ◌∷◌, ◌++◌, length, get_or, Option, None, Some, cond, Bool, true, false, refl, sym, ◌∙◌, ap, inl, inr, arith}
-use Rattle.std.specs.Option.{option_or}
+use Rattle.std.proofs.Common.{◌≡◌, ◌⊎◌, ℕ, zero, suc, List, [], ◌∷◌, ◌++◌, length, get_or, Option, Some, cond, Bool, true, false, refl, sym, ◌∙◌, ap, inl, inr, arith}
 use Rattle.std.specs.Str.{bytes_eq}
 use Rattle.cat_tree.specs.Tree.{Word}
-use Rattle.cat_model.specs.Lookups.{latest_in, held_in}
+pub use Rattle.cat_model.proofs.Latest.{latest_push}
+use Rattle.cat_model.specs.Lookups.{held_in}
 use Rattle.cat_model.specs.declared.scope.BoundName.{BoundName}
 use Rattle.cat_model.specs.declared.scope.Held.{Held}
 use Rattle.cat_model.specs.declared.weights.Measure.{Measure}
@@ -30,16 +30,6 @@ as_many (x ∷ xs) (n ∷ ns) = elim (as_many xs ns) [
   | inl e ↦ inl (ap suc e)
   | inr f ↦ inr (λ e. f (omega (arith, e)))
 ]
-
-or_cond : {Z : Type 0} (b : Bool) (k : Z) (o c : Option Z) → option_or (cond b (Some k) o) c ≡ cond b (Some k) (option_or o c)
-or_cond true k o c = refl
-or_cond false k o c = refl
-
-pub latest_push : {Y Z : Type 0} (label : Y → Word) (what : Y → Z) (ys : List Y) (y : Y) (x : Word) → latest_in label what (ys ++ y ∷ []) x ≡ cond (bytes_eq (label y) x) (Some (what y)) (latest_in label what ys x)
-latest_push label what [] y x = refl
-latest_push {Y} {Z} label what (c ∷ ys) y x =
-    let d : Option Z = cond (bytes_eq (label c) x) (Some (what c)) None in
-    ap (λ o. option_or o d) (latest_push label what ys y x) ∙ or_cond (bytes_eq (label y) x) (what y) (latest_in label what ys x) d
 
 held_cond : (m : Measure) (b : Bool) (h : Held) (o : Option Held) (ns : List ℕ) → by_held m (cond b (Some h) o) ns ≡ cond b (by_held m (Some h) ns) (by_held m o ns)
 held_cond m true h o ns = refl

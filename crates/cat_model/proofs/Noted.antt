@@ -1,5 +1,5 @@
 -- Files in order of first reading.
-use Rattle.std.proofs.Common.{◌≡◌, List, [], ◌∷◌, ◌++◌, Bool, true, false, not, ◌&&◌, ◌||◌, map, refl, sym, ◌∙◌, inl, inr, ◌⊎◌, ap, append_assoc, append-nil, filter}
+use Rattle.std.proofs.Common.{◌≡◌, List, [], ◌∷◌, ◌++◌, Bool, true, false, not, ◌&&◌, ◌||◌, map, refl, sym, ◌∙◌, inl, inr, ap, append_assoc, append-nil, filter}
 use Rattle.std.specs.List.{list_any}
 use Rattle.std.specs.Str.{bytes_eq}
 use Rattle.std.proofs.lemmas.List.Folds.{list_any-append}

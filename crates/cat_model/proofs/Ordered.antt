@@ -1,133 +1,110 @@
 -- Items of a model have no fault, and a root gives one list of items.
-use Rattle.std.proofs.Common.{◌≡◌, List, [], ◌∷◌, ◌++◌, Some, true, false, map, refl, sym, ◌∙◌, inl, inr, ◌⊎◌, subst, ap, IsSome}
+use Rattle.std.proofs.Common.{◌≡◌, ◌≤◌, List, [], ◌∷◌, ◌++◌, Some, None, true, false, map, Bool, Option, refl, sym, ◌∙◌, inl, inr, ◌⊎◌, subst, ap, IsSome, append_assoc, append-nil, arith}
 use Rattle.std.specs.List.{Contains, All}
-use Rattle.std.proofs.lemmas.List.Elements.{Contains-append_cases, Contains-append_left, Contains-append_right, Contains-push, All-contains}
-use Rattle.cat_tree.specs.Tree.{Word, Term, Bound, Clause, bind, bind_recursively, check, include, show, unshow, File, is_bound}
-use Rattle.cat_model.proofs.Sorting.{one_sort, sorted_bound, contains_nothing, contains_one}
+use Rattle.std.proofs.lemmas.List.Elements.{All-contains, Contains-append_left}
+use Rattle.cat_tree.specs.Tree.{Word, values_in, Clause, bind, bind_recursively, check, include, show, unshow, File}
+use Rattle.cat_model.proofs.Contained.{contains_nothing, all_from}
+use Rattle.cat_model.proofs.Charged.{total_append}
 use Rattle.cat_model.specs.Closure.{IsOwn, Expands, done, own, included, IsClosure, once, versioned}
-use Rattle.cat_model.specs.Faults.{IsCause, IsAstray, IsItemFault, IsFaulty, IsUnbound, IsMissorted, IsDenied, IsNameless}
+use Rattle.cat_model.specs.Denials.{Marking, marks, marks_past, first_marks, grouped, denied_in}
+use Rattle.cat_model.specs.Depths.{Depths, depths_past, first_depths}
+use Rattle.cat_model.specs.Faults.{IsCause, IsAstray, IsItemFault, IsFaulty, IsMissorted, marks_behind, IsDenied, IsNameless}
 use Rattle.cat_model.specs.Files.{file_of}
-use Rattle.cat_model.specs.Scopes.{Bind, recursive, Follows, Lead, IsModel}
-use Rattle.cat_model.specs.Sorts.{Scope, HasSort, denied_names}
+use Rattle.cat_model.specs.Names.{IsBound, AreBound, is_bound_behind}
+use Rattle.cat_model.specs.Scopes.{IsOrdered, AreOrdered, Charge, charges_of, all_charges, charges, AreFew, IsModel}
+use Rattle.cat_model.specs.Sizes.{Sizes, sizes_past, first_sizes}
+use Rattle.cat_model.specs.Sorts.{Sorting, sort, recursive, sorts_past, sorts_behind, first_sorts}
 use Rattle.cat_model.specs.declared.fault.ModelFault.{ModelFault}
-use Rattle.cat_model.specs.declared.fault.ModelFault.TheVariants.{NoCat, NoInclude, IncludeCycle, Unbound, WrongSort, NotMonotone, FlagWithoutName, ModelTooLarge, NoMemory}
+use Rattle.cat_model.specs.declared.fault.ModelFault.TheVariants.{NoCat, NoInclude, IncludeCycle, Unbound, WrongSort, NotMonotone, FlagWithoutName, ModelTooLarge, CallsTooLarge, NoMemory}
 use Rattle.cat_model.specs.declared.files.Entry.{Entry}
 use Rattle.cat_model.specs.declared.model.FileVersion.{FileVersion}
 use Rattle.cat_model.specs.declared.sort.Sort.{Sort}
 use Rattle.cat_model.specs.declared.sort.Sort.TheVariants.{Relation}
 
-pub in_cons : {X : Type 0} (y : X) (ys : List X) (x : X) → Contains (y ∷ ys) x → (y ≡ x) ⊎ Contains ys x
-in_cons y ys x h = elim (Contains-append_cases (y ∷ []) ys x h) [ inl l ↦ inl (contains_one y x l) | inr r ↦ inr r ]
+-- an item among those of a model
 
-pub contains_first : {X : Type 0} (x : X) (xs : List X) → Contains (x ∷ xs) x
-contains_first x xs = Contains-append_left (x ∷ []) xs x (Contains-push [] x)
+pub ordered_at : (S : Sorting) (M : Marking) (front : List Clause) (i : Clause) (rest : List Clause) → AreOrdered S M (front ++ i ∷ rest) → IsOrdered (sorts_behind S front) (marks_behind M front) i
+ordered_at S M [] i rest h = h.0
+ordered_at S M (j ∷ front) i rest h = ordered_at (sorts_past S j) (marks_past M j) front i rest h.1
 
-pub contains_later : {X : Type 0} (y : X) (xs : List X) (x : X) → Contains xs x → Contains (y ∷ xs) x
-contains_later y xs x h = Contains-append_right (y ∷ []) xs x h
+pub bound_at : (before front : List Clause) (i : Clause) (rest : List Clause) → AreBound before (front ++ i ∷ rest) → IsBound (before ++ front) i
+bound_at before [] i rest h = subst (λ is. IsBound is i) (sym (append-nil before)) h.0
+bound_at before (j ∷ front) i rest h = subst (λ is. IsBound is i) (append_assoc before (j ∷ []) front) (bound_at (before ++ j ∷ []) front i rest h.1)
 
--- bindings in order leave one scope
-pub bind-one : (s : Scope) (bs : List Bound) (t u v : Scope) → Bind s bs t u → Bind s bs t v → u ≡ v
-bind-one s [] t u v h g = h ∙ sym g
-bind-one s (b ∷ bs) t u v h g =
-    let same = one_sort s b.value h.0 g.0 h.1 g.1 in
-    bind-one s bs ((b.name, g.0) ∷ t) u v (subst (λ k. Bind s bs ((b.name, k) ∷ t) u) same h.2) g.2
+-- charges of the first items are the first charges
+pub charges_before : (Z : Sizes) (D : Depths) (is js : List Clause) → (more : List Charge) × (all_charges Z D (is ++ js) ≡ all_charges Z D is ++ more)
+charges_before Z D [] js = (all_charges Z D js, refl)
+charges_before Z D (i ∷ is) js =
+    let h = charges_before (sizes_past Z i) (depths_past D i) is js in
+    (h.0, ap (λ cs. charges_of Z D i ++ cs) h.1 ∙ sym (append_assoc (charges_of Z D i) (all_charges (sizes_past Z i) (depths_past D i) is) h.0))
 
--- and each value has a sort
-pub bind-sorted : (s : Scope) (bs : List Bound) (t u : Scope) → Bind s bs t u → (b : Bound) → Contains bs b → (k : Sort) × HasSort s b.value k
-bind-sorted s [] t u h b c = absurd (contains_nothing b c)
-bind-sorted s (d ∷ bs) t u h b c =
-    elim (in_cons d bs b c) [ inl e ↦ (h.0, subst (λ z. HasSort s z.value h.0) e h.1) | inr r ↦ bind-sorted s bs ((d.name, h.0) ∷ t) u h.2 b r ]
+all_before : (P : Charge → Type 0) (cs ds : List Charge) → All P (cs ++ ds) → All P cs
+all_before P cs ds h = all_from P cs (λ c k. All-contains P (cs ++ ds) c h (Contains-append_left cs ds c k))
 
--- a term of a list of bindings is that of one of them
-pub from_value : (bs : List Bound) (a : Term) → Contains (map (λ b. b.value) bs) a → (b : Bound) × Contains bs b × (b.value ≡ a)
-from_value [] a c = absurd (contains_nothing a c)
-from_value (b ∷ bs) a c =
-    elim (in_cons b.value (map (λ d. d.value) bs) a c) [
-      | inl e ↦ (b, contains_first b bs, e)
-      | inr r ↦ (let d = from_value bs a r in (d.0, contains_later b bs d.0 d.1, d.2))
-    ]
+few_before : (cs ds : List Charge) → AreFew (cs ++ ds) → AreFew cs
+few_before cs ds h = record {
+  nodes = (let e = total_append cs ds in let f = h.nodes in omega (arith, e, f));
+  depth = (let P : Charge → Type 0 = λ c. c.depth ≤ 64 in all_before P cs ds h.depth);
+}
 
-pub follows-one : (s : Scope) (i : Clause) (t u : Scope) → Follows s i t → Follows s i u → t ≡ u
-follows-one s (bind bs) t u h g = bind-one s bs s t u h g
-follows-one s (bind_recursively bs) t u h g = h.0 ∙ sym g.0
-follows-one s (check flag negated kind a x) t u h g = h.0 ∙ sym g.0
-follows-one s (include x) t u h g = absurd h
-follows-one s (show ss) t u h g = h ∙ sym g
-follows-one s (unshow xs) t u h g = h ∙ sym g
+large_none : (items front : List Clause) (i : Clause) (rest : List Clause) (w : Word) → items ≡ front ++ i ∷ rest → AreFew (charges items) → IsItemFault (CallsTooLarge w) front i → ⊥
+large_none items front i rest w e f h =
+    let t = h.1 in
+    let m = charges_before first_sizes first_depths (front ++ i ∷ []) rest in
+    let whole : charges items ≡ (t.before ++ t.at ∷ []) ++ (t.behind ++ m.0) =
+    ap charges (e ∙ sym (append_assoc front (i ∷ []) rest)) ∙ m.1 ∙ ap (λ cs. cs ++ m.0) t.split ∙ ap (λ cs. cs ++ m.0) (sym (append_assoc t.before (t.at ∷ []) t.behind)) ∙ append_assoc (t.before ++ t.at ∷ []) t.behind m.0 in
+    t.large (few_before (t.before ++ t.at ∷ []) (t.behind ++ m.0) (subst AreFew whole f))
 
-pub lead-one : (s : Scope) (is : List Clause) (t u : Scope) → Lead s is t → Lead s is u → t ≡ u
-lead-one s [] t u h g = h ∙ sym g
-lead-one s (i ∷ is) t u h g = lead-one g.0 is t u (subst (λ v. Lead v is t) (follows-one s i h.0 g.0 h.1 g.1) h.2) g.2
+none_some : (o : Option Sort) → o ≡ None → IsSome o → ⊥
+none_some o e h = let g : false ≡ true = subst IsSome e h in cc
 
-pub lead-split : (s : Scope) (front : List Clause) (i : Clause) (rest : List Clause) (t : Scope) → Lead s (front ++ i ∷ rest) t → (u : Scope) × (v : Scope) × Lead s front u × Follows u i v
-lead-split s [] i rest t h = (s, h.0, refl, h.1)
-lead-split s (j ∷ front) i rest t h = let g = lead-split h.0 front i rest t h.2 in (g.0, g.1, (h.0, h.1, g.2), g.3)
+missorted_none : (S : Sorting) (M : Marking) (i : Clause) (w : Word) → IsOrdered S M i → IsMissorted S i w → ⊥
+missorted_none S M (bind ds) w f h = none_some (sort S h.0.value) h.3 (All-contains (λ b. IsSome (sort S b.value)) (values_in ds) h.0 f h.1)
+missorted_none S M (bind_recursively bs) w f h = h.3 (All-contains (λ b. sort (recursive bs S) b.value ≡ Some Relation) bs h.0 f.0 h.1)
+missorted_none S M (check flag negated kind a y) w f h = h.1 f.1
+missorted_none S M (include y) w f h = h
+missorted_none S M (show ss) w f h = h
+missorted_none S M (unshow ys) w f h = h
 
-pub lead-push : (s : Scope) (front : List Clause) (i : Clause) (t u : Scope) → Lead s front t → Follows t i u → Lead s (front ++ i ∷ []) u
-lead-push s [] i t u h g = (u, subst (λ v. Follows v i u) h g, refl)
-lead-push s (j ∷ front) i t u h g = (h.0, h.1, lead-push h.0 front i t u h.2 g)
+denied_none : (S : Sorting) (M : Marking) (i : Clause) (x : Word) → IsOrdered S M i → IsDenied M i x → ⊥
+denied_none S M (bind_recursively bs) x f h =
+    let none = All-contains (λ b. denied_in (marks (grouped bs M) b.value) ≡ []) bs h.0 f.1 h.1 in
+    contains_nothing x (subst (λ xs. Contains xs x) none h.2)
+denied_none S M (bind ds) x f h = h
+denied_none S M (check flag negated kind a y) x f h = h
+denied_none S M (include y) x f h = h
+denied_none S M (show ss) x f h = h
+denied_none S M (unshow ys) x f h = h
 
-unbound-none : (s : Scope) (i : Clause) (t : Scope) (x : Word) → Follows s i t → IsUnbound s i x → ⊥
-unbound-none s (bind bs) t x f h =
-    let d = from_value bs h.0 h.1 in
-    let k = bind-sorted s bs s t f d.0 d.1 in
-    sorted_bound s h.0 k.0 x (subst (λ a. HasSort s a k.0) d.2 k.1) h.2 h.3
-unbound-none s (bind_recursively bs) t x f h =
-    let d = from_value bs h.0 h.1 in
-    let k = All-contains (λ b. HasSort t b.value Relation) bs d.0 f.1 d.1 in
-    sorted_bound (recursive bs s) h.0 Relation x (subst (λ a. HasSort (recursive bs s) a Relation) d.2 (subst (λ v. HasSort v d.0.value Relation) f.0 k)) h.2 h.3
-unbound-none s (check flag negated kind a y) t x f h =
-    let e = contains_one a h.0 h.1 in
-    sorted_bound s h.0 f.2.0 x (subst (λ b. HasSort s b f.2.0) e f.2.2) h.2 h.3
-unbound-none s (include y) t x f h = f
-unbound-none s (show ss) t x f h = contains_nothing h.0 h.1
-unbound-none s (unshow ys) t x f h = contains_nothing h.0 h.1
+nameless_none : (S : Sorting) (M : Marking) (i : Clause) → IsOrdered S M i → IsNameless i → ⊥
+nameless_none S M (check flag negated kind a x) f h = let g : false ≡ true = subst IsSome h.1 (f.0 h.0) in cc
+nameless_none S M (bind ds) f h = h
+nameless_none S M (bind_recursively bs) f h = h
+nameless_none S M (include y) f h = h
+nameless_none S M (show ss) f h = h
+nameless_none S M (unshow ys) f h = h
 
-missorted-none : (s : Scope) (i : Clause) (t : Scope) (w : Word) → Follows s i t → IsMissorted s i w → ⊥
-missorted-none s (bind bs) t w f h = let k = bind-sorted s bs s t f h.0 h.1 in h.3 k.0 k.1
-missorted-none s (bind_recursively bs) t w f h =
-    h.3 (subst (λ v. HasSort v h.0.value Relation) f.0 (All-contains (λ b. HasSort t b.value Relation) bs h.0 f.1 h.1))
-missorted-none s (check flag negated kind a y) t w f h = h.1 f.2
-missorted-none s (include y) t w f h = h
-missorted-none s (show ss) t w f h = h
-missorted-none s (unshow ys) t w f h = h
+unbound_none : (b : Bool) → b ≡ true → b ≡ false → ⊥
+unbound_none b t f = let g : false ≡ true = sym f ∙ t in cc
 
-denied-none : (s : Scope) (i : Clause) (t : Scope) (x : Word) → Follows s i t → IsDenied i x → ⊥
-denied-none s (bind_recursively bs) t x f h =
-    let each = All-contains (λ b. All (λ y. is_bound bs y ≡ false) (denied_names b.value)) bs h.0 f.2 h.1 in
-    let not_bound = All-contains (λ y. is_bound bs y ≡ false) (denied_names h.0.value) x each h.2 in
-    let wrong = sym not_bound ∙ h.3 in cc
-denied-none s (bind bs) t x f h = h
-denied-none s (check flag negated kind a y) t x f h = h
-denied-none s (include y) t x f h = h
-denied-none s (show ss) t x f h = h
-denied-none s (unshow ys) t x f h = h
-
-nameless-none : (s : Scope) (i : Clause) (t : Scope) → Follows s i t → IsNameless i → ⊥
-nameless-none s (check flag negated kind a x) t f h = let g : false ≡ true = subst IsSome h.1 (f.1 h.0) in cc
-nameless-none s (bind bs) t f h = h
-nameless-none s (bind_recursively bs) t f h = h
-nameless-none s (include y) t f h = h
-nameless-none s (show ss) t f h = h
-nameless-none s (unshow ys) t f h = h
-
-pub item-faultless : (e : ModelFault) (s : Scope) (i : Clause) (t : Scope) → Follows s i t → IsItemFault e s i → ⊥
-item-faultless (Unbound x) s i t f h = unbound-none s i t x f h
-item-faultless (WrongSort w) s i t f h = missorted-none s i t w f h.1
-item-faultless (NotMonotone x) s i t f h = denied-none s i t x f h
-item-faultless FlagWithoutName s i t f h = nameless-none s i t f h
-item-faultless (NoCat x) s i t f h = h
-item-faultless (NoInclude x) s i t f h = h
-item-faultless (IncludeCycle x) s i t f h = h
-item-faultless ModelTooLarge s i t f h = h
-item-faultless NoMemory s i t f h = h
+item_faultless : (e : ModelFault) (items front : List Clause) (i : Clause) (rest : List Clause) → items ≡ front ++ i ∷ rest → IsModel items → IsItemFault e front i → ⊥
+item_faultless (Unbound x) items front i rest s m h = unbound_none (is_bound_behind front x) (bound_at [] front i rest (subst (AreBound []) s m.bound) x h.0) h.1
+item_faultless (CallsTooLarge w) items front i rest s m h = large_none items front i rest w s m.few h
+item_faultless (WrongSort w) items front i rest s m h =
+    missorted_none (sorts_behind first_sorts front) (marks_behind first_marks front) i w (ordered_at first_sorts first_marks front i rest (subst (AreOrdered first_sorts first_marks) s m.ordered)) h.2
+item_faultless (NotMonotone x) items front i rest s m h =
+    denied_none (sorts_behind first_sorts front) (marks_behind first_marks front) i x (ordered_at first_sorts first_marks front i rest (subst (AreOrdered first_sorts first_marks) s m.ordered)) h
+item_faultless FlagWithoutName items front i rest s m h =
+    nameless_none (sorts_behind first_sorts front) (marks_behind first_marks front) i (ordered_at first_sorts first_marks front i rest (subst (AreOrdered first_sorts first_marks) s m.ordered)) h
+item_faultless (NoCat x) items front i rest s m h = h
+item_faultless (NoInclude x) items front i rest s m h = h
+item_faultless (IncludeCycle x) items front i rest s m h = h
+item_faultless ModelTooLarge items front i rest s m h = h
+item_faultless NoMemory items front i rest s m h = h
 
 -- the items of a model have no fault
 pub faultless : (e : ModelFault) (items : List Clause) → IsModel items → IsFaulty e items → ⊥
-faultless e items m h =
-    let parts = lead-split [] h.front h.item h.rest m.scope (subst (λ is. Lead [] is m.scope) h.split m.leads) in
-    let same = lead-one [] h.front parts.0 h.scope parts.2 h.leads in
-    item-faultless e h.scope h.item parts.1 (subst (λ s. Follows s h.item parts.1) same parts.3) h.fault
+faultless e items m h = item_faultless e items h.front h.item h.rest h.split m h.fault
 
 same_file : (f g : File) → Some f ≡ Some g → f ≡ g
 same_file f g e = cc

@@ -16,7 +16,7 @@ use Rattle.cat_model.specs.Files.{file_of}
 use Rattle.cat_model.specs.Walks.{Walks, walk_end, walk_own, walk_into, note, note_all, Grows, counts_for, Places, IsWalkFault, IsHere}
 use Rattle.cat_model.specs.declared.draft.Draft.{Draft}
 use Rattle.cat_model.specs.declared.fault.ModelFault.{ModelFault}
-use Rattle.cat_model.specs.declared.fault.ModelFault.TheVariants.{NoCat, NoInclude, IncludeCycle, Unbound, WrongSort, NotMonotone, FlagWithoutName, ModelTooLarge, NoMemory}
+use Rattle.cat_model.specs.declared.fault.ModelFault.TheVariants.{NoCat, NoInclude, IncludeCycle, Unbound, WrongSort, NotMonotone, FlagWithoutName, ModelTooLarge, CallsTooLarge, NoMemory}
 use Rattle.cat_model.specs.declared.files.Entry.{Entry}
 use Rattle.cat_model.specs.declared.model.FileVersion.{FileVersion}
 
@@ -70,6 +70,7 @@ fault-more (NoCat x) es root m n l h = absurd h
 fault-more (Unbound x) es root m n l h = absurd h
 fault-more (WrongSort x) es root m n l h = absurd h
 fault-more (NotMonotone x) es root m n l h = absurd h
+fault-more (CallsTooLarge x) es root m n l h = absurd h
 fault-more FlagWithoutName es root m n l h = absurd h
 
 -- a path goes on to a file that its last one includes

@@ -1,11 +1,11 @@
 -- When a model is refused.
-use Rattle.std.specs.Prelude.{◌≡◌, ◌<◌, ◌⊎◌, List, [], ◌∷◌, ◌++◌, ◌≢◌, true, false, None, Some, length, map, IsSome, All}
+use Rattle.std.specs.Prelude.{◌≡◌, ◌<◌, ◌⊎◌, List, [], ◌∷◌, ◌++◌, ◌≢◌, true, false, None, Some, length, IsSome}
 use Rattle.std.specs.List.{Contains}
-use Rattle.cat_tree.specs.Tree.{Word, Term, Bound, Defined, values_in, Clause, bind, bind_recursively, check, include, show, unshow, is_bound}
+use Rattle.cat_tree.specs.Tree.{Word, Bound, values_in, Clause, bind, bind_recursively, check, include, show, unshow}
 use Rattle.cat_model.specs.Closure.{IsPath, IsClosure, root_count}
 use Rattle.cat_model.specs.Denials.{Marking, marks, marks_past, first_marks, grouped, denied_in}
 use Rattle.cat_model.specs.Files.{file_of}
-use Rattle.cat_model.specs.Names.{names, free_names, is_bound_behind}
+use Rattle.cat_model.specs.Names.{IsNamed, IsBound, is_bound_behind}
 use Rattle.cat_model.specs.Sorts.{Sorting, sort, recursive, sorts_behind, first_sorts}
 use Rattle.cat_model.specs.Scopes.{IsTestable, AreOrdered, Charge, charges, AreFew, word_of}
 use Rattle.cat_model.specs.declared.fault.ModelFault.{ModelFault}
@@ -13,19 +13,6 @@ use Rattle.cat_model.specs.declared.fault.ModelFault.TheVariants.{NoCat, NoInclu
 use Rattle.cat_model.specs.declared.files.Entry.{Entry}
 use Rattle.cat_model.specs.declared.model.FileVersion.{FileVersion}
 use Rattle.cat_model.specs.declared.sort.Sort.TheVariants.{Relation}
-
--- the names that an item looks up: none of a parameter, nor of its own where it is recursive; those of show are not looked up
-abbrev pub IsNamed : Clause → Word → Type 0
-IsNamed (bind ds) x = (d : Defined) × Contains ds d × Contains (free_names d) x
-IsNamed (bind_recursively bs) x = (b : Bound) × Contains bs b × Contains (names b.value) x × (is_bound bs x ≡ false)
-IsNamed (check flag negated kind a y) x = Contains (names a) x
-IsNamed (include y) x = ⊥
-IsNamed (show ss) x = ⊥
-IsNamed (unshow xs) x = ⊥
-
--- behind these items each name of the item is bound
-abbrev pub IsBound : List Clause → Clause → Type 0
-IsBound front i = (x : Word) → IsNamed i x → is_bound_behind front x ≡ true
 
 -- name x of the item is not bound
 abbrev pub IsUnbound : List Clause → Clause → Word → Type 0

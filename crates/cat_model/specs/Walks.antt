@@ -8,7 +8,7 @@ use Rattle.cat_model.specs.Faults.{IsAstray}
 use Rattle.cat_model.specs.Files.{file_of}
 use Rattle.cat_model.specs.declared.draft.Draft.{Draft}
 use Rattle.cat_model.specs.declared.fault.ModelFault.{ModelFault}
-use Rattle.cat_model.specs.declared.fault.ModelFault.TheVariants.{NoCat, NoInclude, IncludeCycle, Unbound, WrongSort, NotMonotone, FlagWithoutName, ModelTooLarge, NoMemory}
+use Rattle.cat_model.specs.declared.fault.ModelFault.TheVariants.{NoCat, NoInclude, IncludeCycle, Unbound, WrongSort, NotMonotone, FlagWithoutName, ModelTooLarge, CallsTooLarge, NoMemory}
 use Rattle.cat_model.specs.declared.files.Entry.{Entry}
 use Rattle.cat_model.specs.declared.model.FileVersion.{FileVersion}
 
@@ -56,6 +56,7 @@ IsWalkFault (NoCat x) es root n = ⊥
 IsWalkFault (Unbound x) es root n = ⊥
 IsWalkFault (WrongSort w) es root n = ⊥
 IsWalkFault (NotMonotone x) es root n = ⊥
+IsWalkFault (CallsTooLarge w) es root n = ⊥
 IsWalkFault FlagWithoutName es root n = ⊥
 
 -- the items are those of the last file of a path from the root

@@ -1,150 +1,41 @@
-//! Items in order: names, sorts and recursion.
+//! Items in order: names, sizes, sorts and recursion.
 
-ghost use Rattle.std.specs.Prelude.{◌≡◌, ◌≢◌, ◌⊎◌, ◌↔◌, List, map, None, Ok, All, OnOk, IfOk, IfErr, IsTrue, true, false};
-ghost use Rattle.std.specs.List.{Contains, list_any};
-ghost use Rattle.std.specs.Str.{bytes_eq};
-ghost use Rattle.cat_tree.specs.Tree.{Word, Bound, Clause, term_of, bound_of, check_of, clause_of, bind as let_clause, bind_recursively, is_bound as is_bound_in};
-ghost use Rattle.cat_model.specs.Along.{names_at};
+ghost use Rattle.std.specs.Prelude.{◌≡◌, ◌⊎◌, ◌↔◌, List, [], ◌∷◌, ◌++◌, map, OnOk, IfOk, IfErr, IsSome, IsTrue, true, None, All};
+ghost use Rattle.cat_tree.specs.Tree.{Word, Clause, term_of, defined_of, bound_of, check_of, clause_of, bind as let_clause, bind_recursively};
+ghost use Rattle.cat_model.specs.Beforehand.{beforehand as functions_beforehand};
+ghost use Rattle.cat_model.specs.Behind.{World, Fit, first};
 ghost use Rattle.cat_model.specs.Closure.{IsOwn};
-ghost use Rattle.cat_model.specs.Faults.{IsBound, IsItemFault, IsFaulty, word_of};
-ghost use Rattle.cat_model.specs.Scopes.{Bind, recursive, IsMonotone, IsTestable, Follows, IsModel};
-ghost use Rattle.cat_model.specs.Sorts.{HasSort, names as names_in, denied_names as denied_in, sort_of_name};
-ghost use Rattle.cat_model.specs.declared.fault.ModelFault.TheVariants.{NoMemory, Unbound, WrongSort, NotMonotone};
-ghost use Rattle.cat_model.specs.declared.sort.Sort.{Sort as Kind};
-ghost use Rattle.cat_model.specs.declared.sort.Sort.TheVariants.{Relation};
+ghost use Rattle.cat_model.specs.Counts.{IsCount, IsOver, Stands};
+ghost use Rattle.cat_model.specs.Faults.{IsItemFault, IsFaulty};
+ghost use Rattle.cat_model.specs.Scopes.{Charge, charge as charge_for, word_of, IsTestable, IsModel};
+ghost use Rattle.cat_model.specs.declared.fault.ModelFault.TheVariants.{NoMemory, CallsTooLarge, WrongSort, FlagWithoutName};
 
+use crate::binding::{
+    bind_functions, bind_group, bind_values, first_denied_in, is_relation, require_relations,
+};
+use crate::charging::{charge, charge_bindings, charge_definitions};
 use crate::fault::ModelFault;
+use crate::naming::{require_bindings_bound, require_bound, require_definitions_bound};
+use crate::schemes::sort_of;
 use crate::scope::Scope;
-use crate::sort::Sort;
-use crate::typing::{denied_names, has_sort, sort_of};
 use crate::words::word;
-use cat_tree::{Binding, Check, CheckKind, Expression, Item, Leaf, Node};
+use cat_tree::{Binding, Check, CheckKind, Definition, Expression, Item};
 use std::alloc::{AllocError, Global};
-use wb_text::Name;
-
-/// Whether the name of a node is bound, if it is one.
-fn require_node_bound<'a>(scope: &Scope<'a>, node: &Node) -> Result<(), ModelFault>
-    ensures ok { OnOk result ((x : Word) → Contains (names_at node.now) x → sort_of_name scope.now x ≢ None) }
-    ensures err { IfErr result (λ e. (e ≡ NoMemory) ⊎ ((x : Word) × (e ≡ Unbound x) × Contains (names_at node.now) x × (sort_of_name scope.now x ≡ None))) }
-{
-    match node {
-        Node::Leaf(Leaf::Name(name)) => {
-            if scope.sort_of(name).is_none() {
-                return Err(ModelFault::Unbound(name.copy()?));
-            }
-            Ok(())
-        }
-        _ => Ok(()),
-    }
-}
-
-/// Whether each name of an expression is bound.
-fn require_bound<'a>(scope: &Scope<'a>, expression: &Expression) -> Result<(), ModelFault>
-    ensures ok { OnOk result (IsBound scope.now (term_of expression.now)) }
-    ensures err { IfErr result (λ e. (e ≡ NoMemory) ⊎ ((x : Word) × (e ≡ Unbound x) × Contains (names_in (term_of expression.now)) x × (sort_of_name scope.now x ≡ None))) }
-{
-    for node in &expression.nodes {
-        require_node_bound(scope, node)?;
-    }
-    Ok(())
-}
-
-/// Whether each name of a group's expressions is bound.
-fn require_all_bound<'a>(scope: &Scope<'a>, bindings: &[Binding]) -> Result<(), ModelFault>
-    ensures ok { OnOk result (All (λ b. IsBound scope.now (term_of b.value)) bindings.now) }
-    ensures err { IfErr result (λ e. (e ≡ NoMemory) ⊎ ((x : Word) × (b : Bound) × (e ≡ Unbound x) × Contains (map bound_of bindings.now) b × Contains (names_in b.value) x × (sort_of_name scope.now x ≡ None))) }
-{
-    for binding in bindings {
-        require_bound(scope, &binding.value)?;
-    }
-    Ok(())
-}
-
-/// The scope behind a group that is bound at once.
-fn bound<'a>(scope: &Scope<'a>, bindings: &'a [Binding]) -> Result<Scope<'a>, ModelFault>
-    ensures ok { IfOk result (λ t. Bind scope.now (map bound_of bindings.now) scope.now t) }
-    ensures err { IfErr result (λ e. (e ≡ NoMemory) ⊎ ((b : Bound) × (e ≡ WrongSort b.name) × Contains (map bound_of bindings.now) b × ((k : Kind) → ¬ HasSort scope.now b.value k))) }
-{
-    let mut behind = scope.copy()?;
-    for binding in bindings {
-        match sort_of(scope, &binding.value)? {
-            Some(sort) => behind.bind(&binding.name, sort)?,
-            None => return Err(ModelFault::WrongSort(binding.name.copy()?)),
-        }
-    }
-    Ok(behind)
-}
-
-/// The scope in which a recursive group stands.
-fn with_relations<'a>(
-    mut scope: Scope<'a>,
-    bindings: &'a [Binding],
-) -> Result<Scope<'a>, AllocError>
-    ensures { IfOk result (λ t. t ≡ recursive (map bound_of bindings.now) scope.entry) }
-{
-    for binding in bindings {
-        scope.bind(&binding.name, Sort::Relation)?;
-    }
-    Ok(scope)
-}
-
-/// Whether each expression of a recursive group is a relation.
-fn require_relations<'a>(scope: &Scope<'a>, bindings: &[Binding]) -> Result<(), ModelFault>
-    ensures ok { OnOk result (All (λ b. HasSort scope.now b.value Relation) (map bound_of bindings.now)) }
-    ensures err { IfErr result (λ e. (e ≡ NoMemory) ⊎ ((b : Bound) × (e ≡ WrongSort b.name) × Contains (map bound_of bindings.now) b × (¬ HasSort scope.now b.value Relation))) }
-{
-    for binding in bindings {
-        if !has_sort(scope, Sort::Relation, &binding.value)? {
-            return Err(ModelFault::WrongSort(binding.name.copy()?));
-        }
-    }
-    Ok(())
-}
-
-/// Whether a name is one of a group.
-fn is_bound(bindings: &[Binding], name: &Name) -> bool
-    ensures { result ≡ list_any (λ b. bytes_eq b.name name.now) bindings.now }
-{
-    bindings.iter().any(|binding| binding.name == *name)
-}
-
-/// Whether no name of a group stands in an expression under a complement or right of a difference.
-fn require_no_denial(group: &[Binding], expression: &Expression) -> Result<(), ModelFault>
-    ensures ok { OnOk result (All (λ x. is_bound_in (map bound_of group.now) x ≡ false) (denied_in (term_of expression.now))) }
-    ensures err { IfErr result (λ e. (e ≡ NoMemory) ⊎ ((x : Word) × (e ≡ NotMonotone x) × Contains (denied_in (term_of expression.now)) x × (is_bound_in (map bound_of group.now) x ≡ true))) }
-{
-    let found = denied_names(expression)?;
-    for name in &found {
-        if is_bound(group, name) {
-            return Err(ModelFault::NotMonotone(name.copy()?));
-        }
-    }
-    Ok(())
-}
-
-/// Whether a group is monotone in its own names.
-fn require_monotone(group: &[Binding]) -> Result<(), ModelFault>
-    ensures ok { OnOk result (IsMonotone (map bound_of group.now)) }
-    ensures err { IfErr result (λ e. (e ≡ NoMemory) ⊎ ((x : Word) × (b : Bound) × (e ≡ NotMonotone x) × Contains (map bound_of group.now) b × Contains (denied_in b.value) x × (is_bound_in (map bound_of group.now) x ≡ true))) }
-{
-    for binding in group {
-        require_no_denial(group, &binding.value)?;
-    }
-    Ok(())
-}
 
 /// Whether a check can test an expression.
 fn is_testable<'a>(
+    alloc: Global,
     scope: &Scope<'a>,
     kind: CheckKind,
     expression: &Expression,
 ) -> Result<bool, AllocError>
-    ensures { IfOk result (λ b. IsTrue b ↔ IsTestable scope.now kind (term_of expression.now)) }
+    ensures { IfOk result (λ b. (W : World) → Fit scope.now.names.items W → IsTrue b ↔ IsTestable W.sorts kind (term_of expression.now)) }
 {
+    let sort = sort_of(alloc, scope, expression)?;
     match kind {
-        CheckKind::Acyclic => has_sort(scope, Sort::Relation, expression),
-        CheckKind::Irreflexive => has_sort(scope, Sort::Relation, expression),
-        CheckKind::Empty => Ok(sort_of(scope, expression)?.is_some()),
+        CheckKind::Acyclic => Ok(is_relation(sort)),
+        CheckKind::Irreflexive => Ok(is_relation(sort)),
+        CheckKind::Empty => Ok(sort.is_some()),
     }
 }
 
@@ -159,70 +50,152 @@ fn spelling(kind: CheckKind) -> &'static [u8]
     }
 }
 
-/// Whether a check is in order.
-fn follow_check<'a>(alloc: Global, scope: &Scope<'a>, check: &Check) -> Result<(), ModelFault>
-    ensures ok { OnOk result (Follows scope.now (check_of check.now) scope.now) }
-    ensures err { IfErr result (λ e. (e ≡ NoMemory) ⊎ IsItemFault e scope.now (check_of check.now)) }
+/// The total with what a check tests.
+fn charge_check<'a>(
+    alloc: Global,
+    scope: &Scope<'a>,
+    total: u32,
+    check: &Check,
+) -> Result<u32, ModelFault>
+    ensures ok { IfOk result (λ n. (W : World) (cs : List Charge) → Fit scope.now.names.items W → IsCount total cs → IsCount n (cs ++ charge_for W.sizes W.depths (word_of check.now.kind) (term_of check.now.expression) ∷ [])) }
+    ensures err { IfErr result (λ e. (e ≡ NoMemory) ⊎ ((W : World) (cs : List Charge) → Fit scope.now.names.items W → IsCount total cs → (w : Word) × (e ≡ CallsTooLarge w) × IsOver cs (charge_for W.sizes W.depths (word_of check.now.kind) (term_of check.now.expression) ∷ []) w)) }
 {
-    if check.flag && check.name.is_none() {
-        return Err(ModelFault::FlagWithoutName);
+    match charge(alloc, scope, total, &check.expression)? {
+        Some(sum) => Ok(sum),
+        None => Err(ModelFault::CallsTooLarge(word(alloc, spelling(check.kind))?)),
     }
-    require_bound(scope, &check.expression)?;
-    if !is_testable(scope, check.kind, &check.expression)? {
+}
+
+/// Whether a check that is a flag has a name.
+fn require_name(check: &Check) -> Result<(), ModelFault>
+    ensures ok { OnOk result (check.now.flag ≡ true → IsSome check.now.name) }
+    ensures err { IfErr result (λ e. (e ≡ FlagWithoutName) × (check.now.flag ≡ true) × (check.now.name ≡ None)) }
+{
+    if !check.flag {
+        return Ok(());
+    }
+    match check.name {
+        Some(_) => Ok(()),
+        None => Err(ModelFault::FlagWithoutName),
+    }
+}
+
+/// Whether a check can test its expression.
+fn require_testable<'a>(alloc: Global, scope: &Scope<'a>, check: &Check) -> Result<(), ModelFault>
+    ensures ok { OnOk result ((W : World) → Fit scope.now.names.items W → IsTestable W.sorts check.now.kind (term_of check.now.expression)) }
+    ensures err { IfErr result (λ e. (e ≡ NoMemory) ⊎ ((e ≡ WrongSort (word_of check.now.kind)) × ((W : World) → Fit scope.now.names.items W → ¬ IsTestable W.sorts check.now.kind (term_of check.now.expression)))) }
+{
+    if !is_testable(alloc, scope, check.kind, &check.expression)? {
         return Err(ModelFault::WrongSort(word(alloc, spelling(check.kind))?));
     }
     Ok(())
 }
 
-/// The scope behind `let`.
-fn follow_let<'a>(scope: Scope<'a>, bindings: &'a [Binding]) -> Result<Scope<'a>, ModelFault>
-    ensures ok { IfOk result (λ t. Follows scope.entry (let_clause (map bound_of bindings.now)) t) }
-    ensures err { IfErr result (λ e. (e ≡ NoMemory) ⊎ IsItemFault e scope.entry (let_clause (map bound_of bindings.now))) }
+/// The total behind a check, if it is in order.
+fn follow_check<'a>(
+    alloc: Global,
+    scope: &Scope<'a>,
+    total: u32,
+    check: &Check,
+) -> Result<u32, ModelFault>
+    ensures ok { IfOk result (λ n. (front : List Clause) → Stands scope.now.names.items total front → Stands scope.now.names.items n (front ++ check_of check.now ∷ [])) }
+    ensures err { IfErr result (λ e. (front : List Clause) → Stands scope.now.names.items total front → (e ≡ NoMemory) ⊎ IsItemFault e front (check_of check.now)) }
 {
-    require_all_bound(&scope, bindings)?;
-    bound(&scope, bindings)
+    require_name(check)?;
+    require_bound(alloc, scope, &[], &check.expression)?;
+    let sum = charge_check(alloc, scope, total, check)?;
+    require_testable(alloc, scope, check)?;
+    Ok(sum)
 }
 
-/// The scope behind `let rec`.
-fn follow_recursion<'a>(scope: Scope<'a>, bindings: &'a [Binding]) -> Result<Scope<'a>, ModelFault>
-    ensures ok { IfOk result (λ t. Follows scope.entry (bind_recursively (map bound_of bindings.now)) t) }
-    ensures err { IfErr result (λ e. (e ≡ NoMemory) ⊎ IsItemFault e scope.entry (bind_recursively (map bound_of bindings.now))) }
+/// The total behind a `let`, whose names are bound.
+fn follow_let<'a>(
+    alloc: Global,
+    scope: &mut Scope<'a>,
+    total: u32,
+    definitions: &'a [Definition],
+) -> Result<u32, ModelFault>
+    ensures ok { IfOk result (λ n. (front : List Clause) → Stands scope.old.names.items total front → Stands scope.new.names.items n (front ++ let_clause (map defined_of definitions.now) ∷ [])) }
+    ensures err { IfErr result (λ e. (front : List Clause) → Stands scope.old.names.items total front → (e ≡ NoMemory) ⊎ IsItemFault e front (let_clause (map defined_of definitions.now))) }
 {
-    let inner = with_relations(scope, bindings)?;
-    require_all_bound(&inner, bindings)?;
-    require_relations(&inner, bindings)?;
-    require_monotone(bindings)?;
-    Ok(inner)
+    require_definitions_bound(alloc, scope, definitions)?;
+    let sum = charge_definitions(alloc, scope, total, definitions)?;
+    let mut above = Vec::new(alloc);
+    bind_values(alloc, scope, definitions, &mut above)?;
+    bind_functions(alloc, scope, definitions, &mut above)?;
+    scope.names.append(&mut above)?;
+    Ok(sum)
 }
 
-/// The scope behind an item.
-fn follow<'a>(alloc: Global, scope: Scope<'a>, item: &'a Item) -> Result<Scope<'a>, ModelFault>
-    requires { IsOwn (clause_of item.now) }
-    ensures ok { IfOk result (λ t. Follows scope.entry (clause_of item.now) t) }
-    ensures err { IfErr result (λ e. (e ≡ NoMemory) ⊎ IsItemFault e scope.entry (clause_of item.now)) }
+/// The total behind a `let rec`, whose names are bound.
+fn follow_recursion<'a>(
+    alloc: Global,
+    scope: &mut Scope<'a>,
+    total: u32,
+    bindings: &'a [Binding],
+) -> Result<u32, ModelFault>
+    ensures ok { IfOk result (λ n. (front : List Clause) → Stands scope.old.names.items total front → Stands scope.new.names.items n (front ++ bind_recursively (map bound_of bindings.now) ∷ [])) }
+    ensures err { IfErr result (λ e. (front : List Clause) → Stands scope.old.names.items total front → (e ≡ NoMemory) ⊎ IsItemFault e front (bind_recursively (map bound_of bindings.now))) }
 {
-    match item {
-        Item::Let(bindings) => follow_let(scope, bindings),
-        Item::LetRec(bindings) => follow_recursion(scope, bindings),
-        Item::Check(check) => {
-            follow_check(alloc, &scope, check)?;
-            Ok(scope)
-        }
-        Item::Include(_) => unreachable!(),
-        Item::Show(_) => Ok(scope),
-        Item::Unshow(_) => Ok(scope),
+    let denied = first_denied_in(alloc, scope, bindings)?;
+    bind_group(scope, bindings)?;
+    require_bindings_bound(alloc, scope, bindings)?;
+    let sum = charge_bindings(alloc, scope, total, bindings)?;
+    require_relations(alloc, scope, bindings)?;
+    match denied {
+        Some(name) => Err(ModelFault::NotMonotone(name.copy()?)),
+        None => Ok(sum),
     }
 }
 
-/// Whether items without includes are those of a model.
-pub fn require_model(alloc: Global, items: &[Item]) -> Result<(), ModelFault>
-    requires { All IsOwn (map clause_of items.now) }
+/// The total behind an item, whose names are bound.
+fn follow<'a>(
+    alloc: Global,
+    scope: &mut Scope<'a>,
+    total: u32,
+    item: &'a Item,
+) -> Result<u32, ModelFault>
+    requires { IsOwn (clause_of item.now) }
+    ensures ok { IfOk result (λ n. (front : List Clause) → Stands scope.old.names.items total front → Stands scope.new.names.items n (front ++ clause_of item.now ∷ [])) }
+    ensures err { IfErr result (λ e. (front : List Clause) → Stands scope.old.names.items total front → (e ≡ NoMemory) ⊎ IsItemFault e front (clause_of item.now)) }
+{
+    match item {
+        Item::Let(definitions) => follow_let(alloc, scope, total, definitions),
+        Item::LetRec(bindings) => follow_recursion(alloc, scope, total, bindings),
+        Item::Check(check) => follow_check(alloc, scope, total, check),
+        Item::Include(_) => unreachable!(),
+        Item::Show(_) => Ok(total),
+        Item::Unshow(_) => Ok(total),
+    }
+}
+
+/// What is bound before any item.
+fn first_scope<'a>(alloc: Global, functions: &'a [Definition]) -> Result<Scope<'a>, AllocError>
+    requires { map defined_of functions.now ≡ functions_beforehand }
+    ensures { IfOk result (λ s. Fit s.names.items first) }
+{
+    let mut scope = Scope::new(alloc);
+    let mut above = Vec::new(alloc);
+    bind_functions(alloc, &scope, functions, &mut above)?;
+    scope.names.append(&mut above)?;
+    Ok(scope)
+}
+
+/// Whether items without includes are those of a model, where these functions are bound beforehand.
+pub fn require_model(
+    alloc: Global,
+    functions: &[Definition],
+    items: &[Item],
+) -> Result<(), ModelFault>
+    requires beforehand { map defined_of functions.now ≡ functions_beforehand }
+    requires own { All IsOwn (map clause_of items.now) }
     ensures ok { OnOk result (IsModel (map clause_of items.now)) }
     ensures err { IfErr result (λ e. (e ≡ NoMemory) ⊎ IsFaulty e (map clause_of items.now)) }
 {
-    let mut scope = Scope::new(alloc);
+    let mut scope = first_scope(alloc, functions)?;
+    let mut total = 0;
     for item in items {
-        scope = follow(alloc, scope, item)?;
+        total = follow(alloc, &mut scope, total, item)?;
     }
     Ok(())
 }

@@ -1,20 +1,29 @@
-//! Models put together: files with their includes, and the sorts and the scope of their names.
+//! Models put together: files with their includes, and the names, sorts and sizes of their expressions.
 #![tactic(auto)]
 
+mod beforehand;
+mod binding;
+mod charging;
 mod checking;
+mod denials;
+mod depths;
 mod draft;
 mod fault;
 mod files;
 pub mod laws;
 mod model;
 mod named;
+mod naming;
+mod places;
 mod rc11_text;
 mod resolving;
+mod schemes;
 mod scope;
+mod sizes;
 mod sketch;
 mod sort;
-mod typing;
 mod walk;
+mod weights;
 mod words;
 
 pub use fault::ModelFault;

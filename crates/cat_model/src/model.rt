@@ -1,10 +1,11 @@
 //! A model that is ready to judge executions.
 
 ghost use Rattle.std.specs.Prelude.{◌≡◌, map, IfOk};
-ghost use Rattle.cat_tree.specs.Tree.{clause_of};
+ghost use Rattle.cat_tree.specs.Tree.{clause_of, defined_of};
+ghost use Rattle.cat_model.specs.Beforehand.{beforehand as functions_beforehand};
 ghost use Rattle.cat_model.specs.Scopes.{IsModel};
 
-use cat_tree::Item;
+use cat_tree::{Definition, Item};
 use std::alloc::AllocError;
 use wb_text::Name;
 
@@ -38,9 +39,11 @@ impl Eq for FileVersion {
     ghost laws = { version_equivalence };
 }
 
-/// The items of a model with all includes in place, and the files that they come from. Its type keeps that each item
-/// is well sorted in the scope of the earlier ones, that recursive bindings are monotone, and that flags have names.
+/// The items of a model with all includes in place, and the files that they come from; beside them the functions that are bound
+/// before any item. Its type keeps that each item is well sorted in the scope of the earlier ones, that recursive bindings are monotone,
+/// that flags have names, and that the expressions aren't too large once calls are replaced.
 pub struct Model {
+    beforehand: Vec<Definition>,
     items: Vec<Item>,
     files: Vec<FileVersion>,
 }
@@ -48,7 +51,11 @@ pub struct Model {
 // A function of its own: whoever holds one drops it by a call.
 impl Drop for Model {
     fn drop(self) {
-        let Model { items: _, files: _ } = self;
+        let Model {
+            beforehand: _,
+            items: _,
+            files: _,
+        } = self;
     }
 }
 
@@ -59,13 +66,14 @@ impl std::marker::Model for Model {
 
     ghost coded = { coded_assembly };
 
-    ghost use Rattle.std.specs.Prelude.{map};
-    ghost use Rattle.cat_tree.specs.Tree.{clause_of};
+    ghost use Rattle.std.specs.Prelude.{◌≡◌, map};
+    ghost use Rattle.cat_tree.specs.Tree.{clause_of, defined_of};
+    ghost use Rattle.cat_model.specs.Beforehand.{beforehand as functions_beforehand};
     ghost use Rattle.cat_model.specs.Scopes.{IsModel};
 
     ghost view = { λ m. record { items = map clause_of m.items.items; files = m.files.items } };
 
-    ghost invariant = { λ m. IsModel (map clause_of m.items.items) };
+    ghost invariant = { λ m. (map defined_of m.beforehand.items ≡ functions_beforehand) × IsModel (map clause_of m.items.items) };
 }
 
 impl PartialEq for Model {
@@ -102,6 +110,16 @@ fn items_copy(first: &Vec<Item>) -> Result<Vec<Item>, AllocError>
     Ok(copies)
 }
 
+fn functions_copy(first: &Vec<Definition>) -> Result<Vec<Definition>, AllocError>
+    ensures { IfOk result (λ v. map defined_of v.items ≡ map defined_of first.now.items) }
+{
+    let mut copies = Vec::new(*first.allocator());
+    for function in first {
+        copies.push(function.copy()?)?;
+    }
+    Ok(copies)
+}
+
 fn files_copy(first: &Vec<FileVersion>) -> Result<Vec<FileVersion>, AllocError>
     ensures { IfOk result (λ v. v.items ≡ first.now.items) }
 {
@@ -117,11 +135,27 @@ fn files_copy(first: &Vec<FileVersion>) -> Result<Vec<FileVersion>, AllocError>
 
 impl Model {
     /// The model of these items, which come from these files.
-    pub(crate) fn new(items: Vec<Item>, files: Vec<FileVersion>) -> Self
-        requires { IsModel (map clause_of items.items) }
+    pub(crate) fn new(
+        beforehand: Vec<Definition>,
+        items: Vec<Item>,
+        files: Vec<FileVersion>,
+    ) -> Self
+        requires beforehand { map defined_of beforehand.items ≡ functions_beforehand }
+        requires model { IsModel (map clause_of items.items) }
         ensures { result ≡ record { items = map clause_of items.items; files = files.items } }
     {
-        Model { items, files }
+        Model {
+            beforehand,
+            items,
+            files,
+        }
+    }
+
+    /// The functions that are bound before any item.
+    pub fn beforehand(&self) -> &[Definition]
+        ensures { map defined_of result.now ≡ functions_beforehand }
+    {
+        &self.beforehand
     }
 
     /// The items, in order.
@@ -143,8 +177,13 @@ impl Model {
     pub fn copy(&self) -> Result<Self, AllocError>
         ensures { IfOk result (λ m. m ≡ self.now) }
     {
+        let beforehand = functions_copy(&self.beforehand)?;
         let items = items_copy(&self.items)?;
         let files = files_copy(&self.files)?;
-        Ok(Model { items, files })
+        Ok(Model {
+            beforehand,
+            items,
+            files,
+        })
     }
 }

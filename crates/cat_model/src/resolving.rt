@@ -7,6 +7,7 @@ ghost use Rattle.cat_model.specs.Scopes.{IsModel};
 ghost use Rattle.cat_model.specs.declared.fault.ModelFault.{ModelFault as Fault};
 ghost use Rattle.cat_model.specs.declared.fault.ModelFault.TheVariants.{NoMemory};
 
+use crate::beforehand::functions_beforehand;
 use crate::checking::require_model;
 use crate::fault::ModelFault;
 use crate::files::Files;
@@ -16,7 +17,7 @@ use std::alloc::Global;
 use wb_text::Name;
 
 /// The model of a root file, with all includes in place. Of several faults the first in reading order is answered; at one include
-/// 62, 63 and then 68, at one item 67, 64, 65 and then 66.
+/// 62, 63 and then 68, at one item 67, 64, 69, 65 and then 66.
 ///
 /// It recurses where files include one another, at most 16 deep, and into no expression.
 pub fn resolve(alloc: Global, files: &Files, root: &Name) -> Result<Model, ModelFault>
@@ -28,6 +29,7 @@ pub fn resolve(alloc: Global, files: &Files, root: &Name) -> Result<Model, Model
 {
     let walk = Walk { alloc, files, root };
     let draft = walk.whole()?;
-    require_model(alloc, &draft.items)?;
-    Ok(Model::new(draft.items, draft.files))
+    let beforehand = functions_beforehand(alloc)?;
+    require_model(alloc, &beforehand, &draft.items)?;
+    Ok(Model::new(beforehand, draft.items, draft.files))
 }

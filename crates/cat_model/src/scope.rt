@@ -1,91 +1,78 @@
-//! Scopes: which names are bound, and to what sort.
+//! Scopes: which names are bound, and to what.
 
-ghost use Rattle.std.specs.Prelude.{◌≡◌, ◌∷◌, [], ◌++◌, map, reverse, IfOk, OnOk, OnErr, find, option_map};
+ghost use Rattle.std.specs.Prelude.{◌≡◌, [], option_map, find, reverse};
 ghost use Rattle.std.specs.Str.{bytes_eq};
-ghost use Rattle.cat_model.specs.Named.{named_of, sort_of_named};
-ghost use Rattle.cat_model.specs.Sorts.{sort_of_name};
+ghost use Rattle.cat_model.specs.Lookups.{held_in, is_known};
 
+use crate::denials::Marked;
+use crate::depths::Nesting;
 use crate::named::Named;
+use crate::schemes::Scheme;
+use crate::sizes::Sizing;
 use crate::sort::Sort;
-use std::alloc::{AllocError, Global};
-use std::marker::Model;
+use std::alloc::Global;
 use wb_text::Name;
 
-/// A name that is bound, with its sort.
-#[derive(Clone, Copy)]
-struct Sorted<'a> {
-    name: &'a Name,
-    sort: Sort,
+/// What is known of a function, made once at its binding.
+#[derive(Drop)]
+pub struct Summary {
+    pub sizing: Sizing,
+    pub nesting: Nesting,
+    pub marked: Marked,
+    pub scheme: Scheme,
 }
 
-/// The names that are bound so far, over those bound beforehand.
+/// What a name is bound to.
+#[derive(Drop)]
+pub enum Held {
+    Value(Sort),
+    Function(Summary),
+}
+
+/// A name that is bound.
+#[derive(Drop)]
+pub struct BoundName<'a> {
+    pub name: &'a Name,
+    pub held: Held,
+}
+
+/// The names that are bound so far, over those bound beforehand. The latest is last, and hides earlier ones of its name.
 #[derive(Drop)]
 pub struct Scope<'a> {
-    bindings: Vec<Sorted<'a>>,
-}
-
-impl<'a> Model for Scope<'a> {
-    ghost use Rattle.std.specs.Prelude.{List, map, reverse};
-    ghost use Rattle.cat_model.specs.Sorts.{Scope};
-
-    ghost Value = { Scope };
-
-    ghost view = { λ s. map (λ b. (b.name.now, b.sort)) (reverse s.bindings.items) };
+    pub names: Vec<BoundName<'a>>,
 }
 
 /// The latest binding of a name.
-fn latest<'a>(bindings: &[Sorted<'a>], name: &Name) -> Option<Sort>
-    ensures { result ≡ option_map (λ b. b.sort) (find (λ b. bytes_eq b.name.now name.now) (reverse bindings.now)) }
+fn latest<'s, 'a>(names: &'s [BoundName<'a>], name: &Name) -> Option<&'s BoundName<'a>>
+    ensures { option_map (λ b. b.now) result ≡ find (λ b. bytes_eq b.name.now name.now) (reverse names.now) }
 {
-    bindings
-        .iter()
-        .rev()
-        .find(|binding| *binding.name == *name)
-        .map(|binding| binding.sort)
-}
-
-/// The sort of what a name stands for beforehand.
-fn sort_beforehand(name: &Name) -> Option<Sort>
-    ensures { result ≡ option_map sort_of_named (named_of name.now) }
-{
-    Named::of(name).map(|named| named.sort())
+    names.iter().rev().find(|bound| *bound.name == *name)
 }
 
 impl<'a> Scope<'a> {
-    /// Only what is bound beforehand.
+    /// Nothing is bound.
     pub fn new(alloc: Global) -> Self
-        ensures { result ≡ [] }
+        ensures { result.names.items ≡ [] }
     {
         Scope {
-            bindings: Vec::new(alloc),
+            names: Vec::new(alloc),
         }
     }
 
-    /// A second scope like this one.
-    pub fn copy(&self) -> Result<Self, AllocError>
-        ensures { IfOk result (λ s. s ≡ self.now) }
+    /// What a name is bound to, if it is bound.
+    pub fn held(&self, name: &Name) -> Option<&Held>
+        ensures { option_map (λ h. h.now) result ≡ held_in self.now.names.items name.now }
     {
-        Ok(Scope {
-            bindings: self.bindings.clone()?,
-        })
-    }
-
-    /// Binds a name, which hides earlier bindings of it.
-    pub fn bind(&mut self, name: &'a Name, sort: Sort) -> Result<(), AllocError>
-        ensures ok { OnOk result (self.new ≡ (name.now, sort) ∷ self.old) }
-        ensures err { OnErr result (self.new ≡ self.old) }
-    {
-        self.bindings.push(Sorted { name, sort })?;
-        Ok(())
-    }
-
-    /// The sort of a name, if it is bound.
-    pub fn sort_of(&self, name: &Name) -> Option<Sort>
-        ensures { result ≡ sort_of_name self.now name.now }
-    {
-        match latest(&self.bindings, name) {
-            Some(sort) => Some(sort),
-            None => sort_beforehand(name),
+        match latest(&self.names, name) {
+            Some(bound) => Some(&bound.held),
+            None => None,
         }
+    }
+
+    /// Whether a name stands for something.
+    pub fn knows(&self, name: &Name) -> bool
+        ensures { result ≡ is_known self.now.names.items name.now }
+    {
+        self.held(name).is_some() || Named::of(name).is_some()
     }
 }

@@ -6,7 +6,7 @@ ghost use Rattle.cat_tree.specs.Tree.{term_of, clause_of, bind as let_clause, ch
 ghost use Rattle.cat_model.specs.Sketches.{sketched, line_of};
 
 use crate::words::word;
-use cat_tree::{Definition, Check, CheckKind, Expression, Infix, Item, Leaf, Sign};
+use cat_tree::{Check, CheckKind, Definition, Expression, Infix, Item, Leaf, Sign};
 use std::alloc::{AllocError, Global};
 
 /// An expression that the program's text holds.
@@ -86,7 +86,11 @@ fn definition(alloc: Global, name: &[u8], value: &Sketch) -> Result<Item, AllocE
     let name = word(alloc, name)?;
     let value = expression(alloc, value)?;
     let mut bindings = Vec::new(alloc);
-    bindings.push(Definition { name, parameters: Vec::new(alloc), value })?;
+    bindings.push(Definition {
+        name,
+        parameters: Vec::new(alloc),
+        value,
+    })?;
     Ok(Item::Let(bindings))
 }
 

@@ -306,3 +306,9 @@ finds w t from to places counter totals v e h observed same is =
     let P : Litmus → Type 0 = λ u. AreObserved u.condition u.listed places in
     let Q : FindingValue → Type 0 = IsPart w.test w.model.items from to in
     subst Q (sym is) (h.executions, h.those, tells w.test w.model.items h.executions places counter totals h.count (subst P e observed) same)
+
+-- where A holds, what lists "A, and R" lists R
+pub listed_under : {X : Type 0} (A : Type 0) (R : X → Type 0) (xs ys : List X) → A → ys ≡ xs → Lists (λ x. A × R x) xs → Lists R ys
+listed_under {X} A R xs ys a e l =
+    let P : List X → Type 0 = λ zs. Lists R zs in
+    subst P (sym e) (record { once = l.once; only = λ x h. (l.only x h).1; all = λ x r. l.all x (a, r) })
