@@ -1,4 +1,4 @@
-use Rattle.std.proofs.Common.{◌≡◌, ◌+◌, ℕ, List, length, map, take, subst, sym, ◌∙◌, ap}
+use Rattle.std.proofs.Common.{ℕ, List, map, take, subst, sym, ◌∙◌, ap}
 use Rattle.cat_tree.specs.Tree.{Defined, defined_of, functions_in}
 use Rattle.cat_eval.specs.declared.naming.BoundName.{BoundName}
 use Rattle.cat_eval.specs.Lowered.{Replace}

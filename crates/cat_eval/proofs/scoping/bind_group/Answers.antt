@@ -1,10 +1,8 @@
-use Rattle.std.proofs.Common.{◌≡◌, ◌+◌, ℕ, length, map, take, get_or, refl, subst, arith, sym, ◌∙◌}
-use Rattle.std.proofs.lemmas.List.{get_or_default, length-append}
+use Rattle.std.proofs.Common.{◌+◌, ℕ, length, map, take, refl, subst, ◌∙◌}
 use Rattle.cat_tree.specs.Tree.{bound_of}
 use Rattle.cat_tree.specs.declared.tree.Binding.{Binding}
 use Rattle.cat_eval.specs.Lowered.{Replace}
 use Rattle.cat_eval.specs.Replacing.{Replacing, with_value_texts}
-use Rattle.cat_eval.specs.Planned.{run_from}
 use Rattle.cat_eval.proofs.Past.{number_more}
 use Rattle.cat_eval.proofs.Scoped.{group_values, group_replaced}
 use Rattle.cat_eval.proofs.scoping.bind_group.Goals as goal

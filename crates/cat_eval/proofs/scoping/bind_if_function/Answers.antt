@@ -1,8 +1,7 @@
 use Rattle.std.proofs.Common.{◌≡◌, List, length, take, ap, refl, arith, sym, ◌∙◌, subst}
 use Rattle.cat_tree.specs.Tree.{Defined, defined_of}
 use Rattle.cat_eval.specs.Lowered.{Replace}
-use Rattle.cat_eval.specs.Replacing.{Replacing, with_function_texts}
-use Rattle.cat_eval.specs.declared.naming.BoundName.{BoundName}
+use Rattle.cat_eval.specs.Replacing.{with_function_texts}
 use Rattle.cat_eval.specs.declared.naming.Held.TheVariants as held
 use Rattle.cat_eval.proofs.Scoped.{replace_function, bound_function, function_one, not_zero, code_as}
 use Rattle.cat_eval.proofs.scoping.bind_if_function.Goals as goal

@@ -1,4 +1,4 @@
-use Rattle.std.proofs.Common.{◌≡◌, ◌<◌, ◌≤◌, ◌+◌, ◌++◌, ℕ, List, length, map, take, subst, arith, sym, ◌∙◌, ap}
+use Rattle.std.proofs.Common.{◌≡◌, ◌+◌, ◌++◌, ℕ, List, length, map, take, subst, arith, sym, ◌∙◌, ap}
 use Rattle.std.proofs.lemmas.List.{append_assoc, length-append}
 use Rattle.cat_tree.specs.Tree as trees
 use Rattle.cat_tree.specs.Tree.{defined_of, values_in}
