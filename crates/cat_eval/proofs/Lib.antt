@@ -36,6 +36,7 @@ pub mod Noted
 pub mod Handed
 pub mod Begun
 pub mod Stood
+pub mod Recalled
 pub mod Scoped
 pub mod Past
 pub mod Behind

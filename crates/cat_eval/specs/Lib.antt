@@ -10,6 +10,7 @@ pub mod Lowered
 pub mod Steps
 pub mod Code
 pub mod Planned
+pub mod Calls
 pub mod Keeping
 pub mod Examples
 pub mod Laws
