@@ -223,47 +223,6 @@ exists true",
         rows: &[(&[""], Answer::Ends("Observation X Always 18 0\n"))],
     },
     Case {
-        name: "Fetch-add-row-1",
-        test: "C A {}
-P0 (atomic_int* x) { int r0 = atomic_fetch_add_explicit(x, 1, memory_order_relaxed); }
-P1 (atomic_int* x) { int r1 = atomic_fetch_add_explicit(x, 1, memory_order_relaxed); }
-exists (0:r0=0 /\\ 1:r1=0)",
-        rows: &[
-            (&[""], Answer::Ends("Observation A Sometimes 2 4\n")),
-            (&[RC11], Answer::Ends("Observation A Never 0 2\n")),
-        ],
-    },
-    Case {
-        name: "Fetch-add-row-2",
-        test: "C R {}
-P0 (int* x, atomic_int* y) { *x = 1; atomic_store_explicit(y, 1, memory_order_release); }
-P1 (atomic_int* y) { int r2 = atomic_fetch_add_explicit(y, 1, memory_order_relaxed); }
-P2 (int* x, atomic_int* y) { int r0 = atomic_load_explicit(y, memory_order_acquire); if (r0 == 2) { int r1 = *x; } }
-exists (2:r0=2 /\\ 2:r1=0)",
-        rows: &[(
-            &[RC11],
-            Answer::Ends(
-                "Positive: 0 Negative: 6
-Condition exists (2:r0=2 /\\ 2:r1=0)
-Observation R Never 0 6
-",
-            ),
-        )],
-    },
-    Case {
-        name: "an add of 0, which may read its own write",
-        test: "C Z {}
-P0 (atomic_int* x) { atomic_fetch_add_explicit(x, 0, memory_order_relaxed); }
-exists true",
-        rows: &[
-            (
-                &["", "empty RMW \\ (A & RLX) ~empty rmw & data"],
-                Answer::Ends("Observation Z Always 3 0\n"),
-            ),
-            (&[RC11], Answer::Ends("Observation Z Always 1 0\n")),
-        ],
-    },
-    Case {
         name: "sb_fences",
         test: FENCED,
         rows: &[(&[RC11], Answer::Ends("Observation SB Never 0 3\n"))],
@@ -395,6 +354,55 @@ exists (0:r0=1 /\\ 1:r0=1)",
 #[test]
 fn worked_rows(rt: HostRuntime) -> Result<(), Fail> {
     all_hold(rt.alloc(), WORKED)
+}
+
+const ADDS: &[Case] = &[
+    Case {
+        name: "Fetch-add-row-1",
+        test: "C A {}
+P0 (atomic_int* x) { int r0 = atomic_fetch_add_explicit(x, 1, memory_order_relaxed); }
+P1 (atomic_int* x) { int r1 = atomic_fetch_add_explicit(x, 1, memory_order_relaxed); }
+exists (0:r0=0 /\\ 1:r1=0)",
+        rows: &[
+            (&[""], Answer::Ends("Observation A Sometimes 2 4\n")),
+            (&[RC11], Answer::Ends("Observation A Never 0 2\n")),
+        ],
+    },
+    Case {
+        name: "Fetch-add-row-2",
+        test: "C R {}
+P0 (int* x, atomic_int* y) { *x = 1; atomic_store_explicit(y, 1, memory_order_release); }
+P1 (atomic_int* y) { int r2 = atomic_fetch_add_explicit(y, 1, memory_order_relaxed); }
+P2 (int* x, atomic_int* y) { int r0 = atomic_load_explicit(y, memory_order_acquire); if (r0 == 2) { int r1 = *x; } }
+exists (2:r0=2 /\\ 2:r1=0)",
+        rows: &[(
+            &[RC11],
+            Answer::Ends(
+                "Positive: 0 Negative: 6
+Condition exists (2:r0=2 /\\ 2:r1=0)
+Observation R Never 0 6
+",
+            ),
+        )],
+    },
+    Case {
+        name: "an add of 0, which may read its own write",
+        test: "C Z {}
+P0 (atomic_int* x) { atomic_fetch_add_explicit(x, 0, memory_order_relaxed); }
+exists true",
+        rows: &[
+            (
+                &["", "empty RMW \\ (A & RLX) ~empty rmw & data"],
+                Answer::Ends("Observation Z Always 3 0\n"),
+            ),
+            (&[RC11], Answer::Ends("Observation Z Always 1 0\n")),
+        ],
+    },
+];
+
+#[test]
+fn adds(rt: HostRuntime) -> Result<(), Fail> {
+    all_hold(rt.alloc(), ADDS)
 }
 
 const FUNCTIONS: &[Case] = &[
