@@ -401,7 +401,7 @@ exists true",
 ];
 
 #[test]
-fn adds(rt: HostRuntime) -> Result<(), Fail> {
+fn rows_of_adds(rt: HostRuntime) -> Result<(), Fail> {
     all_hold(rt.alloc(), ADDS)
 }
 
