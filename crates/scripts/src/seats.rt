@@ -15,7 +15,7 @@ use crate::work::{NoGate, sums};
 use book::{Command, Entry, Limits, Refused, Reply};
 use script_lines::{Instruction, Request};
 use sessions::{Desk, FinishCause, Pass, Receipt, finish, open};
-use slices::{Piece, evaluate};
+use slices::{KeptSpace, Piece};
 use std::alloc::{AllocError, Global};
 use std::sync::Wait;
 use std::sync::ledger::{Blank, Ledger};
@@ -33,6 +33,8 @@ pub struct Seats<L: Ledger> {
     alloc: Global,
     desk: Desk<L>,
     passes: Vec<Pass<L>>,
+    // What a session's evaluation leaves for the next.
+    space: KeptSpace,
 }
 
 /// A result is to be returned of a piece that no claim gave.
@@ -54,6 +56,7 @@ impl<L: Ledger> Seats<L> {
             alloc,
             desk,
             passes,
+            space: KeptSpace::new(alloc),
         })
     }
 
@@ -83,8 +86,8 @@ impl<L: Ledger> Seats<L> {
         ensures same { OnErr result (self.new.passes.items ≡ self.old.passes.items) }
         ensures none { OnErr result (GivesNone claim (session_receipts self.old.passes.items)) }
     {
-        match self.piece(claim) {
-            Some(piece) => match evaluate(self.alloc, piece) {
+        match piece_in(&self.passes[..SESSIONS as usize], claim) {
+            Some(piece) => match self.space.evaluate(piece) {
                 Ok(part) => Ok(self.apply(rt, seat, Command::Return(part))),
                 Err(AllocError) => Ok(Outcome::NotTaken(Refused::NoMemory)),
             },
@@ -108,14 +111,6 @@ impl<L: Ledger> Seats<L> {
             }
             Some(why) => Outcome::NotTaken(why),
         }
-    }
-
-    /// The piece that a claim gave a session.
-    fn piece(&self, claim: u32) -> Option<&Piece>
-        requires { IsTable self.now.desk self.now.passes.items }
-        ensures { MatchOption result (NoneGives claim (take 8 self.now.passes.items)) (λ p. SomeGives claim (take 8 self.now.passes.items) p.now) }
-    {
-        piece_in(&self.passes[..SESSIONS as usize], claim)
     }
 
     /// Gives the writer the text of what became of an instruction.
@@ -143,6 +138,7 @@ impl<L: Ledger> Seats<L> {
             alloc: _,
             desk,
             passes,
+            space: _,
         } = self;
         match finish(desk, passes) {
             Ok(closed) => Ok(closed.journal.len()),

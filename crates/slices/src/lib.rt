@@ -4,6 +4,7 @@
 mod counter;
 mod equality;
 mod finding;
+mod kept_space;
 pub mod laws;
 mod piece;
 mod row;
@@ -16,6 +17,7 @@ mod verdict;
 mod work;
 
 pub use finding::{Finding, FindingRef};
+pub use kept_space::KeptSpace;
 pub use piece::{Piece, PieceResult, evaluate};
 pub use row::Row;
 pub use span::{Span, cut};

@@ -167,6 +167,13 @@ impl Work {
         self.test.test()
     }
 
+    /// The test, as it is kept.
+    pub(crate) fn test_ref(&self) -> &TestRef
+        ensures { result.now ≡ self.now.test }
+    {
+        &self.test
+    }
+
     /// The model.
     pub fn model(&self) -> &Model
         ensures { result.now ≡ self.now.model }

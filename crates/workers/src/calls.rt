@@ -10,8 +10,8 @@ ghost use Rattle.workers.specs.Replies.{Replied, claimed_of, goes_on, is_done, l
 
 use book::{Command, Entry, Refusal, Refused, Reply};
 use sessions::{Desk, Pass};
-use slices::{Piece, PieceResult};
-use std::alloc::{AllocError, Global};
+use slices::{KeptSpace, Piece, PieceResult};
+use std::alloc::AllocError;
 use std::sync::Wait;
 use std::sync::ledger::Ledger;
 
@@ -40,8 +40,8 @@ pub trait Calls<L: Ledger> {
         ensures err { OnErr result (pass.new ≡ pass.old) }
         ensures refused { OnErr result (refuses self.now (call Said.Claim)) };
 
-    /// Evaluates a piece. That is no call of the desk.
-    fn evaluate(&self, alloc: Global, piece: &Piece) -> Result<PieceResult, AllocError>
+    /// Evaluates a piece, over what the piece before left. That is no call of the desk.
+    fn evaluate(&self, space: &mut KeptSpace, piece: &Piece) -> Result<PieceResult, AllocError>
         ensures piece { IfOk result (λ f. f.piece ≡ piece.now) }
         ensures refused { OnErr result (refuses self.now (evaluation piece.now)) };
 
@@ -84,8 +84,8 @@ impl<L: Ledger> Calls<L> for Desk<L> {
         }
     }
 
-    fn evaluate(&self, alloc: Global, piece: &Piece) -> Result<PieceResult, AllocError> {
-        slices::evaluate(alloc, piece)
+    fn evaluate(&self, space: &mut KeptSpace, piece: &Piece) -> Result<PieceResult, AllocError> {
+        space.evaluate(piece)
     }
 
     fn hand_in<R: Wait>(

@@ -9,7 +9,7 @@ ghost use Rattle.workers.specs.Turns.{IsTurn, Settles};
 
 use crate::calls::{Calls, Claimed, held};
 use sessions::{Counts, Pass};
-use slices::{Piece, PieceResult};
+use slices::{KeptSpace, Piece, PieceResult};
 use std::alloc::{AllocError, Global};
 use std::sync::Wait;
 use std::sync::ledger::Ledger;
@@ -59,10 +59,11 @@ pub fn work<L: Ledger, C: Calls<L>, G: Gate, R: Wait>(
     requires { pass.old.parts ≡ 1 }
     ensures { WorkedUnder (C.refuses calls.now) form pass.old pass.new }
 {
+    let mut space = KeptSpace::new(alloc);
     let mut evaluated = 0;
     loop {
         let _made = pass.receipts().len();
-        match one_turn(rt, alloc, form, calls, gate, place, pass) {
+        match one_turn(rt, &mut space, form, calls, gate, place, pass) {
             Turn::Waited => {}
             Turn::Returned => evaluated += 1,
             Turn::Ended(last) => {
@@ -76,7 +77,7 @@ pub fn work<L: Ledger, C: Calls<L>, G: Gate, R: Wait>(
 // A claim, and what follows it.
 fn one_turn<L: Ledger, C: Calls<L>, G: Gate, R: Wait>(
     rt: &R,
-    alloc: Global,
+    space: &mut KeptSpace,
     form: Form,
     calls: &C,
     gate: &G,
@@ -87,7 +88,7 @@ fn one_turn<L: Ledger, C: Calls<L>, G: Gate, R: Wait>(
     ensures { IsTurn (C.refuses calls.now) form Stage.Free pass.old pass.new result }
 {
     match calls.claim(rt, pass) {
-        Ok(Claimed::Held) => settle(rt, alloc, calls, gate, place, pass),
+        Ok(Claimed::Held) => settle(rt, space, calls, gate, place, pass),
         Ok(Claimed::Idle) => match form {
             Form::UntilIdle => Turn::Ended(counts(0, 0, 0)),
             Form::UntilClosed => {
@@ -103,7 +104,7 @@ fn one_turn<L: Ledger, C: Calls<L>, G: Gate, R: Wait>(
 // Evaluates the piece that the pass was given, and returns what was found or gives the claim back.
 fn settle<L: Ledger, C: Calls<L>, G: Gate, R: Wait>(
     rt: &R,
-    alloc: Global,
+    space: &mut KeptSpace,
     calls: &C,
     gate: &G,
     place: usize,
@@ -113,7 +114,7 @@ fn settle<L: Ledger, C: Calls<L>, G: Gate, R: Wait>(
     requires held { IsSome (last_piece pass.old.receipts) }
     ensures { Settles (C.refuses calls.now) pass.old pass.new result }
 {
-    let (number, found) = evaluated(rt, alloc, calls, gate, place, pass);
+    let (number, found) = evaluated(rt, space, calls, gate, place, pass);
     match found {
         Ok(found) => match calls.hand_in(rt, pass, found) {
             Ok(true) => Turn::Returned,
@@ -127,7 +128,7 @@ fn settle<L: Ledger, C: Calls<L>, G: Gate, R: Wait>(
 // The number of the claim, and what was found.
 fn evaluated<L: Ledger, C: Calls<L>, G: Gate, R: Wait>(
     rt: &R,
-    alloc: Global,
+    space: &mut KeptSpace,
     calls: &C,
     gate: &G,
     place: usize,
@@ -139,7 +140,7 @@ fn evaluated<L: Ledger, C: Calls<L>, G: Gate, R: Wait>(
     match held(pass) {
         Some(piece) => {
             gate.enter(rt, place, piece);
-            let found = calls.evaluate(alloc, piece);
+            let found = calls.evaluate(space, piece);
             gate.leave(rt, place, piece);
             (piece.claim(), found)
         }

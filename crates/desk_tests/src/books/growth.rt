@@ -9,7 +9,7 @@ use crate::commands::{SB, name, put_cat};
 use book::{Command, Said};
 use cat_model::{Files, Model, resolve};
 use litmus_c::read_test;
-use slices::{Piece, PieceResult, Tally, TestRef, Verdict, VerdictRef, Work, WorkRef, evaluate};
+use slices::{KeptSpace, Piece, PieceResult, Tally, TestRef, Verdict, VerdictRef, Work, WorkRef, evaluate};
 use std::alloc::{AllocError, Global};
 use std::test::Fail;
 use wb_text::Name;
@@ -177,6 +177,49 @@ fn is_evaluated(alloc: Global, work: &WorkRef) -> bool {
 fn results(rt: HostRuntime) -> Result<(), Fail> {
     let work = work_ref(rt.alloc())?;
     confirm(is_evaluated(rt.alloc(), &work), "the result of all numbers")
+}
+
+/// A test of one execution, which has the proposition.
+const ONE: &[u8] = b"C ONE
+{}
+P0 (atomic_int* x) {
+  atomic_store_explicit(x, 1, memory_order_relaxed);
+}
+exists (x=1)
+";
+
+/// The result of all numbers, over what the piece before left.
+fn part_over(space: &mut KeptSpace, work: &WorkRef) -> Result<PieceResult, AllocError> {
+    let piece = whole_piece(work)?;
+    match space.evaluate(&piece) {
+        Ok(part) => Ok(part),
+        Err(AllocError) => space.evaluate(&piece),
+    }
+}
+
+/// Whether the work's results are those of SB, two pieces one after another.
+fn are_found(space: &mut KeptSpace, work: &WorkRef) -> Result<bool, AllocError> {
+    let first = part_over(space, work)?;
+    let second = part_over(space, work)?;
+    Ok(is_found(&first) && is_found(&second))
+}
+
+fn is_one(space: &mut KeptSpace, work: &WorkRef) -> Result<bool, AllocError> {
+    let part = part_over(space, work)?;
+    let finding = part.found().finding();
+    Ok((finding.positive(), finding.negative()) == (1, 0))
+}
+
+/// Whether pieces of SB, of another test and of SB again each have their own counts, over the candidates of the piece before.
+#[test]
+fn kept_spaces(rt: HostRuntime) -> Result<(), Fail> {
+    let sb = work_ref(rt.alloc())?;
+    let one = work_of(rt.alloc(), ONE)?;
+    let mut space = KeptSpace::new(rt.alloc());
+    let first = are_found(&mut space, &sb)?;
+    let other = is_one(&mut space, &one)?;
+    let last = are_found(&mut space, &sb)?;
+    confirm(first && other && last, "pieces of two tests, in turn")
 }
 
 fn is_piece_copied(piece: &Piece) -> bool {

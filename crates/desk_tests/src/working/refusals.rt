@@ -9,7 +9,7 @@ use crate::working::gates::Watching;
 use crate::working::running::LIMITS;
 use book::Refused;
 use sessions::{Desk, Pass, open};
-use slices::{Piece, PieceResult};
+use slices::{KeptSpace, Piece, PieceResult};
 use std::alloc::{AllocError, Global};
 use std::marker::Brand;
 use std::sync::Wait;
@@ -59,12 +59,12 @@ impl<'a, L: Ledger> Calls<L> for Refusing<'a, L> {
         self.desk.claim(rt, pass)
     }
 
-    fn evaluate(&self, alloc: Global, piece: &Piece) -> Result<PieceResult, AllocError> {
+    fn evaluate(&self, space: &mut KeptSpace, piece: &Piece) -> Result<PieceResult, AllocError> {
         self.gate.door.evaluate(piece);
         if is_next(&self.evaluated, self.refused.evaluations) {
             return Err(AllocError);
         }
-        self.desk.evaluate(alloc, piece)
+        self.desk.evaluate(space, piece)
     }
 
     fn hand_in<R: Wait>(
