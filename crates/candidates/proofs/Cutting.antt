@@ -11,7 +11,7 @@ use Rattle.std.proofs.Math.Seq.{take-length}
 use Rattle.events.specs.declared.event.Event.{Event}
 use Rattle.events.specs.declared.event.EventId.{EventId}
 use Rattle.events.specs.declared.event.EventId.TheVariants.{Initial}
-use Rattle.events.specs.Executions.{ThreadRun, GraphValue}
+use Rattle.events.specs.Executions.{ThreadRun}
 use Rattle.listings.specs.Lists.{ForEach, IsIn, product_by, factorial}
 use Rattle.listings.specs.Numbered.{digits, arrange}
 use Rattle.listings.proofs.Arrangements.{put, insert-put}
@@ -365,7 +365,7 @@ cuts_more runs n free k x rest count done more total o is made l grown e =
     let T : ℕ → List (List EventId) = λ c. cut_orders runs (free - (x + 1)) (left_at free k (x + 1)) xs (rest / c) in
     let H : ℕ → List EventId = λ c. cut_order runs (open_among free k x (length (later_writes runs x))) x (rest % c) in
     let step : o ∷ T count ≡ cut_orders runs (free - x) (left_at free k x) (drop x (upto n)) rest =
-      ap (λ w. w ∷ T count) made ∙ ap (λ c. H c ∷ T c) is ∙ sym (cut_step runs free k x xs rest) ∙ ap (λ ys. cut_orders runs (free - x) (left_at free k x) ys rest) (sym (drop_upto n x l)) in
+    ap (λ w. w ∷ T count) made ∙ ap (λ c. H c ∷ T c) is ∙ sym (cut_step runs free k x xs rest) ∙ ap (λ ys. cut_orders runs (free - x) (left_at free k x) ys rest) (sym (drop_upto n x l)) in
     ap (λ ys. ys ++ T count) grown ∙ append_assoc done (o ∷ []) (T count) ∙ ap (λ ys. done ++ ys) step ∙ e
 
 pub pairs_more : (runs : List ThreadRun) (n free k x : ℕ) (done more total : List (List EventId)) → x < n →
@@ -376,7 +376,7 @@ pairs_more runs n free k x done more total l grown e =
     let T : List (List EventId) = open_pairs runs (free - (x + 1)) (left_at free k (x + 1)) xs in
     let H : List (List EventId) = initial_first x (take (open_among free k x (length (later_writes runs x))) (later_writes runs x)) in
     let step : H ++ T ≡ open_pairs runs (free - x) (left_at free k x) (drop x (upto n)) =
-      sym (pairs_step runs free k x xs) ∙ ap (λ ys. open_pairs runs (free - x) (left_at free k x) ys) (sym (drop_upto n x l)) in
+    sym (pairs_step runs free k x xs) ∙ ap (λ ys. open_pairs runs (free - x) (left_at free k x) ys) (sym (drop_upto n x l)) in
     ap (λ ys. ys ++ T) grown ∙ append_assoc done H T ∙ ap (λ ys. done ++ ys) step ∙ e
 
 no_location : (n x : ℕ) → n ≤ x → drop x (upto n) ≡ []

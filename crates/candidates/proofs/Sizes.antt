@@ -1,7 +1,7 @@
 -- How many numbers the blocks of a depth have.
-use Rattle.std.proofs.Common.{◌≡◌, ℕ, zero, suc, ◌+◌, ◌-◌, ◌*◌, ◌/◌, ◌<◌, ◌≤◌, List, [], ◌∷◌, ◌++◌, length, drop, get_or, Bool, true, false, nat_lt, if◌then◌else◌, refl, sym, ◌∙◌, ap, subst, inl, inr, arith}
+use Rattle.std.proofs.Common.{◌≡◌, ℕ, zero, suc, ◌+◌, ◌-◌, ◌*◌, ◌/◌, ◌<◌, ◌≤◌, List, [], ◌∷◌, ◌++◌, length, drop, get_or, Bool, nat_lt, if◌then◌else◌, refl, sym, ◌∙◌, ap, subst, inl, inr, arith}
 use Rattle.std.specs.List.{All}
-use Rattle.std.proofs.lemmas.Bool.{cases_Bool, cases_lt}
+use Rattle.std.proofs.lemmas.Bool.{cases_Bool}
 use Rattle.std.proofs.lemmas.List.Elements.{All-nil, All-cons, All-append}
 use Rattle.std.proofs.Math.Nat.{mul_assoc, mul_comm, mul-one, mul-div_cancel}
 use Rattle.events.specs.declared.event.Event.{Event}
@@ -75,8 +75,8 @@ one_placed n runs x k size by l m e is =
     let P : ℕ → Type 0 = λ y. k < length (later_writes runs y) in
     let w : ℕ = ways_of_orders runs x k (upto n) in
     let more : size ≡ w * by =
-      e ∙ ap (λ j. ways_of_orders runs x j (upto n)) f ∙ ways_more runs x k (upto n) (below_upto x n l) (subst P (sym at) m)
-      ∙ ap (λ y. w * (length (later_writes runs y) - k)) at ∙ ap (λ z. w * z) (sym is) in
+    e ∙ ap (λ j. ways_of_orders runs x j (upto n)) f ∙ ways_more runs x k (upto n) (below_upto x n l) (subst P (sym at) m)
+    ∙ ap (λ y. w * (length (later_writes runs y) - k)) at ∙ ap (λ z. w * z) (sym is) in
     ap (λ z. z / by) more ∙ mul-div_cancel w (omega (arith, is, m))
 
 factor_positive : (a b c : ℕ) → c ≡ a * b → 1 ≤ c → 1 ≤ a
@@ -97,7 +97,7 @@ one_known n runs rs i size by r l is e f =
     let same : by ≡ count_sources runs (get_or rs i r) = e ∙ ap (count_sources runs) is in
     let one : 1 ≤ count_sources runs r = sources_positive runs r in
     let whole : size ≡ (c * p) * by =
-      f ∙ ap (λ z. c * z) (product_drop (count_sources runs) rs i r l ∙ ap (λ z. z * p) (sym same) ∙ mul_comm by p) ∙ sym (mul_assoc c p by) in
+    f ∙ ap (λ z. c * z) (product_drop (count_sources runs) rs i r l ∙ ap (λ z. z * p) (sym same) ∙ mul_comm by p) ∙ sym (mul_assoc c p by) in
     ap (λ z. z / by) whole ∙ mul-div_cancel (c * p) (omega (arith, e, one))
 
 pub some_numbers : (n : ℕ) (runs : List ThreadRun) (rs : List Event) → 1 ≤ count_co n runs * product_by (count_sources runs) rs

@@ -1,12 +1,12 @@
 -- The numbers that share a quotient stand one behind another.
-use Rattle.std.proofs.Common.{◌≡◌, ℕ, zero, suc, ◌+◌, ◌-◌, ◌*◌, ◌/◌, ◌%◌, ◌<◌, ◌≤◌, List, [], ◌∷◌, ◌++◌, length, drop, take, Bool, true, false, nat_lt, get_or, Option, Some, None, if◌then◌else◌, refl, sym, ◌∙◌, ap, subst, inl, inr, append-nil, arith}
+use Rattle.std.proofs.Common.{◌≡◌, ℕ, ◌+◌, ◌-◌, ◌*◌, ◌/◌, ◌%◌, ◌<◌, ◌≤◌, List, [], ◌++◌, length, drop, take, Bool, true, false, nat_lt, get_or, Option, Some, None, if◌then◌else◌, refl, sym, ◌∙◌, ap, subst, inl, inr, append-nil, arith}
 use Rattle.std.specs.List.{All}
 use Rattle.std.proofs.lemmas.Bool.{ltb-true}
 use Rattle.std.proofs.Math.Nat.{mul_assoc, mul_comm, eq-zero-or-pos, div-add-mod, mod-lt, zero-mul, div-lt_iff_lt-mul, mul-le-mul_right, add-mul}
 use Rattle.std.proofs.lemmas.Nat.{div-mul-add}
 use Rattle.events.specs.declared.event.EventId.{EventId}
 use Rattle.events.specs.Executions.{GraphValue, ThreadRun, IsGraph}
-use Rattle.events.specs.Extends.{Extends, IsPartOfOne, PartsAreGraphs}
+use Rattle.events.specs.Extends.{Extends, PartsAreGraphs}
 use Rattle.listings.specs.Lists.{product_by}
 use Rattle.candidates.specs.declared.depths.Depth.{Depth}
 use Rattle.candidates.specs.declared.depths.Known.{Known}
@@ -15,11 +15,10 @@ use Rattle.candidates.specs.declared.page.Stretch.{Stretch}
 use Rattle.candidates.specs.declared.walk.Block.{Block}
 use Rattle.candidates.specs.Executions.{reads, upto, block}
 use Rattle.candidates.specs.Candidates.{Choices, candidate, candidate_at, graph_at, is_consistent, size_of, count_sources, count_co, rf_at}
-use Rattle.candidates.specs.Readings.{IsStretch, MayBeStretch}
-use Rattle.candidates.specs.Blocks.{AllExtend, CommonValue, Fits, IsDepth, size_by, cut_by, cut_by_reads, cut_by_orders, cut_orders, open_pairs}
+use Rattle.candidates.specs.Readings.{IsStretch}
+use Rattle.candidates.specs.Blocks.{AllExtend, CommonValue, IsDepth, size_by, cut_by, cut_by_reads, cut_by_orders, cut_orders, open_pairs}
 use Rattle.candidates.specs.Walks.{IsBlock, IsCommon, Walking}
 use Rattle.candidates.proofs.Cutting.{by_orders, by_reads, ways_divide, sources_split, order_self}
-use Rattle.candidates.proofs.Graphs.{is_graph}
 
 quotient_is : (m q d : ℕ) → q * d ≤ m → m < q * d + d → m / d ≡ q
 quotient_is m q d l u =
@@ -116,7 +115,7 @@ block_is s b h d k j n e l at is =
     let r = block_ends s b h d k j l in
     let most : b.first + b.size ≤ size_of s = h.most in
     let f : (i : ℕ) → j / d.size ≡ i / d.size → Extends (cut_by init runs d.known j) (candidate init runs i) =
-      (let P : ℕ → Type 0 = λ z. (i : ℕ) → j / z ≡ i / z → Extends (cut_by init runs d.known j) (candidate init runs i) in subst P (sym k.size) (λ i q. extends_cut init runs d.known j i q)) in
+    (let P : ℕ → Type 0 = λ z. (i : ℕ) → j / z ≡ i / z → Extends (cut_by init runs d.known j) (candidate init runs i) in subst P (sym k.size) (λ i q. extends_cut init runs d.known j i q)) in
     let here : n - 1 ≡ b.first + j = omega (arith, at) in
     let there : e ≡ b.first + j + (d.size - j % d.size) = omega (arith, is, here) in
     let Q : ℕ → ℕ → Type 0 = λ y z. AllExtend s y z (cut_by init runs d.known j) in

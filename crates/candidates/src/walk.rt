@@ -317,10 +317,7 @@ impl<'a> Walk<'a> {
                 let graph = cut(alloc, self.space.init(), page, block.known, block.place)?;
                 Ok(Common::new(graph, block.end))
             }
-            None => Ok(Common::new(
-                graph_before(alloc, self.space, self.next)?,
-                self.next,
-            )),
+            None => Ok(Common::new(graph_before(alloc, self.space, self.next)?, self.next)),
         }
     }
 

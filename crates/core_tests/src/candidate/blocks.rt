@@ -12,10 +12,15 @@ P1 (atomic_int* x, atomic_int* y) { atomic_store_explicit(x, 3, memory_order_rel
 exists (0:r0=1)\n";
 
 const X: EventId = EventId::Initial(0);
+
 const X_ONE: EventId = EventId::Own(0, 0);
+
 const X_TWO: EventId = EventId::Own(0, 1);
+
 const X_THREE: EventId = EventId::Own(1, 0);
+
 const Y: EventId = EventId::Initial(1);
+
 const Y_ONE: EventId = EventId::Own(1, 1);
 
 /// The number behind a block, what the first reads read from, and what is known of the orders.
@@ -109,9 +114,11 @@ fn has_all_blocks(alloc: Global, space: &Space) -> Result<bool, AllocError> {
     if walk.depths() != 0 {
         return Ok(false);
     }
-    Ok(finds(alloc, &mut walk, 0, 0, AT_0)?
-        && finds(alloc, &mut walk, 5, 5, AT_5)?
-        && finds(alloc, &mut walk, 24, 54, AT_54)?)
+    Ok(
+        finds(alloc, &mut walk, 0, 0, AT_0)?
+            && finds(alloc, &mut walk, 5, 5, AT_5)?
+            && finds(alloc, &mut walk, 24, 54, AT_54)?,
+    )
 }
 
 #[test]

@@ -1,4 +1,4 @@
-use Rattle.std.proofs.Common.{◌≡◌, ◌-◌, ◌+◌, ◌/◌, ◌∙◌, ◌≤◌, ◌<◌, refl, List, length, ap, subst, sym, arith}
+use Rattle.std.proofs.Common.{◌≡◌, ◌-◌, ◌+◌, ◌/◌, ◌∙◌, ◌<◌, List, length, ap, sym, arith}
 use Rattle.events.specs.declared.event.EventId.{EventId}
 use Rattle.candidates.specs.declared.depths.Depth.{Depth}
 use Rattle.candidates.specs.declared.depths.Known.TheVariants.{Orders}
@@ -37,7 +37,7 @@ loop-unplaced-preserved c =
     let one : at.unplaced ≡ k + 1 = omega (arith, c.loop-unplaced-test.true) in
     let below : k < length (later_writes runs x) = omega (arith, c.loop-unplaced-test.true, at.invariant.within, many) in
     let size : at.size / (writes - k) ≡ ways_of_orders runs x k (upto n) =
-      one_placed n runs x k at.size (writes - k) c.requires.location below (at.invariant.size ∙ ap (λ z. ways_of_orders runs x z (upto n)) one) (ap (λ z. z - k) many) in
+    one_placed n runs x k at.size (writes - k) c.requires.location below (at.invariant.size ∙ ap (λ z. ways_of_orders runs x z (upto n)) one) (ap (λ z. z - k) many) in
     let d : Depth = record { size = at.size / (writes - k); known = Orders (record { locations = x; writes = k }) } in
     record {
       within = omega (arith, at.invariant.within);

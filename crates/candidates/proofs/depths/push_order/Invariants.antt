@@ -1,4 +1,4 @@
-use Rattle.std.proofs.Common.{◌≡◌, ◌≤◌, length}
+use Rattle.std.proofs.Common.{◌≡◌, ◌≤◌}
 use Rattle.std.specs.List.{All}
 use Rattle.candidates.specs.Blocks.{IsDepth, ways_of_orders}
 use Rattle.candidates.specs.Executions.{upto}

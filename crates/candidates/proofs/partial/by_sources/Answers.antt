@@ -1,10 +1,10 @@
-use Rattle.std.proofs.Common.{◌≡◌, ◌∙◌, ◌/◌, ◌%◌, ◌++◌, ◌≤◌, List, ℕ, length, take, ap, subst, sym, arith}
+use Rattle.std.proofs.Common.{◌∙◌, ◌/◌, ◌++◌, List, length, take, ap, subst, sym}
 use Rattle.events.specs.declared.event.Event.{Event}
 use Rattle.events.specs.declared.event.EventId.{EventId}
 use Rattle.events.specs.Executions.{GraphValue, IsGraph}
 use Rattle.candidates.specs.declared.depths.Known.TheVariants.{Sources}
 use Rattle.candidates.specs.Readings.{read_at}
-use Rattle.candidates.specs.Blocks.{cut_orders, open_pairs}
+use Rattle.candidates.specs.Blocks.{open_pairs}
 use Rattle.candidates.specs.Executions.{upto}
 use Rattle.candidates.proofs.Graphs.{is_graph}
 use Rattle.candidates.proofs.Listed.{by_writes}

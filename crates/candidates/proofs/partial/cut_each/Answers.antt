@@ -1,9 +1,9 @@
-use Rattle.std.proofs.Common.{◌≡◌, ◌-◌, ◌≤◌, ◌∙◌, ◌++◌, ◌∷◌, ◌/◌, ◌%◌, List, ℕ, length, drop, ap, subst, sym, arith}
+use Rattle.std.proofs.Common.{◌≡◌, ◌-◌, ◌≤◌, ◌∙◌, ◌++◌, ◌∷◌, ◌/◌, ◌%◌, List, ℕ, length, drop, ap, arith}
 use Rattle.events.specs.declared.event.EventId.{EventId}
 use Rattle.events.specs.declared.event.EventId.TheVariants.{Initial}
 use Rattle.listings.specs.Lists.{factorial}
 use Rattle.listings.specs.Numbered.{arrange}
-use Rattle.candidates.specs.Blocks.{cut_order, cut_orders, open_among, placings}
+use Rattle.candidates.specs.Blocks.{cut_orders, open_among, placings}
 use Rattle.candidates.specs.Executions.{later_writes, upto}
 use Rattle.candidates.proofs.Cutting.{among_fits, cuts_first, cuts_more, cuts_all, left_at}
 use Rattle.candidates.proofs.Listed.{written_at}

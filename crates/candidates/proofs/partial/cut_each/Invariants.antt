@@ -1,4 +1,4 @@
-use Rattle.std.proofs.Common.{◌≡◌, ◌-◌, ◌+◌, ◌++◌, ◌≤◌, drop}
+use Rattle.std.proofs.Common.{◌≡◌, ◌-◌, ◌++◌, ◌≤◌, drop}
 use Rattle.candidates.specs.Blocks.{cut_orders}
 use Rattle.candidates.specs.Executions.{upto}
 use Rattle.candidates.proofs.Cutting.{left_at}

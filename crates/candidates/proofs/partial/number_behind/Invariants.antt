@@ -1,4 +1,4 @@
-use Rattle.std.proofs.Common.{◌≡◌, ◌-◌, ◌/◌, ◌≤◌}
+use Rattle.std.proofs.Common.{◌≡◌, ◌-◌, ◌/◌}
 use Rattle.candidates.specs.Blocks.{placings}
 use Rattle.candidates.proofs.partial.number_behind.Given as goal
 

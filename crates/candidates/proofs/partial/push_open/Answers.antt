@@ -1,9 +1,9 @@
-use Rattle.std.proofs.Common.{◌≡◌, ◌≤◌, ◌∙◌, ◌++◌, List, ℕ, length, take, ap, subst, sym, arith}
+use Rattle.std.proofs.Common.{◌≡◌, ◌≤◌, ◌∙◌, ◌++◌, List, ℕ, length, take, ap, sym, arith}
 use Rattle.std.proofs.Math.Seq.{length-take-le}
 use Rattle.events.specs.declared.event.EventId.{EventId}
 use Rattle.candidates.specs.Blocks.{initial_first, open_among}
 use Rattle.candidates.specs.Executions.{later_writes, upto}
-use Rattle.candidates.proofs.Cutting.{among_fits, pairs_first, pairs_more, pairs_all, left_at}
+use Rattle.candidates.proofs.Cutting.{among_fits, pairs_first, pairs_more, pairs_all}
 use Rattle.candidates.proofs.Listed.{written_at}
 use Rattle.candidates.proofs.partial.push_open.Goals as goal
 
@@ -27,7 +27,7 @@ slice_bounds-push_pairs-end c =
     let e : later ≡ later_writes runs x = c.writes_to-later.ensures ∙ (written_at runs n x c.args.page.now.writes.items c.requires.page.writes_are c.loop-location-test.true).1 in
     let P : ℕ → List EventId → Type 0 = λ y ws. k ≤ length ws in
     let h : free ≡ x → k ≤ length later =
-      λ f. (let g = ap (λ y. length (later_writes runs y)) f in let m = ap (λ (ws : List EventId). length ws) e in omega (arith, g, m, c.requires.unplaced (omega (arith, f, c.loop-location-test.true)))) in
+    λ f. (let g = ap (λ y. length (later_writes runs y)) f in let m = ap (λ (ws : List EventId). length ws) e in omega (arith, g, m, c.requires.unplaced (omega (arith, f, c.loop-location-test.true)))) in
     let fits : c.among-without.result ≤ length later = (let b = among_fits free k x (length later) h in omega (arith, b, c.among-without.ensures)) in
     sym (length-take-le c.among-without.result later fits)
 

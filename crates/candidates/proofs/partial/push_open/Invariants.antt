@@ -1,4 +1,4 @@
-use Rattle.std.proofs.Common.{◌≡◌, ◌-◌, ◌+◌, ◌++◌, ◌≤◌, drop}
+use Rattle.std.proofs.Common.{◌≡◌, ◌-◌, ◌++◌, ◌≤◌, drop}
 use Rattle.candidates.specs.Blocks.{open_pairs}
 use Rattle.candidates.specs.Executions.{upto}
 use Rattle.candidates.proofs.Cutting.{left_at}

@@ -1,6 +1,4 @@
-use Rattle.std.proofs.Common.{◌≡◌, ◌<◌, ◌+◌, ◌-◌, ◌%◌, ◌∙◌, List, ℕ, length, refl, subst, sym, arith}
-use Rattle.candidates.specs.declared.depths.Depth.{Depth}
-use Rattle.candidates.specs.Blocks.{IsDepth}
+use Rattle.std.proofs.Common.{refl, arith}
 use Rattle.candidates.proofs.Spanning.{block_ends, block_is, depth_is}
 use Rattle.candidates.proofs.walk.block_before.Goals as goal
 

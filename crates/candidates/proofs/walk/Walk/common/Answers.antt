@@ -1,4 +1,4 @@
-use Rattle.std.proofs.Common.{subst, sym}
+use Rattle.std.proofs.Common.{subst}
 use Rattle.candidates.specs.Walks.{IsCommon, Walking}
 use Rattle.candidates.proofs.Spanning.{alone_is, common_is}
 use Rattle.candidates.proofs.walk.Walk.common.Goals as goal
