@@ -40,3 +40,4 @@ pub mod Recalled
 pub mod Scoped
 pub mod Past
 pub mod Behind
+pub mod Ahead

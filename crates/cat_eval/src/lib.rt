@@ -7,6 +7,7 @@ mod early;
 mod evaluator;
 mod flags;
 mod grading;
+mod hoisting;
 mod instruction;
 mod judging;
 mod keeping;
