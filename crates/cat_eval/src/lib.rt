@@ -7,6 +7,7 @@ mod early;
 mod evaluator;
 mod flags;
 mod grading;
+mod hints;
 mod hoisting;
 mod instruction;
 mod judging;
