@@ -40,4 +40,3 @@ pub mod Recalled
 pub mod Scoped
 pub mod Past
 pub mod Behind
-pub mod Ahead
