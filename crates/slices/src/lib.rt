@@ -6,6 +6,8 @@ mod equality;
 mod finding;
 pub mod laws;
 mod piece;
+mod prospects;
+mod pruning;
 mod row;
 mod slot;
 mod span;
