@@ -2,6 +2,7 @@ pub mod Adding
 pub mod Bounding
 pub mod ByLocation
 pub mod Caps
+pub mod Cutting
 pub mod Descent
 pub mod Excluded
 pub mod Gathered
@@ -11,8 +12,10 @@ pub mod Law
 pub mod Marking
 pub mod Passed
 pub mod Passing
+pub mod Sizes
 pub mod Sources
 pub mod Spaces
+pub mod Spanning
 pub mod Steps
 pub mod Storing
 pub mod Stretches

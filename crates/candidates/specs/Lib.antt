@@ -1,3 +1,4 @@
+pub mod Blocks
 pub mod Bounds
 pub mod Candidates
 pub mod Executions

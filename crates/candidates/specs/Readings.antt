@@ -1,5 +1,5 @@
 -- What is found at a number of some runs: that its candidate is an execution, or up to which number none is.
-use Rattle.std.specs.Prelude.{◌≡◌, ℕ, suc, ◌+◌, ◌<◌, ◌≤◌, List, [], length, slice_index_or, map, true, false, Option, IfSome}
+use Rattle.std.specs.Prelude.{◌≡◌, ℕ, suc, ◌+◌, ◌<◌, ◌≤◌, List, [], length, slice_index_or, map, true, false, Option, IfSome, All}
 use Rattle.events.specs.declared.event.Event.{Event}
 use Rattle.events.specs.declared.event.EventId.{EventId}
 use Rattle.events.specs.Executions.{GraphValue, ThreadRun}
@@ -14,6 +14,7 @@ use Rattle.candidates.specs.declared.fault.TheConstants.{MOST_CANDIDATES}
 use Rattle.candidates.specs.Executions.{reads, later_writes, upto, block}
 use Rattle.candidates.specs.Candidates.{Choices, count_sources, source_at, digits_down, count_co, candidate, candidate_at, size_of, agree, is_consistent}
 use Rattle.candidates.specs.Bounds.{AreWithin}
+use Rattle.candidates.specs.Blocks.{IsDepth}
 
 -- what these reads read from by number i
 abbrev pub read_at : List ThreadRun → List Event → ℕ → List EventId
@@ -29,7 +30,8 @@ abbrev pub IsLook : List ℕ → List ThreadRun → ℕ → Look → Type 0
 IsLook init runs i of_look.Found = is_consistent (candidate init runs i) ≡ true
 IsLook init runs i (of_look.Until n) = (i < n) × (n ≤ block (length init) runs) × ((m : ℕ) → i ≤ m → m < n → is_consistent (candidate init runs m) ≡ false)
 
--- What is kept of some runs: their reads, the later writes of each location, and in how many ways the reads can read and the writes be ordered.
+-- What is kept of some runs: their reads, the later writes of each location, and in how many ways the reads can read and the writes be
+-- ordered; and depths of blocks.
 pub record IsPage (locations : ℕ) (p : Page) : Type 0 where
   pub within : AreWithin locations p.runs.items
   pub most : block locations p.runs.items ≤ MOST_CANDIDATES
@@ -37,6 +39,7 @@ pub record IsPage (locations : ℕ) (p : Page) : Type 0 where
   pub writes_are : p.writes.items ≡ map (later_writes p.runs.items) (upto locations)
   pub ways : p.ways ≡ product_by (count_sources p.runs.items) (reads p.runs.items)
   pub orders : p.orders ≡ count_co locations p.runs.items
+  pub depths : All (IsDepth locations p.runs.items) p.depths.items
 
 -- how many writes a read may read from, where these are the later writes of each location
 abbrev pub sources_among : List (List EventId) → Event → ℕ

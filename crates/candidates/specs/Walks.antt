@@ -1,6 +1,7 @@
 -- A walk over the executions of a space, from number to number.
-use Rattle.std.specs.Prelude.{◌≡◌, ℕ, ◌+◌, ◌-◌, ◌<◌, ◌≤◌, true, Option, None, Some}
+use Rattle.std.specs.Prelude.{◌≡◌, ℕ, ◌+◌, ◌-◌, ◌<◌, ◌≤◌, length, true, Option, None, Some}
 use Rattle.events.specs.Executions.{GraphValue}
+use Rattle.candidates.specs.Blocks.{AllExtend, CommonValue, Fits, cut_by}
 use Rattle.candidates.specs.Candidates.{Choices, candidate, graph_at, is_consistent, size_of}
 use Rattle.candidates.specs.declared.reading.Look.{Look}
 use Rattle.candidates.specs.declared.reading.Look.TheVariants.{Found, Until}
@@ -9,6 +10,7 @@ use Rattle.candidates.specs.declared.page.Reach.{Reach}
 use Rattle.candidates.specs.declared.page.Reach.TheVariants as of_reach
 use Rattle.candidates.specs.declared.page.Stretch.{Stretch}
 use Rattle.candidates.specs.declared.page.Scene.{Scene}
+use Rattle.candidates.specs.declared.walk.Block.{Block}
 
 -- A walk goes on from the number `next`, and ends before the number `to`. It shows the execution that it found last.
 pub record Walking : Type 0 where
@@ -80,3 +82,19 @@ IsFind s b a c (Some n) = (a ≤ n) × (n < c) × NoneFrom s a n × IsFound s n 
 pub record IsScene (s : Choices) (c : Scene) : Type 0 where
   pub stretch : MayBeStretch s c.stretch
   pub seen : IsSeen s.init c.stretch.page c.graph c.at
+
+-- The block is one around the number before n, which is in the stretch: its candidates extend what is known of them.
+pub record IsBlock (s : Choices) (b : Stretch) (n : ℕ) (r : Block) : Type 0 where
+  pub stretch : IsStretch s b
+  pub place : n ≡ b.first + r.place + 1
+  pub within : r.place < b.size
+  pub fits : Fits (length s.init) b.page.runs.items r.known
+  pub later : n ≤ r.end
+  pub most : r.end ≤ size_of s
+  pub extend : AllExtend s (n - 1) r.end (cut_by s.init b.page.runs.items r.known r.place)
+
+-- What the executions from the number that the walk found last to before an end have in common.
+pub record IsCommon (w : Walking) (c : CommonValue) : Type 0 where
+  pub extend : AllExtend w.space (w.next - 1) c.end c.graph
+  pub later : w.next ≤ c.end
+  pub most : c.end ≤ size_of w.space

@@ -8,6 +8,7 @@ ghost use Rattle.candidates.specs.Executions.{writes_from, later_writes, reads, 
 ghost use Rattle.candidates.specs.Candidates.{count_co, candidate, no_execution, write_value};
 ghost use Rattle.candidates.specs.Readings.{IsPage, sources_among, orders_among};
 
+use crate::depths::list_depths;
 use crate::fault::MOST_CANDIDATES;
 use crate::ordering::{coherence, turn_orders};
 use crate::page::{Page, Writes};
@@ -120,8 +121,8 @@ fn count_orders(writes: &[Writes]) -> u64
     product
 }
 
-/// The page of these runs.
-pub(crate) fn open_page(alloc: Global, runs: Vec<Run>, locations: usize) -> Result<Page, AllocError>
+/// The page of these runs, without depths.
+fn plain_page(alloc: Global, runs: Vec<Run>, locations: usize) -> Result<Page, AllocError>
     requires within { AreWithin locations runs.items }
     requires most { block locations runs.items ≤ MOST_CANDIDATES }
     ensures page { IfOk result (IsPage locations) }
@@ -137,7 +138,20 @@ pub(crate) fn open_page(alloc: Global, runs: Vec<Run>, locations: usize) -> Resu
         writes,
         ways,
         orders,
+        depths: Vec::new(alloc),
     })
+}
+
+/// The page of these runs.
+pub(crate) fn open_page(alloc: Global, runs: Vec<Run>, locations: usize) -> Result<Page, AllocError>
+    requires within { AreWithin locations runs.items }
+    requires most { block locations runs.items ≤ MOST_CANDIDATES }
+    ensures page { IfOk result (IsPage locations) }
+    ensures runs { IfOk result (λ p. p.runs.items ≡ runs.items) }
+{
+    let mut page = plain_page(alloc, runs, locations)?;
+    page.depths = list_depths(alloc, &page, locations)?;
+    Ok(page)
 }
 
 /// The candidate of the page's runs with this number.

@@ -4,18 +4,22 @@
 mod assembly;
 mod capped;
 mod choosing;
+mod common;
 mod counts;
+mod depths;
 mod fault;
 mod groups;
 mod impossible;
 pub mod laws;
 mod ordering;
 mod page;
+mod partial;
 mod reading;
 mod space;
 mod walk;
 
 pub use assembly::write_value;
+pub use common::Common;
 pub use fault::SpaceFault;
 pub use space::Space;
 pub use walk::Walk;

@@ -125,7 +125,7 @@ pub(crate) fn turn_orders(
 }
 
 /// The order with this number of the writes to a location, of which these are the later ones.
-fn order_of(
+pub(crate) fn order_of(
     alloc: Global,
     location: usize,
     later: &[EventId],

@@ -4,6 +4,7 @@ ghost use Rattle.std.specs.Prelude.{◌≡◌, ◌<◌, ◌≤◌, [], length, s
 ghost use Rattle.listings.specs.Lists.{factorial};
 
 use crate::capped::capped_factorial;
+use crate::depths::Depth;
 use crate::fault::MOST_CANDIDATES;
 use events::{Event, EventId, Graph, Run};
 use std::marker::Model;
@@ -60,14 +61,15 @@ impl Writes {
     }
 }
 
-/// The runs of a choice, their reads, the later writes of each location, and in how many ways the reads can read and the
-/// writes be ordered.
+/// The runs of a choice, their reads, the later writes of each location, in how many ways the reads can read and the
+/// writes be ordered, and the depths of blocks.
 pub(crate) struct Page {
     pub(crate) runs: Vec<Run>,
     pub(crate) reads: Vec<Event>,
     pub(crate) writes: Vec<Writes>,
     pub(crate) ways: u64,
     pub(crate) orders: u64,
+    pub(crate) depths: Vec<Depth>,
 }
 
 // Functions of their own, here and below: whoever holds one drops it by a call.
@@ -79,6 +81,7 @@ impl Drop for Page {
             writes: _,
             ways: _,
             orders: _,
+            depths: _,
         } = self;
     }
 }

@@ -1,13 +1,17 @@
 //! A walk over the executions of a space.
 
-ghost use Rattle.std.specs.Prelude.{◌≡◌, ◌-◌, ◌<◌, ◌≤◌, length, None, Some, IfOk, OnOk, OnErr, MatchOption};
+ghost use Rattle.std.specs.Prelude.{◌≡◌, ◌+◌, ◌-◌, ◌<◌, ◌≤◌, length, max, min, None, Some, IfOk, IfSome, OnOk, OnErr, MatchOption};
 ghost use Rattle.candidates.specs.Executions.{block};
-ghost use Rattle.candidates.specs.Candidates.{candidate, graph_at, size_of, no_execution};
-ghost use Rattle.candidates.specs.Readings.{IsPage, IsSeen};
-ghost use Rattle.candidates.specs.Walks.{IsFind, IsHit, IsMiss, IsReached, IsScene, IsVisit, IsWithin};
+ghost use Rattle.candidates.specs.Blocks.{AllExtend};
+ghost use Rattle.candidates.specs.Candidates.{Choices, candidate, graph_at, size_of, no_execution};
+ghost use Rattle.candidates.specs.Readings.{IsPage, IsSeen, MayBeStretch};
+ghost use Rattle.candidates.specs.Walks.{IsBlock, IsCommon, IsFind, IsHit, IsMiss, IsReached, IsScene, IsVisit, IsWithin};
 
 use crate::assembly::{assemble, make, nothing};
+use crate::common::Common;
+use crate::depths::Known;
 use crate::page::{Page, Reach, Scene, Stretch};
+use crate::partial::cut;
 use crate::reading::{Look, look_at};
 use crate::space::Space;
 use events::Graph;
@@ -58,6 +62,7 @@ fn no_scene(alloc: Global) -> Scene
         writes: Vec::new(alloc),
         ways: 1,
         orders: 1,
+        depths: Vec::new(alloc),
     };
     Scene {
         stretch: Stretch {
@@ -189,6 +194,54 @@ fn show(alloc: Global, init: &[u32], scene: &mut Scene, number: u64) -> Result<(
     Ok(())
 }
 
+/// A block around a number of a stretch: what is known of its executions, at which place of the stretch the number is, and
+/// the number behind the block.
+#[derive(Clone, Copy)]
+struct Block {
+    known: Known,
+    place: u64,
+    end: u64,
+}
+
+/// At which place of the stretch the number before this one is, if it is in it.
+fn place_before(stretch: &Stretch, next: u64) -> Option<u64>
+    ensures { IfSome result (λ place. (place < stretch.now.size) × (next ≡ stretch.now.first + place + 1)) }
+{
+    if next <= stretch.first || next - stretch.first > stretch.size {
+        return None;
+    }
+    Some(next - stretch.first - 1)
+}
+
+/// The block of this depth around the number before `next`, if the stretch has both.
+fn block_before(stretch: &Stretch, next: u64, depth: usize) -> Option<Block>
+    requires { (s : Choices) × MayBeStretch s stretch.now }
+    ensures { (s : Choices) → MayBeStretch s stretch.now → IfSome result (IsBlock s stretch.now next) }
+{
+    let place = place_before(stretch, next)?;
+    let depth = stretch.page.depths.get(depth)?;
+    let end = next - 1 + (depth.size - place % depth.size);
+    Some(Block {
+        known: depth.known,
+        place,
+        end,
+    })
+}
+
+/// The execution at the number before this one, or one of nothing where none is.
+fn graph_before(alloc: Global, space: &Space, next: u64) -> Result<Graph, AllocError>
+    requires { next ≤ size_of space.now }
+    ensures { IfOk result (AllExtend space.now (next - 1) next) }
+{
+    if next == 0 {
+        return Ok(nothing(alloc));
+    }
+    match find(alloc, space, next - 1)? {
+        Some(graph) => Ok(graph),
+        None => Ok(nothing(alloc)),
+    }
+}
+
 impl<'a> Walk<'a> {
     /// A walk over the numbers from `from` to `to - 1`.
     pub(crate) fn new(alloc: Global, space: &'a Space, from: u64, to: u64) -> Self
@@ -230,5 +283,67 @@ impl<'a> Walk<'a> {
         ensures { result.now ≡ self.now.shown }
     {
         &self.scene.graph
+    }
+
+    /// How many depths of blocks there are around the execution found last: from the coarsest, the runs alone, inwards. None
+    /// where none was found.
+    pub fn depths(&self) -> usize {
+        let stretch = &self.scene.stretch;
+        match place_before(stretch, self.next) {
+            Some(_) => stretch.page.depths.len(),
+            None => 0,
+        }
+    }
+
+    /// The number behind the block of this depth around the number found last. At a depth that there is not, the block is that
+    /// number alone.
+    pub fn end_of(&self, depth: usize) -> u64
+        ensures behind { self.now.next ≤ result }
+        ensures within { result ≤ size_of self.now.space }
+    {
+        match block_before(&self.scene.stretch, self.next, depth) {
+            Some(block) => block.end,
+            None => self.next,
+        }
+    }
+
+    /// What the executions of a block have in common.
+    fn common(&self, alloc: Global, depth: usize) -> Result<Common, AllocError>
+        ensures { IfOk result (λ common. IsCommon self.now common) }
+    {
+        match block_before(&self.scene.stretch, self.next, depth) {
+            Some(block) => {
+                let page = &self.scene.stretch.page;
+                let graph = cut(alloc, self.space.init(), page, block.known, block.place)?;
+                Ok(Common::new(graph, block.end))
+            }
+            None => Ok(Common::new(graph_before(alloc, self.space, self.next)?, self.next)),
+        }
+    }
+
+    /// Shows what the executions of the block of this depth around the number found last have in common, and its end.
+    pub fn show_common(
+        &self,
+        alloc: Global,
+        depth: usize,
+        common: &mut Common,
+    ) -> Result<(), AllocError>
+        // Each execution of the block goes on from the graph that is shown.
+        ensures shown { OnOk result (AllExtend self.now.space (self.now.next - 1) common.new.end common.new.graph) }
+        ensures end { OnOk result ((self.now.next ≤ common.new.end) × (common.new.end ≤ size_of self.now.space)) }
+        ensures same { OnErr result (common.new ≡ common.old) }
+    {
+        *common = self.common(alloc, depth)?;
+        Ok(())
+    }
+
+    /// Goes on behind the numbers before this one, without leaving the walk's own numbers.
+    pub fn pass(&mut self, number: u64)
+        ensures space { self.new.space ≡ self.old.space }
+        ensures to { self.new.to ≡ self.old.to }
+        ensures shown { self.new.shown ≡ self.old.shown }
+        ensures next { self.new.next ≡ max self.old.next (min number self.old.to) }
+    {
+        self.next = self.next.max(number.min(self.to));
     }
 }

@@ -1,5 +1,6 @@
 //! Tests of conditions, the runs of threads and candidate executions, by public items alone.
 
+mod blocks;
 mod executions;
 mod growth;
 mod runs;

@@ -115,6 +115,29 @@ pub fn tells(alloc: Global, text: &str, question: Question, wanted: Told) -> boo
     }
 }
 
+/// What may hold of a space.
+pub type SpaceCheck = fn(Global, &Space) -> Result<bool, AllocError>;
+
+/// Whether this holds of the space of a test.
+fn holds_of_test(alloc: Global, test: &Test, check: SpaceCheck) -> bool
+    requires { IsAlwaysCallable check }
+{
+    match again!(SpaceFault::NoMemory, Space::new(alloc, test)) {
+        Ok(space) => check(alloc, &space).unwrap_or(false),
+        Err(_) => false,
+    }
+}
+
+/// Whether this holds of the space of the test that a text spells.
+pub fn holds_of(alloc: Global, text: &str, check: SpaceCheck) -> bool
+    requires { IsAlwaysCallable check }
+{
+    match answer_to(alloc, text) {
+        Ok(test) => holds_of_test(alloc, &test, check),
+        Err(_) => false,
+    }
+}
+
 /// Fails at the first text of which something else is reported.
 pub fn all_tell(rt: &impl Abort, alloc: Global, rows: &[Row]) {
     for (text, question, wanted) in rows {

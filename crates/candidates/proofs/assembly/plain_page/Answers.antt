@@ -1,11 +1,15 @@
 use Rattle.std.proofs.Common.{◌≤◌, ◌∙◌, List, map, subst, sym, ap, arith}
 use Rattle.candidates.specs.declared.fault.TheConstants.{MOST_CANDIDATES}
+use Rattle.std.proofs.lemmas.List.Elements.{All-nil}
 use Rattle.events.specs.Executions.{ThreadRun}
+use Rattle.std.specs.List.{All}
+use Rattle.candidates.specs.Blocks.{IsDepth}
+use Rattle.candidates.specs.declared.depths.Depth.{Depth}
 use Rattle.candidates.specs.Executions.{later_writes, reads, upto}
 use Rattle.candidates.specs.Candidates.{count_co}
 use Rattle.candidates.proofs.Caps.{all_orders_below, ways_below}
 use Rattle.candidates.proofs.Listed.{orders_listed, reads_listed, ways_listed}
-use Rattle.candidates.proofs.assembly.open_page.Goals as goal
+use Rattle.candidates.proofs.assembly.plain_page.Goals as goal
 
 pub all_writes-requires : goal.all_writes-requires
 all_writes-requires c =
@@ -47,4 +51,5 @@ returns-clause-page c =
       writes_are = written;
       ways = c.count_ways-ways.ensures ∙ ways_listed n runs c.deref-3.result.now c.deref-4.result.now c.requires.within (c.deref-3.ensures.value ∙ read) (c.deref-4.ensures.value ∙ written);
       orders = c.count_orders-orders.ensures ∙ orders_listed n runs c.deref-5.result.now (c.deref-5.ensures.value ∙ written);
+      depths = (let P : List Depth → Type 0 = All (IsDepth n runs) in subst P (sym c.new.ensures.items) (All-nil (IsDepth n runs)));
     }
