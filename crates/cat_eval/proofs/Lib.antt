@@ -40,3 +40,8 @@ pub mod Recalled
 pub mod Scoped
 pub mod Past
 pub mod Behind
+pub mod Sure
+pub mod Moves
+pub mod Beside
+pub mod Refuted
+pub mod Grown

@@ -13,4 +13,5 @@ pub mod Planned
 pub mod Calls
 pub mod Keeping
 pub mod Examples
+pub mod Growth
 pub mod Laws

@@ -6,5 +6,6 @@ mod growth;
 mod judging;
 mod loading;
 mod model;
+mod refuting;
 mod syntax;
 mod texts;

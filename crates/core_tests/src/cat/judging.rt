@@ -10,7 +10,7 @@ use std::test::Fail;
 use wb_text::Name;
 
 /// An event that depends on nothing.
-fn event(thread: usize, access: Access, loc: usize, value: u32, order: Order) -> Event {
+pub fn event(thread: usize, access: Access, loc: usize, value: u32, order: Order) -> Event {
     Event {
         thread,
         access,

@@ -1,6 +1,7 @@
 //! Files with texts, and what is to hold of them.
 
 use crate::cat::judging::is_judged;
+use crate::cat::refuting::is_known;
 use crate::cat::texts::{confirm, repeated};
 use cat_model::{FileVersion, Files, Model, ModelFault, resolve};
 use cat_syntax::{CatFile, read_cat};
@@ -18,6 +19,8 @@ pub enum Fact {
     Files(usize),
     /// Its model allows store buffering of this order, or forbids it, and raises these flags.
     Says(Order, bool, &'static [&'static str]),
+    /// Of a partial message passing of this order it is known, or isn't, that its model forbids all that goes on from it.
+    Refutes(Order, bool),
     /// It stands for what this text is read as.
     Text(&'static str),
     /// Its file can be taken away, and then not once more.
@@ -129,6 +132,7 @@ fn model_has(alloc: Global, model: &Model, fact: Fact) -> bool {
         Fact::Answer(wanted) => is_text(shown(alloc, model), wanted),
         Fact::Files(count) => model.files().len() == count,
         Fact::Says(order, allowed, flags) => is_judged(alloc, model, order, allowed, flags),
+        Fact::Refutes(order, known) => is_known(alloc, model, order, known),
         _ => false,
     }
 }
