@@ -52,7 +52,7 @@ those-push x p at_end = taken p at_end
 those-push x p (taken q h) = taken q (those-push x p h)
 those-push x p (passed q h) = passed q (those-push x p h)
 
-those-pass : {X : Type 0} {P : X → Type 0} {xs ys : List X} (x : X) → ¬ P x → AreThose P xs ys → AreThose P (xs ++ x ∷ []) ys
+pub those-pass : {X : Type 0} {P : X → Type 0} {xs ys : List X} (x : X) → ¬ P x → AreThose P xs ys → AreThose P (xs ++ x ∷ []) ys
 those-pass x p at_end = passed p at_end
 those-pass x p (taken q h) = taken q (those-pass x p h)
 those-pass x p (passed q h) = passed q (those-pass x p h)

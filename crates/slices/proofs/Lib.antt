@@ -3,6 +3,7 @@ pub mod Counted
 pub mod Cuts
 pub mod Members
 pub mod Merging
+pub mod PassedOver
 pub mod Rows
 pub mod Sets
 pub mod Sorted

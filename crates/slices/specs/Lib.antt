@@ -3,6 +3,7 @@ pub mod Counters
 pub mod Finals
 pub mod Findings
 pub mod Parts
+pub mod Passing
 pub mod Same
 pub mod Slots
 pub mod Sums

@@ -16,6 +16,7 @@ ghost use Rattle.slices.specs.Parts.{IsRange, executions_in};
 ghost use Rattle.slices.specs.Slots.{slot_of, slot_value};
 
 use crate::finding::Totals;
+use crate::pruning::Pruner;
 use crate::row::Row;
 use crate::slot::{Slot, row, slots};
 use crate::work::Work;
@@ -55,10 +56,15 @@ pub fn count(
     let mut counter = Counter::new(alloc);
     let mut walk = space.walk(alloc, from, to);
     let mut evaluator = Evaluator::of(alloc, work.model(), walk.graph())?;
-    while walk.next(alloc)?.is_some() {
+    let mut pruner = Pruner::new(alloc, work.model());
+    while let Some(number) = walk.next(alloc)? {
+        if pruner.passes(alloc, &mut walk, number)? {
+            continue;
+        }
         let graph = walk.graph();
         let judgement = evaluator.judge_next(alloc, graph)?;
         counter.weigh(alloc, work, places, &slots, graph, &judgement)?;
+        pruner.note(&judgement);
     }
     Ok(counter)
 }

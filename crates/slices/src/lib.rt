@@ -7,6 +7,8 @@ mod finding;
 mod kept_space;
 pub mod laws;
 mod piece;
+mod prospects;
+mod pruning;
 mod row;
 mod slot;
 mod span;

@@ -1,0 +1,117 @@
+-- What is passed over adds nothing to a count.
+use Rattle.std.proofs.Common.{◌≡◌, ℕ, zero, suc, ◌+◌, ◌-◌, ◌<◌, ◌≤◌, List, [], ◌∷◌, ◌++◌, Option, Some, None, refl, sym, ap, ◌∙◌, subst, append-nil, arith}
+use Rattle.std.specs.Prelude.{max, min, Bool, true, false, IfOk, IfSome, IsTrue, MatchBool, MatchOption, Result}
+use Rattle.events.specs.Executions.{GraphValue}
+use Rattle.events.specs.Extends.{Extends}
+use Rattle.conditions.specs.declared.place.Place.{Place}
+use Rattle.litmus_tree.specs.Tree.{Litmus}
+use Rattle.cat_tree.specs.Tree.{Clause}
+use Rattle.cat_eval.specs.Judging.{Allowed}
+use Rattle.candidates.specs.Blocks.{AllExtend, CommonValue}
+use Rattle.candidates.specs.Candidates.{Choices, found, graph_at, some_of}
+use Rattle.candidates.specs.Walks.{IsHit, IsMiss, NoneFrom, Walking}
+use Rattle.candidates.proofs.Walked.{found_from}
+use Rattle.slices.specs.declared.counter.Counter.{Counter}
+use Rattle.slices.specs.Counters.{IsCountOf}
+use Rattle.slices.specs.Parts.{AreThose, at_end, taken, passed}
+use Rattle.slices.specs.Passing.{ArePassed, IsForbidden, NoneAllowed}
+use Rattle.slices.proofs.Counted.{IsUnderWay, those-pass}
+
+pass_one : (P : GraphValue → Type 0) (xs ys : List GraphValue) (o : Option GraphValue) → ((x : GraphValue) → o ≡ Some x → ¬ P x) → AreThose P xs ys → AreThose P (xs ++ some_of o) ys
+pass_one P xs ys None f h = let Q : List GraphValue → Type 0 = λ zs. AreThose P zs ys in subst Q (sym (append-nil xs)) h
+pass_one P xs ys (Some x) f h = those-pass x (f x refl) h
+
+pass_all : (P : GraphValue → Type 0) (at : ℕ → Option GraphValue) (ys : List GraphValue) (m k : ℕ) → ((i : ℕ) → m ≤ i → i < m + k → (x : GraphValue) → at i ≡ Some x → ¬ P x) → AreThose P (found at m) ys → AreThose P (found at (m + k)) ys
+pass_all P at ys m zero f h = let Q : ℕ → Type 0 = λ n. AreThose P (found at n) ys in subst Q (let e : m ≡ m + 0 = omega arith in e) h
+pass_all P at ys m (suc k) f h =
+    let Q : ℕ → Type 0 = λ n. AreThose P (found at n) ys in
+    subst Q (let e : suc (m + k) ≡ m + suc k = omega arith in e)
+    (pass_one P (found at (m + k)) ys (at (m + k)) (λ x. f (m + k) (omega arith) (omega arith) x) (pass_all P at ys m k (λ i l u. f i l (omega (arith, u))) h))
+
+-- a count up to a number is one up to a later one, where none from there on is allowed
+counts_pass : (t : Litmus) (items : List Clause) (places : List Place) (s : Choices) (counter : Counter) (from a b : ℕ) → from ≤ a → a ≤ b → NoneAllowed items s a b → IsCountOf t items places (found_from s from a) counter → IsCountOf t items places (found_from s from b) counter
+counts_pass t items places s counter from a b l o none h =
+    let at : ℕ → Option GraphValue = λ i. graph_at s (from + i) in
+    let e : (a - from) + (b - a) ≡ b - from = omega (arith, l, o) in
+    let Q : ℕ → Type 0 = λ z. IsCountOf t items places (found at z) counter in
+    subst Q e (record {
+      executions = h.executions;
+      those = pass_all (Allowed items) at h.executions (a - from) (b - a) (λ i low up x is. none (from + i) (omega (arith, l, low)) (omega (arith, l, o, up)) x is) h.those;
+      count = h.count;
+    })
+
+-- where nothing stands, nothing is allowed
+none_stands : (items : List Clause) (s : Choices) (a b : ℕ) → NoneFrom s a b → NoneAllowed items s a b
+none_stands items s a b none m l u x is = let e = none m l u in let f : None ≡ Some x = sym e ∙ is in cc
+
+-- none that goes on from a graph is allowed, and these do
+pub none_allowed : (items : List Clause) (w : Walking) (end : ℕ) (g : GraphValue) → w.next ≤ end → AllExtend w.space (w.next - 1) end g → ((h : GraphValue) → Extends g h → ¬ Allowed items h) → IsForbidden items w end
+none_allowed items w end g later extend refuted = (later, λ m l u x is. refuted x (extend m l u x is))
+
+some_is : (m n : ℕ) → Some m ≡ Some n → m ≡ n
+some_is m n e = cc
+
+-- the walk goes on behind what is forbidden
+pub gone_on : (items : List Clause) (n end : ℕ) (v w : Walking) → v.next ≡ n + 1 → IsForbidden items v end → w.space ≡ v.space → w.to ≡ v.to → w.next ≡ max v.next (min end v.to) → ArePassed items n v w
+gone_on items n end v w e h space to next = record {
+  space = space;
+  to = to;
+  later = omega (arith, e, next);
+  none = λ m l u x at. h.1 m (omega (arith, e, l)) (omega (arith, e, next, u, h.0)) x at;
+}
+
+-- the step of a walk that found something, and of one that did not
+pub hit_number : (v w : Walking) (o : Option ℕ) (n : ℕ) → o ≡ Some n → MatchOption o (IsMiss v w) (IsHit v w) → IsHit v w n
+hit_number v w (Some m) n e h = let P : ℕ → Type 0 = λ k. IsHit v w k in subst P (some_is m n e) h
+hit_number v w None n e h = absurd (let f : None ≡ Some n = e in cc)
+
+pub miss_number : (v w : Walking) (o : Option ℕ) → ((n : ℕ) → o ≡ Some n → ⊥) → MatchOption o (IsMiss v w) (IsHit v w) → IsMiss v w
+miss_number v w None none h = h
+miss_number v w (Some m) none h = absurd (none m refl)
+
+-- what is found and passed over isn't counted
+pub walked_over : (t : Litmus) (items : List Clause) (places : List Place) (from to n : ℕ) (u v w : Walking) (counter : Counter) → IsUnderWay t items places from to u counter → IsHit u v n → ArePassed items n v w → IsUnderWay t items places from to w counter
+walked_over t items places from to n u v w counter h hit p =
+    let space : w.space ≡ u.space = p.space ∙ hit.step.space in
+    let P : Choices → Type 0 = λ s. NoneAllowed items s n w.next in
+    let Q : Choices → Type 0 = λ s. IsCountOf t items places (found_from s from w.next) counter in
+    let before = counts_pass t items places u.space counter from u.next n h.order hit.later (none_stands items u.space u.next n hit.none) h.counted in
+    let behind = counts_pass t items places u.space counter from n w.next (omega (arith, h.order, hit.later)) (omega (arith, p.later)) (subst P hit.step.space p.none) before in
+    record {
+      counted = subst Q (sym space) behind;
+      few = omega (arith, h.few, hit.later, p.later);
+      order = omega (arith, h.order, hit.later, p.later);
+      space = space ∙ h.space;
+      to_is = p.to ∙ hit.step.to ∙ h.to_is;
+    }
+
+-- what an evaluator of these items refutes
+pub refuted_under : {E : Type 0} (r : Result Bool E) (partial : GraphValue) (mine items : List Clause) → mine ≡ items
+    → IfOk r (λ known. IsTrue known → (h : GraphValue) → Extends partial h → ¬ Allowed mine h)
+    → IfOk r (λ known. IsTrue known → (h : GraphValue) → Extends partial h → ¬ Allowed items h)
+refuted_under r partial mine items e h =
+    let P : List Clause → Type 0 = λ ns. IfOk r (λ known. IsTrue known → (h : GraphValue) → Extends partial h → ¬ Allowed ns h) in
+    subst P e h
+
+-- what is known of a block, where what its executions have in common is refuted
+pub forbidden : (mine items : List Clause) (w : Walking) (common : CommonValue) (end : ℕ) (partial : GraphValue) (known : Bool) → mine ≡ items → end ≡ common.end → partial ≡ common.graph → IsTrue known
+    → w.next ≤ common.end → AllExtend w.space (w.next - 1) common.end common.graph
+    → (IsTrue known → (h : GraphValue) → Extends partial h → ¬ Allowed mine h)
+    → IsForbidden items w end
+forbidden mine items w common end partial known of is same refuted later extend none =
+    let P : GraphValue → Type 0 = λ g. (h : GraphValue) → Extends g h → ¬ Allowed items h in
+    let Q : List Clause → Type 0 = λ ns. (h : GraphValue) → Extends partial h → ¬ Allowed ns h in
+    let R : ℕ → Type 0 = λ n. IsForbidden items w n in
+    subst R (sym is) (none_allowed items w common.end common.graph later extend (subst P same (subst Q of (none refuted))))
+
+pub is_passed : (b : Bool) (P Q : Type 0) → b ≡ true → MatchBool b P Q → P
+is_passed true P Q e h = h
+is_passed false P Q e h = absurd (let f : false ≡ true = e in cc)
+
+pub not_passed : (b : Bool) (P Q : Type 0) → b ≡ false → MatchBool b P Q → Q
+not_passed false P Q e h = h
+not_passed true P Q e h = absurd (let f : true ≡ false = e in cc)
+
+pub of_some : (o : Option (List Clause)) (mine items : List Clause) → o ≡ Some mine → IfSome o (λ ns. ns ≡ items) → mine ≡ items
+of_some (Some ns) mine items e h = let f : mine ≡ ns = cc in f ∙ h
+of_some None mine items e h = absurd (let f : None ≡ Some mine = e in cc)
