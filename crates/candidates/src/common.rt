@@ -4,20 +4,37 @@ ghost use Rattle.std.specs.Prelude.{◌≡◌};
 ghost use Rattle.candidates.specs.Candidates.{no_execution};
 
 use crate::assembly::nothing;
-use events::Graph;
+use events::{Graph, GraphParts};
 use std::alloc::Global;
 use std::marker::Model;
+use std::mem::replace;
 
 /// What the executions at some numbers of a space have in common: a partial execution, from which each of them goes on.
 pub struct Common {
     graph: Graph,
     end: u64,
+    /// What was shown before: its room is used again.
+    spare: GraphParts,
+}
+
+/// Parts with nothing in them.
+fn no_parts(alloc: Global) -> GraphParts {
+    GraphParts {
+        init: Vec::new(alloc),
+        runs: Vec::new(alloc),
+        rf: Vec::new(alloc),
+        co: Vec::new(alloc),
+    }
 }
 
 // A function of its own: whoever holds one drops it by a call.
 impl Drop for Common {
     fn drop(self) {
-        let Common { graph: _, end: _ } = self;
+        let Common {
+            graph: _,
+            end: _,
+            spare: _,
+        } = self;
     }
 }
 
@@ -37,14 +54,23 @@ impl Common {
         Common {
             graph: nothing(alloc),
             end: 0,
+            spare: no_parts(alloc),
         }
     }
 
-    /// This partial execution, and the number behind those of the executions.
-    pub(crate) fn new(graph: Graph, end: u64) -> Self
-        ensures { result ≡ record { graph = graph; end = end } }
+    /// Parts that aren't shown any more.
+    pub(crate) fn take_spare(&mut self, alloc: Global) -> GraphParts
+        ensures { self.new ≡ self.old }
     {
-        Common { graph, end }
+        replace(&mut self.spare, no_parts(alloc))
+    }
+
+    /// Shows this partial execution, and the number behind those of the executions.
+    pub(crate) fn show(&mut self, graph: Graph, end: u64)
+        ensures { self.new ≡ record { graph = graph; end = end } }
+    {
+        self.spare = replace(&mut self.graph, graph).into_parts();
+        self.end = end;
     }
 
     /// The partial execution.

@@ -1,6 +1,6 @@
 //! The orders of the writes to each location, by their numbers.
 
-ghost use Rattle.std.specs.Prelude.{◌≡◌, ◌<◌, ◌≤◌, ◌∷◌, List, length, IfOk};
+ghost use Rattle.std.specs.Prelude.{◌≡◌, ◌<◌, ◌≤◌, [], ◌∷◌, List, length, IfOk};
 ghost use Rattle.std.specs.List.{insert};
 ghost use Rattle.events.specs.declared.event.EventId.{EventId};
 ghost use Rattle.events.specs.declared.event.EventId.TheVariants.{Initial};
@@ -124,8 +124,27 @@ pub(crate) fn turn_orders(
     co
 }
 
+/// Writes the order with this number of the writes to a location, of which these are the later ones, into an empty list.
+pub(crate) fn order_in(
+    alloc: Global,
+    list: Vec<EventId>,
+    location: usize,
+    later: &[EventId],
+    number: u64,
+) -> Result<Coherence, AllocError>
+    requires { list.items ≡ [] }
+    ensures { IfOk result (λ o. o ≡ Initial location ∷ arrange later.now number) }
+{
+    let mut order = list;
+    order.push(EventId::Initial(location))?;
+    order.extend_from_slice(later)?;
+    let mut order = Coherence::new(order);
+    turn_order(alloc, &mut order, 0, number);
+    Ok(order)
+}
+
 /// The order with this number of the writes to a location, of which these are the later ones.
-pub(crate) fn order_of(
+fn order_of(
     alloc: Global,
     location: usize,
     later: &[EventId],
@@ -133,12 +152,8 @@ pub(crate) fn order_of(
 ) -> Result<Coherence, AllocError>
     ensures { IfOk result (λ o. o ≡ Initial location ∷ arrange later.now number) }
 {
-    let mut order = Vec::with_capacity(alloc, later.len() + 1)?;
-    order.push(EventId::Initial(location))?;
-    order.extend_from_slice(later)?;
-    let mut order = Coherence::new(order);
-    turn_order(alloc, &mut order, 0, number);
-    Ok(order)
+    let list = Vec::with_capacity(alloc, later.len() + 1)?;
+    order_in(alloc, list, location, later, number)
 }
 
 /// The orders with this number, for each location.

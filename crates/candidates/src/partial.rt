@@ -1,19 +1,20 @@
 //! What the executions of a block have in common: a partial execution.
 
-ghost use Rattle.std.specs.Prelude.{◌≡◌, ◌<◌, ◌≤◌, ◌/◌, [], ◌∷◌, ◌++◌, length, drop, take, IfOk, OnOk};
+ghost use Rattle.std.specs.Prelude.{◌≡◌, ◌↔◌, ◌<◌, ◌≤◌, ◌/◌, [], ◌∷◌, ◌++◌, length, drop, IfOk, IsTrue, OnOk};
 ghost use Rattle.events.specs.declared.event.EventId.TheVariants.{Initial};
 ghost use Rattle.listings.specs.Numbered.{arrange};
 ghost use Rattle.candidates.specs.Blocks.{Fits, placings, cut_orders, initial_first, open_pairs, cut_by, cut_by_orders, cut_by_reads};
+ghost use Rattle.candidates.specs.Candidates.{rf_at};
 ghost use Rattle.candidates.specs.declared.depths.Known.TheVariants.{Orders};
 ghost use Rattle.candidates.specs.Executions.{block, later_writes, upto};
 ghost use Rattle.candidates.specs.Readings.{IsPage};
 
 use crate::depths::{Known, Unplaced};
-use crate::ordering::order_of;
+use crate::ordering::order_in;
 use crate::page::Page;
-use crate::reading::read_from;
+use crate::reading::read_into;
 use events::laws::extension;
-use events::{Coherence, EventId, Graph, copy_runs};
+use events::{Coherence, EventId, Graph, GraphParts, Run, copy_runs};
 use std::alloc::{AllocError, Global};
 
 /// The number of the order of some writes without so many of the first of them, where the order of them all has this number.
@@ -28,9 +29,24 @@ fn number_behind(writes: usize, without: usize, number: u64) -> u64
     rest
 }
 
+/// An empty list: a spare one, if any is left.
+fn empty_list(alloc: Global, spare: &mut Vec<Coherence>) -> Vec<EventId>
+    ensures { result.items ≡ [] }
+{
+    match spare.pop() {
+        Some(order) => {
+            let mut list = order.into_writes();
+            list.clear();
+            list
+        }
+        None => Vec::new(alloc),
+    }
+}
+
 /// The order with this number of the writes to a location, without so many of the first later ones.
 fn cut_order(
     alloc: Global,
+    spare: &mut Vec<Coherence>,
     location: usize,
     later: &[EventId],
     without: usize,
@@ -40,12 +56,14 @@ fn cut_order(
     ensures { IfOk result (λ o. o ≡ Initial location ∷ arrange (drop without later.now) (number / placings (length later.now) without)) }
 {
     let number = number_behind(later.len(), without, number);
-    order_of(alloc, location, &later[without..], number)
+    let list = empty_list(alloc, spare);
+    order_in(alloc, list, location, &later[without..], number)
 }
 
 /// The orders with this number, without the writes that have no place.
 fn cut_each(
     alloc: Global,
+    spare: &mut Vec<Coherence>,
     page: &Page,
     locations: usize,
     unplaced: Unplaced,
@@ -61,17 +79,22 @@ fn cut_each(
         let later = page.writes_to(location);
         let count = page.orders_of(location);
         let without = unplaced.among(location, later.len());
-        co.push(cut_order(alloc, location, later, without, rest % count)?)?;
+        co.push(cut_order(alloc, spare, location, later, without, rest % count)?)?;
         rest /= count;
     }
     Ok(co)
 }
 
 /// That the initial write of a location stands before this one.
-fn pair(alloc: Global, location: usize, write: EventId) -> Result<Coherence, AllocError>
+fn pair(
+    alloc: Global,
+    spare: &mut Vec<Coherence>,
+    location: usize,
+    write: EventId,
+) -> Result<Coherence, AllocError>
     ensures { IfOk result (λ o. o ≡ Initial location ∷ write ∷ []) }
 {
-    let mut order = Vec::with_capacity(alloc, 2)?;
+    let mut order = empty_list(alloc, spare);
     order.push(EventId::Initial(location))?;
     order.push(write)?;
     Ok(Coherence::new(order))
@@ -80,6 +103,7 @@ fn pair(alloc: Global, location: usize, write: EventId) -> Result<Coherence, All
 /// Adds that the initial write of a location stands before each of these.
 fn push_pairs(
     alloc: Global,
+    spare: &mut Vec<Coherence>,
     co: &mut Vec<Coherence>,
     location: usize,
     writes: &[EventId],
@@ -87,7 +111,7 @@ fn push_pairs(
     ensures { OnOk result (co.new.items ≡ co.old.items ++ initial_first location writes.now) }
 {
     for write in writes {
-        co.push(pair(alloc, location, *write)?)?;
+        co.push(pair(alloc, spare, location, *write)?)?;
     }
     Ok(())
 }
@@ -95,6 +119,7 @@ fn push_pairs(
 /// Adds that each initial write stands before those that have no place.
 fn push_open(
     alloc: Global,
+    spare: &mut Vec<Coherence>,
     co: &mut Vec<Coherence>,
     page: &Page,
     locations: usize,
@@ -107,9 +132,74 @@ fn push_open(
     for location in 0..locations {
         let later = page.writes_to(location);
         let without = unplaced.among(location, later.len());
-        push_pairs(alloc, co, location, &later[..without])?;
+        push_pairs(alloc, spare, co, location, &later[..without])?;
     }
     Ok(())
+}
+
+/// Whether the runs are like the others.
+fn are_same_runs(first: &[Run], second: &[Run]) -> bool
+    ensures { IsTrue result ↔ (first.now ≡ second.now) }
+{
+    let mut left = first;
+    let mut others = second;
+    while let Some((run, rest)) = left.split_first() {
+        match others.split_first() {
+            Some((other, remaining)) => {
+                if !run.is_same(other) {
+                    return false;
+                }
+                left = rest;
+                others = remaining;
+            }
+            None => return false,
+        }
+    }
+    others.is_empty()
+}
+
+/// These runs, in a vector that may have them already.
+fn runs_again(alloc: Global, runs: Vec<Run>, wanted: &[Run]) -> Result<Vec<Run>, AllocError>
+    ensures { IfOk result (λ v. v.items ≡ wanted.now) }
+{
+    if are_same_runs(&runs, wanted) {
+        return Ok(runs);
+    }
+    copy_runs(alloc, wanted)
+}
+
+/// These values, in a vector that has had others.
+fn values_again(mut values: Vec<u32>, wanted: &[u32]) -> Result<Vec<u32>, AllocError>
+    ensures { IfOk result (λ v. v.items ≡ wanted.now) }
+{
+    values.clear();
+    values.extend_from_slice(wanted)?;
+    Ok(values)
+}
+
+/// The parts of the page's candidate with this number, but for its orders, in the room of others.
+fn refill(
+    alloc: Global,
+    init: &[u32],
+    page: &Page,
+    number: u64,
+    parts: GraphParts,
+) -> Result<GraphParts, AllocError>
+    requires page { IsPage (length init.now) page.now }
+    requires number { number < block (length init.now) page.now.runs.items }
+    ensures init { IfOk result (λ p. p.init.items ≡ init.now) }
+    ensures runs { IfOk result (λ p. p.runs.items ≡ page.now.runs.items) }
+    ensures rf { IfOk result (λ p. p.rf.items ≡ rf_at page.now.runs.items (number / page.now.orders)) }
+{
+    let values = values_again(parts.init, init)?;
+    let runs = runs_again(alloc, parts.runs, &page.runs)?;
+    let rf = read_into(page, &page.reads, parts.rf, number / page.orders)?;
+    Ok(GraphParts {
+        init: values,
+        runs,
+        rf,
+        co: parts.co,
+    })
 }
 
 /// What the candidates have in common that read by this number as far as these first reads go.
@@ -119,23 +209,24 @@ fn by_sources(
     page: &Page,
     count: usize,
     number: u64,
+    parts: GraphParts,
 ) -> Result<Graph, AllocError>
     requires page { IsPage (length init.now) page.now }
     requires number { number < block (length init.now) page.now.runs.items }
     ensures { IfOk result (λ g. g ≡ cut_by_reads init.now page.now.runs.items count number) }
 {
-    let values = Vec::from_slice(alloc, init)?;
-    let runs = copy_runs(alloc, &page.runs)?;
-    let mut rf = read_from(alloc, page, &page.reads, number / page.orders)?;
+    let filled = refill(alloc, init, page, number, parts)?;
+    let mut rf = filled.rf;
     rf.truncate(count);
-    let mut co = Vec::new(alloc);
+    let mut spare = filled.co;
+    let mut co = Vec::with_capacity(alloc, spare.len())?;
     let unplaced = Unplaced {
         locations: init.len(),
         writes: 0,
     };
-    push_open(alloc, &mut co, page, init.len(), unplaced)?;
+    push_open(alloc, &mut spare, &mut co, page, init.len(), unplaced)?;
     extension();
-    Ok(Graph::new(values, runs, rf, co))
+    Ok(Graph::new(filled.init, filled.runs, rf, co))
 }
 
 /// What the candidates have in common that read by this number, and order by it what has a place.
@@ -145,28 +236,31 @@ fn by_orders(
     page: &Page,
     unplaced: Unplaced,
     number: u64,
+    parts: GraphParts,
 ) -> Result<Graph, AllocError>
     requires page { IsPage (length init.now) page.now }
     requires unplaced { Fits (length init.now) page.now.runs.items (Orders unplaced) }
     requires number { number < block (length init.now) page.now.runs.items }
     ensures { IfOk result (λ g. g ≡ cut_by_orders init.now page.now.runs.items unplaced.locations unplaced.writes number) }
 {
-    let values = Vec::from_slice(alloc, init)?;
-    let runs = copy_runs(alloc, &page.runs)?;
-    let rf = read_from(alloc, page, &page.reads, number / page.orders)?;
-    let mut co = cut_each(alloc, page, init.len(), unplaced, number % page.orders)?;
-    push_open(alloc, &mut co, page, init.len(), unplaced)?;
+    let filled = refill(alloc, init, page, number, parts)?;
+    let mut spare = filled.co;
+    let digits = number % page.orders;
+    let mut co = cut_each(alloc, &mut spare, page, init.len(), unplaced, digits)?;
+    push_open(alloc, &mut spare, &mut co, page, init.len(), unplaced)?;
     extension();
-    Ok(Graph::new(values, runs, rf, co))
+    Ok(Graph::new(filled.init, filled.runs, filled.rf, co))
 }
 
-/// What the candidates of the page's runs have in common of which the same is known as of the one with this number.
+/// What the candidates of the page's runs have in common of which the same is known as of the one with this number. It is
+/// written in the room of other parts.
 pub(crate) fn cut(
     alloc: Global,
     init: &[u32],
     page: &Page,
     known: Known,
     number: u64,
+    parts: GraphParts,
 ) -> Result<Graph, AllocError>
     requires page { IsPage (length init.now) page.now }
     requires known { Fits (length init.now) page.now.runs.items known }
@@ -174,7 +268,7 @@ pub(crate) fn cut(
     ensures { IfOk result (λ g. g ≡ cut_by init.now page.now.runs.items known number) }
 {
     match known {
-        Known::Sources(count) => by_sources(alloc, init, page, count, number),
-        Known::Orders(unplaced) => by_orders(alloc, init, page, unplaced, number),
+        Known::Sources(count) => by_sources(alloc, init, page, count, number, parts),
+        Known::Orders(unplaced) => by_orders(alloc, init, page, unplaced, number, parts),
     }
 }

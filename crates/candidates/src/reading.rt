@@ -125,6 +125,23 @@ pub(crate) fn read_from(
     Ok(rf)
 }
 
+/// Writes what each read reads from, by this number, into a list.
+pub(crate) fn read_into(
+    page: &Page,
+    reads: &[Event],
+    mut rf: Vec<EventId>,
+    number: u64,
+) -> Result<Vec<EventId>, AllocError>
+    requires page { IsPage (length page.now.writes.items) page.now }
+    requires reads { reads.now ≡ page.now.reads.items }
+    requires number { number < page.now.ways }
+    ensures { IfOk result (λ v. v.items ≡ read_at page.now.runs.items reads.now number) }
+{
+    rf.resize(reads.len(), EventId::Initial(0))?;
+    set_sources(page, reads, &mut rf, number);
+    Ok(rf)
+}
+
 /// Makes what the reads read from by one number to that by another.
 pub(crate) fn turn_sources(page: &Page, mut rf: Vec<EventId>, from: u64, to: u64) -> Vec<EventId>
     requires page { IsPage (length page.now.writes.items) page.now }

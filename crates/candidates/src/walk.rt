@@ -307,17 +307,30 @@ impl<'a> Walk<'a> {
         }
     }
 
-    /// What the executions of a block have in common.
-    fn common(&self, alloc: Global, depth: usize) -> Result<Common, AllocError>
-        ensures { IfOk result (λ common. IsCommon self.now common) }
+    /// Shows what the executions of a block have in common, and its end.
+    fn write_common(
+        &self,
+        alloc: Global,
+        depth: usize,
+        common: &mut Common,
+    ) -> Result<(), AllocError>
+        ensures shown { OnOk result (IsCommon self.now common.new) }
+        ensures same { OnErr result (common.new ≡ common.old) }
     {
         match block_before(&self.scene.stretch, self.next, depth) {
             Some(block) => {
                 let page = &self.scene.stretch.page;
-                let graph = cut(alloc, self.space.init(), page, block.known, block.place)?;
-                Ok(Common::new(graph, block.end))
+                let parts = common.take_spare(alloc);
+                let init = self.space.init();
+                let graph = cut(alloc, init, page, block.known, block.place, parts)?;
+                common.show(graph, block.end);
+                Ok(())
             }
-            None => Ok(Common::new(graph_before(alloc, self.space, self.next)?, self.next)),
+            None => {
+                let graph = graph_before(alloc, self.space, self.next)?;
+                common.show(graph, self.next);
+                Ok(())
+            }
         }
     }
 
@@ -333,7 +346,7 @@ impl<'a> Walk<'a> {
         ensures end { OnOk result ((self.now.next ≤ common.new.end) × (common.new.end ≤ size_of self.now.space)) }
         ensures same { OnErr result (common.new ≡ common.old) }
     {
-        *common = self.common(alloc, depth)?;
+        self.write_common(alloc, depth, common)?;
         Ok(())
     }
 

@@ -1,18 +1,12 @@
-use Rattle.std.proofs.Common.{◌∙◌, ◌/◌, ◌++◌, List, length, ap, subst, sym}
-use Rattle.events.specs.declared.event.Event.{Event}
+use Rattle.std.proofs.Common.{◌∙◌, ◌++◌, List, length, ap, subst, sym}
 use Rattle.events.specs.declared.event.EventId.{EventId}
 use Rattle.events.specs.Executions.{GraphValue, IsGraph}
 use Rattle.candidates.specs.declared.depths.Known.TheVariants.{Orders}
-use Rattle.candidates.specs.Readings.{read_at}
 use Rattle.candidates.specs.Blocks.{open_pairs}
 use Rattle.candidates.specs.Executions.{upto}
 use Rattle.candidates.proofs.Graphs.{is_graph}
-use Rattle.candidates.proofs.Listed.{by_writes}
 use Rattle.candidates.proofs.Spanning.{cut_of_orders, cut_is_graph}
 use Rattle.candidates.proofs.partial.by_orders.Goals as goal
-
-pub read_from-requires-clause-page : goal.read_from-requires-clause-page
-read_from-requires-clause-page c = by_writes _ c.args.page.now c.requires.page
 
 pub new-requires : goal.new-requires
 new-requires c =
@@ -23,10 +17,10 @@ new-requires c =
     let free = c.args.unplaced.locations in
     let k = c.args.unplaced.writes in
     let n = length init in
-    let rf = c.in_ok-rf.ensures ∙ ap (λ (rs : List Event). read_at runs rs (number / page.orders)) (c.deref-2.ensures.value ∙ c.requires.page.reads_are) in
+    let rf = c.in_ok-filled.ensures.rf in
     let co = c.in_ok-push_open.ensures ∙ ap (λ (ws : List (List EventId)). ws ++ open_pairs runs free k (upto n)) c.in_ok-co.ensures in
-    let e = cut_of_orders init runs free k number page.orders c.in_ok-values.values.items c.in_ok-runs.runs.items c.in_ok-rf.rf.items c.push_open.new.co.items
-    c.in_ok-values.ensures.items (c.in_ok-runs.ensures ∙ c.deref.ensures.value) c.requires.page.orders rf co in
+    let e = cut_of_orders init runs free k number page.orders c.in_ok-filled.filled.init.items c.in_ok-filled.filled.runs.items c.in_ok-filled.filled.rf.items c.push_open.new.co.items
+    c.in_ok-filled.ensures.init c.in_ok-filled.ensures.runs c.requires.page.orders rf co in
     let P : GraphValue → Type 0 = IsGraph in
     subst P (sym e) (cut_is_graph init runs (Orders c.args.unplaced) number c.extension.ensures.graph (is_graph init runs number c.requires.page.within c.requires.number))
 
@@ -39,7 +33,7 @@ returns c =
     let free = c.args.unplaced.locations in
     let k = c.args.unplaced.writes in
     let n = length init in
-    let rf = c.in_ok-rf.ensures ∙ ap (λ (rs : List Event). read_at runs rs (number / page.orders)) (c.deref-2.ensures.value ∙ c.requires.page.reads_are) in
+    let rf = c.in_ok-filled.ensures.rf in
     let co = c.in_ok-push_open.ensures ∙ ap (λ (ws : List (List EventId)). ws ++ open_pairs runs free k (upto n)) c.in_ok-co.ensures in
-    c.new.ensures ∙ cut_of_orders init runs free k number page.orders c.in_ok-values.values.items c.in_ok-runs.runs.items c.in_ok-rf.rf.items c.push_open.new.co.items
-    c.in_ok-values.ensures.items (c.in_ok-runs.ensures ∙ c.deref.ensures.value) c.requires.page.orders rf co
+    c.new.ensures ∙ cut_of_orders init runs free k number page.orders c.in_ok-filled.filled.init.items c.in_ok-filled.filled.runs.items c.in_ok-filled.filled.rf.items c.push_open.new.co.items
+    c.in_ok-filled.ensures.init c.in_ok-filled.ensures.runs c.requires.page.orders rf co

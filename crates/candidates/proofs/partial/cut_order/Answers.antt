@@ -8,5 +8,5 @@ use Rattle.candidates.proofs.partial.cut_order.Goals as goal
 pub returns : goal.returns
 returns c =
     let later = c.args.later.now in
-    let P : List EventId → Type 0 = λ order. IfOk c.order_of.result (λ o. o ≡ order) in
-    subst P (ap (λ ws. Initial c.args.location ∷ arrange ws c.number_behind-number.result) (take_rest later c.args.without) ∙ ap (λ z. Initial c.args.location ∷ arrange (drop c.args.without later) z) c.number_behind-number.ensures) c.order_of.ensures
+    let P : List EventId → Type 0 = λ order. IfOk c.order_in.result (λ o. o ≡ order) in
+    subst P (ap (λ ws. Initial c.args.location ∷ arrange ws c.number_behind-number.result) (take_rest later c.args.without) ∙ ap (λ z. Initial c.args.location ∷ arrange (drop c.args.without later) z) c.number_behind-number.ensures) c.order_in.ensures
