@@ -1,8 +1,7 @@
 //! How the values of a plan's steps go from an execution to those that go on from it.
 
-ghost use Rattle.std.specs.Prelude.{◌≡◌, ◌<◌, ◌≤◌, ◌⊎◌, ◌++◌, ℕ, List, length, IfOk, OnOk, IsTrue, Some};
+ghost use Rattle.std.specs.Prelude.{◌≡◌, ◌<◌, ◌≤◌, ◌⊎◌, ℕ, length, IfOk, OnOk, IsTrue, Some};
 ghost use Rattle.std.specs.List.{slice_get};
-ghost use Rattle.cat_eval.specs.declared.growth.Growth.{Growth};
 ghost use Rattle.cat_eval.specs.declared.growth.Growth.TheVariants.{Grows};
 ghost use Rattle.cat_eval.specs.declared.step.Step.TheVariants as steps_of;
 ghost use Rattle.cat_eval.specs.Code.{planned_clause, IsPlan};
@@ -133,7 +132,7 @@ pub fn grow<'m>(
     requires { IsPlan steps.now items.now }
     ensures { IfOk result (λ gs. AreGrown steps.now items.now gs.items) }
 {
-    let mut growths = Vec::new(alloc);
+    let mut growths = Vec::with_capacity(alloc, steps.len())?;
     for item in items {
         grow_item(&mut growths, steps, item)?;
     }

@@ -28,9 +28,7 @@ fn message_passing(alloc: Global, order: Order) -> Result<Graph, AllocError> {
         Run::new(first, vec![in alloc; 0]?),
         Run::new(second, vec![in alloc; 0]?),
     ]?;
-    let co = vec![in alloc;
-        Coherence::new(vec![in alloc; Initial(0), Own(0, 0)]?),
-    ]?;
+    let co = vec![in alloc; Coherence::new(vec![in alloc; Initial(0), Own(0, 0)]?)]?;
     let rf = vec![in alloc; Own(0, 1), Initial(0)]?;
     Ok(Graph::new(vec![in alloc; 0, 0]?, runs, rf, co))
 }

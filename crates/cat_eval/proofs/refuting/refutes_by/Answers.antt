@@ -50,5 +50,5 @@ returns-then-tells-clause-refuted c =
     let n = c.requires.count in
     let r = c.loop-number.invariant.standing in
     let next = standing_next c.args.view.now c.args.steps.now c.args.items.now c.args.growths.now c.loop-number.values c.loop-number.number c.index-items-number.result r (omega (arith, l, n)) c.index-items-number.is in
-    λ _. refuted_at c.args.view.now c.args.steps.now c.args.items.now c.args.growths.now c.loop-number.values c.weigh-weighed.new.values c.loop-number.number c.index-items-number.result c.weigh-weighed.result.permits r next c.requires.grown
-    c.weigh-weighed.ensures.same c.weigh-weighed.ensures.ran c.if-not-weighed.true (c.weigh-weighed.ensures.permits r.names next.item_core next.is_core next.ready) (c.tells.ensures c.if-tells.true)
+    λ _. refuted_at c.args.view.now c.args.steps.now c.args.items.now c.args.growths.now c.loop-number.values c.loop-number.number c.index-items-number.result c.weigh-weighed.result.permits r next c.requires.grown
+    c.if-not-weighed.true (c.weigh-weighed.ensures.permits r.names next.item_core next.is_core next.ready) (c.tells.ensures c.if-tells.true)
