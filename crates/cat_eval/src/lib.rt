@@ -9,6 +9,8 @@ mod flags;
 mod grading;
 mod growing;
 mod growth;
+mod hints;
+mod hoisting;
 mod instruction;
 mod judging;
 mod keeping;

@@ -10,6 +10,10 @@ use Rattle.cat_eval.proofs.Held.{holds_more}
 use Rattle.cat_eval.proofs.Reaching.{reached_none, reached_next, reached_more, reached_done, forbidden_at}
 use Rattle.cat_eval.proofs.early.judge_early_by.Goals as goal
 
+pub weigh-weighed-requires-clause-start : goal.weigh-weighed-requires-clause-start
+weigh-weighed-requires-clause-start c =
+    (reached_next c.args.view.now c.args.steps.now c.args.items.now c.loop-item.values c.loop-item.item-index true c.loop-item.flags.items c.item-item.result c.loop-item.invariant.reached c.loop-item-test.true c.item-item.is).start
+
 pub weigh-weighed-requires-clause-order : goal.weigh-weighed-requires-clause-order
 weigh-weighed-requires-clause-order c =
     (reached_next c.args.view.now c.args.steps.now c.args.items.now c.loop-item.values c.loop-item.item-index true c.loop-item.flags.items c.item-item.result c.loop-item.invariant.reached c.loop-item-test.true c.item-item.is).order
@@ -34,6 +38,7 @@ weigh-weighed-requires-clause-ready c = (
   c.loop-item.invariant.reached.names,
   (reached_next c.args.view.now c.args.steps.now c.args.items.now c.loop-item.values c.loop-item.item-index true c.loop-item.flags.items c.item-item.result c.loop-item.invariant.reached c.loop-item-test.true c.item-item.is).item_core,
   (reached_next c.args.view.now c.args.steps.now c.args.items.now c.loop-item.values c.loop-item.item-index true c.loop-item.flags.items c.item-item.result c.loop-item.invariant.reached c.loop-item-test.true c.item-item.is).is_core,
+  (reached_next c.args.view.now c.args.steps.now c.args.items.now c.loop-item.values c.loop-item.item-index true c.loop-item.flags.items c.item-item.result c.loop-item.invariant.reached c.loop-item-test.true c.item-item.is).below,
   (reached_next c.args.view.now c.args.steps.now c.args.items.now c.loop-item.values c.loop-item.item-index true c.loop-item.flags.items c.item-item.result c.loop-item.invariant.reached c.loop-item-test.true c.item-item.is).ready,
 )
 
@@ -43,13 +48,13 @@ loop-item-preserved c =
     let E : Word → _ → Type 0 = Under (Names c.args.view.now) (entries_of c.loop-item.invariant.reached.names c.loop-item.values) in
     let next = reached_next c.args.view.now c.args.steps.now c.args.items.now c.loop-item.values c.loop-item.item-index true c.loop-item.flags.items c.item-item.result c.loop-item.invariant.reached c.loop-item-test.true c.item-item.is in
     let flagged : Option Word = option_map (λ f. f.now) c.weigh-weighed.result.raised in
-    let permits = c.weigh-weighed.ensures.permits c.loop-item.invariant.reached.names next.item_core next.is_core next.ready in
-    let raised = c.weigh-weighed.ensures.raised c.loop-item.invariant.reached.names next.item_core next.is_core next.ready in
+    let permits = c.weigh-weighed.ensures.permits c.loop-item.invariant.reached.names next.item_core next.is_core next.below next.ready in
+    let raised = c.weigh-weighed.ensures.raised c.loop-item.invariant.reached.names next.item_core next.is_core next.below next.ready in
     record {
       long = c.weigh-weighed.ensures.length ∙ c.loop-item.invariant.long;
       holds = holds_more c.args.view.now c.args.steps.now c.args.bases.now c.loop-item.kept c.with.result c.weigh-weighed.new.values c.item-item.result.to c.with.ensures.order c.with.ensures.runs c.with.ensures.sources c.weigh-weighed.ensures.ran c.weigh-weighed.ensures.holds;
       reached = reached_more c.args.view.now c.args.steps.now c.args.items.now c.loop-item.values c.weigh-weighed.new.values c.loop-item.item-index true true c.loop-item.flags.items c.add_raised.new.names.items
-          c.item-item.result c.loop-item.invariant.reached next c.weigh-weighed.ensures.same c.weigh-weighed.ensures.ran (c.weigh-weighed.ensures.binds c.loop-item.invariant.reached.names next.item_core next.is_core next.ready)
+          c.item-item.result c.loop-item.invariant.reached next c.weigh-weighed.ensures.same c.weigh-weighed.ensures.ran (c.weigh-weighed.ensures.binds c.loop-item.invariant.reached.names next.item_core next.is_core next.below next.ready)
           (kept true c.weigh-weighed.result.permits true (Permits n E next.item_core) c.if-not-weighed.false refl permits)
           c.add_raised.ensures.once
           (flag_told c.loop-item.flags.items c.add_raised.new.names.items flagged (RaisedBy n E next.item_core) c.in_ok-add_raised.ensures.added raised);
@@ -59,13 +64,13 @@ pub returns-then-not-weighed-clause-allowed : goal.returns-then-not-weighed-clau
 returns-then-not-weighed-clause-allowed c =
     let next = reached_next c.args.view.now c.args.steps.now c.args.items.now c.loop-item.values c.loop-item.item-index true c.loop-item.flags.items c.item-item.result c.loop-item.invariant.reached c.loop-item-test.true c.item-item.is in
     forbidden_is false (Allowed (map planned_clause c.args.items.now) c.args.view.now) refl
-    (forbidden_at c.args.view.now c.args.steps.now c.args.items.now c.loop-item.values c.loop-item.item-index c.loop-item.flags.items c.item-item.result c.weigh-weighed.result.permits c.loop-item.invariant.reached next c.if-not-weighed.true (c.weigh-weighed.ensures.permits c.loop-item.invariant.reached.names next.item_core next.is_core next.ready))
+    (forbidden_at c.args.view.now c.args.steps.now c.args.items.now c.loop-item.values c.loop-item.item-index c.loop-item.flags.items c.item-item.result c.weigh-weighed.result.permits c.loop-item.invariant.reached next c.if-not-weighed.true (c.weigh-weighed.ensures.permits c.loop-item.invariant.reached.names next.item_core next.is_core next.below next.ready))
 
 pub returns-then-not-weighed-clause-flags : goal.returns-then-not-weighed-clause-flags
 returns-then-not-weighed-clause-flags c =
     let next = reached_next c.args.view.now c.args.steps.now c.args.items.now c.loop-item.values c.loop-item.item-index true c.loop-item.flags.items c.item-item.result c.loop-item.invariant.reached c.loop-item-test.true c.item-item.is in
     let told = no_flag_told (Allowed (map planned_clause c.args.items.now) c.args.view.now) (Raised (map planned_clause c.args.items.now) c.args.view.now)
-    (forbidden_at c.args.view.now c.args.steps.now c.args.items.now c.loop-item.values c.loop-item.item-index c.loop-item.flags.items c.item-item.result c.weigh-weighed.result.permits c.loop-item.invariant.reached next c.if-not-weighed.true (c.weigh-weighed.ensures.permits c.loop-item.invariant.reached.names next.item_core next.is_core next.ready)) in
+    (forbidden_at c.args.view.now c.args.steps.now c.args.items.now c.loop-item.values c.loop-item.item-index c.loop-item.flags.items c.item-item.result c.weigh-weighed.result.permits c.loop-item.invariant.reached next c.if-not-weighed.true (c.weigh-weighed.ensures.permits c.loop-item.invariant.reached.names next.item_core next.is_core next.below next.ready)) in
     search (rules, told)
 
 pub returns-then-not-weighed-clause-holds : goal.returns-then-not-weighed-clause-holds
