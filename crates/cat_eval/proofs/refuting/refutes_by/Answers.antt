@@ -18,13 +18,14 @@ weigh-weighed-requires c =
     let i = next.inside in
     let m = c.loop-number.invariant.long in
     record {
+      start = next.start;
       order = next.order;
       steps = i;
       values = omega (arith, i, m);
       graded = c.requires.graded;
       holds = c.loop-number.invariant.holds;
       ran = next.ran;
-      ready = (c.loop-number.invariant.standing.names, next.item_core, next.is_core, next.ready);
+      ready = (c.loop-number.invariant.standing.names, next.item_core, next.is_core, next.below, next.ready);
     }
 
 pub loop-number-preserved : goal.loop-number-preserved
@@ -37,7 +38,7 @@ loop-number-preserved c =
       long = c.weigh-weighed.ensures.length ∙ c.loop-number.invariant.long;
       holds = holds_more c.args.view.now c.args.steps.now c.args.bases.now c.loop-number.kept c.with.result c.weigh-weighed.new.values c.index-items-number.result.to c.with.ensures.order c.with.ensures.runs c.with.ensures.sources c.weigh-weighed.ensures.ran c.weigh-weighed.ensures.holds;
       standing = standing_more c.args.view.now c.args.steps.now c.args.items.now c.args.growths.now c.loop-number.values c.weigh-weighed.new.values c.loop-number.number c.index-items-number.result r next c.requires.grown (omega (arith, l, n)) c.index-items-number.is
-          c.weigh-weighed.ensures.same c.weigh-weighed.ensures.ran (c.weigh-weighed.ensures.binds r.names next.item_core next.is_core next.ready);
+          c.weigh-weighed.ensures.same c.weigh-weighed.ensures.ran (c.weigh-weighed.ensures.binds r.names next.item_core next.is_core next.below next.ready);
     }
 
 pub returns-then-tells-clause-holds : goal.returns-then-tells-clause-holds
@@ -51,4 +52,4 @@ returns-then-tells-clause-refuted c =
     let r = c.loop-number.invariant.standing in
     let next = standing_next c.args.view.now c.args.steps.now c.args.items.now c.args.growths.now c.loop-number.values c.loop-number.number c.index-items-number.result r (omega (arith, l, n)) c.index-items-number.is in
     λ _. refuted_at c.args.view.now c.args.steps.now c.args.items.now c.args.growths.now c.loop-number.values c.loop-number.number c.index-items-number.result c.weigh-weighed.result.permits r next c.requires.grown
-    c.if-not-weighed.true (c.weigh-weighed.ensures.permits r.names next.item_core next.is_core next.ready) (c.tells.ensures c.if-tells.true)
+    c.if-not-weighed.true (c.weigh-weighed.ensures.permits r.names next.item_core next.is_core next.below next.ready) (c.tells.ensures c.if-tells.true)
