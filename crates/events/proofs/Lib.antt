@@ -8,3 +8,4 @@ pub mod Structures
 pub mod Bases
 pub mod Exact
 pub mod Direct
+pub mod Extending

@@ -1,6 +1,7 @@
 //! What holds of the definitions alone.
 
 ghost use Rattle.events.specs.Bases.{SetsRestOnRuns, RelationsRestOnRuns, RelationsRestOnSources};
+ghost use Rattle.events.specs.Extends.{SetsStay, RelationsStay, RelationsGrow, PartsAreGraphs};
 ghost use Rattle.events.specs.Named.{Numbering};
 
 /// The events of an execution have the numbers below its count, each one number.
@@ -13,4 +14,13 @@ pub fn bases()
     ensures sets { SetsRestOnRuns }
     ensures runs { RelationsRestOnRuns }
     ensures sources { RelationsRestOnSources }
+{}
+
+/// An execution has the same sets as what it goes on from, the same relations that rest on the runs, and no fewer pairs in the others; and what
+/// a graph goes on from is a graph.
+pub fn extension()
+    ensures sets { SetsStay }
+    ensures stay { RelationsStay }
+    ensures grow { RelationsGrow }
+    ensures graph { PartsAreGraphs }
 {}
