@@ -17,7 +17,7 @@ pub fn back_is_last()
     ensures { (form : Form) (counts : Counts) (added : List Line) → IsWorkFrom form Stage.Free counts added → BackIsLast added }
 {}
 
-/// Where no call was refused, there is a last receipt, which ended the worker, and each evaluation was returned.
+/// Where the count of refusals is 0, there is a last receipt, which ended the worker, and each evaluation was returned.
 pub fn where_none_refused()
     ensures { (form : Form) (counts : Counts) (added : List Line) → IsWorkFrom form Stage.Free counts added → counts.refused ≡ 0 → EndsIn form added × (counts.evaluated ≡ returns added) }
 {}
