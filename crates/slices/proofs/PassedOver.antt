@@ -1,6 +1,6 @@
 -- What is passed over adds nothing to a count.
-use Rattle.std.proofs.Common.{◌≡◌, ℕ, zero, suc, ◌+◌, ◌-◌, ◌<◌, ◌≤◌, List, [], ◌∷◌, ◌++◌, Option, Some, None, refl, sym, ap, ◌∙◌, subst, append-nil, arith}
-use Rattle.std.specs.Prelude.{max, min, Bool, true, false, IfOk, IfSome, IsTrue, MatchBool, MatchOption, Result}
+use Rattle.std.proofs.Common.{◌≡◌, ℕ, zero, suc, ◌+◌, ◌-◌, ◌<◌, ◌≤◌, List, ◌++◌, Option, Some, None, refl, sym, ◌∙◌, subst, append-nil, arith}
+use Rattle.std.specs.Prelude.{max, min, Bool, true, false, MatchBool, MatchOption}
 use Rattle.events.specs.Executions.{GraphValue}
 use Rattle.events.specs.Extends.{Extends}
 use Rattle.conditions.specs.declared.place.Place.{Place}
@@ -13,7 +13,7 @@ use Rattle.candidates.specs.Walks.{IsHit, IsMiss, NoneFrom, Walking}
 use Rattle.candidates.proofs.Walked.{found_from}
 use Rattle.slices.specs.declared.counter.Counter.{Counter}
 use Rattle.slices.specs.Counters.{IsCountOf}
-use Rattle.slices.specs.Parts.{AreThose, at_end, taken, passed}
+use Rattle.slices.specs.Parts.{AreThose}
 use Rattle.slices.specs.Passing.{ArePassed, IsForbidden, NoneAllowed}
 use Rattle.slices.proofs.Counted.{IsUnderWay, those-pass}
 
@@ -85,24 +85,15 @@ walked_over t items places from to n u v w counter h hit p =
       to_is = p.to ∙ hit.step.to ∙ h.to_is;
     }
 
--- what an evaluator of these items refutes
-pub refuted_under : {E : Type 0} (r : Result Bool E) (partial : GraphValue) (mine items : List Clause) → mine ≡ items
-    → IfOk r (λ known. IsTrue known → (h : GraphValue) → Extends partial h → ¬ Allowed mine h)
-    → IfOk r (λ known. IsTrue known → (h : GraphValue) → Extends partial h → ¬ Allowed items h)
-refuted_under r partial mine items e h =
-    let P : List Clause → Type 0 = λ ns. IfOk r (λ known. IsTrue known → (h : GraphValue) → Extends partial h → ¬ Allowed ns h) in
-    subst P e h
-
 -- what is known of a block, where what its executions have in common is refuted
-pub forbidden : (mine items : List Clause) (w : Walking) (common : CommonValue) (end : ℕ) (partial : GraphValue) (known : Bool) → mine ≡ items → end ≡ common.end → partial ≡ common.graph → IsTrue known
+pub forbidden : (items : List Clause) (w : Walking) (common : CommonValue) (end : ℕ) (partial : GraphValue) → end ≡ common.end → partial ≡ common.graph
     → w.next ≤ common.end → AllExtend w.space (w.next - 1) common.end common.graph
-    → (IsTrue known → (h : GraphValue) → Extends partial h → ¬ Allowed mine h)
+    → ((h : GraphValue) → Extends partial h → ¬ Allowed items h)
     → IsForbidden items w end
-forbidden mine items w common end partial known of is same refuted later extend none =
+forbidden items w common end partial is same later extend refuted =
     let P : GraphValue → Type 0 = λ g. (h : GraphValue) → Extends g h → ¬ Allowed items h in
-    let Q : List Clause → Type 0 = λ ns. (h : GraphValue) → Extends partial h → ¬ Allowed ns h in
     let R : ℕ → Type 0 = λ n. IsForbidden items w n in
-    subst R (sym is) (none_allowed items w common.end common.graph later extend (subst P same (subst Q of (none refuted))))
+    subst R (sym is) (none_allowed items w common.end common.graph later extend (subst P same refuted))
 
 pub is_passed : (b : Bool) (P Q : Type 0) → b ≡ true → MatchBool b P Q → P
 is_passed true P Q e h = h
@@ -111,7 +102,3 @@ is_passed false P Q e h = absurd (let f : false ≡ true = e in cc)
 pub not_passed : (b : Bool) (P Q : Type 0) → b ≡ false → MatchBool b P Q → Q
 not_passed false P Q e h = h
 not_passed true P Q e h = absurd (let f : true ≡ false = e in cc)
-
-pub of_some : (o : Option (List Clause)) (mine items : List Clause) → o ≡ Some mine → IfSome o (λ ns. ns ≡ items) → mine ≡ items
-of_some (Some ns) mine items e h = let f : mine ≡ ns = cc in f ∙ h
-of_some None mine items e h = absurd (let f : None ≡ Some mine = e in cc)

@@ -58,7 +58,7 @@ pub fn count(
     let mut evaluator = Evaluator::of(alloc, work.model(), walk.graph())?;
     let mut pruner = Pruner::new(alloc, work.model());
     while let Some(number) = walk.next(alloc)? {
-        if pruner.passes(alloc, &mut walk, number)? {
+        if pruner.passes(alloc, &mut evaluator, &mut walk, number)? {
             continue;
         }
         let graph = walk.graph();

@@ -11,5 +11,4 @@ invariant-loop-pruner l = record {
   counted : IsUnderWay l.work.test l.work.model.items l.places l.from l.to l.walk l.counter;
   slots : l.slots.items ≡ map (slot_of l.work.test) l.places;
   model : l.evaluator ≡ l.work.model.items;
-  pruned : l.pruner ≡ l.work.model.items;
 }
