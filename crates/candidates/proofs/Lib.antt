@@ -8,6 +8,7 @@ pub mod Excluded
 pub mod Gathered
 pub mod Graphs
 pub mod Grouping
+pub mod Kept
 pub mod Law
 pub mod Marking
 pub mod Passed

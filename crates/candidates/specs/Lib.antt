@@ -6,6 +6,7 @@ pub mod Faults
 pub mod Groups
 pub mod Impossible
 pub mod Labels
+pub mod Levels
 pub mod Located
 pub mod Parts
 pub mod Readings

@@ -5,6 +5,7 @@ use Rattle.candidates.specs.Blocks.{AllExtend, CommonValue, Fits, cut_by}
 use Rattle.candidates.specs.Candidates.{Choices, candidate, graph_at, is_consistent, size_of}
 use Rattle.candidates.specs.declared.reading.Look.{Look}
 use Rattle.candidates.specs.declared.reading.Look.TheVariants.{Found, Until}
+use Rattle.candidates.specs.Levels.{AreLevels, groups_of}
 use Rattle.candidates.specs.Readings.{IsStretch, MayBeStretch, IsSeen}
 use Rattle.candidates.specs.declared.page.Reach.{Reach}
 use Rattle.candidates.specs.declared.page.Reach.TheVariants as of_reach
@@ -78,10 +79,11 @@ abbrev pub IsFind : Choices → Stretch → ℕ → ℕ → Option ℕ → Type 
 IsFind s b a c None = NoneFrom s a c
 IsFind s b a c (Some n) = (a ≤ n) × (n < c) × NoneFrom s a n × IsFound s n b
 
--- The stretch at hand is one of the space, and what is shown is its candidate with the number that is named.
+-- The stretch at hand is one of the space, what is shown is its candidate with the number that is named, and what is kept of the threads is theirs.
 pub record IsScene (s : Choices) (c : Scene) : Type 0 where
   pub stretch : MayBeStretch s c.stretch
   pub seen : IsSeen s.init c.stretch.page c.graph c.at
+  pub levels : AreLevels (groups_of s) c.levels.items
 
 -- The block is one around the number before n, which is in the stretch: its candidates extend what is known of them.
 pub record IsBlock (s : Choices) (b : Stretch) (n : ℕ) (r : Block) : Type 0 where

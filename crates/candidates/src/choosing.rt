@@ -8,6 +8,7 @@ ghost use Rattle.candidates.specs.Candidates.{choices};
 ghost use Rattle.candidates.specs.Groups.{tally_of, sum_tally, size_by, sizes_of, HasRoom};
 ghost use Rattle.candidates.specs.declared.counts.Counts.{Counts};
 ghost use Rattle.candidates.specs.Impossible.{AreMarks, IsChosen};
+ghost use Rattle.candidates.specs.Levels.{AreLevels, Stands};
 ghost use Rattle.candidates.specs.Parts.{AreAllWithin};
 ghost use Rattle.candidates.specs.Located.{IsLocated};
 
@@ -15,6 +16,7 @@ use crate::counts::AccessTally;
 use crate::fault::MOST_CANDIDATES;
 use crate::groups::Groups;
 use crate::impossible::Marks;
+use crate::levels::{Level, is_known, keep};
 use events::Run;
 use std::alloc::{AllocError, Global};
 use std::marker::Model;
@@ -72,21 +74,39 @@ struct Part {
     rest: u64,
 }
 
-/// The part that a number below the sum is in.
-fn part_at(sizes: &[u64], number: u64) -> Part
-    requires { number < sum_of (λ n. n) sizes.now }
+/// The part that a number below the sum is in, where it isn't in those before the place `from`, whose sum is `before`.
+fn part_from(sizes: &[u64], from: usize, before: u64, number: u64) -> Part
+    requires before { before ≡ sum_of (λ n. n) (take from sizes.now) }
+    requires order { before ≤ number }
+    requires number { number < sum_of (λ n. n) sizes.now }
     ensures place { result.place < length sizes.now }
     ensures rest { result.rest < slice_index_or sizes.now result.place 0 }
     ensures sum { number ≡ sum_of (λ n. n) (take result.place sizes.now) + result.rest }
 {
-    let mut rest = number;
-    for (place, size) in sizes.iter().enumerate() {
-        if rest < *size {
+    let mut rest = number - before;
+    for place in from..sizes.len() {
+        let size = sizes[place];
+        if rest < size {
             return Part { place, rest };
         }
-        rest -= *size;
+        rest -= size;
     }
     unreachable!()
+}
+
+/// The part that a number below the sum is in. It is sought from the place of the level on, or from the first where the
+/// number is before that.
+fn part_at(level: &Level, number: u64) -> Part
+    requires stands { Stands level.now }
+    requires number { number < sum_of (λ n. n) level.now.sizes.items }
+    ensures place { result.place < length level.now.sizes.items }
+    ensures rest { result.rest < slice_index_or level.now.sizes.items result.place 0 }
+    ensures sum { number ≡ sum_of (λ n. n) (take result.place level.now.sizes.items) + result.rest }
+{
+    if number < level.before {
+        return part_from(&level.sizes, 0, 0, number);
+    }
+    part_from(&level.sizes, level.place, level.before, number)
 }
 
 /// The run of a thread that a number is in, how far into this run's candidates the number is, and how many candidates from
@@ -98,29 +118,25 @@ struct Choice {
     passed: u64,
 }
 
-/// The run that a number is in, of a thread of these groups and marks: it counts the candidates with the runs that are tallied.
-fn choose_run(
-    alloc: Global,
-    group: &Groups,
-    marks: &Marks,
-    tally: &AccessTally,
-    behind: &[Groups],
-    number: u64,
-) -> Result<Choice, AllocError>
-    requires room { (t : List Counts) → IsIn t group.now → HasRoom (sum_tally tally.now t) behind.now }
-    requires most { size_by tally.now (group.now ∷ behind.now) ≤ MOST_CANDIDATES }
-    requires marks { length marks.now ≡ length group.now }
-    requires number { number < size_by tally.now (group.now ∷ behind.now) }
-    ensures { IfOk result (λ c. IsChosen marks.now (sizes_of tally.now group.now behind.now) number c.place c.rest c.passed) }
+/// The run of a level's thread that a number is in. The level stands at it then.
+fn choose(level: &mut Level, marks: &Marks, number: u64) -> Choice
+    requires stands { Stands level.old }
+    requires most { sum_of (λ n. n) level.old.sizes.items ≤ MOST_CANDIDATES }
+    requires marks { length marks.now ≡ length level.old.sizes.items }
+    requires number { number < sum_of (λ n. n) level.old.sizes.items }
+    ensures chosen { IsChosen marks.now level.old.sizes.items number result.place result.rest result.passed }
+    ensures same { (level.new.thread ≡ level.old.thread) × (level.new.tally ≡ level.old.tally) × (level.new.sizes.items ≡ level.old.sizes.items) }
+    ensures stands { Stands level.new }
 {
-    let sizes = group.sizes(alloc, tally, behind)?.unwrap();
-    let part = part_at(&sizes, number);
-    let passed = marks.passed(&sizes, part.place);
-    Ok(Choice {
+    let part = part_at(level, number);
+    let passed = marks.passed(&level.sizes, part.place);
+    level.place = part.place;
+    level.before = number - part.rest;
+    Choice {
         place: part.place,
         rest: part.rest,
         passed,
-    })
+    }
 }
 
 /// The threads behind this one.
@@ -129,6 +145,58 @@ fn after(groups: &[Groups], thread: usize) -> &[Groups]
     ensures { result.now ≡ drop (thread + 1) groups.now }
 {
     &groups[thread + 1..]
+}
+
+/// How many candidates go on with each run of a thread, behind the runs that are tallied.
+fn count_runs(
+    alloc: Global,
+    groups: &[Groups],
+    thread: usize,
+    tally: &AccessTally,
+) -> Result<Vec<u64>, AllocError>
+    requires thread { thread < length groups.now }
+    requires room { (t : List Counts) → IsIn t (slice_index_or groups.now thread []) → HasRoom (sum_tally tally.now t) (drop (thread + 1) groups.now) }
+    requires most { size_by tally.now (slice_index_or groups.now thread [] ∷ drop (thread + 1) groups.now) ≤ MOST_CANDIDATES }
+    ensures { IfOk result (λ v. v.items ≡ sizes_of tally.now (slice_index_or groups.now thread []) (drop (thread + 1) groups.now)) }
+{
+    let sizes = groups[thread].sizes(alloc, tally, after(groups, thread))?;
+    Ok(sizes.unwrap())
+}
+
+/// The run of a thread that a number is in: it counts the candidates with the runs that are tallied. What is counted for
+/// the thread is kept.
+fn choose_run(
+    alloc: Global,
+    levels: &mut Vec<Level>,
+    groups: &[Groups],
+    thread: usize,
+    marks: &Marks,
+    tally: &AccessTally,
+    number: u64,
+) -> Result<Choice, AllocError>
+    requires levels { AreLevels groups.now levels.old.items }
+    requires thread { thread < length groups.now }
+    requires room { (t : List Counts) → IsIn t (slice_index_or groups.now thread []) → HasRoom (sum_tally tally.now t) (drop (thread + 1) groups.now) }
+    requires most { size_by tally.now (slice_index_or groups.now thread [] ∷ drop (thread + 1) groups.now) ≤ MOST_CANDIDATES }
+    requires marks { length marks.now ≡ length (slice_index_or groups.now thread []) }
+    requires number { number < size_by tally.now (slice_index_or groups.now thread [] ∷ drop (thread + 1) groups.now) }
+    ensures chosen { IfOk result (λ c. IsChosen marks.now (sizes_of tally.now (slice_index_or groups.now thread []) (drop (thread + 1) groups.now)) number c.place c.rest c.passed) }
+    ensures levels { AreLevels groups.now levels.new.items }
+{
+    if is_known(levels, thread, tally) {
+        return Ok(choose(&mut levels[thread], marks, number));
+    }
+    let sizes = count_runs(alloc, groups, thread, tally)?;
+    let mut level = Level {
+        thread,
+        tally: tally.copy(alloc)?,
+        sizes,
+        place: 0,
+        before: 0,
+    };
+    let choice = choose(&mut level, marks, number);
+    keep(levels, level)?;
+    Ok(choice)
 }
 
 /// Where a candidate is: its runs, and its number among those with these runs.
@@ -150,32 +218,33 @@ pub(crate) enum Located {
 /// behind it that are in none.
 pub(crate) fn locate(
     alloc: Global,
+    levels: &mut Vec<Level>,
     threads: &[RunList],
     groups: &[Groups],
     marks: &[Marks],
     init: &[u32],
     number: u64,
 ) -> Result<Located, AllocError>
+    requires levels { AreLevels groups.now levels.old.items }
     requires tallied { groups.now ≡ map (λ runs. map (λ run. tally_of (length init.now) run.events) runs) threads.now }
     requires room { HasRoom (tally_of (length init.now) []) groups.now }
     requires marked { AreMarks init.now threads.now marks.now }
     requires within { AreAllWithin (length init.now) (choices threads.now) }
     requires size { sum_of (block (length init.now)) (choices threads.now) ≤ MOST_CANDIDATES }
     requires number { number < sum_of (block (length init.now)) (choices threads.now) }
-    ensures { IfOk result (IsLocated (record { init = init.now; threads = threads.now }) number) }
+    ensures located { IfOk result (IsLocated (record { init = init.now; threads = threads.now }) number) }
+    ensures levels { AreLevels groups.now levels.new.items }
 {
-    let locations = init.len();
-    let mut tally = AccessTally::new(alloc, &[], locations)?;
+    let mut tally = AccessTally::new(alloc, &[], init.len())?;
     let mut runs = Vec::new(alloc);
     let mut rest = number;
     for thread in 0..threads.len() {
-        let behind = after(groups, thread);
-        let choice = choose_run(alloc, &groups[thread], &marks[thread], &tally, behind, rest)?;
+        let choice = choose_run(alloc, levels, groups, thread, &marks[thread], &tally, rest)?;
         if choice.passed > 0 {
             return Ok(Located::Until(number - choice.rest + choice.passed));
         }
         let run = &threads[thread].runs()[choice.place];
-        tally = tally.plus_events(alloc, run.events(), locations)?;
+        tally = tally.plus(alloc, groups[thread].tally_at(choice.place))?;
         runs.push(run.copy()?)?;
         rest = choice.rest;
     }

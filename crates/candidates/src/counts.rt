@@ -81,8 +81,8 @@ fn add(alloc: Global, counts: &[Counts], more: &[Counts]) -> Result<Vec<Counts>,
     requires small { IsSmall (sum_tally counts.now more.now) }
     ensures { IfOk result (λ v. v.items ≡ sum_tally counts.now more.now) }
 {
-    let mut sums = Vec::new(alloc);
     let locations = shorter(counts, more);
+    let mut sums = Vec::with_capacity(alloc, locations)?;
     for location in 0..locations {
         let one = counts[location];
         let other = more[location];
@@ -129,10 +129,18 @@ impl AccessTally {
     pub(crate) fn new(alloc: Global, events: &[Event], locations: usize) -> Result<Self, AllocError>
         ensures { IfOk result (λ t. t ≡ tally_of locations events.now) }
     {
-        let mut counts = Vec::new(alloc);
+        let mut counts = Vec::with_capacity(alloc, locations)?;
         for location in 0..locations {
             counts.push(count(events, location))?;
         }
+        Ok(AccessTally { counts })
+    }
+
+    /// The same once more.
+    pub(crate) fn copy(&self, alloc: Global) -> Result<Self, AllocError>
+        ensures { IfOk result (λ t. t ≡ self.now) }
+    {
+        let counts = Vec::from_slice(alloc, &self.counts)?;
         Ok(AccessTally { counts })
     }
 
@@ -143,20 +151,6 @@ impl AccessTally {
     {
         let counts = add(alloc, &self.counts, &more.counts)?;
         Ok(AccessTally { counts })
-    }
-
-    /// This together with how often events read and write each location.
-    pub(crate) fn plus_events(
-        &self,
-        alloc: Global,
-        events: &[Event],
-        locations: usize,
-    ) -> Result<Self, AllocError>
-        requires small { IsSmall (sum_tally self.now (tally_of locations events.now)) }
-        ensures { IfOk result (λ t. t ≡ sum_tally self.now (tally_of locations events.now)) }
-    {
-        let more = AccessTally::new(alloc, events, locations)?;
-        self.plus(alloc, &more)
     }
 
     /// Whether both are the same.

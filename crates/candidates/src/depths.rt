@@ -130,6 +130,7 @@ fn push_orders(depths: &mut Vec<Depth>, page: &Page, locations: usize) -> Result
 }
 
 /// The depths of the page's blocks, the coarsest first, each with smaller blocks than the one before.
+#[inline(never)]
 pub(crate) fn list_depths(
     alloc: Global,
     page: &Page,

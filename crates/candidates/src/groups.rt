@@ -132,6 +132,14 @@ impl Groups {
         Ok(Groups { tallies, places })
     }
 
+    /// How often the run at a place reads and writes each location.
+    pub(crate) fn tally_at(&self, place: usize) -> &AccessTally
+        requires { place < length self.now }
+        ensures { result.now ≡ slice_index_or self.now place [] }
+    {
+        &self.tallies[self.places[place]]
+    }
+
     /// For each run, how many candidates have the runs that are tallied, this run, and runs of the threads behind.
     #[cycle(counting)]
     pub(crate) fn sizes(

@@ -11,6 +11,7 @@ mod fault;
 mod groups;
 mod impossible;
 pub mod laws;
+mod levels;
 mod ordering;
 mod page;
 mod partial;

@@ -6,6 +6,7 @@ ghost use Rattle.listings.specs.Lists.{factorial};
 use crate::capped::capped_factorial;
 use crate::depths::Depth;
 use crate::fault::MOST_CANDIDATES;
+use crate::levels::Level;
 use events::{Event, EventId, Graph, Run};
 use std::marker::Model;
 
@@ -128,9 +129,10 @@ pub(crate) enum Reach {
     Until(u64),
 }
 
-/// What a walk has at hand: a stretch, the execution that it shows, and the number in the stretch of the candidate that this
-/// is, where it is one of it.
+/// What a walk has at hand: what is kept of the threads, a stretch, the execution that it shows, and the number in the
+/// stretch of the candidate that this is, where it is one of it.
 pub(crate) struct Scene {
+    pub(crate) levels: Vec<Level>,
     pub(crate) stretch: Stretch,
     pub(crate) graph: Graph,
     pub(crate) at: Option<u64>,
@@ -139,6 +141,7 @@ pub(crate) struct Scene {
 impl Drop for Scene {
     fn drop(self) {
         let Scene {
+            levels: _,
             stretch: _,
             graph: _,
             at: _,

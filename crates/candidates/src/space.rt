@@ -10,6 +10,7 @@ ghost use Rattle.candidates.specs.Faults.{HaveFewRuns, IsSpaceFault};
 ghost use Rattle.candidates.specs.Groups.{tally_of, HasRoom};
 ghost use Rattle.candidates.specs.Parts.{AreAllWithin, AreShort};
 ghost use Rattle.candidates.specs.Impossible.{AreMarks};
+ghost use Rattle.candidates.specs.Levels.{AreLevels, groups_of};
 ghost use Rattle.candidates.specs.Walks.{IsReach};
 
 use crate::assembly::open_page;
@@ -17,6 +18,7 @@ use crate::choosing::{Located, RunList, group_all, locate};
 use crate::fault::{MOST_CANDIDATES, SpaceFault};
 use crate::groups::{Groups, count_all};
 use crate::impossible::{Marks, mark_all};
+use crate::levels::Level;
 use crate::page::{Reach, Stretch};
 use crate::walk::{Walk, find};
 use c11_threads::{initial_value, runs};
@@ -100,21 +102,24 @@ fn all_runs(alloc: Global, test: &Test) -> Result<Vec<RunList>, SpaceFault>
 /// The stretch in which a number is, or up to which number no execution stands.
 fn stretch_at(
     alloc: Global,
+    levels: &mut Vec<Level>,
     threads: &[RunList],
     groups: &[Groups],
     marks: &[Marks],
     init: &[u32],
     number: u64,
 ) -> Result<Reach, AllocError>
+    requires levels { AreLevels groups.now levels.old.items }
     requires tallied { groups.now ≡ map (λ runs. map (λ run. tally_of (length init.now) run.events) runs) threads.now }
     requires room { HasRoom (tally_of (length init.now) []) groups.now }
     requires marked { AreMarks init.now threads.now marks.now }
     requires within { AreAllWithin (length init.now) (choices threads.now) }
     requires size { size_of (record { init = init.now; threads = threads.now }) ≤ MOST_CANDIDATES }
     requires number { number < size_of (record { init = init.now; threads = threads.now }) }
-    ensures { IfOk result (IsReach (record { init = init.now; threads = threads.now }) number) }
+    ensures reach { IfOk result (IsReach (record { init = init.now; threads = threads.now }) number) }
+    ensures levels { AreLevels groups.now levels.new.items }
 {
-    match locate(alloc, threads, groups, marks, init, number)? {
+    match locate(alloc, levels, threads, groups, marks, init, number)? {
         Located::At(position) => {
             let page = open_page(alloc, position.runs, init.len())?;
             let first = number - position.rest;
@@ -169,12 +174,20 @@ impl Space {
     }
 
     /// The stretch in which a number is, or up to which number no execution stands.
-    pub(crate) fn stretch(&self, alloc: Global, number: u64) -> Result<Reach, AllocError>
-        requires { number < size_of self.now }
-        ensures { IfOk result (IsReach self.now number) }
+    pub(crate) fn stretch(
+        &self,
+        alloc: Global,
+        levels: &mut Vec<Level>,
+        number: u64,
+    ) -> Result<Reach, AllocError>
+        requires levels { AreLevels (groups_of self.now) levels.old.items }
+        requires number { number < size_of self.now }
+        ensures reach { IfOk result (IsReach self.now number) }
+        ensures levels { AreLevels (groups_of self.now) levels.new.items }
     {
         stretch_at(
             alloc,
+            levels,
             &self.threads,
             &self.groups,
             &self.marks,

@@ -1,6 +1,6 @@
 //! A walk over the executions of a space.
 
-ghost use Rattle.std.specs.Prelude.{◌≡◌, ◌+◌, ◌-◌, ◌<◌, ◌≤◌, length, max, min, None, Some, IfOk, IfSome, OnOk, OnErr, MatchOption};
+ghost use Rattle.std.specs.Prelude.{◌≡◌, ◌+◌, ◌-◌, ◌<◌, ◌≤◌, [], length, max, min, None, Some, IfOk, IfSome, OnOk, OnErr, MatchOption};
 ghost use Rattle.candidates.specs.Executions.{block};
 ghost use Rattle.candidates.specs.Blocks.{AllExtend};
 ghost use Rattle.candidates.specs.Candidates.{Choices, candidate, graph_at, size_of, no_execution};
@@ -55,6 +55,7 @@ fn no_scene(alloc: Global) -> Scene
     ensures size { result.stretch.size ≡ 0 }
     ensures graph { result.graph ≡ no_execution }
     ensures at { result.at ≡ None }
+    ensures levels { result.levels.items ≡ [] }
 {
     let page = Page {
         runs: Vec::new(alloc),
@@ -65,6 +66,7 @@ fn no_scene(alloc: Global) -> Scene
         depths: Vec::new(alloc),
     };
     Scene {
+        levels: Vec::new(alloc),
         stretch: Stretch {
             first: 0,
             size: 0,
@@ -92,7 +94,7 @@ fn reach(
     if number >= scene.stretch.first && number - scene.stretch.first < scene.stretch.size {
         return Ok(None);
     }
-    match space.stretch(alloc, number)? {
+    match space.stretch(alloc, &mut scene.levels, number)? {
         Reach::At(found) => {
             scene.stretch = found;
             scene.at = None;
@@ -179,6 +181,7 @@ fn show(alloc: Global, init: &[u32], scene: &mut Scene, number: u64) -> Result<(
     requires seen { IsSeen init.now scene.old.stretch.page scene.old.graph scene.old.at }
     requires number { number < block (length init.now) scene.old.stretch.page.runs.items }
     ensures stretch { scene.new.stretch ≡ scene.old.stretch }
+    ensures levels { scene.new.levels ≡ scene.old.levels }
     ensures shown { OnOk result ((scene.new.at ≡ Some number) × (scene.new.graph ≡ candidate init.now scene.old.stretch.page.runs.items number)) }
     ensures same { OnErr result ((scene.new.at ≡ scene.old.at) × (scene.new.graph ≡ scene.old.graph)) }
 {

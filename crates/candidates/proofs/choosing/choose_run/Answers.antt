@@ -1,36 +1,73 @@
-use Rattle.std.proofs.Common.{◌≡◌, ◌∙◌, ◌+◌, ◌<◌, ℕ, List, length, take, get_or, ap, subst, sym, arith}
-use Rattle.listings.specs.Lists.{sum_of}
-use Rattle.candidates.specs.Groups.{size_by, sum_tally}
-use Rattle.candidates.specs.Impossible.{IsPassed}
+use Rattle.std.proofs.Common.{◌∙◌, ◌+◌, [], List, ℕ, drop, get_or, length, subst, sym, ap, refl, arith}
+use Rattle.candidates.specs.Groups.{sum_tally, size_by}
+use Rattle.candidates.specs.Impossible.{IsChosen}
 use Rattle.candidates.proofs.Descent.{sizes_by}
 use Rattle.candidates.proofs.Grouping.{length_mapped}
+use Rattle.candidates.proofs.Kept.{known_here, level_is, levels_moved, levels_on}
 use Rattle.candidates.proofs.choosing.choose_run.Goals as goal
 
-pub part_at-part-requires : goal.part_at-part-requires
-part_at-part-requires c =
-    let are = c.deref.ensures.value ∙ (rw c.unwrap-sizes.ensures at c.in_ok-sizes.ensures) in
-    omega (arith, c.requires.number, sizes_by c.args.tally.now c.args.group.now c.args.behind.now c.deref.result.now are)
+pub choose-requires-clause-stands : goal.choose-requires-clause-stands
+choose-requires-clause-stands c =
+    (known_here c.args.groups.now c.args.levels.now.items c.deref.result.now c.args.thread c.args.tally.now c.index_mut.result.now c.requires.levels c.deref.ensures.value (c.is_known.ensures c.if-is_known.true) c.index_mut.ensures.value).3
 
-pub passed-passed-requires-clause-most : goal.passed-passed-requires-clause-most
-passed-passed-requires-clause-most c =
-    let are = c.deref-2.ensures.value ∙ (rw c.unwrap-sizes.ensures at c.in_ok-sizes.ensures) in
-    omega (arith, c.requires.most, sizes_by c.args.tally.now c.args.group.now c.args.behind.now c.deref-2.result.now are)
+pub choose-requires-clause-most : goal.choose-requires-clause-most
+choose-requires-clause-most c =
+    let k = known_here c.args.groups.now c.args.levels.now.items c.deref.result.now c.args.thread c.args.tally.now c.index_mut.result.now c.requires.levels c.deref.ensures.value (c.is_known.ensures c.if-is_known.true) c.index_mut.ensures.value in
+    let here = get_or c.args.groups.now c.args.thread [] in
+    let after = drop (c.args.thread + 1) c.args.groups.now in
+    omega (arith, c.requires.most, sizes_by c.args.tally.now here after c.index_mut.result.now.sizes.items k.2)
 
-pub passed-passed-requires-clause-place : goal.passed-passed-requires-clause-place
-passed-passed-requires-clause-place c =
-    omega (arith, c.part_at-part.ensures.place, ap (λ (ss : List ℕ). length ss) (c.deref-2.ensures.value ∙ sym c.deref.ensures.value))
+pub choose-requires-clause-marks : goal.choose-requires-clause-marks
+choose-requires-clause-marks c =
+    let k = known_here c.args.groups.now c.args.levels.now.items c.deref.result.now c.args.thread c.args.tally.now c.index_mut.result.now c.requires.levels c.deref.ensures.value (c.is_known.ensures c.if-is_known.true) c.index_mut.ensures.value in
+    let here = get_or c.args.groups.now c.args.thread [] in
+    let after = drop (c.args.thread + 1) c.args.groups.now in
+    c.requires.marks ∙ sym (ap (λ (ss : List ℕ). length ss) k.2 ∙ length_mapped (λ t. size_by (sum_tally c.args.tally.now t) after) here)
 
-pub passed-passed-requires-clause-marks : goal.passed-passed-requires-clause-marks
-passed-passed-requires-clause-marks c =
-    let are = c.deref-2.ensures.value ∙ (rw c.unwrap-sizes.ensures at c.in_ok-sizes.ensures) in
-    c.requires.marks ∙ sym (ap (λ (ss : List ℕ). length ss) are ∙ length_mapped (λ t. size_by (sum_tally c.args.tally.now t) c.args.behind.now) c.args.group.now)
+pub choose-requires-clause-number : goal.choose-requires-clause-number
+choose-requires-clause-number c =
+    let k = known_here c.args.groups.now c.args.levels.now.items c.deref.result.now c.args.thread c.args.tally.now c.index_mut.result.now c.requires.levels c.deref.ensures.value (c.is_known.ensures c.if-is_known.true) c.index_mut.ensures.value in
+    let here = get_or c.args.groups.now c.args.thread [] in
+    let after = drop (c.args.thread + 1) c.args.groups.now in
+    omega (arith, c.requires.number, sizes_by c.args.tally.now here after c.index_mut.result.now.sizes.items k.2)
 
-pub returns : goal.returns
-returns c =
-    let place = c.part_at-part.result.place in
-    let rest = c.part_at-part.result.rest in
-    let are = rw c.unwrap-sizes.ensures at c.in_ok-sizes.ensures in
-    let P : List ℕ → Type 0 = λ ss. (place < length ss) × (rest < get_or ss place 0) × (c.args.number ≡ sum_of (λ n. n) (take place ss) + rest) in
-    let Q : List ℕ → Type 0 = λ ss. IsPassed c.args.marks.now ss place c.passed-passed.result in
-    let part = subst P (c.deref.ensures.value ∙ are) (c.part_at-part.ensures.place, c.part_at-part.ensures.rest, c.part_at-part.ensures.sum) in
-    record { place = part.0; within = part.1; sum = part.2; passed_are = subst Q (c.deref-2.ensures.value ∙ are) c.passed-passed.ensures }
+pub returns-then-is_known-clause-chosen : goal.returns-then-is_known-clause-chosen
+returns-then-is_known-clause-chosen c =
+    let k = known_here c.args.groups.now c.args.levels.now.items c.deref.result.now c.args.thread c.args.tally.now c.index_mut.result.now c.requires.levels c.deref.ensures.value (c.is_known.ensures c.if-is_known.true) c.index_mut.ensures.value in
+    let r = c.choose.result in
+    let P : List ℕ → Type 0 = λ ss. IsChosen c.args.marks.now ss c.args.number r.place r.rest r.passed in
+    subst P k.2 c.choose.ensures.chosen
+
+pub returns-then-is_known-clause-levels : goal.returns-then-is_known-clause-levels
+returns-then-is_known-clause-levels c =
+    let k = known_here c.args.groups.now c.args.levels.now.items c.deref.result.now c.args.thread c.args.tally.now c.index_mut.result.now c.requires.levels c.deref.ensures.value (c.is_known.ensures c.if-is_known.true) c.index_mut.ensures.value in
+    let level = c.choose.new.level in
+    let same = c.choose.ensures.same in
+    levels_moved c.args.groups.now c.args.levels.now.items _ c.args.thread level c.requires.levels
+    (level_is c.args.groups.now level c.args.thread c.args.tally.now c.index_mut.result.now.sizes.items (same.0 ∙ k.0) (same.1 ∙ k.1) same.2 k.2 c.choose.ensures.stands) refl
+
+pub choose-choice-requires-clause-most : goal.choose-choice-requires-clause-most
+choose-choice-requires-clause-most c =
+    let here = get_or c.args.groups.now c.args.thread [] in
+    let after = drop (c.args.thread + 1) c.args.groups.now in
+    omega (arith, c.requires.most, sizes_by c.args.tally.now here after c.in_ok-sizes.sizes.items c.in_ok-sizes.ensures)
+
+pub choose-choice-requires-clause-number : goal.choose-choice-requires-clause-number
+choose-choice-requires-clause-number c =
+    let here = get_or c.args.groups.now c.args.thread [] in
+    let after = drop (c.args.thread + 1) c.args.groups.now in
+    omega (arith, c.requires.number, sizes_by c.args.tally.now here after c.in_ok-sizes.sizes.items c.in_ok-sizes.ensures)
+
+pub returns-in_err-keep-clause-levels : goal.returns-in_err-keep-clause-levels
+returns-in_err-keep-clause-levels c =
+    let level = c.choose-choice.new.level in
+    let same = c.choose-choice.ensures.same in
+    levels_on c.args.groups.now c.args.levels.now.items c.keep.new.levels.items level c.requires.levels
+    (level_is c.args.groups.now level c.args.thread c.args.tally.now c.in_ok-sizes.sizes.items same.0 (same.1 ∙ c.in_ok-copy.ensures) same.2 c.in_ok-sizes.ensures c.choose-choice.ensures.stands) c.keep.ensures
+
+pub returns-clause-levels : goal.returns-clause-levels
+returns-clause-levels c =
+    let level = c.choose-choice.new.level in
+    let same = c.choose-choice.ensures.same in
+    levels_on c.args.groups.now c.args.levels.now.items c.keep.new.levels.items level c.requires.levels
+    (level_is c.args.groups.now level c.args.thread c.args.tally.now c.in_ok-sizes.sizes.items same.0 (same.1 ∙ c.in_ok-copy.ensures) same.2 c.in_ok-sizes.ensures c.choose-choice.ensures.stands) c.keep.ensures

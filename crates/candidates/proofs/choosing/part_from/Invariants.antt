@@ -1,6 +1,6 @@
 use Rattle.std.proofs.Common.{◌≡◌, ◌<◌, ◌+◌, take, drop}
 use Rattle.listings.specs.Lists.{sum_of}
-use Rattle.candidates.proofs.choosing.part_at.Given as goal
+use Rattle.candidates.proofs.choosing.part_from.Given as goal
 
 abbrev pub invariant-loop-place : goal.invariant-loop-place
 invariant-loop-place l = record {
