@@ -7,21 +7,24 @@ ghost use Rattle.slices.specs.declared.prospects.TheConstants.{MOST_DEPTHS};
 /// more than 2^32.
 const MOST_DEPTHS: usize = 32;
 
-/// What one judgement costs, in the parts in which savings are counted.
+/// What one judgement costs, in the parts in which all costs are counted.
 const JUDGEMENT: u64 = 64;
 
-/// What a depth saves at most: so much is spent on asking where it gains no more.
-const MOST_SAVINGS: u64 = 32 * JUDGEMENT;
+/// What it costs to ask a block: to show what its executions have in common, and to judge that.
+const QUESTION: u64 = 96;
 
-/// How many executions are judged before a block is looked at.
-const FIRST_JUDGEMENTS: u64 = 16;
+/// What a depth saves at most: so much is spent on asking where it gains no more.
+const MOST_SAVINGS: u64 = 16 * JUDGEMENT;
+
+/// What is spent before a block is looked at.
+const FIRST: u64 = 16 * JUDGEMENT;
 
 /// The blocks of one depth.
 #[derive(Clone, Copy)]
 struct Depth {
     /// The number behind the block at hand.
     end: u64,
-    /// How many judgements there were when the block at hand was entered.
+    /// What was spent before the block at hand was entered.
     entered: u64,
     /// What a block costs that isn't passed over, by those so far; nothing where there was none.
     worth: u64,
@@ -36,7 +39,7 @@ impl Depth {
             end: 0,
             entered: 0,
             worth: 0,
-            savings: JUDGEMENT - 1,
+            savings: QUESTION - 1,
         }
     }
 
@@ -45,26 +48,25 @@ impl Depth {
         self.savings = self.savings.saturating_add(parts).min(MOST_SAVINGS);
     }
 
-    /// Leaves the block at hand. If it was forbidden as a whole, asking it might have spared what it cost.
-    fn leave(&mut self, judgements: u64, forbidden: bool) {
-        let count = judgements.saturating_sub(self.entered);
-        if forbidden && count > 1 {
-            self.save(count);
+    /// Leaves the block at hand. If it was forbidden as a whole, to ask it might have spared what it cost.
+    fn leave(&mut self, spent: u64, forbidden: bool) {
+        let cost = spent.saturating_sub(self.entered);
+        if forbidden && cost > JUDGEMENT {
+            self.save(cost / JUDGEMENT);
         }
-        let cost = count.saturating_mul(JUDGEMENT);
         self.worth = if self.worth == 0 {
             cost
         } else {
-            (self.worth / 4).saturating_mul(3).saturating_add(cost / 4)
+            self.worth / 4 * 3 + cost / 4
         };
     }
 
     /// Pays for asking, where there are savings and blocks cost more than that.
     fn pay(&mut self) -> bool {
-        if self.worth <= JUDGEMENT || self.savings < JUDGEMENT {
+        if self.worth <= QUESTION || self.savings < QUESTION {
             return false;
         }
-        self.savings -= JUDGEMENT;
+        self.savings -= QUESTION;
         true
     }
 }
@@ -74,9 +76,9 @@ pub(crate) struct Prospects {
     depths: [Depth; MOST_DEPTHS],
     /// How many blocks the number at hand is known to be in.
     entered: usize,
-    /// How often an execution was judged, or a block asked.
-    judgements: u64,
-    /// How many judgements there were when an execution was allowed last.
+    /// What was spent so far.
+    spent: u64,
+    /// What had been spent when an execution was allowed last.
     allowed: u64,
     ghost few: { entered ≤ MOST_DEPTHS },
 }
@@ -87,7 +89,7 @@ impl Drop for Prospects {
         let Prospects {
             depths: _,
             entered: _,
-            judgements: _,
+            spent: _,
             allowed: _,
         } = self;
     }
@@ -99,22 +101,26 @@ impl Prospects {
         Prospects {
             depths: [Depth::new(); MOST_DEPTHS],
             entered: 0,
-            judgements: 0,
+            spent: 0,
             allowed: 0,
         }
     }
 
-    /// Whether so few executions were judged that no block is worth a look.
+    /// Whether so little was spent that no block is worth a look.
     pub(crate) fn are_early(&self) -> bool {
-        self.judgements < FIRST_JUDGEMENTS
+        self.spent < FIRST
     }
 
     /// Notes that an execution was judged, and whether it was allowed.
     pub(crate) fn note(&mut self, allowed: bool) {
-        self.judgements = self.judgements.saturating_add(1);
+        self.spend(JUDGEMENT);
         if allowed {
-            self.allowed = self.judgements;
+            self.allowed = self.spent;
         }
+    }
+
+    fn spend(&mut self, parts: u64) {
+        self.spent = self.spent.saturating_add(parts);
     }
 
     /// Leaves the blocks that end at or before this number, and tells in how many others it is.
@@ -125,7 +131,7 @@ impl Prospects {
                 break;
             }
             let forbidden = self.allowed <= depth.entered;
-            depth.leave(self.judgements, forbidden);
+            depth.leave(self.spent, forbidden);
             self.entered -= 1;
         }
         self.entered
@@ -135,7 +141,7 @@ impl Prospects {
     pub(crate) fn enter(&mut self, depth: usize, end: u64) {
         if let Some(block) = self.depths.get_mut(depth) {
             block.end = end;
-            block.entered = self.judgements;
+            block.entered = self.spent;
             self.entered = depth + 1;
         }
     }
@@ -147,7 +153,7 @@ impl Prospects {
             None => false,
         };
         if paid {
-            self.judgements = self.judgements.saturating_add(1);
+            self.spend(QUESTION);
         }
         paid
     }
