@@ -9,7 +9,9 @@ use crate::commands::{SB, name, put_cat};
 use book::{Command, Said};
 use cat_model::{Files, Model, resolve};
 use litmus_c::read_test;
-use slices::{KeptSpace, Piece, PieceResult, Tally, TestRef, Verdict, VerdictRef, Work, WorkRef, evaluate};
+use slices::{
+    KeptSpace, Piece, PieceResult, Tally, TestRef, Verdict, VerdictRef, Work, WorkRef, evaluate,
+};
 use std::alloc::{AllocError, Global};
 use std::test::Fail;
 use wb_text::Name;
