@@ -1,0 +1,5 @@
+pub mod Expected
+pub mod Judged
+pub mod Lines
+pub mod Models
+pub mod Tables
