@@ -22,23 +22,30 @@ case_text label r = label ++ codes " " ++ r.path.items ++ codes " " ++ r.model.i
 abbrev pub changed_text : Row → Row → List ℕ
 changed_text r s = case_text (codes "CHANGED") r ++ codes ": was " ++ r.answer.items ++ codes ", is " ++ s.answer.items ++ codes "\n"
 
+abbrev pub states_counted : Row → Row → List ℕ
+states_counted r s = codes ", was in " ++ r.states.items ++ codes " states, is in " ++ s.states.items ++ codes " states\n"
+
 -- where the answers are the same, and the number of final states is not
 abbrev pub states_text : Row → Row → List ℕ
-states_text r s =
-    case_text (codes "CHANGED") r ++ codes ": " ++ r.answer.items ++ codes ", was in " ++ r.states.items ++ codes " states, is in " ++ s.states.items
-    ++ codes " states\n"
+states_text r s = case_text (codes "CHANGED") r ++ codes ": " ++ r.answer.items ++ states_counted r s
 
 abbrev pub between : Row → Row → List ℕ
 between r s = if same_answer r s then (if same_states r s then [] else states_text r s) else changed_text r s
 
+abbrev pub missing_text : Row → List ℕ
+missing_text r = case_text (codes "MISSING") r ++ codes "\n"
+
+abbrev pub new_text : Row → List ℕ
+new_text s = case_text (codes "NEW") s ++ codes ": " ++ s.answer.items ++ codes "\n"
+
 -- what is told of an expected row, where this row was found for it
 abbrev pub fate : Row → Option Row → List ℕ
-fate r None = case_text (codes "MISSING") r ++ codes "\n"
+fate r None = missing_text r
 fate r (Some s) = between r s
 
 -- what is told of a row that was found, where this one was expected for it
 abbrev pub novelty : Row → Option Row → List ℕ
-novelty s None = case_text (codes "NEW") s ++ codes ": " ++ s.answer.items ++ codes "\n"
+novelty s None = new_text s
 novelty s (Some r) = []
 
 -- All differences: of each expected row, in their order, and then each row that wasn't expected.

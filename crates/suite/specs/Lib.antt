@@ -3,3 +3,4 @@ pub mod Judged
 pub mod Lines
 pub mod Models
 pub mod Tables
+pub mod Troubles

@@ -31,7 +31,10 @@ abbrev pub listed : List Word → List ℕ
 listed [] = []
 listed (name ∷ names) = name ++ flat_map (λ other. 44 ∷ other) names
 
--- the path, the model, the test's name and kind, Ok or No, the word, both counts, how many states there are, and the flags
+-- a test's path, the model, and the test's name and kind, a tab behind each
+abbrev pub whose : List ℕ → List ℕ → FindingValue → List ℕ
+whose path model v = path ++ codes "\t" ++ model ++ codes "\t" ++ v.name ++ codes "\t" ++ kind_text v.kind ++ codes "\t"
+
+-- whose they are, Ok or No, the word, both counts, how many states there are, and the flags
 abbrev pub row_text : List ℕ → List ℕ → FindingValue → List ℕ
-row_text path model v =
-    path ++ codes "\t" ++ model ++ codes "\t" ++ v.name ++ codes "\t" ++ kind_text v.kind ++ codes "\t" ++ counted 9 v ++ (9 ∷ decimal (length v.states)) ++ codes "\t" ++ listed v.flags
+row_text path model v = whose path model v ++ counted 9 v ++ (9 ∷ decimal (length v.states)) ++ codes "\t" ++ listed v.flags

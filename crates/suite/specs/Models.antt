@@ -1,5 +1,5 @@
 -- The model of some cat texts.
-use Rattle.std.specs.Prelude.{◌≡◌, ℕ, ◌<◌, List, [], ◌∷◌, ◌++◌, take, Some, slice_get}
+use Rattle.std.specs.Prelude.{◌≡◌, ℕ, ◌<◌, List, [], ◌∷◌, ◌++◌, length, take, get_or, Some}
 use Rattle.cat_tree.specs.Tree.{Word, File}
 use Rattle.cat_syntax.specs.Reads.{Reads, IsRefused}
 use Rattle.cat_model.specs.Faults.{IsCause}
@@ -22,12 +22,17 @@ pub data AreFiles : List CatText → List Entry → Type 0 where
 abbrev pub GiveModel : List CatText → Word → Assembly → Type 0
 GiveModel ts root m = (es : List Entry) × AreFiles ts es × IsModelOf es root m
 
--- The text t, which stands behind so many others, whose files these are, is what the trouble is about: it reads as no file, for the cause that is
--- told, or another file has its name.
+-- The text at this place reads as no file, for the cause that is told. Or memory ran out.
+abbrev pub IsNoFile : List ℕ → ℕ → ModelTrouble → Type 0
+IsNoFile text place (Text n fault) = (n ≡ place) × ((f : File) → ¬ Reads text f) × IsRefused text fault
+IsNoFile text place NoMemory = Unit {0}
+IsNoFile text place e = ⊥
+
+-- The text t at this place, before which these files were read, is what the trouble is about: it reads as no file, or has the name of one of
+-- those.
 abbrev pub IsWrong : List Entry → CatText → ℕ → ModelTrouble → Type 0
-IsWrong es t place (Text n fault) = (n ≡ place) × ((f : File) → ¬ Reads t.text.now f) × IsRefused t.text.now fault
 IsWrong es t place (Twice n) = (n ≡ place) × (0 < version_of t.name.now es)
-IsWrong es t place e = ⊥
+IsWrong es t place e = IsNoFile t.text.now place e
 
 -- The texts up to one are files, and that one is what the trouble is about.
 pub record StopAt (ts : List CatText) (e : ModelTrouble) : Type 0 where
@@ -35,7 +40,8 @@ pub record StopAt (ts : List CatText) (e : ModelTrouble) : Type 0 where
   pub text : CatText
   pub entries : List Entry
   pub files : AreFiles (take place ts) entries
-  pub here : slice_get ts place ≡ Some text
+  pub inside : place < length ts
+  pub here : text ≡ get_or ts place text
   pub wrong : IsWrong entries text place e
 
 -- Why the texts are no files.

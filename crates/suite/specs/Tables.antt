@@ -1,6 +1,5 @@
 -- A table of tests and models: a row for each test, a column for each model.
 use Rattle.std.specs.Prelude.{ℕ, ◌-◌, List, [], ◌∷◌, ◌++◌, length, max, map, replicate, Bool, true, ◌&&◌, if◌then◌else◌, codes}
-use Rattle.std.specs.List.{flat_map, zip}
 use Rattle.std.specs.Str.{bytes_eq}
 use Rattle.slices.specs.Findings.{FindingValue, word}
 use Rattle.suite.specs.Lines.{flagged}
@@ -17,18 +16,21 @@ column model = max (length model) 9
 abbrev pub cell : FindingValue → List ℕ
 cell v = word v ++ flagged 32 v
 
--- whether all texts are the same as the first
+-- whether all texts are this one
+abbrev pub are_all : List ℕ → List (List ℕ) → Bool
+are_all text [] = true
+are_all text (other ∷ others) = bytes_eq text other && are_all text others
+
+-- whether all texts are the same
 abbrev pub are_alike : List (List ℕ) → Bool
 are_alike [] = true
-are_alike (first ∷ rest) = all_are first rest
-  where
-    all_are : List ℕ → List (List ℕ) → Bool
-    all_are text [] = true
-    all_are text (other ∷ others) = bytes_eq text other && all_are text others
+are_alike (first ∷ rest) = are_all first rest
 
--- each cell behind two blanks, as wide as its column
+-- each cell behind two blanks, as wide as its model's column
 abbrev pub cells_text : List (List ℕ) → List (List ℕ) → List ℕ
-cells_text models cells = flat_map (λ c. codes "  " ++ padded (column c.0) c.1) (zip models cells)
+cells_text [] cells = []
+cells_text (m ∷ ms) [] = []
+cells_text (m ∷ ms) (c ∷ cs) = codes "  " ++ padded (column m) c ++ cells_text ms cs
 
 -- the head: the models' names over their columns
 abbrev pub head_text : ℕ → List (List ℕ) → List ℕ

@@ -76,15 +76,36 @@ fn is_same_case(first: &Row, second: &Row) -> bool
 
 /// Adds what is told of an expected row, where this one was found for it.
 fn push_fate(text: &mut Vec<u8>, row: &Row, found: Option<&Row>) -> Result<(), AllocError>
-    ensures { OnOk result (text.new.items ≡ text.old.items ++ fate row.now (option_map (λ r. r.now) found)) }
+    ensures { OnOk result (text.new.items ≡ text.old.items ++ fate row.now (option_map (λ r. r.now) found.entry)) }
 {
     match found {
         Some(other) => push_between(text, row, other),
-        None => push_parts(
-            text,
-            &[b"MISSING", b" ", &row.path, b" ", &row.model, b"\n"],
-        ),
+        None => push_missing(text, row),
     }
+}
+
+/// Adds a word, and which test under which model.
+fn push_case(text: &mut Vec<u8>, label: &[u8], row: &Row) -> Result<(), AllocError>
+    ensures { OnOk result (text.new.items ≡ text.old.items ++ texts.case_text label.now row.now) }
+{
+    push_parts(text, &[label, b" ", &row.path, b" ", &row.model])
+}
+
+/// Adds that nothing was found for a row.
+fn push_missing(text: &mut Vec<u8>, row: &Row) -> Result<(), AllocError>
+    ensures { OnOk result (text.new.items ≡ text.old.items ++ texts.missing_text row.now) }
+{
+    push_case(text, b"MISSING", row)?;
+    text.push(b'\n')?;
+    Ok(())
+}
+
+/// Adds that a row wasn't expected.
+fn push_new(text: &mut Vec<u8>, row: &Row) -> Result<(), AllocError>
+    ensures { OnOk result (text.new.items ≡ text.old.items ++ texts.new_text row.now) }
+{
+    push_case(text, b"NEW", row)?;
+    push_parts(text, &[b": ", &row.answer, b"\n"])
 }
 
 /// Adds how two rows of one test under one model differ, if they do.
@@ -104,10 +125,10 @@ fn push_between(text: &mut Vec<u8>, old: &Row, new: &Row) -> Result<(), AllocErr
 fn push_changed(text: &mut Vec<u8>, old: &Row, new: &Row) -> Result<(), AllocError>
     ensures { OnOk result (text.new.items ≡ text.old.items ++ texts.changed_text old.now new.now) }
 {
-    let (was, is) = (&old.answer, &new.answer);
+    push_case(text, b"CHANGED", old)?;
     push_parts(
         text,
-        &[b"CHANGED", b" ", &old.path, b" ", &old.model, b": was ", was, b", is ", is, b"\n"],
+        &[b": was ", &old.answer, b", is ", &new.answer, b"\n"],
     )
 }
 
@@ -115,26 +136,26 @@ fn push_changed(text: &mut Vec<u8>, old: &Row, new: &Row) -> Result<(), AllocErr
 fn push_states(text: &mut Vec<u8>, old: &Row, new: &Row) -> Result<(), AllocError>
     ensures { OnOk result (text.new.items ≡ text.old.items ++ texts.states_text old.now new.now) }
 {
-    push_parts(
-        text,
-        &[b"CHANGED", b" ", &old.path, b" ", &old.model, b": ", &old.answer],
-    )?;
-    push_parts(
-        text,
-        &[b", was in ", &old.states, b" states, is in ", &new.states, b" states\n"],
-    )
+    push_case(text, b"CHANGED", old)?;
+    push_parts(text, &[b": ", &old.answer])?;
+    push_counts(text, old, new)
+}
+
+/// Adds how many final states there were, and how many there are.
+fn push_counts(text: &mut Vec<u8>, old: &Row, new: &Row) -> Result<(), AllocError>
+    ensures { OnOk result (text.new.items ≡ text.old.items ++ texts.states_counted old.now new.now) }
+{
+    let (was, is) = (&old.states, &new.states);
+    push_parts(text, &[b", was in ", was, b" states, is in ", is, b" states\n"])
 }
 
 /// Adds a row that was found, where this one was expected for it, if it wasn't.
 fn push_novelty(text: &mut Vec<u8>, row: &Row, expected: Option<&Row>) -> Result<(), AllocError>
-    ensures { OnOk result (text.new.items ≡ text.old.items ++ novelty row.now (option_map (λ r. r.now) expected)) }
+    ensures { OnOk result (text.new.items ≡ text.old.items ++ novelty row.now (option_map (λ r. r.now) expected.entry)) }
 {
     match expected {
         Some(_) => Ok(()),
-        None => push_parts(
-            text,
-            &[b"NEW", b" ", &row.path, b" ", &row.model, b": ", &row.answer, b"\n"],
-        ),
+        None => push_new(text, row),
     }
 }
 

@@ -1,5 +1,8 @@
 //! Why a text isn't judged.
 
+ghost use Rattle.std.specs.Prelude.{◌≡◌};
+ghost use Rattle.suite.specs.Troubles.{text_trouble, files_trouble, test_trouble, space_trouble};
+
 use candidates::SpaceFault;
 use cat_model::ModelFault;
 use cat_syntax::CatFault;
@@ -26,6 +29,50 @@ pub enum TestTrouble {
     /// The test has too many runs or candidates.
     Space(SpaceFault),
     NoMemory,
+}
+
+impl ModelTrouble {
+    /// What is wrong with the text at a place.
+    pub(crate) fn of_text(place: usize, fault: CatFault) -> Self
+        ensures { result ≡ text_trouble place fault }
+    {
+        match fault {
+            CatFault::NoMemory => ModelTrouble::NoMemory,
+            fault => ModelTrouble::Text(place, fault),
+        }
+    }
+
+    /// What is wrong with the files.
+    pub(crate) fn of_files(fault: ModelFault) -> Self
+        ensures { result ≡ files_trouble fault }
+    {
+        match fault {
+            ModelFault::NoMemory => ModelTrouble::NoMemory,
+            fault => ModelTrouble::Model(fault),
+        }
+    }
+}
+
+impl TestTrouble {
+    /// What is wrong with a text.
+    pub(crate) fn of_test(fault: TestFault) -> Self
+        ensures { result ≡ test_trouble fault }
+    {
+        match fault {
+            TestFault::NoMemory => TestTrouble::NoMemory,
+            fault => TestTrouble::Test(fault),
+        }
+    }
+
+    /// What is wrong with a test.
+    pub(crate) fn of_space(fault: SpaceFault) -> Self
+        ensures { result ≡ space_trouble fault }
+    {
+        match fault {
+            SpaceFault::NoMemory => TestTrouble::NoMemory,
+            fault => TestTrouble::Space(fault),
+        }
+    }
 }
 
 impl From<AllocError> for ModelTrouble {

@@ -7,9 +7,8 @@ ghost use Rattle.candidates.specs.Faults.{IsSpaceFault};
 ghost use Rattle.suite.specs.Judged.{AreVerdicts, HasVerdicts, HasNone, IsUntold, IsRight, works_of};
 
 use crate::fault::TestTrouble;
-use candidates::SpaceFault;
 use cat_model::Model;
-use litmus_c::{Test, TestFault, read_test};
+use litmus_c::{Test, read_test};
 use slices::{TestRef, Verdict, Work, WorkRef};
 use std::alloc::{AllocError, Global};
 
@@ -39,8 +38,7 @@ fn read(alloc: Global, text: &[u8]) -> Result<Test, TestTrouble>
 {
     match read_test(alloc, text) {
         Ok(test) => Ok(test),
-        Err(TestFault::NoMemory) => Err(TestTrouble::NoMemory),
-        Err(fault) => Err(TestTrouble::Test(fault)),
+        Err(fault) => Err(TestTrouble::of_test(fault)),
     }
 }
 
@@ -86,7 +84,6 @@ fn work_of(alloc: Global, test: &TestRef, model: &Model) -> Result<WorkRef, Test
 {
     match Work::of(alloc, test.share()?, model.copy()?) {
         Ok(work) => Ok(WorkRef::new(alloc, work)?),
-        Err(SpaceFault::NoMemory) => Err(TestTrouble::NoMemory),
-        Err(fault) => Err(TestTrouble::Space(fault)),
+        Err(fault) => Err(TestTrouble::of_space(fault)),
     }
 }

@@ -34,14 +34,25 @@ pub fn row_of(
 {
     let finding = verdict.finding();
     let mut text = Vec::new(alloc);
-    let kind = kind_text(finding.kind());
-    let name = finding.name().bytes();
-    push_parts(&mut text, &[path, b"\t", model, b"\t", name, b"\t", kind, b"\t"])?;
+    push_whose(&mut text, path, model, finding)?;
     push_counted(&mut text, b'\t', finding)?;
     push_number(&mut text, b'\t', finding.states().len() as u64)?;
     text.push(b'\t')?;
     push_listed(&mut text, finding.flags())?;
     Ok(text)
+}
+
+/// Adds a test's path, the model, and the test's name and kind, a tab behind each.
+fn push_whose(
+    text: &mut Vec<u8>,
+    path: &[u8],
+    model: &[u8],
+    finding: &Finding,
+) -> Result<(), AllocError>
+    ensures { OnOk result (text.new.items ≡ text.old.items ++ texts.whose path.now model.now finding.now) }
+{
+    push_parts(text, &[path, b"\t", model, b"\t"])?;
+    push_parts(text, &[finding.name().bytes(), b"\t", kind_text(finding.kind()), b"\t"])
 }
 
 /// What a stored row tells of a verdict: the word, both counts and the flags, with blanks between.

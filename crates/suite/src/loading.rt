@@ -4,12 +4,12 @@ ghost use Rattle.std.specs.Prelude.{◌≡◌, ◌<◌, ◌++◌, ◌∷◌, [],
 ghost use Rattle.cat_model.specs.Files.{version_of, store};
 ghost use Rattle.cat_syntax.specs.Reads.{Reads};
 ghost use Rattle.slices.specs.Works.{IsModelOf};
-ghost use Rattle.suite.specs.Models.{AreFiles, AreUnread, GiveModel, GiveNoModel};
+ghost use Rattle.suite.specs.Models.{AreFiles, AreUnread, GiveModel, GiveNoModel, IsNoFile};
 ghost use Rattle.suite.specs.declared.fault.ModelTrouble.TheVariants.{NoMemory};
 
 use crate::fault::ModelTrouble;
-use cat_model::{Files, Model, ModelFault, resolve};
-use cat_syntax::{CatFault, CatFile, read_cat};
+use cat_model::{Files, Model, resolve};
+use cat_syntax::{CatFile, read_cat};
 use std::alloc::{AllocError, Global};
 use wb_text::Name;
 
@@ -35,8 +35,7 @@ pub fn load_model(
     let files = read_files(alloc, texts)?;
     match resolve(alloc, &files, root) {
         Ok(model) => Ok(model),
-        Err(ModelFault::NoMemory) => Err(ModelTrouble::NoMemory),
-        Err(fault) => Err(ModelTrouble::Model(fault)),
+        Err(fault) => Err(ModelTrouble::of_files(fault)),
     }
 }
 
@@ -59,12 +58,11 @@ fn read_files(alloc: Global, texts: &[CatText<'_>]) -> Result<Files, ModelTroubl
 /// The file that a text reads as. The text stands at this place.
 fn read_file(alloc: Global, place: usize, text: &[u8]) -> Result<CatFile, ModelTrouble>
     ensures file { IfOk result (Reads text.now) }
-    ensures cause { IfErr result (λ e. (e ≡ NoMemory) ⊎ IsNoFile text.now place e) }
+    ensures cause { IfErr result (IsNoFile text.now place) }
 {
     match read_cat(alloc, text) {
         Ok(file) => Ok(file),
-        Err(CatFault::NoMemory) => Err(ModelTrouble::NoMemory),
-        Err(fault) => Err(ModelTrouble::Text(place, fault)),
+        Err(fault) => Err(ModelTrouble::of_text(place, fault)),
     }
 }
 

@@ -58,9 +58,23 @@ pub fn are_alike(cells: &[Vec<u8>]) -> bool
     ensures { result ≡ texts.are_alike (map (λ c. c.items) cells.now) }
 {
     match cells.split_first() {
-        Some((first, rest)) => rest.iter().all(|other| first.as_slice() == other.as_slice()),
+        Some((first, rest)) => are_all(first, rest),
         None => true,
     }
+}
+
+/// Whether each cell tells this.
+fn are_all(text: &[u8], cells: &[Vec<u8>]) -> bool
+    ensures { result ≡ texts.are_all text.now (map (λ c. c.items) cells.now) }
+{
+    let mut left = cells;
+    while let Some((cell, rest)) = left.split_first() {
+        if text != cell.as_slice() {
+            return false;
+        }
+        left = rest;
+    }
+    true
 }
 
 /// Adds each cell behind two blanks, as wide as its model's column.
@@ -71,9 +85,18 @@ fn push_cells(
 ) -> Result<(), AllocError>
     ensures { OnOk result (text.new.items ≡ text.old.items ++ texts.cells_text (map (λ m. m.items) models.now) (map (λ c. c.items) cells.now)) }
 {
-    for (model, cell) in models.iter().zip(cells) {
-        text.extend_from_slice(b"  ")?;
-        push_padded(text, cell, model.len().max(WORD))?;
+    let mut left = models;
+    let mut rest = cells;
+    while let Some((model, others)) = left.split_first() {
+        match rest.split_first() {
+            Some((cell, more)) => {
+                text.extend_from_slice(b"  ")?;
+                push_padded(text, cell, model.len().max(WORD))?;
+                left = others;
+                rest = more;
+            }
+            None => return Ok(()),
+        }
     }
     Ok(())
 }

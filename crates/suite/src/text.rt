@@ -1,6 +1,6 @@
 //! Bytes that are put together from parts.
 
-ghost use Rattle.std.specs.Prelude.{◌≡◌, ◌∷◌, ◌++◌, OnOk, decimal};
+ghost use Rattle.std.specs.Prelude.{◌≡◌, ◌∷◌, ◌++◌, OnOk, decimal, replicate};
 ghost use Rattle.std.specs.List.{flat_map};
 ghost use Rattle.suite.specs.Lines.{listed};
 ghost use Rattle.suite.specs.Tables.{padded};
@@ -58,8 +58,17 @@ pub(crate) fn push_padded(text: &mut Vec<u8>, cell: &[u8], width: usize) -> Resu
     ensures { OnOk result (text.new.items ≡ text.old.items ++ padded width cell.now) }
 {
     text.extend_from_slice(cell)?;
-    for _ in cell.len()..width {
+    push_blanks(text, width.saturating_sub(cell.len()))
+}
+
+/// Adds so many blanks.
+fn push_blanks(text: &mut Vec<u8>, count: usize) -> Result<(), AllocError>
+    ensures { OnOk result (text.new.items ≡ text.old.items ++ replicate count 32) }
+{
+    let mut left = count;
+    while left > 0 {
         text.push(b' ')?;
+        left -= 1;
     }
     Ok(())
 }
