@@ -8,7 +8,7 @@ use Rattle.candidates.specs.declared.walk.Block.{Block}
 use Rattle.candidates.specs.Blocks.{cut_by}
 use Rattle.candidates.specs.Candidates.{Choices, graph_at, is_consistent}
 use Rattle.candidates.specs.Depths.{cut_at, depths_of, end_at, place_of}
-use Rattle.candidates.specs.Walks.{HasNoBlock, IsBefore, IsBlock, IsJustFound, IsScene, Walking}
+use Rattle.candidates.specs.Walks.{HasNoBlock, IsBefore, IsBlock, IsJustFound, IsScene}
 use Rattle.candidates.proofs.Law.{shown}
 
 end_there : (s : Choices) (ds : List Depth) (k i : ℕ) (d : Depth) → k < length ds → d ≡ get_or ds k d → end_at s ds k i ≡ i + (d.size - place_of s i % d.size)

@@ -1,5 +1,5 @@
 -- What is known at the depths that are listed so far, and at those that are left.
-use Rattle.std.proofs.Common.{◌≡◌, ℕ, zero, suc, ◌+◌, ◌-◌, ◌*◌, ◌<◌, ◌≤◌, List, [], ◌∷◌, ◌++◌, append_assoc, append-nil, length, map, drop, drop-cons, get_or, add-one, Bool, true, false, nat_lt, if◌then◌else◌, refl, sym, ◌∙◌, ap, subst, arith}
+use Rattle.std.proofs.Common.{◌≡◌, ℕ, zero, suc, ◌+◌, ◌-◌, ◌*◌, ◌<◌, ◌≤◌, List, [], ◌∷◌, ◌++◌, append_assoc, append-nil, length, map, drop, drop-cons, get_or, add-one, Bool, true, false, nat_lt, if◌then◌else◌, refl, sym, ◌∙◌, ap, arith}
 use Rattle.std.proofs.lemmas.List.{map-append, drop_all}
 use Rattle.std.proofs.lemmas.List.Elements.{filter-append, All-head, All-tail}
 use Rattle.std.specs.List.{All, filter}
@@ -8,7 +8,7 @@ use Rattle.events.specs.Executions.{ThreadRun}
 use Rattle.candidates.specs.declared.depths.Depth.{Depth}
 use Rattle.candidates.specs.declared.depths.Known.{Known}
 use Rattle.candidates.specs.declared.depths.Known.TheVariants.{Sources, Orders}
-use Rattle.candidates.specs.Blocks.{IsDepth, size_by}
+use Rattle.candidates.specs.Blocks.{IsDepth}
 use Rattle.candidates.specs.Depths.{before_reads, by_places, by_locations, depth_of, depths_of, is_open, known_of}
 use Rattle.candidates.specs.Executions.{later_writes, reads, upto}
 use Rattle.candidates.specs.Candidates.{count_co, count_orders, count_sources}

@@ -164,7 +164,12 @@ fn fill_plain(alloc: Global, page: &mut Page, locations: usize) -> Result<(), Al
     ensures runs { OnOk result (page.new.runs.items ≡ page.old.runs.items) }
 {
     let reads = reads(&page.runs, replace(&mut page.reads, Vec::new(alloc)))?;
-    let writes = all_writes(alloc, &page.runs, locations, replace(&mut page.writes, Vec::new(alloc)))?;
+    let writes = all_writes(
+        alloc,
+        &page.runs,
+        locations,
+        replace(&mut page.writes, Vec::new(alloc)),
+    )?;
     let ways = count_ways(&reads, &writes);
     let orders = count_orders(&writes);
     page.reads = reads;

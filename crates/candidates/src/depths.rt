@@ -162,7 +162,13 @@ pub(crate) fn list_depths(
     depths.clear();
     push_reading(&mut depths, page, &page.reads, locations)?;
     let known = Known::Sources(page.reads.len());
-    push_depth(&mut depths, Depth { size: page.orders, known })?;
+    push_depth(
+        &mut depths,
+        Depth {
+            size: page.orders,
+            known,
+        },
+    )?;
     push_orders(&mut depths, page, locations)?;
     Ok(depths)
 }

@@ -68,7 +68,15 @@ fn locate(
     let mut room = AccessTally::empty(alloc);
     let mut rest = number;
     for thread in 0..threads.runs.len() {
-        let choice = choose_run(alloc, levels, threads.groups, thread, &threads.marks[thread], &tally, rest)?;
+        let choice = choose_run(
+            alloc,
+            levels,
+            threads.groups,
+            thread,
+            &threads.marks[thread],
+            &tally,
+            rest,
+        )?;
         if choice.passed > 0 {
             return Ok(Located::Until(number - choice.rest + choice.passed));
         }

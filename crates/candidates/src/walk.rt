@@ -124,7 +124,13 @@ fn reach(
     if contains(&ahead.stretch, number) {
         return Ok(None);
     }
-    go_to(alloc, &space.threads(), &mut ahead.levels, &mut ahead.stretch, number)
+    go_to(
+        alloc,
+        &space.threads(),
+        &mut ahead.levels,
+        &mut ahead.stretch,
+        number,
+    )
 }
 
 /// What is at a number of a stretch. The candidate with the number `known` of it is an execution, where there is one.

@@ -10,7 +10,7 @@ use Rattle.candidates.specs.Executions.{block}
 use Rattle.candidates.specs.Parts.{IsPart}
 use Rattle.candidates.proofs.Puts.{cut_behind}
 use Rattle.candidates.proofs.Kept.{as_many_groups, same_default, tally_there}
-use Rattle.candidates.proofs.Descent.{IsDown, down_first, down_at, tallies_here, tallies_after, room_on, most_on, below_on, enter, run_within, run_there, small_on, down_next, down_end}
+use Rattle.candidates.proofs.Descent.{down_first, down_at, tallies_here, tallies_after, room_on, most_on, below_on, enter, run_within, run_there, small_on, down_next, down_end}
 use Rattle.candidates.proofs.threads.locate.Goals as goal
 
 pub loop-thread-init : goal.loop-thread-init

@@ -1,4 +1,4 @@
-use Rattle.std.proofs.Common.{ℕ, List, sym, subst, ◌<◌}
+use Rattle.std.proofs.Common.{List, sym, subst, ◌<◌}
 use Rattle.candidates.specs.Candidates.{Choices, size_of}
 use Rattle.candidates.specs.declared.counts.Counts.{Counts}
 use Rattle.candidates.specs.Levels.{AreLevels}
