@@ -1,4 +1,4 @@
-use Rattle.std.proofs.Common.{map, refl, length, arith, sym}
+use Rattle.std.proofs.Common.{map, refl, arith}
 use Rattle.cat_tree.specs.Tree.{clause_of}
 use Rattle.cat_eval.proofs.Aside.{stretches_more}
 use Rattle.cat_eval.proofs.Following.{clauses_more}

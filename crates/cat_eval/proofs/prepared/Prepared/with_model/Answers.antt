@@ -1,4 +1,4 @@
-use Rattle.std.proofs.Common.{◌≡◌, ◌∙◌, ◌≤◌, List, length, map, sym, subst, arith}
+use Rattle.std.proofs.Common.{◌≡◌, ◌∙◌, List, map, sym, subst, arith}
 use Rattle.cat_tree.specs.Tree.{Clause}
 use Rattle.cat_model.specs.Scopes.{IsModel}
 use Rattle.cat_eval.specs.Code.{planned_clause}
