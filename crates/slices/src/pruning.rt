@@ -47,6 +47,11 @@ impl Pruner {
         }
     }
 
+    /// Begins with another walk. What was asked before tells what is worth asking.
+    pub(crate) fn begin(&mut self) {
+        self.prospects.begin();
+    }
+
     /// The end of the block of a depth around the execution found last, if it is known that the model allows none of the block's.
     fn ask(
         &mut self,

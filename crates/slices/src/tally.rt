@@ -7,7 +7,8 @@ ghost use Rattle.slices.specs.Tallies.{IsApart, IsCover, IsTally, cut, span_of};
 ghost use Rattle.slices.specs.Verdicts.{IsVerdict};
 
 use crate::finding::{Finding, FindingRef};
-use crate::piece::{Piece, PieceResult, evaluate_in, space_of};
+use crate::piece::{Piece, PieceResult, evaluate_in, evaluator_of, space_of};
+use crate::pruning::Pruner;
 use crate::span::{Span, cut};
 use crate::sum::Sum;
 use crate::verdict::Verdict;
@@ -156,9 +157,12 @@ impl Verdict {
         ensures right { IfOk result (λ v. IsVerdict v.work.test v.work.model.items v.finding) }
     {
         let space = space_of(alloc, work.work())?;
+        let mut evaluator = evaluator_of(alloc, work.work())?;
+        let mut pruner = Pruner::new(alloc, work.work().model());
         let mut tally = Tally::new(alloc, work.share()?)?;
         for slice in 0..total {
-            let part = evaluate_in(alloc, &space, &slice_of(&work, total, slice)?)?;
+            let piece = slice_of(&work, total, slice)?;
+            let part = evaluate_in(alloc, &space, &mut evaluator, &mut pruner, &piece)?;
             match tally.merge(part) {
                 Ok(()) => {}
                 Err((_, AllocError)) => return Err(AllocError),
