@@ -1,4 +1,5 @@
 pub mod Admitted
+pub mod Answered
 pub mod Counted
 pub mod Cuts
 pub mod Members

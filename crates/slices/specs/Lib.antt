@@ -4,6 +4,7 @@ pub mod Finals
 pub mod Findings
 pub mod Parts
 pub mod Passing
+pub mod Questions
 pub mod Same
 pub mod Slots
 pub mod Sums

@@ -9,6 +9,7 @@ pub mod laws;
 mod piece;
 mod prospects;
 mod pruning;
+mod question;
 mod row;
 mod slot;
 mod span;
@@ -20,7 +21,9 @@ mod work;
 
 pub use finding::{Finding, FindingRef};
 pub use kept_space::KeptSpace;
-pub use piece::{Piece, PieceResult, evaluate};
+pub use piece::{Piece, PieceResult, evaluate, space_of};
+pub use pruning::Pruner;
+pub use question::Question;
 pub use row::Row;
 pub use span::{Span, cut};
 pub use tally::Tally;
