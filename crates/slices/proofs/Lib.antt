@@ -1,5 +1,6 @@
 pub mod Admitted
 pub mod Counted
+pub mod Coursing
 pub mod Cuts
 pub mod Members
 pub mod Merging
