@@ -1,5 +1,6 @@
 pub mod Codes
 pub mod Counters
+pub mod Courses
 pub mod Finals
 pub mod Findings
 pub mod Parts

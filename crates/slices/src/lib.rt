@@ -2,6 +2,7 @@
 #![tactic(auto)]
 
 mod counter;
+mod course;
 mod equality;
 mod finding;
 mod kept_space;
@@ -19,6 +20,7 @@ mod tally;
 mod verdict;
 mod work;
 
+pub use course::Course;
 pub use finding::{Finding, FindingRef};
 pub use kept_space::KeptSpace;
 pub use piece::{Piece, PieceResult, evaluate, space_of};

@@ -173,7 +173,7 @@ impl Verdict {
 }
 
 /// A slice of a work that is cut into so many.
-fn slice_of(work: &WorkRef, total: u16, slice: u16) -> Result<Piece, AllocError>
+pub(crate) fn slice_of(work: &WorkRef, total: u16, slice: u16) -> Result<Piece, AllocError>
     requires { slice < total }
     ensures work { IfOk result (λ p. p.work ≡ work.now) }
     ensures from { IfOk result (λ p. p.from ≡ cut (test_size work.now.test) total slice) }
