@@ -1,8 +1,10 @@
 pub mod Adding
+pub mod Around
 pub mod Bounding
 pub mod ByLocation
 pub mod Caps
 pub mod Cutting
+pub mod Deeper
 pub mod Descent
 pub mod Excluded
 pub mod Gathered
@@ -13,6 +15,7 @@ pub mod Law
 pub mod Marking
 pub mod Passed
 pub mod Passing
+pub mod Puts
 pub mod Sizes
 pub mod Sources
 pub mod Spaces

@@ -1,7 +1,6 @@
 -- How many numbers the blocks of a depth have.
-use Rattle.std.proofs.Common.{◌≡◌, ℕ, zero, suc, ◌+◌, ◌-◌, ◌*◌, ◌/◌, ◌<◌, ◌≤◌, List, [], ◌∷◌, ◌++◌, length, drop, get_or, Bool, nat_lt, if◌then◌else◌, refl, sym, ◌∙◌, ap, subst, inl, inr, arith}
+use Rattle.std.proofs.Common.{◌≡◌, ℕ, zero, suc, ◌+◌, ◌-◌, ◌*◌, ◌/◌, ◌<◌, ◌≤◌, List, [], ◌∷◌, ◌++◌, length, drop, get_or, Bool, true, false, if◌then◌else◌, refl, sym, ◌∙◌, ap, subst, arith}
 use Rattle.std.specs.List.{All}
-use Rattle.std.proofs.lemmas.Bool.{cases_Bool}
 use Rattle.std.proofs.lemmas.List.Elements.{All-nil, All-cons, All-append}
 use Rattle.std.proofs.Math.Nat.{mul_assoc, mul_comm, mul-one, mul-div_cancel}
 use Rattle.events.specs.declared.event.Event.{Event}
@@ -110,14 +109,9 @@ one_at_end : (P : Depth → Type 0) (xs : List Depth) (d : Depth) → All P xs �
 one_at_end P xs d h p = All-append P xs (d ∷ []) h (All-cons P d [] p (All-nil P))
 
 -- A depth more that is as it should be.
-pub one_depth : (n : ℕ) (runs : List ThreadRun) (old new : List Depth) (d : Depth) (next : ℕ) → new ≡ (if nat_lt next d.size then old ++ d ∷ [] else old) → IsDepth n runs d → All (IsDepth n runs) old → All (IsDepth n runs) new
-one_depth n runs old new d next e p h =
-    let P : List Depth → Type 0 = All (IsDepth n runs) in
-    let Q : Bool → Type 0 = λ z. P (if z then old ++ d ∷ [] else old) in
-    subst P (sym e) (elim (cases_Bool (nat_lt next d.size)) [
-      | inl t ↦ subst Q (sym t) (one_at_end (IsDepth n runs) old d h p)
-      | inr t ↦ subst Q (sym t) h
-    ])
+pub one_depth : (n : ℕ) (runs : List ThreadRun) (old new : List Depth) (d : Depth) (b : Bool) → new ≡ (if b then old ++ d ∷ [] else old) → IsDepth n runs d → All (IsDepth n runs) old → All (IsDepth n runs) new
+one_depth n runs old new d true e p h = let P : List Depth → Type 0 = All (IsDepth n runs) in subst P (sym e) (one_at_end (IsDepth n runs) old d h p)
+one_depth n runs old new d false e p h = let P : List Depth → Type 0 = All (IsDepth n runs) in subst P (sym e) h
 
 -- The first reads' sources are known.
 pub reading_depth : (n : ℕ) (runs : List ThreadRun) (rs : List Event) (i size : ℕ) → rs ≡ reads runs → size ≡ count_co n runs * product_by (count_sources runs) (drop i rs) → IsDepth n runs (record { size = size; known = Sources i })

@@ -17,7 +17,8 @@ use Rattle.candidates.specs.Executions.{reads, upto, block}
 use Rattle.candidates.specs.Candidates.{Choices, candidate, candidate_at, graph_at, is_consistent, size_of, count_sources, count_co, rf_at}
 use Rattle.candidates.specs.Readings.{IsStretch}
 use Rattle.candidates.specs.Blocks.{AllExtend, CommonValue, IsDepth, size_by, cut_by, cut_by_reads, cut_by_orders, cut_orders, open_pairs}
-use Rattle.candidates.specs.Walks.{IsBlock, IsCommon, Walking}
+use Rattle.candidates.specs.Depths.{cut_at, depths_of}
+use Rattle.candidates.specs.Walks.{IsBlock, IsCommon, IsJustFound, Walking}
 use Rattle.candidates.proofs.Cutting.{by_orders, by_reads, ways_divide, sources_split, order_self}
 
 quotient_is : (m q d : ℕ) → q * d ≤ m → m < q * d + d → m / d ≡ q
@@ -106,8 +107,8 @@ block_ends s b h d k j l =
     let w = size_divides n runs d.known in
     rest_within j d.size w.0 b.size (h.size ∙ w.1 ∙ ap (λ z. z * w.0) (sym k.size)) l
 
-pub block_is : (s : Choices) (b : Stretch) → IsStretch s b → (d : Depth) → IsDepth (length s.init) b.page.runs.items d → (j n e : ℕ) → j < b.size → n ≡ b.first + j + 1 → e ≡ n - 1 + (d.size - j % d.size) → IsBlock s b n (record { known = d.known; place = j; end = e })
-block_is s b h d k j n e l at is =
+pub block_is : (s : Choices) (b : Stretch) → IsStretch s b → (d : Depth) → IsDepth (length s.init) b.page.runs.items d → (j n e : ℕ) → j < b.size → n ≡ b.first + j + 1 → e ≡ n - 1 + (d.size - j % d.size) → (i : ℕ) → i < length b.page.depths.items → d ≡ get_or b.page.depths.items i d → IsBlock s b n i (record { known = d.known; place = j; end = e })
+block_is s b h d k j n e l at is i inside found =
     let init : List ℕ = s.init in
     let runs : List ThreadRun = b.page.runs.items in
     let w = size_divides (length init) runs d.known in
@@ -122,6 +123,11 @@ block_is s b h d k j n e l at is =
     let Q1 : ℕ → Type 0 = λ y. Q y e in
     let Q2 : ℕ → Type 0 = λ z. Q (b.first + j) z in
     record {
+      at = d;
+      inside = inside;
+      there = found;
+      known = refl;
+      ends = is;
       stretch = h;
       place = at;
       within = l;
@@ -177,23 +183,25 @@ cut_of_orders init runs free k number orders vs rs rf co a b o f c =
     same_parts vs init rs runs rf (rf_at runs (number / count_co n runs)) co (cut_orders runs free k (upto n) (number % count_co n runs) ++ open_pairs runs free k (upto n)) a b (f ∙ ap (λ z. rf_at runs (number / z)) o) (c ∙ ap (λ z. cut_orders runs free k (upto n) (number % z) ++ open_pairs runs free k (upto n)) o)
 
 -- What a walk shows of a block.
-pub common_is : (s : Choices) (b : Stretch) (n to : ℕ) (x : GraphValue) (r : Block) (init : List ℕ) (g : GraphValue) (c : CommonValue) → IsBlock s b n r → init ≡ s.init → g ≡ cut_by init b.page.runs.items r.known r.place →
-    c ≡ record { graph = g; end = r.end } → IsCommon (record { space = s; next = n; to = to; shown = x }) c
-common_is s b n to x r init g c k e f is =
+pub common_is : (s : Choices) (b : Stretch) (n to : ℕ) (x : GraphValue) (r : Block) (init : List ℕ) (g : GraphValue) (c : CommonValue) (depth : ℕ) → IsBlock s b n depth r → init ≡ s.init → g ≡ cut_by init b.page.runs.items r.known r.place →
+    c ≡ record { graph = g; end = r.end } → cut_by s.init b.page.runs.items r.known r.place ≡ cut_at s x (depths_of (length s.init) x.runs) depth (n - 1) → IsCommon (record { space = s; next = n; to = to; shown = x }) depth c
+common_is s b n to x r init g c depth k e f is cut =
     let w : Walking = record { space = s; next = n; to = to; shown = x } in
-    let P : CommonValue → Type 0 = λ v. IsCommon w v in
+    let P : CommonValue → Type 0 = λ v. IsCommon w depth v in
     let Q : GraphValue → Type 0 = λ h. AllExtend s (n - 1) r.end h in
+    let same = f ∙ ap (λ vs. cut_by vs b.page.runs.items r.known r.place) e in
     subst P (sym is) (record {
-      extend = subst Q (sym (f ∙ ap (λ vs. cut_by vs b.page.runs.items r.known r.place) e)) k.extend;
+      cut = λ found. same ∙ cut;
+      extend = subst Q (sym same) k.extend;
       later = k.later;
       most = k.most;
     })
 
-pub alone_is : (s : Choices) (n to : ℕ) (x g : GraphValue) (c : CommonValue) → n ≤ to → to ≤ size_of s → AllExtend s (n - 1) n g → c ≡ record { graph = g; end = n } → IsCommon (record { space = s; next = n; to = to; shown = x }) c
-alone_is s n to x g c l m k is =
+pub alone_is : (s : Choices) (n to : ℕ) (x g : GraphValue) (c : CommonValue) (depth : ℕ) → n ≤ to → to ≤ size_of s → AllExtend s (n - 1) n g → c ≡ record { graph = g; end = n } → (IsJustFound (record { space = s; next = n; to = to; shown = x }) → g ≡ cut_at s x (depths_of (length s.init) x.runs) depth (n - 1)) → IsCommon (record { space = s; next = n; to = to; shown = x }) depth c
+alone_is s n to x g c depth l m k is cut =
     let w : Walking = record { space = s; next = n; to = to; shown = x } in
-    let P : CommonValue → Type 0 = λ v. IsCommon w v in
-    subst P (sym is) (record { extend = k; later = omega arith; most = omega (arith, l, m) })
+    let P : CommonValue → Type 0 = λ v. IsCommon w depth v in
+    subst P (sym is) (record { cut = cut; extend = k; later = omega arith; most = omega (arith, l, m) })
 
 -- A depth of a stretch's page.
 pub depth_is : (s : Choices) (b : Stretch) → IsStretch s b → (xs : List Depth) → xs ≡ b.page.depths.items → (i : ℕ) (d : Depth) → true ≡ nat_lt i (length xs) → d ≡ get_or xs i d → IsDepth (length s.init) b.page.runs.items d
@@ -202,3 +210,10 @@ depth_is s b h xs same i d l e =
     let Q : List Depth → Type 0 = All P in
     let all : All P xs = subst Q (sym same) h.page.depths in
     subst P (sym e) (all i d (ltb-true i (length xs) (sym l)))
+
+-- and where it stands
+pub depth_there : (xs ys : List Depth) (i : ℕ) (d : Depth) → xs ≡ ys → true ≡ nat_lt i (length xs) → d ≡ get_or xs i d → (i < length ys) × (d ≡ get_or ys i d)
+depth_there xs ys i d e l t = (
+  (let b : i < length xs = ltb-true i (length xs) (sym l) in let k = ap (λ (ds : List Depth). length ds) e in omega (arith, b, k)),
+  t ∙ ap (λ (ds : List Depth). get_or ds i d) e,
+)

@@ -37,6 +37,13 @@ in_block init row first c p j l =
     ∙ walk_past (block (length init)) (candidate init) no_execution p.before ((c ∷ []) ++ p.after) j
     ∙ walks_here (block (length init)) (candidate init) no_execution c p.after j l
 
+pub place_in_block : (n : ℕ) (row : List (List ThreadRun)) (first : ℕ) (c : List ThreadRun) → IsPart n row first (c ∷ []) → (j : ℕ) → j < block n c → walk (block n) (λ runs i. i) 0 row (first + j) ≡ j
+place_in_block n row first c p j l =
+    let at : List ThreadRun → ℕ → ℕ = λ runs i. i in
+    ap (λ r. walk (block n) at 0 r (first + j)) p.is ∙ ap (λ k. walk (block n) at 0 (p.before ++ ((c ∷ []) ++ p.after)) (k + j)) p.begins
+    ∙ walk_past (block n) at 0 p.before ((c ∷ []) ++ p.after) j
+    ∙ walks_here (block n) at 0 c p.after j l
+
 -- A part ends within the row.
 pub part_end : (n : ℕ) (row : List (List ThreadRun)) (first : ℕ) (part : List (List ThreadRun)) → IsPart n row first part → first + sum_of (block n) part ≤ sum_of (block n) row
 part_end n row first part p =

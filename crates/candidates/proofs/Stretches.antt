@@ -6,6 +6,7 @@ use Rattle.candidates.specs.declared.reading.Look.TheVariants.{Until}
 use Rattle.candidates.specs.declared.page.Page.{Page}
 use Rattle.candidates.specs.declared.page.Stretch.{Stretch}
 use Rattle.candidates.specs.declared.fault.TheConstants.{MOST_CANDIDATES}
+use Rattle.candidates.specs.Depths.{depths_of, place_of}
 use Rattle.candidates.specs.Executions.{block}
 use Rattle.candidates.specs.Candidates.{Choices, candidate, candidate_at, graph_at, is_consistent, size_of}
 use Rattle.candidates.specs.Readings.{IsLook, IsPage, IsStretch}
@@ -16,19 +17,21 @@ use Rattle.candidates.proofs.Law.{shown, hidden}
 pub whole_page : (n : ℕ) (p : Page) → IsPage n p → p.ways * p.orders ≡ block n p.runs.items
 whole_page n p h = rw (h.ways, h.orders) refl
 
-pub stretch_of : (s : Choices) (runs : List ThreadRun) (n first : ℕ) (b : Stretch) → n ≡ length s.init → IsPage n b.page → b.page.runs.items ≡ runs → b.first ≡ first → b.size ≡ b.page.ways * b.page.orders → first + block (length s.init) runs ≤ size_of s → size_of s ≤ MOST_CANDIDATES → ((j : ℕ) → j < block (length s.init) runs → candidate_at s (first + j) ≡ candidate s.init runs j) → IsStretch s b
-stretch_of s runs n first b same page are is size most small at =
+pub stretch_of : (s : Choices) (runs : List ThreadRun) (n first : ℕ) (b : Stretch) → n ≡ length s.init → IsPage n b.page → b.page.runs.items ≡ runs → b.first ≡ first → b.size ≡ b.page.ways * b.page.orders → first + block (length s.init) runs ≤ size_of s → size_of s ≤ MOST_CANDIDATES → ((j : ℕ) → j < block (length s.init) runs → candidate_at s (first + j) ≡ candidate s.init runs j) → ((j : ℕ) → j < block (length s.init) runs → place_of s (first + j) ≡ j) → b.page.depths.items ≡ depths_of n b.page.runs.items → IsStretch s b
+stretch_of s runs n first b same page are is size most small at place depths =
     let P : ℕ → Type 0 = λ m. IsPage m b.page in
     let q : IsPage (length s.init) b.page = subst P same page in
     let w : b.size ≡ block (length s.init) b.page.runs.items = size ∙ whole_page (length s.init) b.page q in
-    let R : List ThreadRun → Type 0 = λ rs. (first + block (length s.init) rs ≤ size_of s) × ((j : ℕ) → j < block (length s.init) rs → candidate_at s (first + j) ≡ candidate s.init rs j) in
-    let k = subst R (sym are) (most, at) in
+    let R : List ThreadRun → Type 0 = λ rs. (first + block (length s.init) rs ≤ size_of s) × ((j : ℕ) → j < block (length s.init) rs → candidate_at s (first + j) ≡ candidate s.init rs j) × ((j : ℕ) → j < block (length s.init) rs → place_of s (first + j) ≡ j) in
+    let k = subst R (sym are) (most, at, place) in
     record {
       page = q;
       size = w;
       most = omega (arith, is, w, k.0);
       small = omega (arith, is, w, k.0, small);
       at = λ j l. ap (λ m. candidate_at s (m + j)) is ∙ k.1 j (omega (arith, l, w));
+      place = λ j l. ap (λ m. place_of s (m + j)) is ∙ k.2 j (omega (arith, l, w));
+      depths = depths ∙ ap (λ m. depths_of m b.page.runs.items) same;
     }
 
 -- the candidate at a number of a stretch

@@ -1,6 +1,7 @@
 pub mod Blocks
 pub mod Bounds
 pub mod Candidates
+pub mod Depths
 pub mod Executions
 pub mod Faults
 pub mod Groups

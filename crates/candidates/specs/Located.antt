@@ -1,14 +1,34 @@
 -- Where the candidate with a number is.
-use Rattle.std.specs.Prelude.{ℕ, ◌-◌, ◌<◌, ◌≤◌, [], ◌∷◌, length}
-use Rattle.candidates.specs.declared.choosing.Located.{Located}
-use Rattle.candidates.specs.declared.choosing.Located.TheVariants.{At, Until}
+use Rattle.std.specs.Prelude.{◌≡◌, ℕ, ◌-◌, ◌<◌, ◌≤◌, List, [], ◌∷◌, length}
+use Rattle.events.specs.Executions.{ThreadRun}
+use Rattle.candidates.specs.declared.threads.Located.{Located}
+use Rattle.candidates.specs.declared.threads.Located.TheVariants.{At, Until}
 use Rattle.candidates.specs.Executions.{block}
 use Rattle.candidates.specs.Candidates.{Choices, choices}
 use Rattle.candidates.specs.Parts.{IsPart}
 use Rattle.candidates.specs.Walks.{IsPast}
+use Rattle.candidates.specs.declared.threads.Threads.{Threads}
+use Rattle.candidates.specs.declared.fault.TheConstants.{MOST_CANDIDATES}
+use Rattle.candidates.specs.Candidates.{size_of}
+use Rattle.candidates.specs.Groups.{tally_of, HasRoom}
+use Rattle.candidates.specs.Impossible.{AreMarks}
+use Rattle.candidates.specs.Levels.{groups_of}
+use Rattle.candidates.specs.Parts.{AreAllWithin}
+
+-- what the threads choose among
+abbrev pub choices_by : Threads → Choices
+choices_by t = record { init = t.init.now; threads = t.runs.now }
+
+-- The groups and marks are those of the runs of the threads, and the runs are within the limits.
+pub record AreThreads (t : Threads) : Type 0 where
+  pub tallied : t.groups.now ≡ groups_of (choices_by t)
+  pub room : HasRoom (tally_of (length t.init.now) []) t.groups.now
+  pub marked : AreMarks t.init.now t.runs.now t.marks.now
+  pub within : AreAllWithin (length t.init.now) (choices t.runs.now)
+  pub most : size_of (choices_by t) ≤ MOST_CANDIDATES
 
 -- The candidate with the number n has these runs, and stands at the number `rest` among those that have them; or none from n to before
 -- a later number is an execution.
-abbrev pub IsLocated : Choices → ℕ → Located → Type 0
-IsLocated s n (At p) = (p.rest ≤ n) × (p.rest < block (length s.init) p.runs.items) × IsPart (length s.init) (choices s.threads) (n - p.rest) (p.runs.items ∷ [])
-IsLocated s n (Until m) = IsPast s n m
+abbrev pub IsLocated : Choices → ℕ → List ThreadRun → Located → Type 0
+IsLocated s n runs (At rest) = (rest ≤ n) × (rest < block (length s.init) runs) × IsPart (length s.init) (choices s.threads) (n - rest) (runs ∷ [])
+IsLocated s n runs (Until m) = IsPast s n m

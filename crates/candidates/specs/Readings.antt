@@ -1,5 +1,5 @@
 -- What is found at a number of some runs: that its candidate is an execution, or up to which number none is.
-use Rattle.std.specs.Prelude.{◌≡◌, ℕ, suc, ◌+◌, ◌<◌, ◌≤◌, List, [], length, slice_index_or, map, true, false, Option, IfSome, All}
+use Rattle.std.specs.Prelude.{◌≡◌, ℕ, suc, ◌+◌, ◌<◌, ◌≤◌, List, [], length, slice_index_or, map, true, false, All}
 use Rattle.events.specs.declared.event.Event.{Event}
 use Rattle.events.specs.declared.event.EventId.{EventId}
 use Rattle.events.specs.Executions.{GraphValue, ThreadRun}
@@ -15,6 +15,7 @@ use Rattle.candidates.specs.Executions.{reads, later_writes, upto, block}
 use Rattle.candidates.specs.Candidates.{Choices, count_sources, source_at, digits_down, count_co, candidate, candidate_at, size_of, agree, is_consistent}
 use Rattle.candidates.specs.Bounds.{AreWithin}
 use Rattle.candidates.specs.Blocks.{IsDepth}
+use Rattle.candidates.specs.Depths.{depths_of, place_of}
 
 -- what these reads read from by number i
 abbrev pub read_at : List ThreadRun → List Event → ℕ → List EventId
@@ -60,11 +61,13 @@ pub record IsStretch (s : Choices) (b : Stretch) : Type 0 where
   pub most : b.first + b.size ≤ size_of s
   pub small : b.first + b.size ≤ MOST_CANDIDATES
   pub at : (j : ℕ) → j < b.size → candidate_at s (b.first + j) ≡ candidate s.init b.page.runs.items j
+  pub place : (j : ℕ) → j < b.size → place_of s (b.first + j) ≡ j
+  pub depths : b.page.depths.items ≡ depths_of (length s.init) b.page.runs.items
 
 -- A stretch of some numbers is one of the space.
 abbrev pub MayBeStretch : Choices → Stretch → Type 0
 MayBeStretch s b = 1 ≤ b.size → IsStretch s b
 
--- Where a number is named, the execution is the page's candidate with that number.
-abbrev pub IsSeen : List ℕ → Page → GraphValue → Option ℕ → Type 0
-IsSeen init p x at = IfSome at (λ n. (x ≡ candidate init p.runs.items n) × (is_consistent (candidate init p.runs.items n) ≡ true))
+-- The execution is the page's candidate with the number n.
+abbrev pub IsSeen : List ℕ → Page → GraphValue → ℕ → Type 0
+IsSeen init p x n = (x ≡ candidate init p.runs.items n) × (is_consistent (candidate init p.runs.items n) ≡ true)

@@ -1,14 +1,17 @@
 -- A walk over the executions of a space, from number to number.
-use Rattle.std.specs.Prelude.{◌≡◌, ℕ, ◌+◌, ◌-◌, ◌<◌, ◌≤◌, length, true, Option, None, Some}
+use Rattle.std.specs.Prelude.{◌≡◌, ℕ, ◌+◌, ◌-◌, ◌%◌, ◌<◌, ◌≤◌, List, [], length, slice_index_or, true, Option, None, Some}
 use Rattle.events.specs.Executions.{GraphValue}
 use Rattle.candidates.specs.Blocks.{AllExtend, CommonValue, Fits, cut_by}
 use Rattle.candidates.specs.Candidates.{Choices, candidate, graph_at, is_consistent, size_of}
+use Rattle.candidates.specs.Depths.{depths_of, cut_at}
 use Rattle.candidates.specs.declared.reading.Look.{Look}
 use Rattle.candidates.specs.declared.reading.Look.TheVariants.{Found, Until}
 use Rattle.candidates.specs.Levels.{AreLevels, groups_of}
 use Rattle.candidates.specs.Readings.{IsStretch, MayBeStretch, IsSeen}
-use Rattle.candidates.specs.declared.page.Reach.{Reach}
-use Rattle.candidates.specs.declared.page.Reach.TheVariants as of_reach
+use Rattle.candidates.specs.declared.depths.Depth.{Depth}
+use Rattle.candidates.specs.declared.page.Ahead.{Ahead}
+use Rattle.candidates.specs.declared.walk.Near.{Near}
+use Rattle.candidates.specs.declared.walk.Near.TheVariants as of_near
 use Rattle.candidates.specs.declared.page.Stretch.{Stretch}
 use Rattle.candidates.specs.declared.page.Scene.{Scene}
 use Rattle.candidates.specs.declared.walk.Block.{Block}
@@ -54,11 +57,6 @@ pub record IsWithin (s : Choices) (n : ℕ) (b : Stretch) : Type 0 where
   pub first : b.first ≤ n
   pub last : n < b.first + b.size
 
--- The number is in this stretch, or none is an execution up to a later number.
-abbrev pub IsReach : Choices → ℕ → Reach → Type 0
-IsReach s n (of_reach.At b) = IsWithin s n b
-IsReach s n (of_reach.Until m) = IsPast s n m
-
 -- The number is in the stretch at hand, or none is an execution up to a later number.
 abbrev pub IsReached : Choices → ℕ → Stretch → Option ℕ → Type 0
 IsReached s n b None = IsWithin s n b
@@ -79,14 +77,40 @@ abbrev pub IsFind : Choices → Stretch → ℕ → ℕ → Option ℕ → Type 
 IsFind s b a c None = NoneFrom s a c
 IsFind s b a c (Some n) = (a ≤ n) × (n < c) × NoneFrom s a n × IsFound s n b
 
--- The stretch at hand is one of the space, what is shown is its candidate with the number that is named, and what is kept of the threads is theirs.
+-- The first execution from a to before c that is in the stretch; or none from a to before a number.
+abbrev pub IsNear : Choices → Stretch → ℕ → ℕ → Near → Type 0
+IsNear s b a c (of_near.Found n) = (a ≤ n) × (n < c) × NoneFrom s a n × IsFound s n b
+IsNear s b a c (of_near.Until n) = (a ≤ n) × NoneFrom s a n
+
+-- The stretch at which a walk looks is one of the space, and what is kept of the threads is theirs.
+pub record IsAhead (s : Choices) (a : Ahead) : Type 0 where
+  pub stretch : MayBeStretch s a.stretch
+  pub levels : AreLevels (groups_of s) a.levels.items
+
+-- The stretch of what is shown is one of the space, and what is shown is its candidate with the number that is named. The depths are those of the runs that are shown.
 pub record IsScene (s : Choices) (c : Scene) : Type 0 where
   pub stretch : MayBeStretch s c.stretch
-  pub seen : IsSeen s.init c.stretch.page c.graph c.at
-  pub levels : AreLevels (groups_of s) c.levels.items
+  pub none : c.stretch.size ≡ 0 → c.stretch.page.depths.items ≡ []
+  pub within : 1 ≤ c.stretch.size → c.at < c.stretch.size
+  pub seen : 1 ≤ c.stretch.size → IsSeen s.init c.stretch.page c.graph c.at
+  pub depths : c.stretch.page.depths.items ≡ depths_of (length s.init) c.graph.runs
+  pub ahead : IsAhead s c.ahead
 
--- The block is one around the number before n, which is in the stretch: its candidates extend what is known of them.
-pub record IsBlock (s : Choices) (b : Stretch) (n : ℕ) (r : Block) : Type 0 where
+-- The number before n is in the stretch.
+abbrev pub IsPlace : Stretch → ℕ → ℕ → Type 0
+IsPlace b n place = (place < b.size) × (n ≡ b.first + place + 1)
+
+-- The stretch has the number before n, and no such depth; or it hasn't that number.
+abbrev pub HasNoBlock : Stretch → (n depth : ℕ) → Type 0
+HasNoBlock b n depth = (place : ℕ) → IsPlace b n place → length b.page.depths.items ≤ depth
+
+-- The block is one of this depth around the number before n, which is in the stretch: its candidates extend what is known of them.
+pub record IsBlock (s : Choices) (b : Stretch) (n depth : ℕ) (r : Block) : Type 0 where
+  pub at : Depth
+  pub inside : depth < length b.page.depths.items
+  pub there : at ≡ slice_index_or b.page.depths.items depth at
+  pub known : r.known ≡ at.known
+  pub ends : r.end ≡ n - 1 + (at.size - r.place % at.size)
   pub stretch : IsStretch s b
   pub place : n ≡ b.first + r.place + 1
   pub within : r.place < b.size
@@ -95,8 +119,23 @@ pub record IsBlock (s : Choices) (b : Stretch) (n : ℕ) (r : Block) : Type 0 wh
   pub most : r.end ≤ size_of s
   pub extend : AllExtend s (n - 1) r.end (cut_by s.init b.page.runs.items r.known r.place)
 
--- What the executions from the number that the walk found last to before an end have in common.
-pub record IsCommon (w : Walking) (c : CommonValue) : Type 0 where
+-- The execution that the walk shows stands at the number before the one where it goes on, and at no other.
+pub record IsJustFound (w : Walking) : Type 0 where
+  pub some : 1 ≤ w.next
+  pub at : graph_at w.space (w.next - 1) ≡ Some w.shown
+  pub once : (i : ℕ) → graph_at w.space i ≡ Some w.shown → i ≡ w.next - 1
+
+-- The execution is the one at the number before n, where one stands.
+abbrev pub IsBefore : Choices → ℕ → GraphValue → Type 0
+IsBefore s n g = (x : GraphValue) → 1 ≤ n → graph_at s (n - 1) ≡ Some x → g ≡ x
+
+-- the depths of the blocks around the execution that the walk shows
+abbrev pub depths_around : Walking → List Depth
+depths_around w = depths_of (length w.space.init) w.shown.runs
+
+-- What the executions from the number that the walk found last to before an end have in common: what is known of them at a depth.
+pub record IsCommon (w : Walking) (depth : ℕ) (c : CommonValue) : Type 0 where
+  pub cut : IsJustFound w → c.graph ≡ cut_at w.space w.shown (depths_around w) depth (w.next - 1)
   pub extend : AllExtend w.space (w.next - 1) c.end c.graph
   pub later : w.next ≤ c.end
   pub most : c.end ≤ size_of w.space

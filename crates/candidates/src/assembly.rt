@@ -1,11 +1,12 @@
 //! The parts of the candidates with the same runs, and the candidates.
 
-ghost use Rattle.std.specs.Prelude.{◌≡◌, ◌++◌, ◌<◌, ◌≤◌, length, map, filter, All, IfOk, IfSome, OnOk, OnErr};
+ghost use Rattle.std.specs.Prelude.{◌≡◌, ◌+◌, ◌++◌, [], ◌∷◌, ◌<◌, ◌≤◌, length, map, take, filter, All, IfOk, OnOk};
 ghost use Rattle.events.specs.Executions.{is_read};
-ghost use Rattle.listings.specs.Lists.{product_by};
+ghost use Rattle.listings.specs.Lists.{factorial, product_by};
 ghost use Rattle.candidates.specs.Bounds.{AreWithin};
 ghost use Rattle.candidates.specs.Executions.{writes_from, later_writes, reads, upto, block};
 ghost use Rattle.candidates.specs.Candidates.{count_co, candidate, no_execution, write_value};
+ghost use Rattle.candidates.specs.Depths.{depths_of};
 ghost use Rattle.candidates.specs.Readings.{IsPage, sources_among, orders_among};
 
 use crate::depths::list_depths;
@@ -13,7 +14,7 @@ use crate::fault::MOST_CANDIDATES;
 use crate::ordering::{coherence, turn_orders};
 use crate::page::{Page, Writes};
 use crate::reading::{read_from, turn_sources};
-use events::{Event, EventId, Graph, Run, copy_runs};
+use events::{Event, EventId, Graph, GraphParts, Run, copy_runs};
 use std::alloc::{AllocError, Global};
 use std::mem::replace;
 
@@ -34,26 +35,58 @@ fn push_writes(
     Ok(())
 }
 
-/// The writes of the threads to a location.
-fn later_writes(alloc: Global, runs: &[Run], location: usize) -> Result<Vec<EventId>, AllocError>
+/// The writes of the threads to a location, in the room of others.
+fn later_writes(
+    runs: &[Run],
+    location: usize,
+    room: Vec<EventId>,
+) -> Result<Vec<EventId>, AllocError>
     ensures { IfOk result (λ v. v.items ≡ later_writes runs.now location) }
 {
-    let mut writes = Vec::new(alloc);
+    let mut writes = room;
+    writes.clear();
     for (thread, run) in runs.iter().enumerate() {
         push_writes(&mut writes, location, thread, run.events())?;
     }
     Ok(writes)
 }
 
-/// The later writes of each location.
-fn all_writes(alloc: Global, runs: &[Run], locations: usize) -> Result<Vec<Writes>, AllocError>
+/// Puts the later writes of a location at its place of a list, in the room of those that stand there. Those before it stay as
+/// they are.
+fn put_writes(
+    alloc: Global,
+    all: &mut Vec<Writes>,
+    location: usize,
+    runs: &[Run],
+) -> Result<(), AllocError>
+    requires place { location ≤ length all.old.items }
+    requires most { factorial (length (later_writes runs.now location)) ≤ MOST_CANDIDATES }
+    ensures { OnOk result ((take (location + 1) all.new.items ≡ take location all.old.items ++ later_writes runs.now location ∷ []) × (location < length all.new.items)) }
+{
+    if location >= all.len() {
+        all.push(Writes::new(later_writes(runs, location, Vec::new(alloc))?))?;
+        return Ok(());
+    }
+    let room = replace(&mut all[location], Writes::none(alloc)).into_list();
+    all[location] = Writes::new(later_writes(runs, location, room)?);
+    Ok(())
+}
+
+/// The later writes of each location, in the room of others.
+fn all_writes(
+    alloc: Global,
+    runs: &[Run],
+    locations: usize,
+    room: Vec<Writes>,
+) -> Result<Vec<Writes>, AllocError>
     requires { count_co locations runs.now ≤ MOST_CANDIDATES }
     ensures { IfOk result (λ v. v.items ≡ map (later_writes runs.now) (upto locations)) }
 {
-    let mut all = Vec::with_capacity(alloc, locations)?;
+    let mut all = room;
     for location in 0..locations {
-        all.push(Writes::new(later_writes(alloc, runs, location)?))?;
+        put_writes(alloc, &mut all, location, runs)?;
     }
+    all.truncate(locations);
     Ok(all)
 }
 
@@ -69,11 +102,12 @@ fn push_reads(reads: &mut Vec<Event>, events: &[Event]) -> Result<(), AllocError
     Ok(())
 }
 
-/// The reads of all threads, thread by thread.
-fn reads(alloc: Global, runs: &[Run]) -> Result<Vec<Event>, AllocError>
+/// The reads of all threads, thread by thread, in the room of others.
+fn reads(runs: &[Run], room: Vec<Event>) -> Result<Vec<Event>, AllocError>
     ensures { IfOk result (λ v. v.items ≡ reads runs.now) }
 {
-    let mut reads = Vec::new(alloc);
+    let mut reads = room;
+    reads.clear();
     for run in runs {
         push_reads(&mut reads, run.events())?;
     }
@@ -121,37 +155,42 @@ fn count_orders(writes: &[Writes]) -> u64
     product
 }
 
-/// The page of these runs, without depths.
-fn plain_page(alloc: Global, runs: Vec<Run>, locations: usize) -> Result<Page, AllocError>
-    requires within { AreWithin locations runs.items }
-    requires most { block locations runs.items ≤ MOST_CANDIDATES }
-    ensures page { IfOk result (IsPage locations) }
-    ensures runs { IfOk result (λ p. p.runs.items ≡ runs.items) }
+/// Makes a page that of its runs, but for its depths.
+fn fill_plain(alloc: Global, page: &mut Page, locations: usize) -> Result<(), AllocError>
+    requires within { AreWithin locations page.old.runs.items }
+    requires most { block locations page.old.runs.items ≤ MOST_CANDIDATES }
+    requires depths { page.old.depths.items ≡ [] }
+    ensures page { OnOk result (IsPage locations page.new) }
+    ensures runs { OnOk result (page.new.runs.items ≡ page.old.runs.items) }
 {
-    let reads = reads(alloc, &runs)?;
-    let writes = all_writes(alloc, &runs, locations)?;
+    let reads = reads(&page.runs, replace(&mut page.reads, Vec::new(alloc)))?;
+    let writes = all_writes(
+        alloc,
+        &page.runs,
+        locations,
+        replace(&mut page.writes, Vec::new(alloc)),
+    )?;
     let ways = count_ways(&reads, &writes);
     let orders = count_orders(&writes);
-    Ok(Page {
-        runs,
-        reads,
-        writes,
-        ways,
-        orders,
-        depths: Vec::new(alloc),
-    })
+    page.reads = reads;
+    page.writes = writes;
+    page.ways = ways;
+    page.orders = orders;
+    Ok(())
 }
 
-/// The page of these runs.
-pub(crate) fn open_page(alloc: Global, runs: Vec<Run>, locations: usize) -> Result<Page, AllocError>
-    requires within { AreWithin locations runs.items }
-    requires most { block locations runs.items ≤ MOST_CANDIDATES }
-    ensures page { IfOk result (IsPage locations) }
-    ensures runs { IfOk result (λ p. p.runs.items ≡ runs.items) }
+/// Makes a page that of its runs.
+pub(crate) fn fill_page(alloc: Global, page: &mut Page, locations: usize) -> Result<(), AllocError>
+    requires within { AreWithin locations page.old.runs.items }
+    requires most { block locations page.old.runs.items ≤ MOST_CANDIDATES }
+    ensures page { OnOk result (IsPage locations page.new) }
+    ensures runs { OnOk result (page.new.runs.items ≡ page.old.runs.items) }
+    ensures depths { OnOk result (page.new.depths.items ≡ depths_of locations page.old.runs.items) }
 {
-    let mut page = plain_page(alloc, runs, locations)?;
-    page.depths = list_depths(alloc, &page, locations)?;
-    Ok(page)
+    let room = replace(&mut page.depths, Vec::new(alloc));
+    fill_plain(alloc, page, locations)?;
+    page.depths = list_depths(page, locations, room)?;
+    Ok(())
 }
 
 /// The candidate of the page's runs with this number.
@@ -168,12 +207,13 @@ pub(crate) fn assemble(
     let values = Vec::from_slice(alloc, init)?;
     let rf = read_from(alloc, page, &page.reads, number / page.orders)?;
     let runs = copy_runs(alloc, &page.runs)?;
-    let co = coherence(alloc, page, init.len(), number % page.orders)?;
+    let room = Vec::new(alloc);
+    let co = coherence(alloc, page, init.len(), number % page.orders, room)?;
     Ok(Graph::new(values, runs, rf, co))
 }
 
 /// The candidate of the page's runs with another number, made from the one with this number.
-fn turned(alloc: Global, page: &Page, graph: Graph, from: u64, to: u64) -> Graph
+pub(crate) fn turned(alloc: Global, page: &Page, graph: Graph, from: u64, to: u64) -> Graph
     requires page { IsPage (length graph.init) page.now }
     requires number { to < block (length graph.init) page.now.runs.items }
     requires graph { graph ≡ candidate graph.init page.now.runs.items from }
@@ -192,6 +232,16 @@ fn turned(alloc: Global, page: &Page, graph: Graph, from: u64, to: u64) -> Graph
     Graph::new(parts.init, parts.runs, rf, co)
 }
 
+/// Parts with nothing in them.
+pub(crate) fn no_parts(alloc: Global) -> GraphParts {
+    GraphParts {
+        init: Vec::new(alloc),
+        runs: Vec::new(alloc),
+        rf: Vec::new(alloc),
+        co: Vec::new(alloc),
+    }
+}
+
 /// An execution of nothing.
 pub(crate) fn nothing(alloc: Global) -> Graph
     ensures { result ≡ no_execution }
@@ -202,30 +252,4 @@ pub(crate) fn nothing(alloc: Global) -> Graph
         Vec::new(alloc),
         Vec::new(alloc),
     )
-}
-
-/// Makes of a graph the candidate of the page's runs with a number. The graph is the candidate with the number `from`,
-/// where there is one.
-pub(crate) fn make(
-    alloc: Global,
-    init: &[u32],
-    page: &Page,
-    graph: &mut Graph,
-    from: Option<u64>,
-    to: u64,
-) -> Result<(), AllocError>
-    requires page { IsPage (length init.now) page.now }
-    requires number { to < block (length init.now) page.now.runs.items }
-    requires graph { IfSome from (λ n. graph.old ≡ candidate init.now page.now.runs.items n) }
-    ensures made { OnOk result (graph.new ≡ candidate init.now page.now.runs.items to) }
-    ensures same { OnErr result (graph.new ≡ graph.old) }
-{
-    match from {
-        Some(number) => {
-            let before = replace(graph, nothing(alloc));
-            *graph = turned(alloc, page, before, number, to);
-        }
-        None => *graph = assemble(alloc, init, page, to)?,
-    }
-    Ok(())
 }

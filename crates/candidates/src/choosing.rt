@@ -1,16 +1,11 @@
 //! Choices of one run of each thread.
 
-ghost use Rattle.std.specs.Prelude.{◌≡◌, ◌+◌, ◌-◌, ◌<◌, ◌≤◌, [], ◌∷◌, List, length, map, take, drop, slice_index_or, IfOk};
+ghost use Rattle.std.specs.Prelude.{◌≡◌, ◌+◌, ◌<◌, ◌≤◌, [], ◌∷◌, List, length, map, take, drop, slice_index_or, IfOk};
 ghost use Rattle.listings.specs.Lists.{IsIn, sum_of};
-ghost use Rattle.events.specs.Executions.{ThreadRun};
-ghost use Rattle.candidates.specs.Executions.{block};
-ghost use Rattle.candidates.specs.Candidates.{choices};
 ghost use Rattle.candidates.specs.Groups.{tally_of, sum_tally, size_by, sizes_of, HasRoom};
 ghost use Rattle.candidates.specs.declared.counts.Counts.{Counts};
-ghost use Rattle.candidates.specs.Impossible.{AreMarks, IsChosen};
+ghost use Rattle.candidates.specs.Impossible.{IsChosen};
 ghost use Rattle.candidates.specs.Levels.{AreLevels, Stands};
-ghost use Rattle.candidates.specs.Parts.{AreAllWithin};
-ghost use Rattle.candidates.specs.Located.{IsLocated};
 
 use crate::counts::AccessTally;
 use crate::fault::MOST_CANDIDATES;
@@ -112,10 +107,10 @@ fn part_at(level: &Level, number: u64) -> Part
 /// The run of a thread that a number is in, how far into this run's candidates the number is, and how many candidates from
 /// this run's first on are in no execution.
 #[derive(Clone, Copy)]
-struct Choice {
-    place: usize,
-    rest: u64,
-    passed: u64,
+pub(crate) struct Choice {
+    pub(crate) place: usize,
+    pub(crate) rest: u64,
+    pub(crate) passed: u64,
 }
 
 /// The run of a level's thread that a number is in. The level stands at it then.
@@ -165,7 +160,7 @@ fn count_runs(
 
 /// The run of a thread that a number is in: it counts the candidates with the runs that are tallied. What is counted for
 /// the thread is kept.
-fn choose_run(
+pub(crate) fn choose_run(
     alloc: Global,
     levels: &mut Vec<Level>,
     groups: &[Groups],
@@ -197,56 +192,4 @@ fn choose_run(
     let choice = choose(&mut level, marks, number);
     keep(levels, level)?;
     Ok(choice)
-}
-
-/// Where a candidate is: its runs, and its number among those with these runs.
-#[derive(Drop)]
-pub(crate) struct Position {
-    pub(crate) runs: Vec<Run>,
-    pub(crate) rest: u64,
-}
-
-/// Where the candidate with a number is, or up to which number no execution stands.
-#[derive(Drop)]
-pub(crate) enum Located {
-    At(Position),
-    Until(u64),
-}
-
-/// Where the candidate with this number is. It goes down the threads: in each it takes the run that the number is in. Where
-/// that run is in no execution, it passes over all candidates with the runs so far, with this one and with those
-/// behind it that are in none.
-pub(crate) fn locate(
-    alloc: Global,
-    levels: &mut Vec<Level>,
-    threads: &[RunList],
-    groups: &[Groups],
-    marks: &[Marks],
-    init: &[u32],
-    number: u64,
-) -> Result<Located, AllocError>
-    requires levels { AreLevels groups.now levels.old.items }
-    requires tallied { groups.now ≡ map (λ runs. map (λ run. tally_of (length init.now) run.events) runs) threads.now }
-    requires room { HasRoom (tally_of (length init.now) []) groups.now }
-    requires marked { AreMarks init.now threads.now marks.now }
-    requires within { AreAllWithin (length init.now) (choices threads.now) }
-    requires size { sum_of (block (length init.now)) (choices threads.now) ≤ MOST_CANDIDATES }
-    requires number { number < sum_of (block (length init.now)) (choices threads.now) }
-    ensures located { IfOk result (IsLocated (record { init = init.now; threads = threads.now }) number) }
-    ensures levels { AreLevels groups.now levels.new.items }
-{
-    let mut tally = AccessTally::new(alloc, &[], init.len())?;
-    let mut runs = Vec::new(alloc);
-    let mut rest = number;
-    for thread in 0..threads.len() {
-        let choice = choose_run(alloc, levels, groups, thread, &marks[thread], &tally, rest)?;
-        if choice.passed > 0 {
-            return Ok(Located::Until(number - choice.rest + choice.passed));
-        }
-        let run = &threads[thread].runs()[choice.place];
-        tally = tally.plus(alloc, groups[thread].tally_at(choice.place))?;
-        runs.push(run.copy()?)?;
-        rest = choice.rest;
-    }
-    Ok(Located::At(Position { runs, rest }))
 }

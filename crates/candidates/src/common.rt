@@ -3,7 +3,7 @@
 ghost use Rattle.std.specs.Prelude.{◌≡◌};
 ghost use Rattle.candidates.specs.Candidates.{no_execution};
 
-use crate::assembly::nothing;
+use crate::assembly::{no_parts, nothing};
 use events::{Graph, GraphParts};
 use std::alloc::Global;
 use std::marker::Model;
@@ -15,16 +15,6 @@ pub struct Common {
     end: u64,
     /// What was shown before: its room is used again.
     spare: GraphParts,
-}
-
-/// Parts with nothing in them.
-fn no_parts(alloc: Global) -> GraphParts {
-    GraphParts {
-        init: Vec::new(alloc),
-        runs: Vec::new(alloc),
-        rf: Vec::new(alloc),
-        co: Vec::new(alloc),
-    }
 }
 
 // A function of its own: whoever holds one drops it by a call.

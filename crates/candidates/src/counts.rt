@@ -1,6 +1,6 @@
 //! How often runs read and write each location, and how many candidates have runs that do so.
 
-ghost use Rattle.std.specs.Prelude.{◌≡◌, ◌+◌, ◌*◌, ◌^◌, ◌<◌, ◌≤◌, length, count_by, IfOk, true};
+ghost use Rattle.std.specs.Prelude.{◌≡◌, ◌+◌, ◌*◌, ◌^◌, ◌<◌, ◌≤◌, [], length, count_by, IfOk, true};
 ghost use Rattle.listings.specs.Lists.{factorial, product_by};
 ghost use Rattle.events.specs.Executions.{writes_to};
 ghost use Rattle.candidates.specs.Candidates.{IsCapped};
@@ -76,13 +76,14 @@ fn shorter(counts: &[Counts], more: &[Counts]) -> usize
     more.len()
 }
 
-/// The sums of the counts of each location.
-fn add(alloc: Global, counts: &[Counts], more: &[Counts]) -> Result<Vec<Counts>, AllocError>
+/// The sums of the counts of each location, in the room of others.
+fn add(counts: &[Counts], more: &[Counts], room: Vec<Counts>) -> Result<Vec<Counts>, AllocError>
     requires small { IsSmall (sum_tally counts.now more.now) }
     ensures { IfOk result (λ v. v.items ≡ sum_tally counts.now more.now) }
 {
     let locations = shorter(counts, more);
-    let mut sums = Vec::with_capacity(alloc, locations)?;
+    let mut sums = room;
+    sums.clear();
     for location in 0..locations {
         let one = counts[location];
         let other = more[location];
@@ -144,13 +145,34 @@ impl AccessTally {
         Ok(AccessTally { counts })
     }
 
+    /// Both together, in the room of another.
+    pub(crate) fn plus_into(
+        &self,
+        more: &AccessTally,
+        room: AccessTally,
+    ) -> Result<Self, AllocError>
+        requires small { IsSmall (sum_tally self.now more.now) }
+        ensures { IfOk result (λ t. t ≡ sum_tally self.now more.now) }
+    {
+        let counts = add(&self.counts, &more.counts, room.counts)?;
+        Ok(AccessTally { counts })
+    }
+
     /// Both together.
     pub(crate) fn plus(&self, alloc: Global, more: &AccessTally) -> Result<Self, AllocError>
         requires small { IsSmall (sum_tally self.now more.now) }
         ensures { IfOk result (λ t. t ≡ sum_tally self.now more.now) }
     {
-        let counts = add(alloc, &self.counts, &more.counts)?;
-        Ok(AccessTally { counts })
+        self.plus_into(more, AccessTally::empty(alloc))
+    }
+
+    /// That of no location.
+    pub(crate) fn empty(alloc: Global) -> Self
+        ensures { result ≡ [] }
+    {
+        AccessTally {
+            counts: Vec::new(alloc),
+        }
     }
 
     /// Whether both are the same.

@@ -1,13 +1,15 @@
 //! The depths of the blocks of some runs: what is known of a block's executions, and how many numbers it has.
 
-ghost use Rattle.std.specs.Prelude.{◌≡◌, ◌<◌, ◌+◌, [], ◌∷◌, ◌++◌, nat_lt, if◌then◌else◌, All, IfOk, OnOk};
+ghost use Rattle.std.specs.Prelude.{◌≡◌, ◌<◌, ◌+◌, ◌-◌, [], ◌∷◌, ◌++◌, length, filter, nat_lt, if◌then◌else◌, All, IfOk, OnOk};
 ghost use Rattle.candidates.specs.Blocks.{IsDepth, open_among, ways_of_orders};
-ghost use Rattle.candidates.specs.Executions.{upto};
+ghost use Rattle.candidates.specs.Depths.{before_reads, by_places, by_locations, depths_of, is_open, known_of};
+ghost use Rattle.candidates.specs.Executions.{later_writes, upto};
+ghost use Rattle.candidates.specs.declared.depths.Known.TheVariants.{Sources};
 ghost use Rattle.candidates.specs.Readings.{IsPage};
 
 use crate::page::Page;
-use events::Event;
-use std::alloc::{AllocError, Global};
+use events::{Event, EventId};
+use std::alloc::AllocError;
 
 /// Which writes have no place in the orders that are known: all of the first `locations`, and the first `writes` later
 /// ones of the location behind them.
@@ -48,12 +50,28 @@ pub(crate) struct Depth {
     pub(crate) known: Known,
 }
 
-/// Adds a depth, if its blocks are larger than those of the next.
-fn push_depth(depths: &mut Vec<Depth>, depth: Depth, next: u64) -> Result<(), AllocError>
-    ensures { OnOk result (depths.new.items ≡ (if nat_lt next depth.size then depths.old.items ++ depth ∷ [] else depths.old.items)) }
+/// Adds a depth, if its blocks have several numbers.
+fn push_depth(depths: &mut Vec<Depth>, depth: Depth) -> Result<(), AllocError>
+    ensures { OnOk result (depths.new.items ≡ (if nat_lt 1 depth.size then depths.old.items ++ depth ∷ [] else depths.old.items)) }
 {
-    if depth.size > next {
+    if depth.size > 1 {
         depths.push(depth)?;
+    }
+    Ok(())
+}
+
+/// Adds a depth at which the sources of the reads before this one are known, if the read has several that it may read from.
+fn push_read(
+    depths: &mut Vec<Depth>,
+    place: usize,
+    writes: &[EventId],
+    size: u64,
+) -> Result<(), AllocError>
+    ensures { OnOk result (depths.new.items ≡ (if nat_lt 0 (length writes.now) then depths.old.items ++ record { size = size; known = Sources place } ∷ [] else depths.old.items)) }
+{
+    if writes.len() > 0 {
+        let known = Known::Sources(place);
+        depths.push(Depth { size, known })?;
     }
     Ok(())
 }
@@ -68,17 +86,15 @@ fn push_reading(
     requires page { IsPage locations page.now }
     requires reads { reads.now ≡ page.now.reads.items }
     requires depths { All (IsDepth locations page.now.runs.items) depths.old.items }
-    ensures { OnOk result (All (IsDepth locations page.now.runs.items) depths.new.items) }
+    ensures depths { OnOk result (All (IsDepth locations page.now.runs.items) depths.new.items) }
+    ensures known { OnOk result (known_of depths.new.items ≡ known_of depths.old.items ++ before_reads page.now.runs.items 0 reads.now) }
 {
     let mut size = page.ways * page.orders;
     for (place, read) in reads.iter().enumerate() {
-        let next = size / (page.writes_to(read.loc).len() as u64 + 1);
-        let known = Known::Sources(place);
-        push_depth(depths, Depth { size, known }, next)?;
-        size = next;
+        let writes = page.writes_to(read.loc);
+        push_read(depths, place, writes, size)?;
+        size /= writes.len() as u64 + 1;
     }
-    let known = Known::Sources(reads.len());
-    push_depth(depths, Depth { size, known }, 1)?;
     Ok(())
 }
 
@@ -97,6 +113,7 @@ fn push_order(
     requires depths { All (IsDepth locations page.now.runs.items) depths.old.items }
     ensures orders { IfOk result (λ below. below ≡ ways_of_orders page.now.runs.items location 0 (upto locations)) }
     ensures depths { OnOk result (All (IsDepth locations page.now.runs.items) depths.new.items) }
+    ensures known { OnOk result (known_of depths.new.items ≡ known_of depths.old.items ++ filter (is_open locations page.now.runs.items) (by_places location (length (later_writes page.now.runs.items location) - 1))) }
 {
     let writes = page.writes_to(location).len();
     let mut size = orders;
@@ -109,7 +126,7 @@ fn push_order(
             locations: location,
             writes: unplaced,
         });
-        push_depth(depths, Depth { size, known }, 1)?;
+        push_depth(depths, Depth { size, known })?;
     }
     Ok(size)
 }
@@ -118,7 +135,8 @@ fn push_order(
 fn push_orders(depths: &mut Vec<Depth>, page: &Page, locations: usize) -> Result<(), AllocError>
     requires page { IsPage locations page.now }
     requires depths { All (IsDepth locations page.now.runs.items) depths.old.items }
-    ensures { OnOk result (All (IsDepth locations page.now.runs.items) depths.new.items) }
+    ensures depths { OnOk result (All (IsDepth locations page.now.runs.items) depths.new.items) }
+    ensures known { OnOk result (known_of depths.new.items ≡ known_of depths.old.items ++ filter (is_open locations page.now.runs.items) (by_locations page.now.runs.items locations)) }
 {
     let mut orders = page.orders;
     let mut location = locations;
@@ -129,18 +147,28 @@ fn push_orders(depths: &mut Vec<Depth>, page: &Page, locations: usize) -> Result
     Ok(())
 }
 
-/// The depths of the page's blocks, the coarsest first, each with smaller blocks than the one before.
+/// The depths of the page's blocks, the coarsest first, each with smaller blocks than the one before, in the room of others.
 #[inline(never)]
 pub(crate) fn list_depths(
-    alloc: Global,
     page: &Page,
     locations: usize,
+    room: Vec<Depth>,
 ) -> Result<Vec<Depth>, AllocError>
     requires { IsPage locations page.now }
-    ensures { IfOk result (λ v. All (IsDepth locations page.now.runs.items) v.items) }
+    ensures depths { IfOk result (λ v. All (IsDepth locations page.now.runs.items) v.items) }
+    ensures are { IfOk result (λ v. v.items ≡ depths_of locations page.now.runs.items) }
 {
-    let mut depths = Vec::new(alloc);
+    let mut depths = room;
+    depths.clear();
     push_reading(&mut depths, page, &page.reads, locations)?;
+    let known = Known::Sources(page.reads.len());
+    push_depth(
+        &mut depths,
+        Depth {
+            size: page.orders,
+            known,
+        },
+    )?;
     push_orders(&mut depths, page, locations)?;
     Ok(depths)
 }

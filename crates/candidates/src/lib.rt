@@ -17,6 +17,7 @@ mod page;
 mod partial;
 mod reading;
 mod space;
+mod threads;
 mod walk;
 
 pub use assembly::write_value;

@@ -1,6 +1,6 @@
 //! The orders of the writes to each location, by their numbers.
 
-ghost use Rattle.std.specs.Prelude.{◌≡◌, ◌<◌, ◌≤◌, [], ◌∷◌, List, length, IfOk};
+ghost use Rattle.std.specs.Prelude.{◌≡◌, ◌+◌, ◌<◌, ◌≤◌, [], ◌∷◌, ◌++◌, List, length, take, IfOk, OnOk};
 ghost use Rattle.std.specs.List.{insert};
 ghost use Rattle.events.specs.declared.event.EventId.{EventId};
 ghost use Rattle.events.specs.declared.event.EventId.TheVariants.{Initial};
@@ -156,23 +156,47 @@ fn order_of(
     order_in(alloc, list, location, later, number)
 }
 
-/// The orders with this number, for each location.
+/// Puts the order with this number of the writes to a location, of which these are the later ones, at its place of a list, in the
+/// room of the order that stands there. Those before it stay as they are.
+fn put_order(
+    alloc: Global,
+    co: &mut Vec<Coherence>,
+    location: usize,
+    later: &[EventId],
+    number: u64,
+) -> Result<(), AllocError>
+    requires { location ≤ length co.old.items }
+    ensures { OnOk result ((take (location + 1) co.new.items ≡ take location co.old.items ++ (Initial location ∷ arrange later.now number) ∷ []) × (location < length co.new.items)) }
+{
+    if location >= co.len() {
+        co.push(order_of(alloc, location, later, number)?)?;
+        return Ok(());
+    }
+    let mut list = replace(&mut co[location], Coherence::new(Vec::new(alloc))).into_writes();
+    list.clear();
+    co[location] = order_in(alloc, list, location, later, number)?;
+    Ok(())
+}
+
+/// The orders with this number, for each location, in the room of others.
 pub(crate) fn coherence(
     alloc: Global,
     page: &Page,
     locations: usize,
     number: u64,
+    room: Vec<Coherence>,
 ) -> Result<Vec<Coherence>, AllocError>
     requires page { IsPage locations page.now }
     ensures { IfOk result (λ v. v.items ≡ digits (count_orders page.now.runs.items) (order_at page.now.runs.items) (upto locations) number) }
 {
-    let mut co = Vec::with_capacity(alloc, locations)?;
+    let mut co = room;
     let mut rest = number;
     for location in 0..locations {
         let later = page.writes_to(location);
         let count = page.orders_of(location);
-        co.push(order_of(alloc, location, later, rest % count)?)?;
+        put_order(alloc, &mut co, location, later, rest % count)?;
         rest /= count;
     }
+    co.truncate(locations);
     Ok(co)
 }

@@ -7,7 +7,8 @@ use crate::capped::capped_factorial;
 use crate::depths::Depth;
 use crate::fault::MOST_CANDIDATES;
 use crate::levels::Level;
-use events::{Event, EventId, Graph, Run};
+use events::{Event, EventId, Graph, GraphParts, Run};
+use std::alloc::Global;
 use std::marker::Model;
 
 /// The writes to one location, but the initial one, and how many orders of them there are.
@@ -45,6 +46,23 @@ impl Writes {
     {
         let orders = orders_of(&writes);
         Writes { writes, orders }
+    }
+
+    /// No writes.
+    pub(crate) fn none(alloc: Global) -> Self
+        ensures { result ≡ [] }
+    {
+        Writes {
+            writes: Vec::new(alloc),
+            orders: 1,
+        }
+    }
+
+    /// The writes, in the vector that holds them.
+    pub(crate) fn into_list(self) -> Vec<EventId>
+        ensures { result.items ≡ self }
+    {
+        self.writes
     }
 
     /// The writes, in the order of their events.
@@ -122,29 +140,39 @@ impl Drop for Stretch {
     }
 }
 
-/// The stretch in which a number is, or up to which number no execution stands.
-#[derive(Drop)]
-pub(crate) enum Reach {
-    At(Stretch),
-    Until(u64),
-}
-
-/// What a walk has at hand: what is kept of the threads, a stretch, the execution that it shows, and the number in the
-/// stretch of the candidate that this is, where it is one of it.
-pub(crate) struct Scene {
+/// Where a walk looks on: what is kept of the threads on the way down to a choice of runs, and the stretch of the choice.
+pub(crate) struct Ahead {
     pub(crate) levels: Vec<Level>,
     pub(crate) stretch: Stretch,
+}
+
+impl Drop for Ahead {
+    fn drop(self) {
+        let Ahead {
+            levels: _,
+            stretch: _,
+        } = self;
+    }
+}
+
+/// What a walk has at hand: the execution that it shows, the stretch that this is in, and its number there; and where it
+/// looks on. What was shown before lends its room to what is shown next.
+pub(crate) struct Scene {
+    pub(crate) stretch: Stretch,
     pub(crate) graph: Graph,
-    pub(crate) at: Option<u64>,
+    pub(crate) at: u64,
+    pub(crate) ahead: Ahead,
+    pub(crate) room: GraphParts,
 }
 
 impl Drop for Scene {
     fn drop(self) {
         let Scene {
-            levels: _,
             stretch: _,
             graph: _,
             at: _,
+            ahead: _,
+            room: _,
         } = self;
     }
 }

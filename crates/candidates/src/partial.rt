@@ -1,20 +1,21 @@
 //! What the executions of a block have in common: a partial execution.
 
-ghost use Rattle.std.specs.Prelude.{◌≡◌, ◌↔◌, ◌<◌, ◌≤◌, ◌/◌, [], ◌∷◌, ◌++◌, length, drop, IfOk, IsTrue, OnOk};
+ghost use Rattle.std.specs.Prelude.{◌≡◌, ◌<◌, ◌≤◌, ◌/◌, [], ◌∷◌, ◌++◌, length, drop, IfOk, OnOk};
 ghost use Rattle.events.specs.declared.event.EventId.TheVariants.{Initial};
 ghost use Rattle.listings.specs.Numbered.{arrange};
 ghost use Rattle.candidates.specs.Blocks.{Fits, placings, cut_orders, initial_first, open_pairs, cut_by, cut_by_orders, cut_by_reads};
-ghost use Rattle.candidates.specs.Candidates.{rf_at};
+ghost use Rattle.candidates.specs.Candidates.{candidate, rf_at};
 ghost use Rattle.candidates.specs.declared.depths.Known.TheVariants.{Orders};
 ghost use Rattle.candidates.specs.Executions.{block, later_writes, upto};
 ghost use Rattle.candidates.specs.Readings.{IsPage};
 
 use crate::depths::{Known, Unplaced};
-use crate::ordering::order_in;
+use crate::ordering::{coherence, order_in};
 use crate::page::Page;
 use crate::reading::read_into;
+use crate::threads::put_run;
 use events::laws::extension;
-use events::{Coherence, EventId, Graph, GraphParts, Run, copy_runs};
+use events::{Coherence, EventId, Graph, GraphParts, Run};
 use std::alloc::{AllocError, Global};
 
 /// The number of the order of some writes without so many of the first of them, where the order of them all has this number.
@@ -137,35 +138,15 @@ fn push_open(
     Ok(())
 }
 
-/// Whether the runs are like the others.
-fn are_same_runs(first: &[Run], second: &[Run]) -> bool
-    ensures { IsTrue result ↔ (first.now ≡ second.now) }
-{
-    let mut left = first;
-    let mut others = second;
-    while let Some((run, rest)) = left.split_first() {
-        match others.split_first() {
-            Some((other, remaining)) => {
-                if !run.is_same(other) {
-                    return false;
-                }
-                left = rest;
-                others = remaining;
-            }
-            None => return false,
-        }
-    }
-    others.is_empty()
-}
-
-/// These runs, in a vector that may have them already.
-fn runs_again(alloc: Global, runs: Vec<Run>, wanted: &[Run]) -> Result<Vec<Run>, AllocError>
+/// These runs, in a vector that may have some of them already.
+fn runs_again(mut runs: Vec<Run>, wanted: &[Run]) -> Result<Vec<Run>, AllocError>
     ensures { IfOk result (λ v. v.items ≡ wanted.now) }
 {
-    if are_same_runs(&runs, wanted) {
-        return Ok(runs);
+    for place in 0..wanted.len() {
+        put_run(&mut runs, place, &wanted[place])?;
     }
-    copy_runs(alloc, wanted)
+    runs.truncate(wanted.len());
+    Ok(runs)
 }
 
 /// These values, in a vector that has had others.
@@ -179,7 +160,6 @@ fn values_again(mut values: Vec<u32>, wanted: &[u32]) -> Result<Vec<u32>, AllocE
 
 /// The parts of the page's candidate with this number, but for its orders, in the room of others.
 fn refill(
-    alloc: Global,
     init: &[u32],
     page: &Page,
     number: u64,
@@ -192,7 +172,7 @@ fn refill(
     ensures rf { IfOk result (λ p. p.rf.items ≡ rf_at page.now.runs.items (number / page.now.orders)) }
 {
     let values = values_again(parts.init, init)?;
-    let runs = runs_again(alloc, parts.runs, &page.runs)?;
+    let runs = runs_again(parts.runs, &page.runs)?;
     let rf = read_into(page, &page.reads, parts.rf, number / page.orders)?;
     Ok(GraphParts {
         init: values,
@@ -200,6 +180,23 @@ fn refill(
         rf,
         co: parts.co,
     })
+}
+
+/// The candidate of the page's runs with this number, in the room of other parts.
+pub(crate) fn assemble_in(
+    alloc: Global,
+    init: &[u32],
+    page: &Page,
+    number: u64,
+    parts: GraphParts,
+) -> Result<Graph, AllocError>
+    requires page { IsPage (length init.now) page.now }
+    requires number { number < block (length init.now) page.now.runs.items }
+    ensures { IfOk result (λ g. g ≡ candidate init.now page.now.runs.items number) }
+{
+    let filled = refill(init, page, number, parts)?;
+    let co = coherence(alloc, page, init.len(), number % page.orders, filled.co)?;
+    Ok(Graph::new(filled.init, filled.runs, filled.rf, co))
 }
 
 /// What the candidates have in common that read by this number as far as these first reads go.
@@ -215,7 +212,7 @@ fn by_sources(
     requires number { number < block (length init.now) page.now.runs.items }
     ensures { IfOk result (λ g. g ≡ cut_by_reads init.now page.now.runs.items count number) }
 {
-    let filled = refill(alloc, init, page, number, parts)?;
+    let filled = refill(init, page, number, parts)?;
     let mut rf = filled.rf;
     rf.truncate(count);
     let mut spare = filled.co;
@@ -243,7 +240,7 @@ fn by_orders(
     requires number { number < block (length init.now) page.now.runs.items }
     ensures { IfOk result (λ g. g ≡ cut_by_orders init.now page.now.runs.items unplaced.locations unplaced.writes number) }
 {
-    let filled = refill(alloc, init, page, number, parts)?;
+    let filled = refill(init, page, number, parts)?;
     let mut spare = filled.co;
     let digits = number % page.orders;
     let mut co = cut_each(alloc, &mut spare, page, init.len(), unplaced, digits)?;

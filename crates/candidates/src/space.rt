@@ -9,17 +9,14 @@ ghost use Rattle.c11_threads.specs.Unrolled.{runs_of};
 ghost use Rattle.candidates.specs.Faults.{HaveFewRuns, IsSpaceFault};
 ghost use Rattle.candidates.specs.Groups.{tally_of, HasRoom};
 ghost use Rattle.candidates.specs.Parts.{AreAllWithin, AreShort};
-ghost use Rattle.candidates.specs.Impossible.{AreMarks};
-ghost use Rattle.candidates.specs.Levels.{AreLevels, groups_of};
-ghost use Rattle.candidates.specs.Walks.{IsReach};
+ghost use Rattle.candidates.specs.Levels.{groups_of};
+ghost use Rattle.candidates.specs.Located.{AreThreads, choices_by};
 
-use crate::assembly::open_page;
-use crate::choosing::{Located, RunList, group_all, locate};
+use crate::choosing::{RunList, group_all};
 use crate::fault::{MOST_CANDIDATES, SpaceFault};
 use crate::groups::{Groups, count_all};
 use crate::impossible::{Marks, mark_all};
-use crate::levels::Level;
-use crate::page::{Reach, Stretch};
+use crate::threads::Threads;
 use crate::walk::{Walk, find};
 use c11_threads::{initial_value, runs};
 use conditions::Place;
@@ -99,37 +96,6 @@ fn all_runs(alloc: Global, test: &Test) -> Result<Vec<RunList>, SpaceFault>
     Ok(lists)
 }
 
-/// The stretch in which a number is, or up to which number no execution stands.
-fn stretch_at(
-    alloc: Global,
-    levels: &mut Vec<Level>,
-    threads: &[RunList],
-    groups: &[Groups],
-    marks: &[Marks],
-    init: &[u32],
-    number: u64,
-) -> Result<Reach, AllocError>
-    requires levels { AreLevels groups.now levels.old.items }
-    requires tallied { groups.now ≡ map (λ runs. map (λ run. tally_of (length init.now) run.events) runs) threads.now }
-    requires room { HasRoom (tally_of (length init.now) []) groups.now }
-    requires marked { AreMarks init.now threads.now marks.now }
-    requires within { AreAllWithin (length init.now) (choices threads.now) }
-    requires size { size_of (record { init = init.now; threads = threads.now }) ≤ MOST_CANDIDATES }
-    requires number { number < size_of (record { init = init.now; threads = threads.now }) }
-    ensures reach { IfOk result (IsReach (record { init = init.now; threads = threads.now }) number) }
-    ensures levels { AreLevels groups.now levels.new.items }
-{
-    match locate(alloc, levels, threads, groups, marks, init, number)? {
-        Located::At(position) => {
-            let page = open_page(alloc, position.runs, init.len())?;
-            let first = number - position.rest;
-            let size = page.ways * page.orders;
-            Ok(Reach::At(Stretch { first, size, page }))
-        }
-        Located::Until(next) => Ok(Reach::Until(next)),
-    }
-}
-
 impl Space {
     /// The candidates of a test.
     pub fn new(alloc: Global, test: &Test) -> Result<Self, SpaceFault>
@@ -173,27 +139,18 @@ impl Space {
         &self.init
     }
 
-    /// The stretch in which a number is, or up to which number no execution stands.
-    pub(crate) fn stretch(
-        &self,
-        alloc: Global,
-        levels: &mut Vec<Level>,
-        number: u64,
-    ) -> Result<Reach, AllocError>
-        requires levels { AreLevels (groups_of self.now) levels.old.items }
-        requires number { number < size_of self.now }
-        ensures reach { IfOk result (IsReach self.now number) }
-        ensures levels { AreLevels (groups_of self.now) levels.new.items }
+    /// Its threads.
+    pub(crate) fn threads(&self) -> Threads<'_>
+        ensures threads { AreThreads result }
+        ensures choices { choices_by result ≡ self.now }
+        ensures groups { result.groups.now ≡ groups_of self.now }
     {
-        stretch_at(
-            alloc,
-            levels,
-            &self.threads,
-            &self.groups,
-            &self.marks,
-            &self.init,
-            number,
-        )
+        Threads {
+            runs: &self.threads,
+            groups: &self.groups,
+            marks: &self.marks,
+            init: &self.init,
+        }
     }
 
     /// The candidate with this number, where it is an execution.

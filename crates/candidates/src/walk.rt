@@ -1,22 +1,25 @@
 //! A walk over the executions of a space.
 
-ghost use Rattle.std.specs.Prelude.{◌≡◌, ◌+◌, ◌-◌, ◌<◌, ◌≤◌, [], length, max, min, None, Some, IfOk, IfSome, OnOk, OnErr, MatchOption};
+ghost use Rattle.std.specs.Prelude.{◌≡◌, ◌+◌, ◌-◌, ◌<◌, ◌≤◌, ℕ, [], length, max, min, true, IfOk, IfSome, OnOk, OnErr, MatchOption};
 ghost use Rattle.candidates.specs.Executions.{block};
 ghost use Rattle.candidates.specs.Blocks.{AllExtend};
-ghost use Rattle.candidates.specs.Candidates.{Choices, candidate, graph_at, size_of, no_execution};
+ghost use Rattle.candidates.specs.Candidates.{Choices, candidate, graph_at, is_consistent, size_of, no_execution};
+ghost use Rattle.candidates.specs.Depths.{cut_at, end_at};
 ghost use Rattle.candidates.specs.Readings.{IsPage, IsSeen, MayBeStretch};
-ghost use Rattle.candidates.specs.Walks.{IsBlock, IsCommon, IsFind, IsHit, IsMiss, IsReached, IsScene, IsVisit, IsWithin};
+ghost use Rattle.candidates.specs.Walks.{IsAhead, IsBefore, IsBlock, IsCommon, IsFind, IsHit, IsJustFound, IsMiss, IsNear, IsPlace, IsReached, IsScene, IsVisit, IsWithin, HasNoBlock, depths_around};
 
-use crate::assembly::{assemble, make, nothing};
+use crate::assembly::{assemble, no_parts, nothing, turned};
 use crate::common::Common;
 use crate::depths::Known;
-use crate::page::{Page, Reach, Scene, Stretch};
-use crate::partial::cut;
+use crate::page::{Ahead, Page, Scene, Stretch};
+use crate::partial::{assemble_in, cut};
 use crate::reading::{Look, look_at};
 use crate::space::Space;
+use crate::threads::go_to;
 use events::Graph;
 use std::alloc::{AllocError, Global};
 use std::marker::Model;
+use std::mem::{replace, swap};
 
 /// A walk over the executions at some numbers of a space, in the order of their numbers.
 pub struct Walk<'a> {
@@ -50,12 +53,10 @@ impl<'a> Model for Walk<'a> {
     ghost invariant = { λ w. record { order : w.next ≤ w.to; within : w.to ≤ size_of w.space.now; scene : IsScene w.space.now w.scene } };
 }
 
-/// A stretch of no numbers, and an execution of nothing.
-fn no_scene(alloc: Global) -> Scene
-    ensures size { result.stretch.size ≡ 0 }
-    ensures graph { result.graph ≡ no_execution }
-    ensures at { result.at ≡ None }
-    ensures levels { result.levels.items ≡ [] }
+/// A stretch of no numbers.
+fn no_stretch(alloc: Global) -> Stretch
+    ensures size { result.size ≡ 0 }
+    ensures depths { result.page.depths.items ≡ [] }
 {
     let page = Page {
         runs: Vec::new(alloc),
@@ -65,16 +66,46 @@ fn no_scene(alloc: Global) -> Scene
         orders: 1,
         depths: Vec::new(alloc),
     };
-    Scene {
-        levels: Vec::new(alloc),
-        stretch: Stretch {
-            first: 0,
-            size: 0,
-            page,
-        },
-        graph: nothing(alloc),
-        at: None,
+    Stretch {
+        first: 0,
+        size: 0,
+        page,
     }
+}
+
+/// Where a walk looks on that has not begun.
+fn nothing_ahead(alloc: Global) -> Ahead
+    ensures size { result.stretch.size ≡ 0 }
+    ensures levels { result.levels.items ≡ [] }
+{
+    Ahead {
+        levels: Vec::new(alloc),
+        stretch: no_stretch(alloc),
+    }
+}
+
+/// What a walk has at hand that has not begun.
+fn no_scene(alloc: Global) -> Scene
+    ensures size { result.stretch.size ≡ 0 }
+    ensures depths { result.stretch.page.depths.items ≡ [] }
+    ensures graph { result.graph ≡ no_execution }
+    ensures ahead { result.ahead.stretch.size ≡ 0 }
+    ensures levels { result.ahead.levels.items ≡ [] }
+{
+    Scene {
+        stretch: no_stretch(alloc),
+        graph: nothing(alloc),
+        at: 0,
+        ahead: nothing_ahead(alloc),
+        room: no_parts(alloc),
+    }
+}
+
+/// Whether a number is in a stretch.
+fn contains(stretch: &Stretch, number: u64) -> bool
+    ensures { result ≡ true → (stretch.now.first ≤ number) × (number < stretch.now.first + stretch.now.size) }
+{
+    number >= stretch.first && number - stretch.first < stretch.size
 }
 
 /// Goes to the stretch in which a number is, if it is not in the one at hand; or says up to which number no execution
@@ -82,57 +113,48 @@ fn no_scene(alloc: Global) -> Scene
 fn reach(
     alloc: Global,
     space: &Space,
-    scene: &mut Scene,
+    ahead: &mut Ahead,
     number: u64,
 ) -> Result<Option<u64>, AllocError>
-    requires scene { IsScene space.now scene.old }
+    requires ahead { IsAhead space.now ahead.old }
     requires number { number < size_of space.now }
-    ensures reached { IfOk result (IsReached space.now number scene.new.stretch) }
-    ensures scene { IsScene space.now scene.new }
-    ensures graph { scene.new.graph ≡ scene.old.graph }
+    ensures reached { IfOk result (IsReached space.now number ahead.new.stretch) }
+    ensures ahead { IsAhead space.now ahead.new }
 {
-    if number >= scene.stretch.first && number - scene.stretch.first < scene.stretch.size {
+    if contains(&ahead.stretch, number) {
         return Ok(None);
     }
-    match space.stretch(alloc, &mut scene.levels, number)? {
-        Reach::At(found) => {
-            scene.stretch = found;
-            scene.at = None;
-            Ok(None)
-        }
-        Reach::Until(next) => Ok(Some(next)),
-    }
+    go_to(
+        alloc,
+        &space.threads(),
+        &mut ahead.levels,
+        &mut ahead.stretch,
+        number,
+    )
 }
 
-/// What is at a number of the stretch at hand.
-fn visit(space: &Space, scene: &Scene, number: u64) -> Look
-    requires scene { IsScene space.now scene.now }
-    requires within { IsWithin space.now number scene.now.stretch }
-    ensures { IsVisit space.now number scene.now.stretch result }
+/// What is at a number of a stretch. The candidate with the number `known` of it is an execution, where there is one.
+fn visit(space: &Space, stretch: &Stretch, known: Option<u64>, number: u64) -> Look
+    requires within { IsWithin space.now number stretch.now }
+    requires known { IfSome known (λ n. is_consistent (candidate space.now.init stretch.now.page.runs.items n) ≡ true) }
+    ensures { IsVisit space.now number stretch.now result }
 {
-    let stretch = &scene.stretch;
-    match look_at(
-        space.init(),
-        &stretch.page,
-        scene.at,
-        number - stretch.first,
-    ) {
+    match look_at(space.init(), &stretch.page, known, number - stretch.first) {
         Look::Found => Look::Found,
         Look::Until(next) => Look::Until(stretch.first + next),
     }
 }
 
 /// What is at a number.
-fn look(alloc: Global, space: &Space, scene: &mut Scene, number: u64) -> Result<Look, AllocError>
-    requires scene { IsScene space.now scene.old }
+fn look(alloc: Global, space: &Space, ahead: &mut Ahead, number: u64) -> Result<Look, AllocError>
+    requires ahead { IsAhead space.now ahead.old }
     requires number { number < size_of space.now }
-    ensures found { IfOk result (IsVisit space.now number scene.new.stretch) }
-    ensures scene { IsScene space.now scene.new }
-    ensures graph { scene.new.graph ≡ scene.old.graph }
+    ensures found { IfOk result (IsVisit space.now number ahead.new.stretch) }
+    ensures ahead { IsAhead space.now ahead.new }
 {
-    match reach(alloc, space, scene, number)? {
+    match reach(alloc, space, ahead, number)? {
         Some(next) => Ok(Look::Until(next)),
-        None => Ok(visit(space, scene, number)),
+        None => Ok(visit(space, &ahead.stretch, None, number)),
     }
 }
 
@@ -141,10 +163,10 @@ pub(crate) fn find(alloc: Global, space: &Space, number: u64) -> Result<Option<G
     requires { number < size_of space.now }
     ensures { IfOk result (λ g. g ≡ graph_at space.now number) }
 {
-    let mut scene = no_scene(alloc);
-    match look(alloc, space, &mut scene, number)? {
+    let mut ahead = nothing_ahead(alloc);
+    match look(alloc, space, &mut ahead, number)? {
         Look::Found => {
-            let stretch = &scene.stretch;
+            let stretch = &ahead.stretch;
             Ok(Some(assemble(alloc, space.init(), &stretch.page, number - stretch.first)?))
         }
         Look::Until(_) => Ok(None),
@@ -155,19 +177,18 @@ pub(crate) fn find(alloc: Global, space: &Space, number: u64) -> Result<Option<G
 fn search(
     alloc: Global,
     space: &Space,
-    scene: &mut Scene,
+    ahead: &mut Ahead,
     from: u64,
     to: u64,
 ) -> Result<Option<u64>, AllocError>
-    requires scene { IsScene space.now scene.old }
+    requires ahead { IsAhead space.now ahead.old }
     requires to { to ≤ size_of space.now }
-    ensures found { IfOk result (IsFind space.now scene.new.stretch from to) }
-    ensures scene { IsScene space.now scene.new }
-    ensures graph { scene.new.graph ≡ scene.old.graph }
+    ensures found { IfOk result (IsFind space.now ahead.new.stretch from to) }
+    ensures ahead { IsAhead space.now ahead.new }
 {
     let mut number = from;
     while number < to {
-        match look(alloc, space, scene, number)? {
+        match look(alloc, space, ahead, number)? {
             Look::Found => return Ok(Some(number)),
             Look::Until(next) => number = next,
         }
@@ -175,25 +196,66 @@ fn search(
     Ok(None)
 }
 
-/// Shows the candidate with this number of the stretch at hand.
-fn show(alloc: Global, init: &[u32], scene: &mut Scene, number: u64) -> Result<(), AllocError>
+/// What is found among the executions with the runs of the one that is shown.
+#[derive(Clone, Copy)]
+pub(crate) enum Near {
+    /// The first stands at this number.
+    Found(u64),
+    /// None stands before this number.
+    Until(u64),
+}
+
+/// The number of the first execution at the numbers from `from` to `to - 1` that are in the stretch of the one that is shown.
+fn search_near(space: &Space, scene: &Scene, from: u64, to: u64) -> Near
+    requires scene { IsScene space.now scene.now }
+    requires to { to ≤ size_of space.now }
+    ensures { IsNear space.now scene.now.stretch from to result }
+{
+    let mut number = from;
+    while number < to {
+        if !contains(&scene.stretch, number) {
+            return Near::Until(number);
+        }
+        match visit(space, &scene.stretch, Some(scene.at), number) {
+            Look::Found => return Near::Found(number),
+            Look::Until(next) => number = next,
+        }
+    }
+    Near::Until(number)
+}
+
+/// Turns the execution that is shown to the candidate with this number of its stretch.
+fn turn(alloc: Global, init: &[u32], scene: &mut Scene, number: u64)
     requires page { IsPage (length init.now) scene.old.stretch.page }
     requires seen { IsSeen init.now scene.old.stretch.page scene.old.graph scene.old.at }
     requires number { number < block (length init.now) scene.old.stretch.page.runs.items }
     ensures stretch { scene.new.stretch ≡ scene.old.stretch }
-    ensures levels { scene.new.levels ≡ scene.old.levels }
-    ensures shown { OnOk result ((scene.new.at ≡ Some number) × (scene.new.graph ≡ candidate init.now scene.old.stretch.page.runs.items number)) }
-    ensures same { OnErr result ((scene.new.at ≡ scene.old.at) × (scene.new.graph ≡ scene.old.graph)) }
+    ensures ahead { scene.new.ahead ≡ scene.old.ahead }
+    ensures at { scene.new.at ≡ number }
+    ensures shown { scene.new.graph ≡ candidate init.now scene.old.stretch.page.runs.items number }
 {
-    make(
-        alloc,
-        init,
-        &scene.stretch.page,
-        &mut scene.graph,
-        scene.at,
-        number,
-    )?;
-    scene.at = Some(number);
+    let graph = replace(&mut scene.graph, nothing(alloc));
+    scene.graph = turned(alloc, &scene.stretch.page, graph, scene.at, number);
+    scene.at = number;
+}
+
+/// Shows the candidate with this number of the stretch ahead, and looks on behind it.
+#[inline(never)]
+fn show(alloc: Global, init: &[u32], scene: &mut Scene, number: u64) -> Result<(), AllocError>
+    requires page { IsPage (length init.now) scene.old.ahead.stretch.page }
+    requires number { number < block (length init.now) scene.old.ahead.stretch.page.runs.items }
+    ensures stretch { OnOk result (scene.new.stretch ≡ scene.old.ahead.stretch) }
+    ensures ahead { OnOk result (scene.new.ahead.stretch ≡ scene.old.stretch) }
+    ensures levels { scene.new.ahead.levels ≡ scene.old.ahead.levels }
+    ensures at { OnOk result (scene.new.at ≡ number) }
+    ensures shown { OnOk result (scene.new.graph ≡ candidate init.now scene.old.ahead.stretch.page.runs.items number) }
+    ensures same { OnErr result ((scene.new.stretch ≡ scene.old.stretch) × (scene.new.ahead ≡ scene.old.ahead) × (scene.new.graph ≡ scene.old.graph) × (scene.new.at ≡ scene.old.at)) }
+{
+    let room = replace(&mut scene.room, no_parts(alloc));
+    let graph = assemble_in(alloc, init, &scene.ahead.stretch.page, number, room)?;
+    scene.room = replace(&mut scene.graph, graph).into_parts();
+    swap(&mut scene.stretch, &mut scene.ahead.stretch);
+    scene.at = number;
     Ok(())
 }
 
@@ -208,7 +270,7 @@ struct Block {
 
 /// At which place of the stretch the number before this one is, if it is in it.
 fn place_before(stretch: &Stretch, next: u64) -> Option<u64>
-    ensures { IfSome result (λ place. (place < stretch.now.size) × (next ≡ stretch.now.first + place + 1)) }
+    ensures { MatchOption result ((depth : ℕ) → HasNoBlock stretch.now next depth) (IsPlace stretch.now next) }
 {
     if next <= stretch.first || next - stretch.first > stretch.size {
         return None;
@@ -219,7 +281,8 @@ fn place_before(stretch: &Stretch, next: u64) -> Option<u64>
 /// The block of this depth around the number before `next`, if the stretch has both.
 fn block_before(stretch: &Stretch, next: u64, depth: usize) -> Option<Block>
     requires { (s : Choices) × MayBeStretch s stretch.now }
-    ensures { (s : Choices) → MayBeStretch s stretch.now → IfSome result (IsBlock s stretch.now next) }
+    ensures block { (s : Choices) → MayBeStretch s stretch.now → IfSome result (IsBlock s stretch.now next depth) }
+    ensures none { MatchOption result (HasNoBlock stretch.now next depth) (λ _. Unit {0}) }
 {
     let place = place_before(stretch, next)?;
     let depth = stretch.page.depths.get(depth)?;
@@ -234,7 +297,8 @@ fn block_before(stretch: &Stretch, next: u64, depth: usize) -> Option<Block>
 /// The execution at the number before this one, or one of nothing where none is.
 fn graph_before(alloc: Global, space: &Space, next: u64) -> Result<Graph, AllocError>
     requires { next ≤ size_of space.now }
-    ensures { IfOk result (AllExtend space.now (next - 1) next) }
+    ensures extend { IfOk result (AllExtend space.now (next - 1) next) }
+    ensures at { IfOk result (IsBefore space.now next) }
 {
     if next == 0 {
         return Ok(nothing(alloc));
@@ -267,9 +331,18 @@ impl<'a> Walk<'a> {
         // A walk that finds no memory stays where it was.
         ensures same { OnErr result (self.new ≡ self.old) }
     {
-        match search(alloc, self.space, &mut self.scene, self.next, self.to)? {
-            Some(number) => {
+        let from = match search_near(self.space, &self.scene, self.next, self.to) {
+            Near::Found(number) => {
                 let place = number - self.scene.stretch.first;
+                turn(alloc, self.space.init(), &mut self.scene, place);
+                self.next = number + 1;
+                return Ok(Some(number));
+            }
+            Near::Until(from) => from,
+        };
+        match search(alloc, self.space, &mut self.scene.ahead, from, self.to)? {
+            Some(number) => {
+                let place = number - self.scene.ahead.stretch.first;
                 show(alloc, self.space.init(), &mut self.scene, place)?;
                 self.next = number + 1;
                 Ok(Some(number))
@@ -290,12 +363,10 @@ impl<'a> Walk<'a> {
 
     /// How many depths of blocks there are around the execution found last: from the coarsest, the runs alone, inwards. None
     /// where none was found.
-    pub fn depths(&self) -> usize {
-        let stretch = &self.scene.stretch;
-        match place_before(stretch, self.next) {
-            Some(_) => stretch.page.depths.len(),
-            None => 0,
-        }
+    pub fn depths(&self) -> usize
+        ensures { result ≡ length (depths_around self.now) }
+    {
+        self.scene.stretch.page.depths.len()
     }
 
     /// The number behind the block of this depth around the number found last. At a depth that there is not, the block is that
@@ -303,6 +374,7 @@ impl<'a> Walk<'a> {
     pub fn end_of(&self, depth: usize) -> u64
         ensures behind { self.now.next ≤ result }
         ensures within { result ≤ size_of self.now.space }
+        ensures end { IsJustFound self.now → result ≡ end_at self.now.space (depths_around self.now) depth (self.now.next - 1) }
     {
         match block_before(&self.scene.stretch, self.next, depth) {
             Some(block) => block.end,
@@ -317,7 +389,7 @@ impl<'a> Walk<'a> {
         depth: usize,
         common: &mut Common,
     ) -> Result<(), AllocError>
-        ensures shown { OnOk result (IsCommon self.now common.new) }
+        ensures shown { OnOk result (IsCommon self.now depth common.new) }
         ensures same { OnErr result (common.new ≡ common.old) }
     {
         match block_before(&self.scene.stretch, self.next, depth) {
@@ -347,6 +419,8 @@ impl<'a> Walk<'a> {
         // Each execution of the block goes on from the graph that is shown.
         ensures shown { OnOk result (AllExtend self.now.space (self.now.next - 1) common.new.end common.new.graph) }
         ensures end { OnOk result ((self.now.next ≤ common.new.end) × (common.new.end ≤ size_of self.now.space)) }
+        // It is what is known of them at this depth.
+        ensures cut { OnOk result (IsJustFound self.now → common.new.graph ≡ cut_at self.now.space self.now.shown (depths_around self.now) depth (self.now.next - 1)) }
         ensures same { OnErr result (common.new ≡ common.old) }
     {
         self.write_common(alloc, depth, common)?;

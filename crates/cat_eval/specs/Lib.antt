@@ -15,3 +15,4 @@ pub mod Keeping
 pub mod Examples
 pub mod Growth
 pub mod Laws
+pub mod Prepared

@@ -1,5 +1,7 @@
 pub mod Admitted
+pub mod Answered
 pub mod Counted
+pub mod Coursing
 pub mod Cuts
 pub mod Members
 pub mod Merging

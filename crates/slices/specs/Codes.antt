@@ -8,6 +8,7 @@ use Rattle.litmus_tree.specs.Codes.{coded_litmus}
 use Rattle.litmus_tree.specs.Tree.{Litmus}
 use Rattle.conditions.specs.contracts.place.Place.{the_row as place_row}
 use Rattle.conditions.specs.declared.place.Place.{Place}
+use Rattle.slices.specs.Courses.{CourseValue}
 use Rattle.slices.specs.VerdictValues.{VerdictValue}
 use Rattle.slices.specs.Findings.{FindingValue}
 use Rattle.slices.specs.Parts.{PieceValue, PieceResultValue}
@@ -52,3 +53,8 @@ abbrev pub coded_verdict : Coded VerdictValue
 coded_verdict =
     code_by (WorkValue × (ℕ × FindingValue)) (coded× coded_work (coded× coded_ℕ coded_finding))
     (λ v. (v.work, (v.version, v.finding))) (λ p. record { work = p.0; version = p.1.0; finding = p.1.1 }) (λ _. refl)
+
+abbrev pub coded_course : Coded CourseValue
+coded_course =
+    code_by (WorkValue × (ℕ × ℕ)) (coded× coded_work (coded× coded_ℕ coded_ℕ))
+    (λ c. (c.work, (c.total, c.done))) (λ p. record { work = p.0; total = p.1.0; done = p.1.1 }) (λ _. refl)

@@ -1,9 +1,11 @@
 pub mod Codes
 pub mod Counters
+pub mod Courses
 pub mod Finals
 pub mod Findings
 pub mod Parts
 pub mod Passing
+pub mod Questions
 pub mod Same
 pub mod Slots
 pub mod Sums

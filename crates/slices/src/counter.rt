@@ -38,27 +38,30 @@ pub struct Counter {
     pub flags: BTreeSet<Name>,
 }
 
-/// Counts the allowed executions at the numbers from `from` to `to - 1`, one after another.
+/// Counts the allowed executions at the numbers from `from` to `to - 1`, one after another. The evaluator is one of the work's model.
 pub fn count(
     alloc: Global,
     work: &Work,
     space: &Space,
+    evaluator: &mut Evaluator<'_>,
+    pruner: &mut Pruner,
     places: &[Place],
     from: u64,
     to: u64,
 ) -> Result<Counter, AllocError>
     requires range { IsRange work.now.test from to }
     requires space { space.now ≡ choices_of work.now.test }
-    ensures { IfOk result
+    requires evaluator { evaluator.old ≡ work.now.model.items }
+    ensures count { IfOk result
         (IsCountOf work.now.test work.now.model.items places.now (executions_in work.now.test from to)) }
+    ensures evaluator { evaluator.new ≡ evaluator.old }
 {
     let slots = slots(alloc, work.test(), places)?;
     let mut counter = Counter::new(alloc);
     let mut walk = space.walk(alloc, from, to);
-    let mut evaluator = Evaluator::of(alloc, work.model(), walk.graph())?;
-    let mut pruner = Pruner::new(alloc, work.model());
+    pruner.begin();
     while let Some(number) = walk.next(alloc)? {
-        if pruner.passes(alloc, &mut evaluator, &mut walk, number)? {
+        if pruner.passes(alloc, evaluator, &mut walk, number)? {
             continue;
         }
         let graph = walk.graph();

@@ -1,71 +1,133 @@
-//! Candidates that serve one piece after another.
+//! What serves one piece after another.
 
 ghost use Rattle.std.specs.Prelude.{◌≡◌, ◌↔◌, IfOk, IsTrue};
 ghost use Rattle.candidates.specs.Candidates.{choices_of};
+ghost use Rattle.slices.specs.Works.{WorkValue};
 
-use crate::piece::{Piece, PieceResult, evaluate_in, space_of};
-use crate::work::{TestRef, Work};
+use crate::piece::{Piece, PieceResult, evaluate_in, evaluator_of, space_of};
+use crate::pruning::Pruner;
+use crate::work::WorkRef;
 use candidates::Space;
+use cat_eval::Prepared;
 use litmus_value::Test;
 use std::alloc::{AllocError, Global};
 use std::marker::Model;
 
-/// A test and its numbered candidates. Contracts see the test.
+/// A work with the numbered candidates of its test, and with its model made ready. Contracts see the work.
 struct Made {
-    test: TestRef,
+    work: WorkRef,
     space: Space,
+    ready: Prepared,
+    pruner: Pruner,
 }
 
 // Functions of their own, here and below: whoever holds one drops it by a call.
 impl Drop for Made {
     fn drop(self) {
-        let Made { test: _, space: _ } = self;
+        let Made {
+            work: _,
+            space: _,
+            ready: _,
+            pruner: _,
+        } = self;
     }
 }
 
 impl Model for Made {
     ghost use Rattle.std.specs.Prelude.{◌≡◌};
-    ghost use Rattle.litmus_tree.specs.Tree.{Litmus};
-    ghost use Rattle.litmus_tree.specs.Codes.{coded_litmus};
     ghost use Rattle.candidates.specs.Candidates.{choices_of};
+    ghost use Rattle.cat_eval.specs.Prepared.{IsReadyFor};
+    ghost use Rattle.slices.specs.Codes.{coded_work};
+    ghost use Rattle.slices.specs.Works.{WorkValue};
 
-    ghost Value = { Litmus };
+    ghost Value = { WorkValue };
 
-    ghost coded = { coded_litmus };
+    ghost coded = { coded_work };
 
-    ghost view = { λ m. m.test };
+    ghost view = { λ m. m.work };
 
-    ghost invariant = { λ m. m.space ≡ choices_of m.test };
+    ghost invariant = { λ m. record { space : m.space ≡ choices_of m.work.test; ready : IsReadyFor m.work.model.items m.ready } };
 }
 
 impl Made {
-    /// The candidates of a work's test.
-    fn of(alloc: Global, work: &Work) -> Result<Self, AllocError>
-        ensures { IfOk result (λ m. m ≡ work.now.test) }
+    /// What a work makes use of.
+    fn of(alloc: Global, work: &WorkRef) -> Result<Self, AllocError>
+        ensures { IfOk result (λ m. m ≡ work.now) }
     {
-        let space = space_of(alloc, work)?;
-        let test = work.test_ref().share()?;
-        Ok(Made { test, space })
+        let space = space_of(alloc, work.work())?;
+        Made::over(alloc, space, work)
     }
 
-    /// Whether they are those of this test.
-    #[tactic(auto, using(litmus_tree::specs::Exact::litmus_exact))]
-    fn is_of(&self, test: &Test) -> bool
-        ensures { IsTrue result ↔ (self.now ≡ test.now) }
+    /// What a work makes use of whose candidates these are.
+    fn over(alloc: Global, space: Space, work: &WorkRef) -> Result<Self, AllocError>
+        requires { space ≡ choices_of work.now.test }
+        ensures { IfOk result (λ m. m ≡ work.now) }
     {
-        self.test.test() == test
+        let ready = evaluator_of(alloc, work.work())?.without_model(alloc)?;
+        let pruner = Pruner::new(alloc, work.work().model());
+        let work = work.share()?;
+        Ok(Made {
+            work,
+            space,
+            ready,
+            pruner,
+        })
+    }
+
+    /// Whether it is that of this work.
+    fn is_of(&self, work: &WorkRef) -> bool
+        ensures { IsTrue result ↔ (self.now ≡ work.now) }
+    {
+        self.work.same(work)
+    }
+
+    /// Whether its candidates are those of this test.
+    #[tactic(auto, using(litmus_tree::specs::Exact::litmus_exact))]
+    fn is_over(&self, test: &Test) -> bool
+        ensures { IsTrue result ↔ (self.now.test ≡ test.now) }
+    {
+        self.work.work().test() == test
     }
 
     /// The candidates.
-    fn space(&self) -> &Space
-        ensures { result.now ≡ choices_of self.now }
+    fn into_space(self) -> Space
+        ensures { result ≡ choices_of self.test }
     {
-        &self.space
+        let Made {
+            work: _,
+            space,
+            ready: _,
+            pruner: _,
+        } = self;
+        space
+    }
+
+    /// Evaluates the numbers of a piece of the work.
+    fn evaluate(self, alloc: Global, piece: &Piece) -> Result<(PieceResult, Made), AllocError>
+        requires { self ≡ piece.now.work }
+        ensures { IfOk result (λ p. p.0.piece ≡ piece.now) }
+    {
+        let Made {
+            work,
+            space,
+            ready,
+            mut pruner,
+        } = self;
+        let mut evaluator = ready.with_model(alloc, piece.work().work().model())?;
+        let result = evaluate_in(alloc, &space, &mut evaluator, &mut pruner, piece)?;
+        let ready = evaluator.without_model(alloc)?;
+        let made = Made {
+            work,
+            space,
+            ready,
+            pruner,
+        };
+        Ok((result, made))
     }
 }
 
-/// What one piece leaves for the next one: the numbered candidates of its test, which every piece of a job needs, and which are made anew where
-/// the next piece is of another test. It holds one test's candidates at a time.
+/// What one piece leaves for the next one: the numbered candidates of its test and its model made ready, which every piece of a job needs. Where
+/// the next piece is of another work, they are made anew; the candidates only if it is of another test. It holds one work's at a time.
 pub struct KeptSpace {
     alloc: Global,
     made: Option<Made>,
@@ -78,27 +140,30 @@ impl Drop for KeptSpace {
 }
 
 impl KeptSpace {
-    /// No candidates yet.
+    /// Nothing yet.
     pub fn new(alloc: Global) -> Self {
         KeptSpace { alloc, made: None }
     }
 
-    /// Evaluates the numbers of a piece as `evaluate` does, over the candidates that are kept where they are those of its test.
+    /// Evaluates the numbers of a piece as `evaluate` does, by what is kept where it is of the same work.
     pub fn evaluate(&mut self, piece: &Piece) -> Result<PieceResult, AllocError>
         ensures { IfOk result (λ r. r.piece ≡ piece.now) }
     {
-        let made = self.take_for(piece.work().work())?;
-        let result = evaluate_in(self.alloc, made.space(), piece);
+        let made = self.take_for(piece.work())?;
+        let (result, made) = made.evaluate(self.alloc, piece)?;
         self.made = Some(made);
-        result
+        Ok(result)
     }
 
-    /// The candidates of a work's test: those that are kept, or new ones.
-    fn take_for(&mut self, work: &Work) -> Result<Made, AllocError>
-        ensures { IfOk result (λ m. m ≡ work.now.test) }
+    /// What a work makes use of: what is kept, or new.
+    fn take_for(&mut self, work: &WorkRef) -> Result<Made, AllocError>
+        ensures { IfOk result (λ m. m ≡ work.now) }
     {
         match self.made.take() {
-            Some(made) if made.is_of(work.test()) => Ok(made),
+            Some(made) if made.is_of(work) => Ok(made),
+            Some(made) if made.is_over(work.work().test()) => {
+                Made::over(self.alloc, made.into_space(), work)
+            }
             _ => Made::of(self.alloc, work),
         }
     }

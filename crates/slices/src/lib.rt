@@ -2,6 +2,7 @@
 #![tactic(auto)]
 
 mod counter;
+mod course;
 mod equality;
 mod finding;
 mod kept_space;
@@ -9,6 +10,7 @@ pub mod laws;
 mod piece;
 mod prospects;
 mod pruning;
+mod question;
 mod row;
 mod slot;
 mod span;
@@ -18,9 +20,12 @@ mod tally;
 mod verdict;
 mod work;
 
+pub use course::Course;
 pub use finding::{Finding, FindingRef};
 pub use kept_space::KeptSpace;
-pub use piece::{Piece, PieceResult, evaluate};
+pub use piece::{Piece, PieceResult, evaluate, space_of};
+pub use pruning::Pruner;
+pub use question::Question;
 pub use row::Row;
 pub use span::{Span, cut};
 pub use tally::Tally;

@@ -6,9 +6,11 @@ ghost use Rattle.slices.specs.Parts.{IsPart, IsRange};
 
 use crate::counter::count;
 use crate::finding::{Finding, FindingRef};
+use crate::pruning::Pruner;
 use crate::span::Span;
 use crate::work::{Work, WorkRef};
-use candidates::{Space, SpaceFault};
+use candidates::{Common, Space, SpaceFault};
+use cat_eval::Evaluator;
 use conditions::observed;
 use std::alloc::{AllocError, Global};
 use std::marker::Model;
@@ -80,8 +82,11 @@ impl Model for PieceResult {
 pub fn evaluate(alloc: Global, piece: &Piece) -> Result<PieceResult, AllocError>
     ensures { IfOk result (λ r. r.piece ≡ piece.now) }
 {
-    let space = space_of(alloc, piece.work.work())?;
-    evaluate_in(alloc, &space, piece)
+    let work = piece.work.work();
+    let space = space_of(alloc, work)?;
+    let mut evaluator = evaluator_of(alloc, work)?;
+    let mut pruner = Pruner::new(alloc, work.model());
+    evaluate_in(alloc, &space, &mut evaluator, &mut pruner, piece)
 }
 
 /// The numbered candidates of a work's test.
@@ -97,13 +102,37 @@ pub fn space_of(alloc: Global, work: &Work) -> Result<Space, AllocError>
     }
 }
 
-/// Evaluates a piece over the candidates of its test.
-pub fn evaluate_in(alloc: Global, space: &Space, piece: &Piece) -> Result<PieceResult, AllocError>
-    requires { space.now ≡ choices_of piece.now.work.test }
-    ensures { IfOk result (λ r. r.piece ≡ piece.now) }
+/// An evaluator of a work's model.
+pub fn evaluator_of<'w>(alloc: Global, work: &'w Work) -> Result<Evaluator<'w>, AllocError>
+    ensures { IfOk result (λ e. e ≡ work.entry.now.model.items) }
+{
+    let nothing = Common::nothing(alloc);
+    Evaluator::of(alloc, work.model(), nothing.graph())
+}
+
+/// Evaluates a piece over the candidates of its test, by an evaluator of its work's model.
+pub fn evaluate_in(
+    alloc: Global,
+    space: &Space,
+    evaluator: &mut Evaluator<'_>,
+    pruner: &mut Pruner,
+    piece: &Piece,
+) -> Result<PieceResult, AllocError>
+    requires space { space.now ≡ choices_of piece.now.work.test }
+    requires evaluator { evaluator.old ≡ piece.now.work.model.items }
+    ensures piece { IfOk result (λ r. r.piece ≡ piece.now) }
+    ensures evaluator { evaluator.new ≡ evaluator.old }
 {
     let piece = piece.share()?;
-    let finding = find(alloc, &piece.work, space, piece.from, piece.to)?;
+    let finding = find(
+        alloc,
+        &piece.work,
+        space,
+        evaluator,
+        pruner,
+        piece.from,
+        piece.to,
+    )?;
     let found = FindingRef::new(alloc, finding)?;
     Ok(PieceResult::new(piece, found))
 }
@@ -113,16 +142,30 @@ fn find(
     alloc: Global,
     work: &WorkRef,
     space: &Space,
+    evaluator: &mut Evaluator<'_>,
+    pruner: &mut Pruner,
     from: u64,
     to: u64,
 ) -> Result<Finding, AllocError>
     requires range { IsRange work.now.test from to }
     requires space { space.now ≡ choices_of work.now.test }
-    ensures { IfOk result (IsPart work.now.test work.now.model.items from to) }
+    requires evaluator { evaluator.old ≡ work.now.model.items }
+    ensures part { IfOk result (IsPart work.now.test work.now.model.items from to) }
+    ensures evaluator { evaluator.new ≡ evaluator.old }
 {
     let test = work.work().test();
     let places = observed(alloc, test.condition(), test.listed())?;
-    let totals = count(alloc, work.work(), space, &places, from, to)?.totals(alloc)?;
+    let counter = count(
+        alloc,
+        work.work(),
+        space,
+        evaluator,
+        pruner,
+        &places,
+        from,
+        to,
+    )?;
+    let totals = counter.totals(alloc)?;
     Ok(Finding::new(work.share()?, places, totals))
 }
 

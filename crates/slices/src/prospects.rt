@@ -106,6 +106,11 @@ impl Prospects {
         }
     }
 
+    /// Those of another walk, which hasn't come into any block. What asking has brought so far is known of it, too.
+    pub(crate) fn begin(&mut self) {
+        self.entered = 0;
+    }
+
     /// Whether so little was spent that no block is worth a look.
     pub(crate) fn are_early(&self) -> bool {
         self.spent < FIRST

@@ -11,7 +11,7 @@ use cat_tree::Item;
 use std::alloc::{AllocError, Global};
 
 /// Passes over executions that a model forbids for a reason that they share.
-pub(crate) struct Pruner {
+pub struct Pruner {
     /// Whether a check of the model may tell that of executions of which not all is known.
     may_refute: bool,
     common: Common,
@@ -39,12 +39,17 @@ fn may_refute(item: &Item) -> bool {
 
 impl Pruner {
     /// For executions that are judged under this model.
-    pub(crate) fn new(alloc: Global, model: &Model) -> Self {
+    pub fn new(alloc: Global, model: &Model) -> Self {
         Pruner {
             may_refute: model.items().iter().any(may_refute),
             common: Common::nothing(alloc),
             prospects: Prospects::new(),
         }
+    }
+
+    /// Begins with another walk. What was asked before tells what is worth asking.
+    pub(crate) fn begin(&mut self) {
+        self.prospects.begin();
     }
 
     /// The end of the block of a depth around the execution found last, if it is known that the model allows none of the block's.
@@ -71,7 +76,7 @@ impl Pruner {
 
     /// Goes on over the execution at this number, which the walk found last, and over a block around it, if it is known that the
     /// evaluator's model allows none of these.
-    pub(crate) fn passes(
+    pub fn passes(
         &mut self,
         alloc: Global,
         evaluator: &mut Evaluator<'_>,
@@ -96,7 +101,7 @@ impl Pruner {
     }
 
     /// Notes what was said of an execution that wasn't passed over.
-    pub(crate) fn note(&mut self, judgement: &Judgement) {
+    pub fn note(&mut self, judgement: &Judgement) {
         self.prospects.note(judgement.allowed());
     }
 }

@@ -7,7 +7,8 @@ ghost use Rattle.slices.specs.Tallies.{IsApart, IsCover, IsTally, cut, span_of};
 ghost use Rattle.slices.specs.Verdicts.{IsVerdict};
 
 use crate::finding::{Finding, FindingRef};
-use crate::piece::{Piece, PieceResult, evaluate_in, space_of};
+use crate::piece::{Piece, PieceResult, evaluate_in, evaluator_of, space_of};
+use crate::pruning::Pruner;
 use crate::span::{Span, cut};
 use crate::sum::Sum;
 use crate::verdict::Verdict;
@@ -156,9 +157,12 @@ impl Verdict {
         ensures right { IfOk result (λ v. IsVerdict v.work.test v.work.model.items v.finding) }
     {
         let space = space_of(alloc, work.work())?;
+        let mut evaluator = evaluator_of(alloc, work.work())?;
+        let mut pruner = Pruner::new(alloc, work.work().model());
         let mut tally = Tally::new(alloc, work.share()?)?;
         for slice in 0..total {
-            let part = evaluate_in(alloc, &space, &slice_of(&work, total, slice)?)?;
+            let piece = slice_of(&work, total, slice)?;
+            let part = evaluate_in(alloc, &space, &mut evaluator, &mut pruner, &piece)?;
             match tally.merge(part) {
                 Ok(()) => {}
                 Err((_, AllocError)) => return Err(AllocError),
@@ -169,7 +173,7 @@ impl Verdict {
 }
 
 /// A slice of a work that is cut into so many.
-fn slice_of(work: &WorkRef, total: u16, slice: u16) -> Result<Piece, AllocError>
+pub(crate) fn slice_of(work: &WorkRef, total: u16, slice: u16) -> Result<Piece, AllocError>
     requires { slice < total }
     ensures work { IfOk result (λ p. p.work ≡ work.now) }
     ensures from { IfOk result (λ p. p.from ≡ cut (test_size work.now.test) total slice) }

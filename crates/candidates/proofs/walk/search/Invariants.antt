@@ -1,5 +1,5 @@
-use Rattle.std.proofs.Common.{◌≡◌, ◌≤◌, ◌-◌}
-use Rattle.candidates.specs.Walks.{NoneFrom, IsScene}
+use Rattle.std.proofs.Common.{◌≤◌, ◌-◌}
+use Rattle.candidates.specs.Walks.{NoneFrom, IsAhead}
 use Rattle.candidates.proofs.walk.search.Given as goal
 
 abbrev pub decreases-loop-number : goal.decreases-loop-number
@@ -9,6 +9,5 @@ abbrev pub invariant-loop-number : goal.invariant-loop-number
 invariant-loop-number l = record {
   order : l.from ≤ l.number;
   none : NoneFrom l.space l.from l.number;
-  scene : IsScene l.space l.scene;
-  graph : l.scene.graph ≡ l.initial.scene.graph;
+  ahead : IsAhead l.space l.ahead;
 }

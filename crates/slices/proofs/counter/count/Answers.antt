@@ -9,26 +9,26 @@ use Rattle.slices.proofs.Counted.{walked_none_yet, walked_some, walked_none}
 use Rattle.slices.proofs.PassedOver.{hit_number, is_passed, miss_number, not_passed, walked_over}
 use Rattle.slices.proofs.counter.count.Goals as goal
 
-pub loop-pruner-init : goal.loop-pruner-init
-loop-pruner-init c =
+pub loop-walk-init : goal.loop-walk-init
+loop-walk-init c =
     let is = c.walk-walk.ensures in
     record {
       counted = walked_none_yet c.args.work.now.test c.args.work.now.model.items c.args.places.now c.args.from c.args.to c.walk-walk.result c.new-counter.result
           (ap (λ (w : Walking). w.space) is ∙ c.requires.space) (ap (λ (w : Walking). w.next) is) (ap (λ (w : Walking). w.to) is)
           c.new-counter.ensures.positive c.new-counter.ensures.negative c.new-counter.ensures.states c.new-counter.ensures.flags;
       slots = c.in_ok-slots.ensures ∙ ap (λ t. map (slot_of t) c.args.places.now) c.test.ensures;
-      model = c.in_ok-evaluator.ensures ∙ ap (λ m. m.items) c.model.ensures;
+      model = c.requires.evaluator;
     }
 
-pub loop-pruner-preserved-then-branch : goal.loop-pruner-preserved-then-branch
-loop-pruner-preserved-then-branch c =
-    let inv = c.loop-pruner.invariant in
+pub loop-walk-preserved-then-branch : goal.loop-walk-preserved-then-branch
+loop-walk-preserved-then-branch c =
+    let inv = c.loop-walk.invariant in
     let n = c.in-Some.number in
-    let hit = hit_number c.loop-pruner.walk c.next.new.self c.in_ok-number.field-0 n c.in-Some.is c.in_ok-number.ensures.found in
+    let hit = hit_number c.loop-walk.walk c.next.new.self c.in_ok-number.field-0 n c.in-Some.is c.in_ok-number.ensures.found in
     let P : List Clause → Type 0 = λ items. ArePassed items n c.next.new.self c.passes.new.walk in
-    let over = is_passed c.in_ok-passes.field-0 (P c.loop-pruner.evaluator) (c.passes.new.walk ≡ c.next.new.self) c.if-branch.true c.in_ok-passes.ensures.passed in
+    let over = is_passed c.in_ok-passes.field-0 (P c.loop-walk.evaluator) (c.passes.new.walk ≡ c.next.new.self) c.if-branch.true c.in_ok-passes.ensures.passed in
     record {
-      counted = walked_over c.args.work.now.test c.args.work.now.model.items c.args.places.now c.args.from c.args.to n c.loop-pruner.walk c.next.new.self c.passes.new.walk c.loop-pruner.counter inv.counted hit (subst P inv.model over);
+      counted = walked_over c.args.work.now.test c.args.work.now.model.items c.args.places.now c.args.from c.args.to n c.loop-walk.walk c.next.new.self c.passes.new.walk c.loop-walk.counter inv.counted hit (subst P inv.model over);
       slots = inv.slots;
       model = c.passes.ensures.model ∙ inv.model;
     }
@@ -36,27 +36,27 @@ loop-pruner-preserved-then-branch c =
 pub weigh-requires-clause-allowed : goal.weigh-requires-clause-allowed
 weigh-requires-clause-allowed c =
     let P : List Clause → Type 0 = λ items. IsTrue c.in_ok-judgement.judgement.allowed ↔ Allowed items c.graph-graph.result.now in
-    subst P (c.passes.ensures.model ∙ c.loop-pruner.invariant.model) c.in_ok-judgement.ensures.allowed
+    subst P (c.passes.ensures.model ∙ c.loop-walk.invariant.model) c.in_ok-judgement.ensures.allowed
 
 pub weigh-requires-clause-flags : goal.weigh-requires-clause-flags
 weigh-requires-clause-flags c =
     let P : List Clause → Type 0 = λ items. Lists (λ name. Allowed items c.graph-graph.result.now × Raised items c.graph-graph.result.now name) c.in_ok-judgement.judgement.flags in
-    subst P (c.passes.ensures.model ∙ c.loop-pruner.invariant.model) c.in_ok-judgement.ensures.flags
+    subst P (c.passes.ensures.model ∙ c.loop-walk.invariant.model) c.in_ok-judgement.ensures.flags
 
-pub loop-pruner-preserved : goal.loop-pruner-preserved
-loop-pruner-preserved c =
-    let inv = c.loop-pruner.invariant in
+pub loop-walk-preserved : goal.loop-walk-preserved
+loop-walk-preserved c =
+    let inv = c.loop-walk.invariant in
     let n = c.in-Some.number in
-    let hit = hit_number c.loop-pruner.walk c.next.new.self c.in_ok-number.field-0 n c.in-Some.is c.in_ok-number.ensures.found in
-    let same = not_passed c.in_ok-passes.field-0 (ArePassed c.loop-pruner.evaluator n c.next.new.self c.passes.new.walk) (c.passes.new.walk ≡ c.next.new.self) c.if-branch.false c.in_ok-passes.ensures.passed in
-    let H : Walking → Type 0 = λ w. IsHit c.loop-pruner.walk w n in
+    let hit = hit_number c.loop-walk.walk c.next.new.self c.in_ok-number.field-0 n c.in-Some.is c.in_ok-number.ensures.found in
+    let same = not_passed c.in_ok-passes.field-0 (ArePassed c.loop-walk.evaluator n c.next.new.self c.passes.new.walk) (c.passes.new.walk ≡ c.next.new.self) c.if-branch.false c.in_ok-passes.ensures.passed in
+    let H : Walking → Type 0 = λ w. IsHit c.loop-walk.walk w n in
     record {
-      counted = walked_some c.args.work.now.test c.args.work.now.model.items c.args.places.now c.args.from c.args.to n c.loop-pruner.walk c.passes.new.walk c.graph-graph.result.now c.loop-pruner.counter c.weigh.new.self inv.counted (subst H (sym same) hit) c.graph-graph.ensures c.in_ok-weigh.ensures;
+      counted = walked_some c.args.work.now.test c.args.work.now.model.items c.args.places.now c.args.from c.args.to n c.loop-walk.walk c.passes.new.walk c.graph-graph.result.now c.loop-walk.counter c.weigh.new.self inv.counted (subst H (sym same) hit) c.graph-graph.ensures c.in_ok-weigh.ensures;
       slots = inv.slots;
       model = c.judge_next.ensures.model ∙ c.passes.ensures.model ∙ inv.model;
     }
 
-pub returns : goal.returns
-returns c =
-    let miss = miss_number c.loop-pruner.walk c.next.new.self c.in_ok-number.field-0 c.in_default.not-Some c.in_ok-number.ensures.found in
-    walked_none c.args.work.now.test c.args.work.now.model.items c.args.places.now c.args.from c.args.to c.loop-pruner.walk c.next.new.self c.loop-pruner.counter c.loop-pruner.invariant.counted miss
+pub returns-clause-count : goal.returns-clause-count
+returns-clause-count c =
+    let miss = miss_number c.loop-walk.walk c.next.new.self c.in_ok-number.field-0 c.in_default.not-Some c.in_ok-number.ensures.found in
+    walked_none c.args.work.now.test c.args.work.now.model.items c.args.places.now c.args.from c.args.to c.loop-walk.walk c.next.new.self c.loop-walk.counter c.loop-walk.invariant.counted miss

@@ -3,9 +3,9 @@ use Rattle.slices.specs.Works.{WorkValue}
 use Rattle.slices.proofs.Counted.{finds}
 use Rattle.slices.proofs.piece.find.Goals as goal
 
-pub returns : goal.returns
-returns c =
-    let counted = rw (c.work-2.ensures, c.deref.ensures.value) at c.in_ok-count.ensures in
+pub returns-clause-part : goal.returns-clause-part
+returns-clause-part c =
+    let counted = rw (c.work-2.ensures, c.deref.ensures.value) at c.in_ok-counter.ensures.count in
     let observed = rw (c.condition.ensures, c.listed.ensures) at c.in_ok-places.ensures in
     let value = rw c.in_ok-share.ensures at c.new.ensures in
     let e = c.in_ok-totals.ensures in

@@ -7,17 +7,18 @@ use Rattle.slices.proofs.verdict.Verdict.judge.Goals as goal
 
 pub merge-requires-clause-apart : goal.merge-requires-clause-apart
 merge-requires-clause-apart c =
-    let first = ap (λ (p : PieceValue). p.from) c.in_ok-part.ensures ∙ c.in_ok-slice_of.ensures.from in
+    let first = ap (λ (p : PieceValue). p.from) c.in_ok-part.ensures.piece ∙ c.in_ok-piece.ensures.from in
     next_apart (test_size c.args.work.test) c.args.total c.loop-slice.slice c.in_ok-part.part c.loop-slice.tally.spans c.loop-slice.invariant.below first
 
 pub loop-slice-preserved : goal.loop-slice-preserved
 loop-slice-preserved c =
     let n = test_size c.args.work.test in
-    let first = ap (λ (p : PieceValue). p.from) c.in_ok-part.ensures ∙ c.in_ok-slice_of.ensures.from in
-    let last = ap (λ (p : PieceValue). p.to) c.in_ok-part.ensures ∙ c.in_ok-slice_of.ensures.to in
+    let first = ap (λ (p : PieceValue). p.from) c.in_ok-part.ensures.piece ∙ c.in_ok-piece.ensures.from in
+    let last = ap (λ (p : PieceValue). p.to) c.in_ok-part.ensures.piece ∙ c.in_ok-piece.ensures.to in
     let pushed = ap (λ (t : TallyValue). t.spans) c.in-Ok.ensures.merged in
     record {
       same = ap (λ (t : TallyValue). t.work) c.in-Ok.ensures.merged ∙ c.loop-slice.invariant.same;
+      evaluator = c.evaluate_in.ensures.evaluator ∙ c.loop-slice.invariant.evaluator;
       below = next_below n c.args.total c.loop-slice.slice c.in_ok-part.part c.loop-slice.tally.spans c.merge.new.self.spans c.requires.0 pushed last c.loop-slice.invariant.below;
       held = next_held n c.args.total c.loop-slice.slice c.in_ok-part.part c.loop-slice.tally.spans c.merge.new.self.spans pushed first last c.loop-slice.invariant.held;
     }

@@ -7,6 +7,7 @@ use Rattle.slices.proofs.verdict.Verdict.judge.Given as goal
 abbrev pub invariant-loop-slice : goal.invariant-loop-slice
 invariant-loop-slice l = record {
   same : l.tally.work ≡ l.fn.work;
+  evaluator : l.evaluator ≡ l.fn.work.model.items;
   below : (i : ℕ) → IsHeld l.tally.spans i → i < cut (test_size l.fn.work.test) l.fn.total l.slice;
   held : (i : ℕ) → i < cut (test_size l.fn.work.test) l.fn.total l.slice → IsHeld l.tally.spans i;
 }

@@ -1,0 +1,20 @@
+use Rattle.std.proofs.Common.{◌≡◌, ◌∙◌, ◌++◌, List, length, ap, arith}
+use Rattle.events.specs.declared.event.Event.{Event}
+use Rattle.candidates.specs.declared.depths.Depth.{Depth}
+use Rattle.candidates.specs.declared.depths.Known.TheVariants.{Sources}
+use Rattle.candidates.specs.Depths.{before_reads, known_of}
+use Rattle.candidates.proofs.Deeper.{all_depths, last_depth}
+use Rattle.candidates.proofs.depths.list_depths.Goals as goal
+
+pub returns-clause-are : goal.returns-clause-are
+returns-clause-are c =
+    let page = c.args.page.now in
+    let runs = page.runs.items in
+    let n = c.args.locations in
+    let rs = c.deref.result.now in
+    let many : c.len.result ≡ length rs = (let l = ap (λ (es : List Event). length es) c.deref.ensures.value in omega (arith, c.len.ensures, l)) in
+    let d : Depth = record { size = page.orders; known = Sources c.len.result } in
+    let is = c.deref.ensures.value ∙ c.requires.reads_are in
+    let first : known_of c.push_reading.new.depths.items ≡ before_reads runs 0 rs = c.in_ok-push_reading.ensures.known ∙ ap (λ (ds : List Depth). known_of ds ++ before_reads runs 0 rs) c.clear.ensures.items in
+    all_depths n runs rs c.push_reading.new.depths.items c.push_depth.new.depths.items c.push_orders.new.depths.items d is first
+    (last_depth n runs rs page.orders c.len.result is c.requires.orders many) (ap (λ k. Sources k) many) c.in_ok-push_depth.ensures c.in_ok-push_orders.ensures.known c.in_ok-push_orders.ensures.depths

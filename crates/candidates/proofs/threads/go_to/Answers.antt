@@ -1,0 +1,52 @@
+use Rattle.std.proofs.Common.{◌≡◌, ◌-◌, ◌∙◌, refl, sym, ap, length, List, arith}
+use Rattle.events.specs.Executions.{ThreadRun}
+use Rattle.candidates.specs.Executions.{block}
+use Rattle.candidates.specs.Candidates.{Choices, choices}
+use Rattle.candidates.specs.Depths.{depths_of}
+use Rattle.candidates.specs.Located.{choices_by}
+use Rattle.candidates.proofs.Steps.{in_block, place_in_block, part_member, part_block}
+use Rattle.candidates.proofs.Stretches.{stretch_of, whole_page}
+use Rattle.candidates.proofs.threads.go_to.Goals as goal
+
+pub fill_page-requires-clause-within : goal.fill_page-requires-clause-within
+fill_page-requires-clause-within c =
+    let t = c.args.threads.now in
+    let runs = c.locate.new.runs.items in
+    c.requires.threads.within runs (part_member (length t.init.now) (choices t.runs.now) (c.args.number - c.in-At.rest) runs (rw c.in-At.is at c.in_ok-rest.ensures.located).2)
+
+pub fill_page-requires-clause-most : goal.fill_page-requires-clause-most
+fill_page-requires-clause-most c =
+    let t = c.args.threads.now in
+    let runs = c.locate.new.runs.items in
+    omega (arith, c.requires.threads.most, part_block (length t.init.now) (choices t.runs.now) (c.args.number - c.in-At.rest) runs (rw c.in-At.is at c.in_ok-rest.ensures.located).2)
+
+pub returns-in_ok-fill_page-in-At-clause-reached : goal.returns-in_ok-fill_page-in-At-clause-reached
+returns-in_ok-fill_page-in-At-clause-reached c =
+    let t = c.args.threads.now in
+    let s : Choices = choices_by t in
+    let n = length t.init.now in
+    let runs = c.locate.new.runs.items in
+    let first = c.args.number - c.in-At.rest in
+    let at = rw c.in-At.is at c.in_ok-rest.ensures.located in
+    let page = c.in_ok-fill_page-in-At.ensures in
+    let made = c.fill_page.new.page in
+    let same : block n made.runs.items ≡ block n runs = ap (λ (rs : List ThreadRun). block n rs) page.runs in
+    let depths : made.depths.items ≡ depths_of n made.runs.items = page.depths ∙ ap (depths_of n) (sym page.runs) in
+    record {
+      stretch = stretch_of s runs n first _ refl page.page page.runs refl refl (part_block n (choices t.runs.now) first runs at.2) c.requires.threads.most (in_block t.init.now (choices t.runs.now) first runs at.2) (place_in_block n (choices t.runs.now) first runs at.2) depths;
+      first = omega arith;
+      last = omega (arith, whole_page n made page.page, same, at.1, at.0);
+    }
+
+pub returns-in_ok-fill_page-in-At-clause-stretch : goal.returns-in_ok-fill_page-in-At-clause-stretch
+returns-in_ok-fill_page-in-At-clause-stretch c some =
+    let t = c.args.threads.now in
+    let s : Choices = choices_by t in
+    let n = length t.init.now in
+    let runs = c.locate.new.runs.items in
+    let first = c.args.number - c.in-At.rest in
+    let at = rw c.in-At.is at c.in_ok-rest.ensures.located in
+    let page = c.in_ok-fill_page-in-At.ensures in
+    let made = c.fill_page.new.page in
+    let depths : made.depths.items ≡ depths_of n made.runs.items = page.depths ∙ ap (depths_of n) (sym page.runs) in
+    stretch_of s runs n first _ refl page.page page.runs refl refl (part_block n (choices t.runs.now) first runs at.2) c.requires.threads.most (in_block t.init.now (choices t.runs.now) first runs at.2) (place_in_block n (choices t.runs.now) first runs at.2) depths

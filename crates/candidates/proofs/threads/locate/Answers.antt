@@ -1,0 +1,168 @@
+use Rattle.std.proofs.Common.{◌∙◌, ◌+◌, ◌-◌, ◌<◌, ◌≤◌, [], ◌∷◌, List, length, take, drop, get_or, sym, ap, subst, refl, arith}
+use Rattle.std.proofs.lemmas.List.{drop_all, get_or_default}
+use Rattle.events.specs.Executions.{ThreadRun}
+use Rattle.candidates.specs.Groups.{tally_of, sizes_of}
+use Rattle.candidates.specs.Candidates.{Choices, choices}
+use Rattle.candidates.specs.Impossible.{is_impossible}
+use Rattle.candidates.proofs.Excluded.{marks_here, passed_within, passed_over}
+use Rattle.candidates.proofs.Grouping.{length_mapped, tallies_of}
+use Rattle.candidates.specs.Executions.{block}
+use Rattle.candidates.specs.Parts.{IsPart}
+use Rattle.candidates.proofs.Puts.{cut_behind}
+use Rattle.candidates.proofs.Kept.{as_many_groups, same_default, tally_there}
+use Rattle.candidates.proofs.Descent.{down_first, down_at, tallies_here, tallies_after, room_on, most_on, below_on, enter, run_within, run_there, small_on, down_next, down_end}
+use Rattle.candidates.proofs.threads.locate.Goals as goal
+
+pub loop-thread-init : goal.loop-thread-init
+loop-thread-init c = record {
+  down = down_first (length c.args.threads.now.init.now) c.args.threads.now.runs.now c.args.threads.now.groups.now c.args.number c.in_ok-tally.tally c.requires.threads.tallied c.requires.threads.room c.requires.threads.within c.requires.number c.in_ok-tally.ensures;
+  within = omega arith;
+  room = omega arith;
+  levels = c.requires.levels;
+}
+
+pub bounds-threads-thread-in-loop-thread-2 : goal.bounds-threads-thread-in-loop-thread-2
+bounds-threads-thread-in-loop-thread-2 c =
+    omega (arith, c.loop-thread-test.true, ap (λ gs. length gs) c.requires.threads.tallied, length_mapped (tallies_of (length c.args.threads.now.init.now)) c.args.threads.now.runs.now)
+
+pub bounds-runs-choice : goal.bounds-runs-choice
+bounds-runs-choice c =
+    let n = length c.args.threads.now.init.now in
+    let threads = c.args.threads.now.runs.now in
+    let at = c.loop-thread in
+    let l = c.loop-thread-test.true in
+    let choice = c.in_ok-choice.choice in
+    let sizes = sizes_of at.tally (get_or c.args.threads.now.groups.now at.thread []) (drop (at.thread + 1) c.args.threads.now.groups.now) in
+    let e = enter n (choices threads) c.args.number at.rest at.tally (take at.thread at.runs.items) threads c.args.threads.now.groups.now at.thread (get_or c.args.threads.now.groups.now at.thread []) (drop (at.thread + 1) c.args.threads.now.groups.now) sizes c.requires.threads.tallied l
+    (same_default c.args.threads.now.groups.now at.thread (as_many_groups (tallies_of n) c.args.threads.now.groups.now threads at.thread c.requires.threads.tallied l)) refl at.invariant.down refl in
+    let m = run_within n (choices threads) c.args.number at.rest at.tally (take at.thread at.runs.items) threads at.thread sizes choice.place e c.in_ok-choice.ensures.chosen.place in
+    let runs = c.runs.ensures ∙ get_or_default threads at.thread c.index-threads-thread-in-loop-thread.result [] l in
+    omega (arith, m, ap (λ (rs : List ThreadRun). length rs) runs)
+
+pub choose_run-requires-clause-room : goal.choose_run-requires-clause-room
+choose_run-requires-clause-room c =
+    let n = length c.args.threads.now.init.now in
+    let threads = c.args.threads.now.runs.now in
+    let at = c.loop-thread in
+    let l = c.loop-thread-test.true in
+    let d = down_at n (choices threads) c.args.number at.rest at.tally (take at.thread at.runs.items) threads at.thread l at.invariant.down in
+    let here = tallies_here n threads c.args.threads.now.groups.now at.thread (get_or c.args.threads.now.groups.now at.thread []) c.requires.threads.tallied l (same_default c.args.threads.now.groups.now at.thread (as_many_groups (tallies_of n) c.args.threads.now.groups.now threads at.thread c.requires.threads.tallied l)) in
+    let after = tallies_after n threads c.args.threads.now.groups.now (drop (at.thread + 1) c.args.threads.now.groups.now) at.thread c.requires.threads.tallied refl in
+    room_on n (choices threads) c.args.number at.rest at.tally (take at.thread at.runs.items) (get_or threads at.thread []) (drop (at.thread + 1) threads) (get_or c.args.threads.now.groups.now at.thread []) (drop (at.thread + 1) c.args.threads.now.groups.now) d here after
+
+pub choose_run-requires-clause-most : goal.choose_run-requires-clause-most
+choose_run-requires-clause-most c =
+    let n = length c.args.threads.now.init.now in
+    let threads = c.args.threads.now.runs.now in
+    let at = c.loop-thread in
+    let l = c.loop-thread-test.true in
+    let d = down_at n (choices threads) c.args.number at.rest at.tally (take at.thread at.runs.items) threads at.thread l at.invariant.down in
+    let here = tallies_here n threads c.args.threads.now.groups.now at.thread (get_or c.args.threads.now.groups.now at.thread []) c.requires.threads.tallied l (same_default c.args.threads.now.groups.now at.thread (as_many_groups (tallies_of n) c.args.threads.now.groups.now threads at.thread c.requires.threads.tallied l)) in
+    let after = tallies_after n threads c.args.threads.now.groups.now (drop (at.thread + 1) c.args.threads.now.groups.now) at.thread c.requires.threads.tallied refl in
+    omega (arith, most_on n (choices threads) c.args.number at.rest at.tally (take at.thread at.runs.items) (get_or threads at.thread []) (drop (at.thread + 1) threads) (get_or c.args.threads.now.groups.now at.thread []) (drop (at.thread + 1) c.args.threads.now.groups.now) d here after, c.requires.threads.most)
+
+pub choose_run-requires-clause-marks : goal.choose_run-requires-clause-marks
+choose_run-requires-clause-marks c =
+    let n = length c.args.threads.now.init.now in
+    let threads = c.args.threads.now.runs.now in
+    let at = c.loop-thread in
+    let l = c.loop-thread-test.true in
+    let runs = get_or threads at.thread [] in
+    let marks = sym c.index-threads-thread.is ∙ marks_here c.args.threads.now.init.now c.requires.threads.marked.stores threads c.args.threads.now.marks.now at.thread c.index-threads-thread.result c.requires.threads.marked.are l c.index-threads-thread.is in
+    let here = tallies_here n threads c.args.threads.now.groups.now at.thread (get_or c.args.threads.now.groups.now at.thread []) c.requires.threads.tallied l (same_default c.args.threads.now.groups.now at.thread (as_many_groups (tallies_of n) c.args.threads.now.groups.now threads at.thread c.requires.threads.tallied l)) in
+    ap (λ bs. length bs) marks ∙ length_mapped (is_impossible c.args.threads.now.init.now c.requires.threads.marked.stores) runs
+    ∙ sym (ap (λ ts. length ts) here ∙ length_mapped (λ (run : ThreadRun). tally_of n run.events) runs)
+
+pub choose_run-requires-clause-number : goal.choose_run-requires-clause-number
+choose_run-requires-clause-number c =
+    let n = length c.args.threads.now.init.now in
+    let threads = c.args.threads.now.runs.now in
+    let at = c.loop-thread in
+    let l = c.loop-thread-test.true in
+    let d = down_at n (choices threads) c.args.number at.rest at.tally (take at.thread at.runs.items) threads at.thread l at.invariant.down in
+    let here = tallies_here n threads c.args.threads.now.groups.now at.thread (get_or c.args.threads.now.groups.now at.thread []) c.requires.threads.tallied l (same_default c.args.threads.now.groups.now at.thread (as_many_groups (tallies_of n) c.args.threads.now.groups.now threads at.thread c.requires.threads.tallied l)) in
+    let after = tallies_after n threads c.args.threads.now.groups.now (drop (at.thread + 1) c.args.threads.now.groups.now) at.thread c.requires.threads.tallied refl in
+    below_on n (choices threads) c.args.number at.rest at.tally (take at.thread at.runs.items) (get_or threads at.thread []) (drop (at.thread + 1) threads) (get_or c.args.threads.now.groups.now at.thread []) (drop (at.thread + 1) c.args.threads.now.groups.now) d here after
+
+pub overflow_add-result : goal.overflow_add-result
+overflow_add-result c =
+    let n = length c.args.threads.now.init.now in
+    let threads = c.args.threads.now.runs.now in
+    let at = c.loop-thread in
+    let l = c.loop-thread-test.true in
+    let runs = get_or threads at.thread [] in
+    let more = drop (at.thread + 1) threads in
+    let choice = c.in_ok-choice.choice in
+    let chosen = c.in_ok-choice.ensures.chosen in
+    let sizes = sizes_of at.tally (get_or c.args.threads.now.groups.now at.thread []) (drop (at.thread + 1) c.args.threads.now.groups.now) in
+    let e = enter n (choices threads) c.args.number at.rest at.tally (take at.thread at.runs.items) threads c.args.threads.now.groups.now at.thread (get_or c.args.threads.now.groups.now at.thread []) (drop (at.thread + 1) c.args.threads.now.groups.now) sizes c.requires.threads.tallied l
+    (same_default c.args.threads.now.groups.now at.thread (as_many_groups (tallies_of n) c.args.threads.now.groups.now threads at.thread c.requires.threads.tallied l)) refl at.invariant.down refl in
+    omega (arith, passed_within n (choices threads) c.args.number at.rest choice.rest at.tally (take at.thread at.runs.items) runs more sizes (get_or c.args.threads.now.marks.now at.thread c.index-threads-thread.result) choice.place choice.passed e.down e.are chosen.sum chosen.passed_are, c.requires.threads.most)
+
+pub returns-then-choice-gt0-clause-located : goal.returns-then-choice-gt0-clause-located
+returns-then-choice-gt0-clause-located c =
+    let n = length c.args.threads.now.init.now in
+    let threads = c.args.threads.now.runs.now in
+    let at = c.loop-thread in
+    let l = c.loop-thread-test.true in
+    let runs = get_or threads at.thread [] in
+    let more = drop (at.thread + 1) threads in
+    let choice = c.in_ok-choice.choice in
+    let chosen = c.in_ok-choice.ensures.chosen in
+    let sizes = sizes_of at.tally (get_or c.args.threads.now.groups.now at.thread []) (drop (at.thread + 1) c.args.threads.now.groups.now) in
+    let e = enter n (choices threads) c.args.number at.rest at.tally (take at.thread at.runs.items) threads c.args.threads.now.groups.now at.thread (get_or c.args.threads.now.groups.now at.thread []) (drop (at.thread + 1) c.args.threads.now.groups.now) sizes c.requires.threads.tallied l
+    (same_default c.args.threads.now.groups.now at.thread (as_many_groups (tallies_of n) c.args.threads.now.groups.now threads at.thread c.requires.threads.tallied l)) refl at.invariant.down refl in
+    let marks = sym c.index-threads-thread.is ∙ marks_here c.args.threads.now.init.now c.requires.threads.marked.stores threads c.args.threads.now.marks.now at.thread c.index-threads-thread.result c.requires.threads.marked.are l c.index-threads-thread.is in
+    let s : Choices = record { init = c.args.threads.now.init.now; threads = threads } in
+    passed_over s c.requires.threads.marked.stores c.args.number at.rest choice.rest at.tally (take at.thread at.runs.items) runs more sizes (get_or c.args.threads.now.marks.now at.thread c.index-threads-thread.result) choice.place choice.passed
+    c.requires.threads.marked.has marks e.down e.are chosen.sum chosen.passed_are chosen.place chosen.within (omega (arith, c.if-choice-gt0.true))
+
+pub plus_into-requires : goal.plus_into-requires
+plus_into-requires c =
+    let n = length c.args.threads.now.init.now in
+    let threads = c.args.threads.now.runs.now in
+    let at = c.loop-thread in
+    let l = c.loop-thread-test.true in
+    let runs = get_or threads at.thread [] in
+    let more = drop (at.thread + 1) threads in
+    let choice = c.in_ok-choice.choice in
+    let chosen = c.in_ok-choice.ensures.chosen in
+    let sizes = sizes_of at.tally (get_or c.args.threads.now.groups.now at.thread []) (drop (at.thread + 1) c.args.threads.now.groups.now) in
+    let e = enter n (choices threads) c.args.number at.rest at.tally (take at.thread at.runs.items) threads c.args.threads.now.groups.now at.thread (get_or c.args.threads.now.groups.now at.thread []) (drop (at.thread + 1) c.args.threads.now.groups.now) sizes c.requires.threads.tallied l
+    (same_default c.args.threads.now.groups.now at.thread (as_many_groups (tallies_of n) c.args.threads.now.groups.now threads at.thread c.requires.threads.tallied l)) refl at.invariant.down refl in
+    let m = run_within n (choices threads) c.args.number at.rest at.tally (take at.thread at.runs.items) threads at.thread sizes choice.place e chosen.place in
+    let run = run_there threads at.thread choice.place (get_or threads at.thread c.index-threads-thread-in-loop-thread.result) c.runs.result.now c.index-runs-choice.result l (ap (λ rs. get_or threads at.thread rs) c.index-threads-thread-in-loop-thread.is) c.runs.ensures m c.index-runs-choice.is in
+    record { small = small_on n (choices threads) c.args.number at.rest at.tally c.tally_at.result.now (take at.thread at.runs.items) runs more choice.place c.index-runs-choice.result e.down m run (tally_there (λ (run : ThreadRun). tally_of n run.events) c.args.threads.now.groups.now threads at.thread choice.place (get_or c.args.threads.now.groups.now at.thread c.index-threads-thread-in-loop-thread-2.result) c.tally_at.result.now c.index-runs-choice.result c.requires.threads.tallied l (ap (λ ts. get_or c.args.threads.now.groups.now at.thread ts) c.index-threads-thread-in-loop-thread-2.is) m c.tally_at.ensures run) }
+
+pub loop-thread-preserved : goal.loop-thread-preserved
+loop-thread-preserved c =
+    let n = length c.args.threads.now.init.now in
+    let threads = c.args.threads.now.runs.now in
+    let at = c.loop-thread in
+    let l = c.loop-thread-test.true in
+    let runs = get_or threads at.thread [] in
+    let more = drop (at.thread + 1) threads in
+    let choice = c.in_ok-choice.choice in
+    let chosen = c.in_ok-choice.ensures.chosen in
+    let sizes = sizes_of at.tally (get_or c.args.threads.now.groups.now at.thread []) (drop (at.thread + 1) c.args.threads.now.groups.now) in
+    let e = enter n (choices threads) c.args.number at.rest at.tally (take at.thread at.runs.items) threads c.args.threads.now.groups.now at.thread (get_or c.args.threads.now.groups.now at.thread []) (drop (at.thread + 1) c.args.threads.now.groups.now) sizes c.requires.threads.tallied l
+    (same_default c.args.threads.now.groups.now at.thread (as_many_groups (tallies_of n) c.args.threads.now.groups.now threads at.thread c.requires.threads.tallied l)) refl at.invariant.down refl in
+    let m = run_within n (choices threads) c.args.number at.rest at.tally (take at.thread at.runs.items) threads at.thread sizes choice.place e chosen.place in
+    let run = run_there threads at.thread choice.place (get_or threads at.thread c.index-threads-thread-in-loop-thread.result) c.runs.result.now c.index-runs-choice.result l (ap (λ rs. get_or threads at.thread rs) c.index-threads-thread-in-loop-thread.is) c.runs.ensures m c.index-runs-choice.is in
+    record {
+      down = down_next n (choices threads) c.args.number at.rest choice.rest at.tally c.tally_at.result.now c.in_ok-sum.sum (take at.thread at.runs.items) (take (at.thread + 1) c.put_run.new.runs.items) runs more sizes choice.place c.index-runs-choice.result e.down e.are
+          chosen.place chosen.within chosen.sum run (tally_there (λ (run : ThreadRun). tally_of n run.events) c.args.threads.now.groups.now threads at.thread choice.place (get_or c.args.threads.now.groups.now at.thread c.index-threads-thread-in-loop-thread-2.result) c.tally_at.result.now c.index-runs-choice.result c.requires.threads.tallied l (ap (λ ts. get_or c.args.threads.now.groups.now at.thread ts) c.index-threads-thread-in-loop-thread-2.is) m c.tally_at.ensures run) c.in_ok-sum.ensures
+          c.in_ok-put_run.ensures.0;
+      within = omega (arith, l);
+      room = omega (arith, c.in_ok-put_run.ensures.1);
+      levels = c.choose_run.ensures.levels;
+    }
+
+pub returns-clause-located : goal.returns-clause-located
+returns-clause-located c =
+    let n = length c.args.threads.now.init.now in
+    let threads = c.args.threads.now.runs.now in
+    let at = c.loop-thread in
+    let P : List ThreadRun → Type 0 = λ rs. (at.rest ≤ c.args.number) × (at.rest < block n rs) × IsPart n (choices threads) (c.args.number - at.rest) (rs ∷ []) in
+    subst P (sym (cut_behind at.runs.items c.truncate.new.self.items at.thread (length threads) at.invariant.within (omega (arith, c.loop-thread-test.false)) c.truncate.ensures.items))
+    (down_end n (choices threads) c.args.number at.rest at.tally (take at.thread at.runs.items) (drop at.thread threads) (drop_all at.thread threads (omega (arith, c.loop-thread-test.false))) at.invariant.down)

@@ -1,0 +1,28 @@
+use Rattle.std.proofs.Common.{◌∙◌, List, length, sym, ap, subst, arith}
+use Rattle.events.specs.Executions.{GraphValue}
+use Rattle.candidates.specs.declared.levels.Level.{Level}
+use Rattle.candidates.specs.Depths.{depths_of}
+use Rattle.candidates.specs.Levels.{AreLevels, groups_of}
+use Rattle.candidates.proofs.Deeper.{no_depths}
+use Rattle.candidates.proofs.walk.Walk.new.Goals as goal
+
+pub invariant_of-result : goal.invariant_of-result
+invariant_of-result c =
+    let s = c.args.space.now in
+    let e = c.no_scene.ensures in
+    let P : List Level → Type 0 = λ ls. AreLevels (groups_of s) ls in
+    record {
+      order = c.requires.order;
+      within = c.requires.within;
+      scene = record {
+        stretch = λ l. absurd (omega (arith, l, e.size));
+        none = λ z. e.depths;
+        within = λ l. absurd (omega (arith, l, e.size));
+        seen = λ l. absurd (omega (arith, l, e.size));
+        depths = e.depths ∙ sym (no_depths (length s.init)) ∙ sym (ap (λ (x : GraphValue). depths_of (length s.init) x.runs) e.graph);
+        ahead = record {
+          stretch = λ l. absurd (omega (arith, l, e.ahead));
+          levels = subst P (sym e.levels) (λ l m. absurd m);
+        };
+      };
+    }

@@ -1,0 +1,15 @@
+use Rattle.std.proofs.Common.{List, sym, subst, ◌<◌}
+use Rattle.candidates.specs.Candidates.{Choices, size_of}
+use Rattle.candidates.specs.declared.counts.Counts.{Counts}
+use Rattle.candidates.specs.Levels.{AreLevels}
+use Rattle.candidates.proofs.walk.reach.Goals as goal
+
+pub go_to-requires-clause-levels : goal.go_to-requires-clause-levels
+go_to-requires-clause-levels c =
+    let P : List (List (List Counts)) → Type 0 = λ gs. AreLevels gs c.args.ahead.now.levels.items in
+    subst P (sym c.threads.ensures.groups) c.requires.ahead.levels
+
+pub go_to-requires-clause-number : goal.go_to-requires-clause-number
+go_to-requires-clause-number c =
+    let P : Choices → Type 0 = λ s. c.args.number < size_of s in
+    subst P (sym c.threads.ensures.choices) c.requires.number

@@ -1,0 +1,12 @@
+use Rattle.std.proofs.Common.{map, refl, arith}
+use Rattle.cat_tree.specs.Tree.{clause_of}
+use Rattle.cat_eval.proofs.Aside.{stretches_more}
+use Rattle.cat_eval.proofs.Following.{clauses_more}
+use Rattle.cat_eval.proofs.prepared.planned.Goals as goal
+
+pub loop-number-preserved : goal.loop-number-preserved
+loop-number-preserved c = record {
+  clauses = clauses_more c.loop-number.planned.items c.push.new.self.items _ c.args.items.now (map clause_of c.args.items.now) c.loop-number.number c.index-items-number.result c.in_ok-push.ensures.items c.loop-number.invariant.clauses
+      refl c.loop-number-test.true c.index-items-number.is refl;
+  stretches = stretches_more c.loop-number.planned.items c.push.new.self.items _ c.args.stretches.now c.loop-number.number _ c.in_ok-push.ensures.items c.loop-number.invariant.stretches (omega (arith, c.requires, c.loop-number-test.true)) refl;
+}

@@ -1,0 +1,2 @@
+pub mod Shortest
+pub mod Searched

@@ -1,0 +1,3 @@
+pub mod Cycles
+pub mod Judges
+pub mod Witnesses

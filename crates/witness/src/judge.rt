@@ -1,0 +1,122 @@
+//! Which executions are looked for: those that a model allows, or all.
+
+ghost use Rattle.std.specs.Prelude.{◌≡◌, ◌+◌, ◌↔◌, [], IfOk, IsTrue, MatchBool};
+ghost use Rattle.cat_eval.specs.Judging.{Allowed};
+ghost use Rattle.slices.specs.Passing.{ArePassed};
+ghost use Rattle.witness.specs.Judges.{judged};
+
+use candidates::{Common, Walk};
+use cat_eval::Evaluator;
+use cat_model::Model;
+use events::Graph;
+use slices::Pruner;
+use std::alloc::{AllocError, Global};
+
+/// A model that judges one execution after another. Contracts see its items.
+pub struct ModelJudge<'m> {
+    evaluator: Evaluator<'m>,
+    pruner: Pruner,
+}
+
+// A function of its own: whoever holds one drops it by a call.
+impl<'m> Drop for ModelJudge<'m> {
+    fn drop(self) {
+        let ModelJudge {
+            evaluator: _,
+            pruner: _,
+        } = self;
+    }
+}
+
+impl<'m> std::marker::Model for ModelJudge<'m> {
+    ghost use Rattle.std.specs.Prelude.{List};
+    ghost use Rattle.std.specs.Coded.{coded_list};
+    ghost use Rattle.cat_tree.specs.Codes.{coded_clause};
+    ghost use Rattle.cat_tree.specs.Tree.{Clause};
+
+    ghost Value = { List Clause };
+
+    ghost coded = { coded_list coded_clause };
+
+    ghost view = { λ j. j.evaluator };
+}
+
+/// What decides whether an execution counts.
+#[derive(Drop)]
+pub enum Judge<'m> {
+    /// A model.
+    Model(ModelJudge<'m>),
+    /// Nothing does: all count.
+    All,
+}
+
+impl<'m> ModelJudge<'m> {
+    fn new(alloc: Global, model: &'m Model) -> Result<Self, AllocError>
+        ensures { IfOk result (λ j. j ≡ model.entry.now.items) }
+    {
+        let none = Common::nothing(alloc);
+        let evaluator = Evaluator::of(alloc, model, none.graph())?;
+        let pruner = Pruner::new(alloc, model);
+        Ok(ModelJudge { evaluator, pruner })
+    }
+
+    fn passes(
+        &mut self,
+        alloc: Global,
+        walk: &mut Walk<'_>,
+        number: u64,
+    ) -> Result<bool, AllocError>
+        requires found { walk.old.next ≡ number + 1 }
+        ensures items { self.new ≡ self.old }
+        ensures passed { IfOk result (λ passed. MatchBool passed (ArePassed self.old number walk.old walk.new) (walk.new ≡ walk.old)) }
+    {
+        self.pruner.passes(alloc, &mut self.evaluator, walk, number)
+    }
+
+    fn allows(&mut self, alloc: Global, graph: &Graph) -> Result<bool, AllocError>
+        ensures items { self.new ≡ self.old }
+        ensures allowed { IfOk result (λ allowed. IsTrue allowed ↔ Allowed self.old graph.now) }
+    {
+        let judgement = self.evaluator.judge_next(alloc, graph)?;
+        self.pruner.note(&judgement);
+        Ok(judgement.allowed())
+    }
+}
+
+impl<'m> Judge<'m> {
+    /// By a model.
+    pub fn by(alloc: Global, model: &'m Model) -> Result<Self, AllocError>
+        ensures { IfOk result (λ j. judged j ≡ model.entry.now.items) }
+    {
+        Ok(Judge::Model(ModelJudge::new(alloc, model)?))
+    }
+
+    /// Goes on over the execution at this number, which the walk found last, and over others behind it, if it is known that none of
+    /// them counts.
+    pub fn passes(
+        &mut self,
+        alloc: Global,
+        walk: &mut Walk<'_>,
+        number: u64,
+    ) -> Result<bool, AllocError>
+        requires found { walk.old.next ≡ number + 1 }
+        ensures items { judged self.new ≡ judged self.old }
+        ensures passed { IfOk result (λ passed. MatchBool passed (ArePassed (judged self.old) number walk.old walk.new) (walk.new ≡ walk.old)) }
+    {
+        match self {
+            Judge::Model(judge) => judge.passes(alloc, walk, number),
+            Judge::All => Ok(false),
+        }
+    }
+
+    /// Whether an execution counts.
+    pub fn allows(&mut self, alloc: Global, graph: &Graph) -> Result<bool, AllocError>
+        ensures items { judged self.new ≡ judged self.old }
+        ensures allowed { IfOk result (λ allowed. IsTrue allowed ↔ Allowed (judged self.old) graph.now) }
+    {
+        match self {
+            Judge::Model(judge) => judge.allows(alloc, graph),
+            Judge::All => Ok(true),
+        }
+    }
+}

@@ -1,0 +1,9 @@
+//! Why a verdict is what it is: executions that show it, and what forbids the others.
+#![tactic(auto)]
+
+mod cycles;
+mod judge;
+mod search;
+
+pub use cycles::shortest_cycle;
+pub use search::{closest, witness};
