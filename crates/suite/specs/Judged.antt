@@ -10,7 +10,7 @@ use Rattle.slices.specs.Verdicts.{IsVerdict}
 use Rattle.slices.specs.VerdictValues.{VerdictValue}
 use Rattle.slices.specs.Works.{WorkValue}
 use Rattle.suite.specs.declared.fault.TestTrouble.{TestTrouble}
-use Rattle.suite.specs.declared.fault.TestTrouble.TheVariants.{Test, Space, NoMemory}
+use Rattle.suite.specs.declared.fault.TestTrouble.TheVariants.{Test, Space, Late, NoMemory}
 
 -- the test under each of the models
 abbrev pub works_of : Litmus → List Assembly → List WorkValue
@@ -28,11 +28,12 @@ AreVerdicts t ms vs = (map (λ v. v.work) vs ≡ works_of t ms) × All IsRight v
 abbrev pub HasVerdicts : List ℕ → List Assembly → List VerdictValue → Type 0
 HasVerdicts text ms vs = (t : Litmus) × Reads text t × AreVerdicts t ms vs
 
--- Why a test has no verdict: it has too many runs or candidates. Or memory ran out.
+-- Why a test has no verdict: it has too many runs or candidates. Or it took too long, or memory ran out.
 abbrev pub IsUntold : Litmus → TestTrouble → Type 0
 IsUntold t (Space of_space.NoMemory) = ⊥
 IsUntold t (Space fault) = IsSpaceFault t fault
 IsUntold t (Test fault) = ⊥
+IsUntold t Late = Unit {0}
 IsUntold t NoMemory = Unit {0}
 
 -- Why a text has no verdict: it reads as no test, or as one that has none.
@@ -40,4 +41,5 @@ abbrev pub HasNone : List ℕ → TestTrouble → Type 0
 HasNone text (Test of_test.NoMemory) = ⊥
 HasNone text (Test fault) = ((t : Litmus) → ¬ Reads text t) × IsRefused text fault
 HasNone text (Space fault) = (t : Litmus) × Reads text t × IsUntold t (Space fault)
+HasNone text Late = Unit {0}
 HasNone text NoMemory = Unit {0}

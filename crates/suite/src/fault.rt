@@ -28,6 +28,8 @@ pub enum TestTrouble {
     Test(TestFault),
     /// The test has too many runs or candidates.
     Space(SpaceFault),
+    /// It took longer than whoever asked would wait.
+    Late,
     NoMemory,
 }
 

@@ -14,7 +14,7 @@ mod text;
 
 pub use expected::{Row, differences};
 pub use fault::{ModelTrouble, TestTrouble};
-pub use judging::judge_text;
+pub use judging::{Endless, Patience, judge_text};
 pub use json::object_of;
 pub use line::{answer_of, line_of, row_of};
 pub use loading::{CatText, load_model};

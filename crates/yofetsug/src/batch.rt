@@ -7,6 +7,7 @@ use std::io;
 use std::rt::Files;
 use std::thread;
 use std::thread::Threads;
+use std::time::Clock;
 
 /// A test that was read: its path, and its text or why there is none.
 #[derive(Drop)]
@@ -17,7 +18,7 @@ struct Job {
 }
 
 /// What is told of the tests of these paths, in their order. They are read one after another, and judged by so many threads.
-pub fn judge_batch<R: Files + Input + AllocGlobal + Threads + Sync>(
+pub fn judge_batch<R: Files + Input + AllocGlobal + Clock + Threads + Sync>(
     rt: &R,
     paths: &[String],
     plan: &Plan<'_>,
@@ -29,10 +30,10 @@ pub fn judge_batch<R: Files + Input + AllocGlobal + Threads + Sync>(
         jobs.push(read_job(rt, path.as_str())?)?;
     }
     if threads == 1 || jobs.len() == 1 {
-        return Ok(judge_jobs(alloc, &jobs, plan)?);
+        return Ok(judge_jobs(rt, alloc, &jobs, plan)?);
     }
     let size = jobs.len().div_ceil(threads.max(1)).max(1);
-    let work = |_start: usize, part: &[Job]| judge_jobs(alloc, part, plan);
+    let work = |_start: usize, part: &[Job]| judge_jobs(rt, alloc, part, plan);
     let parts = thread::map_chunks(rt, alloc, &jobs, size, &work)?;
     let mut outcomes = Vec::new(alloc);
     for part in parts {
@@ -53,21 +54,27 @@ fn read_job<R: Files + Input + AllocGlobal>(rt: &R, path: &str) -> Result<Job, A
 }
 
 /// What is told of some tests, in their order.
-fn judge_jobs(
+fn judge_jobs<R: Clock>(
+    rt: &R,
     alloc: Global,
     jobs: &[Job],
     plan: &Plan<'_>,
 ) -> Result<Vec<Outcome>, AllocError> {
     let mut outcomes = Vec::with_capacity(alloc, jobs.len())?;
     for job in jobs {
-        outcomes.push(judge_job(alloc, job, plan)?)?;
+        outcomes.push(judge_job(rt, alloc, job, plan)?)?;
     }
     Ok(outcomes)
 }
 
-fn judge_job(alloc: Global, job: &Job, plan: &Plan<'_>) -> Result<Outcome, AllocError> {
+fn judge_job<R: Clock>(
+    rt: &R,
+    alloc: Global,
+    job: &Job,
+    plan: &Plan<'_>,
+) -> Result<Outcome, AllocError> {
     if job.error.is_empty() {
-        return judge(alloc, job.path.as_str(), &job.text, plan);
+        return judge(rt, alloc, job.path.as_str(), &job.text, plan);
     }
     unread(alloc, job.path.as_str(), job.error.as_str())
 }

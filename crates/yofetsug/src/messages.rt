@@ -127,6 +127,7 @@ pub fn test_trouble(
                 "the test is too large: at most 4096 runs a thread and 4294967296 candidates are gone through; take loads, stores or branches away",
             )
         }
+        TestTrouble::Late => format!(in alloc; "{path}: given up: it took longer than --timeout says\n"),
         TestTrouble::NoMemory => String::from_str(alloc, "memory ran out\n"),
     }
 }

@@ -9,8 +9,9 @@ use slices::Verdict;
 use std::alloc::{AllocError, Global};
 use std::io;
 use std::rt::Files;
+use std::time::{Clock, Instant};
 use suite::{
-    Row, TestTrouble, answer_of, are_alike, cell_of, judge_text, line_of, object_of, row_of,
+    Patience, Row, TestTrouble, answer_of, are_alike, cell_of, judge_text, line_of, object_of, row_of,
     summary_of, table_row_of,
 };
 
@@ -25,6 +26,8 @@ pub struct Plan<'a> {
     pub width: usize,
     /// Whether rows are kept, to be compared or stored.
     pub keeps: bool,
+    /// After how many seconds a test is given up, if at all.
+    pub timeout: Option<u32>,
 }
 
 /// What became of a test.
@@ -71,15 +74,64 @@ pub fn unread(alloc: Global, path: &str, error: &str) -> Result<Outcome, AllocEr
     })
 }
 
+/// Someone who waits for a while.
+struct Deadline<'a, R: Clock> {
+    rt: &'a R,
+    began: Option<Instant>,
+    seconds: Option<u32>,
+}
+
+impl<'a, R: Clock> Drop for Deadline<'a, R> {
+    fn drop(self) {
+        let Deadline {
+            rt: _,
+            began: _,
+            seconds: _,
+        } = self;
+    }
+}
+
+impl<'a, R: Clock> Deadline<'a, R> {
+    fn new(rt: &'a R, seconds: Option<u32>) -> Self {
+        Deadline {
+            rt,
+            began: Instant::now(rt).ok(),
+            seconds,
+        }
+    }
+
+    /// How many milliseconds have passed, as far as the clock tells.
+    fn milliseconds(&self) -> u64 {
+        match &self.began {
+            Some(began) => match began.elapsed(self.rt) {
+                Ok(passed) => u64::try_from(passed.as_millis()).unwrap_or(u64::MAX),
+                Err(_) => 0,
+            },
+            None => 0,
+        }
+    }
+}
+
+impl<'a, R: Clock> Patience for Deadline<'a, R> {
+    fn is_over(&mut self) -> bool {
+        match self.seconds {
+            Some(seconds) => self.milliseconds() >= u64::from(seconds).saturating_mul(1000),
+            None => false,
+        }
+    }
+}
+
 /// What is told of a test under all models.
-pub fn judge(
+pub fn judge<R: Clock>(
+    rt: &R,
     alloc: Global,
     path: &str,
     text: &[u8],
     plan: &Plan<'_>,
 ) -> Result<Outcome, AllocError> {
-    match judge_text(alloc, text, plan.models, 1) {
-        Ok(verdicts) => told(alloc, path, &verdicts, plan),
+    let mut deadline = Deadline::new(rt, plan.timeout);
+    match judge_text(alloc, text, plan.models, &mut deadline) {
+        Ok(verdicts) => told(alloc, path, &verdicts, plan, deadline.milliseconds()),
         Err(TestTrouble::NoMemory) => Err(AllocError),
         Err(trouble) => refused(alloc, path, text, &trouble, plan),
     }
@@ -91,11 +143,12 @@ fn told(
     path: &str,
     verdicts: &[Verdict],
     plan: &Plan<'_>,
+    milliseconds: u64,
 ) -> Result<Outcome, AllocError> {
     let cells = cells_of(alloc, verdicts)?;
     let text = match plan.form {
-        Form::Tabs => tabs(alloc, path, verdicts, plan.names)?,
-        Form::Json => objects(alloc, path, verdicts, plan.names)?,
+        Form::Tabs => tabs(alloc, path, verdicts, plan.names, milliseconds)?,
+        Form::Json => objects(alloc, path, verdicts, plan.names, milliseconds)?,
         _ if plan.names.len() != 1 => {
             table_row_of(alloc, plan.width, path.as_bytes(), plan.names, &cells)?
         }
@@ -139,17 +192,18 @@ fn lines(alloc: Global, path: &str, verdicts: &[Verdict]) -> Result<Vec<u8>, All
     Ok(text)
 }
 
-/// A line of fields between tabs for each verdict.
+/// A line of fields between tabs for each verdict, with how long the test took under all models.
 fn tabs(
     alloc: Global,
     path: &str,
     verdicts: &[Verdict],
     names: &[Vec<u8>],
+    milliseconds: u64,
 ) -> Result<Vec<u8>, AllocError> {
     let mut text = Vec::new(alloc);
     for (verdict, name) in verdicts.iter().zip(names) {
         text.append(&mut row_of(alloc, path.as_bytes(), name, verdict)?)?;
-        text.push(b'\n')?;
+        text.extend_from_slice(format!(in alloc; "\t{milliseconds}\n")?.as_bytes())?;
     }
     Ok(text)
 }
@@ -160,11 +214,12 @@ fn objects(
     path: &str,
     verdicts: &[Verdict],
     names: &[Vec<u8>],
+    milliseconds: u64,
 ) -> Result<Vec<u8>, AllocError> {
     let mut text = Vec::new(alloc);
     for (verdict, name) in verdicts.iter().zip(names) {
         let model = std::str::from_utf8(name).unwrap_or("");
-        let object = object_of(alloc, path, model, verdict, 0)?;
+        let object = object_of(alloc, path, model, verdict, milliseconds)?;
         text.extend_from_slice(object.as_bytes())?;
         text.push(b'\n')?;
     }
@@ -226,6 +281,7 @@ fn label_of(trouble: &TestTrouble) -> &'static str {
     match trouble {
         TestTrouble::Test(fault) => fault.label(),
         TestTrouble::Space(fault) => fault.label(),
+        TestTrouble::Late => "Late",
         TestTrouble::NoMemory => "NoMemory",
     }
 }

@@ -12,6 +12,7 @@ use std::alloc::{AllocError, Global};
 use std::io::{BufWriter, Write};
 use std::rt::Files;
 use std::thread::Threads;
+use std::time::Clock;
 use std::{io, thread};
 use suite::{Row, head_of};
 
@@ -19,9 +20,9 @@ use suite::{Row, head_of};
 const BATCH: usize = 16;
 
 /// What a run needs of its runtime.
-pub trait Reach: Files + Input + Print + Eprint + AllocGlobal + Clone + Drop + Threads + Sync {}
+pub trait Reach: Files + Input + Print + Eprint + AllocGlobal + Clone + Clock + Drop + Threads + Sync {}
 
-impl<R: Files + Input + Print + Eprint + AllocGlobal + Clone + Drop + Threads + Sync> Reach for R {}
+impl<R: Files + Input + Print + Eprint + AllocGlobal + Clone + Clock + Drop + Threads + Sync> Reach for R {}
 
 /// How many tests were judged, refused and not read, and how many the models tell apart.
 #[derive(Clone, Copy)]
@@ -85,6 +86,7 @@ pub fn run_all<R: Reach>(
         form: words.form,
         width: width_of(&paths),
         keeps: words.expected.is_some() || words.write_expected.is_some(),
+        timeout: words.timeout,
     };
     let threads = threads_of(rt, words);
     let progress = judge_all(rt, &paths, &plan, threads)?;

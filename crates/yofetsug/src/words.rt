@@ -29,6 +29,8 @@ pub struct Words<'a> {
     pub write_expected: Option<&'a str>,
     /// How many threads judge, if it is said.
     pub threads: Option<u8>,
+    /// After how many seconds a test is given up, if it is said.
+    pub timeout: Option<u32>,
     pub tests: Vec<&'a str>,
 }
 
@@ -99,6 +101,15 @@ fn threads<'a>(alloc: Global) -> Arg<'a> {
         .value_parser(value_parser!(u8).range(1..=64))
 }
 
+fn timeout<'a>(alloc: Global) -> Arg<'a> {
+    Arg::new(alloc, "timeout")
+        .long("timeout")
+        .action(ArgAction::Set)
+        .value_name("S")
+        .help("Give a test up after so many seconds, and go on")
+        .value_parser(value_parser!(u32).range(1..=1_000_000))
+}
+
 fn tests<'a>(alloc: Global) -> Arg<'a> {
     Arg::new(alloc, "test")
         .action(ArgAction::Append)
@@ -120,6 +131,7 @@ fn command<'a>(alloc: Global) -> Result<Command<'a>, AllocError> {
         .arg(expected(alloc))?
         .arg(write_expected(alloc))?
         .arg(threads(alloc))?
+        .arg(timeout(alloc))?
         .arg(tests(alloc))
 }
 
@@ -164,6 +176,7 @@ pub fn read_words<'a>(alloc: Global, words: &'a [String]) -> Result<Words<'a>, E
         expected: matches.get_str("expected"),
         write_expected: matches.get_str("write-expected"),
         threads: matches.get_one::<u8>("threads"),
+        timeout: matches.get_one::<u32>("timeout"),
         tests: all_of(alloc, matches.get_strs("test"), None)?,
     })
 }

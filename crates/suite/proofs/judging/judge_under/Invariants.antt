@@ -4,4 +4,4 @@ use Rattle.suite.specs.Judged.{IsRight, works_of}
 use Rattle.suite.proofs.judging.judge_under.Given as goal
 
 abbrev pub invariant-loop-model : goal.invariant-loop-model
-invariant-loop-model l = (map (λ v. v.work) l.verdicts.items ++ works_of l.test (drop l.model-index l.models) ≡ works_of l.test l.models) × All IsRight l.verdicts.items
+invariant-loop-model g l = (map (λ v. v.work) l.verdicts.items ++ works_of l.test (drop l.model-index l.models) ≡ works_of l.test l.models) × All IsRight l.verdicts.items
