@@ -226,13 +226,17 @@ fn assemble<R: Eprint + AllocGlobal>(
         Ok(model) => Ok(model),
         Err(ModelTrouble::NoMemory) => Err(Trouble::NoMemory),
         Err(ModelTrouble::Text(place, fault)) => {
-            let message = cat_trouble(alloc, &sources[place], &fault)?;
-            eprint!(rt; "{message}")?;
+            if let Some(source) = sources.get(place) {
+                let message = cat_trouble(alloc, source, &fault)?;
+                eprint!(rt; "{message}")?;
+            }
             Err(Trouble::Told(2))
         }
         Err(ModelTrouble::Twice(place)) => {
-            let path = sources[place].path.as_str();
-            eprintln!(rt; "{path}: its name is that of another file of the model")?;
+            if let Some(source) = sources.get(place) {
+                let path = source.path.as_str();
+                eprintln!(rt; "{path}: its name is that of another file of the model")?;
+            }
             Err(Trouble::Told(2))
         }
         Err(ModelTrouble::Model(fault)) => {
