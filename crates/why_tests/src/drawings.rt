@@ -11,7 +11,7 @@ use expected::*;
 use graphs::{alone, exchanged, store_buffering};
 use std::alloc::{AllocError, Global};
 use std::test::Fail;
-use wb_text::{MemSink, Name, NameFault};
+use wb_text::{MemSink, Name};
 
 /// The steps of a chain: the labels, and the number of the event that each leads to.
 type Steps = &'static [(&'static [&'static [u8]], usize)];
@@ -20,6 +20,7 @@ type Steps = &'static [(&'static [&'static [u8]], usize)];
 const CYCLE: Steps = &[(&[b"po"], 3), (&[b"fr"], 4), (&[b"po"], 5), (&[b"fr"], 2)];
 
 /// What is told of an execution.
+#[derive(Drop)]
 struct Told {
     name: Name,
     locations: Vec<Name>,
@@ -38,15 +39,23 @@ macro_rules! again {
     };
 }
 
-fn names(alloc: Global, texts: &[&[u8]]) -> Result<Vec<Name>, NameFault> {
+/// The name of these bytes, which are those of a name.
+fn name(alloc: Global, bytes: &[u8]) -> Result<Name, AllocError> {
+    match Name::new(alloc, bytes) {
+        Ok(name) => Ok(name),
+        Err(_) => Err(AllocError),
+    }
+}
+
+fn names(alloc: Global, texts: &[&[u8]]) -> Result<Vec<Name>, AllocError> {
     let mut names = Vec::new(alloc);
     for text in texts {
-        names.push(Name::new(alloc, text)?)?;
+        names.push(name(alloc, text)?)?;
     }
     Ok(names)
 }
 
-fn chain(alloc: Global, first: usize, rows: Steps) -> Result<Chain, NameFault> {
+fn chain(alloc: Global, first: usize, rows: Steps) -> Result<Chain, AllocError> {
     let mut steps = Vec::new(alloc);
     for (labels, to) in rows {
         steps.push(Step {
@@ -58,9 +67,9 @@ fn chain(alloc: Global, first: usize, rows: Steps) -> Result<Chain, NameFault> {
 }
 
 /// Store buffering, and the cycle that breaks it under sc.
-fn sc_of_store_buffering(alloc: Global) -> Result<Told, NameFault> {
+fn sc_of_store_buffering(alloc: Global) -> Result<Told, AllocError> {
     Ok(Told {
-        name: Name::new(alloc, b"SB")?,
+        name: name(alloc, b"SB")?,
         locations: names(alloc, &[b"x", b"y"])?,
         model: Some(b"sc"),
         check: Some(b"acyclic sc"),
@@ -69,9 +78,9 @@ fn sc_of_store_buffering(alloc: Global) -> Result<Told, NameFault> {
 }
 
 /// A lone event as evidence, and names that Graphviz would read otherwise.
-fn odd_names(alloc: Global) -> Result<Told, NameFault> {
+fn odd_names(alloc: Global) -> Result<Told, AllocError> {
     Ok(Told {
-        name: Name::new(alloc, b"\"\\N&lt;\"")?,
+        name: name(alloc, b"\"\\N&lt;\"")?,
         locations: names(alloc, &[LONG, b"\\\"l"])?,
         model: Some(b"C:\\new\\sc.cat"),
         check: Some(b"irreflexive \"r\""),
@@ -80,9 +89,9 @@ fn odd_names(alloc: Global) -> Result<Told, NameFault> {
 }
 
 /// A test of one location, of which no more is told.
-fn plain(alloc: Global) -> Result<Told, NameFault> {
+fn plain(alloc: Global) -> Result<Told, AllocError> {
     Ok(Told {
-        name: Name::new(alloc, b"T")?,
+        name: name(alloc, b"T")?,
         locations: names(alloc, &[b"x"])?,
         model: None,
         check: None,
@@ -91,9 +100,9 @@ fn plain(alloc: Global) -> Result<Told, NameFault> {
 }
 
 /// A check that is denied, and so has no evidence.
-fn denied(alloc: Global) -> Result<Told, NameFault> {
+fn denied(alloc: Global) -> Result<Told, AllocError> {
     Ok(Told {
-        name: Name::new(alloc, b"T")?,
+        name: name(alloc, b"T")?,
         locations: names(alloc, &[b"x"])?,
         model: Some(b"m"),
         check: Some(b"~empty rf"),
@@ -138,7 +147,7 @@ fn is_drawn(alloc: Global, told: &Told, graph: &Graph, as_dot: bool, expected: &
 /// Whether both drawings are these.
 fn are_drawn(
     alloc: Global,
-    told: fn(Global) -> Result<Told, NameFault>,
+    told: fn(Global) -> Result<Told, AllocError>,
     graph: fn(Global) -> Result<Graph, AllocError>,
     as_text: &[u8],
     as_dot: &[u8],
