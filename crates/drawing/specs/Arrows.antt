@@ -1,5 +1,5 @@
 -- The arrows of a drawing: of po and co the steps from one event to the next alone.
-use Rattle.std.specs.Prelude.{List, [], ◌∷◌, map, Bool, true, false, ◌==◌, ◌&&◌, ◌||◌, filter, zip, flat_map, nat_lt}
+use Rattle.std.specs.Prelude.{List, [], ◌∷◌, map, Bool, false, ◌==◌, ◌&&◌, filter, zip, flat_map}
 use Rattle.events.specs.contracts.event.AccessPartialEq.TheImpl.{ghosts as access_equality}
 use Rattle.events.specs.contracts.event.EventIdPartialEq.TheImpl.{ghosts as event_equality}
 use Rattle.events.specs.declared.event.Access.TheVariants.{ExRead, ExWrite}

@@ -1,9 +1,8 @@
 -- An execution as a file for Graphviz. (The DOT language, of Graphviz's documentation.)
-use Rattle.std.specs.Prelude.{ℕ, List, [], ◌∷◌, ◌++◌, Bool, true, false, ◌==◌, ◌&&◌, ◌||◌, not, Option, None, Some, option_map, codes, decimal, flat_map, filter, length, nat_lt, if◌then◌else◌}
+use Rattle.std.specs.Prelude.{ℕ, List, [], ◌∷◌, ◌++◌, Bool, true, false, ◌==◌, ◌&&◌, ◌||◌, Option, None, Some, option_map, codes, decimal, flat_map, length, nat_lt, if◌then◌else◌}
 use Rattle.listings.specs.Lists.{tabulate}
 use Rattle.events.specs.declared.event.EventId.{EventId}
 use Rattle.events.specs.declared.event.EventId.TheVariants.{Initial, Own}
-use Rattle.events.specs.Named.{event_names}
 use Rattle.drawing.specs.declared.arrows.Arrow.{Arrow}
 use Rattle.drawing.specs.declared.arrows.Relation.{Relation}
 use Rattle.drawing.specs.declared.arrows.Relation.TheVariants.{Po, Rf, Co, Fr, Rmw}
@@ -15,7 +14,7 @@ use Rattle.drawing.specs.declared.group.Group.{Group}
 use Rattle.drawing.specs.declared.group.Group.TheVariants.{InitialWrites, Thread, Firsts}
 use Rattle.drawing.specs.Arrows.{arrows_of}
 use Rattle.drawing.specs.Naming.{SceneValue, members, number_of, event_of, name_of}
-use Rattle.drawing.specs.Texts.{line, called, event_text, listed, title, scene_of}
+use Rattle.drawing.specs.Texts.{called, event_text, listed, title, scene_of}
 
 -- TEXTS IN QUOTES
 

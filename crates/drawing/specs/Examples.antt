@@ -1,13 +1,13 @@
 -- The definitions at work on store buffering, where each thread writes 1 to its own location and reads 0 from the other's
 -- initial write. Its numbers: 0 and 1 the initial writes of x and y, 2 and 3 the events of P0, 4 and 5 those of P1.
-use Rattle.std.proofs.Common.{◌≡◌, ℕ, List, [], ◌∷◌, refl}
+use Rattle.std.proofs.Common.{◌≡◌, [], ◌∷◌, refl}
 use Rattle.std.specs.Fmt.{digits}
 use Rattle.std.specs.Prelude.{codes}
-use Rattle.events.specs.declared.event.EventId.TheVariants.{Initial, Own}
+use Rattle.events.specs.declared.event.EventId.TheVariants.{Own}
 use Rattle.events.specs.Examples.{store_buffering}
 use Rattle.events.specs.Named.{event_names, event_at, read_names}
-use Rattle.drawing.specs.declared.arrows.Relation.TheVariants.{Po, Rf, Co, Fr, Rmw}
-use Rattle.drawing.specs.declared.group.Group.TheVariants.{InitialWrites, Thread, Threads}
+use Rattle.drawing.specs.declared.arrows.Relation.TheVariants.{Po, Rf, Fr, Rmw}
+use Rattle.drawing.specs.declared.group.Group.TheVariants.{InitialWrites, Threads}
 use Rattle.drawing.specs.Arrows.{arrow, arrows_of}
 use Rattle.drawing.specs.Naming.{SceneValue, letters, name_of, number_of, event_of}
 use Rattle.drawing.specs.Texts.{event_lines, event_line, event_text, pair_text, relation_line}

@@ -1,5 +1,5 @@
 -- An execution as text.
-use Rattle.std.specs.Prelude.{ℕ, List, [], ◌∷◌, ◌++◌, Bool, true, false, not, Option, None, Some, option_map, codes, decimal, flat_map, filter, slice_index_or}
+use Rattle.std.specs.Prelude.{ℕ, List, [], ◌∷◌, ◌++◌, Option, None, Some, option_map, codes, decimal, flat_map, slice_index_or}
 use Rattle.events.specs.declared.event.Access.{Access}
 use Rattle.events.specs.declared.event.Access.TheVariants.{Read, Write, Fence, ExRead, ExWrite}
 use Rattle.events.specs.declared.event.Event.{Event}
@@ -7,7 +7,7 @@ use Rattle.events.specs.declared.event.EventId.{EventId}
 use Rattle.events.specs.declared.event.EventId.TheVariants.{Initial, Own}
 use Rattle.events.specs.declared.event.Order.{Order}
 use Rattle.events.specs.declared.event.Order.TheVariants.{NoOrder, Na, Rlx, Acq, Rel, AcqRel, Sc}
-use Rattle.events.specs.Named.{event_names, event_at}
+use Rattle.events.specs.Named.{event_at}
 use Rattle.drawing.specs.declared.arrows.Arrow.{Arrow}
 use Rattle.drawing.specs.declared.arrows.Relation.{Relation}
 use Rattle.drawing.specs.declared.arrows.Relation.TheVariants.{Po, Rf, Co, Fr, Rmw}

@@ -1,4 +1,4 @@
-use Rattle.std.specs.Prelude.{◌++◌, codes}
+use Rattle.std.specs.Prelude.{codes}
 use Rattle.drawing.specs.Texts.{called}
 use Rattle.drawing.specs.Dots.{below_line}
 use Rattle.drawing.proofs.Adding.{three}

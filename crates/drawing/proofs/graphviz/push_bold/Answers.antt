@@ -1,4 +1,4 @@
-use Rattle.std.specs.Prelude.{◌++◌, codes}
+use Rattle.std.specs.Prelude.{codes}
 use Rattle.drawing.specs.Naming.{name_of}
 use Rattle.drawing.specs.Dots.{bold_line}
 use Rattle.drawing.proofs.Adding.{three}

@@ -1,4 +1,4 @@
-use Rattle.std.specs.Prelude.{◌++◌, codes}
+use Rattle.std.specs.Prelude.{codes}
 use Rattle.drawing.specs.declared.group.Group.TheVariants.{Thread}
 use Rattle.drawing.specs.Dots.{cluster, cluster_head, nodes}
 use Rattle.drawing.proofs.Adding.{three}

@@ -1,4 +1,4 @@
-use Rattle.std.proofs.Common.{◌≡◌, ◌++◌, drop}
+use Rattle.std.proofs.Common.{◌≡◌, ◌++◌}
 use Rattle.std.specs.Prelude.{flat_map}
 use Rattle.listings.specs.Lists.{tabulate}
 use Rattle.drawing.specs.Dots.{cluster}

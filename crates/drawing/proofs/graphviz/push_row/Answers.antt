@@ -1,4 +1,4 @@
-use Rattle.std.specs.Prelude.{◌++◌, codes}
+use Rattle.std.specs.Prelude.{codes}
 use Rattle.drawing.specs.declared.group.Group.TheVariants.{InitialWrites}
 use Rattle.drawing.specs.Dots.{initial_row, nodes}
 use Rattle.drawing.proofs.Adding.{three}
