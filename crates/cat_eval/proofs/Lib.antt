@@ -45,3 +45,4 @@ pub mod Moves
 pub mod Beside
 pub mod Refuted
 pub mod Grown
+pub mod Accounts

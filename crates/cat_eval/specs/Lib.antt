@@ -14,4 +14,5 @@ pub mod Calls
 pub mod Keeping
 pub mod Examples
 pub mod Growth
+pub mod Outcomes
 pub mod Laws
