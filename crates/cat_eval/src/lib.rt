@@ -33,9 +33,6 @@ pub use early::judge_early;
 pub use evaluator::Evaluator;
 pub use judging::{Judgement, judge};
 pub use plan::Plan;
-<<<<<<< HEAD
 pub use prepared::Prepared;
-=======
 pub use value::{Entry, Value};
 pub use valuing::{Account, Outcome, account_for};
->>>>>>> ba68edc8edb2a2af7a1dd397443a5aa3932c6997
