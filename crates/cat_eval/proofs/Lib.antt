@@ -45,8 +45,5 @@ pub mod Moves
 pub mod Beside
 pub mod Refuted
 pub mod Grown
-<<<<<<< HEAD
 pub mod Aside
-=======
 pub mod Accounts
->>>>>>> ba68edc8edb2a2af7a1dd397443a5aa3932c6997
