@@ -46,3 +46,4 @@ pub mod Beside
 pub mod Refuted
 pub mod Grown
 pub mod Aside
+pub mod Accounts

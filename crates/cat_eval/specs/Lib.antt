@@ -14,5 +14,6 @@ pub mod Calls
 pub mod Keeping
 pub mod Examples
 pub mod Growth
+pub mod Outcomes
 pub mod Laws
 pub mod Prepared

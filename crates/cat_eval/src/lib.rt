@@ -27,9 +27,12 @@ mod scoping;
 mod step;
 mod steps;
 mod value;
+mod valuing;
 
 pub use early::judge_early;
 pub use evaluator::Evaluator;
 pub use judging::{Judgement, judge};
 pub use plan::Plan;
 pub use prepared::Prepared;
+pub use value::{Entry, Value};
+pub use valuing::{Account, Outcome, account_for};

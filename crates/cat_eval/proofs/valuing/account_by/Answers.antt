@@ -1,0 +1,97 @@
+use Rattle.std.proofs.Common.{ℕ, Option, option_map, length, ◌∙◌, arith}
+use Rattle.cat_tree.specs.Tree.{Word}
+use Rattle.events.specs.Named.{event_count}
+use Rattle.cat_eval.specs.CoreJudging.{Names, Permits, RaisedBy}
+use Rattle.cat_eval.specs.Code.{entries_of, planned_clause}
+use Rattle.cat_eval.specs.CoreMeaning.{Under}
+use Rattle.cat_eval.proofs.Lawful.{forbidden, kept, flag_told}
+use Rattle.cat_eval.proofs.Held.{holds_nothing}
+use Rattle.cat_eval.proofs.Accounts.{has_room, permits_on, told_none, told_more, told_done}
+use Rattle.cat_eval.proofs.Reaching.{reached_next, reached_done}
+use Rattle.cat_eval.proofs.valuing.account_by.Goals as goal
+use Rattle.cat_eval.proofs.valuing.account_by.Goals.{then-not-weighed, else-not-weighed}
+
+pub weigh-weighed-requires-clause-start : goal.weigh-weighed-requires-clause-start
+weigh-weighed-requires-clause-start c =
+    (reached_next c.args.view.now c.args.steps.now c.args.items.now c.loop-item.values c.loop-item.item-index c.loop-item.allowed c.loop-item.flags.items c.item-item.result c.loop-item.invariant.told.reached c.loop-item-test.true c.item-item.is).start
+
+pub weigh-weighed-requires-clause-order : goal.weigh-weighed-requires-clause-order
+weigh-weighed-requires-clause-order c =
+    (reached_next c.args.view.now c.args.steps.now c.args.items.now c.loop-item.values c.loop-item.item-index c.loop-item.allowed c.loop-item.flags.items c.item-item.result c.loop-item.invariant.told.reached c.loop-item-test.true c.item-item.is).order
+
+pub weigh-weighed-requires-clause-steps : goal.weigh-weighed-requires-clause-steps
+weigh-weighed-requires-clause-steps c =
+    (reached_next c.args.view.now c.args.steps.now c.args.items.now c.loop-item.values c.loop-item.item-index c.loop-item.allowed c.loop-item.flags.items c.item-item.result c.loop-item.invariant.told.reached c.loop-item-test.true c.item-item.is).inside
+
+pub weigh-weighed-requires-clause-values : goal.weigh-weighed-requires-clause-values
+weigh-weighed-requires-clause-values c =
+    let a =
+    (reached_next c.args.view.now c.args.steps.now c.args.items.now c.loop-item.values c.loop-item.item-index c.loop-item.allowed c.loop-item.flags.items c.item-item.result c.loop-item.invariant.told.reached c.loop-item-test.true c.item-item.is).inside in
+    let b = c.loop-item.invariant.long in
+    omega (arith, a, b)
+
+pub weigh-weighed-requires-clause-ran : goal.weigh-weighed-requires-clause-ran
+weigh-weighed-requires-clause-ran c =
+    (reached_next c.args.view.now c.args.steps.now c.args.items.now c.loop-item.values c.loop-item.item-index c.loop-item.allowed c.loop-item.flags.items c.item-item.result c.loop-item.invariant.told.reached c.loop-item-test.true c.item-item.is).ran
+
+pub weigh-weighed-requires-clause-ready : goal.weigh-weighed-requires-clause-ready
+weigh-weighed-requires-clause-ready c = (
+  c.loop-item.invariant.told.reached.names,
+  (reached_next c.args.view.now c.args.steps.now c.args.items.now c.loop-item.values c.loop-item.item-index c.loop-item.allowed c.loop-item.flags.items c.item-item.result c.loop-item.invariant.told.reached c.loop-item-test.true c.item-item.is).item_core,
+  (reached_next c.args.view.now c.args.steps.now c.args.items.now c.loop-item.values c.loop-item.item-index c.loop-item.allowed c.loop-item.flags.items c.item-item.result c.loop-item.invariant.told.reached c.loop-item-test.true c.item-item.is).is_core,
+  (reached_next c.args.view.now c.args.steps.now c.args.items.now c.loop-item.values c.loop-item.item-index c.loop-item.allowed c.loop-item.flags.items c.item-item.result c.loop-item.invariant.told.reached c.loop-item-test.true c.item-item.is).below,
+  (reached_next c.args.view.now c.args.steps.now c.args.items.now c.loop-item.values c.loop-item.item-index c.loop-item.allowed c.loop-item.flags.items c.item-item.result c.loop-item.invariant.told.reached c.loop-item-test.true c.item-item.is).ready,
+)
+
+pub loop-item-preserved : goal.loop-item-preserved
+loop-item-preserved c =
+    let n : ℕ = event_count c.args.view.now in
+    let E : Word → _ → Type 0 = Under (Names c.args.view.now) (entries_of c.loop-item.invariant.told.reached.names c.loop-item.values) in
+    let next = reached_next c.args.view.now c.args.steps.now c.args.items.now c.loop-item.values c.loop-item.item-index c.loop-item.allowed c.loop-item.flags.items c.item-item.result c.loop-item.invariant.told.reached c.loop-item-test.true c.item-item.is in
+    let flagged : Option Word = option_map (λ f. f.now) c.weigh-weighed.result.raised in
+    let permits = c.weigh-weighed.ensures.permits c.loop-item.invariant.told.reached.names next.item_core next.is_core next.below next.ready in
+    let raised = c.weigh-weighed.ensures.raised c.loop-item.invariant.told.reached.names next.item_core next.is_core next.below next.ready in
+    record {
+      long = c.weigh-weighed.ensures.length ∙ c.loop-item.invariant.long;
+      told = told_more c.args.view.now c.args.steps.now c.args.items.now c.loop-item.values c.weigh-weighed.new.values c.loop-item.item-index c.loop-item.allowed c.if-not-weighed.allowed c.loop-item.flags.items c.add_raised.new.names.items
+          c.loop-item.outcomes.items c.push.new.self.items c.item-item.result c.in_ok-outcome_of.field-0 c.loop-item.invariant.told next c.loop-item-test.true c.item-item.is c.weigh-weighed.ensures.same c.weigh-weighed.ensures.ran (c.weigh-weighed.ensures.binds c.loop-item.invariant.told.reached.names next.item_core next.is_core next.below next.ready)
+          (elim c.if-not-weighed.branch [
+            | then-not-weighed w ↦ forbidden c.loop-item.allowed c.weigh-weighed.result.permits c.if-not-weighed.allowed (Permits n E next.item_core) w.if-not-weighed.true w.allowed-is permits
+            | else-not-weighed w ↦ kept c.loop-item.allowed c.weigh-weighed.result.permits c.if-not-weighed.allowed (Permits n E next.item_core) w.if-not-weighed.false w.allowed-is permits
+          ])
+          c.add_raised.ensures.once
+          (flag_told c.loop-item.flags.items c.add_raised.new.names.items flagged (RaisedBy n E next.item_core) c.in_ok-add_raised.ensures.added raised)
+          c.in_ok-outcome_of.ensures.bound c.in_ok-outcome_of.ensures.checked
+          (permits_on c.in_ok-outcome_of.field-0.permits c.weigh-weighed.result.permits (Permits n E next.item_core) c.in_ok-outcome_of.ensures.permits permits)
+          c.in_ok-push.ensures.items;
+    }
+
+pub weigh-weighed-requires-clause-graded : goal.weigh-weighed-requires-clause-graded
+weigh-weighed-requires-clause-graded c = c.requires.graded
+
+pub add_raised-requires : goal.add_raised-requires
+add_raised-requires c = c.loop-item.invariant.told.reached.so_far.once
+
+pub loop-item-init : goal.loop-item-init
+loop-item-init c = record {
+  long = c.requires.values;
+  told = told_none c.args.view.now c.args.steps.now c.args.items.now c.args.values.now c.new-flags.result.items c.new-outcomes.result.items c.requires.plan c.requires.model c.new-flags.ensures.items c.new-outcomes.ensures.items;
+}
+
+pub weigh-weighed-requires-clause-holds : goal.weigh-weighed-requires-clause-holds
+weigh-weighed-requires-clause-holds c = holds_nothing c.args.view.now c.args.steps.now c.args.bases.now c.nothing.result c.loop-item.values c.nothing.ensures.runs c.nothing.ensures.sources
+
+pub returns-clause-allowed : goal.returns-clause-allowed
+returns-clause-allowed c = (reached_done c.args.view.now c.args.steps.now c.args.items.now c.loop-item.values c.loop-item.item-index c.loop-item.allowed c.loop-item.flags.items c.loop-item-test.false c.loop-item.invariant.told.reached).0
+
+pub returns-clause-flags : goal.returns-clause-flags
+returns-clause-flags c = (reached_done c.args.view.now c.args.steps.now c.args.items.now c.loop-item.values c.loop-item.item-index c.loop-item.allowed c.loop-item.flags.items c.loop-item-test.false c.loop-item.invariant.told.reached).1
+
+pub returns-clause-outcomes : goal.returns-clause-outcomes
+returns-clause-outcomes c = told_done c.args.view.now c.args.steps.now c.args.items.now c.loop-item.values c.loop-item.item-index c.loop-item.allowed c.loop-item.flags.items c.loop-item.outcomes.items c.loop-item-test.false c.loop-item.invariant.told
+
+pub outcome_of-requires : goal.outcome_of-requires
+outcome_of-requires c =
+    let next = reached_next c.args.view.now c.args.steps.now c.args.items.now c.loop-item.values c.loop-item.item-index c.loop-item.allowed c.loop-item.flags.items c.item-item.result c.loop-item.invariant.told.reached c.loop-item-test.true c.item-item.is in
+    has_room c.args.steps.now c.loop-item.invariant.told.reached.names c.item-item.result.from c.item-item.result.to (length c.weigh-weighed.new.values) next.item_core (planned_clause c.item-item.result)
+    (let inside = next.inside in let a = c.loop-item.invariant.long in let b = c.weigh-weighed.ensures.length in omega (arith, inside, a, b)) next.is_core next.ready.planned

@@ -1,0 +1,7 @@
+use Rattle.std.proofs.Common.{◌≡◌, ◌++◌, drop}
+use Rattle.std.specs.Prelude.{flat_map}
+use Rattle.drawing.specs.Dots.{below_line}
+use Rattle.drawing.proofs.graphviz.push_all_below.Given as goal
+
+abbrev pub invariant-loop-event : goal.invariant-loop-event
+invariant-loop-event l = l.out.items ++ flat_map (below_line l.scene) (drop l.event-index l.event-items) ≡ l.fn.out.items ++ flat_map (below_line l.scene) l.event-items

@@ -1,0 +1,5 @@
+pub mod Arrows
+pub mod Dots
+pub mod Examples
+pub mod Naming
+pub mod Texts

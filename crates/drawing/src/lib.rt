@@ -1,0 +1,18 @@
+//! An execution as text, and as a file for Graphviz.
+#![tactic(auto)]
+
+mod arrows;
+mod bytes;
+mod drawing;
+mod event;
+mod graphviz;
+mod group;
+mod lines;
+mod names;
+mod scene;
+mod write;
+
+pub use drawing::{Broken, Chain, Drawing, Step};
+pub use graphviz::dot;
+pub use lines::text;
+pub use write::{DrawFault, write_dot, write_text};
