@@ -3,3 +3,6 @@
 
 #[cfg(test)]
 mod drawings;
+
+#[cfg(test)]
+mod suites;

@@ -17,7 +17,12 @@ pub fn store<R: Files + Eprint + AllocGlobal>(
     for row in rows {
         text.append(&mut row.stored(alloc)?)?;
     }
-    if let Err(error) = fs::write(rt, path, text.as_slice()) {
+    write_file(rt, path, &text)
+}
+
+/// Writes bytes to a file.
+pub fn write_file<R: Files + Eprint>(rt: &R, path: &str, bytes: &[u8]) -> Result<(), Trouble> {
+    if let Err(error) = fs::write(rt, path, bytes) {
         eprintln!(rt; "{path}: {error}")?;
         return Err(Trouble::Told(1));
     }

@@ -11,6 +11,7 @@ mod places;
 mod run;
 mod session;
 mod trouble;
+mod why;
 mod words;
 
 use clap::error::ErrorKind;

@@ -2,6 +2,7 @@
 
 use crate::files::{read_front, text_of};
 use crate::messages::test_trouble;
+use crate::why::explain;
 use crate::words::Form;
 use cat_model::Model;
 use litmus_c::TestFault;
@@ -28,6 +29,10 @@ pub struct Plan<'a> {
     pub keeps: bool,
     /// After how many seconds a test is given up, if at all.
     pub timeout: Option<u32>,
+    /// Whether it is told why.
+    pub why: bool,
+    /// Whether it is drawn why.
+    pub draws: bool,
 }
 
 /// What became of a test.
@@ -44,6 +49,8 @@ pub struct Outcome {
     pub fate: Fate,
     /// What is printed.
     pub text: Vec<u8>,
+    /// What is drawn.
+    pub dot: Vec<u8>,
     /// What is told on standard error, or nothing.
     pub message: String,
     /// What is compared or stored.
@@ -68,6 +75,7 @@ pub fn unread(alloc: Global, path: &str, error: &str) -> Result<Outcome, AllocEr
     Ok(Outcome {
         fate: Fate::Unread,
         text: Vec::new(alloc),
+        dot: Vec::new(alloc),
         message: format!(in alloc; "{path}: {error}\n")?,
         rows: Vec::new(alloc),
         differs: false,
@@ -146,7 +154,7 @@ fn told(
     milliseconds: u64,
 ) -> Result<Outcome, AllocError> {
     let cells = cells_of(alloc, verdicts)?;
-    let text = match plan.form {
+    let mut text = match plan.form {
         Form::Tabs => tabs(alloc, path, verdicts, plan.names, milliseconds)?,
         Form::Json => objects(alloc, path, verdicts, plan.names, milliseconds)?,
         _ if plan.names.len() != 1 => {
@@ -155,9 +163,20 @@ fn told(
         Form::Summary => summaries(alloc, verdicts)?,
         Form::Line => lines(alloc, path, verdicts)?,
     };
+    let mut dot = Vec::new(alloc);
+    if plan.why || plan.draws {
+        for (verdict, name) in verdicts.iter().zip(plan.names) {
+            let mut answer = explain(alloc, verdict, name)?;
+            dot.append(&mut answer.dot)?;
+            if plan.why {
+                text.append(&mut answer.text)?;
+            }
+        }
+    }
     Ok(Outcome {
         fate: Fate::Judged,
         text,
+        dot,
         message: String::new(alloc),
         rows: kept(alloc, path, verdicts, plan)?,
         differs: !are_alike(&cells),
@@ -270,6 +289,7 @@ fn refused(
     Ok(Outcome {
         fate: Fate::Refused,
         text: Vec::new(alloc),
+        dot: Vec::new(alloc),
         message: test_trouble(alloc, path, text, trouble)?,
         rows,
         differs: false,

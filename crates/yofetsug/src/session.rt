@@ -1,6 +1,6 @@
 //! A run of the program: models, tests, comparison, and the last line.
 
-use crate::compared::{compare, store};
+use crate::compared::{compare, store, write_file};
 use crate::files::{Paths, find_tests};
 use crate::models::read_model;
 use crate::batch::judge_batch;
@@ -38,6 +38,7 @@ struct Counts {
 struct Progress {
     counts: Counts,
     rows: Vec<Row>,
+    dot: Vec<u8>,
 }
 
 impl Counts {
@@ -87,6 +88,8 @@ pub fn run_all<R: Reach>(
         width: width_of(&paths),
         keeps: words.expected.is_some() || words.write_expected.is_some(),
         timeout: words.timeout,
+        why: words.why,
+        draws: words.dot.is_some(),
     };
     let threads = threads_of(rt, words);
     let progress = judge_all(rt, &paths, &plan, threads)?;
@@ -130,6 +133,7 @@ fn judge_all<R: Reach>(
     let mut progress = Progress {
         counts: Counts::none(),
         rows: Vec::new(alloc),
+        dot: Vec::new(alloc),
     };
     if is_table(plan) {
         writer.write_all(&head_of(alloc, plan.width, plan.names)?)?;
@@ -156,6 +160,7 @@ fn show<R: Eprint, W: Write>(
 ) -> Result<(), Trouble> {
     progress.counts.add(&outcome);
     progress.rows.append(&mut outcome.rows)?;
+    progress.dot.append(&mut outcome.dot)?;
     writer.write_all(&outcome.text)?;
     writer.flush()?;
     if !outcome.message.is_empty() {
@@ -173,6 +178,9 @@ fn finish<R: Files + Print + Eprint + AllocGlobal>(
     progress: &Progress,
 ) -> Result<u8, Trouble> {
     let mut status = status_of(progress.counts);
+    if let Some(path) = words.dot {
+        write_file(rt, path, &progress.dot)?;
+    }
     if let Some(path) = words.write_expected {
         store(rt, path, &progress.rows)?;
     }

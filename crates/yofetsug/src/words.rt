@@ -25,6 +25,10 @@ pub struct Words<'a> {
     pub models: Vec<&'a str>,
     pub folders: Vec<&'a str>,
     pub form: Form,
+    /// Whether an execution is shown that shows why.
+    pub why: bool,
+    /// Where such executions are written for Graphviz.
+    pub dot: Option<&'a str>,
     pub expected: Option<&'a str>,
     pub write_expected: Option<&'a str>,
     /// How many threads judge, if it is said.
@@ -72,6 +76,21 @@ fn json<'a>(alloc: Global) -> Arg<'a> {
         .long("json")
         .action(ArgAction::SetTrue)
         .help("A line of JSON for each test and model")
+}
+
+fn why<'a>(alloc: Global) -> Arg<'a> {
+    Arg::new(alloc, "why")
+        .long("why")
+        .action(ArgAction::SetTrue)
+        .help("Show an execution that the model allows, or what forbids the one that is asked for")
+}
+
+fn dot<'a>(alloc: Global) -> Arg<'a> {
+    Arg::new(alloc, "dot")
+        .long("dot")
+        .action(ArgAction::Set)
+        .value_name("FILE")
+        .help("Write these executions to a file for Graphviz")
 }
 
 fn expected<'a>(alloc: Global) -> Arg<'a> {
@@ -128,6 +147,8 @@ fn command<'a>(alloc: Global) -> Result<Command<'a>, AllocError> {
         .arg(line(alloc))?
         .arg(tabs(alloc))?
         .arg(json(alloc))?
+        .arg(why(alloc))?
+        .arg(dot(alloc))?
         .arg(expected(alloc))?
         .arg(write_expected(alloc))?
         .arg(threads(alloc))?
@@ -173,6 +194,8 @@ pub fn read_words<'a>(alloc: Global, words: &'a [String]) -> Result<Words<'a>, E
         models: all_of(alloc, matches.get_strs("model"), Some(MODEL))?,
         folders: all_of(alloc, matches.get_strs("folder"), None)?,
         form,
+        why: matches.get_flag("why"),
+        dot: matches.get_str("dot"),
         expected: matches.get_str("expected"),
         write_expected: matches.get_str("write-expected"),
         threads: matches.get_one::<u8>("threads"),

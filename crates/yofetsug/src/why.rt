@@ -1,0 +1,194 @@
+//! Why a verdict is what it is: an execution that shows it, or what forbids the one that would.
+
+use cat_model::Model;
+use cat_tree::CheckKind;
+use conditions::Kind;
+use drawing::{Broken, Chain, Drawing, Step, dot, text};
+use events::Graph;
+use slices::{Verdict, Work};
+use std::alloc::{AllocError, Global};
+use wb_text::Name;
+use witness::{Evidence, Reason, closest, labels, reason, witness};
+
+/// What answers the question why: text for a terminal, and a file for Graphviz.
+#[derive(Drop)]
+pub struct Answer {
+    pub text: Vec<u8>,
+    pub dot: Vec<u8>,
+}
+
+/// What is told before an execution that the model allows.
+fn shows(has: bool) -> &'static [u8] {
+    if has {
+        b"An execution that the model allows, with the proposition:\n"
+    } else {
+        b"An execution that the model allows, without the proposition:\n"
+    }
+}
+
+/// What is told before an execution that the model forbids.
+fn speaks(has: bool) -> &'static [u8] {
+    if has {
+        b"No execution that the model allows has the proposition; the first of the others that has it:\n"
+    } else {
+        b"Each execution that the model allows has the proposition; the first of the others that has it not:\n"
+    }
+}
+
+/// What is told where no execution has what is looked for.
+fn lacks(has: bool) -> &'static [u8] {
+    if has {
+        b"No execution of the test has the proposition, whatever the model.\n\n"
+    } else {
+        b"Each execution of the test has the proposition, whatever the model.\n\n"
+    }
+}
+
+/// Why a verdict is what it is. Of `exists` and `~exists` an execution with the proposition is looked for, of `forall` one without it.
+pub fn explain(alloc: Global, verdict: &Verdict, name: &[u8]) -> Result<Answer, AllocError> {
+    let work = verdict.work().work();
+    let has = !matches!(verdict.finding().kind(), Kind::Forall);
+    if let Some(graph) = witness(alloc, work, has)? {
+        return draw(alloc, work, &graph, name, shows(has), None);
+    }
+    match closest(alloc, work, has)? {
+        Some(graph) => {
+            let found = reason(alloc, work.model(), &graph)?;
+            let against = told_of(alloc, work.model(), &graph, found)?;
+            draw(alloc, work, &graph, name, speaks(has), against)
+        }
+        None => Ok(Answer {
+            text: Vec::from_slice(alloc, lacks(has))?,
+            dot: Vec::new(alloc),
+        }),
+    }
+}
+
+/// What speaks against an execution: the check that it breaks, in words, and the evidence.
+#[derive(Drop)]
+struct Against {
+    check: Vec<u8>,
+    chain: Option<Chain>,
+}
+
+fn told_of(
+    alloc: Global,
+    model: &Model,
+    graph: &Graph,
+    found: Option<Reason>,
+) -> Result<Option<Against>, AllocError> {
+    match found {
+        Some(found) => {
+            let check = words_of(alloc, &found)?;
+            let chain = chain_of(alloc, model, graph, &found)?;
+            Ok(Some(Against { check, chain }))
+        }
+        None => Ok(None),
+    }
+}
+
+/// A check in words: `acyclic sc`, `~empty`.
+fn words_of(alloc: Global, found: &Reason) -> Result<Vec<u8>, AllocError> {
+    let mut words = Vec::new(alloc);
+    if found.negated {
+        words.push(b'~')?;
+    }
+    words.extend_from_slice(match found.kind {
+        CheckKind::Acyclic => b"acyclic",
+        CheckKind::Irreflexive => b"irreflexive",
+        CheckKind::Empty => b"empty",
+    })?;
+    if let Some(name) = &found.name {
+        words.push(b' ')?;
+        words.extend_from_slice(name.bytes())?;
+    }
+    Ok(words)
+}
+
+/// The evidence as a chain of arrows.
+fn chain_of(
+    alloc: Global,
+    model: &Model,
+    graph: &Graph,
+    found: &Reason,
+) -> Result<Option<Chain>, AllocError> {
+    let mut events = Vec::new(alloc);
+    match &found.evidence {
+        Evidence::Cycle(cycle) => {
+            for event in cycle {
+                events.push(*event)?;
+            }
+            if let Some(first) = cycle.first() {
+                events.push(*first)?;
+            }
+        }
+        Evidence::Itself(event) => {
+            events.push(*event)?;
+            events.push(*event)?;
+        }
+        Evidence::Pair(from, to) => {
+            events.push(*from)?;
+            events.push(*to)?;
+        }
+        Evidence::Member(event) => events.push(*event)?,
+        Evidence::Denied => return Ok(None),
+    }
+    arrows(alloc, model, graph, &events, found.number)
+}
+
+/// The arrows from each event to the next, with what relates them.
+fn arrows(
+    alloc: Global,
+    model: &Model,
+    graph: &Graph,
+    events: &[usize],
+    before: usize,
+) -> Result<Option<Chain>, AllocError> {
+    let Some((first, rest)) = events.split_first() else {
+        return Ok(None);
+    };
+    let mut steps = Vec::new(alloc);
+    let mut from = *first;
+    for to in rest {
+        let labels = labels(alloc, model, graph, from, *to, before)?;
+        steps.push(Step { to: *to, labels })?;
+        from = *to;
+    }
+    Ok(Some(Chain {
+        first: *first,
+        steps,
+    }))
+}
+
+/// An execution as text behind a sentence, and for Graphviz.
+fn draw(
+    alloc: Global,
+    work: &Work,
+    graph: &Graph,
+    model: &[u8],
+    sentence: &[u8],
+    against: Option<Against>,
+) -> Result<Answer, AllocError> {
+    let broken = match &against {
+        Some(against) => Some(Broken {
+            check: &against.check,
+            chain: against.chain.as_ref(),
+        }),
+        None => None,
+    };
+    let test = work.test();
+    let drawing = Drawing {
+        name: test.name(),
+        locations: test.locations(),
+        graph,
+        model: Some(model),
+        broken,
+    };
+    let mut shown = Vec::from_slice(alloc, sentence)?;
+    shown.append(&mut text(alloc, &drawing)?)?;
+    shown.push(b'\n')?;
+    Ok(Answer {
+        text: shown,
+        dot: dot(alloc, &drawing)?,
+    })
+}
