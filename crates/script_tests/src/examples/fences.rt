@@ -1,4 +1,4 @@
-//! Examples under the model of fences, `examples/fences.cat`, and an example with fences under all models.
+//! Examples under the model of fences, `examples/models/fences.cat`, and an example with fences under all models.
 
 use crate::calls::{Answer, Case, all_hold, confirm, is_answered};
 use crate::examples::texts::{

@@ -4,7 +4,7 @@
 pub const RC11: &str = "include \"rc11.cat\"
 ";
 
-/// examples/sc.cat
+/// examples/models/sc.cat
 pub const SEQUENTIAL: &str = "\"Sequential consistency\"
 (* An execution is one interleaving of the threads, in which each read sees the last write. *)
 let com = rf | co | fr
@@ -13,7 +13,7 @@ acyclic po | com as sc
 empty rmw & (fr ; co) as atomicity
 ";
 
-/// examples/tso.cat
+/// examples/models/tso.cat
 pub const BUFFERS: &str = "\"TSO\"
 (* Stores wait in a buffer of their thread, and its later loads from other locations may go ahead of them. A seq_cst fence,
    an exchange and an addition wait until the buffer is empty, and a seq_cst store is followed by such a wait: x86, as compilers use it. *)
@@ -26,7 +26,7 @@ let locked = [W] ; po ; [R & RMW] | [W & (RMW | SC)] ; po ; [R]
 acyclic kept | fenced | locked | rfe | co | fr as tso
 ";
 
-/// examples/fences.cat
+/// examples/models/fences.cat
 pub const FENCES: &str = "\"Fences\"
 (* Only a fence keeps accesses of a thread to different locations in order: a seq_cst fence all of them, a release fence what is
    before it from later writes, an acquire fence earlier reads from what is behind it. *)

@@ -1,0 +1,3 @@
+pub mod Loaded
+pub mod Told
+pub mod Verdicts

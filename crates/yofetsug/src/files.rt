@@ -1,0 +1,210 @@
+//! Which tests are judged: files, folders, lists, and standard input.
+
+use crate::trouble::Trouble;
+use std::alloc::{AllocError, Global};
+use std::fs;
+use std::io;
+use std::io::Read;
+use std::rt::Files;
+
+/// The most bytes of a text that are read: one more than a test or a cat file may have.
+const MOST_BYTES: u64 = 65_537;
+
+/// The most folders that are gone through.
+const MOST_FOLDERS: usize = 1_000_000;
+
+/// The tests that the words name, and what couldn't be read on the way.
+#[derive(Drop)]
+pub struct Paths {
+    pub tests: Vec<String>,
+    pub unread: Vec<Unread>,
+}
+
+/// A path that can't be read, and why.
+#[derive(Drop)]
+pub struct Unread {
+    pub path: String,
+    pub error: String,
+}
+
+/// The text of a file, as far as a text may go and one byte more.
+pub fn text_of<R: Files + AllocGlobal>(rt: &R, path: &str) -> io::Result<Vec<u8>> {
+    read_front(rt.alloc(), fs::open(rt, path)?)
+}
+
+/// The front of what a reader has.
+pub fn read_front<S: Read + Drop>(alloc: Global, reader: S) -> io::Result<Vec<u8>> {
+    let mut text = Vec::new(alloc);
+    reader.take(MOST_BYTES).read_to_end(&mut text)?;
+    Ok(text)
+}
+
+/// Whether it is a folder, as far as that can be told.
+fn is_folder<R: Files>(rt: &R, path: &str) -> bool {
+    match fs::metadata(rt, path) {
+        Ok(found) => found.is_dir(),
+        Err(_) => false,
+    }
+}
+
+/// The tests that the words name, in the order of the words; those of a folder by their paths.
+pub fn find_tests<R: Files + AllocGlobal + Clone + Drop>(
+    rt: &R,
+    words: &[&str],
+) -> Result<Paths, Trouble> {
+    let alloc = rt.alloc();
+    let mut paths = Paths {
+        tests: Vec::new(alloc),
+        unread: Vec::new(alloc),
+    };
+    for word in words {
+        match word.strip_prefix('@') {
+            Some(list) => add_list(rt, list, &mut paths)?,
+            None => add_path(rt, word, &mut paths)?,
+        }
+    }
+    Ok(paths)
+}
+
+/// Adds a file, or the tests of a folder.
+fn add_path<R: Files + AllocGlobal + Clone + Drop>(
+    rt: &R,
+    path: &str,
+    paths: &mut Paths,
+) -> Result<(), Trouble> {
+    if path != "-" && is_folder(rt, path) {
+        return add_folder(rt, path, paths);
+    }
+    paths.tests.push(String::from_str(rt.alloc(), path)?)?;
+    Ok(())
+}
+
+/// Adds the paths that a list has, one a line. Empty lines, and those that begin with `#`, are left out. A path that isn't there is looked for
+/// beside the list.
+fn add_list<R: Files + AllocGlobal + Clone + Drop>(
+    rt: &R,
+    list: &str,
+    paths: &mut Paths,
+) -> Result<(), Trouble> {
+    let text = match fs::read_to_string(rt, list) {
+        Ok(text) => text,
+        Err(error) => return add_unread(rt.alloc(), list, error, paths),
+    };
+    for line in text.as_str().lines() {
+        let line = line.trim();
+        if line.is_empty() || line.starts_with('#') {
+            continue;
+        }
+        let path = beside(rt, list, line)?;
+        add_path(rt, path.as_str(), paths)?;
+    }
+    Ok(())
+}
+
+/// A path as it is written, or beside the list where it is only there.
+fn beside<R: Files + AllocGlobal>(rt: &R, list: &str, path: &str) -> Result<String, AllocError> {
+    if matches!(fs::exists(rt, path), Ok(true)) {
+        return String::from_str(rt.alloc(), path);
+    }
+    let other = sibling(rt.alloc(), list, path)?;
+    if matches!(fs::exists(rt, other.as_str()), Ok(true)) {
+        return Ok(other);
+    }
+    String::from_str(rt.alloc(), path)
+}
+
+/// The path of a name beside a file.
+pub fn sibling(alloc: Global, file: &str, name: &str) -> Result<String, AllocError> {
+    match file.rsplit_once('/') {
+        Some((folder, _)) => joined(alloc, folder, name),
+        None => String::from_str(alloc, name),
+    }
+}
+
+/// The path of a name in a folder.
+pub fn joined(alloc: Global, folder: &str, name: &str) -> Result<String, AllocError> {
+    if name.starts_with('/') {
+        return String::from_str(alloc, name);
+    }
+    format!(in alloc; "{folder}/{name}")
+}
+
+/// That a path can't be read.
+fn no_text(alloc: Global, path: &str, error: &io::Error) -> Result<Unread, AllocError> {
+    let path = String::from_str(alloc, path)?;
+    let error = format!(in alloc; "{error}")?;
+    Ok(Unread { path, error })
+}
+
+fn add_unread(
+    alloc: Global,
+    path: &str,
+    error: io::Error,
+    paths: &mut Paths,
+) -> Result<(), Trouble> {
+    paths.unread.push(no_text(alloc, path, &error)?)?;
+    Ok(())
+}
+
+/// Adds all `*.litmus` files in a folder and below, by their paths.
+fn add_folder<R: Files + AllocGlobal + Clone + Drop>(
+    rt: &R,
+    folder: &str,
+    paths: &mut Paths,
+) -> Result<(), Trouble> {
+    let alloc = rt.alloc();
+    let mut found = Vec::new(alloc);
+    let mut folders = Vec::new(alloc);
+    folders.push(String::from_str(alloc, folder.trim_end_matches('/'))?)?;
+    for _ in 0..MOST_FOLDERS {
+        match folders.pop() {
+            Some(next) => go_through(rt, &next, &mut folders, &mut found, &mut paths.unread)?,
+            None => break,
+        }
+    }
+    found.sort()?;
+    paths.tests.append(&mut found)?;
+    Ok(())
+}
+
+/// Adds the tests of one folder, and the folders in it.
+fn go_through<R: Files + AllocGlobal + Clone + Drop>(
+    rt: &R,
+    folder: &String,
+    folders: &mut Vec<String>,
+    found: &mut Vec<String>,
+    missing: &mut Vec<Unread>,
+) -> Result<(), Trouble> {
+    let entries = match fs::read_dir(rt, folder.as_str()) {
+        Ok(entries) => entries,
+        Err(error) => {
+            missing.push(no_text(rt.alloc(), folder.as_str(), &error)?)?;
+            return Ok(());
+        }
+    };
+    for entry in entries {
+        match entry {
+            Ok(entry) => {
+                let path = String::from_str(rt.alloc(), entry.path().as_str())?;
+                sort_out(rt, path, folders, found)?;
+            }
+            Err(error) => missing.push(no_text(rt.alloc(), folder.as_str(), &error)?)?,
+        }
+    }
+    Ok(())
+}
+
+/// Adds a path to the folders or to the tests, if it is one of those.
+fn sort_out<R: Files>(
+    rt: &R,
+    path: String,
+    folders: &mut Vec<String>,
+    found: &mut Vec<String>,
+) -> Result<(), AllocError> {
+    if matches!(fs::symlink_metadata(rt, path.as_str()), Ok(about) if about.is_dir()) {
+        folders.push(path)?;
+    } else if path.as_str().ends_with(".litmus") {
+        found.push(path)?;
+    }
+    Ok(())
+}

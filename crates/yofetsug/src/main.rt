@@ -1,0 +1,63 @@
+//! Judges litmus tests under cat models.
+#![tactic(auto)]
+
+mod batch;
+mod compared;
+mod files;
+mod hints;
+mod messages;
+mod models;
+mod places;
+mod run;
+mod session;
+mod trouble;
+mod words;
+
+use clap::error::ErrorKind;
+use session::run_all;
+use std::process::ExitCode;
+use std::{env, io};
+use trouble::Trouble;
+use words::read_words;
+
+/// Ends with 0; with 1 where a file, memory or a write fails; with 2 where something is refused, or the words are bad; with 3 where something is not
+/// as it is expected.
+fn main(rt: HostRuntime) -> ExitCode {
+    let words: Vec<String> = match env::args(&rt) {
+        Ok(words) => match words.collect(rt.alloc()) {
+            Ok(words) => words,
+            Err(_) => return ExitCode::FAILURE,
+        },
+        Err(_) => return reject_bytes(&rt),
+    };
+    match read_words(rt.alloc(), words.as_slice()) {
+        Ok(words) => ExitCode::from(end(&rt, run_all(&rt, &words))),
+        Err(error) if error.kind() == ErrorKind::OutOfMemory => ExitCode::FAILURE,
+        Err(error) => match error.print(&rt) {
+            Ok(()) => ExitCode::from(error.exit_code() as u8),
+            Err(_) => ExitCode::FAILURE,
+        },
+    }
+}
+
+/// Says that a word isn't UTF-8.
+fn reject_bytes(rt: &impl Eprint) -> ExitCode {
+    match eprintln!(rt; "error: a word of the command line is not UTF-8") {
+        Ok(()) => ExitCode::from(2),
+        Err(_) => ExitCode::FAILURE,
+    }
+}
+
+/// The status, once it is told why the program ends early, if it does.
+fn end(rt: &impl Eprint, ended: Result<u8, Trouble>) -> u8 {
+    let told = match &ended {
+        Ok(status) => return *status,
+        Err(Trouble::Told(status)) => return *status,
+        // Whoever reads the output has had enough.
+        Err(Trouble::Write(error)) if error.kind() == io::ErrorKind::BrokenPipe => return 0,
+        Err(Trouble::Write(error)) => eprintln!(rt; "yofetsug: can't write: {error}"),
+        Err(Trouble::NoMemory) => eprintln!(rt; "yofetsug: memory ran out"),
+    };
+    let _ = told;
+    1
+}

@@ -1,0 +1,287 @@
+//! Judging one test after another, and what is told of each.
+
+use crate::files::{read_front, text_of};
+use crate::messages::test_trouble;
+use crate::words::Form;
+use cat_model::Model;
+use litmus_c::TestFault;
+use slices::Verdict;
+use std::alloc::{AllocError, Global};
+use std::io;
+use std::rt::Files;
+use std::time::{Clock, Instant};
+use suite::{
+    Patience, Row, TestTrouble, answer_of, are_alike, cell_of, judge_text, line_of, object_of, row_of,
+    summary_of, table_row_of,
+};
+
+/// What all tests have in common.
+#[derive(Drop)]
+pub struct Plan<'a> {
+    pub models: &'a [Model],
+    /// The words that named the models.
+    pub names: &'a [Vec<u8>],
+    pub form: Form,
+    /// How wide the paths of a table are.
+    pub width: usize,
+    /// Whether rows are kept, to be compared or stored.
+    pub keeps: bool,
+    /// After how many seconds a test is given up, if at all.
+    pub timeout: Option<u32>,
+}
+
+/// What became of a test.
+#[derive(Clone, Copy, PartialEq, Eq, Drop)]
+pub enum Fate {
+    Judged,
+    Refused,
+    Unread,
+}
+
+/// What is told of a test.
+#[derive(Drop)]
+pub struct Outcome {
+    pub fate: Fate,
+    /// What is printed.
+    pub text: Vec<u8>,
+    /// What is told on standard error, or nothing.
+    pub message: String,
+    /// What is compared or stored.
+    pub rows: Vec<Row>,
+    /// Whether the models tell different words or flags.
+    pub differs: bool,
+}
+
+/// The text of a test, which is read from standard input where the path is `-`.
+pub fn read_test_text<R: Files + Input + AllocGlobal>(
+    rt: &R,
+    path: &str,
+) -> io::Result<Vec<u8>> {
+    if path == "-" {
+        return read_front(rt.alloc(), rt.reader());
+    }
+    text_of(rt, path)
+}
+
+/// What is told of a test whose text can't be read.
+pub fn unread(alloc: Global, path: &str, error: &str) -> Result<Outcome, AllocError> {
+    Ok(Outcome {
+        fate: Fate::Unread,
+        text: Vec::new(alloc),
+        message: format!(in alloc; "{path}: {error}\n")?,
+        rows: Vec::new(alloc),
+        differs: false,
+    })
+}
+
+/// Someone who waits for a while.
+struct Deadline<'a, R: Clock> {
+    rt: &'a R,
+    began: Option<Instant>,
+    seconds: Option<u32>,
+}
+
+impl<'a, R: Clock> Drop for Deadline<'a, R> {
+    fn drop(self) {
+        let Deadline {
+            rt: _,
+            began: _,
+            seconds: _,
+        } = self;
+    }
+}
+
+impl<'a, R: Clock> Deadline<'a, R> {
+    fn new(rt: &'a R, seconds: Option<u32>) -> Self {
+        Deadline {
+            rt,
+            began: Instant::now(rt).ok(),
+            seconds,
+        }
+    }
+
+    /// How many milliseconds have passed, as far as the clock tells.
+    fn milliseconds(&self) -> u64 {
+        match &self.began {
+            Some(began) => match began.elapsed(self.rt) {
+                Ok(passed) => u64::try_from(passed.as_millis()).unwrap_or(u64::MAX),
+                Err(_) => 0,
+            },
+            None => 0,
+        }
+    }
+}
+
+impl<'a, R: Clock> Patience for Deadline<'a, R> {
+    fn is_over(&mut self) -> bool {
+        match self.seconds {
+            Some(seconds) => self.milliseconds() >= u64::from(seconds).saturating_mul(1000),
+            None => false,
+        }
+    }
+}
+
+/// What is told of a test under all models.
+pub fn judge<R: Clock>(
+    rt: &R,
+    alloc: Global,
+    path: &str,
+    text: &[u8],
+    plan: &Plan<'_>,
+) -> Result<Outcome, AllocError> {
+    let mut deadline = Deadline::new(rt, plan.timeout);
+    match judge_text(alloc, text, plan.models, &mut deadline) {
+        Ok(verdicts) => told(alloc, path, &verdicts, plan, deadline.milliseconds()),
+        Err(TestTrouble::NoMemory) => Err(AllocError),
+        Err(trouble) => refused(alloc, path, text, &trouble, plan),
+    }
+}
+
+/// What is told of a test that was judged.
+fn told(
+    alloc: Global,
+    path: &str,
+    verdicts: &[Verdict],
+    plan: &Plan<'_>,
+    milliseconds: u64,
+) -> Result<Outcome, AllocError> {
+    let cells = cells_of(alloc, verdicts)?;
+    let text = match plan.form {
+        Form::Tabs => tabs(alloc, path, verdicts, plan.names, milliseconds)?,
+        Form::Json => objects(alloc, path, verdicts, plan.names, milliseconds)?,
+        _ if plan.names.len() != 1 => {
+            table_row_of(alloc, plan.width, path.as_bytes(), plan.names, &cells)?
+        }
+        Form::Summary => summaries(alloc, verdicts)?,
+        Form::Line => lines(alloc, path, verdicts)?,
+    };
+    Ok(Outcome {
+        fate: Fate::Judged,
+        text,
+        message: String::new(alloc),
+        rows: kept(alloc, path, verdicts, plan)?,
+        differs: !are_alike(&cells),
+    })
+}
+
+/// The cells of a table's row.
+fn cells_of(alloc: Global, verdicts: &[Verdict]) -> Result<Vec<Vec<u8>>, AllocError> {
+    let mut cells = Vec::new(alloc);
+    for verdict in verdicts {
+        cells.push(cell_of(alloc, verdict)?)?;
+    }
+    Ok(cells)
+}
+
+/// The summaries, an empty line behind each.
+fn summaries(alloc: Global, verdicts: &[Verdict]) -> Result<Vec<u8>, AllocError> {
+    let mut text = Vec::new(alloc);
+    for verdict in verdicts {
+        text.append(&mut summary_of(alloc, verdict)?)?;
+        text.push(b'\n')?;
+    }
+    Ok(text)
+}
+
+/// A line for each verdict.
+fn lines(alloc: Global, path: &str, verdicts: &[Verdict]) -> Result<Vec<u8>, AllocError> {
+    let mut text = Vec::new(alloc);
+    for verdict in verdicts {
+        text.append(&mut line_of(alloc, path.as_bytes(), verdict)?)?;
+    }
+    Ok(text)
+}
+
+/// A line of fields between tabs for each verdict, with how long the test took under all models.
+fn tabs(
+    alloc: Global,
+    path: &str,
+    verdicts: &[Verdict],
+    names: &[Vec<u8>],
+    milliseconds: u64,
+) -> Result<Vec<u8>, AllocError> {
+    let mut text = Vec::new(alloc);
+    for (verdict, name) in verdicts.iter().zip(names) {
+        text.append(&mut row_of(alloc, path.as_bytes(), name, verdict)?)?;
+        text.extend_from_slice(format!(in alloc; "\t{milliseconds}\n")?.as_bytes())?;
+    }
+    Ok(text)
+}
+
+/// An object of JSON for each verdict, a line each.
+fn objects(
+    alloc: Global,
+    path: &str,
+    verdicts: &[Verdict],
+    names: &[Vec<u8>],
+    milliseconds: u64,
+) -> Result<Vec<u8>, AllocError> {
+    let mut text = Vec::new(alloc);
+    for (verdict, name) in verdicts.iter().zip(names) {
+        let model = std::str::from_utf8(name).unwrap_or("");
+        let object = object_of(alloc, path, model, verdict, milliseconds)?;
+        text.extend_from_slice(object.as_bytes())?;
+        text.push(b'\n')?;
+    }
+    Ok(text)
+}
+
+/// What is compared or stored of each verdict.
+fn kept(
+    alloc: Global,
+    path: &str,
+    verdicts: &[Verdict],
+    plan: &Plan<'_>,
+) -> Result<Vec<Row>, AllocError> {
+    let mut rows = Vec::new(alloc);
+    if plan.keeps {
+        for (verdict, name) in verdicts.iter().zip(plan.names) {
+            let states = verdict.states().len();
+            rows.push(Row {
+                path: Vec::from_slice(alloc, path.as_bytes())?,
+                model: name.clone()?,
+                answer: answer_of(alloc, verdict)?,
+                states: format!(in alloc; "{states}")?.into_bytes(),
+            })?;
+        }
+    }
+    Ok(rows)
+}
+
+/// What is told of a test that is refused.
+fn refused(
+    alloc: Global,
+    path: &str,
+    text: &[u8],
+    trouble: &TestTrouble,
+    plan: &Plan<'_>,
+) -> Result<Outcome, AllocError> {
+    let mut rows = Vec::new(alloc);
+    if plan.keeps {
+        for name in plan.names {
+            rows.push(Row {
+                path: Vec::from_slice(alloc, path.as_bytes())?,
+                model: name.clone()?,
+                answer: format!(in alloc; "refused {}", label_of(trouble))?.into_bytes(),
+                states: Vec::new(alloc),
+            })?;
+        }
+    }
+    Ok(Outcome {
+        fate: Fate::Refused,
+        text: Vec::new(alloc),
+        message: test_trouble(alloc, path, text, trouble)?,
+        rows,
+        differs: false,
+    })
+}
+
+/// The number and the name of a refusal.
+fn label_of(trouble: &TestTrouble) -> &'static str {
+    match trouble {
+        TestTrouble::Test(fault) => fault.label(),
+        TestTrouble::Space(fault) => fault.label(),
+        TestTrouble::Late => "Late",
+        TestTrouble::NoMemory => "NoMemory",
+    }
+}

@@ -1,0 +1,238 @@
+//! A run of the program: models, tests, comparison, and the last line.
+
+use crate::compared::{compare, store};
+use crate::files::{Paths, find_tests};
+use crate::models::read_model;
+use crate::batch::judge_batch;
+use crate::run::{Fate, Outcome, Plan, unread};
+use crate::trouble::Trouble;
+use crate::words::{Form, Words};
+use cat_model::Model;
+use std::alloc::{AllocError, Global};
+use std::io::{BufWriter, Write};
+use std::rt::Files;
+use std::thread::Threads;
+use std::time::Clock;
+use std::{io, thread};
+use suite::{Row, head_of};
+
+/// How many tests each thread is given at once.
+const BATCH: usize = 16;
+
+/// What a run needs of its runtime.
+pub trait Reach: Files + Input + Print + Eprint + AllocGlobal + Clone + Clock + Drop + Threads + Sync {}
+
+impl<R: Files + Input + Print + Eprint + AllocGlobal + Clone + Clock + Drop + Threads + Sync> Reach for R {}
+
+/// How many tests were judged, refused and not read, and how many the models tell apart.
+#[derive(Clone, Copy)]
+struct Counts {
+    judged: usize,
+    refused: usize,
+    unread: usize,
+    differing: usize,
+}
+
+/// What the run has come to.
+#[derive(Drop)]
+struct Progress {
+    counts: Counts,
+    rows: Vec<Row>,
+}
+
+impl Counts {
+    fn none() -> Counts {
+        Counts {
+            judged: 0,
+            refused: 0,
+            unread: 0,
+            differing: 0,
+        }
+    }
+
+    fn add(&mut self, outcome: &Outcome) {
+        let count = match outcome.fate {
+            Fate::Judged => &mut self.judged,
+            Fate::Refused => &mut self.refused,
+            Fate::Unread => &mut self.unread,
+        };
+        *count = count.saturating_add(1);
+        if outcome.differs {
+            self.differing = self.differing.saturating_add(1);
+        }
+    }
+
+    fn all(self) -> usize {
+        self.judged.saturating_add(self.refused).saturating_add(self.unread)
+    }
+}
+
+/// Judges all tests that the words name, and answers the status.
+pub fn run_all<R: Reach>(
+    rt: &R,
+    words: &Words<'_>,
+) -> Result<u8, Trouble> {
+    let alloc = rt.alloc();
+    let mut models = Vec::new(alloc);
+    let mut names = Vec::new(alloc);
+    for word in &words.models {
+        models.push(read_model(rt, word, &words.folders)?)?;
+        names.push(Vec::from_slice(alloc, word.as_bytes())?)?;
+    }
+    let paths = find_tests(rt, &words.tests)?;
+    let plan = Plan {
+        models: &models,
+        names: &names,
+        form: words.form,
+        width: width_of(&paths),
+        keeps: words.expected.is_some() || words.write_expected.is_some(),
+        timeout: words.timeout,
+    };
+    let threads = threads_of(rt, words);
+    let progress = judge_all(rt, &paths, &plan, threads)?;
+    finish(rt, words, &plan, &progress)
+}
+
+/// How many threads judge: as many as the words say, or as there are processors, up to 8.
+fn threads_of<R: Threads>(rt: &R, words: &Words<'_>) -> usize {
+    match words.threads {
+        Some(threads) => usize::from(threads),
+        None => match thread::available_parallelism(rt) {
+            Ok(count) => count.get().min(8),
+            Err(_) => 1,
+        },
+    }
+}
+
+/// How wide the longest path is, up to 60.
+fn width_of(paths: &Paths) -> usize {
+    let mut width = 0usize;
+    for path in &paths.tests {
+        width = width.max(path.len());
+    }
+    width.min(60)
+}
+
+/// Whether a table is printed.
+fn is_table(plan: &Plan<'_>) -> bool {
+    plan.names.len() != 1 && matches!(&plan.form, Form::Summary | Form::Line)
+}
+
+/// Judges the tests, some at a time, and prints what is told of each in their order.
+fn judge_all<R: Reach>(
+    rt: &R,
+    paths: &Paths,
+    plan: &Plan<'_>,
+    threads: usize,
+) -> Result<Progress, Trouble> {
+    let alloc = rt.alloc();
+    let mut writer = BufWriter::new(alloc, io::writer(rt))?;
+    let mut progress = Progress {
+        counts: Counts::none(),
+        rows: Vec::new(alloc),
+    };
+    if is_table(plan) {
+        writer.write_all(&head_of(alloc, plan.width, plan.names)?)?;
+    }
+    for missing in &paths.unread {
+        let outcome = unread(alloc, missing.path.as_str(), missing.error.as_str())?;
+        show(rt, outcome, &mut writer, &mut progress)?;
+    }
+    for batch in paths.tests.chunks(threads.saturating_mul(BATCH).max(1)) {
+        for outcome in judge_batch(rt, batch, plan, threads)? {
+            show(rt, outcome, &mut writer, &mut progress)?;
+        }
+    }
+    writer.flush()?;
+    Ok(progress)
+}
+
+/// Prints what is told of a test, and counts it.
+fn show<R: Eprint, W: Write>(
+    rt: &R,
+    mut outcome: Outcome,
+    writer: &mut W,
+    progress: &mut Progress,
+) -> Result<(), Trouble> {
+    progress.counts.add(&outcome);
+    progress.rows.append(&mut outcome.rows)?;
+    writer.write_all(&outcome.text)?;
+    writer.flush()?;
+    if !outcome.message.is_empty() {
+        let message = outcome.message.as_str();
+        eprint!(rt; "{message}")?;
+    }
+    Ok(())
+}
+
+/// Compares and stores what was found, prints the last line, and answers the status.
+fn finish<R: Files + Print + Eprint + AllocGlobal>(
+    rt: &R,
+    words: &Words<'_>,
+    plan: &Plan<'_>,
+    progress: &Progress,
+) -> Result<u8, Trouble> {
+    let mut status = status_of(progress.counts);
+    if let Some(path) = words.write_expected {
+        store(rt, path, &progress.rows)?;
+    }
+    if let Some(path) = words.expected {
+        if compare(rt, path, &progress.rows)? {
+            status = 3;
+        }
+    }
+    last_line(rt, plan, progress.counts)?;
+    Ok(status)
+}
+
+/// The status of tests that were judged.
+fn status_of(counts: Counts) -> u8 {
+    if counts.unread > 0 {
+        1
+    } else if counts.refused > 0 {
+        2
+    } else {
+        0
+    }
+}
+
+/// A number with a comma before each group of three digits.
+fn grouped(alloc: Global, number: usize) -> Result<String, AllocError> {
+    let digits = format!(in alloc; "{number}")?;
+    let mut text = String::new(alloc);
+    for (place, digit) in digits.as_str().chars().enumerate() {
+        if place > 0 && (digits.len().saturating_sub(place)) % 3 == 0 {
+            text.push(',')?;
+        }
+        text.push(digit)?;
+    }
+    Ok(text)
+}
+
+/// Prints how many tests were judged, refused and not read. It goes to standard error where programs read the output.
+fn last_line<R: Print + Eprint + AllocGlobal>(
+    rt: &R,
+    plan: &Plan<'_>,
+    counts: Counts,
+) -> Result<(), Trouble> {
+    let all = counts.all();
+    let alloc = rt.alloc();
+    let judged = grouped(alloc, counts.judged)?;
+    let refused = grouped(alloc, counts.refused)?;
+    let unread = grouped(alloc, counts.unread)?;
+    let tests = if all == 1 { "test" } else { "tests" };
+    let all = grouped(alloc, all)?;
+    let line = format!(in alloc; "{all} {tests}: {judged} judged, {refused} refused, {unread} not read")?;
+    match plan.form {
+        Form::Tabs | Form::Json => eprintln!(rt; "{line}")?,
+        Form::Summary | Form::Line => {
+            if is_table(plan) {
+                let differing = grouped(alloc, counts.differing)?;
+                println!(rt; "{line}; the models differ in {differing} (*)")?;
+            } else {
+                println!(rt; "{line}")?;
+            }
+        }
+    }
+    Ok(())
+}

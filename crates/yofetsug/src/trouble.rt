@@ -1,0 +1,32 @@
+//! Why the program ends early.
+
+use std::alloc::{AllocError, AllocFailed};
+use std::io;
+
+/// Why the program ends early.
+#[derive(Debug, Drop)]
+pub enum Trouble {
+    /// Writing failed.
+    Write(io::Error),
+    /// What was wrong has been told already, and this is the status.
+    Told(u8),
+    NoMemory,
+}
+
+impl From<io::Error> for Trouble {
+    fn from(error: io::Error) -> Self {
+        Trouble::Write(error)
+    }
+}
+
+impl From<AllocError> for Trouble {
+    fn from(_error: AllocError) -> Self {
+        Trouble::NoMemory
+    }
+}
+
+impl<T: Drop> From<AllocFailed<T>> for Trouble {
+    fn from(_error: AllocFailed<T>) -> Self {
+        Trouble::NoMemory
+    }
+}
