@@ -1,5 +1,5 @@
 -- What the items of a model come to in an execution with n events, where E tells what names stand for.
-use Rattle.std.specs.Prelude.{◌≡◌, ℕ, suc, ◌+◌, ◌-◌, ◌≤◌, ◌↔◌, List, [], ◌∷◌, length, IsTrue, Option, None, Some}
+use Rattle.std.specs.Prelude.{ℕ, suc, ◌+◌, ◌-◌, ◌≤◌, ◌↔◌, List, [], ◌∷◌, length, IsTrue, Option, None, Some}
 use Rattle.cat_tree.specs.Tree.{Bound, values_in, Clause, bind, bind_recursively, check}
 use Rattle.cat_model.specs.Scopes.{Takes}
 use Rattle.cat_eval.specs.declared.valuing.Outcome.{Outcome}

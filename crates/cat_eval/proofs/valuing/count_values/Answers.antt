@@ -1,4 +1,4 @@
-use Rattle.std.proofs.Common.{◌≡◌, ◌+◌, ◌≤◌, ◌∙◌, ℕ, [], ◌∷◌, length, map, take, arith, ap, sym}
+use Rattle.std.proofs.Common.{◌≡◌, ◌+◌, ◌∙◌, ℕ, length, map, take, arith, ap, sym}
 use Rattle.std.proofs.lemmas.List.{length-append}
 use Rattle.cat_tree.specs.Tree.{defined_of, values_in}
 use Rattle.cat_eval.specs.Planned.{value_of}

@@ -1,4 +1,4 @@
-use Rattle.std.proofs.Common.{◌≡◌, ◌+◌, ◌≤◌, ◌∙◌, ◌++◌, ℕ, List, [], ◌∷◌, length, map, take, arith, ap, append-nil, sym, subst, refl}
+use Rattle.std.proofs.Common.{◌≡◌, ◌+◌, ◌∙◌, ◌++◌, ℕ, List, length, map, take, arith, ap, append-nil, sym, subst}
 use Rattle.std.proofs.lemmas.List.{length-append}
 use Rattle.cat_tree.specs.Tree as trees
 use Rattle.cat_tree.specs.Tree.{defined_of, values_in}
