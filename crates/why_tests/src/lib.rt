@@ -6,6 +6,3 @@ mod drawings;
 
 #[cfg(test)]
 mod reasons;
-
-#[cfg(test)]
-mod suites;
