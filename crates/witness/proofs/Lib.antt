@@ -1,2 +1,3 @@
 pub mod Shortest
 pub mod Searched
+pub mod Explained

@@ -1,3 +1,4 @@
 pub mod Cycles
 pub mod Judges
+pub mod Reasons
 pub mod Witnesses

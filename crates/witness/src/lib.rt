@@ -3,7 +3,9 @@
 
 mod cycles;
 mod judge;
+mod reasons;
 mod search;
 
 pub use cycles::shortest_cycle;
+pub use reasons::{Evidence, Reason, reason};
 pub use search::{closest, witness};
