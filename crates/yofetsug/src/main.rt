@@ -8,6 +8,7 @@ mod hints;
 mod messages;
 mod models;
 mod places;
+mod relating;
 mod run;
 mod session;
 mod trouble;

@@ -1,14 +1,13 @@
 //! Why a verdict is what it is: an execution that shows it, or what forbids the one that would.
 
-use cat_model::Model;
+use crate::relating::labels;
 use cat_tree::CheckKind;
 use conditions::Kind;
 use drawing::{Broken, Chain, Drawing, Step, dot, text};
-use events::Graph;
+use events::{Graph, GraphView};
 use slices::{Verdict, Work};
 use std::alloc::{AllocError, Global};
-use wb_text::Name;
-use witness::{Evidence, Reason, closest, labels, reason, witness};
+use witness::{Evidence, Reason, closest, reason, witness};
 
 /// What answers the question why: text for a terminal, and a file for Graphviz.
 #[derive(Drop)]
@@ -54,7 +53,7 @@ pub fn explain(alloc: Global, verdict: &Verdict, name: &[u8]) -> Result<Answer, 
     match closest(alloc, work, has)? {
         Some(graph) => {
             let found = reason(alloc, work.model(), &graph)?;
-            let against = told_of(alloc, work.model(), &graph, found)?;
+            let against = told_of(alloc, &graph, found)?;
             draw(alloc, work, &graph, name, speaks(has), against)
         }
         None => Ok(Answer {
@@ -73,14 +72,13 @@ struct Against {
 
 fn told_of(
     alloc: Global,
-    model: &Model,
     graph: &Graph,
     found: Option<Reason>,
 ) -> Result<Option<Against>, AllocError> {
     match found {
         Some(found) => {
             let check = words_of(alloc, &found)?;
-            let chain = chain_of(alloc, model, graph, &found)?;
+            let chain = chain_of(alloc, graph, &found)?;
             Ok(Some(Against { check, chain }))
         }
         None => Ok(None),
@@ -108,7 +106,6 @@ fn words_of(alloc: Global, found: &Reason) -> Result<Vec<u8>, AllocError> {
 /// The evidence as a chain of arrows.
 fn chain_of(
     alloc: Global,
-    model: &Model,
     graph: &Graph,
     found: &Reason,
 ) -> Result<Option<Chain>, AllocError> {
@@ -133,24 +130,23 @@ fn chain_of(
         Evidence::Member(event) => events.push(*event)?,
         Evidence::Denied => return Ok(None),
     }
-    arrows(alloc, model, graph, &events, found.number)
+    arrows(alloc, graph, &events)
 }
 
 /// The arrows from each event to the next, with what relates them.
 fn arrows(
     alloc: Global,
-    model: &Model,
     graph: &Graph,
     events: &[usize],
-    before: usize,
 ) -> Result<Option<Chain>, AllocError> {
     let Some((first, rest)) = events.split_first() else {
         return Ok(None);
     };
+    let view = GraphView::of(alloc, graph)?;
     let mut steps = Vec::new(alloc);
     let mut from = *first;
     for to in rest {
-        let labels = labels(alloc, model, graph, from, *to, before)?;
+        let labels = labels(alloc, &view, from, *to)?;
         steps.push(Step { to: *to, labels })?;
         from = *to;
     }
