@@ -16,7 +16,7 @@ use Rattle.suite.specs.declared.loading.CatText.{CatText}
 pub data AreFiles : List CatText → List Entry → Type 0 where
   at_first : AreFiles [] []
   behind : {ts : List CatText} {es : List Entry} (t : CatText) (f : File) → AreFiles ts es → Reads t.text.now f → version_of t.name.now es ≡ 0
-    → AreFiles (ts ++ t ∷ []) (store (record { name = t.name.now; version = 1; file = Some f }) es)
+      → AreFiles (ts ++ t ∷ []) (store (record { name = t.name.now; version = 1; file = Some f }) es)
 
 -- The texts read as files that give this model at the root.
 abbrev pub GiveModel : List CatText → Word → Assembly → Type 0

@@ -22,11 +22,7 @@ pub struct Row {
 }
 
 /// The differences, a line each: what was expected and is otherwise or not there, in the order of what was expected, and then what wasn't expected.
-pub fn differences(
-    alloc: Global,
-    expected: &[Row],
-    found: &[Row],
-) -> Result<Vec<u8>, AllocError>
+pub fn differences(alloc: Global, expected: &[Row], found: &[Row]) -> Result<Vec<u8>, AllocError>
     ensures { IfOk result (λ v. v.items ≡ texts.differences_text expected.now found.now) }
 {
     let mut text = Vec::new(alloc);
@@ -146,7 +142,10 @@ fn push_counts(text: &mut Vec<u8>, old: &Row, new: &Row) -> Result<(), AllocErro
     ensures { OnOk result (text.new.items ≡ text.old.items ++ texts.states_counted old.now new.now) }
 {
     let (was, is) = (&old.states, &new.states);
-    push_parts(text, &[b", was in ", was, b" states, is in ", is, b" states\n"])
+    push_parts(
+        text,
+        &[b", was in ", was, b" states, is in ", is, b" states\n"],
+    )
 }
 
 /// Adds a row that was found, where this one was expected for it, if it wasn't.
@@ -167,7 +166,16 @@ impl Row {
         let mut text = Vec::new(alloc);
         push_parts(
             &mut text,
-            &[&self.path, b"\t", &self.model, b"\t", &self.answer, b"\t", &self.states, b"\n"],
+            &[
+                &self.path,
+                b"\t",
+                &self.model,
+                b"\t",
+                &self.answer,
+                b"\t",
+                &self.states,
+                b"\n",
+            ],
         )?;
         Ok(text)
     }

@@ -1,7 +1,7 @@
 //! A verdict as an object of JSON.
 
-use slices::Verdict;
 use serde_json::{Value, json};
+use slices::Verdict;
 use std::alloc::{AllocError, Global};
 use wb_text::Name;
 

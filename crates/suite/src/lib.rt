@@ -14,8 +14,8 @@ mod text;
 
 pub use expected::{Row, differences};
 pub use fault::{ModelTrouble, TestTrouble};
-pub use judging::{Endless, Patience, judge_text};
 pub use json::object_of;
+pub use judging::{Endless, Patience, judge_text};
 pub use line::{answer_of, line_of, row_of};
 pub use loading::{CatText, load_model};
 pub use sink::TextSink;

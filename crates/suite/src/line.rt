@@ -52,7 +52,15 @@ fn push_whose(
     ensures { OnOk result (text.new.items ≡ text.old.items ++ texts.whose path.now model.now finding.now) }
 {
     push_parts(text, &[path, b"\t", model, b"\t"])?;
-    push_parts(text, &[finding.name().bytes(), b"\t", kind_text(finding.kind()), b"\t"])
+    push_parts(
+        text,
+        &[
+            finding.name().bytes(),
+            b"\t",
+            kind_text(finding.kind()),
+            b"\t",
+        ],
+    )
 }
 
 /// What a stored row tells of a verdict: the word, both counts and the flags, with blanks between.

@@ -22,11 +22,7 @@ pub struct CatText<'a> {
 
 /// The model whose root has this name, which is that of one of the texts or of a built-in file. What is included is looked for among the
 /// texts first, and then among the built-in files.
-pub fn load_model(
-    alloc: Global,
-    root: &Name,
-    texts: &[CatText<'_>],
-) -> Result<Model, ModelTrouble>
+pub fn load_model(alloc: Global, root: &Name, texts: &[CatText<'_>]) -> Result<Model, ModelTrouble>
     // Each text reads as a file, no two have one name, and these files give this model.
     ensures model { IfOk result (GiveModel texts.now root.now) }
     // A text that reads as no file, a name that stands twice, or what is wrong with the model; each only where it holds.

@@ -78,11 +78,7 @@ fn are_all(text: &[u8], cells: &[Vec<u8>]) -> bool
 }
 
 /// Adds each cell behind two blanks, as wide as its model's column.
-fn push_cells(
-    text: &mut Vec<u8>,
-    models: &[Vec<u8>],
-    cells: &[Vec<u8>],
-) -> Result<(), AllocError>
+fn push_cells(text: &mut Vec<u8>, models: &[Vec<u8>], cells: &[Vec<u8>]) -> Result<(), AllocError>
     ensures { OnOk result (text.new.items ≡ text.old.items ++ texts.cells_text (map (λ m. m.items) models.now) (map (λ c. c.items) cells.now)) }
 {
     let mut left = models;

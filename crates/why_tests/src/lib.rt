@@ -3,9 +3,7 @@
 
 #[cfg(test)]
 mod drawings;
-
 #[cfg(test)]
 mod reasons;
-
 #[cfg(test)]
 mod suites;

@@ -13,7 +13,8 @@ use suite::{
 };
 use wb_text::Name;
 
-const SB: &[u8] = b"C SB\n{}\nP0 (atomic_int* x, atomic_int* y) {\n  atomic_store_explicit(x, 1, memory_order_relaxed);\n  int r0 = atomic_load_explicit(y, memory_order_relaxed);\n}\nP1 (atomic_int* x, atomic_int* y) {\n  atomic_store_explicit(y, 1, memory_order_relaxed);\n  int r0 = atomic_load_explicit(x, memory_order_relaxed);\n}\nexists (0:r0=0 /\\ 1:r0=0)\n";
+const SB: &[u8] =
+    b"C SB\n{}\nP0 (atomic_int* x, atomic_int* y) {\n  atomic_store_explicit(x, 1, memory_order_relaxed);\n  int r0 = atomic_load_explicit(y, memory_order_relaxed);\n}\nP1 (atomic_int* x, atomic_int* y) {\n  atomic_store_explicit(y, 1, memory_order_relaxed);\n  int r0 = atomic_load_explicit(x, memory_order_relaxed);\n}\nexists (0:r0=0 /\\ 1:r0=0)\n";
 
 /// How a verdict is told.
 type Telling = fn(Global, &Verdict) -> Result<Vec<u8>, AllocError>;
@@ -54,11 +55,7 @@ fn told(alloc: Global, telling: Telling) -> Result<Vec<u8>, AllocError>
     }
 }
 
-fn first_told(
-    alloc: Global,
-    verdicts: &[Verdict],
-    telling: Telling,
-) -> Result<Vec<u8>, AllocError>
+fn first_told(alloc: Global, verdicts: &[Verdict], telling: Telling) -> Result<Vec<u8>, AllocError>
     requires { IsAlwaysCallable telling }
 {
     match verdicts.first() {
@@ -93,13 +90,21 @@ fn as_object(alloc: Global, verdict: &Verdict) -> Result<Vec<u8>, AllocError> {
 fn verdicts_in_lines(rt: HostRuntime) {
     let alloc = rt.alloc();
     assert!(rt; is_told(alloc, as_line, b"a b.litmus SB No Never 0 3\n"));
-    assert!(rt; is_told(alloc, as_row, b"SB.litmus\tsc.cat\tSB\tAllowed\tNo\tNever\t0\t3\t3\t"));
+    assert!(rt;
+        is_told(
+            alloc,
+            as_row,
+            b"SB.litmus\tsc.cat\tSB\tAllowed\tNo\tNever\t0\t3\t3\t"
+        )
+    );
     assert!(rt; is_told(alloc, as_object, OBJECT));
     assert!(rt; is_told(alloc, answer_of, b"Never 0 3"));
     assert!(rt; is_told(alloc, cell_of, b"Never"));
     assert!(rt; is_told(alloc, summary_of, SUMMARY));
 }
 
-const OBJECT: &[u8] = b"{\"file\":\"SB.litmus\",\"flags\":[],\"milliseconds\":7,\"model\":\"sc.cat\",\"name\":\"SB\",\"negative\":3,\"ok\":false,\"positive\":0,\"states\":3,\"word\":\"Never\"}";
+const OBJECT: &[u8] =
+    b"{\"file\":\"SB.litmus\",\"flags\":[],\"milliseconds\":7,\"model\":\"sc.cat\",\"name\":\"SB\",\"negative\":3,\"ok\":false,\"positive\":0,\"states\":3,\"word\":\"Never\"}";
 
-const SUMMARY: &[u8] = b"Test SB Allowed\nStates 3\n0:r0=0; 1:r0=1;\n0:r0=1; 1:r0=0;\n0:r0=1; 1:r0=1;\nNo\nWitnesses\nPositive: 0 Negative: 3\nCondition exists (0:r0=0 /\\ 1:r0=0)\nObservation SB Never 0 3\n";
+const SUMMARY: &[u8] =
+    b"Test SB Allowed\nStates 3\n0:r0=0; 1:r0=1;\n0:r0=1; 1:r0=0;\n0:r0=1; 1:r0=1;\nNo\nWitnesses\nPositive: 0 Negative: 3\nCondition exists (0:r0=0 /\\ 1:r0=0)\nObservation SB Never 0 3\n";

@@ -3,11 +3,10 @@
 use crate::run::{Outcome, Plan, judge, read_test_text, unread};
 use crate::trouble::Trouble;
 use std::alloc::{AllocError, Global};
-use std::io;
 use std::rt::Files;
-use std::thread;
 use std::thread::Threads;
 use std::time::Clock;
+use std::{io, thread};
 
 /// A test that was read: its path, and its text or why there is none.
 #[derive(Drop)]

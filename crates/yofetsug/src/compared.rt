@@ -46,7 +46,9 @@ pub fn compare<R: Files + Print + Eprint + AllocGlobal>(
     let expected = match rows_of(alloc, &text)? {
         Ok(rows) => rows,
         Err(number) => {
-            eprintln!(rt; "{path}:{number}: no line of --write-expected: path, model, answer and states stand between tabs")?;
+            eprintln!(rt;
+                "{path}:{number}: no line of --write-expected: path, model, answer and states stand between tabs"
+            )?;
             return Err(Trouble::Told(1));
         }
     };
@@ -73,9 +75,13 @@ fn rows_of(alloc: Global, text: &[u8]) -> Result<Result<Vec<Row>, usize>, AllocE
 /// The row of a line: four fields between tabs.
 fn row_of(alloc: Global, line: &[u8]) -> Result<Option<Row>, AllocError> {
     let mut fields = line.split(|byte| *byte == b'\t');
-    let (Some(path), Some(model), Some(answer), Some(states), None) =
-        (fields.next(), fields.next(), fields.next(), fields.next(), fields.next())
-    else {
+    let (Some(path), Some(model), Some(answer), Some(states), None) = (
+        fields.next(),
+        fields.next(),
+        fields.next(),
+        fields.next(),
+        fields.next(),
+    ) else {
         return Ok(None);
     };
     Ok(Some(Row {

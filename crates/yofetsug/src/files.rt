@@ -2,10 +2,9 @@
 
 use crate::trouble::Trouble;
 use std::alloc::{AllocError, Global};
-use std::fs;
-use std::io;
 use std::io::Read;
 use std::rt::Files;
+use std::{fs, io};
 
 /// The most bytes of a text that are read: one more than a test or a cat file may have.
 const MOST_BYTES: u64 = 65_537;

@@ -51,9 +51,9 @@ const KNOWN: [&str; 25] = [
 
 /// The sets and relations that a model has beforehand.
 const BEFOREHAND: [&str; 36] = [
-    "W", "R", "M", "F", "IW", "FW", "A", "NA", "RLX", "ACQ", "REL", "ACQ_REL", "SC", "RMW", "po", "int", "ext",
-    "loc", "po-loc", "rf", "co", "fr", "rfi", "coi", "fri", "rfe", "coe", "fre", "rmw", "data", "ctrl", "addr",
-    "id", "fencerel", "domain", "range",
+    "W", "R", "M", "F", "IW", "FW", "A", "NA", "RLX", "ACQ", "REL", "ACQ_REL", "SC", "RMW", "po",
+    "int", "ext", "loc", "po-loc", "rf", "co", "fr", "rfi", "coi", "fri", "rfe", "coe", "fre",
+    "rmw", "data", "ctrl", "addr", "id", "fencerel", "domain", "range",
 ];
 
 impl Hint {
@@ -71,15 +71,18 @@ impl Hint {
     /// What stands for a word that tests leave out.
     pub fn of_left_out(alloc: Global, word: &[u8]) -> Result<Hint, AllocError> {
         let sentence = match word {
-            b"WRITE_ONCE" => "write atomic_store_explicit(x, 1, memory_order_relaxed), with x as atomic_int*",
-            b"READ_ONCE" => "write atomic_load_explicit(x, memory_order_relaxed), with x as atomic_int*",
+            b"WRITE_ONCE" =>
+                "write atomic_store_explicit(x, 1, memory_order_relaxed), with x as atomic_int*",
+            b"READ_ONCE" =>
+                "write atomic_load_explicit(x, memory_order_relaxed), with x as atomic_int*",
             b"while" | b"for" | b"do" | b"goto" | b"break" | b"continue" => {
                 "loops are left out; write the turns that matter one behind another, with if"
             }
             b"switch" => "switch is left out; write it with if and else",
             b"return" => "return is left out; put what would be skipped into an if",
             b"filter" => "filter is left out; join its proposition to the condition",
-            b"memory_order_consume" => "consume is left out; memory_order_acquire is what compilers make of it",
+            b"memory_order_consume" =>
+                "consume is left out; memory_order_acquire is what compilers make of it",
             _ if word.starts_with(b"smp_") => {
                 "the kernel's fences are left out; write atomic_thread_fence with an order"
             }
@@ -112,7 +115,8 @@ impl Hint {
             TestFault::TooManyEvents => {
                 "a test has at most 64 events, with an initial write for each location, and an exchange or an add as two"
             }
-            TestFault::TooManyValues => "a test has at most 16 values, with 0, 1 and all sums that adds can make",
+            TestFault::TooManyValues =>
+                "a test has at most 16 values, with 0, 1 and all sums that adds can make",
             TestFault::ValueTooBig => "an add can make a value above 2147483647",
             _ => "memory ran out",
         };
@@ -146,10 +150,16 @@ pub fn test_hint(
     token: Option<&[u8]>,
 ) -> Result<Hint, AllocError> {
     if !is_c(text, tokens) {
-        return Hint::new(alloc, "not a C test: its first line has to be C and the test's name");
+        return Hint::new(
+            alloc,
+            "not a C test: its first line has to be C and the test's name",
+        );
     }
     let Some(token) = token else {
-        return Hint::new(alloc, "the test ends here, where something more is wanted: a condition comes last");
+        return Hint::new(
+            alloc,
+            "the test ends here, where something more is wanted: a condition comes last",
+        );
     };
     let Ok(word) = std::str::from_utf8(token) else {
         return Hint::new(alloc, "nothing of a test can stand here");
@@ -160,10 +170,17 @@ pub fn test_hint(
     }
     let sentence = match word {
         "unsigned" | "long" | "short" | "char" | "_Atomic" | "bool" => {
-            format!(in alloc; "the type {word} is left out; parameters are int* or atomic_int*, registers int")?
+            format!(in alloc;
+                "the type {word} is left out; parameters are int* or atomic_int*, registers int"
+            )?
         }
-        _ if word.starts_with("atomic_load") || word.starts_with("atomic_exchange") || word.starts_with("atomic_fetch") => {
-            format!(in alloc; "{word} can't stand inside an expression; give its value to a register first")?
+        _
+            if word.starts_with("atomic_load")
+                || word.starts_with("atomic_exchange")
+                || word.starts_with("atomic_fetch") => {
+            format!(in alloc;
+                "{word} can't stand inside an expression; give its value to a register first"
+            )?
         }
         _ => format!(in alloc; "{word} can't stand here; docs/LITMUS.md has the grammar")?,
     };
@@ -181,8 +198,12 @@ fn is_c(text: &[u8], tokens: &[Token]) -> bool {
 /// The orders that a call takes, in words.
 fn orders_of(call: &[u8]) -> Option<&'static str> {
     match call {
-        b"atomic_load_explicit" => Some("a load can't have {}; it takes relaxed, acquire or seq_cst"),
-        b"atomic_store_explicit" => Some("a store can't have {}; it takes relaxed, release or seq_cst"),
+        b"atomic_load_explicit" => Some(
+            "a load can't have {}; it takes relaxed, acquire or seq_cst",
+        ),
+        b"atomic_store_explicit" => Some(
+            "a store can't have {}; it takes relaxed, release or seq_cst",
+        ),
         _ => None,
     }
 }
@@ -191,10 +212,12 @@ fn orders_of(call: &[u8]) -> Option<&'static str> {
 fn takes(call: &[u8], order: &[u8]) -> bool {
     match call {
         b"atomic_load_explicit" => {
-            order != b"memory_order_release".as_slice() && order != b"memory_order_acq_rel".as_slice()
+            order != b"memory_order_release".as_slice()
+                && order != b"memory_order_acq_rel".as_slice()
         }
         b"atomic_store_explicit" => {
-            order != b"memory_order_acquire".as_slice() && order != b"memory_order_acq_rel".as_slice()
+            order != b"memory_order_acquire".as_slice()
+                && order != b"memory_order_acq_rel".as_slice()
         }
         _ => true,
     }
@@ -242,13 +265,20 @@ pub fn model_hint(
     }
     let sentence = match fault {
         ModelFault::NoCat(_) => "no such file, and no built-in model: rc11.cat is one",
-        ModelFault::NoInclude(_) => "this file is included and isn't there: put it beside the file that includes it, or name its folder by -I",
-        ModelFault::IncludeCycle(_) => "this file includes itself, or is included by what it includes",
-        ModelFault::WrongSort(_) => "a set stands where a relation is wanted, or a relation where a set is; [s] makes a relation of a set, domain and range make sets",
-        ModelFault::NotMonotone(_) => "a name of a let rec may not stand under ~ or right of \\ in its group",
-        ModelFault::FlagWithoutName => "a flagged check wants a name: flag ~empty race as data-race",
-        ModelFault::ModelTooLarge => "a model has at most 4096 items, and includes nest at most 16 deep",
-        ModelFault::CallsTooLarge(_) => "with its calls replaced by the functions' bodies the model is too large: at most 65536 nodes, 64 deep",
+        ModelFault::NoInclude(_) =>
+            "this file is included and isn't there: put it beside the file that includes it, or name its folder by -I",
+        ModelFault::IncludeCycle(_) =>
+            "this file includes itself, or is included by what it includes",
+        ModelFault::WrongSort(_) =>
+            "a set stands where a relation is wanted, or a relation where a set is; [s] makes a relation of a set, domain and range make sets",
+        ModelFault::NotMonotone(_) =>
+            "a name of a let rec may not stand under ~ or right of \\ in its group",
+        ModelFault::FlagWithoutName =>
+            "a flagged check wants a name: flag ~empty race as data-race",
+        ModelFault::ModelTooLarge =>
+            "a model has at most 4096 items, and includes nest at most 16 deep",
+        ModelFault::CallsTooLarge(_) =>
+            "with its calls replaced by the functions' bodies the model is too large: at most 65536 nodes, 64 deep",
         _ => "memory ran out",
     };
     Hint::new(alloc, sentence)

@@ -90,11 +90,13 @@ fn text_trouble(
         TextFault::NotAscii if text.starts_with(b"\xef\xbb\xbf") => {
             "the file begins with a byte order mark; save it as plain UTF-8 without one"
         }
-        TextFault::NotAscii => "a byte above 127 stands outside comments; only ASCII is taken there",
+        TextFault::NotAscii =>
+            "a byte above 127 stands outside comments; only ASCII is taken there",
         TextFault::BadByte => {
             "no token begins with this byte; arithmetic (+, -, &) and preprocessor lines (#) are left out"
         }
-        TextFault::OpenComment => "this comment is never closed; mind that (* always opens one, as in (*x)",
+        TextFault::OpenComment =>
+            "this comment is never closed; mind that (* always opens one, as in (*x)",
         TextFault::OpenString => "this quoted text is never closed",
         TextFault::NumberTooBig => "this number is above 2147483647",
         TextFault::TooLong => "a text has at most 65536 bytes",
@@ -127,7 +129,9 @@ pub fn test_trouble(
                 "the test is too large: at most 4096 runs a thread and 4294967296 candidates are gone through; take loads, stores or branches away",
             )
         }
-        TestTrouble::Late => format!(in alloc; "{path}: given up: it took longer than --timeout says\n"),
+        TestTrouble::Late => format!(in alloc;
+            "{path}: given up: it took longer than --timeout says\n"
+        ),
         TestTrouble::NoMemory => String::from_str(alloc, "memory ran out\n"),
     }
 }
@@ -160,11 +164,7 @@ fn test_fault(
 }
 
 /// Why a text is no cat file.
-pub fn cat_trouble(
-    alloc: Global,
-    source: &Source,
-    fault: &CatFault,
-) -> Result<String, AllocError> {
+pub fn cat_trouble(alloc: Global, source: &Source, fault: &CatFault) -> Result<String, AllocError> {
     let (path, text) = (source.path.as_str(), source.text.as_slice());
     if let CatFault::Text(cause) = fault {
         return text_trouble(alloc, path, text, Dialect::Cat, *cause);
@@ -180,7 +180,10 @@ pub fn cat_trouble(
             "this word or sign of herd7's cat language is left out here",
         ),
         CatFault::TooDeep => (None, "parentheses, brackets and ~ nest more than 64 deep"),
-        CatFault::TooLarge => (None, "a cat file has at most 4096 names, operators and items"),
+        CatFault::TooLarge => (
+            None,
+            "a cat file has at most 4096 names, operators and items",
+        ),
         _ => (None, "memory ran out"),
     };
     let at = Where { path, text, offset };

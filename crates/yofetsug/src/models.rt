@@ -6,9 +6,8 @@ use crate::trouble::Trouble;
 use cat_model::{Files as CatFiles, Model};
 use cat_syntax::{CatFault, CatFile, Item, read_cat};
 use std::alloc::{AllocError, Global};
-use std::fs;
-use std::io;
 use std::rt::Files;
+use std::{fs, io};
 use suite::{CatText, ModelTrouble, load_model};
 use wb_text::{Name, NameFault};
 
@@ -41,10 +40,7 @@ pub fn read_model<R: Files + Eprint + AllocGlobal>(
 }
 
 /// The file of a word, or none where it names a built-in model.
-fn root_of<R: Files + Eprint + AllocGlobal>(
-    rt: &R,
-    word: &str,
-) -> Result<Option<Source>, Trouble> {
+fn root_of<R: Files + Eprint + AllocGlobal>(rt: &R, word: &str) -> Result<Option<Source>, Trouble> {
     match text_of(rt, word) {
         Ok(text) => {
             let name = name_or_main(rt.alloc(), file_name(word))?;
@@ -165,16 +161,14 @@ fn wanted<R: Files + Eprint + AllocGlobal>(
 }
 
 /// Nothing more to read of a name that is there; but one name can't stand for two files.
-fn is_other<R: Eprint>(
-    rt: &R,
-    known: &Source,
-    path: &String,
-) -> Result<Option<Source>, Trouble> {
+fn is_other<R: Eprint>(rt: &R, known: &Source, path: &String) -> Result<Option<Source>, Trouble> {
     if known.path.as_str() == path.as_str() {
         return Ok(None);
     }
     let first = known.path.as_str();
-    eprintln!(rt; "{path}: its name is included for {first}, too; give one of the two files another name")?;
+    eprintln!(rt;
+        "{path}: its name is included for {first}, too; give one of the two files another name"
+    )?;
     Err(Trouble::Told(2))
 }
 

@@ -12,8 +12,8 @@ use std::io;
 use std::rt::Files;
 use std::time::{Clock, Instant};
 use suite::{
-    Patience, Row, TestTrouble, answer_of, are_alike, cell_of, judge_text, line_of, object_of, row_of,
-    summary_of, table_row_of,
+    Patience, Row, TestTrouble, answer_of, are_alike, cell_of, judge_text, line_of, object_of,
+    row_of, summary_of, table_row_of,
 };
 
 /// What all tests have in common.
@@ -60,10 +60,7 @@ pub struct Outcome {
 }
 
 /// The text of a test, which is read from standard input where the path is `-`.
-pub fn read_test_text<R: Files + Input + AllocGlobal>(
-    rt: &R,
-    path: &str,
-) -> io::Result<Vec<u8>> {
+pub fn read_test_text<R: Files + Input + AllocGlobal>(rt: &R, path: &str) -> io::Result<Vec<u8>> {
     if path == "-" {
         return read_front(rt.alloc(), rt.reader());
     }

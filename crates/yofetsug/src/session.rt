@@ -1,9 +1,9 @@
 //! A run of the program: models, tests, comparison, and the last line.
 
+use crate::batch::judge_batch;
 use crate::compared::{compare, store, write_file};
 use crate::files::{Paths, find_tests};
 use crate::models::read_model;
-use crate::batch::judge_batch;
 use crate::run::{Fate, Outcome, Plan, unread};
 use crate::trouble::Trouble;
 use crate::words::{Form, Words};
@@ -20,9 +20,19 @@ use suite::{Row, head_of};
 const BATCH: usize = 16;
 
 /// What a run needs of its runtime.
-pub trait Reach: Files + Input + Print + Eprint + AllocGlobal + Clone + Clock + Drop + Threads + Sync {}
+pub trait Reach: Files
+    + Input
+    + Print
+    + Eprint
+    + AllocGlobal
+    + Clone
+    + Clock
+    + Drop
+    + Threads
+    + Sync {}
 
-impl<R: Files + Input + Print + Eprint + AllocGlobal + Clone + Clock + Drop + Threads + Sync> Reach for R {}
+impl<R: Files + Input + Print + Eprint + AllocGlobal + Clone + Clock + Drop + Threads + Sync> Reach
+    for R {}
 
 /// How many tests were judged, refused and not read, and how many the models tell apart.
 #[derive(Clone, Copy)]
@@ -64,15 +74,14 @@ impl Counts {
     }
 
     fn all(self) -> usize {
-        self.judged.saturating_add(self.refused).saturating_add(self.unread)
+        self.judged
+            .saturating_add(self.refused)
+            .saturating_add(self.unread)
     }
 }
 
 /// Judges all tests that the words name, and answers the status.
-pub fn run_all<R: Reach>(
-    rt: &R,
-    words: &Words<'_>,
-) -> Result<u8, Trouble> {
+pub fn run_all<R: Reach>(rt: &R, words: &Words<'_>) -> Result<u8, Trouble> {
     let alloc = rt.alloc();
     let mut models = Vec::new(alloc);
     let mut names = Vec::new(alloc);
@@ -230,7 +239,9 @@ fn last_line<R: Print + Eprint + AllocGlobal>(
     let unread = grouped(alloc, counts.unread)?;
     let tests = if all == 1 { "test" } else { "tests" };
     let all = grouped(alloc, all)?;
-    let line = format!(in alloc; "{all} {tests}: {judged} judged, {refused} refused, {unread} not read")?;
+    let line = format!(in alloc;
+        "{all} {tests}: {judged} judged, {refused} refused, {unread} not read"
+    )?;
     match plan.form {
         Form::Tabs | Form::Json => eprintln!(rt; "{line}")?,
         Form::Summary | Form::Line => {

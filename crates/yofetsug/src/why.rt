@@ -104,11 +104,7 @@ fn words_of(alloc: Global, found: &Reason) -> Result<Vec<u8>, AllocError> {
 }
 
 /// The evidence as a chain of arrows.
-fn chain_of(
-    alloc: Global,
-    graph: &Graph,
-    found: &Reason,
-) -> Result<Option<Chain>, AllocError> {
+fn chain_of(alloc: Global, graph: &Graph, found: &Reason) -> Result<Option<Chain>, AllocError> {
     let mut events = Vec::new(alloc);
     match &found.evidence {
         Evidence::Cycle(cycle) => {
@@ -134,11 +130,7 @@ fn chain_of(
 }
 
 /// The arrows from each event to the next, with what relates them.
-fn arrows(
-    alloc: Global,
-    graph: &Graph,
-    events: &[usize],
-) -> Result<Option<Chain>, AllocError> {
+fn arrows(alloc: Global, graph: &Graph, events: &[usize]) -> Result<Option<Chain>, AllocError> {
     let Some((first, rest)) = events.split_first() else {
         return Ok(None);
     };

@@ -44,7 +44,9 @@ fn models<'a>(alloc: Global) -> Arg<'a> {
         .long("model")
         .action(ArgAction::Append)
         .value_name("MODEL")
-        .help("A cat file, or rc11.cat, which is built in and the default; may be given again, for a table")
+        .help(
+            "A cat file, or rc11.cat, which is built in and the default; may be given again, for a table",
+        )
 }
 
 fn folders<'a>(alloc: Global) -> Arg<'a> {
@@ -116,7 +118,9 @@ fn threads<'a>(alloc: Global) -> Arg<'a> {
         .long("threads")
         .action(ArgAction::Set)
         .value_name("N")
-        .help("How many threads judge, 1 to 64; as many as there are processors, up to 8, where it is not said")
+        .help(
+            "How many threads judge, 1 to 64; as many as there are processors, up to 8, where it is not said",
+        )
         .value_parser(value_parser!(u8).range(1..=64))
 }
 
@@ -134,7 +138,9 @@ fn tests<'a>(alloc: Global) -> Arg<'a> {
         .action(ArgAction::Append)
         .required(true)
         .value_name("TEST")
-        .help("Test files; folders, with all *.litmus below; @FILE, a list of paths, one a line; - for standard input")
+        .help(
+            "Test files; folders, with all *.litmus below; @FILE, a list of paths, one a line; - for standard input",
+        )
 }
 
 /// The command that clap reads the words by.
