@@ -2,10 +2,12 @@
 #![tactic(auto)]
 
 mod cycles;
+mod explaining;
 mod judge;
 mod reasons;
 mod search;
 
 pub use cycles::shortest_cycle;
-pub use reasons::{Evidence, Reason, reason};
+pub use explaining::reason;
+pub use reasons::{Evidence, Reason};
 pub use search::{closest, witness};
