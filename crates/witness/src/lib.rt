@@ -3,9 +3,11 @@
 
 mod cycles;
 mod judge;
+mod labelling;
 mod reasons;
 mod search;
 
 pub use cycles::shortest_cycle;
+pub use labelling::labels;
 pub use reasons::{Evidence, Reason, reason};
 pub use search::{closest, witness};
