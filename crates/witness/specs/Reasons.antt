@@ -1,5 +1,5 @@
 -- Why a model forbids an execution.
-use Rattle.std.specs.Prelude.{◌≡◌, ℕ, List, [], ◌∷◌, Bool, true, false, IsTrue, Option, Some, take, slice_get}
+use Rattle.std.specs.Prelude.{◌≡◌, ℕ, zero, suc, List, [], ◌∷◌, Bool, true, false, IsTrue, Option, None, Some, take, slice_get}
 use Rattle.relations.specs.Events.{Has}
 use Rattle.relations.specs.Relation.{In}
 use Rattle.cat_eval.specs.Judging.{Allowed, Behind, Binds, First, Passes, Unless}
@@ -49,7 +49,12 @@ pub record IsReason (items : List Clause) (g : GraphValue) (r : Reason) : Type 0
   pub fails : ¬ Unless r.negated (Passes r.kind value)
   pub evidence : IsEvidence r.negated r.kind value r.evidence
 
--- No statement rests on what follows.
+-- the reason why the model forbids the execution, or none where it allows it
+abbrev pub IsWhy : List Clause → GraphValue → Option Reason → Type 0
+IsWhy items g None = Allowed items g
+IsWhy items g (Some r) = (¬ Allowed items g) × IsReason items g r
+
+-- No contract of another crate rests on what follows.
 
 -- the outcome of a check without a flag that doesn't hold: it has a value, of a sort that the check takes, that fails the check
 abbrev pub IsFailing : Clause → Outcome → Type 0
@@ -65,3 +70,9 @@ Explains number item o r = ⊥
 abbrev pub Permit : List Outcome → Type 0
 Permit [] = Unit {0}
 Permit (o ∷ os) = IsTrue o.permits × Permit os
+
+-- the outcome at this place forbids something, and each before it nothing
+abbrev pub FailsFirst : ℕ → List Outcome → Type 0
+FailsFirst zero (o ∷ os) = o.permits ≡ false
+FailsFirst (suc k) (o ∷ os) = IsTrue o.permits × FailsFirst k os
+FailsFirst k [] = ⊥

@@ -1,6 +1,6 @@
 use Rattle.std.proofs.Common.{◌<◌, arith}
 use Rattle.relations.specs.Equality.{pair_below}
-use Rattle.witness.proofs.reasons.pair.Goals as goal
+use Rattle.witness.proofs.explaining.pair.Goals as goal
 
 pub returns : goal.returns
 returns c = λ i j h.

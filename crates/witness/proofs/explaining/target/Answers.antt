@@ -1,6 +1,6 @@
 use Rattle.std.proofs.Common.{◌<◌, arith}
 use Rattle.relations.specs.Equality.{pair_below}
-use Rattle.witness.proofs.reasons.target.Goals as goal
+use Rattle.witness.proofs.explaining.target.Goals as goal
 
 pub returns : goal.returns
 returns c = λ j h.

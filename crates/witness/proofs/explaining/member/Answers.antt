@@ -1,6 +1,6 @@
 use Rattle.std.proofs.Common.{◌<◌, arith}
 use Rattle.relations.specs.Equality.{event_below}
-use Rattle.witness.proofs.reasons.member.Goals as goal
+use Rattle.witness.proofs.explaining.member.Goals as goal
 
 pub returns : goal.returns
 returns c = λ i h.
