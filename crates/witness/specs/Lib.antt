@@ -1,4 +1,5 @@
 pub mod Cycles
 pub mod Judges
+pub mod Labels
 pub mod Reasons
 pub mod Witnesses

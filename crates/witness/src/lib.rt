@@ -4,10 +4,12 @@
 mod cycles;
 mod explaining;
 mod judge;
+mod labelling;
 mod reasons;
 mod search;
 
 pub use cycles::shortest_cycle;
 pub use explaining::reason;
+pub use labelling::labels;
 pub use reasons::{Evidence, Reason};
 pub use search::{closest, witness};
