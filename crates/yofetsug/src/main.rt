@@ -8,7 +8,6 @@ mod hints;
 mod messages;
 mod models;
 mod places;
-mod relating;
 mod run;
 mod session;
 mod trouble;

@@ -1,13 +1,13 @@
 //! Why a verdict is what it is: an execution that shows it, or what forbids the one that would.
 
-use crate::relating::labels;
+use cat_model::Model;
 use cat_tree::CheckKind;
 use conditions::Kind;
 use drawing::{Broken, Chain, Drawing, Step, dot, text};
-use events::{Graph, GraphView};
+use events::Graph;
 use slices::{Verdict, Work};
 use std::alloc::{AllocError, Global};
-use witness::{Evidence, Reason, closest, reason, witness};
+use witness::{Evidence, Reason, closest, labels, reason, witness};
 
 /// What answers the question why: text for a terminal, and a file for Graphviz.
 #[derive(Drop)]
@@ -53,7 +53,7 @@ pub fn explain(alloc: Global, verdict: &Verdict, name: &[u8]) -> Result<Answer, 
     match closest(alloc, work, has)? {
         Some(graph) => {
             let found = reason(alloc, work.model(), &graph)?;
-            let against = told_of(alloc, &graph, found)?;
+            let against = told_of(alloc, work.model(), &graph, found)?;
             draw(alloc, work, &graph, name, speaks(has), against)
         }
         None => Ok(Answer {
@@ -72,13 +72,14 @@ struct Against {
 
 fn told_of(
     alloc: Global,
+    model: &Model,
     graph: &Graph,
     found: Option<Reason>,
 ) -> Result<Option<Against>, AllocError> {
     match found {
         Some(found) => {
             let check = words_of(alloc, &found)?;
-            let chain = chain_of(alloc, graph, &found)?;
+            let chain = chain_of(alloc, model, graph, &found)?;
             Ok(Some(Against { check, chain }))
         }
         None => Ok(None),
@@ -126,19 +127,24 @@ fn chain_of(alloc: Global, graph: &Graph, found: &Reason) -> Result<Option<Chain
         Evidence::Member(event) => events.push(*event)?,
         Evidence::Denied => return Ok(None),
     }
-    arrows(alloc, graph, &events)
+    arrows(alloc, model, graph, &events, found.number)
 }
 
 /// The arrows from each event to the next, with what relates them.
-fn arrows(alloc: Global, graph: &Graph, events: &[usize]) -> Result<Option<Chain>, AllocError> {
+fn arrows(
+    alloc: Global,
+    model: &Model,
+    graph: &Graph,
+    events: &[usize],
+    before: usize,
+) -> Result<Option<Chain>, AllocError> {
     let Some((first, rest)) = events.split_first() else {
         return Ok(None);
     };
-    let view = GraphView::of(alloc, graph)?;
     let mut steps = Vec::new(alloc);
     let mut from = *first;
     for to in rest {
-        let labels = labels(alloc, &view, from, *to)?;
+        let labels = labels(alloc, model, graph, from, *to, before)?;
         steps.push(Step { to: *to, labels })?;
         from = *to;
     }
