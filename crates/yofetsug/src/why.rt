@@ -105,7 +105,12 @@ fn words_of(alloc: Global, found: &Reason) -> Result<Vec<u8>, AllocError> {
 }
 
 /// The evidence as a chain of arrows.
-fn chain_of(alloc: Global, graph: &Graph, found: &Reason) -> Result<Option<Chain>, AllocError> {
+fn chain_of(
+    alloc: Global,
+    model: &Model,
+    graph: &Graph,
+    found: &Reason,
+) -> Result<Option<Chain>, AllocError> {
     let mut events = Vec::new(alloc);
     match &found.evidence {
         Evidence::Cycle(cycle) => {
