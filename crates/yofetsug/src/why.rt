@@ -105,7 +105,12 @@ fn words_of(alloc: Global, found: &Reason) -> Result<Vec<u8>, AllocError> {
 }
 
 /// The evidence as a chain of arrows.
-fn chain_of(alloc: Global, graph: &Graph, found: &Reason) -> Result<Option<Chain>, AllocError> {
+fn chain_of(
+    alloc: Global,
+    model: &Model,
+    graph: &Graph,
+    found: &Reason,
+) -> Result<Option<Chain>, AllocError> {
     let mut events = Vec::new(alloc);
     match &found.evidence {
         Evidence::Cycle(cycle) => {
@@ -130,6 +135,33 @@ fn chain_of(alloc: Global, graph: &Graph, found: &Reason) -> Result<Option<Chain
     arrows(alloc, model, graph, &events, found.number)
 }
 
+/// The names that tell nothing of an arrow that its ends and its other names don't: of threads and locations, and of parts of rf, co and fr.
+const PLAIN: [&[u8]; 11] = [
+    b"int", b"ext", b"loc", b"po-loc", b"rfi", b"rfe", b"coi", b"coe", b"fri", b"fre", b"id",
+];
+
+/// What relates two events, without the names that tell nothing more; all of them where there are no others.
+fn labels_of(
+    alloc: Global,
+    model: &Model,
+    graph: &Graph,
+    from: usize,
+    to: usize,
+    before: usize,
+) -> Result<Vec<Name>, AllocError> {
+    let all = labels(alloc, model, graph, from, to, before)?;
+    let mut telling = Vec::new(alloc);
+    for name in &all {
+        if !PLAIN.contains(&name.bytes()) {
+            telling.push(name.copy()?)?;
+        }
+    }
+    if telling.is_empty() {
+        return Ok(all);
+    }
+    Ok(telling)
+}
+
 /// The arrows from each event to the next, with what relates them.
 fn arrows(
     alloc: Global,
@@ -144,7 +176,7 @@ fn arrows(
     let mut steps = Vec::new(alloc);
     let mut from = *first;
     for to in rest {
-        let labels = labels(alloc, model, graph, from, *to, before)?;
+        let labels = labels_of(alloc, model, graph, from, *to, before)?;
         steps.push(Step { to: *to, labels })?;
         from = *to;
     }
