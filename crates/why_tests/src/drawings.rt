@@ -145,52 +145,51 @@ fn is_drawn(alloc: Global, told: &Told, graph: &Graph, as_dot: bool, expected: &
 }
 
 /// Whether both drawings are these.
-fn are_drawn(
-    alloc: Global,
-    told: fn(Global) -> Result<Told, AllocError>,
-    graph: fn(Global) -> Result<Graph, AllocError>,
-    as_text: &[u8],
-    as_dot: &[u8],
-) -> Result<bool, Fail> {
-    let told = again!(told(alloc))?;
-    let graph = again!(graph(alloc))?;
-    Ok(
-        is_drawn(alloc, &told, &graph, false, as_text)
-            && is_drawn(alloc, &told, &graph, true, as_dot),
-    )
+fn are_drawn(alloc: Global, told: &Told, graph: &Graph, as_text: &[u8], as_dot: &[u8]) -> bool {
+    is_drawn(alloc, told, graph, false, as_text) && is_drawn(alloc, told, graph, true, as_dot)
 }
 
 #[test]
 fn store_buffering_under_sc(rt: HostRuntime) -> Result<(), Fail> {
-    let holds = are_drawn(
-        rt.alloc(),
-        sc_of_store_buffering,
-        store_buffering,
-        STORE_BUFFERING_TEXT,
-        STORE_BUFFERING_DOT,
-    )?;
-    assert!(rt; holds);
+    let alloc = rt.alloc();
+    let told = again!(sc_of_store_buffering(alloc))?;
+    let graph = again!(store_buffering(alloc))?;
+    assert!(rt;
+        are_drawn(
+            alloc,
+            &told,
+            &graph,
+            STORE_BUFFERING_TEXT,
+            STORE_BUFFERING_DOT
+        )
+    );
     Ok(())
 }
 
 #[test]
 fn names_in_quotes(rt: HostRuntime) -> Result<(), Fail> {
-    let holds = are_drawn(rt.alloc(), odd_names, store_buffering, ODD_TEXT, ODD_DOT)?;
-    assert!(rt; holds);
+    let alloc = rt.alloc();
+    let told = again!(odd_names(alloc))?;
+    let graph = again!(store_buffering(alloc))?;
+    assert!(rt; are_drawn(alloc, &told, &graph, ODD_TEXT, ODD_DOT));
     Ok(())
 }
 
 #[test]
 fn an_execution_without_reads(rt: HostRuntime) -> Result<(), Fail> {
-    let holds = are_drawn(rt.alloc(), plain, alone, ALONE_TEXT, ALONE_DOT)?;
-    assert!(rt; holds);
+    let alloc = rt.alloc();
+    let told = again!(plain(alloc))?;
+    let graph = again!(alone(alloc))?;
+    assert!(rt; are_drawn(alloc, &told, &graph, ALONE_TEXT, ALONE_DOT));
     Ok(())
 }
 
 #[test]
 fn exchanges_under_a_denied_check(rt: HostRuntime) -> Result<(), Fail> {
-    let holds = are_drawn(rt.alloc(), denied, exchanged, EXCHANGED_TEXT, EXCHANGED_DOT)?;
-    assert!(rt; holds);
+    let alloc = rt.alloc();
+    let told = again!(denied(alloc))?;
+    let graph = again!(exchanged(alloc))?;
+    assert!(rt; are_drawn(alloc, &told, &graph, EXCHANGED_TEXT, EXCHANGED_DOT));
     Ok(())
 }
 
