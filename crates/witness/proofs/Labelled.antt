@@ -139,8 +139,8 @@ functions_lists n B E i j (d ∷ ds) xs l = by d.parameters refl (λ F ys. funct
     by : (ps : List Word) → d.parameters ≡ ps → ((F : Environment) (ys : List Word) → Lists (Relates F i j) ys → Lists (Relates (WithFunctions n B (functions_in ds) F) i j) (hidden_by ds ys)) → Lists (Relates (WithFunctions n B (function_if ps d (functions_in ds)) E) i j) (hidden_by ds (hidden_if ps d.name xs))
     by [] e rest = rest E xs l
     by (p ∷ ps) e rest =
-      let F : List Word → Type 0 = λ qs. Lists (Relates (With E d.name (Applied n B qs d.value)) i j) (without d.name xs) in
-      rest (With E d.name (Applied n B d.parameters d.value)) (without d.name xs) (subst F (sym e) (function_lists n B E i j d.name p ps d.value xs l))
+        let F : List Word → Type 0 = λ qs. Lists (Relates (With E d.name (Applied n B qs d.value)) i j) (without d.name xs) in
+        rest (With E d.name (Applied n B d.parameters d.value)) (without d.name xs) (subst F (sym e) (function_lists n B E i j d.name p ps d.value xs l))
 
 item_lists : (n : ℕ) (E : Environment) (i j : ℕ) (item : Clause) (es : List Entry) (xs : List Word) → Lists (Relates E i j) xs → Lists (Relates (Behind n E item es) i j) (labelled i j item es xs)
 item_lists n E i j (bind ds) es xs l = functions_lists n E (Under E es) i j ds (bound_by i j es xs) (under_lists E i j es xs l)
@@ -282,30 +282,35 @@ written_more g i j rs r pairs b xs exact is l = rebound_lists (IsWritten g i j r
     last_rel : (rs : List RelName) → IsIn r (rs ++ r ∷ [])
     last_rel [] = inl refl
     last_rel (z ∷ rs) = inr (last_rel rs)
+
     more_rel : (rs : List RelName) (m : RelName) → IsIn m rs → IsIn m (rs ++ r ∷ [])
     more_rel [] m h = absurd h
     more_rel (z ∷ rs) m h = elim h [ inl e ↦ inl e | inr k ↦ inr (more_rel rs m k) ]
+
     rel_more : (rs : List RelName) (m : RelName) → IsIn m (rs ++ r ∷ []) → IsIn m rs ⊎ (m ≡ r)
     rel_more [] m h = elim h [ inl e ↦ inr e | inr k ↦ absurd k ]
     rel_more (z ∷ rs) m h = elim h [ inl e ↦ inl (inl e) | inr k ↦ elim (rel_more rs m k) [ inl q ↦ inl (inr q) | inr e ↦ inr e ] ]
+
     same_rel : (m : RelName) (x : Word) → named_of x ≡ Some (Rel m) → x ≡ spelling_of (Rel r) → m ≡ r
     same_rel m x h e = (let f : Some (Rel m) ≡ Some (Rel r) = sym h ∙ ap named_of e ∙ spelling_named r in cc)
+
     holds : (m : RelName) (p : Relation) → IsExactly (event_count g) (NamedRel g m) p → In p i j → m ≡ r → b ≡ true
     holds m p x h e =
-      let below = pair_below p i j x.canonical h in
-      let R : RelName → Type 0 = λ z. NamedRel g z i j in
-      let c : p.count ≡ event_count g = x.count in
-      let low : i < p.count = below.0 in
-      let high : j < p.count = below.1 in
-      is ∙ exact.all i j (omega (arith, low, c)) (omega (arith, high, c)) (subst R e (x.only i j h))
+        let below = pair_below p i j x.canonical h in
+        let R : RelName → Type 0 = λ z. NamedRel g z i j in
+        let c : p.count ≡ event_count g = x.count in
+        let low : i < p.count = below.0 in
+        let high : j < p.count = below.1 in
+        is ∙ exact.all i j (omega (arith, low, c)) (omega (arith, high, c)) (subst R e (x.only i j h))
+
     split : (x : Word) → IsWritten g i j (rs ++ r ∷ []) x → (t : Bool) → bytes_eq x (spelling_of (Rel r)) ≡ t → ((x ≡ spelling_of (Rel r)) × (b ≡ true)) ⊎ ((¬ (x ≡ spelling_of (Rel r))) × IsWritten g i j rs x)
     split x q true t = (let e = (bytes_eq-Decides x (spelling_of (Rel r))).0 t in inl (e, holds q.relation q.pairs q.exact q.relates (same_rel q.relation x q.named e)))
     split x q false t =
-      let n : ¬ (x ≡ spelling_of (Rel r)) = unlike x (spelling_of (Rel r)) false t refl in
-      elim (rel_more rs q.relation q.among) [
-        | inl k ↦ inr (n, record { relation = q.relation; among = k; named = q.named; pairs = q.pairs; exact = q.exact; relates = q.relates })
-        | inr e ↦ absurd (n (spelled x q.relation q.named ∙ ap (λ z. spelling_of (Rel z)) e))
-      ]
+        let n : ¬ (x ≡ spelling_of (Rel r)) = unlike x (spelling_of (Rel r)) false t refl in
+        elim (rel_more rs q.relation q.among) [
+          | inl k ↦ inr (n, record { relation = q.relation; among = k; named = q.named; pairs = q.pairs; exact = q.exact; relates = q.relates })
+          | inr e ↦ absurd (n (spelled x q.relation q.named ∙ ap (λ z. spelling_of (Rel z)) e))
+        ]
 
 -- before any item
 first_lists : (g : GraphValue) (i j : ℕ) (xs : List Word) → Lists (IsWritten g i j named_relations) xs → Lists (Relates (First g) i j) xs
@@ -313,16 +318,18 @@ first_lists g i j xs l = record { once = l.once; only = λ x m. stands x (l.only
   where
     stands : (x : Word) → IsWritten g i j named_relations x → Relates (First g) i j x
     stands x w =
-      let B : Option Named → Type 0 = λ o. Beforehand g o (Pairs w.pairs) in
-      let before : Beforehand g (named_of x) (Pairs w.pairs) = subst B (sym w.named) (record { pairs = w.pairs; value = refl; exact = w.exact }) in
-      (w.pairs, inr ((λ e. (let f : Some (Rel w.relation) ≡ None = sym w.named ∙ ap named_of e ∙ unnamed in cc)), before), w.relates)
+        let B : Option Named → Type 0 = λ o. Beforehand g o (Pairs w.pairs) in
+        let before : Beforehand g (named_of x) (Pairs w.pairs) = subst B (sym w.named) (record { pairs = w.pairs; value = refl; exact = w.exact }) in
+        (w.pairs, inr ((λ e. (let f : Some (Rel w.relation) ≡ None = sym w.named ∙ ap named_of e ∙ unnamed in cc)), before), w.relates)
+
     by_name : (x : Word) (r : Relation) (o : Option Named) → named_of x ≡ o → Beforehand g o (Pairs r) → In r i j → IsWritten g i j named_relations x
     by_name x r None e h k = absurd h
     by_name x r (Some (Set s)) e h k = absurd (let f : Pairs r ≡ Events h.events = h.value in cc)
     by_name x r (Some (Rel m)) e h k =
-      let same : h.pairs ≡ r = (let f : Pairs r ≡ Pairs h.pairs = h.value in cc) in
-      let X : Relation → Type 0 = λ z. IsExactly (event_count g) (NamedRel g m) z in
-      record { relation = m; among = among_all m; named = e; pairs = r; exact = subst X same h.exact; relates = k }
+        let same : h.pairs ≡ r = (let f : Pairs r ≡ Pairs h.pairs = h.value in cc) in
+        let X : Relation → Type 0 = λ z. IsExactly (event_count g) (NamedRel g m) z in
+        record { relation = m; among = among_all m; named = e; pairs = r; exact = subst X same h.exact; relates = k }
+
     is_written : (x : Word) (r : Relation) → First g x [] (Pairs r) → In r i j → IsWritten g i j named_relations x
     is_written x r h k = elim h [ inl e ↦ absurd e.1 | inr n ↦ by_name x r (named_of x) refl n.1 k ]
 
@@ -504,7 +511,7 @@ cut items clauses k c e d = elim (cases_lt k (length clauses)) [
       let h : length clauses ≤ k = omega (arith, l) in
       let m = same_long items clauses e in
       ap (map clause_of) (take_all items c (omega (arith, f, m))) ∙ e ∙ sym (take_all clauses k h)
-    )
+      )
 ]
 
 -- the first of these items are no more than there are outcomes

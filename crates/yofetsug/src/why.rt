@@ -7,6 +7,7 @@ use drawing::{Broken, Chain, Drawing, Step, dot, text};
 use events::Graph;
 use slices::{Verdict, Work};
 use std::alloc::{AllocError, Global};
+use wb_text::Name;
 use witness::{Evidence, Reason, closest, labels, reason, witness};
 
 /// What answers the question why: text for a terminal, and a file for Graphviz.

@@ -21,13 +21,13 @@ returns-clause-exact c =
     let N : GraphValue → Type 0 = λ g. Lists (IsWritten g c.args.from c.args.to named_relations) c.in_ok-names.names.items in
     let first = cut_as _ _ _ c.args.before _ c.items.ensures.value c.items-2.ensures.value c.min-count.ensures in
     labels_exact c.args.model.now.items c.args.graph.now c.args.from c.args.to c.args.before c.in_ok-account.account.outcomes.items c.in_ok-names.names.items _ c.one_value.ensures c.one_least.ensures
-      (subst H c.in_ok-view.ensures c.in_ok-account.ensures.outcomes) (subst N c.in_ok-view.ensures c.in_ok-names.ensures.exact)
-      (c.in_ok-bind_all.ensures ∙ ap (λ items. all_labelled c.args.from c.args.to items c.deref.result.now c.in_ok-names.names.items) first ∙ ap (λ os. all_labelled c.args.from c.args.to (take c.args.before c.args.model.now.items) os c.in_ok-names.names.items) c.deref.ensures.value)
+    (subst H c.in_ok-view.ensures c.in_ok-account.ensures.outcomes) (subst N c.in_ok-view.ensures c.in_ok-names.ensures.exact)
+    (c.in_ok-bind_all.ensures ∙ ap (λ items. all_labelled c.args.from c.args.to items c.deref.result.now c.in_ok-names.names.items) first ∙ ap (λ os. all_labelled c.args.from c.args.to (take c.args.before c.args.model.now.items) os c.in_ok-names.names.items) c.deref.ensures.value)
 
 pub returns-clause-ordered : goal.returns-clause-ordered
 returns-clause-ordered c =
     let H : GraphValue → Type 0 = λ g. AreOutcomes (event_count g) (First g) c.args.model.now.items c.in_ok-account.account.outcomes.items in
     let first = cut_as _ _ _ c.args.before _ c.items.ensures.value c.items-2.ensures.value c.min-count.ensures in
     labels_ordered c.args.model.now.items c.args.graph.now c.args.from c.args.to c.args.before c.in_ok-account.account.outcomes.items c.in_ok-names.names.items _
-      (subst H c.in_ok-view.ensures c.in_ok-account.ensures.outcomes) c.in_ok-names.ensures.ordered
-      (c.in_ok-bind_all.ensures ∙ ap (λ items. all_labelled c.args.from c.args.to items c.deref.result.now c.in_ok-names.names.items) first ∙ ap (λ os. all_labelled c.args.from c.args.to (take c.args.before c.args.model.now.items) os c.in_ok-names.names.items) c.deref.ensures.value)
+    (subst H c.in_ok-view.ensures c.in_ok-account.ensures.outcomes) c.in_ok-names.ensures.ordered
+    (c.in_ok-bind_all.ensures ∙ ap (λ items. all_labelled c.args.from c.args.to items c.deref.result.now c.in_ok-names.names.items) first ∙ ap (λ os. all_labelled c.args.from c.args.to (take c.args.before c.args.model.now.items) os c.in_ok-names.names.items) c.deref.ensures.value)
