@@ -55,7 +55,7 @@ pub fn explain(alloc: Global, verdict: &Verdict, name: &[u8]) -> Result<Answer, 
         Some(graph) => {
             let found = reason(alloc, work.model(), &graph)?;
             let against = told_of(alloc, work.model(), &graph, found)?;
-            draw(alloc, work, &graph, name, speaks(has), against)
+            draw(alloc, work, &graph, name, speaks(has), against.as_ref())
         }
         None => Ok(Answer {
             text: Vec::from_slice(alloc, lacks(has))?,
@@ -188,15 +188,15 @@ fn arrows(
 }
 
 /// An execution as text behind a sentence, and for Graphviz.
-fn draw(
+fn draw<'a>(
     alloc: Global,
-    work: &Work,
-    graph: &Graph,
-    model: &[u8],
+    work: &'a Work,
+    graph: &'a Graph,
+    model: &'a [u8],
     sentence: &[u8],
-    against: Option<Against>,
+    against: Option<&'a Against>,
 ) -> Result<Answer, AllocError> {
-    let broken = match &against {
+    let broken = match against {
         Some(against) => Some(Broken {
             check: &against.check,
             chain: against.chain.as_ref(),
