@@ -3,3 +3,13 @@
 
 #[cfg(test)]
 mod drawings;
+#[cfg(test)]
+mod growth;
+#[cfg(test)]
+mod made;
+#[cfg(test)]
+mod reasons;
+#[cfg(test)]
+mod searches;
+#[cfg(test)]
+mod texts;
