@@ -29,3 +29,4 @@ pub mod Writing
 pub mod Listed
 pub mod Moves
 pub mod Orders
+pub mod Like

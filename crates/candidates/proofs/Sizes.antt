@@ -42,7 +42,7 @@ ways_more runs zero k (x ∷ xs) l m = placings_more (length (later_writes runs 
 ways_more runs (suc free) k (x ∷ xs) l m =
     ap (λ z. count_orders runs x * z) (ways_more runs free k xs (omega (arith, l)) m) ∙ sym (mul_assoc (count_orders runs x) (ways_of_orders runs free k xs) (length (later_writes runs (get_or xs free 0)) - k))
 
-ways_none : (runs : List ThreadRun) (xs : List ℕ) → ways_of_orders runs 0 0 xs ≡ 1
+pub ways_none : (runs : List ThreadRun) (xs : List ℕ) → ways_of_orders runs 0 0 xs ≡ 1
 ways_none runs [] = refl
 ways_none runs (x ∷ xs) = refl
 

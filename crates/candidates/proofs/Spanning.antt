@@ -51,7 +51,7 @@ ends_within j d t n e l =
 some_one : (x y : GraphValue) → ◌≡◌ {A = Option GraphValue} (Some x) (Some y) → x ≡ y
 some_one x y e = cc
 
-none_some : (y : GraphValue) → ◌≡◌ {A = Option GraphValue} None (Some y) → ⊥
+pub none_some : (y : GraphValue) → ◌≡◌ {A = Option GraphValue} None (Some y) → ⊥
 none_some y e = cc
 
 -- what stands at a number is the candidate with it
@@ -75,7 +75,7 @@ spans s b h j d t g l e f = λ m lo hi x at. (
     subst P (sym here ∙ stands (is_consistent (candidate_at s m)) (candidate_at s m) x at) (f i same))
 
 -- The size of a depth divides the number of candidates, and those of a block extend the cut.
-size_divides : (n : ℕ) (runs : List ThreadRun) (k : Known) → (t : ℕ) × (block n runs ≡ size_by n runs k * t)
+pub size_divides : (n : ℕ) (runs : List ThreadRun) (k : Known) → (t : ℕ) × (block n runs ≡ size_by n runs k * t)
 size_divides n runs (Sources m) =
     let c : ℕ = count_co n runs in
     let r : ℕ = product_by (count_sources runs) (reads runs) in
@@ -93,7 +93,7 @@ extends_cut init runs (Sources m) i j e = by_reads init runs m i j e
 extends_cut init runs (Orders o) i j e = by_orders init runs o.locations o.writes i j e
 
 -- A block's numbers are some of the stretch.
-rest_within : (j d t n : ℕ) → n ≡ d * t → j < n → (j % d < d) × (j + (d - j % d) ≤ n)
+pub rest_within : (j d t n : ℕ) → n ≡ d * t → j < n → (j % d < d) × (j + (d - j % d) ≤ n)
 rest_within j d t n e l =
     let p : 0 < d = divides_pos j d t n e l in
     let r : j % d < d = mod-lt j p in

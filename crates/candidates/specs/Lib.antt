@@ -12,3 +12,4 @@ pub mod Located
 pub mod Parts
 pub mod Readings
 pub mod Walks
+pub mod Alike

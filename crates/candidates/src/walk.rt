@@ -1,7 +1,9 @@
 //! A walk over the executions of a space.
 
-ghost use Rattle.std.specs.Prelude.{◌≡◌, ◌+◌, ◌-◌, ◌<◌, ◌≤◌, ℕ, [], length, max, min, true, IfOk, IfSome, OnOk, OnErr, MatchOption};
+ghost use Rattle.std.specs.Prelude.{◌≡◌, ◌+◌, ◌-◌, ◌<◌, ◌≤◌, ℕ, [], length, max, min, true, Some, IfOk, IfSome, OnOk, OnErr, MatchOption};
+ghost use Rattle.events.specs.Executions.{GraphValue};
 ghost use Rattle.candidates.specs.Executions.{block};
+ghost use Rattle.candidates.specs.Alike.{AreAlike};
 ghost use Rattle.candidates.specs.Blocks.{AllExtend};
 ghost use Rattle.candidates.specs.Candidates.{Choices, candidate, graph_at, is_consistent, size_of, no_execution};
 ghost use Rattle.candidates.specs.Depths.{cut_at, end_at};
@@ -11,6 +13,7 @@ ghost use Rattle.candidates.specs.Walks.{IsAhead, IsBefore, IsBlock, IsCommon, I
 use crate::assembly::{assemble, no_parts, nothing, turned};
 use crate::common::Common;
 use crate::depths::Known;
+use crate::open_orders::{OpenOrders, open_orders};
 use crate::page::{Ahead, Page, Scene, Stretch};
 use crate::partial::{assemble_in, cut};
 use crate::reading::{Look, look_at};
@@ -380,6 +383,19 @@ impl<'a> Walk<'a> {
             Some(block) => block.end,
             None => self.next,
         }
+    }
+
+    /// What is open of the orders from the execution found last on, within the walk's own numbers: so many executions one behind another
+    /// differ in their orders alone. Nothing where none was found.
+    pub fn open_orders(&self) -> Option<OpenOrders>
+        ensures alike { (x : GraphValue) → graph_at self.now.space (self.now.next - 1) ≡ Some x → IfSome result (AreAlike self.now.space (self.now.next - 1)) }
+        ensures within { IfSome result (λ o. self.now.next - 1 + o.size ≤ self.now.to) }
+    {
+        let stretch = &self.scene.stretch;
+        let place = place_before(stretch, self.next)?;
+        let locations = self.space.init().len();
+        let most = self.to - self.next + 1;
+        Some(open_orders(&stretch.page, locations, place, most))
     }
 
     /// Shows what the executions of a block have in common, and its end.

@@ -43,22 +43,116 @@ fn whole_summaries(rt: HostRuntime) -> Result<(), Fail> {
     all_hold(rt.alloc(), CASES)
 }
 
-/// Whether the summary is the same where the test is evaluated in so many slices.
-fn is_the_same_in(alloc: Global, total: u16) -> bool
+const THREE_STORES: &str = "C W3 {} P0 (atomic_int* x) {
+  atomic_store(x, 1); atomic_store(x, 2); atomic_store(x, 3);
+} exists (x=3)";
+
+const TWO_LOCATIONS: &str = "C W2+3 {} P0 (atomic_int* x, atomic_int* y) {
+  atomic_store(x, 1); atomic_store(x, 2);
+} P1 (atomic_int* x, atomic_int* y) {
+  atomic_store(y, 1); atomic_store(y, 2); atomic_store(y, 3);
+} exists (x=1 /\\ y=3)";
+
+const TWO_LOCATIONS_SUMMARY: &str = "Test W2+3 Allowed
+States 6
+[x]=1; [y]=1;
+[x]=1; [y]=2;
+[x]=1; [y]=3;
+[x]=2; [y]=1;
+[x]=2; [y]=2;
+[x]=2; [y]=3;
+Ok
+Witnesses
+Positive: 2 Negative: 10
+Condition exists ([x]=1 /\\ [y]=3)
+Observation W2+3 Sometimes 2 10
+";
+
+/// Executions that differ in their orders alone: n! orders of n stores, of which (n - 1)! end in each.
+const COUNTED_TOGETHER: &[Case] = &[
+    Case {
+        name: "three_stores",
+        test: THREE_STORES,
+        rows: &[(
+            &[""],
+            Answer::Is(
+                "Test W3 Allowed\nStates 3\n[x]=1;\n[x]=2;\n[x]=3;\nOk\nWitnesses\nPositive: 2 Negative: 4\nCondition exists ([x]=3)\nObservation W3 Sometimes 2 4\n",
+            ),
+        )],
+    },
+    Case {
+        name: "two_locations",
+        test: TWO_LOCATIONS,
+        rows: &[(&[""], Answer::Is(TWO_LOCATIONS_SUMMARY))],
+    },
+    Case {
+        name: "a_location_that_is_not_observed",
+        test: "C U {} P0 (atomic_int* x, atomic_int* y) {
+  atomic_store(y, 1); atomic_store(y, 2); atomic_store(y, 3); atomic_store(y, 4);
+  atomic_store(x, 1); atomic_store(x, 2); atomic_store(x, 3);
+} exists (x=2)",
+        rows: &[(
+            &[""],
+            Answer::Is(
+                "Test U Allowed\nStates 3\n[x]=1;\n[x]=2;\n[x]=3;\nOk\nWitnesses\nPositive: 48 Negative: 96\nCondition exists ([x]=2)\nObservation U Sometimes 48 96\n",
+            ),
+        )],
+    },
+    Case {
+        name: "registers_alone",
+        test: "C R {} P0 (atomic_int* x, atomic_int* y) {
+  atomic_store(x, 1); atomic_store(x, 2); atomic_store(x, 3); int r0 = atomic_load(y);
+} P1 (atomic_int* x, atomic_int* y) { atomic_store(y, 1); } exists (0:r0=0)",
+        rows: &[(
+            &[""],
+            Answer::Is(
+                "Test R Allowed\nStates 2\n0:r0=0;\n0:r0=1;\nOk\nWitnesses\nPositive: 6 Negative: 6\nCondition exists (0:r0=0)\nObservation R Sometimes 6 6\n",
+            ),
+        )],
+    },
+    Case {
+        name: "twelve_stores",
+        test: "C W12 {} P0 (atomic_int* x) {
+  atomic_store(x, 1); atomic_store(x, 2); atomic_store(x, 3); atomic_store(x, 4); atomic_store(x, 5); atomic_store(x, 6);
+  atomic_store(x, 7); atomic_store(x, 8); atomic_store(x, 9); atomic_store(x, 10); atomic_store(x, 11); atomic_store(x, 12);
+} exists (x=12)",
+        rows: &[(
+            &[""],
+            Answer::Ends("Observation W12 Sometimes 39916800 439084800\n"),
+        )],
+    },
+];
+
+#[test]
+fn orders_counted_together(rt: HostRuntime) -> Result<(), Fail> {
+    all_hold(rt.alloc(), COUNTED_TOGETHER)
+}
+
+/// Whether this is the summary where the test is evaluated in so many slices.
+fn is_the_same_in(alloc: Global, test: &str, summary: &str, total: u16) -> bool
     requires { (1 ≤ total) × (total ≤ 256) }
 {
-    let mut reader = MemSource::new(STORE_BUFFERING.as_bytes(), false);
+    let mut reader = MemSource::new(test.as_bytes(), false);
     let Ok(mut writer) = MemSink::new(alloc, 1000) else {
         return false;
     };
     one(alloc, &mut reader, b"", total, &mut writer) == Ok(())
-        && writer.bytes() == STORE_BUFFERING_SUMMARY.as_bytes()
+        && writer.bytes() == summary.as_bytes()
+}
+
+/// Whether it is the summary in two, in five, in seven and in more slices than there are numbers.
+fn is_the_same(alloc: Global, test: &str, summary: &str) -> bool {
+    is_the_same_in(alloc, test, summary, 2)
+        && is_the_same_in(alloc, test, summary, 5)
+        && is_the_same_in(alloc, test, summary, 7)
+        && is_the_same_in(alloc, test, summary, 256)
 }
 
 #[test]
 fn one_in_several_slices(rt: HostRuntime) {
     let alloc = rt.alloc();
-    assert!(rt; is_the_same_in(alloc, 2) && is_the_same_in(alloc, 7) && is_the_same_in(alloc, 256));
+    assert!(rt; is_the_same(alloc, STORE_BUFFERING, STORE_BUFFERING_SUMMARY));
+    assert!(rt; is_the_same(alloc, TWO_LOCATIONS, TWO_LOCATIONS_SUMMARY));
 }
 
 /// Whether a writer of too little room has just the prefix of the summary, with the fault that says so.

@@ -38,16 +38,16 @@ row_is t x (Loc y ∷ places) = ap (λ l. final t x (Loc y) ∷ l) (row_is t x p
 
 -- one execution more
 
-count_by-push : {X : Type 0} (p : X → Bool) (xs : List X) (x : X) → count_by p (xs ++ x ∷ []) ≡ count_by p xs + cond (p x) 1 0
+pub count_by-push : {X : Type 0} (p : X → Bool) (xs : List X) (x : X) → count_by p (xs ++ x ∷ []) ≡ count_by p xs + cond (p x) 1 0
 count_by-push p xs x = omega (arith, sum_by-append (λ y. cond (p y) 1 0) xs (x ∷ []))
 
-turned : (b : Bool) (m n : ℕ) → cond (not b) m n ≡ cond b n m
+pub turned : (b : Bool) (m n : ℕ) → cond (not b) m n ≡ cond b n m
 turned true m n = refl
 turned false m n = refl
 
 -- those of a list and one more
 
-those-push : {X : Type 0} {P : X → Type 0} {xs ys : List X} (x : X) → P x → AreThose P xs ys → AreThose P (xs ++ x ∷ []) (ys ++ x ∷ [])
+pub those-push : {X : Type 0} {P : X → Type 0} {xs ys : List X} (x : X) → P x → AreThose P xs ys → AreThose P (xs ++ x ∷ []) (ys ++ x ∷ [])
 those-push x p at_end = taken p at_end
 those-push x p (taken q h) = taken q (those-push x p h)
 those-push x p (passed q h) = passed q (those-push x p h)

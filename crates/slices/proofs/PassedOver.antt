@@ -29,7 +29,7 @@ pass_all P at ys m (suc k) f h =
     (pass_one P (found at (m + k)) ys (at (m + k)) (λ x. f (m + k) (omega arith) (omega arith) x) (pass_all P at ys m k (λ i l u. f i l (omega (arith, u))) h))
 
 -- a count up to a number is one up to a later one, where none from there on is allowed
-counts_pass : (t : Litmus) (items : List Clause) (places : List Place) (s : Choices) (counter : Counter) (from a b : ℕ) → from ≤ a → a ≤ b → NoneAllowed items s a b → IsCountOf t items places (found_from s from a) counter → IsCountOf t items places (found_from s from b) counter
+pub counts_pass : (t : Litmus) (items : List Clause) (places : List Place) (s : Choices) (counter : Counter) (from a b : ℕ) → from ≤ a → a ≤ b → NoneAllowed items s a b → IsCountOf t items places (found_from s from a) counter → IsCountOf t items places (found_from s from b) counter
 counts_pass t items places s counter from a b l o none h =
     let at : ℕ → Option GraphValue = λ i. graph_at s (from + i) in
     let e : (a - from) + (b - a) ≡ b - from = omega (arith, l, o) in
@@ -41,7 +41,7 @@ counts_pass t items places s counter from a b l o none h =
     })
 
 -- where nothing stands, nothing is allowed
-none_stands : (items : List Clause) (s : Choices) (a b : ℕ) → NoneFrom s a b → NoneAllowed items s a b
+pub none_stands : (items : List Clause) (s : Choices) (a b : ℕ) → NoneFrom s a b → NoneAllowed items s a b
 none_stands items s a b none m l u x is = let e = none m l u in let f : None ≡ Some x = sym e ∙ is in cc
 
 -- none that goes on from a graph is allowed, and these do

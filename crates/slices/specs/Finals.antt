@@ -1,7 +1,6 @@
 -- The final state of an execution. (Alglave, Maranget and Tautschnig, Herding cats, 2014, section 4; herd7 manual,
 -- final conditions.)
 use Rattle.std.specs.Prelude.{ℕ, List, [], ◌∷◌, map, Bool, slice_index_or}
-use Rattle.events.specs.declared.event.EventId.{EventId}
 use Rattle.events.specs.declared.event.EventId.TheVariants.{Initial}
 use Rattle.events.specs.Executions.{GraphValue}
 use Rattle.conditions.specs.declared.place.Place.{Place}
@@ -16,7 +15,7 @@ use Rattle.candidates.specs.Candidates.{run_at, write_value}
 abbrev pub final_register : GraphValue → ℕ → ℕ → ℕ
 final_register x k r = slice_index_or (run_at x.runs k).registers r 0
 
-abbrev pub last_or : EventId → List EventId → EventId
+abbrev pub last_or : {X : Type 0} → X → List X → X
 last_or w [] = w
 last_or w (v ∷ vs) = last_or v vs
 

@@ -1,3 +1,4 @@
+pub mod Alike
 pub mod Codes
 pub mod Counters
 pub mod Courses
@@ -10,6 +11,8 @@ pub mod Same
 pub mod Slots
 pub mod Sums
 pub mod Tallies
+pub mod Totals
 pub mod VerdictValues
 pub mod Verdicts
+pub mod Ways
 pub mod Works

@@ -1,11 +1,14 @@
 -- Where the final values of places stand in an execution.
-use Rattle.std.specs.Prelude.{ℕ}
+use Rattle.std.specs.Prelude.{ℕ, List, slice_index_or}
+use Rattle.events.specs.declared.event.EventId.{EventId}
+use Rattle.events.specs.declared.event.EventId.TheVariants.{Initial}
 use Rattle.events.specs.Executions.{GraphValue}
 use Rattle.conditions.specs.declared.place.Place.{Place}
 use Rattle.conditions.specs.declared.place.Place.TheVariants.{Reg, Loc}
 use Rattle.litmus_tree.specs.Tree.{Litmus}
 use Rattle.c11_threads.specs.Contents.{place_of}
 use Rattle.c11_threads.specs.Runs.{thread_of}
+use Rattle.candidates.specs.Candidates.{write_value}
 use Rattle.slices.specs.declared.slot.Slot.{Slot}
 use Rattle.slices.specs.declared.slot.Slot.TheVariants.{Register, Location}
 use Rattle.slices.specs.Finals.{final_register, final_location}
@@ -19,3 +22,8 @@ slot_of t (Loc y) = Location (place_of y t.locations)
 abbrev pub slot_value : GraphValue → Slot → ℕ
 slot_value x (Register k r) = final_register x k r
 slot_value x (Location y) = final_location x y
+
+-- the value that stands there where these writes stand last, one of each location
+abbrev pub slot_by : GraphValue → List EventId → Slot → ℕ
+slot_by x lasts (Register k r) = final_register x k r
+slot_by x lasts (Location y) = write_value x.init x.runs (slice_index_or lasts y (Initial y))

@@ -15,6 +15,7 @@ ghost use Rattle.slices.specs.Counters.{IsCountOf, IsOneMore, IsWeighed};
 ghost use Rattle.slices.specs.Parts.{IsRange, executions_in};
 ghost use Rattle.slices.specs.Slots.{slot_of, slot_value};
 
+use crate::alike::alike_behind;
 use crate::finding::Totals;
 use crate::pruning::Pruner;
 use crate::row::Row;
@@ -56,11 +57,16 @@ pub fn count(
         (IsCountOf work.now.test work.now.model.items places.now (executions_in work.now.test from to)) }
     ensures evaluator { evaluator.new ≡ evaluator.old }
 {
+    let _size = work.size();
     let slots = slots(alloc, work.test(), places)?;
     let mut counter = Counter::new(alloc);
     let mut walk = space.walk(alloc, from, to);
     pruner.begin();
     while let Some(number) = walk.next(alloc)? {
+        if let Some(range) = alike_behind(work, &walk) {
+            counter.add_alike(alloc, work, places, &slots, &mut walk, number, range)?;
+            continue;
+        }
         if pruner.passes(alloc, evaluator, &mut walk, number)? {
             continue;
         }
@@ -145,18 +151,24 @@ impl Counter {
         ensures { OnOk result
             (IsOneMore work.now.test work.now.model.items places.now graph.now self.old self.new) }
     {
-        self.add(work.test().condition().prop(), places, state)?;
+        self.add(work.test().condition().prop(), places, state, 1)?;
         raise(&mut self.flags, flags)
     }
 
-    /// Counts one more final state.
-    fn add(&mut self, prop: &Prop, places: &[Place], state: Row) -> Result<(), AllocError>
-        requires few { self.old.positive + self.old.negative < 2 ^ 64 - 1 }
+    /// Counts a final state so many times.
+    pub(crate) fn add(
+        &mut self,
+        prop: &Prop,
+        places: &[Place],
+        state: Row,
+        times: u64,
+    ) -> Result<(), AllocError>
+        requires few { self.old.positive + self.old.negative + times < 2 ^ 64 }
         requires whole { length places.now ≡ length state }
         ensures positive { let has = holds_in (bindings places.now state) (formula_of prop.now) in
-            OnOk result (self.new.positive ≡ self.old.positive + (if has then 1 else 0)) }
+            OnOk result (self.new.positive ≡ self.old.positive + (if has then times else 0)) }
         ensures negative { let has = holds_in (bindings places.now state) (formula_of prop.now) in
-            OnOk result (self.new.negative ≡ self.old.negative + (if has then 0 else 1)) }
+            OnOk result (self.new.negative ≡ self.old.negative + (if has then 0 else times)) }
         ensures states { OnOk result
             (self.new.states.keys ≡ insert_key (slice_cmp nat_cmp) self.old.states.keys state) }
         ensures flags { self.new.flags ≡ self.old.flags }
@@ -164,9 +176,9 @@ impl Counter {
         let has = holds(prop, &State::new(places, state.values()));
         self.states.insert(state)?;
         if has {
-            self.positive += 1;
+            self.positive += times;
         } else {
-            self.negative += 1;
+            self.negative += times;
         }
         Ok(())
     }

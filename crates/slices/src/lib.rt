@@ -1,6 +1,7 @@
 //! The evaluation of a test: works, pieces of their numbers, results, tallies and verdicts.
 #![tactic(auto)]
 
+mod alike;
 mod counter;
 mod course;
 mod equality;
@@ -18,6 +19,7 @@ mod state_set;
 mod sum;
 mod tally;
 mod verdict;
+mod ways;
 mod work;
 
 pub use course::Course;

@@ -3,7 +3,8 @@
 ghost use Rattle.std.specs.Prelude.{◌≡◌, IfOk, map};
 ghost use Rattle.c11_threads.specs.Contents.{place_of};
 ghost use Rattle.slices.specs.Finals.{final_location};
-ghost use Rattle.slices.specs.Slots.{slot_of, slot_value};
+ghost use Rattle.slices.specs.Slots.{slot_by, slot_of, slot_value};
+ghost use Rattle.slices.specs.Ways.{is_location, is_seen};
 
 use crate::row::Row;
 use c11_threads::place_of;
@@ -43,6 +44,33 @@ pub fn row(alloc: Global, slots: &[Slot], graph: &Graph) -> Result<Row, AllocErr
     Ok(Row::new(values))
 }
 
+/// The values where these writes stand last, one of each location.
+pub fn row_by(
+    alloc: Global,
+    slots: &[Slot],
+    graph: &Graph,
+    lasts: &[EventId],
+) -> Result<Row, AllocError>
+    ensures { IfOk result (λ r. r ≡ map (slot_by graph.now lasts.now) slots.now) }
+{
+    let mut values = Vec::with_capacity(alloc, slots.len())?;
+    for slot in slots {
+        values.push(slot.value_by(graph, lasts))?;
+    }
+    Ok(Row::new(values))
+}
+
+/// Whether the value of a location is among those that stand there.
+pub fn is_seen(slots: &[Slot], location: usize) -> bool
+    ensures { result ≡ is_seen slots.now location }
+{
+    slots.iter().any(
+        |slot|
+            ensures { result ≡ is_location location slot.now }
+        { slot.is_location(location) },
+    )
+}
+
 impl Slot {
     fn of(test: &Test, place: &Place) -> Slot
         ensures { result ≡ slot_of test.now place.now }
@@ -65,6 +93,29 @@ impl Slot {
                 None => 0,
             },
             Slot::Location(location) => final_location(graph, location),
+        }
+    }
+
+    /// The value where these writes stand last.
+    fn value_by(self, graph: &Graph, lasts: &[EventId]) -> u32
+        ensures { result ≡ slot_by graph.now lasts.now self }
+    {
+        match self {
+            Slot::Register(_, _) => self.value_in(graph),
+            Slot::Location(location) => {
+                let initial = EventId::Initial(location);
+                let last = lasts.get(location).copied().unwrap_or(initial);
+                write_value(graph.init(), graph.runs(), last)
+            }
+        }
+    }
+
+    fn is_location(self, location: usize) -> bool
+        ensures { result ≡ is_location location self }
+    {
+        match self {
+            Slot::Register(_, _) => false,
+            Slot::Location(other) => other == location,
         }
     }
 }

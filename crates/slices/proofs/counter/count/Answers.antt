@@ -1,10 +1,11 @@
-use Rattle.std.proofs.Common.{◌≡◌, ◌↔◌, ◌∙◌, List, map, sym, ap, subst, IsTrue}
+use Rattle.std.proofs.Common.{◌≡◌, ◌↔◌, ◌∙◌, List, map, sym, ap, subst, IsTrue, arith}
 use Rattle.listings.specs.Lists.{Lists}
 use Rattle.cat_tree.specs.Tree.{Clause}
 use Rattle.cat_eval.specs.Judging.{Allowed, Raised}
 use Rattle.candidates.specs.Walks.{IsHit, Walking}
 use Rattle.slices.specs.Passing.{ArePassed}
 use Rattle.slices.specs.Slots.{slot_of}
+use Rattle.slices.proofs.Adding.{alike_at, alike_within, walked_counted}
 use Rattle.slices.proofs.Counted.{walked_none_yet, walked_some, walked_none}
 use Rattle.slices.proofs.PassedOver.{hit_number, is_passed, miss_number, not_passed, walked_over}
 use Rattle.slices.proofs.counter.count.Goals as goal
@@ -18,6 +19,39 @@ loop-walk-init c =
           c.new-counter.ensures.positive c.new-counter.ensures.negative c.new-counter.ensures.states c.new-counter.ensures.flags;
       slots = c.in_ok-slots.ensures ∙ ap (λ t. map (slot_of t) c.args.places.now) c.test.ensures;
       model = c.requires.evaluator;
+    }
+
+pub add_alike-requires-clause-found : goal.add_alike-requires-clause-found
+add_alike-requires-clause-found c =
+    let hit = hit_number c.loop-walk.walk c.next.new.self c.in_ok-number.field-0 c.in-Some.number c.in-Some.is c.in_ok-number.ensures.found in
+    (hit.step.next, (alike_at c.loop-walk.walk c.next.new.self c.in-Some.number c.in-Some-alike_behind.range hit c.in-Some-alike_behind.ensures.alike).1)
+
+pub add_alike-requires-clause-alike : goal.add_alike-requires-clause-alike
+add_alike-requires-clause-alike c =
+    let hit = hit_number c.loop-walk.walk c.next.new.self c.in_ok-number.field-0 c.in-Some.number c.in-Some.is c.in_ok-number.ensures.found in
+    (alike_at c.loop-walk.walk c.next.new.self c.in-Some.number c.in-Some-alike_behind.range hit c.in-Some-alike_behind.ensures.alike).0
+
+pub add_alike-requires-clause-within : goal.add_alike-requires-clause-within
+add_alike-requires-clause-within c =
+    let hit = hit_number c.loop-walk.walk c.next.new.self c.in_ok-number.field-0 c.in-Some.number c.in-Some.is c.in_ok-number.ensures.found in
+    alike_within c.args.work.now.test c.args.work.now.model.items c.args.places.now c.args.from c.args.to c.in-Some.number c.in-Some-alike_behind.range.size c.loop-walk.walk c.next.new.self c.loop-walk.counter c.loop-walk.invariant.counted hit c.requires.range c.size-size.ensures.admitted c.in-Some-alike_behind.ensures.within
+
+pub add_alike-requires-clause-few : goal.add_alike-requires-clause-few
+add_alike-requires-clause-few c =
+    let hit = hit_number c.loop-walk.walk c.next.new.self c.in_ok-number.field-0 c.in-Some.number c.in-Some.is c.in_ok-number.ensures.found in
+    let few = c.loop-walk.invariant.counted.few in
+    let later = hit.later in
+    omega (arith, few, later)
+
+pub loop-walk-preserved-in-Some-alike_behind : goal.loop-walk-preserved-in-Some-alike_behind
+loop-walk-preserved-in-Some-alike_behind c =
+    let inv = c.loop-walk.invariant in
+    let n = c.in-Some.number in
+    let hit = hit_number c.loop-walk.walk c.next.new.self c.in_ok-number.field-0 n c.in-Some.is c.in_ok-number.ensures.found in
+    record {
+      counted = walked_counted c.args.work.now.test c.args.work.now.model.items c.args.places.now c.args.from c.args.to n c.loop-walk.walk c.next.new.self c.add_alike.new.walk c.loop-walk.counter c.add_alike.new.self inv.counted hit c.in_ok-add_alike.ensures;
+      slots = inv.slots;
+      model = inv.model;
     }
 
 pub loop-walk-preserved-then-branch : goal.loop-walk-preserved-then-branch
