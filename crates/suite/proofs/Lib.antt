@@ -1,3 +1,4 @@
 pub mod Loaded
+pub mod Objects
 pub mod Told
 pub mod Verdicts

@@ -12,8 +12,8 @@ use std::io;
 use std::rt::Files;
 use std::time::{Clock, Instant};
 use suite::{
-    Patience, Row, TestTrouble, answer_of, are_alike, cell_of, judge_text, line_of, object_of,
-    row_of, summary_of, table_row_of,
+    Case, Patience, Row, TestTrouble, answer_of, are_alike, cell_of, judge_text, line_of,
+    object_of, row_of, summary_of, table_row_of,
 };
 
 /// What all tests have in common.
@@ -22,6 +22,8 @@ pub struct Plan<'a> {
     pub models: &'a [Model],
     /// The words that named the models.
     pub names: &'a [Vec<u8>],
+    /// The digests of the models' files.
+    pub digests: &'a [String],
     pub form: Form,
     /// How wide the paths of a table are.
     pub width: usize,
@@ -152,8 +154,8 @@ fn told(
 ) -> Result<Outcome, AllocError> {
     let cells = cells_of(alloc, verdicts)?;
     let mut text = match plan.form {
-        Form::Tabs => tabs(alloc, path, verdicts, plan.names, milliseconds)?,
-        Form::Json => objects(alloc, path, verdicts, plan.names, milliseconds)?,
+        Form::Tabs => tabs(alloc, path, verdicts, plan, milliseconds)?,
+        Form::Json => objects(alloc, path, verdicts, plan, milliseconds)?,
         _ if plan.names.len() != 1 => {
             table_row_of(alloc, plan.width, path.as_bytes(), plan.names, &cells)?
         }
@@ -208,18 +210,28 @@ fn lines(alloc: Global, path: &str, verdicts: &[Verdict]) -> Result<Vec<u8>, All
     Ok(text)
 }
 
+/// A test under one of the plan's models.
+fn case_of<'a>(path: &'a str, name: &'a Vec<u8>, digests: &'a String) -> Case<'a> {
+    Case {
+        path,
+        model: std::str::from_utf8(name).unwrap_or(""),
+        digests: digests.as_str(),
+    }
+}
+
 /// A line of fields between tabs for each verdict, with how long the test took under all models.
 fn tabs(
     alloc: Global,
     path: &str,
     verdicts: &[Verdict],
-    names: &[Vec<u8>],
+    plan: &Plan<'_>,
     milliseconds: u64,
 ) -> Result<Vec<u8>, AllocError> {
     let mut text = Vec::new(alloc);
-    for (verdict, name) in verdicts.iter().zip(names) {
-        text.append(&mut row_of(alloc, path.as_bytes(), name, verdict)?)?;
-        text.extend_from_slice(format!(in alloc; "\t{milliseconds}\n")?.as_bytes())?;
+    let models = plan.names.iter().zip(plan.digests);
+    for (verdict, (name, digests)) in verdicts.iter().zip(models) {
+        let case = case_of(path, name, digests);
+        text.append(&mut row_of(alloc, &case, verdict, milliseconds)?)?;
     }
     Ok(text)
 }
@@ -229,13 +241,14 @@ fn objects(
     alloc: Global,
     path: &str,
     verdicts: &[Verdict],
-    names: &[Vec<u8>],
+    plan: &Plan<'_>,
     milliseconds: u64,
 ) -> Result<Vec<u8>, AllocError> {
     let mut text = Vec::new(alloc);
-    for (verdict, name) in verdicts.iter().zip(names) {
-        let model = std::str::from_utf8(name).unwrap_or("");
-        let object = object_of(alloc, path, model, verdict, milliseconds)?;
+    let models = plan.names.iter().zip(plan.digests);
+    for (verdict, (name, digests)) in verdicts.iter().zip(models) {
+        let case = case_of(path, name, digests);
+        let object = object_of(alloc, &case, verdict, milliseconds)?;
         text.extend_from_slice(object.as_bytes())?;
         text.push(b'\n')?;
     }

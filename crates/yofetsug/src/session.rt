@@ -85,14 +85,18 @@ pub fn run_all<R: Reach>(rt: &R, words: &Words<'_>) -> Result<u8, Trouble> {
     let alloc = rt.alloc();
     let mut models = Vec::new(alloc);
     let mut names = Vec::new(alloc);
+    let mut digests = Vec::new(alloc);
     for word in &words.models {
-        models.push(read_model(rt, word, &words.folders)?)?;
+        let loaded = read_model(rt, word, &words.folders)?;
+        models.push(loaded.model)?;
+        digests.push(loaded.digests)?;
         names.push(Vec::from_slice(alloc, word.as_bytes())?)?;
     }
     let paths = find_tests(rt, &words.tests)?;
     let plan = Plan {
         models: &models,
         names: &names,
+        digests: &digests,
         form: words.form,
         width: width_of(&paths),
         keeps: words.expected.is_some() || words.write_expected.is_some(),
