@@ -36,6 +36,14 @@ pub fn compare<R: Files + Print + Eprint + AllocGlobal>(
     found: &[Row],
 ) -> Result<bool, Trouble> {
     let alloc = rt.alloc();
+    let expected = read_rows(rt, path)?;
+    let told = differences(alloc, &expected, found)?;
+    rt.write_all(&told)?;
+    Ok(!told.is_empty())
+}
+
+/// The rows of a file.
+pub fn read_rows<R: Files + Eprint + AllocGlobal>(rt: &R, path: &str) -> Result<Vec<Row>, Trouble> {
     let text = match fs::read(rt, path) {
         Ok(text) => text,
         Err(error) => {
@@ -43,18 +51,15 @@ pub fn compare<R: Files + Print + Eprint + AllocGlobal>(
             return Err(Trouble::Told(1));
         }
     };
-    let expected = match rows_of(alloc, &text)? {
-        Ok(rows) => rows,
+    match rows_of(rt.alloc(), &text)? {
+        Ok(rows) => Ok(rows),
         Err(number) => {
             eprintln!(rt;
-                "{path}:{number}: no line of --write-expected: path, model, answer and states stand between tabs"
+                "{path}:{number}: no line of --write-expected or --tsv, whose fields stand between tabs"
             )?;
-            return Err(Trouble::Told(1));
+            Err(Trouble::Told(1))
         }
-    };
-    let told = differences(alloc, &expected, found)?;
-    rt.write_all(&told)?;
-    Ok(!told.is_empty())
+    }
 }
 
 /// The rows of a stored text, or the number of the first line that is none.
@@ -72,22 +77,48 @@ fn rows_of(alloc: Global, text: &[u8]) -> Result<Result<Vec<Row>, usize>, AllocE
     Ok(Ok(rows))
 }
 
-/// The row of a line: four fields between tabs.
+/// The row of a line: the four fields of a stored one, or the twelve of `--tsv`.
 fn row_of(alloc: Global, line: &[u8]) -> Result<Option<Row>, AllocError> {
-    let mut fields = line.split(|byte| *byte == b'\t');
-    let (Some(path), Some(model), Some(answer), Some(states), None) = (
-        fields.next(),
-        fields.next(),
-        fields.next(),
-        fields.next(),
-        fields.next(),
-    ) else {
-        return Ok(None);
+    let mut fields = Vec::new(alloc);
+    for field in line.split(|byte| *byte == b'\t') {
+        fields.push(field)?;
+    }
+    let (answer, states) = match fields.len() {
+        4 => (Vec::from_slice(alloc, fields[2])?, fields[3]),
+        12 => (answer_of(alloc, &fields[4..10])?, fields[8]),
+        _ => return Ok(None),
     };
     Ok(Some(Row {
-        path: Vec::from_slice(alloc, path)?,
-        model: Vec::from_slice(alloc, model)?,
-        answer: Vec::from_slice(alloc, answer)?,
+        path: Vec::from_slice(alloc, fields[0])?,
+        model: Vec::from_slice(alloc, fields[1])?,
+        answer,
         states: Vec::from_slice(alloc, states)?,
     }))
+}
+
+/// What a stored row tells of fields of `--tsv`: of a refused test why, else the word, both counts and the flags.
+fn answer_of(alloc: Global, fields: &[&[u8]]) -> Result<Vec<u8>, AllocError> {
+    let mut answer = Vec::new(alloc);
+    if fields[0] == b"refused".as_slice() {
+        answer.extend_from_slice(b"refused ")?;
+        answer.extend_from_slice(fields[1])?;
+        return Ok(answer);
+    }
+    answer.extend_from_slice(fields[1])?;
+    for field in [fields[2], fields[3]] {
+        push_word(&mut answer, field)?;
+    }
+    for flag in fields[5].split(|byte| *byte == b',') {
+        push_word(&mut answer, flag)?;
+    }
+    Ok(answer)
+}
+
+/// Adds a word behind a blank, if it isn't empty.
+fn push_word(text: &mut Vec<u8>, word: &[u8]) -> Result<(), AllocError> {
+    if !word.is_empty() {
+        text.push(b' ')?;
+        text.extend_from_slice(word)?;
+    }
+    Ok(())
 }

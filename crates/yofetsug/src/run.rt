@@ -6,6 +6,7 @@ use crate::why::explain;
 use crate::words::Form;
 use cat_model::Model;
 use litmus_c::TestFault;
+use serde_json::json;
 use slices::Verdict;
 use std::alloc::{AllocError, Global};
 use std::io;
@@ -140,7 +141,10 @@ pub fn judge<R: Clock>(
     match judge_text(alloc, text, plan.models, &mut deadline) {
         Ok(verdicts) => told(alloc, path, &verdicts, plan, deadline.milliseconds()),
         Err(TestTrouble::NoMemory) => Err(AllocError),
-        Err(trouble) => refused(alloc, path, text, &trouble, plan),
+        Err(trouble) => {
+            let milliseconds = deadline.milliseconds();
+            refused(alloc, path, text, &trouble, plan, milliseconds)
+        }
     }
 }
 
@@ -284,26 +288,68 @@ fn refused(
     text: &[u8],
     trouble: &TestTrouble,
     plan: &Plan<'_>,
+    milliseconds: u64,
 ) -> Result<Outcome, AllocError> {
     let mut rows = Vec::new(alloc);
-    if plan.keeps {
-        for name in plan.names {
+    let mut told = Vec::new(alloc);
+    let label = label_of(trouble);
+    for (name, digests) in plan.names.iter().zip(plan.digests) {
+        let case = case_of(path, name, digests);
+        if plan.keeps {
             rows.push(Row {
                 path: Vec::from_slice(alloc, path.as_bytes())?,
                 model: name.clone()?,
-                answer: format!(in alloc; "refused {}", label_of(trouble))?.into_bytes(),
+                answer: format!(in alloc; "refused {label}")?.into_bytes(),
                 states: Vec::new(alloc),
             })?;
         }
+        told.append(&mut refusal_of(alloc, plan.form, &case, label, milliseconds)?)?;
     }
     Ok(Outcome {
         fate: Fate::Refused,
-        text: Vec::new(alloc),
+        text: told,
         dot: Vec::new(alloc),
         message: test_trouble(alloc, path, text, trouble)?,
         rows,
         differs: false,
     })
+}
+
+/// The line for programs that tells a refusal: the fields of a verdict, with `refused` for `Ok` or `No` and why for the word, and without those
+/// that a refused test hasn't.
+fn refusal_of(
+    alloc: Global,
+    form: Form,
+    case: &Case<'_>,
+    label: &str,
+    milliseconds: u64,
+) -> Result<Vec<u8>, AllocError> {
+    let Case {
+        path,
+        model,
+        digests,
+    } = *case;
+    match form {
+        Form::Tabs => {
+            let line = format!(in alloc;
+                "{path}\t{model}\t\t\trefused\t{label}\t\t\t\t\t{milliseconds}\t{digests}\n"
+            )?;
+            Ok(line.into_bytes())
+        }
+        Form::Json => {
+            let object = json!(in alloc; {
+                "digests": digests,
+                "file": path,
+                "milliseconds": milliseconds,
+                "model": model,
+                "refused": label
+            })?;
+            let mut line = object.to_string(alloc)?.into_bytes();
+            line.push(b'\n')?;
+            Ok(line)
+        }
+        Form::Summary | Form::Line => Ok(Vec::new(alloc)),
+    }
 }
 
 /// The number and the name of a refusal.

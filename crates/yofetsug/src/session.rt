@@ -1,8 +1,9 @@
 //! A run of the program: models, tests, comparison, and the last line.
 
 use crate::batch::judge_batch;
-use crate::compared::{compare, store, write_file};
+use crate::compared::{compare, read_rows, store, write_file};
 use crate::files::{Paths, find_tests};
+use crate::meter::Meter;
 use crate::models::read_model;
 use crate::run::{Fate, Outcome, Plan, unread};
 use crate::trouble::Trouble;
@@ -80,8 +81,23 @@ impl Counts {
     }
 }
 
+/// Judges all tests that the words name, or compares what was found before, and answers the status.
+pub fn run_all<R: Reach>(rt: &R, words: &Words<'_>, shows: bool) -> Result<u8, Trouble> {
+    match (words.expected, words.found) {
+        (Some(expected), Some(found)) => compare_found(rt, expected, found),
+        _ => judge_all(rt, words, shows),
+    }
+}
+
+/// Compares two files of rows.
+fn compare_found<R: Reach>(rt: &R, expected: &str, found: &str) -> Result<u8, Trouble> {
+    let rows = read_rows(rt, found)?;
+    let differ = compare(rt, expected, &rows)?;
+    Ok(if differ { 3 } else { 0 })
+}
+
 /// Judges all tests that the words name, and answers the status.
-pub fn run_all<R: Reach>(rt: &R, words: &Words<'_>) -> Result<u8, Trouble> {
+fn judge_all<R: Reach>(rt: &R, words: &Words<'_>, shows: bool) -> Result<u8, Trouble> {
     let alloc = rt.alloc();
     let mut models = Vec::new(alloc);
     let mut names = Vec::new(alloc);
@@ -105,7 +121,7 @@ pub fn run_all<R: Reach>(rt: &R, words: &Words<'_>) -> Result<u8, Trouble> {
         draws: words.dot.is_some(),
     };
     let threads = threads_of(rt, words);
-    let progress = judge_all(rt, &paths, &plan, threads)?;
+    let progress = judge_paths(rt, &paths, &plan, threads, shows)?;
     finish(rt, words, &plan, &progress)
 }
 
@@ -135,14 +151,16 @@ fn is_table(plan: &Plan<'_>) -> bool {
 }
 
 /// Judges the tests, some at a time, and prints what is told of each in their order.
-fn judge_all<R: Reach>(
+fn judge_paths<R: Reach>(
     rt: &R,
     paths: &Paths,
     plan: &Plan<'_>,
     threads: usize,
+    shows: bool,
 ) -> Result<Progress, Trouble> {
     let alloc = rt.alloc();
     let mut writer = BufWriter::new(alloc, io::writer(rt))?;
+    let mut meter = Meter::new(rt, paths.tests.len(), shows);
     let mut progress = Progress {
         counts: Counts::none(),
         rows: Vec::new(alloc),
@@ -156,10 +174,14 @@ fn judge_all<R: Reach>(
         show(rt, outcome, &mut writer, &mut progress)?;
     }
     for batch in paths.tests.chunks(threads.saturating_mul(BATCH).max(1)) {
-        for outcome in judge_batch(rt, batch, plan, threads)? {
+        let outcomes = judge_batch(rt, batch, plan, threads)?;
+        meter.clear(rt)?;
+        for outcome in outcomes {
             show(rt, outcome, &mut writer, &mut progress)?;
         }
+        meter.show(rt, progress.counts.all())?;
     }
+    meter.clear(rt)?;
     writer.flush()?;
     Ok(progress)
 }

@@ -31,6 +31,8 @@ pub struct Words<'a> {
     pub dot: Option<&'a str>,
     pub expected: Option<&'a str>,
     pub write_expected: Option<&'a str>,
+    /// Rows that were found before, which are compared in place of tests that are judged.
+    pub found: Option<&'a str>,
     /// How many threads judge, if it is said.
     pub threads: Option<u8>,
     /// After how many seconds a test is given up, if it is said.
@@ -112,6 +114,16 @@ fn write_expected<'a>(alloc: Global) -> Arg<'a> {
         .help("Store what is found, for -e")
 }
 
+fn found<'a>(alloc: Global) -> Result<Arg<'a>, AllocError> {
+    Arg::new(alloc, "found")
+        .long("found")
+        .action(ArgAction::Set)
+        .value_name("FILE")
+        .help("Compare these lines of --tsv or --write-expected, and judge nothing")
+        .requires_arg("expected")?
+        .conflicts_with("test")
+}
+
 fn threads<'a>(alloc: Global) -> Arg<'a> {
     Arg::new(alloc, "threads")
         .short('j')
@@ -133,14 +145,14 @@ fn timeout<'a>(alloc: Global) -> Arg<'a> {
         .value_parser(value_parser!(u32).range(1..=1_000_000))
 }
 
-fn tests<'a>(alloc: Global) -> Arg<'a> {
+fn tests<'a>(alloc: Global) -> Result<Arg<'a>, AllocError> {
     Arg::new(alloc, "test")
         .action(ArgAction::Append)
-        .required(true)
         .value_name("TEST")
         .help(
             "Test files; folders, with all *.litmus below; @FILE, a list of paths, one a line; - for standard input",
         )
+        .required_unless_present("found")
 }
 
 /// The command that clap reads the words by.
@@ -157,9 +169,10 @@ fn command<'a>(alloc: Global) -> Result<Command<'a>, AllocError> {
         .arg(dot(alloc))?
         .arg(expected(alloc))?
         .arg(write_expected(alloc))?
+        .arg(found(alloc)?)?
         .arg(threads(alloc))?
         .arg(timeout(alloc))?
-        .arg(tests(alloc))
+        .arg(tests(alloc)?)
 }
 
 /// The values of an argument that may be given again.
@@ -204,6 +217,7 @@ pub fn read_words<'a>(alloc: Global, words: &'a [String]) -> Result<Words<'a>, E
         dot: matches.get_str("dot"),
         expected: matches.get_str("expected"),
         write_expected: matches.get_str("write-expected"),
+        found: matches.get_str("found"),
         threads: matches.get_one::<u8>("threads"),
         timeout: matches.get_one::<u32>("timeout"),
         tests: all_of(alloc, matches.get_strs("test"), None)?,
