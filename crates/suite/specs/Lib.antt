@@ -5,4 +5,5 @@ pub mod Lines
 pub mod Models
 pub mod Objects
 pub mod Tables
+pub mod Together
 pub mod Troubles

@@ -13,6 +13,7 @@ mod sink;
 mod summary;
 mod table;
 mod text;
+mod together;
 
 pub use case::Case;
 pub use digest::digests_of;

@@ -3,6 +3,7 @@
 use crate::trouble::Trouble;
 use std::alloc::{AllocError, Global};
 use std::fs;
+use std::fs::OpenOptions;
 use std::rt::Files;
 use suite::{Row, differences};
 
@@ -29,15 +30,22 @@ pub fn write_file<R: Files + Eprint>(rt: &R, path: &str, bytes: &[u8]) -> Result
     Ok(())
 }
 
-/// Prints how the rows differ from those of a file, and answers whether they do.
-pub fn compare<R: Files + Print + Eprint + AllocGlobal>(
+/// Sees that a file can be written, before hours go into what is to be written there. It makes one that is empty where there is none.
+pub fn see_writable<R: Files + Eprint>(rt: &R, path: &str) -> Result<(), Trouble> {
+    if let Err(error) = OpenOptions::new().append(true).create(true).open(rt, path) {
+        eprintln!(rt; "{path}: {error}")?;
+        return Err(Trouble::Told(1));
+    }
+    Ok(())
+}
+
+/// Prints how the rows differ from those that are expected, and answers whether they do.
+pub fn compare<R: Print + AllocGlobal>(
     rt: &R,
-    path: &str,
+    expected: &[Row],
     found: &[Row],
 ) -> Result<bool, Trouble> {
-    let alloc = rt.alloc();
-    let expected = read_rows(rt, path)?;
-    let told = differences(alloc, &expected, found)?;
+    let told = differences(rt.alloc(), expected, found)?;
     rt.write_all(&told)?;
     Ok(!told.is_empty())
 }

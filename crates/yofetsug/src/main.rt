@@ -3,6 +3,7 @@
 
 mod batch;
 mod compared;
+mod deadline;
 mod files;
 mod hints;
 mod messages;

@@ -1,7 +1,9 @@
 //! Judging one test after another, and what is told of each.
 
+use crate::deadline::Deadline;
 use crate::files::{read_front, text_of};
 use crate::messages::test_trouble;
+use crate::meter::Meter;
 use crate::why::explain;
 use crate::words::Form;
 use cat_model::Model;
@@ -11,10 +13,11 @@ use slices::Verdict;
 use std::alloc::{AllocError, Global};
 use std::io;
 use std::rt::Files;
-use std::time::{Clock, Instant};
+use std::thread::Threads;
+use std::time::Clock;
 use suite::{
-    Case, Patience, Row, TestTrouble, answer_of, are_alike, cell_of, judge_text, line_of,
-    object_of, row_of, summary_of, table_row_of,
+    Case, Row, TestTrouble, answer_of, are_alike, cell_of, judge_text, line_of, object_of, row_of,
+    summary_of, table_row_of,
 };
 
 /// What all tests have in common.
@@ -82,69 +85,65 @@ pub fn unread(alloc: Global, path: &str, error: &str) -> Result<Outcome, AllocEr
     })
 }
 
-/// Someone who waits for a while.
-struct Deadline<'a, R: Clock> {
-    rt: &'a R,
-    began: Option<Instant>,
-    seconds: Option<u32>,
+/// After so many milliseconds a test is left to a later pass.
+const WHILE: u64 = 200;
+
+/// How many milliseconds a test may take, if that is limited.
+fn limit_of(plan: &Plan<'_>) -> Option<u64> {
+    plan.timeout
+        .map(|seconds| u64::from(seconds).saturating_mul(1_000))
 }
 
-impl<'a, R: Clock> Drop for Deadline<'a, R> {
-    fn drop(self) {
-        let Deadline {
-            rt: _,
-            began: _,
-            seconds: _,
-        } = self;
-    }
-}
-
-impl<'a, R: Clock> Deadline<'a, R> {
-    fn new(rt: &'a R, seconds: Option<u32>) -> Self {
-        Deadline {
-            rt,
-            began: Instant::now(rt).ok(),
-            seconds,
-        }
-    }
-
-    /// How many milliseconds have passed, as far as the clock tells.
-    fn milliseconds(&self) -> u64 {
-        match &self.began {
-            Some(began) => match began.elapsed(self.rt) {
-                Ok(passed) => u64::try_from(passed.as_millis()).unwrap_or(u64::MAX),
-                Err(_) => 0,
-            },
-            None => 0,
-        }
-    }
-}
-
-impl<'a, R: Clock> Patience for Deadline<'a, R> {
-    fn is_over(&mut self) -> bool {
-        match self.seconds {
-            Some(seconds) => self.milliseconds() >= u64::from(seconds).saturating_mul(1000),
-            None => false,
-        }
-    }
-}
-
-/// What is told of a test under all models.
-pub fn judge<R: Clock>(
+/// What is told of a test under all models, which one thread judges; or nothing where it takes more than a while.
+pub fn judge_quickly<R: Clock + Eprint + Threads + Sync>(
     rt: &R,
     alloc: Global,
     path: &str,
     text: &[u8],
     plan: &Plan<'_>,
+) -> Result<Option<Outcome>, AllocError> {
+    let (limit, is_last) = match limit_of(plan) {
+        Some(limit) if limit <= WHILE => (limit, true),
+        _ => (WHILE, false),
+    };
+    let mut deadline = Deadline::new(rt, Some(limit), None);
+    let judged = judge_text(rt, alloc, text, plan.models, 1, &mut deadline);
+    if !is_last && matches!(&judged, Err(TestTrouble::Late)) {
+        return Ok(None);
+    }
+    let milliseconds = deadline.milliseconds();
+    Ok(Some(outcome_of(alloc, path, text, plan, judged, milliseconds)?))
+}
+
+/// What is told of a test under all models, which so many threads judge together.
+pub fn judge_wholly<R: Clock + Eprint + Threads + Sync>(
+    rt: &R,
+    alloc: Global,
+    path: &str,
+    text: &[u8],
+    plan: &Plan<'_>,
+    threads: u16,
+    meter: &mut Meter,
 ) -> Result<Outcome, AllocError> {
-    let mut deadline = Deadline::new(rt, plan.timeout);
-    match judge_text(alloc, text, plan.models, &mut deadline) {
-        Ok(verdicts) => told(alloc, path, &verdicts, plan, deadline.milliseconds()),
+    let mut deadline = Deadline::new(rt, limit_of(plan), Some(meter));
+    let judged = judge_text(rt, alloc, text, plan.models, threads, &mut deadline);
+    let milliseconds = deadline.milliseconds();
+    outcome_of(alloc, path, text, plan, judged, milliseconds)
+}
+
+/// What is told of a test with its verdicts, or that has none.
+fn outcome_of(
+    alloc: Global,
+    path: &str,
+    text: &[u8],
+    plan: &Plan<'_>,
+    judged: Result<Vec<Verdict>, TestTrouble>,
+    milliseconds: u64,
+) -> Result<Outcome, AllocError> {
+    match judged {
+        Ok(verdicts) => told(alloc, path, &verdicts, plan, milliseconds),
         Err(TestTrouble::NoMemory) => Err(AllocError),
-        Err(trouble) => {
-            let milliseconds = deadline.milliseconds();
-            refused(alloc, path, text, &trouble, plan, milliseconds)
-        }
+        Err(trouble) => refused(alloc, path, text, &trouble, plan, milliseconds),
     }
 }
 

@@ -1,8 +1,8 @@
 //! A run of the program: models, tests, comparison, and the last line.
 
-use crate::batch::judge_batch;
-use crate::compared::{compare, read_rows, store, write_file};
-use crate::files::{Paths, find_tests};
+use crate::batch::{judge_jobs, read_jobs};
+use crate::compared::{compare, read_rows, see_writable, store, write_file};
+use crate::files::{Paths, Unread, find_tests};
 use crate::meter::Meter;
 use crate::models::read_model;
 use crate::run::{Fate, Outcome, Plan, unread};
@@ -50,6 +50,7 @@ struct Progress {
     counts: Counts,
     rows: Vec<Row>,
     dot: Vec<u8>,
+    meter: Meter,
 }
 
 impl Counts {
@@ -91,8 +92,9 @@ pub fn run_all<R: Reach>(rt: &R, words: &Words<'_>, shows: bool) -> Result<u8, T
 
 /// Compares two files of rows.
 fn compare_found<R: Reach>(rt: &R, expected: &str, found: &str) -> Result<u8, Trouble> {
-    let rows = read_rows(rt, found)?;
-    let differ = compare(rt, expected, &rows)?;
+    let expected = read_rows(rt, expected)?;
+    let found = read_rows(rt, found)?;
+    let differ = compare(rt, &expected, &found)?;
     Ok(if differ { 3 } else { 0 })
 }
 
@@ -108,6 +110,15 @@ fn judge_all<R: Reach>(rt: &R, words: &Words<'_>, shows: bool) -> Result<u8, Tro
         digests.push(loaded.digests)?;
         names.push(Vec::from_slice(alloc, word.as_bytes())?)?;
     }
+    let expected = match words.expected {
+        Some(path) => Some(read_rows(rt, path)?),
+        None => None,
+    };
+    for path in [words.dot, words.write_expected] {
+        if let Some(path) = path {
+            see_writable(rt, path)?;
+        }
+    }
     let paths = find_tests(rt, &words.tests)?;
     let plan = Plan {
         models: &models,
@@ -122,15 +133,15 @@ fn judge_all<R: Reach>(rt: &R, words: &Words<'_>, shows: bool) -> Result<u8, Tro
     };
     let threads = threads_of(rt, words);
     let progress = judge_paths(rt, &paths, &plan, threads, shows)?;
-    finish(rt, words, &plan, &progress)
+    finish(rt, words, &plan, expected, &progress)
 }
 
 /// How many threads judge: as many as the words say, or as there are processors, up to 8.
-fn threads_of<R: Threads>(rt: &R, words: &Words<'_>) -> usize {
+fn threads_of<R: Threads>(rt: &R, words: &Words<'_>) -> u16 {
     match words.threads {
-        Some(threads) => usize::from(threads),
+        Some(threads) => u16::from(threads),
         None => match thread::available_parallelism(rt) {
-            Ok(count) => count.get().min(8),
+            Ok(count) => count.get().min(8) as u16,
             Err(_) => 1,
         },
     }
@@ -155,35 +166,67 @@ fn judge_paths<R: Reach>(
     rt: &R,
     paths: &Paths,
     plan: &Plan<'_>,
-    threads: usize,
+    threads: u16,
     shows: bool,
 ) -> Result<Progress, Trouble> {
     let alloc = rt.alloc();
     let mut writer = BufWriter::new(alloc, io::writer(rt))?;
-    let mut meter = Meter::new(rt, paths.tests.len(), shows);
     let mut progress = Progress {
         counts: Counts::none(),
         rows: Vec::new(alloc),
         dot: Vec::new(alloc),
+        meter: Meter::new(rt, paths.tests.len(), shows),
     };
     if is_table(plan) {
         writer.write_all(&head_of(alloc, plan.width, plan.names)?)?;
     }
-    for missing in &paths.unread {
-        let outcome = unread(alloc, missing.path.as_str(), missing.error.as_str())?;
-        show(rt, outcome, &mut writer, &mut progress)?;
+    show_unread(rt, &paths.unread, &mut writer, &mut progress)?;
+    for batch in paths
+        .tests
+        .chunks(usize::from(threads).saturating_mul(BATCH).max(1))
+    {
+        judge_batch(rt, batch, plan, threads, &mut writer, &mut progress)?;
+        progress.meter.tick(rt)?;
     }
-    for batch in paths.tests.chunks(threads.saturating_mul(BATCH).max(1)) {
-        let outcomes = judge_batch(rt, batch, plan, threads)?;
-        meter.clear(rt)?;
-        for outcome in outcomes {
-            show(rt, outcome, &mut writer, &mut progress)?;
-        }
-        meter.show(rt, progress.counts.all())?;
-    }
-    meter.clear(rt)?;
+    progress.meter.clear(rt)?;
     writer.flush()?;
     Ok(progress)
+}
+
+/// Tells which paths couldn't be read on the way to the tests.
+fn show_unread<R: Reach, W: Write>(
+    rt: &R,
+    missing: &[Unread],
+    writer: &mut W,
+    progress: &mut Progress,
+) -> Result<(), Trouble> {
+    for one in missing {
+        let outcome = unread(rt.alloc(), one.path.as_str(), one.error.as_str())?;
+        show(rt, outcome, writer, progress)?;
+    }
+    Ok(())
+}
+
+/// Judges some tests side by side, those that take more than a while one after another, and prints what is told of each in their order.
+fn judge_batch<R: Reach, W: Write>(
+    rt: &R,
+    paths: &[String],
+    plan: &Plan<'_>,
+    threads: u16,
+    writer: &mut W,
+    progress: &mut Progress,
+) -> Result<(), Trouble> {
+    let alloc = rt.alloc();
+    let jobs = read_jobs(rt, paths)?;
+    let outcomes = judge_jobs(rt, alloc, &jobs, plan, threads)?;
+    for (job, outcome) in jobs.iter().zip(outcomes) {
+        let outcome = match outcome {
+            Some(outcome) => outcome,
+            None => job.judge(rt, alloc, plan, threads, &mut progress.meter)?,
+        };
+        show(rt, outcome, writer, progress)?;
+    }
+    Ok(())
 }
 
 /// Prints what is told of a test, and counts it.
@@ -193,7 +236,9 @@ fn show<R: Eprint, W: Write>(
     writer: &mut W,
     progress: &mut Progress,
 ) -> Result<(), Trouble> {
+    progress.meter.clear(rt)?;
     progress.counts.add(&outcome);
+    progress.meter.set_done(progress.counts.all());
     progress.rows.append(&mut outcome.rows)?;
     progress.dot.append(&mut outcome.dot)?;
     writer.write_all(&outcome.text)?;
@@ -210,6 +255,7 @@ fn finish<R: Files + Print + Eprint + AllocGlobal>(
     rt: &R,
     words: &Words<'_>,
     plan: &Plan<'_>,
+    expected: Option<Vec<Row>>,
     progress: &Progress,
 ) -> Result<u8, Trouble> {
     let mut status = status_of(progress.counts);
@@ -219,8 +265,8 @@ fn finish<R: Files + Print + Eprint + AllocGlobal>(
     if let Some(path) = words.write_expected {
         store(rt, path, &progress.rows)?;
     }
-    if let Some(path) = words.expected {
-        if compare(rt, path, &progress.rows)? {
+    if let Some(expected) = expected {
+        if compare(rt, &expected, &progress.rows)? {
             status = 3;
         }
     }
