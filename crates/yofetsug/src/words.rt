@@ -46,9 +46,7 @@ fn models<'a>(alloc: Global) -> Arg<'a> {
         .long("model")
         .action(ArgAction::Append)
         .value_name("MODEL")
-        .help(
-            "A cat file, or rc11.cat, which is built in and the default; may be given again, for a table",
-        )
+        .help("A cat file, or rc11.cat, which is built in and the default; several make a table")
 }
 
 fn folders<'a>(alloc: Global) -> Arg<'a> {
@@ -57,7 +55,7 @@ fn folders<'a>(alloc: Global) -> Arg<'a> {
         .long("include")
         .action(ArgAction::Append)
         .value_name("DIR")
-        .help("Look there for files that models include, behind the including file's own folder")
+        .help("A folder to look in for the files that models include")
 }
 
 fn line<'a>(alloc: Global) -> Arg<'a> {
@@ -86,7 +84,7 @@ fn why<'a>(alloc: Global) -> Arg<'a> {
     Arg::new(alloc, "why")
         .long("why")
         .action(ArgAction::SetTrue)
-        .help("Show an execution that the model allows, or what forbids the one that is asked for")
+        .help("Show an execution that is allowed, or why the one asked for is not")
 }
 
 fn dot<'a>(alloc: Global) -> Arg<'a> {
@@ -130,9 +128,7 @@ fn threads<'a>(alloc: Global) -> Arg<'a> {
         .long("threads")
         .action(ArgAction::Set)
         .value_name("N")
-        .help(
-            "How many threads judge, 1 to 64; as many as there are processors, up to 8, where it is not said",
-        )
+        .help("How many threads judge; else one for each processor, up to 8")
         .value_parser(value_parser!(u8).range(1..=64))
 }
 
@@ -149,9 +145,7 @@ fn tests<'a>(alloc: Global) -> Result<Arg<'a>, AllocError> {
     Arg::new(alloc, "test")
         .action(ArgAction::Append)
         .value_name("TEST")
-        .help(
-            "Test files; folders, with all *.litmus below; @FILE, a list of paths, one a line; - for standard input",
-        )
+        .help("Test files; folders; @FILE, a list of paths; - for standard input")
         .required_unless_present("found")
 }
 
