@@ -65,13 +65,14 @@ fn perform(
             },
         );
     }
-    let front = front_of(rt);
-    let is_test = is_script && front.as_slice() == b"C ".as_slice();
-    let input = front.as_slice().chain(rt.reader());
-    let status = do_whole(rt, task, input);
+    let Ok(front) = front_of(rt) else {
+        tell(rt, FAILURE);
+        return FAILED;
+    };
+    let status = do_whole(rt, task, front.as_slice().chain(rt.reader()));
     if status == FAILED {
         tell(rt, FAILURE);
-    } else if status == BAD && is_test {
+    } else if status == BAD && is_script && front.as_slice() == b"C ".as_slice() {
         tell(rt, TEST_GIVEN);
     }
     status
@@ -92,11 +93,11 @@ fn tell(rt: &impl Eprint, sentence: &str) {
     let _ = eprintln!(rt; "{sentence}");
 }
 
-/// The first two bytes of the input, as far as they can be read.
-fn front_of(rt: &(impl Input + AllocGlobal)) -> Vec<u8> {
+/// The first two bytes of the input, or fewer where it ends before.
+fn front_of(rt: &(impl Input + AllocGlobal)) -> io::Result<Vec<u8>> {
     let mut front = Vec::new(rt.alloc());
-    let _ = rt.reader().take(2).read_to_end(&mut front);
-    front
+    rt.reader().take(2).read_to_end(&mut front)?;
+    Ok(front)
 }
 
 /// Does a task over an input and the standard output, and answers the status. What is written of one test is kept back to the end,

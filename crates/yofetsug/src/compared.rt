@@ -91,42 +91,64 @@ fn row_of(alloc: Global, line: &[u8]) -> Result<Option<Row>, AllocError> {
     for field in line.split(|byte| *byte == b'\t') {
         fields.push(field)?;
     }
-    let (answer, states) = match fields.len() {
-        4 => (Vec::from_slice(alloc, fields[2])?, fields[3]),
-        12 => (answer_of(alloc, &fields[4..10])?, fields[8]),
+    let (path, model, answer, states) = match fields.as_slice() {
+        [path, model, answer, states] => {
+            (*path, *model, Vec::from_slice(alloc, answer)?, *states)
+        }
+        [
+            path,
+            model,
+            _,
+            _,
+            ok,
+            word,
+            positive,
+            negative,
+            states,
+            flags,
+            _,
+            _,
+        ] => {
+            let answer = if *ok == b"refused".as_slice() {
+                joined(alloc, &[*ok, *word])?
+            } else {
+                answer_of(alloc, &[*word, *positive, *negative], flags)?
+            };
+            (*path, *model, answer, *states)
+        }
         _ => return Ok(None),
     };
     Ok(Some(Row {
-        path: Vec::from_slice(alloc, fields[0])?,
-        model: Vec::from_slice(alloc, fields[1])?,
+        path: Vec::from_slice(alloc, path)?,
+        model: Vec::from_slice(alloc, model)?,
         answer,
         states: Vec::from_slice(alloc, states)?,
     }))
 }
 
-/// What a stored row tells of fields of `--tsv`: of a refused test why, else the word, both counts and the flags.
-fn answer_of(alloc: Global, fields: &[&[u8]]) -> Result<Vec<u8>, AllocError> {
-    let mut answer = Vec::new(alloc);
-    if fields[0] == b"refused".as_slice() {
-        answer.extend_from_slice(b"refused ")?;
-        answer.extend_from_slice(fields[1])?;
-        return Ok(answer);
-    }
-    answer.extend_from_slice(fields[1])?;
-    for field in [fields[2], fields[3]] {
-        push_word(&mut answer, field)?;
-    }
-    for flag in fields[5].split(|byte| *byte == b',') {
+/// What a stored row tells of a word, both counts, and flags with commas between.
+fn answer_of(alloc: Global, words: &[&[u8]], flags: &[u8]) -> Result<Vec<u8>, AllocError> {
+    let mut answer = joined(alloc, words)?;
+    for flag in flags.split(|byte| *byte == b',') {
         push_word(&mut answer, flag)?;
     }
     Ok(answer)
 }
 
-/// Adds a word behind a blank, if it isn't empty.
-fn push_word(text: &mut Vec<u8>, word: &[u8]) -> Result<(), AllocError> {
-    if !word.is_empty() {
-        text.push(b' ')?;
-        text.extend_from_slice(word)?;
+/// Words with blanks between.
+fn joined(alloc: Global, words: &[&[u8]]) -> Result<Vec<u8>, AllocError> {
+    let mut text = Vec::new(alloc);
+    for word in words {
+        push_word(&mut text, word)?;
     }
+    Ok(text)
+}
+
+/// Adds a word, behind a blank where something stands before it. An empty word adds nothing.
+fn push_word(text: &mut Vec<u8>, word: &[u8]) -> Result<(), AllocError> {
+    if !text.is_empty() && !word.is_empty() {
+        text.push(b' ')?;
+    }
+    text.extend_from_slice(word)?;
     Ok(())
 }

@@ -141,7 +141,7 @@ fn threads_of<R: Threads>(rt: &R, words: &Words<'_>) -> u16 {
     match words.threads {
         Some(threads) => u16::from(threads),
         None => match thread::available_parallelism(rt) {
-            Ok(count) => count.get().min(8) as u16,
+            Ok(count) => u16::try_from(count.get().min(8)).unwrap_or(8),
             Err(_) => 1,
         },
     }
