@@ -2,7 +2,7 @@
 use Rattle.std.specs.Prelude.{ℕ, List, [], ◌∷◌, ◌++◌, length, if◌then◌else◌, codes, decimal}
 use Rattle.std.specs.List.{flat_map}
 use Rattle.litmus_tree.specs.Tree.{Word}
-use Rattle.report.specs.Texts.{kind_text, line}
+use Rattle.report.specs.Texts.{kind_text}
 use Rattle.slices.specs.Findings.{FindingValue, is_ok, word}
 use Rattle.suite.specs.declared.case.Case.{Case}
 

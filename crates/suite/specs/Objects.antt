@@ -1,5 +1,5 @@
 -- A verdict as an object of JSON.
-use Rattle.std.specs.Prelude.{ℕ, List, length, map, codes}
+use Rattle.std.specs.Prelude.{ℕ, length, map, codes}
 use Rattle.serde_json.specs.Data.{Data, boolean, number, unsigned, string, array, object, member, no_members}
 use Rattle.serde_json.specs.View.{items_of}
 use Rattle.report.specs.Texts.{kind_text}

@@ -110,7 +110,7 @@ fn judge_one<R: Threads + Sync, P: Patience>(
 
 /// How many slices a test of so many numbers is evaluated in, where a slice has this many, or more where they would be too many.
 pub(crate) fn slices_for(size: u64, slice: u64) -> u16
-    requires { 1 ≤ slice }
+    requires { 2 ≤ slice }
     ensures some { 1 ≤ result }
     ensures few { result ≤ 256 }
 {

@@ -53,8 +53,15 @@ fn evaluate_slices<R: Threads + Sync>(
     ensures slices { IfOk result (λ v. AreSlices work.now total first v.items) }
     ensures all { IfOk result (λ v. vec_len v ≡ count) }
 {
-    let evaluate_one = |place: usize| evaluate_slice(alloc, work, total, first + place as u16);
-    thread::map_indices(rt, alloc, usize::from(count), &evaluate_one)
+    thread::map_indices(
+        rt,
+        alloc,
+        usize::from(count),
+        &move |place: usize|
+            requires { first + place < total }
+            ensures { IfOk result (IsSlice work.entry.now total (first + place)) }
+        { evaluate_slice(alloc, work, total, first + place as u16) },
+    )
 }
 
 /// The result of a slice.
@@ -108,7 +115,8 @@ fn merge_slice(
     ensures work { OnOk result (tally.new.work ≡ tally.old.work) }
 {
     match tally.merge(part) {
-        Ok(()) => Ok(()),
-        Err((_, AllocError)) => Err(AllocError),
+        Ok(()) => {}
+        Err((_, AllocError)) => return Err(AllocError),
     }
+    Ok(())
 }
