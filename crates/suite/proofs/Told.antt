@@ -1,5 +1,5 @@
 -- What the faults of lower layers tell.
-use Rattle.std.proofs.Common.{◌≡◌, ℕ, List, ◌∷◌, Result, Ok, Err, refl, sym, subst}
+use Rattle.std.proofs.Common.{◌≡◌, ℕ, List, Result, Ok, Err, refl, sym, subst}
 use Rattle.std.specs.Prelude.{IfErr, MatchResult}
 use Rattle.litmus_tree.specs.Tree.{Litmus}
 use Rattle.litmus_c.specs.Reads.{Reads as ReadsTest, IsRefused as IsRefusedTest}
@@ -8,11 +8,10 @@ use Rattle.litmus_c.specs.declared.fault.TestFault.TheVariants as of_test
 use Rattle.candidates.specs.Faults.{IsSpaceFault}
 use Rattle.candidates.specs.declared.fault.SpaceFault.{SpaceFault}
 use Rattle.candidates.specs.declared.fault.SpaceFault.TheVariants as of_space
-use Rattle.cat_tree.specs.Tree.{File, Word}
+use Rattle.cat_tree.specs.Tree.{File}
 use Rattle.cat_syntax.specs.Reads.{Reads, IsRefused}
 use Rattle.cat_syntax.specs.declared.fault.CatFault.{CatFault}
 use Rattle.cat_syntax.specs.declared.fault.CatFault.TheVariants as of_cat
-use Rattle.cat_model.specs.declared.fault.ModelFault.{ModelFault}
 use Rattle.suite.specs.Judged.{HasNone, IsUntold}
 use Rattle.suite.specs.Models.{IsNoFile}
 use Rattle.suite.specs.declared.fault.ModelTrouble.{ModelTrouble}

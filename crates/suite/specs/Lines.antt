@@ -2,8 +2,9 @@
 use Rattle.std.specs.Prelude.{ℕ, List, [], ◌∷◌, ◌++◌, length, if◌then◌else◌, codes, decimal}
 use Rattle.std.specs.List.{flat_map}
 use Rattle.litmus_tree.specs.Tree.{Word}
-use Rattle.report.specs.Texts.{kind_text, line}
+use Rattle.report.specs.Texts.{kind_text}
 use Rattle.slices.specs.Findings.{FindingValue, is_ok, word}
+use Rattle.suite.specs.declared.case.Case.{Case}
 
 abbrev pub answer_word : FindingValue → List ℕ
 answer_word v = if is_ok v then codes "Ok" else codes "No"
@@ -32,9 +33,13 @@ listed [] = []
 listed (name ∷ names) = name ++ flat_map (λ other. 44 ∷ other) names
 
 -- a test's path, the model, and the test's name and kind, a tab behind each
-abbrev pub whose : List ℕ → List ℕ → FindingValue → List ℕ
-whose path model v = path ++ codes "\t" ++ model ++ codes "\t" ++ v.name ++ codes "\t" ++ kind_text v.kind ++ codes "\t"
+abbrev pub whose : Case → FindingValue → List ℕ
+whose c v = c.path.now ++ codes "\t" ++ c.model.now ++ codes "\t" ++ v.name ++ codes "\t" ++ kind_text v.kind ++ codes "\t"
 
--- whose they are, Ok or No, the word, both counts, how many states there are, and the flags
-abbrev pub row_text : List ℕ → List ℕ → FindingValue → List ℕ
-row_text path model v = whose path model v ++ counted 9 v ++ (9 ∷ decimal (length v.states)) ++ codes "\t" ++ listed v.flags
+-- how many states there are, and the flags
+abbrev pub seen : FindingValue → List ℕ
+seen v = (9 ∷ decimal (length v.states)) ++ codes "\t" ++ listed v.flags
+
+-- whose they are, Ok or No, the word, both counts, how many states there are, the flags, the milliseconds, and the digests of the model's texts
+abbrev pub row_text : Case → ℕ → FindingValue → List ℕ
+row_text c ms v = whose c v ++ counted 9 v ++ seen v ++ (9 ∷ decimal ms) ++ codes "\t" ++ c.digests.now ++ codes "\n"

@@ -7,10 +7,12 @@ ghost use Rattle.candidates.specs.Faults.{IsSpaceFault};
 ghost use Rattle.suite.specs.Judged.{AreVerdicts, HasVerdicts, HasNone, IsUntold, IsRight, works_of};
 
 use crate::fault::TestTrouble;
+use crate::together::judge_together;
 use cat_model::Model;
 use litmus_c::{Test, read_test};
 use slices::{Course, TestRef, Verdict, Work, WorkRef};
 use std::alloc::{AllocError, Global};
+use std::thread::Threads;
 
 /// How long someone waits for a verdict. It is asked between two slices of a test.
 pub trait Patience {
@@ -31,11 +33,13 @@ impl Patience for Endless {
 /// How many numbers a slice has, where there are as many slices as that takes.
 const SLICE: u64 = 1 << 16;
 
-/// The verdicts on the test that a text is, one for each of the models, in their order.
-pub fn judge_text<P: Patience>(
+/// The verdicts on the test that a text is, one for each of the models, in their order. So many threads evaluate slices of it at once.
+pub fn judge_text<R: Threads + Sync, P: Patience>(
+    rt: &R,
     alloc: Global,
     text: &[u8],
     models: &[Model],
+    threads: u16,
     patience: &mut P,
 ) -> Result<Vec<Verdict>, TestTrouble>
     // The text reads as a test, and each verdict is right for that test under its model.
@@ -45,7 +49,7 @@ pub fn judge_text<P: Patience>(
 {
     let test = read(alloc, text)?;
     let test = TestRef::new(alloc, test)?;
-    judge_under(alloc, &test, models, patience)
+    judge_under(rt, alloc, &test, models, threads, patience)
 }
 
 /// The test that a text is.
@@ -60,10 +64,12 @@ fn read(alloc: Global, text: &[u8]) -> Result<Test, TestTrouble>
 }
 
 /// The verdicts on a test under the models.
-fn judge_under<P: Patience>(
+fn judge_under<R: Threads + Sync, P: Patience>(
+    rt: &R,
     alloc: Global,
     test: &TestRef,
     models: &[Model],
+    threads: u16,
     patience: &mut P,
 ) -> Result<Vec<Verdict>, TestTrouble>
     ensures works { IfOk result (λ vs. map (λ v. v.work) vs.items ≡ works_of test.now models.now) }
@@ -72,16 +78,18 @@ fn judge_under<P: Patience>(
 {
     let mut verdicts = Vec::with_capacity(alloc, models.len())?;
     for model in models {
-        verdicts.push(judge_one(alloc, test, model, patience)?)?;
+        verdicts.push(judge_one(rt, alloc, test, model, threads, patience)?)?;
     }
     Ok(verdicts)
 }
 
 /// The verdict on a test under a model.
-fn judge_one<P: Patience>(
+fn judge_one<R: Threads + Sync, P: Patience>(
+    rt: &R,
     alloc: Global,
     test: &TestRef,
     model: &Model,
+    threads: u16,
     patience: &mut P,
 ) -> Result<Verdict, TestTrouble>
     ensures work { IfOk result (λ v. v.work ≡ record { test = test.now; model = model.now }) }
@@ -89,18 +97,24 @@ fn judge_one<P: Patience>(
     ensures cause { IfErr result (IsUntold test.now) }
 {
     let work = work_of(alloc, test, model)?;
-    match judge_work(alloc, work, patience)? {
+    let verdict = if threads > 1 {
+        judge_together(rt, alloc, work, threads, patience)?
+    } else {
+        judge_work(alloc, work, patience)?
+    };
+    match verdict {
         Some(verdict) => Ok(verdict),
         None => Err(TestTrouble::Late),
     }
 }
 
-/// How many slices a test of so many numbers is evaluated in.
-fn slices_for(size: u64) -> u16
+/// How many slices a test of so many numbers is evaluated in, where a slice has this many, or more where they would be too many.
+pub(crate) fn slices_for(size: u64, slice: u64) -> u16
+    requires { 2 ≤ slice }
     ensures some { 1 ≤ result }
     ensures few { result ≤ 256 }
 {
-    let wanted = size / SLICE + 1;
+    let wanted = size / slice + 1;
     if wanted > 256 { 256 } else { wanted as u16 }
 }
 
@@ -113,7 +127,7 @@ fn judge_work<P: Patience>(
     ensures work { IfOk result (λ o. IfSome o (λ v. v.work ≡ work)) }
     ensures right { IfOk result (λ o. IfSome o IsRight) }
 {
-    let total = slices_for(work.work().size());
+    let total = slices_for(work.work().size(), SLICE);
     let mut course = Course::new(alloc, work, total)?;
     for _slice in 0..total {
         if patience.is_over() {

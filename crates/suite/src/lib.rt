@@ -1,6 +1,8 @@
 //! Many tests under many models: what is judged, the line or the row that tells it, and how it differs from what was expected.
 #![tactic(auto)]
 
+mod case;
+mod digest;
 mod expected;
 mod fault;
 mod json;
@@ -11,7 +13,10 @@ mod sink;
 mod summary;
 mod table;
 mod text;
+mod together;
 
+pub use case::Case;
+pub use digest::digests_of;
 pub use expected::{Row, differences};
 pub use fault::{ModelTrouble, TestTrouble};
 pub use json::object_of;

@@ -1,10 +1,9 @@
 //! A table of tests and models.
 
-ghost use Rattle.std.specs.Prelude.{◌≡◌, ◌++◌, take, map, IfOk, OnOk, IsTrue, ◌↔◌, length};
-ghost use Rattle.suite.specs.Lines.{flagged};
+ghost use Rattle.std.specs.Prelude.{◌≡◌, ◌++◌, ◌-◌, map, length, IfOk, OnOk};
 ghost use Rattle.suite.specs.Tables as texts;
 
-use crate::text::{push_names, push_padded, push_parts};
+use crate::text::{push_blanks, push_names, push_parts};
 use slices::Verdict;
 use std::alloc::{AllocError, Global};
 
@@ -28,8 +27,7 @@ pub fn head_of(alloc: Global, width: usize, models: &[Vec<u8>]) -> Result<Vec<u8
 {
     let mut text = Vec::new(alloc);
     push_parts(&mut text, &[b"  "])?;
-    push_padded(&mut text, b"", width)?;
-    push_cells(&mut text, models, models)?;
+    push_cells(&mut text, width, models, models)?;
     text.push(b'\n')?;
     Ok(text)
 }
@@ -46,9 +44,8 @@ pub fn table_row_of(
 {
     let mark: &[u8] = if are_alike(cells) { b"  " } else { b"* " };
     let mut text = Vec::new(alloc);
-    push_parts(&mut text, &[mark])?;
-    push_padded(&mut text, path, width)?;
-    push_cells(&mut text, models, cells)?;
+    push_parts(&mut text, &[mark, path])?;
+    push_cells(&mut text, width.saturating_sub(path.len()), models, cells)?;
     text.push(b'\n')?;
     Ok(text)
 }
@@ -77,17 +74,24 @@ fn are_all(text: &[u8], cells: &[Vec<u8>]) -> bool
     true
 }
 
-/// Adds each cell behind two blanks, as wide as its model's column.
-fn push_cells(text: &mut Vec<u8>, models: &[Vec<u8>], cells: &[Vec<u8>]) -> Result<(), AllocError>
-    ensures { OnOk result (text.new.items ≡ text.old.items ++ texts.cells_text (map (λ m. m.items) models.now) (map (λ c. c.items) cells.now)) }
+/// Adds each cell behind two blanks and those that fill the column before it, which lacks so many before the first.
+fn push_cells(
+    text: &mut Vec<u8>,
+    lacking: usize,
+    models: &[Vec<u8>],
+    cells: &[Vec<u8>],
+) -> Result<(), AllocError>
+    ensures { OnOk result (text.new.items ≡ text.old.items ++ texts.cells_text lacking (map (λ m. m.items) models.now) (map (λ c. c.items) cells.now)) }
 {
+    let mut blanks = lacking;
     let mut left = models;
     let mut rest = cells;
     while let Some((model, others)) = left.split_first() {
         match rest.split_first() {
             Some((cell, more)) => {
-                text.extend_from_slice(b"  ")?;
-                push_padded(text, cell, model.len().max(WORD))?;
+                push_blanks(text, blanks)?;
+                push_parts(text, &[b"  ", cell])?;
+                blanks = model.len().max(WORD).saturating_sub(cell.len());
                 left = others;
                 rest = more;
             }

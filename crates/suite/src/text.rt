@@ -3,7 +3,6 @@
 ghost use Rattle.std.specs.Prelude.{◌≡◌, ◌∷◌, ◌++◌, OnOk, decimal, replicate};
 ghost use Rattle.std.specs.List.{flat_map};
 ghost use Rattle.suite.specs.Lines.{listed};
-ghost use Rattle.suite.specs.Tables.{padded};
 
 use itoa::Buffer;
 use std::alloc::AllocError;
@@ -53,16 +52,8 @@ pub(crate) fn push_listed(text: &mut Vec<u8>, names: &[Name]) -> Result<(), Allo
     }
 }
 
-/// Adds a text, and blanks behind it up to this width.
-pub(crate) fn push_padded(text: &mut Vec<u8>, cell: &[u8], width: usize) -> Result<(), AllocError>
-    ensures { OnOk result (text.new.items ≡ text.old.items ++ padded width cell.now) }
-{
-    text.extend_from_slice(cell)?;
-    push_blanks(text, width.saturating_sub(cell.len()))
-}
-
 /// Adds so many blanks.
-fn push_blanks(text: &mut Vec<u8>, count: usize) -> Result<(), AllocError>
+pub(crate) fn push_blanks(text: &mut Vec<u8>, count: usize) -> Result<(), AllocError>
     ensures { OnOk result (text.new.items ≡ text.old.items ++ replicate count 32) }
 {
     let mut left = count;

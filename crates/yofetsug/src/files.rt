@@ -26,6 +26,27 @@ pub struct Unread {
     pub error: String,
 }
 
+impl Paths {
+    /// Adds a test. A line can't tell one whose path would end the line or the field.
+    fn add_test(&mut self, path: String) -> Result<(), Trouble> {
+        if path.as_str().contains(['\n', '\t']) {
+            return self.add_unread(path.as_str(), "its path has a tab or a line feed");
+        }
+        self.tests.push(path)?;
+        Ok(())
+    }
+
+    /// Adds a path that can't be read.
+    fn add_unread(&mut self, path: &str, error: &str) -> Result<(), Trouble> {
+        let alloc = *self.tests.allocator();
+        self.unread.push(Unread {
+            path: String::from_str(alloc, path)?,
+            error: String::from_str(alloc, error)?,
+        })?;
+        Ok(())
+    }
+}
+
 /// The text of a file, as far as a text may go and one byte more.
 pub fn text_of<R: Files + AllocGlobal>(rt: &R, path: &str) -> io::Result<Vec<u8>> {
     read_front(rt.alloc(), fs::open(rt, path)?)
@@ -74,8 +95,7 @@ fn add_path<R: Files + AllocGlobal + Clone + Drop>(
     if path != "-" && is_folder(rt, path) {
         return add_folder(rt, path, paths);
     }
-    paths.tests.push(String::from_str(rt.alloc(), path)?)?;
-    Ok(())
+    paths.add_test(String::from_str(rt.alloc(), path)?)
 }
 
 /// Adds the paths that a list has, one a line. Empty lines, and those that begin with `#`, are left out. A path that isn't there is looked for
@@ -154,15 +174,25 @@ fn add_folder<R: Files + AllocGlobal + Clone + Drop>(
     let alloc = rt.alloc();
     let mut found = Vec::new(alloc);
     let mut folders = Vec::new(alloc);
-    folders.push(String::from_str(alloc, folder.trim_end_matches('/'))?)?;
+    let top = match folder.trim_end_matches('/') {
+        "" => "/",
+        top => top,
+    };
+    folders.push(String::from_str(alloc, top)?)?;
+    let before = paths.unread.len();
     for _ in 0..MOST_FOLDERS {
         match folders.pop() {
             Some(next) => go_through(rt, &next, &mut folders, &mut found, &mut paths.unread)?,
             None => break,
         }
     }
+    if found.is_empty() && paths.unread.len() == before {
+        return paths.add_unread(folder, "no *.litmus file is in it or below");
+    }
     found.sort()?;
-    paths.tests.append(&mut found)?;
+    for path in found {
+        paths.add_test(path)?;
+    }
     Ok(())
 }
 

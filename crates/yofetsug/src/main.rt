@@ -3,9 +3,11 @@
 
 mod batch;
 mod compared;
+mod deadline;
 mod files;
 mod hints;
 mod messages;
+mod meter;
 mod models;
 mod places;
 mod run;
@@ -14,8 +16,10 @@ mod trouble;
 mod why;
 mod words;
 
+use clap::Error;
 use clap::error::ErrorKind;
 use session::run_all;
+use std::io::IsTerminal;
 use std::process::ExitCode;
 use std::{env, io};
 use trouble::Trouble;
@@ -32,13 +36,22 @@ fn main(rt: HostRuntime) -> ExitCode {
         Err(_) => return reject_bytes(&rt),
     };
     match read_words(rt.alloc(), words.as_slice()) {
-        Ok(words) => ExitCode::from(end(&rt, run_all(&rt, &words))),
+        Ok(words) => {
+            let shows = rt.stderr().is_terminal();
+            ExitCode::from(end(&rt, run_all(&rt, &words, shows)))
+        }
         Err(error) if error.kind() == ErrorKind::OutOfMemory => ExitCode::FAILURE,
-        Err(error) => match error.print(&rt) {
-            Ok(()) => ExitCode::from(error.exit_code() as u8),
-            Err(_) => ExitCode::FAILURE,
-        },
+        Err(error) => {
+            let status = error.exit_code() as u8;
+            ExitCode::from(end(&rt, print_error(&rt, &error).map(|()| status)))
+        }
     }
+}
+
+/// Prints what clap says: what is wrong with the words, or the help that they ask for.
+fn print_error<R: Print + Eprint>(rt: &R, error: &Error) -> Result<(), Trouble> {
+    error.print(rt)?;
+    Ok(())
 }
 
 /// Says that a word isn't UTF-8.
@@ -56,7 +69,7 @@ fn end(rt: &impl Eprint, ended: Result<u8, Trouble>) -> u8 {
         Err(Trouble::Told(status)) => return *status,
         // Whoever reads the output has had enough.
         Err(Trouble::Write(error)) if error.kind() == io::ErrorKind::BrokenPipe => return 0,
-        Err(Trouble::Write(error)) => eprintln!(rt; "yofetsug: can't write: {error}"),
+        Err(Trouble::Write(error)) => eprintln!(rt; "yofetsug: standard output: {error}"),
         Err(Trouble::NoMemory) => eprintln!(rt; "yofetsug: memory ran out"),
     };
     let _ = told;

@@ -8,7 +8,7 @@ use cat_syntax::{CatFault, CatFile, Item, read_cat};
 use std::alloc::{AllocError, Global};
 use std::rt::Files;
 use std::{fs, io};
-use suite::{CatText, ModelTrouble, load_model};
+use suite::{CatText, ModelTrouble, digests_of, load_model};
 use wb_text::{Name, NameFault};
 
 /// The most files of a model that are read.
@@ -22,12 +22,19 @@ pub struct Source {
     pub text: Vec<u8>,
 }
 
+/// A model, with the names and digests of the files that it is made of.
+#[derive(Drop)]
+pub struct Loaded {
+    pub model: Model,
+    pub digests: String,
+}
+
 /// The model that a word names: that of a file, or a built-in one. What is wrong with it is told on standard error.
 pub fn read_model<R: Files + Eprint + AllocGlobal>(
     rt: &R,
     word: &str,
     folders: &[&str],
-) -> Result<Model, Trouble> {
+) -> Result<Loaded, Trouble> {
     let alloc = rt.alloc();
     let (root, sources) = match root_of(rt, word)? {
         Some(source) => {
@@ -207,7 +214,7 @@ fn assemble<R: Eprint + AllocGlobal>(
     word: &str,
     root: &Name,
     sources: &[Source],
-) -> Result<Model, Trouble> {
+) -> Result<Loaded, Trouble> {
     let alloc = rt.alloc();
     let mut texts = Vec::new(alloc);
     for source in sources {
@@ -217,7 +224,11 @@ fn assemble<R: Eprint + AllocGlobal>(
         })?;
     }
     match load_model(alloc, root, &texts) {
-        Ok(model) => Ok(model),
+        Ok(model) => {
+            let digests = digests_of(alloc, &texts)?;
+            let digests = String::from_str(alloc, std::str::from_utf8(&digests).unwrap_or(""))?;
+            Ok(Loaded { model, digests })
+        }
         Err(ModelTrouble::NoMemory) => Err(Trouble::NoMemory),
         Err(ModelTrouble::Text(place, fault)) => {
             if let Some(source) = sources.get(place) {

@@ -1,19 +1,23 @@
 //! Judging one test after another, and what is told of each.
 
+use crate::deadline::Deadline;
 use crate::files::{read_front, text_of};
 use crate::messages::test_trouble;
+use crate::meter::Meter;
 use crate::why::explain;
 use crate::words::Form;
 use cat_model::Model;
 use litmus_c::TestFault;
+use serde_json::json;
 use slices::Verdict;
 use std::alloc::{AllocError, Global};
 use std::io;
 use std::rt::Files;
-use std::time::{Clock, Instant};
+use std::thread::Threads;
+use std::time::Clock;
 use suite::{
-    Patience, Row, TestTrouble, answer_of, are_alike, cell_of, judge_text, line_of, object_of,
-    row_of, summary_of, table_row_of,
+    Case, Row, TestTrouble, answer_of, are_alike, cell_of, judge_text, line_of, object_of, row_of,
+    summary_of, table_row_of,
 };
 
 /// What all tests have in common.
@@ -22,6 +26,8 @@ pub struct Plan<'a> {
     pub models: &'a [Model],
     /// The words that named the models.
     pub names: &'a [Vec<u8>],
+    /// The digests of the models' files.
+    pub digests: &'a [String],
     pub form: Form,
     /// How wide the paths of a table are.
     pub width: usize,
@@ -79,66 +85,65 @@ pub fn unread(alloc: Global, path: &str, error: &str) -> Result<Outcome, AllocEr
     })
 }
 
-/// Someone who waits for a while.
-struct Deadline<'a, R: Clock> {
-    rt: &'a R,
-    began: Option<Instant>,
-    seconds: Option<u32>,
+/// After so many milliseconds a test is left to a later pass.
+const WHILE: u64 = 200;
+
+/// How many milliseconds a test may take, if that is limited.
+fn limit_of(plan: &Plan<'_>) -> Option<u64> {
+    plan.timeout
+        .map(|seconds| u64::from(seconds).saturating_mul(1_000))
 }
 
-impl<'a, R: Clock> Drop for Deadline<'a, R> {
-    fn drop(self) {
-        let Deadline {
-            rt: _,
-            began: _,
-            seconds: _,
-        } = self;
-    }
-}
-
-impl<'a, R: Clock> Deadline<'a, R> {
-    fn new(rt: &'a R, seconds: Option<u32>) -> Self {
-        Deadline {
-            rt,
-            began: Instant::now(rt).ok(),
-            seconds,
-        }
-    }
-
-    /// How many milliseconds have passed, as far as the clock tells.
-    fn milliseconds(&self) -> u64 {
-        match &self.began {
-            Some(began) => match began.elapsed(self.rt) {
-                Ok(passed) => u64::try_from(passed.as_millis()).unwrap_or(u64::MAX),
-                Err(_) => 0,
-            },
-            None => 0,
-        }
-    }
-}
-
-impl<'a, R: Clock> Patience for Deadline<'a, R> {
-    fn is_over(&mut self) -> bool {
-        match self.seconds {
-            Some(seconds) => self.milliseconds() >= u64::from(seconds).saturating_mul(1000),
-            None => false,
-        }
-    }
-}
-
-/// What is told of a test under all models.
-pub fn judge<R: Clock>(
+/// What is told of a test under all models, which one thread judges; or nothing where it takes more than a while.
+pub fn judge_quickly<R: Clock + Eprint + Threads + Sync>(
     rt: &R,
     alloc: Global,
     path: &str,
     text: &[u8],
     plan: &Plan<'_>,
+) -> Result<Option<Outcome>, AllocError> {
+    let (limit, is_last) = match limit_of(plan) {
+        Some(limit) if limit <= WHILE => (limit, true),
+        _ => (WHILE, false),
+    };
+    let mut deadline = Deadline::new(rt, Some(limit), None);
+    let judged = judge_text(rt, alloc, text, plan.models, 1, &mut deadline);
+    if !is_last && matches!(&judged, Err(TestTrouble::Late)) {
+        return Ok(None);
+    }
+    let milliseconds = deadline.milliseconds();
+    Ok(Some(outcome_of(alloc, path, text, plan, judged, milliseconds)?))
+}
+
+/// What is told of a test under all models, which so many threads judge together.
+pub fn judge_wholly<R: Clock + Eprint + Threads + Sync>(
+    rt: &R,
+    alloc: Global,
+    path: &str,
+    text: &[u8],
+    plan: &Plan<'_>,
+    threads: u16,
+    meter: &mut Meter,
 ) -> Result<Outcome, AllocError> {
-    let mut deadline = Deadline::new(rt, plan.timeout);
-    match judge_text(alloc, text, plan.models, &mut deadline) {
-        Ok(verdicts) => told(alloc, path, &verdicts, plan, deadline.milliseconds()),
+    let mut deadline = Deadline::new(rt, limit_of(plan), Some(meter));
+    let judged = judge_text(rt, alloc, text, plan.models, threads, &mut deadline);
+    let milliseconds = deadline.milliseconds();
+    outcome_of(alloc, path, text, plan, judged, milliseconds)
+}
+
+/// What is told of a test with its verdicts, or that has none.
+fn outcome_of(
+    alloc: Global,
+    path: &str,
+    text: &[u8],
+    plan: &Plan<'_>,
+    judged: Result<Vec<Verdict>, TestTrouble>,
+    milliseconds: u64,
+) -> Result<Outcome, AllocError> {
+    match judged {
+        Ok(verdicts) => told(alloc, path, &verdicts, plan, milliseconds),
         Err(TestTrouble::NoMemory) => Err(AllocError),
-        Err(trouble) => refused(alloc, path, text, &trouble, plan),
+        Err(trouble) => refused(alloc, path, text, &trouble, plan, milliseconds),
     }
 }
 
@@ -152,8 +157,8 @@ fn told(
 ) -> Result<Outcome, AllocError> {
     let cells = cells_of(alloc, verdicts)?;
     let mut text = match plan.form {
-        Form::Tabs => tabs(alloc, path, verdicts, plan.names, milliseconds)?,
-        Form::Json => objects(alloc, path, verdicts, plan.names, milliseconds)?,
+        Form::Tabs => tabs(alloc, path, verdicts, plan, milliseconds)?,
+        Form::Json => objects(alloc, path, verdicts, plan, milliseconds)?,
         _ if plan.names.len() != 1 => {
             table_row_of(alloc, plan.width, path.as_bytes(), plan.names, &cells)?
         }
@@ -208,18 +213,28 @@ fn lines(alloc: Global, path: &str, verdicts: &[Verdict]) -> Result<Vec<u8>, All
     Ok(text)
 }
 
+/// A test under one of the plan's models.
+fn case_of<'a>(path: &'a str, name: &'a Vec<u8>, digests: &'a String) -> Case<'a> {
+    Case {
+        path,
+        model: std::str::from_utf8(name).unwrap_or(""),
+        digests: digests.as_str(),
+    }
+}
+
 /// A line of fields between tabs for each verdict, with how long the test took under all models.
 fn tabs(
     alloc: Global,
     path: &str,
     verdicts: &[Verdict],
-    names: &[Vec<u8>],
+    plan: &Plan<'_>,
     milliseconds: u64,
 ) -> Result<Vec<u8>, AllocError> {
     let mut text = Vec::new(alloc);
-    for (verdict, name) in verdicts.iter().zip(names) {
-        text.append(&mut row_of(alloc, path.as_bytes(), name, verdict)?)?;
-        text.extend_from_slice(format!(in alloc; "\t{milliseconds}\n")?.as_bytes())?;
+    let models = plan.names.iter().zip(plan.digests);
+    for (verdict, (name, digests)) in verdicts.iter().zip(models) {
+        let case = case_of(path, name, digests);
+        text.append(&mut row_of(alloc, &case, verdict, milliseconds)?)?;
     }
     Ok(text)
 }
@@ -229,13 +244,14 @@ fn objects(
     alloc: Global,
     path: &str,
     verdicts: &[Verdict],
-    names: &[Vec<u8>],
+    plan: &Plan<'_>,
     milliseconds: u64,
 ) -> Result<Vec<u8>, AllocError> {
     let mut text = Vec::new(alloc);
-    for (verdict, name) in verdicts.iter().zip(names) {
-        let model = std::str::from_utf8(name).unwrap_or("");
-        let object = object_of(alloc, path, model, verdict, milliseconds)?;
+    let models = plan.names.iter().zip(plan.digests);
+    for (verdict, (name, digests)) in verdicts.iter().zip(models) {
+        let case = case_of(path, name, digests);
+        let object = object_of(alloc, &case, verdict, milliseconds)?;
         text.extend_from_slice(object.as_bytes())?;
         text.push(b'\n')?;
     }
@@ -271,26 +287,68 @@ fn refused(
     text: &[u8],
     trouble: &TestTrouble,
     plan: &Plan<'_>,
+    milliseconds: u64,
 ) -> Result<Outcome, AllocError> {
     let mut rows = Vec::new(alloc);
-    if plan.keeps {
-        for name in plan.names {
+    let mut told = Vec::new(alloc);
+    let label = label_of(trouble);
+    for (name, digests) in plan.names.iter().zip(plan.digests) {
+        let case = case_of(path, name, digests);
+        if plan.keeps {
             rows.push(Row {
                 path: Vec::from_slice(alloc, path.as_bytes())?,
                 model: name.clone()?,
-                answer: format!(in alloc; "refused {}", label_of(trouble))?.into_bytes(),
+                answer: format!(in alloc; "refused {label}")?.into_bytes(),
                 states: Vec::new(alloc),
             })?;
         }
+        told.append(&mut refusal_of(alloc, plan.form, &case, label, milliseconds)?)?;
     }
     Ok(Outcome {
         fate: Fate::Refused,
-        text: Vec::new(alloc),
+        text: told,
         dot: Vec::new(alloc),
         message: test_trouble(alloc, path, text, trouble)?,
         rows,
         differs: false,
     })
+}
+
+/// The line for programs that tells a refusal: the fields of a verdict, with `refused` for `Ok` or `No` and why for the word, and without those
+/// that a refused test hasn't.
+fn refusal_of(
+    alloc: Global,
+    form: Form,
+    case: &Case<'_>,
+    label: &str,
+    milliseconds: u64,
+) -> Result<Vec<u8>, AllocError> {
+    let Case {
+        path,
+        model,
+        digests,
+    } = *case;
+    match form {
+        Form::Tabs => {
+            let line = format!(in alloc;
+                "{path}\t{model}\t\t\trefused\t{label}\t\t\t\t\t{milliseconds}\t{digests}\n"
+            )?;
+            Ok(line.into_bytes())
+        }
+        Form::Json => {
+            let object = json!(in alloc; {
+                "digests": digests,
+                "file": path,
+                "milliseconds": milliseconds,
+                "model": model,
+                "refused": label
+            })?;
+            let mut line = object.to_string(alloc)?.into_bytes();
+            line.push(b'\n')?;
+            Ok(line)
+        }
+        Form::Summary | Form::Line => Ok(Vec::new(alloc)),
+    }
 }
 
 /// The number and the name of a refusal.

@@ -1,8 +1,9 @@
 //! A run of the program: models, tests, comparison, and the last line.
 
-use crate::batch::judge_batch;
-use crate::compared::{compare, store, write_file};
-use crate::files::{Paths, find_tests};
+use crate::batch::{judge_jobs, read_jobs};
+use crate::compared::{compare, read_rows, see_writable, store, write_file};
+use crate::files::{Paths, Unread, find_tests};
+use crate::meter::Meter;
 use crate::models::read_model;
 use crate::run::{Fate, Outcome, Plan, unread};
 use crate::trouble::Trouble;
@@ -49,6 +50,7 @@ struct Progress {
     counts: Counts,
     rows: Vec<Row>,
     dot: Vec<u8>,
+    meter: Meter,
 }
 
 impl Counts {
@@ -80,19 +82,48 @@ impl Counts {
     }
 }
 
+/// Judges all tests that the words name, or compares what was found before, and answers the status.
+pub fn run_all<R: Reach>(rt: &R, words: &Words<'_>, shows: bool) -> Result<u8, Trouble> {
+    match (words.expected, words.found) {
+        (Some(expected), Some(found)) => compare_found(rt, expected, found),
+        _ => judge_all(rt, words, shows),
+    }
+}
+
+/// Compares two files of rows.
+fn compare_found<R: Reach>(rt: &R, expected: &str, found: &str) -> Result<u8, Trouble> {
+    let expected = read_rows(rt, expected)?;
+    let found = read_rows(rt, found)?;
+    let differ = compare(rt, &expected, &found)?;
+    Ok(if differ { 3 } else { 0 })
+}
+
 /// Judges all tests that the words name, and answers the status.
-pub fn run_all<R: Reach>(rt: &R, words: &Words<'_>) -> Result<u8, Trouble> {
+fn judge_all<R: Reach>(rt: &R, words: &Words<'_>, shows: bool) -> Result<u8, Trouble> {
     let alloc = rt.alloc();
     let mut models = Vec::new(alloc);
     let mut names = Vec::new(alloc);
+    let mut digests = Vec::new(alloc);
     for word in &words.models {
-        models.push(read_model(rt, word, &words.folders)?)?;
+        let loaded = read_model(rt, word, &words.folders)?;
+        models.push(loaded.model)?;
+        digests.push(loaded.digests)?;
         names.push(Vec::from_slice(alloc, word.as_bytes())?)?;
+    }
+    let expected = match words.expected {
+        Some(path) => Some(read_rows(rt, path)?),
+        None => None,
+    };
+    for path in [words.dot, words.write_expected] {
+        if let Some(path) = path {
+            see_writable(rt, path)?;
+        }
     }
     let paths = find_tests(rt, &words.tests)?;
     let plan = Plan {
         models: &models,
         names: &names,
+        digests: &digests,
         form: words.form,
         width: width_of(&paths),
         keeps: words.expected.is_some() || words.write_expected.is_some(),
@@ -101,16 +132,16 @@ pub fn run_all<R: Reach>(rt: &R, words: &Words<'_>) -> Result<u8, Trouble> {
         draws: words.dot.is_some(),
     };
     let threads = threads_of(rt, words);
-    let progress = judge_all(rt, &paths, &plan, threads)?;
-    finish(rt, words, &plan, &progress)
+    let progress = judge_paths(rt, &paths, &plan, threads, shows)?;
+    finish(rt, words, &plan, expected, &progress)
 }
 
 /// How many threads judge: as many as the words say, or as there are processors, up to 8.
-fn threads_of<R: Threads>(rt: &R, words: &Words<'_>) -> usize {
+fn threads_of<R: Threads>(rt: &R, words: &Words<'_>) -> u16 {
     match words.threads {
-        Some(threads) => usize::from(threads),
+        Some(threads) => u16::from(threads),
         None => match thread::available_parallelism(rt) {
-            Ok(count) => count.get().min(8),
+            Ok(count) => u16::try_from(count.get().min(8)).unwrap_or(8),
             Err(_) => 1,
         },
     }
@@ -131,11 +162,12 @@ fn is_table(plan: &Plan<'_>) -> bool {
 }
 
 /// Judges the tests, some at a time, and prints what is told of each in their order.
-fn judge_all<R: Reach>(
+fn judge_paths<R: Reach>(
     rt: &R,
     paths: &Paths,
     plan: &Plan<'_>,
-    threads: usize,
+    threads: u16,
+    shows: bool,
 ) -> Result<Progress, Trouble> {
     let alloc = rt.alloc();
     let mut writer = BufWriter::new(alloc, io::writer(rt))?;
@@ -143,21 +175,58 @@ fn judge_all<R: Reach>(
         counts: Counts::none(),
         rows: Vec::new(alloc),
         dot: Vec::new(alloc),
+        meter: Meter::new(rt, paths.tests.len(), shows),
     };
     if is_table(plan) {
         writer.write_all(&head_of(alloc, plan.width, plan.names)?)?;
     }
-    for missing in &paths.unread {
-        let outcome = unread(alloc, missing.path.as_str(), missing.error.as_str())?;
-        show(rt, outcome, &mut writer, &mut progress)?;
+    show_unread(rt, &paths.unread, &mut writer, &mut progress)?;
+    for batch in paths
+        .tests
+        .chunks(usize::from(threads).saturating_mul(BATCH).max(1))
+    {
+        judge_batch(rt, batch, plan, threads, &mut writer, &mut progress)?;
+        progress.meter.tick(rt)?;
     }
-    for batch in paths.tests.chunks(threads.saturating_mul(BATCH).max(1)) {
-        for outcome in judge_batch(rt, batch, plan, threads)? {
-            show(rt, outcome, &mut writer, &mut progress)?;
-        }
-    }
+    progress.meter.clear(rt)?;
     writer.flush()?;
     Ok(progress)
+}
+
+/// Tells which paths couldn't be read on the way to the tests.
+fn show_unread<R: Reach, W: Write>(
+    rt: &R,
+    missing: &[Unread],
+    writer: &mut W,
+    progress: &mut Progress,
+) -> Result<(), Trouble> {
+    for one in missing {
+        let outcome = unread(rt.alloc(), one.path.as_str(), one.error.as_str())?;
+        show(rt, outcome, writer, progress)?;
+    }
+    Ok(())
+}
+
+/// Judges some tests side by side, those that take more than a while one after another, and prints what is told of each in their order.
+fn judge_batch<R: Reach, W: Write>(
+    rt: &R,
+    paths: &[String],
+    plan: &Plan<'_>,
+    threads: u16,
+    writer: &mut W,
+    progress: &mut Progress,
+) -> Result<(), Trouble> {
+    let alloc = rt.alloc();
+    let jobs = read_jobs(rt, paths)?;
+    let outcomes = judge_jobs(rt, alloc, &jobs, plan, threads)?;
+    for (job, outcome) in jobs.iter().zip(outcomes) {
+        let outcome = match outcome {
+            Some(outcome) => outcome,
+            None => job.judge(rt, alloc, plan, threads, &mut progress.meter)?,
+        };
+        show(rt, outcome, writer, progress)?;
+    }
+    Ok(())
 }
 
 /// Prints what is told of a test, and counts it.
@@ -167,7 +236,9 @@ fn show<R: Eprint, W: Write>(
     writer: &mut W,
     progress: &mut Progress,
 ) -> Result<(), Trouble> {
+    progress.meter.clear(rt)?;
     progress.counts.add(&outcome);
+    progress.meter.set_done(progress.counts.all());
     progress.rows.append(&mut outcome.rows)?;
     progress.dot.append(&mut outcome.dot)?;
     writer.write_all(&outcome.text)?;
@@ -184,6 +255,7 @@ fn finish<R: Files + Print + Eprint + AllocGlobal>(
     rt: &R,
     words: &Words<'_>,
     plan: &Plan<'_>,
+    expected: Option<Vec<Row>>,
     progress: &Progress,
 ) -> Result<u8, Trouble> {
     let mut status = status_of(progress.counts);
@@ -193,8 +265,8 @@ fn finish<R: Files + Print + Eprint + AllocGlobal>(
     if let Some(path) = words.write_expected {
         store(rt, path, &progress.rows)?;
     }
-    if let Some(path) = words.expected {
-        if compare(rt, path, &progress.rows)? {
+    if let Some(expected) = expected {
+        if compare(rt, &expected, &progress.rows)? {
             status = 3;
         }
     }

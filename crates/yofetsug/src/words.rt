@@ -31,6 +31,8 @@ pub struct Words<'a> {
     pub dot: Option<&'a str>,
     pub expected: Option<&'a str>,
     pub write_expected: Option<&'a str>,
+    /// Rows that were found before, which are compared in place of tests that are judged.
+    pub found: Option<&'a str>,
     /// How many threads judge, if it is said.
     pub threads: Option<u8>,
     /// After how many seconds a test is given up, if it is said.
@@ -44,9 +46,7 @@ fn models<'a>(alloc: Global) -> Arg<'a> {
         .long("model")
         .action(ArgAction::Append)
         .value_name("MODEL")
-        .help(
-            "A cat file, or rc11.cat, which is built in and the default; may be given again, for a table",
-        )
+        .help("A cat file, or rc11.cat, which is built in and the default; several make a table")
 }
 
 fn folders<'a>(alloc: Global) -> Arg<'a> {
@@ -55,7 +55,7 @@ fn folders<'a>(alloc: Global) -> Arg<'a> {
         .long("include")
         .action(ArgAction::Append)
         .value_name("DIR")
-        .help("Look there for files that models include, behind the including file's own folder")
+        .help("A folder to look in for the files that models include")
 }
 
 fn line<'a>(alloc: Global) -> Arg<'a> {
@@ -84,7 +84,7 @@ fn why<'a>(alloc: Global) -> Arg<'a> {
     Arg::new(alloc, "why")
         .long("why")
         .action(ArgAction::SetTrue)
-        .help("Show an execution that the model allows, or what forbids the one that is asked for")
+        .help("Show an execution that is allowed, or why the one asked for is not")
 }
 
 fn dot<'a>(alloc: Global) -> Arg<'a> {
@@ -112,15 +112,23 @@ fn write_expected<'a>(alloc: Global) -> Arg<'a> {
         .help("Store what is found, for -e")
 }
 
+fn found<'a>(alloc: Global) -> Result<Arg<'a>, AllocError> {
+    Arg::new(alloc, "found")
+        .long("found")
+        .action(ArgAction::Set)
+        .value_name("FILE")
+        .help("Compare these lines of --tsv or --write-expected, and judge nothing")
+        .requires_arg("expected")?
+        .conflicts_with("test")
+}
+
 fn threads<'a>(alloc: Global) -> Arg<'a> {
     Arg::new(alloc, "threads")
         .short('j')
         .long("threads")
         .action(ArgAction::Set)
         .value_name("N")
-        .help(
-            "How many threads judge, 1 to 64; as many as there are processors, up to 8, where it is not said",
-        )
+        .help("How many threads judge; else one for each processor, up to 8")
         .value_parser(value_parser!(u8).range(1..=64))
 }
 
@@ -133,14 +141,12 @@ fn timeout<'a>(alloc: Global) -> Arg<'a> {
         .value_parser(value_parser!(u32).range(1..=1_000_000))
 }
 
-fn tests<'a>(alloc: Global) -> Arg<'a> {
+fn tests<'a>(alloc: Global) -> Result<Arg<'a>, AllocError> {
     Arg::new(alloc, "test")
         .action(ArgAction::Append)
-        .required(true)
         .value_name("TEST")
-        .help(
-            "Test files; folders, with all *.litmus below; @FILE, a list of paths, one a line; - for standard input",
-        )
+        .help("Test files; folders; @FILE, a list of paths; - for standard input")
+        .required_unless_present("found")
 }
 
 /// The command that clap reads the words by.
@@ -157,9 +163,10 @@ fn command<'a>(alloc: Global) -> Result<Command<'a>, AllocError> {
         .arg(dot(alloc))?
         .arg(expected(alloc))?
         .arg(write_expected(alloc))?
+        .arg(found(alloc)?)?
         .arg(threads(alloc))?
         .arg(timeout(alloc))?
-        .arg(tests(alloc))
+        .arg(tests(alloc)?)
 }
 
 /// The values of an argument that may be given again.
@@ -204,6 +211,7 @@ pub fn read_words<'a>(alloc: Global, words: &'a [String]) -> Result<Words<'a>, E
         dot: matches.get_str("dot"),
         expected: matches.get_str("expected"),
         write_expected: matches.get_str("write-expected"),
+        found: matches.get_str("found"),
         threads: matches.get_one::<u8>("threads"),
         timeout: matches.get_one::<u32>("timeout"),
         tests: all_of(alloc, matches.get_strs("test"), None)?,

@@ -1,4 +1,3 @@
-use Rattle.std.proofs.Common.{rules}
 use Rattle.suite.proofs.Verdicts.{judged_on}
 use Rattle.suite.proofs.judging.judge_under.Goals as goal
 

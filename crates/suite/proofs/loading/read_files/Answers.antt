@@ -1,4 +1,4 @@
-use Rattle.std.proofs.Common.{arith, rules}
+use Rattle.std.proofs.Common.{rules}
 use Rattle.suite.proofs.Loaded.{first, unread_at, twice_at, files_on}
 use Rattle.suite.proofs.loading.read_files.Goals as goal
 
