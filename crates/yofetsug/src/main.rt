@@ -4,10 +4,8 @@
 mod batch;
 mod compared;
 mod files;
-mod hints;
 mod messages;
 mod models;
-mod places;
 mod run;
 mod session;
 mod trouble;

@@ -1,9 +1,9 @@
 //! What could stand in a text, and what to do.
 
-use crate::models::Source;
-use crate::places::{is_word, spelled};
+use crate::messages::Source;
 use cat_model::ModelFault;
 use litmus_c::TestFault;
+use places::{is_word, spelled};
 use std::alloc::{AllocError, Global};
 use strsim::levenshtein;
 use wb_text::{Dialect, TextFault, Token, tokens};
