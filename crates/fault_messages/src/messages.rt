@@ -4,7 +4,7 @@ use crate::hints::{Hint, model_hint, order_hint, test_hint};
 use cat_model::ModelFault;
 use cat_syntax::CatFault;
 use litmus_c::TestFault;
-use places::{Place, first_spelled, place_of_fault, token_at};
+use places::{first_spelled, message_at, message_without_place, place_of_fault, token_at};
 use std::alloc::{AllocError, Global};
 use wb_text::{Dialect, Name, TextFault, Token, tokens};
 
