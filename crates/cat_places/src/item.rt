@@ -1,6 +1,6 @@
 //! The tokens of an item, and those that name something in it.
 
-ghost use Rattle.std.specs.Prelude.{All, length};
+ghost use Rattle.std.specs.Prelude.{◌≤◌, All, IfOk, length};
 ghost use Rattle.wb_text.specs.Tokens.{IsWithin};
 
 use cat_syntax::{CatFault, read_cat};
@@ -25,6 +25,7 @@ fn end_of_items(
     items: usize,
 ) -> Result<usize, AllocError>
     requires { All (IsWithin (length text.now)) tokens.now }
+    ensures { IfOk result (λ n. n ≤ length tokens.now) }
 {
     let mut end = 0usize;
     for (place, token) in tokens.iter().enumerate() {
@@ -43,10 +44,11 @@ pub fn tokens_of_item<'a>(
     item: usize,
 ) -> Result<&'a [Token], AllocError>
     requires { All (IsWithin (length text.now)) tokens.now }
+    ensures { IfOk result (λ ts. All (IsWithin (length text.now)) ts.now) }
 {
     let from = end_of_items(alloc, text, tokens, item)?;
     let to = end_of_items(alloc, text, tokens, item.saturating_add(1))?;
-    Ok(tokens.get(from..to).unwrap_or(&[]))
+    Ok(&tokens[from.min(to)..to])
 }
 
 /// Where a walk over the tokens of an item is.

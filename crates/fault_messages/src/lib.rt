@@ -1,7 +1,18 @@
 //! What is wrong with a text, in words for people.
 #![tactic(auto)]
 
-mod hints;
-mod messages;
+mod bytes;
+mod cat;
+mod left_out;
+mod model;
+mod names;
+mod orders;
+mod syntax;
+mod test;
+mod text;
+mod words;
 
-pub use messages::{Source, cat_trouble, model_fault, space_trouble, test_fault};
+pub use cat::cat_trouble;
+pub use cat_places::Source;
+pub use model::model_fault;
+pub use test::{space_trouble, test_fault};
