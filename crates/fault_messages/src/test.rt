@@ -1,5 +1,9 @@
 //! Why a text is no test, or has no verdict.
 
+ghost use Rattle.std.specs.Prelude.{IfOk};
+ghost use Rattle.std.specs.String.{string_bytes};
+ghost use Rattle.fault_messages.specs.Told.{TellsTest, IsMessageAlone};
+
 use crate::left_out::left_out_sentence;
 use crate::names::name_sentence;
 use crate::orders::order_sentence;
@@ -12,7 +16,9 @@ use test_places::place_of;
 use wb_text::{Dialect, TextFault, tokens};
 
 /// Why a test has no verdict, though it is one: it is too large.
-pub fn space_trouble(alloc: Global, path: &str, label: &str) -> Result<String, AllocError> {
+pub fn space_trouble(alloc: Global, path: &str, label: &str) -> Result<String, AllocError>
+    ensures { IfOk result (λ s. IsMessageAlone path.now label.now (string_bytes s)) }
+{
     message_without_place(
         alloc,
         path,
@@ -27,7 +33,9 @@ pub fn test_fault(
     path: &str,
     text: &[u8],
     fault: &TestFault,
-) -> Result<String, AllocError> {
+) -> Result<String, AllocError>
+    ensures { IfOk result (λ s. TellsTest path.now text.now fault.now (string_bytes s)) }
+{
     if let TestFault::Text(cause) = fault {
         return text_trouble(alloc, path, text, Dialect::Litmus, fault.label(), *cause);
     }

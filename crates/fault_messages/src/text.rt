@@ -1,5 +1,9 @@
 //! Why a text has no tokens.
 
+ghost use Rattle.std.specs.Prelude.{IfOk};
+ghost use Rattle.std.specs.String.{string_bytes};
+ghost use Rattle.fault_messages.specs.Told.{TellsText};
+
 use crate::bytes::bad_byte;
 use crate::left_out::of_statement;
 use crate::words::shown;
@@ -18,7 +22,9 @@ pub fn text_trouble(
     dialect: Dialect,
     label: &str,
     fault: TextFault,
-) -> Result<String, AllocError> {
+) -> Result<String, AllocError>
+    ensures { IfOk result (λ s. TellsText path.now text.now label.now dialect fault (string_bytes s)) }
+{
     let offset = place_of_fault(alloc, text, dialect, fault)?;
     let found = told(alloc, text, dialect, fault, offset)?;
     let told = match fault.label().split_once(' ') {
