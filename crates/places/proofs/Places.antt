@@ -1,6 +1,5 @@
 -- The line of a place.
 use Rattle.std.proofs.Common.{◌≡◌, ◌≢◌, ℕ, ◌+◌, ◌-◌, ◌<◌, ◌≤◌, ◌⊎◌, inl, inr, List, length, take, drop, ap, sym, ◌∙◌, arith}
-
 use Rattle.std.specs.Prelude.{slice_index}
 use Rattle.std.proofs.lemmas.Bool.{cases_lt}
 use Rattle.std.proofs.lemmas.List.{get_or-take, get_or-drop}
@@ -28,10 +27,12 @@ line_at text before behind o from len e f el fl within first none inside last fr
 } where
   here : (k : ℕ) → from ≤ k → k < o → slice_index text k ≢ 10
   here k low high eq = none k low (omega (arith, high, el)) (left_byte text before o k e high ∙ eq)
+
   there : (k : ℕ) → o ≤ k → k < o + len → slice_index text k ≢ 10
   there k low high eq =
       let at : o + (k - o) ≡ k = omega (arith, low) in
       free (k - o) (omega (arith, low, high)) (right_byte text behind o (k - o) f ∙ ap (slice_index text) at ∙ eq)
+
   either : (k : ℕ) → (k < o) ⊎ (o ≤ k) → from ≤ k → k < o + len → slice_index text k ≢ 10
   either k (inl p) low high = here k low p
   either k (inr p) low high = there k p high
