@@ -1,10 +1,10 @@
 //! Models, with the files that they include.
 
 use crate::files::{joined, sibling, text_of};
-use crate::messages::{cat_trouble, model_fault};
 use crate::trouble::Trouble;
 use cat_model::{Files as CatFiles, Model};
 use cat_syntax::{CatFault, CatFile, Item, read_cat};
+use fault_messages::{Source, cat_trouble, model_fault};
 use std::alloc::{AllocError, Global};
 use std::rt::Files;
 use std::{fs, io};
@@ -13,14 +13,6 @@ use wb_text::{Name, NameFault};
 
 /// The most files of a model that are read.
 const MOST_FILES: usize = 4_096;
-
-/// A file of a model: the name by which it is included, its path, and its text.
-#[derive(Drop)]
-pub struct Source {
-    pub name: Name,
-    pub path: String,
-    pub text: Vec<u8>,
-}
 
 /// A model, with the names and digests of the files that it is made of.
 #[derive(Drop)]

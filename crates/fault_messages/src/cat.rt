@@ -1,0 +1,92 @@
+//! Why a text is no cat file.
+
+use crate::text::text_trouble;
+use crate::words::shown;
+use cat_places::{Source, place_of_text};
+use cat_syntax::CatFault;
+use places::{message_at, message_without_place, token_at};
+use std::alloc::{AllocError, Global};
+use wb_text::{Dialect, TextFault, tokens};
+
+/// Why a text is no cat file, at the first place at which it breaks the rule.
+pub fn cat_trouble(alloc: Global, source: &Source, fault: &CatFault) -> Result<String, AllocError> {
+    let (path, text) = (source.path.as_str(), source.text.as_slice());
+    if let CatFault::Text(cause) = fault {
+        return text_trouble(alloc, path, text, Dialect::Cat, fault.label(), *cause);
+    }
+    let sentence = sentence(alloc, text, fault)?;
+    match place_of_text(alloc, text, fault)? {
+        Some(offset) => message_at(alloc, path, text, offset, fault.label(), sentence.as_str()),
+        None => message_without_place(alloc, path, fault.label(), sentence.as_str()),
+    }
+}
+
+/// What is wrong, and what to do.
+fn sentence(alloc: Global, text: &[u8], fault: &CatFault) -> Result<String, AllocError> {
+    match fault {
+        CatFault::Syntax(offset) => syntax_sentence(alloc, text, *offset),
+        CatFault::Unsupported(word) => left_out_sentence(alloc, word.bytes()),
+        CatFault::TooDeep => String::from_str(
+            alloc,
+            "this would nest 65 deep, and parentheses, brackets and ~ nest at most 64; bind a part by let",
+        ),
+        CatFault::TooLarge => String::from_str(
+            alloc,
+            "with this the file has more than 4096 names, operators and items; part it by include",
+        ),
+        _ => String::from_str(alloc, "memory ran out"),
+    }
+}
+
+/// What is wrong with a token that nothing takes.
+fn syntax_sentence(alloc: Global, text: &[u8], offset: usize) -> Result<String, AllocError> {
+    match tokens(alloc, text, Dialect::Cat) {
+        Ok(tokens) => match token_at(text, &tokens, offset) {
+            Some(token) => {
+                let word = shown(token);
+                return format!(in alloc; "{word} can't stand here; docs/CAT.md has the grammar");
+            }
+            None => {
+                return String::from_str(
+                    alloc,
+                    "the file ends here, where more is wanted; docs/CAT.md has the grammar",
+                );
+            }
+        },
+        Err(TextFault::NoMemory) => return Err(AllocError),
+        Err(_found) => return String::from_str(alloc, "this can't stand here"),
+    }
+}
+
+/// What stands for a word that models leave out.
+fn left_out_sentence(alloc: Global, word: &[u8]) -> Result<String, AllocError> {
+    let name = shown(word);
+    match word {
+        b"++" => String::from_str(alloc, "++ is left out; write | for a union"),
+        b"with" | b"from" => String::from_str(
+            alloc,
+            "with .. from is left out; co is there beforehand, and needs no choice",
+        ),
+        b"procedure" | b"call" | b"fun" | b"in" => format!(in alloc;
+            "{name} is left out; bind a function by let, as in let f(x) = x ; po"
+        ),
+        b"enum"
+        | b"instructions"
+        | b"match"
+        | b"if"
+        | b"then"
+        | b"else"
+        | b"end"
+        | b"forall"
+        | b"do"
+        | b"try"
+        | b"begin"
+        | b"default"
+        | b"undefined_unless" => {
+            format!(in alloc; "{name} is left out; docs/CAT.md says what is there")
+        }
+        _ => format!(in alloc;
+            "{name} is a function of a let rec, which is left out; write it without rec, or without parameters"
+        ),
+    }
+}

@@ -1,0 +1,110 @@
+//! Words that tests leave out.
+
+use crate::words::{nearest, shown, with_meant};
+use std::alloc::{AllocError, Global};
+
+/// The calls and orders of tests.
+const CALLS: [&str; 9] = [
+    "atomic_load",
+    "atomic_load_explicit",
+    "atomic_store",
+    "atomic_store_explicit",
+    "atomic_exchange",
+    "atomic_exchange_explicit",
+    "atomic_fetch_add",
+    "atomic_fetch_add_explicit",
+    "atomic_thread_fence",
+];
+
+const ORDERS: [&str; 5] = [
+    "memory_order_relaxed",
+    "memory_order_acquire",
+    "memory_order_release",
+    "memory_order_acq_rel",
+    "memory_order_seq_cst",
+];
+
+/// What stands for a word that tests leave out.
+pub fn left_out_sentence(alloc: Global, word: &[u8]) -> Result<String, AllocError> {
+    if let Some(sentence) = of_statement(word) {
+        return String::from_str(alloc, sentence);
+    }
+    if word.starts_with(b"memory_order_") {
+        return order_sentence(alloc, word);
+    }
+    if word.starts_with(b"smp_") {
+        return String::from_str(
+            alloc,
+            "the kernel's calls are left out; the nearest to smp_mb() is atomic_thread_fence(memory_order_seq_cst)",
+        );
+    }
+    if let Some(sentence) = of_call(word) {
+        return String::from_str(alloc, sentence);
+    }
+    let name = shown(word);
+    let sentence = format!(in alloc; "{name} is no call of a test")?;
+    let meant = nearest(alloc, name, &CALLS)?;
+    with_meant(alloc, sentence, meant)
+}
+
+/// Words of C's statements, and of the kernel.
+pub fn of_statement(word: &[u8]) -> Option<&'static str> {
+    match word {
+        b"while" | b"for" | b"do" | b"goto" | b"break" | b"continue" => Some(
+            "loops and jumps are left out; write the turns that matter one behind another, with if",
+        ),
+        b"switch" => Some("switch is left out; write if and else"),
+        b"return" => Some("return is left out; put what it would skip into an if"),
+        b"filter" => Some("filter is left out; join its proposition to the condition by /\\"),
+        b"READ_ONCE" => Some(
+            "READ_ONCE is left out; write atomic_load_explicit(x, memory_order_relaxed), with atomic_int* x",
+        ),
+        b"WRITE_ONCE" => Some(
+            "WRITE_ONCE is left out; write atomic_store_explicit(x, 1, memory_order_relaxed), with atomic_int* x",
+        ),
+        _ => None,
+    }
+}
+
+/// Calls of C that tests leave out.
+fn of_call(word: &[u8]) -> Option<&'static str> {
+    if word.starts_with(b"atomic_compare_exchange") {
+        return Some(
+            "compare-exchange is left out; where it can't fail, atomic_exchange_explicit(x, 1, memory_order_acq_rel) does the same",
+        );
+    }
+    if word.starts_with(b"atomic_fetch_sub")
+        || word.starts_with(b"atomic_fetch_or")
+        || word.starts_with(b"atomic_fetch_xor")
+        || word.starts_with(b"atomic_fetch_and")
+    {
+        return Some(
+            "of the calls that read and write, a test has atomic_exchange and atomic_fetch_add alone",
+        );
+    }
+    if word == b"atomic_init".as_slice() {
+        return Some(
+            "atomic_init is left out; set the location in the initial state, as in { x = 1; }",
+        );
+    }
+    if word.starts_with(b"atomic_flag_") {
+        return Some("flags are left out; for test-and-set write atomic_exchange(x, 1)");
+    }
+    None
+}
+
+/// Words that look like orders.
+fn order_sentence(alloc: Global, word: &[u8]) -> Result<String, AllocError> {
+    if word == b"memory_order_consume".as_slice() {
+        return String::from_str(
+            alloc,
+            "consume is left out; write memory_order_acquire, which compilers make of it",
+        );
+    }
+    let name = shown(word);
+    let sentence = format!(in alloc;
+        "{name} is no order: they are relaxed, acquire, release, acq_rel and seq_cst"
+    )?;
+    let meant = nearest(alloc, name, &ORDERS)?;
+    with_meant(alloc, sentence, meant)
+}

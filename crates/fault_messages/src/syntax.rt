@@ -1,0 +1,229 @@
+//! Tokens that the grammar of tests doesn't take.
+
+ghost use Rattle.std.specs.Prelude.{All, length};
+ghost use Rattle.wb_text.specs.Tokens.{IsWithin};
+
+use crate::text::not_c;
+use crate::words::{nearest, shown};
+use places::spelled;
+use std::alloc::{AllocError, Global};
+use wb_text::{Token, TokenKind};
+
+/// The words of calls and orders, and others that a test may have.
+const KNOWN: [&str; 25] = [
+    "atomic_load",
+    "atomic_load_explicit",
+    "atomic_store",
+    "atomic_store_explicit",
+    "atomic_exchange",
+    "atomic_exchange_explicit",
+    "atomic_fetch_add",
+    "atomic_fetch_add_explicit",
+    "atomic_thread_fence",
+    "memory_order_relaxed",
+    "memory_order_acquire",
+    "memory_order_release",
+    "memory_order_acq_rel",
+    "memory_order_seq_cst",
+    "int",
+    "atomic_int",
+    "volatile",
+    "if",
+    "else",
+    "exists",
+    "forall",
+    "not",
+    "true",
+    "false",
+    "locations",
+];
+
+/// The token that isn't taken, and the one before it.
+#[derive(Clone, Copy)]
+struct Found<'a> {
+    word: &'a [u8],
+    kind: TokenKind,
+    before: &'a [u8],
+    /// Whether the one before is a number that ends where this begins.
+    is_suffix: bool,
+    /// Whether the one before ends a value.
+    behind_value: bool,
+    /// Whether a condition began before.
+    in_condition: bool,
+}
+
+/// What is wrong with the token at an offset, or with the end of the text.
+pub fn syntax_sentence(
+    alloc: Global,
+    text: &[u8],
+    tokens: &[Token],
+    offset: usize,
+) -> Result<String, AllocError>
+    requires { All (IsWithin (length text.now)) tokens.now }
+{
+    if let Some(token) = tokens.first() {
+        let word = spelled(text, token);
+        if word != b"C".as_slice() {
+            return not_c(alloc, word);
+        }
+    }
+    match found_at(text, tokens, offset) {
+        Some(found) => told(alloc, found),
+        None => String::from_str(
+            alloc,
+            "the test ends here, where more is wanted; last of all comes a condition, as exists (x=1)",
+        ),
+    }
+}
+
+/// The token that begins at an offset, if one does.
+fn found_at<'a>(text: &'a [u8], tokens: &[Token], offset: usize) -> Option<Found<'a>>
+    requires { All (IsWithin (length text.now)) tokens.now }
+{
+    let mut before: &[u8] = b"";
+    let mut number_end = None;
+    let mut behind_value = false;
+    let mut in_condition = false;
+    for token in tokens {
+        let word = spelled(text, token);
+        if token.from == offset {
+            return Some(Found {
+                word,
+                kind: token.kind,
+                before,
+                is_suffix: number_end == Some(offset),
+                behind_value,
+                in_condition,
+            });
+        }
+        in_condition = in_condition || begins_condition(word);
+        number_end = match token.kind {
+            TokenKind::Number => Some(token.to),
+            _ => None,
+        };
+        behind_value = token.kind != TokenKind::Sign || word == b")".as_slice();
+        before = word;
+    }
+    None
+}
+
+/// Whether a word begins a condition.
+fn begins_condition(word: &[u8]) -> bool {
+    matches!(word, b"exists" | b"forall")
+}
+
+/// What is wrong with a token.
+fn told(alloc: Global, found: Found<'_>) -> Result<String, AllocError> {
+    let word = shown(found.word);
+    if found.is_suffix && found.kind == TokenKind::Name {
+        return format!(in alloc;
+            "{word} can't stand behind a number; numbers are decimal, without a suffix: 1, not 1U or 0x1"
+        );
+    }
+    if let Some(sentence) = of_type(found.word) {
+        return format!(in alloc; "{word} {sentence}");
+    }
+    if let Some(sentence) = of_type(found.before) {
+        let before = shown(found.before);
+        return format!(in alloc; "{before} {sentence}");
+    }
+    if let Some(sentence) = of_word(found) {
+        return format!(in alloc; "{word} {sentence}");
+    }
+    if let Some(known) = nearest(alloc, word, &KNOWN)? {
+        return format!(in alloc; "{word} can't stand here; did you mean {known}?");
+    }
+    if found.word == b"(".as_slice() {
+        return call_told(alloc, shown(found.before));
+    }
+    if ends_early(found) {
+        return format!(in alloc; "{word} can't stand here; is a ; or a ) missing before it?");
+    }
+    format!(in alloc; "{word} can't stand here; docs/LITMUS.md has the grammar")
+}
+
+/// What is wrong with a parenthesis behind a word that is no call.
+fn call_told(alloc: Global, name: &str) -> Result<String, AllocError> {
+    match nearest(alloc, name, &KNOWN)? {
+        Some(known) => { format!(in alloc; "{name} is no call of a test; did you mean {known}?") }
+        None => format!(in alloc; "( can't stand behind {name}; calls are those of <stdatomic.h>"),
+    }
+}
+
+/// What is wrong with a type that is left out.
+fn of_type(word: &[u8]) -> Option<&'static str> {
+    match word {
+        b"unsigned"
+        | b"signed"
+        | b"long"
+        | b"short"
+        | b"char"
+        | b"bool"
+        | b"_Bool"
+        | b"float"
+        | b"double"
+        | b"size_t"
+        | b"uint32_t"
+        | b"int32_t"
+        | b"uint64_t"
+        | b"int64_t" => Some(
+            "is left out; a register is an int, a parameter an int* or an atomic_int*",
+        ),
+        b"_Atomic" | b"atomic_uint" | b"atomic_long" | b"atomic_bool" => {
+            Some("is left out; write atomic_int* for a parameter that calls access")
+        }
+        b"void" | b"static" => Some("is left out; a thread is written P0 (..) { .. }"),
+        b"const" => Some("is left out; write the parameter without it"),
+        _ => None,
+    }
+}
+
+/// What is wrong with a word or a sign, where that is known.
+fn of_word(found: Found<'_>) -> Option<&'static str> {
+    match found.word {
+        b"*" if found.behind_value => Some(
+            "can't stand behind a value; is a ; missing before it? Products are left out",
+        ),
+        b"*" => Some(
+            "can't stand inside an expression; read the location first, as in int r = *x;",
+        ),
+        b"atomic_int" => Some("can't stand here; a register is an int"),
+        _ => of_sign(found),
+    }
+}
+
+/// What is wrong with a call or a sign.
+fn of_sign(found: Found<'_>) -> Option<&'static str> {
+    if is_call(found.word) {
+        return Some(
+            "can't stand inside an expression; give its value to a register first, as in int r = atomic_load(x);",
+        );
+    }
+    if found.in_condition {
+        return match found.word {
+            b"==" => Some("compares in threads; a condition has one =, as in 0:r0=1"),
+            b"&&" | b"||" => Some("joins in threads; a condition has /\\ and \\/"),
+            b"!" => Some("denies in threads; a condition has ~"),
+            _ => None,
+        };
+    }
+    match found.word {
+        b"=" => Some("can't stand here; an expression compares by =="),
+        b"/\\" | b"\\/" => Some("joins in conditions; an expression has && and ||"),
+        _ => None,
+    }
+}
+
+/// Whether a word is a call that has a value.
+fn is_call(word: &[u8]) -> bool {
+    word.starts_with(b"atomic_load")
+        || word.starts_with(b"atomic_exchange")
+        || word.starts_with(b"atomic_fetch_add")
+}
+
+/// Whether a statement or a part of one begins behind a token that ends none.
+fn ends_early(found: Found<'_>) -> bool {
+    let begins = matches!(found.word, b"}" | b"int" | b"if") || found.word.starts_with(b"atomic_");
+    let goes_on = matches!(found.before, b";" | b"{" | b"}" | b"(" | b"," | b"=" | b"");
+    begins && !goes_on
+}

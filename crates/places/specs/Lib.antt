@@ -1,0 +1,4 @@
+pub mod Fronts
+pub mod Lines
+pub mod Messages
+pub mod Spellings

@@ -1,0 +1,5 @@
+pub mod Fronts
+pub mod Limits
+pub mod Marks
+pub mod Places
+pub mod Rules

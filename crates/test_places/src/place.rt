@@ -1,0 +1,129 @@
+//! The place of a test's fault.
+
+ghost use Rattle.std.specs.Prelude.{◌≡◌, ◌+◌, IfOk, IfSome};
+ghost use Rattle.litmus_c.specs.Reads.{offset_of};
+ghost use Rattle.test_places.specs.Fronts.{IsStop, IsFirstFront};
+ghost use Rattle.test_places.specs.Places as spec;
+
+use crate::accesses::event_too_many;
+use crate::limits::{location_too_many, locations, thread_too_many};
+use crate::mark::{Mark, marks};
+use crate::reading::{first_front, stop};
+use crate::rules::{Rule, first_breach};
+use crate::values::{Limit, value_over};
+use litmus_c::TestFault;
+use litmus_syntax::{Symbol, SyntaxFault, read_draft, symbols};
+use places::place_of_fault;
+use std::alloc::{AllocError, Global};
+use wb_text::{Dialect, TextFault, Token, tokens};
+
+/// As many events as a test has at most.
+const MOST_EVENTS: usize = 64;
+
+/// Where the fault of a text stands as a test, in bytes from its beginning; none where the text doesn't have it, or memory ran out.
+pub fn place_of(alloc: Global, text: &[u8], fault: &TestFault) -> Result<Option<usize>, AllocError>
+    ensures { IfOk result (λ o. IfSome o (spec.IsPlace text.now fault.now)) }
+{
+    match fault {
+        TestFault::Text(cause) => Ok(Some(place_of_fault(alloc, text, Dialect::Litmus, *cause)?)),
+        TestFault::Syntax(offset) => Ok(Some(*offset)),
+        TestFault::NoMemory => Ok(None),
+        _ => place_among(alloc, text, fault),
+    }
+}
+
+/// The same for a fault that stands at a token.
+fn place_among(alloc: Global, text: &[u8], fault: &TestFault) -> Result<Option<usize>, AllocError>
+    ensures { IfOk result (λ o. IfSome o (spec.IsAtToken text.now fault.now)) }
+{
+    match tokens(alloc, text, Dialect::Litmus) {
+        Ok(tokens) => {
+            let symbols = symbols(alloc, text, &tokens)?;
+            match symbol_of(alloc, &symbols, fault)? {
+                Some(place) => return Ok(Some(offset_of(&tokens, text.len(), place))),
+                None => return Ok(None),
+            }
+        }
+        Err(TextFault::NoMemory) => return Err(AllocError),
+        Err(_) => return Ok(None),
+    }
+}
+
+/// Where the token at a place begins.
+fn offset_of(tokens: &[Token], end: usize, place: usize) -> usize
+    ensures { result ≡ offset_of tokens.now end place }
+{
+    match tokens.get(place) {
+        Some(token) => token.from,
+        None => end,
+    }
+}
+
+/// The place of the symbol at which a fault stands.
+fn symbol_of(
+    alloc: Global,
+    symbols: &[Symbol],
+    fault: &TestFault,
+) -> Result<Option<usize>, AllocError>
+    ensures { IfOk result (λ o. IfSome o (spec.IsSymbol symbols.now fault.now)) }
+{
+    match fault {
+        TestFault::Unsupported(_) => stop(alloc, symbols),
+        TestFault::BadOrder => last_of_front(alloc, symbols, SyntaxFault::BadOrder),
+        TestFault::TooDeep => last_of_front(alloc, symbols, SyntaxFault::TooDeep),
+        _ => mark_of(alloc, symbols, fault),
+    }
+}
+
+/// The last symbol of the shortest front that has a fault.
+fn last_of_front(
+    alloc: Global,
+    symbols: &[Symbol],
+    fault: SyntaxFault,
+) -> Result<Option<usize>, AllocError>
+    requires { IsStop fault }
+    ensures { IfOk result (λ o. IfSome o (λ k. IsFirstFront symbols.now fault (k + 1))) }
+{
+    match first_front(alloc, symbols, fault)? {
+        Some(end) if end > 0 => Ok(Some(end - 1)),
+        _ => Ok(None),
+    }
+}
+
+/// The symbol that breaks a rule of the whole test.
+fn mark_of(
+    alloc: Global,
+    symbols: &[Symbol],
+    fault: &TestFault,
+) -> Result<Option<usize>, AllocError>
+    ensures { IfOk result (λ o. IfSome o (spec.IsSymbol symbols.now fault.now)) }
+{
+    let marks = marks(alloc, symbols)?;
+    match fault {
+        TestFault::UnknownName => Ok(first_breach(Rule::Names, &marks)),
+        TestFault::PlainOnAtomic => Ok(first_breach(Rule::PlainAccess, &marks)),
+        TestFault::AtomicOnPlain => Ok(first_breach(Rule::AtomicAccess, &marks)),
+        TestFault::TooManyThreads => Ok(thread_too_many(&marks)),
+        TestFault::TooManyLocations => location_too_many(alloc, &marks),
+        TestFault::TooManyValues => value_over(alloc, Limit::Count, &marks),
+        TestFault::ValueTooBig => value_over(alloc, Limit::Size, &marks),
+        TestFault::TooManyEvents => event_of(alloc, symbols, &marks),
+        _ => Ok(None),
+    }
+}
+
+/// The access with which there are too many events.
+fn event_of(
+    alloc: Global,
+    symbols: &[Symbol],
+    marks: &[Mark],
+) -> Result<Option<usize>, AllocError> {
+    match read_draft(alloc, symbols) {
+        Ok(draft) => {
+            let room = MOST_EVENTS.saturating_sub(locations(alloc, marks)?);
+            return Ok(event_too_many(room, &draft.bodies, marks));
+        }
+        Err(SyntaxFault::NoMemory) => return Err(AllocError),
+        Err(_) => return Ok(None),
+    }
+}
