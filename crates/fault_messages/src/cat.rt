@@ -1,5 +1,9 @@
 //! Why a text is no cat file.
 
+ghost use Rattle.std.specs.Prelude.{IfOk};
+ghost use Rattle.std.specs.String.{string_bytes};
+ghost use Rattle.fault_messages.specs.Told.{TellsCat};
+
 use crate::text::text_trouble;
 use crate::words::shown;
 use cat_places::{Source, place_of_text};
@@ -9,7 +13,9 @@ use std::alloc::{AllocError, Global};
 use wb_text::{Dialect, TextFault, tokens};
 
 /// Why a text is no cat file, at the first place at which it breaks the rule.
-pub fn cat_trouble(alloc: Global, source: &Source, fault: &CatFault) -> Result<String, AllocError> {
+pub fn cat_trouble(alloc: Global, source: &Source, fault: &CatFault) -> Result<String, AllocError>
+    ensures { IfOk result (λ s. TellsCat (string_bytes source.now.path) source.now.text.items fault.now (string_bytes s)) }
+{
     let (path, text) = (source.path.as_str(), source.text.as_slice());
     if let CatFault::Text(cause) = fault {
         return text_trouble(alloc, path, text, Dialect::Cat, fault.label(), *cause);
