@@ -1,8 +1,12 @@
 //! The place of a fault of a cat text.
 
-ghost use Rattle.std.specs.Prelude.{◌≡◌, All, IfOk, IfSome, length, take, true};
+ghost use Rattle.std.specs.Prelude.{◌≡◌, ◌≢◌, ◌<◌, ◌≤◌, ℕ, All, IfOk, OnOk, IfSome, Some, length, slice_get, true, false};
 ghost use Rattle.wb_text.specs.Tokens.{IsWithin};
 ghost use Rattle.cat_syntax.specs.Reads.{IsRefused};
+ghost use Rattle.cat_syntax.specs.declared.fault.CatFault.TheVariants.{NoMemory};
+ghost use Rattle.wb_text.specs.declared.token.Token.{Token as Spelled};
+ghost use Rattle.places.specs.Spellings.{spelling};
+ghost use Rattle.cat_places.specs.Fronts.{HasNoPlace, IsFirstRefused, IsToldAt, IsAtFront, IsTextPlace};
 
 use cat_syntax::{CatFault, read_cat};
 use places::{place_of_fault, spelled};
@@ -14,37 +18,58 @@ pub fn place_of_text(
     alloc: Global,
     text: &[u8],
     fault: &CatFault,
-) -> Result<Option<usize>, AllocError> {
+) -> Result<Option<usize>, AllocError>
+    ensures { IfOk result (λ o. IfSome o (IsTextPlace text.now fault.now)) }
+{
     match fault {
         CatFault::Text(cause) => Ok(Some(place_of_fault(alloc, text, Dialect::Cat, *cause)?)),
         CatFault::Syntax(offset) => Ok(Some(*offset)),
         CatFault::NoMemory => Ok(None),
-        CatFault::Unsupported(_) | CatFault::TooDeep | CatFault::TooLarge => {
-            place_among(alloc, text, fault)
-        }
+        CatFault::Unsupported(_) => place_among(alloc, text, fault),
+        CatFault::TooDeep => place_among(alloc, text, fault),
+        CatFault::TooLarge => place_among(alloc, text, fault),
     }
 }
 
 /// The same for a fault that stands at a token.
-fn place_among(alloc: Global, text: &[u8], fault: &CatFault) -> Result<Option<usize>, AllocError> {
+fn place_among(alloc: Global, text: &[u8], fault: &CatFault) -> Result<Option<usize>, AllocError>
+    requires { HasNoPlace fault.now }
+    ensures { IfOk result (λ o. IfSome o (IsAtFront text.now fault.now)) }
+{
     match tokens(alloc, text, Dialect::Cat) {
         Ok(tokens) => {
-            let place = last_of_front(alloc, text, &tokens, fault)?;
-            return Ok(told_at(text, &tokens, place, fault));
+            match last_of_front(alloc, text, &tokens, fault)? {
+                Some(place) => return Ok(told_at(text, &tokens, place, fault)),
+                None => return Ok(None),
+            }
         }
         Err(TextFault::NoMemory) => return Err(AllocError),
         Err(_) => return Ok(None),
     }
 }
 
+/// Whether a fault is the text's own.
+fn in_memory(fault: &CatFault) -> Result<(), AllocError>
+    ensures { OnOk result (fault.now ≢ NoMemory) }
+{
+    match fault {
+        CatFault::NoMemory => Err(AllocError),
+        _ => Ok(()),
+    }
+}
+
 /// Whether a text is refused for this fault.
 fn is_refused(alloc: Global, text: &[u8], fault: &CatFault) -> Result<bool, AllocError>
-    ensures { IfOk result (λ b. b ≡ true → IsRefused text.now fault.now) }
+    requires { HasNoPlace fault.now }
+    ensures yes { IfOk result (λ b. b ≡ true → IsRefused text.now fault.now) }
+    ensures no { IfOk result (λ b. b ≡ false → ¬ IsRefused text.now fault.now) }
 {
     match read_cat(alloc, text) {
         Ok(_file) => return Ok(false),
-        Err(CatFault::NoMemory) => return Err(AllocError),
-        Err(found) => return Ok(found == *fault),
+        Err(found) => {
+            in_memory(&found)?;
+            return Ok(found == *fault);
+        }
     }
 }
 
@@ -55,7 +80,10 @@ fn last_of_front(
     tokens: &[Token],
     fault: &CatFault,
 ) -> Result<Option<usize>, AllocError>
-    requires { All (IsWithin (length text.now)) tokens.now }
+    requires within { All (IsWithin (length text.now)) tokens.now }
+    requires fault { HasNoPlace fault.now }
+    ensures place { IfOk result (λ o. IfSome o (λ k. k < length tokens.now)) }
+    ensures first { IfOk result (λ o. IfSome o (IsFirstRefused text.now tokens.now fault.now)) }
 {
     for (place, token) in tokens.iter().enumerate() {
         if is_refused(alloc, &text[..token.to], fault)? {
@@ -65,21 +93,33 @@ fn last_of_front(
     Ok(None)
 }
 
-/// The token that the fault is about: the last of a front that is spelled as the word that the fault tells, and else the last.
-fn told_at(text: &[u8], tokens: &[Token], place: Option<usize>, fault: &CatFault) -> Option<usize>
-    requires { All (IsWithin (length text.now)) tokens.now }
+/// Where the last token up to a place begins that is spelled so.
+fn last_spelled(text: &[u8], tokens: &[Token], place: usize, word: &[u8]) -> Option<usize>
+    requires within { All (IsWithin (length text.now)) tokens.now }
+    requires place { place < length tokens.now }
+    ensures { IfSome result (λ offset. (j : ℕ) × (t : Spelled) × (j ≤ place) × (slice_get tokens.now j ≡ Some t) × (spelling text.now t ≡ word.now) × (offset ≡ t.from)) }
 {
-    let last = place?;
-    let (front, _) = tokens.split_at_checked(last.saturating_add(1))?;
-    for token in front.iter().rev() {
-        match fault {
-            CatFault::Unsupported(word) => {
-                if spelled(text, token) == word.bytes() {
-                    return Some(token.from);
-                }
-            }
-            _ => return Some(token.from),
+    let mut end = place + 1;
+    while end > 0 {
+        let token = tokens[end - 1];
+        if spelled(text, &token) == word {
+            return Some(token.from);
         }
+        end -= 1;
     }
     None
+}
+
+/// Where the token begins that the fault is about: the last of a front, or the word that the fault names.
+fn told_at(text: &[u8], tokens: &[Token], place: usize, fault: &CatFault) -> Option<usize>
+    requires within { All (IsWithin (length text.now)) tokens.now }
+    requires place { place < length tokens.now }
+    ensures { IfSome result (IsToldAt text.now tokens.now fault.now place) }
+{
+    match fault {
+        CatFault::Unsupported(word) => last_spelled(text, tokens, place, word.bytes()),
+        CatFault::TooDeep => Some(tokens[place].from),
+        CatFault::TooLarge => Some(tokens[place].from),
+        _ => None,
+    }
 }

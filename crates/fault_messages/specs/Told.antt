@@ -1,5 +1,12 @@
 -- What is told of a fault: a message at its place, under its number and name. (docs/COMMAND.md, "What is refused".)
-use Rattle.std.specs.Prelude.{◌≡◌, ◌⊎◌, ℕ, List}
+use Rattle.std.specs.Prelude.{◌≡◌, ◌⊎◌, ℕ, List, Some, slice_get}
+use Rattle.std.specs.String.{string_bytes}
+use Rattle.cat_model.specs.Labels.{model_label}
+use Rattle.cat_model.specs.declared.fault.ModelFault.{ModelFault}
+use Rattle.cat_places.specs.Fronts.{IsTextPlace}
+use Rattle.cat_places.specs.declared.source.Source.{Source}
+use Rattle.cat_syntax.specs.Labels.{cat_label}
+use Rattle.cat_syntax.specs.declared.fault.CatFault.{CatFault}
 use Rattle.litmus_c.specs.Labels.{test_label}
 use Rattle.litmus_c.specs.declared.fault.TestFault.{TestFault}
 use Rattle.places.specs.Fronts.{IsFaultAt}
@@ -36,3 +43,23 @@ pub record TellsPlace (path text : List ℕ) (fault : TestFault) (bytes : List �
 
 abbrev pub TellsTest : (path text : List ℕ) → TestFault → (bytes : List ℕ) → Type 0
 TellsTest path text fault bytes = TellsPlace path text fault bytes ⊎ IsMessageAlone path (test_label fault) bytes
+
+-- A cat text is told at the first place at which it breaks the rule.
+pub record TellsCatPlace (path text : List ℕ) (fault : CatFault) (bytes : List ℕ) : Type 0 where
+  pub offset : ℕ
+  pub place : IsTextPlace text fault offset
+  pub is_message : IsMessage path text (cat_label fault) offset bytes
+
+abbrev pub TellsCat : (path text : List ℕ) → CatFault → (bytes : List ℕ) → Type 0
+TellsCat path text fault bytes = TellsCatPlace path text fault bytes ⊎ IsMessageAlone path (cat_label fault) bytes
+
+-- A model is told at a place of one of its files, with that file's path and line.
+pub record TellsFile (sources : List Source) (fault : ModelFault) (bytes : List ℕ) : Type 0 where
+  pub number : ℕ
+  pub source : Source
+  pub at : slice_get sources number ≡ Some source
+  pub offset : ℕ
+  pub is_message : IsMessage (string_bytes source.path) source.text.items (model_label fault) offset bytes
+
+abbrev pub TellsModel : (word : List ℕ) → List Source → ModelFault → (bytes : List ℕ) → Type 0
+TellsModel word sources fault bytes = TellsFile sources fault bytes ⊎ IsMessageAlone word (model_label fault) bytes

@@ -1,5 +1,9 @@
 //! Why a text is no cat file.
 
+ghost use Rattle.std.specs.Prelude.{IfOk};
+ghost use Rattle.std.specs.String.{string_bytes};
+ghost use Rattle.fault_messages.specs.Told.{TellsCat};
+
 use crate::text::text_trouble;
 use crate::words::shown;
 use cat_places::{Source, place_of_text};
@@ -9,7 +13,9 @@ use std::alloc::{AllocError, Global};
 use wb_text::{Dialect, TextFault, tokens};
 
 /// Why a text is no cat file, at the first place at which it breaks the rule.
-pub fn cat_trouble(alloc: Global, source: &Source, fault: &CatFault) -> Result<String, AllocError> {
+pub fn cat_trouble(alloc: Global, source: &Source, fault: &CatFault) -> Result<String, AllocError>
+    ensures { IfOk result (λ s. TellsCat (string_bytes source.now.path) source.now.text.items fault.now (string_bytes s)) }
+{
     let (path, text) = (source.path.as_str(), source.text.as_slice());
     if let CatFault::Text(cause) = fault {
         return text_trouble(alloc, path, text, Dialect::Cat, fault.label(), *cause);
@@ -44,12 +50,12 @@ fn syntax_sentence(alloc: Global, text: &[u8], offset: usize) -> Result<String, 
         Ok(tokens) => match token_at(text, &tokens, offset) {
             Some(token) => {
                 let word = shown(token);
-                return format!(in alloc; "{word} can't stand here; docs/CAT.md has the grammar");
+                return format!(in alloc; "{word} can't stand here; docs/MODELS.md has the grammar");
             }
             None => {
                 return String::from_str(
                     alloc,
-                    "the file ends here, where more is wanted; docs/CAT.md has the grammar",
+                    "the file ends here, where more is wanted; docs/MODELS.md has the grammar",
                 );
             }
         },
@@ -83,7 +89,7 @@ fn left_out_sentence(alloc: Global, word: &[u8]) -> Result<String, AllocError> {
         | b"begin"
         | b"default"
         | b"undefined_unless" => {
-            format!(in alloc; "{name} is left out; docs/CAT.md says what is there")
+            format!(in alloc; "{name} is left out; docs/MODELS.md says what is there")
         }
         _ => format!(in alloc;
             "{name} is a function of a let rec, which is left out; write it without rec, or without parameters"

@@ -1,5 +1,10 @@
 //! Why files give no model.
 
+ghost use Rattle.std.specs.Prelude.{IfOk};
+ghost use Rattle.std.specs.String.{string_bytes};
+ghost use Rattle.cat_model.specs.Labels.{model_label};
+ghost use Rattle.fault_messages.specs.Told.{IsMessage, TellsModel};
+
 use crate::words::{nearest, shown, with_meant};
 use cat_model::ModelFault;
 use cat_places::{Source, place_of};
@@ -21,22 +26,37 @@ pub fn model_fault(
     word: &str,
     sources: &[Source],
     fault: &ModelFault,
-) -> Result<String, AllocError> {
+) -> Result<String, AllocError>
+    ensures { IfOk result (λ s. TellsModel word.now sources.now fault.now (string_bytes s)) }
+{
     let sentence = sentence(alloc, sources, fault)?;
     let Some((number, offset)) = place_of(alloc, sources, fault)? else {
         return message_without_place(alloc, word, fault.label(), sentence.as_str());
     };
     match sources.get(number) {
-        Some(source) => message_at(
-            alloc,
-            source.path.as_str(),
-            &source.text,
-            offset,
-            fault.label(),
-            sentence.as_str(),
-        ),
+        Some(source) => message_in(alloc, source, offset, fault, sentence.as_str()),
         None => message_without_place(alloc, word, fault.label(), sentence.as_str()),
     }
+}
+
+/// What is told at an offset of a file.
+fn message_in(
+    alloc: Global,
+    source: &Source,
+    offset: usize,
+    fault: &ModelFault,
+    sentence: &str,
+) -> Result<String, AllocError>
+    ensures { IfOk result (λ s. IsMessage (string_bytes source.now.path) source.now.text.items (model_label fault.now) offset (string_bytes s)) }
+{
+    message_at(
+        alloc,
+        source.path.as_str(),
+        &source.text,
+        offset,
+        fault.label(),
+        sentence,
+    )
 }
 
 /// What is wrong, and what to do.

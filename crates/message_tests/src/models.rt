@@ -14,7 +14,7 @@ fn cat(rt: HostRuntime) -> Result<(), Fail> {
 let r = | po
 ",
             )],
-            "my.cat:2:9: Syntax (52): | can't stand here; docs/CAT.md has the grammar
+            "my.cat:2:9: Syntax (52): | can't stand here; docs/MODELS.md has the grammar
     let r = | po
             ^
 ",
@@ -25,7 +25,7 @@ let r = | po
                 "M
 let r =",
             )],
-            "my.cat:2:8: Syntax (52): the file ends here, where more is wanted; docs/CAT.md has the grammar
+            "my.cat:2:8: Syntax (52): the file ends here, where more is wanted; docs/MODELS.md has the grammar
     let r =
            ^
 ",
