@@ -1,4 +1,4 @@
--- The first place at which a cat text is refused, for the refusals that tell none (docs/CAT.md, "Refusals").
+-- The first place at which a cat text is refused, for the refusals that tell none (docs/MODELS.md, "Refusals").
 use Rattle.std.specs.Prelude.{◌≡◌, ◌<◌, ◌≤◌, ℕ, List, Some, take, slice_get}
 use Rattle.places.specs.Fronts.{IsFaultAt}
 use Rattle.places.specs.Spellings.{spelling}
