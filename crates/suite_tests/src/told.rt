@@ -196,13 +196,13 @@ const EXPECTED: [(&[u8], &[u8], &[u8]); 3] = [
     (b"tests/CoRR.litmus", b"Never 0 3", b"3"),
 ];
 
-const FOUND: [(&[u8], &[u8], &[u8]); 3] = [
+const LATER: [(&[u8], &[u8], &[u8]); 3] = [
     (b"tests/CoRR.litmus", b"Never 0 3", b"3"),
     (b"tests/MP.litmus", b"Sometimes 1 3", b"4"),
     (b"tests/SB.litmus", b"Sometimes 1 3", b"4"),
 ];
 
-const DIFFERENCES: &[u8] =
+const CHANGES: &[u8] =
     b"CHANGED tests/MP.litmus rc11.cat: was Never 0 3, is Sometimes 1 3\nMISSING tests/LB.litmus rc11.cat\nNEW tests/SB.litmus rc11.cat: Sometimes 1 3\n";
 
 fn rows(alloc: Global, texts: &[(&[u8], &[u8], &[u8])]) -> Result<Vec<Row>, AllocError> {
@@ -222,9 +222,9 @@ fn rows(alloc: Global, texts: &[(&[u8], &[u8], &[u8])]) -> Result<Vec<Row>, Allo
 fn two_suites(rt: HostRuntime) -> Result<(), Fail> {
     let alloc = rt.alloc();
     let expected = rows(alloc, &EXPECTED)?;
-    let found = rows(alloc, &FOUND)?;
+    let found = rows(alloc, &LATER)?;
     let told = differences(alloc, &expected, &found)?;
-    assert!(rt; told.as_slice() == DIFFERENCES);
+    assert!(rt; told.as_slice() == CHANGES);
     let same = differences(alloc, &found, &found)?;
     assert!(rt; same.is_empty());
     Ok(())
@@ -234,7 +234,7 @@ fn two_suites(rt: HostRuntime) -> Result<(), Fail> {
 const DIGESTS: &[u8] = b"m.cat=a6d48b49766874d0,base.cat=87f2162ba8e02842";
 
 #[test]
-fn digests(rt: HostRuntime) -> Result<(), Fail> {
+fn texts_of_a_model(rt: HostRuntime) -> Result<(), Fail> {
     let alloc = rt.alloc();
     let root = name(alloc, b"m.cat")?;
     let base = name(alloc, b"base.cat")?;

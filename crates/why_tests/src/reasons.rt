@@ -236,7 +236,7 @@ struct Related {
     names: &'static [&'static [u8]],
 }
 
-const RELATED: [Related; 6] = [
+const STEPS: [Related; 6] = [
     Related {
         model: "let com = rf | co | fr acyclic po | com",
         events: (3, 4),
@@ -308,12 +308,12 @@ fn confirm_names(alloc: Global, related: &Related) -> Result<(), Fail> {
 
 /// The names behind bindings of a model's own.
 pub fn confirm_own(alloc: Global) -> Result<(), Fail> {
-    confirm_names(alloc, &RELATED[0])
+    confirm_names(alloc, &STEPS[0])
 }
 
 #[test]
 fn names_of_steps(rt: HostRuntime) -> Result<(), Fail> {
-    for related in &RELATED {
+    for related in &STEPS {
         confirm_names(rt.alloc(), related)?;
     }
     Ok(())

@@ -68,7 +68,7 @@ fn told(found: Result<Option<Graph>, AllocError>) -> Option<Found> {
 }
 
 /// Whether what is found is as it is expected; nothing at want of memory.
-fn found(alloc: Global, case: &Case) -> Option<bool> {
+fn is_found(alloc: Global, case: &Case) -> Option<bool> {
     let work = work(alloc, case.test, case.model)?;
     let witnesses = (
         told(witness(alloc, &work, true))?,
@@ -83,9 +83,9 @@ fn found(alloc: Global, case: &Case) -> Option<bool> {
 
 /// What is found is as it is expected, though a request for memory be refused.
 fn confirm(alloc: Global, case: &Case) -> Result<(), Fail> {
-    let holds = match found(alloc, case) {
+    let holds = match is_found(alloc, case) {
         Some(holds) => Some(holds),
-        None => found(alloc, case),
+        None => is_found(alloc, case),
     };
     match holds {
         Some(true) => Ok(()),
