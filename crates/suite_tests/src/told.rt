@@ -111,13 +111,23 @@ fn are_told(alloc: Global, verdicts: &[Verdict]) -> bool {
     }
 }
 
+/// The first verdict is told as it is expected.
+fn confirm_told(alloc: Global, verdicts: &[Verdict]) -> Result<(), Fail> {
+    if are_told(alloc, verdicts) {
+        Ok(())
+    } else {
+        Err(Fail::new("SB under sc"))
+    }
+}
+
 /// The verdict on SB by so many threads is told as it is expected.
 fn confirm<R: Threads + Sync>(rt: &R, alloc: Global, threads: u16) -> Result<(), Fail> {
     let mut models = Vec::new(alloc);
     models.push(model(alloc)?)?;
-    match judge_text(rt, alloc, SB, &models, threads, &mut Endless) {
-        Ok(verdicts) if are_told(alloc, &verdicts) => Ok(()),
-        _ => Err(Fail::new("SB under sc")),
+    let mut patience = Endless;
+    match judge_text(rt, alloc, SB, &models, threads, &mut patience) {
+        Ok(verdicts) => confirm_told(alloc, &verdicts),
+        Err(_trouble) => Err(Fail::new("SB is a test")),
     }
 }
 
