@@ -9,7 +9,7 @@ pub struct Deadline<'a, R: Clock + Eprint> {
     rt: &'a R,
     began: Option<Instant>,
     limit: Option<u64>,
-    meter: Option<&'a mut Meter>,
+    meter: Option<Meter>,
 }
 
 impl<'a, R: Clock + Eprint> Drop for Deadline<'a, R> {
@@ -24,13 +24,18 @@ impl<'a, R: Clock + Eprint> Drop for Deadline<'a, R> {
 }
 
 impl<'a, R: Clock + Eprint> Deadline<'a, R> {
-    pub fn new(rt: &'a R, limit: Option<u64>, meter: Option<&'a mut Meter>) -> Self {
+    pub fn new(rt: &'a R, limit: Option<u64>, meter: Option<Meter>) -> Self {
         Deadline {
             rt,
             began: Instant::now(rt).ok(),
             limit,
             meter,
         }
+    }
+
+    /// What has been told so far of how far the run is.
+    pub fn meter(&self) -> Option<Meter> {
+        self.meter
     }
 
     /// How many milliseconds have passed, as far as the clock tells.
@@ -47,9 +52,11 @@ impl<'a, R: Clock + Eprint> Deadline<'a, R> {
 
 impl<'a, R: Clock + Eprint> Patience for Deadline<'a, R> {
     fn is_over(&mut self) -> bool {
-        if let Some(meter) = &mut self.meter {
+        if let Some(told) = self.meter {
+            let mut meter = told;
             // The line only tells how far the run is; a terminal that is gone ends nothing.
             let _ = meter.tick(self.rt);
+            self.meter = Some(meter);
         }
         match self.limit {
             Some(limit) => self.milliseconds() >= limit,

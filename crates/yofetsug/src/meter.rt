@@ -9,7 +9,7 @@ const QUIET: u64 = 2_000;
 const PAUSE: u64 = 500;
 
 /// A line on standard error that tells how many tests are done. It is written over, and taken away before anything else is printed.
-#[derive(Drop)]
+#[derive(Clone, Copy)]
 pub struct Meter {
     /// When the run began, if it is told how far it is.
     began: Option<Instant>,

@@ -125,8 +125,11 @@ pub fn judge_wholly<R: Clock + Eprint + Threads + Sync>(
     threads: u16,
     meter: &mut Meter,
 ) -> Result<Outcome, AllocError> {
-    let mut deadline = Deadline::new(rt, limit_of(plan), Some(meter));
+    let mut deadline = Deadline::new(rt, limit_of(plan), Some(*meter));
     let judged = judge_text(rt, alloc, text, plan.models, threads, &mut deadline);
+    if let Some(told) = deadline.meter() {
+        *meter = told;
+    }
     let milliseconds = deadline.milliseconds();
     outcome_of(alloc, path, text, plan, judged, milliseconds)
 }
