@@ -41,21 +41,26 @@ fn name(alloc: Global, bytes: &[u8]) -> Result<Name, AllocError> {
     }
 }
 
+/// The texts of the model, under these names.
+fn texts<'a>(root: &'a Name, base: &'a Name) -> [CatText<'a>; 2] {
+    [
+        CatText {
+            name: root,
+            text: SC,
+        },
+        CatText {
+            name: base,
+            text: BASE,
+        },
+    ]
+}
+
 /// The model of `SC` under the name `m.cat`.
 fn model(alloc: Global) -> Result<Model, AllocError> {
     let root = name(alloc, b"m.cat")?;
     let base = name(alloc, b"base.cat")?;
-    let texts = [
-        CatText {
-            name: &root,
-            text: SC,
-        },
-        CatText {
-            name: &base,
-            text: BASE,
-        },
-    ];
-    match load_model(alloc, &root, &texts) {
+    let both = texts(&root, &base);
+    match load_model(alloc, &root, &both) {
         Ok(model) => Ok(model),
         Err(_) => Err(AllocError),
     }
@@ -248,17 +253,8 @@ fn texts_of_a_model(rt: HostRuntime) -> Result<(), Fail> {
     let alloc = rt.alloc();
     let root = name(alloc, b"m.cat")?;
     let base = name(alloc, b"base.cat")?;
-    let texts = [
-        CatText {
-            name: &root,
-            text: SC,
-        },
-        CatText {
-            name: &base,
-            text: BASE,
-        },
-    ];
-    let told = digests_of(alloc, &texts)?;
+    let both = texts(&root, &base);
+    let told = digests_of(alloc, &both)?;
     assert!(rt; told.as_slice() == DIGESTS);
     Ok(())
 }
