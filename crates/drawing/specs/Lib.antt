@@ -1,5 +1,3 @@
-pub mod Arrows
 pub mod Dots
 pub mod Examples
-pub mod Naming
 pub mod Texts

@@ -1,66 +1,24 @@
 -- An execution as text.
-use Rattle.std.specs.Prelude.{ℕ, List, [], ◌∷◌, ◌++◌, Option, None, Some, option_map, codes, decimal, flat_map, slice_index_or}
-use Rattle.events.specs.declared.event.Access.{Access}
-use Rattle.events.specs.declared.event.Access.TheVariants.{Read, Write, Fence, ExRead, ExWrite}
-use Rattle.events.specs.declared.event.Event.{Event}
+use Rattle.std.specs.Prelude.{ℕ, List, [], ◌∷◌, ◌++◌, Option, None, Some, option_map, codes, decimal, flat_map}
 use Rattle.events.specs.declared.event.EventId.{EventId}
 use Rattle.events.specs.declared.event.EventId.TheVariants.{Initial, Own}
-use Rattle.events.specs.declared.event.Order.{Order}
-use Rattle.events.specs.declared.event.Order.TheVariants.{NoOrder, Na, Rlx, Acq, Rel, AcqRel, Sc}
-use Rattle.events.specs.Named.{event_at}
-use Rattle.drawing.specs.declared.arrows.Arrow.{Arrow}
-use Rattle.drawing.specs.declared.arrows.Relation.{Relation}
-use Rattle.drawing.specs.declared.arrows.Relation.TheVariants.{Po, Rf, Co, Fr, Rmw}
+use Rattle.scenes.specs.declared.arrows.Arrow.{Arrow}
+use Rattle.scenes.specs.declared.arrows.Relation.{Relation}
+use Rattle.scenes.specs.declared.arrows.Relation.TheVariants.{Po, Rf, Co, Fr, Rmw}
 use Rattle.drawing.specs.declared.drawing.Broken.{Broken}
 use Rattle.drawing.specs.declared.drawing.Chain.{Chain}
 use Rattle.drawing.specs.declared.drawing.Drawing.{Drawing}
 use Rattle.drawing.specs.declared.drawing.Step.{Step}
-use Rattle.drawing.specs.declared.group.Group.{Group}
-use Rattle.drawing.specs.declared.group.Group.TheVariants.{InitialWrites, Threads}
-use Rattle.drawing.specs.Arrows.{arrows_of}
-use Rattle.drawing.specs.Naming.{SceneValue, members, number_of, name_of}
-
--- EVENTS
-
-abbrev pub location_text : SceneValue → ℕ → List ℕ
-location_text s x = slice_index_or s.locations x []
-
-abbrev pub order_text : Order → List ℕ
-order_text NoOrder = []
-order_text Na = codes " na"
-order_text Rlx = codes " rlx"
-order_text Acq = codes " acq"
-order_text Rel = codes " rel"
-order_text AcqRel = codes " acq_rel"
-order_text Sc = codes " sc"
-
--- `x=1 rlx`
-abbrev pub content_text : SceneValue → Event → List ℕ
-content_text s e = location_text s e.loc ++ codes "=" ++ decimal e.value ++ order_text e.order
-
-abbrev pub access_text : SceneValue → Access → Event → List ℕ
-access_text s Read e = codes "R " ++ content_text s e
-access_text s ExRead e = codes "R " ++ content_text s e
-access_text s Write e = codes "W " ++ content_text s e
-access_text s ExWrite e = codes "W " ++ content_text s e
-access_text s Fence e = codes "F" ++ order_text e.order
-
-abbrev pub initial_text : SceneValue → ℕ → List ℕ
-initial_text s x = codes "init " ++ location_text s x ++ codes "=" ++ decimal (slice_index_or s.graph.init x 0)
-
--- `R x=1 rlx`, `F sc` or `init x=0`
-unfoldable pub event_text : SceneValue → EventId → List ℕ
-event_text s (Initial x) = initial_text s x
-event_text s (Own k p) = access_text s (event_at s.graph k p).access (event_at s.graph k p)
+use Rattle.scenes.specs.declared.group.Group.{Group}
+use Rattle.scenes.specs.declared.group.Group.TheVariants.{InitialWrites, Threads}
+use Rattle.scenes.specs.Arrows.{arrows_of}
+use Rattle.scenes.specs.Naming.{SceneValue, members, name_of}
+use Rattle.scenes.specs.Telling.{called, event_text}
 
 -- LINES
 
 abbrev pub line : List ℕ → List ℕ
 line text = text ++ codes "\n"
-
--- the name of an event
-abbrev pub called : SceneValue → EventId → List ℕ
-called s e = name_of s.graph (number_of s.graph e)
 
 -- the thread of an event: `P0 `
 abbrev pub thread_text : EventId → List ℕ

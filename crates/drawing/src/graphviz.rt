@@ -4,14 +4,11 @@ ghost use Rattle.std.specs.Prelude.{◌≡◌, ◌++◌, IfOk, OnOk, flat_map, o
 ghost use Rattle.listings.specs.Lists.{tabulate};
 ghost use Rattle.drawing.specs.Dots as dots;
 
-use crate::arrows::{Arrow, Relation, arrows};
-use crate::bytes::{push_bytes, push_number, push_quoted};
 use crate::drawing::{Broken, Chain, Drawing, Step};
-use crate::event::push_event;
-use crate::group::Group;
 use crate::lines::{push_listed, push_title};
-use crate::scene::Scene;
+use crate::quoting::push_quoted;
 use events::EventId;
+use scenes::{Arrow, Group, Relation, Scene, push_bytes, push_number};
 use std::alloc::{AllocError, Global};
 
 /// Adds what the label of an event tells of it.
@@ -24,7 +21,7 @@ fn push_told(
     ensures { OnOk result (out.new.items ≡ out.old.items ++ dots.told scene.now event) }
 {
     let mut text = Vec::new(alloc);
-    push_event(scene, &mut text, event)?;
+    scene.push_event(&mut text, event)?;
     push_quoted(out, &text)
 }
 
@@ -254,7 +251,7 @@ fn push_relation(
 ) -> Result<(), AllocError>
     ensures { OnOk result (out.new.items ≡ out.old.items ++ dots.plain_lines scene.now (option_map (λ c. c.now) chain.entry) relation) }
 {
-    let arrows = arrows(alloc, scene, relation)?;
+    let arrows = scene.arrows(alloc, relation)?;
     for arrow in &arrows {
         push_plain(scene, out, chain, relation, *arrow)?;
     }
@@ -396,18 +393,25 @@ fn settings() -> &'static [u8]
     b"digraph {\n  labelloc=t\n  newrank=true\n  nodesep=1.0\n  ranksep=0.5\n  fontname=\"Helvetica\"\n  node [shape=box, fontname=\"Helvetica\"]\n  edge [fontname=\"Helvetica\"]\n"
 }
 
+/// Adds the whole file.
+#[tactic(auto, unfolding(crate::specs::Dots::Dot))]
+fn push_dot(alloc: Global, out: &mut Vec<u8>, drawing: &Drawing<'_>) -> Result<(), AllocError>
+    ensures { OnOk result (out.new.items ≡ out.old.items ++ dots.Dot drawing.now) }
+{
+    let scene = Scene::of(alloc, drawing.graph, drawing.locations)?;
+    push_bytes(out, settings())?;
+    push_heading(alloc, out, drawing)?;
+    push_events(alloc, &scene, out)?;
+    push_arrows(alloc, &scene, out, chain_of(&drawing.broken))?;
+    push_bytes(out, b"}\n")
+}
+
 /// The drawing as a file for Graphviz: a cluster for each thread, the initial writes in a row above them, the arrows of
 /// the relations, and those of the evidence in bold.
-#[tactic(auto, unfolding(crate::specs::Dots::Dot))]
 pub fn dot(alloc: Global, drawing: &Drawing<'_>) -> Result<Vec<u8>, AllocError>
     ensures { IfOk result (λ v. v.items ≡ dots.Dot drawing.now) }
 {
-    let scene = Scene::of(alloc, drawing.graph, drawing.locations)?;
     let mut out = Vec::new(alloc);
-    push_bytes(&mut out, settings())?;
-    push_heading(alloc, &mut out, drawing)?;
-    push_events(alloc, &scene, &mut out)?;
-    push_arrows(alloc, &scene, &mut out, chain_of(&drawing.broken))?;
-    push_bytes(&mut out, b"}\n")?;
+    push_dot(alloc, &mut out, drawing)?;
     Ok(out)
 }

@@ -1,15 +1,10 @@
 //! An execution as text, and as a file for Graphviz.
 #![tactic(auto)]
 
-mod arrows;
-mod bytes;
 mod drawing;
-mod event;
 mod graphviz;
-mod group;
 mod lines;
-mod names;
-mod scene;
+mod quoting;
 mod write;
 
 pub use drawing::{Broken, Chain, Drawing, Step};

@@ -3,13 +3,9 @@
 ghost use Rattle.std.specs.Prelude.{◌≡◌, ◌++◌, IfOk, OnOk, flat_map, option_map, codes};
 ghost use Rattle.drawing.specs.Texts as texts;
 
-use crate::arrows::{Arrow, Relation, arrows};
-use crate::bytes::{push_bytes, push_number, push_parts};
 use crate::drawing::{Broken, Chain, Drawing, Step};
-use crate::event::push_event;
-use crate::group::Group;
-use crate::scene::Scene;
 use events::EventId;
+use scenes::{Arrow, Group, Relation, Scene, push_bytes, push_number};
 use std::alloc::{AllocError, Global};
 use wb_text::Name;
 
@@ -35,7 +31,7 @@ fn push_line(scene: &Scene<'_>, out: &mut Vec<u8>, event: EventId) -> Result<(),
     scene.push_called(out, event)?;
     push_bytes(out, b": ")?;
     push_thread(out, event)?;
-    push_event(scene, out, event)?;
+    scene.push_event(out, event)?;
     push_bytes(out, b"\n")
 }
 
@@ -95,7 +91,7 @@ fn push_relation(
 ) -> Result<(), AllocError>
     ensures { OnOk result (out.new.items ≡ out.old.items ++ texts.relation_line scene.now relation) }
 {
-    let arrows = arrows(alloc, scene, relation)?;
+    let arrows = scene.arrows(alloc, relation)?;
     if arrows.is_empty() {
         return Ok(());
     }
@@ -105,12 +101,20 @@ fn push_relation(
     push_bytes(out, b"\n")
 }
 
-/// Adds the names behind others, each behind a comma.
+/// Adds a name behind a comma.
+fn push_other(out: &mut Vec<u8>, name: &Name) -> Result<(), AllocError>
+    ensures { OnOk result (out.new.items ≡ out.old.items ++ (codes "," ++ name.now)) }
+{
+    push_bytes(out, b",")?;
+    push_bytes(out, name.bytes())
+}
+
+/// Adds the names behind others.
 fn push_others(out: &mut Vec<u8>, names: &[Name]) -> Result<(), AllocError>
     ensures { OnOk result (out.new.items ≡ out.old.items ++ flat_map (λ m. codes "," ++ m) names.now) }
 {
     for name in names {
-        push_parts(out, &[b",", name.bytes()])?;
+        push_other(out, name)?;
     }
     Ok(())
 }
@@ -209,19 +213,27 @@ fn push_execution(alloc: Global, scene: &Scene<'_>, out: &mut Vec<u8>) -> Result
     push_relation(alloc, scene, out, Relation::Rmw)
 }
 
+/// Adds the whole text.
+#[tactic(auto, unfolding(crate::specs::Texts::Text))]
+fn push_text(alloc: Global, out: &mut Vec<u8>, drawing: &Drawing<'_>) -> Result<(), AllocError>
+    ensures { OnOk result (out.new.items ≡ out.old.items ++ texts.Text drawing.now) }
+{
+    let scene = Scene::of(alloc, drawing.graph, drawing.locations)?;
+    push_title(out, drawing)?;
+    push_bytes(out, b"\n")?;
+    push_execution(alloc, &scene, out)?;
+    match &drawing.broken {
+        Some(broken) => push_broken(&scene, out, broken),
+        None => Ok(()),
+    }
+}
+
 /// The drawing as text: a line for each event, a line for each relation that has a pair, and the check that is broken
 /// with its evidence.
-#[tactic(auto, unfolding(crate::specs::Texts::Text))]
 pub fn text(alloc: Global, drawing: &Drawing<'_>) -> Result<Vec<u8>, AllocError>
     ensures { IfOk result (λ v. v.items ≡ texts.Text drawing.now) }
 {
-    let scene = Scene::of(alloc, drawing.graph, drawing.locations)?;
     let mut out = Vec::new(alloc);
-    push_title(&mut out, drawing)?;
-    push_bytes(&mut out, b"\n")?;
-    push_execution(alloc, &scene, &mut out)?;
-    if let Some(broken) = &drawing.broken {
-        push_broken(&scene, &mut out, broken)?;
-    }
+    push_text(alloc, &mut out, drawing)?;
     Ok(out)
 }

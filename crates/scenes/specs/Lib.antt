@@ -1,0 +1,4 @@
+pub mod Arrows
+pub mod Examples
+pub mod Naming
+pub mod Telling
