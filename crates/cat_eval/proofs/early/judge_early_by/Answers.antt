@@ -1,4 +1,4 @@
-use Rattle.std.proofs.Common.{ℕ, Option, option_map, true, false, refl, ◌∙◌, arith, rules, map}
+use Rattle.std.proofs.Common.{ℕ, Option, option_map, true, false, refl, ◌∙◌, rules, map}
 use Rattle.cat_tree.specs.Tree.{Word}
 use Rattle.events.specs.Named.{event_count}
 use Rattle.cat_eval.specs.Code.{entries_of, planned_clause}
