@@ -34,7 +34,7 @@ pub struct Prepared {
     pub(crate) telling: usize,
     pub(crate) values: Vec<Value>,
     pub(crate) kept: Kept,
-    pub(crate) sourced: SourcedStructure,
+    pub(crate) sourced: Box<SourcedStructure>,
 }
 
 // A function of its own: whoever holds one drops it by a call.
