@@ -108,6 +108,7 @@ impl Rel {
     }
 
     /// Becomes the ends of each pair of the left one with a pair of the right one behind it.
+    #[inline(never)]
     pub fn become_seq(&mut self, left: &Self, right: &Self)
         requires { left.now.count ≡ right.now.count }
         ensures { IsExactly left.now.count (Through left.now.count (In left.now) (In right.now)) self.new }
@@ -166,11 +167,18 @@ impl Rel {
     }
 
     /// Becomes the ends of each nonempty chain.
+    #[inline(never)]
     pub fn become_plus(&mut self, of: &Self)
         ensures { IsExactly of.now.count (Chain (In of.now)) self.new }
     {
-        self.become_copy(of);
-        self.close();
+        self.fill(
+            of.count(),
+            |i|
+                requires from { i < of.now.count }
+                requires small { of.now.count ≤ 64 }
+                ensures { IsRow of.entry.now.count (Chain (In of.entry.now) i) result }
+            { of.reached(i) },
+        );
     }
 
     /// Becomes the ends of each chain, also of none.
