@@ -1,11 +1,11 @@
 -- The events that chains lead to from one event: each that is found is gone on from once.
-use Rattle.std.proofs.Common.{◌≡◌, ℕ, ◌<◌, ◌≤◌, ◌⊎◌, ◌≢◌, ◌+◌, ◌-◌, ◌*◌, ◌%◌, ◌^◌, true, sym, ◌∙◌, ap, subst, inl, inr, arith, bit_and, bit_or}
+use Rattle.std.proofs.Common.{◌≡◌, ℕ, ◌<◌, ◌≤◌, ◌⊎◌, ◌≢◌, ◌-◌, ◌*◌, ◌%◌, ◌^◌, true, sym, ◌∙◌, ap, subst, inl, inr, arith, bit_and, bit_or}
 use Rattle.std.specs.Int.{bit_not, w64, trailing_zeros}
 use Rattle.std.proofs.lemmas.Bool.{cases_eq}
 use lib.Bits.{and_le_r}
 use Rattle.relations.specs.Algebra.{Chain, one, more}
 use Rattle.relations.specs.Words.{has_bit, IsRow}
-use Rattle.relations.proofs.Words.{of_and_bit, and_bit, or_bit, of_or_bit, of_not_bit, not_bit, of_one_bit, zero_bit, mask_only, mask_bit, lowest_bit}
+use Rattle.relations.proofs.Words.{of_and_bit, and_bit, or_bit, of_or_bit, not_bit, of_one_bit, zero_bit, mask_only, mask_bit, lowest_bit}
 
 -- What is found leads from i, and holds where i leads and where those lead that have left `left`.
 pub record Reaches (n i left found : ℕ) (P : ℕ → ℕ → Type 0) : Type 0 where

@@ -1,15 +1,14 @@
 //! The operations that write over what a relation has: they touch the rows below the count alone, and copy nothing that they
 //! only read.
 
-ghost use Rattle.std.specs.Prelude.{◌≡◌, ℕ, ◌<◌, ◌≤◌, ◌⊎◌, ◌-◌, ◌^◌};
+ghost use Rattle.std.specs.Prelude.{◌≡◌, ℕ, ◌<◌, ◌≤◌, ◌⊎◌, true};
 ghost use Rattle.relations.specs.Events.{Has};
 ghost use Rattle.relations.specs.Relation.{In, IsExactly};
 ghost use Rattle.relations.specs.Algebra.{Through, Chain};
-ghost use Rattle.relations.specs.Words.{IsRow};
+ghost use Rattle.relations.specs.Words.{has_bit, IsRow};
 
 use crate::rel::Rel;
 use crate::set::Set;
-use crate::word::below;
 
 impl Rel {
     /// Becomes the relation without a pair.
@@ -114,14 +113,15 @@ impl Rel {
         requires { left.now.count ≡ right.now.count }
         ensures { IsExactly left.now.count (Through left.now.count (In left.now) (In right.now)) self.new }
     {
-        let mask = below(left.count());
+        let mask = right.leading();
         self.fill(
             left.count(),
             |i|
                 requires from { i < left.now.count }
                 requires small { left.now.count ≤ 64 }
                 requires counts { left.now.count ≡ right.now.count }
-                requires mask { mask ≡ 2 ^ left.now.count - 1 }
+                requires inside { (m : ℕ) → has_bit mask m ≡ true → m < right.now.count }
+                requires mask { (m j : ℕ) → In right.now m j → has_bit mask m ≡ true }
                 ensures { IsRow left.entry.now.count (λ j. Through left.entry.now.count (In left.entry.now) (In right.entry.now) i j) result }
             { right.image(left.row(i) & mask) },
         );
