@@ -4,6 +4,7 @@
 mod calls;
 mod drafting;
 mod early;
+mod ends;
 mod evaluator;
 mod flags;
 mod grading;

@@ -28,12 +28,13 @@ pub(crate) struct Stretch {
 pub struct Prepared {
     pub(crate) steps: Vec<Step>,
     pub(crate) bases: Vec<Basis>,
+    pub(crate) ends: Vec<usize>,
     pub(crate) stretches: Vec<Stretch>,
     pub(crate) growths: Vec<Growth>,
     pub(crate) telling: usize,
     pub(crate) values: Vec<Value>,
     pub(crate) kept: Kept,
-    pub(crate) sourced: SourcedStructure,
+    pub(crate) sourced: Box<SourcedStructure>,
 }
 
 // A function of its own: whoever holds one drops it by a call.
@@ -42,6 +43,7 @@ impl Drop for Prepared {
         let Prepared {
             steps: _,
             bases: _,
+            ends: _,
             stretches: _,
             growths: _,
             telling: _,
@@ -107,6 +109,7 @@ impl Prepared {
         let Prepared {
             steps,
             bases,
+            ends,
             stretches: _,
             growths,
             telling,
@@ -117,6 +120,7 @@ impl Prepared {
         Ok(Evaluator {
             steps,
             bases,
+            ends,
             items,
             growths,
             telling,

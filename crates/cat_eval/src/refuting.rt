@@ -52,6 +52,7 @@ pub(crate) fn refutes_by<'m>(
     view: &GraphView,
     steps: &[Step],
     bases: &[Basis],
+    ends: &[usize],
     growths: &[Growth],
     items: &[PlannedItem<'m>],
     count: usize,
@@ -70,10 +71,11 @@ pub(crate) fn refutes_by<'m>(
     ensures refuted { IsTrue result → (h : GraphValue) → Extends view.now h → ¬ Allowed (map planned_clause items.now) h }
 {
     laws::extension();
+    let mut made = 0;
     for number in 0..count {
         let item = &items[number];
-        let weighed = weigh(view, steps, bases, *kept, values, item);
-        *kept = kept.with(item.to);
+        let weighed = weigh(view, steps, bases, ends, *kept, values, &mut made, item);
+        *kept = kept.with(made);
         if !weighed.permits && tells(growths, item) {
             return true;
         }

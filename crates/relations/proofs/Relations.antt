@@ -7,7 +7,7 @@ use Rattle.relations.specs.Relation.{Relation, In, IsExactly, IsCanonical, IsWit
 use Rattle.relations.specs.TableFacts.{cell_square, square_below, square_again}
 use Rattle.relations.specs.Equality.{pair_below, one_relation}
 use Rattle.relations.specs.Words.{has_bit, bit, IsRow, BuildsRows, HasWay, Combines, CombinesRow}
-use Rattle.relations.proofs.Words.{bit_by_shift, row_or, row_one, row_told, row_at, row_way, empty_at}
+use Rattle.relations.proofs.Words.{bit_by_shift, row_or, row_one, row_told, row_at, row_way, empty_at, of_and_bit, and_bit}
 
 in_relation : (n : ℕ) (f : ℕ → ℕ → Bool) (i j : ℕ) → i < n → j < n → f i j ≡ true → In (relation n f) i j
 in_relation n f i j a b h = cell_square n f i j a b ∙ h
@@ -194,12 +194,12 @@ combines n m k R a b c r s e d q u h =
 pub combined_by : (n : ℕ) (P : ℕ → Type 0) (w v : ℕ) → w ≡ v → IsRow n P v → IsRow n P w
 combined_by n P w v e h = (let Q : ℕ → Type 0 = λ w. IsRow n P w in subst Q (sym e) h)
 
-pub through_row : (n m i w v : ℕ) (P Q : ℕ → ℕ → Type 0) → n ≡ m → IsRow n (P i) w → IsRow m (λ j. (k : ℕ) × (k < m) × (has_bit w k ≡ true) × Q k j) v →
+pub through_row : (n m i w mask v : ℕ) (P Q : ℕ → ℕ → Type 0) → n ≡ m → ((k j : ℕ) → Q k j → has_bit mask k ≡ true) → IsRow n (P i) w → IsRow m (λ j. (k : ℕ) × (k < m) × (has_bit (bit_and w mask) k ≡ true) × Q k j) v →
     IsRow n (λ j. (k : ℕ) × (k < n) × P i k × Q k j) v
-through_row n m i w v P Q e h g = record {
-  only = λ j l b. (let x : (k : ℕ) × (k < m) × (has_bit w k ≡ true) × Q k j = g.only j (omega (arith, l, e)) b in
-      let s : x.0 < n = omega (arith, x.1, e) in (x.0, s, h.only x.0 s x.2, x.3));
-  all = λ j l x. g.all j (omega (arith, l, e)) (x.0, omega (arith, x.1, e), h.all x.0 x.1 x.2, x.3);
+through_row n m i w mask v P Q e f h g = record {
+  only = λ j l b. (let x : (k : ℕ) × (k < m) × (has_bit (bit_and w mask) k ≡ true) × Q k j = g.only j (omega (arith, l, e)) b in
+      let s : x.0 < n = omega (arith, x.1, e) in (x.0, s, h.only x.0 s (of_and_bit w mask x.0 x.2).0, x.3));
+  all = λ j l x. g.all j (omega (arith, l, e)) (x.0, omega (arith, x.1, e), and_bit w mask x.0 (h.all x.0 x.1 x.2) (f x.0 j x.3), x.3);
 }
 
 pub relation_at : (n k m : ℕ) (P : ℕ → ℕ → Type 0) (rows : List ℕ) → k ≡ m → m ≡ n → ((i : ℕ) → i < n → IsRow n (P i) (get_or rows i 0)) → IsExactly n P (relation k (bit rows))

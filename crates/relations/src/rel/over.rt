@@ -1,11 +1,11 @@
 //! The operations that write over what a relation has: they touch the rows below the count alone, and copy nothing that they
 //! only read.
 
-ghost use Rattle.std.specs.Prelude.{◌≡◌, ℕ, ◌<◌, ◌≤◌, ◌⊎◌};
+ghost use Rattle.std.specs.Prelude.{◌≡◌, ℕ, ◌<◌, ◌≤◌, ◌⊎◌, true};
 ghost use Rattle.relations.specs.Events.{Has};
 ghost use Rattle.relations.specs.Relation.{In, IsExactly};
 ghost use Rattle.relations.specs.Algebra.{Through, Chain};
-ghost use Rattle.relations.specs.Words.{IsRow};
+ghost use Rattle.relations.specs.Words.{has_bit, IsRow};
 
 use crate::rel::Rel;
 use crate::set::Set;
@@ -108,18 +108,22 @@ impl Rel {
     }
 
     /// Becomes the ends of each pair of the left one with a pair of the right one behind it.
+    #[inline(never)]
     pub fn become_seq(&mut self, left: &Self, right: &Self)
         requires { left.now.count ≡ right.now.count }
         ensures { IsExactly left.now.count (Through left.now.count (In left.now) (In right.now)) self.new }
     {
+        let mask = right.leading();
         self.fill(
             left.count(),
             |i|
                 requires from { i < left.now.count }
                 requires small { left.now.count ≤ 64 }
                 requires counts { left.now.count ≡ right.now.count }
+                requires inside { (m : ℕ) → has_bit mask m ≡ true → m < right.now.count }
+                requires mask { (m j : ℕ) → In right.now m j → has_bit mask m ≡ true }
                 ensures { IsRow left.entry.now.count (λ j. Through left.entry.now.count (In left.entry.now) (In right.entry.now) i j) result }
-            { right.image(left.row(i)) },
+            { right.image(left.row(i) & mask) },
         );
     }
 
@@ -166,11 +170,18 @@ impl Rel {
     }
 
     /// Becomes the ends of each nonempty chain.
+    #[inline(never)]
     pub fn become_plus(&mut self, of: &Self)
         ensures { IsExactly of.now.count (Chain (In of.now)) self.new }
     {
-        self.become_copy(of);
-        self.close();
+        self.fill(
+            of.count(),
+            |i|
+                requires from { i < of.now.count }
+                requires small { of.now.count ≤ 64 }
+                ensures { IsRow of.entry.now.count (Chain (In of.entry.now) i) result }
+            { of.reached(i) },
+        );
     }
 
     /// Becomes the ends of each chain, also of none.

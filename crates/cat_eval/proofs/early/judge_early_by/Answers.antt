@@ -1,4 +1,4 @@
-use Rattle.std.proofs.Common.{ℕ, Option, option_map, true, false, refl, ◌∙◌, arith, rules, map}
+use Rattle.std.proofs.Common.{ℕ, Option, option_map, true, false, refl, ◌∙◌, rules, map}
 use Rattle.cat_tree.specs.Tree.{Word}
 use Rattle.events.specs.Named.{event_count}
 use Rattle.cat_eval.specs.Code.{entries_of, planned_clause}
@@ -7,6 +7,7 @@ use Rattle.cat_eval.specs.CoreJudging.{Names, Permits, RaisedBy}
 use Rattle.cat_eval.specs.Judging.{Allowed, Raised}
 use Rattle.cat_eval.proofs.Lawful.{forbidden_is, no_flag_told, kept, flag_told, all_told}
 use Rattle.cat_eval.proofs.Held.{holds_more}
+use Rattle.cat_eval.proofs.Running.{ran_none}
 use Rattle.cat_eval.proofs.Reaching.{reached_none, reached_next, reached_more, reached_done, forbidden_at}
 use Rattle.cat_eval.proofs.early.judge_early_by.Goals as goal
 
@@ -23,11 +24,10 @@ weigh-weighed-requires-clause-steps c =
     (reached_next c.args.view.now c.args.steps.now c.args.items.now c.loop-item.values c.loop-item.item-index true c.loop-item.flags.items c.item-item.result c.loop-item.invariant.reached c.loop-item-test.true c.item-item.is).inside
 
 pub weigh-weighed-requires-clause-values : goal.weigh-weighed-requires-clause-values
-weigh-weighed-requires-clause-values c =
-    let a =
-    (reached_next c.args.view.now c.args.steps.now c.args.items.now c.loop-item.values c.loop-item.item-index true c.loop-item.flags.items c.item-item.result c.loop-item.invariant.reached c.loop-item-test.true c.item-item.is).inside in
-    let b = c.loop-item.invariant.long in
-    omega (arith, a, b)
+weigh-weighed-requires-clause-values c = c.loop-item.invariant.long
+
+pub weigh-weighed-requires-clause-made : goal.weigh-weighed-requires-clause-made
+weigh-weighed-requires-clause-made c = c.loop-item.invariant.made
 
 pub weigh-weighed-requires-clause-ran : goal.weigh-weighed-requires-clause-ran
 weigh-weighed-requires-clause-ran c =
@@ -52,7 +52,8 @@ loop-item-preserved c =
     let raised = c.weigh-weighed.ensures.raised c.loop-item.invariant.reached.names next.item_core next.is_core next.below next.ready in
     record {
       long = c.weigh-weighed.ensures.length ∙ c.loop-item.invariant.long;
-      holds = holds_more c.args.view.now c.args.steps.now c.args.bases.now c.loop-item.kept c.with.result c.weigh-weighed.new.values c.item-item.result.to c.with.ensures.order c.with.ensures.runs c.with.ensures.sources c.weigh-weighed.ensures.ran c.weigh-weighed.ensures.holds;
+      made = c.weigh-weighed.ensures.made;
+      holds = holds_more c.args.view.now c.args.steps.now c.args.bases.now c.loop-item.kept c.with.result c.weigh-weighed.new.values c.weigh-weighed.new.made c.with.ensures.order c.with.ensures.runs c.with.ensures.sources c.weigh-weighed.ensures.made c.weigh-weighed.ensures.holds;
       reached = reached_more c.args.view.now c.args.steps.now c.args.items.now c.loop-item.values c.weigh-weighed.new.values c.loop-item.item-index true true c.loop-item.flags.items c.add_raised.new.names.items
           c.item-item.result c.loop-item.invariant.reached next c.weigh-weighed.ensures.same c.weigh-weighed.ensures.ran (c.weigh-weighed.ensures.binds c.loop-item.invariant.reached.names next.item_core next.is_core next.below next.ready)
           (kept true c.weigh-weighed.result.permits true (Permits n E next.item_core) c.if-not-weighed.false refl permits)
@@ -75,11 +76,11 @@ returns-then-not-weighed-clause-flags c =
 
 pub returns-then-not-weighed-clause-holds : goal.returns-then-not-weighed-clause-holds
 returns-then-not-weighed-clause-holds c =
-    holds_more c.args.view.now c.args.steps.now c.args.bases.now c.loop-item.kept c.with.result c.weigh-weighed.new.values c.item-item.result.to c.with.ensures.order c.with.ensures.runs c.with.ensures.sources c.weigh-weighed.ensures.ran c.weigh-weighed.ensures.holds
+    holds_more c.args.view.now c.args.steps.now c.args.bases.now c.loop-item.kept c.with.result c.weigh-weighed.new.values c.weigh-weighed.new.made c.with.ensures.order c.with.ensures.runs c.with.ensures.sources c.weigh-weighed.ensures.made c.weigh-weighed.ensures.holds
 
 pub returns-in_err-add_raised-clause-holds : goal.returns-in_err-add_raised-clause-holds
 returns-in_err-add_raised-clause-holds c =
-    holds_more c.args.view.now c.args.steps.now c.args.bases.now c.loop-item.kept c.with.result c.weigh-weighed.new.values c.item-item.result.to c.with.ensures.order c.with.ensures.runs c.with.ensures.sources c.weigh-weighed.ensures.ran c.weigh-weighed.ensures.holds
+    holds_more c.args.view.now c.args.steps.now c.args.bases.now c.loop-item.kept c.with.result c.weigh-weighed.new.values c.weigh-weighed.new.made c.with.ensures.order c.with.ensures.runs c.with.ensures.sources c.weigh-weighed.ensures.made c.weigh-weighed.ensures.holds
 
 pub weigh-weighed-requires-clause-graded : goal.weigh-weighed-requires-clause-graded
 weigh-weighed-requires-clause-graded c = c.requires.graded
@@ -90,6 +91,7 @@ add_raised-requires c = c.loop-item.invariant.reached.so_far.once
 pub loop-item-init : goal.loop-item-init
 loop-item-init c = record {
   long = c.requires.values;
+  made = ran_none c.args.view.now c.args.steps.now c.args.values.now;
   holds = c.requires.holds;
   reached = reached_none c.args.view.now c.args.steps.now c.args.items.now c.args.values.now c.new-flags.result.items c.requires.plan c.requires.model c.new-flags.ensures.items;
 }

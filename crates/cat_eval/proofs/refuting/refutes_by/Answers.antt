@@ -1,11 +1,13 @@
 use Rattle.std.proofs.Common.{◌∙◌, arith}
 use Rattle.cat_eval.proofs.Held.{holds_more}
+use Rattle.cat_eval.proofs.Running.{ran_none}
 use Rattle.cat_eval.proofs.Refuted.{standing_none, standing_next, standing_more, refuted_at}
 use Rattle.cat_eval.proofs.refuting.refutes_by.Goals as goal
 
 pub loop-number-init : goal.loop-number-init
 loop-number-init c = record {
   long = c.requires.values;
+  made = ran_none c.args.view.now c.args.steps.now c.args.values.now;
   holds = c.requires.holds;
   standing = standing_none c.args.view.now c.args.steps.now c.args.items.now c.args.growths.now c.args.values.now c.extension.ensures.sets c.extension.ensures.stay c.extension.ensures.grow c.requires.plan c.requires.model;
 }
@@ -21,10 +23,11 @@ weigh-weighed-requires c =
       start = next.start;
       order = next.order;
       steps = i;
-      values = omega (arith, i, m);
+      values = m;
       graded = c.requires.graded;
       holds = c.loop-number.invariant.holds;
       ran = next.ran;
+      made = c.loop-number.invariant.made;
       ready = (c.loop-number.invariant.standing.names, next.item_core, next.is_core, next.below, next.ready);
     }
 
@@ -36,14 +39,15 @@ loop-number-preserved c =
     let next = standing_next c.args.view.now c.args.steps.now c.args.items.now c.args.growths.now c.loop-number.values c.loop-number.number c.index-items-number.result r (omega (arith, l, n)) c.index-items-number.is in
     record {
       long = c.weigh-weighed.ensures.length ∙ c.loop-number.invariant.long;
-      holds = holds_more c.args.view.now c.args.steps.now c.args.bases.now c.loop-number.kept c.with.result c.weigh-weighed.new.values c.index-items-number.result.to c.with.ensures.order c.with.ensures.runs c.with.ensures.sources c.weigh-weighed.ensures.ran c.weigh-weighed.ensures.holds;
+      made = c.weigh-weighed.ensures.made;
+      holds = holds_more c.args.view.now c.args.steps.now c.args.bases.now c.loop-number.kept c.with.result c.weigh-weighed.new.values c.weigh-weighed.new.made c.with.ensures.order c.with.ensures.runs c.with.ensures.sources c.weigh-weighed.ensures.made c.weigh-weighed.ensures.holds;
       standing = standing_more c.args.view.now c.args.steps.now c.args.items.now c.args.growths.now c.loop-number.values c.weigh-weighed.new.values c.loop-number.number c.index-items-number.result r next c.requires.grown (omega (arith, l, n)) c.index-items-number.is
           c.weigh-weighed.ensures.same c.weigh-weighed.ensures.ran (c.weigh-weighed.ensures.binds r.names next.item_core next.is_core next.below next.ready);
     }
 
 pub returns-then-tells-clause-holds : goal.returns-then-tells-clause-holds
 returns-then-tells-clause-holds c =
-    holds_more c.args.view.now c.args.steps.now c.args.bases.now c.loop-number.kept c.with.result c.weigh-weighed.new.values c.index-items-number.result.to c.with.ensures.order c.with.ensures.runs c.with.ensures.sources c.weigh-weighed.ensures.ran c.weigh-weighed.ensures.holds
+    holds_more c.args.view.now c.args.steps.now c.args.bases.now c.loop-number.kept c.with.result c.weigh-weighed.new.values c.weigh-weighed.new.made c.with.ensures.order c.with.ensures.runs c.with.ensures.sources c.weigh-weighed.ensures.made c.weigh-weighed.ensures.holds
 
 pub returns-then-tells-clause-refuted : goal.returns-then-tells-clause-refuted
 returns-then-tells-clause-refuted c =
