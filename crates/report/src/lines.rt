@@ -93,7 +93,11 @@ fn push_binding(line: &mut Line, label: &[u8], value: u32) -> Result<(), Capacit
 }
 
 /// Makes the line of a state.
-pub(crate) fn make_line(line: &mut Line, labels: &[Label], values: &[u32]) -> Result<(), CapacityError>
+pub(crate) fn make_line(
+    line: &mut Line,
+    labels: &[Label],
+    values: &[u32],
+) -> Result<(), CapacityError>
     ensures { OnOk result (line.new.items ≡ labelled (map (λ l. l.items) labels.now) values.now ++ codes "\n") }
 {
     line.clear();

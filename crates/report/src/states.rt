@@ -146,4 +146,3 @@ fn write_binding<W: Sink>(
     write_atom(place, value, writer)?;
     write_bytes(b";", writer)
 }
-

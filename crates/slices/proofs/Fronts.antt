@@ -58,7 +58,7 @@ both_told : (n a x y : ℕ) (xs ys : List ℕ) → with_digits n (16 * a + (x + 
     → ordering_then (nat_cmp x y) (slice_cmp nat_cmp xs ys) ≡ Less
 both_told n a x y xs ys h rest = elim (cases_order x y) [
   | inl e ↦ by_rest (nat_cmp x y) (slice_cmp nat_cmp xs ys) (same_value x y e)
-    (rest (let P : ℕ → Type 0 = λ z. with_digits n (16 * a + (x + 1)) xs < with_digits n (16 * a + (z + 1)) ys in subst P (sym e) h))
+      (rest (let P : ℕ → Type 0 = λ z. with_digits n (16 * a + (x + 1)) xs < with_digits n (16 * a + (z + 1)) ys in subst P (sym e) h))
   | inr p ↦ elim p [
     | inl l ↦ by_first (nat_cmp x y) (slice_cmp nat_cmp xs ys) (lower x y l)
     | inr l ↦ absurd (not_below n (16 * a + (x + 1)) (16 * a + (y + 1)) xs ys (omega (arith, l)) h)
