@@ -105,8 +105,8 @@ fn fitting(init: &[u32], page: &Page, read: &Event, first: u64, sources: u64) ->
     sources
 }
 
-/// How far behind the first number by which a read reads from this source a number is, or nothing where it is before that: the number is `rest` behind the first of those
-/// by which the read reads from `first`.
+/// How far a number is into those by which a read reads from this source: `rest` tells how far it is into all of the read's, and it reads from
+/// `first` by it. Where the source is a later one, it is not yet there.
 fn rest_behind(first: u64, source: u64, rest: u64, below: u64) -> u64
     requires { 1 ≤ below }
     ensures { result ≡ (if nat_lt first source then 0 else rest % below) }
@@ -117,7 +117,7 @@ fn rest_behind(first: u64, source: u64, rest: u64, below: u64) -> u64
     rest % below
 }
 
-/// How the reads fit, where the first number from this one on by which they do is another.
+/// How reads fit by this number, where `next` is the first from it on by which they do.
 fn fit_of(number: u64, next: u64) -> Fit
     ensures { result ≡ (if number == next then Whole else Until next) }
 {
@@ -127,8 +127,8 @@ fn fit_of(number: u64, next: u64) -> Fit
     Fit::Until(next)
 }
 
-/// Whether by this number each read has the value of what it reads from. Else up to which number a read has another
-/// value: up to the first by which none has, as far as the reads before one that fits no source read from the same writes.
+/// Whether by this number each read has the value of what it reads from. Else up to which number some read has another value: up to the first by
+/// which each has its own, unless a read finds its value in no source; then up to the first by which the reads before it read otherwise.
 fn compare(init: &[u32], page: &Page, reads: &[Event], number: u64) -> Fit
     requires page { IsPage (length init.now) page.now }
     requires reads { reads.now ≡ page.now.reads.items }
