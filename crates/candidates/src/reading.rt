@@ -1,6 +1,6 @@
 //! What the reads read from, by numbers, and whether it has their values.
 
-ghost use Rattle.std.specs.Prelude.{◌≡◌, ◌<◌, ◌≤◌, ◌/◌, ◌%◌, ◌==◌, ◌∷◌, ℕ, suc, length, slice_index_or, nat_lt, true, false, Some, IfOk, IfSome, if◌then◌else◌};
+ghost use Rattle.std.specs.Prelude.{◌≡◌, ◌<◌, ◌≤◌, ◌+◌, ◌*◌, ◌^◌, ◌/◌, ◌%◌, ◌==◌, ◌∷◌, ℕ, suc, length, slice_index_or, nat_lt, true, false, Some, IfOk, IfSome, if◌then◌else◌};
 ghost use Rattle.events.specs.declared.event.EventId.TheVariants.{Initial};
 ghost use Rattle.candidates.specs.Executions.{block};
 ghost use Rattle.candidates.specs.Candidates.{candidate, count_sources, is_consistent, rf_at, source_at, write_value};
@@ -90,7 +90,7 @@ fn value_from(init: &[u32], page: &Page, read: &Event, place: u64) -> u32
 /// The first source of a read, from this one on, that has the read's value; or the number of its sources if none has.
 fn fitting(init: &[u32], page: &Page, read: &Event, first: u64, sources: u64) -> u64
     requires page { IsReadOf page.now read.now }
-    requires first { first < sources }
+    requires first { first ≤ sources }
     requires sources { sources ≡ count_sources page.now.runs.items read.now }
     ensures from { first ≤ result }
     ensures within { result ≤ sources }
@@ -117,6 +117,17 @@ fn rest_behind(first: u64, source: u64, rest: u64, below: u64) -> u64
     rest % below
 }
 
+/// The first number by which a read reads from its next source that has its value, if it has one, else another.
+fn other_start(start: u64, next: u64, sources: u64, below: u64, other: u64) -> u64
+    requires { start + next * below < 2 ^ 64 }
+    ensures { result ≡ (if nat_lt next sources then start + next * below else other) }
+{
+    if next < sources {
+        return start + next * below;
+    }
+    other
+}
+
 /// How reads fit by this number, where `next` is the first from it on by which they do.
 fn fit_of(number: u64, next: u64) -> Fit
     ensures { result ≡ (if number == next then Whole else Until next) }
@@ -128,25 +139,29 @@ fn fit_of(number: u64, next: u64) -> Fit
 }
 
 /// Whether by this number each read has the value of what it reads from. Else up to which number some read has another value: up to the first by
-/// which each has its own, unless a read finds its value in no source; then up to the first by which the reads before it read otherwise.
+/// which each has its own, unless a read finds its value in no source; then up to the first by which one before it has its own from a later source.
 fn compare(init: &[u32], page: &Page, reads: &[Event], number: u64) -> Fit
     requires page { IsPage (length init.now) page.now }
     requires reads { reads.now ≡ page.now.reads.items }
     requires number { number < page.now.ways }
     ensures { IsFit init.now page.now.runs.items reads.now number result }
 {
-    // The first number by which the reads so far read as they do, how far behind it the number is, and in how many ways the others can read.
+    // The first number by which the reads so far read as they do, how far behind it the number is, in how many ways the others can read, and
+    // the first number behind these by which each of the reads so far has its value.
     let mut start = 0;
     let mut rest = number;
     let mut ways = page.ways;
+    let mut other = page.ways;
     for read in reads {
         let sources = sources_of(page, read);
         let below = ways / sources;
         let first = rest / below;
         let fit = fitting(init, page, read, first, sources);
         if fit >= sources {
-            return Fit::Until(start + ways);
+            return Fit::Until(other);
         }
+        let next = fitting(init, page, read, fit + 1, sources);
+        other = other_start(start, next, sources, below, other);
         start += fit * below;
         rest = rest_behind(first, fit, rest, below);
         ways = below;

@@ -1,4 +1,5 @@
-use Rattle.std.proofs.Common.{◌≡◌, ◌∙◌, ◌<◌, ◌/◌, ◌+◌, length, ap, subst, arith}
+use Rattle.std.proofs.Common.{◌≡◌, ◌∙◌, ◌<◌, ◌/◌, ◌+◌, ◌≤◌, nat_lt, length, ap, subst, arith}
+use Rattle.candidates.specs.Candidates.{count_sources}
 use Rattle.candidates.proofs.Fitting.{Misses, can_fit, stands_on, stands_until}
 use Rattle.candidates.proofs.Listed.{placed}
 use Rattle.candidates.proofs.Sources.{ways_from}
@@ -18,31 +19,42 @@ fitting-fit-requires-clause-page c = (
   placed (length c.args.init.now) c.args.page.now.runs.items c.args.reads.now c.loop-read.read-index c.read-item.result c.requires.page.within (c.requires.reads ∙ c.requires.page.reads_are) c.loop-read-test.true c.read-item.is,
 )
 
+pub fitting-next-requires-clause-page : goal.fitting-next-requires-clause-page
+fitting-next-requires-clause-page c = (
+  length c.args.init.now,
+  c.requires.page,
+  placed (length c.args.init.now) c.args.page.now.runs.items c.args.reads.now c.loop-read.read-index c.read-item.result c.requires.page.within (c.requires.reads ∙ c.requires.page.reads_are) c.loop-read-test.true c.read-item.is,
+)
+
 pub fitting-fit-requires-clause-first : goal.fitting-fit-requires-clause-first
 fitting-fit-requires-clause-first c =
     let at = c.loop-read in
-    let can = can_fit c.args.init.now c.args.page.now.runs.items c.args.reads.now c.args.number at.read-index at.start at.rest at.ways c.read-item.result c.loop-read-test.true c.read-item.is at.invariant in
+    let can = can_fit c.args.init.now c.args.page.now.runs.items c.args.reads.now c.args.number at.read-index at.start at.rest at.ways at.other c.read-item.result c.loop-read-test.true c.read-item.is at.invariant in
     let below : at.ways / c.sources_of-sources.result ≡ ways_from c.args.page.now.runs.items c.args.reads.now (at.read-index + 1) = ap (λ n. at.ways / n) c.sources_of-sources.ensures ∙ can.0 in
-    rw (below, c.sources_of-sources.ensures) can.2
+    let low = can.2 in
+    rw (below, c.sources_of-sources.ensures) (omega (arith, low))
 
 pub returns-then-fit-sources : goal.returns-then-fit-sources
 returns-then-fit-sources c =
     let at = c.loop-read in
     let runs = c.args.page.now.runs.items in
-    let can = can_fit c.args.init.now runs c.args.reads.now c.args.number at.read-index at.start at.rest at.ways c.read-item.result c.loop-read-test.true c.read-item.is at.invariant in
+    let can = can_fit c.args.init.now runs c.args.reads.now c.args.number at.read-index at.start at.rest at.ways at.other c.read-item.result c.loop-read-test.true c.read-item.is at.invariant in
     let below : at.ways / c.sources_of-sources.result ≡ ways_from runs c.args.reads.now (at.read-index + 1) = ap (λ n. at.ways / n) c.sources_of-sources.ensures ∙ can.0 in
     let misses = subst (λ p. Misses c.args.init.now runs c.read-item.result (at.rest / p) c.fitting-fit.result) below c.fitting-fit.ensures.none in
-    stands_until c.args.init.now runs c.args.reads.now c.args.number at.read-index at.start at.rest at.ways c.fitting-fit.result c.read-item.result c.loop-read-test.true c.read-item.is
+    stands_until c.args.init.now runs c.args.reads.now c.args.number at.read-index at.start at.rest at.ways at.other c.fitting-fit.result c.read-item.result c.loop-read-test.true c.read-item.is
     (omega (arith, c.fitting-fit.ensures.within, c.if-fit-sources.true, c.sources_of-sources.ensures)) misses at.invariant
 
 pub loop-read-preserved : goal.loop-read-preserved
 loop-read-preserved c =
     let at = c.loop-read in
     let runs = c.args.page.now.runs.items in
-    let can = can_fit c.args.init.now runs c.args.reads.now c.args.number at.read-index at.start at.rest at.ways c.read-item.result c.loop-read-test.true c.read-item.is at.invariant in
+    let can = can_fit c.args.init.now runs c.args.reads.now c.args.number at.read-index at.start at.rest at.ways at.other c.read-item.result c.loop-read-test.true c.read-item.is at.invariant in
     let below : at.ways / c.sources_of-sources.result ≡ ways_from runs c.args.reads.now (at.read-index + 1) = ap (λ n. at.ways / n) c.sources_of-sources.ensures ∙ can.0 in
     let less : c.fitting-fit.result < c.sources_of-sources.result = omega (arith, c.if-fit-sources.false) in
-    rw c.rest_behind-rest.ensures (
-    stands_on c.args.init.now runs c.args.reads.now c.args.number at.read-index at.start at.rest at.ways c.fitting-fit.result (at.ways / c.sources_of-sources.result) c.read-item.result c.loop-read-test.true c.read-item.is
-    below (omega (arith, less, c.sources_of-sources.ensures)) c.fitting-fit.ensures.from c.fitting-fit.ensures.none (c.fitting-fit.ensures.found less) at.invariant
+    let few : c.fitting-fit.result < count_sources runs c.read-item.result = omega (arith, less, c.sources_of-sources.ensures) in
+    let within : c.fitting-next.result ≤ count_sources runs c.read-item.result = omega (arith, c.fitting-next.ensures.within, c.sources_of-sources.ensures) in
+    let up : c.fitting-fit.result < c.fitting-next.result = omega (arith, c.fitting-next.ensures.from) in
+    rw (c.rest_behind-rest.ensures, c.other_start-other.ensures, ap (nat_lt c.fitting-next.result) c.sources_of-sources.ensures) (
+    stands_on c.args.init.now runs c.args.reads.now c.args.number at.read-index at.start at.rest at.ways at.other c.fitting-fit.result c.fitting-next.result (at.ways / c.sources_of-sources.result) c.read-item.result c.loop-read-test.true c.read-item.is
+    below few c.fitting-fit.ensures.from c.fitting-fit.ensures.none (c.fitting-fit.ensures.found less) up within c.fitting-next.ensures.none at.invariant
     )
