@@ -7,12 +7,17 @@ pub mod Cutting
 pub mod Deeper
 pub mod Descent
 pub mod Excluded
+pub mod Fitting
 pub mod Gathered
 pub mod Graphs
 pub mod Grouping
 pub mod Kept
 pub mod Law
+pub mod Like
+pub mod Listed
 pub mod Marking
+pub mod Moves
+pub mod Orders
 pub mod Passed
 pub mod Passing
 pub mod Puts
@@ -26,7 +31,3 @@ pub mod Stretches
 pub mod Tallies
 pub mod Walked
 pub mod Writing
-pub mod Listed
-pub mod Moves
-pub mod Orders
-pub mod Like

@@ -12,7 +12,7 @@ use Rattle.candidates.specs.Candidates.{count_sources, source_at, write_value, a
 use Rattle.candidates.specs.Readings.{read_at}
 use Rattle.candidates.proofs.Caps.{product_drop, product_positive, sources_positive}
 
-different : (a b : ℕ) → a ≢ b → (a == b) ≡ false
+pub different : (a b : ℕ) → a ≢ b → (a == b) ≡ false
 different a b ne = elim (cases_Bool (a == b)) [ inl t ↦ absurd (ne (eqb-true a b t)) | inr f ↦ f ]
 
 next : (rs : List Event) (i : ℕ) (r : Event) → i < length rs → r ≡ get_or rs i r → drop i rs ≡ r ∷ drop (i + 1) rs
@@ -22,7 +22,7 @@ next rs i r l e = rw (add-one, drop-cons rs i r) (ap (λ (x : Event). x ∷ drop
 abbrev pub ways_from : List ThreadRun → List Event → ℕ → ℕ
 ways_from runs rs i = product_by (count_sources runs) (drop i rs)
 
-some_ways : (runs : List ThreadRun) (rs : List Event) (i : ℕ) → 1 ≤ ways_from runs rs i
+pub some_ways : (runs : List ThreadRun) (rs : List Event) (i : ℕ) → 1 ≤ ways_from runs rs i
 some_ways runs rs i = product_positive (count_sources runs) (sources_positive runs) (drop i rs)
 
 -- The reads before place i have read from rf, which fits; the number `rest` of `below` is left for the others.
@@ -52,7 +52,7 @@ read_next runs rs i d j r l e b =
     let m : (d * p + j) % p ≡ j = mod-mul-add d p j b in
     ap (λ (xs : List Event). read_at runs xs (d * p + j)) (next rs i r l e) ∙ rw (q, m) refl
 
-agree_next : (init : List ℕ) (runs : List ThreadRun) (rs : List Event) (i d j : ℕ) (r : Event) → i < length rs → r ≡ get_or rs i r → j < ways_from runs rs (i + 1) → agree init runs (drop i rs) (read_at runs (drop i rs) (d * ways_from runs rs (i + 1) + j)) ≡ ((write_value init runs (source_at runs r d) == r.value) && agree init runs (drop (i + 1) rs) (read_at runs (drop (i + 1) rs) j))
+pub agree_next : (init : List ℕ) (runs : List ThreadRun) (rs : List Event) (i d j : ℕ) (r : Event) → i < length rs → r ≡ get_or rs i r → j < ways_from runs rs (i + 1) → agree init runs (drop i rs) (read_at runs (drop i rs) (d * ways_from runs rs (i + 1) + j)) ≡ ((write_value init runs (source_at runs r d) == r.value) && agree init runs (drop (i + 1) rs) (read_at runs (drop (i + 1) rs) j))
 agree_next init runs rs i d j r l e b =
     ap (λ (xs : List Event). agree init runs xs (read_at runs (drop i rs) (d * ways_from runs rs (i + 1) + j))) (next rs i r l e)
     ∙ ap (λ (ws : List EventId). agree init runs (r ∷ drop (i + 1) rs) ws) (read_next runs rs i d j r l e b)
@@ -64,7 +64,7 @@ pub record IsSplit (rest n p : ℕ) : Type 0 where
   pub small : rest % p < p
   pub next : rest / p * p + p ≤ n * p
 
-split : (rest n p : ℕ) → 1 ≤ p → rest < n * p → IsSplit rest n p
+pub split : (rest n p : ℕ) → 1 ≤ p → rest < n * p → IsSplit rest n p
 split rest n p s l =
     let z : 0 < p = omega (arith, s) in
     let d : rest / p < n = div_below rest p n z l in

@@ -1,9 +1,10 @@
 //! What the reads read from, by numbers, and whether it has their values.
 
-ghost use Rattle.std.specs.Prelude.{◌≡◌, ◌<◌, ◌≤◌, ◌/◌, ◌%◌, ◌∷◌, ℕ, suc, length, slice_index_or, true, Some, IfOk, IfSome};
+ghost use Rattle.std.specs.Prelude.{◌≡◌, ◌<◌, ◌≤◌, ◌+◌, ◌*◌, ◌^◌, ◌/◌, ◌%◌, ◌==◌, ◌∷◌, ℕ, suc, length, slice_index_or, nat_lt, true, false, Some, IfOk, IfSome, if◌then◌else◌};
 ghost use Rattle.events.specs.declared.event.EventId.TheVariants.{Initial};
 ghost use Rattle.candidates.specs.Executions.{block};
-ghost use Rattle.candidates.specs.Candidates.{candidate, count_sources, is_consistent, rf_at, source_at};
+ghost use Rattle.candidates.specs.Candidates.{candidate, count_sources, is_consistent, rf_at, source_at, write_value};
+ghost use Rattle.candidates.specs.declared.reading.Fit.TheVariants.{Whole, Until};
 ghost use Rattle.candidates.specs.Readings.{IsFit, IsLook, IsPage, IsReadOf, read_at};
 
 use crate::assembly::write_value;
@@ -68,25 +69,104 @@ pub(crate) enum Fit {
     Until(u64),
 }
 
-/// Whether by this number each read has the value of what it reads from. Else up to which number a read has another
-/// value: all those numbers by which the reads up to it read from the same writes.
+/// How many sources a read has.
+fn sources_of(page: &Page, read: &Event) -> u64
+    requires { IsReadOf page.now read.now }
+    ensures { result ≡ count_sources page.now.runs.items read.now }
+{
+    page.writes_to(read.loc).len() as u64 + 1
+}
+
+/// The value of a source of a read.
+fn value_from(init: &[u32], page: &Page, read: &Event, place: u64) -> u32
+    requires page { IsReadOf page.now read.now }
+    requires place { place < count_sources page.now.runs.items read.now }
+    ensures { result ≡ write_value init.now page.now.runs.items (source_at page.now.runs.items read.now place) }
+{
+    let later = page.writes_to(read.loc);
+    write_value(init, &page.runs, source(read.loc, later, place as usize))
+}
+
+/// The first source of a read, from this one on, that has the read's value; or the number of its sources if none has.
+fn fitting(init: &[u32], page: &Page, read: &Event, first: u64, sources: u64) -> u64
+    requires page { IsReadOf page.now read.now }
+    requires first { first ≤ sources }
+    requires sources { sources ≡ count_sources page.now.runs.items read.now }
+    ensures from { first ≤ result }
+    ensures within { result ≤ sources }
+    ensures none { (d : ℕ) → first ≤ d → d < result → (write_value init.now page.now.runs.items (source_at page.now.runs.items read.now d) == read.now.value) ≡ false }
+    ensures found { result < sources → write_value init.now page.now.runs.items (source_at page.now.runs.items read.now result) ≡ read.now.value }
+{
+    for place in first..sources {
+        if value_from(init, page, read, place) == read.value {
+            return place;
+        }
+    }
+    sources
+}
+
+/// How far a number is into those by which a read reads from this source: `rest` tells how far it is into all of the read's, and it reads from
+/// `first` by it. Where the source is a later one, it is not yet there.
+fn rest_behind(first: u64, source: u64, rest: u64, below: u64) -> u64
+    requires { 1 ≤ below }
+    ensures { result ≡ (if nat_lt first source then 0 else rest % below) }
+{
+    if first < source {
+        return 0;
+    }
+    rest % below
+}
+
+/// The first number by which a read reads from its next source that has its value, if it has one, else another.
+fn other_start(start: u64, next: u64, sources: u64, below: u64, other: u64) -> u64
+    requires { start + next * below < 2 ^ 64 }
+    ensures { result ≡ (if nat_lt next sources then start + next * below else other) }
+{
+    if next < sources {
+        return start + next * below;
+    }
+    other
+}
+
+/// How reads fit by this number, where `next` is the first from it on by which they do.
+fn fit_of(number: u64, next: u64) -> Fit
+    ensures { result ≡ (if number == next then Whole else Until next) }
+{
+    if number == next {
+        return Fit::Whole;
+    }
+    Fit::Until(next)
+}
+
+/// Whether by this number each read has the value of what it reads from. Else up to which number some read has another value: up to the first by
+/// which each has its own, unless a read finds its value in no source; then up to the first by which one before it has its own from a later source.
 fn compare(init: &[u32], page: &Page, reads: &[Event], number: u64) -> Fit
     requires page { IsPage (length init.now) page.now }
     requires reads { reads.now ≡ page.now.reads.items }
     requires number { number < page.now.ways }
     ensures { IsFit init.now page.now.runs.items reads.now number result }
 {
-    let mut below = page.ways;
+    // The first number by which the reads so far read as they do, how far behind it the number is, in how many ways the others can read, and
+    // the first number behind these by which each of the reads so far has its value.
+    let mut start = 0;
     let mut rest = number;
+    let mut ways = page.ways;
+    let mut other = page.ways;
     for read in reads {
-        let pick = choose(page, read, rest, below);
-        if write_value(init, &page.runs, pick.source) != read.value {
-            return Fit::Until(number - pick.rest + pick.below);
+        let sources = sources_of(page, read);
+        let below = ways / sources;
+        let first = rest / below;
+        let fit = fitting(init, page, read, first, sources);
+        if fit >= sources {
+            return Fit::Until(other);
         }
-        rest = pick.rest;
-        below = pick.below;
+        let next = fitting(init, page, read, fit + 1, sources);
+        other = other_start(start, next, sources, below, other);
+        start += fit * below;
+        rest = rest_behind(first, fit, rest, below);
+        ways = below;
     }
-    Fit::Whole
+    fit_of(number, start + rest)
 }
 
 /// Writes down what each read reads from by this number.

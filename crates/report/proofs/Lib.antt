@@ -1,4 +1,5 @@
 pub mod Bindings
 pub mod Examples
+pub mod Pages
 pub mod Printing
 pub mod Written

@@ -1,4 +1,5 @@
 pub mod Chains
 pub mod Labels
+pub mod Pages
 pub mod Texts
 pub mod Writing

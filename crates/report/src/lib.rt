@@ -1,8 +1,10 @@
 //! The printed summary of a verdict.
 #![tactic(auto)]
 
+mod lines;
 mod parts;
 mod propositions;
+mod states;
 mod summary;
 
 pub use parts::{write_bytes, write_parts};

@@ -9,11 +9,11 @@ ghost use Rattle.report.specs.Writing.{Writes};
 ghost use Rattle.report.specs.Texts as texts;
 
 use crate::parts::{write_bytes, write_parts};
-use crate::propositions::{write_atom, write_prop};
-use conditions::{Kind, Place};
+use crate::propositions::write_prop;
+use crate::states::write_states;
+use conditions::Kind;
 use itoa::Buffer;
-use slices::{Finding, Row, Verdict};
-use std::collections::BTreeSet;
+use slices::{Finding, Verdict};
 use thiserror::Error;
 use wb_text::{Failed, Name, Sink};
 
@@ -80,48 +80,6 @@ fn write_count<W: Sink>(finding: &Finding, writer: &mut W) -> Result<(), Failed>
     let mut count = Buffer::new();
     let count = count.format(finding.states().len()).as_bytes();
     write_parts(&[b"States ", count, b"\n"], writer)
-}
-
-fn write_states<W: Sink>(
-    places: &[Place],
-    states: &BTreeSet<Row>,
-    writer: &mut W,
-) -> Result<(), Failed>
-    ensures { Writes W.held W.has_failed writer.old writer.new result
-        (flat_map (texts.state_line places.now) states.now.keys) }
-{
-    for state in states {
-        write_state(places, state.values(), writer)?;
-    }
-    Ok(())
-}
-
-/// Writes the line of a state.
-fn write_state<W: Sink>(places: &[Place], values: &[u32], writer: &mut W) -> Result<(), Failed>
-    ensures { Writes W.held W.has_failed writer.old writer.new result
-        (texts.state_line places.now values.now) }
-{
-    let mut separator: &[u8] = b"";
-    for (place, value) in places.iter().zip(values) {
-        write_binding(separator, place, *value, writer)?;
-        separator = b" ";
-    }
-    write_bytes(b"\n", writer)
-}
-
-/// Writes a place and its value behind a separator.
-fn write_binding<W: Sink>(
-    separator: &[u8],
-    place: &Place,
-    value: u32,
-    writer: &mut W,
-) -> Result<(), Failed>
-    ensures { Writes W.held W.has_failed writer.old writer.new result
-        (separator.now ++ texts.binding_text (place.now, value)) }
-{
-    write_bytes(separator, writer)?;
-    write_atom(place, value, writer)?;
-    write_bytes(b";", writer)
 }
 
 fn write_answer<W: Sink>(finding: &Finding, writer: &mut W) -> Result<(), Failed>

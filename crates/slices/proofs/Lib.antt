@@ -7,6 +7,7 @@ pub mod Coursing
 pub mod Cuts
 pub mod Digits
 pub mod Following
+pub mod Fronts
 pub mod Inserted
 pub mod Members
 pub mod Merging

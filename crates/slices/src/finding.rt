@@ -1,6 +1,7 @@
 //! What is found of executions.
 
 ghost use Rattle.std.specs.Prelude.{◌≡◌, IfOk};
+ghost use Rattle.std.specs.Arc.{arc_value};
 ghost use Rattle.conditions.specs.Conditions.{formula_of};
 ghost use Rattle.slices.specs.Counters.{finding_of};
 ghost use Rattle.slices.specs.Findings.{is_ok};
@@ -181,6 +182,13 @@ impl Finding {
     /// The final states, once each, in order.
     pub fn states(&self) -> &BTreeSet<Row>
         ensures { result.now.keys ≡ self.now.states }
+    {
+        &self.states
+    }
+
+    /// The final states, as they are kept.
+    pub(crate) fn shared_states(&self) -> &Arc<BTreeSet<Row>>
+        ensures { (arc_value result.now).keys ≡ self.now.states }
     {
         &self.states
     }

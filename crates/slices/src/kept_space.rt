@@ -13,12 +13,13 @@ use litmus_value::Test;
 use std::alloc::{AllocError, Global};
 use std::marker::Model;
 
-/// A work with the numbered candidates of its test, and with its model made ready. Contracts see the work.
+/// A work with the numbered candidates of its test, and with its model made ready. Contracts see the work. What is large lies elsewhere, since
+/// a value of this type is moved for each piece.
 struct Made {
     work: WorkRef,
     space: Space,
-    ready: Prepared,
-    pruner: Pruner,
+    ready: Box<Prepared>,
+    pruner: Box<Pruner>,
 }
 
 // Functions of their own, here and below: whoever holds one drops it by a call.
@@ -46,11 +47,12 @@ impl Model for Made {
 
     ghost view = { λ m. m.work };
 
-    ghost invariant = { λ m. record { space : m.space ≡ choices_of m.work.test; ready : IsReadyFor m.work.model.items m.ready } };
+    ghost invariant = { λ m. record { space : m.space ≡ choices_of m.work.test; ready : IsReadyFor m.work.model.items m.ready.value } };
 }
 
 impl Made {
     /// What a work makes use of.
+    #[inline(never)]
     fn of(alloc: Global, work: &WorkRef) -> Result<Self, AllocError>
         ensures { IfOk result (λ m. m ≡ work.now) }
     {
@@ -59,12 +61,14 @@ impl Made {
     }
 
     /// What a work makes use of whose candidates these are.
+    #[inline(never)]
     fn over(alloc: Global, space: Space, work: &WorkRef) -> Result<Self, AllocError>
         requires { space ≡ choices_of work.now.test }
         ensures { IfOk result (λ m. m ≡ work.now) }
     {
         let ready = evaluator_of(alloc, work.work())?.without_model(alloc)?;
-        let pruner = Pruner::new(alloc, work.work().model());
+        let ready = Box::new(alloc, ready)?;
+        let pruner = Box::new(alloc, Pruner::new(alloc, work.work().model()))?;
         let work = work.share()?;
         Ok(Made {
             work,
@@ -103,6 +107,7 @@ impl Made {
     }
 
     /// Evaluates the numbers of a piece of the work.
+    #[inline(never)]
     fn evaluate(self, alloc: Global, piece: &Piece) -> Result<(PieceResult, Made), AllocError>
         requires { self ≡ piece.now.work }
         ensures { IfOk result (λ p. p.0.piece ≡ piece.now) }
@@ -113,9 +118,10 @@ impl Made {
             ready,
             mut pruner,
         } = self;
+        let ready = Box::into_inner(ready);
         let mut evaluator = ready.with_model(alloc, piece.work().work().model())?;
         let result = evaluate_in(alloc, &space, &mut evaluator, &mut pruner, piece)?;
-        let ready = evaluator.without_model(alloc)?;
+        let ready = Box::new(alloc, evaluator.without_model(alloc)?)?;
         let made = Made {
             work,
             space,

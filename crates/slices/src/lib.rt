@@ -6,6 +6,7 @@ mod counter;
 mod course;
 mod equality;
 mod finding;
+mod front;
 mod kept_space;
 pub mod laws;
 mod piece;

@@ -2,23 +2,29 @@
 
 ghost use Rattle.std.specs.Prelude.{◌≡◌, IfOk};
 
+use crate::front::front_of;
 use std::alloc::AllocError;
 use std::cmp::Ordering;
 use std::hash::{Hash, Hasher};
 use std::marker::Model;
 
-/// A final state: the values at the observed places, in their order. Contracts see the values.
+/// A final state: the values at the observed places, in their order. Contracts see the values. Beside them stands a number that most rows are
+/// compared by.
 #[derive(Drop)]
 pub struct Row {
+    front: u64,
     values: Vec<u32>,
 }
 
 impl Model for Row {
-    ghost use Rattle.std.specs.Prelude.{ℕ, List};
+    ghost use Rattle.std.specs.Prelude.{◌≡◌, ℕ, List};
+    ghost use Rattle.slices.specs.Fronts.{front_of};
 
     ghost Value = { List ℕ };
 
     ghost view = { λ r. r.values.items };
+
+    ghost invariant = { λ r. r.front ≡ front_of r.values.items };
 }
 
 impl Row {
@@ -26,7 +32,8 @@ impl Row {
     pub fn new(values: Vec<u32>) -> Self
         ensures { result ≡ values.items }
     {
-        Row { values }
+        let front = front_of(&values);
+        Row { front, values }
     }
 
     /// The values.
@@ -41,6 +48,7 @@ impl Row {
         ensures { IfOk result (λ r. r ≡ self.now) }
     {
         Ok(Row {
+            front: self.front,
             values: self.values.clone()?,
         })
     }
@@ -97,6 +105,12 @@ impl Ord for Row {
     ghost matches_eq = { Prim.search (comparing, rules) };
 
     fn cmp(&self, other: &Row) -> Ordering {
+        if self.front < other.front {
+            return Ordering::Less;
+        }
+        if other.front < self.front {
+            return Ordering::Greater;
+        }
         self.values.as_slice().cmp(other.values.as_slice())
     }
 }

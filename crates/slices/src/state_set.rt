@@ -12,9 +12,26 @@ use std::alloc::{AllocError, Global};
 use std::collections::BTreeSet;
 use std::sync::Arc;
 
-/// Adds rows to a set, or changes nothing. It costs a look-up in the set for each row. A set that is kept elsewhere too is
-/// not changed there: a grown copy takes its place here.
+/// Adds rows to a set, or changes nothing. It costs a look-up in the set for each row, and nothing where the set is empty: it is then kept
+/// together with the rows. A set that is kept elsewhere too is not changed there: a grown copy takes its place here.
 pub fn add_shared(
+    alloc: Global,
+    set: &mut Arc<BTreeSet<Row>>,
+    rows: &Arc<BTreeSet<Row>>,
+) -> Result<(), AllocError>
+    ensures added { OnOk result
+        ((s : List ℕ) → IsIn s (arc_value set.new).keys ↔ (IsIn s (arc_value set.old).keys ⊎ IsIn s (arc_value rows.now).keys)) }
+    ensures same { OnErr result ((arc_value set.new).keys ≡ (arc_value set.old).keys) }
+{
+    if set.is_empty() {
+        *set = Arc::try_clone(rows)?;
+        return Ok(());
+    }
+    add_unshared(alloc, set, rows)
+}
+
+/// Adds rows to a set, or changes nothing.
+fn add_unshared(
     alloc: Global,
     set: &mut Arc<BTreeSet<Row>>,
     rows: &BTreeSet<Row>,

@@ -63,7 +63,7 @@ impl Sum {
     {
         let mut flags = set_of_names(alloc, finding.flags())?;
         self.flags.reserve(flags.len())?;
-        add_shared(alloc, &mut self.states, finding.states())?;
+        add_shared(alloc, &mut self.states, finding.shared_states())?;
         self.positive += finding.positive();
         self.negative += finding.negative();
         match self.flags.append(&mut flags) {

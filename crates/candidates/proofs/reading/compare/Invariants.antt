@@ -1,5 +1,5 @@
-use Rattle.candidates.proofs.Sources.{HasRead}
+use Rattle.candidates.proofs.Fitting.{Stands}
 use Rattle.candidates.proofs.reading.compare.Given as goal
 
 abbrev pub invariant-loop-read : goal.invariant-loop-read
-invariant-loop-read l = HasRead l.init l.page.runs.items l.reads l.number l.read-index l.rest l.below
+invariant-loop-read l = Stands l.init l.page.runs.items l.reads l.number l.read-index l.start l.rest l.ways l.other

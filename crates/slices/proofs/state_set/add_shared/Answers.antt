@@ -1,7 +1,4 @@
 use Rattle.slices.proofs.state_set.add_shared.Goals as goal
 
-pub returns-in-Some-clause-added : goal.returns-in-Some-clause-added
-returns-in-Some-clause-added c = rw c.in-Some.ensures.value at c.add_rows.ensures.added
-
-pub returns-in_ok-set-in-None-clause-added : goal.returns-in_ok-set-in-None-clause-added
-returns-in_ok-set-in-None-clause-added c = rw c.in_ok-set-in-None.ensures.ok (rw c.deref.ensures at c.in_ok-union-in-None.ensures)
+pub returns-clause-added : goal.returns-clause-added
+returns-clause-added c = rw c.deref-2.ensures at c.add_unshared.ensures.added

@@ -2,7 +2,7 @@ use Rattle.std.proofs.Common.{◌≡◌, ◌++◌, ℕ, List}
 use Rattle.std.specs.Io.KnownBytes.{Appends}
 use Rattle.std.specs.List.{flat_map}
 use Rattle.report.specs.Texts.{state_line}
-use Rattle.report.proofs.summary.write_states.Given as goal
+use Rattle.report.proofs.states.write_each.Given as goal
 
 -- the lines of some states are written, and the other states are left
 abbrev pub invariant-loop-state : goal.invariant-loop-state

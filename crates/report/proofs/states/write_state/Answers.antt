@@ -5,7 +5,7 @@ use Rattle.std.proofs.lemmas.Slice.Zip.{Zip-more, either_empty_from_Zip}
 use Rattle.report.specs.Texts.{binding_text}
 use Rattle.report.proofs.Written.{exit, after}
 use Rattle.report.proofs.Bindings.{left, all_left, left-more, left-none, regroup, further}
-use Rattle.report.proofs.summary.write_state.Goals as goal
+use Rattle.report.proofs.states.write_state.Goals as goal
 
 pub loop-place-init : goal.loop-place-init
 loop-place-init g c =

@@ -2,7 +2,7 @@ use Rattle.std.proofs.Common.{[], refl, sym, ◌++◌, append_assoc, codes}
 use Rattle.std.proofs.KnownBytes.{Appends-nil, Appends-trans}
 use Rattle.report.specs.Texts.{atom_text}
 use Rattle.report.proofs.Written.{exit, after}
-use Rattle.report.proofs.summary.write_binding.Goals as goal
+use Rattle.report.proofs.states.write_binding.Goals as goal
 
 pub returns-in_err-write_bytes : goal.returns-in_err-write_bytes
 returns-in_err-write_bytes g c =

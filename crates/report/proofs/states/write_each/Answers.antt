@@ -2,7 +2,7 @@ use Rattle.std.proofs.Common.{[], ◌∷◌, ◌++◌}
 use Rattle.std.proofs.KnownBytes.{Appends-nil}
 use Rattle.report.specs.Texts.{state_line}
 use Rattle.report.proofs.Written.{exit, one_on, line_on, line_among, lines_done}
-use Rattle.report.proofs.summary.write_states.Goals as goal
+use Rattle.report.proofs.states.write_each.Goals as goal
 
 pub loop-state-init : goal.loop-state-init
 loop-state-init g c = ([], c.into_iter-state-iterator.ensures.into_iter_gives.0, Appends-nil _)

@@ -3,7 +3,7 @@ use Rattle.std.specs.Io.KnownBytes.{Appends}
 use Rattle.std.specs.List.{join_with_byte, zip}
 use Rattle.report.specs.Texts.{binding_text}
 use Rattle.report.proofs.Bindings.{left}
-use Rattle.report.proofs.summary.write_state.Given as goal
+use Rattle.report.proofs.states.write_state.Given as goal
 
 abbrev pub invariant-loop-place : goal.invariant-loop-place
 invariant-loop-place g l =
