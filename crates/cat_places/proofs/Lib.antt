@@ -1,1 +1,5 @@
+pub mod Blaming
 pub mod OneRefusal
+pub mod Owning
+pub mod Placing
+pub mod Walking

@@ -6,9 +6,10 @@ ghost use Rattle.cat_syntax.specs.Reads.{IsRefused};
 ghost use Rattle.cat_syntax.specs.declared.fault.CatFault.TheVariants.{NoMemory};
 ghost use Rattle.wb_text.specs.declared.token.Token.{Token as Spelled};
 ghost use Rattle.places.specs.Spellings.{spelling};
+ghost use Rattle.cat_places.specs.Own.{IsFileOf};
 ghost use Rattle.cat_places.specs.Fronts.{HasNoPlace, IsFirstRefused, IsToldAt, IsAtFront, IsTextPlace};
 
-use cat_syntax::{CatFault, read_cat};
+use cat_syntax::{CatFault, CatFile, read_cat};
 use places::{place_of_fault, spelled};
 use std::alloc::{AllocError, Global};
 use wb_text::{Dialect, TextFault, Token, tokens};
@@ -55,6 +56,19 @@ fn in_memory(fault: &CatFault) -> Result<(), AllocError>
     match fault {
         CatFault::NoMemory => Err(AllocError),
         _ => Ok(()),
+    }
+}
+
+/// The file that a text reads as, if it is a cat file.
+pub fn file_of(alloc: Global, text: &[u8]) -> Result<Option<CatFile>, AllocError>
+    ensures { IfOk result (IsFileOf text.now) }
+{
+    match read_cat(alloc, text) {
+        Ok(file) => return Ok(Some(file)),
+        Err(found) => {
+            in_memory(&found)?;
+            return Ok(None);
+        }
     }
 }
 
