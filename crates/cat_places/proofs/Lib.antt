@@ -2,4 +2,5 @@ pub mod Blaming
 pub mod OneRefusal
 pub mod Owning
 pub mod Placing
+pub mod Texts
 pub mod Walking

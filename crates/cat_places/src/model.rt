@@ -1,7 +1,6 @@
 //! The place of a fault of a model.
 
-ghost use Rattle.std.specs.Prelude.{◌≡◌, ◌≢◌, All, List, IfOk, OnOk, MatchOption, length, slice_get};
-ghost use Rattle.wb_text.specs.declared.fault.TextFault.TheVariants.{NoMemory};
+ghost use Rattle.std.specs.Prelude.{◌≡◌, ◌<◌, All, List, IfOk, IfSome, MatchOption, length, slice_get};
 ghost use Rattle.wb_text.specs.Tokens.{IsWithin};
 ghost use Rattle.cat_syntax.specs.Reads.{Reads};
 ghost use Rattle.cat_tree.specs.Tree.{File};
@@ -12,7 +11,7 @@ ghost use Rattle.cat_places.specs.Walks.{visits as all_visits};
 use crate::blame::{blamed, is_model, items_put};
 use crate::item::{bound_at, tokens_of_item, uses};
 use crate::source::Source;
-use crate::text::file_of;
+use crate::text::{file_of, has_memory};
 use crate::walk::{Visit, Walk};
 use cat_model::{Files, ModelFault};
 use cat_syntax::CatFile;
@@ -26,7 +25,8 @@ pub fn place_of(
     sources: &[Source],
     fault: &ModelFault,
 ) -> Result<Option<(usize, usize)>, AllocError>
-    ensures { IfOk result (spec.IsModelPlace sources.now fault.now) }
+    ensures place { IfOk result (spec.IsModelPlace sources.now fault.now) }
+    ensures within { IfOk result (λ o. IfSome o (λ p. p.0 < length sources.now)) }
 {
     let Some(files) = read_all(alloc, sources)? else {
         return Ok(None);
@@ -161,16 +161,6 @@ impl Blame<'_> {
             }
         }
         is_model(alloc, items)
-    }
-}
-
-/// Whether a fault is the text's own.
-fn has_memory(fault: TextFault) -> Result<(), AllocError>
-    ensures { OnOk result (fault ≢ NoMemory) }
-{
-    match fault {
-        TextFault::NoMemory => Err(AllocError),
-        _ => Ok(()),
     }
 }
 

@@ -9,22 +9,22 @@ use Rattle.cat_places.specs.declared.walk.Visit.{Visit}
 use Rattle.cat_places.proofs.Placing.{some_match, nowhere_blamed, nowhere_sourced, told_in}
 use Rattle.cat_places.proofs.model.place_of.Goals as goal
 
-pub returns-in_default-2 : goal.returns-in_default-2
-returns-in_default-2 c =
+pub returns-in_default-2-clause-place : goal.returns-in_default-2-clause-place
+returns-in_default-2-clause-place c =
     let once : (fs : List File) → AreRead c.args.sources.now fs → fs ≡ c.deref-2.result.now = λ fs read. some_match c.in_ok-files.field-0 c.in-Some.files _ _ c.in-Some.is c.in_ok-files.ensures fs read ∙ sym c.deref-2.ensures.value in
     let all : c.deref-3.result.now ≡ visits c.args.sources.now c.deref-2.result.now = c.deref-3.ensures.value ∙ c.in_ok-visits.ensures ∙ ap (visits c.args.sources.now) (c.deref.ensures.value ∙ sym c.deref-2.ensures.value) in
     nowhere_blamed c.args.sources.now c.deref-2.result.now c.args.fault.now _ c.deref-3.result.now once all (λ k b. c.in_default-2.not-Some k (c.in_ok-number.ensures.only k b))
 
-pub returns-in_default-get-2 : goal.returns-in_default-get-2
-returns-in_default-get-2 c =
+pub returns-in_default-get-2-clause-place : goal.returns-in_default-get-2-clause-place
+returns-in_default-get-2-clause-place c =
     let once : (fs : List File) → AreRead c.args.sources.now fs → fs ≡ c.deref-2.result.now = λ fs read. some_match c.in_ok-files.field-0 c.in-Some.files _ _ c.in-Some.is c.in_ok-files.ensures fs read ∙ sym c.deref-2.ensures.value in
     let all : c.deref-3.result.now ≡ visits c.args.sources.now c.deref-2.result.now = c.deref-3.ensures.value ∙ c.in_ok-visits.ensures ∙ ap (visits c.args.sources.now) (c.deref.ensures.value ∙ sym c.deref-2.ensures.value) in
     let visit : Visit = c.in-Some-get.visit.now in
     let look : visit ≡ get_or c.deref-3.result.now c.in-Some-2.number visit = c.in-Some-get.ensures.lookup.3.1 visit ∙ ap (λ l. get_or l c.in-Some-2.number visit) (c.deref-4.ensures.value ∙ sym c.deref-3.ensures.value) in
     nowhere_sourced c.args.sources.now c.deref-2.result.now c.args.fault.now _ c.deref-3.result.now c.in-Some-2.number visit once all (λ k b. sym c.in-Some-2.is ∙ c.in_ok-number.ensures.only k b) look (search rules)
 
-pub returns-in-Some-3 : goal.returns-in-Some-3
-returns-in-Some-3 c =
+pub returns-in-Some-3-clause-place : goal.returns-in-Some-3-clause-place
+returns-in-Some-3-clause-place c =
     let once : (fs : List File) → AreRead c.args.sources.now fs → fs ≡ c.deref-2.result.now = λ fs read. some_match c.in_ok-files.field-0 c.in-Some.files _ _ c.in-Some.is c.in_ok-files.ensures fs read ∙ sym c.deref-2.ensures.value in
     let all : c.deref-3.result.now ≡ visits c.args.sources.now c.deref-2.result.now = c.deref-3.ensures.value ∙ c.in_ok-visits.ensures ∙ ap (visits c.args.sources.now) (c.deref.ensures.value ∙ sym c.deref-2.ensures.value) in
     let visit : Visit = c.in-Some-get.visit.now in
@@ -37,8 +37,8 @@ returns-in-Some-3 c =
     (λ f r. subst (λ (l : List ℕ). IsToldAt l c.args.fault.now visit.item c.in_ok-token.field-0) text (c.in_ok-token.ensures f (subst (λ (l : List ℕ). Reads l f) (sym text) r)))
     (sym (ap (option_map (λ (t : Token). (visit.source, t.from))) c.in-Some-3.is))
 
-pub returns : goal.returns
-returns c =
+pub returns-clause-place : goal.returns-clause-place
+returns-clause-place c =
     let once : (fs : List File) → AreRead c.args.sources.now fs → fs ≡ c.deref-2.result.now = λ fs read. some_match c.in_ok-files.field-0 c.in-Some.files _ _ c.in-Some.is c.in_ok-files.ensures fs read ∙ sym c.deref-2.ensures.value in
     let all : c.deref-3.result.now ≡ visits c.args.sources.now c.deref-2.result.now = c.deref-3.ensures.value ∙ c.in_ok-visits.ensures ∙ ap (visits c.args.sources.now) (c.deref.ensures.value ∙ sym c.deref-2.ensures.value) in
     let visit : Visit = c.in-Some-get.visit.now in
