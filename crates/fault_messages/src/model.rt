@@ -31,13 +31,7 @@ pub fn model_fault(
 {
     let sentence = sentence(alloc, sources, fault)?;
     match place_of(alloc, sources, fault)? {
-        Some(place) => message_in(
-            alloc,
-            &sources[place.0],
-            place.1,
-            fault,
-            sentence.as_str(),
-        ),
+        Some(place) => message_in(alloc, &sources[place.0], place.1, fault, sentence.as_str()),
         None => message_without_place(alloc, word, fault.label(), sentence.as_str()),
     }
 }
