@@ -1,1 +1,6 @@
+pub mod Blaming
 pub mod OneRefusal
+pub mod Owning
+pub mod Placing
+pub mod Texts
+pub mod Walking

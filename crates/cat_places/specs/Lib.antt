@@ -1,1 +1,5 @@
+pub mod Blame
 pub mod Fronts
+pub mod Own
+pub mod Places
+pub mod Walks

@@ -1,14 +1,20 @@
 //! The place of a fault of a model.
 
-ghost use Rattle.std.specs.Prelude.{All, length};
+ghost use Rattle.std.specs.Prelude.{◌≡◌, ◌<◌, All, List, IfOk, IfSome, MatchOption, length, slice_get};
 ghost use Rattle.wb_text.specs.Tokens.{IsWithin};
+ghost use Rattle.cat_syntax.specs.Reads.{Reads};
+ghost use Rattle.cat_tree.specs.Tree.{File};
+ghost use Rattle.cat_places.specs.Own.{uses as all_uses};
+ghost use Rattle.cat_places.specs.Places as spec;
+ghost use Rattle.cat_places.specs.Walks.{visits as all_visits};
 
-use crate::blame::{first_refused, front, is_refused};
+use crate::blame::{blamed, is_model, items_put};
 use crate::item::{bound_at, tokens_of_item, uses};
 use crate::source::Source;
-use crate::walk::{Visit, Walked, read_all, walk};
-use cat_model::ModelFault;
-use cat_syntax::{CatFault, CatFile, Item, read_cat};
+use crate::text::{file_of, has_memory};
+use crate::walk::{Visit, Walk};
+use cat_model::{Files, ModelFault};
+use cat_syntax::CatFile;
 use std::alloc::{AllocError, Global};
 use wb_text::{Dialect, TextFault, Token, tokens};
 
@@ -18,183 +24,186 @@ pub fn place_of(
     alloc: Global,
     sources: &[Source],
     fault: &ModelFault,
-) -> Result<Option<(usize, usize)>, AllocError> {
+) -> Result<Option<(usize, usize)>, AllocError>
+    ensures place { IfOk result (spec.IsModelPlace sources.now fault.now) }
+    ensures within { IfOk result (λ o. IfSome o (λ p. p.0 < length sources.now)) }
+{
     let Some(files) = read_all(alloc, sources)? else {
         return Ok(None);
     };
-    let walked = walk(alloc, sources, &files, fault)?;
-    let Some(end) = blamed(alloc, &files, &walked, fault)? else {
+    let visits = visits_of(alloc, sources, &files)?;
+    let Some(number) = blamed(alloc, &files, &visits, fault)? else {
         return Ok(None);
     };
-    let Some(source) = sources.get(end.visit.source) else {
+    let Some(visit) = visits.get(number) else {
         return Ok(None);
     };
-    match place_in(alloc, source, &files, &walked, end, fault)? {
-        Some(offset) => Ok(Some((end.visit.source, offset))),
+    let Some(source) = sources.get(visit.source) else {
+        return Ok(None);
+    };
+    let blame = Blame {
+        files: &files,
+        before: visits.get(..number).unwrap_or(&[]),
+        text: &source.text,
+        item: visit.item,
+    };
+    match blame.token(alloc, fault)? {
+        Some(token) => Ok(Some((visit.source, token.from))),
         None => Ok(None),
     }
 }
 
-/// An item that is to blame, and how many come before it.
-#[derive(Clone, Copy)]
-struct End {
-    visit: Visit,
-    before: usize,
-}
-
-/// The item that is to blame for a fault.
-fn blamed(
-    alloc: Global,
-    files: &[CatFile],
-    walked: &Walked,
-    fault: &ModelFault,
-) -> Result<Option<End>, AllocError> {
-    if let Some(visit) = walked.blamed {
-        let before = walked.visits.len();
-        return Ok(Some(End { visit, before }));
-    }
-    let Some(before) = first_refused(alloc, files, &walked.visits, fault)? else {
-        return Ok(None);
-    };
-    match walked.visits.get(before) {
-        Some(visit) => Ok(Some(End {
-            visit: *visit,
-            before,
-        })),
-        None => Ok(None),
-    }
-}
-
-/// Where a fault stands in the file of the item that is to blame.
-fn place_in(
-    alloc: Global,
-    source: &Source,
-    files: &[CatFile],
-    walked: &Walked,
-    end: End,
-    fault: &ModelFault,
-) -> Result<Option<usize>, AllocError> {
-    let text = source.text.as_slice();
-    match tokens(alloc, text, Dialect::Cat) {
-        Ok(tokens) => {
-            let item = tokens_of_item(alloc, text, &tokens, end.visit.item)?;
-            return place_among(alloc, text, item, files, walked, end, fault);
+/// The files that the sources read as, in their order, if each reads as one.
+fn read_all(alloc: Global, sources: &[Source]) -> Result<Option<Vec<CatFile>>, AllocError>
+    ensures { IfOk result (λ o. MatchOption o ((fs : List File) → ¬ spec.AreRead sources.now fs) (λ gs. (fs : List File) → spec.AreRead sources.now fs → fs ≡ gs.items)) }
+{
+    let mut files = Vec::new(alloc);
+    for source in sources {
+        match file_of(alloc, &source.text)? {
+            Some(file) => files.push(file)?,
+            None => return Ok(None),
         }
-        Err(TextFault::NoMemory) => return Err(AllocError),
-        Err(_) => return Ok(None),
+    }
+    Ok(Some(files))
+}
+
+/// The items of the first source and of what it includes, up to the first that is one too many.
+fn visits_of(alloc: Global, sources: &[Source], files: &[CatFile]) -> Result<Vec<Visit>, AllocError>
+    ensures { IfOk result (λ v. v.items ≡ all_visits sources.now files.now) }
+{
+    let built_in = Files::new(alloc)?;
+    let mut visits = Vec::new(alloc);
+    let walk = Walk {
+        alloc,
+        sources,
+        files,
+        built_in: &built_in,
+    };
+    walk.whole(&mut visits)?;
+    Ok(visits)
+}
+
+/// The item that is to blame: its text and number, and the visits before it.
+#[derive(Clone, Copy)]
+struct Blame<'a> {
+    files: &'a [CatFile],
+    before: &'a [Visit],
+    text: &'a [u8],
+    item: usize,
+}
+
+impl Blame<'_> {
+    /// The token at which a fault stands in the item.
+    fn token(&self, alloc: Global, fault: &ModelFault) -> Result<Option<Token>, AllocError>
+        ensures { IfOk result (λ o. (f : File) → Reads self.now.text.now f → spec.IsToldAt self.now.text.now fault.now self.now.item o) }
+    {
+        match tokens(alloc, self.text, Dialect::Cat) {
+            Ok(tokens) => {
+                let own = tokens_of_item(alloc, self.text, &tokens, self.item)?;
+                return self.token_of(alloc, own, fault);
+            }
+            Err(found) => {
+                has_memory(found)?;
+                return Ok(None);
+            }
+        }
+    }
+
+    /// The same, of the item's tokens.
+    fn token_of(
+        &self,
+        alloc: Global,
+        own: &[Token],
+        fault: &ModelFault,
+    ) -> Result<Option<Token>, AllocError>
+        requires { All (IsWithin (length self.now.text.now)) own.now }
+        ensures { IfOk result (spec.IsTold self.now.text.now own.now fault.now) }
+    {
+        match fault {
+            ModelFault::NoInclude(_) | ModelFault::IncludeCycle(_) => Ok(token_at(own, 1)),
+            ModelFault::FlagWithoutName | ModelFault::ModelTooLarge => Ok(token_at(own, 0)),
+            ModelFault::WrongSort(name) | ModelFault::CallsTooLarge(name) => {
+                Ok(bound_at(self.text, own, name.bytes()))
+            }
+            ModelFault::Unbound(name) => first_use(alloc, self.text, own, name.bytes()),
+            ModelFault::NotMonotone(name) => {
+                let uses = uses(alloc, self.text, own, name.bytes())?;
+                self.denied(alloc, &uses)
+            }
+            ModelFault::NoCat(_) | ModelFault::NoMemory => Ok(None),
+        }
+    }
+
+    /// The first use of a name with which a rule is broken even where `0` stands in the place of all others.
+    fn denied(&self, alloc: Global, uses: &[Token]) -> Result<Option<Token>, AllocError>
+        ensures { IfOk result (spec.IsSomeOf uses.now) }
+    {
+        for token in uses {
+            if !self.is_model_with(alloc, uses, token)? {
+                return Ok(Some(*token));
+            }
+        }
+        Ok(token_at(uses, 0))
+    }
+
+    /// Whether the items up to this one break no rule where `0` stands in the place of each of these tokens but one.
+    fn is_model_with(
+        &self,
+        alloc: Global,
+        uses: &[Token],
+        kept: &Token,
+    ) -> Result<bool, AllocError> {
+        let text = with_one_use(alloc, self.text, uses, kept)?;
+        let mut items = items_put(alloc, self.files, self.before)?;
+        if let Some(file) = file_of(alloc, &text)? {
+            if let Some(item) = file.items().get(self.item) {
+                items.push(item.copy()?)?;
+            }
+        }
+        is_model(alloc, items)
     }
 }
 
-/// The token of an item at which a fault stands.
-fn place_among(
+/// The token of this number.
+fn token_at(tokens: &[Token], number: usize) -> Option<Token>
+    ensures { result ≡ slice_get tokens.now number }
+{
+    match tokens.get(number) {
+        Some(token) => Some(*token),
+        None => None,
+    }
+}
+
+/// The first token at which an item uses a name.
+fn first_use(
     alloc: Global,
     text: &[u8],
-    item: &[Token],
-    files: &[CatFile],
-    walked: &Walked,
-    end: End,
-    fault: &ModelFault,
-) -> Result<Option<usize>, AllocError>
-    requires { All (IsWithin (length text.now)) item.now }
+    own: &[Token],
+    name: &[u8],
+) -> Result<Option<Token>, AllocError>
+    requires { All (IsWithin (length text.now)) own.now }
+    ensures { IfOk result (λ o. o ≡ slice_get (all_uses text.now name.now own.now) 0) }
 {
-    match fault {
-        ModelFault::NoInclude(_) | ModelFault::IncludeCycle(_) => Ok(start_of(item, 1)),
-        ModelFault::FlagWithoutName | ModelFault::ModelTooLarge => Ok(start_of(item, 0)),
-        ModelFault::WrongSort(name) | ModelFault::CallsTooLarge(name) => {
-            Ok(bound_at(text, item, name.bytes()))
-        }
-        ModelFault::Unbound(name) => {
-            let uses = uses(alloc, text, item, name.bytes())?;
-            Ok(start_of_first(item, &uses))
-        }
-        ModelFault::NotMonotone(name) => {
-            let uses = uses(alloc, text, item, name.bytes())?;
-            let front = walked.visits.get(..end.before).unwrap_or(&[]);
-            denied_use(
-                alloc,
-                text,
-                item,
-                files,
-                front,
-                end.visit.item,
-                &uses,
-                fault,
-            )
-        }
-        ModelFault::NoCat(_) | ModelFault::NoMemory => Ok(None),
-    }
-}
-
-/// Where the token of this number begins.
-fn start_of(tokens: &[Token], place: usize) -> Option<usize> {
-    match tokens.get(place) {
-        Some(token) => Some(token.from),
-        None => None,
-    }
-}
-
-fn start_of_first(tokens: &[Token], places: &[usize]) -> Option<usize> {
-    match places.first() {
-        Some(place) => start_of(tokens, *place),
-        None => None,
-    }
+    let uses = uses(alloc, text, own, name)?;
+    Ok(token_at(&uses, 0))
 }
 
 /// A text in which `0` stands in the place of each of these tokens but one.
 fn with_one_use(
     alloc: Global,
     text: &[u8],
-    item: &[Token],
-    uses: &[usize],
-    kept: usize,
+    uses: &[Token],
+    kept: &Token,
 ) -> Result<Vec<u8>, AllocError> {
     let mut changed = Vec::from_slice(alloc, text)?;
-    for place in uses {
-        if let Some(token) = item.get(*place) {
-            if *place != kept {
-                for at in token.from..token.to {
-                    if let Some(byte) = changed.get_mut(at) {
-                        *byte = if at == token.from { b'0' } else { b' ' };
-                    }
+    for token in uses {
+        if token.from != kept.from {
+            for at in token.from..token.to {
+                if let Some(byte) = changed.get_mut(at) {
+                    *byte = if at == token.from { b'0' } else { b' ' };
                 }
             }
         }
     }
     Ok(changed)
-}
-
-/// The item of this number in a text, if it is a cat file that has one.
-fn item_of(alloc: Global, text: &[u8], number: usize) -> Result<Option<Item>, AllocError> {
-    match read_cat(alloc, text) {
-        Ok(file) => match file.items().get(number) {
-            Some(item) => return Ok(Some(item.copy()?)),
-            None => return Ok(None),
-        },
-        Err(CatFault::NoMemory) => return Err(AllocError),
-        Err(_found) => return Ok(None),
-    }
-}
-
-/// The first of the uses of a name that is refused even where `0` stands in the place of all others.
-fn denied_use(
-    alloc: Global,
-    text: &[u8],
-    item: &[Token],
-    files: &[CatFile],
-    before: &[Visit],
-    number: usize,
-    uses: &[usize],
-    fault: &ModelFault,
-) -> Result<Option<usize>, AllocError> {
-    for place in uses {
-        let changed = with_one_use(alloc, text, item, uses, *place)?;
-        let mut items = front(alloc, files, before)?;
-        if let Some(found) = item_of(alloc, &changed, number)? {
-            items.push(found)?;
-        }
-        if is_refused(alloc, items, fault)? {
-            return Ok(start_of(item, *place));
-        }
-    }
-    Ok(start_of_first(item, uses))
 }

@@ -1,14 +1,14 @@
 //! The place of a fault of a cat text.
 
-ghost use Rattle.std.specs.Prelude.{◌≡◌, ◌≢◌, ◌<◌, ◌≤◌, ℕ, All, IfOk, OnOk, IfSome, Some, length, slice_get, true, false};
+ghost use Rattle.std.specs.Prelude.{◌≡◌, ◌≢◌, ◌<◌, ℕ, All, IfOk, OnOk, IfSome, MatchOption, length, true, false};
 ghost use Rattle.wb_text.specs.Tokens.{IsWithin};
 ghost use Rattle.cat_syntax.specs.Reads.{IsRefused};
 ghost use Rattle.cat_syntax.specs.declared.fault.CatFault.TheVariants.{NoMemory};
-ghost use Rattle.wb_text.specs.declared.token.Token.{Token as Spelled};
-ghost use Rattle.places.specs.Spellings.{spelling};
-ghost use Rattle.cat_places.specs.Fronts.{HasNoPlace, IsFirstRefused, IsToldAt, IsAtFront, IsTextPlace};
+ghost use Rattle.wb_text.specs.declared.fault.TextFault.TheVariants.{NoMemory as NoTextMemory};
+ghost use Rattle.cat_places.specs.Own.{IsFileOf};
+ghost use Rattle.cat_places.specs.Fronts.{HasNoPlace, IsFirstRefused, NoneRefused, IsLastSpelled, NoneSpelled, IsToldAt, IsAtFront, IsTextPlace};
 
-use cat_syntax::{CatFault, read_cat};
+use cat_syntax::{CatFault, CatFile, read_cat};
 use places::{place_of_fault, spelled};
 use std::alloc::{AllocError, Global};
 use wb_text::{Dialect, TextFault, Token, tokens};
@@ -19,7 +19,7 @@ pub fn place_of_text(
     text: &[u8],
     fault: &CatFault,
 ) -> Result<Option<usize>, AllocError>
-    ensures { IfOk result (λ o. IfSome o (IsTextPlace text.now fault.now)) }
+    ensures { IfOk result (λ o. MatchOption o ((offset : ℕ) → ¬ IsTextPlace text.now fault.now offset) (IsTextPlace text.now fault.now)) }
 {
     match fault {
         CatFault::Text(cause) => Ok(Some(place_of_fault(alloc, text, Dialect::Cat, *cause)?)),
@@ -34,7 +34,7 @@ pub fn place_of_text(
 /// The same for a fault that stands at a token.
 fn place_among(alloc: Global, text: &[u8], fault: &CatFault) -> Result<Option<usize>, AllocError>
     requires { HasNoPlace fault.now }
-    ensures { IfOk result (λ o. IfSome o (IsAtFront text.now fault.now)) }
+    ensures { IfOk result (λ o. MatchOption o ((offset : ℕ) → ¬ IsAtFront text.now fault.now offset) (IsAtFront text.now fault.now)) }
 {
     match tokens(alloc, text, Dialect::Cat) {
         Ok(tokens) => {
@@ -43,8 +43,20 @@ fn place_among(alloc: Global, text: &[u8], fault: &CatFault) -> Result<Option<us
                 None => return Ok(None),
             }
         }
-        Err(TextFault::NoMemory) => return Err(AllocError),
-        Err(_) => return Ok(None),
+        Err(found) => {
+            has_memory(found)?;
+            return Ok(None);
+        }
+    }
+}
+
+/// Whether a fault is the text's own.
+pub fn has_memory(fault: TextFault) -> Result<(), AllocError>
+    ensures { OnOk result (fault ≢ NoTextMemory) }
+{
+    match fault {
+        TextFault::NoMemory => Err(AllocError),
+        _ => Ok(()),
     }
 }
 
@@ -55,6 +67,19 @@ fn in_memory(fault: &CatFault) -> Result<(), AllocError>
     match fault {
         CatFault::NoMemory => Err(AllocError),
         _ => Ok(()),
+    }
+}
+
+/// The file that a text reads as, if it is a cat file.
+pub fn file_of(alloc: Global, text: &[u8]) -> Result<Option<CatFile>, AllocError>
+    ensures { IfOk result (IsFileOf text.now) }
+{
+    match read_cat(alloc, text) {
+        Ok(file) => return Ok(Some(file)),
+        Err(found) => {
+            in_memory(&found)?;
+            return Ok(None);
+        }
     }
 }
 
@@ -83,7 +108,7 @@ fn last_of_front(
     requires within { All (IsWithin (length text.now)) tokens.now }
     requires fault { HasNoPlace fault.now }
     ensures place { IfOk result (λ o. IfSome o (λ k. k < length tokens.now)) }
-    ensures first { IfOk result (λ o. IfSome o (IsFirstRefused text.now tokens.now fault.now)) }
+    ensures first { IfOk result (λ o. MatchOption o (NoneRefused text.now tokens.now fault.now) (IsFirstRefused text.now tokens.now fault.now)) }
 {
     for (place, token) in tokens.iter().enumerate() {
         if is_refused(alloc, &text[..token.to], fault)? {
@@ -97,7 +122,7 @@ fn last_of_front(
 fn last_spelled(text: &[u8], tokens: &[Token], place: usize, word: &[u8]) -> Option<usize>
     requires within { All (IsWithin (length text.now)) tokens.now }
     requires place { place < length tokens.now }
-    ensures { IfSome result (λ offset. (j : ℕ) × (t : Spelled) × (j ≤ place) × (slice_get tokens.now j ≡ Some t) × (spelling text.now t ≡ word.now) × (offset ≡ t.from)) }
+    ensures { MatchOption result (NoneSpelled text.now tokens.now word.now 0 place) (IsLastSpelled text.now tokens.now word.now place) }
 {
     let mut end = place + 1;
     while end > 0 {
@@ -114,12 +139,15 @@ fn last_spelled(text: &[u8], tokens: &[Token], place: usize, word: &[u8]) -> Opt
 fn told_at(text: &[u8], tokens: &[Token], place: usize, fault: &CatFault) -> Option<usize>
     requires within { All (IsWithin (length text.now)) tokens.now }
     requires place { place < length tokens.now }
-    ensures { IfSome result (IsToldAt text.now tokens.now fault.now place) }
+    requires fault { HasNoPlace fault.now }
+    ensures { MatchOption result ((offset : ℕ) → ¬ IsToldAt text.now tokens.now fault.now place offset) (IsToldAt text.now tokens.now fault.now place) }
 {
     match fault {
         CatFault::Unsupported(word) => last_spelled(text, tokens, place, word.bytes()),
         CatFault::TooDeep => Some(tokens[place].from),
         CatFault::TooLarge => Some(tokens[place].from),
-        _ => None,
+        CatFault::Text(_) => None,
+        CatFault::Syntax(_) => None,
+        CatFault::NoMemory => None,
     }
 }

@@ -1,28 +1,7 @@
 //! Words that tests leave out.
 
-use crate::words::{nearest, shown, with_meant};
+use crate::words::{CALLS, KNOWN, ORDERS, nearest, shown, with_meant};
 use std::alloc::{AllocError, Global};
-
-/// The calls and orders of tests.
-const CALLS: [&str; 9] = [
-    "atomic_load",
-    "atomic_load_explicit",
-    "atomic_store",
-    "atomic_store_explicit",
-    "atomic_exchange",
-    "atomic_exchange_explicit",
-    "atomic_fetch_add",
-    "atomic_fetch_add_explicit",
-    "atomic_thread_fence",
-];
-
-const ORDERS: [&str; 5] = [
-    "memory_order_relaxed",
-    "memory_order_acquire",
-    "memory_order_release",
-    "memory_order_acq_rel",
-    "memory_order_seq_cst",
-];
 
 /// What stands for a word that tests leave out.
 pub fn left_out_sentence(alloc: Global, word: &[u8]) -> Result<String, AllocError> {
@@ -43,7 +22,7 @@ pub fn left_out_sentence(alloc: Global, word: &[u8]) -> Result<String, AllocErro
     }
     let name = shown(word);
     let sentence = format!(in alloc; "{name} is no call of a test")?;
-    let meant = nearest(alloc, name, &CALLS)?;
+    let meant = nearest(alloc, name, &KNOWN[..CALLS])?;
     with_meant(alloc, sentence, meant)
 }
 
@@ -105,6 +84,6 @@ fn order_sentence(alloc: Global, word: &[u8]) -> Result<String, AllocError> {
     let sentence = format!(in alloc;
         "{name} is no order: they are relaxed, acquire, release, acq_rel and seq_cst"
     )?;
-    let meant = nearest(alloc, name, &ORDERS)?;
+    let meant = nearest(alloc, name, &KNOWN[CALLS..CALLS + ORDERS])?;
     with_meant(alloc, sentence, meant)
 }

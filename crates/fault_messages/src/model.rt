@@ -30,11 +30,8 @@ pub fn model_fault(
     ensures { IfOk result (λ s. TellsModel word.now sources.now fault.now (string_bytes s)) }
 {
     let sentence = sentence(alloc, sources, fault)?;
-    let Some((number, offset)) = place_of(alloc, sources, fault)? else {
-        return message_without_place(alloc, word, fault.label(), sentence.as_str());
-    };
-    match sources.get(number) {
-        Some(source) => message_in(alloc, source, offset, fault, sentence.as_str()),
+    match place_of(alloc, sources, fault)? {
+        Some(place) => message_in(alloc, &sources[place.0], place.1, fault, sentence.as_str()),
         None => message_without_place(alloc, word, fault.label(), sentence.as_str()),
     }
 }

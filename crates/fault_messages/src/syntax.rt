@@ -4,39 +4,10 @@ ghost use Rattle.std.specs.Prelude.{All, length};
 ghost use Rattle.wb_text.specs.Tokens.{IsWithin};
 
 use crate::text::not_c;
-use crate::words::{nearest, shown};
+use crate::words::{KNOWN, nearest, shown};
 use places::spelled;
 use std::alloc::{AllocError, Global};
 use wb_text::{Token, TokenKind};
-
-/// The words of calls and orders, and others that a test may have.
-const KNOWN: [&str; 25] = [
-    "atomic_load",
-    "atomic_load_explicit",
-    "atomic_store",
-    "atomic_store_explicit",
-    "atomic_exchange",
-    "atomic_exchange_explicit",
-    "atomic_fetch_add",
-    "atomic_fetch_add_explicit",
-    "atomic_thread_fence",
-    "memory_order_relaxed",
-    "memory_order_acquire",
-    "memory_order_release",
-    "memory_order_acq_rel",
-    "memory_order_seq_cst",
-    "int",
-    "atomic_int",
-    "volatile",
-    "if",
-    "else",
-    "exists",
-    "forall",
-    "not",
-    "true",
-    "false",
-    "locations",
-];
 
 /// The token that isn't taken, and the one before it.
 #[derive(Clone, Copy)]

@@ -74,8 +74,8 @@ acyclic (((((((((((((((((((((((((((((((((((((((((((((((((((((((((((((((((po)))))
 ",
             )],
             "my.cat:2:73: TooDeep (54): this would nest 65 deep, and parentheses, brackets and ~ nest at most 64; bind a part by let
-    acyclic (((((((((((((((((((((((((((((((((((((((((((((((((((((((((((((((((po)))))))))))))))))))))))))))))))))))))))))))))))))))))))))))))))))
-                                                                            ^
+    ...(((((((((((((((((((((((((((((((((((((((((((((((((((((((((((((po)))))))))))))))))))))))))))))))))))))))))))))))))))))))))...
+                                                                   ^
 ",
         ),
         (
@@ -109,7 +109,19 @@ let r = po (* rf
 /// Names that are bound nowhere, of the wrong sort, or denied in their own group.
 #[test]
 fn names(rt: HostRuntime) -> Result<(), Fail> {
-    const ROWS: [(Texts, &str); 10] = [
+    const ROWS: [(Texts, &str); 11] = [
+        (
+            &[(
+                "my.cat",
+                "M
+let a = po | po | po | po | po | po | po | po | po | po | po | po | po | po | po | po | po | po | po | po | po | po | po | po | po | po | po | po | po | po | po | po | po | po | po | po | po | po | po | po | po | comm | po | po | po | po | po | po | po | po | po | po | po | po | po | po | po | po | po | po | po | po | po | po | po | po | po | po | po | po | po | po
+",
+            )],
+            "my.cat:2:214: Unbound (64): comm is bound nowhere before
+    ...po | po | po | po | po | po | po | po | po | po | po | po | comm | po | po | po | po | po | po | po | po | po | po | po ...
+                                                                   ^
+",
+        ),
         (
             &[(
                 "my.cat",

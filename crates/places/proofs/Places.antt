@@ -2,7 +2,7 @@
 use Rattle.std.proofs.Common.{◌≡◌, ◌≢◌, ℕ, ◌+◌, ◌-◌, ◌<◌, ◌≤◌, ◌⊎◌, inl, inr, List, length, take, drop, ap, sym, ◌∙◌, arith}
 use Rattle.std.specs.Prelude.{slice_index}
 use Rattle.std.proofs.lemmas.Bool.{cases_lt}
-use Rattle.std.proofs.lemmas.List.{get_or-take, get_or-drop}
+use Rattle.std.proofs.lemmas.List.{get_or-take, get_or-drop, take_all}
 use Rattle.places.specs.Lines.{IsLineAt}
 
 -- a byte before the place, and one behind it
@@ -36,3 +36,7 @@ line_at text before behind o from len e f el fl within first none inside last fr
   either : (k : ℕ) → (k < o) ⊎ (o ≤ k) → from ≤ k → k < o + len → slice_index text k ≢ 10
   either k (inl p) low high = here k low p
   either k (inr p) low high = there k p high
+
+-- a front of so many bytes, or of all
+pub take_min : (n k : ℕ) (bytes : List ℕ) → k ≤ n → k ≤ length bytes → (k < n → length bytes ≤ k) → take k bytes ≡ take n bytes
+take_min n k bytes low long full = elim (cases_lt k n) [ inl h ↦ take_all k bytes (full h) ∙ sym (take_all n bytes (omega (arith, full h, h))) | inr h ↦ ap (λ m. take m bytes) (omega (arith, low, h)) ]

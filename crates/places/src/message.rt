@@ -1,6 +1,6 @@
 //! The text that tells of a fault.
 
-ghost use Rattle.std.specs.Prelude.{◌≡◌, ◌++◌, ◌-◌, OnOk, IfOk, map, replicate, decimal};
+ghost use Rattle.std.specs.Prelude.{◌≡◌, ◌≤◌, ◌++◌, ◌-◌, OnOk, IfOk, length, map, replicate, decimal};
 ghost use Rattle.std.specs.String.{string_bytes};
 ghost use Rattle.places.specs.declared.place.Place.{Place as Placed};
 ghost use Rattle.places.specs.Lines.{IsPlaceOf};
@@ -9,6 +9,11 @@ ghost use Rattle.places.specs.Messages as messages;
 use crate::place::Place;
 use itoa::Buffer;
 use std::alloc::{AllocError, Global};
+
+/// How many bytes of a line are shown at most, and how many of them before the caret where more stand behind.
+const WINDOW: usize = 120;
+
+const BEFORE: usize = 60;
 
 /// A byte of a source as it is shown.
 fn shown(byte: u8) -> char
@@ -89,16 +94,65 @@ fn push_head(out: &mut String, path: &str, place: &Place<'_>) -> Result<(), Allo
     out.push_str(": ")
 }
 
+/// Where the shown bytes of a line begin, for a caret behind so many bytes.
+fn window_start(len: usize, at: usize) -> usize
+    ensures value { result ≡ messages.window_start len at }
+    ensures within { result ≤ len }
+{
+    at.saturating_sub(BEFORE).min(len.saturating_sub(WINDOW))
+}
+
+/// The shown bytes of a line.
+fn window(source: &[u8], from: usize) -> &[u8]
+    requires { from ≤ length source.now }
+    ensures { result.now ≡ messages.window source.now from }
+{
+    let (_, ahead) = source.split_at(from);
+    let end = ahead.len().min(WINDOW);
+    &ahead[..end]
+}
+
+/// What stands for bytes that are left out.
+#[tactic(auto, unfolding(crate::specs::Messages::dots))]
+fn dots(is_cut: bool) -> &'static str
+    ensures { result.now ≡ messages.dots is_cut }
+{
+    if is_cut { "..." } else { "" }
+}
+
+/// Adds the bytes of a line that are shown.
+#[tactic(auto, unfolding(crate::specs::Messages::shown_window))]
+fn push_window(out: &mut String, source: &[u8], from: usize) -> Result<(), AllocError>
+    requires { from ≤ length source.now }
+    ensures { OnOk result (string_bytes out.new ≡ string_bytes out.old ++ messages.shown_window source.now from) }
+{
+    out.push_str("    ")?;
+    out.push_str(dots(from > 0))?;
+    push_shown(out, window(source, from))?;
+    out.push_str(dots(source.len() - from > WINDOW))?;
+    out.push_str("\n")
+}
+
+/// Adds a caret below the byte at an offset of a line.
+#[tactic(auto, unfolding(crate::specs::Messages::shown_caret))]
+fn push_caret(out: &mut String, at: usize, from: usize) -> Result<(), AllocError>
+    ensures { OnOk result (string_bytes out.new ≡ string_bytes out.old ++ messages.shown_caret at from) }
+{
+    out.push_str("    ")?;
+    push_blanks(out, dots(from > 0).len())?;
+    push_blanks(out, at.saturating_sub(from))?;
+    out.push_str("^\n")
+}
+
 /// Adds the source's line, and a caret.
 #[tactic(auto, unfolding(crate::specs::Messages::shown_line))]
 fn push_line(out: &mut String, place: &Place<'_>) -> Result<(), AllocError>
     ensures { OnOk result (string_bytes out.new ≡ string_bytes out.old ++ messages.shown_line place.now) }
 {
-    out.push_str("    ")?;
-    push_shown(out, place.source)?;
-    out.push_str("\n    ")?;
-    push_blanks(out, place.column.saturating_sub(1))?;
-    out.push_str("^\n")
+    let at = place.column.saturating_sub(1);
+    let from = window_start(place.source.len(), at);
+    push_window(out, place.source, from)?;
+    push_caret(out, at, from)
 }
 
 /// What is told of a fault at an offset of a text.

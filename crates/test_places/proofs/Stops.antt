@@ -1,6 +1,6 @@
 -- Reading comes to one fault.
-use Rattle.std.proofs.Common.{◌≡◌, ◌≢◌, inl, inr, List, sym, subst, refl, ◌∙◌}
-use Rattle.std.specs.Prelude.{Err}
+use Rattle.std.proofs.Common.{◌≡◌, ◌≢◌, ℕ, ◌+◌, ◌≤◌, inl, inr, List, length, take, sym, subst, refl, ◌∙◌, arith}
+use Rattle.std.specs.Prelude.{Err, Option, Some, None, MatchOption}
 use Rattle.litmus_syntax.specs.declared.symbol.Symbol.{Symbol}
 use Rattle.litmus_syntax.specs.declared.syntax_fault.SyntaxFault.{SyntaxFault}
 use Rattle.litmus_syntax.specs.declared.syntax_fault.SyntaxFault.TheVariants.{Syntax, BadOrder, TooDeep, NoMemory}
@@ -8,7 +8,7 @@ use Rattle.litmus_syntax.specs.Drafts.{Written}
 use Rattle.litmus_syntax.specs.Grammar.{Spells}
 use Rattle.litmus_syntax.specs.Reading.{syntax, deep, misordered, test_at}
 use Rattle.litmus_syntax.specs.Unspelled.{IsUnspelled}
-use Rattle.test_places.specs.Fronts.{IsStop}
+use Rattle.test_places.specs.Fronts.{IsStop, IsFirstFront}
 
 -- what is a test has no such fault
 pub no_stop : (ss : List Symbol) (w : Written) (f : SyntaxFault) → IsStop f → Spells ss w → ¬ IsUnspelled ss f
@@ -31,3 +31,16 @@ first_deep ss NoMemory m h e = absurd (m refl)
 pub one_stop : (ss : List Symbol) (f g : SyntaxFault) → IsStop g → f ≢ NoMemory → IsUnspelled ss f → IsUnspelled ss g → f ≡ g
 one_stop ss f g (inl e) m h k = first_misordered ss f m h (subst (IsUnspelled ss) e k).2 ∙ sym e
 one_stop ss f g (inr e) m h k = first_deep ss f m h (subst (IsUnspelled ss) e k).2 ∙ sym e
+
+-- the shortest front with a fault has a last symbol
+pub no_front : (ss : List Symbol) (f : SyntaxFault) (k : ℕ) → ((n : ℕ) → n ≤ length ss → ¬ IsUnspelled (take n ss) f) → ¬ IsFirstFront ss f (k + 1)
+no_front ss f k none h = none (k + 1) h.within h.has
+
+pub no_empty_front : (ss : List Symbol) (f : SyntaxFault) (n k : ℕ) → n ≡ 0 → IsFirstFront ss f n → ¬ IsFirstFront ss f (k + 1)
+no_empty_front ss f n k e h g = g.first n (omega (arith, e)) h.has
+
+pub some_match : {A : Type 0} (o : Option A) (x : A) (P : Type 0) (Q : A → Type 0) → o ≡ Some x → MatchOption o P Q → Q x
+some_match o x P Q e h = subst (λ y. MatchOption y P Q) e h
+
+pub none_match : {A : Type 0} (o : Option A) (P : Type 0) (Q : A → Type 0) → o ≡ None → MatchOption o P Q → P
+none_match o P Q e h = subst (λ y. MatchOption y P Q) e h

@@ -4,6 +4,10 @@ use Rattle.litmus_tree.specs.Names.{with_name}
 use Rattle.test_places.specs.declared.mark.Mark.{Mark}
 use Rattle.test_places.specs.Rules.{is_location}
 
+-- with no mark there is more than this
+abbrev pub AreFew : (size : List Mark → ℕ) → (most : ℕ) → List Mark → Type 0
+AreFew size most ms = (j : ℕ) → j ≤ length ms → size (take j ms) ≤ most
+
 -- The mark at place k is the first with which there is more than this.
 pub record IsFirstOver (size : List Mark → ℕ) (most : ℕ) (ms : List Mark) (k : ℕ) : Type 0 where
   pub within : k < length ms

@@ -7,7 +7,7 @@ use Rattle.wb_text.specs.declared.token.Dialect.TheVariants.{Litmus}
 use Rattle.wb_text.specs.declared.token.Token.{Token}
 use Rattle.litmus_c.specs.Reads.{StopsAt, offset_of}
 use Rattle.litmus_c.specs.declared.fault.TestFault.{TestFault}
-use Rattle.litmus_c.specs.declared.fault.TestFault.TheVariants.{Text, Syntax, BadOrder, UnknownName, PlainOnAtomic, AtomicOnPlain, Unsupported, TooDeep, TooManyThreads, TooManyLocations, NoMemory}
+use Rattle.litmus_c.specs.declared.fault.TestFault.TheVariants.{Text, Syntax, BadOrder, UnknownName, PlainOnAtomic, AtomicOnPlain, Unsupported, TooDeep, TooManyThreads, TooManyLocations, TooManyEvents, TooManyValues, ValueTooBig, NoMemory}
 use Rattle.litmus_syntax.specs.Symbols.{symbols_of}
 use Rattle.litmus_syntax.specs.declared.symbol.Symbol.{Symbol}
 use Rattle.litmus_syntax.specs.declared.syntax_fault.SyntaxFault.TheVariants as stops
@@ -43,6 +43,13 @@ IsSymbol ss (Syntax n) k = ⊥
 IsSymbol ss NoMemory k = ⊥
 IsSymbol ss e k = Unit {0}
 
+-- no symbol is the place, of a fault but 21 to 23
+abbrev pub HasNoSymbol : List Symbol → TestFault → Type 0
+HasNoSymbol ss TooManyEvents = Unit {0}
+HasNoSymbol ss TooManyValues = Unit {0}
+HasNoSymbol ss ValueTooBig = Unit {0}
+HasNoSymbol ss e = (k : ℕ) → ¬ IsSymbol ss e k
+
 -- the token of such a symbol begins at this offset
 pub record IsAtToken (text : List ℕ) (fault : TestFault) (offset : ℕ) : Type 0 where
   pub tokens : List Token
@@ -51,9 +58,23 @@ pub record IsAtToken (text : List ℕ) (fault : TestFault) (offset : ℕ) : Type
   pub is_symbol : IsSymbol (symbols_of text tokens) fault symbol
   pub begins : offset ≡ offset_of tokens (length text) symbol
 
+-- no such token, of a fault but 21 to 23
+abbrev pub IsAtNoToken : List ℕ → TestFault → Type 0
+IsAtNoToken text TooManyEvents = Unit {0}
+IsAtNoToken text TooManyValues = Unit {0}
+IsAtNoToken text ValueTooBig = Unit {0}
+IsAtNoToken text e = (offset : ℕ) → ¬ IsAtToken text e offset
+
 -- Where a fault stands in a text.
 abbrev pub IsPlace : List ℕ → TestFault → ℕ → Type 0
 IsPlace text (Text f) offset = IsFaultAt Litmus text f offset
 IsPlace text (Syntax n) offset = offset ≡ n
 IsPlace text NoMemory offset = ⊥
 IsPlace text e offset = IsAtToken text e offset
+
+-- The text has no place for the fault, where that is none of 21 to 23.
+abbrev pub HasNoPlace : List ℕ → TestFault → Type 0
+HasNoPlace text TooManyEvents = Unit {0}
+HasNoPlace text TooManyValues = Unit {0}
+HasNoPlace text ValueTooBig = Unit {0}
+HasNoPlace text e = (offset : ℕ) → ¬ IsPlace text e offset

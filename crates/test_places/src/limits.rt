@@ -1,6 +1,6 @@
 //! The first thread and the first location that is one too many.
 
-ghost use Rattle.std.specs.Prelude.{◌≡◌, ◌≤◌, IfOk, OnOk, MatchOption, count_by};
+ghost use Rattle.std.specs.Prelude.{◌≡◌, IfOk, OnOk, MatchOption, count_by};
 ghost use Rattle.test_places.specs.Limits as spec;
 ghost use Rattle.litmus_tree.specs.Names.{is_one_of};
 ghost use Rattle.test_places.specs.Rules.{is_head};
@@ -14,7 +14,7 @@ const MOST: usize = 8;
 
 /// The place of the head of the ninth thread.
 pub fn thread_too_many(marks: &[Mark]) -> Option<usize>
-    ensures { MatchOption result (count_by is_head marks.now ≤ 8) (spec.IsFirstOver (count_by is_head) 8 marks.now) }
+    ensures { MatchOption result (spec.AreFew (count_by is_head) 8 marks.now) (spec.IsFirstOver (count_by is_head) 8 marks.now) }
 {
     let mut heads = 0usize;
     for (place, mark) in marks.iter().enumerate() {
@@ -56,7 +56,7 @@ fn add_location(names: &mut Vec<Name>, mark: &Mark) -> Result<(), AllocError>
 
 /// The place of the first name of the ninth location.
 pub fn location_too_many(alloc: Global, marks: &[Mark]) -> Result<Option<usize>, AllocError>
-    ensures { IfOk result (λ o. MatchOption o (spec.locations marks.now ≤ 8) (spec.IsFirstOver spec.locations 8 marks.now)) }
+    ensures { IfOk result (λ o. MatchOption o (spec.AreFew spec.locations 8 marks.now) (spec.IsFirstOver spec.locations 8 marks.now)) }
 {
     let mut names = Vec::new(alloc);
     for (place, mark) in marks.iter().enumerate() {

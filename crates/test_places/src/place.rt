@@ -1,6 +1,7 @@
 //! The place of a test's fault.
 
-ghost use Rattle.std.specs.Prelude.{◌≡◌, ◌+◌, IfOk, IfSome};
+ghost use Rattle.std.specs.Prelude.{◌≡◌, ◌+◌, ◌≢◌, ℕ, IfOk, OnOk, MatchOption};
+ghost use Rattle.wb_text.specs.declared.fault.TextFault.TheVariants.{NoMemory};
 ghost use Rattle.litmus_c.specs.Reads.{offset_of};
 ghost use Rattle.test_places.specs.Fronts.{IsStop, IsFirstFront};
 ghost use Rattle.test_places.specs.Places as spec;
@@ -22,7 +23,7 @@ const MOST_EVENTS: usize = 64;
 
 /// Where the fault of a text stands as a test, in bytes from its beginning; none where the text doesn't have it, or memory ran out.
 pub fn place_of(alloc: Global, text: &[u8], fault: &TestFault) -> Result<Option<usize>, AllocError>
-    ensures { IfOk result (λ o. IfSome o (spec.IsPlace text.now fault.now)) }
+    ensures { IfOk result (λ o. MatchOption o (spec.HasNoPlace text.now fault.now) (spec.IsPlace text.now fault.now)) }
 {
     match fault {
         TestFault::Text(cause) => Ok(Some(place_of_fault(alloc, text, Dialect::Litmus, *cause)?)),
@@ -34,7 +35,7 @@ pub fn place_of(alloc: Global, text: &[u8], fault: &TestFault) -> Result<Option<
 
 /// The same for a fault that stands at a token.
 fn place_among(alloc: Global, text: &[u8], fault: &TestFault) -> Result<Option<usize>, AllocError>
-    ensures { IfOk result (λ o. IfSome o (spec.IsAtToken text.now fault.now)) }
+    ensures { IfOk result (λ o. MatchOption o (spec.IsAtNoToken text.now fault.now) (spec.IsAtToken text.now fault.now)) }
 {
     match tokens(alloc, text, Dialect::Litmus) {
         Ok(tokens) => {
@@ -44,8 +45,20 @@ fn place_among(alloc: Global, text: &[u8], fault: &TestFault) -> Result<Option<u
                 None => return Ok(None),
             }
         }
-        Err(TextFault::NoMemory) => return Err(AllocError),
-        Err(_) => return Ok(None),
+        Err(found) => {
+            has_memory(found)?;
+            return Ok(None);
+        }
+    }
+}
+
+/// Whether a fault is the text's own.
+fn has_memory(fault: TextFault) -> Result<(), AllocError>
+    ensures { OnOk result (fault ≢ NoMemory) }
+{
+    match fault {
+        TextFault::NoMemory => Err(AllocError),
+        _ => Ok(()),
     }
 }
 
@@ -65,13 +78,24 @@ fn symbol_of(
     symbols: &[Symbol],
     fault: &TestFault,
 ) -> Result<Option<usize>, AllocError>
-    ensures { IfOk result (λ o. IfSome o (spec.IsSymbol symbols.now fault.now)) }
+    ensures { IfOk result (λ o. MatchOption o (spec.HasNoSymbol symbols.now fault.now) (spec.IsSymbol symbols.now fault.now)) }
 {
+    let marks = marks(alloc, symbols)?;
     match fault {
         TestFault::Unsupported(_) => stop(alloc, symbols),
         TestFault::BadOrder => last_of_front(alloc, symbols, SyntaxFault::BadOrder),
         TestFault::TooDeep => last_of_front(alloc, symbols, SyntaxFault::TooDeep),
-        _ => mark_of(alloc, symbols, fault),
+        TestFault::UnknownName => Ok(first_breach(Rule::Names, &marks)),
+        TestFault::PlainOnAtomic => Ok(first_breach(Rule::PlainAccess, &marks)),
+        TestFault::AtomicOnPlain => Ok(first_breach(Rule::AtomicAccess, &marks)),
+        TestFault::TooManyThreads => Ok(thread_too_many(&marks)),
+        TestFault::TooManyLocations => location_too_many(alloc, &marks),
+        TestFault::TooManyValues => value_over(alloc, Limit::Count, &marks),
+        TestFault::ValueTooBig => value_over(alloc, Limit::Size, &marks),
+        TestFault::TooManyEvents => event_of(alloc, symbols, &marks),
+        TestFault::Text(_) => Ok(None),
+        TestFault::Syntax(_) => Ok(None),
+        TestFault::NoMemory => Ok(None),
     }
 }
 
@@ -82,33 +106,16 @@ fn last_of_front(
     fault: SyntaxFault,
 ) -> Result<Option<usize>, AllocError>
     requires { IsStop fault }
-    ensures { IfOk result (λ o. IfSome o (λ k. IsFirstFront symbols.now fault (k + 1))) }
+    ensures { IfOk result (λ o. MatchOption o ((k : ℕ) → ¬ IsFirstFront symbols.now fault (k + 1)) (λ k. IsFirstFront symbols.now fault (k + 1))) }
 {
     match first_front(alloc, symbols, fault)? {
-        Some(end) if end > 0 => Ok(Some(end - 1)),
-        _ => Ok(None),
-    }
-}
-
-/// The symbol that breaks a rule of the whole test.
-fn mark_of(
-    alloc: Global,
-    symbols: &[Symbol],
-    fault: &TestFault,
-) -> Result<Option<usize>, AllocError>
-    ensures { IfOk result (λ o. IfSome o (spec.IsSymbol symbols.now fault.now)) }
-{
-    let marks = marks(alloc, symbols)?;
-    match fault {
-        TestFault::UnknownName => Ok(first_breach(Rule::Names, &marks)),
-        TestFault::PlainOnAtomic => Ok(first_breach(Rule::PlainAccess, &marks)),
-        TestFault::AtomicOnPlain => Ok(first_breach(Rule::AtomicAccess, &marks)),
-        TestFault::TooManyThreads => Ok(thread_too_many(&marks)),
-        TestFault::TooManyLocations => location_too_many(alloc, &marks),
-        TestFault::TooManyValues => value_over(alloc, Limit::Count, &marks),
-        TestFault::ValueTooBig => value_over(alloc, Limit::Size, &marks),
-        TestFault::TooManyEvents => event_of(alloc, symbols, &marks),
-        _ => Ok(None),
+        Some(end) => {
+            if end == 0 {
+                return Ok(None);
+            }
+            Ok(Some(end - 1))
+        }
+        None => Ok(None),
     }
 }
 

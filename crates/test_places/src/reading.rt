@@ -1,6 +1,6 @@
 //! Where reading from the left stops.
 
-ghost use Rattle.std.specs.Prelude.{◌≡◌, ◌≢◌, ◌≤◌, ℕ, IfOk, OnOk, IfSome, MatchOption, length, take, true, false};
+ghost use Rattle.std.specs.Prelude.{◌≡◌, ◌≢◌, ◌≤◌, ℕ, IfOk, OnOk, MatchOption, length, take, true, false};
 ghost use Rattle.litmus_c.specs.Reads.{StopsAt};
 ghost use Rattle.litmus_syntax.specs.Unspelled.{IsUnspelled};
 ghost use Rattle.litmus_syntax.specs.declared.syntax_fault.SyntaxFault.TheVariants.{BadOrder, TooDeep, NoMemory};
@@ -57,14 +57,25 @@ pub fn first_front(
     Ok(None)
 }
 
+/// The place of the symbol at which reading stopped, if that is the fault.
+fn stopped(symbols: &[Symbol], fault: SyntaxFault) -> Result<Option<usize>, AllocError>
+    requires { IsUnspelled symbols.now fault }
+    ensures { IfOk result (λ o. MatchOption o ((k : ℕ) → ¬ StopsAt symbols.now k) (StopsAt symbols.now)) }
+{
+    match fault {
+        SyntaxFault::Syntax(left) => Ok(Some(symbols.len() - left)),
+        SyntaxFault::BadOrder => Ok(None),
+        SyntaxFault::TooDeep => Ok(None),
+        SyntaxFault::NoMemory => Err(AllocError),
+    }
+}
+
 /// The place of the symbol that the grammar doesn't take, where that is why there is no test.
 pub fn stop(alloc: Global, symbols: &[Symbol]) -> Result<Option<usize>, AllocError>
-    ensures { IfOk result (λ o. IfSome o (StopsAt symbols.now)) }
+    ensures { IfOk result (λ o. MatchOption o ((k : ℕ) → ¬ StopsAt symbols.now k) (StopsAt symbols.now)) }
 {
     match read_draft(alloc, symbols) {
         Ok(_draft) => return Ok(None),
-        Err(SyntaxFault::Syntax(left)) => return Ok(Some(symbols.len() - left)),
-        Err(SyntaxFault::NoMemory) => return Err(AllocError),
-        Err(_) => return Ok(None),
+        Err(found) => return stopped(symbols, found),
     }
 }
