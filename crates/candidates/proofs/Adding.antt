@@ -5,7 +5,6 @@ use Rattle.std.proofs.lemmas.List.{take_all}
 use Rattle.events.specs.declared.event.Event.{Event}
 use Rattle.events.specs.Executions.{writes_to}
 use Rattle.listings.specs.Lists.{tabulate, factorial, sum_of}
-use Rattle.listings.proofs.Numberings.{cons_head, cons_tail}
 use Rattle.candidates.specs.declared.counts.Counts.{Counts}
 use Rattle.candidates.specs.Bounds.{reads_from}
 use Rattle.candidates.specs.Groups.{counts_of, tally_of, plus, sum_tally, ways_of, IsFew, IsSmall}
@@ -30,12 +29,6 @@ sum_next as' bs i d l m =
     ap (λ (xs : List Counts). sum_tally xs (drop i bs)) (drop-cons as' i d l)
     ∙ ap (λ (ys : List Counts). sum_tally (get_or as' i d ∷ drop (suc i) as') ys) (drop-cons bs i d m)
     ∙ ap (λ k. plus (get_or as' i d) (get_or bs i d) ∷ sum_tally (drop k as') (drop k bs)) n
-
-pub add_next : (as' bs : List Counts) (i : ℕ) (d : Counts) (done more total : List Counts) (c : Counts) → i < length as' → i < length bs → c ≡ plus (get_or as' i d) (get_or bs i d) → more ≡ done ++ c ∷ [] → done ++ sum_tally (drop i as') (drop i bs) ≡ total → more ++ sum_tally (drop (i + 1) as') (drop (i + 1) bs) ≡ total
-add_next as' bs i d done more total c l m e g h =
-    let rest = sum_tally (drop (i + 1) as') (drop (i + 1) bs) in
-    ap (λ (xs : List Counts). xs ++ rest) g ∙ append_assoc done (c ∷ []) rest
-    ∙ ap (λ (x : Counts). done ++ x ∷ rest) e ∙ ap (λ (xs : List Counts). done ++ xs) (sym (sum_next as' bs i d l m)) ∙ h
 
 sum_nothing : (xs : List Counts) → sum_tally xs [] ≡ []
 sum_nothing [] = refl
@@ -63,21 +56,6 @@ small_sum as' bs i d h l m =
     let g = sum_get as' bs i d l m in
     let P : Counts → Type 0 = IsFew in
     subst P g.0 (h i d g.1)
-
-pub same_next : (as' bs : List Counts) (i : ℕ) (d : Counts) → i < length as' → length as' ≡ length bs → (get_or as' i d).reads ≡ (get_or bs i d).reads → (get_or as' i d).writes ≡ (get_or bs i d).writes → take i as' ≡ take i bs → take (i + 1) as' ≡ take (i + 1) bs
-same_next [] bs i d l e r w t = absurd (omega (arith, l))
-same_next (a ∷ as') [] i d l e r w t = absurd (omega (arith, e))
-same_next (a ∷ as') (b ∷ bs) zero d l e r w t =
-    let C : ℕ → ℕ → Counts = λ x y. record { reads = x; writes = y } in
-    ap (λ x. C x a.writes ∷ []) r ∙ ap (λ y. C b.reads y ∷ []) w
-same_next (a ∷ as') (b ∷ bs) (suc i) d l e r w t =
-    let head : a ≡ b = cons_head t in
-    let tail : take i as' ≡ take i bs = cons_tail t in
-    let s : suc i + 1 ≡ suc (i + 1) = omega arith in
-    ap (λ k. take k (a ∷ as')) s
-    ∙ ap (λ (x : Counts). x ∷ take (i + 1) as') head
-    ∙ ap (λ (xs : List Counts). b ∷ xs) (same_next as' bs i d (omega (arith, l)) (omega (arith, e)) r w tail)
-    ∙ sym (ap (λ k. take k (b ∷ bs)) s)
 
 pub same_end : (as' bs : List Counts) (i : ℕ) → length as' ≤ i → length as' ≡ length bs → take i as' ≡ take i bs → as' ≡ bs
 same_end as' bs i l e t = sym (take_all i as' l) ∙ t ∙ take_all i bs (omega (arith, l, e))

@@ -1,9 +1,9 @@
 -- How many candidates have some runs, location by location.
-use Rattle.std.proofs.Common.{◌≡◌, ◌≢◌, ℕ, zero, suc, ◌+◌, ◌*◌, ◌^◌, ◌<◌, List, [], ◌∷◌, ◌++◌, length, filter, refl, sym, ◌∙◌, ap, inl, inr, arith, Bool, true, false, cond, ◌==◌, ◌&&◌, length-append, ◌≤◌}
-use Rattle.std.proofs.Math.Nat.{mul_assoc, mul-one, pow-zero, pow-suc, one-le-pow}
+use Rattle.std.proofs.Common.{◌≡◌, ◌≢◌, ℕ, zero, suc, ◌+◌, ◌*◌, ◌^◌, ◌<◌, List, [], ◌∷◌, ◌++◌, length, filter, refl, sym, ◌∙◌, ap, inl, inr, arith, Bool, true, false, cond, ◌==◌, ◌&&◌, length-append}
+use Rattle.std.proofs.Math.Nat.{mul_assoc, mul-one, pow-zero, pow-suc}
 use Rattle.std.proofs.lemmas.Nat.{pow-add}
 use Rattle.std.proofs.lemmas.List.Elements.{All-head, All-tail}
-use Rattle.std.proofs.lemmas.List.Sums.{sum_by-cons, count_by-le-length}
+use Rattle.std.proofs.lemmas.List.Sums.{sum_by-cons}
 use Rattle.std.proofs.lemmas.Bool.{cases_Bool, eqb-true, eq-eqb, false≢true}
 use Rattle.std.specs.List.{sum_by, count_by, All}
 use Rattle.events.specs.declared.event.Event.{Event}
@@ -11,8 +11,7 @@ use Rattle.events.specs.Executions.{ThreadRun, is_read, writes_to}
 use Rattle.listings.specs.Lists.{product_by, factorial, tabulate}
 use Rattle.c11_threads.specs.Bounds.{IsPlaced}
 use Rattle.candidates.specs.Executions.{reads, writes_from, writes_from_thread, later_writes, upto, block}
-use Rattle.candidates.specs.Bounds.{reads_from, event_count}
-use Rattle.candidates.proofs.Caps.{factor_le, factorial_positive}
+use Rattle.candidates.specs.Bounds.{reads_from}
 
 pub product_append : {A : Type 0} (s : A → ℕ) (xs ys : List A) → product_by s (xs ++ ys) ≡ product_by s xs * product_by s ys
 product_append s [] ys = omega arith
@@ -168,18 +167,3 @@ by_location n runs h =
     ap (λ k. k * product_by (λ x. factorial (length (later_writes runs x))) (upto n)) (one ∙ reads_by_location f n runs h)
     ∙ ap (λ k. product_by (λ x. f x ^ reads_at runs x) (upto n) * k) two
     ∙ sym (product_mul (λ x. f x ^ reads_at runs x) (λ x. factorial (writes_at runs x)) (upto n))
-
-pub reads_few : (runs : List ThreadRun) (x : ℕ) → reads_at runs x ≤ event_count runs
-reads_few [] x = omega arith
-reads_few (run ∷ runs) x =
-    omega (arith, sum_by-cons (λ (r : ThreadRun). count_by (reads_from x) r.events) run runs, sum_by-cons (λ (r : ThreadRun). length r.events) run runs, count_by-le-length (reads_from x) run.events, reads_few runs x)
-
-pub writes_few : (runs : List ThreadRun) (x : ℕ) → writes_at runs x ≤ event_count runs
-writes_few [] x = omega arith
-writes_few (run ∷ runs) x =
-    omega (arith, sum_by-cons (λ (r : ThreadRun). count_by (writes_to x) r.events) run runs, sum_by-cons (λ (r : ThreadRun). length r.events) run runs, count_by-le-length (writes_to x) run.events, writes_few runs x)
-
-pub ways_positive : (runs : List ThreadRun) (x : ℕ) → 1 ≤ ways_at runs x
-ways_positive runs x =
-    let p : 1 ≤ (writes_at runs x + 1) ^ reads_at runs x = one-le-pow (reads_at runs x) (writes_at runs x + 1) (omega arith) in
-    omega (arith, p, factor_le ((writes_at runs x + 1) ^ reads_at runs x) (factorial (writes_at runs x)) (factorial_positive (writes_at runs x)))

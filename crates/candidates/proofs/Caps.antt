@@ -1,10 +1,9 @@
 -- Products and sums grow: once one is above the limit, it stays above.
-use Rattle.std.proofs.Common.{◌≡◌, ℕ, zero, suc, ◌+◌, ◌-◌, ◌*◌, ◌/◌, ◌%◌, ◌^◌, Option, None, Some, ◌<◌, ◌≤◌, List, [], ◌∷◌, ◌++◌, append_assoc, length, drop, get_or, drop-cons, add-one, refl, sym, ◌∙◌, ap, subst, inl, inr, arith}
+use Rattle.std.proofs.Common.{◌≡◌, ℕ, zero, suc, ◌+◌, ◌-◌, ◌*◌, ◌/◌, ◌%◌, ◌^◌, Option, Some, ◌<◌, ◌≤◌, List, [], ◌∷◌, ◌++◌, append_assoc, length, drop, get_or, drop-cons, add-one, refl, sym, ◌∙◌, ap, subst, inl, inr, arith}
 use Rattle.std.proofs.Math.Nat.{mul-le-mul_left, mul_assoc, mul_comm, pow-suc, one-le-pow}
 use Rattle.std.proofs.lemmas.Nat.{pow-add}
 use Rattle.std.proofs.lemmas.Bool.{cases_lt}
 use Rattle.std.proofs.lemmas.List.{drop_all}
-use Rattle.std.specs.Option.{IsSome}
 use Rattle.events.specs.declared.event.Event.{Event}
 use Rattle.events.specs.declared.event.EventId.{EventId}
 use Rattle.events.specs.Executions.{ThreadRun}
@@ -48,14 +47,6 @@ capped_further limit p n rest total e l h =
     let f : p * n ≤ (p * n) * rest = factor_le (p * n) rest l in
     omega (arith, e, f, h)
 
--- the same where one factor alone is above the limit
-pub factor_above : (limit p n rest total : ℕ) → p * (n * rest) ≡ total → 1 ≤ p → 1 ≤ rest → limit < n → limit < total
-factor_above limit p n rest total e k l h =
-    let f : n ≤ n * rest = factor_le n rest l in
-    let g : n * rest ≤ n * rest * p = factor_le (n * rest) p k in
-    let s : n * rest * p ≡ total = mul_comm (n * rest) p ∙ e in
-    omega (arith, f, g, s, h)
-
 pub product_drop : {A : Type 0} (size : A → ℕ) (as' : List A) (i : ℕ) (d : A) → i < length as' → product_by size (drop i as') ≡ size (get_or as' i d) * product_by size (drop (i + 1) as')
 product_drop size as' i d l = rw (add-one, drop-cons as' i d) refl
 
@@ -95,10 +86,6 @@ sources_positive runs r = omega arith
 pub orders_positive : (runs : List ThreadRun) (x : ℕ) → 1 ≤ count_orders runs x
 orders_positive runs x = factorial_positive (length (later_writes runs x))
 
-pub capped_some : (limit n : ℕ) (o : Option ℕ) → IsCapped limit n o → n ≤ limit → (m : ℕ) × (o ≡ Some m) × (m ≡ n)
-capped_some limit n None c l = absurd (omega (arith, c, l))
-capped_some limit n (Some m) c l = (m, refl, c.0)
-
 pub drop_upto : (n i : ℕ) → i < n → drop i (upto n) ≡ i ∷ drop (i + 1) (upto n)
 drop_upto n i l =
     let h : i < length (upto n) = below_upto i n l in
@@ -136,10 +123,6 @@ digits_more {X} size at n i rest count done more total x is made l grown e =
     let f : x ∷ r ≡ digits size at (drop i (upto n)) rest =
     ap (λ (y : X). y ∷ r) made ∙ ap (λ k. at i (rest % k) ∷ digits size at (drop (i + 1) (upto n)) (rest / k)) is ∙ sym (digits_step size at n i rest l) in
     ap (λ (ys : List X). ys ++ r) grown ∙ append_assoc done (x ∷ []) r ∙ ap (λ (ys : List X). done ++ ys) f ∙ e
-
-pub capped_is_some : (limit n : ℕ) (o : Option ℕ) → IsCapped limit n o → n ≤ limit → IsSome o
-capped_is_some limit n None c l = absurd (omega (arith, c, l))
-capped_is_some limit n (Some m) c l = refl
 
 pub capped_unwrapped : (limit n m : ℕ) (o : Option ℕ) → IsCapped limit n o → o ≡ Some m → 1 ≤ n → (m ≡ n) × (1 ≤ m)
 capped_unwrapped limit n m o c e l =

@@ -1,16 +1,14 @@
 -- The first number, from a given one on, by which each read has the value of what it reads from.
-use Rattle.std.proofs.Common.{◌≡◌, ◌≢◌, ℕ, ◌+◌, ◌-◌, ◌*◌, ◌<◌, ◌≤◌, ◌/◌, ◌%◌, ◌⊎◌, List, length, get_or, drop, refl, sym, ◌∙◌, ap, subst, inl, inr, arith, Bool, true, false, cond, nat_lt, ◌==◌, ltb-true, ltb-false}
-use Rattle.std.proofs.lemmas.List.{drop_all}
-use Rattle.std.proofs.lemmas.Bool.{cases_lt, eq-eqb, eqb-true, eqb-false}
+use Rattle.std.proofs.Common.{◌≡◌, ℕ, ◌+◌, ◌-◌, ◌*◌, ◌<◌, ◌≤◌, ◌/◌, ◌%◌, ◌⊎◌, List, length, get_or, drop, refl, sym, ◌∙◌, ap, subst, inl, inr, arith, Bool, true, false, cond, nat_lt, ◌==◌, ltb-true, ltb-false}
+use Rattle.std.proofs.lemmas.Bool.{cases_lt, eq-eqb}
 use Rattle.std.proofs.lemmas.Nat.{div-mul-add, mod_below}
 use Rattle.std.proofs.Math.Nat.{mod-add-div', mul-le-mul_right}
 use Rattle.events.specs.declared.event.Event.{Event}
 use Rattle.events.specs.Executions.{ThreadRun}
-use Rattle.listings.specs.Lists.{product_by}
 use Rattle.candidates.specs.Candidates.{count_sources, source_at, write_value, agree}
 use Rattle.candidates.specs.Readings.{IsFit, read_at}
 use Rattle.candidates.specs.declared.reading.Fit.TheVariants as of_fit
-use Rattle.candidates.proofs.Sources.{agree_next, different, divided, some_ways, split, ways_from, IsSplit}
+use Rattle.candidates.proofs.Sources.{agree_next, divided, some_ways, split, ways_from, IsSplit}
 
 -- By each number from `number` to before `start + rest` a read has another value, and by each behind the block of `below` from `start` on and before `other`. The reads
 -- before place i have theirs by all numbers of the block.
@@ -23,18 +21,6 @@ pub record Stands (init : List ℕ) (runs : List ThreadRun) (rs : List Event) (n
   pub same : (j : ℕ) → j < below → agree init runs rs (read_at runs rs (start + j)) ≡ agree init runs (drop i rs) (read_at runs (drop i rs) j)
   pub none : (m : ℕ) → number ≤ m → m < start + rest → agree init runs rs (read_at runs rs m) ≡ false
   pub behind : (m : ℕ) → start + below ≤ m → m < other → agree init runs rs (read_at runs rs m) ≡ false
-
-pub stands_first : (init : List ℕ) (runs : List ThreadRun) (rs : List Event) (number ways : ℕ) → ways ≡ product_by (count_sources runs) rs → number < ways → Stands init runs rs number 0 0 number ways ways
-stands_first init runs rs number ways e l = record {
-  left = e;
-  small = l;
-  far = omega arith;
-  most = omega (arith, e);
-  order = omega arith;
-  same = λ j m. ap (λ n. agree init runs rs (read_at runs rs n)) (let h : 0 + j ≡ j = omega arith in h);
-  none = λ m a b. absurd (omega (arith, a, b));
-  behind = λ m a b. absurd (omega (arith, a, b));
-}
 
 div_up : (a b q : ℕ) → 1 ≤ q → a ≤ b → a / q ≤ b / q
 div_up a b q s l =
@@ -195,26 +181,6 @@ stands_on init runs rs number i start rest below other f g p r l e is few from m
       ];
       behind = o.behind;
     })
-
-fit_choice : (b : Bool) (init : List ℕ) (runs : List ThreadRun) (rs : List Event) (number i start rest below other : ℕ) → (number == start + rest) ≡ b → length rs ≤ i → Stands init runs rs number i start rest below other → IsFit init runs rs number (cond b of_fit.Whole (of_fit.Until (start + rest)))
-fit_choice true init runs rs number i start rest below other e l h =
-    ap (λ x. agree init runs rs (read_at runs rs x)) (eqb-true number (start + rest) e)
-    ∙ h.same rest h.small
-    ∙ ap (λ (xs : List Event). agree init runs xs (read_at runs xs rest)) (drop_all i rs l)
-fit_choice false init runs rs number i start rest below other e l h =
-    let other = eqb-false number (start + rest) e in
-    (omega (arith, h.order, other), omega (arith, h.most, h.far, h.small), h.none)
-
-pub stands_all : (init : List ℕ) (runs : List ThreadRun) (rs : List Event) (number i start rest below other : ℕ) → length rs ≤ i → Stands init runs rs number i start rest below other → IsFit init runs rs number (cond (number == start + rest) of_fit.Whole (of_fit.Until (start + rest)))
-stands_all init runs rs number i start rest below other l h = fit_choice (number == start + rest) init runs rs number i start rest below other refl l h
-
--- one source more that has another value
-pub misses_on : (init : List ℕ) (runs : List ThreadRun) (r : Event) (d f : ℕ) → Misses init runs r d f → (write_value init runs (source_at runs r f) ≢ r.value) → Misses init runs r d (f + 1)
-misses_on init runs r d f h ne e a b = elim (cases_lt e f) [
-  | inl l ↦ h e a l
-  | inr l ↦ (let same : f ≡ e = omega (arith, l, b) in
-      subst (λ x. (write_value init runs (source_at runs r x) == r.value) ≡ false) same (different _ _ ne))
-]
 
 -- What the read at place i needs to choose its source.
 pub can_fit : (init : List ℕ) (runs : List ThreadRun) (rs : List Event) (number i start rest below other : ℕ) (r : Event) → i < length rs → r ≡ get_or rs i r → Stands init runs rs number i start rest below other

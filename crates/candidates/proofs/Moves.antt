@@ -35,9 +35,6 @@ one_more (x ∷ ws) (suc i) w = omega (arith, one_more ws i w)
 length_of : {X : Type 0} (ws : List X) (i : ℕ) (w : X) (xs : List X) → xs ≡ insert ws i w → length xs ≡ length ws + 1
 length_of {X} ws i w xs e = ap (λ (zs : List X). length zs) e ∙ one_more ws i w
 
-pub not_moved : {X : Type 0} (xs : List X) (i : ℕ) → IsMoved xs i xs i
-not_moved xs i ws w e = e
-
 -- A swap moves a write on by one place.
 pub moved_on : {X : Type 0} (old xs ys : List X) (from i j : ℕ) → j ≡ i + 1 → j < length xs → ys ≡ swap xs i j → IsMoved old from xs i → IsMoved old from ys j
 moved_on {X} old xs ys from i j is l f h ws w e =

@@ -1,5 +1,5 @@
 -- The orders of the locations, one location after another.
-use Rattle.std.proofs.Common.{◌≡◌, ℕ, zero, suc, ◌+◌, ◌/◌, ◌%◌, ◌<◌, ◌≤◌, List, [], ◌∷◌, ◌++◌, length, take, drop, get_or, set, add-one, refl, sym, ◌∙◌, ap, arith}
+use Rattle.std.proofs.Common.{◌≡◌, ℕ, zero, suc, ◌+◌, ◌/◌, ◌%◌, ◌<◌, ◌≤◌, List, [], ◌∷◌, ◌++◌, length, take, drop, get_or, set, add-one, sym, ◌∙◌, ap, arith}
 use Rattle.std.proofs.lemmas.List.{take-append-drop, take_more_set, drop-set-lt}
 use Rattle.events.specs.declared.event.EventId.{EventId}
 use Rattle.events.specs.Executions.{ThreadRun}
@@ -26,9 +26,6 @@ pub record IsTurned (runs : List ThreadRun) (n to i : ℕ) (co : List (List Even
   pub done : take i co ++ digits (count_orders runs) (order_at runs) (drop i (upto n)) new ≡ digits (count_orders runs) (order_at runs) (upto n) to
   pub left : drop i co ≡ digits (count_orders runs) (order_at runs) (drop i (upto n)) old
 
-pub turned_at_first : (runs : List ThreadRun) (n from to : ℕ) (co : List (List EventId)) → co ≡ digits (count_orders runs) (order_at runs) (upto n) from → IsTurned runs n to 0 co from to
-turned_at_first runs n from to co e = record { done = refl; left = e }
-
 -- The order of the location i, which is still the old one.
 pub old_order : (runs : List ThreadRun) (n to i : ℕ) (co : List (List EventId)) (old new : ℕ) (d : List EventId) → i < n → IsTurned runs n to i co old new → (i < length co) × (get_or co i d ≡ order_at runs i (old % count_orders runs i)) × (drop (i + 1) co ≡ digits (count_orders runs) (order_at runs) (drop (i + 1) (upto n)) (old / count_orders runs i))
 old_order runs n to i co old new d l h = get_at co i d _ _ (h.left ∙ digits_step (count_orders runs) (order_at runs) n i old l)
@@ -46,10 +43,6 @@ turned_on runs n to i co more old new count order l is made put h =
 together : (runs : List ThreadRun) (n to i : ℕ) (co : List (List EventId)) (old new : ℕ) → digits (count_orders runs) (order_at runs) (drop i (upto n)) old ≡ digits (count_orders runs) (order_at runs) (drop i (upto n)) new → IsTurned runs n to i co old new → co ≡ digits (count_orders runs) (order_at runs) (upto n) to
 together runs n to i co old new e h =
     sym (take-append-drop i co) ∙ ap (λ (xs : List (List EventId)). take i co ++ xs) (h.left ∙ e) ∙ h.done
-
--- Where the same is left of both numbers, the other orders stay.
-pub turned_same : (runs : List ThreadRun) (n to i : ℕ) (co : List (List EventId)) (old new : ℕ) → old ≡ new → IsTurned runs n to i co old new → co ≡ digits (count_orders runs) (order_at runs) (upto n) to
-turned_same runs n to i co old new e h = together runs n to i co old new (ap (digits (count_orders runs) (order_at runs) (drop i (upto n))) e) h
 
 -- Behind the last location all orders are turned.
 pub turned_to_end : (runs : List ThreadRun) (n to i : ℕ) (co : List (List EventId)) (old new : ℕ) → n ≤ i → IsTurned runs n to i co old new → co ≡ digits (count_orders runs) (order_at runs) (upto n) to

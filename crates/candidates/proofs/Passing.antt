@@ -37,10 +37,6 @@ until_of init runs orders number next is read =
       λ m a b. r.2 (m / o) (later_div number m o p a) (div_below m o next p b),
     )
 
--- Where all reads have read, the candidate is an execution.
-pub whole_of : (init : List ℕ) (runs : List ThreadRun) (orders number : ℕ) → orders ≡ count_co (length init) runs → agree init runs (reads runs) (read_at runs (reads runs) (number / orders)) ≡ true → is_consistent (candidate init runs number) ≡ true
-whole_of init runs orders number is h = let P : ℕ → Type 0 = λ k. agree init runs (reads runs) (read_at runs (reads runs) (number / k)) ≡ true in subst P is h
-
 -- A candidate that reads as an execution does is one.
 pub known_of : (init : List ℕ) (runs : List ThreadRun) (orders known number : ℕ) → orders ≡ count_co (length init) runs → known / orders ≡ number / orders → is_consistent (candidate init runs known) ≡ true → is_consistent (candidate init runs number) ≡ true
 known_of init runs orders known number is e h =

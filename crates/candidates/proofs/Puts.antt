@@ -16,26 +16,11 @@ longer_set [] i x = refl
 longer_set (y ∷ xs) zero x = refl
 longer_set (y ∷ xs) (suc i) x = let h = longer_set xs i x in omega (arith, h)
 
-pub put_end : {X : Type 0} (old new : List X) (i : ℕ) (x : X) → i ≤ length old → length old ≤ i → new ≡ old ++ x ∷ [] → IsPut old new i x
-put_end old new i x l m is =
-    let n : length new ≡ length old + 1 = ap (λ xs. length xs) is ∙ longer old x in (
-      ap (take (i + 1)) is ∙ take_all (i + 1) (old ++ x ∷ []) (omega (arith, longer old x, m)) ∙ ap (λ xs. xs ++ x ∷ []) (sym (take_all i old m)),
-      omega (arith, n, l),
-    )
-
 pub put_over : {X : Type 0} (old new : List X) (i : ℕ) (x : X) → i < length old → new ≡ set old i x → IsPut old new i x
 put_over old new i x l is =
     let n : length new ≡ length old = ap (λ xs. length xs) is ∙ longer_set old i x in (
       ap (take (i + 1)) is ∙ take_more_set old i x l,
       omega (arith, n, l),
-    )
-
-pub put_same : {X : Type 0} (old : List X) (i : ℕ) (y x : X) → i < length old → y ≡ get_or old i y → y ≡ x → IsPut old old i x
-put_same {X = X} old i y x l is same =
-    let t = take-suc old i y l in
-    let s : suc i ≡ i + 1 = omega arith in (
-      ap (λ k. take k old) (sym s) ∙ t ∙ ap (λ (z : X). take i old ++ z ∷ []) (sym is ∙ same),
-      l,
     )
 
 -- What is put over what was taken out.

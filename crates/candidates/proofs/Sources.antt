@@ -1,6 +1,6 @@
 -- What the reads read from, one read after another.
 use Rattle.std.proofs.Common.{◌≡◌, ◌≢◌, ℕ, suc, ◌+◌, ◌-◌, ◌*◌, ◌<◌, ◌≤◌, ◌/◌, ◌%◌, List, [], ◌∷◌, ◌++◌, length, get_or, take, set, drop, drop-cons, add-one, append_assoc, append-nil, refl, sym, ◌∙◌, ap, subst, inl, inr, arith, true, false, ◌==◌, ◌&&◌}
-use Rattle.std.proofs.lemmas.List.{drop_all, take_all, take_more_set, length-set}
+use Rattle.std.proofs.lemmas.List.{drop_all, take_more_set, length-set}
 use Rattle.std.proofs.lemmas.Bool.{cases_Bool, eqb-true, eq-eqb}
 use Rattle.std.proofs.lemmas.Nat.{mul-add-lt, div-mul-add, mod-mul-add, div_below, mod_below}
 use Rattle.std.proofs.Math.Nat.{mod-add-div', mul_comm, mul-le-mul_right}
@@ -85,16 +85,6 @@ divided runs rs i below n r l e b c =
     let f : below ≡ p * n + 0 = omega (arith, w, mul_comm n p) in
     (ap (λ k. k / n) f ∙ div-mul-add p n 0 s, w)
 
--- What the read at place i needs to pick its write.
-pub can_pick : (init : List ℕ) (runs : List ThreadRun) (rs : List Event) (number i : ℕ) (rf : List EventId) (rest below : ℕ) (r : Event) → i < length rs → r ≡ get_or rs i r → SoFar init runs rs number i rf rest below → (1 ≤ below / count_sources runs r) × (rest / (below / count_sources runs r) < count_sources runs r)
-can_pick init runs rs number i rf rest below r l e h =
-    let n = count_sources runs r in
-    let q = ways_from runs rs (i + 1) in
-    let f = divided runs rs i below n r l e h.left refl in
-    let t : IsSplit rest n q = split rest n q (some_ways runs rs (i + 1)) (omega (arith, h.small, f.1)) in
-    let P : ℕ → Type 0 = λ m. (1 ≤ m) × (rest / m < n) in
-    subst P (sym f.0) (some_ways runs rs (i + 1), t.digit)
-
 pub read_on : (init : List ℕ) (runs : List ThreadRun) (rs : List Event) (number i : ℕ) (rf more : List EventId) (rest below k p : ℕ) (r : Event) (w : EventId) → i < length rs → r ≡ get_or rs i r → p ≡ below / count_sources runs r → k ≡ rest % (below / count_sources runs r) → w ≡ source_at runs r (rest / (below / count_sources runs r)) → write_value init runs w ≡ r.value → more ≡ rf ++ w ∷ [] → SoFar init runs rs number i rf rest below → SoFar init runs rs number (i + 1) more k p
 read_on init runs rs number i rf more rest below k p r w l e is left src v put h =
     let n = count_sources runs r in
@@ -125,33 +115,6 @@ read_on init runs rs number i rf more rest below k p r w l e is left src v put h
           ∙ agree_next init runs rs i d j r l e b ∙ rw yes refl);
     }))
 
--- The read at place i has another value than what it would read from, and so it is up to the number at which it reads from the next.
-pub read_until : (init : List ℕ) (runs : List ThreadRun) (rs : List Event) (number i : ℕ) (rf : List EventId) (rest below k p : ℕ) (r : Event) (w : EventId) → i < length rs → r ≡ get_or rs i r → p ≡ below / count_sources runs r → k ≡ rest % (below / count_sources runs r) → w ≡ source_at runs r (rest / (below / count_sources runs r)) → write_value init runs w ≢ r.value → SoFar init runs rs number i rf rest below → (k ≤ number) × ((number < number - k + p) × (number - k + p ≤ product_by (count_sources runs) rs) × ((m : ℕ) → number ≤ m → m < number - k + p → agree init runs rs (read_at runs rs m) ≡ false))
-read_until init runs rs number i rf rest below k p r w l e is left src ne h =
-    let n = count_sources runs r in
-    let q = ways_from runs rs (i + 1) in
-    let f = divided runs rs i below n r l e h.left refl in
-    let t : IsSplit rest n q = split rest n q (some_ways runs rs (i + 1)) (omega (arith, h.small, f.1)) in
-    let d = rest / q in
-    let z = rest % q in
-    let same_p : q ≡ p = sym (is ∙ f.0) in
-    let same_k : z ≡ k = sym (left ∙ ap (λ m. rest % m) f.0) in
-    let src_q : w ≡ source_at runs r d = src ∙ ap (λ m. source_at runs r (rest / m)) f.0 in
-    let no : (write_value init runs (source_at runs r d) == r.value) ≡ false = different _ _ (λ v. ne (ap (write_value init runs) src_q ∙ v)) in (
-      omega (arith, same_k, t.whole, h.order),
-      (
-        omega (arith, same_k, same_p, t.small),
-        omega (arith, h.most, h.order, t.whole, t.next, f.1, same_k, same_p),
-        λ m a b. (let j = m - (number - z) in
-            let small : j < q = omega (arith, a, b, t.small, t.whole, h.order, same_k, same_p) in
-            let at : m ≡ number - rest + (d * q + j) = omega (arith, h.order, t.whole, a) in
-            let b' : d * q + j < q * n = mul-add-lt d q j n t.digit small in
-            ap (λ x. agree init runs rs (read_at runs rs x)) at
-            ∙ h.same (d * q + j) (omega (arith, b', f.1, mul_comm n q))
-            ∙ agree_next init runs rs i d j r l e small ∙ rw no refl),
-      ),
-    )
-
 -- Behind the last read all have read.
 pub read_all : (init : List ℕ) (runs : List ThreadRun) (rs : List Event) (number i : ℕ) (rf : List EventId) (rest below : ℕ) → length rs ≤ i → SoFar init runs rs number i rf rest below → (rf ≡ read_at runs rs number) × (agree init runs rs rf ≡ true)
 read_all init runs rs number i rf rest below l h =
@@ -160,25 +123,12 @@ read_all init runs rs number i rf rest below l h =
     let at : number - rest + rest ≡ number = omega (arith, h.order) in
     (w, ap (agree init runs rs) w ∙ ap (λ n. agree init runs rs (read_at runs rs n)) (sym at) ∙ h.same rest h.small ∙ ap (λ (xs : List Event). agree init runs xs (read_at runs xs rest)) none)
 
--- The reads before place i have read, from some writes.
-abbrev pub HasRead : List ℕ → List ThreadRun → List Event → ℕ → ℕ → ℕ → ℕ → Type 0
-HasRead init runs rs number i rest below = (rf : List EventId) × SoFar init runs rs number i rf rest below
-
--- Behind the last read all have read what they read by the number.
-pub read_whole : (init : List ℕ) (runs : List ThreadRun) (rs : List Event) (number i rest below : ℕ) → length rs ≤ i → HasRead init runs rs number i rest below → agree init runs rs (read_at runs rs number) ≡ true
-read_whole init runs rs number i rest below l h =
-    let r = read_all init runs rs number i h.0 rest below l h.1 in
-    ap (agree init runs rs) (sym r.0) ∙ r.1
-
 -- What the reads before place i read from is written down; the number `rest` of `below` is left for the others.
 pub record IsSet (runs : List ThreadRun) (rs : List Event) (number i : ℕ) (rf : List EventId) (rest below : ℕ) : Type 0 where
   pub left : below ≡ ways_from runs rs i
   pub small : rest < below
   pub len : length rf ≡ length rs
   pub is : take i rf ++ read_at runs (drop i rs) rest ≡ read_at runs rs number
-
-pub set_first : (runs : List ThreadRun) (rs : List Event) (number ways : ℕ) (rf : List EventId) → ways ≡ product_by (count_sources runs) rs → number < ways → length rf ≡ length rs → IsSet runs rs number 0 rf number ways
-set_first runs rs number ways rf e l n = record { left = e; small = l; len = n; is = refl }
 
 -- What the read at place i needs to pick its write.
 pub can_set : (runs : List ThreadRun) (rs : List Event) (number i : ℕ) (rf : List EventId) (rest below : ℕ) (r : Event) → i < length rs → r ≡ get_or rs i r → IsSet runs rs number i rf rest below → (1 ≤ below / count_sources runs r) × (rest / (below / count_sources runs r) < count_sources runs r)
@@ -213,12 +163,6 @@ set_on runs rs number i rf more rest below k p r w l e is left src put h =
           ∙ ap (λ xs. take i rf ++ xs) (sym (read_next runs rs i d z r l e t.small))
           ∙ ap (λ m. take i rf ++ read_at runs (drop i rs) m) t.whole ∙ h.is;
     }))
-
--- Behind the last read all is written down.
-pub set_all : (runs : List ThreadRun) (rs : List Event) (number i : ℕ) (rf : List EventId) (rest below : ℕ) → length rs ≤ i → IsSet runs rs number i rf rest below → rf ≡ read_at runs rs number
-set_all runs rs number i rf rest below l h =
-    let none : drop i rs ≡ [] = drop_all i rs l in
-    sym (take_all i rf (omega (arith, l, h.len))) ∙ sym (append-nil (take i rf)) ∙ ap (λ (xs : List Event). take i rf ++ read_at runs xs rest) (sym none) ∙ h.is
 
 -- Each read reads from one write.
 pub as_many_read : (runs : List ThreadRun) (rs : List Event) (number : ℕ) → length (read_at runs rs number) ≡ length rs

@@ -157,14 +157,6 @@ alone_extends s n g x l e f = λ m lo hi y at. (
     let P : GraphValue → Type 0 = λ z. Extends x z in
     subst P (some_one x y (sym f ∙ e ∙ ap (λ z. graph_at s z) (sym is) ∙ at)) (extends_self x))
 
-pub none_extends : (s : Choices) (n : ℕ) (g : Option GraphValue) (x : GraphValue) → 1 ≤ n → g ≡ graph_at s (n - 1) → g ≡ None → AllExtend s (n - 1) n x
-none_extends s n g x l e f = λ m lo hi y at. (
-    let is : m ≡ n - 1 = omega (arith, lo, hi) in
-    absurd (none_some y (sym f ∙ e ∙ ap (λ z. graph_at s z) (sym is) ∙ at)))
-
-pub nowhere_extends : (s : Choices) (n : ℕ) (x : GraphValue) → n ≡ 0 → AllExtend s (n - 1) n x
-nowhere_extends s n x e = λ m lo hi y at. absurd (omega (arith, e, hi))
-
 -- A cut by its parts.
 same_parts : (v w : List ℕ) (rs qs : List ThreadRun) (f g : List EventId) (c d : List (List EventId)) → v ≡ w → rs ≡ qs → f ≡ g → c ≡ d → (let x : GraphValue = record { init = v; runs = rs; rf = f; co = c } in x) ≡ (let y : GraphValue = record { init = w; runs = qs; rf = g; co = d } in y)
 same_parts v w rs qs f g c d a b e h =

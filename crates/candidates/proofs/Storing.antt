@@ -1,15 +1,13 @@
 -- What is written is stored, event by event.
-use Rattle.std.proofs.Common.{◌≡◌, ℕ, ◌+◌, ◌<◌, ◌≤◌, List, [], ◌∷◌, ◌++◌, length, take, get_or, refl, sym, ◌∙◌, subst, inl, inr, Bool, true, false, ◌==◌, ◌&&◌, ◌||◌}
+use Rattle.std.proofs.Common.{◌≡◌, ℕ, ◌+◌, ◌<◌, ◌≤◌, List, [], ◌∷◌, length, take, get_or, refl, sym, ◌∙◌, subst, inl, inr, Bool, true, false, ◌||◌}
 use Rattle.std.proofs.lemmas.List.{take_all}
 use Rattle.std.proofs.lemmas.Grind.{take_at_read}
-use Rattle.std.proofs.lemmas.Bool.{eq-eqb}
-use Rattle.std.proofs.lemmas.List.Folds.{list_any-append}
 use Rattle.events.specs.declared.event.Event.{Event}
 use Rattle.events.specs.Executions.{ThreadRun}
 use Rattle.listings.specs.Lists.{IsIn}
 use Rattle.listings.proofs.Listings.{in_append}
 use Rattle.candidates.specs.declared.impossible.Store.{Store}
-use Rattle.candidates.specs.Impossible.{has_store, Keeps, HasWrite, HasWrites, HasRuns, HasThreads}
+use Rattle.candidates.specs.Impossible.{Keeps, HasWrite, HasWrites, HasRuns, HasThreads}
 
 pub keeps_on : (a b c : List Store) → Keeps a b → Keeps b c → Keeps a c
 keeps_on a b c h k x v m = k x v (h x v m)
@@ -41,18 +39,6 @@ pub threads_next : (old new : List Store) (threads : List (List ThreadRun)) (i :
 threads_next old new threads i runs l is k w h =
     all_next (HasRuns old) (HasRuns new) threads i runs l is (λ rs f r q e m n. k e.loc e.value (f r q e m n)) w h
 
-true_or : (a b : Bool) → a ≡ true → (a || b) ≡ true
-true_or a b h = rw h refl
-
 or_true : (a b : Bool) → b ≡ true → (a || b) ≡ true
 or_true true b h = refl
 or_true false b h = h
-
--- A store more.
-pub more_stores : (old new : List Store) (s : Store) → new ≡ old ++ s ∷ [] → Keeps old new × (has_store new s.loc s.value ≡ true)
-more_stores old new s e =
-    let P : List Store → Type 0 = λ ss. Keeps old ss × (has_store ss s.loc s.value ≡ true) in
-    subst P (sym e) (
-      λ x v h. (list_any-append (λ t. (t.loc == x) && (t.value == v)) old (s ∷ []) ∙ true_or (has_store old x v) (has_store (s ∷ []) x v) h),
-      list_any-append (λ t. (t.loc == s.loc) && (t.value == s.value)) old (s ∷ []) ∙ or_true (has_store old s.loc s.value) (has_store (s ∷ []) s.loc s.value) (rw (eq-eqb s.loc s.loc refl, eq-eqb s.value s.value refl) refl),
-    )

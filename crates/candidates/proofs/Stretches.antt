@@ -1,17 +1,16 @@
 -- What is found at the numbers of a stretch.
-use Rattle.std.proofs.Common.{◌≡◌, ℕ, ◌+◌, ◌-◌, ◌*◌, ◌<◌, ◌≤◌, List, length, None, Some, refl, sym, ◌∙◌, ap, subst, inl, inr, arith}
-use Rattle.std.proofs.lemmas.Bool.{cases_lt}
-use Rattle.events.specs.Executions.{GraphValue, ThreadRun}
+use Rattle.std.proofs.Common.{◌≡◌, ℕ, ◌+◌, ◌-◌, ◌*◌, ◌<◌, ◌≤◌, List, length, refl, sym, ◌∙◌, ap, subst, arith}
+use Rattle.events.specs.Executions.{ThreadRun}
 use Rattle.candidates.specs.declared.reading.Look.TheVariants.{Until}
 use Rattle.candidates.specs.declared.page.Page.{Page}
 use Rattle.candidates.specs.declared.page.Stretch.{Stretch}
 use Rattle.candidates.specs.declared.fault.TheConstants.{MOST_CANDIDATES}
 use Rattle.candidates.specs.Depths.{depths_of, place_of}
 use Rattle.candidates.specs.Executions.{block}
-use Rattle.candidates.specs.Candidates.{Choices, candidate, candidate_at, graph_at, is_consistent, size_of}
+use Rattle.candidates.specs.Candidates.{Choices, candidate, candidate_at, is_consistent, size_of}
 use Rattle.candidates.specs.Readings.{IsLook, IsPage, IsStretch}
-use Rattle.candidates.specs.Walks.{NoneFrom, IsFound, IsPast}
-use Rattle.candidates.proofs.Law.{shown, hidden}
+use Rattle.candidates.specs.Walks.{IsPast}
+use Rattle.candidates.proofs.Law.{hidden}
 
 -- The ways to read and to order are those of a block.
 pub whole_page : (n : ℕ) (p : Page) → IsPage n p → p.ways * p.orders ≡ block n p.runs.items
@@ -40,12 +39,6 @@ at_number s b n h l m =
     let e : n ≡ b.first + (n - b.first) = omega (arith, l) in
     ap (candidate_at s) e ∙ h.at (n - b.first) (omega (arith, l, m))
 
--- What is found in a stretch is what stands at the number.
-pub found_here : (s : Choices) (n : ℕ) (b : Stretch) (x : GraphValue) → IsFound s n b → x ≡ candidate s.init b.page.runs.items (n - b.first) → graph_at s n ≡ Some x
-found_here s n b x f is =
-    let at = at_number s b n f.within.stretch f.within.first f.within.last in
-    shown s n (ap is_consistent at ∙ f.holds) ∙ ap (λ (y : GraphValue). Some y) (at ∙ sym is)
-
 pub none_here : (s : Choices) (b : Stretch) (n : ℕ) (init : List ℕ) (last : ℕ) → init ≡ s.init → IsStretch s b → b.first ≤ n → n < b.first + b.size → IsLook init b.page.runs.items (n - b.first) (Until last) → IsPast s n (b.first + last)
 none_here s b n init last is h l m look =
     let P : List ℕ → Type 0 = λ vs. IsLook vs b.page.runs.items (n - b.first) (Until last) in
@@ -54,10 +47,3 @@ none_here s b n init last is h l m look =
       omega (arith, k.1, h.size, h.most),
       λ x a c. hidden s x (ap is_consistent (at_number s b x h (omega (arith, a, l)) (omega (arith, c, k.1, h.size))) ∙ k.2 (x - b.first) (omega (arith, a, l)) (omega (arith, c, a, l))),
     )
-
--- Where no execution stands from n on, none stands at n.
-pub nothing_at : (s : Choices) (n m : ℕ) → IsPast s n m → None ≡ graph_at s n
-nothing_at s n m h = sym (h.2 n (omega arith) h.0)
-
-pub none_further : (s : Choices) (a n m : ℕ) → NoneFrom s a n → NoneFrom s n m → NoneFrom s a m
-none_further s a n m h k x l c = elim (cases_lt x n) [ inl b ↦ h x l b | inr b ↦ k x b c ]

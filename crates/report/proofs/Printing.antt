@@ -140,12 +140,6 @@ fronts_to r xs i = fronts r (map growth_of (take i xs))
 abbrev pub front_at : Root → List Link → ℕ → Link → List ℕ
 front_at r xs j x = front (growth_of x) (root_after r (map growth_of (take j xs)))
 
-pub fronts_none : (r : Root) (xs : List Link) (n : ℕ) → length xs ≤ n → fronts_from r xs n ≡ []
-fronts_none r [] zero h = refl
-fronts_none r [] (suc n) h = refl
-fronts_none r (x ∷ xs) zero h = absurd (omega arith)
-fronts_none r (x ∷ xs) (suc n) h = fronts_none (root_by (growth_of x)) xs n (omega arith)
-
 fronts_step : (r : Root) (xs : List Link) (j : ℕ) (x : Link) → j < length xs → fronts_from r xs j ≡ fronts_from r xs (suc j) ++ front_at r xs j (get_or xs j x)
 fronts_step r [] j x h = absurd (omega arith)
 fronts_step r (y ∷ xs) zero x h = refl

@@ -1,7 +1,6 @@
 -- Counts and verdicts.
-use Rattle.std.proofs.Common.{◌≡◌, ℕ, ◌+◌, ◌-◌, ◌≤◌, ◌^◌, List, [], ◌∷◌, ◌++◌, length, Bool, true, false, cond, not, count_by, map, Option, None, Some, unwrap_or, refl, sym, ap, ◌∙◌, subst, inl, inr, arith}
-use Rattle.std.specs.Option.{is_some}
-use Rattle.std.specs.Prelude.{slice_get, MatchOption, Result, Ok, Err, OnOk, fold, ◌↔◌, ◌⊎◌}
+use Rattle.std.proofs.Common.{◌≡◌, ℕ, ◌+◌, ◌-◌, ◌≤◌, ◌^◌, List, [], ◌∷◌, ◌++◌, length, Bool, true, false, cond, not, count_by, map, Option, unwrap_or, refl, sym, ap, ◌∙◌, subst, inl, inr, arith}
+use Rattle.std.specs.Prelude.{slice_get, Result, Ok, Err, OnOk, fold, ◌↔◌, ◌⊎◌}
 use Rattle.std.specs.BTreeSet.{insert_key}
 use Rattle.std.specs.List.Sorted.{IsStrictlySortedBy}
 use Rattle.std.proofs.lemmas.List.Sums.{fold-append, sum_by-append}
@@ -184,15 +183,6 @@ walked_none_yet t items places from to w new space next end p n s f =
 
 false_true : false ≡ true → ⊥
 false_true e = cc
-
--- The step of a walk that found something, and of one that did not.
-pub hit_found : (v w : Walking) (o : Option ℕ) (b : Bool) → b ≡ is_some o → b ≡ true → MatchOption o (IsMiss v w) (IsHit v w) → (n : ℕ) × IsHit v w n
-hit_found v w None b e f h = absurd (false_true (sym e ∙ f))
-hit_found v w (Some n) b e f h = (n, h)
-
-pub miss_found : (v w : Walking) (o : Option ℕ) (b : Bool) → b ≡ is_some o → b ≡ false → MatchOption o (IsMiss v w) (IsHit v w) → IsMiss v w
-miss_found v w None b e f h = h
-miss_found v w (Some n) b e f h = absurd (false_true (sym f ∙ e))
 
 -- one execution more, from its final state and the flags that it raises
 pub one_more : (t : Litmus) (items : List Clause) (places : List Place) (x : GraphValue) (state : List ℕ) (old new : Counter) (flags : List Word) → Lists (Raised items x) flags

@@ -51,9 +51,6 @@ pub record IsFilling (old rows left keys : List (List ℕ)) : Type 0 where
   pub kept : (s : List ℕ) → IsIn s old → IsIn s keys
   pub only : (s : List ℕ) → IsIn s keys → IsIn s old ⊎ IsIn s rows
 
-pub filling_begun : (old rows : List (List ℕ)) → IsFilling old rows rows old
-filling_begun old rows = record { rest = refl; kept = λ s p. p; only = λ s p. inl p }
-
 pub filling_on : (old rows keys new : List (List ℕ)) (i : ℕ) (r : List ℕ) → i < length rows → r ≡ get_or rows i r → new ≡ insert_key row_cmp keys r → IsFilling old rows (drop i rows) keys → IsFilling old rows (drop (i + 1) rows) new
 filling_on old rows keys new i r h e is f =
     let P : List (List ℕ) → Type 0 = λ ks. IsFilling old rows (drop (i + 1) rows) ks in

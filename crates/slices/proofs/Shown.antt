@@ -1,15 +1,13 @@
 -- The writes that may stand last, as the orders of an execution show them.
-use Rattle.std.proofs.Common.{◌≡◌, ◌==◌, ℕ, zero, suc, ◌+◌, ◌-◌, ◌*◌, ◌/◌, ◌%◌, ◌<◌, List, [], ◌∷◌, ◌++◌, length, drop, take, if◌then◌else◌, Bool, refl, sym, ◌∙◌, ap, arith}
-use Rattle.std.specs.Prelude.{min}
+use Rattle.std.proofs.Common.{◌≡◌, ◌==◌, ℕ, zero, suc, ◌+◌, ◌-◌, ◌*◌, ◌/◌, ◌%◌, ◌<◌, List, [], ◌∷◌, ◌++◌, length, drop, if◌then◌else◌, Bool, refl, sym, ◌∙◌, ap, arith}
 use Rattle.std.proofs.Math.Nat.{zero-mod, zero-div}
-use Rattle.std.proofs.lemmas.List.{take_all}
 use Rattle.std.proofs.lemmas.Bool.{lt-ltb, le-ltb, eq-eqb, ne_eqb}
 use Rattle.listings.specs.Lists.{factorial}
 use Rattle.listings.specs.Numbered.{arrange}
 use Rattle.candidates.specs.Blocks.{open_among, placings}
 use Rattle.events.specs.declared.event.EventId.{EventId}
 use Rattle.events.specs.declared.event.EventId.TheVariants.{Initial}
-use Rattle.slices.specs.Ways.{WaysValue, openable, shown_way, shown_ways, size_of_ways, tail}
+use Rattle.slices.specs.Ways.{WaysValue, openable, shown_way, shown_ways, size_of_ways}
 use Rattle.slices.proofs.Spread.{length_arranged}
 use Rattle.slices.proofs.Digits.{by_digits}
 use Rattle.slices.proofs.Opened.{orders_of, fixed_ways, fixed_values, opened_ways, opened_values}
@@ -91,14 +89,6 @@ shown_opened first later seen (suc left) k x (suc count) q =
     ap (λ t. W b ∷ shown_ways first seen (x + suc left) k (suc x) (by_digits size_of_ways rest more t)) (zero_div s) ∙
     ap (λ fr. W b ∷ shown_ways first seen fr k (suc x) (by_digits size_of_ways rest more 0)) c ∙
     ap (λ ws. W b ∷ ws) (shown_opened first later seen left k (suc x) count q)
-
--- the writes behind the first
-pub tail_is : (ws : List EventId) → take (length ws - min (length ws) 1) (drop (min (length ws) 1) ws) ≡ tail ws
-tail_is [] = refl
-tail_is (w ∷ ws) =
-    let one : min (suc (length ws)) 1 ≡ 1 = omega arith in
-    let rest : suc (length ws) - 1 ≡ length ws = omega arith in
-    ap (λ m. take (suc (length ws) - m) (drop m (w ∷ ws))) one ∙ ap (λ m. take m ws) rest ∙ take_all (length ws) ws (omega arith)
 
 -- the ways of one location more
 pub way_added : (seen : ℕ → Bool) (b : Bool) (free k x : ℕ) (order : List EventId) (orders : List (List EventId)) (w : WaysValue) → b ≡ seen x → w ≡ shown_way Initial (λ _. b) free k x order → shown_ways Initial seen free k x (order ∷ orders) ≡ (w ∷ []) ++ shown_ways Initial seen free k (x + 1) orders
