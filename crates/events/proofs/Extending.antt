@@ -9,14 +9,16 @@ use Rattle.events.specs.declared.named.Basis.TheVariants.{Runs}
 use Rattle.events.specs.Bases.{basis_of}
 use Rattle.events.specs.Executions.{GraphValue, ThreadRun, IsNamed, IsGraph}
 use Rattle.events.specs.Named.{event_names, event_count, event_at, read_names, InRel, ReadsFrom, IsCoherenceBefore, StandsFrom, StandsBefore, NamedSet, NamedRel}
-use Rattle.events.specs.Structures.{Structure, structure_of, bare}
+use Rattle.events.specs.Structures.{structure_of}
 use Rattle.events.proofs.Bases.{same_sets, same_on_runs}
+use Rattle.events.proofs.Shapes.{names_same, reads_same}
+use Rattle.events.proofs.Structures.{same_structure}
 use Rattle.std.specs.List.{All}
 use Rattle.std.proofs.lemmas.List.Elements.{All-nil, All-cons, All-head, All-tail}
 use Rattle.events.specs.Extends.{Begins, IsPart, IsPartOfOne, Extends}
 
 pub one_structure : (g h : GraphValue) → Extends g h → structure_of g ≡ structure_of h
-one_structure g h e = cc (e.init, e.runs)
+one_structure g h e = same_structure g h.init h.runs e.init e.runs
 
 pub sets_stay : (g h : GraphValue) → Extends g h → (name : SetName) (i : ℕ) → NamedSet g name i ↔ NamedSet h name i
 sets_stay g h e name i = (same_sets g h (one_structure g h e) name i, same_sets h g (sym (one_structure g h e)) name i)
@@ -90,25 +92,17 @@ coherence_before g h x d e c =
     let r : IsPartOfOne h.co c.1 = all_at (IsPartOfOne h.co) g.co c.0 c.1 x.co c.2 in
     (r.0, r.1, r.2, part_before c.1 r.1 d e r.3 c.3)
 
-reads_same : (g h : GraphValue) → Extends g h → read_names g ≡ read_names h
-unfolding event_names read_names event_at
-reads_same g h x = let P : Structure → Type 0 = λ s. read_names g ≡ read_names (bare s) in subst P (one_structure g h x) refl
-
-names_same : (g h : GraphValue) → Extends g h → event_names g ≡ event_names h
-unfolding event_names
-names_same g h x = let P : Structure → Type 0 = λ s. event_names g ≡ event_names (bare s) in subst P (one_structure g h x) refl
-
 pub reads_from : (g h : GraphValue) → Extends g h → (w r : EventId) → ReadsFrom g w r → ReadsFrom h w r
 reads_from g h x w r s =
     let P : List EventId → Type 0 = λ zs. StandsAt zs s.0 r in
-    (s.0, subst P (reads_same g h x) s.1, begun g.rf h.rf s.0 w x.rf s.2)
+    (s.0, subst P (reads_same g h (one_structure g h x)) s.1, begun g.rf h.rf s.0 w x.rf s.2)
 
 pub related : (g h : GraphValue) → Extends g h → (name : RelName) → ((d e : EventId) → InRel g name d e → InRel h name d e) → (i j : ℕ) → NamedRel g name i j → NamedRel h name i j
 unfolding NamedRel
 related g h x name f i j k =
     let P : List EventId → Type 0 = λ zs. StandsAt zs i k.0 in
     let Q : List EventId → Type 0 = λ zs. StandsAt zs j k.1 in
-    (k.0, k.1, subst P (names_same g h x) k.2, subst Q (names_same g h x) k.3, f k.0 k.1 k.4)
+    (k.0, k.1, subst P (names_same g h (one_structure g h x)) k.2, subst Q (names_same g h (one_structure g h x)) k.3, f k.0 k.1 k.4)
 
 pub relations_grow : (g h : GraphValue) → Extends g h → (name : RelName) (i j : ℕ) → NamedRel g name i j → NamedRel h name i j
 relations_grow g h x Po = λ i j. same_on_runs g h (one_structure g h x) Po refl i j
@@ -130,9 +124,6 @@ relations_grow g h x Data = λ i j. same_on_runs g h (one_structure g h x) Data 
 relations_grow g h x Ctrl = λ i j. same_on_runs g h (one_structure g h x) Ctrl refl i j
 relations_grow g h x Addr = λ i j. same_on_runs g h (one_structure g h x) Addr refl i j
 relations_grow g h x Id = λ i j. same_on_runs g h (one_structure g h x) Id refl i j
-
-pub same_count : (g h : GraphValue) → Extends g h → event_count h ≡ event_count g
-same_count g h x = let P : Structure → Type 0 = λ s. event_count (bare s) ≡ event_count g in subst P (one_structure g h x) refl
 
 -- GRAPHS
 

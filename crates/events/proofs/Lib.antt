@@ -4,6 +4,7 @@ pub mod Places
 pub mod Standing
 pub mod Adding
 pub mod Made
+pub mod Shapes
 pub mod Structures
 pub mod Bases
 pub mod Exact

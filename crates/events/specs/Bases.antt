@@ -6,8 +6,8 @@ use Rattle.events.specs.declared.named.RelName.TheVariants.{Po, Int, Ext, Loc, P
 use Rattle.events.specs.declared.named.Basis.{Basis}
 use Rattle.events.specs.declared.named.Basis.TheVariants.{Runs, Sources, Orders}
 use Rattle.events.specs.Executions.{GraphValue}
-use Rattle.events.specs.Named.{NamedSet, NamedRel}
-use Rattle.events.specs.Structures.{structure_of, sourced_of}
+use Rattle.events.specs.Named.{event_count, NamedSet, NamedRel}
+use Rattle.events.specs.Structures.{structure_of, sourced_of, plain}
 
 abbrev pub basis_of : RelName → Basis
 basis_of Po = Runs
@@ -29,6 +29,14 @@ basis_of Data = Runs
 basis_of Ctrl = Runs
 basis_of Addr = Runs
 basis_of Id = Runs
+
+-- The law: two executions of one structure have equally many events.
+abbrev pub CountsRestOnRuns : Type 0
+CountsRestOnRuns = (g h : GraphValue) → structure_of g ≡ structure_of h → event_count g ≡ event_count h
+
+-- The law: what is left of an execution without its orders and values is, as an execution, one with the same left.
+abbrev pub PlainIsLike : Type 0
+PlainIsLike = (g : GraphValue) → sourced_of (plain (sourced_of g)) ≡ sourced_of g
 
 -- The law: two executions of one structure have the same sets.
 abbrev pub SetsRestOnRuns : Type 0

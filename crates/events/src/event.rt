@@ -3,6 +3,7 @@
 ghost use Rattle.std.specs.Prelude.{◌≡◌, ◌↔◌, ◌⊎◌, IsTrue};
 ghost use Rattle.events.specs.Executions.{is_read, is_write, writes_to, no_places};
 ghost use Rattle.events.specs.Named.{IsOfCall, IsInitial, IsBefore, IsNext, IsInternal};
+ghost use Rattle.events.specs.Structures.{unvalued};
 ghost use Rattle.events.specs.declared.event.Access.TheVariants.{ExRead, ExWrite};
 
 use relations::Places;
@@ -163,6 +164,18 @@ impl Event {
             && self.access == other.access
             && self.loc == other.loc
             && self.value == other.value
+            && self.order == other.order
+            && self.data_from.is_same(&other.data_from)
+            && self.ctrl_from.is_same(&other.ctrl_from)
+    }
+
+    /// Whether it is an event like the other, whatever the values of both are.
+    pub(crate) fn is_like(&self, other: &Self) -> bool
+        ensures { IsTrue result ↔ (unvalued self.now ≡ unvalued other.now) }
+    {
+        self.loc == other.loc
+            && self.thread == other.thread
+            && self.access == other.access
             && self.order == other.order
             && self.data_from.is_same(&other.data_from)
             && self.ctrl_from.is_same(&other.ctrl_from)

@@ -1,6 +1,6 @@
 //! What holds of the definitions alone.
 
-ghost use Rattle.events.specs.Bases.{SetsRestOnRuns, RelationsRestOnRuns, RelationsRestOnSources};
+ghost use Rattle.events.specs.Bases.{CountsRestOnRuns, PlainIsLike, SetsRestOnRuns, RelationsRestOnRuns, RelationsRestOnSources};
 ghost use Rattle.events.specs.Extends.{SetsStay, RelationsStay, RelationsGrow, PartsAreGraphs};
 ghost use Rattle.events.specs.Named.{Numbering};
 
@@ -9,8 +9,10 @@ pub fn numbering()
     ensures { Numbering }
 {}
 
-/// Executions that have what a name rests on have the same set or relation of this name.
+/// Executions that have what a name rests on have the same set or relation of this name, and those of one structure have as many events.
 pub fn bases()
+    ensures counts { CountsRestOnRuns }
+    ensures plain { PlainIsLike }
     ensures sets { SetsRestOnRuns }
     ensures runs { RelationsRestOnRuns }
     ensures sources { RelationsRestOnSources }

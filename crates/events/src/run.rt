@@ -1,6 +1,7 @@
 //! Runs of a thread.
 
-ghost use Rattle.std.specs.Prelude.{◌≡◌, ◌↔◌, IfOk, IsTrue};
+ghost use Rattle.std.specs.Prelude.{◌≡◌, ◌↔◌, map, IfOk, IsTrue};
+ghost use Rattle.events.specs.Structures.{unvalued, unvalued_run};
 
 use crate::event::Event;
 use std::alloc::{AllocError, Global};
@@ -53,16 +54,37 @@ fn are_same_events(first: &[Event], second: &[Event]) -> bool
     others.is_empty()
 }
 
-/// Whether the runs are like the others.
-pub(crate) fn are_same_runs(first: &[Run], second: &[Run]) -> bool
-    ensures { IsTrue result ↔ (first.now ≡ second.now) }
+/// Whether the events are like the others, whatever their values are.
+fn are_like_events(first: &[Event], second: &[Event]) -> bool
+    ensures { IsTrue result ↔ (map unvalued first.now ≡ map unvalued second.now) }
+{
+    let mut left = first;
+    let mut others = second;
+    while let Some((event, rest)) = left.split_first() {
+        match others.split_first() {
+            Some((other, remaining)) => {
+                if !event.is_like(other) {
+                    return false;
+                }
+                left = rest;
+                others = remaining;
+            }
+            None => return false,
+        }
+    }
+    others.is_empty()
+}
+
+/// Whether the runs are like the others, whatever their values are.
+pub(crate) fn are_like_runs(first: &[Run], second: &[Run]) -> bool
+    ensures { IsTrue result ↔ (map unvalued_run first.now ≡ map unvalued_run second.now) }
 {
     let mut left = first;
     let mut others = second;
     while let Some((run, rest)) = left.split_first() {
         match others.split_first() {
             Some((other, remaining)) => {
-                if !run.is_same(other) {
+                if !run.is_like(other) {
                     return false;
                 }
                 left = rest;
@@ -113,6 +135,13 @@ impl Run {
     {
         self.registers.as_slice() == other.registers.as_slice()
             && are_same_events(&self.events, &other.events)
+    }
+
+    /// Whether it is a run like the other, whatever the values of both are.
+    fn is_like(&self, other: &Self) -> bool
+        ensures { IsTrue result ↔ (unvalued_run self.now ≡ unvalued_run other.now) }
+    {
+        are_like_events(&self.events, &other.events)
     }
 
     /// A second run like this one.

@@ -8,13 +8,13 @@ use super::numbered::Numbered;
 use super::table::Pairwise;
 use crate::event::EventId;
 use crate::graph::Graph;
-use crate::run::{Run, are_same_runs, copy_runs};
+use crate::run::{Run, are_like_runs, copy_runs};
 use relations::Rel;
 use std::alloc::{AllocError, Global};
 use std::marker::Model;
 
-/// An execution without its read-from map and its coherence orders: the initial values, the runs of the threads, and what
-/// these alone tell.
+/// An execution without its read-from map and its coherence orders, and whatever its values are: how many locations there are, what the threads
+/// do, and what these alone tell. The values that it holds are those of the execution that it was made of.
 #[derive(Drop)]
 pub(super) struct EventStructure {
     init: Vec<u32>,
@@ -31,12 +31,12 @@ impl Model for EventStructure {
     ghost use Rattle.std.specs.Prelude.{◌≡◌};
     ghost use Rattle.relations.specs.Relation.{IsExactly};
     ghost use Rattle.events.specs.Named.{event_names, event_count, read_names, NamedRel};
-    ghost use Rattle.events.specs.Structures.{Structure, bare};
+    ghost use Rattle.events.specs.Structures.{Structure, structured, bare};
     ghost use Rattle.events.specs.declared.named.RelName.TheVariants as names;
 
     ghost Value = { Structure };
 
-    ghost view = { λ s. record { init = s.init.items; runs = s.runs.items } };
+    ghost view = { λ s. structured s.init.items s.runs.items };
 
     ghost invariant = { λ s. let g = bare (record { init = s.init.items; runs = s.runs.items }) in
         record { events : s.events.items ≡ event_names g; reads : s.reads.items ≡ read_names g; po : IsExactly (event_count g) (NamedRel g names.Po) s.po; int : IsExactly (event_count g) (NamedRel g names.Int) s.int; loc : IsExactly (event_count g) (NamedRel g names.Loc) s.loc } };
@@ -65,7 +65,7 @@ impl EventStructure {
     pub(super) fn is_of(&self, graph: &Graph) -> bool
         ensures { IsTrue result ↔ (self.now ≡ structure_of graph.now) }
     {
-        self.init.as_slice() == graph.init() && are_same_runs(&self.runs, graph.runs())
+        self.init.len() == graph.init().len() && are_like_runs(&self.runs, graph.runs())
     }
 
     /// The events of an execution with this structure, numbered.

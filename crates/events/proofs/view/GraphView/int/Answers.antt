@@ -1,9 +1,10 @@
-use Rattle.std.proofs.Common.{◌∙◌}
+use Rattle.std.proofs.Common.{◌∙◌, refl}
+use Rattle.events.specs.declared.named.RelName.TheVariants as names
 use Rattle.events.specs.Structures.{bare}
-use Rattle.events.proofs.Structures.{moved_int}
+use Rattle.events.proofs.Structures.{moved}
 use Rattle.events.proofs.view.GraphView.int.Goals as goal
 
 pub returns : goal.returns
 returns c =
     let s = c.kept.inside in
-    moved_int (bare (record { init = s.init.items; runs = s.runs.items })) c.args.self.now s.int (c.kept.view_is ∙ c.structure-kept.ensures) c.kept.invariant.int
+    moved (bare (record { init = s.init.items; runs = s.runs.items })) c.args.self.now names.Int s.int refl (c.kept.view_is ∙ c.structure-kept.ensures) c.kept.invariant.int

@@ -1,10 +1,11 @@
-use Rattle.std.proofs.Common.{◌≡◌, ◌∙◌, ap, List}
+use Rattle.std.proofs.Common.{◌≡◌, ◌∙◌, ap, refl, List}
 use Rattle.std.specs.Prelude.{filter}
 use Rattle.events.specs.declared.event.EventId.{EventId}
+use Rattle.events.specs.declared.named.RelName.TheVariants as names
 use Rattle.events.specs.Executions.{is_read}
 use Rattle.events.specs.Named.{read_names, access_of}
 use Rattle.events.specs.Structures.{structure_of, bare}
-use Rattle.events.proofs.Structures.{moved_names, moved_reads, moved_po, moved_int, moved_loc, same_structure}
+use Rattle.events.proofs.Structures.{moved_names, moved_reads, moved, same_structure}
 use Rattle.events.proofs.view.structure.EventStructure.of.Goals as goal
 
 pub new-numbered-requires-clause-reads : goal.new-numbered-requires-clause-reads
@@ -24,7 +25,7 @@ invariant_of-result c =
     record {
       events = moved_names g h _ e c.in_ok-events.ensures.names;
       reads = moved_reads g h _ e (c.in_ok-reads.ensures ∙ ap (λ (es : List EventId). filter (λ e. is_read (access_of g e)) es) (c.deref.ensures.value ∙ c.in_ok-events.ensures.names));
-      po = moved_po m h _ d c.tested.ensures;
-      int = moved_int m h _ d c.tested-2.ensures;
-      loc = moved_loc m h _ d c.tested-3.ensures;
+      po = moved m h names.Po _ refl d c.tested.ensures;
+      int = moved m h names.Int _ refl d c.tested-2.ensures;
+      loc = moved m h names.Loc _ refl d c.tested-3.ensures;
     }
