@@ -8,7 +8,7 @@ use super::numbered::Numbered;
 use super::table::Pairwise;
 use crate::event::EventId;
 use crate::graph::Graph;
-use crate::run::{Run, are_same_runs, copy_runs};
+use crate::run::{Run, are_same_runs, are_same_values, copy_runs};
 use relations::Rel;
 use std::alloc::{AllocError, Global};
 use std::marker::Model;
@@ -65,7 +65,7 @@ impl EventStructure {
     pub(super) fn is_of(&self, graph: &Graph) -> bool
         ensures { IsTrue result ↔ (self.now ≡ structure_of graph.now) }
     {
-        self.init.as_slice() == graph.init() && are_same_runs(&self.runs, graph.runs())
+        are_same_values(&self.init, graph.init()) && are_same_runs(&self.runs, graph.runs())
     }
 
     /// The events of an execution with this structure, numbered.

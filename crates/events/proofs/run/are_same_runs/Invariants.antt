@@ -1,9 +1,6 @@
-use Rattle.std.proofs.Common.{◌≡◌, ◌↔◌, length}
+use Rattle.std.proofs.Common.{◌≡◌, take}
 use Rattle.events.proofs.run.are_same_runs.Given as goal
 
--- what is left to compare decides of all
-abbrev pub invariant-loop-run : goal.invariant-loop-run
-invariant-loop-run l = (l.left ≡ l.others) ↔ (l.fn.first ≡ l.fn.second)
-
-abbrev pub decreases-loop-run : goal.decreases-loop-run
-decreases-loop-run l = length l.left
+-- what was compared is the same
+abbrev pub invariant-loop-thread : goal.invariant-loop-thread
+invariant-loop-thread l = take l.thread l.first ≡ take l.thread l.second
