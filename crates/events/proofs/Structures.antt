@@ -1,10 +1,12 @@
 -- What depends on a structure alone, or on it and the read-from map, is the same in each execution that has these.
-use Rattle.std.proofs.Common.{◌≡◌, ℕ, List, refl, sym, subst}
+use Rattle.std.proofs.Common.{◌≡◌, ℕ, ◌+◌, ◌<◌, List, length, get_or, drop, refl, sym, subst}
 use Rattle.relations.specs.Relation.{Relation, IsExactly}
 use Rattle.events.specs.declared.event.EventId.{EventId}
 use Rattle.events.specs.declared.named.RelName.TheVariants.{Po, Int, Loc, Rf}
 use Rattle.events.specs.Executions.{GraphValue, ThreadRun}
 use Rattle.events.specs.Named.{event_names, event_count, event_at, read_names, NamedRel}
+use Rattle.events.specs.Rows.{AreFirsts}
+use Rattle.events.proofs.Direct.{events_in}
 use Rattle.events.specs.Structures.{Structure, Sourced, structure_of, sourced_of, bare, plain}
 
 pub moved_names : (g h : GraphValue) (es : List EventId) → structure_of g ≡ structure_of h → es ≡ event_names g → es ≡ event_names h
@@ -14,6 +16,12 @@ moved_names g h es e k = (let P : Structure → Type 0 = λ s. es ≡ event_name
 pub moved_reads : (g h : GraphValue) (es : List EventId) → structure_of g ≡ structure_of h → es ≡ read_names g → es ≡ read_names h
 unfolding event_names read_names event_at
 moved_reads g h es e k = (let P : Structure → Type 0 = λ s. es ≡ read_names (bare s) in subst P e k)
+
+pub moved_firsts : (g h : GraphValue) (firsts : List ℕ) → structure_of g ≡ structure_of h → AreFirsts g firsts → AreFirsts h firsts
+moved_firsts g h firsts e f = record {
+  threads = (let P : Structure → Type 0 = λ s. length firsts ≡ length s.runs in subst P e f.threads);
+  first = (let P : Structure → Type 0 = λ s. (k : ℕ) → k < length s.runs → get_or firsts k 0 + events_in (drop k s.runs) ≡ event_count (bare s) in subst P e f.first);
+}
 
 pub moved_po : (g h : GraphValue) (r : Relation) → structure_of g ≡ structure_of h → IsExactly (event_count g) (NamedRel g Po) r → IsExactly (event_count h) (NamedRel h Po) r
 unfolding event_names NamedRel

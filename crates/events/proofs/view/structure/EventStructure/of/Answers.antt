@@ -4,7 +4,7 @@ use Rattle.events.specs.declared.event.EventId.{EventId}
 use Rattle.events.specs.Executions.{is_read}
 use Rattle.events.specs.Named.{read_names, access_of}
 use Rattle.events.specs.Structures.{structure_of, bare}
-use Rattle.events.proofs.Structures.{moved_names, moved_reads, moved_po, moved_int, moved_loc, same_structure}
+use Rattle.events.proofs.Structures.{moved_names, moved_reads, moved_firsts, moved_po, moved_int, moved_loc, same_structure}
 use Rattle.events.proofs.view.structure.EventStructure.of.Goals as goal
 
 pub new-numbered-requires-clause-reads : goal.new-numbered-requires-clause-reads
@@ -24,6 +24,7 @@ invariant_of-result c =
     record {
       events = moved_names g h _ e c.in_ok-events.ensures.names;
       reads = moved_reads g h _ e (c.in_ok-reads.ensures ∙ ap (λ (es : List EventId). filter (λ e. is_read (access_of g e)) es) (c.deref.ensures.value ∙ c.in_ok-events.ensures.names));
+      firsts = moved_firsts g h _ e c.in_ok-firsts.ensures;
       po = moved_po m h _ d c.tested.ensures;
       int = moved_int m h _ d c.tested-2.ensures;
       loc = moved_loc m h _ d c.tested-3.ensures;
