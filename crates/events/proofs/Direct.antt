@@ -1,5 +1,5 @@
 -- At which number an event stands.
-use Rattle.std.proofs.Common.{◌≡◌, ℕ, zero, suc, ◌+◌, ◌<◌, List, [], ◌∷◌, ◌++◌, length, get_or, drop, refl, ap, subst, arith}
+use Rattle.std.proofs.Common.{◌≡◌, ℕ, zero, suc, ◌+◌, ◌<◌, List, [], ◌∷◌, ◌++◌, length, get_or, drop, refl, sym, ◌∙◌, ap, subst, arith}
 use Rattle.std.specs.Prelude.{sum_by}
 use Rattle.std.proofs.lemmas.List.Sums.{sum_by-cons}
 use Rattle.listings.specs.Lists.{IsIn, StandsAt, tabulate}
@@ -9,9 +9,9 @@ use Rattle.events.specs.declared.event.EventId.{EventId}
 use Rattle.events.specs.declared.event.EventId.TheVariants.{Initial, Own}
 use Rattle.events.specs.Executions.{GraphValue, ThreadRun, IsNamed, empty_run}
 use Rattle.events.specs.Named.{names_from, thread_names, event_names}
-use Rattle.events.proofs.Adding.{one_number}
+use Rattle.events.proofs.Adding.{has_number, one_number}
 use Rattle.events.proofs.Numbers.{count_names, count_initial, own, names_listed}
-use Rattle.events.proofs.Standing.{stands_below, stands_get}
+use Rattle.events.proofs.Standing.{stands_below, stands_get, stands_read}
 
 in_front : {X : Type 0} (xs ys : List X) (i : ℕ) (x : X) → StandsAt xs i x → StandsAt (xs ++ ys) i x
 in_front [] ys i x s = absurd s
@@ -61,7 +61,7 @@ threads_at k (run ∷ runs) (suc j) q l m =
       omega (arith, f.2, n, s),
     )
 
-named_at : (g : GraphValue) (e : EventId) (i : ℕ) → StandsAt (event_names g) i e → IsNamed g.init g.runs e
+pub named_at : (g : GraphValue) (e : EventId) (i : ℕ) → StandsAt (event_names g) i e → IsNamed g.init g.runs e
 named_at g e i s =
     let names = event_names g in
     let P : EventId → Type 0 = λ w. IsIn w names in
@@ -85,3 +85,25 @@ number_of_own g k p first i h s =
     let at : StandsAt (event_names g) (length initial + f.0) (Own k p) =
     subst P (own (0 + k) k p p (omega arith) refl) (behind initial (thread_names 0 g.runs) f.0 (Own (0 + k) p) f.1) in
     omega (arith, one_number g (Own k p) (length initial + f.0) i at s, count_initial (length g.init) Initial, f.2, h named.0)
+
+-- an initial write has a number
+pub initial_number : (g : GraphValue) (x : ℕ) → x < length g.init → StandsAt (event_names g) x (Initial x)
+initial_number g x l =
+    let f = has_number g (Initial x) l in
+    let P : ℕ → Type 0 = λ i. StandsAt (event_names g) i (Initial x) in
+    subst P (sym (number_of_initial g x f.0 f.1)) f.1
+
+-- so has an event of a thread
+pub own_number : (g : GraphValue) (k p first : ℕ) → first + events_in (drop k g.runs) ≡ length g.init + events_in g.runs → k < length g.runs → p < length (get_or g.runs k empty_run).events →
+    StandsAt (event_names g) (first + p) (Own k p)
+own_number g k p first h l m =
+    let f = has_number g (Own k p) (l, m) in
+    let P : ℕ → Type 0 = λ i. StandsAt (event_names g) i (Own k p) in
+    subst P (sym (number_of_own g k p first f.0 (λ n. h) f.1)) f.1
+
+-- how many events the run has that is read at a thread's place
+pub run_at : (g : GraphValue) (runs : List ThreadRun) (k : ℕ) (run : ThreadRun) (events : List Event) → runs ≡ g.runs → k < length runs → run ≡ get_or runs k run → events ≡ run.events →
+    length (get_or g.runs k empty_run).events ≡ length events
+run_at g runs k run events e l h f =
+    let a : get_or g.runs k empty_run ≡ run = stands_get g.runs k empty_run run (stands_read runs g.runs k run e l h) in
+    ap (λ (r : ThreadRun). length r.events) a ∙ ap length (sym f)

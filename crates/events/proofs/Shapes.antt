@@ -1,5 +1,5 @@
 -- What executions of one structure have in common, whatever their values are.
-use Rattle.std.proofs.Common.{◌≡◌, ℕ, zero, suc, ◌+◌, List, [], ◌∷◌, ◌++◌, length, map, get_or, Bool, refl, sym, ap, ◌∙◌, subst}
+use Rattle.std.proofs.Common.{◌≡◌, ℕ, zero, suc, ◌+◌, List, [], ◌∷◌, ◌++◌, length, map, get_or, drop, Bool, refl, sym, ap, ◌∙◌, subst}
 use Rattle.std.specs.Prelude.{sum_by, cond}
 use Rattle.std.specs.List.{filter}
 use Rattle.std.proofs.Math.ListN.{get_or-map}
@@ -43,6 +43,11 @@ sums_unvalued (run ∷ runs) =
     ∙ ap (λ n. length run.events + n) (sums_unvalued runs)
     ∙ sym (sum_by-cons f run runs)
 
+rest_unvalued : (k : ℕ) (runs : List ThreadRun) → sum_by (λ run. length run.events) (drop k (map unvalued_run runs)) ≡ sum_by (λ run. length run.events) (drop k runs)
+rest_unvalued zero runs = sums_unvalued runs
+rest_unvalued (suc k) [] = refl
+rest_unvalued (suc k) (run ∷ runs) = rest_unvalued k runs
+
 own_count : (g : GraphValue) → event_count (bare (structure_of g)) ≡ event_count g
 own_count g =
     ap (λ n. n + sum_by (λ run. length run.events) (map unvalued_run g.runs)) (length-map g.init nought)
@@ -61,6 +66,13 @@ names_same g h e = sym (own_names g) ∙ ap (λ s. event_names (bare s)) e ∙ o
 
 pub count_same : (g h : GraphValue) → structure_of g ≡ structure_of h → event_count g ≡ event_count h
 count_same g h e = sym (own_count g) ∙ ap (λ s. event_count (bare s)) e ∙ own_count h
+
+pub threads_same : (g h : GraphValue) → structure_of g ≡ structure_of h → length g.runs ≡ length h.runs
+threads_same g h e = sym (length-map g.runs unvalued_run) ∙ ap (λ (s : Structure). length s.runs) e ∙ length-map h.runs unvalued_run
+
+-- as many events are left behind a thread
+pub rest_same : (g h : GraphValue) → structure_of g ≡ structure_of h → (k : ℕ) → sum_by (λ run. length run.events) (drop k g.runs) ≡ sum_by (λ run. length run.events) (drop k h.runs)
+rest_same g h e k = sym (rest_unvalued k g.runs) ∙ ap (λ (s : Structure). sum_by (λ run. length run.events) (drop k s.runs)) e ∙ rest_unvalued k h.runs
 
 event_same : (g h : GraphValue) → structure_of g ≡ structure_of h → (k p : ℕ) → unvalued (event_at g k p) ≡ unvalued (event_at h k p)
 event_same g h e k p = sym (own_event g k p) ∙ ap (λ s. event_at (bare s) k p) e ∙ own_event h k p

@@ -1,5 +1,5 @@
 -- What depends on a structure alone, or on it and the read-from map, is the same in each execution that has these.
-use Rattle.std.proofs.Common.{◌≡◌, ℕ, ◌<◌, List, [], ◌∷◌, length, map, refl, sym, ap, ◌∙◌, subst, arith}
+use Rattle.std.proofs.Common.{◌≡◌, ℕ, ◌+◌, ◌<◌, List, [], ◌∷◌, length, map, refl, sym, ap, ◌∙◌, subst, arith}
 use Rattle.std.proofs.lemmas.List.{length-map}
 use Rattle.relations.specs.Relation.{Relation, In, IsExactly}
 use Rattle.events.specs.declared.event.Event.{Event}
@@ -10,15 +10,22 @@ use Rattle.events.specs.declared.named.Basis.TheVariants.{Runs}
 use Rattle.events.specs.Bases.{basis_of}
 use Rattle.events.specs.Executions.{GraphValue, ThreadRun}
 use Rattle.events.specs.Named.{event_names, event_count, read_names, NamedRel}
+use Rattle.events.specs.Rows.{AreFirsts}
 use Rattle.events.specs.Structures.{Structure, Sourced, unvalued, unvalued_run, nought, structured, structure_of, sourced_of, bare, plain}
 use Rattle.events.proofs.Bases.{same_on_runs, same_on_sources}
-use Rattle.events.proofs.Shapes.{names_same, count_same, reads_same}
+use Rattle.events.proofs.Shapes.{names_same, count_same, reads_same, threads_same, rest_same}
 
 pub moved_names : (g h : GraphValue) (es : List EventId) → structure_of g ≡ structure_of h → es ≡ event_names g → es ≡ event_names h
 moved_names g h es e k = k ∙ names_same g h e
 
 pub moved_reads : (g h : GraphValue) (es : List EventId) → structure_of g ≡ structure_of h → es ≡ read_names g → es ≡ read_names h
 moved_reads g h es e k = k ∙ reads_same g h e
+
+pub moved_firsts : (g h : GraphValue) (firsts : List ℕ) → structure_of g ≡ structure_of h → AreFirsts g firsts → AreFirsts h firsts
+moved_firsts g h firsts e f = record {
+  threads = f.threads ∙ threads_same g h e;
+  first = λ k l. omega (arith, f.first k (omega (arith, l, threads_same g h e)), rest_same g h e k, count_same g h e);
+}
 
 -- a relation that is exactly one is exactly each other that relates the same events
 exactly_as : (m n : ℕ) (P Q : ℕ → ℕ → Type 0) (r : Relation) → m ≡ n → ((i j : ℕ) → P i j → Q i j) → ((i j : ℕ) → Q i j → P i j) → IsExactly m P r → IsExactly n Q r

@@ -1,5 +1,5 @@
 -- How the relations of an execution are worked out.
-use Rattle.std.specs.Prelude.{ℕ, ◌+◌, ◌<◌, ◌≤◌, List}
+use Rattle.std.specs.Prelude.{◌≡◌, ℕ, ◌+◌, ◌<◌, ◌≤◌, List, length, drop, sum_by, slice_index_or}
 use Rattle.listings.specs.Lists.{StandsAt}
 use Rattle.events.specs.declared.event.EventId.{EventId}
 use Rattle.events.specs.declared.named.RelName.{RelName}
@@ -7,7 +7,7 @@ use Rattle.events.specs.declared.named.RelName.TheVariants as names
 use Rattle.events.specs.declared.view.table.Pairwise.{Pairwise}
 use Rattle.events.specs.declared.view.table.Pairwise.TheVariants.{Po, Int, Loc, Rmw, Data, Ctrl}
 use Rattle.events.specs.Executions.{GraphValue}
-use Rattle.events.specs.Named.{IsNumber, read_names, StandsFrom, StandsBefore}
+use Rattle.events.specs.Named.{event_count, IsNumber, read_names, StandsFrom, StandsBefore}
 
 -- the name of a relation that is tested pair by pair
 abbrev pub name_of : Pairwise → RelName
@@ -41,3 +41,8 @@ ReadsAmong g count w r = (m : ℕ) × (m < count) × StandsAt (read_names g) m r
 -- r is the read with this number among the reads, and it reads from w
 abbrev pub IsReadAt : GraphValue → ℕ → EventId → EventId → Type 0
 IsReadAt g m w r = StandsAt (read_names g) m r × StandsAt g.rf m w
+
+-- firsts gives of each thread the number of its first event: with the events of this thread and of those behind it, that makes all events
+pub record AreFirsts (g : GraphValue) (firsts : List ℕ) : Type 0 where
+  pub threads : length firsts ≡ length g.runs
+  pub first : (k : ℕ) → k < length g.runs → slice_index_or firsts k 0 + sum_by (λ run. length run.events) (drop k g.runs) ≡ event_count g

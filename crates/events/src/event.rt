@@ -170,15 +170,15 @@ impl Event {
     }
 
     /// Whether it is an event like the other, whatever the values of both are.
-    pub(crate) fn is_like(&self, other: &Self) -> bool
-        ensures { IsTrue result ↔ (unvalued self.now ≡ unvalued other.now) }
+    pub(crate) fn is_like(&self, like: &Self) -> bool
+        ensures { IsTrue result ↔ (unvalued self.now ≡ unvalued like.now) }
     {
-        self.loc == other.loc
-            && self.thread == other.thread
-            && self.access == other.access
-            && self.order == other.order
-            && self.data_from.is_same(&other.data_from)
-            && self.ctrl_from.is_same(&other.ctrl_from)
+        self.loc == like.loc
+            && self.thread == like.thread
+            && self.access == like.access
+            && self.order == like.order
+            && self.data_from.is_same(&like.data_from)
+            && self.ctrl_from.is_same(&like.ctrl_from)
     }
 
     /// Whether it reads.

@@ -1,7 +1,6 @@
 //! What is known of an event by its name, and of a pair of events.
 
 ghost use Rattle.std.specs.Prelude.{◌≡◌, ◌↔◌, IsTrue, MatchOption};
-ghost use Rattle.listings.specs.Lists.{StandsAt};
 ghost use Rattle.events.specs.Named.{no_event, event_at, access_of, location_of, order_of, data_of, control_of, IsMemory, IsAtOneLocation, IsExchange, IsDependency};
 
 use crate::event::{Access, Event, EventId, Order};
@@ -18,20 +17,6 @@ fn is_dependency(places: &Places, first: EventId, second: EventId) -> bool
         }
         _ => false,
     }
-}
-
-/// Are both one event?
-fn is_same(first: EventId, second: EventId) -> bool
-    ensures { IsTrue result ↔ (first ≡ second) }
-{
-    first == second
-}
-
-/// Does the event stand at this place?
-pub(super) fn stands_at(events: &[EventId], place: usize, event: EventId) -> bool
-    ensures { IsTrue result ↔ StandsAt events.now place event }
-{
-    place < events.len() && is_same(events[place], event)
 }
 
 impl Graph {

@@ -5,7 +5,7 @@ ghost use Rattle.listings.specs.Lists.{StandsAt};
 ghost use Rattle.relations.specs.Events.{IsExactlySet};
 ghost use Rattle.relations.specs.Relation.{IsExactly};
 ghost use Rattle.events.specs.Named.{event_count, event_names, read_names, IsNumber, NamedSet, NamedRel};
-ghost use Rattle.events.specs.Rows.{name_of};
+ghost use Rattle.events.specs.Rows.{AreFirsts, name_of};
 
 use super::table::Pairwise;
 use crate::event::EventId;
@@ -22,25 +22,34 @@ pub(super) struct Numbered<'a> {
     pub(super) events: &'a [EventId],
     // The reads among them, in the same order.
     pub(super) reads: &'a [EventId],
+    // Of each thread the number of its first event.
+    pub(super) firsts: &'a [usize],
 }
 
 impl<'a> Model for Numbered<'a> {
     ghost use Rattle.std.specs.Prelude.{◌≡◌, ◌≤◌, length};
     ghost use Rattle.events.specs.Executions.{GraphValue};
     ghost use Rattle.events.specs.Named.{event_names, event_count, read_names};
+    ghost use Rattle.events.specs.Rows.{AreFirsts};
 
     ghost Value = { GraphValue };
 
     ghost view = { λ v. v.graph.now };
 
-    ghost invariant = { λ v. record { events : v.events.now ≡ event_names v.graph.now; reads : v.reads.now ≡ read_names v.graph.now; count : length v.events.now ≡ event_count v.graph.now; few : event_count v.graph.now ≤ 64 } };
+    ghost invariant = { λ v. record { events : v.events.now ≡ event_names v.graph.now; reads : v.reads.now ≡ read_names v.graph.now; firsts : AreFirsts v.graph.now v.firsts.now; count : length v.events.now ≡ event_count v.graph.now; few : event_count v.graph.now ≤ 64 } };
 }
 
 impl<'a> Numbered<'a> {
-    /// An execution whose events and reads these are.
-    pub(super) fn new(graph: &'a Graph, events: &'a [EventId], reads: &'a [EventId]) -> Self
+    /// An execution whose events, reads and threads' first events these are.
+    pub(super) fn new(
+        graph: &'a Graph,
+        events: &'a [EventId],
+        reads: &'a [EventId],
+        firsts: &'a [usize],
+    ) -> Self
         requires events { events.now ≡ event_names graph.now }
         requires reads { reads.now ≡ read_names graph.now }
+        requires firsts { AreFirsts graph.now firsts.now }
         ensures { result ≡ graph.entry.now }
     {
         // They tell that the events are few.
@@ -49,6 +58,7 @@ impl<'a> Numbered<'a> {
             graph,
             events,
             reads,
+            firsts,
         }
     }
 

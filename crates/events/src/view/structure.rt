@@ -5,6 +5,7 @@ ghost use Rattle.events.specs.Structures.{structure_of};
 
 use super::names::{event_names, read_names};
 use super::numbered::Numbered;
+use super::numbers::first_numbers;
 use super::table::Pairwise;
 use crate::event::EventId;
 use crate::graph::Graph;
@@ -22,6 +23,8 @@ pub(super) struct EventStructure {
     // The events by their numbers, and the reads among them.
     events: Vec<EventId>,
     reads: Vec<EventId>,
+    // Of each thread the number of its first event.
+    firsts: Vec<usize>,
     pub(super) po: Rel,
     pub(super) int: Rel,
     pub(super) loc: Rel,
@@ -31,6 +34,7 @@ impl Model for EventStructure {
     ghost use Rattle.std.specs.Prelude.{◌≡◌};
     ghost use Rattle.relations.specs.Relation.{IsExactly};
     ghost use Rattle.events.specs.Named.{event_names, event_count, read_names, NamedRel};
+    ghost use Rattle.events.specs.Rows.{AreFirsts};
     ghost use Rattle.events.specs.Structures.{Structure, structured, bare};
     ghost use Rattle.events.specs.declared.named.RelName.TheVariants as names;
 
@@ -39,7 +43,7 @@ impl Model for EventStructure {
     ghost view = { λ s. structured s.init.items s.runs.items };
 
     ghost invariant = { λ s. let g = bare (record { init = s.init.items; runs = s.runs.items }) in
-        record { events : s.events.items ≡ event_names g; reads : s.reads.items ≡ read_names g; po : IsExactly (event_count g) (NamedRel g names.Po) s.po; int : IsExactly (event_count g) (NamedRel g names.Int) s.int; loc : IsExactly (event_count g) (NamedRel g names.Loc) s.loc } };
+        record { events : s.events.items ≡ event_names g; reads : s.reads.items ≡ read_names g; firsts : AreFirsts g s.firsts.items; po : IsExactly (event_count g) (NamedRel g names.Po) s.po; int : IsExactly (event_count g) (NamedRel g names.Int) s.int; loc : IsExactly (event_count g) (NamedRel g names.Loc) s.loc } };
 }
 
 impl EventStructure {
@@ -49,7 +53,8 @@ impl EventStructure {
     {
         let events = event_names(alloc, graph)?;
         let reads = read_names(alloc, graph, &events)?;
-        let numbered = Numbered::new(graph, &events, &reads);
+        let firsts = first_numbers(alloc, graph)?;
+        let numbered = Numbered::new(graph, &events, &reads, &firsts);
         Ok(EventStructure {
             init: Vec::from_slice(alloc, graph.init())?,
             runs: copy_runs(alloc, graph.runs())?,
@@ -58,6 +63,7 @@ impl EventStructure {
             loc: numbered.tested(Pairwise::Loc),
             events,
             reads,
+            firsts,
         })
     }
 
@@ -73,6 +79,6 @@ impl EventStructure {
         requires { self.now ≡ structure_of graph.now }
         ensures { result ≡ graph.entry.now }
     {
-        Numbered::new(graph, &self.events, &self.reads)
+        Numbered::new(graph, &self.events, &self.reads, &self.firsts)
     }
 }

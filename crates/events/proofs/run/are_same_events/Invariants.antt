@@ -1,9 +1,6 @@
-use Rattle.std.proofs.Common.{◌≡◌, ◌↔◌, length}
+use Rattle.std.proofs.Common.{◌≡◌, take}
 use Rattle.events.proofs.run.are_same_events.Given as goal
 
--- what is left to compare decides of all
-abbrev pub invariant-loop-event : goal.invariant-loop-event
-invariant-loop-event l = (l.left ≡ l.others) ↔ (l.fn.first ≡ l.fn.second)
-
-abbrev pub decreases-loop-event : goal.decreases-loop-event
-decreases-loop-event l = length l.left
+-- what was compared is the same
+abbrev pub invariant-loop-place : goal.invariant-loop-place
+invariant-loop-place l = take l.place l.first ≡ take l.place l.second

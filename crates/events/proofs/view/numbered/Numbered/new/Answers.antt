@@ -6,6 +6,7 @@ pub invariant_of-result : goal.invariant_of-result
 invariant_of-result c = record {
   events = c.requires.events;
   reads = c.requires.reads;
+  firsts = c.requires.firsts;
   count = ap length c.requires.events ∙ counted c.args.graph.now;
   few = c.runs.ensures.graph.few;
 }

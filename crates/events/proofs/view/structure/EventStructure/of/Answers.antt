@@ -5,7 +5,7 @@ use Rattle.events.specs.declared.named.RelName.TheVariants as names
 use Rattle.events.specs.Executions.{is_read}
 use Rattle.events.specs.Named.{read_names, access_of}
 use Rattle.events.specs.Structures.{structure_of, bare}
-use Rattle.events.proofs.Structures.{moved_names, moved_reads, moved, same_structure}
+use Rattle.events.proofs.Structures.{moved_names, moved_reads, moved_firsts, moved, same_structure}
 use Rattle.events.proofs.view.structure.EventStructure.of.Goals as goal
 
 pub new-numbered-requires-clause-reads : goal.new-numbered-requires-clause-reads
@@ -25,6 +25,7 @@ invariant_of-result c =
     record {
       events = moved_names g h _ e c.in_ok-events.ensures.names;
       reads = moved_reads g h _ e (c.in_ok-reads.ensures ∙ ap (λ (es : List EventId). filter (λ e. is_read (access_of g e)) es) (c.deref.ensures.value ∙ c.in_ok-events.ensures.names));
+      firsts = moved_firsts g h _ e c.in_ok-firsts.ensures;
       po = moved m h names.Po _ refl d c.tested.ensures;
       int = moved m h names.Int _ refl d c.tested-2.ensures;
       loc = moved m h names.Loc _ refl d c.tested-3.ensures;
