@@ -46,4 +46,5 @@ pub mod Beside
 pub mod Refuted
 pub mod Grown
 pub mod Aside
+pub mod Alike
 pub mod Accounts

@@ -16,4 +16,5 @@ pub mod Examples
 pub mod Growth
 pub mod Outcomes
 pub mod Laws
+pub mod Orderless
 pub mod Prepared

@@ -6,6 +6,7 @@ mod growth;
 mod judging;
 mod loading;
 mod model;
+mod orders;
 mod refuting;
 mod syntax;
 mod texts;

@@ -3,6 +3,7 @@
 use crate::cat::judging::is_judged;
 use crate::cat::refuting::is_known;
 use crate::cat::texts::{confirm, repeated};
+use cat_eval::is_orderless;
 use cat_model::{FileVersion, Files, Model, ModelFault, resolve};
 use cat_syntax::{CatFile, read_cat};
 use events::Order;
@@ -21,6 +22,8 @@ pub enum Fact {
     Says(Order, bool, &'static [&'static str]),
     /// Of a partial message passing of this order it is known, or isn't, that its model forbids all that goes on from it.
     Refutes(Order, bool),
+    /// Of its model it is known, or isn't, that it says the same of executions that differ in their coherence orders alone.
+    Orderless(bool),
     /// It stands for what this text is read as.
     Text(&'static str),
     /// Its file can be taken away, and then not once more.
@@ -133,6 +136,7 @@ fn model_has(alloc: Global, model: &Model, fact: Fact) -> bool {
         Fact::Files(count) => model.files().len() == count,
         Fact::Says(order, allowed, flags) => is_judged(alloc, model, order, allowed, flags),
         Fact::Refutes(order, known) => is_known(alloc, model, order, known),
+        Fact::Orderless(known) => is_orderless(model) == known,
         _ => false,
     }
 }
