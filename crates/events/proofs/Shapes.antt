@@ -1,8 +1,9 @@
 -- What executions of one structure have in common, whatever their values are.
-use Rattle.std.proofs.Common.{◌≡◌, ℕ, zero, suc, ◌+◌, List, [], ◌∷◌, ◌++◌, length, map, get_or, drop, Bool, refl, sym, ap, ◌∙◌, subst}
+use Rattle.std.proofs.Common.{◌≡◌, ℕ, zero, suc, ◌+◌, ◌<◌, List, [], ◌∷◌, ◌++◌, length, map, get_or, drop, Bool, refl, sym, ap, ◌∙◌, subst}
 use Rattle.std.specs.Prelude.{sum_by, cond}
 use Rattle.std.specs.List.{filter}
 use Rattle.std.proofs.Math.ListN.{get_or-map}
+use Rattle.std.proofs.lemmas.List as lists
 use Rattle.std.proofs.lemmas.List.{length-map}
 use Rattle.std.proofs.lemmas.List.Sums.{sum_by-cons}
 use Rattle.relations.specs.Events.{EventSet}
@@ -108,3 +109,8 @@ unfolding read_names
 reads_same g h e =
     filter_same (λ d. is_read (access_of g d)) (λ d. is_read (access_of h d)) (λ d. ap is_read (access_same g h e d)) (event_names g)
     ∙ ap (λ ds. filter (λ d. is_read (access_of h d)) ds) (names_same g h e)
+
+-- what is read at one place of two lists that a function makes the same, it makes the same
+pub mapped_here : {X Y : Type 0} (f : X → Y) (xs ys : List X) (i : ℕ) (x y : X) → i < length xs → i < length ys → x ≡ get_or xs i x → y ≡ get_or ys i y → map f xs ≡ map f ys → f x ≡ f y
+mapped_here f xs ys i x y l m p q e =
+    ap f p ∙ sym (lists.get_or-map f xs i x (f y) l) ∙ ap (λ zs. get_or zs i (f y)) e ∙ lists.get_or-map f ys i y (f y) m ∙ sym (ap f q)

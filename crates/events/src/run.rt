@@ -67,42 +67,30 @@ fn are_same_values(first: &[u32], second: &[u32]) -> bool
 fn are_like_events(first: &[Event], second: &[Event]) -> bool
     ensures { IsTrue result ↔ (map unvalued first.now ≡ map unvalued second.now) }
 {
-    let mut left = first;
-    let mut others = second;
-    while let Some((event, rest)) = left.split_first() {
-        match others.split_first() {
-            Some((other, remaining)) => {
-                if !event.is_like(other) {
-                    return false;
-                }
-                left = rest;
-                others = remaining;
-            }
-            None => return false,
+    if first.len() != second.len() {
+        return false;
+    }
+    for place in 0..first.len() {
+        if !first[place].is_like(&second[place]) {
+            return false;
         }
     }
-    others.is_empty()
+    true
 }
 
 /// Whether the runs are like the others, whatever their values are.
 pub(crate) fn are_like_runs(first: &[Run], second: &[Run]) -> bool
     ensures { IsTrue result ↔ (map unvalued_run first.now ≡ map unvalued_run second.now) }
 {
-    let mut left = first;
-    let mut others = second;
-    while let Some((run, rest)) = left.split_first() {
-        match others.split_first() {
-            Some((other, remaining)) => {
-                if !run.is_like(other) {
-                    return false;
-                }
-                left = rest;
-                others = remaining;
-            }
-            None => return false,
+    if first.len() != second.len() {
+        return false;
+    }
+    for thread in 0..first.len() {
+        if !first[thread].is_like(&second[thread]) {
+            return false;
         }
     }
-    others.is_empty()
+    true
 }
 
 /// The same runs once more.

@@ -1,0 +1,12 @@
+use Rattle.std.proofs.Common.{rules, arith, ap, subst, length, List, true, ◌≡◌}
+use Rattle.events.specs.Structures.{unvalued}
+use Rattle.events.proofs.Shapes.{mapped_here}
+use Rattle.events.proofs.run.are_like_events.Goals as goal
+
+pub returns-then-not-is_like : goal.returns-then-not-is_like
+returns-then-not-is_like c =
+    let l = c.loop-place-test.true in
+    let m = c.if-first-second.false in (
+      λ t. absurd (let z : ⊥ = cc in z),
+      λ h. (let e = c.is_like.ensures.1 (mapped_here unvalued c.args.first.now c.args.second.now c.loop-place.place c.index-first-place.result c.index-second-place.result (omega (arith, l)) (omega (arith, l, m)) c.index-first-place.is c.index-second-place.is h) in search (rules, e, c.if-not-is_like.true)),
+    )
