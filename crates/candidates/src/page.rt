@@ -7,6 +7,7 @@ use crate::capped::capped_factorial;
 use crate::depths::Depth;
 use crate::fault::MOST_CANDIDATES;
 use crate::levels::Level;
+use crate::reading::Hit;
 use events::{Event, EventId, Graph, GraphParts, Run};
 use std::alloc::Global;
 use std::marker::Model;
@@ -155,12 +156,12 @@ impl Drop for Ahead {
     }
 }
 
-/// What a walk has at hand: the execution that it shows, the stretch that this is in, and its number there; and where it
-/// looks on. What was shown before lends its room to what is shown next.
+/// What a walk has at hand: the execution that it shows, the stretch that this is in, and where it is there; and where the
+/// walk looks on. What was shown before lends its room to what is shown next.
 pub(crate) struct Scene {
     pub(crate) stretch: Stretch,
     pub(crate) graph: Graph,
-    pub(crate) at: u64,
+    pub(crate) hit: Hit,
     pub(crate) ahead: Ahead,
     pub(crate) room: GraphParts,
 }
@@ -170,7 +171,7 @@ impl Drop for Scene {
         let Scene {
             stretch: _,
             graph: _,
-            at: _,
+            hit: _,
             ahead: _,
             room: _,
         } = self;
