@@ -1,6 +1,6 @@
 -- What is found at the numbers of a stretch.
-use Rattle.std.proofs.Common.{◌≡◌, ℕ, ◌+◌, ◌-◌, ◌*◌, ◌<◌, ◌≤◌, List, length, Some, refl, sym, ◌∙◌, ap, subst, arith}
-use Rattle.events.specs.Executions.{GraphValue, ThreadRun}
+use Rattle.std.proofs.Common.{◌≡◌, ℕ, ◌+◌, ◌-◌, ◌*◌, ◌<◌, ◌≤◌, List, length, refl, sym, ◌∙◌, ap, subst, arith}
+use Rattle.events.specs.Executions.{ThreadRun}
 use Rattle.candidates.specs.declared.reading.Hit.{Hit}
 use Rattle.candidates.specs.declared.reading.Look.TheVariants.{Until}
 use Rattle.candidates.specs.declared.page.Page.{Page}
@@ -8,10 +8,10 @@ use Rattle.candidates.specs.declared.page.Stretch.{Stretch}
 use Rattle.candidates.specs.declared.fault.TheConstants.{MOST_CANDIDATES}
 use Rattle.candidates.specs.Depths.{depths_of, place_of}
 use Rattle.candidates.specs.Executions.{block}
-use Rattle.candidates.specs.Candidates.{Choices, candidate, candidate_at, graph_at, is_consistent, size_of}
+use Rattle.candidates.specs.Candidates.{Choices, candidate, candidate_at, is_consistent, size_of}
 use Rattle.candidates.specs.Readings.{IsFirst, IsLook, IsPage, IsStretch}
 use Rattle.candidates.specs.Walks.{IsFound, IsPast}
-use Rattle.candidates.proofs.Law.{hidden, shown}
+use Rattle.candidates.proofs.Law.{hidden}
 
 -- The ways to read and to order are those of a block.
 pub whole_page : (n : ℕ) (p : Page) → IsPage n p → p.ways * p.orders ≡ block n p.runs.items
@@ -61,9 +61,3 @@ found_here s b n init h is q l m look =
       none = λ x a c. hidden s x (ap is_consistent (at_number s b x q (omega (arith, a, l)) (omega (arith, c, k.known.within, q.size))) ∙ k.none (x - b.first) (omega (arith, a, l)) (omega (arith, c, a, l)));
       known = k.known;
     }
-
--- What stands at the number that is found.
-pub stands_there : (s : Choices) (n : ℕ) (b : Stretch) (h : Hit) → IsFound s n b h → graph_at s (b.first + h.at) ≡ Some (candidate s.init b.page.runs.items h.at)
-stands_there s n b h f =
-    let at = f.stretch.at h.at f.within in
-    shown s (b.first + h.at) (ap is_consistent at ∙ f.known.holds) ∙ ap (λ (x : GraphValue). Some x) at

@@ -13,6 +13,7 @@ ghost use Rattle.candidates.specs.Walks.{IsAhead, IsBefore, IsBlock, IsCommon, I
 use crate::assembly::{assemble, no_parts, nothing, turned};
 use crate::common::Common;
 use crate::depths::Known;
+use crate::levels::no_rooms;
 use crate::open_orders::{OpenOrders, open_orders};
 use crate::page::{Ahead, Page, Scene, Stretch};
 use crate::partial::{assemble_in, cut};
@@ -83,6 +84,7 @@ fn nothing_ahead(alloc: Global) -> Ahead
 {
     Ahead {
         levels: Vec::new(alloc),
+        rooms: no_rooms(alloc),
         stretch: no_stretch(alloc),
     }
 }
@@ -131,6 +133,7 @@ fn reach(
         alloc,
         &space.threads(),
         &mut ahead.levels,
+        &mut ahead.rooms,
         &mut ahead.stretch,
         number,
     )
