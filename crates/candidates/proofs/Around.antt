@@ -60,10 +60,10 @@ few_depths s c n to k v h f = elim (cases_lt 0 c.stretch.size) [
   | inl l ↦ (let some : 1 ≤ c.stretch.size = omega (arith, l) in
       let w = v.seen some in
       let b = v.stretch some in
-      let at = b.at c.at (v.within some) in
-      let here : graph_at s (c.stretch.first + c.at) ≡ Some c.graph = shown s (c.stretch.first + c.at) (ap is_consistent at ∙ w.1) ∙ ap (λ (x : GraphValue). Some x) (at ∙ sym w.0) in
-      let i = f.once (c.stretch.first + c.at) here in
-      h c.at (v.within some, omega (arith, i, f.some)))
+      let at = b.at c.hit.at (v.within some) in
+      let here : graph_at s (c.stretch.first + c.hit.at) ≡ Some c.graph = shown s (c.stretch.first + c.hit.at) (ap is_consistent at ∙ w.1) ∙ ap (λ (x : GraphValue). Some x) (at ∙ sym w.0) in
+      let i = f.once (c.stretch.first + c.hit.at) here in
+      h c.hit.at (v.within some, omega (arith, i, f.some)))
   | inr l ↦ (let none = ap (λ (ds : List Depth). length ds) (v.none (omega (arith, l))) in omega (arith, none))
 ]
 

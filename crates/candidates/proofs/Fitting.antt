@@ -1,12 +1,14 @@
 -- The first number, from a given one on, by which each read has the value of what it reads from.
-use Rattle.std.proofs.Common.{◌≡◌, ℕ, ◌+◌, ◌-◌, ◌*◌, ◌<◌, ◌≤◌, ◌/◌, ◌%◌, ◌⊎◌, List, length, get_or, drop, refl, sym, ◌∙◌, ap, subst, inl, inr, arith, Bool, true, false, cond, nat_lt, ◌==◌, ltb-true, ltb-false}
+use Rattle.std.proofs.Common.{◌≡◌, ℕ, ◌+◌, ◌-◌, ◌*◌, ◌<◌, ◌≤◌, ◌/◌, ◌%◌, ◌⊎◌, List, [], length, get_or, drop, refl, sym, ◌∙◌, ap, subst, inl, inr, arith, Bool, true, false, cond, nat_lt, ◌==◌, ltb-true, ltb-false}
 use Rattle.std.proofs.lemmas.Bool.{cases_lt, eq-eqb}
+use Rattle.std.proofs.lemmas.List.{drop_all}
 use Rattle.std.proofs.lemmas.Nat.{div-mul-add, mod_below}
 use Rattle.std.proofs.Math.Nat.{mod-add-div', mul-le-mul_right}
 use Rattle.events.specs.declared.event.Event.{Event}
 use Rattle.events.specs.Executions.{ThreadRun}
+use Rattle.listings.specs.Lists.{product_by}
 use Rattle.candidates.specs.Candidates.{count_sources, source_at, write_value, agree}
-use Rattle.candidates.specs.Readings.{IsFit, read_at}
+use Rattle.candidates.specs.Readings.{IsFit, IsWhole, read_at}
 use Rattle.candidates.specs.declared.reading.Fit.TheVariants as of_fit
 use Rattle.candidates.proofs.Sources.{agree_next, divided, some_ways, split, ways_from, IsSplit}
 
@@ -191,3 +193,18 @@ can_fit init runs rs number i start rest below other r l e h =
     let f = divided runs rs i below n r l e h.left refl in
     let s : 1 ≤ q = some_ways runs rs (i + 1) in
     (f.0, s, (split rest n q s (omega (arith, h.small, f.1))).digit, f.1)
+
+-- Behind the last read the number is found by which all fit.
+pub stands_end : (init : List ℕ) (runs : List ThreadRun) (rs : List Event) (number i start rest below other : ℕ) → i ≡ length rs → Stands init runs rs number i start rest below other → IsWhole init runs rs number (record { at = start + rest; until = other })
+stands_end init runs rs number i start rest below other all h =
+    let none_left : drop i rs ≡ [] = drop_all i rs (omega (arith, all)) in
+    let one : below ≡ 1 = h.left ∙ ap (product_by (count_sources runs)) none_left in
+    let S : List Event → Type 0 = λ es. agree init runs rs (read_at runs rs (start + rest)) ≡ agree init runs es (read_at runs es rest) in
+    record {
+      order = h.order;
+      within = omega (arith, h.far, h.small, h.most);
+      fits = subst S none_left (h.same rest h.small);
+      none = h.none;
+      most = h.most;
+      behind = λ m a b. h.behind m (omega (arith, a, one)) b;
+    }

@@ -1,21 +1,18 @@
 -- Numbers of one stretch whose candidates differ in their orders alone.
-use Rattle.std.proofs.Common.{◌≡◌, ℕ, suc, ◌+◌, ◌-◌, ◌*◌, ◌/◌, ◌%◌, ◌<◌, ◌≤◌, List, length, Bool, true, false, Option, Some, None, if◌then◌else◌, refl, sym, ◌∙◌, ap, subst, inl, inr, arith}
+use Rattle.std.proofs.Common.{◌≡◌, ℕ, ◌+◌, ◌*◌, ◌/◌, ◌%◌, ◌<◌, ◌≤◌, List, length, Bool, true, false, Option, Some, None, if◌then◌else◌, refl, sym, ◌∙◌, ap, subst, inl, inr, arith}
 use Rattle.std.proofs.Math.Nat.{mul_assoc, mul_comm, mul-zero, eq-zero-or-pos, div-add-mod, mod-lt, mul-le-mul_right, add-mul, mul-add}
 use Rattle.std.proofs.lemmas.Nat.{div-mul-add, mod-mul-add}
-use Rattle.events.specs.declared.event.EventId.{EventId}
 use Rattle.events.specs.Executions.{GraphValue, ThreadRun}
 use Rattle.candidates.specs.declared.depths.Known.TheVariants.{Orders}
 use Rattle.candidates.specs.declared.open_orders.OpenOrders.{OpenOrders}
 use Rattle.candidates.specs.declared.page.Stretch.{Stretch}
-use Rattle.candidates.specs.Alike.{with_orders, IsOpen, AreAlike}
-use Rattle.candidates.specs.Blocks.{ways_of_orders}
-use Rattle.candidates.specs.Candidates.{Choices, candidate, candidate_at, graph_at, is_consistent, agree, count_orders, order_at, count_co, count_sources, rf_at}
-use Rattle.candidates.specs.Executions.{reads, upto, block}
+use Rattle.candidates.specs.Alike.{IsOpen, AreAlike}
+use Rattle.candidates.specs.Candidates.{Choices, candidate_at, graph_at, is_consistent, count_orders, order_at, count_co, rf_at}
+use Rattle.candidates.specs.Executions.{upto}
 use Rattle.candidates.specs.Readings.{IsStretch}
 use Rattle.candidates.proofs.Cutting.{ways_divide}
 use Rattle.candidates.proofs.Sizes.{all_open, some_orders, ways_none}
 use Rattle.candidates.proofs.Spanning.{none_some, rest_within, size_divides}
-use Rattle.listings.specs.Lists.{product_by}
 use Rattle.listings.specs.Numbered.{digits}
 
 -- a place that is a multiple of a part of the orders, and the places behind it up to the next one

@@ -1,6 +1,7 @@
 -- What is found at the numbers of a stretch.
 use Rattle.std.proofs.Common.{◌≡◌, ℕ, ◌+◌, ◌-◌, ◌*◌, ◌<◌, ◌≤◌, List, length, refl, sym, ◌∙◌, ap, subst, arith}
 use Rattle.events.specs.Executions.{ThreadRun}
+use Rattle.candidates.specs.declared.reading.Hit.{Hit}
 use Rattle.candidates.specs.declared.reading.Look.TheVariants.{Until}
 use Rattle.candidates.specs.declared.page.Page.{Page}
 use Rattle.candidates.specs.declared.page.Stretch.{Stretch}
@@ -8,8 +9,8 @@ use Rattle.candidates.specs.declared.fault.TheConstants.{MOST_CANDIDATES}
 use Rattle.candidates.specs.Depths.{depths_of, place_of}
 use Rattle.candidates.specs.Executions.{block}
 use Rattle.candidates.specs.Candidates.{Choices, candidate, candidate_at, is_consistent, size_of}
-use Rattle.candidates.specs.Readings.{IsLook, IsPage, IsStretch}
-use Rattle.candidates.specs.Walks.{IsPast}
+use Rattle.candidates.specs.Readings.{IsFirst, IsLook, IsPage, IsStretch}
+use Rattle.candidates.specs.Walks.{IsFound, IsPast}
 use Rattle.candidates.proofs.Law.{hidden}
 
 -- The ways to read and to order are those of a block.
@@ -47,3 +48,16 @@ none_here s b n init last is h l m look =
       omega (arith, k.1, h.size, h.most),
       λ x a c. hidden s x (ap is_consistent (at_number s b x h (omega (arith, a, l)) (omega (arith, c, k.1, h.size))) ∙ k.2 (x - b.first) (omega (arith, a, l)) (omega (arith, c, a, l))),
     )
+
+-- What is first from a place of the stretch on is first from a number on.
+pub found_here : (s : Choices) (b : Stretch) (n : ℕ) (init : List ℕ) (h : Hit) → init ≡ s.init → IsStretch s b → b.first ≤ n → n < b.first + b.size → IsFirst init b.page.runs.items (n - b.first) h → IsFound s n b h
+found_here s b n init h is q l m look =
+    let P : List ℕ → Type 0 = λ vs. IsFirst vs b.page.runs.items (n - b.first) h in
+    let k = subst P is look in
+    record {
+      stretch = q;
+      order = omega (arith, k.order, l);
+      within = omega (arith, k.known.within, q.size);
+      none = λ x a c. hidden s x (ap is_consistent (at_number s b x q (omega (arith, a, l)) (omega (arith, c, k.known.within, q.size))) ∙ k.none (x - b.first) (omega (arith, a, l)) (omega (arith, c, a, l)));
+      known = k.known;
+    }

@@ -1,10 +1,11 @@
--- What is found at a number of some runs: that its candidate is an execution, or up to which number none is.
-use Rattle.std.specs.Prelude.{◌≡◌, ℕ, suc, ◌+◌, ◌<◌, ◌≤◌, List, [], length, slice_index_or, map, true, false, All}
+-- What is found from a number of some runs on: the first candidate that is an execution, or up to which number none is.
+use Rattle.std.specs.Prelude.{◌≡◌, ℕ, suc, ◌+◌, ◌/◌, ◌<◌, ◌≤◌, List, [], length, slice_index_or, map, true, false, All}
 use Rattle.events.specs.declared.event.Event.{Event}
 use Rattle.events.specs.declared.event.EventId.{EventId}
 use Rattle.events.specs.Executions.{GraphValue, ThreadRun}
 use Rattle.listings.specs.Lists.{factorial, product_by}
 use Rattle.candidates.specs.declared.reading.Fit.{Fit}
+use Rattle.candidates.specs.declared.reading.Hit.{Hit}
 use Rattle.candidates.specs.declared.reading.Fit.TheVariants as of_fit
 use Rattle.candidates.specs.declared.reading.Look.{Look}
 use Rattle.candidates.specs.declared.reading.Look.TheVariants as of_look
@@ -21,14 +22,36 @@ use Rattle.candidates.specs.Depths.{depths_of, place_of}
 abbrev pub read_at : List ThreadRun → List Event → ℕ → List EventId
 read_at runs rs i = digits_down (count_sources runs) (source_at runs) rs i
 
--- By number i each read has the value of what it reads from; or by no number from i to before n.
+-- By the number `at`, the first from i on, each read has the value of what it reads from; by none behind it and before `until`.
+pub record IsWhole (init : List ℕ) (runs : List ThreadRun) (rs : List Event) (i : ℕ) (h : Hit) : Type 0 where
+  pub order : i ≤ h.at
+  pub within : h.at < product_by (count_sources runs) rs
+  pub fits : agree init runs rs (read_at runs rs h.at) ≡ true
+  pub none : (m : ℕ) → i ≤ m → m < h.at → agree init runs rs (read_at runs rs m) ≡ false
+  pub most : h.until ≤ product_by (count_sources runs) rs
+  pub behind : (m : ℕ) → h.at < m → m < h.until → agree init runs rs (read_at runs rs m) ≡ false
+
+-- The first number from i on by which each read has the value of what it reads from; or by no number from i to before n.
 abbrev pub IsFit : List ℕ → List ThreadRun → List Event → ℕ → Fit → Type 0
-IsFit init runs rs i of_fit.Whole = agree init runs rs (read_at runs rs i) ≡ true
+IsFit init runs rs i (of_fit.Whole h) = IsWhole init runs rs i h
 IsFit init runs rs i (of_fit.Until n) = (i < n) × (n ≤ product_by (count_sources runs) rs) × ((m : ℕ) → i ≤ m → m < n → agree init runs rs (read_at runs rs m) ≡ false)
 
--- The candidate with the number i is an execution; or none from i to before n is.
+-- The candidate with the number `at` is an execution, and none before `until` is that reads by a later number.
+pub record IsKnown (init : List ℕ) (runs : List ThreadRun) (h : Hit) : Type 0 where
+  pub within : h.at < block (length init) runs
+  pub holds : is_consistent (candidate init runs h.at) ≡ true
+  pub most : h.until ≤ block (length init) runs
+  pub behind : (m : ℕ) → h.at / count_co (length init) runs < m / count_co (length init) runs → m < h.until → is_consistent (candidate init runs m) ≡ false
+
+-- The candidate with the number `at` is the first from i on that is an execution.
+pub record IsFirst (init : List ℕ) (runs : List ThreadRun) (i : ℕ) (h : Hit) : Type 0 where
+  pub order : i ≤ h.at
+  pub none : (m : ℕ) → i ≤ m → m < h.at → is_consistent (candidate init runs m) ≡ false
+  pub known : IsKnown init runs h
+
+-- The first candidate from the number i on that is an execution; or none from i to before n is.
 abbrev pub IsLook : List ℕ → List ThreadRun → ℕ → Look → Type 0
-IsLook init runs i of_look.Found = is_consistent (candidate init runs i) ≡ true
+IsLook init runs i (of_look.Found h) = IsFirst init runs i h
 IsLook init runs i (of_look.Until n) = (i < n) × (n ≤ block (length init) runs) × ((m : ℕ) → i ≤ m → m < n → is_consistent (candidate init runs m) ≡ false)
 
 -- What is kept of some runs: their reads, the later writes of each location, and in how many ways the reads can read and the writes be

@@ -1,13 +1,14 @@
 -- A walk over the executions of a space, from number to number.
-use Rattle.std.specs.Prelude.{◌≡◌, ℕ, ◌+◌, ◌-◌, ◌%◌, ◌<◌, ◌≤◌, List, [], length, slice_index_or, true, Option, None, Some}
+use Rattle.std.specs.Prelude.{◌≡◌, ℕ, ◌+◌, ◌-◌, ◌%◌, ◌<◌, ◌≤◌, List, [], length, slice_index_or, Option, None, Some}
 use Rattle.events.specs.Executions.{GraphValue}
 use Rattle.candidates.specs.Blocks.{AllExtend, CommonValue, Fits, cut_by}
-use Rattle.candidates.specs.Candidates.{Choices, candidate, graph_at, is_consistent, size_of}
+use Rattle.candidates.specs.Candidates.{Choices, graph_at, size_of}
 use Rattle.candidates.specs.Depths.{depths_of, cut_at}
+use Rattle.candidates.specs.declared.reading.Hit.{Hit}
 use Rattle.candidates.specs.declared.reading.Look.{Look}
 use Rattle.candidates.specs.declared.reading.Look.TheVariants.{Found, Until}
 use Rattle.candidates.specs.Levels.{AreLevels, groups_of}
-use Rattle.candidates.specs.Readings.{IsStretch, MayBeStretch, IsSeen}
+use Rattle.candidates.specs.Readings.{IsKnown, IsStretch, MayBeStretch, IsSeen}
 use Rattle.candidates.specs.declared.depths.Depth.{Depth}
 use Rattle.candidates.specs.declared.page.Ahead.{Ahead}
 use Rattle.candidates.specs.declared.walk.Near.{Near}
@@ -62,24 +63,27 @@ abbrev pub IsReached : Choices → ℕ → Stretch → Option ℕ → Type 0
 IsReached s n b None = IsWithin s n b
 IsReached s n b (Some m) = IsPast s n m
 
--- At the number n, which is in the stretch, stands an execution.
-pub record IsFound (s : Choices) (n : ℕ) (b : Stretch) : Type 0 where
-  pub within : IsWithin s n b
-  pub holds : is_consistent (candidate s.init b.page.runs.items (n - b.first)) ≡ true
+-- The first execution from the number n on is a candidate of the stretch.
+pub record IsFound (s : Choices) (n : ℕ) (b : Stretch) (h : Hit) : Type 0 where
+  pub stretch : IsStretch s b
+  pub order : n ≤ b.first + h.at
+  pub within : h.at < b.size
+  pub none : NoneFrom s n (b.first + h.at)
+  pub known : IsKnown s.init b.page.runs.items h
 
--- At the number n stands an execution, or none from n to before a later number.
+-- The first execution from the number n on, or none from n to before a later number.
 abbrev pub IsVisit : Choices → ℕ → Stretch → Look → Type 0
-IsVisit s n b Found = IsFound s n b
+IsVisit s n b (Found h) = IsFound s n b h
 IsVisit s n b (Until m) = IsPast s n m
 
 -- The first execution from a to before c, or none.
-abbrev pub IsFind : Choices → Stretch → ℕ → ℕ → Option ℕ → Type 0
+abbrev pub IsFind : Choices → Stretch → ℕ → ℕ → Option Hit → Type 0
 IsFind s b a c None = NoneFrom s a c
-IsFind s b a c (Some n) = (a ≤ n) × (n < c) × NoneFrom s a n × IsFound s n b
+IsFind s b a c (Some h) = (b.first + h.at < c) × IsFound s a b h
 
 -- The first execution from a to before c that is in the stretch; or none from a to before a number.
 abbrev pub IsNear : Choices → Stretch → ℕ → ℕ → Near → Type 0
-IsNear s b a c (of_near.Found n) = (a ≤ n) × (n < c) × NoneFrom s a n × IsFound s n b
+IsNear s b a c (of_near.Found h) = (b.first + h.at < c) × IsFound s a b h
 IsNear s b a c (of_near.Until n) = (a ≤ n) × NoneFrom s a n
 
 -- The stretch at which a walk looks is one of the space, and what is kept of the threads is theirs.
@@ -91,8 +95,9 @@ pub record IsAhead (s : Choices) (a : Ahead) : Type 0 where
 pub record IsScene (s : Choices) (c : Scene) : Type 0 where
   pub stretch : MayBeStretch s c.stretch
   pub none : c.stretch.size ≡ 0 → c.stretch.page.depths.items ≡ []
-  pub within : 1 ≤ c.stretch.size → c.at < c.stretch.size
-  pub seen : 1 ≤ c.stretch.size → IsSeen s.init c.stretch.page c.graph c.at
+  pub within : 1 ≤ c.stretch.size → c.hit.at < c.stretch.size
+  pub seen : 1 ≤ c.stretch.size → IsSeen s.init c.stretch.page c.graph c.hit.at
+  pub known : 1 ≤ c.stretch.size → IsKnown s.init c.stretch.page.runs.items c.hit
   pub depths : c.stretch.page.depths.items ≡ depths_of (length s.init) c.graph.runs
   pub ahead : IsAhead s c.ahead
 

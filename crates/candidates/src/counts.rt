@@ -130,7 +130,20 @@ impl AccessTally {
     pub(crate) fn new(alloc: Global, events: &[Event], locations: usize) -> Result<Self, AllocError>
         ensures { IfOk result (λ t. t ≡ tally_of locations events.now) }
     {
-        let mut counts = Vec::with_capacity(alloc, locations)?;
+        let counts = Vec::with_capacity(alloc, locations)?;
+        AccessTally::new_in(events, locations, AccessTally { counts })
+    }
+
+    /// How often events read and write each location, in the room of another.
+    pub(crate) fn new_in(
+        events: &[Event],
+        locations: usize,
+        room: AccessTally,
+    ) -> Result<Self, AllocError>
+        ensures { IfOk result (λ t. t ≡ tally_of locations events.now) }
+    {
+        let mut counts = room.counts;
+        counts.clear();
         for location in 0..locations {
             counts.push(count(events, location))?;
         }

@@ -5,7 +5,7 @@ ghost use Rattle.listings.specs.Lists.{IsIn};
 ghost use Rattle.candidates.specs.declared.levels.Level.{Level};
 
 use crate::counts::AccessTally;
-use std::alloc::AllocError;
+use std::alloc::{AllocError, Global};
 
 /// How many candidates go on with each run of a thread, behind runs that read and write each location this often; the
 /// place of the run that was found last, and how many go on with those before it.
@@ -27,6 +27,21 @@ impl Drop for Level {
             place: _,
             before: _,
         } = self;
+    }
+}
+
+/// Tallies whose room the way down uses again.
+#[derive(Drop)]
+pub(crate) struct Rooms {
+    pub(crate) tally: AccessTally,
+    pub(crate) other: AccessTally,
+}
+
+/// No room yet.
+pub(crate) fn no_rooms(alloc: Global) -> Rooms {
+    Rooms {
+        tally: AccessTally::empty(alloc),
+        other: AccessTally::empty(alloc),
     }
 }
 

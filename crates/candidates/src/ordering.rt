@@ -139,6 +139,9 @@ pub(crate) fn order_in(
     order.push(EventId::Initial(location))?;
     order.extend_from_slice(later)?;
     let mut order = Coherence::new(order);
+    if number == 0 {
+        return Ok(order);
+    }
     turn_order(alloc, &mut order, 0, number);
     Ok(order)
 }

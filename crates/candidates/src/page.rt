@@ -6,7 +6,8 @@ ghost use Rattle.listings.specs.Lists.{factorial};
 use crate::capped::capped_factorial;
 use crate::depths::Depth;
 use crate::fault::MOST_CANDIDATES;
-use crate::levels::Level;
+use crate::levels::{Level, Rooms};
+use crate::reading::Hit;
 use events::{Event, EventId, Graph, GraphParts, Run};
 use std::alloc::Global;
 use std::marker::Model;
@@ -143,6 +144,7 @@ impl Drop for Stretch {
 /// Where a walk looks on: what is kept of the threads on the way down to a choice of runs, and the stretch of the choice.
 pub(crate) struct Ahead {
     pub(crate) levels: Vec<Level>,
+    pub(crate) rooms: Rooms,
     pub(crate) stretch: Stretch,
 }
 
@@ -150,17 +152,18 @@ impl Drop for Ahead {
     fn drop(self) {
         let Ahead {
             levels: _,
+            rooms: _,
             stretch: _,
         } = self;
     }
 }
 
-/// What a walk has at hand: the execution that it shows, the stretch that this is in, and its number there; and where it
-/// looks on. What was shown before lends its room to what is shown next.
+/// What a walk has at hand: the execution that it shows, the stretch that this is in, and where it is there; and where the
+/// walk looks on. What was shown before lends its room to what is shown next.
 pub(crate) struct Scene {
     pub(crate) stretch: Stretch,
     pub(crate) graph: Graph,
-    pub(crate) at: u64,
+    pub(crate) hit: Hit,
     pub(crate) ahead: Ahead,
     pub(crate) room: GraphParts,
 }
@@ -170,7 +173,7 @@ impl Drop for Scene {
         let Scene {
             stretch: _,
             graph: _,
-            at: _,
+            hit: _,
             ahead: _,
             room: _,
         } = self;

@@ -1,11 +1,10 @@
 //! What the reads read from, by numbers, and whether it has their values.
 
-ghost use Rattle.std.specs.Prelude.{◌≡◌, ◌<◌, ◌≤◌, ◌+◌, ◌*◌, ◌^◌, ◌/◌, ◌%◌, ◌==◌, ◌∷◌, ℕ, suc, length, slice_index_or, nat_lt, true, false, Some, IfOk, IfSome, if◌then◌else◌};
+ghost use Rattle.std.specs.Prelude.{◌≡◌, ◌<◌, ◌≤◌, ◌+◌, ◌*◌, ◌^◌, ◌/◌, ◌%◌, ◌==◌, ◌∷◌, ℕ, suc, length, slice_index_or, nat_lt, true, false, IfOk, IfSome, if◌then◌else◌};
 ghost use Rattle.events.specs.declared.event.EventId.TheVariants.{Initial};
 ghost use Rattle.candidates.specs.Executions.{block};
-ghost use Rattle.candidates.specs.Candidates.{candidate, count_sources, is_consistent, rf_at, source_at, write_value};
-ghost use Rattle.candidates.specs.declared.reading.Fit.TheVariants.{Whole, Until};
-ghost use Rattle.candidates.specs.Readings.{IsFit, IsLook, IsPage, IsReadOf, read_at};
+ghost use Rattle.candidates.specs.Candidates.{count_sources, rf_at, source_at, write_value};
+ghost use Rattle.candidates.specs.Readings.{IsFit, IsKnown, IsLook, IsPage, IsReadOf, read_at};
 
 use crate::assembly::write_value;
 use crate::page::Page;
@@ -60,11 +59,18 @@ fn choose(page: &Page, read: &Event, number: u64, ways: u64) -> Pick
     pick_source(read.loc, page.writes_to(read.loc), number, ways)
 }
 
-/// Whether reads have the values of what they read from, by some number.
+/// A number that is found, and the one up to which no other way to read is behind it.
+#[derive(Clone, Copy)]
+pub(crate) struct Hit {
+    pub(crate) at: u64,
+    pub(crate) until: u64,
+}
+
+/// Whether reads have the values of what they read from, by some number or one behind it.
 #[derive(Clone, Copy)]
 pub(crate) enum Fit {
-    /// Each read has the value of what it reads from.
-    Whole,
+    /// By this one, the first, each read has the value of what it reads from.
+    Whole(Hit),
     /// By the number and all behind it before this one, some read has another value.
     Until(u64),
 }
@@ -128,18 +134,8 @@ fn other_start(start: u64, next: u64, sources: u64, below: u64, other: u64) -> u
     other
 }
 
-/// How reads fit by this number, where `next` is the first from it on by which they do.
-fn fit_of(number: u64, next: u64) -> Fit
-    ensures { result ≡ (if number == next then Whole else Until next) }
-{
-    if number == next {
-        return Fit::Whole;
-    }
-    Fit::Until(next)
-}
-
-/// Whether by this number each read has the value of what it reads from. Else up to which number some read has another value: up to the first by
-/// which each has its own, unless a read finds its value in no source; then up to the first by which one before it has its own from a later source.
+/// The first number from this one on by which each read has the value of what it reads from, if no read finds its value in no source; else up to
+/// which number none is: up to the first by which one before that read has its own from a later source.
 fn compare(init: &[u32], page: &Page, reads: &[Event], number: u64) -> Fit
     requires page { IsPage (length init.now) page.now }
     requires reads { reads.now ≡ page.now.reads.items }
@@ -166,7 +162,10 @@ fn compare(init: &[u32], page: &Page, reads: &[Event], number: u64) -> Fit
         rest = rest_behind(first, fit, rest, below);
         ways = below;
     }
-    fit_of(number, start + rest)
+    Fit::Whole(Hit {
+        at: start + rest,
+        until: other,
+    })
 }
 
 /// Writes down what each read reads from by this number.
@@ -236,40 +235,62 @@ pub(crate) fn turn_sources(page: &Page, mut rf: Vec<EventId>, from: u64, to: u64
     rf
 }
 
-/// What is found at a number of some runs.
+/// What is found from a number of some runs on.
 #[derive(Clone, Copy)]
 pub(crate) enum Look {
-    /// The candidate is an execution.
-    Found,
+    /// The first candidate that is an execution.
+    Found(Hit),
     /// From the number to before this one no candidate is.
     Until(u64),
 }
 
-/// Whether the candidate whose number is given, if any, reads by this number.
-fn reads_by(known: Option<u64>, orders: u64, number: u64) -> bool
-    requires { 1 ≤ orders }
-    ensures { result ≡ true → (n : ℕ) × (known ≡ Some n) × (n / orders ≡ number) }
-{
-    match known {
-        Some(n) => n / orders == number,
-        None => false,
-    }
-}
-
-/// Whether the candidate of the page's runs with this number is an execution; else up to which number none is. The one
-/// with the number `known` is, where there is one.
-pub(crate) fn look_at(init: &[u32], page: &Page, known: Option<u64>, number: u64) -> Look
+/// The first execution of the page's runs from this number on; or up to which number none is.
+fn look_anew(init: &[u32], page: &Page, number: u64) -> Look
     requires page { IsPage (length init.now) page.now }
-    requires known { IfSome known (λ n. is_consistent (candidate init.now page.now.runs.items n) ≡ true) }
     requires number { number < block (length init.now) page.now.runs.items }
     ensures { IsLook init.now page.now.runs.items number result }
 {
-    let reading = number / page.orders;
-    if reads_by(known, page.orders, reading) {
-        return Look::Found;
-    }
-    match compare(init, page, &page.reads, reading) {
-        Fit::Whole => Look::Found,
+    match compare(init, page, &page.reads, number / page.orders) {
+        Fit::Whole(hit) => {
+            let start = hit.at * page.orders;
+            let until = hit.until * page.orders;
+            if start < number {
+                return Look::Found(Hit { at: number, until });
+            }
+            Look::Found(Hit { at: start, until })
+        }
         Fit::Until(next) => Look::Until(next * page.orders),
+    }
+}
+
+/// The first execution of the page's runs from this number on, where one of them is known; or up to which number none is.
+fn look_behind(init: &[u32], page: &Page, known: Hit, number: u64) -> Look
+    requires page { IsPage (length init.now) page.now }
+    requires known { IsKnown init.now page.now.runs.items known }
+    requires number { number < block (length init.now) page.now.runs.items }
+    ensures { IsLook init.now page.now.runs.items number result }
+{
+    let last = known.at / page.orders;
+    let reading = number / page.orders;
+    if last == reading {
+        let until = known.until;
+        return Look::Found(Hit { at: number, until });
+    }
+    if last < reading && number < known.until {
+        return Look::Until(known.until);
+    }
+    look_anew(init, page, number)
+}
+
+/// The first execution of the page's runs from this number on; or up to which number none is. One may be known.
+pub(crate) fn look_at(init: &[u32], page: &Page, known: Option<Hit>, number: u64) -> Look
+    requires page { IsPage (length init.now) page.now }
+    requires known { IfSome known (IsKnown init.now page.now.runs.items) }
+    requires number { number < block (length init.now) page.now.runs.items }
+    ensures { IsLook init.now page.now.runs.items number result }
+{
+    match known {
+        Some(hit) => look_behind(init, page, hit, number),
+        None => look_anew(init, page, number),
     }
 }

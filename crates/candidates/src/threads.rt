@@ -12,10 +12,11 @@ use crate::choosing::{RunList, choose_run};
 use crate::counts::AccessTally;
 use crate::groups::Groups;
 use crate::impossible::Marks;
-use crate::levels::Level;
+use crate::levels::{Level, Rooms};
 use crate::page::Stretch;
 use events::Run;
 use std::alloc::{AllocError, Global};
+use std::mem::replace;
 
 /// Puts a run at a place of a list, where it may stand already. Those before it stay as they are.
 pub(crate) fn put_run(runs: &mut Vec<Run>, place: usize, run: &Run) -> Result<(), AllocError>
@@ -55,6 +56,7 @@ fn locate(
     alloc: Global,
     threads: &Threads<'_>,
     levels: &mut Vec<Level>,
+    rooms: &mut Rooms,
     runs: &mut Vec<Run>,
     number: u64,
 ) -> Result<Located, AllocError>
@@ -64,8 +66,9 @@ fn locate(
     ensures located { IfOk result (IsLocated (choices_by threads.now) number runs.new.items) }
     ensures levels { AreLevels threads.now.groups.now levels.new.items }
 {
-    let mut tally = AccessTally::new(alloc, &[], threads.init.len())?;
-    let mut room = AccessTally::empty(alloc);
+    let first = replace(&mut rooms.tally, AccessTally::empty(alloc));
+    let mut tally = AccessTally::new_in(&[], threads.init.len(), first)?;
+    let mut room = replace(&mut rooms.other, AccessTally::empty(alloc));
     let mut rest = number;
     for thread in 0..threads.runs.len() {
         let choice = choose_run(
@@ -78,6 +81,7 @@ fn locate(
             rest,
         )?;
         if choice.passed > 0 {
+            *rooms = Rooms { tally, other: room };
             return Ok(Located::Until(number - choice.rest + choice.passed));
         }
         let run = &threads.runs[thread].runs()[choice.place];
@@ -88,6 +92,7 @@ fn locate(
         rest = choice.rest;
     }
     runs.truncate(threads.runs.len());
+    *rooms = Rooms { tally, other: room };
     Ok(Located::At(rest))
 }
 
@@ -97,6 +102,7 @@ pub(crate) fn go_to(
     alloc: Global,
     threads: &Threads<'_>,
     levels: &mut Vec<Level>,
+    rooms: &mut Rooms,
     stretch: &mut Stretch,
     number: u64,
 ) -> Result<Option<u64>, AllocError>
@@ -108,7 +114,14 @@ pub(crate) fn go_to(
     ensures levels { AreLevels threads.now.groups.now levels.new.items }
 {
     stretch.size = 0;
-    match locate(alloc, threads, levels, &mut stretch.page.runs, number)? {
+    match locate(
+        alloc,
+        threads,
+        levels,
+        rooms,
+        &mut stretch.page.runs,
+        number,
+    )? {
         Located::At(rest) => {
             fill_page(alloc, &mut stretch.page, threads.init.len())?;
             stretch.first = number - rest;

@@ -7,16 +7,17 @@ ghost use Rattle.candidates.specs.Alike.{AreAlike};
 ghost use Rattle.candidates.specs.Blocks.{AllExtend};
 ghost use Rattle.candidates.specs.Candidates.{Choices, candidate, graph_at, is_consistent, size_of, no_execution};
 ghost use Rattle.candidates.specs.Depths.{cut_at, end_at};
-ghost use Rattle.candidates.specs.Readings.{IsPage, IsSeen, MayBeStretch};
-ghost use Rattle.candidates.specs.Walks.{IsAhead, IsBefore, IsBlock, IsCommon, IsFind, IsHit, IsJustFound, IsMiss, IsNear, IsPlace, IsReached, IsScene, IsVisit, IsWithin, HasNoBlock, depths_around};
+ghost use Rattle.candidates.specs.Readings.{IsKnown, IsPage, IsSeen, MayBeStretch};
+ghost use Rattle.candidates.specs.Walks.{IsAhead, IsBefore, IsBlock, IsCommon, IsFind, IsFound, IsHit, IsJustFound, IsMiss, IsNear, IsPlace, IsReached, IsScene, IsVisit, IsWithin, HasNoBlock, depths_around};
 
 use crate::assembly::{assemble, no_parts, nothing, turned};
 use crate::common::Common;
 use crate::depths::Known;
+use crate::levels::no_rooms;
 use crate::open_orders::{OpenOrders, open_orders};
 use crate::page::{Ahead, Page, Scene, Stretch};
 use crate::partial::{assemble_in, cut};
-use crate::reading::{Look, look_at};
+use crate::reading::{Hit, Look, look_at};
 use crate::space::Space;
 use crate::threads::go_to;
 use events::Graph;
@@ -83,6 +84,7 @@ fn nothing_ahead(alloc: Global) -> Ahead
 {
     Ahead {
         levels: Vec::new(alloc),
+        rooms: no_rooms(alloc),
         stretch: no_stretch(alloc),
     }
 }
@@ -98,7 +100,7 @@ fn no_scene(alloc: Global) -> Scene
     Scene {
         stretch: no_stretch(alloc),
         graph: nothing(alloc),
-        at: 0,
+        hit: Hit { at: 0, until: 0 },
         ahead: nothing_ahead(alloc),
         room: no_parts(alloc),
     }
@@ -131,24 +133,25 @@ fn reach(
         alloc,
         &space.threads(),
         &mut ahead.levels,
+        &mut ahead.rooms,
         &mut ahead.stretch,
         number,
     )
 }
 
-/// What is at a number of a stretch. The candidate with the number `known` of it is an execution, where there is one.
-fn visit(space: &Space, stretch: &Stretch, known: Option<u64>, number: u64) -> Look
+/// The first execution of a stretch from a number on. One of it may be known.
+fn visit(space: &Space, stretch: &Stretch, known: Option<Hit>, number: u64) -> Look
     requires within { IsWithin space.now number stretch.now }
-    requires known { IfSome known (λ n. is_consistent (candidate space.now.init stretch.now.page.runs.items n) ≡ true) }
+    requires known { IfSome known (IsKnown space.now.init stretch.now.page.runs.items) }
     ensures { IsVisit space.now number stretch.now result }
 {
     match look_at(space.init(), &stretch.page, known, number - stretch.first) {
-        Look::Found => Look::Found,
+        Look::Found(hit) => Look::Found(hit),
         Look::Until(next) => Look::Until(stretch.first + next),
     }
 }
 
-/// What is at a number.
+/// The first execution from a number on, if it is in the stretch of the number.
 fn look(alloc: Global, space: &Space, ahead: &mut Ahead, number: u64) -> Result<Look, AllocError>
     requires ahead { IsAhead space.now ahead.old }
     requires number { number < size_of space.now }
@@ -161,6 +164,23 @@ fn look(alloc: Global, space: &Space, ahead: &mut Ahead, number: u64) -> Result<
     }
 }
 
+/// The execution at a number, where the first from it on is found.
+fn assemble_at(
+    alloc: Global,
+    space: &Space,
+    stretch: &Stretch,
+    hit: Hit,
+    number: u64,
+) -> Result<Option<Graph>, AllocError>
+    requires found { IsFound space.now number stretch.now hit }
+    ensures { IfOk result (λ g. g ≡ graph_at space.now number) }
+{
+    if number < stretch.first + hit.at {
+        return Ok(None);
+    }
+    Ok(Some(assemble(alloc, space.init(), &stretch.page, hit.at)?))
+}
+
 /// The execution at a number.
 pub(crate) fn find(alloc: Global, space: &Space, number: u64) -> Result<Option<Graph>, AllocError>
     requires { number < size_of space.now }
@@ -168,22 +188,19 @@ pub(crate) fn find(alloc: Global, space: &Space, number: u64) -> Result<Option<G
 {
     let mut ahead = nothing_ahead(alloc);
     match look(alloc, space, &mut ahead, number)? {
-        Look::Found => {
-            let stretch = &ahead.stretch;
-            Ok(Some(assemble(alloc, space.init(), &stretch.page, number - stretch.first)?))
-        }
+        Look::Found(hit) => assemble_at(alloc, space, &ahead.stretch, hit, number),
         Look::Until(_) => Ok(None),
     }
 }
 
-/// The number of the first execution at the numbers from `from` to `to - 1`.
+/// The first execution at the numbers from `from` to `to - 1`.
 fn search(
     alloc: Global,
     space: &Space,
     ahead: &mut Ahead,
     from: u64,
     to: u64,
-) -> Result<Option<u64>, AllocError>
+) -> Result<Option<Hit>, AllocError>
     requires ahead { IsAhead space.now ahead.old }
     requires to { to ≤ size_of space.now }
     ensures found { IfOk result (IsFind space.now ahead.new.stretch from to) }
@@ -192,7 +209,12 @@ fn search(
     let mut number = from;
     while number < to {
         match look(alloc, space, ahead, number)? {
-            Look::Found => return Ok(Some(number)),
+            Look::Found(hit) => {
+                if ahead.stretch.first + hit.at < to {
+                    return Ok(Some(hit));
+                }
+                return Ok(None);
+            }
             Look::Until(next) => number = next,
         }
     }
@@ -202,13 +224,13 @@ fn search(
 /// What is found among the executions with the runs of the one that is shown.
 #[derive(Clone, Copy)]
 pub(crate) enum Near {
-    /// The first stands at this number.
-    Found(u64),
+    /// The first.
+    Found(Hit),
     /// None stands before this number.
     Until(u64),
 }
 
-/// The number of the first execution at the numbers from `from` to `to - 1` that are in the stretch of the one that is shown.
+/// The first execution at the numbers from `from` to `to - 1` that are in the stretch of the one that is shown.
 fn search_near(space: &Space, scene: &Scene, from: u64, to: u64) -> Near
     requires scene { IsScene space.now scene.now }
     requires to { to ≤ size_of space.now }
@@ -219,46 +241,51 @@ fn search_near(space: &Space, scene: &Scene, from: u64, to: u64) -> Near
         if !contains(&scene.stretch, number) {
             return Near::Until(number);
         }
-        match visit(space, &scene.stretch, Some(scene.at), number) {
-            Look::Found => return Near::Found(number),
+        match visit(space, &scene.stretch, Some(scene.hit), number) {
+            Look::Found(hit) => {
+                if scene.stretch.first + hit.at < to {
+                    return Near::Found(hit);
+                }
+                return Near::Until(to);
+            }
             Look::Until(next) => number = next,
         }
     }
     Near::Until(number)
 }
 
-/// Turns the execution that is shown to the candidate with this number of its stretch.
-fn turn(alloc: Global, init: &[u32], scene: &mut Scene, number: u64)
+/// Turns the execution that is shown to another of its stretch.
+fn turn(alloc: Global, init: &[u32], scene: &mut Scene, hit: Hit)
     requires page { IsPage (length init.now) scene.old.stretch.page }
-    requires seen { IsSeen init.now scene.old.stretch.page scene.old.graph scene.old.at }
-    requires number { number < block (length init.now) scene.old.stretch.page.runs.items }
+    requires seen { IsSeen init.now scene.old.stretch.page scene.old.graph scene.old.hit.at }
+    requires number { hit.at < block (length init.now) scene.old.stretch.page.runs.items }
     ensures stretch { scene.new.stretch ≡ scene.old.stretch }
     ensures ahead { scene.new.ahead ≡ scene.old.ahead }
-    ensures at { scene.new.at ≡ number }
-    ensures shown { scene.new.graph ≡ candidate init.now scene.old.stretch.page.runs.items number }
+    ensures hit { scene.new.hit ≡ hit }
+    ensures shown { scene.new.graph ≡ candidate init.now scene.old.stretch.page.runs.items hit.at }
 {
     let graph = replace(&mut scene.graph, nothing(alloc));
-    scene.graph = turned(alloc, &scene.stretch.page, graph, scene.at, number);
-    scene.at = number;
+    scene.graph = turned(alloc, &scene.stretch.page, graph, scene.hit.at, hit.at);
+    scene.hit = hit;
 }
 
-/// Shows the candidate with this number of the stretch ahead, and looks on behind it.
+/// Shows an execution of the stretch ahead, and looks on behind it.
 #[inline(never)]
-fn show(alloc: Global, init: &[u32], scene: &mut Scene, number: u64) -> Result<(), AllocError>
+fn show(alloc: Global, init: &[u32], scene: &mut Scene, hit: Hit) -> Result<(), AllocError>
     requires page { IsPage (length init.now) scene.old.ahead.stretch.page }
-    requires number { number < block (length init.now) scene.old.ahead.stretch.page.runs.items }
+    requires number { hit.at < block (length init.now) scene.old.ahead.stretch.page.runs.items }
     ensures stretch { OnOk result (scene.new.stretch ≡ scene.old.ahead.stretch) }
     ensures ahead { OnOk result (scene.new.ahead.stretch ≡ scene.old.stretch) }
     ensures levels { scene.new.ahead.levels ≡ scene.old.ahead.levels }
-    ensures at { OnOk result (scene.new.at ≡ number) }
-    ensures shown { OnOk result (scene.new.graph ≡ candidate init.now scene.old.ahead.stretch.page.runs.items number) }
-    ensures same { OnErr result ((scene.new.stretch ≡ scene.old.stretch) × (scene.new.ahead ≡ scene.old.ahead) × (scene.new.graph ≡ scene.old.graph) × (scene.new.at ≡ scene.old.at)) }
+    ensures hit { OnOk result (scene.new.hit ≡ hit) }
+    ensures shown { OnOk result (scene.new.graph ≡ candidate init.now scene.old.ahead.stretch.page.runs.items hit.at) }
+    ensures same { OnErr result ((scene.new.stretch ≡ scene.old.stretch) × (scene.new.ahead ≡ scene.old.ahead) × (scene.new.graph ≡ scene.old.graph) × (scene.new.hit ≡ scene.old.hit)) }
 {
     let room = replace(&mut scene.room, no_parts(alloc));
-    let graph = assemble_in(alloc, init, &scene.ahead.stretch.page, number, room)?;
+    let graph = assemble_in(alloc, init, &scene.ahead.stretch.page, hit.at, room)?;
     scene.room = replace(&mut scene.graph, graph).into_parts();
     swap(&mut scene.stretch, &mut scene.ahead.stretch);
-    scene.at = number;
+    scene.hit = hit;
     Ok(())
 }
 
@@ -335,18 +362,18 @@ impl<'a> Walk<'a> {
         ensures same { OnErr result (self.new ≡ self.old) }
     {
         let from = match search_near(self.space, &self.scene, self.next, self.to) {
-            Near::Found(number) => {
-                let place = number - self.scene.stretch.first;
-                turn(alloc, self.space.init(), &mut self.scene, place);
+            Near::Found(hit) => {
+                let number = self.scene.stretch.first + hit.at;
+                turn(alloc, self.space.init(), &mut self.scene, hit);
                 self.next = number + 1;
                 return Ok(Some(number));
             }
             Near::Until(from) => from,
         };
         match search(alloc, self.space, &mut self.scene.ahead, from, self.to)? {
-            Some(number) => {
-                let place = number - self.scene.ahead.stretch.first;
-                show(alloc, self.space.init(), &mut self.scene, place)?;
+            Some(hit) => {
+                let number = self.scene.ahead.stretch.first + hit.at;
+                show(alloc, self.space.init(), &mut self.scene, hit)?;
                 self.next = number + 1;
                 Ok(Some(number))
             }

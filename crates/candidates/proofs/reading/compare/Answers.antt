@@ -1,6 +1,6 @@
 use Rattle.std.proofs.Common.{◌≡◌, ◌∙◌, ◌<◌, ◌/◌, ◌+◌, ◌≤◌, nat_lt, length, ap, subst, arith}
 use Rattle.candidates.specs.Candidates.{count_sources}
-use Rattle.candidates.proofs.Fitting.{Misses, can_fit, stands_on, stands_until}
+use Rattle.candidates.proofs.Fitting.{Misses, can_fit, stands_end, stands_on, stands_until}
 use Rattle.candidates.proofs.Listed.{placed}
 use Rattle.candidates.proofs.Sources.{ways_from}
 use Rattle.candidates.proofs.reading.compare.Goals as goal
@@ -58,3 +58,8 @@ loop-read-preserved c =
     stands_on c.args.init.now runs c.args.reads.now c.args.number at.read-index at.start at.rest at.ways at.other c.fitting-fit.result c.fitting-next.result (at.ways / c.sources_of-sources.result) c.read-item.result c.loop-read-test.true c.read-item.is
     below few c.fitting-fit.ensures.from c.fitting-fit.ensures.none (c.fitting-fit.ensures.found less) up within c.fitting-next.ensures.none at.invariant
     )
+
+pub returns : goal.returns
+returns c =
+    let at = c.loop-read in
+    stands_end c.args.init.now c.args.page.now.runs.items c.args.reads.now c.args.number at.read-index at.start at.rest at.ways at.other (omega (arith, c.loop-read-test.false, at.invariant)) at.invariant

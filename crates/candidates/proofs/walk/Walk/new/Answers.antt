@@ -19,6 +19,7 @@ invariant_of-result c =
         none = λ z. e.depths;
         within = λ l. absurd (omega (arith, l, e.size));
         seen = λ l. absurd (omega (arith, l, e.size));
+        known = λ l. absurd (omega (arith, l, e.size));
         depths = e.depths ∙ sym (no_depths (length s.init)) ∙ sym (ap (λ (x : GraphValue). depths_of (length s.init) x.runs) e.graph);
         ahead = record {
           stretch = λ l. absurd (omega (arith, l, e.ahead));

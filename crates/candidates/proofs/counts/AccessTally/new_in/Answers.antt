@@ -1,5 +1,5 @@
 use Rattle.candidates.proofs.Adding.{tally_next}
-use Rattle.candidates.proofs.counts.AccessTally.new.Goals as goal
+use Rattle.candidates.proofs.counts.AccessTally.new_in.Goals as goal
 
 pub loop-location-preserved : goal.loop-location-preserved
 loop-location-preserved c =

@@ -1,0 +1,5 @@
+use Rattle.candidates.proofs.Passing.{again_of}
+use Rattle.candidates.proofs.reading.look_behind.Goals as goal
+
+pub returns-then-last-reading : goal.returns-then-last-reading
+returns-then-last-reading c = again_of c.args.init.now c.args.page.now.runs.items c.args.page.now.orders c.args.number c.args.known c.requires.page.orders c.if-last-reading.true c.requires.number c.requires.known
