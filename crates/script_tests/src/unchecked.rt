@@ -1,4 +1,4 @@
-//! Tests of `one` on a test with the model that has no checks.
+//! Tests of `one` on a test with the model that has no checks, and of executions that are counted together.
 
 ghost use Rattle.std.specs.Prelude.{◌≤◌};
 
@@ -126,6 +126,75 @@ const COUNTED_TOGETHER: &[Case] = &[
 #[test]
 fn orders_counted_together(rt: HostRuntime) -> Result<(), Fail> {
     all_hold(rt.alloc(), COUNTED_TOGETHER)
+}
+
+const TWO_LOADS_THREE_STORES: &str = "C LB+W3 {} P0 (atomic_int* x, atomic_int* y) {
+  int r0 = atomic_load(y); atomic_store(x, 1);
+} P1 (atomic_int* x, atomic_int* y) {
+  int r0 = atomic_load(x); atomic_store(y, 1);
+} P2 (atomic_int* z) {
+  atomic_store(z, 1); atomic_store(z, 2); atomic_store(z, 3);
+} exists (z=3)";
+
+/// Executions that differ in their orders alone, under models: the loads read in four ways, of which one is a cycle, and three stores have six
+/// orders, of which two end in each.
+const COUNTED_TOGETHER_UNDER_A_MODEL: &[Case] = &[
+    Case {
+        name: "two_loads_and_three_stores",
+        test: TWO_LOADS_THREE_STORES,
+        rows: &[
+            (
+                &["acyclic po | rf as porf"],
+                Answer::Is(
+                    "Test LB+W3 Allowed\nStates 3\n[z]=1;\n[z]=2;\n[z]=3;\nOk\nWitnesses\nPositive: 6 Negative: 12\nCondition exists ([z]=3)\nObservation LB+W3 Sometimes 6 12\n",
+                ),
+            ),
+            (
+                &["flag ~acyclic po | rf as cycle flag acyclic po | rf as none"],
+                Answer::Is(
+                    "Test LB+W3 Allowed\nStates 3\n[z]=1;\n[z]=2;\n[z]=3;\nOk\nWitnesses\nPositive: 8 Negative: 16\nFlag cycle\nFlag none\nCondition exists ([z]=3)\nObservation LB+W3 Sometimes 8 16\n",
+                ),
+            ),
+            (
+                &[
+                    "acyclic po | rf as porf flag ~acyclic po | rf as cycle flag acyclic po | rf as none",
+                ],
+                Answer::Is(
+                    "Test LB+W3 Allowed\nStates 3\n[z]=1;\n[z]=2;\n[z]=3;\nOk\nWitnesses\nPositive: 6 Negative: 12\nFlag none\nCondition exists ([z]=3)\nObservation LB+W3 Sometimes 6 12\n",
+                ),
+            ),
+            // It looks at the orders: the stores are ordered as they stand.
+            (
+                &["acyclic po | co as poco"],
+                Answer::Is(
+                    "Test LB+W3 Allowed\nStates 1\n[z]=3;\nOk\nWitnesses\nPositive: 4 Negative: 0\nCondition exists ([z]=3)\nObservation LB+W3 Always 4 0\n",
+                ),
+            ),
+        ],
+    },
+    Case {
+        name: "three_stores_and_no_load",
+        test: THREE_STORES,
+        rows: &[
+            (
+                &["flag empty rf as norf"],
+                Answer::Is(
+                    "Test W3 Allowed\nStates 3\n[x]=1;\n[x]=2;\n[x]=3;\nOk\nWitnesses\nPositive: 2 Negative: 4\nFlag norf\nCondition exists ([x]=3)\nObservation W3 Sometimes 2 4\n",
+                ),
+            ),
+            (
+                &["~empty rf as read"],
+                Answer::Is(
+                    "Test W3 Allowed\nStates 0\nNo\nWitnesses\nPositive: 0 Negative: 0\nCondition exists ([x]=3)\nObservation W3 Never 0 0\n",
+                ),
+            ),
+        ],
+    },
+];
+
+#[test]
+fn orders_counted_together_under_a_model(rt: HostRuntime) -> Result<(), Fail> {
+    all_hold(rt.alloc(), COUNTED_TOGETHER_UNDER_A_MODEL)
 }
 
 /// Whether this is the summary where the test is evaluated in so many slices.

@@ -95,23 +95,17 @@ added_all t places rows ways before after few h =
     let a = few.all in
     omega (arith, s, a)
 
--- A model without items, in what an option says.
-pub no_items : {A B : Type 0} (f : A → B) (xs : List A) (ys : List B) → map f xs ≡ ys → length xs ≤ 0 → ys ≡ []
-no_items f [] ys e l = sym e
-no_items f (x ∷ xs) ys e l = absurd (omega (arith, l))
-
 -- a walk goes on behind a block that is counted
-pub block_passed : (t : Litmus) (items : List Clause) (places : List Place) (n size : ℕ) (v w : Walking) (before after : Counter) → items ≡ [] → v.next ≡ n + 1 → v.next - 1 + size ≤ v.to → 1 ≤ size → w.space ≡ v.space → w.to ≡ v.to → w.next ≡ max v.next (min (n + size) v.to) →
-    GoesOn t [] places v.space n (n + size) before after → after.positive + after.negative ≡ before.positive + before.negative + size → AreCounted t items places n v w before after
-block_passed t items places n size v w before after none e l some space to next goes sum =
+pub block_passed : (t : Litmus) (items : List Clause) (places : List Place) (n size : ℕ) (v w : Walking) (before after : Counter) → v.next ≡ n + 1 → n + size ≤ v.to → 1 ≤ size → w.space ≡ v.space → w.to ≡ v.to → w.next ≡ max v.next (min (n + size) v.to) →
+    GoesOn t items places v.space n (n + size) before after → after.positive + after.negative ≤ before.positive + before.negative + size → AreCounted t items places n v w before after
+block_passed t items places n size v w before after e l some space to next goes sum =
     let is : w.next ≡ n + size = omega (arith, e, l, some, next) in
-    let I : List Clause → Type 0 = λ is'. GoesOn t is' places v.space n w.next before after in
-    let N : ℕ → Type 0 = λ b. GoesOn t [] places v.space n b before after in
+    let N : ℕ → Type 0 = λ b. GoesOn t items places v.space n b before after in
     record {
       space = space;
       to = to;
       later = omega (arith, is, some);
-      counted = subst I (sym none) (subst N (sym is) goes);
+      counted = subst N (sym is) goes;
       few = omega (arith, is, sum);
     }
 

@@ -71,7 +71,7 @@ of_push y [] x (inr p) = absurd p
 of_push y (z ∷ zs) x (inl e) = inl (inl e)
 of_push y (z ∷ zs) x (inr p) = elim (of_push y zs x p) [ inl q ↦ inl (inr q) | inr e ↦ inr e ]
 
-raised-push : (items : List Clause) (xs : List GraphValue) (x : GraphValue) (name : Word) → IsRaised items (xs ++ x ∷ []) name ↔ (IsRaised items xs name ⊎ Raised items x name)
+pub raised-push : (items : List Clause) (xs : List GraphValue) (x : GraphValue) (name : Word) → IsRaised items (xs ++ x ∷ []) name ↔ (IsRaised items xs name ⊎ Raised items x name)
 raised-push items xs x name = (
   (λ r. elim (of_push r.0 xs x r.1) [ inl p ↦ inl (r.0, p, r.2) | inr e ↦ inr (let P : GraphValue → Type 0 = λ y. Raised items y name in subst P e r.2) ]),
   (λ h. elim h [ inl r ↦ (r.0, in_front r.0 xs x r.1, r.2) | inr q ↦ (x, at_last xs x, q) ]),
@@ -184,6 +184,20 @@ walked_none_yet t items places from to w new space next end p n s f =
 false_true : false ≡ true → ⊥
 false_true e = cc
 
+-- the names that are raised, among those before
+pub raised_more : (items : List Clause) (x : GraphValue) (flags old new : List Word) → Lists (Raised items x) flags → new ≡ fold (λ keys name. insert_key row_cmp keys name) old flags → (name : Word) → IsIn name new ↔ (IsIn name old ⊎ Raised items x name)
+raised_more items x flags old new raised f name =
+    let P : List Word → Type 0 = λ ks. IsIn name ks in (
+      (λ q. elim (from_collected (λ (y : Word). y) name old flags (subst P f q)) [
+        | inl before ↦ inl before
+        | inr r ↦ inr (raised.only name (let W : Word → Type 0 = λ y. IsIn y flags in subst W (sym r.2) r.1))
+      ]),
+      (λ h. subst P (sym f) (elim h [
+        | inl before ↦ collected_old (λ (y : Word). y) name old flags before
+        | inr r ↦ in_collected (λ (y : Word). y) old flags name (raised.all name r)
+      ])),
+    )
+
 -- one execution more, from its final state and the flags that it raises
 pub one_more : (t : Litmus) (items : List Clause) (places : List Place) (x : GraphValue) (state : List ℕ) (old new : Counter) (flags : List Word) → Lists (Raised items x) flags
     → state ≡ map (slot_value x) (map (slot_of t) places)
@@ -200,17 +214,7 @@ one_more t items places x state old new flags raised e p n s f =
       positive = subst P is p;
       negative = subst N is n;
       states = s ∙ ap (insert_key row_cmp old.states.keys) is;
-      flags = λ name. (
-        (λ q. elim (from_collected (λ (y : Word). y) name old.flags.keys flags (let P : List Word → Type 0 = λ ks. IsIn name ks in subst P f q)) [
-          | inl before ↦ inl before
-          | inr r ↦ inr (raised.only name (let P : Word → Type 0 = λ y. IsIn y flags in subst P (sym r.2) r.1))
-        ]),
-        (λ h. let P : List Word → Type 0 = λ ks. IsIn name ks in
-            subst P (sym f) (elim h [
-              | inl before ↦ collected_old (λ (y : Word). y) name old.flags.keys flags before
-              | inr r ↦ in_collected (λ (y : Word). y) old.flags.keys flags name (raised.all name r)
-            ])),
-      );
+      flags = raised_more items x flags old.flags.keys new.flags.keys raised f;
     }
 
 pub on_ok : {X E P Q : Type 0} (r : Result X E) → (P → Q) → OnOk r P → OnOk r Q

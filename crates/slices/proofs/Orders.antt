@@ -1,6 +1,6 @@
 -- Executions that differ in their orders alone, counted by the writes that stand last in these.
-use Rattle.std.proofs.Common.{◌≡◌, ℕ, zero, suc, ◌+◌, ◌*◌, ◌/◌, ◌%◌, ◌<◌, ◌≤◌, ◌^◌, List, [], ◌∷◌, length, map, Bool, true, false, cond, not, if◌then◌else◌, Option, Some, refl, sym, ◌∙◌, ap, subst, inl, inr, arith}
-use Rattle.std.specs.Prelude.{slice_index_or}
+use Rattle.std.proofs.Common.{◌≡◌, ◌⊎◌, ℕ, zero, suc, ◌+◌, ◌-◌, ◌*◌, ◌/◌, ◌%◌, ◌<◌, ◌≤◌, ◌^◌, List, [], ◌∷◌, length, map, Bool, true, false, cond, not, if◌then◌else◌, Option, Some, refl, sym, ◌∙◌, ap, subst, inl, inr, arith}
+use Rattle.std.specs.Prelude.{slice_index_or, ◌↔◌}
 use Rattle.std.specs.List.{list_any}
 use Rattle.std.specs.Str.{bytes_eq}
 use Rattle.std.proofs.Math.Nat.{mul-zero, mul-one, mul-le-mul_left}
@@ -9,10 +9,14 @@ use Rattle.std.proofs.lemmas.Slice.Eq.{bytes_eq-Decides}
 use Rattle.events.specs.declared.event.EventId.{EventId}
 use Rattle.events.specs.declared.event.EventId.TheVariants.{Initial}
 use Rattle.events.specs.Executions.{ThreadRun, GraphValue}
+use Rattle.events.specs.Structures.{sourced_of}
+use Rattle.cat_eval.specs.Judging.{Allowed, Raised}
+use Rattle.cat_eval.specs.Orderless.{IsOrderless}
+use Rattle.cat_tree.specs.Tree.{Clause}
 use Rattle.listings.specs.Lists.{IsIn, product_by, tabulate}
 use Rattle.listings.specs.Numbered.{arrange, digits}
 use Rattle.conditions.specs.declared.place.Place.{Place}
-use Rattle.litmus_tree.specs.Tree.{Litmus}
+use Rattle.litmus_tree.specs.Tree.{Litmus, Word}
 use Rattle.candidates.specs.declared.open_orders.OpenOrders.{OpenOrders}
 use Rattle.candidates.specs.Alike.{AreAlike, IsOpen, with_orders}
 use Rattle.candidates.specs.Blocks.{ways_of_orders as open_ways}
@@ -23,13 +27,15 @@ use Rattle.slices.specs.declared.slot.Slot.{Slot}
 use Rattle.slices.specs.declared.slot.Slot.TheVariants.{Register, Location}
 use Rattle.slices.specs.Alike.{AreAdded, AreFew, GoesOn, row_by, row_has, weight_at}
 use Rattle.slices.specs.Finals.{has, last_or, obs}
+use Rattle.slices.specs.Passing.{NoneAllowed}
 use Rattle.slices.specs.Slots.{slot_by, slot_of, slot_value}
 use Rattle.slices.specs.Totals.{total}
 use Rattle.slices.specs.Ways.{WaysValue, count_of_ways, is_location, is_seen, shown_ways, size_of_ways, way, weight_of_way}
 use Rattle.slices.proofs.Counted.{row_is, turned}
 use Rattle.slices.proofs.Digits.{AllSpread, all_spread, by_digits}
-use Rattle.slices.proofs.Following.{AreFollowing, goes_on}
+use Rattle.slices.proofs.Following.{AreFollowing, AreJudgedAlike, AreMarked, goes_on}
 use Rattle.slices.proofs.Inserted.{AreAmong, same_inserted}
+use Rattle.slices.proofs.PassedOver.{counts_pass}
 use Rattle.slices.proofs.Opened.{AreSound, Fits, last_by, opened_digits, opened_size, opened_sound, opened_spread, opened_values, opened_ways, ways_of_orders}
 use Rattle.slices.proofs.Picked.{few_picks, one_total, some_total, weights_add, weights_some}
 use Rattle.slices.proofs.Shown.{from_on, order_by, shown_opened}
@@ -191,10 +197,10 @@ among_picks {X} row xs ys weight m n some h j l =
 -- THE COUNT
 
 -- the executions of a block, from those that were found by the writes that stand last
-following : (t : Litmus) (places : List Place) (slots : List Slot) (init : List ℕ) (runs : List ThreadRun) (rf : List EventId) (o : OpenOrders) (times j : ℕ) (before after : Counter) → slots ≡ map (slot_of t) places → IsOpen (length init) runs o →
-    (let ws = ways_in slots (length init) runs o times in AreAdded t places (weight_at ws) (row_by (with_orders init runs rf j) slots ws) (product_by count_of_ways ws) before after →
-    AreFollowing t places (λ i. with_orders init runs rf (o.size * times + i)) o.size before after)
-following t places slots init runs rf o times j before after e h added =
+following : (t : Litmus) (items : List Clause) (places : List Place) (slots : List Slot) (init : List ℕ) (runs : List ThreadRun) (rf : List EventId) (o : OpenOrders) (times j : ℕ) (before now after : Counter) → slots ≡ map (slot_of t) places → IsOpen (length init) runs o →
+    (let ws = ways_in slots (length init) runs o times in AreAdded t places (weight_at ws) (row_by (with_orders init runs rf j) slots ws) (product_by count_of_ways ws) before now →
+    AreMarked items (with_orders init runs rf (o.size * times + 0)) now after → AreFollowing t items places (λ i. with_orders init runs rf (o.size * times + i)) o.size before after)
+following t items places slots init runs rf o times j before now after e h added marked =
     let ws : List WaysValue = ways_in slots (length init) runs o times in
     let g : GraphValue = with_orders init runs rf j in
     let f : ℕ → GraphValue = λ i. with_orders init runs rf (o.size * times + i) in
@@ -214,10 +220,10 @@ following t places slots init runs rf o times j before after e h added =
     let to : AreAmong (λ k. row (pick k)) (λ i. obs t places (f i)) m o.size = (λ k l. (let r = among_picks row L pick (weight_at ws) o.size m some all k l in (r.0, r.1, r.2 ∙ sym (seen r.0)))) in
     let from : AreAmong (λ i. obs t places (f i)) (λ k. row (pick k)) o.size m = (λ i l. (let r = picks_among row L pick (weight_at ws) o.size m all i l in (r.0, r.1, seen i ∙ r.2))) in
     record {
-      positive = (let x = added.positive in omega (arith, x, positive));
-      negative = (let x = added.negative in omega (arith, x, negative));
-      states = λ sorted. added.states ∙ same_inserted (λ k. row (pick k)) (λ i. obs t places (f i)) before.states.keys m o.size sorted to from;
-      flags = added.flags;
+      positive = (let x = added.positive in let y = marked.positive in omega (arith, x, y, positive));
+      negative = (let x = added.negative in let y = marked.negative in omega (arith, x, y, negative));
+      states = λ sorted. marked.states ∙ added.states ∙ same_inserted (λ k. row (pick k)) (λ i. obs t places (f i)) before.states.keys m o.size sorted to from;
+      flags = let K : List Word → Type 0 = λ ks. (name : Word) → IsIn name after.flags.keys ↔ (IsIn name ks ⊎ Raised items (f 0) name) in subst K added.flags marked.flags;
     }
 
 some_is : (x y : GraphValue) → ◌≡◌ {A = Option GraphValue} (Some x) (Some y) → x ≡ y
@@ -255,12 +261,33 @@ are_few slots s a o x ways h at is few =
     let P : List WaysValue → Type 0 = λ w. AreFew w × (product_by size_of_ways w ≡ o.size) in
     subst P (sym (is ∙ ways_are slots s a o x h at)) (record { most = few_picks ws vs (sound_in slots n h.runs o h.times) spread; all = weights_add ws vs spread; few = omega (arith, p, few) }, p)
 
--- A count goes on over a block.
-pub block_counted : (t : Litmus) (places : List Place) (slots : List Slot) (s : Choices) (a : ℕ) (o : OpenOrders) (x : GraphValue) (ways : List WaysValue) (before after : Counter) → slots ≡ map (slot_of t) places → AreAlike s a o → graph_at s a ≡ Some x →
-    ways ≡ shown_ways Initial (is_seen slots) o.unplaced.locations o.unplaced.writes 0 x.co → AreAdded t places (weight_at ways) (row_by x slots ways) (product_by count_of_ways ways) before after → GoesOn t [] places s a (a + o.size) before after
-block_counted t places slots s a o x ways before after e h at is added =
+-- A count goes on over a block whose first execution is allowed.
+pub block_counted : (t : Litmus) (items : List Clause) (places : List Place) (slots : List Slot) (s : Choices) (a : ℕ) (o : OpenOrders) (x : GraphValue) (ways : List WaysValue) (before now after : Counter) → IsOrderless items → Allowed items x → slots ≡ map (slot_of t) places → AreAlike s a o →
+    graph_at s a ≡ Some x → ways ≡ shown_ways Initial (is_seen slots) o.unplaced.locations o.unplaced.writes 0 x.co → AreAdded t places (weight_at ways) (row_by x slots ways) (product_by count_of_ways ways) before now → AreMarked items x now after →
+    GoesOn t items places s a (a + o.size) before after
+block_counted t items places slots s a o x ways before now after orderless allowed e h at is added marked =
     let f : ℕ → GraphValue = λ i. with_orders s.init h.runs h.rf (o.size * h.times + i) in
-    let W : List WaysValue → Type 0 = λ w. AreAdded t places (weight_at w) (row_by x slots w) (product_by count_of_ways w) before after in
-    let G : GraphValue → Type 0 = λ y. AreAdded t places (weight_at (ways_in slots (length s.init) h.runs o h.times)) (row_by y slots (ways_in slots (length s.init) h.runs o h.times)) (product_by count_of_ways (ways_in slots (length s.init) h.runs o h.times)) before after in
-    goes_on t places s a o.size f before after h.at
-    (following t places slots s.init h.runs h.rf o h.times (o.size * h.times + 0) before after e h.opens (subst G (shown_is s a o x h at) (subst W (is ∙ ways_are slots s a o x h at) added)))
+    let ws : List WaysValue = ways_in slots (length s.init) h.runs o h.times in
+    let first : x ≡ f 0 = shown_is s a o x h at in
+    let same : (i : ℕ) → sourced_of (f i) ≡ sourced_of x = λ i. sym (ap sourced_of first) in
+    let alike : AreJudgedAlike items f o.size = λ i l. ((orderless (f i) x (same i)).0.1 allowed, λ name r. ((orderless (f i) (f 0) refl).1 name).0 r) in
+    let W : List WaysValue → Type 0 = λ w. AreAdded t places (weight_at w) (row_by x slots w) (product_by count_of_ways w) before now in
+    let G : GraphValue → Type 0 = λ y. AreAdded t places (weight_at ws) (row_by y slots ws) (product_by count_of_ways ws) before now in
+    let M : GraphValue → Type 0 = λ y. AreMarked items y now after in
+    let some = h.opens.some in
+    goes_on t items places s a o.size f before after (omega (arith, some)) alike h.at
+    (following t items places slots s.init h.runs h.rf o h.times (o.size * h.times + 0) before now after e h.opens (subst G first (subst W (is ∙ ways_are slots s a o x h at) added)) (subst M first marked))
+
+-- It stays over a block whose first execution isn't.
+pub block_forbidden : (t : Litmus) (items : List Clause) (places : List Place) (s : Choices) (a : ℕ) (o : OpenOrders) (x : GraphValue) (counter : Counter) → IsOrderless items → ¬ Allowed items x → AreAlike s a o → graph_at s a ≡ Some x → GoesOn t items places s a (a + o.size) counter counter
+block_forbidden t items places s a o x counter orderless forbidden h at from l c =
+    let f : ℕ → GraphValue = λ i. with_orders s.init h.runs h.rf (o.size * h.times + i) in
+    let first : x ≡ f 0 = shown_is s a o x h at in
+    let same : (i : ℕ) → sourced_of (f i) ≡ sourced_of x = λ i. sym (ap sourced_of first) in
+    let none : NoneAllowed items s a (a + o.size) = (λ m low up y is allowed.
+    let i : ℕ = m - a in
+    let there : a + i ≡ m = omega (arith, low) in
+    let here : y ≡ f i = some_is y (f i) (sym is ∙ ap (graph_at s) (sym there) ∙ h.at i (omega (arith, low, up))) in
+    let A : GraphValue → Type 0 = Allowed items in
+    forbidden ((orderless (f i) x (same i)).0.0 (subst A here allowed))) in
+    counts_pass t items places s counter from a (a + o.size) l (omega arith) none c

@@ -1,6 +1,6 @@
 -- What is passed over adds nothing to a count.
 use Rattle.std.proofs.Common.{◌≡◌, ℕ, zero, suc, ◌+◌, ◌-◌, ◌<◌, ◌≤◌, List, ◌++◌, Option, Some, None, refl, sym, ◌∙◌, subst, append-nil, arith}
-use Rattle.std.specs.Prelude.{max, min, Bool, true, false, MatchBool, MatchOption}
+use Rattle.std.specs.Prelude.{max, min, Bool, true, false, MatchBool, MatchOption, ◌↔◌}
 use Rattle.events.specs.Executions.{GraphValue}
 use Rattle.events.specs.Extends.{Extends}
 use Rattle.conditions.specs.declared.place.Place.{Place}
@@ -102,3 +102,7 @@ is_passed false P Q e h = absurd (let f : false ≡ true = e in cc)
 pub not_passed : (b : Bool) (P Q : Type 0) → b ≡ false → MatchBool b P Q → Q
 not_passed false P Q e h = h
 not_passed true P Q e h = absurd (let f : true ≡ false = e in cc)
+
+-- what a model is said not to allow, it doesn't
+pub not_allowed : (b : Bool) (A : Type 0) → b ≡ false → (b ≡ true ↔ A) → ¬ A
+not_allowed b A e h a = let f : false ≡ true = sym e ∙ h.1 a in cc

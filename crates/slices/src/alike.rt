@@ -1,31 +1,34 @@
-//! Executions one behind another that differ in their orders alone, counted together where no model looks at them.
+//! Executions one behind another that differ in their orders alone, counted together where the model doesn't look at them.
 
-ghost use Rattle.std.specs.Prelude.{◌≡◌, ◌+◌, ◌-◌, ◌≤◌, ◌<◌, ◌^◌, [], map, Some, IfSome, OnOk};
+ghost use Rattle.std.specs.Prelude.{◌≡◌, ◌+◌, ◌-◌, ◌≤◌, ◌<◌, ◌^◌, ◌↔◌, map, Some, IfSome, IsTrue, OnOk};
 ghost use Rattle.candidates.specs.Alike.{AreAlike};
 ghost use Rattle.candidates.specs.Candidates.{graph_at};
+ghost use Rattle.cat_eval.specs.Judging.{Allowed, Raised};
+ghost use Rattle.cat_eval.specs.Orderless.{IsOrderless};
 ghost use Rattle.events.specs.Executions.{GraphValue};
-ghost use Rattle.listings.specs.Lists.{product_by};
+ghost use Rattle.listings.specs.Lists.{Lists, product_by};
 ghost use Rattle.slices.specs.Alike.{AreAdded, AreCounted, AreFew, row_by, weight_at};
 ghost use Rattle.slices.specs.Slots.{slot_of};
 ghost use Rattle.slices.specs.Ways.{count_of_ways, size_of_ways};
 
-use crate::counter::Counter;
+use crate::counter::{Counter, raise};
 use crate::slot::{Slot, row_by};
 use crate::ways::{Ways, choose, ways_of};
 use crate::work::Work;
 use candidates::{OpenOrders, Walk};
+use cat_eval::Judgement;
 use conditions::Place;
 use events::Graph;
 use std::alloc::{AllocError, Global};
 
-/// What is open of the orders from the execution on that the walk found last, if more than that execution is, and the work has no model's
-/// items.
+/// What is open of the orders from the execution on that the walk found last, if more than that execution is, and the work's model doesn't
+/// look at the orders.
 pub(crate) fn alike_behind(work: &Work, walk: &Walk<'_>) -> Option<OpenOrders>
-    ensures items { IfSome result (λ _. work.now.model.items ≡ []) }
+    ensures orderless { IfSome result (λ _. IsOrderless work.now.model.items) }
     ensures alike { (x : GraphValue) → graph_at walk.now.space (walk.now.next - 1) ≡ Some x → IfSome result (AreAlike walk.now.space (walk.now.next - 1)) }
     ensures within { IfSome result (λ o. walk.now.next - 1 + o.size ≤ walk.now.to) }
 {
-    if work.model().items().len() > 0 {
+    if !work.is_orderless() {
         return None;
     }
     match walk.open_orders() {
@@ -62,9 +65,9 @@ impl Counter {
         Ok(())
     }
 
-    /// Counts the execution at this number, which the walk found last, with those behind it that differ from it in their orders alone, and
-    /// goes on behind them. The work has no model's items.
-    pub(crate) fn add_alike(
+    /// Weighs the execution at this number, which the walk found last, with those behind it that differ from it in their orders alone, and goes
+    /// on behind them. What the work's model says of the first is handed in; of the others it says the same.
+    pub(crate) fn weigh_alike(
         &mut self,
         alloc: Global,
         work: &Work,
@@ -73,20 +76,26 @@ impl Counter {
         walk: &mut Walk<'_>,
         number: u64,
         range: OpenOrders,
+        judgement: &Judgement,
     ) -> Result<(), AllocError>
-        requires items { work.now.model.items ≡ [] }
+        requires orderless { IsOrderless work.now.model.items }
         requires slots { slots.now ≡ map (slot_of work.now.test) places.now }
         requires found { (walk.old.next ≡ number + 1) × (graph_at walk.old.space number ≡ Some walk.old.shown) }
         requires alike { AreAlike walk.old.space number range }
         requires within { (number + range.size ≤ walk.old.to) × (walk.old.to ≤ 2 ^ 32) }
         requires few { self.old.positive + self.old.negative ≤ number }
+        requires allowed { IsTrue judgement.now.allowed ↔ Allowed work.now.model.items walk.old.shown }
+        requires flags { Lists (λ name. Allowed work.now.model.items walk.old.shown × Raised work.now.model.items walk.old.shown name) judgement.now.flags }
         ensures { OnOk result
             (AreCounted work.now.test work.now.model.items places.now number walk.old walk.new self.old self.new) }
     {
-        let graph = walk.graph();
-        let ways = ways_of(alloc, slots, graph, range)?;
-        self.add_ways(alloc, work, places, slots, graph, &ways)?;
-        drop(ways);
+        let allowed = judgement.allowed();
+        if allowed {
+            let graph = walk.graph();
+            let ways = ways_of(alloc, slots, graph, range)?;
+            self.add_ways(alloc, work, places, slots, graph, &ways)?;
+            raise(&mut self.flags, judgement.flags())?;
+        }
         walk.pass(number + range.size());
         Ok(())
     }

@@ -63,17 +63,19 @@ pub fn count(
     let mut walk = space.walk(alloc, from, to);
     pruner.begin();
     while let Some(number) = walk.next(alloc)? {
-        if let Some(range) = alike_behind(work, &walk) {
-            counter.add_alike(alloc, work, places, &slots, &mut walk, number, range)?;
-            continue;
-        }
         if pruner.passes(alloc, evaluator, &mut walk, number)? {
             continue;
         }
         let graph = walk.graph();
         let judgement = evaluator.judge_next(alloc, graph)?;
-        counter.weigh(alloc, work, places, &slots, graph, &judgement)?;
         pruner.note(&judgement);
+        if let Some(range) = alike_behind(work, &walk) {
+            counter.weigh_alike(
+                alloc, work, places, &slots, &mut walk, number, range, &judgement,
+            )?;
+            continue;
+        }
+        counter.weigh(alloc, work, places, &slots, graph, &judgement)?;
     }
     Ok(counter)
 }
@@ -185,7 +187,7 @@ impl Counter {
 }
 
 /// Adds the names that aren't there.
-fn raise(flags: &mut BTreeSet<Name>, names: &[Name]) -> Result<(), AllocError>
+pub(crate) fn raise(flags: &mut BTreeSet<Name>, names: &[Name]) -> Result<(), AllocError>
     ensures { OnOk result (flags.new.keys ≡ fold (λ keys name. insert_key (slice_cmp nat_cmp) keys name) flags.old.keys names.now) }
 {
     for name in names {

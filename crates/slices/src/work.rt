@@ -1,10 +1,12 @@
 //! What is evaluated: a test under a model.
 
 ghost use Rattle.std.specs.Prelude.{◌≡◌, ◌↔◌, IsTrue, IfOk, IfErr};
+ghost use Rattle.cat_eval.specs.Orderless.{IsOrderless};
 ghost use Rattle.candidates.specs.Faults.{IsSpaceFault};
 ghost use Rattle.slices.specs.Parts.{IsAdmitted, test_size};
 
 use candidates::{Space, SpaceFault};
+use cat_eval::is_orderless;
 use cat_model::Model;
 use litmus_value::Test;
 use std::alloc::{AllocError, Global};
@@ -34,11 +36,12 @@ impl std::marker::Model for TestRef {
     ghost view = { λ t. arc_value t.test };
 }
 
-/// A test under a model, and how many numbers the test has.
+/// A test under a model, how many numbers the test has, and whether it is known that the model doesn't look at the orders.
 pub struct Work {
     test: TestRef,
     model: Model,
     size: u64,
+    orderless: bool,
 }
 
 // A function of its own: whoever holds one drops it by a call.
@@ -48,12 +51,14 @@ impl Drop for Work {
             test: _,
             model: _,
             size: _,
+            orderless: _,
         } = self;
     }
 }
 
 impl std::marker::Model for Work {
-    ghost use Rattle.std.specs.Prelude.{◌≡◌};
+    ghost use Rattle.std.specs.Prelude.{◌≡◌, IsTrue};
+    ghost use Rattle.cat_eval.specs.Orderless.{IsOrderless};
     ghost use Rattle.slices.specs.Parts.{IsAdmitted, test_size};
     ghost use Rattle.slices.specs.Works.{WorkValue};
     ghost use Rattle.slices.specs.Codes.{coded_work};
@@ -64,7 +69,7 @@ impl std::marker::Model for Work {
 
     ghost view = { λ w. record { test = w.test; model = w.model } };
 
-    ghost invariant = { λ w. (w.size ≡ test_size w.test) × IsAdmitted w.test };
+    ghost invariant = { λ w. (w.size ≡ test_size w.test) × IsAdmitted w.test × (IsTrue w.orderless → IsOrderless w.model.items) };
 }
 
 /// A work that is kept more than once. Contracts see the work.
@@ -143,7 +148,13 @@ impl Work {
         match Space::new(alloc, tree) {
             Ok(space) => {
                 let size = space.size();
-                Ok(Work { test, model, size })
+                let orderless = is_orderless(&model);
+                Ok(Work {
+                    test,
+                    model,
+                    size,
+                    orderless,
+                })
             }
             Err(fault) => Err(fault),
         }
@@ -155,6 +166,7 @@ impl Work {
     {
         Ok(Work {
             test: self.test.share()?,
+            orderless: is_orderless(&model),
             model,
             size: self.size,
         })
@@ -179,6 +191,13 @@ impl Work {
         ensures { result.now ≡ self.now.model }
     {
         &self.model
+    }
+
+    /// Whether it is known that the model doesn't look at the orders.
+    pub(crate) fn is_orderless(&self) -> bool
+        ensures { IsTrue result → IsOrderless self.now.model.items }
+    {
+        self.orderless
     }
 
     /// Whether it is the same test under the same model, of the same files and versions.

@@ -3,6 +3,7 @@ use Rattle.listings.specs.Lists.{Lists}
 use Rattle.cat_tree.specs.Tree.{Clause}
 use Rattle.cat_eval.specs.Judging.{Allowed, Raised}
 use Rattle.candidates.specs.Walks.{IsHit, Walking}
+use Rattle.events.specs.Executions.{GraphValue}
 use Rattle.slices.specs.Passing.{ArePassed}
 use Rattle.slices.specs.Slots.{slot_of}
 use Rattle.slices.proofs.Adding.{alike_at, alike_within, walked_counted}
@@ -21,37 +22,58 @@ loop-walk-init c =
       model = c.requires.evaluator;
     }
 
-pub add_alike-requires-clause-found : goal.add_alike-requires-clause-found
-add_alike-requires-clause-found c =
+pub weigh_alike-requires-clause-found : goal.weigh_alike-requires-clause-found
+weigh_alike-requires-clause-found c =
     let hit = hit_number c.loop-walk.walk c.next.new.self c.in_ok-number.field-0 c.in-Some.number c.in-Some.is c.in_ok-number.ensures.found in
-    (hit.step.next, (alike_at c.loop-walk.walk c.next.new.self c.in-Some.number c.in-Some-alike_behind.range hit c.in-Some-alike_behind.ensures.alike).1)
+    let same = not_passed c.in_ok-passes.field-0 (ArePassed c.loop-walk.evaluator c.in-Some.number c.next.new.self c.passes.new.walk) (c.passes.new.walk ≡ c.next.new.self) c.if-branch.false c.in_ok-passes.ensures.passed in
+    let H : Walking → Type 0 = λ w. IsHit c.loop-walk.walk w c.in-Some.number in
+    let here = subst H (sym same) hit in
+    (here.step.next, (alike_at c.loop-walk.walk c.passes.new.walk c.in-Some.number c.in-Some-alike_behind.range here c.in-Some-alike_behind.ensures.alike).1)
 
-pub add_alike-requires-clause-alike : goal.add_alike-requires-clause-alike
-add_alike-requires-clause-alike c =
+pub weigh_alike-requires-clause-alike : goal.weigh_alike-requires-clause-alike
+weigh_alike-requires-clause-alike c =
     let hit = hit_number c.loop-walk.walk c.next.new.self c.in_ok-number.field-0 c.in-Some.number c.in-Some.is c.in_ok-number.ensures.found in
-    (alike_at c.loop-walk.walk c.next.new.self c.in-Some.number c.in-Some-alike_behind.range hit c.in-Some-alike_behind.ensures.alike).0
+    let same = not_passed c.in_ok-passes.field-0 (ArePassed c.loop-walk.evaluator c.in-Some.number c.next.new.self c.passes.new.walk) (c.passes.new.walk ≡ c.next.new.self) c.if-branch.false c.in_ok-passes.ensures.passed in
+    let H : Walking → Type 0 = λ w. IsHit c.loop-walk.walk w c.in-Some.number in
+    let here = subst H (sym same) hit in
+    (alike_at c.loop-walk.walk c.passes.new.walk c.in-Some.number c.in-Some-alike_behind.range here c.in-Some-alike_behind.ensures.alike).0
 
-pub add_alike-requires-clause-within : goal.add_alike-requires-clause-within
-add_alike-requires-clause-within c =
+pub weigh_alike-requires-clause-within : goal.weigh_alike-requires-clause-within
+weigh_alike-requires-clause-within c =
     let hit = hit_number c.loop-walk.walk c.next.new.self c.in_ok-number.field-0 c.in-Some.number c.in-Some.is c.in_ok-number.ensures.found in
-    alike_within c.args.work.now.test c.args.work.now.model.items c.args.places.now c.args.from c.args.to c.in-Some.number c.in-Some-alike_behind.range.size c.loop-walk.walk c.next.new.self c.loop-walk.counter c.loop-walk.invariant.counted hit c.requires.range c.size-size.ensures.admitted c.in-Some-alike_behind.ensures.within
+    let same = not_passed c.in_ok-passes.field-0 (ArePassed c.loop-walk.evaluator c.in-Some.number c.next.new.self c.passes.new.walk) (c.passes.new.walk ≡ c.next.new.self) c.if-branch.false c.in_ok-passes.ensures.passed in
+    let H : Walking → Type 0 = λ w. IsHit c.loop-walk.walk w c.in-Some.number in
+    let here = subst H (sym same) hit in
+    alike_within c.args.work.now.test c.args.work.now.model.items c.args.places.now c.args.from c.args.to c.in-Some.number c.in-Some-alike_behind.range.size c.loop-walk.walk c.passes.new.walk c.loop-walk.counter c.loop-walk.invariant.counted here c.requires.range c.size-size.ensures.admitted c.in-Some-alike_behind.ensures.within
 
-pub add_alike-requires-clause-few : goal.add_alike-requires-clause-few
-add_alike-requires-clause-few c =
+pub weigh_alike-requires-clause-few : goal.weigh_alike-requires-clause-few
+weigh_alike-requires-clause-few c =
     let hit = hit_number c.loop-walk.walk c.next.new.self c.in_ok-number.field-0 c.in-Some.number c.in-Some.is c.in_ok-number.ensures.found in
     let few = c.loop-walk.invariant.counted.few in
     let later = hit.later in
     omega (arith, few, later)
 
+pub weigh_alike-requires-clause-allowed : goal.weigh_alike-requires-clause-allowed
+weigh_alike-requires-clause-allowed c =
+    let P : List Clause → GraphValue → Type 0 = λ items x. IsTrue c.in_ok-judgement.judgement.allowed ↔ Allowed items x in
+    subst (λ items. P items c.passes.new.walk.shown) (c.passes.ensures.model ∙ c.loop-walk.invariant.model) (subst (P c.passes.new.evaluator) c.graph-graph.ensures c.in_ok-judgement.ensures.allowed)
+
+pub weigh_alike-requires-clause-flags : goal.weigh_alike-requires-clause-flags
+weigh_alike-requires-clause-flags c =
+    let P : List Clause → GraphValue → Type 0 = λ items x. Lists (λ name. Allowed items x × Raised items x name) c.in_ok-judgement.judgement.flags in
+    subst (λ items. P items c.passes.new.walk.shown) (c.passes.ensures.model ∙ c.loop-walk.invariant.model) (subst (P c.passes.new.evaluator) c.graph-graph.ensures c.in_ok-judgement.ensures.flags)
+
 pub loop-walk-preserved-in-Some-alike_behind : goal.loop-walk-preserved-in-Some-alike_behind
 loop-walk-preserved-in-Some-alike_behind c =
     let inv = c.loop-walk.invariant in
-    let n = c.in-Some.number in
-    let hit = hit_number c.loop-walk.walk c.next.new.self c.in_ok-number.field-0 n c.in-Some.is c.in_ok-number.ensures.found in
+    let hit = hit_number c.loop-walk.walk c.next.new.self c.in_ok-number.field-0 c.in-Some.number c.in-Some.is c.in_ok-number.ensures.found in
+    let same = not_passed c.in_ok-passes.field-0 (ArePassed c.loop-walk.evaluator c.in-Some.number c.next.new.self c.passes.new.walk) (c.passes.new.walk ≡ c.next.new.self) c.if-branch.false c.in_ok-passes.ensures.passed in
+    let H : Walking → Type 0 = λ w. IsHit c.loop-walk.walk w c.in-Some.number in
+    let here = subst H (sym same) hit in
     record {
-      counted = walked_counted c.args.work.now.test c.args.work.now.model.items c.args.places.now c.args.from c.args.to n c.loop-walk.walk c.next.new.self c.add_alike.new.walk c.loop-walk.counter c.add_alike.new.self inv.counted hit c.in_ok-add_alike.ensures;
+      counted = walked_counted c.args.work.now.test c.args.work.now.model.items c.args.places.now c.args.from c.args.to c.in-Some.number c.loop-walk.walk c.passes.new.walk c.weigh_alike.new.walk c.loop-walk.counter c.weigh_alike.new.self inv.counted here c.in_ok-weigh_alike.ensures;
       slots = inv.slots;
-      model = inv.model;
+      model = c.judge_next.ensures.model ∙ c.passes.ensures.model ∙ inv.model;
     }
 
 pub loop-walk-preserved-then-branch : goal.loop-walk-preserved-then-branch
