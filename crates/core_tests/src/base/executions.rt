@@ -162,10 +162,21 @@ const CROSSED: &Parts = &Parts {
     co: &[&[Initial(0), Own(0, 0)], &[Initial(1), Own(1, 0)]],
 };
 
-/// The runs of the two differ in what they read alone.
 #[test]
 fn a_structure_follows_an_execution(rt: HostRuntime) {
-    assert!(rt; follows(rt.alloc(), WEAK, STRONG, Basis::Runs, SEEN_OF_STRONG) == Ok(true));
+    assert!(rt; follows(rt.alloc(), EXCHANGE, STRONG, Basis::Runs, SEEN_OF_STRONG) == Ok(true));
+}
+
+/// The runs of the two differ in what they read alone: in their values, which a structure leaves out, and so in their maps.
+#[test]
+fn a_structure_stays_while_other_values_are_read(rt: HostRuntime) {
+    assert!(rt; follows(rt.alloc(), WEAK, STRONG, Basis::Sources, SEEN_OF_STRONG) == Ok(true));
+}
+
+/// The two differ in their values alone.
+#[test]
+fn a_structure_leaves_values_out(rt: HostRuntime) {
+    assert!(rt; follows(rt.alloc(), WEAK, CROSSED, Basis::Orders, SEEN_OF_WEAK) == Ok(true));
 }
 
 #[test]
