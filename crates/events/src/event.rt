@@ -170,15 +170,15 @@ impl Event {
     }
 
     /// Whether it is an event like the other, whatever the values of both are.
-    pub(crate) fn is_like(&self, like: &Self) -> bool
-        ensures { IsTrue result ↔ (unvalued self.now ≡ unvalued like.now) }
+    pub(crate) fn is_like(&self, that: &Self) -> bool
+        ensures { IsTrue result ↔ (unvalued self.now ≡ unvalued that.now) }
     {
-        self.loc == like.loc
-            && self.thread == like.thread
-            && self.access == like.access
-            && self.order == like.order
-            && self.data_from.is_same(&like.data_from)
-            && self.ctrl_from.is_same(&like.ctrl_from)
+        self.loc == that.loc
+            && self.thread == that.thread
+            && self.access == that.access
+            && self.order == that.order
+            && self.data_from.is_same(&that.data_from)
+            && self.ctrl_from.is_same(&that.ctrl_from)
     }
 
     /// Whether it reads.

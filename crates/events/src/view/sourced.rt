@@ -13,8 +13,8 @@ use relations::Rel;
 use std::alloc::{AllocError, Global};
 use std::marker::Model;
 
-/// An execution without its coherence orders: its event structure and its read-from map, with what these tell. It follows
-/// the executions, and what is the same isn't worked out again.
+/// An execution without its coherence orders, whatever its values are: its event structure and its read-from map, with what these
+/// tell. It follows the executions, and what is the same isn't worked out again.
 #[derive(Drop)]
 pub struct SourcedStructure {
     pub(super) structure: EventStructure,
@@ -55,7 +55,8 @@ impl SourcedStructure {
     }
 
     /// Becomes that of an execution, and tells what of it may be another than before: `Runs` if all may be, `Sources` if the
-    /// runs are the same, `Orders` if the read-from map is the same, too. It takes memory where it is another than before.
+    /// runs are the same but for their values, `Orders` if the read-from map is the same, too. It takes memory where it is another
+    /// than before.
     pub fn follow(&mut self, alloc: Global, graph: &Graph) -> Result<Basis, AllocError>
         ensures done { OnOk result (self.new ≡ sourced_of graph.now) }
         ensures runs { IfOk result (λ b. b ≡ Sources → self.new.structure ≡ self.old.structure) }
