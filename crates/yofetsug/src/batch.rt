@@ -1,7 +1,8 @@
 //! Tests that are judged side by side.
 
 use crate::meter::Meter;
-use crate::run::{Outcome, Plan, judge_quickly, judge_wholly, read_test_text, unread};
+use crate::outcome::Outcome;
+use crate::run::{Plan, judge_quickly, judge_wholly, read_test_text, unread};
 use std::alloc::{AllocError, Global};
 use std::rt::Files;
 use std::thread;
@@ -9,11 +10,20 @@ use std::thread::Threads;
 use std::time::Clock;
 
 /// A test that was read: its path, and its text or why there is none.
-#[derive(Drop)]
 pub struct Job {
     path: String,
     text: Vec<u8>,
     error: String,
+}
+
+impl Drop for Job {
+    fn drop(self) {
+        let Job {
+            path: _,
+            text: _,
+            error: _,
+        } = self;
+    }
 }
 
 /// Reads the texts of these paths, one after another.

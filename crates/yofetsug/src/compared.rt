@@ -91,10 +91,8 @@ fn row_of(alloc: Global, line: &[u8]) -> Result<Option<Row>, AllocError> {
     for field in line.split(|byte| *byte == b'\t') {
         fields.push(field)?;
     }
-    let (path, model, answer, states) = match fields.as_slice() {
-        [path, model, answer, states] => {
-            (*path, *model, Vec::from_slice(alloc, answer)?, *states)
-        }
+    match fields.as_slice() {
+        [path, model, answer, states] => Ok(Some(row_with(alloc, path, model, answer, states)?)),
         [
             path,
             model,
@@ -114,16 +112,26 @@ fn row_of(alloc: Global, line: &[u8]) -> Result<Option<Row>, AllocError> {
             } else {
                 answer_of(alloc, &[*word, *positive, *negative], flags)?
             };
-            (*path, *model, answer, *states)
+            Ok(Some(row_with(alloc, path, model, &answer, states)?))
         }
-        _ => return Ok(None),
-    };
-    Ok(Some(Row {
+        _ => Ok(None),
+    }
+}
+
+/// The row with these fields.
+pub fn row_with(
+    alloc: Global,
+    path: &[u8],
+    model: &[u8],
+    answer: &[u8],
+    states: &[u8],
+) -> Result<Row, AllocError> {
+    Ok(Row {
         path: Vec::from_slice(alloc, path)?,
         model: Vec::from_slice(alloc, model)?,
-        answer,
+        answer: Vec::from_slice(alloc, answer)?,
         states: Vec::from_slice(alloc, states)?,
-    }))
+    })
 }
 
 /// What a stored row tells of a word, both counts, and flags with commas between.

@@ -13,17 +13,30 @@ const MOST_BYTES: u64 = 65_537;
 const MOST_FOLDERS: usize = 1_000_000;
 
 /// The tests that the words name, and what couldn't be read on the way.
-#[derive(Drop)]
 pub struct Paths {
     pub tests: Vec<String>,
     pub unread: Vec<Unread>,
 }
 
+impl Drop for Paths {
+    fn drop(self) {
+        let Paths {
+            tests: _,
+            unread: _,
+        } = self;
+    }
+}
+
 /// A path that can't be read, and why.
-#[derive(Drop)]
 pub struct Unread {
     pub path: String,
     pub error: String,
+}
+
+impl Drop for Unread {
+    fn drop(self) {
+        let Unread { path: _, error: _ } = self;
+    }
 }
 
 impl Paths {
@@ -171,21 +184,8 @@ fn add_folder<R: Files + AllocGlobal + Clone + Drop>(
     folder: &str,
     paths: &mut Paths,
 ) -> Result<(), Trouble> {
-    let alloc = rt.alloc();
-    let mut found = Vec::new(alloc);
-    let mut folders = Vec::new(alloc);
-    let top = match folder.trim_end_matches('/') {
-        "" => "/",
-        top => top,
-    };
-    folders.push(String::from_str(alloc, top)?)?;
     let before = paths.unread.len();
-    for _ in 0..MOST_FOLDERS {
-        match folders.pop() {
-            Some(next) => go_through(rt, &next, &mut folders, &mut found, &mut paths.unread)?,
-            None => break,
-        }
-    }
+    let mut found = tests_below(rt, folder, &mut paths.unread)?;
     if found.is_empty() && paths.unread.len() == before {
         return paths.add_unread(folder, "no *.litmus file is in it or below");
     }
@@ -196,44 +196,84 @@ fn add_folder<R: Files + AllocGlobal + Clone + Drop>(
     Ok(())
 }
 
-/// Adds the tests of one folder, and the folders in it.
-fn go_through<R: Files + AllocGlobal + Clone + Drop>(
+/// The `*.litmus` files in a folder and below.
+fn tests_below<R: Files + AllocGlobal + Clone + Drop>(
     rt: &R,
-    folder: &String,
-    folders: &mut Vec<String>,
-    found: &mut Vec<String>,
+    folder: &str,
     missing: &mut Vec<Unread>,
-) -> Result<(), Trouble> {
-    let entries = match fs::read_dir(rt, folder.as_str()) {
-        Ok(entries) => entries,
-        Err(error) => {
-            missing.push(no_text(rt.alloc(), folder.as_str(), &error)?)?;
-            return Ok(());
-        }
+) -> Result<Vec<String>, Trouble> {
+    let top = match folder.trim_end_matches('/') {
+        "" => "/",
+        top => top,
     };
-    for entry in entries {
-        match entry {
-            Ok(entry) => {
-                let path = String::from_str(rt.alloc(), entry.path().as_str())?;
-                sort_out(rt, path, folders, found)?;
-            }
-            Err(error) => missing.push(no_text(rt.alloc(), folder.as_str(), &error)?)?,
+    let mut walk = Walk::from(rt.alloc(), top)?;
+    for _ in 0..MOST_FOLDERS {
+        match walk.folders.pop() {
+            Some(next) => walk.go_through(rt, &next, missing)?,
+            None => break,
         }
     }
-    Ok(())
+    Ok(walk.into_found())
 }
 
-/// Adds a path to the folders or to the tests, if it is one of those.
-fn sort_out<R: Files>(
-    rt: &R,
-    path: String,
-    folders: &mut Vec<String>,
-    found: &mut Vec<String>,
-) -> Result<(), AllocError> {
-    if matches!(fs::symlink_metadata(rt, path.as_str()), Ok(about) if about.is_dir()) {
-        folders.push(path)?;
-    } else if path.as_str().ends_with(".litmus") {
-        found.push(path)?;
+/// A walk through folders: those that are still to be gone through, and the tests that were found.
+struct Walk {
+    folders: Vec<String>,
+    found: Vec<String>,
+}
+
+impl Drop for Walk {
+    fn drop(self) {
+        let Walk {
+            folders: _,
+            found: _,
+        } = self;
     }
-    Ok(())
+}
+
+impl Walk {
+    fn from(alloc: Global, top: &str) -> Result<Self, AllocError> {
+        let mut folders = Vec::new(alloc);
+        folders.push(String::from_str(alloc, top)?)?;
+        let found = Vec::new(alloc);
+        Ok(Walk { folders, found })
+    }
+
+    fn into_found(self) -> Vec<String> {
+        let Walk { folders: _, found } = self;
+        found
+    }
+
+    /// Adds the tests of one folder, and the folders in it.
+    fn go_through<R: Files + AllocGlobal + Clone + Drop>(
+        &mut self,
+        rt: &R,
+        folder: &String,
+        missing: &mut Vec<Unread>,
+    ) -> Result<(), Trouble> {
+        let entries = match fs::read_dir(rt, folder.as_str()) {
+            Ok(entries) => entries,
+            Err(error) => {
+                missing.push(no_text(rt.alloc(), folder.as_str(), &error)?)?;
+                return Ok(());
+            }
+        };
+        for entry in entries {
+            match entry {
+                Ok(entry) => self.sort_out(rt, entry.path().as_str())?,
+                Err(error) => missing.push(no_text(rt.alloc(), folder.as_str(), &error)?)?,
+            }
+        }
+        Ok(())
+    }
+
+    /// Adds a path to the folders or to the tests, if it is one of those.
+    fn sort_out<R: Files + AllocGlobal>(&mut self, rt: &R, path: &str) -> Result<(), AllocError> {
+        if matches!(fs::symlink_metadata(rt, path), Ok(about) if about.is_dir()) {
+            self.folders.push(String::from_str(rt.alloc(), path)?)?;
+        } else if path.ends_with(".litmus") {
+            self.found.push(String::from_str(rt.alloc(), path)?)?;
+        }
+        Ok(())
+    }
 }

@@ -8,6 +8,7 @@ mod files;
 mod messages;
 mod meter;
 mod models;
+mod outcome;
 mod run;
 mod session;
 mod trouble;

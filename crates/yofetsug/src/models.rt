@@ -27,25 +27,17 @@ pub fn read_model<R: Files + Eprint + AllocGlobal>(
     word: &str,
     folders: &[&str],
 ) -> Result<Loaded, Trouble> {
-    let alloc = rt.alloc();
-    let (root, sources) = match root_of(rt, word)? {
-        Some(source) => {
-            let root = source.name.copy()?;
-            (root, gather(rt, source, folders)?)
-        }
-        None => (name_or_main(alloc, word)?, Vec::new(alloc)),
+    let sources = match root_of(rt, word)? {
+        Some(source) => gather(rt, source, folders)?,
+        None => Vec::new(rt.alloc()),
     };
-    assemble(rt, word, &root, &sources)
+    assemble(rt, word, &sources)
 }
 
 /// The file of a word, or none where it names a built-in model.
 fn root_of<R: Files + Eprint + AllocGlobal>(rt: &R, word: &str) -> Result<Option<Source>, Trouble> {
     match text_of(rt, word) {
-        Ok(text) => {
-            let name = name_or_main(rt.alloc(), file_name(word))?;
-            let path = String::from_str(rt.alloc(), word)?;
-            Ok(Some(Source { name, path, text }))
-        }
+        Ok(text) => Ok(Some(source_of(rt.alloc(), word, text)?)),
         Err(error) if is_built_in(rt.alloc(), word)? && error.kind() == io::ErrorKind::NotFound => {
             Ok(None)
         }
@@ -54,6 +46,13 @@ fn root_of<R: Files + Eprint + AllocGlobal>(rt: &R, word: &str) -> Result<Option
             Err(Trouble::Told(1))
         }
     }
+}
+
+/// The root with this path and this text.
+fn source_of(alloc: Global, path: &str, text: Vec<u8>) -> Result<Source, AllocError> {
+    let name = name_or_main(alloc, file_name(path))?;
+    let path = String::from_str(alloc, path)?;
+    Ok(Source { name, path, text })
 }
 
 /// The last part of a path.
@@ -110,12 +109,22 @@ fn included<R: Files + Eprint + AllocGlobal>(
     sources: &[Source],
     folders: &[&str],
 ) -> Result<Vec<Source>, Trouble> {
+    match read_cat(rt.alloc(), &source.text) {
+        Ok(file) => included_by(rt, &file, source, sources, folders),
+        Err(CatFault::NoMemory) => Err(Trouble::NoMemory),
+        Err(_) => Ok(Vec::new(rt.alloc())),
+    }
+}
+
+/// The files that this one includes, which was read of the source, and that aren't there yet.
+fn included_by<R: Files + Eprint + AllocGlobal>(
+    rt: &R,
+    file: &CatFile,
+    source: &Source,
+    sources: &[Source],
+    folders: &[&str],
+) -> Result<Vec<Source>, Trouble> {
     let mut more = Vec::new(rt.alloc());
-    let file = match read_cat(rt.alloc(), &source.text) {
-        Ok(file) => file,
-        Err(CatFault::NoMemory) => return Err(Trouble::NoMemory),
-        Err(_) => return Ok(more),
-    };
     for item in file.items() {
         if let Item::Include(name) = item {
             if let Some(found) = wanted(rt, name, source, sources, &more, folders)? {
@@ -138,37 +147,52 @@ fn wanted<R: Files + Eprint + AllocGlobal>(
     let Some(path) = find(rt, name, source.path.as_str(), folders)? else {
         return Ok(None);
     };
-    for known in sources {
-        if known.name == *name {
-            return is_other(rt, known, &path);
-        }
-    }
-    for known in more {
-        if known.name == *name {
-            return is_other(rt, known, &path);
-        }
-    }
-    let text = match text_of(rt, path.as_str()) {
-        Ok(text) => text,
-        Err(error) => {
-            eprintln!(rt; "{path}: {error}")?;
-            return Err(Trouble::Told(1));
-        }
-    };
-    let name = name.copy()?;
-    Ok(Some(Source { name, path, text }))
-}
-
-/// Nothing more to read of a name that is there; but one name can't stand for two files.
-fn is_other<R: Eprint>(rt: &R, known: &Source, path: &String) -> Result<Option<Source>, Trouble> {
-    if known.path.as_str() == path.as_str() {
+    if is_there_as(rt, name, path.as_str(), sources)?
+        || is_there_as(rt, name, path.as_str(), more)?
+    {
         return Ok(None);
     }
-    let first = known.path.as_str();
-    eprintln!(rt;
-        "{path}: its name is included for {first}, too; give one of the two files another name"
-    )?;
-    Err(Trouble::Told(2))
+    Ok(Some(read_source(rt, name, path)?))
+}
+
+/// Whether one of these has this name. One name can't stand for two files.
+fn is_there_as<R: Eprint>(
+    rt: &R,
+    name: &Name,
+    path: &str,
+    sources: &[Source],
+) -> Result<bool, Trouble> {
+    for known in sources {
+        if known.name == *name {
+            let first = known.path.as_str();
+            if first == path {
+                return Ok(true);
+            }
+            eprintln!(rt;
+                "{path}: its name is included for {first}, too; give one of the two files another name"
+            )?;
+            return Err(Trouble::Told(2));
+        }
+    }
+    Ok(false)
+}
+
+/// The file with this name, which lies here.
+fn read_source<R: Files + Eprint + AllocGlobal>(
+    rt: &R,
+    name: &Name,
+    path: String,
+) -> Result<Source, Trouble> {
+    match text_of(rt, path.as_str()) {
+        Ok(text) => {
+            let name = name.copy()?;
+            Ok(Source { name, path, text })
+        }
+        Err(error) => {
+            eprintln!(rt; "{path}: {error}")?;
+            Err(Trouble::Told(1))
+        }
+    }
 }
 
 /// Where the file of an included name lies: beside the file that includes it, or in one of the folders.
@@ -200,46 +224,85 @@ fn is_there<R: Files>(rt: &R, path: &String) -> bool {
     matches!(fs::exists(rt, path.as_str()), Ok(true))
 }
 
-/// The model of the files, or what is wrong with them.
+/// The model of the files, of which the first is its root, or the built-in one of this word where there are none. What is wrong with them is told.
 fn assemble<R: Eprint + AllocGlobal>(
     rt: &R,
     word: &str,
-    root: &Name,
     sources: &[Source],
 ) -> Result<Loaded, Trouble> {
-    let alloc = rt.alloc();
-    let mut texts = Vec::new(alloc);
+    let texts = texts_of(rt.alloc(), sources)?;
+    match load(rt.alloc(), word, &texts) {
+        Ok(model) => {
+            let digests = digests_in(rt.alloc(), &texts)?;
+            Ok(Loaded { model, digests })
+        }
+        Err(trouble) => {
+            tell(rt, word, sources, &trouble)?;
+            Err(Trouble::Told(2))
+        }
+    }
+}
+
+/// The texts of the files.
+fn texts_of(alloc: Global, sources: &[Source]) -> Result<Vec<CatText<'_>>, AllocError> {
+    let mut texts = Vec::with_capacity(alloc, sources.len())?;
     for source in sources {
         texts.push(CatText {
             name: &source.name,
             text: &source.text,
         })?;
     }
-    match load_model(alloc, root, &texts) {
-        Ok(model) => {
-            let digests = digests_of(alloc, &texts)?;
-            let digests = String::from_str(alloc, std::str::from_utf8(&digests).unwrap_or(""))?;
-            Ok(Loaded { model, digests })
-        }
-        Err(ModelTrouble::NoMemory) => Err(Trouble::NoMemory),
-        Err(ModelTrouble::Text(place, fault)) => {
-            if let Some(source) = sources.get(place) {
-                let message = cat_trouble(alloc, source, &fault)?;
-                eprint!(rt; "{message}")?;
-            }
-            Err(Trouble::Told(2))
-        }
-        Err(ModelTrouble::Twice(place)) => {
-            if let Some(source) = sources.get(place) {
-                let path = source.path.as_str();
-                eprintln!(rt; "{path}: its name is that of another file of the model")?;
-            }
-            Err(Trouble::Told(2))
-        }
-        Err(ModelTrouble::Model(fault)) => {
-            let message = model_fault(alloc, word, sources, &fault)?;
-            eprint!(rt; "{message}")?;
-            Err(Trouble::Told(2))
-        }
+    Ok(texts)
+}
+
+/// The model of the texts, of which the first is its root, or the built-in one of this word.
+fn load(alloc: Global, word: &str, texts: &[CatText<'_>]) -> Result<Model, ModelTrouble> {
+    match texts.first() {
+        Some(root) => load_model(alloc, root.name, texts),
+        None => load_model(alloc, &name_or_main(alloc, word)?, texts),
     }
+}
+
+/// The digests of the texts.
+fn digests_in(alloc: Global, texts: &[CatText<'_>]) -> Result<String, AllocError> {
+    let digests = digests_of(alloc, texts)?;
+    String::from_str(alloc, std::str::from_utf8(&digests).unwrap_or(""))
+}
+
+/// Tells on standard error what is wrong with the files.
+fn tell<R: Eprint + AllocGlobal>(
+    rt: &R,
+    word: &str,
+    sources: &[Source],
+    trouble: &ModelTrouble,
+) -> Result<(), Trouble> {
+    let message = message_of(rt.alloc(), word, sources, trouble)?;
+    eprint!(rt; "{message}")?;
+    Ok(())
+}
+
+/// What is told of files that give no model.
+fn message_of(
+    alloc: Global,
+    word: &str,
+    sources: &[Source],
+    trouble: &ModelTrouble,
+) -> Result<String, AllocError> {
+    match trouble {
+        ModelTrouble::Text(place, fault) => match sources.get(*place) {
+            Some(source) => cat_trouble(alloc, source, fault),
+            None => Ok(String::new(alloc)),
+        },
+        ModelTrouble::Twice(place) => match sources.get(*place) {
+            Some(source) => named_twice(alloc, source.path.as_str()),
+            None => Ok(String::new(alloc)),
+        },
+        ModelTrouble::Model(fault) => model_fault(alloc, word, sources, fault),
+        ModelTrouble::NoMemory => Err(AllocError),
+    }
+}
+
+/// What is told of a file that has the name of an earlier one.
+fn named_twice(alloc: Global, path: &str) -> Result<String, AllocError> {
+    format!(in alloc; "{path}: its name is that of another file of the model\n")
 }

@@ -4,8 +4,9 @@ use crate::batch::{judge_jobs, read_jobs};
 use crate::compared::{compare, read_rows, see_writable, store, write_file};
 use crate::files::{Paths, Unread, find_tests};
 use crate::meter::Meter;
-use crate::models::read_model;
-use crate::run::{Fate, Outcome, Plan, unread};
+use crate::models::{Loaded, read_model};
+use crate::outcome::{Fate, Outcome};
+use crate::run::{Plan, unread};
 use crate::trouble::Trouble;
 use crate::words::{Form, Words};
 use cat_model::Model;
@@ -44,13 +45,42 @@ struct Counts {
     differing: usize,
 }
 
+/// The models of a run.
+struct Models {
+    models: Vec<Model>,
+    /// The words that named them.
+    names: Vec<Vec<u8>>,
+    /// The digests of their files.
+    digests: Vec<String>,
+}
+
+impl Drop for Models {
+    fn drop(self) {
+        let Models {
+            models: _,
+            names: _,
+            digests: _,
+        } = self;
+    }
+}
+
 /// What the run has come to.
-#[derive(Drop)]
 struct Progress {
     counts: Counts,
     rows: Vec<Row>,
     dot: Vec<u8>,
     meter: Meter,
+}
+
+impl Drop for Progress {
+    fn drop(self) {
+        let Progress {
+            counts: _,
+            rows: _,
+            dot: _,
+            meter: _,
+        } = self;
+    }
 }
 
 impl Counts {
@@ -98,22 +128,50 @@ fn compare_found<R: Reach>(rt: &R, expected: &str, found: &str) -> Result<u8, Tr
     Ok(if differ { 3 } else { 0 })
 }
 
+impl Models {
+    /// The models that the words name.
+    fn read<R: Reach>(rt: &R, words: &Words<'_>) -> Result<Self, Trouble> {
+        let alloc = rt.alloc();
+        let mut read = Models {
+            models: Vec::new(alloc),
+            names: Vec::new(alloc),
+            digests: Vec::new(alloc),
+        };
+        for word in &words.models {
+            read.add(rt, word, &words.folders)?;
+        }
+        Ok(read)
+    }
+
+    /// Adds the model that a word names.
+    fn add<R: Reach>(&mut self, rt: &R, word: &str, folders: &[&str]) -> Result<(), Trouble> {
+        let Loaded { model, digests } = read_model(rt, word, folders)?;
+        self.models.push(model)?;
+        self.digests.push(digests)?;
+        self.names
+            .push(Vec::from_slice(rt.alloc(), word.as_bytes())?)?;
+        Ok(())
+    }
+}
+
 /// Judges all tests that the words name, and answers the status.
 fn judge_all<R: Reach>(rt: &R, words: &Words<'_>, shows: bool) -> Result<u8, Trouble> {
-    let alloc = rt.alloc();
-    let mut models = Vec::new(alloc);
-    let mut names = Vec::new(alloc);
-    let mut digests = Vec::new(alloc);
-    for word in &words.models {
-        let loaded = read_model(rt, word, &words.folders)?;
-        models.push(loaded.model)?;
-        digests.push(loaded.digests)?;
-        names.push(Vec::from_slice(alloc, word.as_bytes())?)?;
-    }
+    let models = Models::read(rt, words)?;
     let expected = match words.expected {
-        Some(path) => Some(read_rows(rt, path)?),
-        None => None,
+        Some(path) => read_rows(rt, path)?,
+        None => Vec::new(rt.alloc()),
     };
+    judge_under(rt, words, &models, &expected, shows)
+}
+
+/// Judges the tests under these models, and answers the status. These rows are expected, if any are.
+fn judge_under<R: Reach>(
+    rt: &R,
+    words: &Words<'_>,
+    models: &Models,
+    expected: &[Row],
+    shows: bool,
+) -> Result<u8, Trouble> {
     for path in [words.dot, words.write_expected] {
         if let Some(path) = path {
             see_writable(rt, path)?;
@@ -121,9 +179,9 @@ fn judge_all<R: Reach>(rt: &R, words: &Words<'_>, shows: bool) -> Result<u8, Tro
     }
     let paths = find_tests(rt, &words.tests)?;
     let plan = Plan {
-        models: &models,
-        names: &names,
-        digests: &digests,
+        models: &models.models,
+        names: &models.names,
+        digests: &models.digests,
         form: words.form,
         width: width_of(&paths),
         keeps: words.expected.is_some() || words.write_expected.is_some(),
@@ -131,8 +189,7 @@ fn judge_all<R: Reach>(rt: &R, words: &Words<'_>, shows: bool) -> Result<u8, Tro
         why: words.why,
         draws: words.dot.is_some(),
     };
-    let threads = threads_of(rt, words);
-    let progress = judge_paths(rt, &paths, &plan, threads, shows)?;
+    let progress = judge_paths(rt, &paths, &plan, threads_of(rt, words), shows)?;
     finish(rt, words, &plan, expected, &progress)
 }
 
@@ -156,12 +213,7 @@ fn width_of(paths: &Paths) -> usize {
     width.min(60)
 }
 
-/// Whether a table is printed.
-fn is_table(plan: &Plan<'_>) -> bool {
-    plan.names.len() != 1 && matches!(&plan.form, Form::Summary | Form::Line)
-}
-
-/// Judges the tests, some at a time, and prints what is told of each in their order.
+/// Judges the tests, and prints what is told of each in their order.
 fn judge_paths<R: Reach>(
     rt: &R,
     paths: &Paths,
@@ -170,27 +222,40 @@ fn judge_paths<R: Reach>(
     shows: bool,
 ) -> Result<Progress, Trouble> {
     let alloc = rt.alloc();
-    let mut writer = BufWriter::new(alloc, io::writer(rt))?;
     let mut progress = Progress {
         counts: Counts::none(),
         rows: Vec::new(alloc),
         dot: Vec::new(alloc),
         meter: Meter::new(rt, paths.tests.len(), shows),
     };
-    if is_table(plan) {
-        writer.write_all(&head_of(alloc, plan.width, plan.names)?)?;
+    let mut writer = BufWriter::new(alloc, io::writer(rt))?;
+    judge_batches(rt, paths, plan, threads, &mut writer, &mut progress)?;
+    Ok(progress)
+}
+
+/// Judges the tests, some at a time.
+fn judge_batches<R: Reach, W: Write>(
+    rt: &R,
+    paths: &Paths,
+    plan: &Plan<'_>,
+    threads: u16,
+    writer: &mut W,
+    progress: &mut Progress,
+) -> Result<(), Trouble> {
+    if plan.is_table() {
+        writer.write_all(&head_of(rt.alloc(), plan.width, plan.names)?)?;
     }
-    show_unread(rt, &paths.unread, &mut writer, &mut progress)?;
+    show_unread(rt, &paths.unread, writer, progress)?;
     for batch in paths
         .tests
         .chunks(usize::from(threads).saturating_mul(BATCH).max(1))
     {
-        judge_batch(rt, batch, plan, threads, &mut writer, &mut progress)?;
+        judge_batch(rt, batch, plan, threads, writer, progress)?;
         progress.meter.tick(rt)?;
     }
     progress.meter.clear(rt)?;
     writer.flush()?;
-    Ok(progress)
+    Ok(())
 }
 
 /// Tells which paths couldn't be read on the way to the tests.
@@ -255,7 +320,7 @@ fn finish<R: Files + Print + Eprint + AllocGlobal>(
     rt: &R,
     words: &Words<'_>,
     plan: &Plan<'_>,
-    expected: Option<Vec<Row>>,
+    expected: &[Row],
     progress: &Progress,
 ) -> Result<u8, Trouble> {
     let mut status = status_of(progress.counts);
@@ -265,10 +330,8 @@ fn finish<R: Files + Print + Eprint + AllocGlobal>(
     if let Some(path) = words.write_expected {
         store(rt, path, &progress.rows)?;
     }
-    if let Some(expected) = expected {
-        if compare(rt, &expected, &progress.rows)? {
-            status = 3;
-        }
+    if words.expected.is_some() && compare(rt, expected, &progress.rows)? {
+        status = 3;
     }
     last_line(rt, plan, progress.counts)?;
     Ok(status)
@@ -285,17 +348,31 @@ fn status_of(counts: Counts) -> u8 {
     }
 }
 
-/// A number with a comma before each group of three digits.
-fn grouped(alloc: Global, number: usize) -> Result<String, AllocError> {
-    let digits = format!(in alloc; "{number}")?;
-    let mut text = String::new(alloc);
+/// Adds a number with a comma before each group of three digits, and what stands behind it.
+fn push_grouped(text: &mut String, number: usize, behind: &str) -> Result<(), AllocError> {
+    let digits = format!(in *text.allocator(); "{number}")?;
     for (place, digit) in digits.as_str().chars().enumerate() {
         if place > 0 && (digits.len().saturating_sub(place)) % 3 == 0 {
             text.push(',')?;
         }
         text.push(digit)?;
     }
-    Ok(text)
+    text.push_str(behind)?;
+    Ok(())
+}
+
+/// Adds how many tests were judged, refused and not read, and, where a table is printed, in how many the models differ.
+fn push_counts(text: &mut String, counts: Counts, is_table: bool) -> Result<(), AllocError> {
+    let all = counts.all();
+    push_grouped(text, all, if all == 1 { " test: " } else { " tests: " })?;
+    push_grouped(text, counts.judged, " judged, ")?;
+    push_grouped(text, counts.refused, " refused, ")?;
+    push_grouped(text, counts.unread, " not read")?;
+    if is_table {
+        text.push_str("; the models differ in ")?;
+        push_grouped(text, counts.differing, " (*)")?;
+    }
+    Ok(())
 }
 
 /// Prints how many tests were judged, refused and not read. It goes to standard error where programs read the output.
@@ -304,26 +381,11 @@ fn last_line<R: Print + Eprint + AllocGlobal>(
     plan: &Plan<'_>,
     counts: Counts,
 ) -> Result<(), Trouble> {
-    let all = counts.all();
-    let alloc = rt.alloc();
-    let judged = grouped(alloc, counts.judged)?;
-    let refused = grouped(alloc, counts.refused)?;
-    let unread = grouped(alloc, counts.unread)?;
-    let tests = if all == 1 { "test" } else { "tests" };
-    let all = grouped(alloc, all)?;
-    let line = format!(in alloc;
-        "{all} {tests}: {judged} judged, {refused} refused, {unread} not read"
-    )?;
+    let mut line = String::new(rt.alloc());
+    push_counts(&mut line, counts, plan.is_table())?;
     match plan.form {
         Form::Tabs | Form::Json => eprintln!(rt; "{line}")?,
-        Form::Summary | Form::Line => {
-            if is_table(plan) {
-                let differing = grouped(alloc, counts.differing)?;
-                println!(rt; "{line}; the models differ in {differing} (*)")?;
-            } else {
-                println!(rt; "{line}")?;
-            }
-        }
+        Form::Summary | Form::Line => println!(rt; "{line}")?,
     }
     Ok(())
 }

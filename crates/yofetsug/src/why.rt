@@ -11,10 +11,15 @@ use wb_text::Name;
 use witness::{Evidence, Reason, closest, labels, reason, witness};
 
 /// What answers the question why: text for a terminal, and a file for Graphviz.
-#[derive(Drop)]
 pub struct Answer {
     pub text: Vec<u8>,
     pub dot: Vec<u8>,
+}
+
+impl Drop for Answer {
+    fn drop(self) {
+        let Answer { text: _, dot: _ } = self;
+    }
 }
 
 /// What is told before an execution that the model allows.
@@ -52,11 +57,7 @@ pub fn explain(alloc: Global, verdict: &Verdict, name: &[u8]) -> Result<Answer, 
         return draw(alloc, work, &graph, name, shows(has), None);
     }
     match closest(alloc, work, has)? {
-        Some(graph) => {
-            let found = reason(alloc, work.model(), &graph)?;
-            let against = told_of(alloc, work.model(), &graph, found)?;
-            draw(alloc, work, &graph, name, speaks(has), against.as_ref())
-        }
+        Some(graph) => draw_closest(alloc, work, &graph, name, speaks(has)),
         None => Ok(Answer {
             text: Vec::from_slice(alloc, lacks(has))?,
             dot: Vec::new(alloc),
@@ -64,27 +65,44 @@ pub fn explain(alloc: Global, verdict: &Verdict, name: &[u8]) -> Result<Answer, 
     }
 }
 
+/// An execution that the model forbids, with what speaks against it, behind a sentence.
+fn draw_closest(
+    alloc: Global,
+    work: &Work,
+    graph: &Graph,
+    name: &[u8],
+    sentence: &[u8],
+) -> Result<Answer, AllocError> {
+    match reason(alloc, work.model(), graph)? {
+        Some(found) => {
+            let against = told_of(alloc, work.model(), graph, &found)?;
+            draw(alloc, work, graph, name, sentence, Some(&against))
+        }
+        None => draw(alloc, work, graph, name, sentence, None),
+    }
+}
+
 /// What speaks against an execution: the check that it breaks, in words, and the evidence.
-#[derive(Drop)]
 struct Against {
     check: Vec<u8>,
     chain: Option<Chain>,
+}
+
+impl Drop for Against {
+    fn drop(self) {
+        let Against { check: _, chain: _ } = self;
+    }
 }
 
 fn told_of(
     alloc: Global,
     model: &Model,
     graph: &Graph,
-    found: Option<Reason>,
-) -> Result<Option<Against>, AllocError> {
-    match found {
-        Some(found) => {
-            let check = words_of(alloc, &found)?;
-            let chain = chain_of(alloc, model, graph, &found)?;
-            Ok(Some(Against { check, chain }))
-        }
-        None => Ok(None),
-    }
+    found: &Reason,
+) -> Result<Against, AllocError> {
+    let check = words_of(alloc, found)?;
+    let chain = chain_of(alloc, model, graph, found)?;
+    Ok(Against { check, chain })
 }
 
 /// A check in words: `acyclic sc`, `~empty`.
@@ -211,11 +229,16 @@ fn draw<'a>(
         model: Some(model),
         broken,
     };
-    let mut shown = Vec::from_slice(alloc, sentence)?;
-    shown.append(&mut text(alloc, &drawing)?)?;
-    shown.push(b'\n')?;
     Ok(Answer {
-        text: shown,
+        text: shown(alloc, sentence, &drawing)?,
         dot: dot(alloc, &drawing)?,
     })
+}
+
+/// An execution as text behind a sentence, and an empty line.
+fn shown(alloc: Global, sentence: &[u8], drawing: &Drawing<'_>) -> Result<Vec<u8>, AllocError> {
+    let mut shown = Vec::from_slice(alloc, sentence)?;
+    shown.append(&mut text(alloc, drawing)?)?;
+    shown.push(b'\n')?;
+    Ok(shown)
 }

@@ -1,6 +1,6 @@
 //! The words of the command line.
 
-use clap::{Arg, ArgAction, Command, Error, value_parser};
+use clap::{Arg, ArgAction, ArgMatches, Command, Error, value_parser};
 use std::alloc::{AllocError, Global};
 
 /// The model where none is named.
@@ -20,7 +20,6 @@ pub enum Form {
 }
 
 /// What the words ask for.
-#[derive(Drop)]
 pub struct Words<'a> {
     pub models: Vec<&'a str>,
     pub folders: Vec<&'a str>,
@@ -40,105 +39,63 @@ pub struct Words<'a> {
     pub tests: Vec<&'a str>,
 }
 
-fn models<'a>(alloc: Global) -> Arg<'a> {
-    Arg::new(alloc, "model")
-        .short('m')
-        .long("model")
-        .action(ArgAction::Append)
-        .value_name("MODEL")
-        .help("A cat file, or rc11.cat, which is built in and the default; several make a table")
+impl<'a> Drop for Words<'a> {
+    fn drop(self) {
+        let Words {
+            models: _,
+            folders: _,
+            form: _,
+            why: _,
+            dot: _,
+            expected: _,
+            write_expected: _,
+            found: _,
+            threads: _,
+            timeout: _,
+            tests: _,
+        } = self;
+    }
 }
 
-fn folders<'a>(alloc: Global) -> Arg<'a> {
-    Arg::new(alloc, "folder")
-        .short('I')
-        .long("include")
-        .action(ArgAction::Append)
-        .value_name("DIR")
-        .help("A folder to look in for the files that models include")
-}
-
-fn line<'a>(alloc: Global) -> Arg<'a> {
-    Arg::new(alloc, "line")
-        .short('q')
-        .long("quiet")
+/// A word that stands alone.
+fn flag<'a>(alloc: Global, name: &'a str, help: &'a str) -> Arg<'a> {
+    Arg::new(alloc, name)
+        .long(name)
         .action(ArgAction::SetTrue)
-        .help("One line a test: path, name, Ok or No, how often, counts, flags")
+        .help(help)
 }
 
-fn tabs<'a>(alloc: Global) -> Arg<'a> {
-    Arg::new(alloc, "tsv")
-        .long("tsv")
-        .action(ArgAction::SetTrue)
-        .help("A line for each test and model, fields between tabs")
-}
-
-fn json<'a>(alloc: Global) -> Arg<'a> {
-    Arg::new(alloc, "json")
-        .long("json")
-        .action(ArgAction::SetTrue)
-        .help("A line of JSON for each test and model")
-}
-
-fn why<'a>(alloc: Global) -> Arg<'a> {
-    Arg::new(alloc, "why")
-        .long("why")
-        .action(ArgAction::SetTrue)
-        .help("Show an execution that is allowed, or why the one asked for is not")
-}
-
-fn dot<'a>(alloc: Global) -> Arg<'a> {
-    Arg::new(alloc, "dot")
-        .long("dot")
+/// A word with a value behind it.
+fn valued<'a>(alloc: Global, name: &'a str, value: &'a str, help: &'a str) -> Arg<'a> {
+    Arg::new(alloc, name)
+        .long(name)
         .action(ArgAction::Set)
-        .value_name("FILE")
-        .help("Write these executions to a file for Graphviz")
+        .value_name(value)
+        .help(help)
 }
 
-fn expected<'a>(alloc: Global) -> Arg<'a> {
-    Arg::new(alloc, "expected")
-        .short('e')
-        .long("expected")
-        .action(ArgAction::Set)
-        .value_name("FILE")
-        .help("Compare with stored lines; ends with 3 where something differs")
-}
-
-fn write_expected<'a>(alloc: Global) -> Arg<'a> {
-    Arg::new(alloc, "write-expected")
-        .long("write-expected")
-        .action(ArgAction::Set)
-        .value_name("FILE")
-        .help("Store what is found, for -e")
+/// A word with a value behind it, that may be given again.
+fn repeated<'a>(alloc: Global, name: &'a str, value: &'a str, help: &'a str) -> Arg<'a> {
+    valued(alloc, name, value, help).action(ArgAction::Append)
 }
 
 fn found<'a>(alloc: Global) -> Result<Arg<'a>, AllocError> {
-    Arg::new(alloc, "found")
-        .long("found")
-        .action(ArgAction::Set)
-        .value_name("FILE")
-        .help("Compare these lines of --tsv or --write-expected, and judge nothing")
+    let help = "Compare these lines of --tsv or --write-expected, and judge nothing";
+    valued(alloc, "found", "FILE", help)
         .requires_arg("expected")?
         .conflicts_with("test")
 }
 
 fn threads<'a>(alloc: Global) -> Arg<'a> {
-    Arg::new(alloc, "threads")
+    let help = "How many threads judge; else one for each processor, up to 8";
+    valued(alloc, "threads", "N", help)
         .short('j')
-        .long("threads")
-        .action(ArgAction::Set)
-        .value_name("N")
-        .help("How many threads judge; else one for each processor, up to 8")
         .value_parser(value_parser!(u8).range(1..=64))
 }
 
 fn timeout<'a>(alloc: Global) -> Arg<'a> {
-    Arg::new(alloc, "timeout")
-        .long("timeout")
-        .action(ArgAction::Set)
-        .value_name("S")
-        .help("Give a test up after so many seconds, and go on")
-        .value_parser(value_parser!(u32).range(1..=1_000_000))
+    let help = "Give a test up after so many seconds, and go on";
+    valued(alloc, "timeout", "S", help).value_parser(value_parser!(u32).range(1..=1_000_000))
 }
 
 fn tests<'a>(alloc: Global) -> Result<Arg<'a>, AllocError> {
@@ -151,22 +108,48 @@ fn tests<'a>(alloc: Global) -> Result<Arg<'a>, AllocError> {
 
 /// The command that clap reads the words by.
 fn command<'a>(alloc: Global) -> Result<Command<'a>, AllocError> {
-    Command::new(alloc, "yofetsug")
-        .about("Judges C litmus tests under cat memory models; its verdicts are proved")
-        .version("0.1.0")
-        .arg(models(alloc))?
-        .arg(folders(alloc))?
-        .arg(line(alloc))?
-        .arg(tabs(alloc))?
-        .arg(json(alloc))?
-        .arg(why(alloc))?
-        .arg(dot(alloc))?
-        .arg(expected(alloc))?
-        .arg(write_expected(alloc))?
-        .arg(found(alloc)?)?
+    let command = with_models(alloc)?;
+    let command = with_forms(alloc, command)?;
+    with_files(alloc, command)?
         .arg(threads(alloc))?
         .arg(timeout(alloc))?
         .arg(tests(alloc)?)
+}
+
+/// The command, so far with the words for models.
+fn with_models<'a>(alloc: Global) -> Result<Command<'a>, AllocError> {
+    let model = "A cat file, or rc11.cat, which is built in and the default; several make a table";
+    let include = "A folder to look in for the files that models include";
+    Command::new(alloc, "yofetsug")
+        .about("Judges C litmus tests under cat memory models; its verdicts are proved")
+        .version("0.1.0")
+        .arg(repeated(alloc, "model", "MODEL", model).short('m'))?
+        .arg(repeated(alloc, "include", "DIR", include).short('I'))
+}
+
+/// The command with the words for what is printed of a test.
+fn with_forms<'a>(alloc: Global, command: Command<'a>) -> Result<Command<'a>, AllocError> {
+    let quiet = "One line a test: path, name, Ok or No, how often, counts, flags";
+    let tsv = "A line for each test and model, fields between tabs";
+    let json = "A line of JSON for each test and model";
+    let why = "Show an execution that is allowed, or why the one asked for is not";
+    command
+        .arg(flag(alloc, "quiet", quiet).short('q'))?
+        .arg(flag(alloc, "tsv", tsv))?
+        .arg(flag(alloc, "json", json))?
+        .arg(flag(alloc, "why", why))
+}
+
+/// The command with the words for what is written to files and compared.
+fn with_files<'a>(alloc: Global, command: Command<'a>) -> Result<Command<'a>, AllocError> {
+    let dot = "Write these executions to a file for Graphviz";
+    let expected = "Compare with stored lines; ends with 3 where something differs";
+    let write = "Store what is found, for -e";
+    command
+        .arg(valued(alloc, "dot", "FILE", dot))?
+        .arg(valued(alloc, "expected", "FILE", expected).short('e'))?
+        .arg(valued(alloc, "write-expected", "FILE", write))?
+        .arg(found(alloc)?)
 }
 
 /// The values of an argument that may be given again.
@@ -194,19 +177,15 @@ fn all_of<'a>(
 /// What the words ask for, as clap reads them. The first word is the program's name.
 pub fn read_words<'a>(alloc: Global, words: &'a [String]) -> Result<Words<'a>, Error> {
     let matches = command(alloc)?.try_get_matches_from(words)?;
-    let form = if matches.get_flag("json") {
-        Form::Json
-    } else if matches.get_flag("tsv") {
-        Form::Tabs
-    } else if matches.get_flag("line") {
-        Form::Line
-    } else {
-        Form::Summary
-    };
+    Ok(words_of(alloc, &matches)?)
+}
+
+/// What is asked for by the words that clap found.
+fn words_of<'a>(alloc: Global, matches: &ArgMatches<'a>) -> Result<Words<'a>, AllocError> {
     Ok(Words {
         models: all_of(alloc, matches.get_strs("model"), Some(MODEL))?,
-        folders: all_of(alloc, matches.get_strs("folder"), None)?,
-        form,
+        folders: all_of(alloc, matches.get_strs("include"), None)?,
+        form: form_of(matches),
         why: matches.get_flag("why"),
         dot: matches.get_str("dot"),
         expected: matches.get_str("expected"),
@@ -216,4 +195,17 @@ pub fn read_words<'a>(alloc: Global, words: &'a [String]) -> Result<Words<'a>, E
         timeout: matches.get_one::<u32>("timeout"),
         tests: all_of(alloc, matches.get_strs("test"), None)?,
     })
+}
+
+/// The form that is asked for.
+fn form_of(matches: &ArgMatches<'_>) -> Form {
+    if matches.get_flag("json") {
+        Form::Json
+    } else if matches.get_flag("tsv") {
+        Form::Tabs
+    } else if matches.get_flag("quiet") {
+        Form::Line
+    } else {
+        Form::Summary
+    }
 }
