@@ -5,6 +5,7 @@ mod accesses;
 mod beside;
 mod limits;
 mod mark;
+mod numbers;
 mod place;
 mod reading;
 mod rules;

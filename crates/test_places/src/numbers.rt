@@ -1,0 +1,59 @@
+//! The numbers of a test that are constants, and those that are added.
+
+ghost use Rattle.std.specs.Prelude.{◌≡◌, IfOk, true};
+ghost use Rattle.std.specs.List.{list_any};
+ghost use Rattle.test_places.specs.Numbers as spec;
+
+use crate::mark::{Mark, Part, Role};
+use std::alloc::{AllocError, Global};
+use wb_text::Name;
+
+/// Whether a mark is the name of an entry, for the place of this role and name.
+fn is_entry_of(role: Role, name: &Name, mark: &Mark) -> bool
+    ensures { result ≡ spec.is_entry_of role name.now mark.now }
+{
+    mark.part == Part::Initial && mark.role == role && mark.is_named(name)
+}
+
+/// Whether there is such an entry.
+fn has_entry(marks: &[Mark], role: Role, name: &Name) -> bool
+    ensures { result ≡ list_any (spec.is_entry_of role name.now) marks.now }
+{
+    marks.iter().any(|mark| is_entry_of(role, name, mark))
+}
+
+/// Whether the entry that a mark stands in holds, by those behind it.
+fn entry_lasts(mark: &Mark, behind: &[Mark], lasts: bool) -> bool
+    ensures { result ≡ spec.entry_lasts mark.now behind.now lasts }
+{
+    match &mark.name {
+        Some(name) => !has_entry(behind, mark.role, name),
+        None => lasts,
+    }
+}
+
+/// What a mark is as a number.
+fn counted(lasts: bool, mark: &Mark) -> Role
+    ensures { result ≡ spec.counted lasts mark.now }
+{
+    if lasts || mark.part != Part::Initial {
+        mark.role
+    } else {
+        Role::Nothing
+    }
+}
+
+/// The marks as numbers: one of an entry that a later entry replaces is none.
+pub fn numbers(alloc: Global, marks: &[Mark]) -> Result<Vec<Role>, AllocError>
+    ensures { IfOk result (λ v. v.items ≡ spec.numbers_of marks.now) }
+{
+    let mut numbers = Vec::new(alloc);
+    let mut lasts = true;
+    let mut rest = marks;
+    while let Some((mark, behind)) = rest.split_first() {
+        lasts = entry_lasts(mark, behind, lasts);
+        numbers.push(counted(lasts, mark))?;
+        rest = behind;
+    }
+    Ok(numbers)
+}
