@@ -66,7 +66,7 @@ mutual
   step_none (if_only c a) n e = step_none a n e
   step_none (if_else c a b) n e = omega (arith, step_none a n e, step_none b (n - step_accesses a) (omega (arith, e)))
 
-  steps_none : (ss : Steps) (n : ℕ) → n ≡ 0 → steps_among n ss ≡ 0
+  pub steps_none : (ss : Steps) (n : ℕ) → n ≡ 0 → steps_among n ss ≡ 0
   steps_none no_steps n e = refl
   steps_none (in_turn s ss) n e = omega (arith, step_none s n e, steps_none ss (n - step_accesses s) (omega (arith, e)))
 

@@ -1,6 +1,6 @@
 -- The greatest value is the greatest constant with all that is added.
-use Rattle.std.proofs.Common.{◌≡◌, ℕ, ◌+◌, ◌≤◌, ◌<◌, List, [], ◌∷◌, ◌++◌, map, length, take, get_or, ap, sym, subst, ◌∙◌, refl, arith, inl, inr, Bool, true, false, if◌then◌else◌, ◌==◌, ◌||◌}
-use Rattle.std.specs.Prelude.{fold, max, sum_by}
+use Rattle.std.proofs.Common.{◌≡◌, ℕ, ◌+◌, ◌≤◌, ◌<◌, List, [], ◌∷◌, ◌++◌, map, length, take, get_or, ap, sym, subst, ◌∙◌, refl, arith, inl, inr, Bool, true, if◌then◌else◌, ◌==◌}
+use Rattle.std.specs.Prelude.{fold, max}
 use Rattle.std.specs.List.{list_any}
 use Rattle.std.proofs.lemmas.Bool.{cases_Bool, or_cases, eqb-true, false≢true}
 use Rattle.std.proofs.lemmas.List.Sums.{fold-append, fold_more}
@@ -8,7 +8,7 @@ use Rattle.litmus_value.specs.Values.{with_value, with_values, with_sum, with_su
 use Rattle.litmus_value.proofs.Distinct.{with_longer, longer}
 use Rattle.test_places.specs.declared.mark.Role.{Role}
 use Rattle.test_places.specs.declared.mark.Role.TheVariants.{Constant, Added}
-use Rattle.test_places.specs.Numbers.{with_constant, with_added, values_with, greatest}
+use Rattle.test_places.specs.Numbers.{with_constant, with_added, greatest}
 
 abbrev pub top : List ℕ → ℕ
 top vs = fold max 0 vs

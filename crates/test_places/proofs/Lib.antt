@@ -4,3 +4,4 @@ pub mod Greatest
 pub mod Noting
 pub mod Stops
 pub mod Told
+pub mod Whole

@@ -3,6 +3,7 @@
 
 mod accesses;
 mod beside;
+pub mod laws;
 mod limits;
 mod mark;
 mod numbers;

@@ -10,9 +10,9 @@ ghost use Rattle.test_places.specs.Places as spec;
 use crate::accesses::event_too_many;
 use crate::limits::{location_too_many, locations, thread_too_many};
 use crate::mark::{Mark, marks};
+use crate::numbers::numbers;
 use crate::reading::{first_front, in_memory, stop};
 use crate::rules::{Rule, first_breach};
-use crate::numbers::numbers;
 use crate::values::{value_too_great, value_too_many};
 use litmus_c::TestFault;
 use litmus_syntax::{Symbol, SyntaxFault, read_draft, symbols};
@@ -119,11 +119,7 @@ fn last_of_front(
 }
 
 /// The access or fence with which there are too many events.
-fn event_of(
-    alloc: Global,
-    symbols: &[Symbol],
-    marks: &[Mark],
-) -> Result<Option<usize>, AllocError>
+fn event_of(alloc: Global, symbols: &[Symbol], marks: &[Mark]) -> Result<Option<usize>, AllocError>
     ensures { IfOk result (λ o. MatchOption o ((k : ℕ) → ¬ IsFirstEvent symbols.now marks.now k) (IsFirstEvent symbols.now marks.now)) }
 {
     match read_draft(alloc, symbols) {

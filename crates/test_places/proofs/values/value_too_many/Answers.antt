@@ -1,4 +1,4 @@
-use Rattle.std.proofs.Common.{◌≡◌, ◌≤◌, ◌<◌, ◌+◌, ℕ, List, [], ◌∷◌, take, length, sym, subst, ap, ◌∙◌, arith}
+use Rattle.std.proofs.Common.{◌≡◌, ◌≤◌, ◌<◌, ◌+◌, [], ◌∷◌, take, length, sym, subst, ◌∙◌, arith}
 use Rattle.std.specs.Prelude.{◌^◌, All, fold, MatchBool, Bool}
 use Rattle.litmus_value.specs.Values.{with_sums}
 use Rattle.test_places.specs.Numbers.{with_constant, with_added, values}
@@ -17,8 +17,12 @@ loop-place-preserved-then-not-is_number c =
       constants = constants;
       adds = adds;
       narrow = c.loop-place.invariant.narrow;
-      few = few_more values 16 numbers place c.loop-place.invariant.few (omega (arith, c.loop-place.invariant.few place (omega arith),
-      values_are (take (place + 1) numbers) c.loop-place.constants.items c.loop-place.adds.items constants adds, values_are (take place numbers) c.loop-place.constants.items c.loop-place.adds.items c.loop-place.invariant.constants c.loop-place.invariant.adds));
+      few = few_more values 16 numbers place c.loop-place.invariant.few (omega (
+        arith,
+        c.loop-place.invariant.few place (omega arith),
+        values_are (take (place + 1) numbers) c.loop-place.constants.items c.loop-place.adds.items constants adds,
+        values_are (take place numbers) c.loop-place.constants.items c.loop-place.adds.items c.loop-place.invariant.constants c.loop-place.invariant.adds,
+      ));
     }
 
 pub are_many-requires : goal.are_many-requires
