@@ -83,7 +83,7 @@ abbrev pub events_with : (writes : ℕ) → List Listing → (front : List Mark)
 events_with writes threads front = writes + threads_among (count_by is_access front) threads
 
 -- The symbols spell a test, and the mark at place k is the first with which it has more than 64 events.
-pub record IsFirstEvent (ss : List Symbol) (ms : List Mark) (k : ℕ) : Type 0 where
+pub record IsEventTooMany (ss : List Symbol) (ms : List Mark) (k : ℕ) : Type 0 where
   pub test : Written
   pub is_test : Spells ss test
   pub over : IsFirstOver (events_with (locations ms) test.threads) 64 ms k

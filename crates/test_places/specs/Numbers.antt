@@ -1,5 +1,5 @@
 -- The values of a test by its numbers, as they stand (docs/LITMUS.md, "Values" and "Refusals", 22 and 23).
-use Rattle.std.specs.Prelude.{ℕ, List, [], ◌∷◌, ◌++◌, length, fold, max, Bool, true, not, ◌&&◌, ◌||◌, Option, Some, None, if◌then◌else◌}
+use Rattle.std.specs.Prelude.{ℕ, List, [], ◌∷◌, ◌++◌, length, fold, max, Bool, true, not, ◌&&◌, Option, Some, None, if◌then◌else◌}
 use Rattle.std.specs.List.{list_any}
 use Rattle.litmus_value.specs.Values.{with_value, with_sums}
 use Rattle.test_places.specs.contracts.mark.RolePartialEq.TheImpl.{ghosts as role_equality}
@@ -14,21 +14,22 @@ use Rattle.test_places.specs.Rules.{is_first, is_named}
 abbrev pub is_entry_of : Role → List ℕ → Mark → Bool
 is_entry_of r x m = is_first m.part && role_equality.eq m.role r && is_named x m
 
-abbrev pub lasts_named : Option (List ℕ) → Role → List Mark → Bool → Bool
-lasts_named None r ms lasts = lasts
-lasts_named (Some x) r ms lasts = not (list_any (is_entry_of r x) ms)
+-- An entry holds if its name has no further one among the marks ms behind; up to its name, what was so before.
+abbrev pub holds_named : Option (List ℕ) → Role → List Mark → (before : Bool) → Bool
+holds_named None r ms before = before
+holds_named (Some x) r ms before = not (list_any (is_entry_of r x) ms)
 
--- whether the entry that m stands in holds: its name has no further entry among the marks ms behind
-abbrev pub entry_lasts : Mark → List Mark → Bool → Bool
-entry_lasts m ms lasts = lasts_named m.name m.role ms lasts
+-- whether what m is in holds: outside the initial state it does
+abbrev pub holds : Mark → List Mark → (before : Bool) → Bool
+holds m ms before = if is_first m.part then holds_named m.name m.role ms before else true
 
 -- a number of an entry that doesn't hold is none
 abbrev pub counted : Bool → Mark → Role
-counted lasts m = if lasts || not (is_first m.part) then m.role else Nothing
+counted holds m = if holds then m.role else Nothing
 
-abbrev pub numbers_from : Bool → List Mark → List Role
-numbers_from lasts [] = []
-numbers_from lasts (m ∷ ms) = counted (entry_lasts m ms lasts) m ∷ numbers_from (entry_lasts m ms lasts) ms
+abbrev pub numbers_from : (before : Bool) → List Mark → List Role
+numbers_from before [] = []
+numbers_from before (m ∷ ms) = counted (holds m ms before) m ∷ numbers_from (holds m ms before) ms
 
 -- the marks as numbers: which are constants and which are added
 abbrev pub numbers_of : List Mark → List Role

@@ -11,7 +11,7 @@ use Rattle.litmus_c.specs.declared.fault.TestFault.TheVariants.{Text, Syntax, Ba
 use Rattle.litmus_syntax.specs.Symbols.{symbols_of}
 use Rattle.litmus_syntax.specs.declared.symbol.Symbol.{Symbol}
 use Rattle.litmus_syntax.specs.declared.syntax_fault.SyntaxFault.TheVariants as stops
-use Rattle.test_places.specs.Accesses.{IsFirstEvent}
+use Rattle.test_places.specs.Accesses.{IsEventTooMany}
 use Rattle.test_places.specs.Fronts.{IsFirstFront}
 use Rattle.test_places.specs.Limits.{IsFirstOver, locations}
 use Rattle.test_places.specs.Marks.{start, marks_from}
@@ -41,7 +41,7 @@ IsSymbol ss PlainOnAtomic k = first_breach PlainAccess ss ≡ Some k
 IsSymbol ss AtomicOnPlain k = first_breach AtomicAccess ss ≡ Some k
 IsSymbol ss TooManyThreads k = IsFirstOver (count_by is_head) 8 (marks_of ss) k
 IsSymbol ss TooManyLocations k = IsFirstOver locations 8 (marks_of ss) k
-IsSymbol ss TooManyEvents k = IsFirstEvent ss (marks_of ss) k
+IsSymbol ss TooManyEvents k = IsEventTooMany ss (marks_of ss) k
 IsSymbol ss TooManyValues k = IsFirstOver values 16 (numbers_of (marks_of ss)) k
 IsSymbol ss ValueTooBig k = IsFirstOver greatest 2147483647 (numbers_of (marks_of ss)) k
 IsSymbol ss (Text f) k = ⊥

@@ -22,25 +22,24 @@ fn has_entry(marks: &[Mark], role: Role, name: &Name) -> bool
     marks.iter().any(|mark| is_entry_of(role, name, mark))
 }
 
-/// Whether the entry that a mark stands in holds, by those behind it.
-fn entry_lasts(mark: &Mark, behind: &[Mark], lasts: bool) -> bool
-    ensures { result ≡ spec.entry_lasts mark.now behind.now lasts }
+/// Whether what a mark is in holds: an entry does if no later one is for its place.
+fn holds(mark: &Mark, behind: &[Mark], before: bool) -> bool
+    ensures { result ≡ spec.holds mark.now behind.now before }
 {
+    if mark.part != Part::Initial {
+        return true;
+    }
     match &mark.name {
         Some(name) => !has_entry(behind, mark.role, name),
-        None => lasts,
+        None => before,
     }
 }
 
 /// What a mark is as a number.
-fn counted(lasts: bool, mark: &Mark) -> Role
-    ensures { result ≡ spec.counted lasts mark.now }
+fn counted(holds: bool, mark: &Mark) -> Role
+    ensures { result ≡ spec.counted holds mark.now }
 {
-    if lasts || mark.part != Part::Initial {
-        mark.role
-    } else {
-        Role::Nothing
-    }
+    if holds { mark.role } else { Role::Nothing }
 }
 
 /// The marks as numbers: one of an entry that a later entry replaces is none.
@@ -48,11 +47,11 @@ pub fn numbers(alloc: Global, marks: &[Mark]) -> Result<Vec<Role>, AllocError>
     ensures { IfOk result (λ v. v.items ≡ spec.numbers_of marks.now) }
 {
     let mut numbers = Vec::new(alloc);
-    let mut lasts = true;
+    let mut held = true;
     let mut rest = marks;
     while let Some((mark, behind)) = rest.split_first() {
-        lasts = entry_lasts(mark, behind, lasts);
-        numbers.push(counted(lasts, mark))?;
+        held = holds(mark, behind, held);
+        numbers.push(counted(held, mark))?;
         rest = behind;
     }
     Ok(numbers)

@@ -3,7 +3,7 @@
 ghost use Rattle.std.specs.Prelude.{◌≡◌, ◌+◌, ◌≢◌, ℕ, IfOk, OnOk, MatchOption};
 ghost use Rattle.wb_text.specs.declared.fault.TextFault.TheVariants.{NoMemory};
 ghost use Rattle.litmus_c.specs.Reads.{offset_of};
-ghost use Rattle.test_places.specs.Accesses.{IsFirstEvent};
+ghost use Rattle.test_places.specs.Accesses.{IsEventTooMany};
 ghost use Rattle.test_places.specs.Fronts.{IsStop, IsFirstFront};
 ghost use Rattle.test_places.specs.Places as spec;
 
@@ -120,7 +120,7 @@ fn last_of_front(
 
 /// The access or fence with which there are too many events.
 fn event_of(alloc: Global, symbols: &[Symbol], marks: &[Mark]) -> Result<Option<usize>, AllocError>
-    ensures { IfOk result (λ o. MatchOption o ((k : ℕ) → ¬ IsFirstEvent symbols.now marks.now k) (IsFirstEvent symbols.now marks.now)) }
+    ensures { IfOk result (λ o. MatchOption o ((k : ℕ) → ¬ IsEventTooMany symbols.now marks.now k) (IsEventTooMany symbols.now marks.now)) }
 {
     match read_draft(alloc, symbols) {
         Ok(draft) => {
