@@ -9,7 +9,6 @@ use Rattle.wb_text.proofs.Lists.{list_once}
 use Rattle.litmus_syntax.specs.Symbols.{symbols_of}
 use Rattle.litmus_syntax.specs.declared.symbol.Symbol.{Symbol}
 use Rattle.test_places.specs.Limits.{AreFew, IsFirstOver}
-use Rattle.test_places.specs.declared.mark.Mark.{Mark}
 use Rattle.test_places.specs.declared.rules.Rule.{Rule}
 use Rattle.litmus_c.specs.declared.fault.TestFault.{TestFault}
 use Rattle.litmus_c.specs.declared.fault.TestFault.TheVariants.{Text, Syntax, BadOrder, UnknownName, PlainOnAtomic, AtomicOnPlain, Unsupported, TooDeep, TooManyThreads, TooManyLocations, TooManyEvents, TooManyValues, ValueTooBig, NoMemory}
@@ -43,9 +42,9 @@ no_token text (Unsupported w) a b h = h
 no_token text TooDeep a b h = h
 no_token text TooManyThreads a b h = h
 no_token text TooManyLocations a b h = h
-no_token text TooManyEvents a b h = tt
-no_token text TooManyValues a b h = tt
-no_token text ValueTooBig a b h = tt
+no_token text TooManyEvents a b h = h
+no_token text TooManyValues a b h = h
+no_token text ValueTooBig a b h = h
 
 pub told_at_token : {E : Type 0} (text : List ℕ) (f : TestFault) (r : Result (Option ℕ) E) → ((g : TextFault) → f ≢ Text g) → ((n : ℕ) → f ≢ Syntax n) →
     IfOk r (λ o. MatchOption o (IsAtNoToken text f) (IsAtToken text f)) → IfOk r (λ o. MatchOption o (HasNoPlace text f) (IsPlace text f))
@@ -55,48 +54,17 @@ told_at_token text f (Err e) a b h = tt
 
 -- of a text that has no tokens, or no such symbol
 
-none_at : (text : List ℕ) (f : TestFault) → ((o : ℕ) → ¬ IsAtToken text f o) → IsAtNoToken text f
-none_at text (Text g) h = h
-none_at text (Syntax n) h = h
-none_at text NoMemory h = h
-none_at text BadOrder h = h
-none_at text UnknownName h = h
-none_at text PlainOnAtomic h = h
-none_at text AtomicOnPlain h = h
-none_at text (Unsupported w) h = h
-none_at text TooDeep h = h
-none_at text TooManyThreads h = h
-none_at text TooManyLocations h = h
-none_at text TooManyEvents h = tt
-none_at text TooManyValues h = tt
-none_at text ValueTooBig h = tt
-
 pub no_list : (text : List ℕ) (f : TestFault) → ((ts : List Token) → ¬ IsTokenList Litmus text ts) → IsAtNoToken text f
-no_list text f none = none_at text f (λ o h. none h.tokens h.is_list)
-
-one_list : (text : List ℕ) (ts : List Token) (f : TestFault) (o : ℕ) → IsTokenList Litmus text ts → ((k : ℕ) → ¬ IsSymbol (symbols_of text ts) f k) → ¬ IsAtToken text f o
-one_list text ts f o is none h = none h.symbol (subst (λ us. IsSymbol (symbols_of text us) f h.symbol) (list_once is h.is_list) h.is_symbol)
+no_list text f none o h = none h.tokens h.is_list
 
 pub no_symbol : (text : List ℕ) (ts : List Token) (ss : List Symbol) (f : TestFault) → IsTokenList Litmus text ts → ss ≡ symbols_of text ts → HasNoSymbol ss f → IsAtNoToken text f
-no_symbol text ts ss (Text g) is e h = λ o. one_list text ts (Text g) o is (λ k p. p)
-no_symbol text ts ss (Syntax n) is e h = λ o. one_list text ts (Syntax n) o is (λ k p. p)
-no_symbol text ts ss NoMemory is e h = λ o. one_list text ts NoMemory o is (λ k p. p)
-no_symbol text ts ss BadOrder is e h = λ o. one_list text ts BadOrder o is (subst (λ l. (k : ℕ) → ¬ IsSymbol l BadOrder k) e h)
-no_symbol text ts ss UnknownName is e h = λ o. one_list text ts UnknownName o is (subst (λ l. (k : ℕ) → ¬ IsSymbol l UnknownName k) e h)
-no_symbol text ts ss PlainOnAtomic is e h = λ o. one_list text ts PlainOnAtomic o is (subst (λ l. (k : ℕ) → ¬ IsSymbol l PlainOnAtomic k) e h)
-no_symbol text ts ss AtomicOnPlain is e h = λ o. one_list text ts AtomicOnPlain o is (subst (λ l. (k : ℕ) → ¬ IsSymbol l AtomicOnPlain k) e h)
-no_symbol text ts ss (Unsupported w) is e h = λ o. one_list text ts (Unsupported w) o is (subst (λ l. (k : ℕ) → ¬ IsSymbol l (Unsupported w) k) e h)
-no_symbol text ts ss TooDeep is e h = λ o. one_list text ts TooDeep o is (subst (λ l. (k : ℕ) → ¬ IsSymbol l TooDeep k) e h)
-no_symbol text ts ss TooManyThreads is e h = λ o. one_list text ts TooManyThreads o is (subst (λ l. (k : ℕ) → ¬ IsSymbol l TooManyThreads k) e h)
-no_symbol text ts ss TooManyLocations is e h = λ o. one_list text ts TooManyLocations o is (subst (λ l. (k : ℕ) → ¬ IsSymbol l TooManyLocations k) e h)
-no_symbol text ts ss TooManyEvents is e h = tt
-no_symbol text ts ss TooManyValues is e h = tt
-no_symbol text ts ss ValueTooBig is e h = tt
+no_symbol text ts ss f is e none o h =
+    none h.symbol (subst (λ l. IsSymbol l f h.symbol) (sym e) (subst (λ us. IsSymbol (symbols_of text us) f h.symbol) (list_once is h.is_list) h.is_symbol))
 
 -- a symbol that isn't there
 
-pub none_over : (size : List Mark → ℕ) (ms : List Mark) (k : ℕ) → AreFew size 8 ms → ¬ IsFirstOver size 8 ms k
-none_over size ms k few h = omega (arith, h.many, few (k + 1) (omega (arith, h.within)))
+pub none_over : {X : Type 0} (size : List X → ℕ) (most : ℕ) (xs : List X) (k : ℕ) → AreFew size most xs → ¬ IsFirstOver size most xs k
+none_over size most xs k few h = omega (arith, h.many, few (k + 1) (omega (arith, h.within)))
 
 pub none_breached : (r : Rule) (ss : List Symbol) (o : Option ℕ) (k : ℕ) → o ≡ first_breach r ss → o ≡ None → first_breach r ss ≢ Some k
 none_breached r ss o k e n h = let both : None ≡ Some k = sym n ∙ e ∙ h in cc

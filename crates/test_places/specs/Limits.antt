@@ -1,18 +1,18 @@
--- The limits on threads and locations (docs/LITMUS.md, "Refusals", 19 and 20).
+-- The limits on threads and locations (docs/LITMUS.md, "Refusals", 19 and 20), and where a limit is first not kept.
 use Rattle.std.specs.Prelude.{ℕ, ◌+◌, ◌<◌, ◌≤◌, List, [], length, take, fold, Option, Some, None, if◌then◌else◌}
 use Rattle.litmus_tree.specs.Names.{with_name}
 use Rattle.test_places.specs.declared.mark.Mark.{Mark}
 use Rattle.test_places.specs.Rules.{is_location}
 
--- with no mark there is more than this
-abbrev pub AreFew : (size : List Mark → ℕ) → (most : ℕ) → List Mark → Type 0
-AreFew size most ms = (j : ℕ) → j ≤ length ms → size (take j ms) ≤ most
+-- however far it is read, there is no more than this
+abbrev pub AreFew : {X : Type 0} → (size : List X → ℕ) → (most : ℕ) → List X → Type 0
+AreFew size most xs = (j : ℕ) → j ≤ length xs → size (take j xs) ≤ most
 
--- The mark at place k is the first with which there is more than this.
-pub record IsFirstOver (size : List Mark → ℕ) (most : ℕ) (ms : List Mark) (k : ℕ) : Type 0 where
-  pub within : k < length ms
-  pub few : (j : ℕ) → j ≤ k → size (take j ms) ≤ most
-  pub many : most < size (take (k + 1) ms)
+-- What stands at place k is the first with which there is more than this.
+pub record IsFirstOver {X : Type 0} (size : List X → ℕ) (most : ℕ) (xs : List X) (k : ℕ) : Type 0 where
+  pub within : k < length xs
+  pub few : (j : ℕ) → j ≤ k → size (take j xs) ≤ most
+  pub many : most < size (take (k + 1) xs)
 
 abbrev pub with_some : List (List ℕ) → Option (List ℕ) → List (List ℕ)
 with_some xs None = xs

@@ -11,9 +11,11 @@ use Rattle.litmus_c.specs.declared.fault.TestFault.TheVariants.{Text, Syntax, Ba
 use Rattle.litmus_syntax.specs.Symbols.{symbols_of}
 use Rattle.litmus_syntax.specs.declared.symbol.Symbol.{Symbol}
 use Rattle.litmus_syntax.specs.declared.syntax_fault.SyntaxFault.TheVariants as stops
+use Rattle.test_places.specs.Accesses.{IsEventTooMany}
 use Rattle.test_places.specs.Fronts.{IsFirstFront}
 use Rattle.test_places.specs.Limits.{IsFirstOver, locations}
 use Rattle.test_places.specs.Marks.{start, marks_from}
+use Rattle.test_places.specs.Numbers.{numbers_of, values, greatest}
 use Rattle.test_places.specs.Rules.{breaks, is_head}
 use Rattle.test_places.specs.declared.mark.Mark.{Mark}
 use Rattle.test_places.specs.declared.rules.Rule.{Rule}
@@ -28,7 +30,8 @@ abbrev pub first_breach : Rule → List Symbol → Option ℕ
 first_breach r ss = position (breaks r (marks_of ss)) (marks_of ss)
 
 -- The symbol at which a fault stands, by its number. 17: where reading from the left stops; 13 and 18: the last of the shortest front that is refused so;
--- 14 to 16: the first name that breaks the rule; 19 and 20: the first with which there is one thread or one location too many. Of 21 to 23 nothing is said.
+-- 14 to 16: the first name that breaks the rule; 19 and 20: the first with which there is one thread or one location too many;
+-- 21: the first access with which there are more than 64 events; 22 and 23: the first number with which there are more than 16 values, or one above 2,147,483,647.
 abbrev pub IsSymbol : List Symbol → TestFault → ℕ → Type 0
 IsSymbol ss (Unsupported w) k = StopsAt ss k
 IsSymbol ss BadOrder k = IsFirstFront ss stops.BadOrder (k + 1)
@@ -38,16 +41,15 @@ IsSymbol ss PlainOnAtomic k = first_breach PlainAccess ss ≡ Some k
 IsSymbol ss AtomicOnPlain k = first_breach AtomicAccess ss ≡ Some k
 IsSymbol ss TooManyThreads k = IsFirstOver (count_by is_head) 8 (marks_of ss) k
 IsSymbol ss TooManyLocations k = IsFirstOver locations 8 (marks_of ss) k
+IsSymbol ss TooManyEvents k = IsEventTooMany ss (marks_of ss) k
+IsSymbol ss TooManyValues k = IsFirstOver values 16 (numbers_of (marks_of ss)) k
+IsSymbol ss ValueTooBig k = IsFirstOver greatest 2147483647 (numbers_of (marks_of ss)) k
 IsSymbol ss (Text f) k = ⊥
 IsSymbol ss (Syntax n) k = ⊥
 IsSymbol ss NoMemory k = ⊥
-IsSymbol ss e k = Unit {0}
 
--- no symbol is the place, of a fault but 21 to 23
+-- no symbol is the place
 abbrev pub HasNoSymbol : List Symbol → TestFault → Type 0
-HasNoSymbol ss TooManyEvents = Unit {0}
-HasNoSymbol ss TooManyValues = Unit {0}
-HasNoSymbol ss ValueTooBig = Unit {0}
 HasNoSymbol ss e = (k : ℕ) → ¬ IsSymbol ss e k
 
 -- the token of such a symbol begins at this offset
@@ -58,11 +60,8 @@ pub record IsAtToken (text : List ℕ) (fault : TestFault) (offset : ℕ) : Type
   pub is_symbol : IsSymbol (symbols_of text tokens) fault symbol
   pub begins : offset ≡ offset_of tokens (length text) symbol
 
--- no such token, of a fault but 21 to 23
+-- there is no such token
 abbrev pub IsAtNoToken : List ℕ → TestFault → Type 0
-IsAtNoToken text TooManyEvents = Unit {0}
-IsAtNoToken text TooManyValues = Unit {0}
-IsAtNoToken text ValueTooBig = Unit {0}
 IsAtNoToken text e = (offset : ℕ) → ¬ IsAtToken text e offset
 
 -- Where a fault stands in a text.
@@ -72,9 +71,6 @@ IsPlace text (Syntax n) offset = offset ≡ n
 IsPlace text NoMemory offset = ⊥
 IsPlace text e offset = IsAtToken text e offset
 
--- The text has no place for the fault, where that is none of 21 to 23.
+-- The text has no place for the fault.
 abbrev pub HasNoPlace : List ℕ → TestFault → Type 0
-HasNoPlace text TooManyEvents = Unit {0}
-HasNoPlace text TooManyValues = Unit {0}
-HasNoPlace text ValueTooBig = Unit {0}
 HasNoPlace text e = (offset : ℕ) → ¬ IsPlace text e offset

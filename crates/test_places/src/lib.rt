@@ -3,8 +3,10 @@
 
 mod accesses;
 mod beside;
+pub mod laws;
 mod limits;
 mod mark;
+mod numbers;
 mod place;
 mod reading;
 mod rules;

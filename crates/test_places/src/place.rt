@@ -3,23 +3,22 @@
 ghost use Rattle.std.specs.Prelude.{◌≡◌, ◌+◌, ◌≢◌, ℕ, IfOk, OnOk, MatchOption};
 ghost use Rattle.wb_text.specs.declared.fault.TextFault.TheVariants.{NoMemory};
 ghost use Rattle.litmus_c.specs.Reads.{offset_of};
+ghost use Rattle.test_places.specs.Accesses.{IsEventTooMany};
 ghost use Rattle.test_places.specs.Fronts.{IsStop, IsFirstFront};
 ghost use Rattle.test_places.specs.Places as spec;
 
 use crate::accesses::event_too_many;
 use crate::limits::{location_too_many, locations, thread_too_many};
 use crate::mark::{Mark, marks};
-use crate::reading::{first_front, stop};
+use crate::numbers::numbers;
+use crate::reading::{first_front, in_memory, stop};
 use crate::rules::{Rule, first_breach};
-use crate::values::{Limit, value_over};
+use crate::values::{value_too_great, value_too_many};
 use litmus_c::TestFault;
 use litmus_syntax::{Symbol, SyntaxFault, read_draft, symbols};
 use places::place_of_fault;
 use std::alloc::{AllocError, Global};
 use wb_text::{Dialect, TextFault, Token, tokens};
-
-/// As many events as a test has at most.
-const MOST_EVENTS: usize = 64;
 
 /// Where the fault of a text stands as a test, in bytes from its beginning; none where the text doesn't have it, or memory ran out.
 pub fn place_of(alloc: Global, text: &[u8], fault: &TestFault) -> Result<Option<usize>, AllocError>
@@ -90,8 +89,8 @@ fn symbol_of(
         TestFault::AtomicOnPlain => Ok(first_breach(Rule::AtomicAccess, &marks)),
         TestFault::TooManyThreads => Ok(thread_too_many(&marks)),
         TestFault::TooManyLocations => location_too_many(alloc, &marks),
-        TestFault::TooManyValues => value_over(alloc, Limit::Count, &marks),
-        TestFault::ValueTooBig => value_over(alloc, Limit::Size, &marks),
+        TestFault::TooManyValues => value_too_many(alloc, &numbers(alloc, &marks)?),
+        TestFault::ValueTooBig => Ok(value_too_great(&numbers(alloc, &marks)?)),
         TestFault::TooManyEvents => event_of(alloc, symbols, &marks),
         TestFault::Text(_) => Ok(None),
         TestFault::Syntax(_) => Ok(None),
@@ -119,18 +118,18 @@ fn last_of_front(
     }
 }
 
-/// The access with which there are too many events.
-fn event_of(
-    alloc: Global,
-    symbols: &[Symbol],
-    marks: &[Mark],
-) -> Result<Option<usize>, AllocError> {
+/// The access or fence with which there are too many events.
+fn event_of(alloc: Global, symbols: &[Symbol], marks: &[Mark]) -> Result<Option<usize>, AllocError>
+    ensures { IfOk result (λ o. MatchOption o ((k : ℕ) → ¬ IsEventTooMany symbols.now marks.now k) (IsEventTooMany symbols.now marks.now)) }
+{
     match read_draft(alloc, symbols) {
         Ok(draft) => {
-            let room = MOST_EVENTS.saturating_sub(locations(alloc, marks)?);
-            return Ok(event_too_many(room, &draft.bodies, marks));
+            let writes = locations(alloc, marks)?;
+            return Ok(event_too_many(writes, &draft.bodies, marks));
         }
-        Err(SyntaxFault::NoMemory) => return Err(AllocError),
-        Err(_) => return Ok(None),
+        Err(found) => {
+            in_memory(found)?;
+            return Ok(None);
+        }
     }
 }

@@ -10,7 +10,7 @@ use litmus_syntax::{Symbol, SyntaxFault, read_draft};
 use std::alloc::{AllocError, Global};
 
 /// Whether a fault is the symbols' own.
-fn in_memory(fault: SyntaxFault) -> Result<(), AllocError>
+pub fn in_memory(fault: SyntaxFault) -> Result<(), AllocError>
     ensures { OnOk result (fault ≢ NoMemory) }
 {
     match fault {

@@ -21,7 +21,7 @@ pub enum Rule {
 
 impl Mark {
     /// Whether it has this name.
-    fn is_named(&self, name: &Name) -> bool
+    pub fn is_named(&self, name: &Name) -> bool
         ensures { result ≡ spec.is_named name.now self.now }
     {
         match &self.name {

@@ -1,6 +1,11 @@
 //! The first number that makes one value too many, or one that is too great.
 
-use crate::mark::{Mark, Part, Role};
+ghost use Rattle.std.specs.Prelude.{◌≡◌, ◌<◌, ◌≤◌, ◌^◌, ℕ, List, false, length, All, IfOk, OnOk, MatchBool, MatchOption};
+ghost use Rattle.litmus_value.specs.Values.{with_value, with_sum, with_sums};
+ghost use Rattle.test_places.specs.Limits.{AreFew, IsFirstOver};
+ghost use Rattle.test_places.specs.Numbers as spec;
+
+use crate::mark::Role;
 use std::alloc::{AllocError, Global};
 
 /// As many values as a test has at most.
@@ -9,96 +14,106 @@ const MOST_VALUES: usize = 16;
 /// The greatest value that a test may have.
 const MOST_VALUE: u64 = 2_147_483_647;
 
-/// A limit on values.
-#[derive(Clone, Copy, PartialEq, Eq)]
-pub enum Limit {
-    /// There are at most 16.
-    Count,
-    /// None is above 2,147,483,647.
-    Size,
-}
-
 /// Adds a value that isn't there yet.
-fn add(values: &mut Vec<u64>, value: u64) -> Result<(), AllocError> {
+fn insert(values: &mut Vec<u128>, value: u128) -> Result<(), AllocError>
+    ensures { OnOk result (values.new.items ≡ with_value values.old.items value) }
+{
     if !values.contains(&value) {
         values.push(value)?;
     }
     Ok(())
 }
 
-/// The sums of some of the adds and a constant, or so many of them that there are too many.
-fn values_of(alloc: Global, constants: &[u64], adds: &[u64]) -> Result<Vec<u64>, AllocError> {
+/// Adds the sums of each value and of this number.
+fn insert_sums(values: &mut Vec<u128>, add: u32) -> Result<(), AllocError>
+    requires { All (λ v. v < 2 ^ 100) values.old.items }
+    ensures { OnOk result (values.new.items ≡ with_sum values.old.items add) }
+{
+    for place in 0..values.len() {
+        let value = values[place];
+        insert(values, value + u128::from(add))?;
+    }
+    Ok(())
+}
+
+/// Whether these constants, and what the adds make of them, are too many.
+fn are_many(alloc: Global, constants: &[u128], adds: &[u32]) -> Result<bool, AllocError>
+    requires { All (λ v. v < 2 ^ 32) constants.now }
+    ensures { IfOk result (λ b. MatchBool b (16 < length (with_sums constants.now adds.now)) (length (with_sums constants.now adds.now) ≤ 16)) }
+{
     let mut values = Vec::from_slice(alloc, constants)?;
-    for number in adds {
-        for place in 0..values.len() {
-            if values.len() > 2 * MOST_VALUES {
-                break;
-            }
-            if let Some(value) = values.get(place) {
-                let sum = value.saturating_add(*number);
-                add(&mut values, sum)?;
-            }
+    for place in 0..adds.len() {
+        if values.len() > MOST_VALUES {
+            return Ok(true);
         }
+        insert_sums(&mut values, adds[place])?;
     }
-    Ok(values)
+    Ok(values.len() > MOST_VALUES)
 }
 
-/// Whether the values keep a limit.
-fn keep(limit: Limit, values: &[u64]) -> bool {
-    match limit {
-        Limit::Count => values.len() <= MOST_VALUES,
-        Limit::Size => {
-            for value in values {
-                if *value > MOST_VALUE {
-                    return false;
-                }
-            }
-            true
-        }
+/// Whether this is a number.
+fn is_number(number: Role) -> bool
+    ensures constants { (vs : List ℕ) → result ≡ false → spec.with_constant vs number ≡ vs }
+    ensures adds { (cs : List ℕ) → result ≡ false → spec.with_added cs number ≡ cs }
+{
+    match number {
+        Role::Constant(_) => true,
+        Role::Added(_) => true,
+        _ => false,
     }
 }
 
-/// Whether two marks name the same place of the initial state.
-fn are_one_entry(first: &Mark, second: &Mark) -> bool {
-    first.part == Part::Initial
-        && second.part == Part::Initial
-        && first.role == second.role
-        && first.name.is_some()
-        && first.name == second.name
+/// Notes a number, as a constant or as what is added.
+#[tactic(auto, using(crate::proofs::Noting::narrow_with))]
+fn note(constants: &mut Vec<u128>, adds: &mut Vec<u32>, number: Role) -> Result<(), AllocError>
+    requires { All (λ v. v < 2 ^ 32) constants.old.items }
+    ensures narrow { OnOk result (All (λ v. v < 2 ^ 32) constants.new.items) }
+    ensures constants { OnOk result (constants.new.items ≡ spec.with_constant constants.old.items number) }
+    ensures adds { OnOk result (adds.new.items ≡ spec.with_added adds.old.items number) }
+{
+    match number {
+        Role::Constant(value) => insert(constants, u128::from(value)),
+        Role::Added(value) => {
+            adds.push(value)?;
+            Ok(())
+        }
+        _ => Ok(()),
+    }
 }
 
-/// Whether no entry behind the one whose value stands at a place is for the same place of the initial state.
-fn is_lasting(marks: &[Mark], place: usize) -> bool {
-    let Some((before, behind)) = marks.split_at_checked(place) else {
-        return true;
-    };
-    let Some(entry) = before.iter().rev().find(|mark| mark.name.is_some()) else {
-        return true;
-    };
-    !behind.iter().any(|mark| are_one_entry(entry, mark))
-}
-
-/// The place of the first number with which the values don't keep a limit.
-pub fn value_over(
-    alloc: Global,
-    limit: Limit,
-    marks: &[Mark],
-) -> Result<Option<usize>, AllocError> {
-    let mut constants = Vec::from_slice(alloc, &[0u64, 1])?;
+/// The place of the first number with which there are more than 16 values.
+pub fn value_too_many(alloc: Global, numbers: &[Role]) -> Result<Option<usize>, AllocError>
+    ensures { IfOk result (λ o. MatchOption o (AreFew spec.values 16 numbers.now) (IsFirstOver spec.values 16 numbers.now)) }
+{
+    let mut constants = Vec::from_slice(alloc, &[0u128, 1])?;
     let mut adds = Vec::new(alloc);
-    for (place, mark) in marks.iter().enumerate() {
-        match mark.role {
-            Role::Constant(number) => {
-                if mark.part != Part::Initial || is_lasting(marks, place) {
-                    add(&mut constants, u64::from(number))?;
-                }
-            }
-            Role::Added(number) => adds.push(u64::from(number))?,
-            _ => continue,
+    for (place, number) in numbers.iter().enumerate() {
+        if !is_number(*number) {
+            continue;
         }
-        if !keep(limit, &values_of(alloc, &constants, &adds)?) {
+        note(&mut constants, &mut adds, *number)?;
+        if are_many(alloc, &constants, &adds)? {
             return Ok(Some(place));
         }
     }
     Ok(None)
+}
+
+/// The place of the first number with which a value is above 2,147,483,647.
+pub fn value_too_great(numbers: &[Role]) -> Option<usize>
+    ensures { MatchOption result (AreFew spec.greatest 2147483647 numbers.now) (IsFirstOver spec.greatest 2147483647 numbers.now) }
+{
+    let mut constant = 1u64;
+    let mut added = 0u64;
+    for (place, number) in numbers.iter().enumerate() {
+        match number {
+            Role::Constant(value) => constant = constant.max(u64::from(*value)),
+            Role::Added(value) => added += u64::from(*value),
+            _ => continue,
+        }
+        if constant + added > MOST_VALUE {
+            return Some(place);
+        }
+    }
+    None
 }
