@@ -7,7 +7,6 @@ use Rattle.std.proofs.lemmas.Option.{slice_get-map, slice_get-get_or, slice_get_
 use Rattle.std.proofs.Math.Seq.{drop-cons}
 use Rattle.wb_text.specs.Tokens.{IsWithin}
 use Rattle.wb_text.specs.declared.token.Token.{Token}
-use Rattle.cat_syntax.specs.Reads.{Reads}
 use Rattle.cat_tree.specs.declared.tree.Binding.{Binding}
 use Rattle.cat_tree.specs.declared.tree.Item.{Item}
 use Rattle.cat_tree.specs.Tree.{Word, File, Clause, bound_of, clause_of}

@@ -1,4 +1,4 @@
-use Rattle.std.proofs.Common.{◌≡◌, ◌∙◌, List, ap, length, take, rules}
+use Rattle.std.proofs.Common.{◌≡◌, ◌∙◌, ap, length, take, rules}
 use Rattle.cat_places.specs.Denied.{blanked as blanked_text}
 use Rattle.cat_places.proofs.Denying.{blanked_is, length_blanked}
 use Rattle.cat_places.proofs.denied.blanked.Goals as goal

@@ -1,5 +1,5 @@
-use Rattle.std.proofs.Common.{◌≡◌, ◌∙◌, ◌<◌, ℕ, List, sym, ap, subst, get_or, length, take, arith, rules}
-use Rattle.std.specs.Prelude.{Some, option_map}
+use Rattle.std.proofs.Common.{◌≡◌, ◌∙◌, ℕ, List, sym, ap, subst, get_or, length, take, arith, rules}
+use Rattle.std.specs.Prelude.{option_map}
 use Rattle.wb_text.specs.declared.token.Token.{Token}
 use Rattle.cat_syntax.specs.Reads.{Reads}
 use Rattle.cat_tree.specs.Tree.{File}

@@ -1,4 +1,4 @@
-use Rattle.std.proofs.Common.{◌≡◌, true, rules}
+use Rattle.std.proofs.Common.{rules}
 use Rattle.std.proofs.lemmas.Result.{IfOk-weaker}
 use Rattle.cat_places.proofs.Denying.{not_refused, no_item, no_file}
 use Rattle.cat_places.proofs.denied.Group.is_model_as.Goals as goal
