@@ -1,6 +1,6 @@
 -- The item that is to blame for a fault of a model.
-use Rattle.std.proofs.Common.{◌≡◌, ◌≢◌, inl, inr, ℕ, zero, suc, ◌+◌, ◌-◌, ◌<◌, ◌≤◌, List, [], ◌∷◌, ◌++◌, length, take, drop, map, get_or, true, false, Bool, refl, ap, sym, subst, ◌∙◌, arith}
-use Rattle.std.specs.Prelude.{Option, Some, None, Result, Ok, Err, IfOk, MatchOption, slice_get}
+use Rattle.std.proofs.Common.{◌≡◌, ◌≢◌, inl, inr, ℕ, ◌+◌, ◌<◌, List, [], ◌∷◌, length, get_or, true, false, Bool, refl, ap, sym, subst, ◌∙◌, arith}
+use Rattle.std.specs.Prelude.{Option, Some, None, Result, Ok, Err, IfOk, MatchOption}
 use Rattle.std.proofs.lemmas.Bool.{cases_lt}
 use Rattle.cat_tree.specs.Tree.{Word, File, Clause}
 use Rattle.cat_model.specs.Faults.{IsCause}
@@ -8,7 +8,7 @@ use Rattle.cat_model.specs.Files.{store, place_of, entry_of, version_of}
 use Rattle.cat_model.specs.declared.fault.ModelFault.{ModelFault}
 use Rattle.cat_model.specs.declared.fault.ModelFault.TheVariants.{NoCat, NoInclude, IncludeCycle, Unbound, WrongSort, NotMonotone, FlagWithoutName, ModelTooLarge, CallsTooLarge, NoMemory}
 use Rattle.cat_model.specs.declared.files.Entry.{Entry}
-use Rattle.cat_places.specs.Blame.{stops, NoneStops, IsFirstStop, main, alone, items_put, IsBroken, NoneBroken, IsFirstBroken, IsBlamed}
+use Rattle.cat_places.specs.Blame.{stops, NoneStops, IsFirstStop, main, alone, IsBroken, NoneBroken, IsFirstBroken, IsBlamed}
 use Rattle.cat_places.specs.declared.walk.Visit.{Visit}
 
 -- no name has a version before the first put

@@ -1,4 +1,5 @@
 pub mod Blaming
+pub mod Denying
 pub mod OneRefusal
 pub mod Owning
 pub mod Placing

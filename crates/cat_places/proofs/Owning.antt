@@ -1,10 +1,7 @@
 -- The tokens of an item.
-use Rattle.std.proofs.Common.{◌≡◌, ◌≢◌, ℕ, ◌+◌, ◌-◌, ◌<◌, ◌≤◌, List, length, map, true, false, Bool, refl, ap, sym, subst, ◌∙◌, arith, inl, inr, take, get_or}
-use Rattle.std.specs.Prelude.{Option, Some, None, slice_get, IsTrue, ◌↔◌}
-use Rattle.std.proofs.lemmas.Bool.{cases_lt}
+use Rattle.std.proofs.Common.{◌≡◌, ℕ, List, length, map, ap, sym, subst, ◌∙◌}
+use Rattle.std.specs.Prelude.{Option, Some, None}
 use Rattle.std.proofs.lemmas.List.{length-map}
-use Rattle.wb_text.specs.declared.token.Token.{Token}
-use Rattle.cat_syntax.specs.Reads.{Reads}
 use Rattle.cat_tree.specs.declared.tree.Item.{Item}
 use Rattle.cat_tree.specs.Tree.{File, clause_of}
 use Rattle.cat_places.specs.Own.{IsFileOf, HasItems}

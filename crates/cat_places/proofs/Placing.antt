@@ -1,7 +1,6 @@
 -- The place of a fault of a model.
-use Rattle.std.proofs.Common.{◌≡◌, ◌≢◌, ℕ, zero, suc, ◌+◌, ◌<◌, ◌≤◌, List, [], ◌∷◌, ◌++◌, length, take, get_or, refl, ap, sym, subst, ◌∙◌, arith, inl, inr}
+use Rattle.std.proofs.Common.{◌≡◌, ℕ, zero, suc, ◌+◌, ◌<◌, ◌≤◌, List, [], ◌∷◌, ◌++◌, length, take, get_or, refl, ap, sym, subst, ◌∙◌, arith, inl, inr}
 use Rattle.std.specs.Prelude.{Option, Some, None, MatchOption, option_map, slice_get, All}
-use Rattle.std.specs.List.{Contains}
 use Rattle.std.proofs.lemmas.Bool.{cases_lt}
 use Rattle.std.proofs.lemmas.List.Elements.{All-nil, All-cons, All-append, All-take, All-get_or}
 use Rattle.std.proofs.lemmas.Option.{slice_get-get_or, slice_get_within, get_or_from_slice_get}
@@ -12,7 +11,7 @@ use Rattle.cat_tree.specs.Tree.{File, Clause}
 use Rattle.cat_model.specs.declared.fault.ModelFault.{ModelFault}
 use Rattle.cat_places.specs.Blame.{IsBlamed}
 use Rattle.cat_places.specs.Own.{IsFileOf}
-use Rattle.cat_places.specs.Places.{AreRead, IsSomeOf, IsToldAt, IsToldIn, IsModelPlace}
+use Rattle.cat_places.specs.Places.{AreRead, IsToldAt, IsToldIn, IsModelPlace}
 use Rattle.cat_places.specs.Walks.{turn, items_of, listed, brought, visits_of, visits}
 use Rattle.cat_places.specs.declared.source.Source.{Source}
 use Rattle.cat_places.specs.declared.walk.Turn.{Turn}
@@ -47,10 +46,6 @@ read_more ss fs old new k s text o g h e t n is more read before =
 
 pub all_read : (ss : List Source) (fs files : List File) (k : ℕ) → length ss ≤ k → AreRead ss fs → take k fs ≡ files → fs ≡ files
 all_read ss fs files k h read e = sym (take_short k fs (omega (arith, h, read.count))) ∙ e
-
-pub some_of : (ts : List Token) (o : Option Token) → o ≡ slice_get ts 0 → IsSomeOf ts o
-some_of [] o e = subst (IsSomeOf []) (sym e) refl
-some_of (t ∷ ts) o e = subst (IsSomeOf (t ∷ ts)) (sym e) (0, omega arith, refl)
 
 -- each visit is of a source that is there
 
@@ -128,11 +123,17 @@ nowhere_sourced ss gs e r vs n w once is only look past = λ fs k v read blamed 
     let same : w ≡ v = same_visit vs n w v look (blamed_visit ss gs e vs n once is only fs k v read blamed at) in
     absurd (omega (arith, past, ap (λ (u : Visit). u.source) same, visit_there ss fs k v at, read.count))
 
+pub told_moved : (fs gs : List File) (bs cs : List Visit) (v : Visit) (l m : List ℕ) (e : ModelFault) (o : Option Token) → fs ≡ gs → bs ≡ cs → l ≡ m → IsToldAt fs bs v l e o → IsToldAt gs cs v m e o
+told_moved fs gs bs cs v l m e o a b c h = subst (λ f. IsToldAt f cs v m e o) a (subst (λ w. IsToldAt fs w v m e o) b (subst (λ t. IsToldAt fs bs v t e o) c h))
+
 pub told_in : (ss : List Source) (gs : List File) (e : ModelFault) (r : Option (ℕ × ℕ)) (vs : List Visit) (n : ℕ) (w : Visit) (source : Source) (o : Option Token) → ((fs : List File) → AreRead ss fs → fs ≡ gs) → vs ≡ visits ss gs →
     ((k : ℕ) → IsBlamed gs e vs k → Some n ≡ Some k) → w ≡ get_or vs n w → w.source < length ss → source ≡ get_or ss w.source source →
-    ((f : File) → Reads source.text.items f → IsToldAt source.text.items e w.item o) → r ≡ option_map (λ t. (w.source, t.from)) o → IsModelPlace ss e r
+    ((f : File) → Reads source.text.items f → IsToldAt gs (take n vs) w source.text.items e o) → r ≡ option_map (λ t. (w.source, t.from)) o → IsModelPlace ss e r
 told_in ss gs e r vs n w source o once is only look inside found told is_r = λ fs k v read blamed at.
+    let files = once fs read in
     let same : w ≡ v = same_visit vs n w v look (blamed_visit ss gs e vs n once is only fs k v read blamed at) in
+    let number : n ≡ k = some_once n k (only k (subst (λ l. IsBlamed gs e l k) (sym is) (subst (λ f. IsBlamed f e (visits ss f) k) files blamed))) in
+    let before : take n vs ≡ take k (visits ss fs) = ap (λ m. take m vs) number ∙ ap (take k) (is ∙ ap (visits ss) (sym files)) in
     let there = source_at ss w.source source inside found in
-    subst (λ u. IsToldIn ss e u.source u.item r) same
-    (record { source = source; at = there; token = o; told = told (get_or fs w.source nothing) (file_at ss fs w.source source read there).1; is = is_r })
+    let here = told_moved gs fs (take n vs) (take k (visits ss fs)) w source.text.items source.text.items e o (sym files) before refl (told (get_or fs w.source nothing) (file_at ss fs w.source source read there).1) in
+    subst (λ u. IsToldIn ss fs (take k (visits ss fs)) e u r) same (record { source = source; at = there; token = o; told = here; is = is_r })

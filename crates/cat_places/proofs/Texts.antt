@@ -1,12 +1,11 @@
 -- The place of a fault of a cat text.
-use Rattle.std.proofs.Common.{◌≡◌, ◌≢◌, ℕ, ◌+◌, ◌-◌, ◌<◌, ◌≤◌, List, take, refl, ap, sym, subst, ◌∙◌, arith, inl, inr}
+use Rattle.std.proofs.Common.{◌≡◌, ◌≢◌, ℕ, ◌-◌, List, ap, sym, subst, ◌∙◌, arith, inl, inr}
 use Rattle.std.specs.Prelude.{Option, Some, None, MatchOption, slice_get}
 use Rattle.std.proofs.lemmas.Bool.{cases_lt}
 use Rattle.wb_text.specs.declared.token.Token.{Token}
 use Rattle.wb_text.specs.declared.token.Dialect.TheVariants.{Cat}
 use Rattle.wb_text.specs.Tokens.{IsTokenList}
 use Rattle.wb_text.proofs.Lists.{list_once}
-use Rattle.cat_syntax.specs.Reads.{IsRefused}
 use Rattle.cat_syntax.specs.declared.fault.CatFault.{CatFault}
 use Rattle.places.specs.Spellings.{spelling}
 use Rattle.cat_places.specs.Fronts.{NoneRefused, IsFirstRefused, NoneSpelled, IsLastSpelled, IsToldAt, IsAtFront}

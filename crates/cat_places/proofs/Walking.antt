@@ -1,6 +1,6 @@
 -- The items of a model in reading order.
 use Rattle.std.proofs.Common.{◌≡◌, ◌≢◌, ℕ, zero, suc, ◌+◌, ◌-◌, ◌<◌, ◌≤◌, List, [], ◌∷◌, ◌++◌, length, take, drop, map, get_or, refl, ap, sym, subst, ◌∙◌, arith, append_assoc, append-nil}
-use Rattle.std.specs.Prelude.{Bool, Option, Some, None, is_some, option_map}
+use Rattle.std.specs.Prelude.{Option, Some, None, is_some, option_map}
 use Rattle.std.proofs.lemmas.List.{get_or-map, length-map, length-take, take-append-le}
 use Rattle.std.proofs.Math.Seq.{drop-cons}
 use Rattle.cat_tree.specs.declared.tree.Item.{Item}

@@ -1,5 +1,5 @@
 -- Which item of a model is to blame for a fault: the first in reading order with which the fault's rule is broken (docs/MODELS.md, "Refusals of a model").
-use Rattle.std.specs.Prelude.{◌≡◌, ℕ, ◌+◌, ◌<◌, ◌≤◌, ◌⊎◌, nat_le, List, [], ◌∷◌, ◌++◌, Bool, true, false, ◌&&◌, ◌||◌, Option, Some, None, length, take, slice_get, get_or, codes}
+use Rattle.std.specs.Prelude.{◌≡◌, ℕ, ◌+◌, ◌<◌, nat_le, List, [], ◌∷◌, ◌++◌, Bool, true, false, ◌&&◌, ◌||◌, Option, Some, None, length, take, slice_get, get_or, codes}
 use Rattle.std.specs.Str.{bytes_eq}
 use Rattle.cat_tree.specs.Tree.{Word, File, Clause, bind, bind_recursively, check, include, show, unshow}
 use Rattle.cat_model.specs.Faults.{IsCause}
@@ -9,7 +9,7 @@ use Rattle.cat_model.specs.declared.files.Entry.{Entry}
 use Rattle.cat_places.specs.Walks.{items_of}
 use Rattle.cat_places.specs.contracts.walk.TurnPartialEq.TheImpl.{ghosts as turn_equality}
 use Rattle.cat_places.specs.declared.walk.Turn.{Turn}
-use Rattle.cat_places.specs.declared.walk.Turn.TheVariants.{Own, BuiltIn, Into, Missing, Cycle, TooDeep}
+use Rattle.cat_places.specs.declared.walk.Turn.TheVariants.{Own, BuiltIn, Missing, Cycle, TooDeep}
 use Rattle.cat_places.specs.declared.walk.Visit.{Visit}
 
 -- the item of a visit

@@ -1,4 +1,5 @@
 pub mod Blame
+pub mod Denied
 pub mod Fronts
 pub mod Own
 pub mod Places

@@ -1,5 +1,5 @@
 -- The tokens of an item of a cat text, and what its names do there.
-use Rattle.std.specs.Prelude.{◌≡◌, ℕ, ◌+◌, ◌<◌, ◌≤◌, min, List, [], ◌∷◌, ◌++◌, Bool, true, false, not, ◌&&◌, ◌||◌, Option, Some, None, length, take, slice_get, slice_range, codes, if◌then◌else◌}
+use Rattle.std.specs.Prelude.{◌≡◌, ℕ, ◌+◌, ◌≤◌, min, List, [], ◌∷◌, Bool, false, not, ◌&&◌, ◌||◌, Option, Some, None, length, take, slice_get, slice_range, codes, if◌then◌else◌}
 use Rattle.std.specs.Str.{bytes_eq}
 use Rattle.wb_text.specs.declared.token.Token.{Token}
 use Rattle.cat_syntax.specs.Reads.{Reads}

@@ -14,7 +14,7 @@ use std::alloc::{AllocError, Global};
 use wb_text::Name;
 
 /// The item of a visit, if there is one.
-fn item_of<'a>(files: &'a [CatFile], visit: &Visit) -> Option<&'a Item>
+pub fn item_of<'a>(files: &'a [CatFile], visit: &Visit) -> Option<&'a Item>
     ensures { option_map (λ i. clause_of i.now) result ≡ spec.item_of files.now visit.now }
 {
     items_of(files, visit.source).get(visit.item)

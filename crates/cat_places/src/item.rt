@@ -1,6 +1,6 @@
 //! The tokens of an item, and those that name something in it.
 
-ghost use Rattle.std.specs.Prelude.{◌≡◌, ◌+◌, ◌↔◌, All, IfOk, IsTrue, length, true, false};
+ghost use Rattle.std.specs.Prelude.{◌≡◌, ◌+◌, ◌↔◌, All, IfOk, IsTrue, length, slice_get, true, false};
 ghost use Rattle.wb_text.specs.Tokens.{IsWithin};
 ghost use Rattle.cat_places.specs.Own as spec;
 
@@ -64,6 +64,16 @@ pub fn tokens_of_item<'a>(
     let from = end_of_items(alloc, text, tokens, item, 0)?;
     let to = end_of_items(alloc, text, tokens, item, 1)?;
     Ok(&tokens[from.min(to)..to])
+}
+
+/// The token of this number.
+pub fn token_at(tokens: &[Token], number: usize) -> Option<Token>
+    ensures { result ≡ slice_get tokens.now number }
+{
+    match tokens.get(number) {
+        Some(token) => Some(*token),
+        None => None,
+    }
 }
 
 /// What comes next in an item.
@@ -183,7 +193,8 @@ pub fn uses(
     name: &[u8],
 ) -> Result<Vec<Token>, AllocError>
     requires { All (IsWithin (length text.now)) tokens.now }
-    ensures { IfOk result (λ v. v.items ≡ spec.uses text.now name.now tokens.now) }
+    ensures all { IfOk result (λ v. v.items ≡ spec.uses text.now name.now tokens.now) }
+    ensures within { IfOk result (λ v. All (IsWithin (length text.now)) v.items) }
 {
     let mut uses = Vec::new(alloc);
     let mut at = At::start();

@@ -2,6 +2,7 @@
 #![tactic(auto)]
 
 mod blame;
+mod denied;
 mod item;
 mod model;
 mod source;

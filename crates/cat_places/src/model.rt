@@ -1,6 +1,6 @@
 //! The place of a fault of a model.
 
-ghost use Rattle.std.specs.Prelude.{◌≡◌, ◌<◌, All, List, IfOk, IfSome, MatchOption, length, slice_get};
+ghost use Rattle.std.specs.Prelude.{◌≡◌, ◌<◌, ◌≤◌, All, List, IfOk, IfSome, MatchOption, length, slice_get, take};
 ghost use Rattle.wb_text.specs.Tokens.{IsWithin};
 ghost use Rattle.cat_syntax.specs.Reads.{Reads};
 ghost use Rattle.cat_tree.specs.Tree.{File};
@@ -8,8 +8,9 @@ ghost use Rattle.cat_places.specs.Own.{uses as all_uses};
 ghost use Rattle.cat_places.specs.Places as spec;
 ghost use Rattle.cat_places.specs.Walks.{visits as all_visits};
 
-use crate::blame::{blamed, is_model, items_put};
-use crate::item::{bound_at, tokens_of_item, uses};
+use crate::blame::{blamed, item_of};
+use crate::denied::{Group, uses_of_group};
+use crate::item::{bound_at, token_at, tokens_of_item, uses};
 use crate::source::Source;
 use crate::text::{file_of, has_memory};
 use crate::walk::{Visit, Walk};
@@ -41,11 +42,12 @@ pub fn place_of(
     let Some(source) = sources.get(visit.source) else {
         return Ok(None);
     };
+    let before = visits_before(&visits, number);
     let blame = Blame {
         files: &files,
-        before: visits.get(..number).unwrap_or(&[]),
+        before,
+        visit: *visit,
         text: &source.text,
-        item: visit.item,
     };
     match blame.token(alloc, fault)? {
         Some(token) => Ok(Some((visit.source, token.from))),
@@ -83,23 +85,31 @@ fn visits_of(alloc: Global, sources: &[Source], files: &[CatFile]) -> Result<Vec
     Ok(visits)
 }
 
-/// The item that is to blame: its text and number, and the visits before it.
+/// The first of the visits.
+fn visits_before(visits: &[Visit], number: usize) -> &[Visit]
+    requires { number ≤ length visits.now }
+    ensures { result.now ≡ take number visits.now }
+{
+    &visits[..number]
+}
+
+/// The item that is to blame, where it is visited: the visits before it, and its text.
 #[derive(Clone, Copy)]
 struct Blame<'a> {
     files: &'a [CatFile],
     before: &'a [Visit],
+    visit: Visit,
     text: &'a [u8],
-    item: usize,
 }
 
 impl Blame<'_> {
     /// The token at which a fault stands in the item.
     fn token(&self, alloc: Global, fault: &ModelFault) -> Result<Option<Token>, AllocError>
-        ensures { IfOk result (λ o. (f : File) → Reads self.now.text.now f → spec.IsToldAt self.now.text.now fault.now self.now.item o) }
+        ensures { IfOk result (λ o. (f : File) → Reads self.now.text.now f → spec.IsToldAt self.now.files.now self.now.before.now self.now.visit self.now.text.now fault.now o) }
     {
         match tokens(alloc, self.text, Dialect::Cat) {
             Ok(tokens) => {
-                let own = tokens_of_item(alloc, self.text, &tokens, self.item)?;
+                let own = tokens_of_item(alloc, self.text, &tokens, self.visit.item)?;
                 return self.token_of(alloc, own, fault);
             }
             Err(found) => {
@@ -117,7 +127,7 @@ impl Blame<'_> {
         fault: &ModelFault,
     ) -> Result<Option<Token>, AllocError>
         requires { All (IsWithin (length self.now.text.now)) own.now }
-        ensures { IfOk result (spec.IsTold self.now.text.now own.now fault.now) }
+        ensures { IfOk result (spec.IsTold self.now.files.now self.now.before.now self.now.visit self.now.text.now own.now fault.now) }
     {
         match fault {
             ModelFault::NoInclude(_) | ModelFault::IncludeCycle(_) => Ok(token_at(own, 1)),
@@ -126,51 +136,27 @@ impl Blame<'_> {
                 Ok(bound_at(self.text, own, name.bytes()))
             }
             ModelFault::Unbound(name) => first_use(alloc, self.text, own, name.bytes()),
-            ModelFault::NotMonotone(name) => {
-                let uses = uses(alloc, self.text, own, name.bytes())?;
-                self.denied(alloc, &uses)
-            }
+            ModelFault::NotMonotone(name) => self.denied(alloc, own, name.bytes()),
             ModelFault::NoCat(_) | ModelFault::NoMemory => Ok(None),
         }
     }
 
-    /// The first use of a name with which a rule is broken even where `0` stands in the place of all others.
-    fn denied(&self, alloc: Global, uses: &[Token]) -> Result<Option<Token>, AllocError>
-        ensures { IfOk result (spec.IsSomeOf uses.now) }
+    /// The first use of a name of the item's group that stands where it may not be.
+    fn denied(&self, alloc: Global, own: &[Token], name: &[u8]) -> Result<Option<Token>, AllocError>
+        requires { All (IsWithin (length self.now.text.now)) own.now }
+        ensures { IfOk result (spec.IsToldName self.now.files.now self.now.before.now self.now.visit self.now.text.now own.now name.now) }
     {
-        for token in uses {
-            if !self.is_model_with(alloc, uses, token)? {
-                return Ok(Some(*token));
-            }
-        }
-        Ok(token_at(uses, 0))
-    }
-
-    /// Whether the items up to this one break no rule where `0` stands in the place of each of these tokens but one.
-    fn is_model_with(
-        &self,
-        alloc: Global,
-        uses: &[Token],
-        kept: &Token,
-    ) -> Result<bool, AllocError> {
-        let text = with_one_use(alloc, self.text, uses, kept)?;
-        let mut items = items_put(alloc, self.files, self.before)?;
-        if let Some(file) = file_of(alloc, &text)? {
-            if let Some(item) = file.items().get(self.item) {
-                items.push(item.copy()?)?;
-            }
-        }
-        is_model(alloc, items)
-    }
-}
-
-/// The token of this number.
-fn token_at(tokens: &[Token], number: usize) -> Option<Token>
-    ensures { result ≡ slice_get tokens.now number }
-{
-    match tokens.get(number) {
-        Some(token) => Some(*token),
-        None => None,
+        let found = uses(alloc, self.text, own, name)?;
+        let item = item_of(self.files, &self.visit);
+        let all = uses_of_group(alloc, self.text, own, item)?;
+        let group = Group {
+            files: self.files,
+            before: self.before,
+            text: self.text,
+            item: self.visit.item,
+            uses: &all,
+        };
+        group.told(alloc, &found)
     }
 }
 
@@ -186,24 +172,4 @@ fn first_use(
 {
     let uses = uses(alloc, text, own, name)?;
     Ok(token_at(&uses, 0))
-}
-
-/// A text in which `0` stands in the place of each of these tokens but one.
-fn with_one_use(
-    alloc: Global,
-    text: &[u8],
-    uses: &[Token],
-    kept: &Token,
-) -> Result<Vec<u8>, AllocError> {
-    let mut changed = Vec::from_slice(alloc, text)?;
-    for token in uses {
-        if token.from != kept.from {
-            for at in token.from..token.to {
-                if let Some(byte) = changed.get_mut(at) {
-                    *byte = if at == token.from { b'0' } else { b' ' };
-                }
-            }
-        }
-    }
-    Ok(changed)
 }

@@ -259,6 +259,104 @@ let rec r = (r ; po) | f(r)
     all_are_told_of(rt.alloc(), &ROWS)
 }
 
+/// Which use of its name a 66 is told at: the first that stands under `~` or right of `\`, with calls replaced.
+#[test]
+fn denied(rt: HostRuntime) -> Result<(), Fail> {
+    const ROWS: [(Texts, &str); 7] = [
+        (
+            &[(
+                "my.cat",
+                "M
+let rec r = po | (r | ~r)
+",
+            )],
+            "my.cat:2:24: NotMonotone (66): r is bound by this let rec, and may not stand under ~ or right of \\ in it
+    let rec r = po | (r | ~r)
+                           ^
+",
+        ),
+        (
+            &[(
+                "my.cat",
+                "M
+let rec r = s | ~s and s = ~r
+",
+            )],
+            "my.cat:2:18: NotMonotone (66): s is bound by this let rec, and may not stand under ~ or right of \\ in it
+    let rec r = s | ~s and s = ~r
+                     ^
+",
+        ),
+        (
+            &[(
+                "my.cat",
+                "M
+let rec r = po \\ (rf | s) and s = s | ~s
+",
+            )],
+            "my.cat:2:24: NotMonotone (66): s is bound by this let rec, and may not stand under ~ or right of \\ in it
+    let rec r = po \\ (rf | s) and s = s | ~s
+                           ^
+",
+        ),
+        (
+            &[(
+                "my.cat",
+                "M
+let f(x, y, z) = ~z | (~y | ~x)
+let rec r = f(s, r, s) and s = r
+",
+            )],
+            "my.cat:3:15: NotMonotone (66): s is bound by this let rec, and may not stand under ~ or right of \\ in it
+    let rec r = f(s, r, s) and s = r
+                  ^
+",
+        ),
+        (
+            &[(
+                "my.cat",
+                "M
+let f(x, y) = x \\ y
+let rec r = f(r, po) | f(po, r)
+",
+            )],
+            "my.cat:3:30: NotMonotone (66): r is bound by this let rec, and may not stand under ~ or right of \\ in it
+    let rec r = f(r, po) | f(po, r)
+                                 ^
+",
+        ),
+        (
+            &[(
+                "my.cat",
+                "M
+let f(x) = po
+let rec r = f(~r) | ~~r
+",
+            )],
+            "my.cat:3:23: NotMonotone (66): r is bound by this let rec, and may not stand under ~ or right of \\ in it
+    let rec r = f(~r) | ~~r
+                          ^
+",
+        ),
+        (
+            &[(
+                "my.cat",
+                "M
+let f(x) = ~x
+let g(y) = f(y) | po
+let rec q = r
+    and r = q | (r | g(po | r))
+",
+            )],
+            "my.cat:5:29: NotMonotone (66): r is bound by this let rec, and may not stand under ~ or right of \\ in it
+        and r = q | (r | g(po | r))
+                                ^
+",
+        ),
+    ];
+    all_are_told_of(rt.alloc(), &ROWS)
+}
+
 /// Includes, flags and limits.
 #[test]
 fn files(rt: HostRuntime) -> Result<(), Fail> {

@@ -1,5 +1,5 @@
-use Rattle.std.proofs.Common.{◌≡◌, ◌+◌, sym, ◌∙◌, length, rules}
-use Rattle.cat_places.proofs.Owning.{counted, has_counted, uncounted}
+use Rattle.std.proofs.Common.{◌≡◌, ◌+◌, length, rules}
+use Rattle.cat_places.proofs.Owning.{counted, uncounted}
 use Rattle.cat_places.proofs.item.has_items.Goals as goal
 
 pub returns-in-Some-clause-no : goal.returns-in-Some-clause-no
