@@ -14,6 +14,7 @@ use crate::value::Value;
 use cat_model::Model;
 use cat_tree::Item;
 use events::{Basis, SourcedStructure};
+use relations::Rel;
 use std::alloc::{AllocError, Global};
 
 /// Where the steps of an item are, as a planned item says it.
@@ -35,6 +36,7 @@ pub struct Prepared {
     pub(crate) values: Vec<Value>,
     pub(crate) kept: Kept,
     pub(crate) sourced: Box<SourcedStructure>,
+    pub(crate) room: Box<Rel>,
 }
 
 // A function of its own: whoever holds one drops it by a call.
@@ -50,6 +52,7 @@ impl Drop for Prepared {
             values: _,
             kept: _,
             sourced: _,
+            room: _,
         } = self;
     }
 }
@@ -116,6 +119,7 @@ impl Prepared {
             values,
             kept,
             sourced,
+            room,
         } = self;
         Ok(Evaluator {
             steps,
@@ -127,6 +131,7 @@ impl Prepared {
             values,
             kept,
             sourced,
+            room,
         })
     }
 }

@@ -75,10 +75,11 @@ pub(crate) fn refutes_by<'m>(
     for number in 0..count {
         let item = &items[number];
         let weighed = weigh(view, steps, bases, ends, *kept, values, &mut made, item);
-        *kept = kept.with(made);
         if !weighed.permits && tells(growths, item) {
+            *kept = kept.with(made);
             return true;
         }
     }
+    *kept = kept.with(made);
     false
 }

@@ -1,5 +1,5 @@
 -- Why there is no reading: a cause that comes out was raised at some place in the tokens.
-use Rattle.std.proofs.Common.{◌≡◌, ◌≤◌, List, ◌∷◌, length, arith, refl, sym, subst, inl, inr}
+use Rattle.std.proofs.Common.{◌≡◌, ◌≤◌, List, ◌∷◌, length, arith, refl, subst, inl, inr}
 use Rattle.std.specs.Prelude.{Some, None, Ok, Err}
 use Rattle.descent.specs.Reading.{Read, Look, match_option, ◌>>=◌, required}
 use Rattle.descent.proofs.Tools.{bind_ok, bind_err, moved}
@@ -12,9 +12,6 @@ pub data Tail {T : Type 0} : List T → List T → Type 0 where
 pub tail_behind : {T : Type 0} {ts us vs : List T} → Tail ts us → Tail us vs → Tail ts vs
 tail_behind tail_here e = e
 tail_behind (tail_later d) e = tail_later (tail_behind d e)
-
-pub tail_first : {T : Type 0} {t : T} {ts rest : List T} → ts ≡ t ∷ rest → Tail ts rest
-tail_first {rest = rest} e = subst (λ l. Tail l rest) (sym e) (tail_later tail_here)
 
 pub tail_length : {T : Type 0} {ts rest : List T} → Tail ts rest → length rest ≤ length ts
 tail_length tail_here = omega arith

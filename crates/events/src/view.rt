@@ -23,7 +23,7 @@ mod sourced;
 mod structure;
 mod table;
 
-use held::Held;
+use held::{Held, Placed};
 use numbered::Numbered;
 pub use sourced::SourcedStructure;
 use structure::EventStructure;
@@ -36,14 +36,14 @@ pub struct GraphView<'a> {
     graph: &'a Graph,
     // What it has in common with the executions that differ in their coherence orders alone.
     held: Held<'a>,
-    co: Rel,
+    co: Placed<'a>,
 }
 
 impl<'a> Model for GraphView<'a> {
     ghost use Rattle.std.specs.Prelude.{◌≡◌};
     ghost use Rattle.relations.specs.Relation.{IsExactly};
     ghost use Rattle.events.specs.Executions.{GraphValue};
-    ghost use Rattle.events.specs.Held.{held_value};
+    ghost use Rattle.events.specs.Held.{held_value, placed_value};
     ghost use Rattle.events.specs.Named.{event_count, NamedRel};
     ghost use Rattle.events.specs.Structures.{sourced_of};
     ghost use Rattle.events.specs.declared.named.RelName.TheVariants as names;
@@ -52,7 +52,7 @@ impl<'a> Model for GraphView<'a> {
 
     ghost view = { λ v. v.graph.now };
 
-    ghost invariant = { λ v. record { held : held_value v.held ≡ sourced_of v.graph.now; co : IsExactly (event_count v.graph.now) (NamedRel v.graph.now names.Co) v.co } };
+    ghost invariant = { λ v. record { held : held_value v.held ≡ sourced_of v.graph.now; co : IsExactly (event_count v.graph.now) (NamedRel v.graph.now names.Co) (placed_value v.co) } };
 }
 
 impl<'a> GraphView<'a> {
@@ -61,23 +61,26 @@ impl<'a> GraphView<'a> {
         ensures { IfOk result (λ v. v ≡ graph.entry.now) }
     {
         let sourced = SourcedStructure::of(alloc, graph)?;
-        let co = sourced.numbered(graph).coherence();
+        let mut co = Box::new(alloc, Rel::empty(0))?;
+        sourced.numbered(graph).coherence_into(&mut co);
         Ok(GraphView {
             graph,
             held: Held::Own(Box::new(alloc, sourced)?),
-            co,
+            co: Placed::Own(co),
         })
     }
 
-    /// The view of an execution over what it has in common with others, which is lent. It takes no memory.
-    pub fn over(sourced: &'a SourcedStructure, graph: &'a Graph) -> Self
+    /// The view of an execution over what it has in common with others, which is lent, as is room for its coherence orders. It takes
+    /// no memory.
+    pub fn over(sourced: &'a SourcedStructure, graph: &'a Graph, room: &'a mut Rel) -> Self
         requires { sourced.now ≡ sourced_of graph.now }
         ensures { result ≡ graph.entry.now }
     {
+        sourced.numbered(graph).coherence_into(room);
         GraphView {
             graph,
             held: Held::Lent(sourced),
-            co: sourced.numbered(graph).coherence(),
+            co: Placed::Lent(room),
         }
     }
 
@@ -205,7 +208,7 @@ impl<'a> GraphView<'a> {
     fn co(&self) -> &Rel
         ensures { IsExactly (event_count self.now) (NamedRel self.now names.Co) result.now }
     {
-        &self.co
+        self.co.get()
     }
 
     // `rf`, turned.

@@ -65,10 +65,6 @@ rows_more P rows i w l h old k m = elim (cases_eq k i) [
   | inr d ↦ (let Q : ℕ → Type 0 = λ x. P k x in subst Q (sym (get_or-set_other rows i k w 0 d)) (old k (omega (arith, m, d))))
 ]
 
-pub rows_beyond : (rows old : List ℕ) (i w : ℕ) → ((k : ℕ) → i ≤ k → get_or rows k 0 ≡ get_or old k 0) →
-    (k : ℕ) → i + 1 ≤ k → get_or (set rows i w) k 0 ≡ get_or old k 0
-rows_beyond rows old i w h k l = get_or-set_other rows i k w 0 (let d : k ≢ i = omega arith in d) ∙ h k (omega (arith, l))
-
 pub rows_built : (n : ℕ) (R : ℕ → ℕ → Type 0) (rows : List ℕ) → ((k : ℕ) → k < n → R k (get_or rows k 0)) → BuildsRows n R (relation n (bit rows))
 rows_built n R rows h = record {
   count = refl;
@@ -201,9 +197,6 @@ through_row n m i w mask v P Q e f h g = record {
       let s : x.0 < n = omega (arith, x.1, e) in (x.0, s, h.only x.0 s (of_and_bit w mask x.0 x.2).0, x.3));
   all = λ j l x. g.all j (omega (arith, l, e)) (x.0, omega (arith, x.1, e), and_bit w mask x.0 (h.all x.0 x.1 x.2) (f x.0 j x.3), x.3);
 }
-
-pub relation_at : (n k m : ℕ) (P : ℕ → ℕ → Type 0) (rows : List ℕ) → k ≡ m → m ≡ n → ((i : ℕ) → i < n → IsRow n (P i) (get_or rows i 0)) → IsExactly n P (relation k (bit rows))
-relation_at n k m P rows d e h = relation_of k n P rows (d ∙ e) h
 
 pub rcount : (n : ℕ) (f : ℕ → ℕ → Bool) (r : Relation) → relation n f ≡ r → n ≡ r.count
 rcount n f r e = ap (λ x. x.count) e

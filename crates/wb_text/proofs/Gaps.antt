@@ -18,9 +18,6 @@ same_first e = ap first e
 same_second : {a b : List ℕ} → a ≡ b → get_or a 1 0 ≡ get_or b 1 0
 same_second e = ap (λ l. get_or l 1 0) e
 
-same_rest : {a b : List ℕ} → a ≡ b → drop 1 a ≡ drop 1 b
-same_rest e = ap (drop 1) e
-
 same_behind : {a b : List ℕ} → a ≡ b → drop 2 a ≡ drop 2 b
 same_behind e = ap (drop 2) e
 
@@ -212,11 +209,6 @@ module _ (d : Dialect) (text : List ℕ) where
   pub block_range : {rest : List ℕ} → d ≡ Litmus → begins_with (codes "/*") text ≡ true → IsBlock (take (length text - 2) (drop 2 text)) rest → IsComment d text rest
   block_range {rest} l e p = block l (begins_true (codes "/*") text e) (subst (λ l. IsBlock l rest) (range_is 2 text) p)
 
-nested_inside : (d : Dialect) (text : List ℕ) {rest inside : List ℕ} → text ≡ codes "(*" ++ inside → IsComment d text rest → IsNested inside rest
-nested_inside d text {rest} e (nesting f p) = subst (λ l. IsNested l rest) (same_behind (sym f ∙ e)) p
-nested_inside d text e (line f p) = absurd (omega (arith, same_first (sym e ∙ f)))
-nested_inside d text e (block _ f p) = absurd (omega (arith, same_first (sym e ∙ f)))
-
 block_inside : (d : Dialect) (text : List ℕ) {rest inside : List ℕ} → text ≡ codes "/*" ++ inside → IsComment d text rest → IsBlock inside rest
 block_inside d text e (nesting f p) = absurd (omega (arith, same_first (sym e ∙ f)))
 block_inside d text e (line f p) = absurd (omega (arith, same_second (sym e ∙ f)))
@@ -226,19 +218,9 @@ either-true : (b : Bool) → (b || true) ≡ true
 either-true true = refl
 either-true false = refl
 
-opens_nesting : (d : Dialect) (text : List ℕ) → begins_with (codes "(*") text ≡ true → opens_comment d text ≡ true
-opens_nesting Litmus text e = rw e refl
-opens_nesting Cat text e = rw e refl
-
 opens_block : (d : Dialect) (text : List ℕ) → d ≡ Litmus → begins_with (codes "/*") text ≡ true → opens_comment d text ≡ true
 opens_block Litmus text l e = rw e (either-true (begins_with (codes "(*") text || begins_with (codes "//") text))
 opens_block Cat text l e = absurd (cc)
-
-pub open_nesting : (d : Dialect) (text : List ℕ) → begins_with (codes "(*") text ≡ true → ((rest : List ℕ) → IsNested (take (length text - 2) (drop 2 text)) rest → ⊥) → IsOpenComment d text
-open_nesting d text e never = record {
-  opens = opens_nesting d text e;
-  unclosed = λ rest h. never rest (subst (λ l. IsNested l rest) (sym (range_is 2 text)) (nested_inside d text (begins_true (codes "(*") text e) h));
-}
 
 pub open_block : (d : Dialect) (text : List ℕ) → d ≡ Litmus → begins_with (codes "/*") text ≡ true → ((rest : List ℕ) → IsBlock (take (length text - 2) (drop 2 text)) rest → ⊥) → IsOpenComment d text
 open_block d text l e never = record {

@@ -1,8 +1,8 @@
 -- Bytes that move in several steps.
-use Rattle.std.proofs.Common.{ℕ, ◌+◌, ◌-◌, ◌≤◌, List, [], ◌++◌, length, take, drop, sym, refl, ap, ◌∙◌, append_assoc, take-append-drop, arith, length-append}
+use Rattle.std.proofs.Common.{ℕ, ◌+◌, ◌-◌, ◌≤◌, List, [], ◌++◌, length, take, drop, sym, ap, ◌∙◌, append_assoc, take-append-drop, arith, length-append}
 use Rattle.std.specs.Prelude.{Option, Some, None, Result, Ok, Err, OnErr}
 use Rattle.std.specs.Io.KnownBytes.{Appends, Consumes, Keeps}
-use Rattle.std.proofs.KnownBytes.{Appends-nil, Appends-trans, Consumes-trans, Keeps-refl, Keeps-trans}
+use Rattle.std.proofs.KnownBytes.{Appends-trans, Consumes-trans, Keeps-refl, Keeps-trans}
 use Rattle.std.proofs.lemmas.List.{take_rest}
 use Rattle.wb_text.specs.Memory.{AppendsUpTo, LosesAtMost}
 
@@ -11,10 +11,6 @@ Appends-kept None b c xs h g = tt
 Appends-kept (Some s) None c xs h g = absurd h
 Appends-kept (Some s) (Some t) None xs h g = absurd g
 Appends-kept (Some s) (Some t) (Some u) xs h g = g ∙ h
-
--- at first nothing is given
-pub gives_none : (a : Option (List ℕ)) (bs : List ℕ) → AppendsUpTo a a bs bs
-gives_none a bs = record { given = []; split = refl; grown = Appends-nil a }
 
 -- n bytes more
 pub gives_more : (a b c : Option (List ℕ)) (bs rest : List ℕ) (n : ℕ) → AppendsUpTo a b bs rest → Appends b c (take n rest) → AppendsUpTo a c bs (drop n rest)

@@ -1,5 +1,5 @@
 -- Nested comments by counting what is open.
-use Rattle.std.proofs.Common.{◌≡◌, ℕ, zero, suc, ◌+◌, ◌-◌, ◌<◌, true, false, List, ◌++◌, length, take, drop, refl, subst, arith, add-one, sub-one}
+use Rattle.std.proofs.Common.{◌≡◌, ℕ, zero, suc, ◌+◌, ◌-◌, ◌<◌, true, false, List, ◌++◌, length, take, drop, subst, arith, add-one, sub-one}
 use Rattle.std.specs.Prelude.{codes}
 use Rattle.std.proofs.lemmas.List.{take_rest}
 use Rattle.wb_text.specs.Signs.{begins_with}
@@ -16,12 +16,6 @@ Closes (suc n) text end = (behind : List ℕ) × IsNested text behind × Closes 
 pub record Agrees (n : ℕ) (rest inside : List ℕ) : Type 0 where
   pub forward : (end : List ℕ) → Closes n rest end → IsNested inside end
   pub backward : (end : List ℕ) → IsNested inside end → Closes n rest end
-
-pub agrees_first : (inside : List ℕ) → Agrees 1 inside inside
-agrees_first inside = record {
-  forward = λ end h. subst (IsNested inside) h.2 h.1;
-  backward = λ end h. (end, h, refl);
-}
 
 pub agrees_opened : (n : ℕ) (rest inside after : List ℕ) → 0 < n → Agrees n rest inside → rest ≡ codes "(*" ++ after → Agrees (n + 1) after inside
 agrees_opened zero rest inside after p a e = absurd (omega arith)
@@ -50,9 +44,6 @@ agrees_other (suc n) rest inside p a l m k = record {
       let g = a.backward end h in
       (g.0, nested_other g.1 m k, g.2);
 }
-
-pub agrees_last : (rest inside : List ℕ) → Agrees 0 rest inside → IsNested inside rest
-agrees_last rest inside a = a.forward rest refl
 
 pub agrees_never : (n : ℕ) (rest inside : List ℕ) → 0 < n → Agrees n rest inside → length rest ≡ 0 → (end : List ℕ) → IsNested inside end → ⊥
 agrees_never zero rest inside p a e end h = omega arith

@@ -14,9 +14,6 @@ pub record LongestOf (table : List (List ℕ)) (i : ℕ) (text : List ℕ) (n : 
   pub sign : 0 < n → Contains table (take n text)
   pub longest : (k : ℕ) → k < i → begins_with (get_or table k []) text ≡ true → length (get_or table k []) ≤ n
 
-pub longest_none : (table : List (List ℕ)) (text : List ℕ) → LongestOf table 0 text 0
-longest_none table text = record { within = omega arith; sign = λ h. absurd (omega arith); longest = λ k h. absurd (omega arith) }
-
 -- a sign with which the text does not begin
 pub longest_skips : (table : List (List ℕ)) (i : ℕ) (text : List ℕ) (n : ℕ) → LongestOf table i text n → begins_with (get_or table i []) text ≡ false → LongestOf table (i + 1) text n
 longest_skips table i text n h e = record {

@@ -14,9 +14,6 @@ IsTail text rest = (k : ℕ) × (rest ≡ drop k text)
 pub tail_trans : (a b c : List ℕ) → IsTail a b → IsTail b c → IsTail a c
 tail_trans a b c p q = (p.0 + q.0, q.1 ∙ ap (drop q.0) p.1 ∙ drop-drop q.0 p.0 a)
 
-tail_sign : (n : ℕ) (text rest : List ℕ) → drop n text ≡ rest → IsTail text rest
-tail_sign n text rest e = (n, sym e)
-
 pub nested_tail : {text rest : List ℕ} → IsNested text rest → IsTail text rest
 nested_tail {text} {rest} (closed e) = (2, sym (ap (drop 2) e))
 nested_tail {text} {rest} (nested {inside = i} {behind = b} e p q) = tail_trans text b rest (tail_trans text i b (2, sym (ap (drop 2) e)) (nested_tail p)) (nested_tail q)

@@ -1,9 +1,10 @@
 //! What a view holds of other executions than its own.
 
 ghost use Rattle.std.specs.Prelude.{◌≡◌};
-ghost use Rattle.events.specs.Held.{held_value};
+ghost use Rattle.events.specs.Held.{held_value, placed_value};
 
 use super::sourced::SourcedStructure;
+use relations::Rel;
 
 /// What an execution has in common with those that differ in their coherence orders alone. What is owned lies in a box, so that
 /// a view stays small.
@@ -21,6 +22,25 @@ impl<'a> Held<'a> {
         match self {
             Held::Own(sourced) => sourced,
             Held::Lent(sourced) => sourced,
+        }
+    }
+}
+
+/// The coherence orders of an execution as a relation, in a place of its own or in one that is lent.
+#[derive(Drop)]
+pub(super) enum Placed<'a> {
+    Own(Box<Rel>),
+    Lent(&'a Rel),
+}
+
+impl<'a> Placed<'a> {
+    /// The relation.
+    pub(super) fn get(&self) -> &Rel
+        ensures { result.now ≡ placed_value self.now }
+    {
+        match self {
+            Placed::Own(rel) => rel,
+            Placed::Lent(rel) => rel,
         }
     }
 }

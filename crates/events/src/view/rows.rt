@@ -24,16 +24,15 @@ impl Numbered<'_> {
         rel
     }
 
-    /// `co`.
+    /// Writes `co` over what `rel` had.
     #[tactic(auto, using(crate::proofs::Adding::orders_begun, crate::proofs::Adding::orders_on, crate::proofs::Adding::orders_done, crate::proofs::Standing::stands_item))]
-    pub(super) fn coherence(&self) -> Rel
-        ensures { IsExactly (event_count self.now) (NamedRel self.now Co) result }
+    pub(super) fn coherence_into(&self, rel: &mut Rel)
+        ensures { IsExactly (event_count self.now) (NamedRel self.now Co) rel.new }
     {
-        let mut rel = Rel::empty(self.count());
+        rel.become_empty(self.count());
         for order in self.graph.co() {
-            self.relate_order(&mut rel, order.writes());
+            self.relate_order(rel, order.writes());
         }
-        rel
     }
 
     // Adds the pair of the read with this number among the reads and the write that it reads from.

@@ -1,4 +1,4 @@
-//! Relations and sets: the events that one is related to, and the ends of all pairs.
+//! Relations and sets: an event with each of a set, and the ends of all pairs.
 
 ghost use Rattle.std.specs.Prelude.{◌≡◌, ◌<◌, ◌⊎◌};
 ghost use Rattle.relations.specs.Events.{Has, IsExactlySet};
@@ -11,21 +11,13 @@ use crate::set::Set;
 use crate::word::below;
 
 impl Rel {
-    /// The events to which event `i` is related.
-    pub fn after(&self, i: usize) -> Set
-        requires { i < self.now.count }
-        ensures { IsExactlySet self.now.count (In self.now i) result }
-    {
-        Set::of(self.count(), self.row(i))
-    }
-
     /// Relates event `i` to each event of the set, too.
     pub fn insert_all(&mut self, i: usize, to: &Set)
         requires from { i < self.old.count }
         requires to { to.now.count ≡ self.old.count }
         ensures { IsExactly self.old.count (λ a b. In self.old a b ⊎ ((a ≡ i) × Has to.now b)) self.new }
     {
-        let _ = &self.count;
+        prove!(self.count <= 64);
         self.rows[i] |= to.word();
     }
 

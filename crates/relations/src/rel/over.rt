@@ -18,11 +18,11 @@ impl Rel {
     {
         self.fill(
             count,
-            |i|
+            |_i|
+                requires { count ≤ 64 }
                 ensures { IsRow count (λ j. ⊥) result }
             {
-                let _ = i;
-                let _ = &count;
+                prove!(count <= 64);
                 0
             },
         );
@@ -40,7 +40,7 @@ impl Rel {
                 requires count { count ≤ 64 }
                 ensures { IsRow count (λ j. i ≡ j) result }
             {
-                let _ = &count;
+                prove!(count <= 64);
                 1u64 << i
             },
         );

@@ -53,7 +53,7 @@ loop-item-preserved c =
     record {
       long = c.weigh-weighed.ensures.length ∙ c.loop-item.invariant.long;
       made = c.weigh-weighed.ensures.made;
-      holds = holds_more c.args.view.now c.args.steps.now c.args.bases.now c.loop-item.kept c.with.result c.weigh-weighed.new.values c.weigh-weighed.new.made c.with.ensures.order c.with.ensures.runs c.with.ensures.sources c.weigh-weighed.ensures.made c.weigh-weighed.ensures.holds;
+      holds = c.weigh-weighed.ensures.holds;
       reached = reached_more c.args.view.now c.args.steps.now c.args.items.now c.loop-item.values c.weigh-weighed.new.values c.loop-item.item-index true true c.loop-item.flags.items c.add_raised.new.names.items
           c.item-item.result c.loop-item.invariant.reached next c.weigh-weighed.ensures.same c.weigh-weighed.ensures.ran (c.weigh-weighed.ensures.binds c.loop-item.invariant.reached.names next.item_core next.is_core next.below next.ready)
           (kept true c.weigh-weighed.result.permits true (Permits n E next.item_core) c.if-not-weighed.false refl permits)
@@ -79,8 +79,7 @@ returns-then-not-weighed-clause-holds c =
     holds_more c.args.view.now c.args.steps.now c.args.bases.now c.loop-item.kept c.with.result c.weigh-weighed.new.values c.weigh-weighed.new.made c.with.ensures.order c.with.ensures.runs c.with.ensures.sources c.weigh-weighed.ensures.made c.weigh-weighed.ensures.holds
 
 pub returns-in_err-add_raised-clause-holds : goal.returns-in_err-add_raised-clause-holds
-returns-in_err-add_raised-clause-holds c =
-    holds_more c.args.view.now c.args.steps.now c.args.bases.now c.loop-item.kept c.with.result c.weigh-weighed.new.values c.weigh-weighed.new.made c.with.ensures.order c.with.ensures.runs c.with.ensures.sources c.weigh-weighed.ensures.made c.weigh-weighed.ensures.holds
+returns-in_err-add_raised-clause-holds c = c.weigh-weighed.ensures.holds
 
 pub weigh-weighed-requires-clause-graded : goal.weigh-weighed-requires-clause-graded
 weigh-weighed-requires-clause-graded c = c.requires.graded
@@ -100,7 +99,8 @@ pub weigh-weighed-requires-clause-holds : goal.weigh-weighed-requires-clause-hol
 weigh-weighed-requires-clause-holds c = c.loop-item.invariant.holds
 
 pub returns-clause-holds : goal.returns-clause-holds
-returns-clause-holds c = c.loop-item.invariant.holds
+returns-clause-holds c =
+    holds_more c.args.view.now c.args.steps.now c.args.bases.now c.loop-item.kept c.with-2.result c.loop-item.values c.loop-item.made c.with-2.ensures.order c.with-2.ensures.runs c.with-2.ensures.sources c.loop-item.invariant.made c.loop-item.invariant.holds
 
 pub returns-clause-allowed : goal.returns-clause-allowed
 returns-clause-allowed c = (reached_done c.args.view.now c.args.steps.now c.args.items.now c.loop-item.values c.loop-item.item-index true c.loop-item.flags.items c.loop-item-test.false c.loop-item.invariant.reached).0

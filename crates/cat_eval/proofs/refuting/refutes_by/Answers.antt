@@ -40,7 +40,7 @@ loop-number-preserved c =
     record {
       long = c.weigh-weighed.ensures.length ∙ c.loop-number.invariant.long;
       made = c.weigh-weighed.ensures.made;
-      holds = holds_more c.args.view.now c.args.steps.now c.args.bases.now c.loop-number.kept c.with.result c.weigh-weighed.new.values c.weigh-weighed.new.made c.with.ensures.order c.with.ensures.runs c.with.ensures.sources c.weigh-weighed.ensures.made c.weigh-weighed.ensures.holds;
+      holds = c.weigh-weighed.ensures.holds;
       standing = standing_more c.args.view.now c.args.steps.now c.args.items.now c.args.growths.now c.loop-number.values c.weigh-weighed.new.values c.loop-number.number c.index-items-number.result r next c.requires.grown (omega (arith, l, n)) c.index-items-number.is
           c.weigh-weighed.ensures.same c.weigh-weighed.ensures.ran (c.weigh-weighed.ensures.binds r.names next.item_core next.is_core next.below next.ready);
     }
@@ -57,3 +57,7 @@ returns-then-tells-clause-refuted c =
     let next = standing_next c.args.view.now c.args.steps.now c.args.items.now c.args.growths.now c.loop-number.values c.loop-number.number c.index-items-number.result r (omega (arith, l, n)) c.index-items-number.is in
     λ _. refuted_at c.args.view.now c.args.steps.now c.args.items.now c.args.growths.now c.loop-number.values c.loop-number.number c.index-items-number.result c.weigh-weighed.result.permits r next c.requires.grown
     c.if-not-weighed.true (c.weigh-weighed.ensures.permits r.names next.item_core next.is_core next.below next.ready) (c.tells.ensures c.if-tells.true)
+
+pub returns-clause-holds : goal.returns-clause-holds
+returns-clause-holds c =
+    holds_more c.args.view.now c.args.steps.now c.args.bases.now c.loop-number.kept c.with-2.result c.loop-number.values c.loop-number.made c.with-2.ensures.order c.with-2.ensures.runs c.with-2.ensures.sources c.loop-number.invariant.made c.loop-number.invariant.holds

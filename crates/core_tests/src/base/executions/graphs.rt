@@ -252,7 +252,8 @@ pub fn follows(
         (Some(first), Some(graph)) => {
             let mut sourced = SourcedStructure::of(alloc, &first)?;
             let basis = sourced.follow(alloc, &graph)?;
-            Ok(basis == told && is_seen(&GraphView::over(&sourced, &graph), seen))
+            let mut room = Rel::empty(0);
+            Ok(basis == told && is_seen(&GraphView::over(&sourced, &graph, &mut room), seen))
         }
         _ => Ok(false),
     }

@@ -2,7 +2,7 @@ use Rattle.std.proofs.Common.{◌∙◌, ap, length, arith}
 use Rattle.events.specs.Named.{event_count}
 use Rattle.events.proofs.Standing.{stands_item}
 use Rattle.events.proofs.Adding.{orders_on, orders_done}
-use Rattle.events.proofs.view.numbered.Numbered.coherence.Goals as goal
+use Rattle.events.proofs.view.numbered.Numbered.coherence_into.Goals as goal
 
 pub loop-order-preserved : goal.loop-order-preserved
 loop-order-preserved c =
