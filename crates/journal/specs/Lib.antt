@@ -3,4 +3,3 @@ pub mod LineCodes
 pub mod Lines
 pub mod ListCodes
 pub mod Listed
-pub mod SameLists

@@ -37,6 +37,7 @@ impl Model for Text {
 }
 
 /// What a session asks of the book.
+#[derive(PartialEq, Eq)]
 pub enum Command {
     PutCat(Name, Text),
     PutTest(Text),
@@ -75,6 +76,7 @@ impl Drop for Command {
 }
 
 /// A result as the journal shows it.
+#[derive(PartialEq, Eq)]
 pub struct Returned {
     pub claim: u32,
     pub slice: u16,
@@ -97,6 +99,7 @@ impl Drop for Returned {
 }
 
 /// A command as the journal shows it.
+#[derive(PartialEq, Eq)]
 pub enum Said {
     PutCat(Name, Text),
     PutTest(Text),
@@ -142,7 +145,7 @@ pub enum SourceKind {
 }
 
 /// A name whose version is no longer a job's, with its version now.
-#[derive(Drop)]
+#[derive(Drop, PartialEq, Eq)]
 pub struct Replacement {
     pub kind: SourceKind,
     pub name: Name,
@@ -150,6 +153,7 @@ pub struct Replacement {
 }
 
 /// A refusal that the journal records. The numbers are those of the printed refusals.
+#[derive(PartialEq, Eq)]
 pub enum Refusal {
     /// 71
     Closed,
@@ -201,6 +205,7 @@ impl Drop for Refusal {
 }
 
 /// What the book replies.
+#[derive(PartialEq, Eq)]
 pub enum Reply {
     Version(Name, u32),
     Job(u32),
