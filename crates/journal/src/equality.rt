@@ -53,9 +53,7 @@ impl Listing {
     fn has_parts_of(&self, other: &Listing) -> bool
         ensures { IsTrue result ↔ (self.now ≡ other.now) }
     {
-        self.tests() == other.tests()
-            && self.cats() == other.cats()
-            && self.jobs() == other.jobs()
+        self.tests() == other.tests() && self.cats() == other.cats() && self.jobs() == other.jobs()
     }
 }
 
