@@ -6,8 +6,8 @@ ghost use Rattle.journal.specs.LineCodes.{coded_line};
 ghost use Rattle.journal.specs.ListCodes.{coded_catalogue};
 ghost use Rattle.slices.specs.Same.{same, same_equivalence, same_partial_equivalence};
 
-use crate::listing::Listing;
-use crate::records::{Entry, Text};
+use crate::listing::{JobRow, Listing, Loaded};
+use crate::records::{Entry, Reply, Said, Text};
 
 impl PartialEq for Text {
     ghost use Rattle.std.proofs.Common.{rules};
@@ -80,7 +80,32 @@ impl Entry {
     {
         self.place() == other.place()
             && self.seat() == other.seat()
-            && self.said() == other.said()
-            && self.reply() == other.reply()
+            && is_same_command(self.said(), other.said())
+            && is_same_reply(self.reply(), other.reply())
     }
+}
+
+// What `==` tells of each part, in functions of their own: the prover puts no more than one together.
+fn are_same_names(one: &[Loaded], other: &[Loaded]) -> bool
+    ensures { IsTrue result ↔ (one.now ≡ other.now) }
+{
+    one == other
+}
+
+fn are_same_jobs(one: &[JobRow], other: &[JobRow]) -> bool
+    ensures { IsTrue result ↔ (one.now ≡ other.now) }
+{
+    one == other
+}
+
+fn is_same_command(one: &Said, other: &Said) -> bool
+    ensures { IsTrue result ↔ (one.now ≡ other.now) }
+{
+    one == other
+}
+
+fn is_same_reply(one: &Reply, other: &Reply) -> bool
+    ensures { IsTrue result ↔ (one.now ≡ other.now) }
+{
+    one == other
 }
