@@ -53,7 +53,9 @@ impl Listing {
     fn has_parts_of(&self, other: &Listing) -> bool
         ensures { IsTrue result ↔ (self.now ≡ other.now) }
     {
-        self.tests() == other.tests() && self.cats() == other.cats() && self.jobs() == other.jobs()
+        are_same_names(self.tests(), other.tests())
+            && are_same_names(self.cats(), other.cats())
+            && are_same_jobs(self.jobs(), other.jobs())
     }
 }
 
@@ -98,12 +100,14 @@ fn are_same_jobs(one: &[JobRow], other: &[JobRow]) -> bool
     one == other
 }
 
+#[tactic(auto, using(crate::proofs::Exact::said_exact))]
 fn is_same_command(one: &Said, other: &Said) -> bool
     ensures { IsTrue result ↔ (one.now ≡ other.now) }
 {
     one == other
 }
 
+#[tactic(auto, using(crate::proofs::Exact::reply_exact))]
 fn is_same_reply(one: &Reply, other: &Reply) -> bool
     ensures { IsTrue result ↔ (one.now ≡ other.now) }
 {
