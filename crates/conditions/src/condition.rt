@@ -1,10 +1,9 @@
 //! The condition of a test.
 
-ghost use Rattle.std.specs.Prelude.{◌≡◌, IfOk};
+ghost use Rattle.std.specs.Prelude.{◌≡◌};
 ghost use Rattle.conditions.specs.Conditions.{formula_of};
 
 use crate::prop::Prop;
-use std::alloc::AllocError;
 use std::marker::Model;
 
 /// What is asked of the final states of the allowed executions.
@@ -80,12 +79,5 @@ impl Cond {
         ensures { formula_of result.now ≡ self.now.formula }
     {
         &self.prop
-    }
-
-    /// A second condition that is equal.
-    pub fn copy(&self) -> Result<Cond, AllocError>
-        ensures { IfOk result (λ c. c ≡ self.now) }
-    {
-        Ok(Cond::new(self.kind, self.prop.copy()?))
     }
 }

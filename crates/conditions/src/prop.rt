@@ -3,7 +3,6 @@
 ghost use Rattle.std.specs.Prelude.{◌≡◌, IfOk};
 ghost use Rattle.conditions.specs.Conditions.{negation, connected, grown, atomic, growth_of, formula_of};
 
-mod copying;
 mod equality;
 
 use crate::place::Place;

@@ -380,5 +380,5 @@ pub fn make_test(alloc: Global, draft: Draft) -> Result<Test, TestFault>
     )?;
     check_values(alloc, initial.as_slice(), threads.as_slice())?;
     check_events(locations.as_slice(), threads.as_slice())?;
-    Ok(Test::new(name, initial, threads, condition, listed, locations))
+    Ok(Test::new(alloc, name, initial, threads, condition, listed, locations)?)
 }

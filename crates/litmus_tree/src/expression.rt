@@ -3,7 +3,6 @@
 ghost use Rattle.std.specs.Prelude.{◌≡◌, IfOk};
 ghost use Rattle.litmus_tree.specs.Tree.{denied, joined, grown, leaf_of, growth_of, term_of};
 
-mod copying;
 mod equality;
 
 use std::alloc::{AllocError, Global};

@@ -1,4 +1,4 @@
-//! The trees of C litmus tests: threads with their statements, their copies and their equality.
+//! The trees of C litmus tests: threads with their statements, and their equality.
 #![tactic(auto)]
 
 mod expression;

@@ -1,19 +1,20 @@
 //! Tests.
 
-ghost use Rattle.std.specs.Prelude.{◌≡◌};
+ghost use Rattle.std.specs.Prelude.{◌≡◌, IfOk};
 ghost use Rattle.litmus_value.specs.Limits.{IsTest};
 
-mod copying;
 mod equality;
 
 use conditions::{Binding, Cond, Place};
 use litmus_tree::Thread;
+use std::alloc::{AllocError, Global};
 use std::marker::Model;
+use std::sync::Arc;
 use wb_text::Name;
 
-/// A litmus test. Contracts see its tree, which is within the limits and names nothing that isn't there.
+/// What a test is made of.
 #[derive(Drop)]
-pub struct Test {
+struct Parts {
     name: Name,
     initial: Vec<Binding>,
     threads: Vec<Thread>,
@@ -22,7 +23,20 @@ pub struct Test {
     locations: Vec<Name>,
 }
 
+/// A litmus test, which its copies share. Contracts see its tree, which is within the limits and names nothing that isn't there.
+pub struct Test {
+    parts: Arc<Parts>,
+}
+
+// A function of its own: whoever holds one drops it by a call.
+impl Drop for Test {
+    fn drop(self) {
+        let Test { parts: _ } = self;
+    }
+}
+
 impl Model for Test {
+    ghost use Rattle.std.specs.Arc.{arc_value};
     ghost use Rattle.litmus_tree.specs.Tree.{Litmus};
     ghost use Rattle.litmus_tree.specs.Codes.{coded_litmus};
 
@@ -32,46 +46,59 @@ impl Model for Test {
 
     ghost use Rattle.litmus_value.specs.Limits.{IsTest};
 
-    ghost view = { λ t. record { name = t.name; initial = t.initial.items; threads = t.threads.items; condition = t.condition; listed = t.listed.items; locations = t.locations.items } };
+    ghost view = { λ t. let p = arc_value t.parts in record { name = p.name; initial = p.initial.items; threads = p.threads.items; condition = p.condition; listed = p.listed.items; locations = p.locations.items } };
 
-    ghost invariant = { λ t. IsTest (record { name = t.name; initial = t.initial.items; threads = t.threads.items; condition = t.condition; listed = t.listed.items; locations = t.locations.items }) };
+    ghost invariant = { λ t. let p = arc_value t.parts in IsTest (record { name = p.name; initial = p.initial.items; threads = p.threads.items; condition = p.condition; listed = p.listed.items; locations = p.locations.items }) };
 }
 
 impl Test {
     /// A test of these parts.
     pub fn new(
+        alloc: Global,
         name: Name,
         initial: Vec<Binding>,
         threads: Vec<Thread>,
         condition: Cond,
         listed: Vec<Place>,
         locations: Vec<Name>,
-    ) -> Self
+    ) -> Result<Self, AllocError>
         requires { IsTest (record { name = name; initial = initial.items; threads = threads.items; condition = condition; listed = listed.items; locations = locations.items }) }
-        ensures { result ≡ record { name = name; initial = initial.items; threads = threads.items; condition = condition; listed = listed.items; locations = locations.items } }
+        ensures { IfOk result (λ t. t ≡ record { name = name; initial = initial.items; threads = threads.items; condition = condition; listed = listed.items; locations = locations.items }) }
     {
-        Test {
+        let parts = Parts {
             name,
             initial,
             threads,
             condition,
             listed,
             locations,
-        }
+        };
+        Ok(Test {
+            parts: Arc::new(alloc, parts)?,
+        })
+    }
+
+    /// The same test, kept once more.
+    pub fn copy(&self) -> Result<Test, AllocError>
+        ensures { IfOk result (λ t. t ≡ self.now) }
+    {
+        Ok(Test {
+            parts: Arc::try_clone(&self.parts)?,
+        })
     }
 
     /// The name that the head gives.
     pub fn name(&self) -> &Name
         ensures { result.now ≡ self.now.name }
     {
-        &self.name
+        &self.parts.name
     }
 
     /// The places that the initial state gives a value, once each. Every other place begins with 0.
     pub fn initial(&self) -> &[Binding]
         ensures { result.now ≡ self.now.initial }
     {
-        &self.initial
+        &self.parts.initial
     }
 
     /// The threads, in order.
@@ -79,27 +106,27 @@ impl Test {
         ensures value { result.now ≡ self.now.threads }
         ensures test { IsTest self.now }
     {
-        &self.threads
+        &self.parts.threads
     }
 
     /// The condition.
     pub fn condition(&self) -> &Cond
         ensures { result.now ≡ self.now.condition }
     {
-        &self.condition
+        &self.parts.condition
     }
 
     /// The places that `locations` lists, in order.
     pub fn listed(&self) -> &[Place]
         ensures { result.now ≡ self.now.listed }
     {
-        &self.listed
+        &self.parts.listed
     }
 
     /// The locations, in the order of their first appearance in the text.
     pub fn locations(&self) -> &[Name]
         ensures { result.now ≡ self.now.locations }
     {
-        &self.locations
+        &self.parts.locations
     }
 }

@@ -25,12 +25,12 @@ impl Test {
     fn has_parts_of(&self, other: &Test) -> bool
         ensures { result ≡ same_litmus self.now other.now }
     {
-        self.name == other.name
-            && self.initial == other.initial
-            && self.threads == other.threads
-            && self.condition == other.condition
-            && self.listed == other.listed
-            && self.locations == other.locations
+        self.name() == other.name()
+            && self.initial() == other.initial()
+            && self.threads() == other.threads()
+            && self.condition() == other.condition()
+            && self.listed() == other.listed()
+            && self.locations() == other.locations()
     }
 }
 
