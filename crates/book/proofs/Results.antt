@@ -144,9 +144,6 @@ slice_same xs i k x y e a b = let both : Some x ≡ Some y = sym a ∙ ap (slice
 ends_within : (n : ℕ) (xs : List Slice) (i : ℕ) (x : Slice) → IsCover n xs → slice_get xs i ≡ Some x → x.to ≤ n
 ends_within n xs i x cover e = leb-true x.to n (and_right (nat_le x.from x.to) _ (all_get (λ z. nat_le z.from z.to && nat_le z.to n) xs i x cover.within e))
 
-returned_below : (n : ℕ) (xs : List Slice) → IsCover n xs → (j : ℕ) → IsReturned xs j → j < n
-returned_below n xs cover j r = let le = ends_within n xs r.0 r.1 cover r.2 in omega (arith, le, r.4.1)
-
 not_both : (b : Bool) → b ≡ false → b ≡ true → ⊥
 not_both b p q = cc
 

@@ -1,32 +1,18 @@
 -- Searches of jobs, claims and files.
-use Rattle.std.proofs.Common.{◌≡◌, ℕ, zero, suc, not, ◌||◌, ◌+◌, ◌<◌, ◌==◌, List, [], ◌∷◌, ◌++◌, Bool, true, false, cond, Option, None, Some, Result, Ok, Err, length, get_or, take, drop, set, refl, sym, ap, ◌∙◌, arith, add-one, inl, inr, subst}
+use Rattle.std.proofs.Common.{◌≡◌, ℕ, zero, suc, ◌||◌, ◌+◌, ◌<◌, ◌==◌, List, [], ◌∷◌, ◌++◌, Bool, true, false, Option, None, Some, Result, Ok, Err, length, get_or, take, drop, set, refl, sym, ap, ◌∙◌, arith, add-one, inl, inr, subst}
 use denote.Ref.{Bor}
-use Rattle.std.specs.Prelude.{if◌then◌else◌, is_some, option_copied, MatchOption, OnOk, OnErr}
+use Rattle.std.specs.Prelude.{if◌then◌else◌, option_copied, MatchOption, OnOk, OnErr}
 use Rattle.std.specs.List.{list_any}
 use Rattle.std.proofs.Math.Seq.{drop-cons}
 use Rattle.listings.specs.Lists.{IsIn}
-use Rattle.cat_model.specs.Files.{version_of}
-use Rattle.cat_model.specs.declared.files.Entry.{Entry}
-use Rattle.cat_model.specs.declared.model.FileVersion.{FileVersion}
-use Rattle.journal.specs.declared.records.Replacement.{Replacement}
-use Rattle.journal.specs.declared.records.SourceKind.TheVariants.{Cat}
 use Rattle.book.specs.Jobs.{Job, marked}
-use Rattle.book.specs.Workbench.{job_of, marked_in, replaced_file}
+use Rattle.book.specs.Workbench.{marked_in}
 
 pub here : {X : Type 0} (xs : List X) (i : ℕ) (x : X) → i < length xs → x ≡ get_or xs i x → drop i xs ≡ x ∷ drop (i + 1) xs
 here xs i x h e = drop-cons xs i x h ∙ rw (← e, add-one) refl
 
 if_true : {A : Type 0} (b : Bool) (x y : A) → b ≡ true → (if b then x else y) ≡ x
 if_true b x y e = ap (λ v. if v then x else y) e
-
-if_false : {A : Type 0} (b : Bool) (x y : A) → b ≡ false → (if b then x else y) ≡ y
-if_false b x y e = ap (λ v. if v then x else y) e
-
-cond_true : {A : Type 0} (b : Bool) (x y : A) → b ≡ true → cond b x y ≡ x
-cond_true b x y e = ap (λ v. cond v x y) e
-
-cond_false : {A : Type 0} (b : Bool) (x y : A) → b ≡ false → cond b x y ≡ y
-cond_false b x y e = ap (λ v. cond v x y) e
 
 -- whether one is there
 
@@ -46,17 +32,8 @@ any_is p (y ∷ ys) x q is = any_first p y ys x q is (λ r. any_is p ys x r is)
 
 -- the job of a number, from the front
 
-pub job_of-found : (xs : List Job) (i : ℕ) (x : Job) (number : ℕ) → i < length xs → x ≡ get_or xs i x → (x.number == number) ≡ true → job_of (drop i xs) number ≡ Some x
-job_of-found xs i x number h e b = ap (λ v. job_of v number) (here xs i x h e) ∙ cond_true _ _ _ b
-
-pub job_of-next : (xs : List Job) (i : ℕ) (x : Job) (number : ℕ) → i < length xs → x ≡ get_or xs i x → (x.number == number) ≡ false → job_of (drop i xs) number ≡ job_of (drop (i + 1) xs) number
-job_of-next xs i x number h e b = ap (λ v. job_of v number) (here xs i x h e) ∙ cond_false _ _ _ b
-
 pub marked_in-found : (xs : List Job) (i : ℕ) (x : Job) (number slice : ℕ) → i < length xs → x ≡ get_or xs i x → (x.number == number) ≡ true → marked_in (drop i xs) number slice ≡ marked slice x ∷ drop (i + 1) xs
 marked_in-found xs i x number slice h e b = ap (λ v. marked_in v number slice) (here xs i x h e) ∙ if_true _ _ _ b
-
-pub marked_in-next : (xs : List Job) (i : ℕ) (x : Job) (number slice : ℕ) → i < length xs → x ≡ get_or xs i x → (x.number == number) ≡ false → marked_in (drop i xs) number slice ≡ x ∷ marked_in (drop (i + 1) xs) number slice
-marked_in-next xs i x number slice h e b = ap (λ v. marked_in v number slice) (here xs i x h e) ∙ if_false _ _ _ b
 
 set_here : (xs : List Job) (i : ℕ) (y : Job) → i < length xs → set xs i y ≡ take i xs ++ y ∷ drop (i + 1) xs
 set_here [] i y h = absurd (omega (arith, h))
@@ -76,20 +53,6 @@ set_same (y ∷ ys) zero x h e = ap (λ z. z ∷ ys) e
 set_same (y ∷ ys) (suc i) x h e = ap (λ zs. y ∷ zs) (set_same ys i x (omega (arith, h)) e)
 
 -- replaced files, from the front
-
-pub replaced_file-found : (cats : List Entry) (fs : List FileVersion) (i : ℕ) (f : FileVersion) → i < length fs → f ≡ get_or fs i f → (version_of f.name cats == f.version) ≡ false → replaced_file cats (drop i fs) ≡ Some (record { kind = Cat; name = f.name; version = version_of f.name cats })
-replaced_file-found cats fs i f h e b = ap (replaced_file cats) (here fs i f h e) ∙ if_false _ _ _ b
-
-pub replaced_file-next : (cats : List Entry) (fs : List FileVersion) (i : ℕ) (f : FileVersion) → i < length fs → f ≡ get_or fs i f → (version_of f.name cats == f.version) ≡ true → replaced_file cats (drop i fs) ≡ replaced_file cats (drop (i + 1) fs)
-replaced_file-next cats fs i f h e b = ap (replaced_file cats) (here fs i f h e) ∙ if_true _ _ _ b
-
-any_file : (b : Bool) (cats : List Entry) (r : Replacement) (fs : List FileVersion) → list_any (λ f. not (version_of f.name cats == f.version)) fs ≡ is_some (replaced_file cats fs) → (not b || list_any (λ f. not (version_of f.name cats == f.version)) fs) ≡ is_some (if b then replaced_file cats fs else Some r)
-any_file true cats r fs e = e
-any_file false cats r fs e = refl
-
-pub any_replaced : (cats : List Entry) (fs : List FileVersion) → list_any (λ f. not (version_of f.name cats == f.version)) fs ≡ is_some (replaced_file cats fs)
-any_replaced cats [] = refl
-any_replaced cats (f ∷ fs) = any_file (version_of f.name cats == f.version) cats _ fs (any_replaced cats fs)
 
 -- an option by cases
 pub match_same : {X : Type 0} (o r : Option X) → o ≡ r → MatchOption o (r ≡ None) (λ x. r ≡ Some x)

@@ -186,10 +186,6 @@ way_fault f some k room most waiting left rest from done all e is whole w r h =
     still_fault k room most (length done + length (f from)) (length all) e
     (omega (arith, ap (λ (ps : List Progress). length ps) x, length-append (done ++ f from) (flat_map f rest), length-append done (f from), some_flat_map f rest some, w, r)) h
 
--- More ways than the ends leave room for are more than are wanted with the ends.
-pub onto_fault : (k old most n : ℕ) (e : RunFault) → old < most → IsFaultAt k (most - old) n e → IsFaultAt k most (old + n) e
-onto_fault k old most n e l h = still_fault k (most - old) most n (old + n) e (omega (arith, l)) h
-
 -- Where the ends are as many as are wanted and a value is left, the ways on are more.
 pub too_many : (f : ℕ → Progress) (v : ℕ) (left rest : List ℕ) (done old all : List Progress) (most : ℕ) → left ≡ v ∷ rest → most ≤ length done → done ++ map f left ≡ old ++ all → most < length old + length all
 too_many f v left rest done old all most l m e =

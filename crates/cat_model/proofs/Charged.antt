@@ -16,9 +16,6 @@ pub total_append : (cs ds : List Charge) → total_nodes (cs ++ ds) ≡ total_no
 total_append [] ds = omega arith
 total_append (c ∷ cs) ds = let e = total_append cs ds in omega (arith, e)
 
-pub count_none : (n : ℕ) → n ≡ 0 → IsCount n []
-count_none n e = record { total = e; few = record { nodes = omega arith; depth = All-nil (λ c. c.depth ≤ 64) } }
-
 pub count_more : (n m : ℕ) (cs : List Charge) (c : Charge) → IsCount n cs → IsCharged (Some m) n c → IsCount m (cs ++ c ∷ [])
 count_more n m cs c h i =
     let e = total_append cs (c ∷ []) in
@@ -52,9 +49,6 @@ over_one n cs c h l = record {
 }
 
 -- a loop over charges
-
-pub up_to_none : (n : ℕ) (cs all : List Charge) → IsCount n cs → CountsUpTo n cs all all
-up_to_none n cs all h = record { done = []; count = subst (IsCount n) (sym (append-nil cs)) h; whole = refl }
 
 pub up_to_more : (n m : ℕ) (cs here left old all : List Charge) → old ≡ here ++ left → CountsUpTo n cs old all → ((ds : List Charge) → IsCount n ds → IsCount m (ds ++ here)) → CountsUpTo m cs left all
 up_to_more n m cs here left old all e u step = record {

@@ -5,7 +5,7 @@ use Rattle.std.specs.Str.{bytes_eq}
 use Rattle.std.proofs.lemmas.Bool.{eqb-true, eq-eqb, false_from_ne_true}
 use Rattle.std.proofs.lemmas.List.{take_more, append_assoc, append-nil, length-replicate, length_push}
 use Rattle.cat_tree.specs.Tree.{Word}
-use Rattle.cat_model.specs.Weights.{Alike, beside, within, all_beside, node_over, placed, by_weights, just_weight, given, next_place, place_in, AreWithin, IsCounted}
+use Rattle.cat_model.specs.Weights.{Alike, beside, within, all_beside, node_over, placed, by_weights, just_weight, next_place, place_in, AreWithin, IsCounted}
 use Rattle.cat_model.specs.declared.weights.Measure.{Measure}
 use Rattle.cat_model.proofs.Sums.{alike_on, alike_beside, alike_within, beside_back, beside_on, beside_none, within_back, within_none, within_on, within_beside}
 
@@ -152,11 +152,6 @@ module _ (m : Measure) where
 
 -- calls by weights
 
-pub called_by : (m : Measure) (weights times : List ℕ) (own count : ℕ) (ns : List ℕ) → weights ≡ own ∷ times → length times ≡ count → length ns ≡ count → placed m (own ∷ times) (1 ∷ ns) ≡ by_weights m weights ns
-called_by m weights times own count ns e l k =
-    let P : List ℕ → Type 0 = λ x. placed m (own ∷ times) (1 ∷ ns) ≡ by_weights m x ns in
-    subst P (sym e) (sym (ap (λ b. cond b (placed m (own ∷ times) (1 ∷ ns)) (node_over m ns)) (eq-eqb (length (own ∷ times)) (length (1 ∷ ns)) (ap suc (l ∙ sym k)))))
-
 pub well_called_by : (m : Measure) (weights ns : List ℕ) → length weights ≡ suc (length ns) → by_weights m weights ns ≡ placed m weights (1 ∷ ns)
 well_called_by m weights ns e = ap (λ b. cond b (placed m weights (1 ∷ ns)) (node_over m ns)) (eq-eqb (length weights) (length (1 ∷ ns)) e)
 
@@ -186,14 +181,6 @@ next_most zero n false l = omega arith
 pub place_most : (xs : List Word) (x : Word) → place_in xs x ≤ length xs
 place_most [] x = omega arith
 place_most (y ∷ xs) x = next_most (place_in xs x) (length xs) (bytes_eq y x) (place_most xs x)
-
-pub given_none : (m : Measure) (place : ℕ) (ms ns : List ℕ) (e : ℕ) → place ≡ 0 → e ≡ given m place ms ns e
-given_none m zero ms ns e z = refl
-given_none m (suc i) ms ns e z = absurd (omega (arith, z))
-
-pub given_some : (m : Measure) (place : ℕ) (ms ns : List ℕ) (e : ℕ) → (place ≡ 0 → ⊥) → just_weight m (get_or (1 ∷ ms) place 0) ns ≡ given m place ms ns e
-given_some m zero ms ns e z = absurd (z refl)
-given_some m (suc i) ms ns e z = refl
 
 pub place_found : (rest before : List Word) (last x : Word) (n : ℕ) → rest ≡ before ++ last ∷ [] → bytes_eq last x ≡ true → place_in rest x ≡ n → length rest ≡ n
 place_found rest before last x n e f h =

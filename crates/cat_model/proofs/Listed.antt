@@ -19,9 +19,6 @@ all_more_map f P xs k x l at h p =
     let long : k < length (map f xs) = omega (arith, length-map xs f) in
     All-more P (map f xs) k (f x) long h (subst P (ap f at ∙ sym (get_or-map f xs k x (f x) l)) p)
 
-pub all_end : {X : Type 0} (P : X → Type 0) (xs : List X) (k : ℕ) → length xs ≤ k → All P (take k xs) → All P xs
-all_end P xs k l h = subst (All P) (take_all k xs l) h
-
 pub all_end_map : {X Y : Type 0} (f : X → Y) (P : Y → Type 0) (xs : List X) (k : ℕ) → length xs ≤ k → All P (take k (map f xs)) → All P (map f xs)
 all_end_map f P xs k l h = let long : length (map f xs) ≤ k = omega (arith, length-map xs f) in subst (All P) (take_all k (map f xs) long) h
 

@@ -18,10 +18,6 @@ use Rattle.cat_model.specs.declared.sort.Sort.{Sort}
 use Rattle.cat_model.specs.declared.sort.Sort.TheVariants.{Set, Relation}
 use Rattle.cat_model.proofs.Joining.{sorts_same, sorts_apart}
 
--- nothing is joined
-pub made_as_it_is : (old : Classes) (js : List Sort) (o : Option Sort) (k : Sort) → o ≡ Some k → Makes old old js o k
-made_as_it_is old js o k e = record { back = λ h. h; made = λ h. inl (h, e) }
-
 -- nothing is possible
 pub made_never : (old new : Classes) (js : List Sort) (o : Option Sort) (k : Sort) → (Agree new js → ⊥) → o ≡ None → Makes old new js o k
 made_never old new js o k never e = record { back = λ h. absurd (never h); made = λ h. inr (never, e) }
@@ -35,16 +31,6 @@ made_if old new js o k P t f holds fails e = record { back = λ h. (f.0 h).0; ma
     by false g h = inr (λ a. fails g (f.0 a).1, e ∙ ap (λ b. cond b (Some k) None) g)
 
 -- signs
-
-pub made_complement : (u : Sign) (k : Sort) → wanted_by u ≡ None → sort_applied u (Some k) ≡ Some k
-made_complement Complement k e = refl
-made_complement Plus k e = cc
-made_complement Star k e = cc
-made_complement Optional k e = cc
-made_complement Inverse k e = cc
-made_complement Domain k e = cc
-made_complement Range k e = cc
-made_complement Identity k e = cc
 
 abbrev by_wanted : Option (Sort × Sort) → Sort → Option Sort
 by_wanted None k = Some k
@@ -147,10 +133,6 @@ made_infix old mid new o a b k m e f g js =
     (infix_some o i j k m e)
 
 -- values
-
-pub made_value : (old new : Classes) (c : Class) (cs : List Class) → (length cs ≡ 0) → new ≡ old → (js : List Sort) → Makes old new js (just_sort (Some (sort_of_class js c)) (sorts_of_classes js cs)) (sort_of_class js c)
-made_value old new c [] l e js = (let P : Classes → Type 0 = λ n. Makes old n js (Some (sort_of_class js c)) (sort_of_class js c) in subst P (sym e) (made_as_it_is old js (Some (sort_of_class js c)) (sort_of_class js c) refl))
-made_value old new c (d ∷ cs) l e js = absurd (omega (arith, l))
 
 pub made_no_value : (old new : Classes) (c : Class) (cs : List Class) → (length cs ≡ 0 → ⊥) → ((js : List Sort) → Agree new js → ⊥) → (js : List Sort) → Makes old new js (just_sort (Some (sort_of_class js c)) (sorts_of_classes js cs)) (sort_of_class js c)
 made_no_value old new c [] l never js = absurd (l refl)
@@ -257,6 +239,3 @@ joined_next old mid new ws cs i a b d e f g js = (
   λ h. (let x = (g js).0 h in let y = (f js).0 x.0 in (y.0, taken_next js ws cs i y.1 (sym (ap (sort_of_class js) d) ∙ x.1 ∙ ap (sort_of_class js) e))),
   λ h. (g js).1 ((f js).1 (h.0, λ k l. h.1 k (omega (arith, l))), ap (sort_of_class js) d ∙ h.1 i (omega arith) ∙ sym (ap (sort_of_class js) e)),
 )
-
-pub joined_none : (old : Classes) (ws cs : List Class) (js : List Sort) → Agree old js ↔ (Agree old js × AreTaken js ws cs 0)
-joined_none old ws cs js = (λ h. (h, λ k l. absurd (omega (arith, l))), λ h. h.0)

@@ -85,9 +85,6 @@ inner_next old mid new ts d i t u l e s f g q =
     back (inl h) = inl ((f q).1 (inl h))
     back (inr h) = elim (Contains-append_cases more (trace_if d t ∷ []) q h) [ inl a ↦ inl ((f q).1 (inr a)) | inr a ↦ inr (s ∙ contains_one (trace_if d t) q a) ]
 
-pub composes_none : (as' : List (List Trace)) (q : Trace) → Composes [] as' q → ⊥
-composes_none as' q h = nothing_in h.trace h.among
-
 pub composes_next : (mid new : List Trace) (ts : List Trace) (as' : List (List Trace)) (i : ℕ) (t : Trace) → i < length ts → t ≡ get_or ts i t → ((q : Trace) → Contains mid q ↔ Composes (take i ts) as' q) →
     ((q : Trace) → Contains new q ↔ (Contains mid q ⊎ Contains (map (trace_if t.denied) (get_or as' t.place [])) q)) → (q : Trace) → Contains new q ↔ Composes (take (i + 1) ts) as' q
 composes_next mid new ts as' i t l e f g q = (λ h. to ((g q).0 h), λ h. (g q).1 (back h))

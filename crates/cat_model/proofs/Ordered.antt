@@ -1,5 +1,5 @@
 -- Items of a model have no fault, and a root gives one list of items.
-use Rattle.std.proofs.Common.{◌≡◌, ◌≤◌, List, [], ◌∷◌, ◌++◌, Some, None, true, false, map, Bool, Option, refl, sym, ◌∙◌, inl, inr, ◌⊎◌, subst, ap, IsSome, append_assoc, append-nil, arith}
+use Rattle.std.proofs.Common.{◌≡◌, ◌≤◌, List, [], ◌∷◌, ◌++◌, Some, None, true, false, map, Bool, Option, refl, sym, ◌∙◌, inl, inr, subst, ap, IsSome, append_assoc, append-nil, arith}
 use Rattle.std.specs.List.{Contains, All}
 use Rattle.std.proofs.lemmas.List.Elements.{All-contains, Contains-append_left}
 use Rattle.cat_tree.specs.Tree.{Word, values_in, Clause, bind, bind_recursively, check, include, show, unshow, File}
@@ -143,9 +143,3 @@ pub no-cause : (es : List Entry) (root : Word) (items : List Clause) (files : Li
     (e : ModelFault) → ¬ IsCause e es root
 no-cause es root items files c m n e h =
     elim h [ inl a ↦ n e a | inr f ↦ faultless e items m (subst (IsFaulty e) ((closure_one es root f.0 items f.1 files f.2 c).0) f.3) ]
-
-pub astray-cause : (es : List Entry) (root : Word) (e : ModelFault) → (e ≡ NoMemory) ⊎ IsAstray e es root → (e ≡ NoMemory) ⊎ IsCause e es root
-astray-cause es root e h = elim h [ inl m ↦ inl m | inr a ↦ inr (inl a) ]
-
-pub faulty-cause : (es : List Entry) (root : Word) (items : List Clause) (files : List FileVersion) → IsClosure es root items files → (e : ModelFault) → (e ≡ NoMemory) ⊎ IsFaulty e items → (e ≡ NoMemory) ⊎ IsCause e es root
-faulty-cause es root items files c e h = elim h [ inl m ↦ inl m | inr f ↦ inr (inr (items, files, c, f)) ]

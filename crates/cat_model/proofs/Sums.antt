@@ -8,10 +8,6 @@ use Rattle.cat_model.specs.declared.weights.Measure.TheVariants.{Size, Depth}
 
 -- alike
 
-pub alike_back : (m : Measure) (a b : ℕ) → Alike m a b → Alike m b a
-alike_back m a b (inl e) = inl (sym e)
-alike_back m a b (inr h) = inr (h.1, h.0)
-
 pub alike_on : (m : Measure) (a b c : ℕ) → Alike m a b → Alike m b c → Alike m a c
 alike_on m a b c (inl e) k = (let P : ℕ → Type 0 = λ x. Alike m x c in subst P (sym e) k)
 alike_on m a b c (inr h) (inl d) = (let P : ℕ → Type 0 = λ x. most m ≤ x in inr (h.0, subst P d h.1))
@@ -72,11 +68,6 @@ within_back Depth (suc a) (suc b) = omega arith
 pub within_none : (m : Measure) (a : ℕ) → within m a 0 ≡ 0
 within_none Size a = omega arith
 within_none Depth a = deeper_none a
-
-pub within_one : (m : Measure) (a : ℕ) → within m a 1 ≡ a
-within_one Size a = omega arith
-within_one Depth zero = refl
-within_one Depth (suc a) = omega arith
 
 pub within_on : (m : Measure) (a b c : ℕ) → within m (within m a b) c ≡ within m a (within m b c)
 within_on Size a b c = grind arith

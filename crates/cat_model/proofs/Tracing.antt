@@ -358,11 +358,6 @@ leaf_by ns xs l x ts e h = (let P : Leaf → Type 0 = λ k. Traced ns xs ts (lea
 
 -- vectors of lists
 
-pub latest_items : (d : List Trace) (xs ys : List (Vec Trace Global)) (x : Vec Trace Global) → xs ≡ ys ++ x ∷ [] → (x.items ≡ latest d (reverse (map (λ a. a.items) xs))) × (reverse (map (λ a. a.items) ys) ≡ earlier (reverse (map (λ a. a.items) xs)))
-latest_items d xs ys x e =
-    let f : reverse (map (λ a. a.items) xs) ≡ x.items ∷ reverse (map (λ a. a.items) ys) = ap (λ l. reverse (map (λ a. a.items) l)) e ∙ ap (λ l. reverse l) (map-append (λ a. a.items) ys (x ∷ [])) ∙ reverse-append (map (λ a. a.items) ys) (x.items ∷ []) in
-    (sym (ap (λ l. latest d l) f), sym (ap (λ l. earlier l) f))
-
 pub pushed_items : (xs ys : List (Vec Trace Global)) (x : Vec Trace Global) → ys ≡ xs ++ x ∷ [] → reverse (map (λ a. a.items) ys) ≡ x.items ∷ reverse (map (λ a. a.items) xs)
 pushed_items xs ys x e = ap (λ l. reverse (map (λ a. a.items) l)) e ∙ ap (λ l. reverse l) (map-append (λ a. a.items) xs (x ∷ [])) ∙ reverse-append (map (λ a. a.items) xs) (x.items ∷ [])
 

@@ -1,5 +1,5 @@
 -- Walks, and what they add.
-use Rattle.std.proofs.Common.{◌≡◌, ◌≢◌, ℕ, zero, suc, ◌+◌, ◌-◌, ◌<◌, ◌≤◌, List, [], ◌∷◌, ◌++◌, Some, None, true, false, cond, take, drop, length, map, get_or, refl, sym, ◌∙◌, inl, inr, subst, arith, ap, append_assoc, append-nil, IsSome, Bor}
+use Rattle.std.proofs.Common.{◌≡◌, ◌≢◌, ℕ, zero, suc, ◌+◌, ◌-◌, ◌<◌, ◌≤◌, List, [], ◌∷◌, ◌++◌, Some, true, false, cond, take, drop, length, map, get_or, refl, sym, ◌∙◌, inl, inr, subst, arith, ap, append_assoc, append-nil, IsSome, Bor}
 use Rattle.std.specs.List.{Contains, sum_by}
 use Rattle.std.proofs.lemmas.List.Sums.{sum_by-append, sum_by-cons}
 use Rattle.std.proofs.lemmas.Map.Views.{Contains-from_any}
@@ -100,9 +100,6 @@ counts-include es path x f l e o =
     let one = sum_by-cons (count es (16 - length path) path) (include x) [] in
     let c = count-include es (16 - length (x ∷ path)) path x f e o in
     omega (arith, one, ap (λ n. count es n path (include x)) d, c)
-
-pub missing-here : (es : List Entry) (root : Word) (path : List Word) (is : List Clause) (x : Word) → IsHere es root path is → Contains is (include x) → file_of x es ≡ None → IsAstray (NoInclude x) es root
-missing-here es root path is x h c e = (h.last, h.before, path-on es root path is x h c, e)
 
 pub cycle-here : (es : List Entry) (root : Word) (path : List Word) (is : List Clause) (x : Word) → IsHere es root path is → Contains is (include x) → is_on path x ≡ true → IsAstray (IncludeCycle x) es root
 cycle-here es root path is x h c e =

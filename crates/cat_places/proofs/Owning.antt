@@ -11,8 +11,5 @@ counted text o g items n e h l has =
     let same : has.0 ≡ g = (subst (IsFileOf text) e h).1 has.0 has.1 in
     sym (length-map items clause_of) ∙ ap length l ∙ ap (λ (f : File). length f.items) (sym same) ∙ has.2
 
-pub has_counted : (text : List ℕ) (o : Option File) (g : File) (items : List Item) (n : ℕ) → o ≡ Some g → IsFileOf text o → map clause_of items ≡ g.items → length items ≡ n → HasItems text n
-has_counted text o g items n e h l same = (g, (subst (IsFileOf text) e h).0, sym (ap length l) ∙ length-map items clause_of ∙ same)
-
 pub uncounted : (text : List ℕ) (o : Option File) (n : ℕ) → o ≡ None → IsFileOf text o → ¬ HasItems text n
 uncounted text o n e h has = subst (IsFileOf text) e h has.0 has.1

@@ -92,9 +92,6 @@ some_match o x P Q e h = subst (λ y. MatchOption y P Q) e h
 some_once : {A : Type 0} (x y : A) → Some x ≡ Some y → x ≡ y
 some_once x y e = cc
 
-pub nowhere_unread : (ss : List Source) (e : ModelFault) (r : Option (ℕ × ℕ)) → ((fs : List File) → ¬ AreRead ss fs) → IsModelPlace ss e r
-nowhere_unread ss e r none = λ fs k v read blamed at. absurd (none fs read)
-
 pub nowhere_blamed : (ss : List Source) (gs : List File) (e : ModelFault) (r : Option (ℕ × ℕ)) (vs : List Visit) → ((fs : List File) → AreRead ss fs → fs ≡ gs) → vs ≡ visits ss gs →
     ((k : ℕ) → ¬ IsBlamed gs e vs k) → IsModelPlace ss e r
 nowhere_blamed ss gs e r vs once is none = λ fs k v read blamed at.
@@ -107,11 +104,6 @@ blamed_visit ss gs e vs n once is only fs k v read blamed at =
     let same = once fs read in
     let number : n ≡ k = some_once n k (only k (subst (λ l. IsBlamed gs e l k) (sym is) (subst (λ f. IsBlamed f e (visits ss f) k) same blamed))) in
     ap (slice_get vs) number ∙ ap (λ l. slice_get l k) is ∙ ap (λ f. slice_get (visits ss f) k) (sym same) ∙ at
-
-pub nowhere_visited : (ss : List Source) (gs : List File) (e : ModelFault) (r : Option (ℕ × ℕ)) (vs : List Visit) (n : ℕ) → ((fs : List File) → AreRead ss fs → fs ≡ gs) → vs ≡ visits ss gs →
-    ((k : ℕ) → IsBlamed gs e vs k → Some n ≡ Some k) → length vs ≤ n → IsModelPlace ss e r
-nowhere_visited ss gs e r vs n once is only past = λ fs k v read blamed at.
-    absurd (omega (arith, past, slice_get_within vs n v (blamed_visit ss gs e vs n once is only fs k v read blamed at)))
 
 -- the visit that the code looks at is the one that is to blame
 same_visit : (vs : List Visit) (n : ℕ) (w v : Visit) → w ≡ get_or vs n w → slice_get vs n ≡ Some v → w ≡ v

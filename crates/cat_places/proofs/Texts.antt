@@ -8,7 +8,7 @@ use Rattle.wb_text.specs.Tokens.{IsTokenList}
 use Rattle.wb_text.proofs.Lists.{list_once}
 use Rattle.cat_syntax.specs.declared.fault.CatFault.{CatFault}
 use Rattle.places.specs.Spellings.{spelling}
-use Rattle.cat_places.specs.Fronts.{NoneRefused, IsFirstRefused, NoneSpelled, IsLastSpelled, IsToldAt, IsAtFront}
+use Rattle.cat_places.specs.Fronts.{NoneRefused, IsFirstRefused, NoneSpelled, IsToldAt, IsAtFront}
 
 pub some_match : {A : Type 0} (o : Option A) (x : A) (P : Type 0) (Q : A → Type 0) → o ≡ Some x → MatchOption o P Q → Q x
 some_match o x P Q e h = subst (λ y. MatchOption y P Q) e h
@@ -22,9 +22,6 @@ some_once x y e = cc
 -- one token less that is spelled so
 pub none_less : (text : List ℕ) (tokens : List Token) (w : List ℕ) (end k : ℕ) (t : Token) → slice_get tokens (end - 1) ≡ Some t → spelling text t ≢ w → NoneSpelled text tokens w end k → NoneSpelled text tokens w (end - 1) k
 none_less text tokens w end k t at differs none i u low high here = elim (cases_lt i end) [ inl h ↦ λ e. differs (ap (spelling text) (some_once t u (sym at ∙ ap (slice_get tokens) (omega (arith, low, h)) ∙ here)) ∙ e) | inr h ↦ none i u h high here ]
-
-pub none_spelled : (text : List ℕ) (tokens : List Token) (w : List ℕ) (k offset : ℕ) → NoneSpelled text tokens w 0 k → ¬ IsLastSpelled text tokens w k offset
-none_spelled text tokens w k offset none h = none h.place h.token (omega arith) h.within h.at h.spelled
 
 -- the first place up to which a text is refused is one
 first_once : (text : List ℕ) (tokens : List Token) (f : CatFault) (k m : ℕ) → IsFirstRefused text tokens f k → IsFirstRefused text tokens f m → k ≡ m

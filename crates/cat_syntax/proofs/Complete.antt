@@ -14,7 +14,7 @@ use Rattle.cat_syntax.specs.declared.symbol.Terminal.TheVariants.{Let, And, Acyc
 use Rattle.cat_tree.specs.Postorder.{listed, terms_of-listed}
 use Rattle.cat_tree.specs.Tree.{Term, Terms, complement, domain, range, identity, name, empty_relation, empty_set, universe, call}
 use Rattle.cat_syntax.specs.Grammar.{joined, begins_check, begins_operand, JoinsLeft, joins_product, joins_difference, JoinsRight, joins_intersection, joins_sequence, joins_union, IsLevel, level_unary, level_tighter, level_left, level_right, IsUnary, unary_complement, unary_postfix, IsPostfix, postfix_primary, postfix_plus, postfix_star, postfix_optional, postfix_inverse, IsPrimary, primary_name, primary_universe, primary_empty_relation, primary_empty_set, primary_paren, primary_identity, primary_domain, primary_range, primary_call, AreArguments, last_argument, more_arguments}
-use Rattle.cat_syntax.specs.Reading.{Reading, terminal_eq, after, infix_at, associates_left, postfix_at, applied, applied_at, next_operand, right, left, Inner, separated, opens_arguments, arguments_with, enclosed_with, primary_with, postfix_with, unary_with, level_with, below, cut}
+use Rattle.cat_syntax.specs.Reading.{terminal_eq, after, infix_at, associates_left, postfix_at, applied, applied_at, next_operand, right, left, Inner, separated, opens_arguments, arguments_with, enclosed_with, primary_with, postfix_with, unary_with, level_with, below, cut}
 use Rattle.cat_syntax.proofs.Symbols.{after-first, expected-first}
 use Rattle.cat_syntax.proofs.Levels.{left_shorter, postfix_shorter, right_more, arguments_from, arguments_turn}
 
@@ -438,11 +438,3 @@ mutual
   arguments-complete : {n : ℕ} {ts rest : List Symbol} {bs : Terms} → AreArguments n ts rest bs → (as' : List Term) → Ends 5 rest → after Comma rest ≡ None → Yields (arguments_from n as') ts rest (as' ++ listed bs)
   arguments-complete (last_argument {n} d) as' ends none = last-yields n as' (level-complete d ends) none
   arguments-complete (more_arguments {n} {mid = mid} {a = a} {bs = bs} d e) as' ends none = more-yields n as' (listed bs) (level-complete d (stops-ends stops_comma mid)) (arguments-complete e (as' ++ a ∷ []) ends none)
-
-pub one_level : (k n : ℕ) (ts : List Symbol) (a b : Term) → IsLevel k n ts [] a → IsLevel k n ts [] b → a ≡ b
-one_level k n ts a b d e =
-    let f = (level-complete d (nothing-ends k)).is in
-    let g = (level-complete e (nothing-ends k)).is in
-    let same : ◌≡◌ {A = Reading Term} (Ok (a, [])) (Ok (b, [])) = sym f ∙ g in
-    let pair : ◌≡◌ {A = Term × List Symbol} (a, []) (b, []) = cc in
-    ap (λ (q : Term × List Symbol). q.0) pair

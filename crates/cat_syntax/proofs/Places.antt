@@ -76,13 +76,6 @@ take-whole zero (s ∷ ss) h = absurd (omega (arith, h))
 take-whole (suc n) [] h = refl
 take-whole (suc n) (s ∷ ss) h = ap (λ (l : List Symbol). s ∷ l) (take-whole n ss (omega (arith, h)))
 
--- the first few, where what is behind isn't looked at
-pub stops-among : (ss : List Symbol) (n : ℕ) (c : SyntaxFault) (place : ℕ) → StopsAt (take n ss) c place → place + 3 ≤ n → StopsAt ss c place
-stops-among ss n c place stops h us same = stops us (same ∙ sym (take-take (place + 3) n ss h))
-
-pub among-stops : (ss : List Symbol) (n : ℕ) (c : SyntaxFault) (place : ℕ) → StopsAt ss c place → place + 3 ≤ n → StopsAt (take n ss) c place
-among-stops ss n c place stops h us same = stops us (same ∙ take-take (place + 3) n ss h)
-
 -- no model begins so
 pub none_begins : (ss us : List Symbol) (c : SyntaxFault) (place : ℕ) (f : File) → StopsAt ss c place → take (place + 3) us ≡ take (place + 3) ss → IsFile us f → ⊥
 none_begins ss us c place f stops same d =

@@ -90,13 +90,6 @@ stopped_at ss rest faults.BoundTwice g = stops-where ss rest faults.BoundTwice g
 stopped_at ss rest faults.RecursiveFunction g = stops-where ss rest faults.RecursiveFunction g
 stopped_at ss rest faults.TooDeep g = stops-where ss rest faults.TooDeep g
 
-pub left_of : (ss rest : List Symbol) (c : SyntaxFault) → Gives {X = File} {A = File} (λ f. f) (Err c) rest (file_at ss) → c ≢ faults.NoMemory → length rest ≤ length ss
-left_of ss rest faults.NoMemory g h = absurd (h refl)
-left_of ss rest faults.Unexpected g h = no_more ss rest faults.Unexpected g
-left_of ss rest faults.BoundTwice g h = no_more ss rest faults.BoundTwice g
-left_of ss rest faults.RecursiveFunction g h = no_more ss rest faults.RecursiveFunction g
-left_of ss rest faults.TooDeep g h = no_more ss rest faults.TooDeep g
-
 -- all symbols, or those up to a place and two more
 
 same-front : (ss : List Symbol) (shown place k : ℕ) → (length ss ≤ shown) ⊎ (place + 3 ≤ shown) → k ≤ place → take (k + 3) (take shown ss) ≡ take (k + 3) ss

@@ -6,27 +6,7 @@ use Rattle.journal.specs.contracts.records.Replacement.{the_row as replacement_r
 use Rattle.journal.specs.contracts.records.Reply.{the_row as reply_row}
 use Rattle.journal.specs.contracts.records.Returned.{the_row as returned_row}
 use Rattle.journal.specs.contracts.records.Said.{the_row as said_row}
-use Rattle.journal.specs.declared.records.Command.{Command}
-use Rattle.journal.specs.declared.records.Refusal.{Refusal}
-use Rattle.journal.specs.declared.records.Replacement.{Replacement}
-use Rattle.journal.specs.declared.records.Reply.{Reply}
 use Rattle.journal.specs.declared.records.Returned.{Returned}
-use Rattle.journal.specs.declared.records.Said.{Said}
-
-abbrev pub coded_command : Coded Command
-coded_command = command_row.coded
-
-abbrev pub coded_said : Coded Said
-coded_said = said_row.coded
 
 abbrev pub coded_returned : Coded Returned
 coded_returned = returned_row.coded
-
-abbrev pub coded_reply : Coded Reply
-coded_reply = reply_row.coded
-
-abbrev pub coded_refusal : Coded Refusal
-coded_refusal = refusal_row.coded
-
-abbrev pub coded_replacement : Coded Replacement
-coded_replacement = replacement_row.coded

@@ -1,5 +1,5 @@
 -- Tests and sums over what a tree shows.
-use Rattle.std.proofs.Common.{◌≡◌, ℕ, ◌+◌, ◌<◌, ◌≤◌, List, length, take, get_or, map, arith, ◌∙◌}
+use Rattle.std.proofs.Common.{◌≡◌, ℕ, ◌+◌, ◌<◌, ◌≤◌, List, length, take, get_or, map, arith}
 use Rattle.std.specs.Prelude.{sum_by}
 use Rattle.std.specs.List.{list_all}
 use Rattle.std.proofs.lemmas.List.Folds.{list_all-map}
@@ -11,15 +11,11 @@ use Rattle.litmus_tree.specs.declared.tree.Declarator.{Declarator}
 use Rattle.litmus_tree.specs.declared.tree.Parameter.{Parameter}
 use Rattle.litmus_tree.specs.declared.tree.Statement.{Statement}
 use Rattle.litmus_value.specs.Limits.{optional_events, step_events}
-use Rattle.litmus_c.specs.Rules.{declared_keeps, step_keeps, steps_keep}
-use Rattle.litmus_tree.specs.Tree.{Word, declared_of, step_of, steps_of}
-use Rattle.litmus_c.proofs.Steps.{row_keeps}
+use Rattle.litmus_c.specs.Rules.{declared_keeps}
+use Rattle.litmus_tree.specs.Tree.{Word, declared_of, step_of}
 
 pub all_declared : (k : Rule) (ps : List Parameter) (rs : List Word) (ds : List Declarator) → list_all (declared_keeps k ps rs) (map declared_of ds) ≡ list_all (λ d. declared_keeps k ps rs (declared_of d)) ds
 all_declared k ps rs ds = list_all-map (declared_keeps k ps rs) declared_of ds
-
-pub all_steps : (k : Rule) (ps : List Parameter) (rs : List Word) (ss : List Statement) → steps_keep k ps rs (steps_of ss) ≡ list_all (λ s. step_keeps k ps rs (step_of s)) ss
-all_steps k ps rs ss = row_keeps k ps rs ss ∙ list_all-map (step_keeps k ps rs) step_of ss
 
 -- what is summed so far, and one more, is at most the whole sum
 below : {A B : Type 0} (f : B → ℕ) (g : A → B) (xs : List A) (i : ℕ) (d : A) → i < length xs → sum_by f (map g (take i xs)) + f (g (get_or xs i d)) ≤ sum_by f (map g xs)

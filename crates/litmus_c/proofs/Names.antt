@@ -57,10 +57,6 @@ pub at_least_with : {A : Type 0} (g : A → Word) (a : A) (xs : List A) (i : ℕ
     length (with_name ns (g a)) ≤ length (with_names ns (map g (drop i xs)))
 at_least_with g a xs i ns l e = rw (next_with g a xs i ns l e) (longer (with_name ns (g a)) (map g (drop (i + 1) xs)))
 
-pub next_map : {A B : Type 0} (g : B → Word) (h : A → B) (a : A) (xs : List A) (i : ℕ) (ns : List Word) → i < length xs → a ≡ get_or xs i a →
-    with_names ns (map g (map h (drop i xs))) ≡ with_names (with_name ns (g (h a))) (map g (map h (drop (i + 1) xs)))
-next_map g h a xs i ns l e = ap (λ ys. with_names ns (map g (map h ys))) (first a xs i l e)
-
 -- what explains a refusal of some locations explains it of more
 pub explained : (xs ys : List Word) (e : TestFault) → length xs ≤ length ys → ExplainsLocations xs e → ExplainsLocations ys e
 explained xs ys NoMemory l h = tt

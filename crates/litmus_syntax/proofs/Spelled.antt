@@ -1,5 +1,5 @@
 -- What the tests on spellings mean.
-use Rattle.std.proofs.Common.{◌≡◌, ℕ, suc, ◌<◌, ◌≤◌, List, [], ◌∷◌, ◌++◌, ap, subst, length, inl, inr, refl, sym, ◌∙◌, arith, tests, rules}
+use Rattle.std.proofs.Common.{◌≡◌, ℕ, ◌<◌, ◌≤◌, List, [], ◌∷◌, ◌++◌, ap, subst, length, inl, inr, refl, sym, ◌∙◌, arith, tests, rules}
 use Rattle.std.specs.Prelude.{Bool, true, false, not, ◌&&◌, nat_lt, nat_le, All, Option, Some, None, SomeIff, MatchOption}
 use Rattle.std.specs.Bool.{Decides}
 use Rattle.std.specs.List.{list_all, list_any}
@@ -95,11 +95,6 @@ pub symbols_step : (text : List ℕ) (xs : List Symbol) (s : Symbol) (t : Token)
     xs ++ symbols_of text us ≡ all → (xs ++ s ∷ []) ++ symbols_of text ts ≡ all
 symbols_step text xs s t ts us all split is so_far =
     append_assoc xs (s ∷ []) (symbols_of text ts) ∙ ap (λ u. xs ++ u ∷ symbols_of text ts) is ∙ ap (λ l. xs ++ symbols_of text l) (sym split) ∙ so_far
-
--- a symbol for each token
-pub symbols_len : (text : List ℕ) (ts : List Token) → length (symbols_of text ts) ≡ length ts
-symbols_len text [] = refl
-symbols_len text (t ∷ ts) = ap (λ n. suc n) (symbols_len text ts)
 
 -- which of two words stands first makes no difference
 pub any_same : (ws : List Word) (w : Word) → list_any (λ v. bytes_eq v w) ws ≡ list_any (bytes_eq w) ws

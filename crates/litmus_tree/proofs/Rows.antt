@@ -1,5 +1,5 @@
 -- Rows of statements that are compared one by one.
-use Rattle.std.proofs.Common.{◌≡◌, ◌≢◌, List, [], ◌∷◌, ◌++◌, map, refl, ap, ◌∙◌, suc}
+use Rattle.std.proofs.Common.{◌≡◌, ◌≢◌, List, [], ◌∷◌, refl, ap, ◌∙◌, suc}
 use Rattle.std.specs.Prelude.{length, Bool, false, true, ◌&&◌}
 use Rattle.litmus_tree.specs.declared.tree.Statement.{Statement}
 use Rattle.litmus_tree.specs.Equality.{same_step, same_steps}
@@ -15,7 +15,3 @@ rows_differ [] [] d = absurd (d refl)
 rows_differ [] (y ∷ ys) d = refl
 rows_differ (x ∷ xs) [] d = refl
 rows_differ (x ∷ xs) (y ∷ ys) d = ap (λ b. same_step (step_of x) (step_of y) && b) (rows_differ xs ys (λ e. d (ap suc e))) ∙ and_false (same_step (step_of x) (step_of y))
-
-pub steps_push : (xs : List Statement) (s : Statement) → map step_of (xs ++ s ∷ []) ≡ map step_of xs ++ step_of s ∷ []
-steps_push [] s = refl
-steps_push (x ∷ xs) s = ap (λ l. step_of x ∷ l) (steps_push xs s)

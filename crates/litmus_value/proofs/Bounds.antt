@@ -4,11 +4,8 @@ use Rattle.std.specs.Prelude.{◌^◌, All}
 use Rattle.listings.specs.Lists.{IsIn}
 use Rattle.listings.proofs.Listings.{in_get_or, place_of, in_map}
 use Rattle.litmus_value.specs.Gathering.{AreFew}
-use Rattle.litmus_value.specs.Limits.{IsTest}
-use Rattle.litmus_value.specs.Values.{InDom, with_value, with_sum, values_of}
-use Rattle.litmus_tree.specs.Tree.{Litmus}
+use Rattle.litmus_value.specs.Values.{with_value, with_sum}
 use Rattle.litmus_value.proofs.Distinct.{with_in, with_values_in}
-use Rattle.litmus_value.proofs.Sums.{lists_values}
 
 pub in_all : {X : Type 0} (P : X → Type 0) (xs : List X) (x : X) → All P xs → IsIn x xs → P x
 in_all {X} P xs x h m = let at = place_of xs x x m in subst P at.2 (h at.0 x at.1)
@@ -29,7 +26,3 @@ sums_below vs c m n h l o = all_in (λ v. v < n) (with_sum vs c) (λ v k. elim (
   | inl a ↦ omega (arith, in_all (λ w. w < m) vs v h a, o)
   | inr b ↦ (let w = in_map (λ (u : ℕ). u + c) vs v b in omega (arith, in_all (λ u. u < m) vs w.0 h w.1, w.2, l, o))
 ])
-
--- a value of a test is no greater than 2,147,483,647
-pub value_small : (t : Litmus) → IsTest t → (v : ℕ) → InDom t v → v ≤ 2147483647
-value_small t h v d = in_all (λ w. w ≤ 2147483647) (values_of t) v h.small ((lists_values t.initial t.threads).all v d)

@@ -63,9 +63,6 @@ pub with_append : (vs cs ds : List ℕ) → with_values vs (cs ++ ds) ≡ with_v
 with_append vs [] ds = refl
 with_append vs (c ∷ cs) ds = with_append (with_value vs c) cs ds
 
-pub longer_append : (vs cs ds : List ℕ) → length (with_values vs cs) ≤ length (with_values vs (cs ++ ds))
-longer_append vs cs ds = rw with_append (longer (with_values vs cs) ds)
-
 pub with_values_in : (vs cs : List ℕ) (v : ℕ) → IsIn v (with_values vs cs) → IsIn v vs ⊎ IsIn v cs
 with_values_in vs [] v h = inl h
 with_values_in vs (c ∷ cs) v h = elim (with_values_in (with_value vs c) cs v h) [

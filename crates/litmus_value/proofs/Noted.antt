@@ -32,9 +32,6 @@ pub noted_append : (g : Gathered) (ns ms : List Numeral) → all_noted g (ns ++ 
 noted_append g [] ms = refl
 noted_append g (n ∷ ns) ms = noted_append (noted g n) ns ms
 
-pub full_append : (g : Gathered) (ns ms : List Numeral) (e : ValuesFault) → IsFull (all_noted g ns).0 e → IsFull (all_noted g (ns ++ ms)).0 e
-full_append g ns ms e h = subst (λ (k : Gathered). IsFull k.0 e) (sym (noted_append g ns ms)) (full_on (all_noted g ns) ms e h)
-
 -- what is noted in the end
 pub noted_is : (g : Gathered) (ns : List Numeral) → all_noted g ns ≡ (with_values g.0 (constants_in ns), g.1 ++ adds_in ns)
 noted_is g [] = ap (λ cs. (g.0, cs)) (sym (append-nil g.1))

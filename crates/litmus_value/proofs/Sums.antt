@@ -85,12 +85,6 @@ each_sums (d ∷ cs) c h = elim h [
 pub constant_is_value : (initial : List Binding) (threads : List Program) (k : ℕ) → IsConstant initial threads k → IsValue initial threads k
 constant_is_value initial threads k h = record { constant = k; sum = 0; is_constant = h; is_sum = nothing_sums (adds_among threads); is = omega arith }
 
-pub zero_is_value : (initial : List Binding) (threads : List Program) → IsValue initial threads 0
-zero_is_value initial threads = constant_is_value initial threads 0 (inl refl)
-
-pub one_is_value : (initial : List Binding) (threads : List Program) → IsValue initial threads 1
-one_is_value initial threads = constant_is_value initial threads 1 (inr (inl refl))
-
 pub add_is_value : (initial : List Binding) (threads : List Program) (c : ℕ) → IsIn c (adds_among threads) → IsValue initial threads c
 add_is_value initial threads c h = record { constant = 0; sum = c; is_constant = inl refl; is_sum = each_sums (adds_among threads) c h; is = omega arith }
 

@@ -32,10 +32,6 @@ told_on (Err g) f e is same = cc
 pub longer : (a b : Option (List ℕ)) (m n : ℕ) → AreLines a m b n → IsTooLong b n → IsTooLong a m
 longer a b m n lines h = record { end = h.end; count = h.count; lines = joined a b m n h.end h.count lines h.lines; most = h.most; more = h.more }
 
-pub at_its_most : {P : Type 0} (a b : Option (List ℕ)) (m n : ℕ) → AreLines a m b n → P ⊎ ((1000000 ≤ n) × HasMore b) → P ⊎ IsTooLong a m
-at_its_most a b m n lines (inl marked) = inl marked
-at_its_most a b m n lines (inr h) = inr (record { end = b; count = n; lines = lines; most = h.0; more = h.1 })
-
 pub longer_still : {P : Type 0} (a b : Option (List ℕ)) (m n : ℕ) → AreLines a m b n → P ⊎ IsTooLong b n → P ⊎ IsTooLong a m
 longer_still a b m n lines (inl marked) = inl marked
 longer_still a b m n lines (inr h) = inr (longer a b m n lines h)

@@ -122,32 +122,6 @@ no_such_request word rest (Return claim) none some sound h e = none claim (Retur
 no_such_request word rest (GiveBack claim) none some sound h e = none claim (GiveBack claim) ((says_parts word rest (Whole (GiveBack claim)) h e).0, refl)
 no_such_request word rest request none some sound h e = absurd some
 
--- what is spelled by a word and a number
-pub requested : (word rest : List ℕ) (n : ℕ) (request : Request) → rest ≡ decimal n → IsNumbered word n request → Requests (word ++ (codes " " ++ rest)) request
-requested word rest n (Poll job) printed p = rw (p.0, p.1, printed) refl
-requested word rest n (Forget job) printed p = rw (p.0, p.1, printed) refl
-requested word rest n (Release job) printed p = rw (p.0, p.1, printed) refl
-requested word rest n (Return claim) printed p = rw (p.0, p.1, printed) refl
-requested word rest n (GiveBack claim) printed p = rw (p.0, p.1, printed) refl
-requested word rest n request printed p = absurd p
-
-pub sound_number : (word : List ℕ) (n : ℕ) (request : Request) → n < 4294967296 → IsNumbered word n request → IsSound request
-sound_number word n (Poll job) small p = rw p.1 small
-sound_number word n (Forget job) small p = rw p.1 small
-sound_number word n (Release job) small p = rw p.1 small
-sound_number word n (Return claim) small p = rw p.1 small
-sound_number word n (GiveBack claim) small p = rw p.1 small
-sound_number word n request small p = absurd p
-
--- none of the words that stand before a number
-pub unnumbered : (word : List ℕ) (n : ℕ) (request : Request) → word ≢ codes "poll" → word ≢ codes "return" → word ≢ codes "back" → word ≢ codes "release" → word ≢ codes "forget" → ¬ IsNumbered word n request
-unnumbered word n (Poll job) poll return back release forget p = poll p.0
-unnumbered word n (Forget job) poll return back release forget p = forget p.0
-unnumbered word n (Release job) poll return back release forget p = release p.0
-unnumbered word n (Return claim) poll return back release forget p = return p.0
-unnumbered word n (GiveBack claim) poll return back release forget p = back p.0
-unnumbered word n request poll return back release forget p = p
-
 -- one word alone
 pub says_word : (word : List ℕ) (head : Head) → IsWord word → word ≢ codes "test" → word ≢ codes "claim" → word ≢ codes "list" → word ≢ codes "close" → ¬ Says word head
 says_word word (Cat name) h test claim list close e = spaceless (codes "cat") name (subst IsWord e h)

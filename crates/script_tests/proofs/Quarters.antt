@@ -10,12 +10,6 @@ pub record AreDown (low size : ℕ) (spans : List Span) : Type 0 where
   pub all : (i : ℕ) → low ≤ i → i < size → IsHeld spans i
   pub only : (i : ℕ) → IsHeld spans i → low ≤ i
 
-pub none_down : (size : ℕ) (spans : List Span) → spans ≡ [] → AreDown size size spans
-none_down size spans none = record {
-  all = λ i from below. absurd (let no : ⊥ = omega (arith, from, below) in no);
-  only = λ i held. absurd (subst (λ l. IsHeld l i) none held).1;
-}
-
 pub apart_down : (s : Span) (high size : ℕ) (spans : List Span) → s.to ≡ high → AreDown high size spans → IsApart s spans
 apart_down s high size spans to down i here held = let from = down.only i held in let below = here.1 in absurd (let no : ⊥ = omega (arith, from, below, to) in no)
 

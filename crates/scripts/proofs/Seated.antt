@@ -146,12 +146,6 @@ same_last seat passes p line entry last at is =
     let here : slice_get p.receipts (length p.receipts - 1) ≡ Some line = subst (λ (x : PassView). slice_get x.receipts (length x.receipts - 1) ≡ Some line) same last.is in
     cc
 
-pub some_receipt : (seat : ℕ) (passes : List PassView) (p : PassView) (line : Line) → IsLastAt seat passes line → slice_get passes seat ≡ Some p → 0 < length p.receipts
-some_receipt seat passes p line last at =
-    let same : last.pass ≡ p = (let a = last.at in cc) in
-    let within = slice_get_within last.pass.receipts (length last.pass.receipts - 1) line last.is in
-    subst (λ (x : PassView). 0 < length x.receipts) same (omega (arith, within))
-
 pub last_within : (seat : ℕ) (passes : List PassView) (line : Line) → IsLastAt seat passes line → seat < length passes
 last_within seat passes line last = slice_get_within passes seat last.pass last.at
 

@@ -1,6 +1,5 @@
 -- Events of the first accesses, counted one part after another.
 use Rattle.std.proofs.Common.{◌≡◌, ℕ, ◌+◌, ◌-◌, ◌≤◌, ◌<◌, List, [], ◌∷◌, length, take, drop, get_or, map, ap, sym, subst, refl, ◌∙◌, arith}
-use Rattle.std.specs.Prelude.{max, min}
 use Rattle.std.proofs.lemmas.List.{drop_more}
 use Rattle.litmus_syntax.specs.declared.draft.Body.{Body}
 use Rattle.litmus_syntax.specs.Drafts.{Listing, listing_of}
@@ -44,10 +43,6 @@ pub next_thread : (bs : List Body) (i : ℕ) (b : Body) (n r n' r' : ℕ) → i 
 next_thread bs i b n r n' r' l at e f =
     let P : List Body → Type 0 = λ us. r' - threads_among n' (map listing_of (drop (i + 1) bs)) ≡ r - threads_among n (map listing_of us) in
     subst P (ap (λ x. x ∷ drop (i + 1) bs) at ∙ sym (drop_more bs i b l)) (first_thread (listing_of b) (map listing_of (drop (i + 1) bs)) n r n' r' e f)
-
--- both arms of an `if`
-pub longer_arm : (a b : Step) (n r n' p q : ℕ) → n' ≡ n - step_accesses a → p ≡ r - step_among n a → q ≡ r - step_among n' b → min p q ≡ r - max (step_among n a) (step_among (n - step_accesses a) b)
-longer_arm a b n r n' p q e f g = omega (arith, f, g, ap (λ k. step_among k b) e)
 
 -- Where no access counts there are no events.
 

@@ -1,19 +1,12 @@
 -- Reading comes to one fault.
-use Rattle.std.proofs.Common.{◌≡◌, ◌≢◌, ℕ, ◌+◌, ◌≤◌, inl, inr, List, length, take, sym, subst, refl, ◌∙◌, arith}
+use Rattle.std.proofs.Common.{◌≡◌, ◌≢◌, ℕ, ◌+◌, ◌≤◌, inl, inr, List, length, take, sym, subst, refl, ◌∙◌}
 use Rattle.std.specs.Prelude.{Err, Option, Some, None, MatchOption}
 use Rattle.litmus_syntax.specs.declared.symbol.Symbol.{Symbol}
 use Rattle.litmus_syntax.specs.declared.syntax_fault.SyntaxFault.{SyntaxFault}
 use Rattle.litmus_syntax.specs.declared.syntax_fault.SyntaxFault.TheVariants.{Syntax, BadOrder, TooDeep, NoMemory}
-use Rattle.litmus_syntax.specs.Drafts.{Written}
-use Rattle.litmus_syntax.specs.Grammar.{Spells}
 use Rattle.litmus_syntax.specs.Reading.{syntax, deep, misordered, test_at}
 use Rattle.litmus_syntax.specs.Unspelled.{IsUnspelled}
 use Rattle.test_places.specs.Fronts.{IsStop, IsFirstFront}
-
--- what is a test has no such fault
-pub no_stop : (ss : List Symbol) (w : Written) (f : SyntaxFault) → IsStop f → Spells ss w → ¬ IsUnspelled ss f
-no_stop ss w f (inl e) is h = (subst (IsUnspelled ss) e h).0 w is
-no_stop ss w f (inr e) is h = (subst (IsUnspelled ss) e h).0 w is
 
 first_misordered : (ss : List Symbol) (f : SyntaxFault) → f ≢ NoMemory → IsUnspelled ss f → test_at 32 ss ≡ Err misordered → f ≡ BadOrder
 first_misordered ss (Syntax n) m h e = let stops : test_at 32 ss ≡ Err (syntax n) = h.1.stops in cc
@@ -35,9 +28,6 @@ one_stop ss f g (inr e) m h k = first_deep ss f m h (subst (IsUnspelled ss) e k)
 -- the shortest front with a fault has a last symbol
 pub no_front : (ss : List Symbol) (f : SyntaxFault) (k : ℕ) → ((n : ℕ) → n ≤ length ss → ¬ IsUnspelled (take n ss) f) → ¬ IsFirstFront ss f (k + 1)
 no_front ss f k none h = none (k + 1) h.within h.has
-
-pub no_empty_front : (ss : List Symbol) (f : SyntaxFault) (n k : ℕ) → n ≡ 0 → IsFirstFront ss f n → ¬ IsFirstFront ss f (k + 1)
-no_empty_front ss f n k e h g = g.first n (omega (arith, e)) h.has
 
 pub some_match : {A : Type 0} (o : Option A) (x : A) (P : Type 0) (Q : A → Type 0) → o ≡ Some x → MatchOption o P Q → Q x
 some_match o x P Q e h = subst (λ y. MatchOption y P Q) e h

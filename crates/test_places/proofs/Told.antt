@@ -1,5 +1,5 @@
 -- A fault that stands at a token.
-use Rattle.std.proofs.Common.{◌≡◌, ◌≢◌, ℕ, ◌+◌, List, Result, Ok, Err, refl, sym, ◌∙◌, subst, arith}
+use Rattle.std.proofs.Common.{◌≡◌, ◌≢◌, ℕ, ◌+◌, List, Result, Ok, Err, refl, sym, subst, arith}
 use Rattle.std.specs.Prelude.{Option, Some, None, IfOk, MatchOption}
 use Rattle.wb_text.specs.declared.fault.TextFault.{TextFault}
 use Rattle.wb_text.specs.declared.token.Dialect.TheVariants.{Litmus}
@@ -9,10 +9,9 @@ use Rattle.wb_text.proofs.Lists.{list_once}
 use Rattle.litmus_syntax.specs.Symbols.{symbols_of}
 use Rattle.litmus_syntax.specs.declared.symbol.Symbol.{Symbol}
 use Rattle.test_places.specs.Limits.{AreFew, IsFirstOver}
-use Rattle.test_places.specs.declared.rules.Rule.{Rule}
 use Rattle.litmus_c.specs.declared.fault.TestFault.{TestFault}
 use Rattle.litmus_c.specs.declared.fault.TestFault.TheVariants.{Text, Syntax, BadOrder, UnknownName, PlainOnAtomic, AtomicOnPlain, Unsupported, TooDeep, TooManyThreads, TooManyLocations, TooManyEvents, TooManyValues, ValueTooBig, NoMemory}
-use Rattle.test_places.specs.Places.{IsSymbol, HasNoSymbol, IsAtToken, IsAtNoToken, IsPlace, HasNoPlace, first_breach}
+use Rattle.test_places.specs.Places.{IsSymbol, HasNoSymbol, IsAtToken, IsAtNoToken, IsPlace, HasNoPlace}
 
 at_token : (text : List ℕ) (f : TestFault) (o : ℕ) → IsAtToken text f o → IsPlace text f o
 at_token text (Text f) o h = absurd h.is_symbol
@@ -65,6 +64,3 @@ no_symbol text ts ss f is e none o h =
 
 pub none_over : {X : Type 0} (size : List X → ℕ) (most : ℕ) (xs : List X) (k : ℕ) → AreFew size most xs → ¬ IsFirstOver size most xs k
 none_over size most xs k few h = omega (arith, h.many, few (k + 1) (omega (arith, h.within)))
-
-pub none_breached : (r : Rule) (ss : List Symbol) (o : Option ℕ) (k : ℕ) → o ≡ first_breach r ss → o ≡ None → first_breach r ss ≢ Some k
-none_breached r ss o k e n h = let both : None ≡ Some k = sym n ∙ e ∙ h in cc

@@ -1,5 +1,5 @@
 -- Cycles, and the shortest of them.
-use Rattle.std.proofs.Common.{◌≡◌, ℕ, zero, suc, ◌<◌, ◌≤◌, ◌+◌, ◌≢◌, ◌-◌, List, [], ◌∷◌, ◌++◌, length, get_or, refl, sym, ◌∙◌, ap, subst, inl, inr, arith, append_assoc, append-nil}
+use Rattle.std.proofs.Common.{◌≡◌, ℕ, zero, suc, ◌<◌, ◌≤◌, ◌+◌, ◌≢◌, ◌-◌, List, [], ◌∷◌, ◌++◌, length, get_or, refl, sym, ◌∙◌, ap, subst, inl, inr, arith, append_assoc}
 use Rattle.std.proofs.lemmas.Bool.{cases_eq, cases_lt}
 use Rattle.listings.specs.Lists.{IsIn, NoRepeats}
 use Rattle.relations.specs.Relation.{Relation, In, IsCanonical, IsExactly}
@@ -161,13 +161,6 @@ pub begun_on : (P : ℕ → ℕ → Type 0) (done : List ℕ) (last next event :
 begun_on P done last next event h p ms q =
     let C : List ℕ → Type 0 = IsCycle P in
     subst C (sym (append_assoc done (next ∷ []) ms)) (h (next ∷ ms) (p, q))
-
-pub begun_done : (P : ℕ → ℕ → Type 0) (done : List ℕ) (k last event : ℕ) → IsBegun P done last event → IsLeft P k last event → k ≡ 0 → IsCycle P done
-begun_done P done k last event h w e = end w.way (w.long ∙ e) w.leads
-  where
-    end : (ms : List ℕ) → length ms ≡ 0 → Leads P last ms event → IsCycle P done
-    end [] l p = let C : List ℕ → Type 0 = IsCycle P in subst C (append-nil done) (h [] p)
-    end (m ∷ ms) l p = absurd (omega (arith, l))
 
 pub power_of : (r : Relation) (qs : List Relation) (step : ℕ) (q : Relation) → ArePowers r 0 qs → step < length qs → q ≡ get_or qs (length qs - 1 - step) q → IsPower r (length qs - (step + 1)) q
 power_of r qs step q h l e =

@@ -1,5 +1,5 @@
 -- Traces that are put together.
-use Rattle.std.proofs.Common.{◌≡◌, ℕ, zero, suc, Bool, true, false, ◌+◌, ◌-◌, ◌<◌, ◌≤◌, ◌&&◌, cond, List, [], ◌∷◌, ◌++◌, length, refl, sym, ap, ◌∙◌, subst, arith, append_assoc, append-nil, length-append, Some}
+use Rattle.std.proofs.Common.{◌≡◌, ℕ, zero, suc, Bool, true, false, ◌+◌, ◌-◌, ◌<◌, ◌≤◌, ◌&&◌, cond, List, [], ◌∷◌, ◌++◌, length, refl, sym, ap, ◌∙◌, subst, arith, append_assoc, length-append, Some}
 use Rattle.std.specs.Prelude.{slice_get, option_and_then}
 use Rattle.std.proofs.lemmas.List.Sums.{sum_by-append}
 use Rattle.std.proofs.lemmas.Option.{slice_get-get_or}
@@ -103,13 +103,6 @@ held-turn D form before mid now turn claim rest =
       is = t.is ∙ ap (λ (p : PassView). record p { receipts = p.receipts ++ t.added }) claim.is ∙ ap (λ (xs : List Line). record before { receipts = xs }) (append_assoc before.receipts (line ∷ []) t.added);
       reported = tells-claim D form rest.piece line t.added turn claim.of reply t.reported;
     }
-
-pub so_far-none : (form : Form) (pass : PassView) → SoFar form pass pass 0
-so_far-none form pass = record {
-  added = [];
-  is = ap (λ (xs : List Line). record pass { receipts = xs }) (sym (append-nil pass.receipts));
-  goes = record { free = refl; some = omega arith; returned = refl; none = refl };
-}
 
 chained : (before mid now : PassView) (xs ys : List Line) → mid ≡ record before { receipts = before.receipts ++ xs } → now ≡ record mid { receipts = mid.receipts ++ ys } → now ≡ record before { receipts = before.receipts ++ (xs ++ ys) }
 chained before mid now xs ys a b = b ∙ ap (λ (p : PassView). record p { receipts = p.receipts ++ ys }) a ∙ ap (λ (zs : List Line). record before { receipts = zs }) (append_assoc before.receipts xs ys)

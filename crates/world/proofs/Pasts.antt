@@ -310,9 +310,6 @@ last_same : (xs : List jobs.Job) (j k : jobs.Job) → xs ++ j ∷ [] ≡ xs ++ k
 last_same [] j k e = cc
 last_same (x ∷ xs) j k e = last_same xs j k (let f : xs ++ j ∷ [] ≡ xs ++ k ∷ [] = cc in f)
 
-same_verdict : (v w : VerdictValue) (r : Reply) → r ≡ Verdict v → r ≡ Verdict w → v ≡ w
-same_verdict v w r a b = let e : Verdict v ≡ Verdict w = sym a ∙ b in let f : v ≡ w = cc in f
-
 past_step : (s s' : Workbench) (es : List Line) (e : Line) (past : List Asked) → Step s e.seat e.said e.reply s' → Past s es past → (past' : List Asked) × Past s' (es ++ e ∷ []) past'
 past_step s s' es e past step h =
     let n = next s s' past (step_moves s e.seat e.said e.reply s' step) h.known h.works in
