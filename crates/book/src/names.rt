@@ -8,7 +8,7 @@ ghost use Rattle.book.specs.Workbench.{test_version, test_of};
 
 use indexmap::IndexMap;
 use journal::Loaded;
-use slices::TestRef;
+use litmus_c::Test;
 use std::alloc::{AllocError, Global};
 use std::marker::Model;
 use wb_text::Name;
@@ -17,7 +17,7 @@ use wb_text::Name;
 #[derive(Drop)]
 pub struct TestSlot {
     pub version: u32,
-    pub tree: Option<TestRef>,
+    pub tree: Option<Test>,
 }
 
 /// The tests. Contracts see the names with their slots, in order.
@@ -67,7 +67,7 @@ impl Tests {
     }
 
     /// The test of a name.
-    pub fn test(&self, name: &Name) -> Option<&TestRef>
+    pub fn test(&self, name: &Name) -> Option<&Test>
         ensures { MatchOption result (test_of self.now name.now ≡ None) (λ t. test_of self.now name.now ≡ Some t.now) }
     {
         match self.slots.get(name) {

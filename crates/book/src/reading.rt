@@ -14,7 +14,6 @@ ghost use Rattle.slices.specs.Works.{IsModelOf};
 use cat_model::{Files, Model, ModelFault, resolve};
 use cat_syntax::{CatFault, CatFile, read_cat};
 use litmus_c::{Test, TestFault, read_test};
-use slices::TestRef;
 use std::alloc::Global;
 use wb_text::Name;
 
@@ -26,17 +25,6 @@ pub fn read_litmus(alloc: Global, text: &[u8]) -> Result<Test, TestFault>
     ensures cause { IfErr result (λ e. IsRefused text.now e) }
 {
     read_test(alloc, text)
-}
-
-/// Reads the text of a test that is to be kept.
-pub fn read_kept(alloc: Global, text: &[u8]) -> Result<TestRef, TestFault>
-    ensures found { IfOk result (Reads text.now) }
-    ensures only { IfErr result (λ e. (t : Litmus) → Reads text.now t → e ≡ of_test.NoMemory) }
-    // Each refusal comes only where its cause holds.
-    ensures cause { IfErr result (λ e. IsRefused text.now e) }
-{
-    let test = read_litmus(alloc, text)?;
-    Ok(TestRef::new(alloc, test)?)
 }
 
 /// Reads the text of a cat file.

@@ -33,4 +33,4 @@ pub use row::Row;
 pub use span::{Span, cut};
 pub use tally::Tally;
 pub use verdict::{Verdict, VerdictRef};
-pub use work::{TestRef, Work, WorkRef};
+pub use work::{Work, WorkRef};

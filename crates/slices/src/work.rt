@@ -12,33 +12,9 @@ use litmus_value::Test;
 use std::alloc::{AllocError, Global};
 use std::sync::Arc;
 
-/// A test that is kept more than once. Contracts see the test.
-pub struct TestRef {
-    test: Arc<Test>,
-}
-
-// A function of its own: whoever holds one drops it by a call.
-impl Drop for TestRef {
-    fn drop(self) {
-        let TestRef { test: _ } = self;
-    }
-}
-
-impl std::marker::Model for TestRef {
-    ghost use Rattle.std.specs.Arc.{arc_value};
-    ghost use Rattle.litmus_tree.specs.Tree.{Litmus};
-    ghost use Rattle.litmus_tree.specs.Codes.{coded_litmus};
-
-    ghost Value = { Litmus };
-
-    ghost coded = { coded_litmus };
-
-    ghost view = { λ t. arc_value t.test };
-}
-
 /// A test under a model, how many numbers the test has, and whether it is known that the model doesn't look at the orders.
 pub struct Work {
-    test: TestRef,
+    test: Test,
     model: Model,
     size: u64,
     orderless: bool,
@@ -96,33 +72,6 @@ impl std::marker::Model for WorkRef {
     ghost view = { λ w. arc_value w.work };
 }
 
-impl TestRef {
-    /// Keeps a test.
-    pub fn new(alloc: Global, test: Test) -> Result<Self, AllocError>
-        ensures { IfOk result (λ t. t ≡ test) }
-    {
-        Ok(TestRef {
-            test: Arc::new(alloc, test)?,
-        })
-    }
-
-    /// The test.
-    pub fn test(&self) -> &Test
-        ensures { result.now ≡ self.now }
-    {
-        &self.test
-    }
-
-    /// The same test, kept once more.
-    pub fn share(&self) -> Result<Self, AllocError>
-        ensures { IfOk result (λ t. t ≡ self.now) }
-    {
-        Ok(TestRef {
-            test: Arc::try_clone(&self.test)?,
-        })
-    }
-}
-
 impl Work {
     /// The test under the model.
     pub fn new(alloc: Global, test: Test, model: Model) -> Result<Self, SpaceFault>
@@ -131,21 +80,7 @@ impl Work {
         // A thread has too many runs, the test has too many candidates, or memory ran out.
         ensures fault { IfErr result (IsSpaceFault test) }
     {
-        match TestRef::new(alloc, test) {
-            Ok(test) => Work::of(alloc, test, model),
-            Err(AllocError) => Err(SpaceFault::NoMemory),
-        }
-    }
-
-    /// The test, which is kept elsewhere too, under the model.
-    pub fn of(alloc: Global, test: TestRef, model: Model) -> Result<Self, SpaceFault>
-        ensures work { IfOk result (λ w. w ≡ record { test = test; model = model }) }
-        ensures admitted { IfOk result (λ w. IsAdmitted w.test) }
-        // A thread has too many runs, the test has too many candidates, or memory ran out.
-        ensures fault { IfErr result (IsSpaceFault test) }
-    {
-        let tree = test.test();
-        match Space::new(alloc, tree) {
+        match Space::new(alloc, &test) {
             Ok(space) => {
                 let size = space.size();
                 let orderless = is_orderless(&model);
@@ -160,27 +95,8 @@ impl Work {
         }
     }
 
-    /// The same test under another model. Its runs aren't made again.
-    pub fn like(&self, model: Model) -> Result<Self, AllocError>
-        ensures { IfOk result (λ w. w ≡ record self.now { model = model }) }
-    {
-        Ok(Work {
-            test: self.test.share()?,
-            orderless: is_orderless(&model),
-            model,
-            size: self.size,
-        })
-    }
-
     /// The test.
     pub fn test(&self) -> &Test
-        ensures { result.now ≡ self.now.test }
-    {
-        self.test.test()
-    }
-
-    /// The test, as it is kept.
-    pub(crate) fn test_ref(&self) -> &TestRef
         ensures { result.now ≡ self.now.test }
     {
         &self.test

@@ -12,7 +12,6 @@ use Rattle.cat_model.specs.contracts.model.Model as Model
 use Rattle.slices.specs.contracts.finding.FindingRef as FindingRef
 use Rattle.slices.specs.contracts.piece.Piece as Piece
 use Rattle.slices.specs.contracts.piece.PieceResult as PieceResult
-use Rattle.slices.specs.contracts.work.TestRef as TestRef
 use Rattle.slices.specs.contracts.work.WorkRef as WorkRef
 
 thread_send : IsSend Thread.the_row
@@ -22,16 +21,10 @@ thread_sync : IsSync Thread.the_row
 thread_sync = search (crosses, Statement.crosses, Expression.crosses, sendable) depth 60 fits 20000
 
 test_send : IsSend Test.the_row
-test_send = search (thread_send, crosses, Condition.crosses, sendable) depth 60 fits 20000
+test_send = search (thread_send, thread_sync, crosses, Condition.crosses, sendable) depth 60 fits 20000
 
 test_sync : IsSync Test.the_row
-test_sync = search (thread_sync, crosses, Condition.crosses, sendable) depth 60 fits 20000
-
-testref_send : IsSend TestRef.the_row
-testref_send = search (test_send, test_sync, crosses, sendable) depth 60 fits 20000
-
-testref_sync : IsSync TestRef.the_row
-testref_sync = search (test_send, test_sync, crosses, sendable) depth 60 fits 20000
+test_sync = search (thread_send, thread_sync, crosses, Condition.crosses, sendable) depth 60 fits 20000
 
 model_send : IsSend Model.the_row
 model_send = search (crosses, sendable) depth 60 fits 20000
@@ -40,10 +33,10 @@ model_sync : IsSync Model.the_row
 model_sync = search (crosses, sendable) depth 60 fits 20000
 
 work_send : IsSend WorkRef.the_row
-work_send = search (testref_send, testref_sync, model_send, model_sync, crosses, sendable) depth 60 fits 20000
+work_send = search (test_send, test_sync, model_send, model_sync, crosses, sendable) depth 60 fits 20000
 
 pub work_sync : IsSync WorkRef.the_row
-work_sync = search (testref_send, testref_sync, model_send, model_sync, crosses, sendable) depth 60 fits 20000
+work_sync = search (test_send, test_sync, model_send, model_sync, crosses, sendable) depth 60 fits 20000
 
 piece_send : IsSend Piece.the_row
 piece_send = search (work_send, crosses, sendable) depth 60 fits 20000

@@ -10,7 +10,7 @@ use crate::fault::TestTrouble;
 use crate::together::judge_together;
 use cat_model::Model;
 use litmus_c::{Test, read_test};
-use slices::{Course, TestRef, Verdict, Work, WorkRef};
+use slices::{Course, Verdict, Work, WorkRef};
 use std::alloc::{AllocError, Global};
 use std::thread::Threads;
 
@@ -48,7 +48,6 @@ pub fn judge_text<R: Threads + Sync, P: Patience>(
     ensures cause { IfErr result (HasNone text.now) }
 {
     let test = read(alloc, text)?;
-    let test = TestRef::new(alloc, test)?;
     judge_under(rt, alloc, &test, models, threads, patience)
 }
 
@@ -67,7 +66,7 @@ fn read(alloc: Global, text: &[u8]) -> Result<Test, TestTrouble>
 fn judge_under<R: Threads + Sync, P: Patience>(
     rt: &R,
     alloc: Global,
-    test: &TestRef,
+    test: &Test,
     models: &[Model],
     threads: u16,
     patience: &mut P,
@@ -87,7 +86,7 @@ fn judge_under<R: Threads + Sync, P: Patience>(
 fn judge_one<R: Threads + Sync, P: Patience>(
     rt: &R,
     alloc: Global,
-    test: &TestRef,
+    test: &Test,
     model: &Model,
     threads: u16,
     patience: &mut P,
@@ -139,11 +138,11 @@ fn judge_work<P: Patience>(
 }
 
 /// The test under a model.
-fn work_of(alloc: Global, test: &TestRef, model: &Model) -> Result<WorkRef, TestTrouble>
+fn work_of(alloc: Global, test: &Test, model: &Model) -> Result<WorkRef, TestTrouble>
     ensures work { IfOk result (λ w. w ≡ record { test = test.now; model = model.now }) }
     ensures cause { IfErr result (IsUntold test.now) }
 {
-    match Work::of(alloc, test.share()?, model.copy()?) {
+    match Work::new(alloc, test.copy()?, model.copy()?) {
         Ok(work) => Ok(WorkRef::new(alloc, work)?),
         Err(fault) => Err(TestTrouble::of_space(fault)),
     }

@@ -17,7 +17,8 @@ use crate::workbench::{Bench, MOST_JOBS};
 use candidates::SpaceFault;
 use cat_model::Model;
 use journal::{Refusal, Reply};
-use slices::{TestRef, Work, WorkRef};
+use litmus_c::Test;
+use slices::{Work, WorkRef};
 use std::alloc::{AllocError, Global};
 use wb_text::Name;
 
@@ -57,7 +58,7 @@ impl Bench {
         alloc: Global,
         test: &Name,
         cat: &Name,
-        tree: &TestRef,
+        tree: &Test,
         model: Model,
     ) -> Result<Plan, AllocError>
         requires open { self.now.closed ≡ false }
@@ -93,7 +94,7 @@ impl Bench {
     }
 
     /// The test under the model: as a job has it, if one has it, so that such jobs share it.
-    fn work_of(&self, alloc: Global, tree: &TestRef, model: Model) -> Result<WorkRef, SpaceFault>
+    fn work_of(&self, alloc: Global, tree: &Test, model: Model) -> Result<WorkRef, SpaceFault>
         ensures work { IfOk result (λ w. w ≡ record { test = tree.now; model = model }) }
         ensures admitted { IfOk result (λ w. IsAdmitted w.test) }
         ensures fault { IfErr result (IsSpaceFault tree.now) }
@@ -103,7 +104,7 @@ impl Bench {
                 let _size = work.work().size();
                 Ok(work)
             }
-            Ok(None) => match Work::of(alloc, tree.share()?, model) {
+            Ok(None) => match Work::new(alloc, tree.copy()?, model) {
                 Ok(work) => Ok(WorkRef::new(alloc, work)?),
                 Err(fault) => Err(fault),
             },
@@ -179,7 +180,7 @@ impl Bench {
 }
 
 /// The work of the first of the jobs that has this test under this model.
-fn known_work(jobs: &[Job], tree: &TestRef, model: &Model) -> Result<Option<WorkRef>, AllocError>
+fn known_work(jobs: &[Job], tree: &Test, model: &Model) -> Result<Option<WorkRef>, AllocError>
     ensures { IfOk result (λ o. IfSome o (λ w. w ≡ record { test = tree.now; model = model.now })) }
 {
     for job in jobs {
@@ -192,8 +193,8 @@ fn known_work(jobs: &[Job], tree: &TestRef, model: &Model) -> Result<Option<Work
 
 /// Whether a work is this test under this model, of the same files and versions.
 #[tactic(auto, using(litmus_tree::specs::Exact::litmus_exact, cat_model::specs::Equality::assembly_exact))]
-fn is_work_of(work: &WorkRef, tree: &TestRef, model: &Model) -> bool
+fn is_work_of(work: &WorkRef, tree: &Test, model: &Model) -> bool
     ensures { IsTrue result ↔ (work.now ≡ record { test = tree.now; model = model.now }) }
 {
-    work.work().test() == tree.test() && work.work().model() == model
+    work.work().test() == tree && work.work().model() == model
 }

@@ -8,7 +8,7 @@ ghost use Rattle.journal.specs.declared.records.Said.{Said};
 
 use crate::names::TestSlot;
 use crate::plan::{Change, Plan};
-use crate::reading::{is_cat_memory, is_memory, read_file, read_kept};
+use crate::reading::{is_cat_memory, is_memory, read_file, read_litmus};
 use crate::workbench::Bench;
 use cat_model::ModelFault;
 use journal::{Refusal, Reply, Text};
@@ -56,7 +56,7 @@ impl Bench {
         ensures kind { IfOk result (λ p. answers (Said.PutTest text.now) p.reply ≡ true) }
         ensures ready { IfOk result (λ p. IsReady self.now p.change) }
     {
-        let test = match read_kept(alloc, text.bytes()) {
+        let test = match read_litmus(alloc, text.bytes()) {
             Ok(test) => test,
             Err(fault) => {
                 if is_memory(&fault) {
@@ -65,7 +65,7 @@ impl Bench {
                 return Ok(Plan::refuse(Refusal::ReadingTest(fault)));
             }
         };
-        let name = test.test().name().copy()?;
+        let name = test.name().copy()?;
         let version = self.tests.version(&name);
         if version >= self.limits.versions {
             return Ok(Plan::refuse(Refusal::VersionsSpent(name)));
