@@ -1,4 +1,5 @@
 pub mod EntryCodes
+pub mod Equality
 pub mod LineCodes
 pub mod Lines
 pub mod ListCodes

@@ -2,6 +2,7 @@
 #![tactic(auto)]
 
 mod equality;
+pub mod laws;
 mod listing;
 mod records;
 
