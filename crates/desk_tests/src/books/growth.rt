@@ -8,10 +8,8 @@ ghost use Rattle.slices.specs.Parts.{test_size};
 use crate::commands::{SB, name, put_cat};
 use book::{Command, Said};
 use cat_model::{Files, Model, resolve};
-use litmus_c::read_test;
-use slices::{
-    KeptSpace, Piece, PieceResult, Tally, TestRef, Verdict, VerdictRef, Work, WorkRef, evaluate,
-};
+use litmus_c::{Test, read_test};
+use slices::{KeptSpace, Piece, PieceResult, Tally, Verdict, VerdictRef, Work, WorkRef, evaluate};
 use std::alloc::{AllocError, Global};
 use std::test::Fail;
 use wb_text::Name;
@@ -19,14 +17,14 @@ use wb_text::Name;
 /// How many numbers SB has: two values of each of two loads, each of two writes, and one order of each location.
 const NUMBERS: u64 = 16;
 
-fn test_once(alloc: Global, text: &[u8]) -> Result<TestRef, AllocError> {
+fn test_once(alloc: Global, text: &[u8]) -> Result<Test, AllocError> {
     match read_test(alloc, text) {
-        Ok(test) => TestRef::new(alloc, test),
+        Ok(test) => Ok(test),
         Err(_) => Err(AllocError),
     }
 }
 
-fn test(alloc: Global, text: &[u8]) -> Result<TestRef, AllocError> {
+fn test(alloc: Global, text: &[u8]) -> Result<Test, AllocError> {
     match test_once(alloc, text) {
         Ok(test) => Ok(test),
         Err(AllocError) => test_once(alloc, text),
@@ -54,8 +52,8 @@ fn model(alloc: Global) -> Result<Model, AllocError> {
     }
 }
 
-fn work_once(alloc: Global, test: TestRef) -> Result<Work, AllocError> {
-    match Work::of(alloc, test, model(alloc)?) {
+fn work_once(alloc: Global, test: Test) -> Result<Work, AllocError> {
+    match Work::new(alloc, test, model(alloc)?) {
         Ok(work) => Ok(work),
         Err(_) => Err(AllocError),
     }
@@ -64,7 +62,7 @@ fn work_once(alloc: Global, test: TestRef) -> Result<Work, AllocError> {
 /// A test under no constraint. What is refused leaves the test, which is kept more than once.
 fn work(alloc: Global, text: &[u8]) -> Result<Work, AllocError> {
     let test = test(alloc, text)?;
-    match work_once(alloc, test.share()?) {
+    match work_once(alloc, test.copy()?) {
         Ok(work) => Ok(work),
         Err(AllocError) => work_once(alloc, test),
     }
