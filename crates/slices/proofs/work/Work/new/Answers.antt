@@ -1,8 +1,11 @@
-use Rattle.std.proofs.Common.{subst}
-use Rattle.std.specs.Prelude.{IfErr}
-use Rattle.candidates.specs.Faults.{IsSpaceFault}
-use Rattle.litmus_tree.specs.Tree.{Litmus}
+use Rattle.std.proofs.Common.{refl, rules}
+use Rattle.slices.proofs.Counted.{admitted}
 use Rattle.slices.proofs.work.Work.new.Goals as goal
 
-pub returns-in-Ok-clause-fault : goal.returns-in-Ok-clause-fault
-returns-in-Ok-clause-fault c = let P : Litmus → Type 0 = λ t. IfErr c.of.result (IsSpaceFault t) in subst P c.in-Ok.ensures c.of.ensures.fault
+pub invariant_of-result : goal.invariant_of-result
+invariant_of-result c =
+    let is = admitted c.args.test c.args.test c.in-Ok.space c.size-size.result refl c.in-Ok.ensures.space c.size-size.ensures c.in-Ok.ensures.size c.in-Ok.ensures.runs in
+    (is.0, is.1, search rules)
+
+pub returns-in-Ok-clause-admitted : goal.returns-in-Ok-clause-admitted
+returns-in-Ok-clause-admitted c = (admitted c.args.test c.args.test c.in-Ok.space c.size-size.result refl c.in-Ok.ensures.space c.size-size.ensures c.in-Ok.ensures.size c.in-Ok.ensures.runs).1
