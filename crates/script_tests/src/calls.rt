@@ -1,9 +1,12 @@
 //! One test and its summary, and rows: what `one` or `serve` is given, and what it is to answer.
 //!
-//! A test follows a table of rows, and fails with the name of the first that doesn't hold.
+//! A literal of many rows is dear to prove, and a text costs nothing. So the rows stand in texts, and a test reads them: each row is
+//! behind `=== `, its name on the first line, and a test fails with the text of the first row that doesn't hold. In a row a name between
+//! signs of percent is the text of that name, and `%3 times TEXT%` is TEXT three times.
 
 ghost use Rattle.std.specs.Prelude.{◌≤◌};
 
+use crate::texts::expanded;
 use alone::{OneFault, one};
 use book::Limits;
 use scripts::{Options, ServeFault, serve};
@@ -13,65 +16,12 @@ use std::test::Fail;
 use std::thread::Threads;
 use wb_text::{MemSink, MemSource};
 
-pub const STORE_BUFFERING: &str = "C SB
-{}
-P0 (atomic_int* x, atomic_int* y) {
-  atomic_store_explicit(x, 1, memory_order_relaxed);
-  int r0 = atomic_load_explicit(y, memory_order_relaxed);
-}
-P1 (atomic_int* x, atomic_int* y) {
-  atomic_store_explicit(y, 1, memory_order_relaxed);
-  int r0 = atomic_load_explicit(x, memory_order_relaxed);
-}
-exists (0:r0=0 /\\ 1:r0=0)
-";
-
-pub const STORE_BUFFERING_SUMMARY: &str = "Test SB Allowed
-States 4
-0:r0=0; 1:r0=0;
-0:r0=0; 1:r0=1;
-0:r0=1; 1:r0=0;
-0:r0=1; 1:r0=1;
-Ok
-Witnesses
-Positive: 1 Negative: 3
-Condition exists (0:r0=0 /\\ 1:r0=0)
-Observation SB Sometimes 1 3
-";
-
-/// What `one` is to answer.
-#[derive(Clone, Copy)]
-pub enum Answer {
-    /// This summary.
-    Is(&'static str),
-    /// A summary that ends so.
-    Ends(&'static str),
-    /// A summary that begins and ends so.
-    Says(&'static str, &'static str),
-    /// A refusal that is printed so, and nothing is written.
-    Refused(&'static str),
-}
-
-/// A test, and for each list of cat texts what is answered to it under each of them.
-#[derive(Clone, Copy)]
-pub struct Case {
-    pub name: &'static str,
-    pub test: &'static str,
-    pub rows: &'static [(&'static [&'static str], Answer)],
-}
-
-/// Parts of a text, each so many times.
-pub type Parts = &'static [(&'static str, usize)];
-
-/// A script of parts, where the reader fails at its end or not, how it ends, and the parts of what is answered.
-#[derive(Clone, Copy)]
-pub struct Scene {
-    pub name: &'static str,
+/// Scripts that are served under the same limits, where the reader fails at the end of each or not. A row has a script, behind `+++`
+/// how it ends, and behind `---` what is answered.
+pub struct Scripts {
     pub limits: Limits,
-    pub script: Parts,
     pub fails: bool,
-    pub end: Result<(), ServeFault>,
-    pub answers: &'static [&'static str],
+    pub rows: &'static str,
 }
 
 /// The limits of a book whose journal is not to be full.
@@ -99,86 +49,99 @@ pub fn summarized(
     Ok((outcome, writer))
 }
 
-/// Whether a fault is printed so.
-fn is_printed(alloc: Global, fault: &OneFault, wanted: &str) -> bool {
+/// The three parts of a row behind its name.
+fn parts_of(row: &str) -> Option<(&str, &str, &str)> {
+    let (_, row) = row.split_once('\n')?;
+    let (first, row) = row.split_once("+++\n")?;
+    let (second, third) = row.split_once("---\n")?;
+    Some((first, second, third))
+}
+
+/// Fails with the text of a row, if one is given.
+fn confirm_none(row: &str) -> Result<(), Fail> {
+    confirm(row.is_empty(), row)
+}
+
+/// Whether these bytes are a text or, where that has a gap, a line of three dots, begin and end so.
+fn is_text(bytes: &[u8], wanted: &str) -> bool {
+    match wanted.split_once("...\n") {
+        Some((start, end)) => {
+            bytes.starts_with(start.as_bytes()) && bytes.ends_with(end.as_bytes())
+        }
+        None => bytes == wanted.as_bytes(),
+    }
+}
+
+/// Whether a fault is printed so, behind the word of a refusal.
+pub fn is_printed(alloc: Global, fault: &OneFault, wanted: &str) -> bool {
     match fault.to_string(alloc) {
-        Ok(shown) => shown.as_str() == wanted,
+        Ok(shown) => wanted.strip_prefix("refused ") == Some(shown.as_str()),
         Err(_) => false,
     }
 }
 
-/// Whether this outcome, with these bytes written, is what is wanted.
-fn is_wanted(alloc: Global, outcome: &Result<(), OneFault>, bytes: &[u8], wanted: Answer) -> bool {
-    match (outcome, wanted) {
-        (Ok(()), Answer::Is(text)) => bytes == text.as_bytes(),
-        (Ok(()), Answer::Ends(end)) => bytes.ends_with(end.as_bytes()),
-        (Ok(()), Answer::Says(start, end)) => {
-            bytes.starts_with(start.as_bytes()) && bytes.ends_with(end.as_bytes())
+/// Whether this outcome, with these bytes written, is what is wanted: a summary, or a line of a refusal, by which nothing is written.
+fn is_wanted(alloc: Global, outcome: &Result<(), OneFault>, bytes: &[u8], wanted: &str) -> bool {
+    match outcome {
+        Ok(()) => is_text(bytes, wanted),
+        Err(fault) => {
+            fault.is_refusal() && bytes.is_empty() && is_printed(alloc, fault, wanted.trim_end())
         }
-        (Err(fault), Answer::Refused(text)) => {
-            fault.is_refusal() && bytes.is_empty() && is_printed(alloc, fault, text)
-        }
-        _ => false,
     }
 }
 
 /// Whether a test under a model is answered so.
-pub fn is_answered(alloc: Global, test: &str, cat: &str, wanted: Answer) -> bool {
+fn is_answered(alloc: Global, test: &str, cat: &str, wanted: &str) -> bool {
     match summarized(alloc, test.as_bytes(), cat.as_bytes(), 4096) {
         Ok((outcome, writer)) => is_wanted(alloc, &outcome, writer.bytes(), wanted),
         Err(_) => false,
     }
 }
 
+fn is_answered_under(alloc: Global, test: &str, cat: &str, wanted: &str) -> bool {
+    match expanded(alloc, cat) {
+        Ok(cat) => is_answered(alloc, test, cat.as_str(), wanted),
+        Err(_) => false,
+    }
+}
+
 /// Whether a test is answered so under each model.
-fn is_answered_under(alloc: Global, test: &str, cats: &[&str], wanted: Answer) -> bool {
-    for cat in cats {
-        if !is_answered(alloc, test, cat, wanted) {
+fn is_answered_under_each(alloc: Global, test: &str, cats: &str, wanted: &str) -> bool {
+    for cat in cats.lines() {
+        if !is_answered_under(alloc, test, cat, wanted) {
             return false;
         }
     }
     true
 }
 
-/// Whether a test is answered as each row of its case says.
-fn holds(alloc: Global, case: &Case) -> bool {
-    for (cats, wanted) in case.rows {
-        if !is_answered_under(alloc, case.test, cats, *wanted) {
-            return false;
+/// Whether a row holds: a test, behind `+++` models, one a line, and behind `---` what is answered under each of them.
+fn holds(alloc: Global, row: &str) -> bool {
+    let Some((test, cats, wanted)) = parts_of(row) else {
+        return false;
+    };
+    let test = test.strip_suffix('\n').unwrap_or(test);
+    match (expanded(alloc, test), expanded(alloc, wanted)) {
+        (Ok(test), Ok(wanted)) => {
+            is_answered_under_each(alloc, test.as_str(), cats, wanted.as_str())
         }
+        _ => false,
     }
-    true
 }
 
-/// Follows the cases.
-pub fn all_hold(alloc: Global, cases: &[Case]) -> Result<(), Fail> {
-    for case in cases {
-        confirm(holds(alloc, case), case.name)?;
-    }
-    Ok(())
-}
-
-/// The text of these parts, each so many times.
-pub fn repeated(alloc: Global, parts: &[(&str, usize)]) -> Result<String, AllocError> {
-    let mut text = String::new(alloc);
-    for (part, times) in parts {
-        for _ in 0..*times {
-            text.push_str(part)?;
+/// The first row that doesn't hold, or nothing.
+fn first_wrong(alloc: Global, rows: &str) -> &str {
+    for row in rows.split("=== ").skip(1) {
+        if !holds(alloc, row) {
+            return row;
         }
     }
-    Ok(text)
+    ""
 }
 
-/// Whether these bytes are the parts, one behind another.
-pub fn is_made_of(bytes: &[u8], parts: &[&str]) -> bool {
-    let mut rest = bytes;
-    for part in parts {
-        match rest.strip_prefix(part.as_bytes()) {
-            Some(behind) => rest = behind,
-            None => return false,
-        }
-    }
-    rest.is_empty()
+/// Follows the rows.
+pub fn all_hold(alloc: Global, rows: &str) -> Result<(), Fail> {
+    confirm_none(first_wrong(alloc, rows))
 }
 
 /// What is answered to a script under these options, where the reader fails at its end or not and the writer has so much
@@ -199,47 +162,94 @@ pub fn served<T: Threads + Wait + Sync>(
     Ok((outcome, writer))
 }
 
-/// Whether a script is answered as its scene says.
+/// Whether a script ends so.
+fn is_end(alloc: Global, outcome: &Result<(), ServeFault>, end: &str) -> bool {
+    match outcome {
+        Ok(()) => end == "ok\n",
+        Err(fault) => match fault.to_string(alloc) {
+            Ok(shown) => end.strip_suffix('\n') == Some(shown.as_str()),
+            Err(_) => false,
+        },
+    }
+}
+
+/// Whether a script is answered so.
 fn is_played<T: Threads + Wait + Sync>(
     rt: &T,
     alloc: Global,
     script: &str,
-    scene: &Scene,
-    workers: u8,
+    options: &Options,
+    fails: bool,
+    end: &str,
+    answers: &str,
 ) -> bool
-    requires { workers ≤ 8 }
+    requires { options.now.workers ≤ 8 }
 {
-    let limits = scene.limits;
-    let options = Options { workers, limits };
-    match served(rt, alloc, script.as_bytes(), &options, scene.fails, 4096) {
+    match served(rt, alloc, script.as_bytes(), options, fails, 4096) {
         Ok((outcome, writer)) => {
-            outcome == scene.end && is_made_of(writer.bytes(), scene.answers)
+            is_end(alloc, &outcome, end) && writer.bytes() == answers.as_bytes()
         }
         Err(_) => false,
     }
 }
 
-/// Whether a scene's script is answered as it says.
-fn goes_well<T: Threads + Wait + Sync>(rt: &T, alloc: Global, scene: &Scene, workers: u8) -> bool
-    requires { workers ≤ 8 }
+/// Whether the script of a row is answered as it says.
+fn goes_well<T: Threads + Wait + Sync>(
+    rt: &T,
+    alloc: Global,
+    row: &str,
+    options: &Options,
+    fails: bool,
+) -> bool
+    requires { options.now.workers ≤ 8 }
 {
-    match repeated(alloc, scene.script) {
-        Ok(script) => is_played(rt, alloc, script.as_str(), scene, workers),
-        Err(_) => false,
+    let Some((script, end, answers)) = parts_of(row) else {
+        return false;
+    };
+    match (expanded(alloc, script), expanded(alloc, answers)) {
+        (Ok(script), Ok(answers)) => is_played(
+            rt,
+            alloc,
+            script.as_str(),
+            options,
+            fails,
+            end,
+            answers.as_str(),
+        ),
+        _ => false,
     }
 }
 
-/// Plays the scenes, with so many workers.
+/// The first script that doesn't go well, or nothing.
+fn first_lost<T: Threads + Wait + Sync>(
+    rt: &T,
+    alloc: Global,
+    scripts: &Scripts,
+    workers: u8,
+) -> &'static str
+    requires { workers ≤ 8 }
+{
+    let limits = scripts.limits;
+    let options = Options { workers, limits };
+    for row in scripts.rows.split("=== ").skip(1) {
+        if !goes_well(rt, alloc, row, &options, scripts.fails) {
+            return row;
+        }
+    }
+    ""
+}
+
+/// Plays the scripts, with so many workers.
 pub fn all_go_well<T: Threads + Wait + Sync>(
     rt: &T,
     alloc: Global,
-    scenes: &[Scene],
+    groups: &[Scripts],
     workers: u8,
 ) -> Result<(), Fail>
     requires { workers ≤ 8 }
 {
-    for scene in scenes {
-        confirm(goes_well(rt, alloc, scene, workers), scene.name)?;
+    for scripts in groups {
+        confirm_none(first_lost(rt, alloc, scripts, workers))?;
     }
     Ok(())
 }

@@ -23,6 +23,8 @@ mod served;
 #[cfg(test)]
 mod tasks;
 #[cfg(test)]
+mod texts;
+#[cfg(test)]
 mod threads;
 #[cfg(test)]
 mod unchecked;

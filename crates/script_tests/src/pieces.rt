@@ -2,8 +2,8 @@
 
 ghost use Rattle.slices.specs.Parts.{test_size};
 
-use crate::calls::{STORE_BUFFERING, STORE_BUFFERING_SUMMARY, confirm};
-use crate::commands::INDEPENDENT_READS;
+use crate::calls::confirm;
+use crate::texts::{INDEPENDENT_READS, STORE_BUFFERING, STORE_BUFFERING_SUMMARY};
 use cat_model::{Files, Model, resolve};
 use conditions::{Place, observed};
 use litmus_c::read_test;

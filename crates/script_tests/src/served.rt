@@ -1,9 +1,7 @@
 //! Tests of scripts.
 
-use crate::calls::{
-    STORE_BUFFERING, STORE_BUFFERING_SUMMARY, Scene, WIDE, all_go_well, confirm, repeated, served,
-};
-use crate::commands::REPLACED;
+use crate::calls::{Scripts, WIDE, all_go_well, confirm, served};
+use crate::texts::expanded;
 use book::Limits;
 use scripts::{Options, ServeFault, serve};
 use sessions::FinishCause;
@@ -65,8 +63,62 @@ Observation SB Sometimes 1 3
 finish ok 7
 ";
 
-/// An included file that is put again, with equal text, replaces the job.
-const INCLUDED: &str = "0 cat base.cat
+const ANSWERED: &[Scripts] = &[
+    Scripts {
+        limits: WIDE,
+        fails: false,
+        rows: "
+=== script_first
+0 cat none.cat
+.
+0 test
+%SB%.
+0 ask SB none.cat
+0 poll 1
+1 claim
+1 return 1
+0 poll 1
++++
+ok
+---
+version none.cat 1
+version SB 1
+job 1
+pending 0 1
+piece 1 job 1 slice 0 from 0 to 16
+taken 1 1
+verdict SB 1 none.cat 1
+%SB summary%finish ok 7
+=== names of 64 bytes
+0 cat abcdefghijklmnopqrstuvwxyzabcdefghijklmnopqrstuvwxyzabcdefghijkl
+.
+0 test
+C abcdefghijklmnopqrstuvwxyzabcdefghijklmnopqrstuvwxyzabcdefghijkl
+{}
+P0 () {}
+exists true
+.
+0 ask abcdefghijklmnopqrstuvwxyzabcdefghijklmnopqrstuvwxyzabcdefghijkl abcdefghijklmnopqrstuvwxyzabcdefghijklmnopqrstuvwxyzabcdefghijkl
+0 list
+0 dropcat abcdefghijklmnopqrstuvwxyzabcdefghijklmnopqrstuvwxyzabcdefghijkl
+0 droptest abcdefghijklmnopqrstuvwxyzabcdefghijklmnopqrstuvwxyzabcdefghijkl
+0 poll 1
++++
+ok
+---
+version abcdefghijklmnopqrstuvwxyzabcdefghijklmnopqrstuvwxyzabcdefghijkl 1
+version abcdefghijklmnopqrstuvwxyzabcdefghijklmnopqrstuvwxyzabcdefghijkl 1
+job 1
+test abcdefghijklmnopqrstuvwxyzabcdefghijklmnopqrstuvwxyzabcdefghijkl 1
+cat abcdefghijklmnopqrstuvwxyzabcdefghijklmnopqrstuvwxyzabcdefghijkl 1
+job 1 abcdefghijklmnopqrstuvwxyzabcdefghijklmnopqrstuvwxyzabcdefghijkl abcdefghijklmnopqrstuvwxyzabcdefghijklmnopqrstuvwxyzabcdefghijkl 0 1
+end
+version abcdefghijklmnopqrstuvwxyzabcdefghijklmnopqrstuvwxyzabcdefghijkl 2
+version abcdefghijklmnopqrstuvwxyzabcdefghijklmnopqrstuvwxyzabcdefghijkl 2
+refused 79 Replaced test abcdefghijklmnopqrstuvwxyzabcdefghijklmnopqrstuvwxyzabcdefghijkl 2
+finish ok 7
+=== script_replaced
+0 cat base.cat
 let com = rf | co | fr
 .
 0 cat sc.cat
@@ -74,16 +126,7 @@ include \"base.cat\"
 acyclic po | com as sc
 .
 0 test
-C SB {}
-P0 (atomic_int* x, atomic_int* y) {
-  atomic_store_explicit(x, 1, memory_order_relaxed);
-  int r0 = atomic_load_explicit(y, memory_order_relaxed);
-}
-P1 (atomic_int* x, atomic_int* y) {
-  atomic_store_explicit(y, 1, memory_order_relaxed);
-  int r0 = atomic_load_explicit(x, memory_order_relaxed);
-}
-exists (0:r0=0 /\\ 1:r0=0)
+%store buffering%
 .
 0 ask SB sc.cat
 1 claim
@@ -97,9 +140,10 @@ let com = rf | co | fr
 1 claim
 1 return 2
 0 poll 2
-";
-
-const INCLUDED_ANSWERS: &str = "version base.cat 1
++++
+ok
+---
+version base.cat 1
 version sc.cat 1
 version SB 1
 job 1
@@ -112,268 +156,225 @@ job 2
 piece 2 job 2 slice 0 from 0 to 16
 taken 1 1
 verdict SB 1 sc.cat 1 base.cat 2
-Test SB Allowed
-States 3
-0:r0=0; 1:r0=1;
-0:r0=1; 1:r0=0;
-0:r0=1; 1:r0=1;
-No
-Witnesses
-Positive: 0 Negative: 3
-Condition exists (0:r0=0 /\\ 1:r0=0)
-Observation SB Never 0 3
-finish ok 13
-";
-
-/// A name of 64 bytes.
-const LONG_NAME: &str = "abcdefghijklmnopqrstuvwxyzabcdefghijklmnopqrstuvwxyzabcdefghijkl";
-
-const ANSWERED: &[Scene] = &[
-    Scene {
-        name: "script_first",
-        limits: WIDE,
-        script: &[(FIRST, 1)],
-        fails: false,
-        end: Ok(()),
-        answers: &[FIRST_ANSWERS],
+%SB never%finish ok 13
+=== a_built_in_model
+0 test
+%SB%.
+0 ask SB rc11.cat
+1 claim
+1 return 1
+0 poll 1
++++
+ok
+---
+version SB 1
+job 1
+piece 1 job 1 slice 0 from 0 to 16
+taken 1 1
+verdict SB 1 rc11.cat 0
+%SB summary%finish ok 5
+=== a_model_is_refused
+0 test
+%SB%.
+0 ask SB a.cat
+0 cat a.cat
+include \"b.cat\"
+.
+0 ask SB a.cat
++++
+ok
+---
+version SB 1
+refused 74 Model 61 NoCat a.cat
+version a.cat 1
+refused 74 Model 62 NoInclude b.cat
+finish ok 4
+=== Cat-functions-row-4
+0 test
+%SB%.
+0 cat a.cat
+let f(x) = x | x
+%15 times let f(x) = f(x) | f(x)
+%empty f(0)
+.
+0 ask SB a.cat
+0 cat b.cat
+let f(x) = x | x
+%14 times let f(x) = f(x) | f(x)
+%empty f(0)
+.
+0 ask SB b.cat
+1 claim
+1 return 1
+0 poll 1
++++
+ok
+---
+version SB 1
+version a.cat 1
+refused 74 Model 69 CallsTooLarge empty
+version b.cat 1
+job 1
+piece 1 job 1 slice 0 from 0 to 16
+taken 1 1
+verdict SB 1 b.cat 1
+%SB summary%finish ok 8
+=== Cat-functions-row-5
+0 cat base.cat
+let f(x) = x | fr
+.
+0 cat sc.cat
+include \"base.cat\"
+acyclic f(po | rf | co) as sc
+.
+0 test
+%SB%.
+0 ask SB sc.cat
+1 claim
+0 cat base.cat
+let f(x) = x
+.
+1 return 1
+0 poll 1
+0 ask SB sc.cat
+1 claim
+1 return 2
+0 poll 2
++++
+ok
+---
+version base.cat 1
+version sc.cat 1
+version SB 1
+job 1
+piece 1 job 1 slice 0 from 0 to 16
+version base.cat 2
+refused 79 Replaced cat base.cat 2
+refused 79 Replaced cat base.cat 2
+job 2
+piece 2 job 2 slice 0 from 0 to 16
+taken 1 1
+verdict SB 1 sc.cat 1 base.cat 2
+%SB summary%finish ok 12
+=== a_piece_is_returned_twice
+0 test
+%SB%.
+0 ask SB stdlib.cat
+1 claim
+1 claim
+1 return 1
+1 return 1
++++
+ok
+---
+version SB 1
+job 1
+piece 1 job 1 slice 0 from 0 to 16
+nothing
+taken 1 1
+refused 78 NoClaim 1
+finish ok 6
+=== refusals: an open comment
+0 test
+C SB
+{ /*
+.
++++
+ok
+---
+refused 72 Reading 11 Text 3 OpenComment
+finish ok 1
+=== refusals: a cat text that is no model
+0 cat a.cat
+let
+.
++++
+ok
+---
+refused 72 Reading 52 Syntax 4
+finish ok 1
+=== refusals: no test
+0 ask SB a.cat
++++
+ok
+---
+refused 73 NoTest SB
+finish ok 1
+=== refusals: no job 0
+0 poll 0
++++
+ok
+---
+refused 77 NoJob 0
+finish ok 1
+=== refusals: no job, with remarks and carriage returns
+# remark\r
+\r
+0 poll 4294967295\r
++++
+ok
+---
+refused 77 NoJob 4294967295
+finish ok 1
+=== refusals: nothing to claim, without a line feed
+7 claim+++
+ok
+---
+nothing
+finish ok 1
+",
     },
-    Scene {
-        name: "full_journal",
+    Scripts {
         limits: Limits {
             journal: 3,
             versions: 1,
             claims: 10,
         },
-        script: &[
-            ("0 test\n", 1),
-            (STORE_BUFFERING, 1),
-            (".\n0 test\n", 1),
-            (STORE_BUFFERING, 1),
-            (".\n0 test\n", 1),
-            (STORE_BUFFERING, 1),
-            (".\n0 test\n", 1),
-            (STORE_BUFFERING, 1),
-            (".\n", 1),
-        ],
         fails: false,
-        end: Ok(()),
-        answers: &[
-            "version SB 1\nrefused 81 VersionsSpent SB\nrefused 81 VersionsSpent SB\nnot taken JournalFull\nfinish ok 3\n",
-        ],
+        rows: "
+=== full_journal
+0 test
+%SB%.
+0 test
+%SB%.
+0 test
+%SB%.
+0 test
+%SB%.
++++
+ok
+---
+version SB 1
+refused 81 VersionsSpent SB
+refused 81 VersionsSpent SB
+not taken JournalFull
+finish ok 3
+",
     },
-    Scene {
-        name: "replaced_file",
+    Scripts {
         limits: Limits {
             journal: 4,
             versions: 1,
             claims: 10,
         },
-        script: &[
-            ("0 test\n", 1),
-            (STORE_BUFFERING, 1),
-            (".\n0 ask SB stdlib.cat\n0 cat stdlib.cat\n.\n0 poll 1\n", 1),
-        ],
         fails: false,
-        end: Ok(()),
-        answers: &[
-            "version SB 1\njob 1\nversion stdlib.cat 1\nrefused 79 Replaced cat stdlib.cat 1\nfinish ok 4\n",
-        ],
-    },
-    Scene {
-        name: "names of 64 bytes",
-        limits: WIDE,
-        script: &[
-            ("0 cat ", 1),
-            (LONG_NAME, 1),
-            ("\n.\n0 test\nC ", 1),
-            (LONG_NAME, 1),
-            ("\n{}\nP0 () {}\nexists true\n.\n0 ask ", 1),
-            (LONG_NAME, 1),
-            (" ", 1),
-            (LONG_NAME, 1),
-            ("\n0 list\n0 dropcat ", 1),
-            (LONG_NAME, 1),
-            ("\n0 droptest ", 1),
-            (LONG_NAME, 1),
-            ("\n0 poll 1\n", 1),
-        ],
-        fails: false,
-        end: Ok(()),
-        answers: &[
-            "version ",
-            LONG_NAME,
-            " 1\nversion ",
-            LONG_NAME,
-            " 1\njob 1\ntest ",
-            LONG_NAME,
-            " 1\ncat ",
-            LONG_NAME,
-            " 1\njob 1 ",
-            LONG_NAME,
-            " ",
-            LONG_NAME,
-            " 0 1\nend\nversion ",
-            LONG_NAME,
-            " 2\nversion ",
-            LONG_NAME,
-            " 2\nrefused 79 Replaced test ",
-            LONG_NAME,
-            " 2\nfinish ok 7\n",
-        ],
-    },
-    Scene {
-        name: "script_replaced",
-        limits: WIDE,
-        script: &[(INCLUDED, 1)],
-        fails: false,
-        end: Ok(()),
-        answers: &[INCLUDED_ANSWERS],
-    },
-    Scene {
-        name: "a_built_in_model",
-        limits: WIDE,
-        script: &[
-            ("0 test\n", 1),
-            (STORE_BUFFERING, 1),
-            (".\n0 ask SB rc11.cat\n1 claim\n1 return 1\n0 poll 1\n", 1),
-        ],
-        fails: false,
-        end: Ok(()),
-        answers: &[
-            "version SB 1\njob 1\npiece 1 job 1 slice 0 from 0 to 16\ntaken 1 1\nverdict SB 1 rc11.cat 0\n",
-            STORE_BUFFERING_SUMMARY,
-            "finish ok 5\n",
-        ],
-    },
-    Scene {
-        name: "a_model_is_refused",
-        limits: WIDE,
-        script: &[
-            ("0 test\n", 1),
-            (STORE_BUFFERING, 1),
-            (
-                ".\n0 ask SB a.cat\n0 cat a.cat\ninclude \"b.cat\"\n.\n0 ask SB a.cat\n",
-                1,
-            ),
-        ],
-        fails: false,
-        end: Ok(()),
-        answers: &[
-            "version SB 1\nrefused 74 Model 61 NoCat a.cat\nversion a.cat 1\nrefused 74 Model 62 NoInclude b.cat\nfinish ok 4\n",
-        ],
-    },
-    Scene {
-        name: "Cat-functions-row-4",
-        limits: WIDE,
-        script: &[
-            ("0 test\n", 1),
-            (STORE_BUFFERING, 1),
-            (".\n0 cat a.cat\nlet f(x) = x | x\n", 1),
-            ("let f(x) = f(x) | f(x)\n", 15),
-            (
-                "empty f(0)\n.\n0 ask SB a.cat\n0 cat b.cat\nlet f(x) = x | x\n",
-                1,
-            ),
-            ("let f(x) = f(x) | f(x)\n", 14),
-            (
-                "empty f(0)\n.\n0 ask SB b.cat\n1 claim\n1 return 1\n0 poll 1\n",
-                1,
-            ),
-        ],
-        fails: false,
-        end: Ok(()),
-        answers: &[
-            "version SB 1\nversion a.cat 1\nrefused 74 Model 69 CallsTooLarge empty\nversion b.cat 1\njob 1\npiece 1 job 1 slice 0 from 0 to 16\ntaken 1 1\nverdict SB 1 b.cat 1\n",
-            STORE_BUFFERING_SUMMARY,
-            "finish ok 8\n",
-        ],
-    },
-    Scene {
-        name: "Cat-functions-row-5",
-        limits: WIDE,
-        script: &[
-            (
-                "0 cat base.cat\nlet f(x) = x | fr\n.\n0 cat sc.cat\ninclude \"base.cat\"\nacyclic f(po | rf | co) as sc\n.\n0 test\n",
-                1,
-            ),
-            (STORE_BUFFERING, 1),
-            (
-                ".\n0 ask SB sc.cat\n1 claim\n0 cat base.cat\nlet f(x) = x\n.\n1 return 1\n0 poll 1\n0 ask SB sc.cat\n1 claim\n1 return 2\n0 poll 2\n",
-                1,
-            ),
-        ],
-        fails: false,
-        end: Ok(()),
-        answers: &[
-            "version base.cat 1\nversion sc.cat 1\nversion SB 1\njob 1\npiece 1 job 1 slice 0 from 0 to 16\nversion base.cat 2\nrefused 79 Replaced cat base.cat 2\nrefused 79 Replaced cat base.cat 2\njob 2\npiece 2 job 2 slice 0 from 0 to 16\ntaken 1 1\nverdict SB 1 sc.cat 1 base.cat 2\n",
-            STORE_BUFFERING_SUMMARY,
-            "finish ok 12\n",
-        ],
-    },
-    Scene {
-        name: "a_piece_is_returned_twice",
-        limits: WIDE,
-        script: &[
-            ("0 test\n", 1),
-            (STORE_BUFFERING, 1),
-            (
-                ".\n0 ask SB stdlib.cat\n1 claim\n1 claim\n1 return 1\n1 return 1\n",
-                1,
-            ),
-        ],
-        fails: false,
-        end: Ok(()),
-        answers: &[
-            "version SB 1\njob 1\npiece 1 job 1 slice 0 from 0 to 16\nnothing\ntaken 1 1\nrefused 78 NoClaim 1\nfinish ok 6\n",
-        ],
-    },
-    Scene {
-        name: "refusals: an open comment",
-        limits: WIDE,
-        script: &[("0 test\nC SB\n{ /*\n.\n", 1)],
-        fails: false,
-        end: Ok(()),
-        answers: &["refused 72 Reading 11 Text 3 OpenComment\nfinish ok 1\n"],
-    },
-    Scene {
-        name: "refusals: a cat text that is no model",
-        limits: WIDE,
-        script: &[("0 cat a.cat\nlet\n.\n", 1)],
-        fails: false,
-        end: Ok(()),
-        answers: &["refused 72 Reading 52 Syntax 4\nfinish ok 1\n"],
-    },
-    Scene {
-        name: "refusals: no test",
-        limits: WIDE,
-        script: &[("0 ask SB a.cat\n", 1)],
-        fails: false,
-        end: Ok(()),
-        answers: &["refused 73 NoTest SB\nfinish ok 1\n"],
-    },
-    Scene {
-        name: "refusals: no job 0",
-        limits: WIDE,
-        script: &[("0 poll 0\n", 1)],
-        fails: false,
-        end: Ok(()),
-        answers: &["refused 77 NoJob 0\nfinish ok 1\n"],
-    },
-    Scene {
-        name: "refusals: no job, with remarks and carriage returns",
-        limits: WIDE,
-        script: &[("# remark\r\n\r\n0 poll 4294967295\r\n", 1)],
-        fails: false,
-        end: Ok(()),
-        answers: &["refused 77 NoJob 4294967295\nfinish ok 1\n"],
-    },
-    Scene {
-        name: "refusals: nothing to claim, without a line feed",
-        limits: WIDE,
-        script: &[("7 claim", 1)],
-        fails: false,
-        end: Ok(()),
-        answers: &["nothing\nfinish ok 1\n"],
+        rows: "
+=== replaced_file
+0 test
+%SB%.
+0 ask SB stdlib.cat
+0 cat stdlib.cat
+.
+0 poll 1
++++
+ok
+---
+version SB 1
+job 1
+version stdlib.cat 1
+refused 79 Replaced cat stdlib.cat 1
+finish ok 4
+",
     },
 ];
 
@@ -382,234 +383,205 @@ fn answered(rt: HostRuntime) -> Result<(), Fail> {
     all_go_well(&rt, rt.alloc(), ANSWERED, 0)
 }
 
-const BAD_LINES: &[Scene] = &[
-    Scene {
-        name: "bad_lines: seat 8",
-        limits: WIDE,
-        script: &[("8 claim\n", 1)],
-        fails: false,
-        end: Err(ServeFault::BadLine(1)),
-        answers: &["bad line 1\n"],
-    },
-    Scene {
-        name: "bad_lines: no seat",
-        limits: WIDE,
-        script: &[("claim\n", 1)],
-        fails: false,
-        end: Err(ServeFault::BadLine(1)),
-        answers: &["bad line 1\n"],
-    },
-    Scene {
-        name: "bad_lines: a blank behind",
-        limits: WIDE,
-        script: &[("0 claim \n", 1)],
-        fails: false,
-        end: Err(ServeFault::BadLine(1)),
-        answers: &["bad line 1\n"],
-    },
-    Scene {
-        name: "bad_lines: a blank before",
-        limits: WIDE,
-        script: &[(" 0 claim\n", 1)],
-        fails: false,
-        end: Err(ServeFault::BadLine(1)),
-        answers: &["bad line 1\n"],
-    },
-    Scene {
-        name: "bad_lines: two blanks",
-        limits: WIDE,
-        script: &[("0  claim\n", 1)],
-        fails: false,
-        end: Err(ServeFault::BadLine(1)),
-        answers: &["bad line 1\n"],
-    },
-    Scene {
-        name: "bad_lines: a tab",
-        limits: WIDE,
-        script: &[("0\tclaim\n", 1)],
-        fails: false,
-        end: Err(ServeFault::BadLine(1)),
-        answers: &["bad line 1\n"],
-    },
-    Scene {
-        name: "bad_lines: a word too many",
-        limits: WIDE,
-        script: &[("0 claim 1\n", 1)],
-        fails: false,
-        end: Err(ServeFault::BadLine(1)),
-        answers: &["bad line 1\n"],
-    },
-    Scene {
-        name: "bad_lines: a leading zero",
-        limits: WIDE,
-        script: &[("0 poll 01\n", 1)],
-        fails: false,
-        end: Err(ServeFault::BadLine(1)),
-        answers: &["bad line 1\n"],
-    },
-    Scene {
-        name: "bad_lines: a number too large",
-        limits: WIDE,
-        script: &[("0 poll 4294967296\n", 1)],
-        fails: false,
-        end: Err(ServeFault::BadLine(1)),
-        answers: &["bad line 1\n"],
-    },
-    Scene {
-        name: "bad_lines: a sign before the number",
-        limits: WIDE,
-        script: &[("0 poll +1\n", 1)],
-        fails: false,
-        end: Err(ServeFault::BadLine(1)),
-        answers: &["bad line 1\n"],
-    },
-    Scene {
-        name: "bad_lines: no number",
-        limits: WIDE,
-        script: &[("0 poll\n", 1)],
-        fails: false,
-        end: Err(ServeFault::BadLine(1)),
-        answers: &["bad line 1\n"],
-    },
-    Scene {
-        name: "bad_lines: one name",
-        limits: WIDE,
-        script: &[("0 ask SB\n", 1)],
-        fails: false,
-        end: Err(ServeFault::BadLine(1)),
-        answers: &["bad line 1\n"],
-    },
-    Scene {
-        name: "bad_lines: a blank behind the names",
-        limits: WIDE,
-        script: &[("0 ask SB a.cat \n", 1)],
-        fails: false,
-        end: Err(ServeFault::BadLine(1)),
-        answers: &["bad line 1\n"],
-    },
-    Scene {
-        name: "bad_lines: a byte that no name has",
-        limits: WIDE,
-        script: &[("0 cat \x07\n.\n", 1)],
-        fails: false,
-        end: Err(ServeFault::BadLine(1)),
-        answers: &["bad line 1\n"],
-    },
-    Scene {
-        name: "Hostile-input-row-7: a piece that was never given",
-        limits: WIDE,
-        script: &[("0 return 5\n", 1)],
-        fails: false,
-        end: Err(ServeFault::BadLine(1)),
-        answers: &["bad line 1\n"],
-    },
-    Scene {
-        name: "bad_lines: a piece that only work was given",
-        limits: WIDE,
-        script: &[
-            ("0 test\n", 1),
-            (STORE_BUFFERING, 1),
-            (".\n0 ask SB stdlib.cat\nwork\n1 return 1\n", 1),
-        ],
-        fails: false,
-        end: Err(ServeFault::BadLine(16)),
-        answers: &["version SB 1\njob 1\nworked 1 0 0\nbad line 16\n"],
-    },
-    Scene {
-        name: "bad_lines: work at a seat",
-        limits: WIDE,
-        script: &[("0 work\n", 1)],
-        fails: false,
-        end: Err(ServeFault::BadLine(1)),
-        answers: &["bad line 1\n"],
-    },
-    Scene {
-        name: "bad_lines: a name behind close",
-        limits: WIDE,
-        script: &[("0 list\n0 close SB\n", 1)],
-        fails: false,
-        end: Err(ServeFault::BadLine(2)),
-        answers: &["end\nbad line 2\n"],
-    },
-    Scene {
-        name: "bad_lines: a drop of no name",
-        limits: WIDE,
-        script: &[("0 droptest\n", 1)],
-        fails: false,
-        end: Err(ServeFault::BadLine(1)),
-        answers: &["bad line 1\n"],
-    },
-    Scene {
-        name: "bad_lines: a carriage return alone",
-        limits: WIDE,
-        script: &[("0 claim\r", 1)],
-        fails: false,
-        end: Err(ServeFault::BadLine(1)),
-        answers: &["bad line 1\n"],
-    },
-    Scene {
-        name: "a_text_without_its_end",
-        limits: WIDE,
-        script: &[("0 test\nC SB\n\n", 1)],
-        fails: false,
-        end: Err(ServeFault::BadLine(3)),
-        answers: &["bad line 3\n"],
-    },
-];
+const BAD_LINES: &[Scripts] = &[Scripts {
+    limits: WIDE,
+    fails: false,
+    rows: "
+=== bad_lines: seat 8
+8 claim
++++
+98 BadLine 1
+---
+bad line 1
+=== bad_lines: no seat
+claim
++++
+98 BadLine 1
+---
+bad line 1
+=== bad_lines: a blank behind
+0 claim 
++++
+98 BadLine 1
+---
+bad line 1
+=== bad_lines: a blank before
+ 0 claim
++++
+98 BadLine 1
+---
+bad line 1
+=== bad_lines: two blanks
+0  claim
++++
+98 BadLine 1
+---
+bad line 1
+=== bad_lines: a tab
+0\tclaim
++++
+98 BadLine 1
+---
+bad line 1
+=== bad_lines: a word too many
+0 claim 1
++++
+98 BadLine 1
+---
+bad line 1
+=== bad_lines: a leading zero
+0 poll 01
++++
+98 BadLine 1
+---
+bad line 1
+=== bad_lines: a number too large
+0 poll 4294967296
++++
+98 BadLine 1
+---
+bad line 1
+=== bad_lines: a sign before the number
+0 poll +1
++++
+98 BadLine 1
+---
+bad line 1
+=== bad_lines: no number
+0 poll
++++
+98 BadLine 1
+---
+bad line 1
+=== bad_lines: one name
+0 ask SB
++++
+98 BadLine 1
+---
+bad line 1
+=== bad_lines: a blank behind the names
+0 ask SB a.cat 
++++
+98 BadLine 1
+---
+bad line 1
+=== bad_lines: a byte that no name has
+0 cat \x07
+.
++++
+98 BadLine 1
+---
+bad line 1
+=== Hostile-input-row-7: a piece that was never given
+0 return 5
++++
+98 BadLine 1
+---
+bad line 1
+=== bad_lines: a piece that only work was given
+0 test
+%SB%.
+0 ask SB stdlib.cat
+work
+1 return 1
++++
+98 BadLine 16
+---
+version SB 1
+job 1
+worked 1 0 0
+bad line 16
+=== bad_lines: work at a seat
+0 work
++++
+98 BadLine 1
+---
+bad line 1
+=== bad_lines: a name behind close
+0 list
+0 close SB
++++
+98 BadLine 2
+---
+end
+bad line 2
+=== bad_lines: a drop of no name
+0 droptest
++++
+98 BadLine 1
+---
+bad line 1
+=== bad_lines: a carriage return alone
+0 claim\r+++
+98 BadLine 1
+---
+bad line 1
+=== a_text_without_its_end
+0 test
+C SB
+
++++
+98 BadLine 3
+---
+bad line 3
+",
+}];
 
 #[test]
 fn bad_lines(rt: HostRuntime) -> Result<(), Fail> {
     all_go_well(&rt, rt.alloc(), BAD_LINES, 0)
 }
 
-const LONG: &[Scene] = &[
-    Scene {
-        name: "long_lines: 65,536 bytes",
+const LONG: &[Scripts] = &[
+    Scripts {
         limits: WIDE,
-        script: &[("#", 65536)],
         fails: false,
-        end: Ok(()),
-        answers: &["finish ok 0\n"],
+        rows: "
+=== long_lines: 65,536 bytes
+%65536 times #%+++
+ok
+---
+finish ok 0
+=== Hostile-input-row-7: a line of 65,537 bytes
+%65537 times #%+++
+98 BadLine 1
+---
+bad line 1
+=== a_long_text_is_too_long
+0 test
+%7000 times 0123456789
+%.
++++
+ok
+---
+refused 72 Reading 11 Text 6 TooLong
+finish ok 1
+=== many_lines: 1,000,000
+%1000000 times 
+%+++
+ok
+---
+finish ok 0
+=== Hostile-input-row-7: a line more than 1,000,000
+%1000000 times 
+%#+++
+96 Read
+---
+",
     },
-    Scene {
-        name: "Hostile-input-row-7: a line of 65,537 bytes",
+    Scripts {
         limits: WIDE,
-        script: &[("#", 65537)],
-        fails: false,
-        end: Err(ServeFault::BadLine(1)),
-        answers: &["bad line 1\n"],
-    },
-    Scene {
-        name: "a_long_text_is_too_long",
-        limits: WIDE,
-        script: &[("0 test\n", 1), ("0123456789\n", 7000), (".\n", 1)],
-        fails: false,
-        end: Ok(()),
-        answers: &["refused 72 Reading 11 Text 6 TooLong\nfinish ok 1\n"],
-    },
-    Scene {
-        name: "many_lines: 1,000,000",
-        limits: WIDE,
-        script: &[("\n", 1000000)],
-        fails: false,
-        end: Ok(()),
-        answers: &["finish ok 0\n"],
-    },
-    Scene {
-        name: "Hostile-input-row-7: a line more than 1,000,000",
-        limits: WIDE,
-        script: &[("\n", 1000000), ("#", 1)],
-        fails: false,
-        end: Err(ServeFault::Read),
-        answers: &[],
-    },
-    Scene {
-        name: "Hostile-input-row-6: a reader that fails",
-        limits: WIDE,
-        script: &[("0 cat none.cat\n.\n0 test\n", 1)],
         fails: true,
-        end: Err(ServeFault::Read),
-        answers: &["version none.cat 1\n"],
+        rows: "
+=== Hostile-input-row-6: a reader that fails
+0 cat none.cat
+.
+0 test
++++
+96 Read
+---
+version none.cat 1
+",
     },
 ];
 
@@ -675,9 +647,33 @@ fn each_prefix_ends_well<T: Threads + Wait + Sync>(rt: &T, alloc: Global, script
     true
 }
 
+/// The script of row script_replaced.
+const REPLACED: &str = "0 cat base.cat
+let com = rf | co | fr
+.
+0 cat sc.cat
+include \"base.cat\"
+acyclic po | com as sc
+.
+0 test
+%SB%.
+0 ask SB sc.cat
+1 claim
+0 cat base.cat
+let com = rf | co | fr
+.
+1 return 1
+1 return 1
+0 poll 1
+0 ask SB sc.cat
+work
+0 poll 2
+0 list
+";
+
 #[test]
 fn hostile_input_row_1(rt: HostRuntime) -> Result<(), Fail> {
-    let script = repeated(rt.alloc(), REPLACED)?;
+    let script = expanded(rt.alloc(), REPLACED)?;
     confirm(
         each_prefix_ends_well(&rt, rt.alloc(), script.as_bytes()),
         "each prefix",

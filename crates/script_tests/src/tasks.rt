@@ -2,9 +2,8 @@
 
 ghost use Rattle.command_line.specs.Words.{IsInRange};
 
-use crate::calls::{
-    Parts, STORE_BUFFERING, STORE_BUFFERING_SUMMARY, confirm, is_made_of, repeated,
-};
+use crate::calls::confirm;
+use crate::texts::expanded;
 use crate::words::called;
 use command_line::{Task, read_task};
 use program::do_task;
@@ -14,116 +13,114 @@ use std::test::Fail;
 use std::thread::Threads;
 use wb_text::{MemSink, MemSource};
 
-/// Words behind the program's name, an input of parts, how much room the writer has, and then the status and what is written.
+/// Words behind the program's name, an input, how much room the writer has, and then the status and what is written. The input and what is
+/// written may have names of texts.
 struct Row {
     name: &'static str,
-    words: &'static [&'static str],
-    input: Parts,
+    words: &'static str,
+    input: &'static str,
     room: usize,
     status: u8,
-    written: &'static [&'static str],
+    written: &'static str,
 }
 
 const ROWS: &[Row] = &[
     Row {
         name: "sb_relaxed, by --alone",
-        words: &["--alone"],
-        input: &[(STORE_BUFFERING, 1)],
+        words: "--alone",
+        input: "%SB%",
         room: 1000,
         status: 0,
-        written: &[STORE_BUFFERING_SUMMARY],
+        written: "%SB summary%",
     },
     Row {
         name: "reading_faults, by --alone",
-        words: &["--alone"],
-        input: &[("C SB\n{", 1)],
+        words: "--alone",
+        input: "C SB\n{",
         room: 1000,
         status: 2,
-        written: &["refused 12 Syntax 6\n"],
+        written: "refused 12 Syntax 6\n",
     },
     Row {
         name: "a word that is left out, by --alone",
-        words: &["--alone"],
-        input: &[("C E { 0:r0 = 1; } P0 () { while (r0) {} } exists true\n", 1)],
+        words: "--alone",
+        input: "C E { 0:r0 = 1; } P0 () { while (r0) {} } exists true\n",
         room: 1000,
         status: 2,
-        written: &["refused 17 Unsupported while\n"],
+        written: "refused 17 Unsupported while\n",
     },
     Row {
         name: "a writer that fails within a summary",
-        words: &["--alone"],
-        input: &[(STORE_BUFFERING, 1)],
+        words: "--alone",
+        input: "%SB%",
         room: 16,
         status: 1,
-        written: &["Test SB Allowed\n"],
+        written: "Test SB Allowed\n",
     },
     Row {
         name: "a writer that fails within a refusal",
-        words: &["--alone"],
-        input: &[("C SB\n{", 1)],
+        words: "--alone",
+        input: "C SB\n{",
         room: 8,
         status: 1,
-        written: &["refused "],
+        written: "refused ",
     },
     Row {
         name: "journal_full, by --journal 3",
-        words: &["--journal", "3"],
-        input: &[("0 list\n", 4)],
+        words: "--journal 3",
+        input: "%4 times 0 list\n%",
         room: 1000,
         status: 0,
-        written: &["end\nend\nend\nnot taken JournalFull\nfinish ok 3\n"],
+        written: "end\nend\nend\nnot taken JournalFull\nfinish ok 3\n",
     },
     Row {
         name: "a journal of 12, by --journal=12",
-        words: &["--journal=12"],
-        input: &[("0 close\n", 1), ("0 list\n", 12)],
+        words: "--journal=12",
+        input: "0 close\n%12 times 0 list\n%",
         room: 1000,
         status: 0,
-        written: &[
-            "done\nrefused 71 Closed\nrefused 71 Closed\nrefused 71 Closed\nrefused 71 Closed\nrefused 71 Closed\nrefused 71 Closed\n",
-            "refused 71 Closed\nrefused 71 Closed\nrefused 71 Closed\nrefused 71 Closed\nrefused 71 Closed\nnot taken JournalFull\nfinish ok 12\n",
-        ],
+        written: "done\nrefused 71 Closed\nrefused 71 Closed\nrefused 71 Closed\nrefused 71 Closed\nrefused 71 Closed\nrefused 71 Closed\nrefused 71 Closed\nrefused 71 Closed\nrefused 71 Closed\nrefused 71 Closed\nrefused 71 Closed\nnot taken JournalFull\nfinish ok 12\n",
     },
     // Each worker that ends on one claim adds an entry: two of them, and with no word one.
     Row {
         name: "two workers, by --workers 2",
-        words: &["--workers", "2"],
-        input: &[("work\n", 1)],
+        words: "--workers 2",
+        input: "work\n",
         room: 1000,
         status: 0,
-        written: &["worked 0 0 0\nfinish ok 2\n"],
+        written: "worked 0 0 0\nfinish ok 2\n",
     },
     Row {
         name: "eight workers and a journal of 5",
-        words: &["--workers=8", "--journal=5"],
-        input: &[("work\n", 1)],
+        words: "--workers=8 --journal=5",
+        input: "work\n",
         room: 1000,
         status: 0,
-        written: &["worked 0 0 3\nfinish ok 5\n"],
+        written: "worked 0 0 3\nfinish ok 5\n",
     },
     Row {
         name: "one worker, where no word says how many",
-        words: &[],
-        input: &[("work\n", 1)],
+        words: "",
+        input: "work\n",
         room: 1000,
         status: 0,
-        written: &["worked 0 0 0\nfinish ok 1\n"],
+        written: "worked 0 0 0\nfinish ok 1\n",
     },
     Row {
         name: "Hostile-input-row-7: a piece that was never given",
-        words: &[],
-        input: &[("0 list\n0 return 5\n", 1)],
+        words: "",
+        input: "0 list\n0 return 5\n",
         room: 1000,
         status: 2,
-        written: &["end\nbad line 2\n"],
+        written: "end\nbad line 2\n",
     },
     Row {
         name: "a writer that fails within an answer",
-        words: &[],
-        input: &[("0 list\n", 2)],
+        words: "",
+        input: "%2 times 0 list\n%",
         room: 6,
         status: 1,
-        written: &["end\nen"],
+        written: "end\nen",
     },
 ];
 
@@ -143,14 +140,22 @@ fn done<T: Threads + Wait + Sync>(
     Ok((status, writer))
 }
 
+/// Whether these bytes are a text with names of texts.
+fn is_written(alloc: Global, bytes: &[u8], wanted: &str) -> bool {
+    match expanded(alloc, wanted) {
+        Ok(text) => bytes == text.as_bytes(),
+        Err(_) => false,
+    }
+}
+
 /// Whether the task of a row has this status, with this written.
 fn is_done<T: Threads + Wait + Sync>(rt: &T, alloc: Global, task: Task, row: &Row) -> bool
     requires { IsInRange task }
 {
-    match repeated(alloc, row.input) {
+    match expanded(alloc, row.input) {
         Ok(input) => match done(rt, alloc, task, input.as_bytes(), row.room) {
             Ok((status, writer)) => {
-                status == row.status && is_made_of(writer.bytes(), row.written)
+                status == row.status && is_written(alloc, writer.bytes(), row.written)
             }
             Err(_) => false,
         },

@@ -2,50 +2,59 @@
 
 ghost use Rattle.std.specs.Prelude.{◌≤◌};
 
-use crate::calls::{
-    Answer, Case, STORE_BUFFERING, STORE_BUFFERING_SUMMARY, all_hold, confirm, summarized,
-};
+use crate::calls::{all_hold, confirm, summarized};
+use crate::texts::{STORE_BUFFERING, STORE_BUFFERING_SUMMARY};
 use alone::{OneFault, one};
 use std::alloc::{AllocError, Global};
 use std::test::Fail;
 use wb_text::{MemSink, MemSource};
 
-const CASES: &[Case] = &[
-    Case {
-        name: "sb_relaxed",
-        test: STORE_BUFFERING,
-        rows: &[(&[""], Answer::Is(STORE_BUFFERING_SUMMARY))],
-    },
-    Case {
-        name: "empty_thread",
-        test: "C E\n{ x; }\nP0 () {}\nexists (x=0)\n",
-        rows: &[(
-            &[""],
-            Answer::Is(
-                "Test E Allowed\nStates 1\n[x]=0;\nOk\nWitnesses\nPositive: 1 Negative: 0\nCondition exists ([x]=0)\nObservation E Always 1 0\n",
-            ),
-        )],
-    },
-    Case {
-        name: "empty_thread_of_no_place",
-        test: "C E\n{}\nP0 () {}\nexists true\n",
-        rows: &[(
-            &[""],
-            Answer::Is(
-                "Test E Allowed\nStates 1\n\nOk\nWitnesses\nPositive: 1 Negative: 0\nCondition exists (true)\nObservation E Always 1 0\n",
-            ),
-        )],
-    },
-];
+const CASES: &str = "
+=== sb_relaxed
+%SB%
++++
+
+---
+%SB summary%=== empty_thread
+C E
+{ x; }
+P0 () {}
+exists (x=0)
+
++++
+
+---
+Test E Allowed
+States 1
+[x]=0;
+Ok
+Witnesses
+Positive: 1 Negative: 0
+Condition exists ([x]=0)
+Observation E Always 1 0
+=== empty_thread_of_no_place
+C E
+{}
+P0 () {}
+exists true
+
++++
+
+---
+Test E Allowed
+States 1
+
+Ok
+Witnesses
+Positive: 1 Negative: 0
+Condition exists (true)
+Observation E Always 1 0
+";
 
 #[test]
 fn whole_summaries(rt: HostRuntime) -> Result<(), Fail> {
     all_hold(rt.alloc(), CASES)
 }
-
-const THREE_STORES: &str = "C W3 {} P0 (atomic_int* x) {
-  atomic_store(x, 1); atomic_store(x, 2); atomic_store(x, 3);
-} exists (x=3)";
 
 const TWO_LOCATIONS: &str = "C W2+3 {} P0 (atomic_int* x, atomic_int* y) {
   atomic_store(x, 1); atomic_store(x, 2);
@@ -69,128 +78,218 @@ Observation W2+3 Sometimes 2 10
 ";
 
 /// Executions that differ in their orders alone: n! orders of n stores, of which (n - 1)! end in each.
-const COUNTED_TOGETHER: &[Case] = &[
-    Case {
-        name: "three_stores",
-        test: THREE_STORES,
-        rows: &[(
-            &[""],
-            Answer::Is(
-                "Test W3 Allowed\nStates 3\n[x]=1;\n[x]=2;\n[x]=3;\nOk\nWitnesses\nPositive: 2 Negative: 4\nCondition exists ([x]=3)\nObservation W3 Sometimes 2 4\n",
-            ),
-        )],
-    },
-    Case {
-        name: "two_locations",
-        test: TWO_LOCATIONS,
-        rows: &[(&[""], Answer::Is(TWO_LOCATIONS_SUMMARY))],
-    },
-    Case {
-        name: "a_location_that_is_not_observed",
-        test: "C U {} P0 (atomic_int* x, atomic_int* y) {
+const COUNTED_TOGETHER: &str = "
+=== three_stores
+C W3 {} P0 (atomic_int* x) {
+  atomic_store(x, 1); atomic_store(x, 2); atomic_store(x, 3);
+} exists (x=3)
++++
+
+---
+Test W3 Allowed
+States 3
+[x]=1;
+[x]=2;
+[x]=3;
+Ok
+Witnesses
+Positive: 2 Negative: 4
+Condition exists ([x]=3)
+Observation W3 Sometimes 2 4
+=== two_locations
+C W2+3 {} P0 (atomic_int* x, atomic_int* y) {
+  atomic_store(x, 1); atomic_store(x, 2);
+} P1 (atomic_int* x, atomic_int* y) {
+  atomic_store(y, 1); atomic_store(y, 2); atomic_store(y, 3);
+} exists (x=1 /\\ y=3)
++++
+
+---
+Test W2+3 Allowed
+States 6
+[x]=1; [y]=1;
+[x]=1; [y]=2;
+[x]=1; [y]=3;
+[x]=2; [y]=1;
+[x]=2; [y]=2;
+[x]=2; [y]=3;
+Ok
+Witnesses
+Positive: 2 Negative: 10
+Condition exists ([x]=1 /\\ [y]=3)
+Observation W2+3 Sometimes 2 10
+=== a_location_that_is_not_observed
+C U {} P0 (atomic_int* x, atomic_int* y) {
   atomic_store(y, 1); atomic_store(y, 2); atomic_store(y, 3); atomic_store(y, 4);
   atomic_store(x, 1); atomic_store(x, 2); atomic_store(x, 3);
-} exists (x=2)",
-        rows: &[(
-            &[""],
-            Answer::Is(
-                "Test U Allowed\nStates 3\n[x]=1;\n[x]=2;\n[x]=3;\nOk\nWitnesses\nPositive: 48 Negative: 96\nCondition exists ([x]=2)\nObservation U Sometimes 48 96\n",
-            ),
-        )],
-    },
-    Case {
-        name: "registers_alone",
-        test: "C R {} P0 (atomic_int* x, atomic_int* y) {
+} exists (x=2)
++++
+
+---
+Test U Allowed
+States 3
+[x]=1;
+[x]=2;
+[x]=3;
+Ok
+Witnesses
+Positive: 48 Negative: 96
+Condition exists ([x]=2)
+Observation U Sometimes 48 96
+=== registers_alone
+C R {} P0 (atomic_int* x, atomic_int* y) {
   atomic_store(x, 1); atomic_store(x, 2); atomic_store(x, 3); int r0 = atomic_load(y);
-} P1 (atomic_int* x, atomic_int* y) { atomic_store(y, 1); } exists (0:r0=0)",
-        rows: &[(
-            &[""],
-            Answer::Is(
-                "Test R Allowed\nStates 2\n0:r0=0;\n0:r0=1;\nOk\nWitnesses\nPositive: 6 Negative: 6\nCondition exists (0:r0=0)\nObservation R Sometimes 6 6\n",
-            ),
-        )],
-    },
-    Case {
-        name: "twelve_stores",
-        test: "C W12 {} P0 (atomic_int* x) {
+} P1 (atomic_int* x, atomic_int* y) { atomic_store(y, 1); } exists (0:r0=0)
++++
+
+---
+Test R Allowed
+States 2
+0:r0=0;
+0:r0=1;
+Ok
+Witnesses
+Positive: 6 Negative: 6
+Condition exists (0:r0=0)
+Observation R Sometimes 6 6
+=== twelve_stores
+C W12 {} P0 (atomic_int* x) {
   atomic_store(x, 1); atomic_store(x, 2); atomic_store(x, 3); atomic_store(x, 4); atomic_store(x, 5); atomic_store(x, 6);
   atomic_store(x, 7); atomic_store(x, 8); atomic_store(x, 9); atomic_store(x, 10); atomic_store(x, 11); atomic_store(x, 12);
-} exists (x=12)",
-        rows: &[(
-            &[""],
-            Answer::Ends("Observation W12 Sometimes 39916800 439084800\n"),
-        )],
-    },
-];
+} exists (x=12)
++++
+
+---
+...
+Observation W12 Sometimes 39916800 439084800
+";
 
 #[test]
 fn orders_counted_together(rt: HostRuntime) -> Result<(), Fail> {
     all_hold(rt.alloc(), COUNTED_TOGETHER)
 }
 
-const TWO_LOADS_THREE_STORES: &str = "C LB+W3 {} P0 (atomic_int* x, atomic_int* y) {
+/// Executions that differ in their orders alone, under models: the loads read in four ways, of which one is a cycle, and three stores have six
+/// orders, of which two end in each. The last model of the first case looks at the orders: the stores are ordered as they stand.
+const COUNTED_TOGETHER_UNDER_A_MODEL: &str = "
+=== two_loads_and_three_stores, 1
+C LB+W3 {} P0 (atomic_int* x, atomic_int* y) {
   int r0 = atomic_load(y); atomic_store(x, 1);
 } P1 (atomic_int* x, atomic_int* y) {
   int r0 = atomic_load(x); atomic_store(y, 1);
 } P2 (atomic_int* z) {
   atomic_store(z, 1); atomic_store(z, 2); atomic_store(z, 3);
-} exists (z=3)";
-
-/// Executions that differ in their orders alone, under models: the loads read in four ways, of which one is a cycle, and three stores have six
-/// orders, of which two end in each.
-const COUNTED_TOGETHER_UNDER_A_MODEL: &[Case] = &[
-    Case {
-        name: "two_loads_and_three_stores",
-        test: TWO_LOADS_THREE_STORES,
-        rows: &[
-            (
-                &["acyclic po | rf as porf"],
-                Answer::Is(
-                    "Test LB+W3 Allowed\nStates 3\n[z]=1;\n[z]=2;\n[z]=3;\nOk\nWitnesses\nPositive: 6 Negative: 12\nCondition exists ([z]=3)\nObservation LB+W3 Sometimes 6 12\n",
-                ),
-            ),
-            (
-                &["flag ~acyclic po | rf as cycle flag acyclic po | rf as none"],
-                Answer::Is(
-                    "Test LB+W3 Allowed\nStates 3\n[z]=1;\n[z]=2;\n[z]=3;\nOk\nWitnesses\nPositive: 8 Negative: 16\nFlag cycle\nFlag none\nCondition exists ([z]=3)\nObservation LB+W3 Sometimes 8 16\n",
-                ),
-            ),
-            (
-                &[
-                    "acyclic po | rf as porf flag ~acyclic po | rf as cycle flag acyclic po | rf as none",
-                ],
-                Answer::Is(
-                    "Test LB+W3 Allowed\nStates 3\n[z]=1;\n[z]=2;\n[z]=3;\nOk\nWitnesses\nPositive: 6 Negative: 12\nFlag none\nCondition exists ([z]=3)\nObservation LB+W3 Sometimes 6 12\n",
-                ),
-            ),
-            // It looks at the orders: the stores are ordered as they stand.
-            (
-                &["acyclic po | co as poco"],
-                Answer::Is(
-                    "Test LB+W3 Allowed\nStates 1\n[z]=3;\nOk\nWitnesses\nPositive: 4 Negative: 0\nCondition exists ([z]=3)\nObservation LB+W3 Always 4 0\n",
-                ),
-            ),
-        ],
-    },
-    Case {
-        name: "three_stores_and_no_load",
-        test: THREE_STORES,
-        rows: &[
-            (
-                &["flag empty rf as norf"],
-                Answer::Is(
-                    "Test W3 Allowed\nStates 3\n[x]=1;\n[x]=2;\n[x]=3;\nOk\nWitnesses\nPositive: 2 Negative: 4\nFlag norf\nCondition exists ([x]=3)\nObservation W3 Sometimes 2 4\n",
-                ),
-            ),
-            (
-                &["~empty rf as read"],
-                Answer::Is(
-                    "Test W3 Allowed\nStates 0\nNo\nWitnesses\nPositive: 0 Negative: 0\nCondition exists ([x]=3)\nObservation W3 Never 0 0\n",
-                ),
-            ),
-        ],
-    },
-];
+} exists (z=3)
++++
+acyclic po | rf as porf
+---
+Test LB+W3 Allowed
+States 3
+[z]=1;
+[z]=2;
+[z]=3;
+Ok
+Witnesses
+Positive: 6 Negative: 12
+Condition exists ([z]=3)
+Observation LB+W3 Sometimes 6 12
+=== two_loads_and_three_stores, 2
+C LB+W3 {} P0 (atomic_int* x, atomic_int* y) {
+  int r0 = atomic_load(y); atomic_store(x, 1);
+} P1 (atomic_int* x, atomic_int* y) {
+  int r0 = atomic_load(x); atomic_store(y, 1);
+} P2 (atomic_int* z) {
+  atomic_store(z, 1); atomic_store(z, 2); atomic_store(z, 3);
+} exists (z=3)
++++
+flag ~acyclic po | rf as cycle flag acyclic po | rf as none
+---
+Test LB+W3 Allowed
+States 3
+[z]=1;
+[z]=2;
+[z]=3;
+Ok
+Witnesses
+Positive: 8 Negative: 16
+Flag cycle
+Flag none
+Condition exists ([z]=3)
+Observation LB+W3 Sometimes 8 16
+=== two_loads_and_three_stores, 3
+C LB+W3 {} P0 (atomic_int* x, atomic_int* y) {
+  int r0 = atomic_load(y); atomic_store(x, 1);
+} P1 (atomic_int* x, atomic_int* y) {
+  int r0 = atomic_load(x); atomic_store(y, 1);
+} P2 (atomic_int* z) {
+  atomic_store(z, 1); atomic_store(z, 2); atomic_store(z, 3);
+} exists (z=3)
++++
+acyclic po | rf as porf flag ~acyclic po | rf as cycle flag acyclic po | rf as none
+---
+Test LB+W3 Allowed
+States 3
+[z]=1;
+[z]=2;
+[z]=3;
+Ok
+Witnesses
+Positive: 6 Negative: 12
+Flag none
+Condition exists ([z]=3)
+Observation LB+W3 Sometimes 6 12
+=== two_loads_and_three_stores, 4
+C LB+W3 {} P0 (atomic_int* x, atomic_int* y) {
+  int r0 = atomic_load(y); atomic_store(x, 1);
+} P1 (atomic_int* x, atomic_int* y) {
+  int r0 = atomic_load(x); atomic_store(y, 1);
+} P2 (atomic_int* z) {
+  atomic_store(z, 1); atomic_store(z, 2); atomic_store(z, 3);
+} exists (z=3)
++++
+acyclic po | co as poco
+---
+Test LB+W3 Allowed
+States 1
+[z]=3;
+Ok
+Witnesses
+Positive: 4 Negative: 0
+Condition exists ([z]=3)
+Observation LB+W3 Always 4 0
+=== three_stores_and_no_load, 1
+C W3 {} P0 (atomic_int* x) {
+  atomic_store(x, 1); atomic_store(x, 2); atomic_store(x, 3);
+} exists (x=3)
++++
+flag empty rf as norf
+---
+Test W3 Allowed
+States 3
+[x]=1;
+[x]=2;
+[x]=3;
+Ok
+Witnesses
+Positive: 2 Negative: 4
+Flag norf
+Condition exists ([x]=3)
+Observation W3 Sometimes 2 4
+=== three_stores_and_no_load, 2
+C W3 {} P0 (atomic_int* x) {
+  atomic_store(x, 1); atomic_store(x, 2); atomic_store(x, 3);
+} exists (x=3)
++++
+~empty rf as read
+---
+Test W3 Allowed
+States 0
+No
+Witnesses
+Positive: 0 Negative: 0
+Condition exists ([x]=3)
+Observation W3 Never 0 0
+";
 
 #[test]
 fn orders_counted_together_under_a_model(rt: HostRuntime) -> Result<(), Fail> {

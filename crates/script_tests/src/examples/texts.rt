@@ -1,47 +1,10 @@
-//! The texts of examples/. A test reads no file, so they stand here again: tests, models and scripts byte for byte.
+//! The texts of examples/. A test reads no file, so they stand here again: tests, models and scripts byte for byte, each behind a
+//! line with a sign of percent and the name of its file.
 
-/// The built-in model.
-pub const RC11: &str = "include \"rc11.cat\"
-";
-
-/// examples/models/sc.cat
-pub const SEQUENTIAL: &str = "\"Sequential consistency\"
-(* An execution is one interleaving of the threads, in which each read sees the last write. *)
-let com = rf | co | fr
-acyclic po | com as sc
-(* Nothing comes between the read and the write of an exchange or of an addition. *)
-empty rmw & (fr ; co) as atomicity
-";
-
-/// examples/models/tso.cat
-pub const BUFFERS: &str = "\"TSO\"
-(* Stores wait in a buffer of their thread, and its later loads from other locations may go ahead of them. A seq_cst fence,
-   an exchange and an addition wait until the buffer is empty, and a seq_cst store is followed by such a wait: x86, as compilers use it. *)
-let com = rf | co | fr
-acyclic po-loc | com as coherence
-empty rmw & (fr ; co) as atomicity
-let kept = po & (W * W | R * M)
-let fenced = po ; [F & SC] ; po
-let locked = [W] ; po ; [R & RMW] | [W & (RMW | SC)] ; po ; [R]
-acyclic kept | fenced | locked | rfe | co | fr as tso
-";
-
-/// examples/models/fences.cat
-pub const FENCES: &str = "\"Fences\"
-(* Only a fence keeps accesses of a thread to different locations in order: a seq_cst fence all of them, a release fence what is
-   before it from later writes, an acquire fence earlier reads from what is behind it. *)
-let com = rf | co | fr
-acyclic po-loc | com as coherence
-empty rmw & (fr ; co) as atomicity
-(* from an event of a to a later one of c, with an event of b between them *)
-let over(a, b, c) = [a] ; fencerel(b) ; [c]
-let released = over(M, F & (REL | ACQ_REL), W)
-let acquired = over(R, F & (ACQ | ACQ_REL), M)
-acyclic fencerel(F & SC) | released | acquired | rfe | co | fr as fences
-";
-
-/// examples/SB.litmus
-pub const STORE_BUFFERING: &str = "C SB
+/// The first is the built-in model.
+pub const EXAMPLES: &str = "
+%SB.litmus
+C SB
 {}
 P0 (atomic_int* x, atomic_int* y) {
   atomic_store_explicit(x, 1, memory_order_relaxed);
@@ -52,10 +15,40 @@ P1 (atomic_int* x, atomic_int* y) {
   int r0 = atomic_load_explicit(x, memory_order_relaxed);
 }
 exists (0:r0=0 /\\ 1:r0=0)
-";
-
-/// examples/SB+sc.litmus
-pub const STORE_BUFFERING_SC: &str = "C SB+sc
+%RC11
+include \"rc11.cat\"
+%sc.cat
+\"Sequential consistency\"
+(* An execution is one interleaving of the threads, in which each read sees the last write. *)
+let com = rf | co | fr
+acyclic po | com as sc
+(* Nothing comes between the read and the write of an exchange or of an addition. *)
+empty rmw & (fr ; co) as atomicity
+%tso.cat
+\"TSO\"
+(* Stores wait in a buffer of their thread, and its later loads from other locations may go ahead of them. A seq_cst fence,
+   an exchange and an addition wait until the buffer is empty, and a seq_cst store is followed by such a wait: x86, as compilers use it. *)
+let com = rf | co | fr
+acyclic po-loc | com as coherence
+empty rmw & (fr ; co) as atomicity
+let kept = po & (W * W | R * M)
+let fenced = po ; [F & SC] ; po
+let locked = [W] ; po ; [R & RMW] | [W & (RMW | SC)] ; po ; [R]
+acyclic kept | fenced | locked | rfe | co | fr as tso
+%fences.cat
+\"Fences\"
+(* Only a fence keeps accesses of a thread to different locations in order: a seq_cst fence all of them, a release fence what is
+   before it from later writes, an acquire fence earlier reads from what is behind it. *)
+let com = rf | co | fr
+acyclic po-loc | com as coherence
+empty rmw & (fr ; co) as atomicity
+(* from an event of a to a later one of c, with an event of b between them *)
+let over(a, b, c) = [a] ; fencerel(b) ; [c]
+let released = over(M, F & (REL | ACQ_REL), W)
+let acquired = over(R, F & (ACQ | ACQ_REL), M)
+acyclic fencerel(F & SC) | released | acquired | rfe | co | fr as fences
+%SB+sc.litmus
+C SB+sc
 Store buffering with seq_cst accesses: the two threads can't both miss the other's store.
 {}
 P0 (atomic_int* x, atomic_int* y) {
@@ -67,10 +60,8 @@ P1 (atomic_int* x, atomic_int* y) {
   int r0 = atomic_load(x);
 }
 exists (0:r0=0 /\\ 1:r0=0)
-";
-
-/// examples/SB+fences.litmus
-pub const STORE_BUFFERING_FENCES: &str = "C SB+fences
+%SB+fences.litmus
+C SB+fences
 Store buffering with relaxed accesses and a seq_cst fence between the two of each thread.
 {}
 P0 (atomic_int* x, atomic_int* y) {
@@ -84,10 +75,8 @@ P1 (atomic_int* x, atomic_int* y) {
   int r0 = atomic_load_explicit(x, memory_order_relaxed);
 }
 exists (0:r0=0 /\\ 1:r0=0)
-";
-
-/// examples/SB+forall.litmus
-pub const STORE_BUFFERING_ALL: &str = "C SB+forall
+%SB+forall.litmus
+C SB+forall
 Store buffering asked the other way round: does each execution end with at least one 1?
 {}
 P0 (atomic_int* x, atomic_int* y) {
@@ -99,10 +88,8 @@ P1 (atomic_int* x, atomic_int* y) {
   int r0 = atomic_load_explicit(x, memory_order_relaxed);
 }
 forall (0:r0=1 \\/ 1:r0=1)
-";
-
-/// examples/MP.litmus
-pub const MESSAGE: &str = "C MP
+%MP.litmus
+C MP
 Message passing: the second thread sees the flag, and not the message.
 {}
 P0 (atomic_int* x, atomic_int* y) {
@@ -114,10 +101,8 @@ P1 (atomic_int* x, atomic_int* y) {
   int r1 = atomic_load_explicit(x, memory_order_relaxed);
 }
 exists (1:r0=1 /\\ 1:r1=0)
-";
-
-/// examples/MP+rel.litmus
-pub const MESSAGE_RELEASED: &str = "C MP+rel
+%MP+rel.litmus
+C MP+rel
 Message passing with a release store alone: the load of the flag doesn't acquire.
 {}
 P0 (atomic_int* x, atomic_int* y) {
@@ -129,10 +114,8 @@ P1 (atomic_int* x, atomic_int* y) {
   int r1 = atomic_load_explicit(x, memory_order_relaxed);
 }
 exists (1:r0=1 /\\ 1:r1=0)
-";
-
-/// examples/MP+rel+acq.litmus
-pub const MESSAGE_ACQUIRED: &str = "C MP+rel+acq
+%MP+rel+acq.litmus
+C MP+rel+acq
 Message passing with a release store and an acquire load of the flag: who sees the flag sees the message.
 {}
 P0 (atomic_int* x, atomic_int* y) {
@@ -144,10 +127,8 @@ P1 (atomic_int* x, atomic_int* y) {
   int r1 = atomic_load_explicit(x, memory_order_relaxed);
 }
 exists (1:r0=1 /\\ 1:r1=0)
-";
-
-/// examples/MP+fences.litmus
-pub const MESSAGE_FENCES: &str = "C MP+fences
+%MP+fences.litmus
+C MP+fences
 Message passing with relaxed accesses and fences: release behind the message, acquire behind the load of the flag.
 {}
 P0 (atomic_int* x, atomic_int* y) {
@@ -161,10 +142,8 @@ P1 (atomic_int* x, atomic_int* y) {
   int r1 = atomic_load_explicit(x, memory_order_relaxed);
 }
 exists (1:r0=1 /\\ 1:r1=0)
-";
-
-/// examples/LB.litmus
-pub const LOAD_BUFFERING: &str = "C LB
+%LB.litmus
+C LB
 Load buffering: each thread reads what the other writes later.
 {}
 P0 (atomic_int* x, atomic_int* y) {
@@ -176,10 +155,8 @@ P1 (atomic_int* x, atomic_int* y) {
   atomic_store_explicit(x, 1, memory_order_relaxed);
 }
 exists (0:r0=1 /\\ 1:r0=1)
-";
-
-/// examples/IRIW.litmus
-pub const INDEPENDENT_READS: &str = "C IRIW
+%IRIW.litmus
+C IRIW
 Independent reads of independent writes: two readers see two stores in opposite orders.
 {}
 P0 (atomic_int* x) {
@@ -197,10 +174,8 @@ P3 (atomic_int* x, atomic_int* y) {
   int r1 = atomic_load_explicit(x, memory_order_acquire);
 }
 exists (2:r0=1 /\\ 2:r1=0 /\\ 3:r0=1 /\\ 3:r1=0)
-";
-
-/// examples/IRIW+sc.litmus
-pub const INDEPENDENT_READS_SC: &str = "C IRIW+sc
+%IRIW+sc.litmus
+C IRIW+sc
 Independent reads of independent writes, with seq_cst accesses: all threads see the stores in one order.
 {}
 P0 (atomic_int* x) {
@@ -218,10 +193,8 @@ P3 (atomic_int* x, atomic_int* y) {
   int r1 = atomic_load(x);
 }
 exists (2:r0=1 /\\ 2:r1=0 /\\ 3:r0=1 /\\ 3:r1=0)
-";
-
-/// examples/2+2W.litmus
-pub const TWO_WRITES: &str = "C 2+2W
+%2+2W.litmus
+C 2+2W
 Two threads write two locations in opposite orders: the final values are those of the co-last writes.
 {}
 P0 (atomic_int* x, atomic_int* y) {
@@ -233,10 +206,8 @@ P1 (atomic_int* x, atomic_int* y) {
   atomic_store_explicit(x, 2, memory_order_relaxed);
 }
 exists ([x]=1 /\\ [y]=1)
-";
-
-/// examples/CoRR.litmus
-pub const COHERENT_READS: &str = "C CoRR
+%CoRR.litmus
+C CoRR
 Coherence of two reads: after the new value a thread can't read the old one of the same location.
 {}
 P0 (atomic_int* x) {
@@ -247,10 +218,8 @@ P1 (atomic_int* x) {
   int r1 = atomic_load_explicit(x, memory_order_relaxed);
 }
 exists (1:r0=1 /\\ 1:r1=0)
-";
-
-/// examples/race.litmus
-pub const PLAIN_MESSAGE: &str = "C race
+%race.litmus
+C race
 A data race: nothing orders the plain store of the message and the plain load of it.
 {}
 P0 (int* x, atomic_int* y) {
@@ -262,10 +231,8 @@ P1 (int* x, atomic_int* y) {
   int r1 = *x;
 }
 exists (1:r0=1 /\\ 1:r1=0)
-";
-
-/// examples/race-free.litmus
-pub const GUARDED_MESSAGE: &str = "C race-free
+%race-free.litmus
+C race-free
 The race mended: the message is read only where the flag was seen, by an acquire load of a release store.
 {}
 P0 (int* x, atomic_int* y) {
@@ -277,10 +244,8 @@ P1 (int* x, atomic_int* y) {
   if (r0 == 1) { int r1 = *x; }
 }
 exists (1:r0=1 /\\ 1:r1=0)
-";
-
-/// examples/RS.litmus
-pub const RELEASE_SEQUENCE: &str = "C RS
+%RS.litmus
+C RS
 A release sequence: the exchange of P1 is relaxed, and yet who acquires from it synchronizes with the release of P0.
 {}
 P0 (atomic_int* x, atomic_int* y) {
@@ -295,10 +260,8 @@ P2 (atomic_int* x, atomic_int* y) {
   int r1 = atomic_load_explicit(x, memory_order_relaxed);
 }
 exists (1:r0=1 /\\ 2:r0=2 /\\ 2:r1=0)
-";
-
-/// examples/RS+load+store.litmus
-pub const BROKEN_SEQUENCE: &str = "C RS+load+store
+%RS+load+store.litmus
+C RS+load+store
 The release sequence broken: a load and a store in place of the exchange don't carry it on.
 {}
 P0 (atomic_int* x, atomic_int* y) {
@@ -314,10 +277,8 @@ P2 (atomic_int* x, atomic_int* y) {
   int r1 = atomic_load_explicit(x, memory_order_relaxed);
 }
 exists (1:r0=1 /\\ 2:r0=2 /\\ 2:r1=0)
-";
-
-/// examples/RS+same.litmus
-pub const OWN_SEQUENCE: &str = "C RS+same
+%RS+same.litmus
+C RS+same
 A release sequence of one thread: its later relaxed store to the same location belongs to it.
 {}
 P0 (atomic_int* x, atomic_int* y) {
@@ -330,10 +291,8 @@ P1 (atomic_int* x, atomic_int* y) {
   int r1 = atomic_load_explicit(x, memory_order_relaxed);
 }
 exists (1:r0=2 /\\ 1:r1=0)
-";
-
-/// examples/counter.litmus
-pub const COUNTER: &str = "C counter
+%counter.litmus
+C counter
 Two threads count up with relaxed additions: neither overwrites what the other has counted.
 {}
 P0 (atomic_int* x) {
@@ -343,10 +302,8 @@ P1 (atomic_int* x) {
   int r0 = atomic_fetch_add_explicit(x, 1, memory_order_relaxed);
 }
 exists ([x]=1)
-";
-
-/// examples/RS+add.litmus
-pub const ADDED_SEQUENCE: &str = "C RS+add
+%RS+add.litmus
+C RS+add
 A release sequence through an addition: who acquires from it synchronizes with the release that it read from.
 {}
 P0 (atomic_int* x, atomic_int* y) {
@@ -361,10 +318,8 @@ P2 (atomic_int* x, atomic_int* y) {
   int r1 = atomic_load_explicit(x, memory_order_relaxed);
 }
 exists (2:r0=2 /\\ 2:r1=0)
-";
-
-/// examples/swap.litmus
-pub const EXCHANGES: &str = "C swap
+%swap.litmus
+C swap
 Two exchanges: only one of them can be the first.
 {}
 P0 (atomic_int* x) {
@@ -374,10 +329,8 @@ P1 (atomic_int* x) {
   int r0 = atomic_exchange_explicit(x, 2, memory_order_relaxed);
 }
 exists (0:r0=0 /\\ 1:r0=0)
-";
-
-/// examples/initial.litmus
-pub const INITIAL_VALUES: &str = "C initial
+%initial.litmus
+C initial
 An initial state: typed entries, a register, a comment, and two entries for one place, of which the later holds.
 {
   int x = 4; x = 5;   // x begins with 5
@@ -389,11 +342,8 @@ P0 (atomic_int* x, atomic_int* y) {
   atomic_store_explicit(y, 3, memory_order_relaxed);
 }
 exists (0:r0=5 /\\ 0:r1=7 /\\ [y]=3)
-";
-
-/// examples/teaching.script
-pub const TEACHING_SCRIPT: &str =
-    "# A session, 0, puts a model and a test, and asks for the verdict under two models.
+%teaching.script
+# A session, 0, puts a model and a test, and asks for the verdict under two models.
 0 cat sc.cat
 \"Sequential consistency\"
 (* An execution is one interleaving of the threads, in which each read sees the last write. *)
@@ -425,10 +375,8 @@ exists (0:r0=0 /\\ 1:r0=0)
 # Both verdicts are there.
 0 poll 1
 0 poll 2
-";
-
-/// examples/teaching.out
-pub const TEACHING_ANSWERS: &str = "version sc.cat 1
+%teaching.out
+version sc.cat 1
 version SB 1
 job 1
 job 2
@@ -460,11 +408,8 @@ Positive: 0 Negative: 3
 Condition exists (0:r0=0 /\\ 1:r0=0)
 Observation SB Never 0 3
 finish ok 10
-";
-
-/// examples/versions.script
-pub const VERSIONS_SCRIPT: &str =
-    "# A model of two files. The first version of common.cat forgets fr.
+%versions.script
+# A model of two files. The first version of common.cat forgets fr.
 0 cat common.cat
 let com = rf | co
 .
@@ -498,10 +443,8 @@ let com = rf | co | fr
 1 claim
 1 return 2
 0 poll 2
-";
-
-/// examples/versions.out
-pub const VERSIONS_ANSWERS: &str = "version common.cat 1
+%versions.out
+version common.cat 1
 version mine.cat 1
 version SB 1
 job 1
