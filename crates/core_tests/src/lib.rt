@@ -10,3 +10,5 @@ mod candidate;
 mod cat;
 #[cfg(test)]
 mod reader;
+#[cfg(test)]
+mod rows;

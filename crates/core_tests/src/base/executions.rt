@@ -5,7 +5,7 @@ pub mod graphs;
 use events::Access::{ExRead, ExWrite, Fence, Read, Write};
 use events::EventId::{Initial, Own};
 use events::{Basis, Order, RelName, SetName};
-use graphs::{Needs, Parts, Seen, Thread, follows, gives_back, shows, shows_again};
+use graphs::{Case, Needs, Parts, Seen, Thread, Way, gives_back, is_as_seen};
 
 /// SB: each thread writes 1 to its own location and reads the other's, here from its initial write.
 ///
@@ -102,17 +102,6 @@ pub const SEEN_OF_WEAK: &Seen = &Seen {
     ],
 };
 
-#[test]
-fn both_read_the_initial_writes(rt: HostRuntime) {
-    assert!(rt; shows(rt.alloc(), WEAK, SEEN_OF_WEAK) == Ok(true));
-}
-
-#[test]
-fn taken_apart_and_put_together(rt: HostRuntime) {
-    assert!(rt; shows_again(rt.alloc(), WEAK, SEEN_OF_WEAK) == Ok(true));
-    assert!(rt; gives_back(rt.alloc(), &[Initial(1), Own(1, 0)]) == Ok(true));
-}
-
 /// The threads of SB, where each reads 1.
 const BOTH_READ_1: &[Thread] = &[
     (
@@ -149,11 +138,6 @@ const SEEN_OF_STRONG: &Seen = &Seen {
     ],
 };
 
-#[test]
-fn each_reads_the_other(rt: HostRuntime) {
-    assert!(rt; shows(rt.alloc(), STRONG, SEEN_OF_STRONG) == Ok(true));
-}
-
 /// The runs of SB, with sources of other values: a graph asks nothing of values.
 const CROSSED: &Parts = &Parts {
     init: &[0, 0],
@@ -161,33 +145,6 @@ const CROSSED: &Parts = &Parts {
     rf: &[Initial(1), Initial(0)],
     co: &[&[Initial(0), Own(0, 0)], &[Initial(1), Own(1, 0)]],
 };
-
-#[test]
-fn a_structure_follows_an_execution(rt: HostRuntime) {
-    assert!(rt; follows(rt.alloc(), EXCHANGE, STRONG, Basis::Runs, SEEN_OF_STRONG) == Ok(true));
-}
-
-/// The runs of the two differ in what they read alone: in their values, which a structure leaves out, and so in their maps.
-#[test]
-fn a_structure_stays_while_other_values_are_read(rt: HostRuntime) {
-    assert!(rt; follows(rt.alloc(), WEAK, STRONG, Basis::Sources, SEEN_OF_STRONG) == Ok(true));
-}
-
-/// The two differ in their values alone.
-#[test]
-fn a_structure_leaves_values_out(rt: HostRuntime) {
-    assert!(rt; follows(rt.alloc(), WEAK, CROSSED, Basis::Orders, SEEN_OF_WEAK) == Ok(true));
-}
-
-#[test]
-fn a_structure_follows_a_map(rt: HostRuntime) {
-    assert!(rt; follows(rt.alloc(), CROSSED, STRONG, Basis::Sources, SEEN_OF_STRONG) == Ok(true));
-}
-
-#[test]
-fn a_structure_stays(rt: HostRuntime) {
-    assert!(rt; follows(rt.alloc(), STRONG, STRONG, Basis::Orders, SEEN_OF_STRONG) == Ok(true));
-}
 
 /// P0 exchanges x and has a fence; P1 writes and reads x plainly, and has a fence. Numbers: 0 the initial write,
 /// 1 to 3 of P0, 4 to 6 of P1.
@@ -243,11 +200,6 @@ const SEEN_OF_EXCHANGE: &Seen = &Seen {
     ],
 };
 
-#[test]
-fn an_exchange_and_fences(rt: HostRuntime) {
-    assert!(rt; shows(rt.alloc(), EXCHANGE, SEEN_OF_EXCHANGE) == Ok(true));
-}
-
 /// P1 reads x, writes y with the value, and writes y in a branch that tests it. Numbers: 0 and 1 the initial writes,
 /// 2 to 4 of P1; P0 is empty.
 const DEPENDENT: &Parts = &Parts {
@@ -280,7 +232,68 @@ const SEEN_OF_DEPENDENT: &Seen = &Seen {
     ],
 };
 
+/// What is to be seen of a graph, and of a structure that was of one execution and then follows another.
 #[test]
-fn dependencies(rt: HostRuntime) {
-    assert!(rt; shows(rt.alloc(), DEPENDENT, SEEN_OF_DEPENDENT) == Ok(true));
+fn views(rt: HostRuntime) {
+    // Each is a literal of its own here, and named once.
+    let (weak, seen_of_weak, crossed) = (WEAK, SEEN_OF_WEAK, CROSSED);
+    let (strong, seen_of_strong, exchange) = (STRONG, SEEN_OF_STRONG, EXCHANGE);
+    let cases: [Case; 10] = [
+        (
+            "both read the initial writes",
+            Way::Made,
+            weak,
+            seen_of_weak,
+        ),
+        (
+            "taken apart and put together",
+            Way::Again,
+            weak,
+            seen_of_weak,
+        ),
+        ("each reads the other", Way::Made, strong, seen_of_strong),
+        (
+            "an exchange and fences",
+            Way::Made,
+            exchange,
+            SEEN_OF_EXCHANGE,
+        ),
+        ("dependencies", Way::Made, DEPENDENT, SEEN_OF_DEPENDENT),
+        (
+            "a structure follows an execution",
+            Way::Followed(exchange, Basis::Runs),
+            strong,
+            seen_of_strong,
+        ),
+        // The runs of the two differ in what they read alone: in their values, which a structure leaves out, and so in their maps.
+        (
+            "a structure stays while other values are read",
+            Way::Followed(weak, Basis::Sources),
+            strong,
+            seen_of_strong,
+        ),
+        // The two differ in their values alone.
+        (
+            "a structure leaves values out",
+            Way::Followed(weak, Basis::Orders),
+            crossed,
+            seen_of_weak,
+        ),
+        (
+            "a structure follows a map",
+            Way::Followed(crossed, Basis::Sources),
+            strong,
+            seen_of_strong,
+        ),
+        (
+            "a structure stays",
+            Way::Followed(strong, Basis::Orders),
+            strong,
+            seen_of_strong,
+        ),
+    ];
+    for case in &cases {
+        assert!(rt; is_as_seen(rt.alloc(), case) == Ok(true), "{}", case.0);
+    }
+    assert!(rt; gives_back(rt.alloc(), &[Initial(1), Own(1, 0)]) == Ok(true));
 }

@@ -1,5 +1,6 @@
 //! Tests of what no clause says, and of each call once.
 
+use crate::rows::all_so;
 use Told::{Fault, NoFault, Tokens};
 use std::alloc::{AllocError, Global};
 use std::io;
@@ -57,7 +58,6 @@ fn all_told(rt: &impl Abort, alloc: Global, rows: &[Row]) {
     }
 }
 
-/// The rows `tokens_and_names`.
 const TOKENS_AND_NAMES: &[Row] = &[
     (
         Cat,
@@ -72,11 +72,6 @@ const TOKENS_AND_NAMES: &[Row] = &[
     ),
     (Cat, b"(* (* *)", Fault(OpenComment)),
 ];
-
-#[test]
-fn tokens_and_names(rt: HostRuntime) {
-    all_told(&rt, rt.alloc(), TOKENS_AND_NAMES);
-}
 
 const HEADS: &[Row] = &[
     (Litmus, b"", Tokens(&[])),
@@ -100,11 +95,6 @@ const HEADS: &[Row] = &[
     ),
 ];
 
-#[test]
-fn heads(rt: HostRuntime) {
-    all_told(&rt, rt.alloc(), HEADS);
-}
-
 const ONE_WORD: &[Row] = &[
     (Litmus, b"C\nSB {", Tokens(&[(Word, 0, 1), (Sign, 5, 6)])),
     (
@@ -121,11 +111,6 @@ const ONE_WORD: &[Row] = &[
     (Litmus, b"C\n\"{\" {", Tokens(&[(Word, 0, 1), (Sign, 6, 7)])),
 ];
 
-#[test]
-fn one_word_on_the_line(rt: HostRuntime) {
-    all_told(&rt, rt.alloc(), ONE_WORD);
-}
-
 const INFORMATION: &[Row] = &[
     (
         Litmus,
@@ -136,11 +121,6 @@ const INFORMATION: &[Row] = &[
     (Litmus, b"C T /*/ { ", Fault(OpenComment)),
     (Litmus, b"C T \" { ", Fault(OpenString)),
 ];
-
-#[test]
-fn information(rt: HostRuntime) {
-    all_told(&rt, rt.alloc(), INFORMATION);
-}
 
 const BODIES: &[Row] = &[
     (
@@ -196,11 +176,6 @@ const BODIES: &[Row] = &[
     ),
 ];
 
-#[test]
-fn bodies(rt: HostRuntime) {
-    all_told(&rt, rt.alloc(), BODIES);
-}
-
 const CAT_MODELS: &[Row] = &[
     (
         Cat,
@@ -243,11 +218,6 @@ const CAT_MODELS: &[Row] = &[
     (Cat, b"a ^- 1", Fault(BadByte)),
 ];
 
-#[test]
-fn cat_models(rt: HostRuntime) {
-    all_told(&rt, rt.alloc(), CAT_MODELS);
-}
-
 const FAULTS: &[Row] = &[
     (Litmus, b"C T {\xff", Fault(NotAscii)),
     (Litmus, b"C\xc3\xa9 T {", Fault(NotAscii)),
@@ -269,8 +239,18 @@ const FAULTS: &[Row] = &[
 ];
 
 #[test]
-fn faults(rt: HostRuntime) {
-    all_told(&rt, rt.alloc(), FAULTS);
+fn tokens_of_texts(rt: HostRuntime) {
+    for rows in [
+        TOKENS_AND_NAMES,
+        HEADS,
+        ONE_WORD,
+        INFORMATION,
+        BODIES,
+        CAT_MODELS,
+        FAULTS,
+    ] {
+        all_told(&rt, rt.alloc(), rows);
+    }
 }
 
 /// Is that told of 65536 spaces and then this end?
@@ -278,14 +258,6 @@ fn is_told_of_spaces(alloc: Global, end: &[u8], told: &Told) -> Result<bool, All
     let mut text = vec![in alloc; b' '; 65536]?;
     text.extend_from_slice(end)?;
     Ok(is_told(alloc, Cat, &text, told))
-}
-
-#[test]
-fn longest_text(rt: HostRuntime) {
-    assert!(rt;
-        is_told_of_spaces(rt.alloc(), b"", &Tokens(&[])) == Ok(true)
-            && is_told_of_spaces(rt.alloc(), b"#", &Fault(TooLong)) == Ok(true)
-    );
 }
 
 /// Bytes, and why they are no name, if they are none.
@@ -339,18 +311,6 @@ fn is_x_before_y(alloc: Global) -> Result<bool, NameFault> {
     Ok(are_x_and_y(alloc, &x, &y))
 }
 
-#[test]
-fn names(rt: HostRuntime) {
-    assert!(rt; is_x_before_y(rt.alloc()) == Ok(true));
-}
-
-#[test]
-fn bytes_of_names(rt: HostRuntime) {
-    for (bytes, expected) in &NAMES {
-        assert!(rt; name_fault(rt.alloc(), bytes) == *expected, "{bytes:?}");
-    }
-}
-
 const NUMBERS: [(&[u8], Option<u32>); 6] = [
     (b"0", Some(0)),
     (b"007", Some(7)),
@@ -359,13 +319,6 @@ const NUMBERS: [(&[u8], Option<u32>); 6] = [
     (b"", None),
     (b"1a", None),
 ];
-
-#[test]
-fn numbers(rt: HostRuntime) {
-    for (digits, expected) in &NUMBERS {
-        assert!(rt; decimal(digits) == *expected, "{digits:?}");
-    }
-}
 
 /// Are these the bytes that are read next, at most `limit` of them?
 fn reads<S: Source>(alloc: Global, source: &mut S, limit: usize, expected: &[u8]) -> bool {
@@ -405,12 +358,6 @@ fn is_read_up_to_two(alloc: Global) -> bool {
     reads(alloc, &mut source, 2, b"xy")
 }
 
-#[test]
-fn sources(rt: HostRuntime) {
-    let alloc = rt.alloc();
-    assert!(rt; is_read_in_parts(alloc) && fails_at_its_end(alloc) && is_read_up_to_two(alloc));
-}
-
 /// Bytes that are given, and what is answered.
 type Answer = (&'static [u8], Result<usize, Failed>);
 
@@ -440,11 +387,6 @@ fn takes_four(alloc: Global) -> Result<bool, AllocError> {
 fn takes_and_flushes(alloc: Global) -> bool {
     let mut sink = WriteSink::new(Vec::new(alloc));
     give_all(&mut sink, b"abc") == Ok(()) && sink.flush() == Ok(())
-}
-
-#[test]
-fn sinks(rt: HostRuntime) {
-    assert!(rt; takes_four(rt.alloc()) == Ok(true) && takes_and_flushes(rt.alloc()));
 }
 
 /// A reader and a writer whose calls are interrupted at first, and each time after one that went well.
@@ -500,8 +442,44 @@ fn takes_all(alloc: Global) -> bool {
         && bytes.inner.as_slice() == b"abcde".as_slice()
 }
 
-#[test]
-fn interruptions(rt: HostRuntime) {
+/// Is a source over an interrupted reader read to its end?
+fn reads_all(alloc: Global) -> bool {
     let mut source = ReadSource::new(Interrupted::new(b"xyz".as_slice()));
-    assert!(rt; reads(rt.alloc(), &mut source, 9, b"xyz") && takes_all(rt.alloc()));
+    reads(alloc, &mut source, 9, b"xyz")
+}
+
+#[test]
+fn names_and_numbers(rt: HostRuntime) {
+    for (bytes, expected) in &NAMES {
+        assert!(rt; name_fault(rt.alloc(), bytes) == *expected, "{bytes:?}");
+    }
+    for (digits, expected) in &NUMBERS {
+        assert!(rt; decimal(digits) == *expected, "{digits:?}");
+    }
+}
+
+#[test]
+fn sources_and_sinks(rt: HostRuntime) {
+    let alloc = rt.alloc();
+    all_so(
+        &rt,
+        &[
+            ("names", is_x_before_y(alloc).unwrap_or(false)),
+            (
+                "the longest text",
+                is_told_of_spaces(alloc, b"", &Tokens(&[])).unwrap_or(false),
+            ),
+            (
+                "a text too long",
+                is_told_of_spaces(alloc, b"#", &Fault(TooLong)).unwrap_or(false),
+            ),
+            ("a source in parts", is_read_in_parts(alloc)),
+            ("a source that fails", fails_at_its_end(alloc)),
+            ("a source up to a limit", is_read_up_to_two(alloc)),
+            ("a sink", takes_four(alloc).unwrap_or(false)),
+            ("a sink that is flushed", takes_and_flushes(alloc)),
+            ("an interrupted source", reads_all(alloc)),
+            ("an interrupted sink", takes_all(alloc)),
+        ],
+    );
 }

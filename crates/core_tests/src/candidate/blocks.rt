@@ -1,6 +1,7 @@
 //! What the executions of blocks have in common, and passing over blocks.
 
-use crate::candidate::texts::{again, holds_of};
+use crate::candidate::texts::holds_of;
+use crate::rows::again;
 use candidates::{Common, Space, Walk};
 use events::{Coherence, EventId};
 use std::alloc::{AllocError, Global};
@@ -121,11 +122,6 @@ fn has_all_blocks(alloc: Global, space: &Space) -> Result<bool, AllocError> {
     )
 }
 
-#[test]
-fn blocks(rt: HostRuntime) {
-    assert!(rt; holds_of(rt.alloc(), WRITES_AND_READS, has_all_blocks));
-}
-
 /// Whether a walk stays within its own numbers, and doesn't go back.
 fn stays_within(alloc: Global, space: &Space) -> Result<bool, AllocError> {
     if space.size() < 4 {
@@ -142,6 +138,7 @@ fn stays_within(alloc: Global, space: &Space) -> Result<bool, AllocError> {
 }
 
 #[test]
-fn passes_within_its_numbers(rt: HostRuntime) {
+fn blocks(rt: HostRuntime) {
+    assert!(rt; holds_of(rt.alloc(), WRITES_AND_READS, has_all_blocks));
     assert!(rt; holds_of(rt.alloc(), WRITES_AND_READS, stays_within));
 }

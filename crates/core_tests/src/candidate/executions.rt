@@ -1,9 +1,7 @@
 //! How many candidates texts have, and how many of them are executions.
 
-use crate::candidate::texts::{Question, Row, SB, Told, all_tell, repeated, tells};
+use crate::candidate::texts::{Question, Row, SB, all_tell};
 use candidates::SpaceFault;
-use std::alloc::{AllocError, Global};
-use std::process::Abort;
 
 const LB_DATA: &str = "C LB\n{}\n\
 P0 (atomic_int* x, atomic_int* y) { int r0 = atomic_load_explicit(x, memory_order_relaxed); atomic_store_explicit(y, r0, memory_order_relaxed); }\n\
@@ -15,6 +13,7 @@ P0 (atomic_int* x) { int r0 = atomic_exchange_explicit(x, 1, memory_order_relaxe
 P1 (atomic_int* x) { int r1 = atomic_exchange_explicit(x, 2, memory_order_relaxed); }\n\
 exists (0:r0=0 /\\ 1:r1=0)\n";
 
+/// Two adds of one location.
 pub const ADDITIONS: &str = "C A\n{}\n\
 P0 (atomic_int* x) { int r0 = atomic_fetch_add_explicit(x, 1, memory_order_relaxed); }\n\
 P1 (atomic_int* x) { int r1 = atomic_fetch_add_explicit(x, 1, memory_order_relaxed); }\n\
@@ -39,11 +38,6 @@ const SIZES_OF_SPACES: &[Row] = &[
     (ADDITIONS, Question::Size, Ok(162)),
 ];
 
-#[test]
-fn sizes_of_spaces(rt: HostRuntime) {
-    all_tell(&rt, rt.alloc(), SIZES_OF_SPACES);
-}
-
 const EXECUTIONS: &[Row] = &[
     (SB, Question::Executions, Ok(4)),
     (LB_DATA, Question::Executions, Ok(5)),
@@ -52,11 +46,6 @@ const EXECUTIONS: &[Row] = &[
     (BRANCHES, Question::Executions, Ok(2)),
     (IRIW, Question::Executions, Ok(16)),
 ];
-
-#[test]
-fn executions(rt: HostRuntime) {
-    all_tell(&rt, rt.alloc(), EXECUTIONS);
-}
 
 const WALKS: &[Row] = &[
     (SB, Question::Walked, Ok(4)),
@@ -67,113 +56,46 @@ const WALKS: &[Row] = &[
     (IRIW, Question::Walked, Ok(16)),
 ];
 
-#[test]
-fn walks(rt: HostRuntime) {
-    all_tell(&rt, rt.alloc(), WALKS);
-}
+const TWELVE_STORES: &str =
+    "C T\n{}\nP0 (atomic_int* x) {\n@atomic_store_explicit(x, 1, memory_order_relaxed);\n@12@}\nexists (x=0)\n";
 
-/// A call, how often a test's one thread makes it, the test's condition, what is asked, and what is reported.
-type Calls = (&'static str, usize, &'static str, Question, Told);
+const THIRTEEN_STORES: &str =
+    "C T\n{}\nP0 (atomic_int* x) {\n@atomic_store_explicit(x, 1, memory_order_relaxed);\n@13@}\nexists (x=0)\n";
 
-/// Whether this is reported of the space of a test of one thread, which makes this call so often.
-fn tells_of_calls(alloc: Global, row: &Calls) -> bool {
-    let (call, times, condition, question, wanted) = *row;
-    let start = "C T\n{}\nP0 (atomic_int* x) {\n";
-    match repeated(alloc, start, call, times, condition) {
-        Ok(text) => tells(alloc, text.as_str(), question, wanted),
-        Err(_) => false,
-    }
-}
+const TWELVE_LOADS: &str =
+    "C T\n{}\nP0 (atomic_int* x) {\n@r0 = atomic_load_explicit(x, memory_order_relaxed);\n@12@}\nexists (x=0)\n";
 
-/// Fails at the first row of which something else is reported.
-fn all_tell_of_calls(rt: &impl Abort, alloc: Global, rows: &[Calls]) {
-    for row in rows {
-        assert!(rt; tells_of_calls(alloc, row), "{} times {}", row.1, row.0);
-    }
-}
+const THIRTEEN_LOADS: &str =
+    "C T\n{}\nP0 (atomic_int* x) {\n@r0 = atomic_load_explicit(x, memory_order_relaxed);\n@13@}\nexists (x=0)\n";
 
-const STORE: &str = "atomic_store_explicit(x, 1, memory_order_relaxed);\n";
-
-const LOAD: &str = "r0 = atomic_load_explicit(x, memory_order_relaxed);\n";
-
-const AT_ZERO: &str = "}\nexists (x=0)\n";
-
-const SIZES: &[Calls] = &[
-    (STORE, 12, AT_ZERO, Question::Size, Ok(479_001_600)),
+const SIZES: &[Row] = &[
+    (TWELVE_STORES, Question::Size, Ok(479_001_600)),
     (
-        STORE,
-        13,
-        AT_ZERO,
+        THIRTEEN_STORES,
         Question::Size,
         Err(SpaceFault::TooManyCandidates),
     ),
-    (LOAD, 12, AT_ZERO, Question::Size, Ok(4096)),
+    (TWELVE_LOADS, Question::Size, Ok(4096)),
     (
-        LOAD,
-        13,
-        AT_ZERO,
+        THIRTEEN_LOADS,
         Question::Size,
         Err(SpaceFault::TooManyRuns(0)),
     ),
-    ("", 1, AT_ZERO, Question::Size, Ok(1)),
-];
-
-#[test]
-fn sizes(rt: HostRuntime) {
-    all_tell_of_calls(&rt, rt.alloc(), SIZES);
-}
-
-/// Of 4,096 candidates one is an execution.
-const TWELVE_LOADS: &[Calls] = &[(LOAD, 12, "}\nexists (0:r0=0)\n", Question::Walked, Ok(1))];
-
-#[test]
-fn walk_over_twelve_loads(rt: HostRuntime) {
-    all_tell_of_calls(&rt, rt.alloc(), TWELVE_LOADS);
-}
-
-/// Each of the 12! candidates is an execution, far from the first ones, too.
-const FAR: &[Calls] = &[
-    (STORE, 12, AT_ZERO, Question::WalkedFrom(1 << 20), Ok(16)),
     (
-        STORE,
-        12,
-        AT_ZERO,
-        Question::WalkedFrom(479_001_584),
-        Ok(16),
+        "C T\n{}\nP0 (atomic_int* x) {\n}\nexists (x=0)\n",
+        Question::Size,
+        Ok(1),
     ),
 ];
 
-#[test]
-fn walk_past_a_million(rt: HostRuntime) {
-    all_tell_of_calls(&rt, rt.alloc(), FAR);
-}
+const TWELVE_LOADS_IN_R0: &str =
+    "C T\n{}\nP0 (atomic_int* x) {\n@r0 = atomic_load_explicit(x, memory_order_relaxed);\n@12@}\nexists (0:r0=0)\n";
 
 /// Loads of locations that nobody writes, by three threads of ten loads each.
-fn thirty_loads(alloc: Global) -> Result<String, AllocError> {
-    let of_y = "r0 = atomic_load_explicit(y, memory_order_relaxed);\n";
-    let of_z = "r0 = atomic_load_explicit(z, memory_order_relaxed);\n";
-    let start = "C T\n{}\nP0 (atomic_int* x) {\n";
-    let first = repeated(alloc, start, LOAD, 10, "}\nP1 (atomic_int* y) {\n")?;
-    let both = repeated(alloc, first.as_str(), of_y, 10, "}\nP2 (atomic_int* z) {\n")?;
-    repeated(alloc, both.as_str(), of_z, 10, "}\nexists (0:r0=0)\n")
-}
-
-/// Whether this is reported of their space.
-fn thirty_tell(alloc: Global, question: Question, wanted: Told) -> bool {
-    match thirty_loads(alloc) {
-        Ok(text) => tells(alloc, text.as_str(), question, wanted),
-        Err(_) => false,
-    }
-}
-
-/// Of 2^30 candidates one is an execution.
-#[test]
-fn walk_over_thirty_loads(rt: HostRuntime) {
-    assert!(rt;
-        thirty_tell(rt.alloc(), Question::Size, Ok(1 << 30))
-            && thirty_tell(rt.alloc(), Question::Walked, Ok(1))
-    );
-}
+const THIRTY_LOADS: &str = "C T\n{}\n\
+P0 (atomic_int* x) {\n@r0 = atomic_load_explicit(x, memory_order_relaxed);\n@10@}\n\
+P1 (atomic_int* y) {\n@r0 = atomic_load_explicit(y, memory_order_relaxed);\n@10@}\n\
+P2 (atomic_int* z) {\n@r0 = atomic_load_explicit(z, memory_order_relaxed);\n@10@}\nexists (0:r0=0)\n";
 
 /// Eight threads of one load each, where it has 16 values to choose from: of 2^32 candidates one is an execution.
 const EIGHT: &str =
@@ -184,12 +106,21 @@ P4 (atomic_int* x) { int r0 = atomic_load(x); }\nP5 (atomic_int* x) { int r0 = a
 P6 (atomic_int* x) { int r0 = atomic_load(x); }\nP7 (atomic_int* x) { int r0 = atomic_load(x); }\n\
 exists (0:r0=0)\n";
 
-const SIXTEEN_VALUES: &[Row] = &[
+/// Each of the 12! candidates of twelve stores is an execution, far from the first ones, too. Of the 4,096 of twelve loads, of
+/// the 2^30 of thirty, and of the 2^32 of sixteen values one is.
+const LONG_WALKS: &[Row] = &[
+    (TWELVE_STORES, Question::WalkedFrom(1 << 20), Ok(16)),
+    (TWELVE_STORES, Question::WalkedFrom(479_001_584), Ok(16)),
+    (TWELVE_LOADS_IN_R0, Question::Walked, Ok(1)),
+    (THIRTY_LOADS, Question::Size, Ok(1 << 30)),
+    (THIRTY_LOADS, Question::Walked, Ok(1)),
     (EIGHT, Question::Size, Ok(1 << 32)),
     (EIGHT, Question::Walked, Ok(1)),
 ];
 
 #[test]
-fn walk_over_sixteen_values(rt: HostRuntime) {
-    all_tell(&rt, rt.alloc(), SIXTEEN_VALUES);
+fn spaces(rt: HostRuntime) {
+    for rows in [SIZES_OF_SPACES, EXECUTIONS, WALKS, SIZES, LONG_WALKS] {
+        all_tell(&rt, rt.alloc(), rows);
+    }
 }

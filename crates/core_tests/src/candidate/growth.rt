@@ -39,14 +39,10 @@ fn read_0_to_4(runs: &[Run]) -> bool {
     reads_first(runs.get(0), 0, Order::Sc) && reads_first(runs.get(24), 4, Order::Sc)
 }
 
-/// The thread reads one of five values, and then one of five again, into `b` or, where it read 0, into `a`.
+/// The first thread reads one of five values, and then one of five again, into `b` or, where it read 0, into `a`.
 #[test]
-fn runs_of_a_thread(rt: HostRuntime) {
+fn runs_of_threads(rt: HostRuntime) {
     assert!(rt; has_runs(rt.alloc(), TEXT, 0, Some(Ok(25)), read_0_to_4));
-}
-
-#[test]
-fn runs_of_an_empty_thread(rt: HostRuntime) {
     assert!(rt; has_runs(rt.alloc(), TEXT, 1, Some(Ok(1)), any));
 }
 
@@ -54,11 +50,6 @@ const SPACES: &[Row] = &[
     (SB, Question::Size, Ok(16)),
     (SB, Question::Executions, Ok(4)),
 ];
-
-#[test]
-fn spaces(rt: HostRuntime) {
-    all_tell(&rt, rt.alloc(), SPACES);
-}
 
 /// 13 later writes of one location are in more than 2^32 orders.
 const NO_SPACE: &[Row] = &[(
@@ -71,6 +62,7 @@ const NO_SPACE: &[Row] = &[(
 )];
 
 #[test]
-fn no_space(rt: HostRuntime) {
+fn spaces(rt: HostRuntime) {
+    all_tell(&rt, rt.alloc(), SPACES);
     all_tell(&rt, rt.alloc(), NO_SPACE);
 }

@@ -1,13 +1,15 @@
 //! The runs of threads.
 
 use crate::candidate::executions::ADDITIONS;
-use crate::candidate::texts::{Check, Count, SB, any, has_runs, repeated};
+use crate::candidate::texts::{Count, SB, any, has_runs};
 use c11_threads::RunFault;
 use events::{Access, Event, Order, Run};
-use std::alloc::Global;
 
-/// Threads of store buffering and of two adds of 1, whose values are 0 to 3, and how many runs they have.
-const THREADS: [(&str, usize, Count); 5] = [
+/// A test, the number of one of its threads, and how many runs that has.
+type Row = (&'static str, usize, Count);
+
+/// Threads of store buffering and of two adds of 1, whose values are 0 to 3.
+const THREADS: [Row; 5] = [
     (SB, 0, Some(Ok(2))),
     (SB, 1, Some(Ok(2))),
     (SB, 2, None),
@@ -15,66 +17,49 @@ const THREADS: [(&str, usize, Count); 5] = [
     (ADDITIONS, 1, Some(Ok(3))),
 ];
 
-#[test]
-fn threads(rt: HostRuntime) {
-    for (text, thread, count) in &THREADS {
-        assert!(rt;
-            has_runs(rt.alloc(), text, *thread, *count, any),
-            "P{thread} of {text}"
-        );
-    }
-}
-
-/// Whether a thread with these statements, at x and y, has so many runs, of which this holds.
-fn runs_as(alloc: Global, statements: &str, wanted: Count, check: Check) -> bool
-    requires { IsAlwaysCallable check }
-{
-    let start = "C T\n{}\nP0 (atomic_int* x, atomic_int* y) {\n";
-    match repeated(alloc, start, statements, 1, "}\nexists (x=0 /\\ y=0)\n") {
-        Ok(text) => has_runs(alloc, text.as_str(), 0, wanted, check),
-        Err(_) => false,
-    }
-}
-
-const LOAD: &str = "r = atomic_load_explicit(x, memory_order_relaxed);\n";
-
-/// How often a thread loads, its last statements, and how many runs it has. Where four calls add 2, the values are 0, 1 and up to 8 and 9, and each of the calls reads one of the eight that are at most 7.
-const SIZES: [(usize, &str, Count); 6] = [
-    (12, "", Some(Ok(4096))),
-    (12, "if (r) {} else ;\nr = 0;\n", Some(Ok(4096))),
+/// Where four calls add 2, the values are 0, 1 and up to 8 and 9, and each of the calls reads one of the eight that are at most 7.
+const SIZES: [Row; 6] = [
     (
-        12,
-        "r = atomic_load(x);\n",
-        Some(Err(RunFault::TooManyRuns(0))),
-    ),
-    (0, ";", Some(Ok(1))),
-    (
+        "C T\n{}\nP0 (atomic_int* x, atomic_int* y) {\n@r = atomic_load_explicit(x, memory_order_relaxed);\n@12@}\nexists (x=0 /\\ y=0)\n",
         0,
-        "atomic_fetch_add(x, 2); atomic_fetch_add(x, 2); atomic_fetch_add(x, 2); atomic_fetch_add(x, 2);",
         Some(Ok(4096)),
     ),
     (
+        "C T\n{}\nP0 (atomic_int* x, atomic_int* y) {\n@r = atomic_load_explicit(x, memory_order_relaxed);\n@12@if (r) {} else ;\nr = 0;\n}\nexists (x=0 /\\ y=0)\n",
         0,
-        "atomic_fetch_add(x, 2); atomic_fetch_add(x, 2); atomic_fetch_add(x, 2); atomic_fetch_add(x, 2); r = atomic_load(x);",
+        Some(Ok(4096)),
+    ),
+    (
+        "C T\n{}\nP0 (atomic_int* x, atomic_int* y) {\n@r = atomic_load_explicit(x, memory_order_relaxed);\n@12@r = atomic_load(x);\n}\nexists (x=0 /\\ y=0)\n",
+        0,
+        Some(Err(RunFault::TooManyRuns(0))),
+    ),
+    (
+        "C T\n{}\nP0 (atomic_int* x, atomic_int* y) {\n;}\nexists (x=0 /\\ y=0)\n",
+        0,
+        Some(Ok(1)),
+    ),
+    (
+        "C T\n{}\nP0 (atomic_int* x, atomic_int* y) {\natomic_fetch_add(x, 2); atomic_fetch_add(x, 2); atomic_fetch_add(x, 2); atomic_fetch_add(x, 2);}\nexists (x=0 /\\ y=0)\n",
+        0,
+        Some(Ok(4096)),
+    ),
+    (
+        "C T\n{}\nP0 (atomic_int* x, atomic_int* y) {\natomic_fetch_add(x, 2); atomic_fetch_add(x, 2); atomic_fetch_add(x, 2); atomic_fetch_add(x, 2); r = atomic_load(x);}\nexists (x=0 /\\ y=0)\n",
+        0,
         Some(Err(RunFault::TooManyRuns(0))),
     ),
 ];
 
-/// Whether a thread that loads so often, and ends so, has so many runs.
-fn counts(alloc: Global, times: usize, last: &str, wanted: Count) -> bool {
-    match repeated(alloc, "", LOAD, times, last) {
-        Ok(statements) => runs_as(alloc, statements.as_str(), wanted, any),
-        Err(_) => false,
-    }
-}
-
 #[test]
-fn sizes(rt: HostRuntime) {
-    for (times, last, count) in &SIZES {
-        assert!(rt;
-            counts(rt.alloc(), *times, last, *count),
-            "{times} and {last}"
-        );
+fn counts(rt: HostRuntime) {
+    for rows in [THREADS.as_slice(), SIZES.as_slice()] {
+        for (text, thread, count) in rows {
+            assert!(rt;
+                has_runs(rt.alloc(), text, *thread, *count, any),
+                "P{thread} of {text}"
+            );
+        }
     }
 }
 
@@ -102,12 +87,6 @@ fn depend_so(runs: &[Run]) -> bool {
         && is_so(event_at(runs, 1, 2), 1, true, false)
 }
 
-#[test]
-fn ctrl(rt: HostRuntime) {
-    let statements = "int r = atomic_load(x); if (r) { atomic_store(y, 1); } atomic_store(y, r);\n";
-    assert!(rt; runs_as(rt.alloc(), statements, Some(Ok(2)), depend_so));
-}
-
 /// Whether an event is of this access, with this value and this order.
 fn is_of(event: Option<&Event>, access: Access, value: u32, order: Order) -> bool {
     match event {
@@ -122,12 +101,6 @@ fn exchange_so(runs: &[Run]) -> bool {
         && is_of(event_at(runs, 2, 1), Access::ExWrite, 2, Order::AcqRel)
 }
 
-#[test]
-fn exchange(rt: HostRuntime) {
-    let statements = "atomic_exchange_explicit(x, 2, memory_order_acq_rel);\n";
-    assert!(rt; runs_as(rt.alloc(), statements, Some(Ok(3)), exchange_so));
-}
-
 /// Whether in the second of these runs an addition reads 1 and writes 3, which depends on its own read alone.
 fn addition_so(runs: &[Run]) -> bool {
     is_of(event_at(runs, 1, 0), Access::ExRead, 1, Order::AcqRel)
@@ -135,8 +108,25 @@ fn addition_so(runs: &[Run]) -> bool {
         && is_so(event_at(runs, 1, 1), 3, true, false)
 }
 
+const CTRL: &str =
+    "C T\n{}\nP0 (atomic_int* x, atomic_int* y) {\nint r = atomic_load(x); if (r) { atomic_store(y, 1); } atomic_store(y, r);\n}\nexists (x=0 /\\ y=0)\n";
+
+const EXCHANGE: &str =
+    "C T\n{}\nP0 (atomic_int* x, atomic_int* y) {\natomic_exchange_explicit(x, 2, memory_order_acq_rel);\n}\nexists (x=0 /\\ y=0)\n";
+
+const ADDITION: &str =
+    "C T\n{}\nP0 (atomic_int* x, atomic_int* y) {\natomic_fetch_add_explicit(x, 2, memory_order_acq_rel);\n}\nexists (x=0 /\\ y=0)\n";
+
 #[test]
-fn addition(rt: HostRuntime) {
-    let statements = "atomic_fetch_add_explicit(x, 2, memory_order_acq_rel);\n";
-    assert!(rt; runs_as(rt.alloc(), statements, Some(Ok(2)), addition_so));
+fn events(rt: HostRuntime) {
+    let alloc = rt.alloc();
+    assert!(rt; has_runs(alloc, CTRL, 0, Some(Ok(2)), depend_so), "ctrl");
+    assert!(rt;
+        has_runs(alloc, EXCHANGE, 0, Some(Ok(3)), exchange_so),
+        "exchange"
+    );
+    assert!(rt;
+        has_runs(alloc, ADDITION, 0, Some(Ok(2)), addition_so),
+        "addition"
+    );
 }

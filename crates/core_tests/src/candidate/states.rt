@@ -1,5 +1,6 @@
 //! Propositions at states, the places that conditions observe, and copies.
 
+use crate::rows::all_so;
 use conditions::{
     Atom, Binding, Cond, Connective, Kind, Place, Prop, State, holds, observed, ok_of,
 };
@@ -40,9 +41,7 @@ enum Formula {
     False,
     Equals(Spot, u32),
     Not(&'static Formula),
-    And(&'static Formula, &'static Formula),
-    Or(&'static Formula, &'static Formula),
-    Implies(&'static Formula, &'static Formula),
+    Join(Connective, &'static Formula, &'static Formula),
 }
 
 fn prop(alloc: Global, formula: &Formula) -> Result<Prop, AllocError> {
@@ -51,9 +50,7 @@ fn prop(alloc: Global, formula: &Formula) -> Result<Prop, AllocError> {
         Formula::False => Ok(Prop::atom(alloc, Atom::False)),
         Formula::Equals(spot, value) => equals(alloc, spot, *value),
         Formula::Not(a) => prop(alloc, a)?.denied(),
-        Formula::And(a, b) => prop(alloc, a)?.joined(Connective::And, prop(alloc, b)?),
-        Formula::Or(a, b) => prop(alloc, a)?.joined(Connective::Or, prop(alloc, b)?),
-        Formula::Implies(a, b) => prop(alloc, a)?.joined(Connective::Implies, prop(alloc, b)?),
+        Formula::Join(connective, a, b) => prop(alloc, a)?.joined(*connective, prop(alloc, b)?),
     }
 }
 
@@ -65,13 +62,17 @@ fn equals(alloc: Global, spot: &Spot, value: u32) -> Result<Prop, AllocError> {
 /// `(0:r0=a => ~(1:r0=b)) /\ (x=c \/ false) /\ true`
 macro_rules! every_connective {
     ($a:expr, $b:expr, $c:expr) => {
-        Formula::And(
-            &Formula::And(
-                &Formula::Implies(
+        Formula::Join(
+            Connective::And,
+            &Formula::Join(
+                Connective::And,
+                &Formula::Join(
+                    Connective::Implies,
                     &Formula::Equals(Spot::Register(0, b"r0"), $a),
                     &Formula::Not(&Formula::Equals(Spot::Register(1, b"r0"), $b)),
                 ),
-                &Formula::Or(
+                &Formula::Join(
+                    Connective::Or,
                     &Formula::Equals(Spot::Location(b"x"), $c),
                     &Formula::False,
                 ),
@@ -142,11 +143,6 @@ fn judges(alloc: Global, condition: &Cond) -> bool {
     }
 }
 
-#[test]
-fn judges_states(rt: HostRuntime) {
-    assert!(rt; holds_of(rt.alloc(), Kind::Exists, &FORMULA, judges));
-}
-
 /// Whether the second place has its value there, and another place 0.
 fn has_values(places: &[Place], values: &[u32; 3], other: &Place) -> bool {
     if places.len() != 3 {
@@ -180,11 +176,6 @@ fn all_have_values(alloc: Global) -> bool {
         Ok(places) => have_values_beside_y(alloc, &places),
         Err(_) => false,
     }
-}
-
-#[test]
-fn values_in_states(rt: HostRuntime) {
-    assert!(rt; all_have_values(rt.alloc()));
 }
 
 /// What a condition of a kind is where its proposition holds nowhere, at one execution of four, and at each.
@@ -244,11 +235,6 @@ fn observes(alloc: Global, condition: &Cond) -> bool {
     }
 }
 
-#[test]
-fn observes_each_place_once(rt: HostRuntime) {
-    assert!(rt; holds_of(rt.alloc(), Kind::Exists, &AT_ZERO, observes));
-}
-
 /// Whether the copy of a binding is equal to it.
 fn binding_is_copied(binding: &Binding) -> bool {
     match binding.copy() {
@@ -265,22 +251,12 @@ fn is_copied_in_a_binding(alloc: Global, spot: &Spot) -> bool {
     }
 }
 
-#[test]
-fn copies_of_bindings(rt: HostRuntime) {
-    assert!(rt; is_copied_in_a_binding(rt.alloc(), &Spot::Register(0, b"r0")));
-}
-
 /// Whether the copy of a condition is equal to it.
 fn is_copied(_alloc: Global, condition: &Cond) -> bool {
     match condition.copy() {
         Ok(copy) => copy == *condition,
         Err(_) => false,
     }
-}
-
-#[test]
-fn copies_of_conditions(rt: HostRuntime) {
-    assert!(rt; holds_of(rt.alloc(), Kind::Forall, &FORMULA, is_copied));
 }
 
 /// Whether a condition isn't `forall` of `OTHER`.
@@ -292,6 +268,32 @@ fn is_another(alloc: Global, first: &Cond) -> bool {
 }
 
 #[test]
-fn other_conditions(rt: HostRuntime) {
-    assert!(rt; holds_of(rt.alloc(), Kind::Forall, &FORMULA, is_another));
+fn conditions_and_places(rt: HostRuntime) {
+    let alloc = rt.alloc();
+    all_so(
+        &rt,
+        &[
+            (
+                "judges states",
+                holds_of(alloc, Kind::Exists, &FORMULA, judges),
+            ),
+            ("values in states", all_have_values(alloc)),
+            (
+                "observes each place once",
+                holds_of(alloc, Kind::Exists, &AT_ZERO, observes),
+            ),
+            (
+                "copies of bindings",
+                is_copied_in_a_binding(alloc, &Spot::Register(0, b"r0")),
+            ),
+            (
+                "copies of conditions",
+                holds_of(alloc, Kind::Forall, &FORMULA, is_copied),
+            ),
+            (
+                "other conditions",
+                holds_of(alloc, Kind::Forall, &FORMULA, is_another),
+            ),
+        ],
+    );
 }

@@ -1,5 +1,6 @@
 //! Texts, and what is asked of the tests that they spell. A call that memory was wanting for is made again.
 
+use crate::rows::{again, expanded};
 use c11_threads::{RunFault, runs};
 use candidates::{Space, SpaceFault, Walk};
 use events::{Coherence, Graph, Run};
@@ -13,21 +14,15 @@ P0 (atomic_int* x, atomic_int* y) { atomic_store_explicit(x, 1, memory_order_rel
 P1 (atomic_int* x, atomic_int* y) { atomic_store_explicit(y, 1, memory_order_relaxed); int r0 = atomic_load_explicit(x, memory_order_relaxed); }\n\
 exists (0:r0=0 /\\ 1:r0=0)\n";
 
-/// A call's answer, made again once where it was refused so.
-macro_rules! again {
-    ($refused:pat, $call:expr) => {
-        match $call {
-            Err($refused) => $call,
-            answer => answer,
-        }
-    };
-}
-
-pub(crate) use again;
-
-/// The answer to a text.
-fn answer_to(alloc: Global, text: &str) -> Result<Test, TestFault> {
-    again!(TestFault::NoMemory, read_test(alloc, text.as_bytes()))
+/// The test that a text spells, in which `@part@times@` stands for that part so many times.
+fn read(alloc: Global, text: &str) -> Result<Test, TestFault> {
+    match again!(_, expanded(alloc, text)) {
+        Ok(text) => again!(
+            TestFault::NoMemory,
+            read_test(alloc, text.as_str().as_bytes())
+        ),
+        Err(_) => Err(TestFault::NoMemory),
+    }
 }
 
 /// How many runs a thread has, or why they aren't listed; `None` where the thread isn't there.
@@ -53,7 +48,7 @@ fn has_runs_in(alloc: Global, test: &Test, thread: usize, wanted: Count, check: 
 pub fn has_runs(alloc: Global, text: &str, thread: usize, wanted: Count, check: Check) -> bool
     requires { IsAlwaysCallable check }
 {
-    match answer_to(alloc, text) {
+    match read(alloc, text) {
         Ok(test) => has_runs_in(alloc, &test, thread, wanted, check),
         Err(_) => false,
     }
@@ -109,7 +104,7 @@ fn tells_of(alloc: Global, test: &Test, question: Question, wanted: Told) -> boo
 
 /// Whether this is reported of the space of the test that a text spells.
 pub fn tells(alloc: Global, text: &str, question: Question, wanted: Told) -> bool {
-    match answer_to(alloc, text) {
+    match read(alloc, text) {
         Ok(test) => tells_of(alloc, &test, question, wanted),
         Err(_) => false,
     }
@@ -132,7 +127,7 @@ fn holds_of_test(alloc: Global, test: &Test, check: SpaceCheck) -> bool
 pub fn holds_of(alloc: Global, text: &str, check: SpaceCheck) -> bool
     requires { IsAlwaysCallable check }
 {
-    match answer_to(alloc, text) {
+    match read(alloc, text) {
         Ok(test) => holds_of_test(alloc, &test, check),
         Err(_) => false,
     }
@@ -238,20 +233,4 @@ fn count_next(alloc: Global, space: &Space, number: u64) -> Result<u64, AllocErr
     }
     let mut walk = space.walk(alloc, number, end);
     count_on(alloc, space, &mut walk)
-}
-
-/// A text, then a part some times, then an end.
-pub fn repeated(
-    alloc: Global,
-    start: &str,
-    part: &str,
-    times: usize,
-    end: &str,
-) -> Result<String, AllocError> {
-    let mut text = String::from_str(alloc, start)?;
-    for _ in 0..times {
-        text.push_str(part)?;
-    }
-    text.push_str(end)?;
-    Ok(text)
 }

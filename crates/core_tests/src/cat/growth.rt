@@ -6,7 +6,8 @@
 use crate::cat::judging::{is_judged, says_of_order};
 use crate::cat::loading::{self, has_parts};
 use crate::cat::syntax::item_is_copied;
-use crate::cat::texts::{EACH_KIND, confirm};
+use crate::cat::texts::EACH_KIND;
+use crate::rows::confirm;
 use cat_model::{Files, Model, ModelFault, resolve};
 use cat_syntax::{CatFault, CatFile, Item, read_cat};
 use events::Order;
@@ -36,12 +37,6 @@ fn read(alloc: Global, text: &str) -> Result<CatFile, Fail> {
     }
 }
 
-#[test]
-fn reading(rt: HostRuntime) -> Result<(), Fail> {
-    let file = read(rt.alloc(), EACH_KIND)?;
-    confirm(has_parts(&file, b"T", 7), EACH_KIND)
-}
-
 /// Whether a fault is a word that the language leaves out; nothing at want of memory.
 fn is_left_out(fault: &CatFault, word: &[u8]) -> Option<bool> {
     match fault {
@@ -59,12 +54,11 @@ fn leaves_out(alloc: Global, text: &str, word: &[u8]) -> Option<bool> {
     }
 }
 
-#[test]
-fn reading_a_fault(rt: HostRuntime) -> Result<(), Fail> {
-    let text = "let rec f(x) = x";
-    let told = match leaves_out(rt.alloc(), text, b"f") {
+/// A text is refused for a word that the language leaves out.
+fn confirm_left_out(alloc: Global, text: &str, word: &[u8]) -> Result<(), Fail> {
+    let told = match leaves_out(alloc, text, word) {
         Some(told) => Some(told),
-        None => leaves_out(rt.alloc(), text, b"f"),
+        None => leaves_out(alloc, text, word),
     };
     confirm(told == Some(true), text)
 }
@@ -101,8 +95,10 @@ fn all_is_copied(alloc: Global, file: &CatFile, text: &str) -> Result<(), Fail> 
 }
 
 #[test]
-fn copying(rt: HostRuntime) -> Result<(), Fail> {
+fn reading(rt: HostRuntime) -> Result<(), Fail> {
+    confirm_left_out(rt.alloc(), "let rec f(x) = x", b"f")?;
     let file = read(rt.alloc(), EACH_KIND)?;
+    confirm(has_parts(&file, b"T", 7), EACH_KIND)?;
     all_is_copied(rt.alloc(), &file, EACH_KIND)
 }
 
@@ -297,32 +293,7 @@ const TWO_FILES: &[(&str, &str)] = &[
     ),
 ];
 
-#[test]
-fn putting(rt: HostRuntime) -> Result<(), Fail> {
-    confirm_files(rt.alloc(), TWO_FILES, Fact::TwoArePut)
-}
-
-#[test]
-fn resolving(rt: HostRuntime) -> Result<(), Fail> {
-    confirm_files(rt.alloc(), TWO_FILES, Fact::Counts(23, 3))
-}
-
-#[test]
-fn copying_a_model(rt: HostRuntime) -> Result<(), Fail> {
-    confirm_files(rt.alloc(), TWO_FILES, Fact::IsCopied)
-}
-
-#[test]
-fn judging(rt: HostRuntime) -> Result<(), Fail> {
-    confirm_files(rt.alloc(), TWO_FILES, Fact::Forbids(&["data-race", "read"]))
-}
-
 const LATER: &[(&str, &str)] = &[("root.cat", "include \"rc11.cat\" let r = po | later")];
-
-#[test]
-fn resolving_a_fault(rt: HostRuntime) -> Result<(), Fail> {
-    confirm_files(rt.alloc(), LATER, Fact::Unbound(b"later"))
-}
 
 /// Three bindings that make half a million nodes of one.
 const DOUBLED: &[(&str, &str)] = &[(
@@ -331,6 +302,12 @@ const DOUBLED: &[(&str, &str)] = &[(
 )];
 
 #[test]
-fn resolving_too_large_calls(rt: HostRuntime) -> Result<(), Fail> {
-    confirm_files(rt.alloc(), DOUBLED, Fact::TooLarge(b"empty"))
+fn resolving(rt: HostRuntime) -> Result<(), Fail> {
+    let alloc = rt.alloc();
+    confirm_files(alloc, TWO_FILES, Fact::TwoArePut)?;
+    confirm_files(alloc, TWO_FILES, Fact::Counts(23, 3))?;
+    confirm_files(alloc, TWO_FILES, Fact::IsCopied)?;
+    confirm_files(alloc, TWO_FILES, Fact::Forbids(&["data-race", "read"]))?;
+    confirm_files(alloc, LATER, Fact::Unbound(b"later"))?;
+    confirm_files(alloc, DOUBLED, Fact::TooLarge(b"empty"))
 }

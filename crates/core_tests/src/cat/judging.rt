@@ -1,6 +1,7 @@
 //! What models say of executions that are made by hand.
 
-use crate::cat::loading::{Fact, all_alone};
+use crate::cat::loading::{Fact, holds_alone};
+use crate::rows::all_lines_hold;
 use cat_eval::judge;
 use cat_model::Model;
 use events::EventId::{Initial, Own};
@@ -119,63 +120,78 @@ pub const ALLOWS: Fact = Fact::Says(Order::Rlx, true, &[]);
 /// Store buffering of relaxed accesses is forbidden.
 pub const FORBIDS: Fact = Fact::Says(Order::Rlx, false, &[]);
 
-const ALLOWED: &[(&str, Fact)] = &[
-    ("", ALLOWS),
-    ("acyclic rf | co | fr", ALLOWS),
-    ("~acyclic po | fr", ALLOWS),
-    ("irreflexive po ; fr", ALLOWS),
-    ("empty rmw", ALLOWS),
-    ("empty R & W empty F empty {}", ALLOWS),
-    ("empty [R] ; rf", ALLOWS),
-    ("empty domain(rf) \\ IW", ALLOWS),
-    ("empty range(rf) \\ R", ALLOWS),
-    ("empty rf \\ IW * R", ALLOWS),
-    ("empty rf & rf^-1", ALLOWS),
-    ("empty _ \\ (W | R)", ALLOWS),
-    ("acyclic po+", ALLOWS),
-    ("let fr = 0 empty fr", ALLOWS),
-    ("let po = fr and fr = po empty po & fr", ALLOWS),
-    ("let rec r = r ; po empty r", ALLOWS),
-    ("let rec r = po | r ; r irreflexive r", ALLOWS),
-    ("empty ~(_ * _)", ALLOWS),
-    ("irreflexive ~id", ALLOWS),
-    ("include \"rc11.cat\"", ALLOWS),
-];
-
-#[test]
-fn allowed(rt: HostRuntime) -> Result<(), Fail> {
-    all_alone(rt.alloc(), ALLOWED)
+/// What is to hold of a model, in words.
+pub fn fact_of(words: &str) -> Fact<'_> {
+    match words {
+        "allows" => ALLOWS,
+        "forbids" => FORBIDS,
+        "refuted" => Fact::Refutes(Order::Rlx, true),
+        "open" => Fact::Refutes(Order::Rlx, false),
+        "orderless" => Fact::Orderless(true),
+        "ordered" => Fact::Orderless(false),
+        "removed" => Fact::Removed,
+        "16 files" => Fact::Files(16),
+        _ => match words.strip_prefix("is ") {
+            Some(text) => Fact::Text(text),
+            None => Fact::Answer(words),
+        },
+    }
 }
 
-const FORBIDDEN: &[(&str, Fact)] = &[
-    ("acyclic po | rf | co | fr", FORBIDS),
-    ("acyclic po | fr empty rmw", FORBIDS),
-    ("~acyclic po", FORBIDS),
-    ("irreflexive po ; fr ; po ; fr", FORBIDS),
-    ("empty fr", FORBIDS),
-    ("empty W \\ IW", FORBIDS),
-    ("empty [W] ; rf", FORBIDS),
-    ("empty domain(rf) & IW", FORBIDS),
-    ("empty rf & IW * R", FORBIDS),
-    ("irreflexive po?", FORBIDS),
-    ("irreflexive po*", FORBIDS),
-    ("irreflexive (po ; fr)+", FORBIDS),
-    ("empty fr let fr = 0", FORBIDS),
-    ("let rec r = po | r ; r empty r", FORBIDS),
-    ("let rec r = po | fr | r ; r irreflexive r", FORBIDS),
-    (
-        "let rec a = po | po ; b and b = fr ; a irreflexive a ; fr",
-        FORBIDS,
-    ),
-    ("empty ~0", FORBIDS),
-    ("acyclic ~id", FORBIDS),
-    ("include \"rc11.cat\"", Fact::Says(Order::Sc, false, &[])),
-];
+/// Fails unless that holds of one file of a text.
+pub fn is_so(alloc: Global, text: &str, words: &str) -> Result<(), Fail> {
+    holds_alone(alloc, text, fact_of(words))
+}
+
+const ALLOWED: &str = " ==> allows
+acyclic rf | co | fr ==> allows
+~acyclic po | fr ==> allows
+irreflexive po ; fr ==> allows
+empty rmw ==> allows
+empty R & W empty F empty {} ==> allows
+empty [R] ; rf ==> allows
+empty domain(rf) \\ IW ==> allows
+empty range(rf) \\ R ==> allows
+empty rf \\ IW * R ==> allows
+empty rf & rf^-1 ==> allows
+empty _ \\ (W | R) ==> allows
+acyclic po+ ==> allows
+let fr = 0 empty fr ==> allows
+let po = fr and fr = po empty po & fr ==> allows
+let rec r = r ; po empty r ==> allows
+let rec r = po | r ; r irreflexive r ==> allows
+empty ~(_ * _) ==> allows
+irreflexive ~id ==> allows
+include \"rc11.cat\" ==> allows";
+
+const FORBIDDEN: &str = "acyclic po | rf | co | fr ==> forbids
+acyclic po | fr empty rmw ==> forbids
+~acyclic po ==> forbids
+irreflexive po ; fr ; po ; fr ==> forbids
+empty fr ==> forbids
+empty W \\ IW ==> forbids
+empty [W] ; rf ==> forbids
+empty domain(rf) & IW ==> forbids
+empty rf & IW * R ==> forbids
+irreflexive po? ==> forbids
+irreflexive po* ==> forbids
+irreflexive (po ; fr)+ ==> forbids
+empty fr let fr = 0 ==> forbids
+let rec r = po | r ; r empty r ==> forbids
+let rec r = po | fr | r ; r irreflexive r ==> forbids
+let rec a = po | po ; b and b = fr ; a irreflexive a ; fr ==> forbids
+empty ~0 ==> forbids
+acyclic ~id ==> forbids";
 
 #[test]
-fn forbidden(rt: HostRuntime) -> Result<(), Fail> {
-    all_alone(rt.alloc(), FORBIDDEN)
+fn allowed_and_forbidden(rt: HostRuntime) -> Result<(), Fail> {
+    all_lines_hold(rt.alloc(), ALLOWED, is_so)?;
+    all_lines_hold(rt.alloc(), FORBIDDEN, is_so)?;
+    holds_alone(rt.alloc(), BUILT_IN, Fact::Says(Order::Sc, false, &[]))
 }
+
+/// The built-in model.
+pub const BUILT_IN: &str = "include \"rc11.cat\"";
 
 const FLAGS: &[(&str, Fact)] = &[
     (
@@ -191,13 +207,13 @@ const FLAGS: &[(&str, Fact)] = &[
         "flag ~empty fr as read acyclic po | fr as order flag acyclic po as late",
         Fact::Says(Order::Na, false, &["read", "late"]),
     ),
-    (
-        "include \"rc11.cat\"",
-        Fact::Says(Order::Na, true, &["data-race"]),
-    ),
+    (BUILT_IN, Fact::Says(Order::Na, true, &["data-race"])),
 ];
 
 #[test]
 fn flags(rt: HostRuntime) -> Result<(), Fail> {
-    all_alone(rt.alloc(), FLAGS)
+    for (text, fact) in FLAGS {
+        holds_alone(rt.alloc(), text, *fact)?;
+    }
+    Ok(())
 }

@@ -1,8 +1,8 @@
 //! Files with texts, and what is to hold of them.
 
-use crate::cat::judging::is_judged;
+use crate::cat::judging::{fact_of, is_judged};
 use crate::cat::refuting::is_known;
-use crate::cat::texts::{confirm, repeated};
+use crate::rows::{confirm, expanded};
 use cat_eval::is_orderless;
 use cat_model::{FileVersion, Files, Model, ModelFault, resolve};
 use cat_syntax::{CatFile, read_cat};
@@ -13,9 +13,9 @@ use wb_text::Name;
 
 /// What is to hold of a name among files.
 #[derive(Clone, Copy)]
-pub enum Fact {
+pub enum Fact<'a> {
     /// `resolve` answers this for it as a root.
-    Answer(&'static str),
+    Answer(&'a str),
     /// Its model comes from so many files.
     Files(usize),
     /// Its model allows store buffering of this order, or forbids it, and raises these flags.
@@ -25,24 +25,9 @@ pub enum Fact {
     /// Of its model it is known, or isn't, that it says the same of executions that differ in their coherence orders alone.
     Orderless(bool),
     /// It stands for what this text is read as.
-    Text(&'static str),
+    Text(&'a str),
     /// Its file can be taken away, and then not once more.
     Removed,
-}
-
-/// A step of a test with files.
-#[derive(Clone, Copy)]
-pub enum Step {
-    /// A text is put under a name, at the next version.
-    Put(&'static str, &'static str),
-    /// A text of parts, each so many times, is put under a name, at the next version.
-    PutRepeated(&'static str, &'static [(&'static str, usize)]),
-    /// One text is put as `main.cat`, and this is to hold of that.
-    Alone(&'static str, Fact),
-    /// This is to hold of a name.
-    Has(&'static str, Fact),
-    /// These are to be the names that were put, in order of first put.
-    Names(&'static [&'static str]),
 }
 
 /// A name.
@@ -86,24 +71,12 @@ fn put_next(files: &mut Files, name: Name, file: CatFile) -> bool {
     files.put(name, version + 1, file).is_ok()
 }
 
-/// Puts a text under a name, at the next version.
+/// Puts the text of a row under a name, at the next version.
 fn put(alloc: Global, files: &mut Files, name: &str, text: &str) -> Result<(), Fail> {
     let name = named(alloc, name)?;
-    let file = read(alloc, text)?;
+    let whole = expanded(alloc, text)?;
+    let file = read(alloc, whole.as_str())?;
     confirm(put_next(files, name, file), text)
-}
-
-/// Puts a text of parts, each so many times, under a name, at the next version.
-fn put_repeated(
-    alloc: Global,
-    files: &mut Files,
-    name: &str,
-    parts: &[(&str, usize)],
-) -> Result<(), Fail> {
-    match repeated(alloc, parts) {
-        Ok(text) => put(alloc, files, name, text.as_str()),
-        Err(_) => Err(Fail::new(name)),
-    }
 }
 
 /// Adds a file with its version.
@@ -223,43 +196,49 @@ fn names_are(files: &Files, wanted: &[&str]) -> bool {
     files.name_at(wanted.len()).is_none()
 }
 
-/// Takes a step among files.
-fn take(alloc: Global, files: &mut Files, step: Step) -> Result<(), Fail> {
-    match step {
-        Step::Put(name, text) => put(alloc, files, name, text),
-        Step::PutRepeated(name, parts) => put_repeated(alloc, files, name, parts),
-        Step::Alone(text, fact) => put_and_confirm(alloc, files, text, fact),
-        Step::Has(name, fact) => confirm_has(alloc, files, (name, fact), name),
-        Step::Names(wanted) => confirm(names_are(files, wanted), "the names"),
+/// Takes a step among files: `name: text` puts a text under a name at the next version, and `name ==> words` says what holds of
+/// a name. One that begins with `#` is a heading.
+fn take(alloc: Global, files: &mut Files, step: &str) -> Result<(), Fail> {
+    if let Some((name, words)) = step.split_once(" ==> ") {
+        return confirm_has(alloc, files, (name, fact_of(words)), step);
+    }
+    match step.split_once(": ") {
+        Some((name, text)) => put(alloc, files, name, text),
+        None => confirm(step.starts_with('#'), step),
     }
 }
 
-/// Takes steps among files, in order.
-fn take_all(alloc: Global, files: &mut Files, steps: &[Step]) -> Result<(), Fail> {
-    for step in steps {
-        take(alloc, files, *step)?;
+/// Takes the steps of a script among files, in order.
+fn take_all(alloc: Global, files: &mut Files, script: &str) -> Result<(), Fail> {
+    for step in script.split("\n- ") {
+        take(alloc, files, step)?;
     }
     Ok(())
 }
 
-/// Takes steps in order, at first among the built-in files alone.
-pub fn follow(alloc: Global, steps: &[Step]) -> Result<(), Fail> {
+/// Takes the steps of a script, at first among the built-in files alone.
+pub fn follow(alloc: Global, script: &str) -> Result<(), Fail> {
     let mut files = Files::new(alloc)?;
-    take_all(alloc, &mut files, steps)
+    take_all(alloc, &mut files, script)
+}
+
+/// These are the names that are put by a script, in order.
+pub fn puts_in_order(alloc: Global, script: &str, names: &[&str]) -> Result<(), Fail> {
+    let mut files = Files::new(alloc)?;
+    take_all(alloc, &mut files, script)?;
+    confirm(names_are(&files, names), script)
+}
+
+/// A fact holds of a name among the built-in files.
+pub fn holds_beforehand(alloc: Global, name: &str, fact: Fact) -> Result<(), Fail> {
+    let mut files = Files::new(alloc)?;
+    confirm_has(alloc, &mut files, (name, fact), name)
 }
 
 /// Puts one file of this text, of which a fact holds.
 fn put_and_confirm(alloc: Global, files: &mut Files, text: &str, fact: Fact) -> Result<(), Fail> {
     put(alloc, files, "main.cat", text)?;
     confirm_has(alloc, files, ("main.cat", fact), text)
-}
-
-/// Of one file of each text the fact beside it holds.
-pub fn all_alone(alloc: Global, rows: &[(&'static str, Fact)]) -> Result<(), Fail> {
-    for (text, fact) in rows {
-        follow(alloc, &[Step::Alone(text, *fact)])?;
-    }
-    Ok(())
 }
 
 /// Of one file of a text a fact holds.

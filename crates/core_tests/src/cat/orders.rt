@@ -1,40 +1,33 @@
 //! Which models are known to say the same of executions that differ in their coherence orders alone.
 
-use crate::cat::loading::{Fact, all_alone};
+use crate::cat::judging::is_so;
+use crate::rows::all_lines_hold;
 use std::test::Fail;
 
-/// It is known.
-const ORDERLESS: Fact = Fact::Orderless(true);
-
-/// It isn't known.
-const ORDERED: Fact = Fact::Orderless(false);
-
-const MODELS: &[(&str, Fact)] = &[
-    ("", ORDERLESS),
-    ("acyclic po | rf as x", ORDERLESS),
-    ("acyclic po | rf | co as x", ORDERED),
-    ("include \"rc11.cat\"", ORDERED),
-    ("flag ~empty coe as x", ORDERED),
-    // Each name of what rests on the orders.
-    ("empty fr", ORDERED),
-    ("empty coi", ORDERED),
-    ("empty fri", ORDERED),
-    ("empty fre", ORDERED),
-    // Bindings and bodies of functions.
-    ("let r = rf ; rfe^-1 empty r \\ rfi", ORDERLESS),
-    ("let r = co", ORDERED),
-    ("let rec r = rf | r ; r empty r", ORDERLESS),
-    ("let rec r = co | r ; r empty po", ORDERED),
-    ("let f(x) = x | po empty f(rf)", ORDERLESS),
-    ("let f(x) = x | co empty f(0)", ORDERED),
-    ("acyclic fencerel(F) | rf", ORDERLESS),
-    // Names that are bound anew stand for other things, and count.
-    ("let co = rf empty co", ORDERED),
-    // What has no effect.
-    ("show co", ORDERLESS),
-];
+const MODELS: &str = " ==> orderless
+acyclic po | rf as x ==> orderless
+acyclic po | rf | co as x ==> ordered
+include \"rc11.cat\" ==> ordered
+flag ~empty coe as x ==> ordered
+# Each name of what rests on the orders.
+empty fr ==> ordered
+empty coi ==> ordered
+empty fri ==> ordered
+empty fre ==> ordered
+# Bindings and bodies of functions.
+let r = rf ; rfe^-1 empty r \\ rfi ==> orderless
+let r = co ==> ordered
+let rec r = rf | r ; r empty r ==> orderless
+let rec r = co | r ; r empty po ==> ordered
+let f(x) = x | po empty f(rf) ==> orderless
+let f(x) = x | co empty f(0) ==> ordered
+acyclic fencerel(F) | rf ==> orderless
+# Names that are bound anew stand for other things, and count.
+let co = rf empty co ==> ordered
+# What has no effect.
+show co ==> orderless";
 
 #[test]
 fn known_or_not(rt: HostRuntime) -> Result<(), Fail> {
-    all_alone(rt.alloc(), MODELS)
+    all_lines_hold(rt.alloc(), MODELS, is_so)
 }

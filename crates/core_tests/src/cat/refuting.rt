@@ -1,7 +1,8 @@
 //! What models say of all executions that go on from a partial one.
 
-use crate::cat::judging::event;
-use crate::cat::loading::{Fact, all_alone};
+use crate::cat::judging::{BUILT_IN, event, is_so};
+use crate::cat::loading::{Fact, holds_alone};
+use crate::rows::all_lines_hold;
 use cat_eval::Evaluator;
 use cat_model::Model;
 use events::EventId::{Initial, Own};
@@ -61,42 +62,30 @@ pub fn is_known(alloc: Global, model: &Model, order: Order, known: bool) -> bool
     matches!(says_of_order(alloc, model, order, known), Ok(true))
 }
 
-/// It is refuted, whatever comes.
-const REFUTED: Fact = Fact::Refutes(Order::Rlx, true);
+/// Each is refuted, whatever comes.
+const REFUTED: &str = "acyclic po | rf | co | fr ==> refuted
+irreflexive po ; rf ; po ; fr ==> refuted
+acyclic po empty fr let fr = 0 ==> refuted
+empty ~po ==> refuted
+empty fr \\ po ==> refuted
+let rec r = fr | r ; r empty r ==> refuted
+let rec a = b and b = po | rf ; a empty a ==> refuted
+let new(r) = r \\ po empty new(fr) ==> refuted";
 
 /// Nothing is said.
-const OPEN: Fact = Fact::Refutes(Order::Rlx, false);
-
-const TELL: &[(&str, Fact)] = &[
-    ("include \"rc11.cat\"", Fact::Refutes(Order::Sc, true)),
-    ("acyclic po | rf | co | fr", REFUTED),
-    ("irreflexive po ; rf ; po ; fr", REFUTED),
-    ("acyclic po empty fr let fr = 0", REFUTED),
-    ("empty ~po", REFUTED),
-    ("empty fr \\ po", REFUTED),
-    ("let rec r = fr | r ; r empty r", REFUTED),
-    ("let rec a = b and b = po | rf ; a empty a", REFUTED),
-    ("let new(r) = r \\ po empty new(fr)", REFUTED),
-];
+const SILENT: &str = "include \"rc11.cat\" ==> open
+ ==> open
+acyclic po | rf ==> open
+~acyclic po ==> open
+flag empty fr as none ==> open
+empty ~co ==> open
+empty fr \\ co ==> open
+let rec a = fr and b = ~rf empty a ==> open
+let old(r) = po \\ r empty old(rf) ==> open";
 
 #[test]
 fn refuted(rt: HostRuntime) -> Result<(), Fail> {
-    all_alone(rt.alloc(), TELL)
-}
-
-const SILENT: &[(&str, Fact)] = &[
-    ("include \"rc11.cat\"", OPEN),
-    ("", OPEN),
-    ("acyclic po | rf", OPEN),
-    ("~acyclic po", OPEN),
-    ("flag empty fr as none", OPEN),
-    ("empty ~co", OPEN),
-    ("empty fr \\ co", OPEN),
-    ("let rec a = fr and b = ~rf empty a", OPEN),
-    ("let old(r) = po \\ r empty old(rf)", OPEN),
-];
-
-#[test]
-fn silent(rt: HostRuntime) -> Result<(), Fail> {
-    all_alone(rt.alloc(), SILENT)
+    all_lines_hold(rt.alloc(), REFUTED, is_so)?;
+    all_lines_hold(rt.alloc(), SILENT, is_so)?;
+    holds_alone(rt.alloc(), BUILT_IN, Fact::Refutes(Order::Sc, true))
 }

@@ -1,7 +1,8 @@
 //! What texts are read as, and equality and copies of what is read.
 
 use crate::cat::loading::{has_parts, is_read_as, read};
-use crate::cat::texts::{EACH_KIND, RC11, confirm, repeated};
+use crate::cat::texts::{EACH_KIND, RC11};
+use crate::rows::{all_lines_hold, confirm, expanded};
 use cat_syntax::{
     CatFault, CatFile, Definition, Expression, Infix, Item, Leaf, Node, Sign, read_cat,
 };
@@ -132,66 +133,54 @@ fn first_shown(alloc: Global, file: &CatFile) -> Result<String, AllocError> {
     Ok(text)
 }
 
-/// What a text is read as: what a first item `let r = ..` binds, else `a tree`, or the fault.
+/// What the text of a row is read as: what a first item `let r = ..` binds, else `a tree`, or the fault.
 fn shown(alloc: Global, text: &str) -> Result<String, AllocError> {
+    let text = expanded(alloc, text)?;
     match read_cat(alloc, text.as_bytes()) {
         Ok(file) => first_shown(alloc, &file),
         Err(fault) => format!(in alloc; "{fault}"),
     }
 }
 
-fn reads_as(alloc: Global, text: &str, wanted: &str) -> bool {
-    match shown(alloc, text) {
-        Ok(found) => found.as_str() == wanted,
-        Err(_) => false,
-    }
+/// Fails unless that is what the text of a row is read as.
+pub fn reads_as(alloc: Global, text: &str, wanted: &str) -> Result<(), Fail> {
+    let found = shown(alloc, text)?;
+    confirm(found.as_str() == wanted, text)
 }
 
-/// Each text binds what is beside it, or has the fault beside it.
-pub fn all_read_as(alloc: Global, rows: &[(&str, &str)]) -> Result<(), Fail> {
-    for (text, wanted) in rows {
-        confirm(reads_as(alloc, text, wanted), text)?;
-    }
-    Ok(())
-}
-
-const OPERATORS: &[(&str, &str)] = &[
-    ("let r = a \\ b \\ c", "((a-b)-c)"),
-    ("let r = a ; b ; c", "(a;(b;c))"),
-    ("let r = a | b ; c | d", "(a|((b;c)|d))"),
-    ("let r = a | b ; c \\ d & e * f", "(a|(b;(c-(d&(exf)))))"),
-    ("let r = W * R * F", "((WxR)xF)"),
-    ("let r = ~a* ; b+?^-1", "(~((a)*);(((b)+)?)^-1)"),
-    ("let r = a* * b", "((a)*xb)"),
-    ("let r = a* ~empty 0", "(a)*"),
-    ("let r = a * ~b", "(ax~(b))"),
-    (
-        "let r = domain(a) | range(b) | [{}] | 0 | _",
-        "(domain(a)|(range(b)|(id({})|(0|_))))",
-    ),
-];
+const READ: &str = "# operators and levels
+let r = a \\ b \\ c ==> ((a-b)-c)
+let r = a ; b ; c ==> (a;(b;c))
+let r = a | b ; c | d ==> (a|((b;c)|d))
+let r = a | b ; c \\ d & e * f ==> (a|(b;(c-(d&(exf)))))
+let r = W * R * F ==> ((WxR)xF)
+let r = ~a* ; b+?^-1 ==> (~((a)*);(((b)+)?)^-1)
+let r = a* * b ==> ((a)*xb)
+let r = a* ~empty 0 ==> (a)*
+let r = a * ~b ==> (ax~(b))
+let r = domain(a) | range(b) | [{}] | 0 | _ ==> (domain(a)|(range(b)|(id({})|(0|_))))
+# faults
+let r = a and r = b ==> 52 Syntax 14
+let r = a) ==> 52 Syntax 9
+let r = ==> 52 Syntax 7
+let _ = a ==> 52 Syntax 4
+let r = 1 ==> 52 Syntax 8
+let r = a and r (x) = b ==> 52 Syntax 14
+let r = a ++ b ==> 53 Unsupported ++
+let r = if a ==> 53 Unsupported if
+include \"a b\" ==> 52 Syntax 8
+(* (* *) ==> 51 Text 3 OpenComment
+# hostile input row 4
+empty @(@64@0@)@64@ ==> a tree
+empty @(@65@0 ==> 54 TooDeep
+empty rf@ | rf@2047@ ==> a tree
+empty rf@ | rf@2048@) ==> 55 TooLarge
+empty rf@ | rf@2046@ | ) ==> 52 Syntax 10241
+empty rf@ | rf@2047@ show ) ==> 52 Syntax 10249";
 
 #[test]
-fn operators_and_levels(rt: HostRuntime) -> Result<(), Fail> {
-    all_read_as(rt.alloc(), OPERATORS)
-}
-
-const FAULTS: &[(&str, &str)] = &[
-    ("let r = a and r = b", "52 Syntax 14"),
-    ("let r = a)", "52 Syntax 9"),
-    ("let r =", "52 Syntax 7"),
-    ("let _ = a", "52 Syntax 4"),
-    ("let r = 1", "52 Syntax 8"),
-    ("let r = a and r (x) = b", "52 Syntax 14"),
-    ("let r = a ++ b", "53 Unsupported ++"),
-    ("let r = if a", "53 Unsupported if"),
-    ("include \"a b\"", "52 Syntax 8"),
-    ("(* (* *)", "51 Text 3 OpenComment"),
-];
-
-#[test]
-fn faults(rt: HostRuntime) -> Result<(), Fail> {
-    all_read_as(rt.alloc(), FAULTS)
+fn reading(rt: HostRuntime) -> Result<(), Fail> {
+    all_lines_hold(rt.alloc(), READ, reads_as)
 }
 
 /// Whether a fault is told as one of a text.
@@ -224,53 +213,8 @@ fn hostile_input_row_1(rt: HostRuntime) -> Result<(), Fail> {
     confirm(is_answered(rt.alloc(), RC11.as_bytes(), false), RC11)
 }
 
-/// Whether a text of parts, each so many times, is answered so.
-fn repeats_to(alloc: Global, parts: &[(&str, usize)], wanted: &str) -> bool {
-    match repeated(alloc, parts) {
-        Ok(text) => reads_as(alloc, text.as_str(), wanted),
-        Err(_) => false,
-    }
-}
-
-/// Each text of parts, each so many times, is answered as is said beside it.
-pub fn all_repeat_to(alloc: Global, rows: &[(&[(&str, usize)], &str)]) -> Result<(), Fail> {
-    for (parts, wanted) in rows {
-        confirm(repeats_to(alloc, parts, wanted), wanted)?;
-    }
-    Ok(())
-}
-
-const DEEP_AND_LARGE: &[(&[(&str, usize)], &str)] = &[
-    (&[("empty ", 1), ("(", 64), ("0", 1), (")", 64)], "a tree"),
-    (&[("empty ", 1), ("(", 65), ("0", 1)], "54 TooDeep"),
-    (&[("empty rf", 1), (" | rf", 2_047)], "a tree"),
-    (
-        &[("empty rf", 1), (" | rf", 2_048), (")", 1)],
-        "55 TooLarge",
-    ),
-    (
-        &[("empty rf", 1), (" | rf", 2_046), (" | )", 1)],
-        "52 Syntax 10241",
-    ),
-    (
-        &[("empty rf", 1), (" | rf", 2_047), (" show )", 1)],
-        "52 Syntax 10249",
-    ),
-];
-
-#[test]
-fn hostile_input_row_4(rt: HostRuntime) -> Result<(), Fail> {
-    all_repeat_to(rt.alloc(), DEEP_AND_LARGE)
-}
-
 const ITEMS: &str =
     "\"a title\" let rec r = r and s = r include \"b.cat\" flag ~empty r as none show r as a, s unshow r, s";
-
-#[test]
-fn items(rt: HostRuntime) -> Result<(), Fail> {
-    let file = read(rt.alloc(), ITEMS)?;
-    confirm(has_parts(&file, b"a title", 5), ITEMS)
-}
 
 /// Whether two texts are equal models; nothing if one is no model.
 fn are_equal(alloc: Global, text: &str, other: &str) -> Option<bool> {
@@ -280,56 +224,49 @@ fn are_equal(alloc: Global, text: &str, other: &str) -> Option<bool> {
     }
 }
 
-/// The texts of each row are models, and equal or not, as is said beside them.
-fn all_compare(alloc: Global, rows: &[(&str, &str, bool)]) -> Result<(), Fail> {
-    for (text, other, equal) in rows {
-        confirm(are_equal(alloc, text, other) == Some(*equal), other)?;
-    }
-    Ok(())
+/// Fails unless two texts are models that are equal, or another to each other.
+fn compares(alloc: Global, texts: &str, words: &str) -> Result<(), Fail> {
+    let holds = match texts.split_once(" <> ") {
+        Some((text, other)) => are_equal(alloc, text, other) == Some(words == "equal"),
+        None => false,
+    };
+    confirm(holds, texts)
 }
 
-const CHECK: &str = "T flag ~empty r as none";
-
-const EQUALITY: &[(&str, &str, bool)] = &[
-    (
-        "T flag ~empty r as none",
-        "\"T\" flag ~ empty (r) as none",
-        true,
-    ),
-    ("let a = r ; s | t", "let a = (r ; s) | t", true),
-    (CHECK, "flag ~empty r as none", false),
-    (CHECK, "U flag ~empty r as none", false),
-    (CHECK, "T ~empty r as none", false),
-    (CHECK, "T flag empty r as none", false),
-    (CHECK, "T flag ~acyclic r as none", false),
-    (CHECK, "T flag ~empty s as none", false),
-    (CHECK, "T flag ~empty r as some", false),
-    (CHECK, "T flag ~empty r", false),
-    (CHECK, "T flag ~empty r as none empty r", false),
-    (CHECK, "T", false),
-    ("let a = r ; s | t", "let a = r ; (s | t)", false),
-    ("let a = r", "let rec a = r", false),
-    ("let a = r and b = s", "let b = s and a = r", false),
-    ("show a as b", "show a", false),
-    ("unshow a, b", "unshow a", false),
-    ("include \"a\"", "include \"b\"", false),
-    ("let f(x) = x", "let f (x) = (x)", true),
-    ("let f(x) = x", "let f(y) = y", false),
-    ("let f(x) = x", "let g(x) = x", false),
-    ("let f(x) = x", "let f = x", false),
-    ("let f(x, y) = x", "let f(y, x) = x", false),
-    ("let f(x, y) = x", "let f(x) = x", false),
-    ("let r = f(a, b)", "let r = f (a, (b))", true),
-    ("let r = f(a, b)", "let r = f(b, a)", false),
-    ("let r = f(a, b)", "let r = f(a)", false),
-    ("let r = f(a)", "let r = g(a)", false),
-    ("let r = f(a)", "let r = f", false),
-    ("let r = f(g(a), b)", "let r = f(g(a, b))", false),
-];
+const EQUALITY: &str = "T flag ~empty r as none <> \"T\" flag ~ empty (r) as none ==> equal
+let a = r ; s | t <> let a = (r ; s) | t ==> equal
+T flag ~empty r as none <> flag ~empty r as none ==> another
+T flag ~empty r as none <> U flag ~empty r as none ==> another
+T flag ~empty r as none <> T ~empty r as none ==> another
+T flag ~empty r as none <> T flag empty r as none ==> another
+T flag ~empty r as none <> T flag ~acyclic r as none ==> another
+T flag ~empty r as none <> T flag ~empty s as none ==> another
+T flag ~empty r as none <> T flag ~empty r as some ==> another
+T flag ~empty r as none <> T flag ~empty r ==> another
+T flag ~empty r as none <> T flag ~empty r as none empty r ==> another
+T flag ~empty r as none <> T ==> another
+let a = r ; s | t <> let a = r ; (s | t) ==> another
+let a = r <> let rec a = r ==> another
+let a = r and b = s <> let b = s and a = r ==> another
+show a as b <> show a ==> another
+unshow a, b <> unshow a ==> another
+include \"a\" <> include \"b\" ==> another
+let f(x) = x <> let f (x) = (x) ==> equal
+let f(x) = x <> let f(y) = y ==> another
+let f(x) = x <> let g(x) = x ==> another
+let f(x) = x <> let f = x ==> another
+let f(x, y) = x <> let f(y, x) = x ==> another
+let f(x, y) = x <> let f(x) = x ==> another
+let r = f(a, b) <> let r = f (a, (b)) ==> equal
+let r = f(a, b) <> let r = f(b, a) ==> another
+let r = f(a, b) <> let r = f(a) ==> another
+let r = f(a) <> let r = g(a) ==> another
+let r = f(a) <> let r = f ==> another
+let r = f(g(a), b) <> let r = f(g(a, b)) ==> another";
 
 #[test]
 fn equal_and_unequal_models(rt: HostRuntime) -> Result<(), Fail> {
-    all_compare(rt.alloc(), EQUALITY)
+    all_lines_hold(rt.alloc(), EQUALITY, compares)
 }
 
 /// Whether the copy of a file of seven items is equal to it.
@@ -355,7 +292,9 @@ fn all_is_copied(file: &CatFile) -> Result<(), Fail> {
 }
 
 #[test]
-fn copies(rt: HostRuntime) -> Result<(), Fail> {
+fn items_and_copies(rt: HostRuntime) -> Result<(), Fail> {
+    let file = read(rt.alloc(), ITEMS)?;
+    confirm(has_parts(&file, b"a title", 5), ITEMS)?;
     let file = read(rt.alloc(), EACH_KIND)?;
     all_is_copied(&file)
 }

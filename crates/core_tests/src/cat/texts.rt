@@ -1,7 +1,4 @@
-//! Texts that several tests read, and how a test tells the one that failed.
-
-use std::alloc::{AllocError, Global};
-use std::test::Fail;
+//! Texts that several tests read.
 
 /// The text of the built-in `rc11.cat`.
 pub const RC11: &str = "RC11
@@ -30,19 +27,3 @@ flag ~empty race as data-race
 /// A model with each kind of item and expression: seven items, and the title `T`.
 pub const EACH_KIND: &str =
     "T let rec r = a | b ; c \\ d & W * R and s = ~(r+) let t = r* | r? | r^-1 | domain(r) | range(r) | [W] | 0 | {} | _ and f(x, y) = g(y, x | r) include \"b.cat\" flag ~empty r as none acyclic s show r as a, s unshow r, s";
-
-/// The text of these parts, each so many times.
-pub fn repeated(alloc: Global, parts: &[(&str, usize)]) -> Result<String, AllocError> {
-    let mut text = String::new(alloc);
-    for (part, times) in parts {
-        for _ in 0..*times {
-            text.push_str(part)?;
-        }
-    }
-    Ok(text)
-}
-
-/// Fails with what was tried, unless it held.
-pub fn confirm(holds: bool, tried: &str) -> Result<(), Fail> {
-    if holds { Ok(()) } else { Err(Fail::new(tried)) }
-}

@@ -1,5 +1,6 @@
 //! Texts that several tests read, and what the reader answers.
 
+use crate::rows::{self, again, expanded};
 use litmus_c::{Test, TestFault, read_test};
 use std::alloc::{AllocError, Global};
 use std::test::Fail;
@@ -17,18 +18,6 @@ P1 (atomic_int* x, atomic_int* y) {
 }
 exists (0:r0=0 /\\ 1:r0=0)
 ";
-
-/// A call's answer, made again once where it was refused so.
-macro_rules! again {
-    ($refused:pat, $call:expr) => {
-        match $call {
-            Err($refused) => $call,
-            answer => answer,
-        }
-    };
-}
-
-pub(crate) use again;
 
 /// The answer to a text, which is asked for again where memory was wanting.
 pub fn answer_to(alloc: Global, text: &str) -> Result<Test, TestFault> {
@@ -71,41 +60,16 @@ fn is_printed(alloc: Global, fault: &TestFault, wanted: &str) -> Result<bool, Al
     Ok(printed.as_str() == wanted)
 }
 
-/// Whether a text is answered so: by the words "a test", or by the refusal as it is printed.
+/// Whether the text of a row is answered so: by the words "a test", or by the refusal as it is printed.
 fn is_answered_once(alloc: Global, text: &str, wanted: &str) -> Result<bool, AllocError> {
-    match answer_to(alloc, text).err() {
+    let text = expanded(alloc, text)?;
+    match answer_to(alloc, text.as_str()).err() {
         None => Ok(wanted == "a test"),
         Some(fault) => is_printed(alloc, &fault, wanted),
     }
 }
 
-/// Whether a text is answered so, where it is asked again if memory was wanting.
-pub fn is_answered(alloc: Global, text: &str, wanted: &str) -> Result<bool, AllocError> {
-    again!(_, is_answered_once(alloc, text, wanted))
-}
-
-/// Fails at the first text that isn't answered by what stands beside it.
-pub fn all_answered(alloc: Global, rows: &[(&'static str, &str)]) -> Result<(), Fail> {
-    for (text, wanted) in rows {
-        if !is_answered(alloc, text, wanted)? {
-            return Err(Fail::new(*text));
-        }
-    }
-    Ok(())
-}
-
-/// A text, then a part some times, then an end.
-pub fn repeated(
-    alloc: Global,
-    start: &str,
-    part: &str,
-    times: usize,
-    end: &str,
-) -> Result<String, AllocError> {
-    let mut text = String::from_str(alloc, start)?;
-    for _ in 0..times {
-        text.push_str(part)?;
-    }
-    text.push_str(end)?;
-    Ok(text)
+/// Fails unless the text of a row is answered so, where it is asked again if memory was wanting.
+pub fn is_answered(alloc: Global, text: &str, wanted: &str) -> Result<(), Fail> {
+    rows::confirm(again!(_, is_answered_once(alloc, text, wanted))?, text)
 }

@@ -1,6 +1,7 @@
 //! Copies, and what they were made of.
 
-use crate::reader::answers::{again, answer_to};
+use crate::reader::answers::answer_to;
+use crate::rows::again;
 use conditions::{Binding, Cond, Place, Prop};
 use litmus_c::{Call, Declarator, Expression, Parameter, RightSide, Statement, Test, Thread};
 use std::alloc::{AllocError, Global};

@@ -2,10 +2,11 @@
 //! that is refused answers NoMemory, and made again it gives its own answer. So `tools/refuse-each-growth` runs the tests
 //! once for each request.
 
-use crate::reader::answers::{SB, again, all_answered, expect};
+use crate::reader::answers::{SB, expect, is_answered};
 use crate::reader::copies::{
     are_copied, is_another, is_copied_as, statements_are_copied, threads_are_copied,
 };
+use crate::rows::{again, all_blocks_hold};
 use conditions::{Place, observed};
 use litmus_c::Test;
 use litmus_syntax::{Draft, Symbol, SyntaxFault, Terminal, read_draft, symbols};
@@ -55,21 +56,11 @@ fn observes(alloc: Global, test: &Test) -> Result<bool, AllocError> {
     Ok(are_observed(&places))
 }
 
-#[test]
-fn observing(rt: HostRuntime) -> Result<(), Fail> {
-    expect(rt.alloc(), TEXT, observes)
-}
-
 /// Whether the copies of a test's condition and of its proposition are equal to them.
 fn condition_is_copied(_alloc: Global, test: &Test) -> Result<bool, AllocError> {
     let condition = test.condition();
     let prop = condition.prop();
     Ok(is_copied_as(condition, condition)? && is_copied_as(prop, prop)?)
-}
-
-#[test]
-fn copies_of_conditions(rt: HostRuntime) -> Result<(), Fail> {
-    expect(rt.alloc(), TEXT, condition_is_copied)
 }
 
 /// Whether the copies of a test's three entries and two listed places are equal to them.
@@ -78,11 +69,6 @@ fn places_are_copied(_alloc: Global, test: &Test) -> Result<bool, AllocError> {
         return Ok(false);
     }
     Ok(are_copied(test.initial())? && are_copied(test.listed())?)
-}
-
-#[test]
-fn copies_of_places(rt: HostRuntime) -> Result<(), Fail> {
-    expect(rt.alloc(), TEXT, places_are_copied)
 }
 
 /// Whether the copies of the six statements of a test's first thread, and of their parts, are equal to them.
@@ -95,11 +81,6 @@ fn six_are_copied(_alloc: Global, test: &Test) -> Result<bool, AllocError> {
     }
 }
 
-#[test]
-fn copies_of_statements(rt: HostRuntime) -> Result<(), Fail> {
-    expect(rt.alloc(), TEXT, six_are_copied)
-}
-
 /// Whether the copies of a test's two threads, and of their parameters and statements, are equal to them.
 fn two_are_copied(_alloc: Global, test: &Test) -> Result<bool, AllocError> {
     if test.threads().len() != 2 {
@@ -108,19 +89,9 @@ fn two_are_copied(_alloc: Global, test: &Test) -> Result<bool, AllocError> {
     threads_are_copied(test.threads())
 }
 
-#[test]
-fn copies_of_threads(rt: HostRuntime) -> Result<(), Fail> {
-    expect(rt.alloc(), TEXT, two_are_copied)
-}
-
 /// Whether the copy of a test is equal to it, and not to that of store buffering.
 fn is_copied(alloc: Global, test: &Test) -> Result<bool, AllocError> {
     Ok(is_copied_as(test, test)? && is_another(alloc, SB, test)?)
-}
-
-#[test]
-fn copies_of_tests(rt: HostRuntime) -> Result<(), Fail> {
-    expect(rt.alloc(), TEXT, is_copied)
 }
 
 /// Whether a test is named `G`, has two locations, and two registers in its first thread.
@@ -133,27 +104,6 @@ fn is_g(_alloc: Global, test: &Test) -> Result<bool, AllocError> {
         ),
         None => Ok(false),
     }
-}
-
-#[test]
-fn reading_a_test(rt: HostRuntime) -> Result<(), Fail> {
-    expect(rt.alloc(), TEXT, is_g)
-}
-
-#[test]
-fn reading_no_test(rt: HostRuntime) -> Result<(), Fail> {
-    const ROWS: [(&str, &str); 3] = [
-        ("C a\n{\"}", "11 Text 4 OpenString"),
-        ("C SB\n{", "12 Syntax 6"),
-        ("C a\n{x}P0(){}exists y=0", "14 UnknownName"),
-    ];
-    all_answered(rt.alloc(), &ROWS)
-}
-
-#[test]
-fn reading_a_word_left_out(rt: HostRuntime) -> Result<(), Fail> {
-    const ROWS: [(&str, &str); 1] = [("C a\n{}P0(){while}exists true", "17 Unsupported while")];
-    all_answered(rt.alloc(), &ROWS)
 }
 
 /// Whether a draft is that of the text.
@@ -191,11 +141,6 @@ fn has_five_values(alloc: Global, test: &Test) -> Result<bool, AllocError> {
     Ok(all.as_slice() == [0, 1, 3, 2, 4].as_slice())
 }
 
-#[test]
-fn values(rt: HostRuntime) -> Result<(), Fail> {
-    expect(rt.alloc(), TEXT, has_five_values)
-}
-
 /// Whether a test has the values 0 to 5, in this order.
 fn has_six_values(alloc: Global, test: &Test) -> Result<bool, AllocError> {
     let all = again!(_, test.values(alloc))?;
@@ -203,9 +148,7 @@ fn has_six_values(alloc: Global, test: &Test) -> Result<bool, AllocError> {
 }
 
 /// Two adds of 2 make 4 of 0, and 5 of 1.
-#[test]
-fn sums(rt: HostRuntime) -> Result<(), Fail> {
-    const ADDS: &str = "C G
+const ADDS: &str = "C G
 {}
 P0 (atomic_int* x) {
   atomic_fetch_add(x, 2);
@@ -213,5 +156,43 @@ P0 (atomic_int* x) {
 }
 exists (x=4)
 ";
-    expect(rt.alloc(), ADDS, has_six_values)
+
+#[test]
+fn tests(rt: HostRuntime) -> Result<(), Fail> {
+    let alloc = rt.alloc();
+    expect(alloc, TEXT, is_g)?;
+    expect(alloc, TEXT, observes)?;
+    expect(alloc, TEXT, has_five_values)?;
+    expect(alloc, ADDS, has_six_values)
+}
+
+#[test]
+fn copies(rt: HostRuntime) -> Result<(), Fail> {
+    let alloc = rt.alloc();
+    expect(alloc, TEXT, condition_is_copied)?;
+    expect(alloc, TEXT, places_are_copied)?;
+    expect(alloc, TEXT, six_are_copied)?;
+    expect(alloc, TEXT, two_are_copied)?;
+    expect(alloc, TEXT, is_copied)
+}
+
+const REFUSALS: &str = "# reading no test
+
+C a
+{\"} ==> 11 Text 4 OpenString
+
+C SB
+{ ==> 12 Syntax 6
+
+C a
+{x}P0(){}exists y=0 ==> 14 UnknownName
+
+# reading a word left out
+
+C a
+{}P0(){while}exists true ==> 17 Unsupported while";
+
+#[test]
+fn refusals(rt: HostRuntime) -> Result<(), Fail> {
+    all_blocks_hold(rt.alloc(), REFUSALS, is_answered)
 }

@@ -46,11 +46,6 @@ fn is_sb(_alloc: Global, test: &Test) -> Result<bool, AllocError> {
     )
 }
 
-#[test]
-fn sb_reads(rt: HostRuntime) -> Result<(), Fail> {
-    expect(rt.alloc(), SB, is_sb)
-}
-
 /// The last statement of the first thread.
 fn last(test: &Test) -> Option<&Statement> {
     match test.threads().first() {
@@ -134,13 +129,6 @@ fn binds(_alloc: Global, test: &Test) -> Result<bool, AllocError> {
     }
 }
 
-/// `||` binds most loosely, then `&&`, then `==`, and `!` most tightly.
-#[test]
-fn operators_bind(rt: HostRuntime) -> Result<(), Fail> {
-    let text = "C a\n{}P0(){int r; r = 1 == 2 && 3 || !r && 4;}exists true";
-    expect(rt.alloc(), text, binds)
-}
-
 /// Whether a statement is an `if` with no `else`, and the `if` in its arm has one.
 fn is_inner(statement: &Statement) -> bool {
     match statement {
@@ -155,12 +143,6 @@ fn ends_with_inner(_alloc: Global, test: &Test) -> Result<bool, AllocError> {
         Some(statement) => Ok(is_inner(statement)),
         None => Ok(false),
     }
-}
-
-#[test]
-fn nearest_if(rt: HostRuntime) -> Result<(), Fail> {
-    let text = "C a\n{}P0(){int r; if (r) if (r) r = 1; else r = 2;}exists true";
-    expect(rt.alloc(), text, ends_with_inner)
 }
 
 /// The value of the entry for a place: of the two for `[x]` the later one, 0 for `y`, and 3 for a register.
@@ -192,23 +174,16 @@ fn has_entries(_alloc: Global, test: &Test) -> Result<bool, AllocError> {
     Ok(counts_of_test(test) == [3, 1, 0, 2] && have_values(test.initial()))
 }
 
-#[test]
-fn two_entries_for_one_place(rt: HostRuntime) -> Result<(), Fail> {
-    let text = "C a\n{int x=1; [x]=2; 0:r=3; y=4; y}P0(){}exists x=0";
-    expect(rt.alloc(), text, has_entries)
-}
-
 /// Whether the copies of a test and of its parts are equal to them.
 fn is_copied(_alloc: Global, test: &Test) -> Result<bool, AllocError> {
     Ok(is_copied_as(test, test)? && threads_are_copied(test.threads())?)
 }
 
-#[test]
-fn copies_are_equal(rt: HostRuntime) -> Result<(), Fail> {
-    expect(rt.alloc(), SB, is_copied)
-}
+/// A test with a store.
+const STORE: &str =
+    "C a\n{x=1}P0(atomic_int*y){atomic_store_explicit(y,1,memory_order_relaxed);}exists x=0";
 
-/// Texts that differ from that of `other_texts_are_other_tests` in one place each.
+/// Texts that differ from it in one place each.
 const OTHERS: [&str; 6] = [
     "C b\n{x=1}P0(atomic_int*y){atomic_store_explicit(y,1,memory_order_relaxed);}exists x=0",
     "C a\n{x=0}P0(atomic_int*y){atomic_store_explicit(y,1,memory_order_relaxed);}exists x=0",
@@ -232,13 +207,6 @@ fn others_differ(alloc: Global, test: &Test) -> Result<bool, AllocError> {
     all_differ(alloc, &OTHERS, test)
 }
 
-#[test]
-fn other_texts_are_other_tests(rt: HostRuntime) -> Result<(), Fail> {
-    let text =
-        "C a\n{x=1}P0(atomic_int*y){atomic_store_explicit(y,1,memory_order_relaxed);}exists x=0";
-    expect(rt.alloc(), text, others_differ)
-}
-
 /// A test with an add.
 const ADD: &str =
     "C a\n{}P0(atomic_int*y){int r=atomic_fetch_add_explicit(y,1,memory_order_relaxed);}exists y=0";
@@ -255,12 +223,27 @@ fn other_adds_differ(alloc: Global, test: &Test) -> Result<bool, AllocError> {
     all_differ(alloc, &OTHER_ADDS, test)
 }
 
+/// `||` binds most loosely, then `&&`, then `==`, and `!` most tightly.
+const OPERATORS: &str = "C a\n{}P0(){int r; r = 1 == 2 && 3 || !r && 4;}exists true";
+
+const NEAREST_IF: &str = "C a\n{}P0(){int r; if (r) if (r) r = 1; else r = 2;}exists true";
+
+const TWO_ENTRIES: &str = "C a\n{int x=1; [x]=2; 0:r=3; y=4; y}P0(){}exists x=0";
+
 #[test]
-fn adds_are_copied(rt: HostRuntime) -> Result<(), Fail> {
-    expect(rt.alloc(), ADD, is_copied)
+fn trees(rt: HostRuntime) -> Result<(), Fail> {
+    let alloc = rt.alloc();
+    expect(alloc, SB, is_sb)?;
+    expect(alloc, OPERATORS, binds)?;
+    expect(alloc, NEAREST_IF, ends_with_inner)?;
+    expect(alloc, TWO_ENTRIES, has_entries)
 }
 
 #[test]
-fn other_adds_are_other_tests(rt: HostRuntime) -> Result<(), Fail> {
-    expect(rt.alloc(), ADD, other_adds_differ)
+fn copies_and_other_tests(rt: HostRuntime) -> Result<(), Fail> {
+    let alloc = rt.alloc();
+    expect(alloc, SB, is_copied)?;
+    expect(alloc, STORE, others_differ)?;
+    expect(alloc, ADD, is_copied)?;
+    expect(alloc, ADD, other_adds_differ)
 }

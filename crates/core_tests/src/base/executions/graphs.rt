@@ -213,22 +213,74 @@ fn is_seen(view: &GraphView, seen: &Seen) -> bool {
     view.count() == seen.count && has_sets(view, seen.sets) && has_relations(view, seen.relations)
 }
 
-/// Have these parts a graph, and is that to be seen in its view?
-pub fn shows(alloc: Global, parts: &Parts, seen: &Seen) -> Result<bool, AllocError> {
-    match graph_of(alloc, parts)? {
-        Some(graph) => Ok(is_seen(&GraphView::of(alloc, &graph)?, seen)),
+/// Is that to be seen in a graph's view?
+fn is_shown(alloc: Global, graph: &Graph, seen: &Seen) -> Result<bool, AllocError> {
+    Ok(is_seen(&GraphView::of(alloc, graph)?, seen))
+}
+
+/// The graph, taken apart and put together again.
+fn made_again(graph: Graph) -> Graph {
+    let parts = graph.into_parts();
+    Graph::new(parts.init, parts.runs, parts.rf, parts.co)
+}
+
+/// Does a structure of one execution tell, as it follows another, that this is what may be another than before, and is that to
+/// be seen in the view over it?
+fn is_followed(
+    alloc: Global,
+    from: &Graph,
+    graph: &Graph,
+    told: Basis,
+    seen: &Seen,
+) -> Result<bool, AllocError> {
+    let mut sourced = SourcedStructure::of(alloc, from)?;
+    let basis = sourced.follow(alloc, graph)?;
+    let mut room = Rel::empty(0);
+    Ok(basis == told && is_seen(&GraphView::over(&sourced, graph, &mut room), seen))
+}
+
+/// Have these parts a graph whose structure follows another so?
+fn follows(
+    alloc: Global,
+    from: &Parts,
+    graph: &Graph,
+    told: Basis,
+    seen: &Seen,
+) -> Result<bool, AllocError> {
+    match graph_of(alloc, from)? {
+        Some(from) => is_followed(alloc, &from, graph, told, seen),
         None => Ok(false),
     }
 }
 
-/// Have these parts a graph, and is that to be seen once it was taken apart and put together again?
-pub fn shows_again(alloc: Global, parts: &Parts, seen: &Seen) -> Result<bool, AllocError> {
+/// How a view comes to be.
+#[derive(Clone, Copy)]
+pub enum Way {
+    /// It is that of the graph.
+    Made,
+    /// The graph was taken apart and put together again.
+    Again,
+    /// It is over a structure that was of these parts and tells that this is what may be another.
+    Followed(&'static Parts, Basis),
+}
+
+/// A name, how a view comes to be, the parts of its graph, and what is to be seen in it.
+pub type Case = (&'static str, Way, &'static Parts, &'static Seen);
+
+/// Is that to be seen of a graph in such a view?
+fn is_seen_so(alloc: Global, way: Way, graph: Graph, seen: &Seen) -> Result<bool, AllocError> {
+    match way {
+        Way::Made => is_shown(alloc, &graph, seen),
+        Way::Again => is_shown(alloc, &made_again(graph), seen),
+        Way::Followed(from, told) => follows(alloc, from, &graph, told, seen),
+    }
+}
+
+/// Have the parts of a case a graph, and is that to be seen in its view?
+pub fn is_as_seen(alloc: Global, case: &Case) -> Result<bool, AllocError> {
+    let (_, way, parts, seen) = *case;
     match graph_of(alloc, parts)? {
-        Some(graph) => {
-            let parts = graph.into_parts();
-            let again = Graph::new(parts.init, parts.runs, parts.rf, parts.co);
-            Ok(is_seen(&GraphView::of(alloc, &again)?, seen))
-        }
+        Some(graph) => is_seen_so(alloc, way, graph, seen),
         None => Ok(false),
     }
 }
@@ -237,24 +289,4 @@ pub fn shows_again(alloc: Global, parts: &Parts, seen: &Seen) -> Result<bool, Al
 pub fn gives_back(alloc: Global, writes: &[EventId]) -> Result<bool, AllocError> {
     let order = Coherence::new(Vec::from_slice(alloc, writes)?);
     Ok(order.into_writes().as_slice() == writes)
-}
-
-/// Does a structure that was of one execution follow another, tell that this is what may be another than before, and is that
-/// to be seen in the view over it?
-pub fn follows(
-    alloc: Global,
-    from: &Parts,
-    parts: &Parts,
-    told: Basis,
-    seen: &Seen,
-) -> Result<bool, AllocError> {
-    match (graph_of(alloc, from)?, graph_of(alloc, parts)?) {
-        (Some(first), Some(graph)) => {
-            let mut sourced = SourcedStructure::of(alloc, &first)?;
-            let basis = sourced.follow(alloc, &graph)?;
-            let mut room = Rel::empty(0);
-            Ok(basis == told && is_seen(&GraphView::over(&sourced, &graph, &mut room), seen))
-        }
-        _ => Ok(false),
-    }
 }
