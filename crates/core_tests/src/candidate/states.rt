@@ -251,10 +251,10 @@ fn is_copied_in_a_binding(alloc: Global, spot: &Spot) -> bool {
     }
 }
 
-/// Whether the copy of a condition is equal to it.
-fn is_copied(_alloc: Global, condition: &Cond) -> bool {
-    match condition.copy() {
-        Ok(copy) => copy == *condition,
+/// Whether a condition is `forall` of `FORMULA`, made once more.
+fn is_again(alloc: Global, first: &Cond) -> bool {
+    match condition(alloc, Kind::Forall, &FORMULA) {
+        Ok(second) => *first == second,
         Err(_) => false,
     }
 }
@@ -287,8 +287,8 @@ fn conditions_and_places(rt: HostRuntime) {
                 is_copied_in_a_binding(alloc, &Spot::Register(0, b"r0")),
             ),
             (
-                "copies of conditions",
-                holds_of(alloc, Kind::Forall, &FORMULA, is_copied),
+                "equal conditions",
+                holds_of(alloc, Kind::Forall, &FORMULA, is_again),
             ),
             (
                 "other conditions",

@@ -3,9 +3,7 @@
 //! once for each request.
 
 use crate::reader::answers::{SB, expect, is_answered};
-use crate::reader::copies::{
-    are_copied, is_another, is_copied_as, statements_are_copied, threads_are_copied,
-};
+use crate::reader::copies::{are_copied, is_another, is_the_same};
 use crate::rows::{again, all_blocks_hold};
 use conditions::{Place, observed};
 use litmus_c::Test;
@@ -56,13 +54,6 @@ fn observes(alloc: Global, test: &Test) -> Result<bool, AllocError> {
     Ok(are_observed(&places))
 }
 
-/// Whether the copies of a test's condition and of its proposition are equal to them.
-fn condition_is_copied(_alloc: Global, test: &Test) -> Result<bool, AllocError> {
-    let condition = test.condition();
-    let prop = condition.prop();
-    Ok(is_copied_as(condition, condition)? && is_copied_as(prop, prop)?)
-}
-
 /// Whether the copies of a test's three entries and two listed places are equal to them.
 fn places_are_copied(_alloc: Global, test: &Test) -> Result<bool, AllocError> {
     if test.initial().len() != 3 || test.listed().len() != 2 {
@@ -71,27 +62,9 @@ fn places_are_copied(_alloc: Global, test: &Test) -> Result<bool, AllocError> {
     Ok(are_copied(test.initial())? && are_copied(test.listed())?)
 }
 
-/// Whether the copies of the six statements of a test's first thread, and of their parts, are equal to them.
-fn six_are_copied(_alloc: Global, test: &Test) -> Result<bool, AllocError> {
-    match test.threads().first() {
-        Some(thread) if thread.statements().len() == 6 => {
-            statements_are_copied(thread.statements())
-        }
-        _ => Ok(false),
-    }
-}
-
-/// Whether the copies of a test's two threads, and of their parameters and statements, are equal to them.
-fn two_are_copied(_alloc: Global, test: &Test) -> Result<bool, AllocError> {
-    if test.threads().len() != 2 {
-        return Ok(false);
-    }
-    threads_are_copied(test.threads())
-}
-
-/// Whether the copy of a test is equal to it, and not to that of store buffering.
+/// Whether a test is the one of the text, read once more, and so is its copy, and neither is store buffering.
 fn is_copied(alloc: Global, test: &Test) -> Result<bool, AllocError> {
-    Ok(is_copied_as(test, test)? && is_another(alloc, SB, test)?)
+    Ok(is_the_same(alloc, TEXT, test)? && is_another(alloc, SB, test)?)
 }
 
 /// Whether a test is named `G`, has two locations, and two registers in its first thread.
@@ -169,10 +142,7 @@ fn tests(rt: HostRuntime) -> Result<(), Fail> {
 #[test]
 fn copies(rt: HostRuntime) -> Result<(), Fail> {
     let alloc = rt.alloc();
-    expect(alloc, TEXT, condition_is_copied)?;
     expect(alloc, TEXT, places_are_copied)?;
-    expect(alloc, TEXT, six_are_copied)?;
-    expect(alloc, TEXT, two_are_copied)?;
     expect(alloc, TEXT, is_copied)
 }
 

@@ -1,7 +1,7 @@
 //! The tests that texts spell: their trees, equality and copies.
 
 use crate::reader::answers::{SB, expect};
-use crate::reader::copies::{is_another, is_copied_as, threads_are_copied};
+use crate::reader::copies::{is_another, is_the_same};
 use conditions::{Binding, Kind, Place};
 use litmus_c::{Leaf, Link, Operator, RightSide, Statement, Test, Thread};
 use std::alloc::{AllocError, Global};
@@ -174,9 +174,8 @@ fn has_entries(_alloc: Global, test: &Test) -> Result<bool, AllocError> {
     Ok(counts_of_test(test) == [3, 1, 0, 2] && have_values(test.initial()))
 }
 
-/// Whether the copies of a test and of its parts are equal to them.
-fn is_copied(_alloc: Global, test: &Test) -> Result<bool, AllocError> {
-    Ok(is_copied_as(test, test)? && threads_are_copied(test.threads())?)
+fn is_sb_again(alloc: Global, test: &Test) -> Result<bool, AllocError> {
+    is_the_same(alloc, SB, test)
 }
 
 /// A test with a store.
@@ -219,6 +218,10 @@ const OTHER_ADDS: [&str; 4] = [
     "C a\n{}P0(atomic_int*y,atomic_int*z){int r=atomic_fetch_add_explicit(z,1,memory_order_relaxed);}exists y=0",
 ];
 
+fn is_add_again(alloc: Global, test: &Test) -> Result<bool, AllocError> {
+    is_the_same(alloc, ADD, test)
+}
+
 fn other_adds_differ(alloc: Global, test: &Test) -> Result<bool, AllocError> {
     all_differ(alloc, &OTHER_ADDS, test)
 }
@@ -242,8 +245,8 @@ fn trees(rt: HostRuntime) -> Result<(), Fail> {
 #[test]
 fn copies_and_other_tests(rt: HostRuntime) -> Result<(), Fail> {
     let alloc = rt.alloc();
-    expect(alloc, SB, is_copied)?;
+    expect(alloc, SB, is_sb_again)?;
     expect(alloc, STORE, others_differ)?;
-    expect(alloc, ADD, is_copied)?;
+    expect(alloc, ADD, is_add_again)?;
     expect(alloc, ADD, other_adds_differ)
 }
