@@ -1,7 +1,7 @@
 //! What is stored of a run, and how another differs.
 
-use crate::trouble::Trouble;
-use std::alloc::{AllocError, Global};
+use crate::rows::{RowsFault, rows_of};
+use crate::trouble::{Trouble, unreadable};
 use std::fs;
 use std::fs::OpenOptions;
 use std::rt::Files;
@@ -23,20 +23,18 @@ pub fn store<R: Files + Eprint + AllocGlobal>(
 
 /// Writes bytes to a file.
 pub fn write_file<R: Files + Eprint>(rt: &R, path: &str, bytes: &[u8]) -> Result<(), Trouble> {
-    if let Err(error) = fs::write(rt, path, bytes) {
-        eprintln!(rt; "{path}: {error}")?;
-        return Err(Trouble::Told(1));
+    match fs::write(rt, path, bytes) {
+        Ok(()) => Ok(()),
+        Err(error) => Err(unreadable(rt, path, &error)),
     }
-    Ok(())
 }
 
 /// Sees that a file can be written, before hours go into what is to be written there. It makes one that is empty where there is none.
 pub fn see_writable<R: Files + Eprint>(rt: &R, path: &str) -> Result<(), Trouble> {
-    if let Err(error) = OpenOptions::new().append(true).create(true).open(rt, path) {
-        eprintln!(rt; "{path}: {error}")?;
-        return Err(Trouble::Told(1));
+    match OpenOptions::new().append(true).create(true).open(rt, path) {
+        Ok(_) => Ok(()),
+        Err(error) => Err(unreadable(rt, path, &error)),
     }
-    Ok(())
 }
 
 /// Prints how the rows differ from those that are expected, and answers whether they do.
@@ -52,111 +50,27 @@ pub fn compare<R: Print + AllocGlobal>(
 
 /// The rows of a file.
 pub fn read_rows<R: Files + Eprint + AllocGlobal>(rt: &R, path: &str) -> Result<Vec<Row>, Trouble> {
-    let text = match fs::read(rt, path) {
-        Ok(text) => text,
-        Err(error) => {
-            eprintln!(rt; "{path}: {error}")?;
-            return Err(Trouble::Told(1));
-        }
-    };
-    match rows_of(rt.alloc(), &text)? {
+    match fs::read(rt, path) {
+        Ok(text) => rows_in(rt, path, &text),
+        Err(error) => Err(unreadable(rt, path, &error)),
+    }
+}
+
+/// The rows of a file's text.
+fn rows_in<R: Eprint + AllocGlobal>(rt: &R, path: &str, text: &[u8]) -> Result<Vec<Row>, Trouble> {
+    match rows_of(rt.alloc(), text) {
         Ok(rows) => Ok(rows),
-        Err(number) => {
-            eprintln!(rt;
-                "{path}:{number}: no line of --write-expected or --tsv, whose fields stand between tabs"
-            )?;
-            Err(Trouble::Told(1))
-        }
+        Err(RowsFault::NoRow(number)) => Err(no_row(rt, path, number)),
+        Err(RowsFault::NoMemory) => Err(Trouble::NoMemory),
     }
 }
 
-/// The rows of a stored text, or the number of the first line that is none.
-fn rows_of(alloc: Global, text: &[u8]) -> Result<Result<Vec<Row>, usize>, AllocError> {
-    let mut rows = Vec::new(alloc);
-    for (place, line) in text.split(|byte| *byte == b'\n').enumerate() {
-        if line.is_empty() {
-            continue;
-        }
-        match row_of(alloc, line)? {
-            Some(row) => rows.push(row)?,
-            None => return Ok(Err(place + 1)),
-        }
+/// Tells on standard error that a line of a file is no row.
+fn no_row<R: Eprint>(rt: &R, path: &str, number: usize) -> Trouble {
+    match eprintln!(rt;
+        "{path}:{number}: no line of --write-expected or --tsv, whose fields stand between tabs"
+    ) {
+        Ok(()) => Trouble::Told(1),
+        Err(error) => Trouble::Write(error),
     }
-    Ok(Ok(rows))
-}
-
-/// The row of a line: the four fields of a stored one, or the twelve of `--tsv`.
-fn row_of(alloc: Global, line: &[u8]) -> Result<Option<Row>, AllocError> {
-    let mut fields = Vec::new(alloc);
-    for field in line.split(|byte| *byte == b'\t') {
-        fields.push(field)?;
-    }
-    match fields.as_slice() {
-        [path, model, answer, states] => Ok(Some(row_with(alloc, path, model, answer, states)?)),
-        [
-            path,
-            model,
-            _,
-            _,
-            ok,
-            word,
-            positive,
-            negative,
-            states,
-            flags,
-            _,
-            _,
-        ] => {
-            let answer = if *ok == b"refused".as_slice() {
-                joined(alloc, &[*ok, *word])?
-            } else {
-                answer_of(alloc, &[*word, *positive, *negative], flags)?
-            };
-            Ok(Some(row_with(alloc, path, model, &answer, states)?))
-        }
-        _ => Ok(None),
-    }
-}
-
-/// The row with these fields.
-pub fn row_with(
-    alloc: Global,
-    path: &[u8],
-    model: &[u8],
-    answer: &[u8],
-    states: &[u8],
-) -> Result<Row, AllocError> {
-    Ok(Row {
-        path: Vec::from_slice(alloc, path)?,
-        model: Vec::from_slice(alloc, model)?,
-        answer: Vec::from_slice(alloc, answer)?,
-        states: Vec::from_slice(alloc, states)?,
-    })
-}
-
-/// What a stored row tells of a word, both counts, and flags with commas between.
-fn answer_of(alloc: Global, words: &[&[u8]], flags: &[u8]) -> Result<Vec<u8>, AllocError> {
-    let mut answer = joined(alloc, words)?;
-    for flag in flags.split(|byte| *byte == b',') {
-        push_word(&mut answer, flag)?;
-    }
-    Ok(answer)
-}
-
-/// Words with blanks between.
-fn joined(alloc: Global, words: &[&[u8]]) -> Result<Vec<u8>, AllocError> {
-    let mut text = Vec::new(alloc);
-    for word in words {
-        push_word(&mut text, word)?;
-    }
-    Ok(text)
-}
-
-/// Adds a word, behind a blank where something stands before it. An empty word adds nothing.
-fn push_word(text: &mut Vec<u8>, word: &[u8]) -> Result<(), AllocError> {
-    if !text.is_empty() && !word.is_empty() {
-        text.push(b' ')?;
-    }
-    text.extend_from_slice(word)?;
-    Ok(())
 }

@@ -1,6 +1,5 @@
 //! Which tests are judged: files, folders, lists, and standard input.
 
-use crate::trouble::Trouble;
 use std::alloc::{AllocError, Global};
 use std::io::Read;
 use std::rt::Files;
@@ -41,22 +40,31 @@ impl Drop for Unread {
 
 impl Paths {
     /// Adds a test. A line can't tell one whose path would end the line or the field.
-    fn add_test(&mut self, path: String) -> Result<(), Trouble> {
-        if path.as_str().contains(['\n', '\t']) {
-            return self.add_unread(path.as_str(), "its path has a tab or a line feed");
+    fn add_test(&mut self, alloc: Global, path: &str) -> Result<(), AllocError> {
+        if path.contains(['\n', '\t']) {
+            return self.add_unread(alloc, path, "its path has a tab or a line feed");
         }
-        self.tests.push(path)?;
+        self.tests.push(String::from_str(alloc, path)?)?;
         Ok(())
     }
 
     /// Adds a path that can't be read.
-    fn add_unread(&mut self, path: &str, error: &str) -> Result<(), Trouble> {
-        let alloc = *self.tests.allocator();
-        self.unread.push(Unread {
-            path: String::from_str(alloc, path)?,
-            error: String::from_str(alloc, error)?,
-        })?;
+    fn add_unread(&mut self, alloc: Global, path: &str, error: &str) -> Result<(), AllocError> {
+        let path = String::from_str(alloc, path)?;
+        let error = String::from_str(alloc, error)?;
+        self.unread.push(Unread { path, error })?;
         Ok(())
+    }
+
+    /// Adds a path that the system doesn't let be read.
+    fn add_failed(
+        &mut self,
+        alloc: Global,
+        path: &str,
+        error: &io::Error,
+    ) -> Result<(), AllocError> {
+        let error = format!(in alloc; "{error}")?;
+        self.add_unread(alloc, path, error.as_str())
     }
 }
 
@@ -72,19 +80,16 @@ pub fn read_front<S: Read + Drop>(alloc: Global, reader: S) -> io::Result<Vec<u8
     Ok(text)
 }
 
-/// Whether it is a folder, as far as that can be told.
-fn is_folder<R: Files>(rt: &R, path: &str) -> bool {
-    match fs::metadata(rt, path) {
-        Ok(found) => found.is_dir(),
-        Err(_) => false,
-    }
+/// Whether something is there, as far as that can be told.
+pub fn is_there<R: Files>(rt: &R, path: &str) -> bool {
+    matches!(fs::exists(rt, path), Ok(true))
 }
 
 /// The tests that the words name, in the order of the words; those of a folder by their paths.
 pub fn find_tests<R: Files + AllocGlobal + Clone + Drop>(
     rt: &R,
     words: &[&str],
-) -> Result<Paths, Trouble> {
+) -> Result<Paths, AllocError> {
     let alloc = rt.alloc();
     let mut paths = Paths {
         tests: Vec::new(alloc),
@@ -104,45 +109,55 @@ fn add_path<R: Files + AllocGlobal + Clone + Drop>(
     rt: &R,
     path: &str,
     paths: &mut Paths,
-) -> Result<(), Trouble> {
-    if path != "-" && is_folder(rt, path) {
+) -> Result<(), AllocError> {
+    if path != "-" && matches!(fs::metadata(rt, path), Ok(about) if about.is_dir()) {
         return add_folder(rt, path, paths);
     }
-    paths.add_test(String::from_str(rt.alloc(), path)?)
+    paths.add_test(rt.alloc(), path)
 }
 
-/// Adds the paths that a list has, one a line. Empty lines, and those that begin with `#`, are left out. A path that isn't there is looked for
-/// beside the list.
+/// Adds the paths that a list has.
 fn add_list<R: Files + AllocGlobal + Clone + Drop>(
     rt: &R,
     list: &str,
     paths: &mut Paths,
-) -> Result<(), Trouble> {
-    let text = match fs::read_to_string(rt, list) {
-        Ok(text) => text,
-        Err(error) => return add_unread(rt.alloc(), list, error, paths),
-    };
-    for line in text.as_str().lines() {
+) -> Result<(), AllocError> {
+    match fs::read_to_string(rt, list) {
+        Ok(text) => add_lines(rt, list, text.as_str(), paths),
+        Err(error) => paths.add_failed(rt.alloc(), list, &error),
+    }
+}
+
+/// Adds the paths of a list's text, one a line. Empty lines, and those that begin with `#`, are left out.
+fn add_lines<R: Files + AllocGlobal + Clone + Drop>(
+    rt: &R,
+    list: &str,
+    text: &str,
+    paths: &mut Paths,
+) -> Result<(), AllocError> {
+    for line in text.lines() {
         let line = line.trim();
-        if line.is_empty() || line.starts_with('#') {
-            continue;
+        if !line.is_empty() && !line.starts_with('#') {
+            add_listed(rt, list, line, paths)?;
         }
-        let path = beside(rt, list, line)?;
-        add_path(rt, path.as_str(), paths)?;
     }
     Ok(())
 }
 
-/// A path as it is written, or beside the list where it is only there.
-fn beside<R: Files + AllocGlobal>(rt: &R, list: &str, path: &str) -> Result<String, AllocError> {
-    if matches!(fs::exists(rt, path), Ok(true)) {
-        return String::from_str(rt.alloc(), path);
+/// Adds a path of a list, which is looked for beside the list where it isn't there.
+fn add_listed<R: Files + AllocGlobal + Clone + Drop>(
+    rt: &R,
+    list: &str,
+    path: &str,
+    paths: &mut Paths,
+) -> Result<(), AllocError> {
+    if !is_there(rt, path) {
+        let beside = sibling(rt.alloc(), list, path)?;
+        if is_there(rt, beside.as_str()) {
+            return add_path(rt, beside.as_str(), paths);
+        }
     }
-    let other = sibling(rt.alloc(), list, path)?;
-    if matches!(fs::exists(rt, other.as_str()), Ok(true)) {
-        return Ok(other);
-    }
-    String::from_str(rt.alloc(), path)
+    add_path(rt, path, paths)
 }
 
 /// The path of a name beside a file.
@@ -161,119 +176,84 @@ pub fn joined(alloc: Global, folder: &str, name: &str) -> Result<String, AllocEr
     format!(in alloc; "{folder}/{name}")
 }
 
-/// That a path can't be read.
-fn no_text(alloc: Global, path: &str, error: &io::Error) -> Result<Unread, AllocError> {
-    let path = String::from_str(alloc, path)?;
-    let error = format!(in alloc; "{error}")?;
-    Ok(Unread { path, error })
-}
-
-fn add_unread(
-    alloc: Global,
-    path: &str,
-    error: io::Error,
-    paths: &mut Paths,
-) -> Result<(), Trouble> {
-    paths.unread.push(no_text(alloc, path, &error)?)?;
-    Ok(())
-}
-
 /// Adds all `*.litmus` files in a folder and below, by their paths.
 fn add_folder<R: Files + AllocGlobal + Clone + Drop>(
     rt: &R,
     folder: &str,
     paths: &mut Paths,
-) -> Result<(), Trouble> {
+) -> Result<(), AllocError> {
     let before = paths.unread.len();
-    let mut found = tests_below(rt, folder, &mut paths.unread)?;
+    let found = tests_below(rt, folder, paths)?;
     if found.is_empty() && paths.unread.len() == before {
-        return paths.add_unread(folder, "no *.litmus file is in it or below");
+        return paths.add_unread(rt.alloc(), folder, "no *.litmus file is in it or below");
     }
-    found.sort()?;
-    for path in found {
-        paths.add_test(path)?;
+    for path in &found {
+        paths.add_test(rt.alloc(), path.as_str())?;
     }
     Ok(())
 }
 
-/// The `*.litmus` files in a folder and below.
+/// The `*.litmus` files in a folder and below, by their paths.
 fn tests_below<R: Files + AllocGlobal + Clone + Drop>(
     rt: &R,
     folder: &str,
-    missing: &mut Vec<Unread>,
-) -> Result<Vec<String>, Trouble> {
-    let top = match folder.trim_end_matches('/') {
-        "" => "/",
-        top => top,
-    };
-    let mut walk = Walk::from(rt.alloc(), top)?;
+    paths: &mut Paths,
+) -> Result<Vec<String>, AllocError> {
+    let alloc = rt.alloc();
+    let mut found = Vec::new(alloc);
+    let mut folders = Vec::new(alloc);
+    folders.push(String::from_str(alloc, top_of(folder))?)?;
     for _ in 0..MOST_FOLDERS {
-        match walk.folders.pop() {
-            Some(next) => walk.go_through(rt, &next, missing)?,
+        match folders.pop() {
+            Some(next) => go_through(rt, next.as_str(), &mut folders, &mut found, paths)?,
             None => break,
         }
     }
-    Ok(walk.into_found())
+    found.sort()?;
+    Ok(found)
 }
 
-/// A walk through folders: those that are still to be gone through, and the tests that were found.
-struct Walk {
-    folders: Vec<String>,
-    found: Vec<String>,
-}
-
-impl Drop for Walk {
-    fn drop(self) {
-        let Walk {
-            folders: _,
-            found: _,
-        } = self;
+/// A folder's path as those of its files begin.
+fn top_of(folder: &str) -> &str {
+    match folder.trim_end_matches('/') {
+        "" => "/",
+        top => top,
     }
 }
 
-impl Walk {
-    fn from(alloc: Global, top: &str) -> Result<Self, AllocError> {
-        let mut folders = Vec::new(alloc);
-        folders.push(String::from_str(alloc, top)?)?;
-        let found = Vec::new(alloc);
-        Ok(Walk { folders, found })
-    }
-
-    fn into_found(self) -> Vec<String> {
-        let Walk { folders: _, found } = self;
-        found
-    }
-
-    /// Adds the tests of one folder, and the folders in it.
-    fn go_through<R: Files + AllocGlobal + Clone + Drop>(
-        &mut self,
-        rt: &R,
-        folder: &String,
-        missing: &mut Vec<Unread>,
-    ) -> Result<(), Trouble> {
-        let entries = match fs::read_dir(rt, folder.as_str()) {
-            Ok(entries) => entries,
-            Err(error) => {
-                missing.push(no_text(rt.alloc(), folder.as_str(), &error)?)?;
-                return Ok(());
+/// Adds the tests of one folder, and the folders in it.
+fn go_through<R: Files + AllocGlobal + Clone + Drop>(
+    rt: &R,
+    folder: &str,
+    folders: &mut Vec<String>,
+    found: &mut Vec<String>,
+    paths: &mut Paths,
+) -> Result<(), AllocError> {
+    match fs::read_dir(rt, folder) {
+        Ok(entries) => {
+            for entry in entries {
+                match entry {
+                    Ok(entry) => sort_out(rt, entry.path().as_str(), folders, found)?,
+                    Err(error) => paths.add_failed(rt.alloc(), folder, &error)?,
+                }
             }
-        };
-        for entry in entries {
-            match entry {
-                Ok(entry) => self.sort_out(rt, entry.path().as_str())?,
-                Err(error) => missing.push(no_text(rt.alloc(), folder.as_str(), &error)?)?,
-            }
+            Ok(())
         }
-        Ok(())
+        Err(error) => paths.add_failed(rt.alloc(), folder, &error),
     }
+}
 
-    /// Adds a path to the folders or to the tests, if it is one of those.
-    fn sort_out<R: Files + AllocGlobal>(&mut self, rt: &R, path: &str) -> Result<(), AllocError> {
-        if matches!(fs::symlink_metadata(rt, path), Ok(about) if about.is_dir()) {
-            self.folders.push(String::from_str(rt.alloc(), path)?)?;
-        } else if path.ends_with(".litmus") {
-            self.found.push(String::from_str(rt.alloc(), path)?)?;
-        }
-        Ok(())
+/// Adds a path to the folders or to the tests, if it is one of those.
+fn sort_out<R: Files + AllocGlobal>(
+    rt: &R,
+    path: &str,
+    folders: &mut Vec<String>,
+    found: &mut Vec<String>,
+) -> Result<(), AllocError> {
+    if matches!(fs::symlink_metadata(rt, path), Ok(about) if about.is_dir()) {
+        folders.push(String::from_str(rt.alloc(), path)?)?;
+    } else if path.ends_with(".litmus") {
+        found.push(String::from_str(rt.alloc(), path)?)?;
     }
+    Ok(())
 }

@@ -1,13 +1,13 @@
 //! Models, with the files that they include.
 
-use crate::files::{joined, sibling, text_of};
-use crate::trouble::Trouble;
+use crate::files::{is_there, joined, sibling, text_of};
+use crate::trouble::{Trouble, unreadable};
 use cat_model::{Files as CatFiles, Model};
-use cat_syntax::{CatFault, CatFile, Item, read_cat};
+use cat_syntax::{CatFault, Item, read_cat};
 use fault_messages::{Source, cat_trouble, model_fault};
 use std::alloc::{AllocError, Global};
+use std::io;
 use std::rt::Files;
-use std::{fs, io};
 use suite::{CatText, ModelTrouble, digests_of, load_model};
 use wb_text::{Name, NameFault};
 
@@ -27,25 +27,27 @@ pub fn read_model<R: Files + Eprint + AllocGlobal>(
     word: &str,
     folders: &[&str],
 ) -> Result<Loaded, Trouble> {
-    let sources = match root_of(rt, word)? {
-        Some(source) => gather(rt, source, folders)?,
-        None => Vec::new(rt.alloc()),
-    };
-    assemble(rt, word, &sources)
-}
-
-/// The file of a word, or none where it names a built-in model.
-fn root_of<R: Files + Eprint + AllocGlobal>(rt: &R, word: &str) -> Result<Option<Source>, Trouble> {
     match text_of(rt, word) {
-        Ok(text) => Ok(Some(source_of(rt.alloc(), word, text)?)),
-        Err(error) if is_built_in(rt.alloc(), word)? && error.kind() == io::ErrorKind::NotFound => {
-            Ok(None)
-        }
+        Ok(text) => read_files(rt, word, text, folders),
         Err(error) => {
-            eprintln!(rt; "{word}: {error}")?;
-            Err(Trouble::Told(1))
+            if error.kind() == io::ErrorKind::NotFound && is_built_in(rt.alloc(), word)? {
+                return assemble(rt, word, &[]);
+            }
+            Err(unreadable(rt, word, &error))
         }
     }
+}
+
+/// The model of the file with this path and this text, and of what it includes.
+fn read_files<R: Files + Eprint + AllocGlobal>(
+    rt: &R,
+    path: &str,
+    text: Vec<u8>,
+    folders: &[&str],
+) -> Result<Loaded, Trouble> {
+    let root = source_of(rt.alloc(), path, text)?;
+    let sources = gather(rt, root, folders)?;
+    assemble(rt, path, &sources)
 }
 
 /// The root with this path and this text.
@@ -96,63 +98,56 @@ fn gather<R: Files + Eprint + AllocGlobal>(
         if place >= sources.len() {
             break;
         }
-        let mut more = included(rt, &sources[place], &sources, folders)?;
-        sources.append(&mut more)?;
+        let names = included(rt.alloc(), &sources[place].text)?;
+        for name in &names {
+            include(rt, name, place, &mut sources, folders)?;
+        }
     }
     Ok(sources)
 }
 
-/// The files that one includes and that aren't there yet. A text that is no cat file includes none: it is told later.
-fn included<R: Files + Eprint + AllocGlobal>(
-    rt: &R,
-    source: &Source,
-    sources: &[Source],
-    folders: &[&str],
-) -> Result<Vec<Source>, Trouble> {
-    match read_cat(rt.alloc(), &source.text) {
-        Ok(file) => included_by(rt, &file, source, sources, folders),
-        Err(CatFault::NoMemory) => Err(Trouble::NoMemory),
-        Err(_) => Ok(Vec::new(rt.alloc())),
+/// The names that a text includes. A text that is no cat file includes none: it is told later.
+fn included(alloc: Global, text: &[u8]) -> Result<Vec<Name>, AllocError> {
+    match read_cat(alloc, text) {
+        Ok(file) => names_in(alloc, file.items()),
+        Err(CatFault::NoMemory) => Err(AllocError),
+        Err(_) => Ok(Vec::new(alloc)),
     }
 }
 
-/// The files that this one includes, which was read of the source, and that aren't there yet.
-fn included_by<R: Files + Eprint + AllocGlobal>(
-    rt: &R,
-    file: &CatFile,
-    source: &Source,
-    sources: &[Source],
-    folders: &[&str],
-) -> Result<Vec<Source>, Trouble> {
-    let mut more = Vec::new(rt.alloc());
-    for item in file.items() {
+/// The names that the items include.
+fn names_in(alloc: Global, items: &[Item]) -> Result<Vec<Name>, AllocError> {
+    let mut names = Vec::new(alloc);
+    for item in items {
         if let Item::Include(name) = item {
-            if let Some(found) = wanted(rt, name, source, sources, &more, folders)? {
-                more.push(found)?;
-            }
+            names.push(name.copy()?)?;
         }
     }
-    Ok(more)
+    Ok(names)
 }
 
-/// The file of an included name, if it has to be read: it isn't there yet, and lies somewhere.
-fn wanted<R: Files + Eprint + AllocGlobal>(
+/// Adds the file of a name that the file at this place includes, if it isn't there yet, and lies somewhere.
+fn include<R: Files + Eprint + AllocGlobal>(
     rt: &R,
     name: &Name,
-    source: &Source,
-    sources: &[Source],
-    more: &[Source],
+    place: usize,
+    sources: &mut Vec<Source>,
     folders: &[&str],
-) -> Result<Option<Source>, Trouble> {
-    let Some(path) = find(rt, name, source.path.as_str(), folders)? else {
-        return Ok(None);
+) -> Result<(), Trouble> {
+    let Some(path) = find(rt, name, sources, place, folders)? else {
+        return Ok(());
     };
-    if is_there_as(rt, name, path.as_str(), sources)?
-        || is_there_as(rt, name, path.as_str(), more)?
-    {
-        return Ok(None);
+    if is_there_as(rt, name, path.as_str(), sources)? {
+        return Ok(());
     }
-    Ok(Some(read_source(rt, name, path)?))
+    match text_of(rt, path.as_str()) {
+        Ok(text) => {
+            let name = name.copy()?;
+            sources.push(Source { name, path, text })?;
+            Ok(())
+        }
+        Err(error) => Err(unreadable(rt, path.as_str(), &error)),
+    }
 }
 
 /// Whether one of these has this name. One name can't stand for two files.
@@ -177,51 +172,28 @@ fn is_there_as<R: Eprint>(
     Ok(false)
 }
 
-/// The file with this name, which lies here.
-fn read_source<R: Files + Eprint + AllocGlobal>(
-    rt: &R,
-    name: &Name,
-    path: String,
-) -> Result<Source, Trouble> {
-    match text_of(rt, path.as_str()) {
-        Ok(text) => {
-            let name = name.copy()?;
-            Ok(Source { name, path, text })
-        }
-        Err(error) => {
-            eprintln!(rt; "{path}: {error}")?;
-            Err(Trouble::Told(1))
-        }
-    }
-}
-
-/// Where the file of an included name lies: beside the file that includes it, or in one of the folders.
+/// Where the file of a name lies that the source at this place includes: beside that, or in one of the folders.
 fn find<R: Files + AllocGlobal>(
     rt: &R,
     name: &Name,
-    including: &str,
+    sources: &[Source],
+    place: usize,
     folders: &[&str],
 ) -> Result<Option<String>, AllocError> {
-    let alloc = rt.alloc();
-    let Ok(name) = std::str::from_utf8(name.bytes()) else {
+    let (Some(source), Ok(name)) = (sources.get(place), std::str::from_utf8(name.bytes())) else {
         return Ok(None);
     };
-    let beside = sibling(alloc, including, name)?;
-    if is_there(rt, &beside) {
+    let beside = sibling(rt.alloc(), source.path.as_str(), name)?;
+    if is_there(rt, beside.as_str()) {
         return Ok(Some(beside));
     }
     for folder in folders {
-        let path = joined(alloc, folder, name)?;
-        if is_there(rt, &path) {
+        let path = joined(rt.alloc(), folder, name)?;
+        if is_there(rt, path.as_str()) {
             return Ok(Some(path));
         }
     }
     Ok(None)
-}
-
-/// Whether a file is there, as far as that can be told.
-fn is_there<R: Files>(rt: &R, path: &String) -> bool {
-    matches!(fs::exists(rt, path.as_str()), Ok(true))
 }
 
 /// The model of the files, of which the first is its root, or the built-in one of this word where there are none. What is wrong with them is told.
@@ -232,14 +204,8 @@ fn assemble<R: Eprint + AllocGlobal>(
 ) -> Result<Loaded, Trouble> {
     let texts = texts_of(rt.alloc(), sources)?;
     match load(rt.alloc(), word, &texts) {
-        Ok(model) => {
-            let digests = digests_in(rt.alloc(), &texts)?;
-            Ok(Loaded { model, digests })
-        }
-        Err(trouble) => {
-            tell(rt, word, sources, &trouble)?;
-            Err(Trouble::Told(2))
-        }
+        Ok(loaded) => Ok(loaded),
+        Err(trouble) => Err(told(rt, word, sources, &trouble)),
     }
 }
 
@@ -255,12 +221,14 @@ fn texts_of(alloc: Global, sources: &[Source]) -> Result<Vec<CatText<'_>>, Alloc
     Ok(texts)
 }
 
-/// The model of the texts, of which the first is its root, or the built-in one of this word.
-fn load(alloc: Global, word: &str, texts: &[CatText<'_>]) -> Result<Model, ModelTrouble> {
-    match texts.first() {
-        Some(root) => load_model(alloc, root.name, texts),
-        None => load_model(alloc, &name_or_main(alloc, word)?, texts),
-    }
+/// The model of the texts, of which the first is its root, or the built-in one of this word, with their digests.
+fn load(alloc: Global, word: &str, texts: &[CatText<'_>]) -> Result<Loaded, ModelTrouble> {
+    let digests = digests_in(alloc, texts)?;
+    let model = match texts.first() {
+        Some(root) => load_model(alloc, root.name, texts)?,
+        None => load_model(alloc, &name_or_main(alloc, word)?, texts)?,
+    };
+    Ok(Loaded { model, digests })
 }
 
 /// The digests of the texts.
@@ -270,15 +238,19 @@ fn digests_in(alloc: Global, texts: &[CatText<'_>]) -> Result<String, AllocError
 }
 
 /// Tells on standard error what is wrong with the files.
-fn tell<R: Eprint + AllocGlobal>(
+fn told<R: Eprint + AllocGlobal>(
     rt: &R,
     word: &str,
     sources: &[Source],
     trouble: &ModelTrouble,
-) -> Result<(), Trouble> {
-    let message = message_of(rt.alloc(), word, sources, trouble)?;
-    eprint!(rt; "{message}")?;
-    Ok(())
+) -> Trouble {
+    match message_of(rt.alloc(), word, sources, trouble) {
+        Ok(message) => match eprint!(rt; "{message}") {
+            Ok(()) => Trouble::Told(2),
+            Err(error) => Trouble::Write(error),
+        },
+        Err(_) => Trouble::NoMemory,
+    }
 }
 
 /// What is told of files that give no model.

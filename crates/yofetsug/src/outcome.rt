@@ -1,6 +1,6 @@
 //! What is told of a test, put together.
 
-use crate::compared::row_with;
+use crate::rows::row_with;
 use crate::run::Plan;
 use crate::why::explain;
 use crate::words::Form;
@@ -61,111 +61,91 @@ impl Outcome {
         }
     }
 
-    /// Adds what is told of a test that was judged.
+    /// Adds what is told of a test that was judged, under each of the cases.
     pub fn tell(
         &mut self,
         alloc: Global,
-        path: &str,
         verdicts: &[Verdict],
+        cases: &[Case<'_>],
         plan: &Plan<'_>,
         milliseconds: u64,
     ) -> Result<(), AllocError> {
-        self.add_cells(alloc, path, verdicts, plan)?;
-        if !plan.is_table() {
-            self.add_forms(alloc, path, verdicts, plan, milliseconds)?;
+        self.compare(alloc, verdicts, cases, plan)?;
+        let mut answers = Vec::new(alloc);
+        for (verdict, case) in verdicts.iter().zip(cases) {
+            self.tell_under(alloc, verdict, case, plan, milliseconds, &mut answers)?;
         }
-        if plan.why || plan.draws {
-            self.add_answers(alloc, verdicts, plan)?;
-        }
-        if plan.keeps {
-            self.keep(alloc, path, verdicts, plan)?;
-        }
+        self.text.append(&mut answers)?;
         Ok(())
     }
 
     /// Compares the cells of the test's row, and adds the row where a table is printed.
-    fn add_cells(
+    fn compare(
         &mut self,
         alloc: Global,
-        path: &str,
         verdicts: &[Verdict],
+        cases: &[Case<'_>],
         plan: &Plan<'_>,
     ) -> Result<(), AllocError> {
         let cells = cells_of(alloc, verdicts)?;
         self.differs = !are_alike(&cells);
         if plan.is_table() {
-            let mut row = table_row_of(alloc, plan.width, path.as_bytes(), plan.names, &cells)?;
+            let mut row = row_in(alloc, cases, plan, &cells)?;
             self.text.append(&mut row)?;
         }
         Ok(())
     }
 
-    /// Adds each verdict in the form that is asked for, with how long the test took under all models.
-    fn add_forms(
+    /// Adds what is told of a verdict: its form, with how long the test took under all models, why it is what it is, and what is compared or stored.
+    fn tell_under(
         &mut self,
         alloc: Global,
-        path: &str,
-        verdicts: &[Verdict],
+        verdict: &Verdict,
+        case: &Case<'_>,
         plan: &Plan<'_>,
         milliseconds: u64,
+        answers: &mut Vec<u8>,
     ) -> Result<(), AllocError> {
-        let models = plan.names.iter().zip(plan.digests);
-        for (verdict, (name, digests)) in verdicts.iter().zip(models) {
-            let case = case_of(path, name, digests);
-            let mut text = form_of(alloc, plan.form, &case, verdict, milliseconds)?;
-            self.text.append(&mut text)?;
+        if !plan.is_table() {
+            self.text.append(&mut form_of(alloc, plan.form, case, verdict, milliseconds)?)?;
+        }
+        if plan.why || plan.draws {
+            push_answer(alloc, verdict, case, plan, answers, &mut self.dot)?;
+        }
+        if plan.keeps {
+            self.rows.push(kept(alloc, verdict, case)?)?;
         }
         Ok(())
     }
 
-    /// Adds why each verdict is what it is.
-    fn add_answers(
-        &mut self,
-        alloc: Global,
-        verdicts: &[Verdict],
-        plan: &Plan<'_>,
-    ) -> Result<(), AllocError> {
-        for (verdict, name) in verdicts.iter().zip(plan.names) {
-            let mut answer = explain(alloc, verdict, name)?;
-            self.dot.append(&mut answer.dot)?;
-            if plan.why {
-                self.text.append(&mut answer.text)?;
-            }
-        }
-        Ok(())
-    }
-
-    /// Adds what is compared or stored of each verdict.
-    fn keep(
-        &mut self,
-        alloc: Global,
-        path: &str,
-        verdicts: &[Verdict],
-        plan: &Plan<'_>,
-    ) -> Result<(), AllocError> {
-        for (verdict, name) in verdicts.iter().zip(plan.names) {
-            self.rows.push(kept(alloc, path, verdict, name)?)?;
-        }
-        Ok(())
-    }
-
-    /// Adds what is told of a test that is refused, and why, under each model.
+    /// Adds what is told of a test that is refused, and why, under each of the cases.
     pub fn refuse(
         &mut self,
         alloc: Global,
-        path: &str,
         label: &str,
+        cases: &[Case<'_>],
         plan: &Plan<'_>,
         milliseconds: u64,
     ) -> Result<(), AllocError> {
-        for (name, digests) in plan.names.iter().zip(plan.digests) {
-            if plan.keeps {
-                self.rows.push(kept_refusal(alloc, path, label, name)?)?;
-            }
-            let case = case_of(path, name, digests);
-            let mut text = refusal_of(alloc, plan.form, &case, label, milliseconds)?;
-            self.text.append(&mut text)?;
+        for case in cases {
+            self.refuse_under(alloc, label, case, plan, milliseconds)?;
         }
+        Ok(())
+    }
+
+    /// Adds what is told of a refusal: the line for programs, and what is compared or stored.
+    fn refuse_under(
+        &mut self,
+        alloc: Global,
+        label: &str,
+        case: &Case<'_>,
+        plan: &Plan<'_>,
+        milliseconds: u64,
+    ) -> Result<(), AllocError> {
+        if plan.keeps {
+            self.rows.push(kept_refusal(alloc, label, case)?)?;
+        }
+        self.text.append(&mut refusal_of(alloc, plan.form, case, label, milliseconds)?)?;
         Ok(())
     }
 }
@@ -179,13 +159,35 @@ fn cells_of(alloc: Global, verdicts: &[Verdict]) -> Result<Vec<Vec<u8>>, AllocEr
     Ok(cells)
 }
 
-/// A test under one of the plan's models.
-fn case_of<'a>(path: &'a str, name: &'a Vec<u8>, digests: &'a String) -> Case<'a> {
-    Case {
-        path,
-        model: std::str::from_utf8(name).unwrap_or(""),
-        digests: digests.as_str(),
+/// The row of a table.
+fn row_in(
+    alloc: Global,
+    cases: &[Case<'_>],
+    plan: &Plan<'_>,
+    cells: &[Vec<u8>],
+) -> Result<Vec<u8>, AllocError> {
+    let path = match cases.first() {
+        Some(case) => case.path,
+        None => "",
+    };
+    table_row_of(alloc, plan.width, path.as_bytes(), plan.names, cells)
+}
+
+/// Adds why a verdict is what it is: drawn, and in words too where these are asked for.
+fn push_answer(
+    alloc: Global,
+    verdict: &Verdict,
+    case: &Case<'_>,
+    plan: &Plan<'_>,
+    text: &mut Vec<u8>,
+    dot: &mut Vec<u8>,
+) -> Result<(), AllocError> {
+    let mut answer = explain(alloc, verdict, case.model.as_bytes())?;
+    dot.append(&mut answer.dot)?;
+    if plan.why {
+        text.append(&mut answer.text)?;
     }
+    Ok(())
 }
 
 /// A verdict in one of the forms: a summary with an empty line behind it, a line, fields between tabs, or an object of JSON.
@@ -262,15 +264,27 @@ fn ended(mut text: Vec<u8>) -> Result<Vec<u8>, AllocError> {
 }
 
 /// What is compared or stored of a verdict.
-fn kept(alloc: Global, path: &str, verdict: &Verdict, name: &[u8]) -> Result<Row, AllocError> {
+fn kept(alloc: Global, verdict: &Verdict, case: &Case<'_>) -> Result<Row, AllocError> {
     let count = verdict.states().len();
     let states = format!(in alloc; "{count}")?;
     let answer = answer_of(alloc, verdict)?;
-    row_with(alloc, path.as_bytes(), name, &answer, states.as_bytes())
+    row_with(
+        alloc,
+        case.path.as_bytes(),
+        case.model.as_bytes(),
+        &answer,
+        states.as_bytes(),
+    )
 }
 
 /// What is compared or stored of a refusal.
-fn kept_refusal(alloc: Global, path: &str, label: &str, name: &[u8]) -> Result<Row, AllocError> {
+fn kept_refusal(alloc: Global, label: &str, case: &Case<'_>) -> Result<Row, AllocError> {
     let answer = format!(in alloc; "refused {label}")?;
-    row_with(alloc, path.as_bytes(), name, answer.as_bytes(), b"")
+    row_with(
+        alloc,
+        case.path.as_bytes(),
+        case.model.as_bytes(),
+        answer.as_bytes(),
+        b"",
+    )
 }

@@ -13,10 +13,10 @@ use std::io;
 use std::rt::Files;
 use std::thread::Threads;
 use std::time::Clock;
-use suite::{TestTrouble, judge_text};
+use suite::{Case, TestTrouble, judge_text};
 
 /// What all tests have in common.
-#[derive(Drop)]
+#[derive(Clone, Copy)]
 pub struct Plan<'a> {
     pub models: &'a [Model],
     /// The words that named the models.
@@ -40,6 +40,46 @@ impl<'a> Plan<'a> {
     /// Whether a table is printed.
     pub fn is_table(&self) -> bool {
         self.names.len() != 1 && matches!(&self.form, Form::Summary | Form::Line)
+    }
+}
+
+/// A test under each of the models.
+fn cases_of<'a>(
+    alloc: Global,
+    path: &'a str,
+    names: &'a [Vec<u8>],
+    digests: &'a [String],
+) -> Result<Vec<Case<'a>>, AllocError> {
+    let mut cases = Vec::new(alloc);
+    for (name, digests) in names.iter().zip(digests) {
+        cases.push(case_of(path, name, digests))?;
+    }
+    Ok(cases)
+}
+
+/// A test under a model.
+fn case_of<'a>(path: &'a str, name: &'a Vec<u8>, digests: &'a String) -> Case<'a> {
+    Case {
+        path,
+        model: std::str::from_utf8(name).unwrap_or(""),
+        digests: digests.as_str(),
+    }
+}
+
+/// A test that was read: its path, and its text or why there is none.
+pub struct Job<'a> {
+    pub path: &'a str,
+    pub text: Vec<u8>,
+    pub error: String,
+}
+
+impl<'a> Drop for Job<'a> {
+    fn drop(self) {
+        let Job {
+            path: _,
+            text: _,
+            error: _,
+        } = self;
     }
 }
 
@@ -70,83 +110,91 @@ fn limit_of(plan: &Plan<'_>) -> Option<u64> {
 pub fn judge_quickly<R: Clock + Eprint + Threads + Sync>(
     rt: &R,
     alloc: Global,
-    path: &str,
-    text: &[u8],
+    job: &Job<'_>,
     plan: &Plan<'_>,
 ) -> Result<Option<Outcome>, AllocError> {
+    if !job.error.is_empty() {
+        return unread(alloc, job.path, job.error.as_str()).map(Some);
+    }
     let (limit, is_last) = match limit_of(plan) {
         Some(limit) if limit <= WHILE => (limit, true),
         _ => (WHILE, false),
     };
     let mut deadline = Deadline::new(rt, Some(limit), None);
-    let judged = judge_text(rt, alloc, text, plan.models, 1, &mut deadline);
+    let judged = judge_text(rt, alloc, &job.text, plan.models, 1, &mut deadline);
     if !is_last && matches!(&judged, Err(TestTrouble::Late)) {
         return Ok(None);
     }
-    let milliseconds = deadline.milliseconds();
-    Ok(Some(outcome_of(alloc, path, text, plan, judged, milliseconds)?))
+    outcome_of(alloc, job, plan, judged, deadline.milliseconds()).map(Some)
 }
 
 /// What is told of a test under all models, which so many threads judge together.
 pub fn judge_wholly<R: Clock + Eprint + Threads + Sync>(
     rt: &R,
     alloc: Global,
-    path: &str,
-    text: &[u8],
+    job: &Job<'_>,
     plan: &Plan<'_>,
     threads: u16,
     meter: &mut Meter,
 ) -> Result<Outcome, AllocError> {
     let mut deadline = Deadline::new(rt, limit_of(plan), Some(*meter));
-    let judged = judge_text(rt, alloc, text, plan.models, threads, &mut deadline);
+    let judged = judge_text(rt, alloc, &job.text, plan.models, threads, &mut deadline);
     if let Some(told) = deadline.meter() {
         *meter = told;
     }
-    let milliseconds = deadline.milliseconds();
-    outcome_of(alloc, path, text, plan, judged, milliseconds)
+    outcome_of(alloc, job, plan, judged, deadline.milliseconds())
 }
 
 /// What is told of a test with its verdicts, or that has none.
 fn outcome_of(
     alloc: Global,
-    path: &str,
-    text: &[u8],
+    job: &Job<'_>,
     plan: &Plan<'_>,
     judged: Result<Vec<Verdict>, TestTrouble>,
     milliseconds: u64,
 ) -> Result<Outcome, AllocError> {
+    let cases = cases_of(alloc, job.path, plan.names, plan.digests)?;
     match judged {
-        Ok(verdicts) => told(alloc, path, &verdicts, plan, milliseconds),
+        Ok(verdicts) => told(alloc, &verdicts, &cases, plan, milliseconds),
         Err(TestTrouble::NoMemory) => Err(AllocError),
-        Err(trouble) => refused(alloc, path, text, &trouble, plan, milliseconds),
+        Err(trouble) => {
+            let message = test_trouble(alloc, job.path, &job.text, &trouble)?;
+            refused(
+                alloc,
+                message,
+                label_of(&trouble),
+                &cases,
+                plan,
+                milliseconds,
+            )
+        }
     }
 }
 
 /// What is told of a test that was judged.
 fn told(
     alloc: Global,
-    path: &str,
     verdicts: &[Verdict],
+    cases: &[Case<'_>],
     plan: &Plan<'_>,
     milliseconds: u64,
 ) -> Result<Outcome, AllocError> {
     let mut outcome = Outcome::new(alloc, Fate::Judged, String::new(alloc));
-    outcome.tell(alloc, path, verdicts, plan, milliseconds)?;
+    outcome.tell(alloc, verdicts, cases, plan, milliseconds)?;
     Ok(outcome)
 }
 
 /// What is told of a test that is refused.
 fn refused(
     alloc: Global,
-    path: &str,
-    text: &[u8],
-    trouble: &TestTrouble,
+    message: String,
+    label: &str,
+    cases: &[Case<'_>],
     plan: &Plan<'_>,
     milliseconds: u64,
 ) -> Result<Outcome, AllocError> {
-    let message = test_trouble(alloc, path, text, trouble)?;
     let mut outcome = Outcome::new(alloc, Fate::Refused, message);
-    outcome.refuse(alloc, path, label_of(trouble), plan, milliseconds)?;
+    outcome.refuse(alloc, label, cases, plan, milliseconds)?;
     Ok(outcome)
 }
 

@@ -6,7 +6,7 @@ use crate::files::{Paths, Unread, find_tests};
 use crate::meter::Meter;
 use crate::models::{Loaded, read_model};
 use crate::outcome::{Fate, Outcome};
-use crate::run::{Plan, unread};
+use crate::run::{Plan, judge_wholly, unread};
 use crate::trouble::Trouble;
 use crate::words::{Form, Words};
 use cat_model::Model;
@@ -83,6 +83,16 @@ impl Drop for Progress {
     }
 }
 
+impl Progress {
+    /// Counts a test, and takes what is stored and drawn of it.
+    fn add(&mut self, outcome: &mut Outcome) -> Result<(), AllocError> {
+        self.counts.add(outcome);
+        self.meter.set_done(self.counts.all());
+        self.rows.append(&mut outcome.rows)?;
+        self.dot.append(&mut outcome.dot)
+    }
+}
+
 impl Counts {
     fn none() -> Counts {
         Counts {
@@ -148,8 +158,8 @@ impl Models {
         let Loaded { model, digests } = read_model(rt, word, folders)?;
         self.models.push(model)?;
         self.digests.push(digests)?;
-        self.names
-            .push(Vec::from_slice(rt.alloc(), word.as_bytes())?)?;
+        let name = Vec::from_slice(rt.alloc(), word.as_bytes())?;
+        self.names.push(name)?;
         Ok(())
     }
 }
@@ -172,25 +182,37 @@ fn judge_under<R: Reach>(
     expected: &[Row],
     shows: bool,
 ) -> Result<u8, Trouble> {
-    for path in [words.dot, words.write_expected] {
-        if let Some(path) = path {
-            see_writable(rt, path)?;
-        }
-    }
+    see_outputs(rt, words)?;
     let paths = find_tests(rt, &words.tests)?;
-    let plan = Plan {
+    let plan = plan_of(words, models, width_of(&paths));
+    let progress = judge_paths(rt, &paths, &plan, threads_of(rt, words), shows)?;
+    finish(rt, words, &plan, expected, &progress)
+}
+
+/// Sees that what the words ask for can be written.
+fn see_outputs<R: Files + Eprint>(rt: &R, words: &Words<'_>) -> Result<(), Trouble> {
+    if let Some(path) = words.dot {
+        see_writable(rt, path)?;
+    }
+    match words.write_expected {
+        Some(path) => see_writable(rt, path),
+        None => Ok(()),
+    }
+}
+
+/// What all tests have in common, where a table's paths are so wide.
+fn plan_of<'a>(words: &Words<'_>, models: &'a Models, width: usize) -> Plan<'a> {
+    Plan {
         models: &models.models,
         names: &models.names,
         digests: &models.digests,
         form: words.form,
-        width: width_of(&paths),
+        width,
         keeps: words.expected.is_some() || words.write_expected.is_some(),
         timeout: words.timeout,
         why: words.why,
         draws: words.dot.is_some(),
-    };
-    let progress = judge_paths(rt, &paths, &plan, threads_of(rt, words), shows)?;
-    finish(rt, words, &plan, expected, &progress)
+    }
 }
 
 /// How many threads judge: as many as the words say, or as there are processors, up to 8.
@@ -242,19 +264,24 @@ fn judge_batches<R: Reach, W: Write>(
     writer: &mut W,
     progress: &mut Progress,
 ) -> Result<(), Trouble> {
-    if plan.is_table() {
-        writer.write_all(&head_of(rt.alloc(), plan.width, plan.names)?)?;
-    }
+    show_head(rt.alloc(), plan, writer)?;
     show_unread(rt, &paths.unread, writer, progress)?;
-    for batch in paths
-        .tests
-        .chunks(usize::from(threads).saturating_mul(BATCH).max(1))
-    {
+    let size = usize::from(threads).saturating_mul(BATCH).max(1);
+    for batch in paths.tests.chunks(size) {
         judge_batch(rt, batch, plan, threads, writer, progress)?;
         progress.meter.tick(rt)?;
     }
     progress.meter.clear(rt)?;
     writer.flush()?;
+    Ok(())
+}
+
+/// Prints the head of a table, where one is printed.
+fn show_head<W: Write>(alloc: Global, plan: &Plan<'_>, writer: &mut W) -> Result<(), Trouble> {
+    if plan.is_table() {
+        let head = head_of(alloc, plan.width, plan.names)?;
+        writer.write_all(&head)?;
+    }
     Ok(())
 }
 
@@ -266,8 +293,8 @@ fn show_unread<R: Reach, W: Write>(
     progress: &mut Progress,
 ) -> Result<(), Trouble> {
     for one in missing {
-        let outcome = unread(rt.alloc(), one.path.as_str(), one.error.as_str())?;
-        show(rt, outcome, writer, progress)?;
+        let mut outcome = unread(rt.alloc(), one.path.as_str(), one.error.as_str())?;
+        show(rt, &mut outcome, writer, progress)?;
     }
     Ok(())
 }
@@ -281,31 +308,27 @@ fn judge_batch<R: Reach, W: Write>(
     writer: &mut W,
     progress: &mut Progress,
 ) -> Result<(), Trouble> {
-    let alloc = rt.alloc();
     let jobs = read_jobs(rt, paths)?;
-    let outcomes = judge_jobs(rt, alloc, &jobs, plan, threads)?;
+    let outcomes = judge_jobs(rt, rt.alloc(), &jobs, plan, threads)?;
     for (job, outcome) in jobs.iter().zip(outcomes) {
-        let outcome = match outcome {
+        let mut outcome = match outcome {
             Some(outcome) => outcome,
-            None => job.judge(rt, alloc, plan, threads, &mut progress.meter)?,
+            None => judge_wholly(rt, rt.alloc(), job, plan, threads, &mut progress.meter)?,
         };
-        show(rt, outcome, writer, progress)?;
+        show(rt, &mut outcome, writer, progress)?;
     }
     Ok(())
 }
 
-/// Prints what is told of a test, and counts it.
+/// Prints what is told of a test, counts it, and takes what is stored and drawn of it.
 fn show<R: Eprint, W: Write>(
     rt: &R,
-    mut outcome: Outcome,
+    outcome: &mut Outcome,
     writer: &mut W,
     progress: &mut Progress,
 ) -> Result<(), Trouble> {
     progress.meter.clear(rt)?;
-    progress.counts.add(&outcome);
-    progress.meter.set_done(progress.counts.all());
-    progress.rows.append(&mut outcome.rows)?;
-    progress.dot.append(&mut outcome.dot)?;
+    progress.add(outcome)?;
     writer.write_all(&outcome.text)?;
     writer.flush()?;
     if !outcome.message.is_empty() {
@@ -364,13 +387,17 @@ fn push_grouped(text: &mut String, number: usize, behind: &str) -> Result<(), Al
 /// Adds how many tests were judged, refused and not read, and, where a table is printed, in how many the models differ.
 fn push_counts(text: &mut String, counts: Counts, is_table: bool) -> Result<(), AllocError> {
     let all = counts.all();
-    push_grouped(text, all, if all == 1 { " test: " } else { " tests: " })?;
-    push_grouped(text, counts.judged, " judged, ")?;
-    push_grouped(text, counts.refused, " refused, ")?;
-    push_grouped(text, counts.unread, " not read")?;
+    for (number, behind) in [
+        (all, if all == 1 { " test: " } else { " tests: " }),
+        (counts.judged, " judged, "),
+        (counts.refused, " refused, "),
+        (counts.unread, " not read"),
+    ] {
+        push_grouped(text, number, behind)?;
+    }
     if is_table {
         text.push_str("; the models differ in ")?;
-        push_grouped(text, counts.differing, " (*)")?;
+        return push_grouped(text, counts.differing, " (*)");
     }
     Ok(())
 }

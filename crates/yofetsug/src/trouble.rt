@@ -4,7 +4,7 @@ use std::alloc::{AllocError, AllocFailed};
 use std::io;
 
 /// Why the program ends early.
-#[derive(Debug, Drop)]
+#[derive(Drop)]
 pub enum Trouble {
     /// Writing failed.
     Write(io::Error),
@@ -28,5 +28,13 @@ impl From<AllocError> for Trouble {
 impl<T: Drop> From<AllocFailed<T>> for Trouble {
     fn from(_error: AllocFailed<T>) -> Self {
         Trouble::NoMemory
+    }
+}
+
+/// Tells on standard error that a file can't be read or written.
+pub fn unreadable<R: Eprint>(rt: &R, path: &str, error: &io::Error) -> Trouble {
+    match eprintln!(rt; "{path}: {error}") {
+        Ok(()) => Trouble::Told(1),
+        Err(error) => Trouble::Write(error),
     }
 }

@@ -130,34 +130,39 @@ fn chain_of(
     graph: &Graph,
     found: &Reason,
 ) -> Result<Option<Chain>, AllocError> {
-    let mut events = Vec::new(alloc);
-    match &found.evidence {
-        Evidence::Cycle(cycle) => {
-            for event in cycle {
-                events.push(*event)?;
-            }
-            if let Some(first) = cycle.first() {
-                events.push(*first)?;
-            }
-        }
-        Evidence::Itself(event) => {
-            events.push(*event)?;
-            events.push(*event)?;
-        }
-        Evidence::Pair(from, to) => {
-            events.push(*from)?;
-            events.push(*to)?;
-        }
-        Evidence::Member(event) => events.push(*event)?,
-        Evidence::Denied => return Ok(None),
-    }
+    let events = events_of(alloc, &found.evidence)?;
     arrows(alloc, model, graph, &events, found.number)
+}
+
+/// The events of the evidence, each behind the one that leads to it. A cycle ends where it begins.
+fn events_of(alloc: Global, evidence: &Evidence) -> Result<Vec<usize>, AllocError> {
+    match evidence {
+        Evidence::Cycle(cycle) => closed(alloc, cycle),
+        Evidence::Itself(event) => Vec::from_slice(alloc, &[*event, *event]),
+        Evidence::Pair(from, to) => Vec::from_slice(alloc, &[*from, *to]),
+        Evidence::Member(event) => Vec::from_slice(alloc, &[*event]),
+        Evidence::Denied => Ok(Vec::new(alloc)),
+    }
+}
+
+/// The events of a cycle, with the first once more at the end.
+fn closed(alloc: Global, cycle: &[usize]) -> Result<Vec<usize>, AllocError> {
+    let mut events = Vec::from_slice(alloc, cycle)?;
+    if let Some(first) = cycle.first() {
+        events.push(*first)?;
+    }
+    Ok(events)
 }
 
 /// The names that tell nothing of an arrow that its ends and its other names don't: of threads and locations, and of parts of rf, co and fr.
 const PLAIN: [&[u8]; 11] = [
     b"int", b"ext", b"loc", b"po-loc", b"rfi", b"rfe", b"coi", b"coe", b"fri", b"fre", b"id",
 ];
+
+/// Whether a name tells something of an arrow.
+fn tells(name: &Name) -> bool {
+    !PLAIN.contains(&name.bytes())
+}
 
 /// What relates two events, without the names that tell nothing more; all of them where there are no others.
 fn labels_of(
@@ -168,17 +173,11 @@ fn labels_of(
     to: usize,
     before: usize,
 ) -> Result<Vec<Name>, AllocError> {
-    let all = labels(alloc, model, graph, from, to, before)?;
-    let mut telling = Vec::new(alloc);
-    for name in &all {
-        if !PLAIN.contains(&name.bytes()) {
-            telling.push(name.copy()?)?;
-        }
+    let mut names = labels(alloc, model, graph, from, to, before)?;
+    if names.iter().any(tells) {
+        names.retain(tells);
     }
-    if telling.is_empty() {
-        return Ok(all);
-    }
-    Ok(telling)
+    Ok(names)
 }
 
 /// The arrows from each event to the next, with what relates them.

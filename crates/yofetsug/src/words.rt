@@ -57,12 +57,95 @@ impl<'a> Drop for Words<'a> {
     }
 }
 
-/// A word that stands alone.
-fn flag<'a>(alloc: Global, name: &'a str, help: &'a str) -> Arg<'a> {
-    Arg::new(alloc, name)
-        .long(name)
-        .action(ArgAction::SetTrue)
-        .help(help)
+/// What stands behind a word.
+#[derive(Clone, Copy)]
+enum Value {
+    /// Nothing.
+    None,
+    /// One of these; the word is given once.
+    One(&'static str),
+    /// One of these, each time that the word is given.
+    Each(&'static str),
+}
+
+/// A word: its name, its letter if it has one, what stands behind it, and what the help tells of it.
+#[derive(Clone, Copy)]
+struct Word {
+    name: &'static str,
+    letter: Option<char>,
+    value: Value,
+    help: &'static str,
+}
+
+/// The words for models, for what is printed of a test, and for what is written to files.
+const WORDS: [Word; 9] = [
+    Word {
+        name: "model",
+        letter: Some('m'),
+        value: Value::Each("MODEL"),
+        help: "A cat file, or rc11.cat, which is built in and the default; several make a table",
+    },
+    Word {
+        name: "include",
+        letter: Some('I'),
+        value: Value::Each("DIR"),
+        help: "A folder to look in for the files that models include",
+    },
+    Word {
+        name: "quiet",
+        letter: Some('q'),
+        value: Value::None,
+        help: "One line a test: path, name, Ok or No, how often, counts, flags",
+    },
+    Word {
+        name: "tsv",
+        letter: None,
+        value: Value::None,
+        help: "A line for each test and model, fields between tabs",
+    },
+    Word {
+        name: "json",
+        letter: None,
+        value: Value::None,
+        help: "A line of JSON for each test and model",
+    },
+    Word {
+        name: "why",
+        letter: None,
+        value: Value::None,
+        help: "Show an execution that is allowed, or why the one asked for is not",
+    },
+    Word {
+        name: "dot",
+        letter: None,
+        value: Value::One("FILE"),
+        help: "Write these executions to a file for Graphviz",
+    },
+    Word {
+        name: "expected",
+        letter: Some('e'),
+        value: Value::One("FILE"),
+        help: "Compare with stored lines; ends with 3 where something differs",
+    },
+    Word {
+        name: "write-expected",
+        letter: None,
+        value: Value::One("FILE"),
+        help: "Store what is found, for -e",
+    },
+];
+
+/// The argument that a word is.
+fn argument<'a>(alloc: Global, word: &Word) -> Arg<'a> {
+    let mut arg = Arg::new(alloc, word.name).long(word.name).help(word.help);
+    if let Some(letter) = word.letter {
+        arg = arg.short(letter);
+    }
+    match word.value {
+        Value::None => arg.action(ArgAction::SetTrue),
+        Value::One(name) => arg.action(ArgAction::Set).value_name(name),
+        Value::Each(name) => arg.action(ArgAction::Append).value_name(name),
+    }
 }
 
 /// A word with a value behind it.
@@ -72,11 +155,6 @@ fn valued<'a>(alloc: Global, name: &'a str, value: &'a str, help: &'a str) -> Ar
         .action(ArgAction::Set)
         .value_name(value)
         .help(help)
-}
-
-/// A word with a value behind it, that may be given again.
-fn repeated<'a>(alloc: Global, name: &'a str, value: &'a str, help: &'a str) -> Arg<'a> {
-    valued(alloc, name, value, help).action(ArgAction::Append)
 }
 
 fn found<'a>(alloc: Global) -> Result<Arg<'a>, AllocError> {
@@ -106,72 +184,42 @@ fn tests<'a>(alloc: Global) -> Result<Arg<'a>, AllocError> {
         .required_unless_present("found")
 }
 
-/// The command that clap reads the words by.
-fn command<'a>(alloc: Global) -> Result<Command<'a>, AllocError> {
-    let command = with_models(alloc)?;
-    let command = with_forms(alloc, command)?;
-    with_files(alloc, command)?
-        .arg(threads(alloc))?
-        .arg(timeout(alloc))?
-        .arg(tests(alloc)?)
+/// The arguments, in the order in which the help has them.
+fn arguments<'a>(alloc: Global) -> Result<Vec<Arg<'a>>, AllocError> {
+    let mut arguments = Vec::new(alloc);
+    for word in &WORDS {
+        arguments.push(argument(alloc, word))?;
+    }
+    arguments.push(found(alloc)?)?;
+    arguments.push(threads(alloc))?;
+    arguments.push(timeout(alloc))?;
+    arguments.push(tests(alloc)?)?;
+    Ok(arguments)
 }
 
-/// The command, so far with the words for models.
-fn with_models<'a>(alloc: Global) -> Result<Command<'a>, AllocError> {
-    let model = "A cat file, or rc11.cat, which is built in and the default; several make a table";
-    let include = "A folder to look in for the files that models include";
+/// The command that clap reads the words by.
+fn command<'a>(alloc: Global) -> Result<Command<'a>, AllocError> {
     Command::new(alloc, "yofetsug")
         .about("Judges C litmus tests under cat memory models; its verdicts are proved")
         .version("0.1.0")
-        .arg(repeated(alloc, "model", "MODEL", model).short('m'))?
-        .arg(repeated(alloc, "include", "DIR", include).short('I'))
-}
-
-/// The command with the words for what is printed of a test.
-fn with_forms<'a>(alloc: Global, command: Command<'a>) -> Result<Command<'a>, AllocError> {
-    let quiet = "One line a test: path, name, Ok or No, how often, counts, flags";
-    let tsv = "A line for each test and model, fields between tabs";
-    let json = "A line of JSON for each test and model";
-    let why = "Show an execution that is allowed, or why the one asked for is not";
-    command
-        .arg(flag(alloc, "quiet", quiet).short('q'))?
-        .arg(flag(alloc, "tsv", tsv))?
-        .arg(flag(alloc, "json", json))?
-        .arg(flag(alloc, "why", why))
-}
-
-/// The command with the words for what is written to files and compared.
-fn with_files<'a>(alloc: Global, command: Command<'a>) -> Result<Command<'a>, AllocError> {
-    let dot = "Write these executions to a file for Graphviz";
-    let expected = "Compare with stored lines; ends with 3 where something differs";
-    let write = "Store what is found, for -e";
-    command
-        .arg(valued(alloc, "dot", "FILE", dot))?
-        .arg(valued(alloc, "expected", "FILE", expected).short('e'))?
-        .arg(valued(alloc, "write-expected", "FILE", write))?
-        .arg(found(alloc)?)
+        .args(arguments(alloc)?)
 }
 
 /// The values of an argument that may be given again.
-fn all_of<'a>(
-    alloc: Global,
-    values: Option<&[&'a str]>,
-    default: Option<&'a str>,
-) -> Result<Vec<&'a str>, AllocError> {
-    let mut list = Vec::new(alloc);
+fn all_of<'a>(alloc: Global, values: Option<&[&'a str]>) -> Result<Vec<&'a str>, AllocError> {
     match values {
-        Some(values) => {
-            for value in values {
-                list.push(*value)?;
-            }
-        }
-        None => {
-            if let Some(value) = default {
-                list.push(value)?;
-            }
-        }
+        Some(values) => Vec::from_slice(alloc, values),
+        None => Ok(Vec::new(alloc)),
     }
-    Ok(list)
+}
+
+/// The models that are named, or the one where none is.
+fn models_of<'a>(alloc: Global, values: Option<&[&'a str]>) -> Result<Vec<&'a str>, AllocError> {
+    let mut models = all_of(alloc, values)?;
+    if models.is_empty() {
+        models.push(MODEL)?;
+    }
+    Ok(models)
 }
 
 /// What the words ask for, as clap reads them. The first word is the program's name.
@@ -183,8 +231,8 @@ pub fn read_words<'a>(alloc: Global, words: &'a [String]) -> Result<Words<'a>, E
 /// What is asked for by the words that clap found.
 fn words_of<'a>(alloc: Global, matches: &ArgMatches<'a>) -> Result<Words<'a>, AllocError> {
     Ok(Words {
-        models: all_of(alloc, matches.get_strs("model"), Some(MODEL))?,
-        folders: all_of(alloc, matches.get_strs("include"), None)?,
+        models: models_of(alloc, matches.get_strs("model"))?,
+        folders: all_of(alloc, matches.get_strs("include"))?,
         form: form_of(matches),
         why: matches.get_flag("why"),
         dot: matches.get_str("dot"),
@@ -193,7 +241,7 @@ fn words_of<'a>(alloc: Global, matches: &ArgMatches<'a>) -> Result<Words<'a>, Al
         found: matches.get_str("found"),
         threads: matches.get_one::<u8>("threads"),
         timeout: matches.get_one::<u32>("timeout"),
-        tests: all_of(alloc, matches.get_strs("test"), None)?,
+        tests: all_of(alloc, matches.get_strs("test"))?,
     })
 }
 
