@@ -1,5 +1,5 @@
 -- A test that a work has is refused no space: its runs and its candidates are few.
-use Rattle.std.proofs.Common.{◌≡◌, ◌≤◌, ◌<◌, ◌+◌, ◌∙◌, ℕ, List, [], ◌∷◌, length, refl, sym, arith}
+use Rattle.std.proofs.Common.{◌≡◌, ◌∙◌, ℕ, List, [], ◌∷◌, length, refl, sym, arith}
 use Rattle.listings.specs.Lists.{sum_of}
 use Rattle.listings.proofs.Sums.{same_sums}
 use Rattle.litmus_tree.specs.Tree.{Litmus}

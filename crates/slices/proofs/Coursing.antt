@@ -1,5 +1,5 @@
 -- The slices of an evaluation, one after another.
-use Rattle.std.proofs.Common.{◌≡◌, ℕ, ◌+◌, ◌<◌, ◌≤◌, List, [], ◌∷◌, ◌++◌, sym, ap, ◌∙◌, subst, arith, refl}
+use Rattle.std.proofs.Common.{◌≡◌, ℕ, ◌+◌, ◌<◌, ◌≤◌, List, [], ◌∷◌, ◌++◌, ap, ◌∙◌, subst, arith}
 use Rattle.slices.specs.declared.span.Span.{Span}
 use Rattle.slices.specs.Courses.{CourseValue, IsCourse}
 use Rattle.slices.specs.Parts.{PieceResultValue, test_size}

@@ -1,6 +1,5 @@
-use Rattle.std.proofs.Common.{◌≡◌, ◌∙◌, suc, ◌+◌, ◌-◌, ◌*◌, ◌<◌, ◌^◌, sym, ap, arith}
+use Rattle.std.proofs.Common.{◌≡◌, ◌∙◌, suc, ◌+◌, ◌-◌, sym, arith}
 use Rattle.std.proofs.lemmas.Grind.{common_steps}
-use Rattle.slices.specs.Fronts.{behind, digit, front_of, with_digits}
 use Rattle.slices.proofs.Fronts.{digit_put, next_small}
 use Rattle.slices.proofs.front.front_of.Goals as goal
 

@@ -1,4 +1,4 @@
-use Rattle.std.proofs.Common.{List, length, sym, arith}
+use Rattle.std.proofs.Common.{sym, arith}
 use Rattle.std.proofs.lemmas.List.{length-map}
 use Rattle.std.specs.Arc.{arc_value}
 use Rattle.book.proofs.kept.Book.apply.Goals as goal

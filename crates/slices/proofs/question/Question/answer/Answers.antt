@@ -1,4 +1,4 @@
-use Rattle.std.proofs.Common.{◌≡◌, ◌∙◌, List, ap, map}
+use Rattle.std.proofs.Common.{◌∙◌, ap, map}
 use Rattle.conditions.specs.States.{bindings, holds_in}
 use Rattle.conditions.specs.Conditions.{formula_of}
 use Rattle.slices.specs.Slots.{slot_value}
