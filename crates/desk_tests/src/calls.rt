@@ -1,10 +1,10 @@
 //! Calls through a desk, as tests write them, and what is replied.
 
-ghost use Rattle.std.specs.Prelude.{◌≡◌};
+ghost use Rattle.std.specs.Prelude.{◌≡◌, All};
 
 use crate::commands::{ask, drop_cat, drop_test, give, put_cat, put_test};
 use book::{Command, Refusal, Reply};
-use sessions::{Desk, Pass};
+use sessions::{Desk, Pass, finish};
 use std::alloc::{AllocError, Global};
 use std::sync::Wait;
 use std::sync::ledger::Ledger;
@@ -196,7 +196,7 @@ pub fn are_answered<L: Ledger>(pass: &Pass<L>, answers: &[(usize, Answer)]) -> b
 }
 
 /// The places of the receipts rise.
-pub fn rise<L: Ledger>(pass: &Pass<L>) -> bool {
+fn rise<L: Ledger>(pass: &Pass<L>) -> bool {
     let mut next = 0;
     for receipt in pass.receipts() {
         let place = receipt.entry().place();
@@ -206,4 +206,33 @@ pub fn rise<L: Ledger>(pass: &Pass<L>) -> bool {
         next = place.saturating_add(1);
     }
     true
+}
+
+/// Whether the places of each pass's receipts rise.
+pub fn all_rise<L: Ledger>(passes: &[Pass<L>]) -> bool {
+    for pass in passes {
+        if !rise(pass) {
+            return false;
+        }
+    }
+    true
+}
+
+/// How many receipts the passes have.
+pub fn count_receipts<L: Ledger>(passes: &[Pass<L>]) -> usize {
+    let mut count = 0usize;
+    for pass in passes {
+        count = count.saturating_add(pass.receipts().len());
+    }
+    count
+}
+
+/// How many entries the journal has, where `finish` answers Ok.
+pub fn entries<L: Ledger>(desk: Desk<L>, passes: Vec<Pass<L>>) -> Option<usize>
+    requires { All (λ p. p.parts ≡ 1) passes.items }
+{
+    match finish(desk, passes) {
+        Ok(closed) => Some(closed.journal.len()),
+        Err(_) => None,
+    }
 }

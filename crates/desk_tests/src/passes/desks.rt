@@ -3,7 +3,8 @@
 ghost use Rattle.std.specs.Prelude.{◌≡◌, All};
 
 use crate::calls::{
-    Answer, Call, TEST_A, TEST_B, are_answered, is_reply, last_reply, made, make_all, rise,
+    Answer, Call, TEST_A, TEST_B, all_rise, are_answered, entries, is_reply, last_reply, made,
+    make_all,
 };
 use crate::commands::SB;
 use book::{Command, Entry, Limits, Refused};
@@ -32,26 +33,6 @@ pub const SECOND: [Call; 4] = [
     Call::Claim,
     Call::Return,
 ];
-
-/// Whether the places of each pass's receipts rise.
-pub fn all_rise<L: Ledger>(passes: &[Pass<L>]) -> bool {
-    for pass in passes {
-        if !rise(pass) {
-            return false;
-        }
-    }
-    true
-}
-
-/// How many entries the journal has, where `finish` answers Ok.
-pub fn entries<L: Ledger>(desk: Desk<L>, passes: Vec<Pass<L>>) -> Option<usize>
-    requires { All (λ p. p.parts ≡ 1) passes.items }
-{
-    match finish(desk, passes) {
-        Ok(closed) => Some(closed.journal.len()),
-        Err(_) => None,
-    }
-}
 
 /// Two sessions call in turn: what `finish` counts, how many calls were recorded, and whether the places of each pass's receipts rise.
 fn run_both<L: Ledger, R: Wait>(
@@ -191,46 +172,8 @@ fn differ<L: Ledger>(pass: &Pass<L>) -> bool {
     }
 }
 
-/// How many entries a journal has that takes three, how many calls were recorded, and whether the fourth was handed back.
-fn run_full<L: Ledger, R: Wait>(
-    rt: &R,
-    alloc: Global,
-    blank: Blank,
-) -> Result<(Option<usize>, usize, bool), AllocError>
-    requires { (blank.name ≡ L.name) × (blank.parts ≡ L.parts) × (blank.parts ≡ 1) }
-{
-    let limits = Limits {
-        journal: 3,
-        versions: 2,
-        claims: 1,
-    };
-    let (desk, mut passes) = open::<L>(alloc, blank, limits, 1)?;
-    let recorded = make_all(
-        rt,
-        alloc,
-        &desk,
-        &mut passes[0],
-        &[Call::List, Call::List, Call::List],
-    );
-    let full = is_full(rt, &desk, &mut passes[0]) && differ(&passes[0]);
-    let entries = entries(desk, passes);
-    Ok((entries, recorded, full))
-}
-
-fn full<R: Wait>(rt: &R, alloc: Global) -> bool {
-    match run_full::<Brand, R>(rt, alloc, Blank::new(1)) {
-        Ok(found) => found == (Some(3), 3, true),
-        Err(AllocError) => false,
-    }
-}
-
-#[test]
-fn journal_full(rt: HostRuntime) {
-    assert!(rt; full(&rt, rt.alloc()));
-}
-
 /// Two versions of a file, and the third spent; one claim given back, and the second spent.
-const SPENDING: [Call; 8] = [
+const SPENDING: &[Call] = &[
     Call::PutCat(b"a.cat", b""),
     Call::DropCat(b"a.cat"),
     Call::PutCat(b"a.cat", b""),
@@ -241,7 +184,7 @@ const SPENDING: [Call; 8] = [
     Call::Claim,
 ];
 
-const SPENT: [(usize, Answer); 6] = [
+const SPENT: &[(usize, Answer)] = &[
     (0, Answer::Version(b"a.cat", 1)),
     (1, Answer::Version(b"a.cat", 2)),
     (2, Answer::VersionsSpent(b"a.cat")),
@@ -249,46 +192,6 @@ const SPENT: [(usize, Answer); 6] = [
     (6, Answer::Done),
     (7, Answer::ClaimsSpent),
 ];
-
-/// How many calls of a session alone were recorded, and whether they were answered so.
-fn run_calls<L: Ledger, R: Wait>(
-    rt: &R,
-    alloc: Global,
-    blank: Blank,
-    limits: Limits,
-    calls: &[Call],
-    answers: &[(usize, Answer)],
-) -> Result<(usize, bool), AllocError>
-    requires { (blank.name ≡ L.name) × (blank.parts ≡ L.parts) × (blank.parts ≡ 1) }
-{
-    let (desk, mut passes) = open::<L>(alloc, blank, limits, 1)?;
-    let recorded = make_all(rt, alloc, &desk, &mut passes[0], calls);
-    Ok((recorded, are_answered(&passes[0], answers)))
-}
-
-fn through_a_desk<R: Wait>(
-    rt: &R,
-    alloc: Global,
-    limits: Limits,
-    calls: &[Call],
-    answers: &[(usize, Answer)],
-) -> Result<(usize, bool), AllocError> {
-    run_calls::<Brand, R>(rt, alloc, Blank::new(1), limits, calls, answers)
-}
-
-fn is_spent<R: Wait>(rt: &R, alloc: Global) -> bool {
-    let limits = Limits {
-        journal: 20,
-        versions: 2,
-        claims: 1,
-    };
-    through_a_desk(rt, alloc, limits, &SPENDING, &SPENT) == Ok((8, true))
-}
-
-#[test]
-fn spent(rt: HostRuntime) {
-    assert!(rt; is_spent(&rt, rt.alloc()));
-}
 
 /// How often a file is put, and a slice claimed, at a desk of the widest limits.
 const OFTEN: u32 = 1_001;
@@ -328,27 +231,8 @@ fn claim_often<L: Ledger, R: Wait>(
     is_last(pass, Answer::Piece(OFTEN))
 }
 
-/// Whether version 1,001 and claim 1,001 are reached where the limits are 1,000,000 each.
-fn run_often<L: Ledger, R: Wait>(rt: &R, alloc: Global, blank: Blank) -> Result<bool, AllocError>
-    requires { (blank.name ≡ L.name) × (blank.parts ≡ L.parts) × (blank.parts ≡ 1) }
-{
-    let (desk, mut passes) = open::<L>(alloc, blank, WIDE, 1)?;
-    let put = put_often(rt, alloc, &desk, &mut passes[0]);
-    let claimed = claim_often(rt, alloc, &desk, &mut passes[0]);
-    Ok(put && claimed)
-}
-
-fn often<R: Wait>(rt: &R, alloc: Global) -> bool {
-    run_often::<Brand, R>(rt, alloc, Blank::new(1)) == Ok(true)
-}
-
-#[test]
-fn a_thousand_versions_and_claims(rt: HostRuntime) {
-    assert!(rt; often(&rt, rt.alloc()));
-}
-
 /// Each command once, and what there is between.
-const EACH: [Call; 20] = [
+const EACH: &[Call] = &[
     Call::PutCat(b"a.cat", b"acyclic po | rf | co | fr as sc"),
     Call::PutTest(SB),
     Call::List,
@@ -371,7 +255,7 @@ const EACH: [Call; 20] = [
     Call::Poll(1),
 ];
 
-const EACH_ANSWERED: [(usize, Answer); 14] = [
+const EACH_ANSWERED: &[(usize, Answer)] = &[
     (0, Answer::Version(b"a.cat", 1)),
     (1, Answer::Version(b"SB", 1)),
     (2, Answer::Listed(1, 1, 0)),
@@ -388,17 +272,164 @@ const EACH_ANSWERED: [(usize, Answer); 14] = [
     (18, Answer::Done),
 ];
 
-/// The calls are answered so at a desk. One that isn't opened for want of memory is opened again.
-fn are_each_answered<R: Wait>(rt: &R, alloc: Global) -> bool {
-    let answered = match through_a_desk(rt, alloc, WIDE, &EACH, &EACH_ANSWERED) {
+/// What a session does alone at a desk.
+#[derive(Clone, Copy)]
+enum Session {
+    /// Fills a journal of three entries, and calls once more.
+    Full,
+    /// These calls, which are to be answered so.
+    Calls(&'static [Call], &'static [(usize, Answer)]),
+    /// Puts a file and claims a slice so often.
+    Often,
+}
+
+/// How many calls were recorded, and whether the fourth was handed back.
+fn fill<L: Ledger, R: Wait>(
+    rt: &R,
+    alloc: Global,
+    desk: &Desk<L>,
+    pass: &mut Pass<L>,
+) -> (usize, bool)
+    requires { pass.old.parts ≡ 1 }
+    ensures { pass.new.parts ≡ 1 }
+{
+    let lists = [Call::List, Call::List, Call::List];
+    let recorded = make_all(rt, alloc, desk, pass, &lists);
+    (recorded, is_full(rt, desk, pass) && differ(pass))
+}
+
+/// How many calls were recorded, and whether they were answered so.
+fn make_calls<L: Ledger, R: Wait>(
+    rt: &R,
+    alloc: Global,
+    desk: &Desk<L>,
+    pass: &mut Pass<L>,
+    calls: &[Call],
+    answers: &[(usize, Answer)],
+) -> (usize, bool)
+    requires { pass.old.parts ≡ 1 }
+    ensures { pass.new.parts ≡ 1 }
+{
+    let recorded = make_all(rt, alloc, desk, pass, calls);
+    (recorded, are_answered(pass, answers))
+}
+
+/// Whether version 1,001 and claim 1,001 are reached.
+fn call_often<L: Ledger, R: Wait>(rt: &R, alloc: Global, desk: &Desk<L>, pass: &mut Pass<L>) -> bool
+    requires { pass.old.parts ≡ 1 }
+    ensures { pass.new.parts ≡ 1 }
+{
+    let put = put_often(rt, alloc, desk, pass);
+    let claimed = claim_often(rt, alloc, desk, pass);
+    put && claimed
+}
+
+/// How many calls were recorded, where they are counted, and whether all went as it should.
+fn follow<L: Ledger, R: Wait>(
+    rt: &R,
+    alloc: Global,
+    desk: &Desk<L>,
+    pass: &mut Pass<L>,
+    session: Session,
+) -> (usize, bool)
+    requires { pass.old.parts ≡ 1 }
+    ensures { pass.new.parts ≡ 1 }
+{
+    match session {
+        Session::Full => fill(rt, alloc, desk, pass),
+        Session::Calls(calls, answers) => make_calls(rt, alloc, desk, pass, calls, answers),
+        Session::Often => (0, call_often(rt, alloc, desk, pass)),
+    }
+}
+
+/// A session alone: what `finish` counts, how many calls were recorded, and whether all went as it should.
+fn run_alone<L: Ledger, R: Wait>(
+    rt: &R,
+    alloc: Global,
+    blank: Blank,
+    limits: Limits,
+    session: Session,
+) -> Result<(Option<usize>, usize, bool), AllocError>
+    requires { (blank.name ≡ L.name) × (blank.parts ≡ L.parts) × (blank.parts ≡ 1) }
+{
+    let (desk, mut passes) = open::<L>(alloc, blank, limits, 1)?;
+    let (recorded, told) = follow(rt, alloc, &desk, &mut passes[0], session);
+    let entries = entries(desk, passes);
+    Ok((entries, recorded, told))
+}
+
+fn alone<R: Wait>(
+    rt: &R,
+    alloc: Global,
+    limits: Limits,
+    session: Session,
+) -> Result<(Option<usize>, usize, bool), AllocError> {
+    run_alone::<Brand, R>(rt, alloc, Blank::new(1), limits, session)
+}
+
+/// Whether a session alone makes so many calls and all goes as it should, with so many entries where that is told. A desk that isn't
+/// opened for want of memory is opened again.
+fn goes_well<R: Wait>(
+    rt: &R,
+    alloc: Global,
+    limits: Limits,
+    session: Session,
+    entries: Option<usize>,
+    recorded: usize,
+) -> bool {
+    let found = match alone(rt, alloc, limits, session) {
         Ok(found) => Ok(found),
-        Err(AllocError) => through_a_desk(rt, alloc, WIDE, &EACH, &EACH_ANSWERED),
+        Err(AllocError) => alone(rt, alloc, limits, session),
     };
-    answered == Ok((20, true))
+    match found {
+        Ok((found, made, told)) => {
+            (found == entries || entries.is_none() && found.is_some()) && made == recorded && told
+        }
+        Err(AllocError) => false,
+    }
+}
+
+/// Limits that a few calls reach.
+const NARROW: Limits = Limits {
+    journal: 3,
+    versions: 2,
+    claims: 1,
+};
+
+#[test]
+fn journal_full(rt: HostRuntime) {
+    assert!(rt; goes_well(&rt, rt.alloc(), NARROW, Session::Full, Some(3), 3));
+}
+
+/// Limits that `SPENDING` reaches.
+const SPENT_AT: Limits = Limits {
+    journal: 20,
+    versions: 2,
+    claims: 1,
+};
+
+#[test]
+fn spent(rt: HostRuntime) {
+    assert!(rt;
+        goes_well(
+            &rt,
+            rt.alloc(),
+            SPENT_AT,
+            Session::Calls(SPENDING, SPENT),
+            None,
+            8
+        )
+    );
+}
+
+#[test]
+fn a_thousand_versions_and_claims(rt: HostRuntime) {
+    assert!(rt; goes_well(&rt, rt.alloc(), WIDE, Session::Often, None, 0));
 }
 
 /// `tools/refuse-each-growth` runs this once for each request for memory.
 #[test]
 fn each_call(rt: HostRuntime) {
-    assert!(rt; are_each_answered(&rt, rt.alloc()));
+    let each = Session::Calls(EACH, EACH_ANSWERED);
+    assert!(rt; goes_well(&rt, rt.alloc(), WIDE, each, None, 20));
 }

@@ -2,8 +2,11 @@
 
 ghost use Rattle.std.specs.Prelude.{◌≡◌, ◌≤◌, ◌<◌, All};
 
-use crate::calls::{Answer, Call, TEST_A, TEST_B, TEST_C, TEST_D, is_answered, make_all};
-use crate::passes::desks::{FIRST, SECOND, WIDE, all_rise, entries};
+use crate::calls::{
+    Answer, Call, TEST_A, TEST_B, TEST_C, TEST_D, all_rise, count_receipts, entries, is_answered,
+    make_all,
+};
+use crate::passes::desks::{FIRST, SECOND, WIDE};
 use sessions::{Desk, Pass, open};
 use std::alloc::{AllocError, Global};
 use std::marker::Brand;
@@ -122,25 +125,21 @@ fn count_versions<L: Ledger>(passes: &[Pass<L>]) -> usize {
     count
 }
 
-/// How many receipts the passes have.
-fn count_receipts<L: Ledger>(passes: &[Pass<L>]) -> usize {
-    let mut count = 0usize;
-    for pass in passes {
-        count = count.saturating_add(pass.receipts().len());
-    }
-    count
-}
+/// What the passes of a run came to, where `finish` answers Ok: how many receipts there are, and how many passes begin with the first
+/// version of their test. None where a receipt has no entry, or an entry no receipt, or where the places of a pass's receipts don't rise.
+type Outcome = Option<(usize, usize)>;
 
-/// What a run came to.
-#[derive(Clone, Copy)]
-struct Outcome {
-    /// The entries, where `finish` answers Ok.
-    entries: Option<usize>,
-    receipts: usize,
-    /// Whether the places of each pass's receipts rise.
-    rise: bool,
-    /// How many passes begin with the first version of their test.
-    versions: usize,
+fn ended<L: Ledger>(desk: Desk<L>, passes: Vec<Pass<L>>) -> Outcome
+    requires { All (λ p. p.parts ≡ 1) passes.items }
+{
+    let receipts = count_receipts(&passes);
+    let rising = all_rise(&passes);
+    let versions = count_versions(&passes);
+    if entries(desk, passes) == Some(receipts) && rising {
+        Some((receipts, versions))
+    } else {
+        None
+    }
 }
 
 fn run<L: Ledger + Send + Sync, R: Threads + Wait + Sync>(
@@ -155,33 +154,20 @@ fn run<L: Ledger + Send + Sync, R: Threads + Wait + Sync>(
 {
     let (desk, mut passes) = open::<L>(alloc, blank, WIDE, n)?;
     all(rt, alloc, what, &desk, &mut passes);
-    let receipts = count_receipts(&passes);
-    let rise = all_rise(&passes);
-    let versions = count_versions(&passes);
-    Ok(Outcome {
-        entries: entries(desk, passes),
-        receipts,
-        rise,
-        versions,
-    })
-}
-
-/// Whether each receipt has its entry, and the places of each pass's receipts rise.
-fn is_whole(outcome: &Outcome) -> bool {
-    outcome.entries == Some(outcome.receipts) && outcome.rise
+    Ok(ended(desk, passes))
 }
 
 fn four_once<R: Threads + Wait + Sync>(rt: &R, alloc: Global) -> bool {
     match run::<Brand, R>(rt, alloc, Blank::new(4), Session::Once, 4) {
-        Ok(outcome) => is_whole(&outcome) && outcome.versions == 2,
-        Err(AllocError) => false,
+        Ok(Some((_, versions))) => versions == 2,
+        _ => false,
     }
 }
 
 fn eight_mixed<R: Threads + Wait + Sync>(rt: &R, alloc: Global) -> bool {
     match run::<Brand, R>(rt, alloc, Blank::new(8), Session::Mixed, 8) {
-        Ok(outcome) => is_whole(&outcome) && outcome.receipts >= 1600,
-        Err(AllocError) => false,
+        Ok(Some((receipts, _))) => receipts >= 1600,
+        _ => false,
     }
 }
 

@@ -64,13 +64,23 @@ fn held_after(held: Option<u32>, said: &Said, reply: &Reply) -> Result<Option<u3
 }
 
 /// Each piece is returned or given back before the next claim. The last may be in hand.
-pub fn alternates<L: Ledger>(pass: &Pass<L>) -> bool {
+fn alternates<L: Ledger>(pass: &Pass<L>) -> bool {
     let mut held = None;
     for receipt in pass.receipts() {
         let entry = receipt.entry();
         match held_after(held, entry.said(), entry.reply()) {
             Ok(claim) => held = claim,
             Err(()) => return false,
+        }
+    }
+    true
+}
+
+/// Whether each of the passes alternates so.
+pub fn all_alternate<L: Ledger>(passes: &[Pass<L>]) -> bool {
+    for pass in passes {
+        if !alternates(pass) {
+            return false;
         }
     }
     true

@@ -3,17 +3,15 @@
 ghost use Rattle.std.specs.Prelude.{◌≡◌, ◌≤◌, All, length};
 
 use crate::calls::{Call, last_reply, made};
-use crate::working::calls::{alternates, put_back, take_last};
+use crate::working::calls::{all_alternate, put_back, take_last};
 use crate::working::gates::Holding;
-use crate::working::running::{LIMITS, asked, ended, shows, workers_closed};
+use crate::working::running::{Course, asked, ended, goes_well, sums_of, workers_closed};
 use book::{Refusal, Reply};
-use sessions::{Desk, Pass, open};
+use sessions::{Desk, Pass};
 use std::alloc::{AllocError, Global};
-use std::marker::Brand;
 use std::sync::Wait;
 use std::sync::atomic::Ordering;
-use std::sync::ledger::{Blank, Ledger};
-use std::test::*;
+use std::sync::ledger::Ledger;
 use std::thread;
 use std::thread::Threads;
 use std::time::Clock;
@@ -73,18 +71,31 @@ fn ends_closed<L: Ledger>(pass: &Pass<L>) -> bool {
     }
 }
 
+/// Whether each pass alternates, and ends so.
+fn all_end_closed<L: Ledger>(passes: &[Pass<L>]) -> bool {
+    for pass in passes {
+        if !ends_closed(pass) {
+            return false;
+        }
+    }
+    all_alternate(passes)
+}
+
 /// Whether two workers, whose pieces are held while the last pass closes, evaluate them still and end there.
-fn run<L: Ledger + Send + Sync, R: Threads + Wait + Clock + Sync>(
+pub fn held_beside<L: Ledger + Send + Sync, R: Threads + Wait + Clock + Sync>(
     rt: &R,
     alloc: Global,
-    blank: Blank,
+    desk: Desk<L>,
+    mut passes: Vec<Pass<L>>,
+    session: Pass<L>,
 ) -> Result<bool, AllocError>
-    requires { (blank.name ≡ L.name) × (blank.parts ≡ L.parts) × (blank.parts ≡ 4) }
+    requires shares { All (λ p. p.parts ≡ 1) passes.items }
+    requires few { length passes.items ≤ 64 }
+    requires one { session.parts ≡ 1 }
 {
-    let (desk, mut passes) = open::<L>(alloc, blank, LIMITS, 4)?;
-    match (take_last(&mut passes), take_last(&mut passes)) {
-        (Some(session), Some(other)) => held(rt, alloc, desk, passes, session, other),
-        _ => Ok(false),
+    match take_last(&mut passes) {
+        Some(other) => held(rt, alloc, desk, passes, session, other),
+        None => Ok(false),
     }
 }
 
@@ -104,23 +115,18 @@ fn held<L: Ledger + Send + Sync, R: Threads + Wait + Clock + Sync>(
     let asked = asked(rt, alloc, &desk, &mut session);
     let gate = Holding::new(rt);
     let (mut passes, report, session) = beside(rt, alloc, &desk, passes, session, &gate);
-    let closed = passes.iter().all(|p| alternates(p) && ends_closed(p));
-    let held = gate.entered.load(Ordering::SeqCst);
-    let missed = gate.missed.load(Ordering::SeqCst);
+    let told = asked && all_end_closed(&passes) && has_held(&gate, &report);
     put_back(&mut passes, other)?;
-    let outcome = ended(desk, passes, session, &report, asked && closed, missed)?;
-    Ok(held > 0 && shows(outcome, None, held))
+    ended(desk, passes, session, told, None)
 }
 
-fn closes_while_held<R: Threads + Wait + Clock + Sync>(
-    rt: &R,
-    alloc: Global,
-) -> Result<bool, AllocError> {
-    run::<Brand, R>(rt, alloc, Blank::new(4))
+/// Whether a piece was held, each that was held was evaluated, and none was in vain.
+fn has_held<R>(gate: &Holding<'_, R>, report: &Report) -> bool {
+    let held = gate.entered.load(Ordering::SeqCst);
+    held > 0 && gate.missed.load(Ordering::SeqCst) == 0 && sums_of(report) == (held, 0, 0)
 }
 
 #[test]
-fn closed_while_a_piece_is_held(rt: HostRuntime) -> Result<(), Fail> {
-    assert!(rt; closes_while_held(&rt, rt.alloc())?);
-    Ok(())
+fn closed_while_a_piece_is_held(rt: HostRuntime) {
+    assert!(rt; goes_well(&rt, rt.alloc(), Course::Held, 4));
 }

@@ -1,18 +1,19 @@
 //! Two workers on real threads, whose first pieces wait for one another.
 
-ghost use Rattle.std.specs.Prelude.{◌≡◌, ◌+◌, ◌≤◌, All, length};
+ghost use Rattle.std.specs.Prelude.{◌≡◌, ◌≤◌, ◌<◌, All, length};
 
-use crate::calls::{Call, last_reply, made};
-use crate::working::calls::{alternates, had_verdict, job_of, last_claim, put_back, take_last};
+use crate::calls::{Call, entries, last_reply, made};
+use crate::working::calls::{all_alternate, had_verdict, job_of, last_claim, put_back, take_last};
+use crate::working::closing::held_beside;
 use crate::working::gates::Meeting;
+use crate::working::sharing::shared_beside;
 use book::{Limits, Reply};
-use sessions::{Desk, Pass, finish, open};
+use sessions::{Desk, Pass, open};
 use std::alloc::{AllocError, Global};
 use std::marker::Brand;
 use std::sync::Wait;
 use std::sync::atomic::Ordering;
 use std::sync::ledger::{Blank, Ledger};
-use std::test::*;
 use std::thread;
 use std::thread::Threads;
 use std::time::{Clock, Duration};
@@ -44,20 +45,6 @@ P3 (atomic_int* x, atomic_int* y) {
 exists (2:r0=1 /\\ 2:r1=0 /\\ 3:r0=1 /\\ 3:r1=0)
 ";
 
-/// What a run came to.
-#[derive(Clone, Copy)]
-pub struct Outcome {
-    /// The entries, where `finish` answers Ok.
-    entries: Option<usize>,
-    evaluated: u64,
-    given_back: u64,
-    refused: u64,
-    /// Whether all else was as the test wants it.
-    whole: bool,
-    /// How many pieces waited for another in vain.
-    missed: u64,
-}
-
 /// Puts the reads of independent writes, and asks for them under RC11: one job of sixteen pieces.
 pub fn asked<L: Ledger, R: Wait>(rt: &R, alloc: Global, desk: &Desk<L>, pass: &mut Pass<L>) -> bool
     requires { pass.old.parts ≡ 1 }
@@ -68,15 +55,8 @@ pub fn asked<L: Ledger, R: Wait>(rt: &R, alloc: Global, desk: &Desk<L>, pass: &m
     put && asked
 }
 
-fn total_of<L: Ledger>(
-    desk: Desk<L>,
-    passes: Vec<Pass<L>>,
-    report: &Report,
-    whole: bool,
-    missed: u64,
-) -> Outcome
-    requires { All (λ p. p.parts ≡ 1) passes.items }
-{
+/// The evaluations, the give-backs and the refusals of all workers.
+pub fn sums_of(report: &Report) -> (u64, u64, u64) {
     let mut evaluated = 0u64;
     let mut given_back = 0u64;
     let mut refused = 0u64;
@@ -85,14 +65,15 @@ fn total_of<L: Ledger>(
         given_back = given_back.saturating_add(counts.given_back);
         refused = refused.saturating_add(counts.refused);
     }
-    Outcome {
-        entries: finish(desk, passes).ok().map(|c| c.journal.len()),
-        evaluated,
-        given_back,
-        refused,
-        whole,
-        missed,
-    }
+    (evaluated, given_back, refused)
+}
+
+/// Whether `finish` answers Ok, with so many entries where that is known.
+fn has_entries<L: Ledger>(desk: Desk<L>, passes: Vec<Pass<L>>, wanted: Option<usize>) -> bool
+    requires { All (λ p. p.parts ≡ 1) passes.items }
+{
+    let found = entries(desk, passes);
+    found == wanted || wanted.is_none() && found.is_some()
 }
 
 /// Whether each of two workers returned a piece before it claimed the next, and the gate saw each piece come in and leave at its own pass's place.
@@ -101,24 +82,60 @@ fn are_alternating<L: Ledger, C>(passes: &[Pass<L>], gate: &Meeting<'_, C>) -> b
         [first, second] => {
             let watched = gate.first.is_left_by(last_claim(first))
                 && gate.second.is_left_by(last_claim(second));
-            watched && alternates(first) && alternates(second)
+            watched && all_alternate(passes)
         }
         _ => false,
     }
 }
 
-/// The last pass asks, and the others are workers until the desk is idle.
-fn run_idle<L: Ledger + Send + Sync, R: Threads + Wait + Clock + Sync>(
+/// What workers and sessions do at a desk.
+#[derive(Clone, Copy)]
+pub enum Course {
+    /// The last pass asks, and the others are workers until the desk is idle.
+    Idle,
+    /// The last pass asks, polls and closes once it has the verdict; the others are workers until then.
+    Closed,
+    /// The last pass closes while the first two, which are workers, hold pieces.
+    Held,
+    /// The last two passes are sessions, and the others workers.
+    Shared,
+}
+
+fn run<L: Ledger + Send + Sync, R: Threads + Wait + Clock + Sync>(
     rt: &R,
     alloc: Global,
     blank: Blank,
-) -> Result<Option<Outcome>, AllocError>
-    requires { (blank.name ≡ L.name) × (blank.parts ≡ L.parts) × (blank.parts ≡ 3) }
+    course: Course,
+    n: u8,
+) -> Result<bool, AllocError>
+    requires ledger { (blank.name ≡ L.name) × (blank.parts ≡ L.parts) × (blank.parts ≡ n) }
+    requires seats { (0 < n) × (n ≤ 64) }
 {
-    let (desk, mut passes) = open::<L>(alloc, blank, LIMITS, 3)?;
+    let (desk, mut passes) = open::<L>(alloc, blank, LIMITS, n)?;
     match take_last(&mut passes) {
-        Some(session) => idle_beside(rt, alloc, desk, passes, session),
-        None => Ok(None),
+        Some(session) => beside(rt, alloc, desk, passes, session, course),
+        None => Ok(false),
+    }
+}
+
+/// The course of the workers beside a session, the last pass.
+fn beside<L: Ledger + Send + Sync, R: Threads + Wait + Clock + Sync>(
+    rt: &R,
+    alloc: Global,
+    desk: Desk<L>,
+    passes: Vec<Pass<L>>,
+    session: Pass<L>,
+    course: Course,
+) -> Result<bool, AllocError>
+    requires shares { All (λ p. p.parts ≡ 1) passes.items }
+    requires few { length passes.items ≤ 64 }
+    requires one { session.parts ≡ 1 }
+{
+    match course {
+        Course::Idle => idle_beside(rt, alloc, desk, passes, session),
+        Course::Closed => closed_beside(rt, alloc, desk, passes, session),
+        Course::Held => held_beside(rt, alloc, desk, passes, session),
+        Course::Shared => shared_beside(rt, alloc, desk, passes, session),
     }
 }
 
@@ -128,7 +145,7 @@ fn idle_beside<L: Ledger + Send + Sync, R: Threads + Wait + Clock + Sync>(
     desk: Desk<L>,
     mut passes: Vec<Pass<L>>,
     mut session: Pass<L>,
-) -> Result<Option<Outcome>, AllocError>
+) -> Result<bool, AllocError>
     requires shares { All (λ p. p.parts ≡ 1) passes.items }
     requires few { length passes.items ≤ 64 }
     requires one { session.parts ≡ 1 }
@@ -138,23 +155,8 @@ fn idle_beside<L: Ledger + Send + Sync, R: Threads + Wait + Clock + Sync>(
     let report = work_until_idle(rt, alloc, &desk, &mut passes, &gate);
     let polled = made(rt, alloc, &desk, &mut session, Call::Poll(1));
     let told = asked && polled && had_verdict(&session) && are_alternating(&passes, &gate);
-    let missed = gate.missed.load(Ordering::SeqCst);
-    ended(desk, passes, session, &report, told, missed)
-}
-
-/// The last pass asks, polls and closes once it has the verdict; the others are workers until then.
-fn run_closed<L: Ledger + Send + Sync, R: Threads + Wait + Clock + Sync>(
-    rt: &R,
-    alloc: Global,
-    blank: Blank,
-) -> Result<Option<Outcome>, AllocError>
-    requires { (blank.name ≡ L.name) × (blank.parts ≡ L.parts) × (blank.parts ≡ 3) }
-{
-    let (desk, mut passes) = open::<L>(alloc, blank, LIMITS, 3)?;
-    match take_last(&mut passes) {
-        Some(session) => closed_beside(rt, alloc, desk, passes, session),
-        None => Ok(None),
-    }
+    let told = told && gate.missed.load(Ordering::SeqCst) == 0 && sums_of(&report) == (16, 0, 0);
+    ended(desk, passes, session, told, Some(2 + 32 + 2 + 1))
 }
 
 fn closed_beside<L: Ledger + Send + Sync, R: Threads + Wait + Clock + Sync>(
@@ -163,7 +165,7 @@ fn closed_beside<L: Ledger + Send + Sync, R: Threads + Wait + Clock + Sync>(
     desk: Desk<L>,
     passes: Vec<Pass<L>>,
     mut session: Pass<L>,
-) -> Result<Option<Outcome>, AllocError>
+) -> Result<bool, AllocError>
     requires shares { All (λ p. p.parts ≡ 1) passes.items }
     requires few { length passes.items ≤ 64 }
     requires one { session.parts ≡ 1 }
@@ -172,24 +174,24 @@ fn closed_beside<L: Ledger + Send + Sync, R: Threads + Wait + Clock + Sync>(
     let gate = Meeting::new(rt);
     let (passes, report, session) = both(rt, alloc, &desk, passes, session, &gate);
     let told = asked && had_verdict(&session) && are_alternating(&passes, &gate);
-    let missed = gate.missed.load(Ordering::SeqCst);
-    ended(desk, passes, session, &report, told, missed)
+    let told = told && gate.missed.load(Ordering::SeqCst) == 0 && sums_of(&report) == (16, 0, 0);
+    ended(desk, passes, session, told, None)
 }
 
-/// The session's pass stands with the others again, and the desk is closed.
+/// The session's pass stands with the others again, and the desk is closed: whether all went well, with so many entries where that is
+/// known.
 pub fn ended<L: Ledger>(
     desk: Desk<L>,
     mut passes: Vec<Pass<L>>,
     session: Pass<L>,
-    report: &Report,
-    whole: bool,
-    missed: u64,
-) -> Result<Option<Outcome>, AllocError>
+    told: bool,
+    entries: Option<usize>,
+) -> Result<bool, AllocError>
     requires shares { All (λ p. p.parts ≡ 1) passes.items }
     requires one { session.parts ≡ 1 }
 {
     put_back(&mut passes, session)?;
-    Ok(Some(total_of(desk, passes, report, whole, missed)))
+    Ok(has_entries(desk, passes, entries) && told)
 }
 
 /// The workers in a thread, and the session in this one. Each takes its passes by value, and gives them back.
@@ -273,38 +275,20 @@ fn close_at_verdict<L: Ledger, R: Wait + Clock>(
     session
 }
 
-fn idle_of_two<R: Threads + Wait + Clock + Sync>(
+/// Whether a course of so many passes goes well.
+pub fn goes_well<R: Threads + Wait + Clock + Sync>(
     rt: &R,
     alloc: Global,
-) -> Result<Option<Outcome>, AllocError> {
-    run_idle::<Brand, R>(rt, alloc, Blank::new(3))
-}
-
-fn closed_of_two<R: Threads + Wait + Clock + Sync>(
-    rt: &R,
-    alloc: Global,
-) -> Result<Option<Outcome>, AllocError> {
-    run_closed::<Brand, R>(rt, alloc, Blank::new(3))
-}
-
-/// Whether all went well, with so many evaluations, and with so many entries where that is known.
-pub fn shows(outcome: Option<Outcome>, entries: Option<usize>, evaluated: u64) -> bool {
-    match outcome {
-        Some(o) => {
-            (o.entries == entries || entries.is_none() && o.entries.is_some())
-                && o.evaluated == evaluated
-                && o.given_back == 0
-                && o.refused == 0
-                && o.whole
-                && o.missed == 0
-        }
-        None => false,
-    }
+    course: Course,
+    n: u8,
+) -> bool
+    requires { (0 < n) × (n ≤ 64) }
+{
+    run::<Brand, R>(rt, alloc, Blank::new(n.into()), course, n) == Ok(true)
 }
 
 #[test]
-fn two_pieces_at_once(rt: HostRuntime) -> Result<(), Fail> {
-    assert!(rt; shows(idle_of_two(&rt, rt.alloc())?, Some(2 + 32 + 2 + 1), 16));
-    assert!(rt; shows(closed_of_two(&rt, rt.alloc())?, None, 16));
-    Ok(())
+fn two_pieces_at_once(rt: HostRuntime) {
+    assert!(rt; goes_well(&rt, rt.alloc(), Course::Idle, 3));
+    assert!(rt; goes_well(&rt, rt.alloc(), Course::Closed, 3));
 }

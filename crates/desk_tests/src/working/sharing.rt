@@ -2,17 +2,15 @@
 
 ghost use Rattle.std.specs.Prelude.{◌≡◌, ◌≤◌, All, IfSome, length};
 
-use crate::calls::{Call, last_reply, made, rise};
-use crate::working::calls::{alternates, job_of, put_back, take_last};
+use crate::calls::{Call, all_rise, count_receipts, entries, last_reply, made};
+use crate::working::calls::{all_alternate, job_of, put_back, take_last};
 use crate::working::gates::Open;
-use crate::working::running::{LIMITS, poll_to_verdict, workers_closed};
+use crate::working::running::{Course, goes_well, poll_to_verdict, workers_closed};
 use book::Reply;
-use sessions::{Desk, Pass, finish, open};
+use sessions::{Desk, Pass};
 use std::alloc::{AllocError, Global};
-use std::marker::Brand;
 use std::sync::Wait;
-use std::sync::ledger::{Blank, Ledger};
-use std::test::*;
+use std::sync::ledger::Ledger;
 use std::thread;
 use std::thread::Threads;
 use std::time::Clock;
@@ -148,48 +146,31 @@ fn all<L: Ledger + Send + Sync, R: Threads + Wait + Clock + Sync>(
     (workers, first, second, told)
 }
 
-/// What a run came to.
-#[derive(Clone, Copy)]
-struct Outcome {
-    /// The entries, where `finish` answers Ok.
-    entries: Option<usize>,
-    receipts: usize,
-    /// Whether the places of each pass's receipts rise.
-    rise: bool,
-    /// Whether each worker returned a piece before it claimed the next.
-    alternate: bool,
-    /// Whether each session had its own verdict, and one closed.
-    told: bool,
-}
-
-fn ended<L: Ledger>(desk: Desk<L>, passes: Vec<Pass<L>>, alternate: bool, told: bool) -> Outcome
+/// Whether each receipt has its entry and each entry its receipt, the places of each pass's receipts rise, and all else is told.
+fn is_whole<L: Ledger>(desk: Desk<L>, passes: Vec<Pass<L>>, told: bool) -> bool
     requires { All (λ p. p.parts ≡ 1) passes.items }
 {
-    let mut receipts = 0usize;
-    for pass in &passes {
-        receipts = receipts.saturating_add(pass.receipts().len());
-    }
-    let rising = passes.iter().all(|pass| rise(pass));
-    Outcome {
-        entries: finish(desk, passes).ok().map(|closed| closed.journal.len()),
-        receipts,
-        rise: rising,
-        alternate,
-        told,
-    }
+    let receipts = count_receipts(&passes);
+    let rising = all_rise(&passes);
+    entries(desk, passes) == Some(receipts) && rising && told
 }
 
-fn run<L: Ledger + Send + Sync, R: Threads + Wait + Clock + Sync>(
+/// Two sessions, of which the second is the last pass, and workers: whether each session has its own verdict, and each worker returns a
+/// piece before it claims the next.
+pub fn shared_beside<L: Ledger + Send + Sync, R: Threads + Wait + Clock + Sync>(
     rt: &R,
     alloc: Global,
-    blank: Blank,
-) -> Result<Option<Outcome>, AllocError>
-    requires { (blank.name ≡ L.name) × (blank.parts ≡ L.parts) × (blank.parts ≡ 4) }
+    desk: Desk<L>,
+    mut passes: Vec<Pass<L>>,
+    second: Pass<L>,
+) -> Result<bool, AllocError>
+    requires shares { All (λ p. p.parts ≡ 1) passes.items }
+    requires few { length passes.items ≤ 64 }
+    requires one { second.parts ≡ 1 }
 {
-    let (desk, mut passes) = open::<L>(alloc, blank, LIMITS, 4)?;
-    match (take_last(&mut passes), take_last(&mut passes)) {
-        (Some(second), Some(first)) => run_all(rt, alloc, desk, passes, first, second),
-        _ => Ok(None),
+    match take_last(&mut passes) {
+        Some(first) => run_all(rt, alloc, desk, passes, first, second),
+        None => Ok(false),
     }
 }
 
@@ -200,18 +181,16 @@ fn run_all<L: Ledger + Send + Sync, R: Threads + Wait + Clock + Sync>(
     workers: Vec<Pass<L>>,
     first: Pass<L>,
     second: Pass<L>,
-) -> Result<Option<Outcome>, AllocError>
+) -> Result<bool, AllocError>
     requires shares { All (λ p. p.parts ≡ 1) workers.items }
     requires few { length workers.items ≤ 64 }
     requires first { first.parts ≡ 1 }
     requires second { second.parts ≡ 1 }
 {
     let (mut passes, first, second, told) = all(rt, alloc, &desk, workers, first, second);
-    let alternate = passes.iter().all(|p| alternates(p));
-    if put_both(&mut passes, first, second).is_err() {
-        return Ok(None);
-    }
-    Ok(Some(ended(desk, passes, alternate, told)))
+    let told = told && all_alternate(&passes);
+    put_both(&mut passes, first, second)?;
+    Ok(is_whole(desk, passes, told))
 }
 
 fn put_both<L: Ledger>(
@@ -228,22 +207,7 @@ fn put_both<L: Ledger>(
     put_back(passes, second)
 }
 
-fn two_and_two<R: Threads + Wait + Clock + Sync>(
-    rt: &R,
-    alloc: Global,
-) -> Result<Option<Outcome>, AllocError> {
-    run::<Brand, R>(rt, alloc, Blank::new(4))
-}
-
-fn is_whole(outcome: Option<Outcome>) -> bool {
-    match outcome {
-        Some(o) => o.entries == Some(o.receipts) && o.rise && o.alternate && o.told,
-        None => false,
-    }
-}
-
 #[test]
-fn two_sessions_two_workers(rt: HostRuntime) -> Result<(), Fail> {
-    assert!(rt; is_whole(two_and_two(&rt, rt.alloc())?));
-    Ok(())
+fn two_sessions_two_workers(rt: HostRuntime) {
+    assert!(rt; goes_well(&rt, rt.alloc(), Course::Shared, 4));
 }

@@ -1,9 +1,9 @@
 //! Calls for which memory is refused once: each says so or gives its own answer, and what is made again gives its own answer.
 //!
-//! `tools/refuse-each-growth why_tests growth::searching ..` runs these tests once for each request for memory.
+//! `tools/refuse-each-growth command_tests why::growth::searching ..` runs these tests once for each request for memory.
 
-use crate::reasons::{confirm_own, confirm_readers};
-use crate::searches::confirm_one;
+use crate::why::reasons::{confirm_own, confirm_readers};
+use crate::why::searches::confirm_one;
 use std::test::Fail;
 
 #[test]

@@ -149,48 +149,60 @@ fn are_drawn(alloc: Global, told: &Told, graph: &Graph, as_text: &[u8], as_dot: 
     is_drawn(alloc, told, graph, false, as_text) && is_drawn(alloc, told, graph, true, as_dot)
 }
 
+/// What makes what is told of an execution.
+type MakeTold = fn(Global) -> Result<Told, AllocError>;
+
+/// What makes an execution.
+type MakeGraph = fn(Global) -> Result<Graph, AllocError>;
+
+/// Whether both drawings of this execution are these.
+fn are_drawn_of(alloc: Global, told: &Told, make: MakeGraph, as_text: &[u8], as_dot: &[u8]) -> bool
+    requires { IsAlwaysCallable make }
+{
+    match again!(make(alloc)) {
+        Ok(graph) => are_drawn(alloc, told, &graph, as_text, as_dot),
+        Err(_) => false,
+    }
+}
+
+/// Whether both drawings of this execution, of which this is told, are these.
+fn draws(alloc: Global, make_told: MakeTold, make: MakeGraph, as_text: &[u8], as_dot: &[u8]) -> bool
+    requires told { IsAlwaysCallable make_told }
+    requires graph { IsAlwaysCallable make }
+{
+    match again!(make_told(alloc)) {
+        Ok(told) => are_drawn_of(alloc, &told, make, as_text, as_dot),
+        Err(_) => false,
+    }
+}
+
 #[test]
-fn store_buffering_under_sc(rt: HostRuntime) -> Result<(), Fail> {
-    let alloc = rt.alloc();
-    let told = again!(sc_of_store_buffering(alloc))?;
-    let graph = again!(store_buffering(alloc))?;
+fn store_buffering_under_sc(rt: HostRuntime) {
+    let (as_text, as_dot) = (STORE_BUFFERING_TEXT, STORE_BUFFERING_DOT);
     assert!(rt;
-        are_drawn(
-            alloc,
-            &told,
-            &graph,
-            STORE_BUFFERING_TEXT,
-            STORE_BUFFERING_DOT
+        draws(
+            rt.alloc(),
+            sc_of_store_buffering,
+            store_buffering,
+            as_text,
+            as_dot
         )
     );
-    Ok(())
 }
 
 #[test]
-fn names_in_quotes(rt: HostRuntime) -> Result<(), Fail> {
-    let alloc = rt.alloc();
-    let told = again!(odd_names(alloc))?;
-    let graph = again!(store_buffering(alloc))?;
-    assert!(rt; are_drawn(alloc, &told, &graph, ODD_TEXT, ODD_DOT));
-    Ok(())
+fn names_in_quotes(rt: HostRuntime) {
+    assert!(rt; draws(rt.alloc(), odd_names, store_buffering, ODD_TEXT, ODD_DOT));
 }
 
 #[test]
-fn an_execution_without_reads(rt: HostRuntime) -> Result<(), Fail> {
-    let alloc = rt.alloc();
-    let told = again!(plain(alloc))?;
-    let graph = again!(alone(alloc))?;
-    assert!(rt; are_drawn(alloc, &told, &graph, ALONE_TEXT, ALONE_DOT));
-    Ok(())
+fn an_execution_without_reads(rt: HostRuntime) {
+    assert!(rt; draws(rt.alloc(), plain, alone, ALONE_TEXT, ALONE_DOT));
 }
 
 #[test]
-fn exchanges_under_a_denied_check(rt: HostRuntime) -> Result<(), Fail> {
-    let alloc = rt.alloc();
-    let told = again!(denied(alloc))?;
-    let graph = again!(exchanged(alloc))?;
-    assert!(rt; are_drawn(alloc, &told, &graph, EXCHANGED_TEXT, EXCHANGED_DOT));
-    Ok(())
+fn exchanges_under_a_denied_check(rt: HostRuntime) {
+    assert!(rt; draws(rt.alloc(), denied, exchanged, EXCHANGED_TEXT, EXCHANGED_DOT));
 }
 
 /// What is written to a writer with so much room.
@@ -235,18 +247,35 @@ fn has_a_front_part(
     Ok(ends_so && bytes.starts_with(writer.bytes()))
 }
 
+/// The first room, up to one that is enough, with which that doesn't hold.
+fn first_wrong_room(
+    alloc: Global,
+    told: &Told,
+    graph: &Graph,
+    as_dot: bool,
+    bytes: &[u8],
+) -> Result<Option<usize>, AllocError> {
+    for room in 0..=bytes.len() {
+        if !has_a_front_part(alloc, told, graph, as_dot, bytes, room)? {
+            return Ok(Some(room));
+        }
+    }
+    Ok(None)
+}
+
+/// The first wrong room of the text of a graph without reads, and that of its file.
+fn wrong_rooms(alloc: Global, told: &Told) -> Result<(Option<usize>, Option<usize>), AllocError> {
+    let graph = alone(alloc)?;
+    Ok((
+        first_wrong_room(alloc, told, &graph, false, ALONE_TEXT)?,
+        first_wrong_room(alloc, told, &graph, true, ALONE_DOT)?,
+    ))
+}
+
 #[test]
 fn a_writer_with_too_little_room(rt: HostRuntime) -> Result<(), Fail> {
-    let alloc = rt.alloc();
-    let told = plain(alloc)?;
-    let graph = alone(alloc)?;
-    for room in 0..ALONE_TEXT.len() + 1 {
-        let holds = has_a_front_part(alloc, &told, &graph, false, ALONE_TEXT, room)?;
-        assert!(rt; holds, "at {room}");
-    }
-    for room in 0..ALONE_DOT.len() + 1 {
-        let holds = has_a_front_part(alloc, &told, &graph, true, ALONE_DOT, room)?;
-        assert!(rt; holds, "at {room}");
-    }
+    let told = plain(rt.alloc())?;
+    let rooms = wrong_rooms(rt.alloc(), &told)?;
+    assert!(rt; matches!(rooms, (None, None)), "at {rooms:?}");
     Ok(())
 }

@@ -1,0 +1,4 @@
+//! What is printed of suites, and the models that are shipped.
+
+mod shipped;
+mod told;
