@@ -4,7 +4,7 @@ use Rattle.litmus_c.specs.Labels.{test_label}
 use Rattle.candidates.specs.Labels.{space_label}
 use Rattle.cat_syntax.specs.Labels.{cat_label}
 use Rattle.cat_model.specs.Labels.{model_label}
-use Rattle.replies.specs.Refusals.{test_fault_text, cat_fault_text, model_fault_text, space_fault_text}
+use Rattle.report.specs.Refusals.{test_fault_text, cat_fault_text, model_fault_text, space_fault_text}
 use Rattle.alone.specs.declared.summary.OneFault.{OneFault}
 use Rattle.alone.specs.declared.summary.OneFault.TheVariants.{Read, Test, Cat, Model, Space, Write, NoMemory}
 

@@ -4,8 +4,9 @@ ghost use Rattle.report.specs.Writing.{Writes};
 ghost use Rattle.alone.specs.Refusals as texts;
 
 use crate::summary::OneFault;
-use replies::{write_cat_fault, write_model_fault, write_space_fault, write_test_fault};
-use report::write_bytes;
+use report::{
+    write_bytes, write_cat_fault, write_model_fault, write_space_fault, write_test_fault,
+};
 use wb_text::{Failed, Sink};
 
 /// Writes the line of a fault: `refused`, and the fault's label and fields.

@@ -11,7 +11,7 @@ use Rattle.book.specs.declared.kept.Refused.TheVariants.{JournalFull, NoMemory}
 use Rattle.sessions.specs.Finish.{IsLegal, Unfit, of_seat}
 use Rattle.sessions.specs.declared.ending.FinishCause.{FinishCause}
 use Rattle.sessions.specs.declared.ending.FinishCause.TheVariants.{MissingPass, Mismatch}
-use Rattle.replies.specs.Replies.{reply_text}
+use Rattle.report.specs.Replies.{reply_text}
 use Rattle.script_lines.specs.Lines.{AreLines}
 use Rattle.script_lines.specs.Scripts.{AreInstructions, IsNextInstruction, IsBadLine, IsSpent}
 use Rattle.script_lines.specs.declared.instruction.Instruction.{Instruction}
