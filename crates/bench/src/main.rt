@@ -1,14 +1,13 @@
 //! Runs a script of litmus tests at a desk, or evaluates one test.
 #![tactic(auto)]
 
-ghost use Rattle.command_line.specs.Words.{IsInRange};
+ghost use Rattle.program.specs.Words.{IsInRange};
 
 mod lines;
 
 use crate::lines::Lines;
 use clap::error::ErrorKind;
-use command_line::{Task, read_task};
-use program::{BAD, FAILED, do_task};
+use program::{BAD, FAILED, Task, do_task, read_task};
 use std::io::{BufWriter, IsTerminal, Read, Write};
 use std::process::ExitCode;
 use std::sync::Wait;

@@ -4,10 +4,10 @@ use Rattle.std.specs.Prelude.{IfSome}
 use Rattle.std.specs.Io.KnownBytes.{Appends, Keeps}
 use Rattle.std.proofs.KnownBytes.{Appends-kept, Appends-nil, Appends-trans}
 use Rattle.wb_text.specs.Memory.{AppendsPrefix}
-use Rattle.alone.specs.Inputs.{IsFaultOf, IsOfTexts, text_of}
-use Rattle.alone.specs.Refusals.{refusal_text}
-use Rattle.alone.specs.declared.summary.OneFault.{OneFault}
-use Rattle.alone.specs.declared.summary.OneFault.TheVariants.{Read, Test, Cat, Model, Space, Write, NoMemory}
+use Rattle.program.specs.Inputs.{IsFaultOf, IsOfTexts, text_of}
+use Rattle.program.specs.Refusals.{refusal_text}
+use Rattle.program.specs.declared.summary.OneFault.{OneFault}
+use Rattle.program.specs.declared.summary.OneFault.TheVariants.{Read, Test, Cat, Model, Space, Write, NoMemory}
 use Rattle.scripts.specs.declared.fault.ServeFault.TheVariants as serving
 use Rattle.program.specs.Tasks.{Evaluates, IsTold, refused}
 

@@ -1,1 +1,5 @@
 pub mod Answered
+mod FlagReads
+pub mod Inputs
+mod Names
+mod OptionReads

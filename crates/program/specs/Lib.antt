@@ -1,1 +1,5 @@
+pub mod Faults
+pub mod Inputs
+pub mod Refusals
 pub mod Tasks
+pub mod Words

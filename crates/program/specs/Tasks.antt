@@ -3,11 +3,11 @@
 use Rattle.std.specs.Prelude.{◌≡◌, ◌⊎◌, ℕ, List, [], Bool, true, Option, Result, Ok, Err, IfSome}
 use Rattle.std.specs.Io.KnownBytes.{Appends, Keeps}
 use Rattle.wb_text.specs.Memory.{AppendsPrefix}
-use Rattle.alone.specs.Inputs.{IsFaultOf, IsOfTexts, Summarizes, SummarizesPartly, text_of}
-use Rattle.alone.specs.Refusals.{refusal_text}
-use Rattle.alone.specs.declared.summary.OneFault.{OneFault}
-use Rattle.command_line.specs.declared.task.Task.{Task}
-use Rattle.command_line.specs.declared.task.Task.TheVariants.{Alone, Script}
+use Rattle.program.specs.Inputs.{IsFaultOf, IsOfTexts, Summarizes, SummarizesPartly, text_of}
+use Rattle.program.specs.Refusals.{refusal_text}
+use Rattle.program.specs.declared.summary.OneFault.{OneFault}
+use Rattle.program.specs.declared.command_line.Task.{Task}
+use Rattle.program.specs.declared.command_line.Task.TheVariants.{Alone, Script}
 use Rattle.scripts.specs.Answers.{worker_count}
 use Rattle.scripts.specs.Serving.{IsServed}
 use Rattle.scripts.specs.declared.fault.ServeFault.{ServeFault}

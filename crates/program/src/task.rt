@@ -1,12 +1,13 @@
 //! A task, from the input to the status.
 
 ghost use Rattle.std.specs.Prelude.{◌≡◌, List, ℕ};
-ghost use Rattle.alone.specs.Inputs.{IsFaultOf, IsOfTexts, text_of};
-ghost use Rattle.command_line.specs.Words.{IsInRange};
+ghost use Rattle.program.specs.Inputs.{IsFaultOf, IsOfTexts, text_of};
+ghost use Rattle.program.specs.Words.{IsInRange};
 ghost use Rattle.program.specs.Tasks.{Does, Evaluates, IsTold, IsUnder, script_status};
 
-use alone::{OneFault, one, write_refusal};
-use command_line::Task;
+use crate::command_line::Task;
+use crate::refusal::write_refusal;
+use crate::summary::{OneFault, one};
 use scripts::{Options, ServeFault, serve};
 use std::alloc::Global;
 use std::sync::Wait;

@@ -9,10 +9,10 @@ use Rattle.conditions.specs.declared.prop.Connective.TheVariants.{And, Or, Impli
 use Rattle.conditions.specs.declared.prop.Link.{Link}
 use Rattle.conditions.specs.Conditions.{Formula, truth, falsehood, equals, negation, conjunction, disjunction, implication, Growth, denies, joins, grown, along, atomic, growth_of}
 use Rattle.report.specs.declared.propositions.Root.{Root}
-use Rattle.report.specs.declared.propositions.Root.TheVariants.{Simple, Joined}
+use Rattle.report.specs.declared.propositions.Root.TheVariants.{Simple}
 use Rattle.report.specs.Texts as texts
 use Rattle.report.specs.Texts.{opening, closing, operand, formula_text}
-use Rattle.report.specs.Chains.{root, root_by, root_after, is_simple, is_bare_left, is_bare_right, sign, denial, front, joined, back, fronts, backs}
+use Rattle.report.specs.Chains.{root, root_by, root_after, is_simple, is_bare_left, is_bare_right, sign, front, back, fronts, backs}
 
 -- the roots of operands decide which stand bare
 

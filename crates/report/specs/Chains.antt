@@ -1,6 +1,6 @@
 -- The text of a proposition along the chain that it lies in: what each link puts in front of all that stands before it,
 -- and what behind.
-use Rattle.std.specs.Prelude.{ℕ, List, [], ◌∷◌, ◌++◌, Bool, true, false, ◌||◌, if◌then◌else◌, codes}
+use Rattle.std.specs.Prelude.{ℕ, List, [], ◌∷◌, ◌++◌, Bool, true, false, ◌||◌, codes}
 use Rattle.conditions.specs.contracts.prop.ConnectivePartialEq.TheImpl.{ghosts as connective_equality}
 use Rattle.conditions.specs.declared.prop.Connective.{Connective}
 use Rattle.conditions.specs.declared.prop.Connective.TheVariants.{And, Or, Implies}

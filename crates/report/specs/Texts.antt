@@ -1,6 +1,6 @@
 -- The printed summary of a verdict. (herd7 manual, the output of herd7; the order of lines, the spacing and the
 -- sorting are this project's.)
-use Rattle.std.specs.Prelude.{ℕ, List, [], ◌++◌, length, map, Bool, true, false, ◌==◌, ◌||◌, if◌then◌else◌, codes, decimal}
+use Rattle.std.specs.Prelude.{ℕ, List, [], ◌++◌, length, map, Bool, true, false, ◌||◌, if◌then◌else◌, codes, decimal}
 use Rattle.std.specs.List.{flat_map, join_with_byte, zip}
 use Rattle.litmus_tree.specs.Tree.{Word}
 use Rattle.conditions.specs.Conditions.{Formula, truth, falsehood, equals, negation, conjunction, disjunction, implication}

@@ -7,8 +7,8 @@
 ghost use Rattle.std.specs.Prelude.{◌≤◌};
 
 use crate::texts::expanded;
-use alone::{OneFault, one};
 use book::Limits;
+use program::{OneFault, one};
 use scripts::{Options, ServeFault, serve};
 use std::alloc::{AllocError, Global};
 use std::sync::Wait;

@@ -6,7 +6,7 @@
 use crate::calls::{WIDE, confirm};
 use crate::texts::STORE_BUFFERING;
 use crate::words::{asked, called};
-use alone::{OneFault, one};
+use program::{OneFault, one};
 use scripts::{Options, ServeFault, serve};
 use std::alloc::{AllocError, Global};
 use std::sync::Wait;

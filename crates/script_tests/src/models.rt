@@ -1,8 +1,8 @@
 //! Worked rows: a test under models.
 
 use crate::calls::{all_hold, is_printed};
-use alone::OneFault;
 use cat_model::ModelFault;
+use program::OneFault;
 use std::alloc::Global;
 use std::test::Fail;
 use wb_text::Name;

@@ -1,12 +1,11 @@
 //! Tests of what the program does with its words: the text and the status of its tasks.
 
-ghost use Rattle.command_line.specs.Words.{IsInRange};
+ghost use Rattle.program.specs.Words.{IsInRange};
 
 use crate::calls::confirm;
 use crate::texts::expanded;
 use crate::words::called;
-use command_line::{Task, read_task};
-use program::do_task;
+use program::{Task, do_task, read_task};
 use std::alloc::{AllocError, Global};
 use std::sync::Wait;
 use std::test::Fail;

@@ -4,7 +4,7 @@ ghost use Rattle.std.specs.Prelude.{◌≤◌};
 
 use crate::calls::{all_hold, confirm, summarized};
 use crate::texts::{STORE_BUFFERING, STORE_BUFFERING_SUMMARY};
-use alone::{OneFault, one};
+use program::{OneFault, one};
 use std::alloc::{AllocError, Global};
 use std::test::Fail;
 use wb_text::{MemSink, MemSource};

@@ -1,7 +1,7 @@
 //! Tests of the words of the command line.
 
 use crate::calls::confirm;
-use command_line::{Task, read_task};
+use program::{Task, read_task};
 use std::alloc::{AllocError, Global};
 use std::test::Fail;
 

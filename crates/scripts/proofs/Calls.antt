@@ -11,10 +11,10 @@ use Rattle.journal.specs.declared.records.Reply.TheVariants.{Piece}
 use Rattle.slices.specs.Parts.{PieceValue}
 use Rattle.sessions.specs.Finish.{IsLegal, IsShared, SomeUnfit, Unfit, has_seat, of_seat}
 use Rattle.sessions.specs.Views.{PassView}
-use Rattle.script_lines.specs.declared.instruction.Instruction.{Instruction}
-use Rattle.script_lines.specs.declared.instruction.Instruction.TheVariants as instructions
-use Rattle.script_lines.specs.declared.instruction.Request.{Request}
-use Rattle.script_lines.specs.declared.instruction.Request.TheVariants.{PutCat, PutTest, DropCat, DropTest, Ask, Poll, Forget, Release, List as ListAll, Claim, Return, GiveBack, Close}
+use Rattle.scripts.specs.declared.instruction.Instruction.{Instruction}
+use Rattle.scripts.specs.declared.instruction.Instruction.TheVariants as instructions
+use Rattle.scripts.specs.declared.instruction.Request.{Request}
+use Rattle.scripts.specs.declared.instruction.Request.TheVariants.{PutCat, PutTest, DropCat, DropTest, Ask, Poll, Forget, Release, List as ListAll, Claim, Return, GiveBack, Close}
 use Rattle.journal.specs.declared.records.Said.{Said}
 use Rattle.scripts.specs.Answers.{Answer, Answers, Asks, IsGiven, Made, NotTaken, Worked, Run, AreRuns, entry_of, made_at}
 use Rattle.scripts.specs.Passes.{AreSeated, Become, IsTable, Have, session_receipts}

@@ -1,5 +1,9 @@
 pub mod Calls
+pub mod Counted
 pub mod Pieces
 pub mod Receipts
 pub mod Seated
 pub mod Served
+pub mod Taken
+pub mod Texts
+pub mod Words

@@ -17,10 +17,10 @@ use Rattle.sessions.specs.Views.{PassView, fresh_from}
 use Rattle.sessions.specs.declared.passes.Counts.{Counts}
 use Rattle.workers.specs.Trace.{Worked as WorkedOn}
 use Rattle.workers.specs.declared.working.Form.TheVariants.{UntilIdle}
-use Rattle.script_lines.specs.declared.instruction.Instruction.{Instruction}
-use Rattle.script_lines.specs.declared.instruction.Instruction.TheVariants as instructions
-use Rattle.script_lines.specs.declared.instruction.Request.{Request}
-use Rattle.script_lines.specs.declared.instruction.Request.TheVariants.{Return}
+use Rattle.scripts.specs.declared.instruction.Instruction.{Instruction}
+use Rattle.scripts.specs.declared.instruction.Instruction.TheVariants as instructions
+use Rattle.scripts.specs.declared.instruction.Request.{Request}
+use Rattle.scripts.specs.declared.instruction.Request.TheVariants.{Return}
 use Rattle.scripts.specs.Answers.{Answer, Answers, Asks, IsGiven, IsRight, Made, NotTaken, Worked, Run, AreRuns}
 use Rattle.scripts.specs.Passes.{AreSeated, IsTable, Have, Grows, AreWorked, Works, Become, IsLastAt, Shows, IsCall, IsAnswered, sums}
 use Rattle.scripts.specs.Serving.{GivesNone}

@@ -10,11 +10,11 @@ use Rattle.wb_text.specs.Memory.{AppendsPrefix}
 use Rattle.wb_text.specs.declared.fault.Failed.{Failed}
 use Rattle.sessions.specs.declared.ending.FinishCause.{FinishCause}
 use Rattle.report.proofs.Written.{prefix_of}
-use Rattle.script_lines.specs.Lines.{ahead, AreLines, IsTooLong, Loses, nothing_read}
-use Rattle.script_lines.proofs.Taken.{lost_both}
-use Rattle.script_lines.specs.Scripts.{AreInstructions, IsNextInstruction, IsBadLine, IsSpent, no_instruction, next_instruction}
-use Rattle.script_lines.specs.declared.fault.ScriptFault.{ScriptFault}
-use Rattle.script_lines.specs.declared.fault.ScriptFault.TheVariants as reading
+use Rattle.scripts.specs.Lines.{ahead, AreLines, IsTooLong, Loses, nothing_read}
+use Rattle.scripts.proofs.Taken.{lost_both}
+use Rattle.scripts.specs.Scripts.{AreInstructions, IsNextInstruction, IsBadLine, IsSpent, no_instruction, next_instruction}
+use Rattle.scripts.specs.declared.reading_fault.ScriptFault.{ScriptFault}
+use Rattle.scripts.specs.declared.reading_fault.ScriptFault.TheVariants as reading
 use Rattle.scripts.specs.Passes.{EndsWith, Follows, ending}
 use Rattle.scripts.specs.Serving.{Call, answer_text, calls_text, entries_of, finish_text, cause_text, bad_line_text, Closes, Tells, StopsAt, IsRead, IsServed, IsReturnAt, IsLastLine, AreAnswered, no_call, no_last_line, of_finish, of_cause, of_bad_line}
 use Rattle.scripts.specs.declared.fault.ServeFault.{ServeFault}

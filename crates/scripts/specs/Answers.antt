@@ -12,10 +12,10 @@ use Rattle.book.specs.declared.kept.Refused.{Refused}
 use Rattle.sessions.specs.declared.passes.Counts.{Counts}
 use Rattle.workers.specs.Trace.{Free, IsWorkFrom}
 use Rattle.workers.specs.declared.working.Form.TheVariants.{UntilIdle}
-use Rattle.script_lines.specs.declared.instruction.Instruction.{Instruction}
-use Rattle.script_lines.specs.declared.instruction.Instruction.TheVariants.{Call, Work}
-use Rattle.script_lines.specs.declared.instruction.Request.{Request}
-use Rattle.script_lines.specs.declared.instruction.Request.TheVariants.{PutCat, PutTest, DropCat, DropTest, Ask, Poll, Forget, Release, List as ListAll, Claim, Return, GiveBack, Close}
+use Rattle.scripts.specs.declared.instruction.Instruction.{Instruction}
+use Rattle.scripts.specs.declared.instruction.Instruction.TheVariants.{Call, Work}
+use Rattle.scripts.specs.declared.instruction.Request.{Request}
+use Rattle.scripts.specs.declared.instruction.Request.TheVariants.{PutCat, PutTest, DropCat, DropTest, Ask, Poll, Forget, Release, List as ListAll, Claim, Return, GiveBack, Close}
 
 -- how many workers a desk has, where so many are asked for: at least one
 abbrev pub worker_count : ℕ → ℕ

@@ -7,8 +7,8 @@ use Rattle.sessions.specs.Views.{PassView}
 use Rattle.workers.specs.Trace.{Free, IsWorkFrom}
 use Rattle.workers.specs.declared.working.Form.TheVariants.{UntilIdle}
 use Rattle.wb_text.specs.declared.fault.Failed.{Failed}
-use Rattle.script_lines.specs.declared.fault.ScriptFault.{ScriptFault}
-use Rattle.script_lines.specs.declared.fault.ScriptFault.TheVariants as reading
+use Rattle.scripts.specs.declared.reading_fault.ScriptFault.{ScriptFault}
+use Rattle.scripts.specs.declared.reading_fault.ScriptFault.TheVariants as reading
 use Rattle.slices.specs.Parts.{PieceValue}
 use Rattle.scripts.specs.Answers.{Answer, Made, NotTaken, Worked, Run, IsGiven, IsRight}
 use Rattle.scripts.specs.Serving.{Call, Closes, GivesNone, Tells}

@@ -11,12 +11,12 @@ use Rattle.book.specs.declared.kept.Refused.TheVariants.{JournalFull, NoMemory}
 use Rattle.sessions.specs.Finish.{IsLegal, Unfit, of_seat}
 use Rattle.sessions.specs.declared.ending.FinishCause.{FinishCause}
 use Rattle.sessions.specs.declared.ending.FinishCause.TheVariants.{MissingPass, Mismatch}
-use Rattle.replies.specs.Replies.{reply_text}
-use Rattle.script_lines.specs.Lines.{AreLines}
-use Rattle.script_lines.specs.Scripts.{AreInstructions, IsNextInstruction, IsBadLine, IsSpent}
-use Rattle.script_lines.specs.declared.instruction.Instruction.{Instruction}
-use Rattle.script_lines.specs.declared.instruction.Instruction.TheVariants.{Call as Called}
-use Rattle.script_lines.specs.declared.instruction.Request.TheVariants.{Return}
+use Rattle.report.specs.Replies.{reply_text}
+use Rattle.scripts.specs.Lines.{AreLines}
+use Rattle.scripts.specs.Scripts.{AreInstructions, IsNextInstruction, IsBadLine, IsSpent}
+use Rattle.scripts.specs.declared.instruction.Instruction.{Instruction}
+use Rattle.scripts.specs.declared.instruction.Instruction.TheVariants.{Call as Called}
+use Rattle.scripts.specs.declared.instruction.Request.TheVariants.{Return}
 use Rattle.scripts.specs.Answers.{Answer, Answers, Made, NotTaken, Worked, Run, entry_of, made_at}
 use Rattle.scripts.specs.declared.fault.ServeFault.{ServeFault}
 use Rattle.scripts.specs.declared.fault.ServeFault.TheVariants as faults

@@ -1,15 +1,14 @@
 //! The printed answers of a script.
 
 ghost use Rattle.std.specs.Prelude.{◌≡◌, ◌++◌, IfSome, codes, decimal};
-ghost use Rattle.replies.specs.Replies.{reply_text};
+ghost use Rattle.report.specs.Replies.{reply_text};
 ghost use Rattle.report.specs.Writing.{Writes};
 ghost use Rattle.scripts.specs.Serving.{bad_line_text, cause_text, finish_text, not_taken_text, worked_text};
 
 use crate::outcome::Sums;
 use book::{Refused, Reply};
 use itoa::Buffer;
-use replies::write_reply;
-use report::write_parts;
+use report::{write_parts, write_reply};
 use sessions::FinishCause;
 use std::alloc::Global;
 use wb_text::{Failed, MemSink, Sink, give_all};

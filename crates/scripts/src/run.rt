@@ -2,7 +2,7 @@
 
 ghost use Rattle.std.specs.Prelude.{◌≡◌, ◌+◌, ◌-◌, ◌≤◌, ◌⊎◌, [], ℕ, List, true, Ok, Err, IfErr, IsErr, OnErr, OnOk};
 ghost use Rattle.std.specs.Io.KnownBytes.{IsAtEnd};
-ghost use Rattle.script_lines.specs.Lines.{ahead, IsTooLong, Loses};
+ghost use Rattle.scripts.specs.Lines.{ahead, IsTooLong, Loses};
 ghost use Rattle.sessions.specs.declared.ending.FinishCause.{FinishCause as FinishCauseOf};
 ghost use Rattle.scripts.specs.Answers.{worker_count};
 ghost use Rattle.scripts.specs.Passes.{EndsWith, Follows, Have, IsTable, ending};
@@ -11,8 +11,9 @@ ghost use Rattle.scripts.specs.Serving.{AreAnswered, Call, Closes, IsRead, IsSer
 use crate::fault::ServeFault;
 use crate::options::Options;
 use crate::print::{write_bad_line, write_cause, write_finish};
+use crate::reading_fault::ScriptFault;
+use crate::script::Script;
 use crate::seats::{NoPiece, SESSIONS, Seats};
-use script_lines::{Script, ScriptFault};
 use std::alloc::Global;
 use std::marker::Brand;
 use std::sync::Wait;

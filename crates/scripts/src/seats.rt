@@ -3,17 +3,17 @@
 ghost use Rattle.std.specs.Prelude.{◌≡◌, ◌<◌, ◌≤◌, ◌-◌, [], ℕ, List, length, take, Some, Ok, slice_get, IfOk, IfErr, IfNone, IfSome, IsErr, OnErr, OnSome, MatchOption};
 ghost use Rattle.journal.specs.Lines.{Line, seen};
 ghost use Rattle.sessions.specs.Finish.{IsFault, IsLegal, IsShared};
-ghost use Rattle.script_lines.specs.Spelled.{IsSeated};
+ghost use Rattle.scripts.specs.Spelled.{IsSeated};
 ghost use Rattle.scripts.specs.Answers.{Answer, Answers, Asks, IsGiven, IsRight};
 ghost use Rattle.scripts.specs.Passes.{Have, IsAnswered, IsCall, IsTable, NoneGives, Shows, SomeGives, session_receipts};
 ghost use Rattle.scripts.specs.Serving.{GivesNone, GivesPiece, answer_text};
 ghost use Rattle.report.specs.Writing.{Writes};
 
+use crate::instruction::{Instruction, Request};
 use crate::outcome::{Outcome, Sums};
 use crate::print::{give_reply, write_not_taken, write_worked};
 use crate::work::{NoGate, sums};
 use book::{Command, Entry, Limits, Refused, Reply};
-use script_lines::{Instruction, Request};
 use sessions::{Desk, FinishCause, Pass, Receipt, finish, open};
 use slices::{KeptSpace, Piece};
 use std::alloc::{AllocError, Global};

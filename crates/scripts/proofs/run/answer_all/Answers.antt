@@ -1,9 +1,9 @@
 use Rattle.std.proofs.Common.{◌≡◌, ◌∙◌, ◌<◌, ◌++◌, [], ◌∷◌, ap, inl, inr, sym, refl, subst, Err, arith, rules}
 use Rattle.std.proofs.KnownBytes.{Appends-nil, Keeps-refl}
-use Rattle.script_lines.specs.Lines.{ahead, AreLines, nothing_read}
-use Rattle.script_lines.specs.Scripts.{IsNextInstruction, IsSpent, no_instruction}
-use Rattle.script_lines.proofs.Counted.{joined, longer_still}
-use Rattle.script_lines.proofs.Taken.{lost_both, lost_none}
+use Rattle.scripts.specs.Lines.{ahead, AreLines, nothing_read}
+use Rattle.scripts.specs.Scripts.{IsNextInstruction, IsSpent, no_instruction}
+use Rattle.scripts.proofs.Counted.{joined, longer_still}
+use Rattle.scripts.proofs.Taken.{lost_both, lost_none}
 use Rattle.scripts.specs.Passes.{Have, ending}
 use Rattle.scripts.specs.Serving.{Call, IsRead, Tells, calls_text, entries_at, no_call}
 use Rattle.scripts.proofs.Calls.{answered_more, have_more, none_among, same_entries}

@@ -1,7 +1,7 @@
 use Rattle.std.proofs.Common.{◌≡◌, ◌-◌, List, map}
 use Rattle.std.specs.Io.KnownBytes.{Appends}
-use Rattle.script_lines.specs.Lines.{ahead, AreLines, Loses}
-use Rattle.script_lines.specs.Scripts.{AreInstructions}
+use Rattle.scripts.specs.Lines.{ahead, AreLines, Loses}
+use Rattle.scripts.specs.Scripts.{AreInstructions}
 use Rattle.scripts.specs.Passes.{Have, IsTable}
 use Rattle.scripts.specs.Serving.{Call, AreAnswered, calls_text, entries_at}
 use Rattle.scripts.proofs.run.answer_all.Given as goal

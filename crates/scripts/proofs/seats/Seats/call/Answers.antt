@@ -1,6 +1,6 @@
 use Rattle.std.proofs.Common.{◌-◌, subst, sym}
 use Rattle.std.specs.Prelude.{IfOk}
-use Rattle.script_lines.specs.Spelled.{IsSeated}
+use Rattle.scripts.specs.Spelled.{IsSeated}
 use Rattle.scripts.specs.Answers.{Answers}
 use Rattle.scripts.specs.Passes.{IsAnswered, session_receipts}
 use Rattle.scripts.proofs.Seated.{no_piece_to_return, ok_instruction_answered}

@@ -3,7 +3,7 @@ use Rattle.journal.specs.Lines.{seen, shown}
 use Rattle.journal.specs.declared.records.Command.TheVariants as commands
 use Rattle.journal.specs.declared.records.Said.TheVariants as said_of
 use Rattle.book.specs.declared.kept.Refused.TheVariants.{NoMemory}
-use Rattle.script_lines.specs.declared.instruction.Request.TheVariants.{Return}
+use Rattle.scripts.specs.declared.instruction.Request.TheVariants.{Return}
 use Rattle.scripts.specs.Answers.{Asks}
 use Rattle.scripts.specs.Passes.{session_receipts}
 use Rattle.scripts.proofs.Pieces.{none_in_all, some_in_all}

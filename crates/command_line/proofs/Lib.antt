@@ -1,3 +1,0 @@
-mod FlagReads
-mod OptionReads
-mod Names

@@ -1,8 +1,0 @@
-use Rattle.replies.specs.Listings.{job_text}
-use Rattle.report.proofs.Written.{exit, flat_map-item}
-use Rattle.replies.proofs.listing.write_jobs.Goals as goal
-
-pub returns-in_err-write_job : goal.returns-in_err-write_job
-returns-in_err-write_job g c =
-    exit _ _ _ _ c.from_residual.result _ _ _ _ c.from_residual.ensures.0 c.loop-job.invariant c.in_err-write_job.ensures
-    (flat_map-item job_text c.args.jobs.now c.loop-job.job-index c.job-item.result c.loop-job-test.true c.job-item.is)

@@ -1,4 +1,0 @@
-pub mod Counted
-pub mod Taken
-pub mod Texts
-pub mod Words
