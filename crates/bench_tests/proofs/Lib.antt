@@ -1,0 +1,2 @@
+pub mod Quarters
+pub mod Tallied

@@ -1,4 +1,0 @@
-use Rattle.desk_tests.proofs.passes.threads.four_once.Given as goal
-
-abbrev pub ghosts-run : goal.ghosts-run
-ghosts-run g a = record { name = a.blank.name; parts = a.blank.parts }

@@ -1,4 +1,0 @@
-use Rattle.desk_tests.proofs.working.refusals.done_under.Given as goal
-
-abbrev pub ghosts-run_refused : goal.ghosts-run_refused
-ghosts-run_refused g a = record { name = a.blank.name; parts = a.blank.parts }
