@@ -5,7 +5,7 @@ ghost use Rattle.std.specs.String.{string_bytes};
 ghost use Rattle.fault_messages.specs.Told.{TellsCat};
 
 use crate::text::text_trouble;
-use crate::words::shown;
+use crate::words::{Row, shown, told_of};
 use cat_places::{Source, place_of_text};
 use cat_syntax::CatFault;
 use places::{message_at, message_without_place, token_at};
@@ -64,35 +64,36 @@ fn syntax_sentence(alloc: Global, text: &[u8], offset: usize) -> Result<String, 
     }
 }
 
+/// Words that models leave out, with the whole sentence.
+const SENTENCES: [Row; 2] = [
+    ("++", "++ is left out; write | for a union"),
+    (
+        "with from",
+        "with .. from is left out; co is there beforehand, and needs no choice",
+    ),
+];
+
+/// Words that models leave out, with what stands behind the word.
+const LEFT_OUT: [Row; 2] = [
+    (
+        "procedure call fun in",
+        "is left out; bind a function by let, as in let f(x) = x ; po",
+    ),
+    (
+        "enum instructions match if then else end forall do try begin default undefined_unless",
+        "is left out; docs/MODELS.md says what is there",
+    ),
+];
+
+/// What stands behind the name of a function that a let rec binds.
+const FUNCTION: &str =
+    "is a function of a let rec, which is left out; write it without rec, or without parameters";
+
 /// What stands for a word that models leave out.
 fn left_out_sentence(alloc: Global, word: &[u8]) -> Result<String, AllocError> {
-    let name = shown(word);
-    match word {
-        b"++" => String::from_str(alloc, "++ is left out; write | for a union"),
-        b"with" | b"from" => String::from_str(
-            alloc,
-            "with .. from is left out; co is there beforehand, and needs no choice",
-        ),
-        b"procedure" | b"call" | b"fun" | b"in" => format!(in alloc;
-            "{name} is left out; bind a function by let, as in let f(x) = x ; po"
-        ),
-        b"enum"
-        | b"instructions"
-        | b"match"
-        | b"if"
-        | b"then"
-        | b"else"
-        | b"end"
-        | b"forall"
-        | b"do"
-        | b"try"
-        | b"begin"
-        | b"default"
-        | b"undefined_unless" => {
-            format!(in alloc; "{name} is left out; docs/MODELS.md says what is there")
-        }
-        _ => format!(in alloc;
-            "{name} is a function of a let rec, which is left out; write it without rec, or without parameters"
-        ),
+    if let Some(sentence) = told_of(&SENTENCES, word) {
+        return String::from_str(alloc, sentence);
     }
+    let (name, behind) = (shown(word), told_of(&LEFT_OUT, word).unwrap_or(FUNCTION));
+    format!(in alloc; "{name} {behind}")
 }

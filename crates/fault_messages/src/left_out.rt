@@ -1,6 +1,6 @@
 //! Words that tests leave out.
 
-use crate::words::{CALLS, KNOWN, ORDERS, nearest, shown, with_meant};
+use crate::words::{CALLS, ORDERS, Row, nearest_in, shown, told_of, with_meant};
 use std::alloc::{AllocError, Global};
 
 /// What stands for a word that tests leave out.
@@ -22,27 +22,38 @@ pub fn left_out_sentence(alloc: Global, word: &[u8]) -> Result<String, AllocErro
     }
     let name = shown(word);
     let sentence = format!(in alloc; "{name} is no call of a test")?;
-    let meant = nearest(alloc, name, &KNOWN[..CALLS])?;
+    let meant = nearest_in(alloc, name, &[CALLS])?;
     with_meant(alloc, sentence, meant)
 }
 
 /// Words of C's statements, and of the kernel.
+const STATEMENTS: [Row; 6] = [
+    (
+        "while for do goto break continue",
+        "loops and jumps are left out; write the turns that matter one behind another, with if",
+    ),
+    ("switch", "switch is left out; write if and else"),
+    (
+        "return",
+        "return is left out; put what it would skip into an if",
+    ),
+    (
+        "filter",
+        "filter is left out; join its proposition to the condition by /\\",
+    ),
+    (
+        "READ_ONCE",
+        "READ_ONCE is left out; write atomic_load_explicit(x, memory_order_relaxed), with atomic_int* x",
+    ),
+    (
+        "WRITE_ONCE",
+        "WRITE_ONCE is left out; write atomic_store_explicit(x, 1, memory_order_relaxed), with atomic_int* x",
+    ),
+];
+
+/// What is told of a word of C's statements, or of the kernel.
 pub fn of_statement(word: &[u8]) -> Option<&'static str> {
-    match word {
-        b"while" | b"for" | b"do" | b"goto" | b"break" | b"continue" => Some(
-            "loops and jumps are left out; write the turns that matter one behind another, with if",
-        ),
-        b"switch" => Some("switch is left out; write if and else"),
-        b"return" => Some("return is left out; put what it would skip into an if"),
-        b"filter" => Some("filter is left out; join its proposition to the condition by /\\"),
-        b"READ_ONCE" => Some(
-            "READ_ONCE is left out; write atomic_load_explicit(x, memory_order_relaxed), with atomic_int* x",
-        ),
-        b"WRITE_ONCE" => Some(
-            "WRITE_ONCE is left out; write atomic_store_explicit(x, 1, memory_order_relaxed), with atomic_int* x",
-        ),
-        _ => None,
-    }
+    told_of(&STATEMENTS, word)
 }
 
 /// Calls of C that tests leave out.
@@ -84,6 +95,6 @@ fn order_sentence(alloc: Global, word: &[u8]) -> Result<String, AllocError> {
     let sentence = format!(in alloc;
         "{name} is no order: they are relaxed, acquire, release, acq_rel and seq_cst"
     )?;
-    let meant = nearest(alloc, name, &KNOWN[CALLS..CALLS + ORDERS])?;
+    let meant = nearest_in(alloc, name, &[ORDERS])?;
     with_meant(alloc, sentence, meant)
 }

@@ -4,7 +4,7 @@ ghost use Rattle.std.specs.Prelude.{All, length};
 ghost use Rattle.wb_text.specs.Tokens.{IsWithin};
 
 use crate::text::not_c;
-use crate::words::{KNOWN, nearest, shown};
+use crate::words::{Row, is_among, nearest_known, shown, told_of};
 use places::spelled;
 use std::alloc::{AllocError, Global};
 use wb_text::{Token, TokenKind};
@@ -83,71 +83,101 @@ fn begins_condition(word: &[u8]) -> bool {
     matches!(word, b"exists" | b"forall")
 }
 
+/// A word, and what is wrong with it.
+fn about(alloc: Global, word: &[u8], sentence: &str) -> Result<String, AllocError> {
+    let word = shown(word);
+    format!(in alloc; "{word} {sentence}")
+}
+
 /// What is wrong with a token.
 fn told(alloc: Global, found: Found<'_>) -> Result<String, AllocError> {
+    if let Some((word, sentence)) = known(found) {
+        return about(alloc, word, sentence);
+    }
     let word = shown(found.word);
-    if found.is_suffix && found.kind == TokenKind::Name {
-        return format!(in alloc;
-            "{word} can't stand behind a number; numbers are decimal, without a suffix: 1, not 1U or 0x1"
-        );
-    }
-    if let Some(sentence) = of_type(found.word) {
-        return format!(in alloc; "{word} {sentence}");
-    }
-    if let Some(sentence) = of_type(found.before) {
-        let before = shown(found.before);
-        return format!(in alloc; "{before} {sentence}");
-    }
-    if let Some(sentence) = of_word(found) {
-        return format!(in alloc; "{word} {sentence}");
-    }
-    if let Some(known) = nearest(alloc, word, &KNOWN)? {
+    if let Some(known) = nearest_known(alloc, word)? {
         return format!(in alloc; "{word} can't stand here; did you mean {known}?");
     }
     if found.word == b"(".as_slice() {
         return call_told(alloc, shown(found.before));
     }
-    if ends_early(found) {
-        return format!(in alloc; "{word} can't stand here; is a ; or a ) missing before it?");
+    about(alloc, found.word, misplaced(found))
+}
+
+/// The word that is wrong, the token itself or the one before it, and what is wrong with it, where that is known.
+fn known(found: Found<'_>) -> Option<(&[u8], &'static str)> {
+    if found.is_suffix && found.kind == TokenKind::Name {
+        return Some((
+            found.word,
+            "can't stand behind a number; numbers are decimal, without a suffix: 1, not 1U or 0x1",
+        ));
     }
-    format!(in alloc; "{word} can't stand here; docs/LITMUS.md has the grammar")
+    if let Some(sentence) = of_type(found.word) {
+        return Some((found.word, sentence));
+    }
+    if let Some(sentence) = of_type(found.before) {
+        return Some((found.before, sentence));
+    }
+    of_word(found).map(|sentence| (found.word, sentence))
+}
+
+/// What is wrong with a token of which no more is known.
+fn misplaced(found: Found<'_>) -> &'static str {
+    if ends_early(found) {
+        "can't stand here; is a ; or a ) missing before it?"
+    } else {
+        "can't stand here; docs/LITMUS.md has the grammar"
+    }
 }
 
 /// What is wrong with a parenthesis behind a word that is no call.
 fn call_told(alloc: Global, name: &str) -> Result<String, AllocError> {
-    match nearest(alloc, name, &KNOWN)? {
+    match nearest_known(alloc, name)? {
         Some(known) => { format!(in alloc; "{name} is no call of a test; did you mean {known}?") }
         None => format!(in alloc; "( can't stand behind {name}; calls are those of <stdatomic.h>"),
     }
 }
 
+/// Words of types that are left out.
+const TYPES: [Row; 4] = [
+    (
+        "unsigned signed long short char bool _Bool float double size_t uint32_t int32_t uint64_t int64_t",
+        "is left out; a register is an int, a parameter an int* or an atomic_int*",
+    ),
+    (
+        "_Atomic atomic_uint atomic_long atomic_bool",
+        "is left out; write atomic_int* for a parameter that calls access",
+    ),
+    (
+        "void static",
+        "is left out; a thread is written P0 (..) { .. }",
+    ),
+    ("const", "is left out; write the parameter without it"),
+];
+
 /// What is wrong with a type that is left out.
 fn of_type(word: &[u8]) -> Option<&'static str> {
-    match word {
-        b"unsigned"
-        | b"signed"
-        | b"long"
-        | b"short"
-        | b"char"
-        | b"bool"
-        | b"_Bool"
-        | b"float"
-        | b"double"
-        | b"size_t"
-        | b"uint32_t"
-        | b"int32_t"
-        | b"uint64_t"
-        | b"int64_t" => Some(
-            "is left out; a register is an int, a parameter an int* or an atomic_int*",
-        ),
-        b"_Atomic" | b"atomic_uint" | b"atomic_long" | b"atomic_bool" => {
-            Some("is left out; write atomic_int* for a parameter that calls access")
-        }
-        b"void" | b"static" => Some("is left out; a thread is written P0 (..) { .. }"),
-        b"const" => Some("is left out; write the parameter without it"),
-        _ => None,
-    }
+    told_of(&TYPES, word)
 }
+
+/// Signs of threads that stand in a condition.
+const IN_CONDITIONS: [Row; 3] = [
+    (
+        "==",
+        "compares in threads; a condition has one =, as in 0:r0=1",
+    ),
+    ("&& ||", "joins in threads; a condition has /\\ and \\/"),
+    ("!", "denies in threads; a condition has ~"),
+];
+
+/// Signs of conditions that stand in a thread.
+const IN_THREADS: [Row; 2] = [
+    ("=", "can't stand here; an expression compares by =="),
+    (
+        "/\\ \\/",
+        "joins in conditions; an expression has && and ||",
+    ),
+];
 
 /// What is wrong with a word or a sign, where that is known.
 fn of_word(found: Found<'_>) -> Option<&'static str> {
@@ -171,17 +201,9 @@ fn of_sign(found: Found<'_>) -> Option<&'static str> {
         );
     }
     if found.in_condition {
-        return match found.word {
-            b"==" => Some("compares in threads; a condition has one =, as in 0:r0=1"),
-            b"&&" | b"||" => Some("joins in threads; a condition has /\\ and \\/"),
-            b"!" => Some("denies in threads; a condition has ~"),
-            _ => None,
-        };
-    }
-    match found.word {
-        b"=" => Some("can't stand here; an expression compares by =="),
-        b"/\\" | b"\\/" => Some("joins in conditions; an expression has && and ||"),
-        _ => None,
+        told_of(&IN_CONDITIONS, found.word)
+    } else {
+        told_of(&IN_THREADS, found.word)
     }
 }
 
@@ -194,7 +216,7 @@ fn is_call(word: &[u8]) -> bool {
 
 /// Whether a statement or a part of one begins behind a token that ends none.
 fn ends_early(found: Found<'_>) -> bool {
-    let begins = matches!(found.word, b"}" | b"int" | b"if") || found.word.starts_with(b"atomic_");
-    let goes_on = matches!(found.before, b";" | b"{" | b"}" | b"(" | b"," | b"=" | b"");
+    let begins = is_among("} int if", found.word) || found.word.starts_with(b"atomic_");
+    let goes_on = found.before.is_empty() || is_among("; { } ( , =", found.before);
     begins && !goes_on
 }
