@@ -1,5 +1,5 @@
--- What is answered to one test, and what a task comes to.
-use Rattle.std.proofs.Common.{◌≡◌, ◌⊎◌, ◌++◌, ℕ, List, [], Bool, Option, inl, inr}
+-- What is answered to one test.
+use Rattle.std.proofs.Common.{◌≡◌, ℕ, List, [], Bool, Option, inl, inr}
 use Rattle.std.specs.Prelude.{IfSome}
 use Rattle.std.specs.Io.KnownBytes.{Appends, Keeps}
 use Rattle.std.proofs.KnownBytes.{Appends-kept, Appends-nil, Appends-trans}
@@ -8,10 +8,7 @@ use Rattle.program.specs.Inputs.{IsFaultOf, IsOfTexts, text_of}
 use Rattle.program.specs.Refusals.{refusal_text}
 use Rattle.program.specs.declared.summary.OneFault.{OneFault}
 use Rattle.program.specs.declared.summary.OneFault.TheVariants.{Read, Test, Cat, Model, Space, Write, NoMemory}
-use Rattle.scripts.specs.declared.fault.ServeFault.TheVariants as serving
 use Rattle.program.specs.Tasks.{Evaluates, IsTold, refused}
-
--- ---- one test
 
 -- bytes that come behind none
 
@@ -36,5 +33,3 @@ of_texts input old mid new (Model f) failed status texts kept cause told = refus
 of_texts input old mid new (Space f) failed status texts kept cause told = refused (Space f) texts cause (told_behind old mid new (Space f) failed status (kept (λ e. cc)) told)
 of_texts input old mid new Write failed status texts kept cause told = absurd texts
 of_texts input old mid new NoMemory failed status texts kept cause told = absurd texts
-
--- ---- a script

@@ -30,7 +30,7 @@ use Rattle.clap.proofs.CallerReads.{signed_reads}
 use Rattle.clap.proofs.WalkLemmas.{one_text-rows}
 use Rattle.clap.proofs.SimpleLemmas.{ready_simple, simple_groups}
 use Rattle.program.proofs.Names.{unlike}
-use Rattle.program.specs.Words.{ReadsAs, SaysNumber, alone, bench, journal, text_for, workers}
+use Rattle.program.specs.Words.{SaysNumber, alone, bench, journal, text_for, workers}
 
 -- ---- the three arguments of the command
 

@@ -1,13 +1,12 @@
 -- What answers one after another have made, and the journal at the end.
-use Rattle.std.proofs.Common.{◌≡◌, ◌≢◌, ◌∙◌, ◌<◌, ◌≤◌, ◌+◌, ◌-◌, ◌==◌, ◌||◌, ◌++◌, ℕ, zero, suc, Bool, true, false, cond, List, [], ◌∷◌, length, take, drop, filter, refl, sym, ap, subst, inl, inr, arith, append-nil}
+use Rattle.std.proofs.Common.{◌≡◌, ◌∙◌, ◌<◌, ◌≤◌, ◌+◌, ◌-◌, ◌==◌, ◌||◌, ◌++◌, ℕ, zero, suc, Bool, true, false, cond, List, [], ◌∷◌, length, take, drop, refl, sym, ap, subst, inl, inr, arith, append-nil}
 use Rattle.std.specs.Prelude.{All, ◌⊎◌}
-use Rattle.std.specs.List.{AllByRecursion, Contains, flat_map, list_any}
-use Rattle.std.proofs.lemmas.Bool.{cases_Bool, cases_lt, eq-eqb, ne_eqb}
+use Rattle.std.specs.List.{AllByRecursion, Contains, flat_map}
+use Rattle.std.proofs.lemmas.Bool.{cases_Bool, cases_lt, eq-eqb}
 use Rattle.std.proofs.lemmas.Bool.Decides.{Decides-eqb}
 use Rattle.std.proofs.lemmas.Grind.{flat_map-append}
 use Rattle.std.proofs.lemmas.List.Elements.{All-append, All-nil, All-cons, All-contains, All-contains_itself, All-filter, All-from_recursion, Contains-append_cases, Contains-get_or, Contains-append_left, Contains-append_right, filter-append}
 use Rattle.journal.specs.Lines.{Line}
-use Rattle.journal.specs.declared.records.Reply.TheVariants.{Piece}
 use Rattle.slices.specs.Parts.{PieceValue}
 use Rattle.sessions.specs.Finish.{IsLegal, IsShared, SomeUnfit, Unfit, has_seat, of_seat}
 use Rattle.sessions.specs.Views.{PassView}
@@ -16,7 +15,7 @@ use Rattle.scripts.specs.declared.instruction.Instruction.TheVariants as instruc
 use Rattle.scripts.specs.declared.instruction.Request.{Request}
 use Rattle.scripts.specs.declared.instruction.Request.TheVariants.{PutCat, PutTest, DropCat, DropTest, Ask, Poll, Forget, Release, List as ListAll, Claim, Return, GiveBack, Close}
 use Rattle.journal.specs.declared.records.Said.{Said}
-use Rattle.scripts.specs.Answers.{Answer, Answers, Asks, IsGiven, Made, NotTaken, Worked, Run, AreRuns, entry_of, made_at}
+use Rattle.scripts.specs.Answers.{Answer, Answers, Asks, IsGiven, Made, NotTaken, Worked, entry_of, made_at}
 use Rattle.scripts.specs.Passes.{AreSeated, Become, IsTable, Have, session_receipts}
 use Rattle.sessions.specs.Finish.{IsFault}
 use Rattle.sessions.specs.declared.ending.FinishCause.{FinishCause}

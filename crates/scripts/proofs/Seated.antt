@@ -6,7 +6,7 @@ use Rattle.std.proofs.lemmas.List.Elements.{All-from_recursion}
 use Rattle.std.proofs.Math.Seq.{get_or-append_seam}
 use Rattle.std.proofs.lemmas.List.{length-set, get_or-set_same, set-get_or}
 use Rattle.std.proofs.lemmas.List.Sums.{sum_by-cons}
-use Rattle.std.proofs.lemmas.Option.{slice_get-get_or, slice_get_within, get_or_from_slice_get}
+use Rattle.std.proofs.lemmas.Option.{slice_get-get_or, slice_get_within}
 use Rattle.journal.specs.Lines.{Line, shown}
 use Rattle.journal.specs.declared.records.Said.{Said}
 use Rattle.journal.specs.declared.records.Said.TheVariants as said_of
@@ -21,8 +21,8 @@ use Rattle.scripts.specs.declared.instruction.Instruction.{Instruction}
 use Rattle.scripts.specs.declared.instruction.Instruction.TheVariants as instructions
 use Rattle.scripts.specs.declared.instruction.Request.{Request}
 use Rattle.scripts.specs.declared.instruction.Request.TheVariants.{Return}
-use Rattle.scripts.specs.Answers.{Answer, Answers, Asks, IsGiven, IsRight, Made, NotTaken, Worked, Run, AreRuns}
-use Rattle.scripts.specs.Passes.{AreSeated, IsTable, Have, Grows, AreWorked, Works, Become, IsLastAt, Shows, IsCall, IsAnswered, sums}
+use Rattle.scripts.specs.Answers.{Answer, Answers, Asks, IsGiven, IsRight, Made, NotTaken, Worked, Run}
+use Rattle.scripts.specs.Passes.{AreSeated, IsTable, Have, Grows, AreWorked, Works, IsLastAt, IsCall, IsAnswered, sums}
 use Rattle.scripts.specs.Serving.{GivesNone}
 use Rattle.scripts.specs.declared.seats.NoPiece.{NoPiece}
 use Rattle.scripts.specs.declared.outcome.Outcome.{Outcome}

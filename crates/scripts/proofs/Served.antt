@@ -1,5 +1,5 @@
 -- Answers one after another, and what stands behind them.
-use Rattle.std.proofs.Common.{◌≡◌, ◌≢◌, ◌⊎◌, ◌∙◌, ◌+◌, ◌-◌, ℕ, List, [], ◌∷◌, ◌++◌, length, map, Option, None, Some, Result, Ok, Err, inl, inr, refl, sym, ap, subst, append-nil, max, arith}
+use Rattle.std.proofs.Common.{◌≡◌, ◌⊎◌, ◌∙◌, ℕ, List, [], ◌∷◌, ◌++◌, map, Option, None, Some, Result, Ok, Err, inl, inr, refl, sym, ap, subst, append-nil}
 use Rattle.std.specs.Prelude.{IfErr, IsErr, IsErrAnd, OnOk}
 use Rattle.std.specs.Io.KnownBytes.{Appends}
 use Rattle.std.specs.List.{flat_map}
@@ -12,11 +12,11 @@ use Rattle.sessions.specs.declared.ending.FinishCause.{FinishCause}
 use Rattle.report.proofs.Written.{prefix_of}
 use Rattle.scripts.specs.Lines.{ahead, AreLines, IsTooLong, Loses, nothing_read}
 use Rattle.scripts.proofs.Taken.{lost_both}
-use Rattle.scripts.specs.Scripts.{AreInstructions, IsNextInstruction, IsBadLine, IsSpent, no_instruction, next_instruction}
+use Rattle.scripts.specs.Scripts.{AreInstructions, IsNextInstruction, IsBadLine, no_instruction, next_instruction}
 use Rattle.scripts.specs.declared.reading_fault.ScriptFault.{ScriptFault}
 use Rattle.scripts.specs.declared.reading_fault.ScriptFault.TheVariants as reading
 use Rattle.scripts.specs.Passes.{EndsWith, Follows, ending}
-use Rattle.scripts.specs.Serving.{Call, answer_text, calls_text, entries_of, finish_text, cause_text, bad_line_text, Closes, Tells, StopsAt, IsRead, IsServed, IsReturnAt, IsLastLine, AreAnswered, no_call, no_last_line, of_finish, of_cause, of_bad_line}
+use Rattle.scripts.specs.Serving.{Call, answer_text, calls_text, entries_of, Closes, Tells, StopsAt, IsRead, IsServed, IsReturnAt, IsLastLine, AreAnswered, no_call, no_last_line}
 use Rattle.scripts.specs.declared.fault.ServeFault.{ServeFault}
 use Rattle.scripts.specs.declared.fault.ServeFault.TheVariants as faults
 

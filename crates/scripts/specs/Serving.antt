@@ -17,7 +17,7 @@ use Rattle.scripts.specs.Scripts.{AreInstructions, IsNextInstruction, IsBadLine,
 use Rattle.scripts.specs.declared.instruction.Instruction.{Instruction}
 use Rattle.scripts.specs.declared.instruction.Instruction.TheVariants.{Call as Called}
 use Rattle.scripts.specs.declared.instruction.Request.TheVariants.{Return}
-use Rattle.scripts.specs.Answers.{Answer, Answers, Made, NotTaken, Worked, Run, entry_of, made_at}
+use Rattle.scripts.specs.Answers.{Answer, Answers, Made, NotTaken, Worked, entry_of, made_at}
 use Rattle.scripts.specs.declared.fault.ServeFault.{ServeFault}
 use Rattle.scripts.specs.declared.fault.ServeFault.TheVariants as faults
 

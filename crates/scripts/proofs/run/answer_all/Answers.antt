@@ -1,10 +1,10 @@
-use Rattle.std.proofs.Common.{◌≡◌, ◌∙◌, ◌<◌, ◌++◌, [], ◌∷◌, ap, inl, inr, sym, refl, subst, Err, arith, rules}
+use Rattle.std.proofs.Common.{◌∙◌, ◌<◌, ◌++◌, [], ◌∷◌, ap, inl, inr, sym, refl, subst, Err, arith}
 use Rattle.std.proofs.KnownBytes.{Appends-nil, Keeps-refl}
 use Rattle.scripts.specs.Lines.{ahead, AreLines, nothing_read}
 use Rattle.scripts.specs.Scripts.{IsNextInstruction, IsSpent, no_instruction}
 use Rattle.scripts.proofs.Counted.{joined, longer_still}
 use Rattle.scripts.proofs.Taken.{lost_both, lost_none}
-use Rattle.scripts.specs.Passes.{Have, ending}
+use Rattle.scripts.specs.Passes.{Have}
 use Rattle.scripts.specs.Serving.{Call, IsRead, Tells, calls_text, entries_at, no_call}
 use Rattle.scripts.proofs.Calls.{answered_more, have_more, none_among, same_entries}
 use Rattle.scripts.proofs.Served.{instructed, read_failed, stopped, tells_ending, write_ending, written, written_partly}

@@ -1,4 +1,4 @@
-use Rattle.std.proofs.Common.{◌≡◌, ◌-◌, Ok, Err, ap, rules}
+use Rattle.std.proofs.Common.{◌-◌, ap, rules}
 use Rattle.scripts.specs.Passes.{ending}
 use Rattle.scripts.proofs.Served.{end_follows, end_told, failed_told, fault_follows, fault_told}
 use Rattle.scripts.proofs.run.end.Goals as goal

@@ -1,6 +1,5 @@
 use Rattle.std.proofs.Common.{◌≡◌, ◌∙◌, ◌+◌, ◌-◌, arith, sym, subst}
 use Rattle.std.proofs.KnownBytes.{Keeps-refl}
-use Rattle.scripts.specs.Lines.{ahead}
 use Rattle.scripts.proofs.Taken.{lost_none}
 use Rattle.scripts.specs.Answers.{worker_count}
 use Rattle.scripts.specs.Passes.{ending}
