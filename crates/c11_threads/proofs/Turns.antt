@@ -1,5 +1,5 @@
 -- Ways that are taken part by part.
-use Rattle.std.proofs.Common.{◌≡◌, ℕ, zero, suc, filter, subst, ◌+◌, ◌≤◌, ◌<◌, List, [], ◌∷◌, ◌++◌, length, map, get_or, drop, drop-cons, add-one, refl, sym, ◌∙◌, ap, arith, append-nil, Option, None, Some, Bool, true, false, if◌then◌else◌, length-append, Vec, ◌-◌}
+use Rattle.std.proofs.Common.{◌≡◌, ℕ, zero, suc, filter, subst, ◌+◌, ◌≤◌, ◌<◌, List, [], ◌∷◌, ◌++◌, length, map, get_or, drop, drop-cons, add-one, refl, sym, ◌∙◌, ap, arith, append-nil, Option, None, Some, Bool, true, false, if◌then◌else◌, length-append, Box, Vec}
 use Rattle.std.specs.Prelude.{◌&&◌}
 use Rattle.std.proofs.lemmas.Bool.{false≢true}
 use Rattle.std.proofs.lemmas.List.{drop_all, length-map}
@@ -11,10 +11,11 @@ use Rattle.litmus_tree.specs.declared.tree.Declarator.{Declarator}
 use Rattle.litmus_tree.specs.declared.expression.Expression.{Expression}
 use Rattle.litmus_tree.specs.declared.tree.RightSide.TheVariants.{Value as Value'}
 use Rattle.litmus_tree.specs.declared.tree.Statement.{Statement}
-use Rattle.litmus_tree.specs.declared.tree.Statement.TheVariants.{Block as Block', Assign as Assign', rolls-Block, rolls-Assign}
+use Rattle.litmus_tree.specs.declared.tree.Statement.TheVariants.{Block as Block', Assign as Assign', If as If', rolls-Block, rolls-Assign}
 use Rattle.litmus_tree.specs.declared.tree.Statement.TheOpen.{Statement-F}
 use Rattle.litmus_tree.specs.declared.tree.Statement.TheFolds.{fold-roll-Statement}
 use Rattle.litmus_tree.specs.Tree.{Word, Action, load, store, exchange, modify, fence, computed_by, Right, computed, plain_read, value_of, Declared, Step, empty, block, declare, assign, plain_write, perform, if_only, if_else, Steps, no_steps, in_turn, layer, step_of, steps_of, term_of, declared_of}
+use Rattle.litmus_tree.proofs.Steps.{only_if, if_and_else}
 use Rattle.c11_threads.specs.declared.fault.RunFault.{RunFault}
 use Rattle.c11_threads.specs.declared.fault.RunFault.TheVariants.{TooManyRuns, NoMemory}
 use Rattle.c11_threads.specs.Faults.{IsFaultAt}
@@ -102,6 +103,23 @@ pub in_block : (s : Setting) (c : EventSet) (a : Statement) (inside : List State
 in_block s c a inside all e f =
     let g : step_of a ≡ block (steps_of all.items) = ap step_of (e ∙ sym (rolls-Block all)) ∙ fold-roll-Statement Step layer (Statement-F.Block all) in
     ap (λ (as' : List Statement). steps_runs (steps_of as') s c) f ∙ ap (λ (b : Step). step_runs b s c) (sym g)
+
+-- The arms of an if, by its test.
+
+pub arm_taken : (s : Setting) (c : EventSet) (p : Progress) (a : Statement) (e : Expression) (first : Box Statement Global) (second : Option (Box Statement Global)) → a ≡ If' e first second → holds s (term_of e) p ≡ true →
+    step_runs (step_of first.value) s (under s c (term_of e) p) p ≡ step_runs (step_of a) s c p
+arm_taken s c p a e first None is h =
+    let g : step_of a ≡ if_only (term_of e) (step_of first.value) = ap step_of is ∙ only_if e first in
+    sym (ap (λ (b : Step). step_runs b s c p) g ∙ ap (λ (t : Bool). if t then step_runs (step_of first.value) s (under s c (term_of e) p) p else p ∷ []) h)
+arm_taken s c p a e first (Some other) is h =
+    let g : step_of a ≡ if_else (term_of e) (step_of first.value) (step_of other.value) = ap step_of is ∙ if_and_else e first other in
+    sym (ap (λ (b : Step). step_runs b s c p) g ∙ ap (λ (t : Bool). if t then step_runs (step_of first.value) s (under s c (term_of e) p) p else step_runs (step_of other.value) s (under s c (term_of e) p) p) h)
+
+pub arm_behind_else : (s : Setting) (c : EventSet) (p : Progress) (a : Statement) (e : Expression) (first other : Box Statement Global) → a ≡ If' e first (Some other) → holds s (term_of e) p ≡ false →
+    step_runs (step_of other.value) s (under s c (term_of e) p) p ≡ step_runs (step_of a) s c p
+arm_behind_else s c p a e first other is h =
+    let g : step_of a ≡ if_else (term_of e) (step_of first.value) (step_of other.value) = ap step_of is ∙ if_and_else e first other in
+    sym (ap (λ (b : Step). step_runs b s c p) g ∙ ap (λ (t : Bool). if t then step_runs (step_of first.value) s (under s c (term_of e) p) p else step_runs (step_of other.value) s (under s c (term_of e) p) p) h)
 
 -- More ways than there is room for are more than are wanted, where the others take what is left.
 pub still_fault : (k room most n m : ℕ) (e : RunFault) → most + n ≤ room + m → IsFaultAt k room n e → IsFaultAt k most m e

@@ -10,7 +10,7 @@ ghost use Rattle.litmus_c.specs.declared.fault.TestFault.TheVariants.{TooManyEve
 ghost use Rattle.litmus_c.specs.Rules.{lasting, place_locations, parameter_names, locations_of, place_registers, step_registers, steps_registers, registers_of, program_of, programs_of, litmus_of, entry_is_fair, program_keeps, places_are_there, names_hold, formula_is_fair, KeepsRules, Explains, ExplainsNames, ExplainsLocations, ExplainsValues};
 ghost use Rattle.litmus_tree.specs.Names.{with_name, with_names};
 ghost use Rattle.litmus_value.specs.Values.{values_among};
-ghost use Rattle.litmus_tree.specs.Tree.{declared_of, step_of, steps_of};
+ghost use Rattle.litmus_tree.specs.Tree.{Word, declared_of, step_of, steps_of};
 ghost use Rattle.litmus_c.specs.declared.rules.Rule.TheVariants.{Names, PlainAccess, AtomicAccess};
 
 use crate::fault::TestFault;
@@ -254,7 +254,6 @@ fn make_thread(
 }
 
 /// The threads, with their registers.
-#[tactic(auto, using(crate::proofs::Names::programs_push, crate::proofs::Names::programs_len, crate::proofs::Names::map_len))]
 fn make_threads(
     alloc: Global,
     entries: &[Binding],
@@ -351,6 +350,49 @@ fn check_events(locations: &[Name], threads: &[Thread]) -> Result<(), TestFault>
     }
 }
 
+/// What is made of a test beside what stands in its text.
+struct Parts {
+    initial: Vec<Binding>,
+    threads: Vec<Thread>,
+    locations: Vec<Name>,
+}
+
+/// The parts of the test that a text spells, if it keeps the rules.
+fn make_parts(
+    alloc: Global,
+    entries: &[Binding],
+    bodies: Vec<Body>,
+    listed: &[Place],
+    condition: &Cond,
+) -> Result<Parts, TestFault>
+    ensures initial { IfOk result (λ p. p.initial.items ≡ lasting entries.now) }
+    ensures threads { IfOk result (λ p. p.threads.items ≡ programs_of 0 entries.now (map listing_of bodies.items)) }
+    ensures locations { (n : Word) → IfOk result (λ p. p.locations.items ≡ locations_of (record { name = n; entries = entries.now; threads = map listing_of bodies.items; listed = listed.now; condition = condition.now })) }
+    ensures kept { (n : Word) → OnOk result (KeepsRules entries.now (litmus_of (record { name = n; entries = entries.now; threads = map listing_of bodies.items; listed = listed.now; condition = condition.now }))) }
+    ensures cause { (n : Word) → IfErr result (λ e. Explains entries.now (litmus_of (record { name = n; entries = entries.now; threads = map listing_of bodies.items; listed = listed.now; condition = condition.now })) e) }
+{
+    if bodies.len() > MAX_THREADS {
+        return Err(TestFault::TooManyThreads);
+    }
+    let locations = find_locations(alloc, entries, bodies.as_slice())?;
+    let initial = find_lasting(alloc, entries)?;
+    let threads = make_threads(alloc, entries, bodies)?;
+    check_names(
+        entries,
+        threads.as_slice(),
+        locations.as_slice(),
+        listed,
+        condition,
+    )?;
+    check_values(alloc, initial.as_slice(), threads.as_slice())?;
+    check_events(locations.as_slice(), threads.as_slice())?;
+    Ok(Parts {
+        initial,
+        threads,
+        locations,
+    })
+}
+
 /// The test that a text spells, if it keeps the rules.
 pub fn make_test(alloc: Global, draft: Draft) -> Result<Test, TestFault>
     ensures made { IfOk result (λ t. t ≡ litmus_of (written_of draft)) }
@@ -364,21 +406,16 @@ pub fn make_test(alloc: Global, draft: Draft) -> Result<Test, TestFault>
         listed,
         condition,
     } = draft;
-    if bodies.len() > MAX_THREADS {
-        return Err(TestFault::TooManyThreads);
-    }
-    let entries = entries.as_slice();
-    let locations = find_locations(alloc, entries, bodies.as_slice())?;
-    let initial = find_lasting(alloc, entries)?;
-    let threads = make_threads(alloc, entries, bodies)?;
-    check_names(
-        entries,
-        threads.as_slice(),
-        locations.as_slice(),
+    let Parts {
+        initial,
+        threads,
+        locations,
+    } = make_parts(
+        alloc,
+        entries.as_slice(),
+        bodies,
         listed.as_slice(),
         &condition,
     )?;
-    check_values(alloc, initial.as_slice(), threads.as_slice())?;
-    check_events(locations.as_slice(), threads.as_slice())?;
     Ok(Test::new(alloc, name, initial, threads, condition, listed, locations)?)
 }

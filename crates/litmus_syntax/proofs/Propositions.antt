@@ -3,7 +3,7 @@ use Rattle.std.proofs.Common.{◌≡◌, ℕ, zero, suc, ◌<◌, List, ◌∷�
 use Rattle.std.specs.Prelude.{Some, None, Ok}
 use Rattle.descent.specs.Reading.{match_option, ◌>>=◌, repeated}
 use Rattle.descent.proofs.Tools.{bind_ok, cases_of, moved, moved_look, Yields, Shows}
-use Rattle.descent.proofs.Turns.{repeated-keeps, items-more, Arrives, last, next}
+use Rattle.descent.proofs.Turns.{repeated-keeps, repeated-more, Arrives, last, next}
 use Rattle.conditions.specs.declared.place.Place.{Place}
 use Rattle.conditions.specs.declared.condition.Kind.{Kind}
 use Rattle.conditions.specs.Conditions.{Formula, truth, falsehood, equals, negation, conjunction, disjunction, implication, Condition}
@@ -200,15 +200,13 @@ or_turn_takes n ts mid rest o a b e f =
 
 pub conjunction_turn : (n : ℕ) (a : Formula) (ts : List Symbol) →
     repeated (syntax 0) (after And) (conjunction_more (propositions_below n)) a ts ≡
-    match_option (after And ts) (Ok (a, ts)) (λ x. atomic_with (propositions_below n) x.1 >>= λ y. repeated (syntax 0) (after And) (conjunction_more (propositions_below n)) (conjunction a y.0) y.1)
-unfolding conjunction_more
-conjunction_turn n = items-more (syntax 0) (after And) (conjunction_more (propositions_below n)) (conjunction_turn_takes n) (λ _ ts. atomic_with (propositions_below n) ts) conjunction (λ o a ts. refl)
+    match_option (after And ts) (Ok (a, ts)) (λ x. conjunction_more (propositions_below n) x.0 a x.1 >>= λ y. repeated (syntax 0) (after And) (conjunction_more (propositions_below n)) y.0 y.1)
+conjunction_turn n = repeated-more (syntax 0) (after And) (conjunction_more (propositions_below n)) (conjunction_turn_takes n)
 
 pub or_turn : (n : ℕ) (a : Formula) (ts : List Symbol) →
     repeated (syntax 0) (after Or) (or_more (propositions_below n)) a ts ≡
-    match_option (after Or ts) (Ok (a, ts)) (λ x. conjunction_with (propositions_below n) x.1 >>= λ y. repeated (syntax 0) (after Or) (or_more (propositions_below n)) (disjunction a y.0) y.1)
-unfolding or_more
-or_turn n = items-more (syntax 0) (after Or) (or_more (propositions_below n)) (or_turn_takes n) (λ _ ts. conjunction_with (propositions_below n) ts) disjunction (λ o a ts. refl)
+    match_option (after Or ts) (Ok (a, ts)) (λ x. or_more (propositions_below n) x.0 a x.1 >>= λ y. repeated (syntax 0) (after Or) (or_more (propositions_below n)) y.0 y.1)
+or_turn n = repeated-more (syntax 0) (after Or) (or_more (propositions_below n)) (or_turn_takes n)
 
 -- Completeness.
 

@@ -54,6 +54,10 @@ Gives view (Err (Syntax n)) rest read = read ≡ Err (syntax n)
 Gives view (Err BadOrder) rest read = read ≡ Err misordered
 Gives view (Err TooDeep) rest read = read ≡ Err deep
 
+-- what is read, turned by f
+abbrev pub turned : {A B : Type 0} → (A → B) → Reading A → Reading B
+turned f read = read >>= λ x. Ok (f x.0, x.1)
+
 -- reading stops in front of these symbols
 abbrev pub stuck : {A : Type 0} → List Symbol → Reading A
 stuck ts = Err (syntax (length ts))

@@ -1,13 +1,25 @@
 //! Conditions.
 
-ghost use Rattle.std.specs.Prelude.{◌≡◌, Some, None, MatchBool};
-ghost use Rattle.conditions.specs.Conditions.{formula_of};
-ghost use Rattle.litmus_syntax.specs.Reading.{Gives, equation_at, denial, plain_atomic_at, denied_with, enclosed_with, atomic_with, conjunction_with, or_with, proposition_with, propositions_below, kind_of_at, condition_at};
+ghost use Rattle.std.specs.Prelude.{◌≡◌, List, Some, None, MatchBool};
+ghost use Rattle.conditions.specs.Conditions.{Formula, connected, formula_of};
+ghost use Rattle.litmus_syntax.specs.declared.symbol.Symbol.{Symbol};
+ghost use Rattle.litmus_syntax.specs.Reading.{Gives, Reading, turned, equation_at, denial, plain_atomic_at, denied_with, enclosed_with, atomic_with, conjunction_with, or_with, proposition_with, propositions_below, kind_of_at, condition_at};
 
 use crate::symbol::Terminal;
 use crate::syntax::Reader;
 use crate::syntax_fault::SyntaxFault;
 use conditions::{Atom, Cond, Connective, Kind, Prop};
+
+/// What a connective makes of a proposition and of what was read behind it.
+fn join(
+    left: Prop,
+    connective: Connective,
+    right: Result<Prop, SyntaxFault>,
+) -> Result<Prop, SyntaxFault>
+    ensures { (rest : List Symbol) → (read : Reading Formula) → Gives formula_of right rest read → Gives formula_of result rest (turned (connected connective (formula_of left)) read) }
+{
+    Ok(left.joined(connective, right?)?)
+}
 
 impl<'a> Reader<'a> {
     /// place "=" number
@@ -73,8 +85,7 @@ impl<'a> Reader<'a> {
     {
         let mut left = self.atomic(nesting)?;
         while self.take(Terminal::And) {
-            let right = self.atomic(nesting)?;
-            left = left.joined(Connective::And, right)?;
+            left = join(left, Connective::And, self.atomic(nesting))?;
         }
         Ok(left)
     }
@@ -87,8 +98,7 @@ impl<'a> Reader<'a> {
     {
         let mut left = self.conjunction(nesting)?;
         while self.take(Terminal::Or) {
-            let right = self.conjunction(nesting)?;
-            left = left.joined(Connective::Or, right)?;
+            left = join(left, Connective::Or, self.conjunction(nesting))?;
         }
         Ok(left)
     }
@@ -104,8 +114,7 @@ impl<'a> Reader<'a> {
             return Ok(left);
         }
         let nesting = self.deeper(nesting)?;
-        let right = self.proposition(nesting)?;
-        Ok(left.joined(Connective::Implies, right)?)
+        join(left, Connective::Implies, self.proposition(nesting))
     }
 
     /// kind := "exists" | ("~" | "not") "exists" | "forall"

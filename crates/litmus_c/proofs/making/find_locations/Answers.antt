@@ -1,10 +1,10 @@
-use Rattle.std.proofs.Common.{◌≤◌, [], arith, ap, length, map}
+use Rattle.std.proofs.Common.{◌≤◌, ◌+◌, [], arith, ap, ◌∙◌, sym, drop, length, map}
 use Rattle.std.specs.List.{flat_map}
 use Rattle.std.proofs.lemmas.Result.{err_from_is_err_and}
 use Rattle.litmus_syntax.specs.Drafts.{listing_of}
 use Rattle.litmus_c.specs.Rules.{place_locations, parameter_names}
 use Rattle.litmus_tree.specs.Names.{with_names}
-use Rattle.litmus_c.proofs.Names.{at_least_of, explained, first_longer}
+use Rattle.litmus_c.proofs.Names.{at_least_of, next_of, explained, first_longer}
 use Rattle.litmus_c.proofs.making.find_locations.Goals as goal
 
 pub returns-in_err-locations-clause-cause : goal.returns-in_err-locations-clause-cause
@@ -24,3 +24,14 @@ returns-in_err-note_parameters-clause-cause c =
     omega (arith, at_least_of parameter_names listing_of c.body-item.result c.args.bodies.now c.loop-body.body-index c.loop-body.locations.items c.loop-body-test.true c.body-item.is, ap length c.loop-body.invariant.rest) in
     let cause = rw c.as_slice.ensures.value at c.in_err-note_parameters.ensures.cause in
     rw (p.1, p.2) (explained here (with_names xs ys) _ few cause)
+
+pub loop-body-preserved : goal.loop-body-preserved
+loop-body-preserved c =
+    let i = c.loop-body.body-index in
+    let bs = c.args.bodies.now in
+    let noted = rw c.as_slice.ensures.value at c.in_ok-note_parameters.ensures.done in
+    record {
+      rest = ap (λ ns. with_names ns (flat_map parameter_names (map listing_of (drop (i + 1) bs)))) noted ∙
+          sym (next_of parameter_names listing_of c.body-item.result bs i c.loop-body.locations.items c.loop-body-test.true c.body-item.is) ∙ c.loop-body.invariant.rest;
+      few = c.in_ok-note_parameters.ensures.few;
+    }

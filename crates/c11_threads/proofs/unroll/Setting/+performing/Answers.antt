@@ -1,18 +1,20 @@
-use Rattle.std.proofs.Common.{◌≡◌, ◌∷◌, ◌++◌, ◌∙◌, List, ◌-◌, ◌≤◌, length, ap, sym, subst, arith, IfOk, IfErr}
+use Rattle.std.proofs.Common.{◌≡◌, ◌∷◌, ◌++◌, ◌+◌, ◌∙◌, List, ◌-◌, ◌≤◌, length, ap, sym, subst, arith, rules, true, false, IfOk, IfErr, OnOk}
 use Rattle.std.specs.List.{flat_map}
 use Rattle.std.specs.Vec.Iter.{into_iter_items}
 use Rattle.std.proofs.lemmas.Result.{err_from_is_err_and}
 use Rattle.std.proofs.lemmas.List.{length-map}
 use Rattle.litmus_tree.specs.declared.tree.RightSide.TheVariants.{Value as Value'}
-use Rattle.litmus_tree.specs.declared.tree.Statement.TheVariants.{Assign as Assign'}
+use Rattle.litmus_tree.specs.declared.tree.Statement.TheVariants.{Assign as Assign', If as If'}
 use Rattle.litmus_tree.proofs.tree.Statement.TheLaws.{the_size}
-use Rattle.litmus_tree.specs.Tree.{step_of}
+use Rattle.litmus_tree.specs.Tree.{step_of, term_of}
 use denote.Param.Weighed.{at_most}
 use Rattle.c11_threads.specs.Runs.{Progress}
-use Rattle.c11_threads.specs.Unrolled.{step_runs}
+use Rattle.c11_threads.specs.declared.content.Content.{Content}
+use Rattle.c11_threads.specs.Contents.{joined}
+use Rattle.c11_threads.specs.Unrolled.{under, holds, step_runs}
 use Rattle.c11_threads.specs.Faults.{IsFaultAt}
 use Rattle.c11_threads.proofs.Filling.{joined_on, all_joined, still_within}
-use Rattle.c11_threads.proofs.Turns.{Ways, some_step, way_fault, further, turned, turn_fault, after_idle, in_value, in_block, serves_at}
+use Rattle.c11_threads.proofs.Turns.{Ways, arm_taken, arm_behind_else, some_step, way_fault, further, turned, turn_fault, after_idle, in_value, in_block, serves_at}
 use Rattle.c11_threads.proofs.unroll.Setting.+performing.Goals as goal
 
 pub perform-returns-in-Empty-clause-fault : goal.perform-returns-in-Empty-clause-fault
@@ -23,6 +25,42 @@ perform-returns-in-Write-clause-fault n c = c.store.ensures.fault _ _ _
 
 pub perform-returns-in-None-clause-fault : goal.perform-returns-in-None-clause-fault
 perform-returns-in-None-clause-fault n c = c.add-in-None.ensures.fault _ _ _
+
+pub perform-returns-then-test-ne0-clause-done : goal.perform-returns-then-test-ne0-clause-done
+perform-returns-then-test-ne0-clause-done n c =
+    let s = c.args.self.now in
+    let e = term_of c.in-If.expression in
+    let test : holds s e c.args.from ≡ true = search rules in
+    let inside : c.joined-inside.result ≡ under s c.args.ctrl.now e c.args.from = c.joined-inside.ensures ∙ ap (λ (w : Content). joined c.args.ctrl.now w.reads) c.content-test.ensures in
+    let P : List Progress → Type 0 = λ rs. OnOk c.perform.result ((c.perform.new.ends.items ≡ c.args.ends.now.items ++ rs) × (length c.perform.new.ends.items ≤ c.args.most)) in
+    subst P (arm_taken s c.args.ctrl.now c.args.from c.args.statement.now c.in-If.expression c.in-If.first c.in-If.second c.in-If.is test) (rw (inside, c.deref.ensures) at c.perform.ensures.done)
+
+pub perform-returns-then-test-ne0-clause-fault : goal.perform-returns-then-test-ne0-clause-fault
+perform-returns-then-test-ne0-clause-fault n c =
+    let s = c.args.self.now in
+    let e = term_of c.in-If.expression in
+    let test : holds s e c.args.from ≡ true = search rules in
+    let inside : c.joined-inside.result ≡ under s c.args.ctrl.now e c.args.from = c.joined-inside.ensures ∙ ap (λ (w : Content). joined c.args.ctrl.now w.reads) c.content-test.ensures in
+    let P : List Progress → Type 0 = λ rs. IfErr c.perform.result (IsFaultAt c.args.self.now.thread c.args.most (length c.args.ends.now.items + length rs)) in
+    subst P (arm_taken s c.args.ctrl.now c.args.from c.args.statement.now c.in-If.expression c.in-If.first c.in-If.second c.in-If.is test) (rw (inside, c.deref.ensures) at c.perform.ensures.fault)
+
+pub perform-returns-in-Some-clause-done : goal.perform-returns-in-Some-clause-done
+perform-returns-in-Some-clause-done n c =
+    let s = c.args.self.now in
+    let e = term_of c.in-If.expression in
+    let test : holds s e c.args.from ≡ false = search rules in
+    let inside : c.joined-inside.result ≡ under s c.args.ctrl.now e c.args.from = c.joined-inside.ensures ∙ ap (λ (w : Content). joined c.args.ctrl.now w.reads) c.content-test.ensures in
+    let P : List Progress → Type 0 = λ rs. OnOk c.perform-in-Some.result ((c.perform-in-Some.new.ends.items ≡ c.args.ends.now.items ++ rs) × (length c.perform-in-Some.new.ends.items ≤ c.args.most)) in
+    subst P (arm_behind_else s c.args.ctrl.now c.args.from c.args.statement.now c.in-If.expression c.in-If.first c.in-Some.second (c.in-If.is ∙ ap (If' c.in-If.expression c.in-If.first) c.in-Some.is) test) (rw (inside, c.deref-in-Some.ensures) at c.perform-in-Some.ensures.done)
+
+pub perform-returns-in-Some-clause-fault : goal.perform-returns-in-Some-clause-fault
+perform-returns-in-Some-clause-fault n c =
+    let s = c.args.self.now in
+    let e = term_of c.in-If.expression in
+    let test : holds s e c.args.from ≡ false = search rules in
+    let inside : c.joined-inside.result ≡ under s c.args.ctrl.now e c.args.from = c.joined-inside.ensures ∙ ap (λ (w : Content). joined c.args.ctrl.now w.reads) c.content-test.ensures in
+    let P : List Progress → Type 0 = λ rs. IfErr c.perform-in-Some.result (IsFaultAt c.args.self.now.thread c.args.most (length c.args.ends.now.items + length rs)) in
+    subst P (arm_behind_else s c.args.ctrl.now c.args.from c.args.statement.now c.in-If.expression c.in-If.first c.in-Some.second (c.in-If.is ∙ ap (If' c.in-If.expression c.in-If.first) c.in-Some.is) test) (rw (inside, c.deref-in-Some.ensures) at c.perform-in-Some.ensures.fault)
 
 pub perform_all-returns-in_err-ends-clause-fault : goal.perform_all-returns-in_err-ends-clause-fault
 perform_all-returns-in_err-ends-clause-fault n c =

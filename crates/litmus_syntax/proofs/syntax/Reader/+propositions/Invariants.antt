@@ -21,16 +21,16 @@ decreases-proposition l = 4 * l.nesting + 3
 
 -- what is behind the operand so far, read on, is what the level reads
 
-abbrev pub invariant-conjunction-loop-self : goal.invariant-conjunction-loop-self
-invariant-conjunction-loop-self l =
+abbrev pub invariant-conjunction-loop-left : goal.invariant-conjunction-loop-left
+invariant-conjunction-loop-left l =
     repeated (syntax 0) (after And) (conjunction_more (propositions_below l.nesting)) (formula_of l.left) l.self.rest.now ≡ conjunction_with (propositions_below l.nesting) l.fn.self.rest.now
 
-abbrev pub decreases-conjunction-loop-self : goal.decreases-conjunction-loop-self
-decreases-conjunction-loop-self l = length l.self.rest.now
+abbrev pub decreases-conjunction-loop-left : goal.decreases-conjunction-loop-left
+decreases-conjunction-loop-left l = length l.self.rest.now
 
-abbrev pub invariant-disjunction-loop-self : goal.invariant-disjunction-loop-self
-invariant-disjunction-loop-self l =
+abbrev pub invariant-disjunction-loop-left : goal.invariant-disjunction-loop-left
+invariant-disjunction-loop-left l =
     repeated (syntax 0) (after Or) (or_more (propositions_below l.nesting)) (formula_of l.left) l.self.rest.now ≡ or_with (propositions_below l.nesting) l.fn.self.rest.now
 
-abbrev pub decreases-disjunction-loop-self : goal.decreases-disjunction-loop-self
-decreases-disjunction-loop-self l = length l.self.rest.now
+abbrev pub decreases-disjunction-loop-left : goal.decreases-disjunction-loop-left
+decreases-disjunction-loop-left l = length l.self.rest.now
