@@ -4,15 +4,16 @@ ghost use Rattle.std.specs.Prelude.{◌≡◌};
 ghost use Rattle.litmus_c.specs.Labels.{test_label};
 
 use std::alloc::{AllocError, AllocFailed};
-use std::error::Error;
-use std::fmt;
-use std::fmt::Write;
+use thiserror::Error;
 use wb_text::{Name, TextFault};
 
 /// Why a text is no test. The numbers are those of the printed refusals.
-#[derive(Debug, Drop, PartialEq, Eq)]
+#[derive(Debug, Drop, PartialEq, Eq, Error)]
+#[error("{}", self.label())]
 pub enum TestFault {
+    #[error("{label} {0}", label = self.label())]
     Text(TextFault),
+    #[error("{label} {0}", label = self.label())]
     Syntax(usize),
     /// A call with an order that it doesn't take.
     BadOrder,
@@ -23,6 +24,7 @@ pub enum TestFault {
     /// A call on a location that is a parameter of type `int*`.
     AtomicOnPlain,
     /// A word of C or of the kernel that the language leaves out.
+    #[error("{label} {0}", label = self.label())]
     Unsupported(Name),
     /// More than 32 levels of nesting.
     TooDeep,
@@ -62,21 +64,6 @@ impl TestFault {
         }
     }
 }
-
-/// The label, and behind it what the fault holds.
-impl fmt::Display for TestFault {
-    fn fmt<W: fmt::Write>(&self, f: &mut fmt::Formatter<W>) -> fmt::Result {
-        f.write_str(self.label())?;
-        match self {
-            TestFault::Text(fault) => write!(f, " {fault}"),
-            TestFault::Syntax(offset) => write!(f, " {offset}"),
-            TestFault::Unsupported(word) => write!(f, " {word}"),
-            _ => Ok(()),
-        }
-    }
-}
-
-impl Error for TestFault {}
 
 impl From<AllocError> for TestFault {
     ghost use Rattle.litmus_c.specs.declared.fault.TestFault.TheVariants.{NoMemory};
