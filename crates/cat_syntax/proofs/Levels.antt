@@ -1,24 +1,24 @@
 -- What the loops and the recursion of the levels use.
 use Rattle.std.proofs.lemmas.List.{map-append}
-use Rattle.std.proofs.Common.{◌≡◌, ◌∙◌, ℕ, zero, suc, ◌<◌, ◌≤◌, List, [], ◌∷◌, ◌++◌, map, length, arith, ap, sym, refl, inl, inr}
-use Rattle.std.specs.Prelude.{Some, None, Ok, Err, if◌then◌else◌}
+use Rattle.std.proofs.lemmas.Bool.{cases_Bool}
+use Rattle.std.proofs.Common.{◌≡◌, ◌∙◌, ℕ, zero, suc, ◌<◌, ◌≤◌, List, [], ◌∷◌, ◌++◌, map, length, arith, ap, sym, subst, refl, true, false, inl, inr}
+use Rattle.std.specs.Prelude.{Some, Ok, Err, if◌then◌else◌}
 use Rattle.cat_syntax.specs.declared.symbol.Terminal.{Terminal}
-use Rattle.cat_syntax.specs.declared.symbol.Terminal.TheVariants.{Domain, Range, LeftParen, RightParen, LeftBracket, Comma}
+use Rattle.cat_syntax.specs.declared.symbol.Terminal.TheVariants.{Domain, Range, Underscore, Zero, LeftBrace, RightBrace, Tilde, LeftParen, RightParen, LeftBracket, Comma}
 use Rattle.descent.specs.Reading.{required, Look, match_option, ◌>>=◌, repeated}
-use Rattle.descent.proofs.Tools.{required_ok, bind_ok, moved, moved_look, none_or_some, ok_or_err}
+use Rattle.descent.proofs.Tools.{required_ok, bind_ok, cases_of, moved, moved_look, none_or_some, ok_or_err}
 use Rattle.descent.proofs.Turns.{repeated-more}
 use Rattle.cat_tree.specs.declared.node.Infix.{Infix}
 use Rattle.cat_syntax.specs.declared.operator.Enclosure.{Enclosure}
 use Rattle.cat_syntax.specs.declared.operator.Postfix.{Postfix}
-use Rattle.cat_syntax.specs.declared.syntax_fault.SyntaxFault.{SyntaxFault}
-use Rattle.cat_syntax.specs.declared.syntax_fault.SyntaxFault.TheVariants.{Unexpected, BoundTwice, RecursiveFunction, TooDeep, NoMemory}
+use Rattle.cat_syntax.specs.declared.syntax_fault.SyntaxFault.TheVariants.{Unexpected, TooDeep}
 use Rattle.cat_syntax.specs.declared.symbol.Symbol.{Symbol}
 use Rattle.cat_syntax.specs.declared.symbol.Symbol.TheVariants.{Fixed}
 use Rattle.cat_tree.specs.declared.expression.Expression.{Expression}
 use Rattle.cat_tree.specs.Terms.{nest}
-use Rattle.cat_tree.specs.Tree.{Word, Term, term_of, pair_of}
+use Rattle.cat_tree.specs.Tree.{Word, Term, term_of, pair_of, complement, name, universe, empty_relation, empty_set}
 use Rattle.cat_syntax.specs.Grammar.{joined}
-use Rattle.cat_syntax.specs.Reading.{Stop, Reading, OrNoMemory, after, expected, name_at, push_item, separated, begins_call, arguments_with, call_with, infix_at, postfix_at, applied_at, next_operand, chain_right, right, signed, enclosure_at, leaf_at, enclosed_with, primary_with, level_with, below, cut}
+use Rattle.cat_syntax.specs.Reading.{Stop, Reading, after, expected, name_at, push_item, separated, begins_call, arguments_with, call_with, infix_at, associates_left, postfix_at, applied_at, next_operand, chain_right, left, right, signed, enclosure_at, opened, leaf_at, enclosed_with, primary_with, postfix_with, unary_with, level_with, below, cut}
 use Rattle.cat_syntax.proofs.Separated.{turn_shorter, list-more, after_no_longer}
 use Rattle.cat_syntax.proofs.Symbols as symbols
 use Rattle.cat_syntax.proofs.Sound.{level-shorter, level_is}
@@ -41,18 +41,82 @@ after_takes = symbols.after_takes
 pub name_takes : (ts rest : List Symbol) (x : Word) → name_at ts ≡ Ok (x, rest) → length rest < length ts
 name_takes ts rest x e = omega (arith, ap length (symbols.name-ok ts rest x e))
 
+pub leaf_parts : (ts : List Symbol) →
+    leaf_at ts ≡ match_option (after Underscore ts)
+    (match_option (after Zero ts)
+    (match_option (after LeftBrace ts) (name_at ts >>= λ x. Ok (name x.0, x.1)) (λ y. expected RightBrace y.1 >>= λ z. Ok (empty_set, z.1)))
+    (λ y. Ok (empty_relation, y.1)))
+    (λ y. Ok (universe, y.1))
+unfolding leaf_at after name_at expected
+leaf_parts (Fixed Zero ∷ ts) = refl
+leaf_parts [] = refl
+leaf_parts (t ∷ ts) = refl
+
 -- the ways into an operand
 
 without-sign : (r : Reading Term) → r ≡ (r >>= λ x. Ok (x.0, x.1))
 without-sign (Ok x) = refl
 without-sign (Err d) = refl
 
-pub primary_parts : (n : ℕ) (ts : List Symbol) →
+primary_enclosed : (n : ℕ) (ts : List Symbol) →
     primary_with (below n) ts ≡ match_option (enclosure_at ts) (if begins_call ts then call_with (below n) ts else leaf_at ts) (λ y. enclosed_with (below n) y.0.opening y.0.closing y.1 >>= λ x. Ok (signed y.0.sign x.0, x.1))
 unfolding primary_with enclosure_at leaf_at begins_call call_with name_at
-primary_parts n (Fixed LeftParen ∷ ts) = without-sign (enclosed_with (below n) LeftParen RightParen (Fixed LeftParen ∷ ts))
-primary_parts n [] = refl
-primary_parts n (t ∷ ts) = refl
+primary_enclosed n (Fixed LeftParen ∷ ts) = without-sign (enclosed_with (below n) LeftParen RightParen (Fixed LeftParen ∷ ts))
+primary_enclosed n [] = refl
+primary_enclosed n (t ∷ ts) = refl
+
+-- the closing sign, and what stands between the signs with what is before them
+abbrev pub closed : Enclosure → Term × List Symbol → Reading Term
+closed e a = expected e.closing a.1 >>= λ z. Ok (signed e.sign a.0, z.1)
+
+enclosed_parts : (n : ℕ) (e : Enclosure) (ts : List Symbol) →
+    (enclosed_with (below n) e.opening e.closing ts >>= λ x. Ok (signed e.sign x.0, x.1)) ≡ (opened n e.opening ts >>= λ m. level_with (below m.0) 5 m.1 >>= closed e)
+unfolding enclosed_with expected below opened
+enclosed_parts zero e ts =
+    elim (none_or_some (after e.opening ts)) [
+      | inl f ↦ rw f refl
+      | inr (x, f) ↦ rw f refl
+    ]
+enclosed_parts (suc n) e ts =
+    elim (none_or_some (after e.opening ts)) [
+      | inl f ↦ rw f refl
+      | inr (x, f) ↦ rw f (elim (ok_or_err (level_with (below n) 5 x.1)) [
+        | inl (d, g) ↦ rw g refl
+        | inr (a, g) ↦ rw g (elim (none_or_some (after e.closing a.1)) [
+          | inl h ↦ rw h refl
+          | inr (y, h) ↦ rw h refl
+        ])
+      ])
+    ]
+
+pub primary_parts : (n : ℕ) (ts : List Symbol) →
+    primary_with (below n) ts ≡ match_option (enclosure_at ts) (if begins_call ts then call_with (below n) ts else leaf_at ts) (λ y. opened n y.0.opening y.1 >>= λ m. level_with (below m.0) 5 m.1 >>= closed y.0)
+primary_parts n ts =
+    primary_enclosed n ts ∙ elim (none_or_some (enclosure_at ts)) [
+      | inl f ↦ rw f refl
+      | inr (y, f) ↦ rw f (enclosed_parts n y.0 y.1)
+    ]
+
+pub unary_parts : (n : ℕ) (ts : List Symbol) →
+    unary_with (below n) ts ≡ match_option (after Tilde ts) (postfix_with (below n) ts) (λ _. opened n Tilde ts >>= λ m. unary_with (below m.0) m.1 >>= λ x. Ok (complement x.0, x.1))
+unfolding unary_with after opened below
+unary_parts zero (Fixed Tilde ∷ ts) = refl
+unary_parts (suc n) (Fixed Tilde ∷ ts) = refl
+unary_parts n [] = refl
+unary_parts n (t ∷ ts) = refl
+
+pub opened_takes : (m : ℕ) (t : Terminal) (ts rest : List Symbol) (n : ℕ) → opened m t ts ≡ Ok (n, rest) → length rest < length ts
+unfolding opened
+opened_takes zero t ts rest n e =
+    elim (cases_of (after t ts) (Err (Unexpected, ts)) (λ _. Err (TooDeep, ts)) (Ok (n, rest)) e) [
+      | inl f ↦ let g = f.1 in absurd (cc)
+      | inr f ↦ let g = f.2 in absurd (cc)
+    ]
+opened_takes (suc m) t ts rest n e =
+    elim (cases_of (after t ts) (Err (Unexpected, ts)) (λ y. Ok (m, y.1)) (Ok (n, rest)) e) [
+      | inl f ↦ let g = f.1 in absurd (cc)
+      | inr f ↦ moved (λ l _. length l < length ts) f.2 (symbols.after_takes t ts f.0.1 f.0.0 f.1)
+    ]
 
 pub enclosure_takes : (ts rest : List Symbol) (o : Enclosure) → enclosure_at ts ≡ Some (o, rest) → length rest ≤ length ts
 unfolding enclosure_at
@@ -84,43 +148,6 @@ postfix_more = repeated-more cut postfix_at applied_at postfix_shorter
 
 -- arguments
 
-pub arguments_none : (n : ℕ) (ts : List Symbol) → after LeftParen ts ≡ None → arguments_with (below n) ts ≡ Err (Unexpected, ts)
-unfolding arguments_with expected
-arguments_none n ts e = rw e refl
-
-pub arguments_closed : (n : ℕ) (ts : List Symbol) (y : Unit {0} × List Symbol) → n ≡ 0 → after LeftParen ts ≡ Some y → arguments_with (below n) ts ≡ Err (TooDeep, ts)
-unfolding arguments_with separated expected below
-arguments_closed n ts y z e = rw (z, e) refl
-
--- what stands between the parentheses
-pub arguments_open : (m n : ℕ) (ts mid : List Symbol) (u : Unit {0}) → m ≡ suc n → expected LeftParen ts ≡ Ok (u, mid) →
-    arguments_with (below m) ts ≡ (separated Comma (λ _. level_with (below n) 5) mid >>= λ x. expected RightParen x.1 >>= λ z. Ok (x.0, z.1))
-unfolding arguments_with below
-arguments_open m n ts mid u s e = rw (s, e) refl
-
-pub arguments_read : (m n : ℕ) (ts mid behind rest : List Symbol) (u v : Unit {0}) (as' : List Term) → m ≡ suc n → expected LeftParen ts ≡ Ok (u, mid) → separated Comma (λ _. level_with (below n) 5) mid ≡ Ok (as', behind) →
-    expected RightParen behind ≡ Ok (v, rest) → arguments_with (below m) ts ≡ Ok (as', rest)
-arguments_read m n ts mid behind rest u v as' s e f g = rw (arguments_open m n ts mid u s e, f, g) refl
-
-or-memory : (e : SyntaxFault) (P Q : Type 0) → (P → Q) → OrNoMemory e P → OrNoMemory e Q
-or-memory NoMemory P Q f h = tt
-or-memory Unexpected P Q f h = f h
-or-memory BoundTwice P Q f h = f h
-or-memory RecursiveFunction P Q f h = f h
-or-memory TooDeep P Q f h = f h
-
--- one of them isn't read
-pub arguments_stop : (m n : ℕ) (ts mid rest : List Symbol) (u : Unit {0}) (e : SyntaxFault) → m ≡ suc n → expected LeftParen ts ≡ Ok (u, mid) → OrNoMemory e (separated Comma (λ _. level_with (below n) 5) mid ≡ Err (e, rest)) →
-    OrNoMemory e (arguments_with (below m) ts ≡ Err (e, rest))
-arguments_stop m n ts mid rest u e s f h =
-    or-memory e (separated Comma (λ _. level_with (below n) 5) mid ≡ Err (e, rest)) (arguments_with (below m) ts ≡ Err (e, rest)) (λ g. rw (arguments_open m n ts mid u s f, g) refl) h
-
--- the parenthesis isn't closed
-pub arguments_left : (m n : ℕ) (ts mid behind rest : List Symbol) (u : Unit {0}) (as' : List Term) (e : SyntaxFault) → m ≡ suc n → expected LeftParen ts ≡ Ok (u, mid) → separated Comma (λ _. level_with (below n) 5) mid ≡ Ok (as', behind) →
-    OrNoMemory e (expected RightParen behind ≡ Err (e, rest)) → OrNoMemory e (arguments_with (below m) ts ≡ Err (e, rest))
-arguments_left m n ts mid behind rest u as' e s f g h =
-    or-memory e (expected RightParen behind ≡ Err (e, rest)) (arguments_with (below m) ts ≡ Err (e, rest)) (λ k. rw (arguments_open m n ts mid u s f, g, k) refl) h
-
 pub arguments_more : (n : ℕ) (as' : List Term) (ts : List Symbol) →
     repeated cut (after Comma) (push_item (λ _. level_with (below n) 5)) as' ts ≡
     match_option (after Comma ts) (Ok (as', ts)) (λ x. push_item (λ _. level_with (below n) 5) x.0 as' x.1 >>= λ y. repeated cut (after Comma) (push_item (λ _. level_with (below n) 5)) y.0 y.1)
@@ -133,10 +160,6 @@ arguments_shorter n = turn_shorter (after Comma) (λ _. level_with (below n) 5) 
 unfoldable pub arguments_from : ℕ → List Term → List Symbol → Reading (List Term)
 arguments_from n as' ts = push_item (λ _. level_with (below n) 5) tt as' ts >>= λ y. repeated cut (after Comma) (push_item (λ _. level_with (below n) 5)) y.0 y.1
 
-pub arguments_start : (n : ℕ) (ts : List Symbol) → separated Comma (λ _. level_with (below n) 5) ts ≡ arguments_from n [] ts
-unfolding separated arguments_from
-arguments_start n ts = refl
-
 pub arguments_turn : (n : ℕ) (as' : List Term) (ts : List Symbol) →
     arguments_from n as' ts ≡ (level_with (below n) 5 ts >>= λ x. match_option (after Comma x.1) (Ok (as' ++ x.0 ∷ [], x.1)) (λ y. arguments_from n (as' ++ x.0 ∷ []) y.1))
 unfolding arguments_from
@@ -145,6 +168,40 @@ arguments_turn n as' ts =
       | inl (d, f) ↦ rw f refl
       | inr (x, f) ↦ rw (f, arguments_more n (as' ++ x.0 ∷ []) x.1) refl
     ]
+
+-- what is read behind the arguments so far, up to the parenthesis
+unfoldable pub arguments_closed : ℕ → List Term → List Symbol → Reading (List Term)
+arguments_closed n as' ts = arguments_from n as' ts >>= λ x. expected RightParen x.1 >>= λ z. Ok (x.0, z.1)
+
+pub arguments_start : (n : ℕ) (ts : List Symbol) → arguments_with (below n) ts ≡ (opened n LeftParen ts >>= λ m. arguments_closed m.0 [] m.1)
+unfolding arguments_with expected opened below arguments_closed arguments_from separated
+arguments_start zero ts =
+    elim (none_or_some (after LeftParen ts)) [
+      | inl f ↦ rw f refl
+      | inr (x, f) ↦ rw f refl
+    ]
+arguments_start (suc n) ts =
+    elim (none_or_some (after LeftParen ts)) [
+      | inl f ↦ rw f refl
+      | inr (x, f) ↦ rw f refl
+    ]
+
+pub arguments_next : (n : ℕ) (as' : List Term) (ts : List Symbol) →
+    arguments_closed n as' ts ≡ (level_with (below n) 5 ts >>= λ x. match_option (after Comma x.1) (expected RightParen x.1 >>= λ z. Ok (as' ++ x.0 ∷ [], z.1)) (λ y. arguments_closed n (as' ++ x.0 ∷ []) y.1))
+unfolding arguments_closed
+arguments_next n as' ts =
+    rw (arguments_turn n as' ts) (elim (ok_or_err (level_with (below n) 5 ts)) [
+      | inl (d, f) ↦ rw f refl
+      | inr (x, f) ↦ rw f (elim (none_or_some (after Comma x.1)) [
+        | inl g ↦ rw g refl
+        | inr (y, g) ↦ rw g refl
+      ])
+    ])
+
+pub arguments_turned : (n : ℕ) (es : List Expression) (e : Expression) (ts mid rest : List Symbol) (r : Reading (List Term)) →
+    arguments_closed n (map term_of es) ts ≡ r → level_with (below n) 5 ts ≡ Ok (term_of e, mid) → after Comma mid ≡ Some (tt, rest) → arguments_closed n (map term_of (es ++ e ∷ [])) rest ≡ r
+arguments_turned n es e ts mid rest r was f g =
+    rw (map-append term_of es (e ∷ [])) (sym (arguments_next n (map term_of es) ts ∙ rw (f, g) refl) ∙ was)
 
 pub terms_push : (es : List Expression) (e : Expression) → map term_of (es ++ e ∷ []) ≡ map term_of es ++ term_of e ∷ []
 terms_push es e = map-append term_of es (e ∷ [])
@@ -191,57 +248,78 @@ abbrev behind : ℕ → ℕ → Term → List Symbol → Reading Term
 behind n k a ts = match_option (infix_at k ts) (Ok (a, ts)) (λ o. right (infix_at k) (level_with (below n) k) o.1 >>= λ y. Ok (joined o.0 a y.0, y.1))
 
 -- the left operands xs before what is read
-enclosing : List (Infix × Expression) → Reading Term → Reading Term
+enclosing : List (Infix × Term) → Reading Term → Reading Term
 enclosing xs (Err d) = Err d
-enclosing xs (Ok y) = Ok (nest (map pair_of xs) y.0, y.1)
-
--- what is read behind the operand a, where the left operands xs stand before it
-unfoldable pub chained : ℕ → ℕ → List (Infix × Expression) → Term → List Symbol → Reading Term
-unfolding enclosing
-chained n k xs a ts = enclosing xs (behind n k a ts)
+enclosing xs (Ok y) = Ok (nest xs y.0, y.1)
 
 enclosing_nothing : (r : Reading Term) → r ≡ enclosing [] r
 unfolding enclosing
 enclosing_nothing (Err d) = refl
 enclosing_nothing (Ok y) = refl
 
-nest_push : (xs : List (Infix × Expression)) (x : Infix × Expression) (b : Term) → nest (map pair_of (xs ++ x ∷ [])) b ≡ nest (map pair_of xs) (joined x.0 (term_of x.1) b)
+nest_push : (xs : List (Infix × Term)) (x : Infix × Term) (b : Term) → nest (xs ++ x ∷ []) b ≡ nest xs (joined x.0 x.1 b)
 nest_push [] x b = refl
-nest_push (y ∷ xs) x b = ap (joined y.0 (term_of y.1)) (nest_push xs x b)
+nest_push (y ∷ xs) x b = ap (joined y.0 y.1) (nest_push xs x b)
 
--- one more operator before what is read
-joining : Infix → Term → Term × List Symbol → Reading Term
-joining o a y = Ok (joined o a y.0, y.1)
-
-enclosing_more : (xs : List (Infix × Expression)) (o : Infix) (e : Expression) (r : Reading Term) → enclosing xs (r >>= joining o (term_of e)) ≡ enclosing (xs ++ (o, e) ∷ []) r
-unfolding enclosing joining
-enclosing_more xs o e (Err d) = refl
-enclosing_more xs o e (Ok y) = ap (λ b. Ok (b, y.1)) (sym (nest_push xs (o, e) y.0))
-
-none_enclosed : (r : Reading Term) (f : Term × List Symbol → Reading Term) → (r >>= f) ≡ (r >>= λ x. enclosing [] (f x))
-none_enclosed (Err d) f = refl
-none_enclosed (Ok x) f = enclosing_nothing (f x)
-
-one_enclosed : (xs : List (Infix × Expression)) (o : Infix) (e : Expression) (f : Term × List Symbol → Reading Term) (r : Reading Term) →
-    enclosing xs ((r >>= f) >>= joining o (term_of e)) ≡ (r >>= λ x. enclosing (xs ++ (o, e) ∷ []) (f x))
+enclosing_more : (xs : List (Infix × Term)) (o : Infix) (a : Term) (r : Reading Term) → enclosing xs (r >>= λ y. Ok (joined o a y.0, y.1)) ≡ enclosing (xs ++ (o, a) ∷ []) r
 unfolding enclosing
-one_enclosed xs o e f (Err d) = refl
-one_enclosed xs o e f (Ok x) = enclosing_more xs o e (f x)
+enclosing_more xs o a (Err d) = refl
+enclosing_more xs o a (Ok y) = ap (λ b. Ok (b, y.1)) (sym (nest_push xs (o, a) y.0))
 
-pub right_start : (n k : ℕ) (ts : List Symbol) → right (infix_at k) (level_with (below n) k) ts ≡ (level_with (below n) k ts >>= λ x. chained n k [] x.0 x.1)
-unfolding chained
-right_start n k ts = right_more n k ts ∙ none_enclosed (level_with (below n) k ts) (λ x. behind n k x.0 x.1)
+-- What is read behind the last operand of a level, where others wait on its left.
+unfoldable pub chained : ℕ → ℕ → List (Infix × Term) × Term → List Symbol → Reading Term
+unfolding enclosing
+chained n k p ts = enclosing p.0 (if associates_left k then repeated cut (infix_at k) (next_operand (level_with (below n) k)) p.1 ts else behind n k p.1 ts)
 
-turned : (n k : ℕ) (xs : List (Infix × Expression)) (e : Expression) (ts : List Symbol) (look : Look Symbol Infix) →
-    enclosing xs (match_option look (Ok (term_of e, ts)) (λ o. right (infix_at k) (level_with (below n) k) o.1 >>= joining o.0 (term_of e))) ≡
-    match_option look (Ok (nest (map pair_of xs) (term_of e), ts)) (λ o. level_with (below n) k o.1 >>= λ y. chained n k (xs ++ (o.0, e) ∷ []) y.0 y.1)
+pub level_start : (n k : ℕ) (ts : List Symbol) → level_with (below n) (suc k) ts ≡ (level_with (below n) k ts >>= λ x. chained n k ([], x.0) x.1)
+unfolding chained level_with left enclosing
+level_start n k ts =
+    elim (cases_Bool (associates_left k)) [
+      | inl t ↦ rw t (elim (ok_or_err (level_with (below n) k ts)) [
+        | inl (d, f) ↦ rw f refl
+        | inr (x, f) ↦ rw f (enclosing_nothing (repeated cut (infix_at k) (next_operand (level_with (below n) k)) x.0 x.1))
+      ])
+      | inr t ↦ rw t (right_more n k ts ∙ elim (ok_or_err (level_with (below n) k ts)) [
+        | inl (d, f) ↦ rw f refl
+        | inr (x, f) ↦ rw f (enclosing_nothing (behind n k x.0 x.1))
+      ])
+    ]
+
+-- one more operand b: what waits on the left of the last operand, and that operand
+abbrev advanced : ℕ → List (Infix × Term) → Term → Infix → Term → List (Infix × Term) × Term
+advanced k xs a o b = if associates_left k then (xs, joined o a b) else (xs ++ (o, a) ∷ [], b)
+
+pub level_turn : (n k : ℕ) (xs : List (Infix × Term)) (a : Term) (ts : List Symbol) →
+    chained n k (xs, a) ts ≡ match_option (infix_at k ts) (Ok (nest xs a, ts)) (λ o. level_with (below n) k o.1 >>= λ y. chained n k (advanced k xs a o.0 y.0) y.1)
 unfolding chained enclosing
-turned n k xs e ts None = refl
-turned n k xs e ts (Some o) =
-    ap (λ r. enclosing xs (r >>= joining o.0 (term_of e))) (right_more n k o.1) ∙ one_enclosed xs o.0 e (λ x. behind n k x.0 x.1) (level_with (below n) k o.1)
+level_turn n k xs a ts =
+    elim (cases_Bool (associates_left k)) [
+      | inl t ↦ rw t (rw (left_more n k a ts) (elim (none_or_some (infix_at k ts)) [
+        | inl e ↦ rw e refl
+        | inr (o, e) ↦ rw e (elim (ok_or_err (level_with (below n) k o.1)) [
+          | inl (d, f) ↦ rw f refl
+          | inr (y, f) ↦ rw f refl
+        ])
+      ]))
+      | inr t ↦ rw t (elim (none_or_some (infix_at k ts)) [
+        | inl e ↦ rw e refl
+        | inr (o, e) ↦ rw e (rw (right_more n k o.1) (elim (ok_or_err (level_with (below n) k o.1)) [
+          | inl (d, f) ↦ rw f refl
+          | inr (y, f) ↦ rw f (enclosing_more xs o.0 a (behind n k y.0 y.1))
+        ]))
+      ])
+    ]
 
-pub right_turn : (n k : ℕ) (xs : List (Infix × Expression)) (e : Expression) (ts : List Symbol) →
-    chained n k xs (term_of e) ts ≡
-    match_option (infix_at k ts) (Ok (nest (map pair_of xs) (term_of e), ts)) (λ o. level_with (below n) k o.1 >>= λ y. chained n k (xs ++ (o.0, e) ∷ []) y.0 y.1)
-unfolding chained joining
-right_turn n k xs e ts = turned n k xs e ts (infix_at k ts)
+level_turned : (n k : ℕ) (xs : List (Infix × Term)) (a b : Term) (ts mid rest : List Symbol) (o : Infix) (r : Reading Term) →
+    chained n k (xs, a) ts ≡ r → infix_at k ts ≡ Some (o, mid) → level_with (below n) k mid ≡ Ok (b, rest) → chained n k (advanced k xs a o b) rest ≡ r
+level_turned n k xs a b ts mid rest o r was e f = sym (level_turn n k xs a ts ∙ rw (e, f) refl) ∙ was
+
+pub left_turned : (n k : ℕ) (xs : List (Infix × Term)) (a b c : Term) (ts mid rest : List Symbol) (o : Infix) (r : Reading Term) →
+    chained n k (xs, a) ts ≡ r → infix_at k ts ≡ Some (o, mid) → level_with (below n) k mid ≡ Ok (b, rest) → associates_left k ≡ true → c ≡ joined o a b → chained n k (xs, c) rest ≡ r
+left_turned n k xs a b c ts mid rest o r was e f g h =
+    rw h (subst (λ l. chained n k (if l then (xs, joined o a b) else (xs ++ (o, a) ∷ [], b)) rest ≡ r) g (level_turned n k xs a b ts mid rest o r was e f))
+
+pub right_turned : (n k : ℕ) (xs : List (Infix × Expression)) (a : Expression) (b : Term) (ts mid rest : List Symbol) (o : Infix) (r : Reading Term) →
+    chained n k (map pair_of xs, term_of a) ts ≡ r → infix_at k ts ≡ Some (o, mid) → level_with (below n) k mid ≡ Ok (b, rest) → associates_left k ≡ false → chained n k (map pair_of (xs ++ (o, a) ∷ []), b) rest ≡ r
+right_turned n k xs a b ts mid rest o r was e f g =
+    rw (map-append pair_of xs ((o, a) ∷ [])) (subst (λ l. chained n k (if l then (map pair_of xs, joined o (term_of a) b) else (map pair_of xs ++ (o, term_of a) ∷ [], b)) rest ≡ r) g (level_turned n k (map pair_of xs) (term_of a) b ts mid rest o r was e f))

@@ -234,6 +234,11 @@ unfoldable pub below : ℕ → Inner
 below zero = record { level = λ at _. Err (TooDeep, at); unary = λ at _. Err (TooDeep, at) }
 below (suc n) = record { level = λ _. level_with (below n) 5; unary = λ _. unary_with (below n) }
 
+-- a sign, and how deep may nest what stands behind it
+unfoldable pub opened : ℕ → Terminal → List Symbol → Reading ℕ
+opened zero t ts = match_option (after t ts) (Err (Unexpected, ts)) (λ _. Err (TooDeep, ts))
+opened (suc n) t ts = match_option (after t ts) (Err (Unexpected, ts)) (λ y. Ok (n, y.1))
+
 -- items
 
 unfoldable pub expression_at : List Symbol → Reading Term

@@ -1,14 +1,13 @@
 //! The reader: recursive descent over the symbols of a text.
 
 ghost use Rattle.std.specs.Prelude.{◌≡◌, ◌<◌, ◌≤◌, ℕ, List, drop, length, Some, None, Ok, Err, IfOk, IfErr, MatchBool, MatchResult, option_map};
-ghost use Rattle.std.proofs.Common.{suc};
 ghost use Rattle.cat_syntax.specs.Items.{IsFile};
 ghost use Rattle.cat_syntax.specs.Reads.{Reads, IsRefused, Tells, IsUnexpected, left_out as word_left_out, offset_of as first_offset};
 ghost use Rattle.cat_syntax.specs.Stops.{StopsAt, IsExcess};
 ghost use Rattle.cat_syntax.specs.Nodes.{nodes};
 ghost use Rattle.cat_tree.specs.Tree.{File};
 ghost use Rattle.cat_syntax.specs.declared.fault.CatFault.TheVariants.{NoMemory};
-ghost use Rattle.cat_syntax.specs.declared.syntax_fault.SyntaxFault.TheVariants.{TooDeep, NoMemory as NoSpace};
+ghost use Rattle.cat_syntax.specs.declared.syntax_fault.SyntaxFault.TheVariants.{NoMemory as NoSpace};
 ghost use Rattle.cat_syntax.specs.Reading.{Gives, OrNoMemory, after, expected, name_at, next_name as name_ahead};
 
 mod expressions;
@@ -30,17 +29,6 @@ struct Reader<'a> {
 }
 
 impl<'a> Reader<'a> {
-    /// What may nest in something that may nest `nesting` deep.
-    fn deeper(&self, nesting: u32) -> Result<u32, SyntaxFault>
-        ensures ok { IfOk result (λ n. nesting ≡ suc n) }
-        ensures err { IfErr result (λ e. (nesting ≡ 0) × (e ≡ TooDeep)) }
-    {
-        if nesting == 0 {
-            return Err(SyntaxFault::TooDeep);
-        }
-        Ok(nesting - 1)
-    }
-
     /// Whether this terminal comes next.
     #[tactic(auto, unfolding(crate::specs::Reading::after))]
     fn sees(&self, terminal: Terminal) -> bool

@@ -1,10 +1,10 @@
 //! Expressions, by a table of levels of operators.
 
-ghost use Rattle.std.specs.Prelude.{◌≡◌, ℕ, List, map, IfOk};
-ghost use Rattle.cat_tree.specs.Tree.{Term, term_of};
+ghost use Rattle.std.specs.Prelude.{◌≡◌, List, Ok, map, IfOk};
+ghost use Rattle.cat_tree.specs.Tree.{term_of};
+ghost use Rattle.descent.specs.Reading.{repeated};
 ghost use Rattle.cat_syntax.specs.Grammar.{begins_operand as operand_next, begins_check as check_next};
-ghost use Rattle.cat_syntax.specs.declared.symbol.Terminal.TheVariants.{Comma};
-ghost use Rattle.cat_syntax.specs.Reading.{Gives, Takes, applied, infix_at, associates_left as is_left, postfix_at, enclosed_with, separated, arguments_with, call_with, opens_arguments as arguments_next, begins_call as call_next, parentheses, signed as sign_over, enclosure_at, leaf_at, opens_operand as terminal_opens, primary_with, postfix_with, unary_with, left, right, level_with, below, expression_at};
+ghost use Rattle.cat_syntax.specs.Reading.{Gives, Takes, cut, applied, applied_at, infix_at, associates_left as is_left, postfix_at, arguments_with, call_with, opens_arguments as arguments_next, begins_call as call_next, parentheses, signed as sign_over, enclosure_at, opened, leaf_at, opens_operand as terminal_opens, primary_with, unary_with, level_with, below, expression_at};
 
 use crate::operator::{Enclosure, Postfix};
 use crate::reading::Reader;
@@ -119,11 +119,11 @@ fn apply(operator: Postfix, operand: Expression) -> Result<Expression, AllocErro
 }
 
 /// The expression that a sign makes of another, if one stands there.
-fn signed(sign: Option<Sign>, operand: Expression) -> Result<Expression, AllocError>
-    ensures { IfOk result (λ e. term_of e ≡ sign_over sign (term_of operand)) }
+fn signed(sign: Option<Sign>, operand: Expression) -> Result<Expression, SyntaxFault>
+    ensures { (ts : List Symbol) → Gives term_of result ts (Ok (sign_over sign (term_of operand), ts)) }
 {
     match sign {
-        Some(sign) => operand.applied(sign),
+        Some(sign) => Ok(operand.applied(sign)?),
         None => Ok(operand),
     }
 }
@@ -181,77 +181,47 @@ impl<'a> Reader<'a> {
 
     /// level 0 := unary; level k + 1 := level k {operator of level k} level k
     #[cycle(expressions)]
-    #[tactic(auto, unfolding(crate::specs::Reading::level_with))]
+    #[tactic(auto, unfolding(crate::specs::Reading::level_with), using(crate::proofs::Levels::level_start, crate::proofs::Levels::level_turn, crate::proofs::Levels::level_takes, crate::proofs::Levels::infix_takes))]
     fn level(&mut self, level: u32, nesting: u32) -> Result<Expression, SyntaxFault>
         ensures { Gives term_of result self.new.rest.now (level_with (below nesting) level self.old.rest.now) }
     {
         let Some(tighter) = level.checked_sub(1) else {
             return self.unary(nesting);
         };
-        if associates_left(tighter) {
-            self.left(tighter, nesting)
-        } else {
-            self.right(tighter, nesting)
-        }
-    }
-
-    /// Operands of a level, joined from the left.
-    #[cycle(expressions)]
-    #[tactic(auto, unfolding(crate::specs::Reading::left), using(crate::proofs::Levels::left_more, crate::proofs::Levels::level_takes, crate::proofs::Levels::infix_takes))]
-    fn left(&mut self, level: u32, nesting: u32) -> Result<Expression, SyntaxFault>
-        ensures { Gives term_of result self.new.rest.now (left (infix_at level) (level_with (below nesting) level) self.old.rest.now) }
-    {
-        let mut left = self.level(level, nesting)?;
-        while let Some(operator) = self.infix(level) {
-            let right = self.level(level, nesting)?;
-            left = left.joined(operator, right)?;
-        }
-        Ok(left)
-    }
-
-    /// Operands of a level, joined from the right.
-    #[cycle(expressions)]
-    #[tactic(auto, using(crate::proofs::Levels::right_start, crate::proofs::Levels::right_turn, crate::proofs::Levels::level_takes, crate::proofs::Levels::infix_takes))]
-    fn right(&mut self, level: u32, nesting: u32) -> Result<Expression, SyntaxFault>
-        ensures { Gives term_of result self.new.rest.now (right (infix_at level) (level_with (below nesting) level) self.old.rest.now) }
-    {
+        let mut last = self.level(tighter, nesting)?;
         let mut lefts = Vec::new(self.alloc);
-        let mut last = self.level(level, nesting)?;
-        while let Some(operator) = self.infix(level) {
-            let next = self.level(level, nesting)?;
-            lefts.push((operator, last))?;
-            last = next;
+        while let Some(operator) = self.infix(tighter) {
+            let next = self.level(tighter, nesting)?;
+            if associates_left(tighter) {
+                last = last.joined(operator, next)?;
+            } else {
+                lefts.push((operator, last))?;
+                last = next;
+            }
         }
         Ok(Expression::nested(self.alloc, lefts, last)?)
     }
 
-    /// unary := "~" unary | postfix
+    /// unary := "~" unary | primary {"+" | "*" | "?" | "^-1"}
     #[cycle(expressions)]
-    #[tactic(auto, unfolding(crate::specs::Reading::unary_with, crate::specs::Reading::below))]
+    #[tactic(auto, unfolding(crate::specs::Reading::postfix_with), using(crate::proofs::Levels::unary_parts, crate::proofs::Levels::opened_takes))]
     fn unary(&mut self, nesting: u32) -> Result<Expression, SyntaxFault>
         ensures { Gives term_of result self.new.rest.now (unary_with (below nesting) self.old.rest.now) }
     {
-        let [first, rest @ ..] = self.rest else {
-            return self.postfix(nesting);
-        };
-        match first {
-            Symbol::Fixed(Terminal::Tilde) => {
-                let nesting = self.deeper(nesting)?;
-                self.rest = rest;
-                let operand = self.unary(nesting)?;
-                Ok(operand.applied(Sign::Complement)?)
-            }
-            _ => self.postfix(nesting),
+        if self.sees(Terminal::Tilde) {
+            let inner = self.open(Terminal::Tilde, nesting)?;
+            let operand = self.unary(inner)?;
+            return signed(Some(Sign::Complement), operand);
         }
+        let operand = self.primary(nesting)?;
+        self.postfixed(operand)
     }
 
-    /// postfix := primary {"+" | "*" | "?" | "^-1"}
-    #[cycle(expressions)]
-    #[tactic(auto, unfolding(crate::specs::Reading::postfix_with), using(crate::proofs::Levels::postfix_more, crate::proofs::Levels::postfix_takes))]
-    fn postfix(&mut self, nesting: u32) -> Result<Expression, SyntaxFault>
-        ensures { Gives term_of result self.new.rest.now (postfix_with (below nesting) self.old.rest.now) }
+    /// What the operators that stand behind an operand make of it.
+    #[tactic(auto, using(crate::proofs::Levels::postfix_more, crate::proofs::Levels::postfix_takes))]
+    fn postfixed(&mut self, mut operand: Expression) -> Result<Expression, SyntaxFault>
+        ensures { Gives term_of result self.new.rest.now (repeated cut postfix_at applied_at (term_of operand) self.old.rest.now) }
     {
-        let mut operand = self.primary(nesting)?;
         while let Some(operator) = self.postfix_sign() {
             operand = apply(operator, operand)?;
         }
@@ -282,31 +252,40 @@ impl<'a> Reader<'a> {
     }
 
     /// name | "_" | "0" | "{" "}"
-    #[tactic(auto, unfolding(crate::specs::Reading::leaf_at))]
+    #[tactic(auto, unfolding(crate::specs::Reading::expected), using(crate::proofs::Levels::leaf_parts))]
     fn leaf(&mut self) -> Result<Expression, SyntaxFault>
         ensures { Gives term_of result self.new.rest.now (leaf_at self.old.rest.now) }
     {
-        let [first, rest @ ..] = self.rest else {
-            return Err(SyntaxFault::Unexpected);
+        let leaf = if self.take(Terminal::Underscore) {
+            Leaf::Universe
+        } else if self.take(Terminal::Zero) {
+            Leaf::EmptyRelation
+        } else if self.take(Terminal::LeftBrace) {
+            self.expect(Terminal::RightBrace)?;
+            Leaf::EmptySet
+        } else {
+            Leaf::Name(self.name()?)
         };
-        let leaf = match first {
-            Symbol::Name(spelling) => Leaf::Name(spelling.name(self.alloc)?),
-            Symbol::Fixed(Terminal::Underscore) => Leaf::Universe,
-            Symbol::Fixed(Terminal::Zero) => Leaf::EmptyRelation,
-            Symbol::Fixed(Terminal::LeftBrace) => {
-                self.rest = rest;
-                self.expect(Terminal::RightBrace)?;
-                return Ok(Expression::leaf(self.alloc, Leaf::EmptySet)?);
-            }
-            _ => return Err(SyntaxFault::Unexpected),
-        };
-        self.rest = rest;
         Ok(Expression::leaf(self.alloc, leaf)?)
+    }
+
+    /// Takes a sign behind which more may nest, and gives how deep.
+    #[tactic(auto, unfolding(crate::specs::Reading::opened, crate::specs::Reading::expected))]
+    fn open(&mut self, opening: Terminal, nesting: u32) -> Result<u32, SyntaxFault>
+        ensures { Gives (λ n. n) result self.new.rest.now (opened nesting opening self.old.rest.now) }
+    {
+        if !self.sees(opening) {
+            return Err(SyntaxFault::Unexpected);
+        }
+        let Some(inner) = nesting.checked_sub(1) else {
+            return Err(SyntaxFault::TooDeep);
+        };
+        self.expect(opening).and(Ok(inner))
     }
 
     /// primary := leaf | "(" level 5 ")" | "[" level 5 "]" | ("domain" | "range") "(" level 5 ")" | call
     #[cycle(expressions)]
-    #[tactic(auto, using(crate::proofs::Levels::primary_parts, crate::proofs::Levels::enclosure_takes))]
+    #[tactic(auto, using(crate::proofs::Levels::primary_parts, crate::proofs::Levels::enclosure_takes, crate::proofs::Levels::opened_takes))]
     fn primary(&mut self, nesting: u32) -> Result<Expression, SyntaxFault>
         ensures { Gives term_of result self.new.rest.now (primary_with (below nesting) self.old.rest.now) }
     {
@@ -316,29 +295,10 @@ impl<'a> Reader<'a> {
             }
             return self.leaf();
         };
-        let inner = self.enclosed(enclosure.opening, enclosure.closing, nesting)?;
-        Ok(signed(enclosure.sign, inner)?)
-    }
-
-    /// An expression between two signs.
-    #[cycle(expressions)]
-    #[tactic(auto, unfolding(crate::specs::Reading::enclosed_with, crate::specs::Reading::expected, crate::specs::Reading::below), using(crate::proofs::Levels::required_takes))]
-    fn enclosed(
-        &mut self,
-        opening: Terminal,
-        closing: Terminal,
-        nesting: u32,
-    ) -> Result<Expression, SyntaxFault>
-        ensures { Gives term_of result self.new.rest.now (enclosed_with (below nesting) opening closing self.old.rest.now) }
-    {
-        if !self.sees(opening) {
-            return Err(SyntaxFault::Unexpected);
-        }
-        let nesting = self.deeper(nesting)?;
-        self.expect(opening)?;
-        let inner = self.level(LEVELS, nesting)?;
-        self.expect(closing)?;
-        Ok(inner)
+        let inner = self.open(enclosure.opening, nesting)?;
+        let expression = self.level(LEVELS, inner)?;
+        self.expect(enclosure.closing)?;
+        signed(enclosure.sign, expression)
     }
 
     /// call := name arguments
@@ -352,34 +312,19 @@ impl<'a> Reader<'a> {
         Ok(Expression::call(self.alloc, name, arguments)?)
     }
 
-    /// arguments := "(" listed ")"
+    /// arguments := "(" level 5 {"," level 5} ")"
     #[cycle(expressions)]
-    #[tactic(auto, unfolding(crate::specs::Reading::expected), using(crate::proofs::Levels::required_takes, crate::proofs::Levels::arguments_none, crate::proofs::Levels::arguments_closed, crate::proofs::Levels::arguments_open))]
+    #[tactic(auto, using(crate::proofs::Levels::arguments_start, crate::proofs::Levels::arguments_next, crate::proofs::Levels::terms_push, crate::proofs::Levels::after_takes, crate::proofs::Levels::level_takes, crate::proofs::Levels::opened_takes))]
     fn arguments(&mut self, nesting: u32) -> Result<Vec<Expression>, SyntaxFault>
         ensures { Gives (λ v. map term_of v.items) result self.new.rest.now (arguments_with (below nesting) self.old.rest.now) }
     {
-        if !self.sees(Terminal::LeftParen) {
-            return Err(SyntaxFault::Unexpected);
-        }
-        let nesting = self.deeper(nesting)?;
-        self.expect(Terminal::LeftParen)?;
-        let arguments = self.listed(nesting)?;
-        self.expect(Terminal::RightParen)?;
-        Ok(arguments)
-    }
-
-    /// listed := level 5 {"," level 5}
-    #[cycle(expressions)]
-    #[tactic(auto, using(crate::proofs::Levels::arguments_start, crate::proofs::Levels::arguments_turn, crate::proofs::Levels::terms_push, crate::proofs::Levels::after_takes, crate::proofs::Levels::level_takes))]
-    fn listed(&mut self, nesting: u32) -> Result<Vec<Expression>, SyntaxFault>
-        ensures { Gives (λ v. map term_of v.items) result self.new.rest.now (separated Comma (λ _. level_with (below nesting) 5) self.old.rest.now) }
-    {
-        let mut expressions = Vec::new(self.alloc);
+        let inner = self.open(Terminal::LeftParen, nesting)?;
+        let mut arguments = Vec::new(self.alloc);
         loop {
-            let next = self.level(LEVELS, nesting)?;
-            expressions.push(next)?;
+            let next = self.level(LEVELS, inner)?;
+            arguments.push(next)?;
             if !self.take(Terminal::Comma) {
-                return Ok(expressions);
+                return self.expect(Terminal::RightParen).and(Ok(arguments));
             }
         }
     }

@@ -1,4 +1,5 @@
-use Rattle.std.proofs.Common.{◌+◌, ℕ, length, map, take, refl, subst, ◌∙◌}
+use Rattle.std.proofs.Common.{◌+◌, ℕ, List, length, map, take, refl, sym, subst, ◌∙◌}
+use Rattle.std.proofs.lemmas.List.{append-nil, take_all}
 use Rattle.cat_tree.specs.Tree.{bound_of}
 use Rattle.cat_tree.specs.declared.tree.Binding.{Binding}
 use Rattle.cat_eval.specs.Lowered.{Replace}
@@ -26,3 +27,17 @@ loop-number-preserved c =
           let d = c.in_ok-bind_value.ensures.kept m a.0 in
           (d.0, d.1 ∙ a.1));
     }
+
+pub loop-number-init : goal.loop-number-init
+loop-number-init c = record { values = sym (append-nil c.args.values.now.items); replace = λ fs R h. h; bound = λ n h. h; kept = λ n l. (l, refl) }
+
+pub returns-clause-replace : goal.returns-clause-replace
+returns-clause-replace c = λ fs R h.
+    (let P : List Binding → Type 0 = λ bs. Replace fs c.loop-number.names.items (with_value_texts (length c.args.values.now.items) (map bound_of bs) R) in
+    subst P (take_all c.loop-number.number c.args.bindings.now c.loop-number-test.false) (c.loop-number.invariant.replace fs R h))
+
+pub returns-clause-bound : goal.returns-clause-bound
+returns-clause-bound c = c.loop-number.invariant.bound
+
+pub returns-clause-kept : goal.returns-clause-kept
+returns-clause-kept c = c.loop-number.invariant.kept

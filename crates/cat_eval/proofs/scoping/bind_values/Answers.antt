@@ -1,7 +1,8 @@
-use Rattle.std.proofs.Common.{◌≡◌, ◌+◌, ◌++◌, ℕ, List, length, map, take, subst, arith, sym, ◌∙◌, ap}
-use Rattle.std.proofs.lemmas.List.{append_assoc, length-append}
+use Rattle.std.proofs.Common.{◌≡◌, ◌+◌, ◌++◌, ℕ, List, length, map, take, refl, subst, arith, sym, ◌∙◌, ap}
+use Rattle.std.proofs.lemmas.List.{append-nil, append_assoc, length-append, take_all}
 use Rattle.cat_tree.specs.Tree as trees
 use Rattle.cat_tree.specs.Tree.{defined_of, values_in}
+use Rattle.cat_tree.specs.declared.tree.Definition.{Definition}
 use Rattle.cat_eval.specs.Lowered.{Replace}
 use Rattle.cat_eval.specs.Planned.{value_of, run_from}
 use Rattle.cat_eval.specs.Replacing.{Replacing, with_value_texts}
@@ -50,3 +51,22 @@ loop-definition-preserved c =
           let e = c.in_ok-place.ensures.kept m a.0 in
           (e.0, e.1 ∙ a.1));
     }
+
+pub loop-definition-init : goal.loop-definition-init
+loop-definition-init c = record { place = omega arith; values = sym (append-nil c.args.values.now.items); replace = λ fs R h. h; bound = λ n h. h; kept = λ n l. (l, refl) }
+
+pub returns-clause-values : goal.returns-clause-values
+returns-clause-values c =
+    let P : List Definition → Type 0 = λ ds. c.loop-definition.values.items ≡ c.args.values.now.items ++ run_from c.args.from (length (values_in (map defined_of ds))) in
+    subst P (take_all c.loop-definition.definition-index c.args.definitions.now c.loop-definition-test.false) c.loop-definition.invariant.values
+
+pub returns-clause-replace : goal.returns-clause-replace
+returns-clause-replace c = λ fs R h.
+    (let P : List Definition → Type 0 = λ ds. Replace fs c.loop-definition.names.items (with_value_texts (length c.args.values.now.items) (values_in (map defined_of ds)) R) in
+    subst P (take_all c.loop-definition.definition-index c.args.definitions.now c.loop-definition-test.false) (c.loop-definition.invariant.replace fs R h))
+
+pub returns-clause-bound : goal.returns-clause-bound
+returns-clause-bound c = c.loop-definition.invariant.bound
+
+pub returns-clause-kept : goal.returns-clause-kept
+returns-clause-kept c = c.loop-definition.invariant.kept

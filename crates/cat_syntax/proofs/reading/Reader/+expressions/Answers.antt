@@ -1,30 +1,37 @@
-use Rattle.std.proofs.Common.{◌∙◌, ap, sym, arith, map}
-use Rattle.std.proofs.lemmas.Result.{err_from_is_err_and}
-use Rattle.cat_tree.specs.Tree.{term_of}
-use Rattle.cat_syntax.proofs.Levels.{arguments_from, arguments_start, arguments_read, arguments_stop, arguments_left}
+use Rattle.std.proofs.Common.{◌∙◌, sym, arith, map}
+use Rattle.cat_tree.specs.Tree.{term_of, pair_of}
+use Rattle.cat_syntax.proofs.Levels.{arguments_turned, after_takes, level_takes, left_turned, right_turned, infix_takes}
+use Rattle.cat_syntax.specs.declared.symbol.Terminal.TheVariants.{Comma}
 use Rattle.cat_syntax.proofs.reading.Reader.+expressions.Goals as goal
 
-pub arguments-returns-in_err-arguments : goal.arguments-returns-in_err-arguments
-arguments-returns-in_err-arguments t c =
-    let p = err_from_is_err_and c.from_residual-in_err-arguments.result c.from_residual-in_err-arguments.ensures.1 in
-    rw (p.1, p.2) (
-    arguments_stop c.args.nesting c.in_ok-nesting.nesting c.args.self.now.rest.now c.expect.new.self.rest.now c.listed.new.self.rest.now c.in_ok-expect.field-0 c.in_err-arguments.field-0.0
-    c.in_ok-nesting.ensures.ok c.in_ok-expect.ensures c.in_err-arguments.ensures
-    )
+pub arguments-loop-arguments-preserved : goal.arguments-loop-arguments-preserved
+arguments-loop-arguments-preserved t c = (
+  rw c.in_ok-push.ensures.items (arguments_turned c.in_ok-inner.inner c.loop-arguments.arguments.items c.in_ok-next.next c.loop-arguments.self.rest.now c.level.new.self.rest.now c.take.new.self.rest.now _ c.loop-arguments.invariant.0 c.in_ok-next.ensures c.if-not-take.ensures),
+  omega (arith, c.loop-arguments.invariant.1, after_takes Comma c.level.new.self.rest.now c.take.new.self.rest.now tt c.if-not-take.ensures, level_takes c.in_ok-inner.inner 5 c.loop-arguments.self.rest.now c.level.new.self.rest.now (term_of c.in_ok-next.next) c.in_ok-next.ensures),
+)
 
-pub arguments-returns-in_err-expect-2 : goal.arguments-returns-in_err-expect-2
-arguments-returns-in_err-expect-2 t c =
-    let p = err_from_is_err_and c.from_residual-in_err-expect-2.result c.from_residual-in_err-expect-2.ensures.1 in
-    rw (p.1, p.2) (
-    arguments_left c.args.nesting c.in_ok-nesting.nesting c.args.self.now.rest.now c.expect.new.self.rest.now c.listed.new.self.rest.now c.expect-2.new.self.rest.now c.in_ok-expect.field-0 (map term_of c.in_ok-arguments.arguments.items) c.in_err-expect-2.field-0.0
-    c.in_ok-nesting.ensures.ok c.in_ok-expect.ensures c.in_ok-arguments.ensures c.in_err-expect-2.ensures
-    )
+pub level-loop-operator-preserved : goal.level-loop-operator-preserved
+level-loop-operator-preserved t c = (
+  rw c.in_ok-push.ensures.items (right_turned c.args.nesting c.in-Some.tighter c.loop-operator.lefts.items c.loop-operator.last (term_of c.in_ok-next.next)
+      c.loop-operator.self.rest.now c.infix.new.self.rest.now c.level-in-Some-infix.new.self.rest.now c.in-Some-infix.operator _
+      c.loop-operator.invariant.0 c.in-Some-infix.ensures c.in_ok-next.ensures (sym c.associates_left.ensures ∙ c.if-associates_left.false)),
+  omega (
+    arith,
+    c.loop-operator.invariant.1,
+    infix_takes c.in-Some.tighter c.loop-operator.self.rest.now c.infix.new.self.rest.now c.in-Some-infix.operator c.in-Some-infix.ensures,
+    level_takes c.args.nesting c.in-Some.tighter c.infix.new.self.rest.now c.level-in-Some-infix.new.self.rest.now (term_of c.in_ok-next.next) c.in_ok-next.ensures,
+  ),
+)
 
-pub arguments-returns : goal.arguments-returns
-arguments-returns t c =
-    arguments_read c.args.nesting c.in_ok-nesting.nesting c.args.self.now.rest.now c.expect.new.self.rest.now c.listed.new.self.rest.now c.expect-2.new.self.rest.now c.in_ok-expect.field-0 c.in_ok-expect-2.field-0 (map term_of c.in_ok-arguments.arguments.items)
-    c.in_ok-nesting.ensures.ok c.in_ok-expect.ensures c.in_ok-arguments.ensures c.in_ok-expect-2.ensures
-
-pub listed-loop-expressions-init : goal.listed-loop-expressions-init
-listed-loop-expressions-init t c =
-    (ap (λ l. arguments_from c.args.nesting (map term_of l) c.args.self.now.rest.now) c.new-expressions.ensures.items ∙ sym (arguments_start c.args.nesting c.args.self.now.rest.now), omega arith)
+pub level-loop-operator-preserved-then-associates_left : goal.level-loop-operator-preserved-then-associates_left
+level-loop-operator-preserved-then-associates_left t c = (
+  left_turned c.args.nesting c.in-Some.tighter (map pair_of c.loop-operator.lefts.items) (term_of c.loop-operator.last) (term_of c.in_ok-next.next) (term_of c.in_ok-last-2.last)
+      c.loop-operator.self.rest.now c.infix.new.self.rest.now c.level-in-Some-infix.new.self.rest.now c.in-Some-infix.operator _
+      c.loop-operator.invariant.0 c.in-Some-infix.ensures c.in_ok-next.ensures (sym c.associates_left.ensures ∙ c.if-associates_left.true) c.in_ok-last-2.ensures,
+  omega (
+    arith,
+    c.loop-operator.invariant.1,
+    infix_takes c.in-Some.tighter c.loop-operator.self.rest.now c.infix.new.self.rest.now c.in-Some-infix.operator c.in-Some-infix.ensures,
+    level_takes c.args.nesting c.in-Some.tighter c.infix.new.self.rest.now c.level-in-Some-infix.new.self.rest.now (term_of c.in_ok-next.next) c.in_ok-next.ensures,
+  ),
+)
