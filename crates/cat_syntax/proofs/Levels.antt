@@ -32,9 +32,6 @@ postfix_takes = symbols.postfix_takes
 pub level_takes : (n k : ℕ) (ts rest : List Symbol) (a : Term) → level_with (below n) k ts ≡ Ok (a, rest) → length rest < length ts
 level_takes n k ts rest a e = level-shorter (level_is n k ts rest a e)
 
-pub required_takes : (t : Terminal) (ts rest : List Symbol) (u : Unit {0}) → required {F = Stop} (Unexpected, ts) (after t ts) ≡ Ok (u, rest) → length rest < length ts
-required_takes t ts rest u e = symbols.after_takes t ts rest u (required_ok (Unexpected, ts) (after t ts) (u, rest) e)
-
 pub after_takes : (t : Terminal) (ts rest : List Symbol) (u : Unit {0}) → after t ts ≡ Some (u, rest) → length rest < length ts
 after_takes = symbols.after_takes
 
