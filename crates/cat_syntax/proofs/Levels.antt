@@ -5,8 +5,8 @@ use Rattle.std.proofs.Common.{◌≡◌, ◌∙◌, ℕ, zero, suc, ◌<◌, ◌
 use Rattle.std.specs.Prelude.{Some, Ok, Err, if◌then◌else◌}
 use Rattle.cat_syntax.specs.declared.symbol.Terminal.{Terminal}
 use Rattle.cat_syntax.specs.declared.symbol.Terminal.TheVariants.{Domain, Range, Underscore, Zero, LeftBrace, RightBrace, Tilde, LeftParen, RightParen, LeftBracket, Comma}
-use Rattle.descent.specs.Reading.{required, Look, match_option, ◌>>=◌, repeated}
-use Rattle.descent.proofs.Tools.{required_ok, bind_ok, cases_of, moved, moved_look, none_or_some, ok_or_err}
+use Rattle.descent.specs.Reading.{Look, match_option, ◌>>=◌, repeated}
+use Rattle.descent.proofs.Tools.{bind_ok, cases_of, moved, moved_look, none_or_some, ok_or_err}
 use Rattle.descent.proofs.Turns.{repeated-more}
 use Rattle.cat_tree.specs.declared.node.Infix.{Infix}
 use Rattle.cat_syntax.specs.declared.operator.Enclosure.{Enclosure}
@@ -18,7 +18,7 @@ use Rattle.cat_tree.specs.declared.expression.Expression.{Expression}
 use Rattle.cat_tree.specs.Terms.{nest}
 use Rattle.cat_tree.specs.Tree.{Word, Term, term_of, pair_of, complement, name, universe, empty_relation, empty_set}
 use Rattle.cat_syntax.specs.Grammar.{joined}
-use Rattle.cat_syntax.specs.Reading.{Stop, Reading, after, expected, name_at, push_item, separated, begins_call, arguments_with, call_with, infix_at, associates_left, postfix_at, applied_at, next_operand, chain_right, left, right, signed, enclosure_at, opened, leaf_at, enclosed_with, primary_with, postfix_with, unary_with, level_with, below, cut}
+use Rattle.cat_syntax.specs.Reading.{Reading, after, expected, name_at, push_item, separated, begins_call, arguments_with, call_with, infix_at, associates_left, postfix_at, applied_at, next_operand, chain_right, left, right, signed, enclosure_at, opened, leaf_at, enclosed_with, primary_with, postfix_with, unary_with, level_with, below, cut}
 use Rattle.cat_syntax.proofs.Separated.{turn_shorter, list-more, after_no_longer}
 use Rattle.cat_syntax.proofs.Symbols as symbols
 use Rattle.cat_syntax.proofs.Sound.{level-shorter, level_is}
