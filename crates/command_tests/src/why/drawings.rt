@@ -149,60 +149,77 @@ fn are_drawn(alloc: Global, told: &Told, graph: &Graph, as_text: &[u8], as_dot: 
     is_drawn(alloc, told, graph, false, as_text) && is_drawn(alloc, told, graph, true, as_dot)
 }
 
-/// What makes what is told of an execution.
-type MakeTold = fn(Global) -> Result<Told, AllocError>;
+/// The executions that are drawn, and what is told of them.
+#[derive(Clone, Copy)]
+enum Case {
+    /// Store buffering under sc.
+    Cycle,
+    /// Store buffering, with names in quotes.
+    Odd,
+    /// A graph without reads, of which no more is told.
+    Plain,
+    /// Exchanges under a check that is denied.
+    Denied,
+}
 
-/// What makes an execution.
-type MakeGraph = fn(Global) -> Result<Graph, AllocError>;
+fn told_of(alloc: Global, case: Case) -> Result<Told, AllocError> {
+    match case {
+        Case::Cycle => sc_of_store_buffering(alloc),
+        Case::Odd => odd_names(alloc),
+        Case::Plain => plain(alloc),
+        Case::Denied => denied(alloc),
+    }
+}
 
-/// Whether both drawings of this execution are these.
-fn are_drawn_of(alloc: Global, told: &Told, make: MakeGraph, as_text: &[u8], as_dot: &[u8]) -> bool
-    requires { IsAlwaysCallable make }
-{
-    match again!(make(alloc)) {
+fn graph_of(alloc: Global, case: Case) -> Result<Graph, AllocError> {
+    match case {
+        Case::Cycle | Case::Odd => store_buffering(alloc),
+        Case::Plain => alone(alloc),
+        Case::Denied => exchanged(alloc),
+    }
+}
+
+/// Whether both drawings of a case, of which this is told, are these.
+fn are_drawn_of(alloc: Global, case: Case, told: &Told, as_text: &[u8], as_dot: &[u8]) -> bool {
+    match again!(graph_of(alloc, case)) {
         Ok(graph) => are_drawn(alloc, told, &graph, as_text, as_dot),
         Err(_) => false,
     }
 }
 
-/// Whether both drawings of this execution, of which this is told, are these.
-fn draws(alloc: Global, make_told: MakeTold, make: MakeGraph, as_text: &[u8], as_dot: &[u8]) -> bool
-    requires told { IsAlwaysCallable make_told }
-    requires graph { IsAlwaysCallable make }
-{
-    match again!(make_told(alloc)) {
-        Ok(told) => are_drawn_of(alloc, &told, make, as_text, as_dot),
+/// Whether both drawings of a case are these.
+fn draws(alloc: Global, case: Case, as_text: &[u8], as_dot: &[u8]) -> bool {
+    match again!(told_of(alloc, case)) {
+        Ok(told) => are_drawn_of(alloc, case, &told, as_text, as_dot),
         Err(_) => false,
     }
 }
 
 #[test]
 fn store_buffering_under_sc(rt: HostRuntime) {
-    let (as_text, as_dot) = (STORE_BUFFERING_TEXT, STORE_BUFFERING_DOT);
     assert!(rt;
         draws(
             rt.alloc(),
-            sc_of_store_buffering,
-            store_buffering,
-            as_text,
-            as_dot
+            Case::Cycle,
+            STORE_BUFFERING_TEXT,
+            STORE_BUFFERING_DOT
         )
     );
 }
 
 #[test]
 fn names_in_quotes(rt: HostRuntime) {
-    assert!(rt; draws(rt.alloc(), odd_names, store_buffering, ODD_TEXT, ODD_DOT));
+    assert!(rt; draws(rt.alloc(), Case::Odd, ODD_TEXT, ODD_DOT));
 }
 
 #[test]
 fn an_execution_without_reads(rt: HostRuntime) {
-    assert!(rt; draws(rt.alloc(), plain, alone, ALONE_TEXT, ALONE_DOT));
+    assert!(rt; draws(rt.alloc(), Case::Plain, ALONE_TEXT, ALONE_DOT));
 }
 
 #[test]
 fn exchanges_under_a_denied_check(rt: HostRuntime) {
-    assert!(rt; draws(rt.alloc(), denied, exchanged, EXCHANGED_TEXT, EXCHANGED_DOT));
+    assert!(rt; draws(rt.alloc(), Case::Denied, EXCHANGED_TEXT, EXCHANGED_DOT));
 }
 
 /// What is written to a writer with so much room.
