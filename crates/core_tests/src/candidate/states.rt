@@ -1,23 +1,16 @@
 //! Propositions at states, the places that conditions observe, and copies.
 
+use crate::names::name;
 use crate::rows::all_so;
 use conditions::{
     Atom, Binding, Cond, Connective, Kind, Place, Prop, State, holds, observed, ok_of,
 };
 use std::alloc::{AllocError, Global};
-use wb_text::Name;
 
 /// A place as the tests write it.
 enum Spot {
     Register(usize, &'static [u8]),
     Location(&'static [u8]),
-}
-
-fn name(alloc: Global, bytes: &[u8]) -> Result<Name, AllocError> {
-    match Name::new(alloc, bytes) {
-        Ok(name) => Ok(name),
-        Err(_) => Err(AllocError),
-    }
 }
 
 fn place(alloc: Global, spot: &Spot) -> Result<Place, AllocError> {

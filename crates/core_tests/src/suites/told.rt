@@ -2,6 +2,7 @@
 //!
 //! The expected bytes are written by hand, after the definitions of `suite`.
 
+use crate::names::name;
 use cat_model::Model;
 use slices::Verdict;
 use std::alloc::{AllocError, Global};
@@ -33,13 +34,6 @@ const SUMMARY: &[u8] =
 
 const OBJECT: &[u8] =
     b"{\"digests\":\"sc.cat=0123456789abcdef\",\"file\":\"SB.litmus\",\"flags\":[],\"kind\":\"Allowed\",\"milliseconds\":7,\"model\":\"sc.cat\",\"name\":\"SB\",\"negative\":3,\"ok\":false,\"positive\":0,\"states\":3,\"word\":\"Never\"}";
-
-fn name(alloc: Global, bytes: &[u8]) -> Result<Name, AllocError> {
-    match Name::new(alloc, bytes) {
-        Ok(name) => Ok(name),
-        Err(_) => Err(AllocError),
-    }
-}
 
 /// The texts of the model, under these names.
 fn texts<'a>(root: &'a Name, base: &'a Name) -> [CatText<'a>; 2] {

@@ -5,6 +5,7 @@
 mod expected;
 mod graphs;
 
+use crate::names::name;
 use drawing::{Broken, Chain, DrawFault, Drawing, Step, dot, text, write_dot, write_text};
 use events::Graph;
 use expected::*;
@@ -37,14 +38,6 @@ macro_rules! again {
             Err(_) => $call,
         }
     };
-}
-
-/// The name of these bytes, which are those of a name.
-fn name(alloc: Global, bytes: &[u8]) -> Result<Name, AllocError> {
-    match Name::new(alloc, bytes) {
-        Ok(name) => Ok(name),
-        Err(_) => Err(AllocError),
-    }
 }
 
 fn names(alloc: Global, texts: &[&[u8]]) -> Result<Vec<Name>, AllocError> {

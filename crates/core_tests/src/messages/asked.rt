@@ -1,12 +1,13 @@
 //! What is told of a text, and of the files of a model.
 
+use crate::names::name;
+use crate::rows::confirm;
 use cat_model::{Files, ModelFault, resolve};
 use cat_syntax::{CatFault, CatFile, read_cat};
 use fault_messages::{Source, cat_trouble, model_fault, test_fault};
 use litmus_c::read_test;
 use std::alloc::{AllocError, Global};
 use std::test::Fail;
-use wb_text::Name;
 
 /// What is told of a text that is no test, or an empty text of one that is.
 fn told_of_test(alloc: Global, text: &[u8]) -> Result<String, AllocError> {
@@ -22,11 +23,6 @@ pub fn confirm_told(alloc: Global, text: &[u8], message: &str) -> Result<(), Fai
     confirm(told.as_str() == message, message)
 }
 
-/// Fails with what was tried, unless it held.
-fn confirm(holds: bool, tried: &str) -> Result<(), Fail> {
-    if holds { Ok(()) } else { Err(Fail::new(tried)) }
-}
-
 /// Fails with the first message that isn't the one that is told of its text: rows of a text, `----` and its message, with `====`
 /// between them. Each of the two signs has a line end behind it, and stands where what is before it ends.
 pub fn all_are_told(alloc: Global, rows: &str) -> Result<(), Fail> {
@@ -39,18 +35,11 @@ pub fn all_are_told(alloc: Global, rows: &str) -> Result<(), Fail> {
     Ok(())
 }
 
-fn name(alloc: Global, word: &str) -> Result<Name, AllocError> {
-    match Name::new(alloc, word.as_bytes()) {
-        Ok(name) => Ok(name),
-        Err(_) => Err(AllocError),
-    }
-}
-
 /// A file of a model: a line with its name, and its text.
 fn source(alloc: Global, file: &str) -> Result<Source, AllocError> {
     match file.split_once('\n') {
         Some((word, text)) => Ok(Source {
-            name: name(alloc, word)?,
+            name: name(alloc, word.as_bytes())?,
             path: String::from_str(alloc, word)?,
             text: Vec::from_slice(alloc, text.as_bytes())?,
         }),
@@ -68,7 +57,7 @@ fn sources(alloc: Global, files: &str) -> Result<Vec<Source>, AllocError> {
 }
 
 fn put(alloc: Global, files: &mut Files, word: &str, file: CatFile) -> Result<(), AllocError> {
-    let name = name(alloc, word)?;
+    let name = name(alloc, word.as_bytes())?;
     if files.version(&name) > 0 {
         return Err(AllocError);
     }
