@@ -48,10 +48,16 @@ impl Title {
 }
 
 /// A model: its title and its items. Contracts see its tree.
-#[derive(Drop)]
 pub struct CatFile {
     title: Option<Title>,
     items: Vec<Item>,
+}
+
+// A function of its own: whoever holds one drops it by a call.
+impl Drop for CatFile {
+    fn drop(self) {
+        let CatFile { title: _, items: _ } = self;
+    }
 }
 
 impl Model for CatFile {

@@ -3,7 +3,7 @@
 use wb_text::Name;
 
 /// An expression that is made of no other.
-#[derive(Drop, PartialEq, Eq)]
+#[derive(PartialEq, Eq)]
 pub enum Leaf {
     /// A name that is bound, or a named set or relation of the execution.
     Name(Name),
@@ -13,6 +13,18 @@ pub enum Leaf {
     EmptySet,
     /// `_`
     Universe,
+}
+
+// A function of its own: whoever holds one drops it by a call.
+impl Drop for Leaf {
+    fn drop(self) {
+        match self {
+            Leaf::Name(_) => {}
+            Leaf::EmptyRelation => {}
+            Leaf::EmptySet => {}
+            Leaf::Universe => {}
+        }
+    }
 }
 
 /// What makes an expression of another.
@@ -52,11 +64,23 @@ pub enum Infix {
 }
 
 /// A node of an expression's tree.
-#[derive(Drop, PartialEq, Eq)]
+#[derive(PartialEq, Eq)]
 pub enum Node {
     Leaf(Leaf),
     Sign(Sign),
     Infix(Infix),
     /// A call of a function, `f(a, b)`, with its number of arguments.
     Call(Name, usize),
+}
+
+// A function of its own: whoever holds one drops it by a call.
+impl Drop for Node {
+    fn drop(self) {
+        match self {
+            Node::Leaf(_) => {}
+            Node::Sign(_) => {}
+            Node::Infix(_) => {}
+            Node::Call(_, _) => {}
+        }
+    }
 }

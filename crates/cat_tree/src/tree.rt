@@ -12,28 +12,52 @@ pub enum CheckKind {
 }
 
 /// A name with what a `let` binds it to: a value, or a function where there are parameters. The value of a function is its body.
-#[derive(Drop)]
 pub struct Definition {
     pub name: Name,
     pub parameters: Vec<Name>,
     pub value: Expression,
 }
 
+// A function of its own: whoever holds one drops it by a call.
+impl Drop for Definition {
+    fn drop(self) {
+        let Definition { name: _, parameters: _, value: _ } = self;
+    }
+}
+
 /// A name with what a `let rec` binds it to.
-#[derive(Drop)]
 pub struct Binding {
     pub name: Name,
     pub value: Expression,
 }
 
+// A function of its own: whoever holds one drops it by a call.
+impl Drop for Binding {
+    fn drop(self) {
+        let Binding { name: _, value: _ } = self;
+    }
+}
+
 /// A check: `flag ~acyclic a as name`, where all but the word and the expression may be left out.
-#[derive(Drop)]
 pub struct Check {
     pub flag: bool,
     pub negated: bool,
     pub kind: CheckKind,
     pub expression: Expression,
     pub name: Option<Name>,
+}
+
+// A function of its own: whoever holds one drops it by a call.
+impl Drop for Check {
+    fn drop(self) {
+        let Check {
+            flag: _,
+            negated: _,
+            kind: _,
+            expression: _,
+            name: _,
+        } = self;
+    }
 }
 
 /// An element of a `show`.
@@ -44,7 +68,6 @@ pub struct Element {
 }
 
 /// An item of a model.
-#[derive(Drop)]
 pub enum Item {
     /// `let a = e and f(x) = g`: all names are bound at once.
     Let(Vec<Definition>),
@@ -57,4 +80,18 @@ pub enum Item {
     Show(Vec<Element>),
     /// `unshow a, b`, which has no effect.
     Unshow(Vec<Name>),
+}
+
+// A function of its own: whoever holds one drops it by a call.
+impl Drop for Item {
+    fn drop(self) {
+        match self {
+            Item::Let(_) => {}
+            Item::LetRec(_) => {}
+            Item::Check(_) => {}
+            Item::Include(_) => {}
+            Item::Show(_) => {}
+            Item::Unshow(_) => {}
+        }
+    }
 }

@@ -18,10 +18,16 @@ pub enum Kind {
 }
 
 /// A question and its proposition.
-#[derive(Drop)]
 pub struct Cond {
     kind: Kind,
     prop: Prop,
+}
+
+// A function of its own: whoever holds one drops it by a call.
+impl Drop for Cond {
+    fn drop(self) {
+        let Cond { kind: _, prop: _ } = self;
+    }
 }
 
 impl Model for Cond {

@@ -6,10 +6,20 @@ use std::alloc::AllocError;
 use wb_text::Name;
 
 /// A register of a thread, or a location. Registers come before locations, each by name.
-#[derive(PartialOrd, Ord, Hash, Drop)]
+#[derive(PartialOrd, Ord, Hash)]
 pub enum Place {
     Reg(usize, Name),
     Loc(Name),
+}
+
+// A function of its own: whoever holds one drops it by a call.
+impl Drop for Place {
+    fn drop(self) {
+        match self {
+            Place::Reg(_, _) => {}
+            Place::Loc(_) => {}
+        }
+    }
 }
 
 impl PartialEq for Place {

@@ -20,12 +20,22 @@ pub enum Connective {
 }
 
 /// What a proposition begins with.
-#[derive(Drop)]
 pub enum Atom {
     True,
     False,
     /// The place has this value.
     Equals(Place, u32),
+}
+
+// A function of its own: whoever holds one drops it by a call.
+impl Drop for Atom {
+    fn drop(self) {
+        match self {
+            Atom::True => {}
+            Atom::False => {}
+            Atom::Equals(_, _) => {}
+        }
+    }
 }
 
 /// A proposition: the atom on the far left of its tree, and the links from there up to the tree's root. Contracts see it

@@ -205,7 +205,7 @@ impl<'a> Reader<'a> {
             let value = self.number()?;
             return Ok(Binding { place, value });
         }
-        match place {
+        match &place {
             Place::Loc(_) => Ok(Binding { place, value: 0 }),
             Place::Reg(_, _) => Err(self.stuck()),
         }

@@ -22,11 +22,20 @@ pub enum Operator {
 }
 
 /// What an expression begins with.
-#[derive(Drop)]
 pub enum Leaf {
     Number(u32),
     /// The value that a register holds.
     Register(Name),
+}
+
+// A function of its own: whoever holds one drops it by a call.
+impl Drop for Leaf {
+    fn drop(self) {
+        match self {
+            Leaf::Number(_) => {}
+            Leaf::Register(_) => {}
+        }
+    }
 }
 
 /// An expression: the leaf on the far left of its tree, and the links from there up to the tree's root. Contracts see it

@@ -50,7 +50,6 @@ impl Computation {
 
 /// A call of an atomic operation: the location first, the order last. A short form, as `atomic_load(x)`, is
 /// the explicit one with `memory_order_seq_cst`.
-#[derive(Drop)]
 pub enum Call {
     Load(Name, Order),
     Store(Name, Expression, Order),
@@ -60,8 +59,20 @@ pub enum Call {
     Fence(Order),
 }
 
+// A function of its own: whoever holds one drops it by a call.
+impl Drop for Call {
+    fn drop(self) {
+        match self {
+            Call::Load(_, _) => {}
+            Call::Store(_, _, _) => {}
+            Call::Exchange(_, _, _) => {}
+            Call::Modify(_, _, _, _) => {}
+            Call::Fence(_) => {}
+        }
+    }
+}
+
 /// What a register is given.
-#[derive(Drop)]
 pub enum RightSide {
     /// The value of an expression.
     Value(Expression),
@@ -71,11 +82,28 @@ pub enum RightSide {
     Call(Call),
 }
 
+// A function of its own: whoever holds one drops it by a call.
+impl Drop for RightSide {
+    fn drop(self) {
+        match self {
+            RightSide::Value(_) => {}
+            RightSide::Read(_) => {}
+            RightSide::Call(_) => {}
+        }
+    }
+}
+
 /// A register that is declared. Without a value it gets 0.
-#[derive(Drop)]
 pub struct Declarator {
     pub register: Name,
     pub value: Option<RightSide>,
+}
+
+// A function of its own: whoever holds one drops it by a call.
+impl Drop for Declarator {
+    fn drop(self) {
+        let Declarator { register: _, value: _ } = self;
+    }
 }
 
 /// A statement.
@@ -94,11 +122,17 @@ pub enum Statement {
 }
 
 /// A thread. Contracts see its program.
-#[derive(Drop)]
 pub struct Thread {
     parameters: Vec<Parameter>,
     statements: Vec<Statement>,
     registers: IndexSet<Name>,
+}
+
+// A function of its own: whoever holds one drops it by a call.
+impl Drop for Thread {
+    fn drop(self) {
+        let Thread { parameters: _, statements: _, registers: _ } = self;
+    }
 }
 
 impl Model for Thread {
