@@ -53,10 +53,16 @@ impl Eq for Place {
 }
 
 /// A place and its value.
-#[derive(Drop)]
 pub struct Binding {
     pub place: Place,
     pub value: u32,
+}
+
+// A function of its own: whoever holds one drops it by a call.
+impl Drop for Binding {
+    fn drop(self) {
+        let Binding { place: _, value: _ } = self;
+    }
 }
 
 impl PartialEq for Binding {

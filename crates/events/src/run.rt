@@ -8,10 +8,16 @@ use std::alloc::{AllocError, Global};
 use std::marker::Model;
 
 /// A run of a thread: its events in program order, and the values of its registers at the end.
-#[derive(Drop)]
 pub struct Run {
     events: Vec<Event>,
     registers: Vec<u32>,
+}
+
+// A function of its own: whoever holds one drops it by a call.
+impl Drop for Run {
+    fn drop(self) {
+        let Run { events: _, registers: _ } = self;
+    }
 }
 
 impl Model for Run {

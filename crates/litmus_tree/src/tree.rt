@@ -22,10 +22,16 @@ pub enum LocationKind {
 }
 
 /// A parameter, which names its location.
-#[derive(Drop)]
 pub struct Parameter {
     pub name: Name,
     pub kind: LocationKind,
+}
+
+// A function of its own: whoever holds one drops it by a call.
+impl Drop for Parameter {
+    fn drop(self) {
+        let Parameter { name: _, kind: _ } = self;
+    }
 }
 
 /// What a call that modifies a location writes there, of the value that it read and of a constant.

@@ -51,11 +51,17 @@ pub enum Role {
 }
 
 /// A symbol by what it does, with its name if it is one.
-#[derive(Drop)]
 pub struct Mark {
     pub part: Part,
     pub role: Role,
     pub name: Option<Name>,
+}
+
+// A function of its own: whoever holds one drops it by a call.
+impl Drop for Mark {
+    fn drop(self) {
+        let Mark { part: _, role: _, name: _ } = self;
+    }
 }
 
 /// Where a walk over symbols is.

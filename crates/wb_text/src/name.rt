@@ -24,9 +24,15 @@ fn is_printable(byte: u8) -> bool
 }
 
 /// A name: 1 to 64 printable ASCII bytes (33 to 126). Contracts see its bytes.
-#[derive(Drop)]
 pub struct Name {
     bytes: Vec<u8>,
+}
+
+// A function of its own: whoever holds one drops it by a call.
+impl Drop for Name {
+    fn drop(self) {
+        let Name { bytes: _ } = self;
+    }
 }
 
 impl Model for Name {
