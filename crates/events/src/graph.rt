@@ -56,12 +56,23 @@ pub struct GraphParts {
 }
 
 /// A candidate execution. It has at most 64 events with its initial writes, and its maps name its own events.
-#[derive(Drop)]
 pub struct Graph {
     init: Vec<u32>,
     runs: Vec<Run>,
     rf: Vec<EventId>,
     co: Vec<Coherence>,
+}
+
+// A function of its own: whoever holds one drops it by a call.
+impl Drop for Graph {
+    fn drop(self) {
+        let Graph {
+            init: _,
+            runs: _,
+            rf: _,
+            co: _,
+        } = self;
+    }
 }
 
 impl Model for Graph {
@@ -119,11 +130,7 @@ impl Graph {
         ensures parts { self ≡ record { init = result.init.items; runs = result.runs.items; rf = result.rf.items; co = result.co.items } }
         ensures graph { IsGraph self }
     {
-        GraphParts {
-            init: self.init,
-            runs: self.runs,
-            rf: self.rf,
-            co: self.co,
-        }
+        let Graph { init, runs, rf, co } = self;
+        GraphParts { init, runs, rf, co }
     }
 }

@@ -15,13 +15,24 @@ use std::marker::Model;
 
 /// An execution without its coherence orders, whatever its values are: its event structure and its read-from map, with what these
 /// tell. It follows the executions, and what is the same isn't worked out again.
-#[derive(Drop)]
 pub struct SourcedStructure {
     pub(super) structure: EventStructure,
     sources: Vec<EventId>,
     pub(super) rf: Rel,
     // `rf` from each read to the write that it reads from.
     pub(super) turned: Rel,
+}
+
+// A function of its own: whoever holds one drops it by a call.
+impl Drop for SourcedStructure {
+    fn drop(self) {
+        let SourcedStructure {
+            structure: _,
+            sources: _,
+            rf: _,
+            turned: _,
+        } = self;
+    }
 }
 
 impl Model for SourcedStructure {
