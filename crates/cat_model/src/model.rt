@@ -6,7 +6,8 @@ ghost use Rattle.cat_model.specs.Beforehand.{beforehand as functions_beforehand}
 ghost use Rattle.cat_model.specs.Scopes.{IsModel};
 
 use cat_tree::{Definition, Item};
-use std::alloc::AllocError;
+use std::alloc::{AllocError, Global};
+use std::sync::Arc;
 use wb_text::Name;
 
 /// A file that was read, with its version then.
@@ -39,27 +40,30 @@ impl Eq for FileVersion {
     ghost laws = { version_equivalence };
 }
 
-/// The items of a model with all includes in place, and the files that they come from; beside them the functions that are bound
-/// before any item. Its type keeps that each item is well sorted in the scope of the earlier ones, that recursive bindings are monotone,
-/// that flags have names, and that the expressions aren't too large once calls are replaced.
-pub struct Model {
+/// What a model is made of.
+#[derive(Drop)]
+struct Parts {
     beforehand: Vec<Definition>,
     items: Vec<Item>,
     files: Vec<FileVersion>,
 }
 
+/// The items of a model with all includes in place, and the files that they come from; beside them the functions that are bound
+/// before any item. Its copies share it. Its type keeps that each item is well sorted in the scope of the earlier ones, that recursive
+/// bindings are monotone, that flags have names, and that the expressions aren't too large once calls are replaced.
+pub struct Model {
+    parts: Arc<Parts>,
+}
+
 // A function of its own: whoever holds one drops it by a call.
 impl Drop for Model {
     fn drop(self) {
-        let Model {
-            beforehand: _,
-            items: _,
-            files: _,
-        } = self;
+        let Model { parts: _ } = self;
     }
 }
 
 impl std::marker::Model for Model {
+    ghost use Rattle.std.specs.Arc.{arc_value};
     ghost use Rattle.cat_model.specs.Models.{Assembly, coded_assembly};
 
     ghost Value = { Assembly };
@@ -71,9 +75,9 @@ impl std::marker::Model for Model {
     ghost use Rattle.cat_model.specs.Beforehand.{beforehand as functions_beforehand};
     ghost use Rattle.cat_model.specs.Scopes.{IsModel};
 
-    ghost view = { λ m. record { items = map clause_of m.items.items; files = m.files.items } };
+    ghost view = { λ m. let p = arc_value m.parts in record { items = map clause_of p.items.items; files = p.files.items } };
 
-    ghost invariant = { λ m. (map defined_of m.beforehand.items ≡ functions_beforehand) × IsModel (map clause_of m.items.items) };
+    ghost invariant = { λ m. let p = arc_value m.parts in (map defined_of p.beforehand.items ≡ functions_beforehand) × IsModel (map clause_of p.items.items) };
 }
 
 impl PartialEq for Model {
@@ -90,7 +94,7 @@ impl PartialEq for Model {
         ensures value { result ≡ same_assembly self.now other.now }
         ensures exact { IsTrue result ↔ (self.now ≡ other.now) }
     {
-        self.items == other.items && self.files == other.files
+        self.items() == other.items() && self.files() == other.files()
     }
 }
 
@@ -100,62 +104,33 @@ impl Eq for Model {
     ghost laws = { assembly_equivalence };
 }
 
-fn items_copy(first: &Vec<Item>) -> Result<Vec<Item>, AllocError>
-    ensures { IfOk result (λ v. map clause_of v.items ≡ map clause_of first.now.items) }
-{
-    let mut copies = Vec::new(*first.allocator());
-    for item in first {
-        copies.push(item.copy()?)?;
-    }
-    Ok(copies)
-}
-
-fn functions_copy(first: &Vec<Definition>) -> Result<Vec<Definition>, AllocError>
-    ensures { IfOk result (λ v. map defined_of v.items ≡ map defined_of first.now.items) }
-{
-    let mut copies = Vec::new(*first.allocator());
-    for function in first {
-        copies.push(function.copy()?)?;
-    }
-    Ok(copies)
-}
-
-fn files_copy(first: &Vec<FileVersion>) -> Result<Vec<FileVersion>, AllocError>
-    ensures { IfOk result (λ v. v.items ≡ first.now.items) }
-{
-    let mut copies = Vec::new(*first.allocator());
-    for file in first {
-        copies.push(FileVersion {
-            name: file.name.copy()?,
-            version: file.version,
-        })?;
-    }
-    Ok(copies)
-}
-
 impl Model {
     /// The model of these items, which come from these files.
     pub(crate) fn new(
+        alloc: Global,
         beforehand: Vec<Definition>,
         items: Vec<Item>,
         files: Vec<FileVersion>,
-    ) -> Self
+    ) -> Result<Self, AllocError>
         requires beforehand { map defined_of beforehand.items ≡ functions_beforehand }
         requires model { IsModel (map clause_of items.items) }
-        ensures { result ≡ record { items = map clause_of items.items; files = files.items } }
+        ensures { IfOk result (λ m. m ≡ record { items = map clause_of items.items; files = files.items }) }
     {
-        Model {
+        let parts = Parts {
             beforehand,
             items,
             files,
-        }
+        };
+        Ok(Model {
+            parts: Arc::new(alloc, parts)?,
+        })
     }
 
     /// The functions that are bound before any item.
     pub fn beforehand(&self) -> &[Definition]
         ensures { map defined_of result.now ≡ functions_beforehand }
     {
-        &self.beforehand
+        &self.parts.beforehand
     }
 
     /// The items, in order.
@@ -163,27 +138,22 @@ impl Model {
         ensures value { map clause_of result.now ≡ self.now.items }
         ensures model { IsModel self.now.items }
     {
-        &self.items
+        &self.parts.items
     }
 
     /// The files that were read, in order of first reading, the root first.
     pub fn files(&self) -> &[FileVersion]
         ensures { result.now ≡ self.now.files }
     {
-        &self.files
+        &self.parts.files
     }
 
-    /// A second model that is equal.
+    /// The same model, kept once more.
     pub fn copy(&self) -> Result<Self, AllocError>
         ensures { IfOk result (λ m. m ≡ self.now) }
     {
-        let beforehand = functions_copy(&self.beforehand)?;
-        let items = items_copy(&self.items)?;
-        let files = files_copy(&self.files)?;
         Ok(Model {
-            beforehand,
-            items,
-            files,
+            parts: Arc::try_clone(&self.parts)?,
         })
     }
 }

@@ -31,5 +31,5 @@ pub fn resolve(alloc: Global, files: &Files, root: &Name) -> Result<Model, Model
     let draft = walk.whole()?;
     let beforehand = functions_beforehand(alloc)?;
     require_model(alloc, &beforehand, &draft.items)?;
-    Ok(Model::new(beforehand, draft.items, draft.files))
+    Ok(Model::new(alloc, beforehand, draft.items, draft.files)?)
 }
