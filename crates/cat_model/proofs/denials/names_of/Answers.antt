@@ -1,4 +1,4 @@
-use Rattle.std.proofs.Common.{◌+◌, ◌∙◌, ◌∷◌, [], List, ap, map, take}
+use Rattle.std.proofs.Common.{◌∙◌, ◌∷◌, [], List, ap, map, take}
 use Rattle.std.proofs.lemmas.List.{map-append, take_all}
 use Rattle.cat_tree.specs.Tree.{Bound, bound_of}
 use Rattle.cat_tree.specs.declared.tree.Binding.{Binding}
