@@ -1,8 +1,8 @@
 -- Tests of mapped lists, what is in them, and loops over them.
-use Rattle.std.proofs.Common.{◌≡◌, ℕ, ◌+◌, ◌<◌, ◌≤◌, List, [], ◌∷◌, Bool, true, false, ◌||◌, map, refl, sym, ◌∙◌, ap, subst, take, length, get_or, Bor, arith}
+use Rattle.std.proofs.Common.{◌≡◌, ℕ, ◌+◌, ◌<◌, ◌≤◌, List, [], ◌∷◌, ◌++◌, Bool, true, false, ◌||◌, map, refl, sym, ◌∙◌, ap, subst, take, length, get_or, Bor, arith}
 use Rattle.std.specs.List.{list_any, All}
 use Rattle.std.specs.Str.{bytes_eq}
-use Rattle.std.proofs.lemmas.List.{take_all, get_or-map, length-map}
+use Rattle.std.proofs.lemmas.List.{take_all, take_more, get_or-map, length-map, map-append}
 use Rattle.std.proofs.lemmas.List.Elements.{All-more}
 use Rattle.cat_tree.specs.Tree.{Word}
 use Rattle.cat_model.specs.Closure.{is_on}
@@ -25,6 +25,13 @@ all_end_map f P xs k l h = let long : length (map f xs) ≤ k = omega (arith, le
 -- the names that were gathered
 abbrev pub told : List (Bor Word) → List Word
 told xs = map (λ x. x.now) xs
+
+-- one name more
+pub told_more : (old new : List (Bor Word)) (x : Bor Word) (before after : List Word) → new ≡ old ++ x ∷ [] → after ≡ before ++ x.now ∷ [] → told old ≡ before → told new ≡ after
+told_more old new x before after n a h = ap told n ∙ map-append (λ (y : Bor Word). y.now) old (x ∷ []) ∙ ap (λ l. l ++ x.now ∷ []) h ∙ sym a
+
+pub front_more : {X : Type 0} (xs : List X) (i : ℕ) (x : X) → i < length xs → x ≡ get_or xs i x → take (i + 1) xs ≡ take i xs ++ x ∷ []
+front_more xs i x h at = take_more xs i x h ∙ ap (λ y. take i xs ++ y ∷ []) (sym at)
 
 pub clash : (b : Bool) → b ≡ false → b ≡ true → ⊥
 clash b f t = let wrong : false ≡ true = sym f ∙ t in cc
