@@ -1,5 +1,5 @@
 -- The item that is to blame for a fault of a model.
-use Rattle.std.proofs.Common.{◌≡◌, ◌≢◌, inl, inr, ℕ, ◌+◌, ◌<◌, List, [], ◌∷◌, length, get_or, true, false, Bool, refl, ap, sym, subst, ◌∙◌, arith}
+use Rattle.std.proofs.Common.{◌≡◌, ◌≢◌, inl, inr, ℕ, ◌+◌, ◌<◌, List, [], ◌∷◌, ◌++◌, length, get_or, append_assoc, true, false, Bool, refl, ap, sym, subst, ◌∙◌, arith}
 use Rattle.std.specs.Prelude.{Option, Some, None, Result, Ok, Err, IfOk, MatchOption}
 use Rattle.std.proofs.lemmas.Bool.{cases_lt}
 use Rattle.cat_tree.specs.Tree.{Word, File, Clause}
@@ -8,7 +8,7 @@ use Rattle.cat_model.specs.Files.{store, place_of, entry_of, version_of}
 use Rattle.cat_model.specs.declared.fault.ModelFault.{ModelFault}
 use Rattle.cat_model.specs.declared.fault.ModelFault.TheVariants.{NoCat, NoInclude, IncludeCycle, Unbound, WrongSort, NotMonotone, FlagWithoutName, ModelTooLarge, CallsTooLarge, NoMemory}
 use Rattle.cat_model.specs.declared.files.Entry.{Entry}
-use Rattle.cat_places.specs.Blame.{stops, NoneStops, IsFirstStop, main, alone, IsBroken, NoneBroken, IsFirstBroken, IsBlamed}
+use Rattle.cat_places.specs.Blame.{item_of, put_as, items_put, stops, NoneStops, IsFirstStop, main, alone, IsBroken, NoneBroken, IsFirstBroken, IsBlamed}
 use Rattle.cat_places.specs.declared.walk.Visit.{Visit}
 
 -- no name has a version before the first put
@@ -78,3 +78,7 @@ blamed_broken_result fs e vs (Err x) a b c h = tt
 -- with one item more no rule is broken either
 pub broken_more : (fs : List File) (vs : List Visit) (n : ℕ) → NoneBroken fs vs n → ((e : ModelFault) → ¬ IsBroken fs vs (n + 1) e) → NoneBroken fs vs (n + 1)
 broken_more fs vs n before here j low e h = elim (cases_lt j n) [ inl g ↦ before j g e h | inr g ↦ here e (subst (λ m. IsBroken fs vs (m + 1) e) (omega (arith, low, g)) h) ]
+
+-- what one visit more puts
+pub put_more : (fs : List File) (vs ws : List Visit) (v : Visit) (old new whole : List Clause) → vs ≡ v ∷ ws → new ≡ old ++ put_as v.turn (item_of fs v) → old ++ items_put fs vs ≡ whole → new ++ items_put fs ws ≡ whole
+put_more fs vs ws v old new whole here n before = ap (λ l. l ++ items_put fs ws) n ∙ append_assoc old (put_as v.turn (item_of fs v)) (items_put fs ws) ∙ sym (ap (λ l. old ++ items_put fs l) here) ∙ before
