@@ -2,6 +2,7 @@
 use Rattle.std.proofs.Common.{◌≡◌, ◌≢◌, inl, inr, ℕ, ◌+◌, ◌<◌, List, [], ◌∷◌, ◌++◌, length, get_or, append_assoc, true, false, Bool, refl, ap, sym, subst, ◌∙◌, arith}
 use Rattle.std.specs.Prelude.{Option, Some, None, Result, Ok, Err, IfOk, MatchOption}
 use Rattle.std.proofs.lemmas.Bool.{cases_lt}
+use Rattle.std.proofs.lemmas.List.{get_or_default}
 use Rattle.cat_tree.specs.Tree.{Word, File, Clause}
 use Rattle.cat_model.specs.Faults.{IsCause}
 use Rattle.cat_model.specs.Files.{store, place_of, entry_of, version_of}
@@ -9,7 +10,12 @@ use Rattle.cat_model.specs.declared.fault.ModelFault.{ModelFault}
 use Rattle.cat_model.specs.declared.fault.ModelFault.TheVariants.{NoCat, NoInclude, IncludeCycle, Unbound, WrongSort, NotMonotone, FlagWithoutName, ModelTooLarge, CallsTooLarge, NoMemory}
 use Rattle.cat_model.specs.declared.files.Entry.{Entry}
 use Rattle.cat_places.specs.Blame.{item_of, put_as, items_put, stops, NoneStops, IsFirstStop, main, alone, IsBroken, NoneBroken, IsFirstBroken, IsBlamed}
+use Rattle.cat_places.specs.declared.walk.Turn.TheVariants.{Own}
 use Rattle.cat_places.specs.declared.walk.Visit.{Visit}
+
+-- what is read of visits past their end
+abbrev pub no_visit : Visit
+no_visit = record { source = 0; item = 0; turn = Own }
 
 -- no name has a version before the first put
 pub fresh : (x : Word) (es : List Entry) → es ≡ [] → version_of x es < 1
@@ -42,6 +48,13 @@ one_stop fs e vs k m h g = order k m (λ low. none_there fs e vs k m g.first low
 stop_is : (fs : List File) (e : ModelFault) (vs : List Visit) (o : Option ℕ) (k : ℕ) → MatchOption o (NoneStops fs e vs (length vs)) (IsFirstStop fs e vs) → IsFirstStop fs e vs k → o ≡ Some k
 stop_is fs e vs None k none h = absurd (none_there fs e vs k (length vs) none h.within h)
 stop_is fs e vs (Some m) k first h = ap Some (one_stop fs e vs m k first h)
+
+-- nor does one visit more
+pub none_stops_more : (fs : List File) (e : ModelFault) (vs : List Visit) (n : ℕ) (u : Visit) → n < length vs → stops fs e n (get_or vs n u) ≡ false → NoneStops fs e vs n → NoneStops fs e vs (n + 1)
+none_stops_more fs e vs n u inside not none j d low = elim (cases_lt j n) [
+  | inl h ↦ none j d h
+  | inr h ↦ subst (λ k. stops fs e k (get_or vs k d) ≡ false) (let same : n ≡ j = omega (arith, low, h) in same) (ap (stops fs e n) (get_or_default vs n d u inside) ∙ not)
+]
 
 -- one with which a rule is broken is the first
 

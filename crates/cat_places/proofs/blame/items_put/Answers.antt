@@ -2,13 +2,8 @@ use Rattle.std.proofs.Common.{◌+◌, ◌++◌, ◌∙◌, ap, append-nil, drop
 use Rattle.std.proofs.lemmas.List.{at_drop_all, drop_more}
 use Rattle.cat_tree.specs.Tree.{clause_of}
 use Rattle.cat_places.specs.Blame.{items_put as put_of}
-use Rattle.cat_places.specs.declared.walk.Turn.TheVariants.{Own}
-use Rattle.cat_places.specs.declared.walk.Visit.{Visit}
-use Rattle.cat_places.proofs.Blaming.{put_more}
+use Rattle.cat_places.proofs.Blaming.{no_visit, put_more}
 use Rattle.cat_places.proofs.blame.items_put.Goals as goal
-
-abbrev none : Visit
-none = record { source = 0; item = 0; turn = Own }
 
 pub loop-visit-init : goal.loop-visit-init
 loop-visit-init c = ap (λ l. map clause_of l ++ put_of c.args.files.now c.args.visits.now) c.new-items.ensures.items
@@ -17,7 +12,7 @@ pub loop-visit-preserved : goal.loop-visit-preserved
 loop-visit-preserved c =
     let vs = c.args.visits.now in
     let i = c.loop-visit.visit-index in
-    put_more c.args.files.now (drop i vs) (drop (i + 1) vs) (get_or vs i none) (map clause_of c.loop-visit.items.items) (map clause_of c.put.new.items.items) _ (drop_more vs i none c.loop-visit-test.true) c.in_ok-put.ensures c.loop-visit.invariant
+    put_more c.args.files.now (drop i vs) (drop (i + 1) vs) (get_or vs i no_visit) (map clause_of c.loop-visit.items.items) (map clause_of c.put.new.items.items) _ (drop_more vs i no_visit c.loop-visit-test.true) c.in_ok-put.ensures c.loop-visit.invariant
 
 pub returns : goal.returns
 returns c =

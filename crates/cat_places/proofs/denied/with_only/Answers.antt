@@ -1,4 +1,4 @@
-use Rattle.std.proofs.Common.{◌≡◌, ◌+◌, ◌∙◌, ℕ, List, length, drop, get_or, ap, subst, sym}
+use Rattle.std.proofs.Common.{◌+◌, ◌∙◌, ℕ, List, length, drop, get_or, ap, subst, sym}
 use Rattle.std.proofs.lemmas.List.{at_drop_all, drop_more}
 use Rattle.std.proofs.lemmas.List.Elements.{All-get_or}
 use Rattle.wb_text.specs.Tokens.{IsWithin}
