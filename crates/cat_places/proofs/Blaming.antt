@@ -1,15 +1,21 @@
 -- The item that is to blame for a fault of a model.
-use Rattle.std.proofs.Common.{◌≡◌, ◌≢◌, inl, inr, ℕ, ◌+◌, ◌<◌, List, [], ◌∷◌, length, get_or, true, false, Bool, refl, ap, sym, subst, ◌∙◌, arith}
+use Rattle.std.proofs.Common.{◌≡◌, ◌≢◌, inl, inr, ℕ, ◌+◌, ◌<◌, List, [], ◌∷◌, ◌++◌, length, get_or, append_assoc, true, false, Bool, refl, ap, sym, subst, ◌∙◌, arith}
 use Rattle.std.specs.Prelude.{Option, Some, None, Result, Ok, Err, IfOk, MatchOption}
 use Rattle.std.proofs.lemmas.Bool.{cases_lt}
+use Rattle.std.proofs.lemmas.List.{get_or_default}
 use Rattle.cat_tree.specs.Tree.{Word, File, Clause}
 use Rattle.cat_model.specs.Faults.{IsCause}
 use Rattle.cat_model.specs.Files.{store, place_of, entry_of, version_of}
 use Rattle.cat_model.specs.declared.fault.ModelFault.{ModelFault}
 use Rattle.cat_model.specs.declared.fault.ModelFault.TheVariants.{NoCat, NoInclude, IncludeCycle, Unbound, WrongSort, NotMonotone, FlagWithoutName, ModelTooLarge, CallsTooLarge, NoMemory}
 use Rattle.cat_model.specs.declared.files.Entry.{Entry}
-use Rattle.cat_places.specs.Blame.{stops, NoneStops, IsFirstStop, main, alone, IsBroken, NoneBroken, IsFirstBroken, IsBlamed}
+use Rattle.cat_places.specs.Blame.{item_of, put_as, items_put, stops, NoneStops, IsFirstStop, main, alone, IsBroken, NoneBroken, IsFirstBroken, IsBlamed}
+use Rattle.cat_places.specs.declared.walk.Turn.TheVariants.{Own}
 use Rattle.cat_places.specs.declared.walk.Visit.{Visit}
+
+-- what is read of visits past their end
+abbrev pub no_visit : Visit
+no_visit = record { source = 0; item = 0; turn = Own }
 
 -- no name has a version before the first put
 pub fresh : (x : Word) (es : List Entry) → es ≡ [] → version_of x es < 1
@@ -42,6 +48,13 @@ one_stop fs e vs k m h g = order k m (λ low. none_there fs e vs k m g.first low
 stop_is : (fs : List File) (e : ModelFault) (vs : List Visit) (o : Option ℕ) (k : ℕ) → MatchOption o (NoneStops fs e vs (length vs)) (IsFirstStop fs e vs) → IsFirstStop fs e vs k → o ≡ Some k
 stop_is fs e vs None k none h = absurd (none_there fs e vs k (length vs) none h.within h)
 stop_is fs e vs (Some m) k first h = ap Some (one_stop fs e vs m k first h)
+
+-- nor does one visit more
+pub none_stops_more : (fs : List File) (e : ModelFault) (vs : List Visit) (n : ℕ) (u : Visit) → n < length vs → stops fs e n (get_or vs n u) ≡ false → NoneStops fs e vs n → NoneStops fs e vs (n + 1)
+none_stops_more fs e vs n u inside not none j d low = elim (cases_lt j n) [
+  | inl h ↦ none j d h
+  | inr h ↦ subst (λ k. stops fs e k (get_or vs k d) ≡ false) (let same : n ≡ j = omega (arith, low, h) in same) (ap (stops fs e n) (get_or_default vs n d u inside) ∙ not)
+]
 
 -- one with which a rule is broken is the first
 
@@ -78,3 +91,7 @@ blamed_broken_result fs e vs (Err x) a b c h = tt
 -- with one item more no rule is broken either
 pub broken_more : (fs : List File) (vs : List Visit) (n : ℕ) → NoneBroken fs vs n → ((e : ModelFault) → ¬ IsBroken fs vs (n + 1) e) → NoneBroken fs vs (n + 1)
 broken_more fs vs n before here j low e h = elim (cases_lt j n) [ inl g ↦ before j g e h | inr g ↦ here e (subst (λ m. IsBroken fs vs (m + 1) e) (omega (arith, low, g)) h) ]
+
+-- what one visit more puts
+pub put_more : (fs : List File) (vs ws : List Visit) (v : Visit) (old new whole : List Clause) → vs ≡ v ∷ ws → new ≡ old ++ put_as v.turn (item_of fs v) → old ++ items_put fs vs ≡ whole → new ++ items_put fs ws ≡ whole
+put_more fs vs ws v old new whole here n before = ap (λ l. l ++ items_put fs ws) n ∙ append_assoc old (put_as v.turn (item_of fs v)) (items_put fs ws) ∙ sym (ap (λ l. old ++ items_put fs l) here) ∙ before

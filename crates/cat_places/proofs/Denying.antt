@@ -1,6 +1,7 @@
 -- Which use of its name breaks the rule of 66.
-use Rattle.std.proofs.Common.{◌≡◌, ℕ, suc, ◌+◌, ◌-◌, ◌<◌, ◌≤◌, List, [], ◌∷◌, ◌++◌, Bool, true, false, length, take, drop, map, get_or, refl, ap, sym, subst, ◌∙◌, arith, append_assoc, append-nil}
+use Rattle.std.proofs.Common.{◌≡◌, ℕ, suc, ◌+◌, ◌-◌, ◌<◌, ◌≤◌, List, [], ◌∷◌, ◌++◌, Bool, true, false, length, take, drop, map, get_or, refl, ap, sym, subst, ◌∙◌, arith, append_assoc, append-nil, inl, inr}
 use Rattle.std.specs.Prelude.{Option, Some, None, All, option_map, slice_get, replicate, if◌then◌else◌}
+use Rattle.std.proofs.lemmas.Bool.{cases_lt}
 use Rattle.std.proofs.lemmas.List.{at_drop_all, length-append, length-take-le, length-drop, length-replicate, length-map, map-append}
 use Rattle.std.proofs.lemmas.List.Elements.{All-cons, All-head, All-tail, All-nil}
 use Rattle.std.proofs.lemmas.Option.{slice_get-map, slice_get-get_or, slice_get_within}
@@ -14,7 +15,7 @@ use Rattle.cat_model.specs.Faults.{IsCause}
 use Rattle.cat_model.specs.declared.fault.ModelFault.{ModelFault}
 use Rattle.places.specs.Spellings.{spelling}
 use Rattle.cat_places.specs.Blame.{alone, items_put, main}
-use Rattle.cat_places.specs.Denied.{blanked, uses_of_all, IsRefused}
+use Rattle.cat_places.specs.Denied.{blanked, blanked_but, with_only, uses_of_all, IsRefused}
 use Rattle.cat_places.specs.Own.{IsFileOf, is_used, behind, uses, uses_from}
 use Rattle.cat_places.specs.declared.item.At.{At}
 use Rattle.cat_places.specs.declared.walk.Visit.{Visit}
@@ -34,6 +35,17 @@ uses_within n text x a (t ∷ ts) h =
 -- all tokens have been looked at
 pub all_used : (text : List ℕ) (x : Word) (a : At) (found all ts : List Token) (i : ℕ) → length ts ≤ i → found ++ uses_from text x a (drop i ts) ≡ all → found ≡ all
 all_used text x a found all ts i h e = sym (append-nil found) ∙ ap (λ l. found ++ l) (sym (at_drop_all (uses_from text x a) ts i h)) ∙ e
+
+used_or : (b : Bool) (old rest : List Token) (t : Token) → (if b then old ++ t ∷ [] else old) ++ rest ≡ old ++ (if b then t ∷ rest else rest)
+used_or true old rest t = append_assoc old (t ∷ []) rest
+used_or false old rest t = refl
+
+-- one token more, which is a use or isn't
+pub used_more : (text : List ℕ) (x : Word) (a b : At) (old new whole ts us : List Token) (t : Token) → ts ≡ t ∷ us → b ≡ behind x a (spelling text t) → new ≡ (if is_used x a (spelling text t) then old ++ t ∷ [] else old) →
+    old ++ uses_from text x a ts ≡ whole → new ++ uses_from text x b us ≡ whole
+used_more text x a b old new whole ts us t here e n before =
+    let rest : List Token = uses_from text x (behind x a (spelling text t)) us in
+    ap (λ c. new ++ uses_from text x c us) e ∙ ap (λ l. l ++ rest) n ∙ used_or (is_used x a (spelling text t)) old rest t ∙ sym (ap (λ l. old ++ uses_from text x a l) here) ∙ before
 
 -- the uses of one name more
 pub group_more : (text : List ℕ) (own : List Token) (bs : List Binding) (i : ℕ) (b : Binding) (old more new whole : List Token) → i < length bs → b ≡ get_or bs i b → new ≡ old ++ more → more ≡ uses text b.name own →
@@ -66,6 +78,10 @@ length_blanked text t inside =
     let behind_it = length-append (replicate (t.to - (t.from + 1)) 32) (drop t.to text) in
     omega (arith, front, low, inner, behind_it, length-replicate {A = ℕ} (t.to - (t.from + 1)) 32, length-drop t.to text, inside.nonempty, inside.inside)
 
+-- one token more, in whose place `0` stands or not
+pub only_more : (old new whole : List ℕ) (us vs : List Token) (u t : Token) → us ≡ u ∷ vs → new ≡ blanked_but t old u → with_only old us t ≡ whole → with_only new vs t ≡ whole
+only_more old new whole us vs u t here n before = ap (λ l. with_only l vs t) n ∙ sym (ap (λ l. with_only old l t) here) ∙ before
+
 -- Whether an item breaks a rule, as a text has it.
 
 pub put_last : (old new : List Item) (i : Item) (is : List Clause) (k : Clause) → new ≡ old ++ i ∷ [] → map clause_of old ≡ is → clause_of i ≡ k → map clause_of new ≡ is ++ k ∷ []
@@ -73,6 +89,10 @@ put_last old new i is k e f g = ap (map clause_of) e ∙ map-append clause_of ol
 
 some_once : {A : Type 0} (x y : A) → Some x ≡ Some y → x ≡ y
 some_once x y e = cc
+
+-- nor at one place more
+pub none_more : {A : Type 0} (P : A → Type 0) (xs : List A) (n : ℕ) (x : A) → slice_get xs n ≡ Some x → ¬ P x → ((j : ℕ) (y : A) → j < n → slice_get xs j ≡ Some y → ¬ P y) → (j : ℕ) (y : A) → j < n + 1 → slice_get xs j ≡ Some y → ¬ P y
+none_more P xs n x at not none j y low here p = elim (cases_lt j n) [ inl h ↦ none j y h here p | inr h ↦ not (subst P (some_once y x (sym here ∙ ap (slice_get xs) (omega (arith, low, h)) ∙ at)) p) ]
 
 pub not_refused : (fs : List File) (before : List Visit) (k : ℕ) (text : List ℕ) (o : Option File) (g : File) (items : List Item) (i : Item) → o ≡ Some g → IsFileOf text o → map clause_of items ≡ g.items →
     k < length items → i ≡ get_or items k i → ((e : ModelFault) → ¬ IsCause e (alone (items_put fs before ++ clause_of i ∷ [])) main) → ¬ IsRefused fs before k text
@@ -82,6 +102,17 @@ not_refused fs before k text o g items i e is m h at none r =
     let other : slice_get (map clause_of items) k ≡ Some r.item = ap (λ l. slice_get l k) (m ∙ ap (λ (f : File). f.items) (sym same)) ∙ r.at in
     let item : r.item ≡ clause_of i = some_once r.item (clause_of i) (sym other ∙ one) in
     none r.fault (subst (λ c. IsCause r.fault (alone (items_put fs before ++ c ∷ [])) main) item r.broken)
+
+pub refused : (fs : List File) (before : List Visit) (k : ℕ) (text : List ℕ) (o : Option File) (g : File) (items : List Item) (i : Item) → o ≡ Some g → IsFileOf text o → map clause_of items ≡ g.items →
+    k < length items → i ≡ get_or items k i → ((e : ModelFault) × IsCause e (alone (items_put fs before ++ clause_of i ∷ [])) main) → IsRefused fs before k text
+refused fs before k text o g items i e is m h at broken = record {
+  file = g;
+  reads = (subst (IsFileOf text) e is).0;
+  item = clause_of i;
+  at = ap (λ l. slice_get l k) (sym m) ∙ slice_get-map clause_of items k ∙ ap (option_map clause_of) (slice_get-get_or items k i h ∙ ap Some (sym at));
+  fault = broken.0;
+  broken = broken.1;
+}
 
 pub no_item : (fs : List File) (before : List Visit) (k : ℕ) (text : List ℕ) (o : Option File) (g : File) (items : List Item) → o ≡ Some g → IsFileOf text o → map clause_of items ≡ g.items → length items ≤ k → ¬ IsRefused fs before k text
 no_item fs before k text o g items e is m past r =
