@@ -60,7 +60,11 @@ pub struct Mark {
 // A function of its own: whoever holds one drops it by a call.
 impl Drop for Mark {
     fn drop(self) {
-        let Mark { part: _, role: _, name: _ } = self;
+        let Mark {
+            part: _,
+            role: _,
+            name: _,
+        } = self;
     }
 }
 
