@@ -21,7 +21,11 @@ pub struct Definition {
 // A function of its own: whoever holds one drops it by a call.
 impl Drop for Definition {
     fn drop(self) {
-        let Definition { name: _, parameters: _, value: _ } = self;
+        let Definition {
+            name: _,
+            parameters: _,
+            value: _,
+        } = self;
     }
 }
 

@@ -16,7 +16,10 @@ pub struct Run {
 // A function of its own: whoever holds one drops it by a call.
 impl Drop for Run {
     fn drop(self) {
-        let Run { events: _, registers: _ } = self;
+        let Run {
+            events: _,
+            registers: _,
+        } = self;
     }
 }
 

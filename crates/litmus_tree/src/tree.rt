@@ -108,7 +108,10 @@ pub struct Declarator {
 // A function of its own: whoever holds one drops it by a call.
 impl Drop for Declarator {
     fn drop(self) {
-        let Declarator { register: _, value: _ } = self;
+        let Declarator {
+            register: _,
+            value: _,
+        } = self;
     }
 }
 
@@ -137,7 +140,11 @@ pub struct Thread {
 // A function of its own: whoever holds one drops it by a call.
 impl Drop for Thread {
     fn drop(self) {
-        let Thread { parameters: _, statements: _, registers: _ } = self;
+        let Thread {
+            parameters: _,
+            statements: _,
+            registers: _,
+        } = self;
     }
 }
 
