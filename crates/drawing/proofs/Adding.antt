@@ -1,9 +1,10 @@
 -- What is added one part after another.
-use Rattle.std.proofs.Common.{◌≡◌, ◌∙◌, ℕ, ◌+◌, List, [], ◌∷◌, ◌++◌, Result, Ok, Err, ap, sym, refl, append_assoc, append-nil}
+use Rattle.std.proofs.Common.{◌≡◌, ◌∙◌, ℕ, ◌+◌, ◌<◌, ◌≤◌, List, [], ◌∷◌, ◌++◌, length, get_or, drop, Result, Ok, Err, ap, sym, refl, append_assoc, append-nil}
 use Rattle.std.specs.Prelude.{Option, OnOk, flat_map}
 use Rattle.std.proofs.KnownBytes.{Appends-nil}
 use Rattle.wb_text.specs.Memory.{AppendsPrefix}
 use Rattle.std.proofs.lemmas.Grind.{flat_map-append}
+use Rattle.std.proofs.lemmas.List.{at_drop_more, at_drop_all}
 use Rattle.listings.specs.Lists.{tabulate}
 use Rattle.events.proofs.Numbers.{tabulate_more}
 
@@ -26,3 +27,13 @@ one_more f n old mid new e g =
 -- nothing is a front part of all bytes
 pub nothing_written : (held : Option (List ℕ)) (bytes : List ℕ) → AppendsPrefix held held bytes
 nothing_written held bytes = (bytes, record { given = []; split = refl; grown = Appends-nil held })
+
+-- the text of one more element of a list
+pub element_more : {A : Type 0} (F G : List A → List ℕ) (xs : List A) (i : ℕ) (d : A) (more old new all : List ℕ) → i < length xs → F (get_or xs i d ∷ drop (i + 1) xs) ≡ more ++ G (drop (i + 1) xs) → new ≡ old ++ more → old ++ F (drop i xs) ≡ all → new ++ G (drop (i + 1) xs) ≡ all
+element_more F G xs i d more old new all l step e h =
+    let rest = G (drop (i + 1) xs) in
+    ap (λ l. l ++ rest) e ∙ append_assoc old more rest ∙ ap (λ l. old ++ l) (sym (at_drop_more F xs i d l ∙ step)) ∙ h
+
+-- no element is left
+pub none_more : {A : Type 0} (F : List A → List ℕ) (xs : List A) (i : ℕ) (old all : List ℕ) → length xs ≤ i → F [] ≡ [] → old ++ F (drop i xs) ≡ all → old ≡ all
+none_more F xs i old all l e h = sym (append-nil old) ∙ ap (λ l. old ++ l) (sym (at_drop_all F xs i l ∙ e)) ∙ h
