@@ -6,7 +6,7 @@ use Rattle.candidates.proofs.assembly.put_writes.Goals as goal
 pub returns-then-location-len : goal.returns-then-location-len
 returns-then-location-len c =
     put_behind c.args.all.now.items c.push.new.self.items c.args.location _ c.requires.place (omega (arith, c.if-location-len.true, c.len.ensures))
-    (c.in_ok-push.ensures.items ∙ ap (λ (ws : List EventId). c.args.all.now.items ++ ws ∷ []) (c.new.ensures ∙ c.in_ok-later_writes.ensures))
+    (c.in_ok-push.ensures.items ∙ ap (λ (ws : List EventId). c.args.all.now.items ++ ws ∷ []) (c.new-then-location-len.ensures ∙ c.in_ok-later_writes.ensures))
 
 pub returns : goal.returns
 returns c =

@@ -13,7 +13,7 @@ loop-write-preserved c =
     let F = initial_first c.args.location in
     let w = get_or ws i (Initial 0) in
     gathered_on F F ws i w (F (w ∷ [])) c.loop-write.co.items c.push.new.self.items _ c.loop-write-test.true (get_or_default ws i (Initial 0) w c.loop-write-test.true) refl
-    (c.in_ok-push.ensures.items ∙ ap (λ (o : List EventId). c.loop-write.co.items ++ o ∷ []) c.in_ok-pair.ensures) c.loop-write.invariant
+    (◌∙◌ {A = List (List EventId)} c.in_ok-push.ensures.items (ap (λ (o : List EventId). c.loop-write.co.items ++ o ∷ []) c.in_ok-pair.ensures)) c.loop-write.invariant
 
 pub returns : goal.returns
 returns c =
