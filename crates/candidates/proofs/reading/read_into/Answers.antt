@@ -1,4 +1,4 @@
-use Rattle.std.proofs.Common.{◌∙◌, ℕ, List, length, ap, arith}
+use Rattle.std.proofs.Common.{◌∙◌, List, length, ap, arith}
 use Rattle.std.proofs.lemmas.List.{take_at}
 use Rattle.events.specs.declared.event.EventId.{EventId}
 use Rattle.candidates.proofs.reading.read_into.Goals as goal

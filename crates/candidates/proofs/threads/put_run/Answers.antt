@@ -1,4 +1,4 @@
-use Rattle.std.proofs.Common.{◌∙◌, [], ◌∷◌, ◌++◌, List, set, ap, arith}
+use Rattle.std.proofs.Common.{◌∙◌, [], ◌∷◌, ◌++◌, set, ap, arith}
 use Rattle.events.specs.Executions.{ThreadRun}
 use Rattle.candidates.proofs.Puts.{put_already, put_behind, put_over}
 use Rattle.candidates.proofs.threads.put_run.Goals as goal
