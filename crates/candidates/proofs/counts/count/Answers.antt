@@ -30,9 +30,9 @@ loop-event-preserved c =
       reads = elim c.if-is_read.branch [
         | then-is_read+then-event-location w ↦ w.reads-is ∙ ap (λ n. n + 1) c.loop-event.invariant.reads ∙ sym (count_by_more_yes p es i e l (at ∙ reads_yes x e (sym c.is_read.ensures ∙ w.if-is_read.true) w.if-event-location.true))
         | else-is_read w ↦ w.reads-is ∙ c.loop-event.invariant.reads ∙ sym (count_by_more_no p es i e l (at ∙ elim w.else-is_read.branch [
-            | else-is_read-via-then-is_read+else-event-location v ↦ reads_elsewhere x e (sym c.is_read.ensures ∙ v.if-is_read.true) v.if-event-location.false
-            | else-is_read-via-else-is_read v ↦ reads_no x e (sym c.is_read.ensures ∙ v.if-is_read.false)
-          ]))
+          | else-is_read-via-then-is_read+else-event-location v ↦ reads_elsewhere x e (sym c.is_read.ensures ∙ v.if-is_read.true) v.if-event-location.false
+          | else-is_read-via-else-is_read v ↦ reads_no x e (sym c.is_read.ensures ∙ v.if-is_read.false)
+        ]))
       ];
       writes = elim c.if-writes_to.branch [
         | then-writes_to w ↦ w.writes-is ∙ ap (λ n. n + 1) c.loop-event.invariant.writes ∙ sym (count_by_more_yes (writes_to c.args.location) es i e l (ap (writes_to c.args.location) (sym c.event-item.is) ∙ sym c.writes_to.ensures ∙ w.if-writes_to.true))

@@ -178,7 +178,7 @@ pub returns-in_err-tally-clause-levels : goal.returns-in_err-tally-clause-levels
 returns-in_err-tally-clause-levels c = c.requires.levels
 
 pub bounds-threads-thread : goal.bounds-threads-thread
-bounds-threads-thread c = 
+bounds-threads-thread c =
     omega (arith, c.loop-thread-test.true, ap (λ bs. length bs) c.requires.threads.marked.are, length_mapped (λ (runs : List ThreadRun). map (is_impossible c.args.threads.now.init.now c.requires.threads.marked.stores) runs) c.args.threads.now.runs.now)
 
 pub choose_run-requires-clause-levels : goal.choose_run-requires-clause-levels
