@@ -1,9 +1,10 @@
-use Rattle.std.proofs.Common.{◌∙◌, ◌+◌, List, [], ◌∷◌, ◌++◌, ap, drop, sym}
+use Rattle.std.proofs.Common.{◌∙◌, ◌+◌, List, [], ◌∷◌, ◌++◌, ap, drop, sym, append-nil}
 use Rattle.std.specs.Prelude.{filter}
 use Rattle.events.specs.declared.event.Event.{Event}
 use Rattle.events.specs.Executions.{is_read}
 use Rattle.candidates.proofs.Gathered.{gathered_on, passed_on}
 use Rattle.candidates.proofs.Graphs.{filter_yes, filter_no}
+use Rattle.std.proofs.lemmas.List.{at_drop_all}
 use Rattle.candidates.proofs.assembly.push_reads.Goals as goal
 use Rattle.candidates.proofs.assembly.push_reads.Goals.{then-is_read+in_ok-push, else-is_read}
 
@@ -21,3 +22,8 @@ loop-event-preserved c =
       | else-is_read w ↦
           rw w.reads-is (passed_on F F es at.event-index e at.reads.items _ c.loop-event-test.true c.event-item.is (sym (filter_no e rest (sym c.is_read.ensures ∙ w.if-is_read.false))) at.invariant)
     ]
+
+pub returns : goal.returns
+returns c =
+    let done = c.loop-event.reads.items in
+    sym (append-nil done) ∙ ap (λ (es : List Event). done ++ es) (sym (at_drop_all (filter (λ e. is_read e.access)) c.args.events.now c.loop-event.event-index c.loop-event-test.false)) ∙ c.loop-event.invariant

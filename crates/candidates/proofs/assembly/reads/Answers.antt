@@ -1,9 +1,11 @@
-use Rattle.std.proofs.Common.{◌∙◌, List, ◌++◌, ap, refl}
+use Rattle.std.proofs.Common.{◌∙◌, List, ◌++◌, ap, refl, sym, append-nil}
 use Rattle.std.specs.Prelude.{filter}
 use Rattle.events.specs.declared.event.Event.{Event}
 use Rattle.events.specs.Executions.{is_read}
 use Rattle.candidates.specs.Executions.{reads}
 use Rattle.candidates.proofs.Gathered.{gathered_on}
+use Rattle.std.proofs.lemmas.Result.{IfOk-from_err}
+use Rattle.std.proofs.lemmas.List.{at_drop_all}
 use Rattle.candidates.proofs.assembly.reads.Goals as goal
 
 pub loop-run-preserved : goal.loop-run-preserved
@@ -12,3 +14,11 @@ loop-run-preserved c =
     let run = c.run-item.result in
     gathered_on reads reads c.args.runs.now at.run-index run (filter (λ e. is_read e.access) run.events) at.reads.items c.push_reads.new.reads.items _ c.loop-run-test.true c.run-item.is refl
     (c.in_ok-push_reads.ensures ∙ ap (λ (es : List Event). at.reads.items ++ filter (λ e. is_read e.access) es) c.events.ensures) at.invariant
+
+pub returns-in_err-push_reads : goal.returns-in_err-push_reads
+returns-in_err-push_reads c = IfOk-from_err c.from_residual.result _ c.from_residual.ensures.0
+
+pub returns : goal.returns
+returns c =
+    let done = c.loop-run.reads.items in
+    sym (append-nil done) ∙ ap (λ (es : List Event). done ++ es) (sym (at_drop_all reads c.args.runs.now c.loop-run.run-index c.loop-run-test.false)) ∙ c.loop-run.invariant

@@ -22,3 +22,14 @@ new-requires c =
     c.turn_sources-rf.ensures (c.turn_orders-co.ensures ∙ ap (λ n. digits (count_orders runs) (order_at runs) (upto n) (c.args.to % page.orders)) same) in
     let P : GraphValue → Type 0 = IsGraph in
     subst P (sym e) (is_graph init runs c.args.to c.requires.page.within c.requires.number)
+
+pub returns : goal.returns
+returns c =
+    let init = c.args.graph.init in
+    let page = c.args.page.now in
+    let runs = page.runs.items in
+    let parts = c.into_parts-parts.ensures.parts in
+    let same : c.len.result ≡ length init = omega (arith, c.len.ensures, ap (λ (x : GraphValue). length x.init) parts) in
+    c.new.ensures ∙ is_candidate init runs page.orders c.args.to c.into_parts-parts.result.init.items c.into_parts-parts.result.runs.items c.turn_sources-rf.result.items c.turn_orders-co.result.items
+    (sym (ap (λ (x : GraphValue). x.init) parts)) (sym (ap (λ (x : GraphValue). x.runs) parts) ∙ ap (λ (x : GraphValue). x.runs) c.requires.graph) c.requires.page.orders
+    c.turn_sources-rf.ensures (c.turn_orders-co.ensures ∙ ap (λ n. digits (count_orders runs) (order_at runs) (upto n) (c.args.to % page.orders)) same)

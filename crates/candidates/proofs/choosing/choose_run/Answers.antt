@@ -1,4 +1,5 @@
 use Rattle.std.proofs.Common.{◌∙◌, ◌+◌, [], List, ℕ, drop, get_or, length, subst, sym, ap, refl, arith}
+use Rattle.std.proofs.lemmas.Result.{IfOk-from_err}
 use Rattle.candidates.specs.Groups.{sum_tally, size_by}
 use Rattle.candidates.specs.Impossible.{IsChosen}
 use Rattle.candidates.proofs.Descent.{sizes_by}
@@ -71,3 +72,39 @@ returns-clause-levels c =
     let same = c.choose-choice.ensures.same in
     levels_on c.args.groups.now c.args.levels.now.items c.keep.new.levels.items level c.requires.levels
     (level_is c.args.groups.now level c.args.thread c.args.tally.now c.in_ok-sizes.sizes.items same.0 (same.1 ∙ c.in_ok-copy.ensures) same.2 c.in_ok-sizes.ensures c.choose-choice.ensures.stands) c.keep.ensures
+
+pub returns-clause-chosen : goal.returns-clause-chosen
+returns-clause-chosen c =
+    let r = c.choose-choice.result in
+    let P : List ℕ → Type 0 = λ ss. IsChosen c.args.marks.now ss c.args.number r.place r.rest r.passed in
+    subst P c.in_ok-sizes.ensures c.choose-choice.ensures.chosen
+
+pub choose-choice-requires-clause-marks : goal.choose-choice-requires-clause-marks
+choose-choice-requires-clause-marks c =
+    let here = get_or c.args.groups.now c.args.thread [] in
+    let after = drop (c.args.thread + 1) c.args.groups.now in
+    c.requires.marks ∙ sym (ap (λ (ss : List ℕ). length ss) c.in_ok-sizes.ensures ∙ length_mapped (λ t. size_by (sum_tally c.args.tally.now t) after) here)
+
+pub count_runs-requires-clause-thread : goal.count_runs-requires-clause-thread
+count_runs-requires-clause-thread c = c.requires.thread
+
+pub count_runs-requires-clause-room : goal.count_runs-requires-clause-room
+count_runs-requires-clause-room c = c.requires.room
+
+pub count_runs-requires-clause-most : goal.count_runs-requires-clause-most
+count_runs-requires-clause-most c = c.requires.most
+
+pub returns-in_err-sizes-clause-chosen : goal.returns-in_err-sizes-clause-chosen
+returns-in_err-sizes-clause-chosen c = IfOk-from_err c.from_residual.result _ c.from_residual.ensures.0
+
+pub returns-in_err-sizes-clause-levels : goal.returns-in_err-sizes-clause-levels
+returns-in_err-sizes-clause-levels c = c.requires.levels
+
+pub returns-in_err-copy-clause-chosen : goal.returns-in_err-copy-clause-chosen
+returns-in_err-copy-clause-chosen c = IfOk-from_err c.from_residual-in_err-copy.result _ c.from_residual-in_err-copy.ensures.0
+
+pub returns-in_err-copy-clause-levels : goal.returns-in_err-copy-clause-levels
+returns-in_err-copy-clause-levels c = c.requires.levels
+
+pub returns-in_err-keep-clause-chosen : goal.returns-in_err-keep-clause-chosen
+returns-in_err-keep-clause-chosen c = IfOk-from_err c.from_residual-in_err-keep.result _ c.from_residual-in_err-keep.ensures.0

@@ -1,4 +1,5 @@
 use Rattle.std.proofs.Common.{◌≡◌, ◌∙◌, ◌++◌, List, length, ap, arith}
+use Rattle.std.proofs.lemmas.Result.{IfOk-from_err}
 use Rattle.events.specs.declared.event.Event.{Event}
 use Rattle.candidates.specs.declared.depths.Depth.{Depth}
 use Rattle.candidates.specs.declared.depths.Known.TheVariants.{Sources}
@@ -18,3 +19,33 @@ returns-clause-are c =
     let first : known_of c.push_reading.new.depths.items ≡ before_reads runs 0 rs = c.in_ok-push_reading.ensures.known ∙ ap (λ (ds : List Depth). known_of ds ++ before_reads runs 0 rs) c.clear.ensures.items in
     all_depths n runs rs c.push_reading.new.depths.items c.push_depth.new.depths.items c.push_orders.new.depths.items d is first
     (last_depth n runs rs page.orders c.len.result is c.requires.orders many) (ap (λ k. Sources k) many) c.in_ok-push_depth.ensures c.in_ok-push_orders.ensures.known c.in_ok-push_orders.ensures.depths
+
+pub push_reading-requires-clause-page : goal.push_reading-requires-clause-page
+push_reading-requires-clause-page c = c.requires
+
+pub push_reading-requires-clause-reads : goal.push_reading-requires-clause-reads
+push_reading-requires-clause-reads c = c.deref.ensures.value
+
+pub push_orders-requires-clause-page : goal.push_orders-requires-clause-page
+push_orders-requires-clause-page c = c.requires
+
+pub returns-clause-depths : goal.returns-clause-depths
+returns-clause-depths c = c.in_ok-push_orders.ensures.depths
+
+pub returns-in_err-push_reading-clause-depths : goal.returns-in_err-push_reading-clause-depths
+returns-in_err-push_reading-clause-depths c = IfOk-from_err c.from_residual.result _ c.from_residual.ensures.0
+
+pub returns-in_err-push_reading-clause-are : goal.returns-in_err-push_reading-clause-are
+returns-in_err-push_reading-clause-are c = IfOk-from_err c.from_residual.result _ c.from_residual.ensures.0
+
+pub returns-in_err-push_depth-clause-depths : goal.returns-in_err-push_depth-clause-depths
+returns-in_err-push_depth-clause-depths c = IfOk-from_err c.from_residual-in_err-push_depth.result _ c.from_residual-in_err-push_depth.ensures.0
+
+pub returns-in_err-push_depth-clause-are : goal.returns-in_err-push_depth-clause-are
+returns-in_err-push_depth-clause-are c = IfOk-from_err c.from_residual-in_err-push_depth.result _ c.from_residual-in_err-push_depth.ensures.0
+
+pub returns-in_err-push_orders-clause-depths : goal.returns-in_err-push_orders-clause-depths
+returns-in_err-push_orders-clause-depths c = IfOk-from_err c.from_residual-in_err-push_orders.result _ c.from_residual-in_err-push_orders.ensures.0
+
+pub returns-in_err-push_orders-clause-are : goal.returns-in_err-push_orders-clause-are
+returns-in_err-push_orders-clause-are c = IfOk-from_err c.from_residual-in_err-push_orders.result _ c.from_residual-in_err-push_orders.ensures.0

@@ -1,4 +1,4 @@
-use Rattle.std.proofs.Common.{◌≡◌, ◌∙◌, ◌<◌, List, [], ◌∷◌, ◌++◌, ℕ, length, refl, sym, ap, subst, arith}
+use Rattle.std.proofs.Common.{◌≡◌, ◌∙◌, ◌<◌, List, [], ◌∷◌, ◌++◌, ℕ, length, refl, sym, ap, subst, arith, append-nil}
 use Rattle.std.specs.List.{All}
 use Rattle.listings.specs.Lists.{IsIn}
 use Rattle.candidates.specs.declared.counts.Counts.{Counts}
@@ -7,6 +7,8 @@ use Rattle.candidates.specs.Candidates.{IsCapped}
 use Rattle.candidates.specs.Groups.{sum_tally, size_by, sizes_of, HasRoom}
 use Rattle.candidates.proofs.Gathered.{gathered_on}
 use Rattle.candidates.proofs.Grouping.{placed_sizes, placed_within, one_above, room_of_groups, room_small, sum_sizes, in_row, front_rest}
+use Rattle.std.proofs.lemmas.Result.{IfOk-from_err}
+use Rattle.std.proofs.lemmas.List.{at_drop_all, nil_from_length}
 use Rattle.candidates.proofs.groups.+counting.Goals as goal
 
 pub Groups::sizes-group_sizes-requires : goal.Groups::sizes-group_sizes-requires
@@ -74,3 +76,34 @@ group_sizes-loop-group-preserved t c =
     let size : c.in-Some.size ≡ size_by (sum_tally tally g) rest = (rw c.in-Some.is at c.in_ok-size.ensures).0 ∙ ap (λ (u : List Counts). size_by u rest) c.in_ok-more.ensures in
     gathered_on F F c.args.tallies.now at.group-index g (size_by (sum_tally tally g) rest ∷ []) at.sizes.items c.push.new.self.items _ c.loop-group-test.true c.group-item.is refl
     (c.in_ok-push.ensures.items ∙ ap (λ (n : ℕ). at.sizes.items ++ n ∷ []) size) at.invariant
+
+pub Groups::sizes-returns-in_err-sizes : goal.Groups::sizes-returns-in_err-sizes
+Groups::sizes-returns-in_err-sizes t c = IfOk-from_err c.from_residual.result _ c.from_residual.ensures.0
+
+pub Groups::sizes-returns-in_err-at_places-in-Some : goal.Groups::sizes-returns-in_err-at_places-in-Some
+Groups::sizes-returns-in_err-at_places-in-Some t c = IfOk-from_err c.from_residual-in_err-at_places-in-Some.result _ c.from_residual-in_err-at_places-in-Some.ensures.0
+
+pub count-returns-in_err-sizes-in-len1-up : goal.count-returns-in_err-sizes-in-len1-up
+count-returns-in_err-sizes-in-len1-up t c = IfOk-from_err c.from_residual.result _ c.from_residual.ensures.0
+
+pub group_sizes-returns-in_err-more : goal.group_sizes-returns-in_err-more
+group_sizes-returns-in_err-more t c = IfOk-from_err c.from_residual.result _ c.from_residual.ensures.0
+
+pub group_sizes-returns-in_err-size : goal.group_sizes-returns-in_err-size
+group_sizes-returns-in_err-size t c = IfOk-from_err c.from_residual-in_err-size.result _ c.from_residual-in_err-size.ensures.0
+
+pub group_sizes-returns-in_err-push : goal.group_sizes-returns-in_err-push
+group_sizes-returns-in_err-push t c = IfOk-from_err c.from_residual-in_err-push.result _ c.from_residual-in_err-push.ensures.0
+
+pub group_sizes-returns : goal.group_sizes-returns
+group_sizes-returns t c =
+    let done = c.loop-group.sizes.items in
+    sym (append-nil done) ∙ ap (λ (ns : List ℕ). done ++ ns) (sym (at_drop_all (λ (ts : List (List Counts)). sizes_of c.args.tally.now ts c.args.rest.now) c.args.tallies.now c.loop-group.group-index c.loop-group-test.false)) ∙ c.loop-group.invariant
+
+pub count-returns-in-empty : goal.count-returns-in-empty
+count-returns-in-empty t c =
+    let P : List (List (List Counts)) → Type 0 = λ ts. IsCapped MOST_CANDIDATES (size_by c.args.tally.now ts) c.size.result in
+    subst P (sym (nil_from_length c.args.threads.now (omega (arith, c.in-empty.len_below)))) c.size.ensures
+
+pub count-size-requires : goal.count-size-requires
+count-size-requires t c = record { small = room_small c.args.tally.now c.args.threads.now c.requires.room }

@@ -63,3 +63,12 @@ pub returns : goal.returns
 returns c =
     let at = c.loop-read in
     stands_end c.args.init.now c.args.page.now.runs.items c.args.reads.now c.args.number at.read-index at.start at.rest at.ways at.other (omega (arith, c.loop-read-test.false, at.invariant)) at.invariant
+
+pub fitting-fit-requires-clause-sources : goal.fitting-fit-requires-clause-sources
+fitting-fit-requires-clause-sources c = c.sources_of-sources.ensures
+
+pub fitting-next-requires-clause-sources : goal.fitting-next-requires-clause-sources
+fitting-next-requires-clause-sources c = c.sources_of-sources.ensures
+
+pub fitting-next-requires-clause-first : goal.fitting-next-requires-clause-first
+fitting-next-requires-clause-first c = omega (arith, c.if-fit-sources.false)

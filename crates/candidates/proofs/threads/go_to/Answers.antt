@@ -6,6 +6,7 @@ use Rattle.candidates.specs.Depths.{depths_of}
 use Rattle.candidates.specs.Located.{choices_by}
 use Rattle.candidates.proofs.Steps.{in_block, place_in_block, part_member, part_block}
 use Rattle.candidates.proofs.Stretches.{stretch_of, whole_page}
+use Rattle.std.proofs.lemmas.Result.{IfOk-from_err}
 use Rattle.candidates.proofs.threads.go_to.Goals as goal
 
 pub fill_page-requires-clause-within : goal.fill_page-requires-clause-within
@@ -50,3 +51,36 @@ returns-in_ok-fill_page-in-At-clause-stretch c some =
     let made = c.fill_page.new.page in
     let depths : made.depths.items ≡ depths_of n made.runs.items = page.depths ∙ ap (depths_of n) (sym page.runs) in
     stretch_of s runs n first _ refl page.page page.runs refl refl (part_block n (choices t.runs.now) first runs at.2) c.requires.threads.most (in_block t.init.now (choices t.runs.now) first runs at.2) (place_in_block n (choices t.runs.now) first runs at.2) depths
+
+pub locate-requires-clause-threads : goal.locate-requires-clause-threads
+locate-requires-clause-threads c = c.requires.threads
+
+pub locate-requires-clause-levels : goal.locate-requires-clause-levels
+locate-requires-clause-levels c = c.requires.levels
+
+pub locate-requires-clause-number : goal.locate-requires-clause-number
+locate-requires-clause-number c = c.requires.number
+
+pub returns-in_err-rest-clause-reached : goal.returns-in_err-rest-clause-reached
+returns-in_err-rest-clause-reached c = IfOk-from_err c.from_residual.result _ c.from_residual.ensures.0
+
+pub returns-in_err-rest-clause-levels : goal.returns-in_err-rest-clause-levels
+returns-in_err-rest-clause-levels c = c.locate.ensures.levels
+
+pub returns-in_err-fill_page-in-At-clause-reached : goal.returns-in_err-fill_page-in-At-clause-reached
+returns-in_err-fill_page-in-At-clause-reached c = IfOk-from_err c.from_residual-in_err-fill_page-in-At.result _ c.from_residual-in_err-fill_page-in-At.ensures.0
+
+pub returns-in_err-fill_page-in-At-clause-levels : goal.returns-in_err-fill_page-in-At-clause-levels
+returns-in_err-fill_page-in-At-clause-levels c = c.locate.ensures.levels
+
+pub overflow_sub-stretch : goal.overflow_sub-stretch
+overflow_sub-stretch c = (rw c.in-At.is at c.in_ok-rest.ensures.located).0
+
+pub returns-in_ok-fill_page-in-At-clause-levels : goal.returns-in_ok-fill_page-in-At-clause-levels
+returns-in_ok-fill_page-in-At-clause-levels c = c.locate.ensures.levels
+
+pub returns-in-Until-clause-reached : goal.returns-in-Until-clause-reached
+returns-in-Until-clause-reached c = rw c.in-Until.is at c.in_ok-rest.ensures.located
+
+pub returns-in-Until-clause-levels : goal.returns-in-Until-clause-levels
+returns-in-Until-clause-levels c = c.locate.ensures.levels

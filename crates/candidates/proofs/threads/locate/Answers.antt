@@ -1,5 +1,6 @@
-use Rattle.std.proofs.Common.{◌∙◌, ◌+◌, ◌-◌, ◌<◌, ◌≤◌, [], ◌∷◌, List, length, take, drop, get_or, sym, ap, subst, refl, arith}
+use Rattle.std.proofs.Common.{◌∙◌, ◌+◌, ◌-◌, ◌<◌, ◌≤◌, [], ◌∷◌, List, length, map, take, drop, get_or, sym, ap, subst, refl, arith}
 use Rattle.std.proofs.lemmas.List.{drop_all, get_or_default}
+use Rattle.std.proofs.lemmas.Result.{IfOk-from_err}
 use Rattle.events.specs.Executions.{ThreadRun}
 use Rattle.candidates.specs.Groups.{tally_of, sizes_of}
 use Rattle.candidates.specs.Candidates.{Choices, choices}
@@ -166,3 +167,55 @@ returns-clause-located c =
     let P : List ThreadRun → Type 0 = λ rs. (at.rest ≤ c.args.number) × (at.rest < block n rs) × IsPart n (choices threads) (c.args.number - at.rest) (rs ∷ []) in
     subst P (sym (cut_behind at.runs.items c.truncate.new.self.items at.thread (length threads) at.invariant.within (omega (arith, c.loop-thread-test.false)) c.truncate.ensures.items))
     (down_end n (choices threads) c.args.number at.rest at.tally (take at.thread at.runs.items) (drop at.thread threads) (drop_all at.thread threads (omega (arith, c.loop-thread-test.false))) at.invariant.down)
+
+pub slice_bounds-new_in-end : goal.slice_bounds-new_in-end
+slice_bounds-new_in-end c = refl
+
+pub returns-in_err-tally-clause-located : goal.returns-in_err-tally-clause-located
+returns-in_err-tally-clause-located c = IfOk-from_err c.from_residual.result _ c.from_residual.ensures.0
+
+pub returns-in_err-tally-clause-levels : goal.returns-in_err-tally-clause-levels
+returns-in_err-tally-clause-levels c = c.requires.levels
+
+pub bounds-threads-thread : goal.bounds-threads-thread
+bounds-threads-thread c =
+    omega (arith, c.loop-thread-test.true, ap (λ bs. length bs) c.requires.threads.marked.are, length_mapped (λ (runs : List ThreadRun). map (is_impossible c.args.threads.now.init.now c.requires.threads.marked.stores) runs) c.args.threads.now.runs.now)
+
+pub choose_run-requires-clause-levels : goal.choose_run-requires-clause-levels
+choose_run-requires-clause-levels c = c.loop-thread.invariant.levels
+
+pub choose_run-requires-clause-thread : goal.choose_run-requires-clause-thread
+choose_run-requires-clause-thread c = as_many_groups (tallies_of (length c.args.threads.now.init.now)) c.args.threads.now.groups.now c.args.threads.now.runs.now c.loop-thread.thread c.requires.threads.tallied c.loop-thread-test.true
+
+pub returns-in_err-choice-clause-located : goal.returns-in_err-choice-clause-located
+returns-in_err-choice-clause-located c = IfOk-from_err c.from_residual-in_err-choice.result _ c.from_residual-in_err-choice.ensures.0
+
+pub returns-in_err-choice-clause-levels : goal.returns-in_err-choice-clause-levels
+returns-in_err-choice-clause-levels c = c.choose_run.ensures.levels
+
+pub overflow_sub-result : goal.overflow_sub-result
+overflow_sub-result c = omega (arith, c.in_ok-choice.ensures.chosen.sum, c.loop-thread.invariant.down.order)
+
+pub returns-then-choice-gt0-clause-levels : goal.returns-then-choice-gt0-clause-levels
+returns-then-choice-gt0-clause-levels c = c.choose_run.ensures.levels
+
+pub bounds-threads-thread-in-loop-thread : goal.bounds-threads-thread-in-loop-thread
+bounds-threads-thread-in-loop-thread c = c.loop-thread-test.true
+
+pub returns-in_err-sum-clause-located : goal.returns-in_err-sum-clause-located
+returns-in_err-sum-clause-located c = IfOk-from_err c.from_residual-in_err-sum.result _ c.from_residual-in_err-sum.ensures.0
+
+pub returns-in_err-sum-clause-levels : goal.returns-in_err-sum-clause-levels
+returns-in_err-sum-clause-levels c = c.choose_run.ensures.levels
+
+pub put_run-requires : goal.put_run-requires
+put_run-requires c = c.loop-thread.invariant.room
+
+pub returns-in_err-put_run-clause-located : goal.returns-in_err-put_run-clause-located
+returns-in_err-put_run-clause-located c = IfOk-from_err c.from_residual-in_err-put_run.result _ c.from_residual-in_err-put_run.ensures.0
+
+pub returns-in_err-put_run-clause-levels : goal.returns-in_err-put_run-clause-levels
+returns-in_err-put_run-clause-levels c = c.choose_run.ensures.levels
+
+pub returns-clause-levels : goal.returns-clause-levels
+returns-clause-levels c = c.loop-thread.invariant.levels

@@ -1,8 +1,10 @@
-use Rattle.std.proofs.Common.{◌∙◌, ap, arith}
-use Rattle.std.proofs.lemmas.List.{get_or_default}
+use Rattle.std.proofs.Common.{◌∙◌, ap, arith, ◌++◌, List, sym, append-nil, map}
+use Rattle.std.proofs.lemmas.List.{get_or_default, at_drop_all}
 use Rattle.events.specs.Executions.{ThreadRun, empty_run}
-use Rattle.candidates.specs.Groups.{tally_of}
+use Rattle.candidates.specs.Groups.{tally_of, spread}
 use Rattle.candidates.proofs.Grouping.{known_group, fresh_group, grouped_on}
+use Rattle.std.proofs.lemmas.Result.{IfOk-from_err}
+use Rattle.candidates.specs.declared.counts.Counts.{Counts}
 use Rattle.candidates.proofs.groups.Groups.new.Goals as goal
 use Rattle.candidates.proofs.groups.Groups.new.Goals.{in-Some+in_ok-push-in-Some, in-None+in_ok-push-in-None+in_ok-push-in-None-2}
 
@@ -23,3 +25,24 @@ loop-run-preserved c =
           let g = grouped_on n c.args.runs.now c.loop-run.run-index ts w.push-in-None-2.new.self.items ps w.push-in-None.new.self.items c.in_ok-tally.tally c.loop-run-test.true e k c.loop-run.invariant.is in
           rw (w.tallies-is, w.places-is) (record { places = g.0; is = g.1 }))
     ]
+
+pub returns-in_err-tally : goal.returns-in_err-tally
+returns-in_err-tally c = IfOk-from_err c.from_residual.result _ c.from_residual.ensures.0
+
+pub returns-in_err-push-in-Some : goal.returns-in_err-push-in-Some
+returns-in_err-push-in-Some c = IfOk-from_err c.from_residual-in_err-push-in-Some.result _ c.from_residual-in_err-push-in-Some.ensures.0
+
+pub returns-in_err-push-in-None : goal.returns-in_err-push-in-None
+returns-in_err-push-in-None c = IfOk-from_err c.from_residual-in_err-push-in-None.result _ c.from_residual-in_err-push-in-None.ensures.0
+
+pub returns-in_err-push-in-None-2 : goal.returns-in_err-push-in-None-2
+returns-in_err-push-in-None-2 c = IfOk-from_err c.from_residual-in_err-push-in-None-2.result _ c.from_residual-in_err-push-in-None-2.ensures.0
+
+pub invariant_of-result : goal.invariant_of-result
+invariant_of-result c = c.loop-run.invariant.places
+
+pub returns : goal.returns
+returns c =
+    let done = spread c.loop-run.tallies.items c.loop-run.places.items in
+    let F = map (λ (run : ThreadRun). tally_of c.args.locations run.events) in
+    sym (append-nil done) ∙ ap (λ (ts : List (List Counts)). done ++ ts) (sym (at_drop_all F c.args.runs.now c.loop-run.run-index c.loop-run-test.false)) ∙ c.loop-run.invariant.is
