@@ -1,10 +1,11 @@
 -- Writes one after another.
-use Rattle.std.proofs.Common.{◌≡◌, ℕ, suc, ◌+◌, ◌<◌, List, [], ◌∷◌, ◌++◌, length, take, drop, get_or, Bool, true, Result, Ok, Err, Option, sym, ap, ◌∙◌, subst, append_assoc, append-nil, arith, take-append-drop, drop-cons}
+use Rattle.std.proofs.Common.{◌≡◌, ℕ, suc, ◌+◌, ◌<◌, ◌≤◌, List, [], ◌∷◌, ◌++◌, length, take, drop, get_or, Bool, true, Result, Ok, Err, Option, sym, ap, ◌∙◌, subst, append_assoc, append-nil, arith, take-append-drop, drop-cons}
 use Rattle.std.specs.Prelude.{IsErr}
 use Rattle.std.specs.List.{flat_map}
 use Rattle.std.proofs.lemmas.Grind.{flat_map-append}
 use Rattle.std.specs.Io.KnownBytes.{Appends}
 use Rattle.std.proofs.KnownBytes.{Appends-trans}
+use Rattle.std.proofs.lemmas.List.{take_all, take_more}
 use Rattle.wb_text.specs.Memory.{AppendsPrefix}
 
 -- `Writes`, of what the writer holds and of its mark
@@ -80,3 +81,13 @@ pub lines_done : {X : Type 0} (f : X → List ℕ) (a b : Option (List ℕ)) (al
 lines_done {X} f a b all done rest e none p =
     let P : List X → Type 0 = λ l. Appends a b (flat_map f l) in
     subst P (sym (append-nil done) ∙ ap (λ l. done ++ l) (sym none) ∙ e) p
+
+-- pieces of a list, one more and all
+
+pub item_on : {X : Type 0} (f : X → List ℕ) (a b c : Option (List ℕ)) (xs : List X) (k : ℕ) (x : X) → k < length xs → x ≡ get_or xs k x → Appends a b (flat_map f (take k xs)) → Appends b c (f x) → Appends a c (flat_map f (take (k + 1) xs))
+item_on {X} f a b c xs k x h e p q =
+    let P : List X → Type 0 = λ l. Appends a c (flat_map f l) in
+    subst P (sym (take_more xs k x h ∙ ap (λ y. take k xs ++ y ∷ []) (sym e))) (line_on f a b c (take k xs) x p q)
+
+pub items_done : {X : Type 0} (f : X → List ℕ) (a b : Option (List ℕ)) (xs : List X) (k : ℕ) → length xs ≤ k → Appends a b (flat_map f (take k xs)) → Appends a b (flat_map f xs)
+items_done {X} f a b xs k h p = let P : List X → Type 0 = λ l. Appends a b (flat_map f l) in subst P (take_all k xs h) p
