@@ -1,9 +1,10 @@
 -- What is chosen by number, digit by digit.
-use Rattle.std.proofs.Common.{◌≡◌, ℕ, zero, suc, ◌+◌, ◌-◌, ◌*◌, ◌/◌, ◌%◌, ◌<◌, ◌≤◌, ◌^◌, List, [], ◌∷◌, ◌++◌, length, drop, get_or, nat_lt, if◌then◌else◌, Bool, true, unwrap_or, append_assoc, refl, sym, ◌∙◌, ap, subst, inl, inr, arith}
+use Rattle.std.proofs.Common.{◌≡◌, ℕ, zero, suc, ◌+◌, ◌-◌, ◌*◌, ◌/◌, ◌%◌, ◌<◌, ◌≤◌, ◌^◌, List, [], ◌∷◌, ◌++◌, length, drop, get_or, nat_lt, if◌then◌else◌, Bool, true, unwrap_or, append_assoc, append-nil, refl, sym, ◌∙◌, ap, subst, inl, inr, arith}
 use Rattle.std.specs.Prelude.{slice_get, ◌↔◌}
+use Rattle.std.proofs.Math.ListN.{drop_of_length-le}
 use Rattle.std.proofs.Math.Seq.{drop-cons}
 use Rattle.std.proofs.Math.Nat.{mul_assoc, mul_comm, one-mul, mul-one, eq-zero-or-pos, mul-le-mul_right, mul-le-mul_left}
-use Rattle.std.proofs.lemmas.Bool.{lt-ltb, le-ltb}
+use Rattle.std.proofs.lemmas.Bool.{lt-ltb, le-ltb, cases_lt}
 use Rattle.listings.specs.Lists.{product_by}
 use Rattle.listings.specs.Numbered.{digits}
 use Rattle.candidates.specs.Blocks.{placings}
@@ -146,6 +147,20 @@ chosen_none ws number l = record {
   some = omega arith;
   below = ((λ u. u), (λ u. u));
 }
+
+-- what has been chosen of all of them
+pub chosen_all : (ws : List WaysValue) (number i left w : ℕ) (vs : List EventId) → Chosen ws number i left w vs → length ws ≤ i →
+    (vs ≡ digits count_of_ways way ws number) × (0 < left → product_by count_of_ways ws ≤ number) × (left ≤ 0 → (number < product_by count_of_ways ws) × (w ≡ weight_by count_of_ways weight_of_way ws number))
+chosen_all ws number i left w vs h l =
+    let e : drop i ws ≡ [] = drop_of_length-le ws l in
+    let D : List WaysValue → Type 0 = λ xs. vs ++ digits count_of_ways way xs left ≡ digits count_of_ways way ws number in
+    let W : List WaysValue → Type 0 = λ xs. w * weight_by count_of_ways weight_of_way xs left ≡ weight_by count_of_ways weight_of_way ws number in
+    let B : List WaysValue → Type 0 = λ xs. (left < product_by count_of_ways xs) ↔ (number < product_by count_of_ways ws) in
+    let b = subst B e h.below in (
+      sym (append-nil vs) ∙ subst D e h.lasts,
+      (λ some. elim (cases_lt number (product_by count_of_ways ws)) [ inl u ↦ absurd (let v : left < 1 = b.1 u in omega (arith, v, some)) | inr u ↦ u ]),
+      (λ none. (b.0 (omega (arith, none)), sym (mul-one w) ∙ subst W e h.weight)),
+    )
 
 -- the share of the write with some place among those that may stand last
 pub weight_is : (w : WaysValue) (share' place : ℕ) → w.seen ≡ true → w.opened ≤ length w.writes - 1 → (w.opened ≡ 0 → ⊥) → share' ≡ placings (length w.writes - 1) (w.opened - 1) →

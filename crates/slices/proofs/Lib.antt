@@ -9,6 +9,7 @@ pub mod Digits
 pub mod Following
 pub mod Fronts
 pub mod Inserted
+pub mod Mapped
 pub mod Members
 pub mod Merging
 pub mod Opened

@@ -69,6 +69,10 @@ pub miss_number : (v w : Walking) (o : Option ℕ) → ((n : ℕ) → o ≡ Some
 miss_number v w None none h = h
 miss_number v w (Some m) none h = absurd (none m refl)
 
+-- a walk that goes on behind what it found has less before it
+pub walk_nearer : (n : ℕ) (v w : Walking) → w.to ≡ v.to → n < w.next → v.next ≤ n → n < v.to → w.to - w.next < v.to - v.next
+walk_nearer n v w to later old below = omega (arith, to, later, old, below)
+
 -- what is found and passed over isn't counted
 pub walked_over : (t : Litmus) (items : List Clause) (places : List Place) (from to n : ℕ) (u v w : Walking) (counter : Counter) → IsUnderWay t items places from to u counter → IsHit u v n → ArePassed items n v w → IsUnderWay t items places from to w counter
 walked_over t items places from to n u v w counter h hit p =

@@ -83,11 +83,14 @@ few_picks ws vs s h =
     let a : product_by count_of_ways ws ≤ total (product_by count_of_ways ws) W = at_least (product_by count_of_ways ws) W (λ j. weights_some ws j s) in
     omega (arith, a, weights_add ws vs h)
 
+pub count_some : (w : WaysValue) → 0 < count_of_ways w
+count_some w = choice_some w.seen (suc w.opened) 1 (omega arith) (omega arith)
+
 -- a digit of a number below so many, and the rest of it
 pub next_below : (w : WaysValue) (ws : List (WaysValue)) (j : ℕ) → ((j / count_of_ways w < product_by count_of_ways ws) → j < product_by count_of_ways (w ∷ ws)) × (j < product_by count_of_ways (w ∷ ws) → j / count_of_ways w < product_by count_of_ways ws)
 next_below w ws j =
     let n : ℕ = count_of_ways w in
     let p : ℕ = product_by count_of_ways ws in
-    let some : 0 < n = choice_some w.seen (suc w.opened) 1 (omega arith) (omega arith) in
+    let some : 0 < n = count_some w in
     let turned : n * p ≡ p * n = mul_comm n p in
     ((λ l. (let h : j < p * n = (div-lt_iff_lt-mul some).0 l in omega (arith, h, turned))), (λ l. (div-lt_iff_lt-mul some).1 (omega (arith, l, turned))))

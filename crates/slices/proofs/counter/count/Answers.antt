@@ -8,7 +8,7 @@ use Rattle.slices.specs.Passing.{ArePassed}
 use Rattle.slices.specs.Slots.{slot_of}
 use Rattle.slices.proofs.Adding.{alike_at, alike_within, walked_counted}
 use Rattle.slices.proofs.Counted.{walked_none_yet, walked_some, walked_none}
-use Rattle.slices.proofs.PassedOver.{hit_number, is_passed, miss_number, not_passed, walked_over}
+use Rattle.slices.proofs.PassedOver.{hit_number, is_passed, miss_number, not_passed, walk_nearer, walked_over}
 use Rattle.slices.proofs.counter.count.Goals as goal
 
 pub loop-walk-init : goal.loop-walk-init
@@ -116,3 +116,38 @@ pub returns-clause-count : goal.returns-clause-count
 returns-clause-count c =
     let miss = miss_number c.loop-walk.walk c.next.new.self c.in_ok-number.field-0 c.in_default.not-Some c.in_ok-number.ensures.found in
     walked_none c.args.work.now.test c.args.work.now.model.items c.args.places.now c.args.from c.args.to c.loop-walk.walk c.next.new.self c.loop-walk.counter c.loop-walk.invariant.counted miss
+
+pub passes-requires : goal.passes-requires
+passes-requires c = record { found = (hit_number c.loop-walk.walk c.next.new.self c.in_ok-number.field-0 c.in-Some.number c.in-Some.is c.in_ok-number.ensures.found).step.next }
+
+pub weigh_alike-requires-clause-orderless : goal.weigh_alike-requires-clause-orderless
+weigh_alike-requires-clause-orderless c = c.in-Some-alike_behind.ensures.orderless
+
+pub weigh_alike-requires-clause-slots : goal.weigh_alike-requires-clause-slots
+weigh_alike-requires-clause-slots c = c.deref.ensures.value ∙ c.loop-walk.invariant.slots
+
+pub weigh-requires-clause-slots : goal.weigh-requires-clause-slots
+weigh-requires-clause-slots c = c.deref-in-Some.ensures.value ∙ c.loop-walk.invariant.slots
+
+pub loop-walk-smaller-then-branch : goal.loop-walk-smaller-then-branch
+loop-walk-smaller-then-branch c =
+    let hit = hit_number c.loop-walk.walk c.next.new.self c.in_ok-number.field-0 c.in-Some.number c.in-Some.is c.in_ok-number.ensures.found in
+    let over = is_passed c.in_ok-passes.field-0 (ArePassed c.loop-walk.evaluator c.in-Some.number c.next.new.self c.passes.new.walk) (c.passes.new.walk ≡ c.next.new.self) c.if-branch.true c.in_ok-passes.ensures.passed in
+    walk_nearer c.in-Some.number c.loop-walk.walk c.passes.new.walk (over.to ∙ hit.step.to) over.later hit.later hit.below
+
+pub loop-walk-smaller-in-Some-alike_behind : goal.loop-walk-smaller-in-Some-alike_behind
+loop-walk-smaller-in-Some-alike_behind c =
+    let hit = hit_number c.loop-walk.walk c.next.new.self c.in_ok-number.field-0 c.in-Some.number c.in-Some.is c.in_ok-number.ensures.found in
+    let same = not_passed c.in_ok-passes.field-0 (ArePassed c.loop-walk.evaluator c.in-Some.number c.next.new.self c.passes.new.walk) (c.passes.new.walk ≡ c.next.new.self) c.if-branch.false c.in_ok-passes.ensures.passed in
+    let H : Walking → Type 0 = λ w. IsHit c.loop-walk.walk w c.in-Some.number in
+    let here = subst H (sym same) hit in
+    let over = c.in_ok-weigh_alike.ensures in
+    walk_nearer c.in-Some.number c.loop-walk.walk c.weigh_alike.new.walk (over.to ∙ here.step.to) over.later hit.later hit.below
+
+pub loop-walk-smaller : goal.loop-walk-smaller
+loop-walk-smaller c =
+    let hit = hit_number c.loop-walk.walk c.next.new.self c.in_ok-number.field-0 c.in-Some.number c.in-Some.is c.in_ok-number.ensures.found in
+    let same = not_passed c.in_ok-passes.field-0 (ArePassed c.loop-walk.evaluator c.in-Some.number c.next.new.self c.passes.new.walk) (c.passes.new.walk ≡ c.next.new.self) c.if-branch.false c.in_ok-passes.ensures.passed in
+    let H : Walking → Type 0 = λ w. IsHit c.loop-walk.walk w c.in-Some.number in
+    let here = subst H (sym same) hit in
+    walk_nearer c.in-Some.number c.loop-walk.walk c.passes.new.walk here.step.to (let next = here.step.next in omega (arith, next)) hit.later hit.below

@@ -1,4 +1,4 @@
-use Rattle.std.proofs.Common.{◌≡◌, ◌∙◌, ap, arith}
+use Rattle.std.proofs.Common.{◌≡◌, ◌∙◌, ap, sym, arith}
 use Rattle.slices.specs.Parts.{PieceValue, test_size}
 use Rattle.slices.specs.Tallies.{TallyValue}
 use Rattle.slices.specs.Works.{WorkValue}
@@ -28,3 +28,15 @@ verdict-requires c =
     let size : test_size c.loop-slice.tally.work.test ≡ test_size c.args.work.test = ap (λ (w : WorkValue). test_size w.test) c.loop-slice.invariant.same in
     let done : c.loop-slice.slice ≡ c.args.total = omega arith in
     λ j l. all_held (test_size c.args.work.test) c.args.total c.loop-slice.slice c.loop-slice.tally.spans c.requires.0 done c.loop-slice.invariant.held j (omega (arith, size, l))
+
+pub merge-requires-clause-work : goal.merge-requires-clause-work
+merge-requires-clause-work c = ap (λ (p : PieceValue). p.work) c.in_ok-part.ensures.piece ∙ c.in_ok-piece.ensures.work ∙ sym c.loop-slice.invariant.same
+
+pub evaluate_in-requires-clause-evaluator : goal.evaluate_in-requires-clause-evaluator
+evaluate_in-requires-clause-evaluator c = c.loop-slice.invariant.evaluator ∙ ap (λ (w : WorkValue). w.model.items) (sym c.in_ok-piece.ensures.work)
+
+pub returns-clause-version : goal.returns-clause-version
+returns-clause-version c = c.verdict.ensures.version
+
+pub returns-clause-right : goal.returns-clause-right
+returns-clause-right c = c.verdict.ensures.right
