@@ -1,6 +1,6 @@
 //! What is stored of a run, and how another differs.
 
-use crate::rows::{RowsFault, rows_of};
+use crate::rows::{parts_of, row_in};
 use crate::trouble::{Trouble, unreadable};
 use std::fs;
 use std::fs::OpenOptions;
@@ -48,21 +48,24 @@ pub fn compare<R: Print + AllocGlobal>(
     Ok(!told.is_empty())
 }
 
-/// The rows of a file.
+/// The rows of a file, a line each. Empty lines are none.
 pub fn read_rows<R: Files + Eprint + AllocGlobal>(rt: &R, path: &str) -> Result<Vec<Row>, Trouble> {
-    match fs::read(rt, path) {
-        Ok(text) => rows_in(rt, path, &text),
-        Err(error) => Err(unreadable(rt, path, &error)),
+    let text = match fs::read(rt, path) {
+        Ok(text) => text,
+        Err(error) => return Err(unreadable(rt, path, &error)),
+    };
+    let lines = parts_of(rt.alloc(), &text, b'\n')?;
+    let mut rows = Vec::new(rt.alloc());
+    for (place, line) in lines.iter().enumerate() {
+        if line.is_empty() {
+            continue;
+        }
+        match row_in(rt.alloc(), line)? {
+            Some(row) => rows.push(row)?,
+            None => return Err(no_row(rt, path, place + 1)),
+        }
     }
-}
-
-/// The rows of a file's text.
-fn rows_in<R: Eprint + AllocGlobal>(rt: &R, path: &str, text: &[u8]) -> Result<Vec<Row>, Trouble> {
-    match rows_of(rt.alloc(), text) {
-        Ok(rows) => Ok(rows),
-        Err(RowsFault::NoRow(number)) => Err(no_row(rt, path, number)),
-        Err(RowsFault::NoMemory) => Err(Trouble::NoMemory),
-    }
+    Ok(rows)
 }
 
 /// Tells on standard error that a line of a file is no row.

@@ -1,9 +1,10 @@
 //! Which tests are judged: files, folders, lists, and standard input.
 
 use std::alloc::{AllocError, Global};
+use std::fmt::Display;
 use std::io::Read;
 use std::rt::Files;
-use std::{fs, io};
+use std::{fs, io, mem};
 
 /// The most bytes of a text that are read: one more than a test or a cat file may have.
 const MOST_BYTES: u64 = 65_537;
@@ -11,10 +12,19 @@ const MOST_BYTES: u64 = 65_537;
 /// The most folders that are gone through.
 const MOST_FOLDERS: usize = 1_000_000;
 
-/// The tests that the words name, and what couldn't be read on the way.
+/// How wide the paths of a table are at most.
+const WIDEST: usize = 60;
+
+/// The tests that the words name, and what is told of the paths that couldn't be read on the way.
 pub struct Paths {
     pub tests: Vec<String>,
-    pub unread: Vec<Unread>,
+    pub unread: Vec<String>,
+    /// How wide the paths of a table are.
+    pub width: usize,
+    /// The folders that are still to be gone through.
+    folders: Vec<String>,
+    /// The tests that were found in folders.
+    found: Vec<String>,
 }
 
 impl Drop for Paths {
@@ -22,49 +32,10 @@ impl Drop for Paths {
         let Paths {
             tests: _,
             unread: _,
+            width: _,
+            folders: _,
+            found: _,
         } = self;
-    }
-}
-
-/// A path that can't be read, and why.
-pub struct Unread {
-    pub path: String,
-    pub error: String,
-}
-
-impl Drop for Unread {
-    fn drop(self) {
-        let Unread { path: _, error: _ } = self;
-    }
-}
-
-impl Paths {
-    /// Adds a test. A line can't tell one whose path would end the line or the field.
-    fn add_test(&mut self, alloc: Global, path: &str) -> Result<(), AllocError> {
-        if path.contains(['\n', '\t']) {
-            return self.add_unread(alloc, path, "its path has a tab or a line feed");
-        }
-        self.tests.push(String::from_str(alloc, path)?)?;
-        Ok(())
-    }
-
-    /// Adds a path that can't be read.
-    fn add_unread(&mut self, alloc: Global, path: &str, error: &str) -> Result<(), AllocError> {
-        let path = String::from_str(alloc, path)?;
-        let error = String::from_str(alloc, error)?;
-        self.unread.push(Unread { path, error })?;
-        Ok(())
-    }
-
-    /// Adds a path that the system doesn't let be read.
-    fn add_failed(
-        &mut self,
-        alloc: Global,
-        path: &str,
-        error: &io::Error,
-    ) -> Result<(), AllocError> {
-        let error = format!(in alloc; "{error}")?;
-        self.add_unread(alloc, path, error.as_str())
     }
 }
 
@@ -85,81 +56,6 @@ pub fn is_there<R: Files>(rt: &R, path: &str) -> bool {
     matches!(fs::exists(rt, path), Ok(true))
 }
 
-/// The tests that the words name, in the order of the words; those of a folder by their paths.
-pub fn find_tests<R: Files + AllocGlobal + Clone + Drop>(
-    rt: &R,
-    words: &[&str],
-) -> Result<Paths, AllocError> {
-    let alloc = rt.alloc();
-    let mut paths = Paths {
-        tests: Vec::new(alloc),
-        unread: Vec::new(alloc),
-    };
-    for word in words {
-        match word.strip_prefix('@') {
-            Some(list) => add_list(rt, list, &mut paths)?,
-            None => add_path(rt, word, &mut paths)?,
-        }
-    }
-    Ok(paths)
-}
-
-/// Adds a file, or the tests of a folder.
-fn add_path<R: Files + AllocGlobal + Clone + Drop>(
-    rt: &R,
-    path: &str,
-    paths: &mut Paths,
-) -> Result<(), AllocError> {
-    if path != "-" && matches!(fs::metadata(rt, path), Ok(about) if about.is_dir()) {
-        return add_folder(rt, path, paths);
-    }
-    paths.add_test(rt.alloc(), path)
-}
-
-/// Adds the paths that a list has.
-fn add_list<R: Files + AllocGlobal + Clone + Drop>(
-    rt: &R,
-    list: &str,
-    paths: &mut Paths,
-) -> Result<(), AllocError> {
-    match fs::read_to_string(rt, list) {
-        Ok(text) => add_lines(rt, list, text.as_str(), paths),
-        Err(error) => paths.add_failed(rt.alloc(), list, &error),
-    }
-}
-
-/// Adds the paths of a list's text, one a line. Empty lines, and those that begin with `#`, are left out.
-fn add_lines<R: Files + AllocGlobal + Clone + Drop>(
-    rt: &R,
-    list: &str,
-    text: &str,
-    paths: &mut Paths,
-) -> Result<(), AllocError> {
-    for line in text.lines() {
-        let line = line.trim();
-        if !line.is_empty() && !line.starts_with('#') {
-            add_listed(rt, list, line, paths)?;
-        }
-    }
-    Ok(())
-}
-
-/// Adds a path of a list, which is looked for beside the list where it isn't there.
-fn add_listed<R: Files + AllocGlobal + Clone + Drop>(
-    rt: &R,
-    list: &str,
-    path: &str,
-    paths: &mut Paths,
-) -> Result<(), AllocError> {
-    if !is_there(rt, path) {
-        let beside = sibling(rt.alloc(), list, path)?;
-        if is_there(rt, beside.as_str()) {
-            return add_path(rt, beside.as_str(), paths);
-        }
-    }
-    add_path(rt, path, paths)
-}
-
 /// The path of a name beside a file.
 pub fn sibling(alloc: Global, file: &str, name: &str) -> Result<String, AllocError> {
     match file.rsplit_once('/') {
@@ -176,84 +72,154 @@ pub fn joined(alloc: Global, folder: &str, name: &str) -> Result<String, AllocEr
     format!(in alloc; "{folder}/{name}")
 }
 
-/// Adds all `*.litmus` files in a folder and below, by their paths.
-fn add_folder<R: Files + AllocGlobal + Clone + Drop>(
-    rt: &R,
-    folder: &str,
-    paths: &mut Paths,
-) -> Result<(), AllocError> {
-    let before = paths.unread.len();
-    let found = tests_below(rt, folder, paths)?;
-    if found.is_empty() && paths.unread.len() == before {
-        return paths.add_unread(rt.alloc(), folder, "no *.litmus file is in it or below");
-    }
-    for path in &found {
-        paths.add_test(rt.alloc(), path.as_str())?;
-    }
-    Ok(())
-}
-
-/// The `*.litmus` files in a folder and below, by their paths.
-fn tests_below<R: Files + AllocGlobal + Clone + Drop>(
-    rt: &R,
-    folder: &str,
-    paths: &mut Paths,
-) -> Result<Vec<String>, AllocError> {
-    let alloc = rt.alloc();
-    let mut found = Vec::new(alloc);
-    let mut folders = Vec::new(alloc);
-    folders.push(String::from_str(alloc, top_of(folder))?)?;
-    for _ in 0..MOST_FOLDERS {
-        match folders.pop() {
-            Some(next) => go_through(rt, next.as_str(), &mut folders, &mut found, paths)?,
-            None => break,
+impl Paths {
+    pub fn new(alloc: Global) -> Self {
+        Paths {
+            tests: Vec::new(alloc),
+            unread: Vec::new(alloc),
+            width: 0,
+            folders: Vec::new(alloc),
+            found: Vec::new(alloc),
         }
     }
-    found.sort()?;
-    Ok(found)
-}
 
-/// A folder's path as those of its files begin.
-fn top_of(folder: &str) -> &str {
-    match folder.trim_end_matches('/') {
-        "" => "/",
-        top => top,
-    }
-}
-
-/// Adds the tests of one folder, and the folders in it.
-fn go_through<R: Files + AllocGlobal + Clone + Drop>(
-    rt: &R,
-    folder: &str,
-    folders: &mut Vec<String>,
-    found: &mut Vec<String>,
-    paths: &mut Paths,
-) -> Result<(), AllocError> {
-    match fs::read_dir(rt, folder) {
-        Ok(entries) => {
-            for entry in entries {
-                match entry {
-                    Ok(entry) => sort_out(rt, entry.path().as_str(), folders, found)?,
-                    Err(error) => paths.add_failed(rt.alloc(), folder, &error)?,
-                }
+    /// Adds the tests that the words name, in the order of the words; those of a folder by their paths.
+    pub fn find<R: Files + AllocGlobal + Clone + Drop>(
+        &mut self,
+        rt: &R,
+        words: &[&str],
+    ) -> Result<(), AllocError> {
+        for word in words {
+            match word.strip_prefix('@') {
+                Some(list) => self.add_list(rt, list)?,
+                None => self.add_path(rt, word)?,
             }
-            Ok(())
         }
-        Err(error) => paths.add_failed(rt.alloc(), folder, &error),
+        Ok(())
     }
-}
 
-/// Adds a path to the folders or to the tests, if it is one of those.
-fn sort_out<R: Files + AllocGlobal>(
-    rt: &R,
-    path: &str,
-    folders: &mut Vec<String>,
-    found: &mut Vec<String>,
-) -> Result<(), AllocError> {
-    if matches!(fs::symlink_metadata(rt, path), Ok(about) if about.is_dir()) {
-        folders.push(String::from_str(rt.alloc(), path)?)?;
-    } else if path.ends_with(".litmus") {
-        found.push(String::from_str(rt.alloc(), path)?)?;
+    /// Adds a test. A line can't tell one whose path would end the line or the field.
+    fn add_test(&mut self, path: &str) -> Result<(), AllocError> {
+        if path.contains(['\n', '\t']) {
+            return self.add_unread(path, "its path has a tab or a line feed");
+        }
+        self.width = self.width.max(path.len()).min(WIDEST);
+        let path = String::from_str(*self.tests.allocator(), path)?;
+        self.tests.push(path)?;
+        Ok(())
     }
-    Ok(())
+
+    /// Adds what is told of a path that can't be read.
+    fn add_unread<D: Display + Drop>(&mut self, path: &str, why: D) -> Result<(), AllocError> {
+        let message = format!(in *self.unread.allocator(); "{path}: {why}\n")?;
+        self.unread.push(message)?;
+        Ok(())
+    }
+
+    /// Adds a file, or the tests of a folder.
+    fn add_path<R: Files + AllocGlobal + Clone + Drop>(
+        &mut self,
+        rt: &R,
+        path: &str,
+    ) -> Result<(), AllocError> {
+        if path != "-" && matches!(fs::metadata(rt, path), Ok(about) if about.is_dir()) {
+            return self.add_folder(rt, path);
+        }
+        self.add_test(path)
+    }
+
+    /// Adds the paths of a list, one a line. Empty lines, and those that begin with `#`, are left out, and a path that isn't there is looked for beside the list.
+    fn add_list<R: Files + AllocGlobal + Clone + Drop>(
+        &mut self,
+        rt: &R,
+        list: &str,
+    ) -> Result<(), AllocError> {
+        let text = match fs::read_to_string(rt, list) {
+            Ok(text) => text,
+            Err(error) => return self.add_unread(list, error),
+        };
+        for line in text.as_str().lines() {
+            let line = line.trim();
+            if line.is_empty() || line.starts_with('#') {
+                continue;
+            }
+            let beside = sibling(rt.alloc(), list, line)?;
+            if !is_there(rt, line) && is_there(rt, beside.as_str()) {
+                self.add_path(rt, beside.as_str())?;
+            } else {
+                self.add_path(rt, line)?;
+            }
+        }
+        Ok(())
+    }
+
+    /// Adds all `*.litmus` files in a folder and below, by their paths.
+    fn add_folder<R: Files + AllocGlobal + Clone + Drop>(
+        &mut self,
+        rt: &R,
+        folder: &str,
+    ) -> Result<(), AllocError> {
+        let before = self.unread.len();
+        self.go_below(rt, folder)?;
+        if self.found.is_empty() && self.unread.len() == before {
+            return self.add_unread(folder, "no *.litmus file is in it or below");
+        }
+        let found = mem::replace(&mut self.found, Vec::new(rt.alloc()));
+        for path in &found {
+            self.add_test(path.as_str())?;
+        }
+        Ok(())
+    }
+
+    /// Goes through a folder and those below, and sorts the tests that are found by their paths.
+    fn go_below<R: Files + AllocGlobal + Clone + Drop>(
+        &mut self,
+        rt: &R,
+        folder: &str,
+    ) -> Result<(), AllocError> {
+        let top = match folder.trim_end_matches('/') {
+            "" => "/",
+            top => top,
+        };
+        self.folders.clear();
+        self.folders.push(String::from_str(rt.alloc(), top)?)?;
+        for _ in 0..MOST_FOLDERS {
+            match self.folders.pop() {
+                Some(next) => self.go_through(rt, next.as_str())?,
+                None => break,
+            }
+        }
+        self.found.sort()
+    }
+
+    /// Adds what an entry of a folder is, if it is a folder or a test.
+    fn add_entry<R: Files>(&mut self, entry: &fs::DirEntry<R>) -> Result<(), AllocError> {
+        let path = entry.path();
+        let path = String::from_str(*self.found.allocator(), path.as_str())?;
+        if matches!(entry.metadata(), Ok(about) if about.is_dir()) {
+            self.folders.push(path)?;
+        } else if path.ends_with(".litmus") {
+            self.found.push(path)?;
+        }
+        Ok(())
+    }
+
+    /// Goes through one folder.
+    fn go_through<R: Files + AllocGlobal + Clone + Drop>(
+        &mut self,
+        rt: &R,
+        folder: &str,
+    ) -> Result<(), AllocError> {
+        let entries = match fs::read_dir(rt, folder) {
+            Ok(entries) => entries,
+            Err(error) => return self.add_unread(folder, error),
+        };
+        for entry in entries {
+            match entry {
+                Ok(entry) => self.add_entry(&entry)?,
+                Err(error) => self.add_unread(folder, error)?,
+            }
+        }
+        Ok(())
+    }
 }

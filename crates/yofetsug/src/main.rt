@@ -1,7 +1,6 @@
 //! Judges litmus tests under cat models.
 #![tactic(auto)]
 
-mod batch;
 mod compared;
 mod deadline;
 mod files;
@@ -16,14 +15,13 @@ mod trouble;
 mod why;
 mod words;
 
-use clap::Error;
 use clap::error::ErrorKind;
 use session::{Reach, run_all};
 use std::io::IsTerminal;
 use std::process::ExitCode;
 use std::{env, io};
 use trouble::Trouble;
-use words::read_words;
+use words::{read_words, words_of};
 
 /// Ends with 0; with 1 where a file, memory or a write fails; with 2 where something is refused, or the words are bad; with 3 where something is not
 /// as it is expected.
@@ -34,34 +32,26 @@ fn main(rt: HostRuntime) -> ExitCode {
             Ok(words) => run_words(&rt, &words, shows),
             Err(_) => ExitCode::FAILURE,
         },
-        Err(_) => reject_bytes(&rt),
+        Err(_) => match eprintln!(rt; "error: a word of the command line is not UTF-8") {
+            Ok(()) => ExitCode::from(2),
+            Err(_) => ExitCode::FAILURE,
+        },
     }
 }
 
-/// Does what the words ask for.
+/// Does what the words ask for, or prints what clap says: what is wrong with them, or the help that they ask for.
 fn run_words<R: Reach>(rt: &R, words: &[String], shows: bool) -> ExitCode {
     match read_words(rt.alloc(), words) {
-        Ok(words) => end(rt, run_all(rt, &words, shows)),
-        Err(error) => reject_words(rt, &error),
-    }
-}
-
-/// Prints what clap says: what is wrong with the words, or the help that they ask for.
-fn reject_words<R: Print + Eprint>(rt: &R, error: &Error) -> ExitCode {
-    if error.kind() == ErrorKind::OutOfMemory {
-        return ExitCode::FAILURE;
-    }
-    match error.print(rt) {
-        Ok(()) => ExitCode::from(error.exit_code() as u8),
-        Err(error) => end(rt, Err(Trouble::Write(error))),
-    }
-}
-
-/// Says that a word isn't UTF-8.
-fn reject_bytes(rt: &impl Eprint) -> ExitCode {
-    match eprintln!(rt; "error: a word of the command line is not UTF-8") {
-        Ok(()) => ExitCode::from(2),
-        Err(_) => ExitCode::FAILURE,
+        Ok(matches) => end(rt, run_all(rt, &words_of(&matches), shows)),
+        Err(error) => {
+            if error.kind() == ErrorKind::OutOfMemory {
+                return ExitCode::FAILURE;
+            }
+            match error.print(rt) {
+                Ok(()) => ExitCode::from(error.exit_code() as u8),
+                Err(error) => end(rt, Err(Trouble::Write(error))),
+            }
+        }
     }
 }
 

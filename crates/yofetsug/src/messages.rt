@@ -4,19 +4,25 @@ use fault_messages::{space_trouble, test_fault};
 use std::alloc::{AllocError, Global};
 use suite::TestTrouble;
 
-/// Why a text is no test, or has no verdict.
+/// Why a text is no test, or has no verdict; and the number and the name of the refusal.
 pub fn test_trouble(
     alloc: Global,
     path: &str,
     text: &[u8],
     trouble: &TestTrouble,
-) -> Result<String, AllocError> {
+) -> Result<(String, &'static str), AllocError> {
     match trouble {
-        TestTrouble::Test(fault) => test_fault(alloc, path, text, fault),
-        TestTrouble::Space(fault) => space_trouble(alloc, path, fault.label()),
-        TestTrouble::Late => format!(in alloc;
-            "{path}: given up: it took longer than --timeout says\n"
-        ),
-        TestTrouble::NoMemory => String::from_str(alloc, "memory ran out\n"),
+        TestTrouble::Test(fault) => Ok((test_fault(alloc, path, text, fault)?, fault.label())),
+        TestTrouble::Space(fault) => {
+            let label = fault.label();
+            Ok((space_trouble(alloc, path, label)?, label))
+        }
+        TestTrouble::Late => {
+            let message = format!(in alloc;
+                "{path}: given up: it took longer than --timeout says\n"
+            )?;
+            Ok((message, "Late"))
+        }
+        TestTrouble::NoMemory => Err(AllocError),
     }
 }

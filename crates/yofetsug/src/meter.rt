@@ -8,19 +8,30 @@ const QUIET: u64 = 2_000;
 
 const PAUSE: u64 = 500;
 
+/// How many milliseconds have passed, as far as the clock tells.
+pub fn milliseconds_since<R: Clock>(rt: &R, began: Option<Instant>) -> u64 {
+    match began {
+        Some(began) => match began.elapsed(rt) {
+            Ok(passed) => u64::try_from(passed.as_millis()).unwrap_or(u64::MAX),
+            Err(_) => 0,
+        },
+        None => 0,
+    }
+}
+
 /// A line on standard error that tells how many tests are done. It is written over, and taken away before anything else is printed.
 #[derive(Clone, Copy)]
 pub struct Meter {
     /// When the run began, if it is told how far it is.
     began: Option<Instant>,
     tests: usize,
-    done: usize,
+    pub done: usize,
     /// How many milliseconds had passed when it was told last, if the line stands there.
     told: Option<u64>,
 }
 
 impl Meter {
-    /// A meter of a run of so many tests.
+    /// A meter of a run of so many tests, which tells something only where it is to.
     pub fn new<R: Clock>(rt: &R, tests: usize, shows: bool) -> Self {
         let began = if shows { Instant::now(rt).ok() } else { None };
         Meter {
@@ -31,20 +42,9 @@ impl Meter {
         }
     }
 
-    /// So many tests are done.
-    pub fn set_done(&mut self, done: usize) {
-        self.done = done;
-    }
-
     /// Tells how many tests are done, where it is time to.
     pub fn tick<R: Clock + Eprint>(&mut self, rt: &R) -> io::Result<()> {
-        let Some(began) = &self.began else {
-            return Ok(());
-        };
-        let passed = match began.elapsed(rt) {
-            Ok(passed) => u64::try_from(passed.as_millis()).unwrap_or(u64::MAX),
-            Err(_) => return Ok(()),
-        };
+        let passed = milliseconds_since(rt, self.began);
         let next = match self.told {
             Some(last) => last.saturating_add(PAUSE),
             None => QUIET,

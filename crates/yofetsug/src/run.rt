@@ -1,209 +1,222 @@
-//! Judging one test after another.
+//! Judging one test.
 
 use crate::deadline::Deadline;
 use crate::files::{read_front, text_of};
 use crate::messages::test_trouble;
-use crate::meter::Meter;
-use crate::outcome::{Fate, Outcome};
-use crate::words::Form;
-use cat_model::Model;
+use crate::meter::{Meter, milliseconds_since};
+use crate::models::Models;
+use crate::outcome::{Outcome, Told};
+use crate::why::Answer;
+use crate::words::{Form, Words};
 use slices::Verdict;
 use std::alloc::{AllocError, Global};
-use std::io;
 use std::rt::Files;
 use std::thread::Threads;
 use std::time::Clock;
-use suite::{Case, TestTrouble, judge_text};
-
-/// What all tests have in common.
-#[derive(Clone, Copy)]
-pub struct Plan<'a> {
-    pub models: &'a [Model],
-    /// The words that named the models.
-    pub names: &'a [Vec<u8>],
-    /// The digests of the models' files.
-    pub digests: &'a [String],
-    pub form: Form,
-    /// How wide the paths of a table are.
-    pub width: usize,
-    /// Whether rows are kept, to be compared or stored.
-    pub keeps: bool,
-    /// After how many seconds a test is given up, if at all.
-    pub timeout: Option<u32>,
-    /// Whether it is told why.
-    pub why: bool,
-    /// Whether it is drawn why.
-    pub draws: bool,
-}
-
-impl<'a> Plan<'a> {
-    /// Whether a table is printed.
-    pub fn is_table(&self) -> bool {
-        self.names.len() != 1 && matches!(&self.form, Form::Summary | Form::Line)
-    }
-}
-
-/// A test under each of the models.
-fn cases_of<'a>(
-    alloc: Global,
-    path: &'a str,
-    names: &'a [Vec<u8>],
-    digests: &'a [String],
-) -> Result<Vec<Case<'a>>, AllocError> {
-    let mut cases = Vec::new(alloc);
-    for (name, digests) in names.iter().zip(digests) {
-        cases.push(case_of(path, name, digests))?;
-    }
-    Ok(cases)
-}
-
-/// A test under a model.
-fn case_of<'a>(path: &'a str, name: &'a Vec<u8>, digests: &'a String) -> Case<'a> {
-    Case {
-        path,
-        model: std::str::from_utf8(name).unwrap_or(""),
-        digests: digests.as_str(),
-    }
-}
-
-/// A test that was read: its path, and its text or why there is none.
-pub struct Job<'a> {
-    pub path: &'a str,
-    pub text: Vec<u8>,
-    pub error: String,
-}
-
-impl<'a> Drop for Job<'a> {
-    fn drop(self) {
-        let Job {
-            path: _,
-            text: _,
-            error: _,
-        } = self;
-    }
-}
-
-/// The text of a test, which is read from standard input where the path is `-`.
-pub fn read_test_text<R: Files + Input + AllocGlobal>(rt: &R, path: &str) -> io::Result<Vec<u8>> {
-    if path == "-" {
-        return read_front(rt.alloc(), rt.reader());
-    }
-    text_of(rt, path)
-}
-
-/// What is told of a test whose text can't be read.
-pub fn unread(alloc: Global, path: &str, error: &str) -> Result<Outcome, AllocError> {
-    let message = format!(in alloc; "{path}: {error}\n")?;
-    Ok(Outcome::new(alloc, Fate::Unread, message))
-}
+use suite::{Case, Row, TestTrouble, are_alike, cell_of, judge_text, table_row_of};
 
 /// After so many milliseconds a test is left to a later pass.
 const WHILE: u64 = 200;
 
-/// How many milliseconds a test may take, if that is limited.
-fn limit_of(plan: &Plan<'_>) -> Option<u64> {
-    plan.timeout
-        .map(|seconds| u64::from(seconds).saturating_mul(1_000))
+/// What all tests have in common.
+#[derive(Drop)]
+pub struct Plan<'a> {
+    pub words: &'a Words<'a>,
+    pub models: &'a Models,
+    /// How wide the paths of a table are.
+    pub width: usize,
+    /// How many threads judge.
+    pub threads: u16,
+    /// After how many milliseconds a test is given up.
+    pub limit: u64,
 }
 
-/// What is told of a test under all models, which one thread judges; or nothing where it takes more than a while.
-pub fn judge_quickly<R: Clock + Eprint + Threads + Sync>(
-    rt: &R,
-    alloc: Global,
-    job: &Job<'_>,
-    plan: &Plan<'_>,
-) -> Result<Option<Outcome>, AllocError> {
-    if !job.error.is_empty() {
-        return unread(alloc, job.path, job.error.as_str()).map(Some);
-    }
-    let (limit, is_last) = match limit_of(plan) {
-        Some(limit) if limit <= WHILE => (limit, true),
-        _ => (WHILE, false),
-    };
-    let mut deadline = Deadline::new(rt, Some(limit), None);
-    let judged = judge_text(rt, alloc, &job.text, plan.models, 1, &mut deadline);
-    if !is_last && matches!(&judged, Err(TestTrouble::Late)) {
-        return Ok(None);
-    }
-    outcome_of(alloc, job, plan, judged, deadline.milliseconds()).map(Some)
+/// What became of a test.
+#[derive(Drop)]
+pub enum Fate {
+    /// It is still to be judged.
+    Waiting,
+    Judged,
+    Refused,
+    Unread,
+    /// There was no memory to judge it.
+    Lost,
 }
 
-/// What is told of a test under all models, which so many threads judge together.
-pub fn judge_wholly<R: Clock + Eprint + Threads + Sync>(
-    rt: &R,
-    alloc: Global,
-    job: &Job<'_>,
-    plan: &Plan<'_>,
-    threads: u16,
-    meter: &mut Meter,
-) -> Result<Outcome, AllocError> {
-    let mut deadline = Deadline::new(rt, limit_of(plan), Some(*meter));
-    let judged = judge_text(rt, alloc, &job.text, plan.models, threads, &mut deadline);
-    if let Some(told) = deadline.meter() {
-        *meter = told;
-    }
-    outcome_of(alloc, job, plan, judged, deadline.milliseconds())
-}
-
-/// What is told of a test with its verdicts, or that has none.
-fn outcome_of(
-    alloc: Global,
-    job: &Job<'_>,
-    plan: &Plan<'_>,
-    judged: Result<Vec<Verdict>, TestTrouble>,
+/// A test, and what is told of it.
+pub struct Test<'a> {
+    path: &'a str,
+    text: Vec<u8>,
+    pub fate: Fate,
+    /// How long it took under all models.
     milliseconds: u64,
-) -> Result<Outcome, AllocError> {
-    let cases = cases_of(alloc, job.path, plan.names, plan.digests)?;
-    match judged {
-        Ok(verdicts) => told(alloc, &verdicts, &cases, plan, milliseconds),
-        Err(TestTrouble::NoMemory) => Err(AllocError),
-        Err(trouble) => {
-            let message = test_trouble(alloc, job.path, &job.text, &trouble)?;
-            refused(
-                alloc,
-                message,
-                label_of(&trouble),
-                &cases,
-                plan,
-                milliseconds,
-            )
+    /// Whether the models tell different words or flags.
+    pub differs: bool,
+    /// What is printed.
+    pub lines: Vec<u8>,
+    /// Why the verdicts are what they are.
+    pub answer: Answer,
+    /// What is told on standard error, or nothing.
+    pub message: String,
+    /// What is compared or stored.
+    pub rows: Vec<Row>,
+}
+
+// A function of its own, as in other files here: whoever holds one drops it by a call.
+impl<'a> Drop for Test<'a> {
+    fn drop(self) {
+        let Test {
+            path: _,
+            text: _,
+            fate: _,
+            milliseconds: _,
+            differs: _,
+            lines: _,
+            answer: _,
+            message: _,
+            rows: _,
+        } = self;
+    }
+}
+
+impl<'a> Test<'a> {
+    /// The test of a path, which is read from standard input where the path is `-`.
+    pub fn read<R: Files + Input + AllocGlobal>(rt: &R, path: &'a str) -> Result<Self, AllocError> {
+        let alloc = rt.alloc();
+        let mut test = Test {
+            path,
+            text: Vec::new(alloc),
+            fate: Fate::Waiting,
+            milliseconds: 0,
+            differs: false,
+            lines: Vec::new(alloc),
+            answer: Answer::new(alloc),
+            message: String::new(alloc),
+            rows: Vec::new(alloc),
+        };
+        let read = if path == "-" {
+            read_front(alloc, rt.reader())
+        } else {
+            text_of(rt, path)
+        };
+        match read {
+            Ok(text) => test.text = text,
+            Err(error) => {
+                test.message = format!(in alloc; "{path}: {error}\n")?;
+                test.fate = Fate::Unread;
+            }
+        }
+        Ok(test)
+    }
+
+    /// Judges a test that waits by one thread. It waits on where it takes more than a while.
+    pub fn judge_quickly<R: Clock + Eprint + Threads + Sync>(
+        &mut self,
+        rt: &R,
+        alloc: Global,
+        plan: &Plan<'_>,
+    ) {
+        if !matches!(&self.fate, Fate::Waiting) {
+            return;
+        }
+        let mut deadline = Deadline::new(rt, plan.limit.min(WHILE), Meter::new(rt, 0, false));
+        if self.judge(rt, alloc, plan, 1, &mut deadline).is_err() {
+            self.fate = Fate::Lost;
         }
     }
-}
 
-/// What is told of a test that was judged.
-fn told(
-    alloc: Global,
-    verdicts: &[Verdict],
-    cases: &[Case<'_>],
-    plan: &Plan<'_>,
-    milliseconds: u64,
-) -> Result<Outcome, AllocError> {
-    let mut outcome = Outcome::new(alloc, Fate::Judged, String::new(alloc));
-    outcome.tell(alloc, verdicts, cases, plan, milliseconds)?;
-    Ok(outcome)
-}
+    /// Judges the test by so many threads. It waits on where it takes more than the deadline says, but not than the plan does.
+    pub fn judge<R: Clock + Eprint + Threads + Sync>(
+        &mut self,
+        rt: &R,
+        alloc: Global,
+        plan: &Plan<'_>,
+        threads: u16,
+        deadline: &mut Deadline<'_, R>,
+    ) -> Result<(), AllocError> {
+        let models = plan.models.models.as_slice();
+        let judged = judge_text(rt, alloc, &self.text, models, threads, deadline);
+        self.milliseconds = milliseconds_since(rt, deadline.began);
+        match &judged {
+            Ok(verdicts) => self.tell(alloc, plan, verdicts),
+            Err(TestTrouble::Late) if deadline.limit < plan.limit => Ok(()),
+            Err(trouble) => self.refuse(alloc, plan, trouble),
+        }
+    }
 
-/// What is told of a test that is refused.
-fn refused(
-    alloc: Global,
-    message: String,
-    label: &str,
-    cases: &[Case<'_>],
-    plan: &Plan<'_>,
-    milliseconds: u64,
-) -> Result<Outcome, AllocError> {
-    let mut outcome = Outcome::new(alloc, Fate::Refused, message);
-    outcome.refuse(alloc, label, cases, plan, milliseconds)?;
-    Ok(outcome)
-}
+    /// Adds what is told of a test that was judged, under each of the models.
+    fn tell(
+        &mut self,
+        alloc: Global,
+        plan: &Plan<'_>,
+        verdicts: &[Verdict],
+    ) -> Result<(), AllocError> {
+        self.fate = Fate::Judged;
+        self.compare(alloc, plan, verdicts)?;
+        for (place, verdict) in verdicts.iter().enumerate() {
+            let case = plan.models.case(self.path, place);
+            if plan.words.why || plan.words.dot.is_some() {
+                self.answer.explain(alloc, verdict, case.model.as_bytes())?;
+            }
+            self.add(alloc, plan, case, Outcome::Judged(verdict))?;
+        }
+        Ok(())
+    }
 
-/// The number and the name of a refusal.
-fn label_of(trouble: &TestTrouble) -> &'static str {
-    match trouble {
-        TestTrouble::Test(fault) => fault.label(),
-        TestTrouble::Space(fault) => fault.label(),
-        TestTrouble::Late => "Late",
-        TestTrouble::NoMemory => "NoMemory",
+    /// Adds what is told of a test that is refused, under each of the models.
+    fn refuse(
+        &mut self,
+        alloc: Global,
+        plan: &Plan<'_>,
+        trouble: &TestTrouble,
+    ) -> Result<(), AllocError> {
+        self.fate = Fate::Refused;
+        let (message, label) = test_trouble(alloc, self.path, &self.text, trouble)?;
+        self.message = message;
+        for place in 0..plan.models.models.len() {
+            let case = plan.models.case(self.path, place);
+            self.add(alloc, plan, case, Outcome::Refused(label))?;
+        }
+        Ok(())
+    }
+
+    /// Compares the cells of the test's row, and adds the row where a table is printed.
+    fn compare(
+        &mut self,
+        alloc: Global,
+        plan: &Plan<'_>,
+        verdicts: &[Verdict],
+    ) -> Result<(), AllocError> {
+        let mut cells = Vec::new(alloc);
+        for verdict in verdicts {
+            cells.push(cell_of(alloc, verdict)?)?;
+        }
+        self.differs = !are_alike(&cells);
+        if let Form::Table = &plan.words.form {
+            let (path, names) = (self.path.as_bytes(), plan.models.names.as_slice());
+            self.lines
+                .append(&mut table_row_of(alloc, plan.width, path, names, &cells)?)?;
+        }
+        Ok(())
+    }
+
+    /// Adds what is printed, and what is compared or stored, of the test under a model.
+    fn add(
+        &mut self,
+        alloc: Global,
+        plan: &Plan<'_>,
+        case: Case<'_>,
+        outcome: Outcome<'_>,
+    ) -> Result<(), AllocError> {
+        let told = Told {
+            case,
+            milliseconds: self.milliseconds,
+            outcome,
+        };
+        self.lines.append(&mut told.text(alloc, &plan.words.form)?)?;
+        if plan.words.expected.is_some() || plan.words.write_expected.is_some() {
+            self.rows.push(told.row(alloc)?)?;
+        }
+        Ok(())
     }
 }

@@ -1,21 +1,18 @@
 //! A run of the program: models, tests, comparison, and the last line.
 
-use crate::batch::{judge_jobs, read_jobs};
 use crate::compared::{compare, read_rows, see_writable, store, write_file};
-use crate::files::{Paths, Unread, find_tests};
+use crate::deadline::Deadline;
+use crate::files::Paths;
 use crate::meter::Meter;
-use crate::models::{Loaded, read_model};
-use crate::outcome::{Fate, Outcome};
-use crate::run::{Plan, judge_wholly, unread};
+use crate::models::Models;
+use crate::run::{Fate, Plan, Test};
 use crate::trouble::Trouble;
 use crate::words::{Form, Words};
-use cat_model::Model;
-use std::alloc::{AllocError, Global};
-use std::io::{BufWriter, Write};
+use std::alloc::AllocError;
 use std::rt::Files;
+use std::thread;
 use std::thread::Threads;
 use std::time::Clock;
-use std::{io, thread};
 use suite::{Row, head_of};
 
 /// How many tests each thread is given at once.
@@ -36,37 +33,30 @@ pub trait Reach: Files
 impl<R: Files + Input + Print + Eprint + AllocGlobal + Clone + Clock + Drop + Threads + Sync> Reach
     for R {}
 
-/// How many tests were judged, refused and not read, and how many the models tell apart.
-#[derive(Clone, Copy)]
-struct Counts {
-    judged: usize,
-    refused: usize,
-    unread: usize,
-    differing: usize,
+/// What is read before tests are judged: the models, the rows that are expected, and the paths of the tests.
+struct Given {
+    models: Models,
+    expected: Vec<Row>,
+    paths: Paths,
 }
 
-/// The models of a run.
-struct Models {
-    models: Vec<Model>,
-    /// The words that named them.
-    names: Vec<Vec<u8>>,
-    /// The digests of their files.
-    digests: Vec<String>,
-}
-
-impl Drop for Models {
+impl Drop for Given {
     fn drop(self) {
-        let Models {
+        let Given {
             models: _,
-            names: _,
-            digests: _,
+            expected: _,
+            paths: _,
         } = self;
     }
 }
 
-/// What the run has come to.
+/// What the run has come to: how many tests were judged, refused and not read, and how many the models tell apart; what is compared or
+/// stored, and what is drawn.
 struct Progress {
-    counts: Counts,
+    judged: usize,
+    refused: usize,
+    unread: usize,
+    differing: usize,
     rows: Vec<Row>,
     dot: Vec<u8>,
     meter: Meter,
@@ -75,7 +65,10 @@ struct Progress {
 impl Drop for Progress {
     fn drop(self) {
         let Progress {
-            counts: _,
+            judged: _,
+            refused: _,
+            unread: _,
+            differing: _,
             rows: _,
             dot: _,
             meter: _,
@@ -83,136 +76,50 @@ impl Drop for Progress {
     }
 }
 
-impl Progress {
-    /// Counts a test, and takes what is stored and drawn of it.
-    fn add(&mut self, outcome: &mut Outcome) -> Result<(), AllocError> {
-        self.counts.add(outcome);
-        self.meter.set_done(self.counts.all());
-        self.rows.append(&mut outcome.rows)?;
-        self.dot.append(&mut outcome.dot)
-    }
-}
-
-impl Counts {
-    fn none() -> Counts {
-        Counts {
-            judged: 0,
-            refused: 0,
-            unread: 0,
-            differing: 0,
-        }
-    }
-
-    fn add(&mut self, outcome: &Outcome) {
-        let count = match outcome.fate {
-            Fate::Judged => &mut self.judged,
-            Fate::Refused => &mut self.refused,
-            Fate::Unread => &mut self.unread,
-        };
-        *count = count.saturating_add(1);
-        if outcome.differs {
-            self.differing = self.differing.saturating_add(1);
-        }
-    }
-
-    fn all(self) -> usize {
-        self.judged
-            .saturating_add(self.refused)
-            .saturating_add(self.unread)
-    }
-}
-
 /// Judges all tests that the words name, or compares what was found before, and answers the status.
 pub fn run_all<R: Reach>(rt: &R, words: &Words<'_>, shows: bool) -> Result<u8, Trouble> {
-    match (words.expected, words.found) {
-        (Some(expected), Some(found)) => compare_found(rt, expected, found),
-        _ => judge_all(rt, words, shows),
-    }
-}
-
-/// Compares two files of rows.
-fn compare_found<R: Reach>(rt: &R, expected: &str, found: &str) -> Result<u8, Trouble> {
+    let (Some(expected), Some(found)) = (words.expected, words.found) else {
+        return judge_all(rt, words, shows);
+    };
     let expected = read_rows(rt, expected)?;
     let found = read_rows(rt, found)?;
-    let differ = compare(rt, &expected, &found)?;
-    Ok(if differ { 3 } else { 0 })
-}
-
-impl Models {
-    /// The models that the words name.
-    fn read<R: Reach>(rt: &R, words: &Words<'_>) -> Result<Self, Trouble> {
-        let alloc = rt.alloc();
-        let mut read = Models {
-            models: Vec::new(alloc),
-            names: Vec::new(alloc),
-            digests: Vec::new(alloc),
-        };
-        for word in &words.models {
-            read.add(rt, word, &words.folders)?;
-        }
-        Ok(read)
-    }
-
-    /// Adds the model that a word names.
-    fn add<R: Reach>(&mut self, rt: &R, word: &str, folders: &[&str]) -> Result<(), Trouble> {
-        let Loaded { model, digests } = read_model(rt, word, folders)?;
-        self.models.push(model)?;
-        self.digests.push(digests)?;
-        let name = Vec::from_slice(rt.alloc(), word.as_bytes())?;
-        self.names.push(name)?;
-        Ok(())
-    }
+    Ok(if compare(rt, &expected, &found)? {
+        3
+    } else {
+        0
+    })
 }
 
 /// Judges all tests that the words name, and answers the status.
 fn judge_all<R: Reach>(rt: &R, words: &Words<'_>, shows: bool) -> Result<u8, Trouble> {
-    let models = Models::read(rt, words)?;
-    let expected = match words.expected {
-        Some(path) => read_rows(rt, path)?,
-        None => Vec::new(rt.alloc()),
+    let alloc = rt.alloc();
+    let mut given = Given {
+        models: Models::new(alloc),
+        expected: Vec::new(alloc),
+        paths: Paths::new(alloc),
     };
-    judge_under(rt, words, &models, &expected, shows)
-}
-
-/// Judges the tests under these models, and answers the status. These rows are expected, if any are.
-fn judge_under<R: Reach>(
-    rt: &R,
-    words: &Words<'_>,
-    models: &Models,
-    expected: &[Row],
-    shows: bool,
-) -> Result<u8, Trouble> {
-    see_outputs(rt, words)?;
-    let paths = find_tests(rt, &words.tests)?;
-    let plan = plan_of(words, models, width_of(&paths));
-    let progress = judge_paths(rt, &paths, &plan, threads_of(rt, words), shows)?;
-    finish(rt, words, &plan, expected, &progress)
-}
-
-/// Sees that what the words ask for can be written.
-fn see_outputs<R: Files + Eprint>(rt: &R, words: &Words<'_>) -> Result<(), Trouble> {
-    if let Some(path) = words.dot {
-        see_writable(rt, path)?;
-    }
-    match words.write_expected {
-        Some(path) => see_writable(rt, path),
-        None => Ok(()),
-    }
-}
-
-/// What all tests have in common, where a table's paths are so wide.
-fn plan_of<'a>(words: &Words<'_>, models: &'a Models, width: usize) -> Plan<'a> {
-    Plan {
-        models: &models.models,
-        names: &models.names,
-        digests: &models.digests,
-        form: words.form,
-        width,
-        keeps: words.expected.is_some() || words.write_expected.is_some(),
-        timeout: words.timeout,
-        why: words.why,
-        draws: words.dot.is_some(),
-    }
+    given.read(rt, words)?;
+    let mut progress = Progress {
+        judged: 0,
+        refused: 0,
+        unread: 0,
+        differing: 0,
+        rows: Vec::new(alloc),
+        dot: Vec::new(alloc),
+        meter: Meter::new(rt, given.paths.tests.len(), shows),
+    };
+    let plan = Plan {
+        words,
+        models: &given.models,
+        width: given.paths.width,
+        threads: threads_of(rt, words),
+        limit: match words.timeout {
+            Some(seconds) => u64::from(seconds).saturating_mul(1_000),
+            None => u64::MAX,
+        },
+    };
+    progress.judge(rt, &given.paths, &plan)?;
+    progress.finish(rt, words, &given.expected)
 }
 
 /// How many threads judge: as many as the words say, or as there are processors, up to 8.
@@ -226,193 +133,198 @@ fn threads_of<R: Threads>(rt: &R, words: &Words<'_>) -> u16 {
     }
 }
 
-/// How wide the longest path is, up to 60.
-fn width_of(paths: &Paths) -> usize {
-    let mut width = 0usize;
-    for path in &paths.tests {
-        width = width.max(path.len());
+impl Given {
+    /// Reads the models and the rows that are expected, sees that what the words ask for can be written, and looks for the tests.
+    fn read<R: Reach>(&mut self, rt: &R, words: &Words<'_>) -> Result<(), Trouble> {
+        for word in words.models {
+            self.models.add(rt, word, words.folders)?;
+        }
+        if let Some(path) = words.expected {
+            self.expected = read_rows(rt, path)?;
+        }
+        if let Some(path) = words.dot {
+            see_writable(rt, path)?;
+        }
+        if let Some(path) = words.write_expected {
+            see_writable(rt, path)?;
+        }
+        self.paths.find(rt, words.tests)?;
+        Ok(())
     }
-    width.min(60)
 }
 
-/// Judges the tests, and prints what is told of each in their order.
-fn judge_paths<R: Reach>(
+impl Progress {
+    /// Judges the tests, some at a time, and prints what is told of each in their order.
+    fn judge<R: Reach>(&mut self, rt: &R, paths: &Paths, plan: &Plan<'_>) -> Result<(), Trouble> {
+        self.begin(rt, &paths.unread, plan)?;
+        let size = usize::from(plan.threads).saturating_mul(BATCH).max(1);
+        for batch in paths.tests.chunks(size) {
+            self.judge_batch(rt, batch, plan)?;
+            self.meter.tick(rt)?;
+        }
+        self.meter.clear(rt)?;
+        Ok(())
+    }
+
+    /// Prints the head of a table, where one is printed, and tells which paths couldn't be read on the way to the tests.
+    fn begin<R: Reach>(
+        &mut self,
+        rt: &R,
+        unread: &[String],
+        plan: &Plan<'_>,
+    ) -> Result<(), Trouble> {
+        if matches!(&plan.words.form, Form::Table) {
+            rt.write_all(&head_of(rt.alloc(), plan.width, &plan.models.names)?)?;
+        }
+        for message in unread {
+            rt.eprint(message.as_str())?;
+        }
+        self.unread = unread.len();
+        self.meter.done = self.unread;
+        Ok(())
+    }
+
+    /// Judges some tests side by side, those that take more than a while one after another, and prints what is told of each in their order.
+    fn judge_batch<R: Reach>(
+        &mut self,
+        rt: &R,
+        paths: &[String],
+        plan: &Plan<'_>,
+    ) -> Result<(), Trouble> {
+        let alloc = rt.alloc();
+        let mut tests = read_tests(rt, paths)?;
+        let threads = usize::from(plan.threads).max(1);
+        thread::for_each_mut(
+            rt,
+            &mut tests,
+            threads,
+            &|_, test| { test.judge_quickly(rt, alloc, plan) },
+        );
+        for test in &mut tests {
+            if matches!(&test.fate, Fate::Waiting) {
+                self.judge_wholly(rt, test, plan)?;
+            }
+            self.show(rt, test, plan.words.why)?;
+        }
+        Ok(())
+    }
+
+    /// Judges a test by all threads.
+    fn judge_wholly<R: Reach>(
+        &mut self,
+        rt: &R,
+        test: &mut Test<'_>,
+        plan: &Plan<'_>,
+    ) -> Result<(), AllocError> {
+        let mut deadline = Deadline::new(rt, plan.limit, self.meter);
+        let judged = test.judge(rt, rt.alloc(), plan, plan.threads, &mut deadline);
+        self.meter = deadline.meter;
+        judged
+    }
+
+    /// Prints what is told of a test, and why if that is asked for, counts it, and takes what is stored and drawn of it.
+    fn show<R: Print + Eprint>(
+        &mut self,
+        rt: &R,
+        test: &mut Test<'_>,
+        why: bool,
+    ) -> Result<(), Trouble> {
+        self.meter.clear(rt)?;
+        match &test.fate {
+            Fate::Judged => self.judged = self.judged.saturating_add(1),
+            Fate::Refused => self.refused = self.refused.saturating_add(1),
+            Fate::Unread => self.unread = self.unread.saturating_add(1),
+            Fate::Waiting | Fate::Lost => return Err(Trouble::NoMemory),
+        }
+        self.differing = self.differing.saturating_add(usize::from(test.differs));
+        self.meter.done = self.meter.done.saturating_add(1);
+        self.rows.append(&mut test.rows)?;
+        self.dot.append(&mut test.answer.dot)?;
+        rt.write_all(&test.lines)?;
+        if why {
+            rt.write_all(&test.answer.text)?;
+        }
+        rt.eprint(test.message.as_str())?;
+        Ok(())
+    }
+
+    /// Compares and stores what was found, prints the last line, and answers the status.
+    fn finish<R: Files + Print + Eprint + AllocGlobal>(
+        &self,
+        rt: &R,
+        words: &Words<'_>,
+        expected: &[Row],
+    ) -> Result<u8, Trouble> {
+        if let Some(path) = words.dot {
+            write_file(rt, path, &self.dot)?;
+        }
+        if let Some(path) = words.write_expected {
+            store(rt, path, &self.rows)?;
+        }
+        let differ = words.expected.is_some() && compare(rt, expected, &self.rows)?;
+        self.print_counts(rt, &words.form)?;
+        Ok(if differ {
+            3
+        } else if self.unread > 0 {
+            1
+        } else if self.refused > 0 {
+            2
+        } else {
+            0
+        })
+    }
+
+    /// Prints how many tests were judged, refused and not read. It goes to standard error where programs read the output.
+    fn print_counts<R: Print + Eprint + AllocGlobal>(
+        &self,
+        rt: &R,
+        form: &Form,
+    ) -> Result<(), Trouble> {
+        let mut line = String::new(rt.alloc());
+        let all = self.meter.done;
+        let tests = if all == 1 { " test: " } else { " tests: " };
+        for (before, number) in [
+            ("", all),
+            (tests, self.judged),
+            (" judged, ", self.refused),
+            (" refused, ", self.unread),
+        ] {
+            push_grouped(&mut line, before, number)?;
+        }
+        line.push_str(" not read")?;
+        match form {
+            Form::Tabs | Form::Json => return Ok(rt.eprintln(line.as_str())?),
+            Form::Summary | Form::Line => {}
+            Form::Table => {
+                push_grouped(&mut line, "; the models differ in ", self.differing)?;
+                line.push_str(" (*)")?;
+            }
+        }
+        Ok(rt.println(line.as_str())?)
+    }
+}
+
+/// Reads the tests of these paths, one after another.
+fn read_tests<'a, R: Files + Input + AllocGlobal>(
     rt: &R,
-    paths: &Paths,
-    plan: &Plan<'_>,
-    threads: u16,
-    shows: bool,
-) -> Result<Progress, Trouble> {
-    let alloc = rt.alloc();
-    let mut progress = Progress {
-        counts: Counts::none(),
-        rows: Vec::new(alloc),
-        dot: Vec::new(alloc),
-        meter: Meter::new(rt, paths.tests.len(), shows),
-    };
-    let mut writer = BufWriter::new(alloc, io::writer(rt))?;
-    judge_batches(rt, paths, plan, threads, &mut writer, &mut progress)?;
-    Ok(progress)
+    paths: &'a [String],
+) -> Result<Vec<Test<'a>>, AllocError> {
+    let mut tests = Vec::new(rt.alloc());
+    for path in paths {
+        tests.push(Test::read(rt, path.as_str())?)?;
+    }
+    Ok(tests)
 }
 
-/// Judges the tests, some at a time.
-fn judge_batches<R: Reach, W: Write>(
-    rt: &R,
-    paths: &Paths,
-    plan: &Plan<'_>,
-    threads: u16,
-    writer: &mut W,
-    progress: &mut Progress,
-) -> Result<(), Trouble> {
-    show_head(rt.alloc(), plan, writer)?;
-    show_unread(rt, &paths.unread, writer, progress)?;
-    let size = usize::from(threads).saturating_mul(BATCH).max(1);
-    for batch in paths.tests.chunks(size) {
-        judge_batch(rt, batch, plan, threads, writer, progress)?;
-        progress.meter.tick(rt)?;
-    }
-    progress.meter.clear(rt)?;
-    writer.flush()?;
-    Ok(())
-}
-
-/// Prints the head of a table, where one is printed.
-fn show_head<W: Write>(alloc: Global, plan: &Plan<'_>, writer: &mut W) -> Result<(), Trouble> {
-    if plan.is_table() {
-        let head = head_of(alloc, plan.width, plan.names)?;
-        writer.write_all(&head)?;
-    }
-    Ok(())
-}
-
-/// Tells which paths couldn't be read on the way to the tests.
-fn show_unread<R: Reach, W: Write>(
-    rt: &R,
-    missing: &[Unread],
-    writer: &mut W,
-    progress: &mut Progress,
-) -> Result<(), Trouble> {
-    for one in missing {
-        let mut outcome = unread(rt.alloc(), one.path.as_str(), one.error.as_str())?;
-        show(rt, &mut outcome, writer, progress)?;
-    }
-    Ok(())
-}
-
-/// Judges some tests side by side, those that take more than a while one after another, and prints what is told of each in their order.
-fn judge_batch<R: Reach, W: Write>(
-    rt: &R,
-    paths: &[String],
-    plan: &Plan<'_>,
-    threads: u16,
-    writer: &mut W,
-    progress: &mut Progress,
-) -> Result<(), Trouble> {
-    let jobs = read_jobs(rt, paths)?;
-    let outcomes = judge_jobs(rt, rt.alloc(), &jobs, plan, threads)?;
-    for (job, outcome) in jobs.iter().zip(outcomes) {
-        let mut outcome = match outcome {
-            Some(outcome) => outcome,
-            None => judge_wholly(rt, rt.alloc(), job, plan, threads, &mut progress.meter)?,
-        };
-        show(rt, &mut outcome, writer, progress)?;
-    }
-    Ok(())
-}
-
-/// Prints what is told of a test, counts it, and takes what is stored and drawn of it.
-fn show<R: Eprint, W: Write>(
-    rt: &R,
-    outcome: &mut Outcome,
-    writer: &mut W,
-    progress: &mut Progress,
-) -> Result<(), Trouble> {
-    progress.meter.clear(rt)?;
-    progress.add(outcome)?;
-    writer.write_all(&outcome.text)?;
-    writer.flush()?;
-    if !outcome.message.is_empty() {
-        let message = outcome.message.as_str();
-        eprint!(rt; "{message}")?;
-    }
-    Ok(())
-}
-
-/// Compares and stores what was found, prints the last line, and answers the status.
-fn finish<R: Files + Print + Eprint + AllocGlobal>(
-    rt: &R,
-    words: &Words<'_>,
-    plan: &Plan<'_>,
-    expected: &[Row],
-    progress: &Progress,
-) -> Result<u8, Trouble> {
-    let mut status = status_of(progress.counts);
-    if let Some(path) = words.dot {
-        write_file(rt, path, &progress.dot)?;
-    }
-    if let Some(path) = words.write_expected {
-        store(rt, path, &progress.rows)?;
-    }
-    if words.expected.is_some() && compare(rt, expected, &progress.rows)? {
-        status = 3;
-    }
-    last_line(rt, plan, progress.counts)?;
-    Ok(status)
-}
-
-/// The status of tests that were judged.
-fn status_of(counts: Counts) -> u8 {
-    if counts.unread > 0 {
-        1
-    } else if counts.refused > 0 {
-        2
-    } else {
-        0
-    }
-}
-
-/// Adds a number with a comma before each group of three digits, and what stands behind it.
-fn push_grouped(text: &mut String, number: usize, behind: &str) -> Result<(), AllocError> {
+/// Adds what stands before a number, and the number with a comma before each group of three digits.
+fn push_grouped(text: &mut String, before: &str, number: usize) -> Result<(), AllocError> {
+    text.push_str(before)?;
     let digits = format!(in *text.allocator(); "{number}")?;
     for (place, digit) in digits.as_str().chars().enumerate() {
         if place > 0 && (digits.len().saturating_sub(place)) % 3 == 0 {
             text.push(',')?;
         }
         text.push(digit)?;
-    }
-    text.push_str(behind)?;
-    Ok(())
-}
-
-/// Adds how many tests were judged, refused and not read, and, where a table is printed, in how many the models differ.
-fn push_counts(text: &mut String, counts: Counts, is_table: bool) -> Result<(), AllocError> {
-    let all = counts.all();
-    for (number, behind) in [
-        (all, if all == 1 { " test: " } else { " tests: " }),
-        (counts.judged, " judged, "),
-        (counts.refused, " refused, "),
-        (counts.unread, " not read"),
-    ] {
-        push_grouped(text, number, behind)?;
-    }
-    if is_table {
-        text.push_str("; the models differ in ")?;
-        return push_grouped(text, counts.differing, " (*)");
-    }
-    Ok(())
-}
-
-/// Prints how many tests were judged, refused and not read. It goes to standard error where programs read the output.
-fn last_line<R: Print + Eprint + AllocGlobal>(
-    rt: &R,
-    plan: &Plan<'_>,
-    counts: Counts,
-) -> Result<(), Trouble> {
-    let mut line = String::new(rt.alloc());
-    push_counts(&mut line, counts, plan.is_table())?;
-    match plan.form {
-        Form::Tabs | Form::Json => eprintln!(rt; "{line}")?,
-        Form::Summary | Form::Line => println!(rt; "{line}")?,
     }
     Ok(())
 }

@@ -3,16 +3,18 @@
 use clap::{Arg, ArgAction, ArgMatches, Command, Error, value_parser};
 use std::alloc::{AllocError, Global};
 
-/// The model where none is named.
-const MODEL: &str = "rc11.cat";
+/// The models where none is named.
+const MODELS: [&str; 1] = ["rc11.cat"];
 
 /// What is printed of each test.
-#[derive(Clone, Copy, PartialEq, Eq, Drop)]
+#[derive(Drop)]
 pub enum Form {
-    /// The summary; with several models a table.
+    /// The summary.
     Summary,
-    /// One line; with several models a table.
+    /// One line.
     Line,
+    /// A row of a table, with a column for each model.
+    Table,
     /// Fields between tabs.
     Tabs,
     /// An object of JSON.
@@ -20,9 +22,10 @@ pub enum Form {
 }
 
 /// What the words ask for.
+#[derive(Drop)]
 pub struct Words<'a> {
-    pub models: Vec<&'a str>,
-    pub folders: Vec<&'a str>,
+    pub models: &'a [&'a str],
+    pub folders: &'a [&'a str],
     pub form: Form,
     /// Whether an execution is shown that shows why.
     pub why: bool,
@@ -36,29 +39,11 @@ pub struct Words<'a> {
     pub threads: Option<u8>,
     /// After how many seconds a test is given up, if it is said.
     pub timeout: Option<u32>,
-    pub tests: Vec<&'a str>,
-}
-
-impl<'a> Drop for Words<'a> {
-    fn drop(self) {
-        let Words {
-            models: _,
-            folders: _,
-            form: _,
-            why: _,
-            dot: _,
-            expected: _,
-            write_expected: _,
-            found: _,
-            threads: _,
-            timeout: _,
-            tests: _,
-        } = self;
-    }
+    pub tests: &'a [&'a str],
 }
 
 /// What stands behind a word.
-#[derive(Clone, Copy)]
+#[derive(Drop)]
 enum Value {
     /// Nothing.
     None,
@@ -66,10 +51,18 @@ enum Value {
     One(&'static str),
     /// One of these, each time that the word is given.
     Each(&'static str),
+    /// A file of rows that were found before.
+    Found,
+    /// A number of threads.
+    Threads,
+    /// A number of seconds.
+    Seconds,
+    /// What stands there is a test, and no word before it.
+    Test,
 }
 
 /// A word: its name, its letter if it has one, what stands behind it, and what the help tells of it.
-#[derive(Clone, Copy)]
+#[derive(Drop)]
 struct Word {
     name: &'static str,
     letter: Option<char>,
@@ -77,8 +70,8 @@ struct Word {
     help: &'static str,
 }
 
-/// The words for models, for what is printed of a test, and for what is written to files.
-const WORDS: [Word; 9] = [
+/// The words for models, and for what is printed of a test.
+static FORMS: [Word; 6] = [
     Word {
         name: "model",
         letter: Some('m'),
@@ -115,6 +108,10 @@ const WORDS: [Word; 9] = [
         value: Value::None,
         help: "Show an execution that is allowed, or why the one asked for is not",
     },
+];
+
+/// The words for what is written to files, for how tests are judged, and the tests.
+static OTHERS: [Word; 7] = [
     Word {
         name: "dot",
         letter: None,
@@ -133,107 +130,86 @@ const WORDS: [Word; 9] = [
         value: Value::One("FILE"),
         help: "Store what is found, for -e",
     },
+    Word {
+        name: "found",
+        letter: None,
+        value: Value::Found,
+        help: "Compare these lines of --tsv or --write-expected, and judge nothing",
+    },
+    Word {
+        name: "threads",
+        letter: Some('j'),
+        value: Value::Threads,
+        help: "How many threads judge; else one for each processor, up to 8",
+    },
+    Word {
+        name: "timeout",
+        letter: None,
+        value: Value::Seconds,
+        help: "Give a test up after so many seconds, and go on",
+    },
+    Word {
+        name: "test",
+        letter: None,
+        value: Value::Test,
+        help: "Test files; folders; @FILE, a list of paths; - for standard input",
+    },
 ];
 
 /// The argument that a word is.
-fn argument<'a>(alloc: Global, word: &Word) -> Arg<'a> {
-    let mut arg = Arg::new(alloc, word.name).long(word.name).help(word.help);
+fn argument<'a>(alloc: Global, word: &Word) -> Result<Arg<'a>, AllocError> {
+    let mut arg = Arg::new(alloc, word.name).help(word.help);
     if let Some(letter) = word.letter {
         arg = arg.short(letter);
     }
-    match word.value {
-        Value::None => arg.action(ArgAction::SetTrue),
-        Value::One(name) => arg.action(ArgAction::Set).value_name(name),
-        Value::Each(name) => arg.action(ArgAction::Append).value_name(name),
+    if let Value::Test = &word.value {
+        return arg
+            .action(ArgAction::Append)
+            .value_name("TEST")
+            .required_unless_present("found");
+    }
+    let arg = arg.long(word.name).action(ArgAction::Set);
+    match &word.value {
+        Value::None | Value::Test => Ok(arg.action(ArgAction::SetTrue)),
+        Value::One(name) => Ok(arg.value_name(name)),
+        Value::Each(name) => Ok(arg.action(ArgAction::Append).value_name(name)),
+        Value::Found => arg
+            .value_name("FILE")
+            .requires_arg("expected")?
+            .conflicts_with("test"),
+        Value::Threads => {
+            Ok(
+                arg.value_name("N")
+                    .value_parser(value_parser!(u8).range(1..=64)),
+            )
+        }
+        Value::Seconds => {
+            Ok(
+                arg.value_name("S")
+                    .value_parser(value_parser!(u32).range(1..=1_000_000)),
+            )
+        }
     }
 }
 
-/// A word with a value behind it.
-fn valued<'a>(alloc: Global, name: &'a str, value: &'a str, help: &'a str) -> Arg<'a> {
-    Arg::new(alloc, name)
-        .long(name)
-        .action(ArgAction::Set)
-        .value_name(value)
-        .help(help)
-}
-
-fn found<'a>(alloc: Global) -> Result<Arg<'a>, AllocError> {
-    let help = "Compare these lines of --tsv or --write-expected, and judge nothing";
-    valued(alloc, "found", "FILE", help)
-        .requires_arg("expected")?
-        .conflicts_with("test")
-}
-
-fn threads<'a>(alloc: Global) -> Arg<'a> {
-    let help = "How many threads judge; else one for each processor, up to 8";
-    valued(alloc, "threads", "N", help)
-        .short('j')
-        .value_parser(value_parser!(u8).range(1..=64))
-}
-
-fn timeout<'a>(alloc: Global) -> Arg<'a> {
-    let help = "Give a test up after so many seconds, and go on";
-    valued(alloc, "timeout", "S", help).value_parser(value_parser!(u32).range(1..=1_000_000))
-}
-
-fn tests<'a>(alloc: Global) -> Result<Arg<'a>, AllocError> {
-    Arg::new(alloc, "test")
-        .action(ArgAction::Append)
-        .value_name("TEST")
-        .help("Test files; folders; @FILE, a list of paths; - for standard input")
-        .required_unless_present("found")
-}
-
-/// The arguments, in the order in which the help has them.
-fn arguments<'a>(alloc: Global) -> Result<Vec<Arg<'a>>, AllocError> {
-    let mut arguments = Vec::new(alloc);
-    for word in &WORDS {
-        arguments.push(argument(alloc, word))?;
-    }
-    arguments.push(found(alloc)?)?;
-    arguments.push(threads(alloc))?;
-    arguments.push(timeout(alloc))?;
-    arguments.push(tests(alloc)?)?;
-    Ok(arguments)
-}
-
-/// The command that clap reads the words by.
-fn command<'a>(alloc: Global) -> Result<Command<'a>, AllocError> {
-    Command::new(alloc, "yofetsug")
+/// The words as clap reads them. The first is the program's name.
+pub fn read_words<'a>(alloc: Global, words: &'a [String]) -> Result<ArgMatches<'a>, Error> {
+    let mut command = Command::new(alloc, "yofetsug")
         .about("Judges C litmus tests under cat memory models; its verdicts are proved")
-        .version("0.1.0")
-        .args(arguments(alloc)?)
-}
-
-/// The values of an argument that may be given again.
-fn all_of<'a>(alloc: Global, values: Option<&[&'a str]>) -> Result<Vec<&'a str>, AllocError> {
-    match values {
-        Some(values) => Vec::from_slice(alloc, values),
-        None => Ok(Vec::new(alloc)),
+        .version("0.1.0");
+    for word in FORMS.iter().chain(&OTHERS) {
+        command = command.arg(argument(alloc, word)?)?;
     }
-}
-
-/// The models that are named, or the one where none is.
-fn models_of<'a>(alloc: Global, values: Option<&[&'a str]>) -> Result<Vec<&'a str>, AllocError> {
-    let mut models = all_of(alloc, values)?;
-    if models.is_empty() {
-        models.push(MODEL)?;
-    }
-    Ok(models)
-}
-
-/// What the words ask for, as clap reads them. The first word is the program's name.
-pub fn read_words<'a>(alloc: Global, words: &'a [String]) -> Result<Words<'a>, Error> {
-    let matches = command(alloc)?.try_get_matches_from(words)?;
-    Ok(words_of(alloc, &matches)?)
+    command.try_get_matches_from(words)
 }
 
 /// What is asked for by the words that clap found.
-fn words_of<'a>(alloc: Global, matches: &ArgMatches<'a>) -> Result<Words<'a>, AllocError> {
-    Ok(Words {
-        models: models_of(alloc, matches.get_strs("model"))?,
-        folders: all_of(alloc, matches.get_strs("include"))?,
-        form: form_of(matches),
+pub fn words_of<'a>(matches: &'a ArgMatches<'_>) -> Words<'a> {
+    let models = matches.get_strs("model").unwrap_or(&MODELS);
+    Words {
+        models,
+        folders: matches.get_strs("include").unwrap_or(&[]),
+        form: form_of(matches, models.len() > 1),
         why: matches.get_flag("why"),
         dot: matches.get_str("dot"),
         expected: matches.get_str("expected"),
@@ -241,16 +217,18 @@ fn words_of<'a>(alloc: Global, matches: &ArgMatches<'a>) -> Result<Words<'a>, Al
         found: matches.get_str("found"),
         threads: matches.get_one::<u8>("threads"),
         timeout: matches.get_one::<u32>("timeout"),
-        tests: all_of(alloc, matches.get_strs("test"))?,
-    })
+        tests: matches.get_strs("test").unwrap_or(&[]),
+    }
 }
 
-/// The form that is asked for.
-fn form_of(matches: &ArgMatches<'_>) -> Form {
+/// The form that is asked for, where there are several models or not.
+fn form_of(matches: &ArgMatches<'_>, are_several: bool) -> Form {
     if matches.get_flag("json") {
         Form::Json
     } else if matches.get_flag("tsv") {
         Form::Tabs
+    } else if are_several {
+        Form::Table
     } else if matches.get_flag("quiet") {
         Form::Line
     } else {
