@@ -4,5 +4,5 @@ mod blocks;
 mod executions;
 mod growth;
 mod runs;
-mod states;
+pub mod states;
 mod texts;

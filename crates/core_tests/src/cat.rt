@@ -4,7 +4,7 @@ mod chains;
 mod functions;
 mod growth;
 mod judging;
-mod loading;
+pub mod loading;
 mod model;
 mod orders;
 mod refuting;

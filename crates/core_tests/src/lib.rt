@@ -10,6 +10,10 @@ mod candidate;
 #[cfg(test)]
 mod cat;
 #[cfg(test)]
+mod graphs;
+#[cfg(test)]
+mod litmus;
+#[cfg(test)]
 mod messages;
 #[cfg(test)]
 mod names;

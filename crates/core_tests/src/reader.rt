@@ -2,7 +2,7 @@
 
 mod adds;
 mod answers;
-mod copies;
+pub mod copies;
 mod growth;
 mod refusals;
 mod sizes;

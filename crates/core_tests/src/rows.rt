@@ -3,7 +3,6 @@
 
 use std::alloc::{AllocError, Global};
 use std::process::Abort;
-use std::test::Fail;
 
 /// A call's answer, made again once where it was refused so.
 macro_rules! again {
@@ -17,13 +16,8 @@ macro_rules! again {
 
 pub(crate) use again;
 
-/// Fails unless what is given is answered so.
-pub type Check = fn(Global, &str, &str) -> Result<(), Fail>;
-
-/// Fails with what was tried, unless it held.
-pub fn confirm(holds: bool, tried: &str) -> Result<(), Fail> {
-    if holds { Ok(()) } else { Err(Fail::new(tried)) }
-}
+/// Whether what is given is answered so.
+pub type Check = fn(Global, &str, &str) -> Result<bool, AllocError>;
 
 /// Fails with the name of the first that doesn't hold.
 pub fn all_so(rt: &impl Abort, rows: &[(&str, bool)]) {
@@ -32,38 +26,41 @@ pub fn all_so(rt: &impl Abort, rows: &[(&str, bool)]) {
     }
 }
 
-/// Fails unless a row holds. One that begins with `#` is a heading.
-fn confirm_row(alloc: Global, row: &str, check: Check) -> Result<(), Fail>
+/// Whether a row holds. One that begins with `#` is a heading.
+fn holds(alloc: Global, row: &str, check: Check) -> bool
     requires { IsAlwaysCallable check }
 {
     match row.split_once(" ==> ") {
-        Some((given, answer)) => check(alloc, given, answer),
-        None => confirm(row.starts_with('#'), row),
+        Some((given, answer)) => check(alloc, given, answer).unwrap_or(false),
+        None => row.starts_with('#'),
     }
 }
 
-/// Fails with the first row that doesn't hold, of rows with this between them.
-fn all_hold(alloc: Global, rows: &str, between: &str, check: Check) -> Result<(), Fail>
+/// Fails with the name of a table and its first row that doesn't hold. Rows are lines, and where there is an empty line all between two of
+/// these.
+pub fn all_hold(rt: &impl Abort, alloc: Global, name: &str, rows: &str, check: Check)
     requires { IsAlwaysCallable check }
 {
+    let between = if rows.contains("\n\n") { "\n\n" } else { "\n" };
     for row in rows.split(between) {
-        confirm_row(alloc, row, check)?;
+        assert!(rt; holds(alloc, row, check), "{name}: {row}");
     }
-    Ok(())
 }
 
-/// Fails with the first row that doesn't hold, of rows that are a line each.
-pub fn all_lines_hold(alloc: Global, rows: &str, check: Check) -> Result<(), Fail>
-    requires { IsAlwaysCallable check }
-{
-    all_hold(alloc, rows, "\n", check)
+/// What a word stands for in a table.
+pub fn meant<T: Copy>(table: &[(&str, T)], word: &str) -> Option<T> {
+    for (name, meaning) in table {
+        if *name == word {
+            return Some(*meaning);
+        }
+    }
+    None
 }
 
-/// Fails with the first row that doesn't hold, of rows with an empty line between them.
-pub fn all_blocks_hold(alloc: Global, rows: &str, check: Check) -> Result<(), Fail>
-    requires { IsAlwaysCallable check }
-{
-    all_hold(alloc, rows, "\n\n", check)
+/// Adds a number with a blank before it.
+pub fn push_number(alloc: Global, text: &mut String, number: usize) -> Result<(), AllocError> {
+    let shown = format!(in alloc; " {number}")?;
+    text.push_str(shown.as_str())
 }
 
 /// Adds a part so many times.

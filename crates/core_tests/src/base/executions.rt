@@ -1,299 +1,281 @@
 //! Executions made by hand, and the sets and relations that they have.
 
-pub mod graphs;
-
-use events::Access::{ExRead, ExWrite, Fence, Read, Write};
+use crate::graphs::graph;
+use crate::names::name;
+use crate::rows::{again, all_hold, meant, push_number};
+use cat_model::Named;
 use events::EventId::{Initial, Own};
-use events::{Basis, Order, RelName, SetName};
-use graphs::{Case, Needs, Parts, Seen, Thread, Way, gives_back, is_as_seen};
+use events::{Basis, Coherence, EventId, Graph, GraphView, Order, SourcedStructure};
+use relations::{Rel, Set};
+use std::alloc::{AllocError, Global};
 
 /// SB: each thread writes 1 to its own location and reads the other's, here from its initial write.
 ///
 /// Numbers: 0 and 1 the initial writes, 2 and 3 the write and the read of P0, 4 and 5 those of P1.
-pub const WEAK: &Parts = &Parts {
-    init: &[0, 0],
-    threads: &[
-        (
-            &[
-                (Write, 0, 1, Order::Rlx, Needs::Nothing),
-                (Read, 1, 0, Order::Rlx, Needs::Nothing),
-            ],
-            &[0],
-        ),
-        (
-            &[
-                (Write, 1, 1, Order::Rlx, Needs::Nothing),
-                (Read, 0, 0, Order::Rlx, Needs::Nothing),
-            ],
-            &[0],
-        ),
-    ],
-    rf: &[Initial(1), Initial(0)],
-    co: &[&[Initial(0), Own(0, 0)], &[Initial(1), Own(1, 0)]],
-};
+const WEAK: &str = "init 0 0
+run 0 | W 0 1 | R 1 0
+run 0 | W 1 1 | R 0 0
+rf i1 i0
+co i0 0.0
+co i1 1.0";
 
-pub const SEEN_OF_WEAK: &Seen = &Seen {
-    count: 6,
-    sets: &[
-        (SetName::Writes, &[0, 1, 2, 4]),
-        (SetName::Reads, &[3, 5]),
-        (SetName::Fences, &[]),
-        (SetName::Memory, &[0, 1, 2, 3, 4, 5]),
-        (SetName::InitialWrites, &[0, 1]),
-        (SetName::Atomic, &[2, 3, 4, 5]),
-        (SetName::Relaxed, &[2, 3, 4, 5]),
-        (SetName::Plain, &[]),
-    ],
-    relations: &[
-        (RelName::Po, &[(2, 3), (4, 5)]),
-        (RelName::Rf, &[(1, 3), (0, 5)]),
-        (RelName::Co, &[(0, 2), (1, 4)]),
-        (RelName::Fr, &[(3, 4), (5, 2)]),
-        (RelName::Rfe, &[(1, 3), (0, 5)]),
-        (RelName::Coe, &[(0, 2), (1, 4)]),
-        (RelName::Fre, &[(3, 4), (5, 2)]),
-        (RelName::Rfi, &[]),
-        (RelName::Rmw, &[]),
-        (RelName::PoLoc, &[]),
-        (
-            RelName::Int,
-            &[
-                (0, 0),
-                (0, 1),
-                (1, 0),
-                (1, 1),
-                (2, 2),
-                (2, 3),
-                (3, 2),
-                (3, 3),
-                (4, 4),
-                (4, 5),
-                (5, 4),
-                (5, 5),
-            ],
-        ),
-        (
-            RelName::Loc,
-            &[
-                (0, 0),
-                (0, 2),
-                (0, 5),
-                (2, 0),
-                (2, 2),
-                (2, 5),
-                (5, 0),
-                (5, 2),
-                (5, 5),
-                (1, 1),
-                (1, 3),
-                (1, 4),
-                (3, 1),
-                (3, 3),
-                (3, 4),
-                (4, 1),
-                (4, 3),
-                (4, 4),
-            ],
-        ),
-        (
-            RelName::Id,
-            &[(0, 0), (1, 1), (2, 2), (3, 3), (4, 4), (5, 5)],
-        ),
-    ],
-};
-
-/// The threads of SB, where each reads 1.
-const BOTH_READ_1: &[Thread] = &[
-    (
-        &[
-            (Write, 0, 1, Order::Rlx, Needs::Nothing),
-            (Read, 1, 1, Order::Rlx, Needs::Nothing),
-        ],
-        &[1],
-    ),
-    (
-        &[
-            (Write, 1, 1, Order::Rlx, Needs::Nothing),
-            (Read, 0, 1, Order::Rlx, Needs::Nothing),
-        ],
-        &[1],
-    ),
-];
+const SEEN_OF_WEAK: &str = "count 6
+W 0 1 2 4
+R 3 5
+F
+M 0 1 2 3 4 5
+IW 0 1
+A 2 3 4 5
+RLX 2 3 4 5
+NA
+po 2-3 4-5
+rf 0-5 1-3
+co 0-2 1-4
+fr 3-4 5-2
+rfe 0-5 1-3
+coe 0-2 1-4
+fre 3-4 5-2
+rfi
+rmw
+po-loc
+int 0-0 0-1 1-0 1-1 2-2 2-3 3-2 3-3 4-4 4-5 5-4 5-5
+loc 0-0 0-2 0-5 1-1 1-3 1-4 2-0 2-2 2-5 3-1 3-3 3-4 4-1 4-3 4-4 5-0 5-2 5-5
+id 0-0 1-1 2-2 3-3 4-4 5-5";
 
 /// SB, where each thread reads the other's write.
-const STRONG: &Parts = &Parts {
-    init: &[0, 0],
-    threads: BOTH_READ_1,
-    rf: &[Own(1, 0), Own(0, 0)],
-    co: &[&[Initial(0), Own(0, 0)], &[Initial(1), Own(1, 0)]],
-};
+const STRONG: &str = "init 0 0
+run 1 | W 0 1 | R 1 1
+run 1 | W 1 1 | R 0 1
+rf 1.0 0.0
+co i0 0.0
+co i1 1.0";
 
-const SEEN_OF_STRONG: &Seen = &Seen {
-    count: 6,
-    sets: &[],
-    relations: &[
-        (RelName::Rf, &[(4, 3), (2, 5)]),
-        (RelName::Rfe, &[(4, 3), (2, 5)]),
-        (RelName::Fr, &[]),
-    ],
-};
+const SEEN_OF_STRONG: &str = "count 6
+rf 2-5 4-3
+rfe 2-5 4-3
+fr";
 
 /// The runs of SB, with sources of other values: a graph asks nothing of values.
-const CROSSED: &Parts = &Parts {
-    init: &[0, 0],
-    threads: BOTH_READ_1,
-    rf: &[Initial(1), Initial(0)],
-    co: &[&[Initial(0), Own(0, 0)], &[Initial(1), Own(1, 0)]],
-};
+const CROSSED: &str = "init 0 0
+run 1 | W 0 1 | R 1 1
+run 1 | W 1 1 | R 0 1
+rf i1 i0
+co i0 0.0
+co i1 1.0";
 
 /// P0 exchanges x and has a fence; P1 writes and reads x plainly, and has a fence. Numbers: 0 the initial write,
 /// 1 to 3 of P0, 4 to 6 of P1.
-const EXCHANGE: &Parts = &Parts {
-    init: &[0],
-    threads: &[
-        (
-            &[
-                (ExRead, 0, 0, Order::AcqRel, Needs::Nothing),
-                (ExWrite, 0, 1, Order::AcqRel, Needs::Nothing),
-                (Fence, 0, 0, Order::Sc, Needs::Nothing),
-            ],
-            &[0],
-        ),
-        (
-            &[
-                (Write, 0, 2, Order::Na, Needs::Nothing),
-                (Read, 0, 2, Order::Na, Needs::Nothing),
-                (Fence, 0, 0, Order::Acq, Needs::Nothing),
-            ],
-            &[2],
-        ),
-    ],
-    rf: &[Initial(0), Own(1, 0)],
-    co: &[&[Initial(0), Own(0, 1), Own(1, 0)]],
-};
+const EXCHANGE: &str = "init 0
+run 0 | xR 0 0 acq_rel | xW 0 1 acq_rel | F 0 0 sc
+run 2 | W 0 2 na | R 0 2 na | F 0 0 acq
+rf i0 1.0
+co i0 0.1 1.0";
 
-const SEEN_OF_EXCHANGE: &Seen = &Seen {
-    count: 7,
-    sets: &[
-        (SetName::Exchanges, &[1, 2]),
-        (SetName::Atomic, &[1, 2]),
-        (SetName::AcquireRelease, &[1, 2]),
-        (SetName::Fences, &[3, 6]),
-        (SetName::SeqCst, &[3]),
-        (SetName::Acquire, &[6]),
-        (SetName::Release, &[]),
-        (SetName::Plain, &[4, 5]),
-        (SetName::Memory, &[0, 1, 2, 4, 5]),
-    ],
-    relations: &[
-        (RelName::Rmw, &[(1, 2)]),
-        (
-            RelName::Po,
-            &[(1, 2), (1, 3), (2, 3), (4, 5), (4, 6), (5, 6)],
-        ),
-        (RelName::PoLoc, &[(1, 2), (4, 5)]),
-        (RelName::Rfi, &[(4, 5)]),
-        (RelName::Rfe, &[(0, 1)]),
-        (RelName::Coi, &[]),
-        (RelName::Fri, &[(1, 2)]),
-        (RelName::Fre, &[(1, 4)]),
-    ],
-};
+const SEEN_OF_EXCHANGE: &str = "count 7
+RMW 1 2
+A 1 2
+ACQ_REL 1 2
+F 3 6
+SC 3
+ACQ 6
+REL
+NA 4 5
+M 0 1 2 4 5
+rmw 1-2
+po 1-2 1-3 2-3 4-5 4-6 5-6
+po-loc 1-2 4-5
+rfi 4-5
+rfe 0-1
+coi
+fri 1-2
+fre 1-4";
 
 /// P1 reads x, writes y with the value, and writes y in a branch that tests it. Numbers: 0 and 1 the initial writes,
 /// 2 to 4 of P1; P0 is empty.
-const DEPENDENT: &Parts = &Parts {
-    init: &[0, 0],
-    threads: &[
-        (&[], &[]),
-        (
-            &[
-                (Read, 0, 0, Order::Rlx, Needs::Nothing),
-                (Write, 1, 0, Order::Rlx, Needs::Data(0)),
-                (Write, 1, 1, Order::Rlx, Needs::Control(0)),
-            ],
-            &[0],
-        ),
-    ],
-    rf: &[Initial(0)],
-    co: &[&[Initial(0)], &[Initial(1), Own(1, 2), Own(1, 1)]],
-};
+const DEPENDENT: &str = "init 0 0
+run
+run 0 | R 0 0 rlx | W 1 0 rlx data0 | W 1 1 rlx ctrl0
+rf i0
+co i0
+co i1 1.2 1.1";
 
-const SEEN_OF_DEPENDENT: &Seen = &Seen {
-    count: 5,
-    sets: &[],
-    relations: &[
-        (RelName::Data, &[(2, 3)]),
-        (RelName::Ctrl, &[(2, 4)]),
-        (RelName::Addr, &[]),
-        (RelName::Co, &[(1, 3), (1, 4), (4, 3)]),
-        (RelName::Coi, &[(4, 3)]),
-        (RelName::Coe, &[(1, 3), (1, 4)]),
-    ],
-};
+const SEEN_OF_DEPENDENT: &str = "count 5
+data 2-3
+ctrl 2-4
+addr
+co 1-3 1-4 4-3
+coi 4-3
+coe 1-3 1-4";
+
+/// The executions, and what is to be seen of each: how many events there are, and the members of some sets and relations.
+const EXECUTIONS: &[(&str, (&str, &str))] = &[
+    ("weak", (WEAK, SEEN_OF_WEAK)),
+    ("strong", (STRONG, SEEN_OF_STRONG)),
+    ("crossed", (CROSSED, SEEN_OF_WEAK)),
+    ("exchange", (EXCHANGE, SEEN_OF_EXCHANGE)),
+    ("dependent", (DEPENDENT, SEEN_OF_DEPENDENT)),
+];
+
+const BASES: &[(&str, Basis)] = &[
+    ("runs", Basis::Runs),
+    ("sources", Basis::Sources),
+    ("orders", Basis::Orders),
+];
+
+/// An execution, and how the view comes to be: it is that of the graph, or of the graph taken apart and put together again, or over a
+/// structure that was of another execution and tells that this is what may be another.
+const VIEWS: &str = "both read the initial writes ==> weak made
+taken apart and put together ==> weak again
+each reads the other ==> strong made
+an exchange and fences ==> exchange made
+dependencies ==> dependent made
+a structure follows an execution ==> strong runs exchange
+# The runs of the two differ in what they read alone: in their values, which a structure leaves out, and so in their maps.
+a structure stays while other values are read ==> strong sources weak
+# The two differ in their values alone.
+a structure leaves values out ==> crossed orders weak
+a structure follows a map ==> strong sources crossed
+a structure stays ==> strong orders strong";
+
+fn push_pair(alloc: Global, text: &mut String, from: usize, to: usize) -> Result<(), AllocError> {
+    let shown = format!(in alloc; " {from}-{to}")?;
+    text.push_str(shown.as_str())
+}
+
+fn push_set(alloc: Global, text: &mut String, set: &Set) -> Result<(), AllocError> {
+    for event in 0..set.count() {
+        if set.contains(event) {
+            push_number(alloc, text, event)?;
+        }
+    }
+    Ok(())
+}
+
+fn push_rel(alloc: Global, text: &mut String, rel: &Rel) -> Result<(), AllocError> {
+    for from in 0..rel.count() {
+        for to in 0..rel.count() {
+            if rel.contains(from, to) {
+                push_pair(alloc, text, from, to)?;
+            }
+        }
+    }
+    Ok(())
+}
+
+/// What a word stands for in models.
+fn named(alloc: Global, word: &str) -> Result<Option<Named>, AllocError> {
+    let name = name(alloc, word.as_bytes())?;
+    Ok(Named::of(&name))
+}
+
+/// Is this line seen in the view: the name of a set or a relation with just its members, or how many events there are?
+fn is_line_seen(alloc: Global, view: &GraphView, line: &str) -> Result<bool, AllocError> {
+    let (word, _) = line.split_once(' ').unwrap_or((line, ""));
+    let mut text = String::from_str(alloc, word)?;
+    match named(alloc, word)? {
+        Some(Named::Set(set)) => push_set(alloc, &mut text, &view.set(set))?,
+        Some(Named::Rel(rel)) => push_rel(alloc, &mut text, &view.rel(rel))?,
+        None => push_number(alloc, &mut text, view.count())?,
+    }
+    Ok(text.as_str() == line)
+}
+
+/// Is each line seen in the view?
+fn is_seen(alloc: Global, view: &GraphView, seen: &str) -> Result<bool, AllocError> {
+    for line in seen.lines() {
+        if !again!(_, is_line_seen(alloc, view, line))? {
+            return Ok(false);
+        }
+    }
+    Ok(true)
+}
+
+/// Is that to be seen in an execution's view?
+fn is_shown(alloc: Global, execution: &Graph, seen: &str) -> Result<bool, AllocError> {
+    let view = again!(_, GraphView::of(alloc, execution))?;
+    is_seen(alloc, &view, seen)
+}
+
+/// The execution, taken apart and put together again.
+fn made_again(execution: Graph) -> Graph {
+    let parts = execution.into_parts();
+    Graph::new(parts.init, parts.runs, parts.rf, parts.co)
+}
+
+/// Does a structure of one execution tell, as it follows another, that this is what may be another than before, and is that to
+/// be seen in the view over it?
+fn is_followed(
+    alloc: Global,
+    from: &Graph,
+    execution: &Graph,
+    told: &str,
+    seen: &str,
+) -> Result<bool, AllocError> {
+    let mut sourced = SourcedStructure::of(alloc, from)?;
+    let basis = sourced.follow(alloc, execution)?;
+    let mut room = Rel::empty(0);
+    if meant(BASES, told) != Some(basis) {
+        return Ok(false);
+    }
+    is_seen(
+        alloc,
+        &GraphView::over(&sourced, execution, &mut room),
+        seen,
+    )
+}
+
+/// Has this name an execution whose structure follows another so?
+fn follows(
+    alloc: Global,
+    from: &str,
+    execution: &Graph,
+    told: &str,
+    seen: &str,
+) -> Result<bool, AllocError> {
+    match meant(EXECUTIONS, from) {
+        Some((text, _)) => {
+            let from = graph(alloc, text, Order::Rlx)?;
+            is_followed(alloc, &from, execution, told, seen)
+        }
+        None => Ok(false),
+    }
+}
+
+/// Is that to be seen of an execution in a view that comes to be this way?
+fn is_seen_so(alloc: Global, execution: Graph, way: &str, seen: &str) -> Result<bool, AllocError> {
+    match way.split_once(' ') {
+        Some((told, from)) => follows(alloc, from, &execution, told, seen),
+        None => match way {
+            "again" => is_shown(alloc, &made_again(execution), seen),
+            _ => is_shown(alloc, &execution, seen),
+        },
+    }
+}
+
+/// Is what is to be seen of an execution seen in its view?
+pub fn is_as_seen(alloc: Global, _name: &str, case: &str) -> Result<bool, AllocError> {
+    let (execution, way) = case.split_once(' ').unwrap_or((case, ""));
+    match meant(EXECUTIONS, execution) {
+        Some((text, seen)) => {
+            let execution = again!(_, graph(alloc, text, Order::Rlx))?;
+            is_seen_so(alloc, execution, way, seen)
+        }
+        None => Ok(false),
+    }
+}
+
+/// Does an order give back the writes that it was made of?
+fn gives_back(alloc: Global, writes: &[EventId]) -> Result<bool, AllocError> {
+    let order = Coherence::new(Vec::from_slice(alloc, writes)?);
+    Ok(order.into_writes().as_slice() == writes)
+}
 
 /// What is to be seen of a graph, and of a structure that was of one execution and then follows another.
 #[test]
 fn views(rt: HostRuntime) {
-    // Each is a literal of its own here, and named once.
-    let (weak, seen_of_weak, crossed) = (WEAK, SEEN_OF_WEAK, CROSSED);
-    let (strong, seen_of_strong, exchange) = (STRONG, SEEN_OF_STRONG, EXCHANGE);
-    let cases: [Case; 10] = [
-        (
-            "both read the initial writes",
-            Way::Made,
-            weak,
-            seen_of_weak,
-        ),
-        (
-            "taken apart and put together",
-            Way::Again,
-            weak,
-            seen_of_weak,
-        ),
-        ("each reads the other", Way::Made, strong, seen_of_strong),
-        (
-            "an exchange and fences",
-            Way::Made,
-            exchange,
-            SEEN_OF_EXCHANGE,
-        ),
-        ("dependencies", Way::Made, DEPENDENT, SEEN_OF_DEPENDENT),
-        (
-            "a structure follows an execution",
-            Way::Followed(exchange, Basis::Runs),
-            strong,
-            seen_of_strong,
-        ),
-        // The runs of the two differ in what they read alone: in their values, which a structure leaves out, and so in their maps.
-        (
-            "a structure stays while other values are read",
-            Way::Followed(weak, Basis::Sources),
-            strong,
-            seen_of_strong,
-        ),
-        // The two differ in their values alone.
-        (
-            "a structure leaves values out",
-            Way::Followed(weak, Basis::Orders),
-            crossed,
-            seen_of_weak,
-        ),
-        (
-            "a structure follows a map",
-            Way::Followed(crossed, Basis::Sources),
-            strong,
-            seen_of_strong,
-        ),
-        (
-            "a structure stays",
-            Way::Followed(strong, Basis::Orders),
-            strong,
-            seen_of_strong,
-        ),
-    ];
-    for case in &cases {
-        assert!(rt; is_as_seen(rt.alloc(), case) == Ok(true), "{}", case.0);
-    }
-    assert!(rt; gives_back(rt.alloc(), &[Initial(1), Own(1, 0)]) == Ok(true));
+    all_hold(&rt, rt.alloc(), "views", VIEWS, is_as_seen);
+    assert!(rt;
+        gives_back(rt.alloc(), &[Initial(1), Own(1, 0)]) == Ok(true),
+        "an order"
+    );
 }

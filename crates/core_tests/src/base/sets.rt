@@ -1,5 +1,6 @@
 mod plain;
 
+use crate::rows::all_so;
 use plain::{amiss, amiss_of_sets, pair_count, relation, set};
 use relations::{Places, Rel, Set};
 use std::process::Abort;
@@ -9,8 +10,8 @@ fn are_same(r: &Rel, s: &Rel) -> bool {
     r.count() == s.count() && r.is_within(s) && s.is_within(r)
 }
 
-#[test]
-fn closures(rt: HostRuntime) {
+/// Is the closure of two steps three pairs, and is there a cycle only once a third step leads back?
+fn are_closed() -> bool {
     let mut steps = Rel::empty(3);
     steps.insert(0, 1);
     steps.insert(1, 2);
@@ -18,21 +19,16 @@ fn closures(rt: HostRuntime) {
     all_three.insert(0, 2);
     let are_closed = are_same(&steps.plus(), &all_three) && steps.is_acyclic();
     steps.insert(2, 0);
-    assert!(rt; are_closed && !steps.is_acyclic() && steps.is_irreflexive());
+    are_closed && !steps.is_acyclic() && steps.is_irreflexive()
 }
 
-/// How many pairs the closures have, without and with each event itself.
-fn closed_counts(r: &Rel) -> (u32, u32) {
-    (pair_count(&r.plus()), pair_count(&r.star()))
-}
-
-#[test]
-fn a_chain_of_64_events(rt: HostRuntime) {
+/// Have the closures of a chain of 64 events so many pairs, without and with each event itself?
+fn is_chain_closed() -> bool {
     let mut steps = Rel::empty(64);
     for i in 0..63 {
         steps.insert(i, i + 1);
     }
-    assert!(rt; closed_counts(&steps) == (2016, 2080) && steps.is_acyclic());
+    pair_count(&steps.plus()) == 2016 && pair_count(&steps.star()) == 2080 && steps.is_acyclic()
 }
 
 /// Are full sets and relations full, and empty ones empty, at the greatest and the least count?
@@ -50,52 +46,69 @@ fn are_just_two(places: &Places) -> bool {
     (0..70).all(|place| places.contains(place) == (place == 3 || place == 63))
 }
 
-#[test]
-fn places_of_a_run(rt: HostRuntime) {
+/// Are the places of a run joined, compared and copied as they are?
+fn are_places() -> bool {
     let two = Places::just(3).union(&Places::just(63));
-    assert!(rt; are_just_two(&two) && are_just_two(&two.copy().union(&Places::just(64))));
-    assert!(rt; two.is_same(&two.copy()) && !two.is_same(&Places::just(3)));
-    assert!(rt; Places::just(64).is_same(&Places::none()));
+    are_just_two(&two)
+        && are_just_two(&two.copy().union(&Places::just(64)))
+        && two.is_same(&two.copy())
+        && !two.is_same(&Places::just(3))
+        && Places::just(64).is_same(&Places::none())
 }
 
 #[test]
-fn the_greatest_and_the_least_count(rt: HostRuntime) {
-    assert!(rt; are_full_and_empty());
+fn closures_counts_and_places(rt: HostRuntime) {
+    all_so(
+        &rt,
+        &[
+            ("closures", are_closed()),
+            ("a chain of 64 events", is_chain_closed()),
+            ("the greatest and the least count", are_full_and_empty()),
+            ("places of a run", are_places()),
+        ],
+    );
 }
 
 /// Fails with the name of what is amiss.
-fn expect_none(rt: &impl Abort, amiss: Option<&'static str>) {
+fn expect_none(rt: &impl Abort, among: &str, amiss: Option<&str>) {
     if let Some(name) = amiss {
-        panic!(rt; "{name}");
+        panic!(rt; "{among}: {name}");
     }
 }
 
-#[test]
-fn all_relations_on_two_events(rt: HostRuntime) {
+fn all_relations_on_two_events(rt: &impl Abort) {
     for first in 0..16 {
         for second in 0..16 {
-            expect_none(&rt, amiss(&relation(2, first), &relation(2, second)));
+            let amiss = amiss(&relation(2, first), &relation(2, second));
+            expect_none(rt, "all relations on two events", amiss);
         }
     }
 }
 
-#[test]
-fn many_relations_on_three_to_five_events(rt: HostRuntime) {
+fn many_relations_on_three_to_five_events(rt: &impl Abort) {
     let mut code = 1_u32;
     for _ in 0..100 {
         for count in 3..6 {
             let first = relation(count, code);
             code = code.wrapping_mul(1_664_525).wrapping_add(1_013_904_223);
-            expect_none(&rt, amiss(&first, &relation(count, code)));
+            let amiss = amiss(&first, &relation(count, code));
+            expect_none(rt, "many relations on three to five events", amiss);
+        }
+    }
+}
+
+fn all_sets_on_three_events(rt: &impl Abort) {
+    for first in 0..8 {
+        for second in 0..8 {
+            let amiss = amiss_of_sets(&set(3, first), &set(3, second));
+            expect_none(rt, "all sets on three events", amiss);
         }
     }
 }
 
 #[test]
-fn all_sets_on_three_events(rt: HostRuntime) {
-    for first in 0..8 {
-        for second in 0..8 {
-            expect_none(&rt, amiss_of_sets(&set(3, first), &set(3, second)));
-        }
-    }
+fn relations_and_sets(rt: HostRuntime) {
+    all_relations_on_two_events(&rt);
+    many_relations_on_three_to_five_events(&rt);
+    all_sets_on_three_events(&rt);
 }

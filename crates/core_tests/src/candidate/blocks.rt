@@ -3,7 +3,7 @@
 use crate::candidate::texts::holds_of;
 use crate::rows::again;
 use candidates::{Common, Space, Walk};
-use events::{Coherence, EventId};
+use events::EventId;
 use std::alloc::{AllocError, Global};
 
 /// Three later writes of x and one of y, and a read of each: 48 candidates for each choice of runs.
@@ -12,86 +12,64 @@ P0 (atomic_int* x, atomic_int* y) { atomic_store_explicit(x, 1, memory_order_rel
 P1 (atomic_int* x, atomic_int* y) { atomic_store_explicit(x, 3, memory_order_relaxed); atomic_store_explicit(y, 1, memory_order_relaxed); int r1 = atomic_load_explicit(x, memory_order_relaxed); }\n\
 exists (0:r0=1)\n";
 
-const X: EventId = EventId::Initial(0);
+/// What the executions of the blocks around one have in common, from the widest on: the number behind the block, what the first reads read
+/// from, and what is known of the orders. That each initial write is the first is known at each depth.
+const AT_0: &str = "48 rf co i0 0.0 co i0 0.1 co i0 1.0 co i1 1.1
+24 rf i1 co i0 0.0 co i0 0.1 co i0 1.0 co i1 1.1
+6 rf i1 i0 co i0 0.0 co i0 0.1 co i0 1.0 co i1 1.1
+3 rf i1 i0 co i0 0.1 1.0 co i1 1.1 co i0 0.0";
 
-const X_ONE: EventId = EventId::Own(0, 0);
+const AT_5: &str = "48 rf co i0 0.0 co i0 0.1 co i0 1.0 co i1 1.1
+24 rf i1 co i0 0.0 co i0 0.1 co i0 1.0 co i1 1.1
+6 rf i1 i0 co i0 0.0 co i0 0.1 co i0 1.0 co i1 1.1
+6 rf i1 i0 co i0 1.0 0.1 co i1 1.1 co i0 0.0";
 
-const X_TWO: EventId = EventId::Own(0, 1);
+const AT_54: &str = "96 rf co i0 0.0 co i0 0.1 co i0 1.0 co i1 1.1
+72 rf i1 co i0 0.0 co i0 0.1 co i0 1.0 co i1 1.1
+60 rf i1 0.0 co i0 0.0 co i0 0.1 co i0 1.0 co i1 1.1
+57 rf i1 0.0 co i0 0.1 1.0 co i1 1.1 co i0 0.0";
 
-const X_THREE: EventId = EventId::Own(1, 0);
-
-const Y: EventId = EventId::Initial(1);
-
-const Y_ONE: EventId = EventId::Own(1, 1);
-
-/// The number behind a block, what the first reads read from, and what is known of the orders.
-type Block = (u64, &'static [EventId], &'static [&'static [EventId]]);
-
-/// That each initial write is the first, which is known at each depth.
-const FIRST: &[&[EventId]] = &[&[X, X_ONE], &[X, X_TWO], &[X, X_THREE], &[Y, Y_ONE]];
-
-const AT_0: &[Block] = &[
-    (48, &[], FIRST),
-    (24, &[Y], FIRST),
-    (6, &[Y, X], FIRST),
-    (
-        3,
-        &[Y, X],
-        &[&[X, X_TWO, X_THREE], &[Y, Y_ONE], &[X, X_ONE]],
-    ),
-];
-
-const AT_5: &[Block] = &[
-    (48, &[], FIRST),
-    (24, &[Y], FIRST),
-    (6, &[Y, X], FIRST),
-    (
-        6,
-        &[Y, X],
-        &[&[X, X_THREE, X_TWO], &[Y, Y_ONE], &[X, X_ONE]],
-    ),
-];
-
-const AT_54: &[Block] = &[
-    (96, &[], FIRST),
-    (72, &[Y], FIRST),
-    (60, &[Y, X_ONE], FIRST),
-    (
-        57,
-        &[Y, X_ONE],
-        &[&[X, X_TWO, X_THREE], &[Y, Y_ONE], &[X, X_ONE]],
-    ),
-];
-
-/// Whether these are the orders.
-fn are_orders(orders: &[Coherence], wanted: &[&[EventId]]) -> bool {
-    if orders.len() != wanted.len() {
-        return false;
-    }
-    for (place, order) in orders.iter().enumerate() {
-        if order.writes() != wanted[place] {
-            return false;
-        }
-    }
-    true
+fn push_event(alloc: Global, text: &mut String, event: EventId) -> Result<(), AllocError> {
+    let shown = match event {
+        EventId::Initial(location) => format!(in alloc; " i{location}")?,
+        EventId::Own(thread, place) => format!(in alloc; " {thread}.{place}")?,
+    };
+    text.push_str(shown.as_str())
 }
 
-/// Whether this is what the executions of a block have in common, and its end.
-fn is_shown(common: &Common, block: &Block) -> bool {
-    let graph = common.graph();
-    common.end() == block.0 && graph.rf() == block.1 && are_orders(graph.co(), block.2)
+fn push_events(
+    alloc: Global,
+    text: &mut String,
+    head: &str,
+    events: &[EventId],
+) -> Result<(), AllocError> {
+    text.push_str(head)?;
+    for event in events {
+        push_event(alloc, text, *event)?;
+    }
+    Ok(())
+}
+
+/// What the executions of a block have in common, and its end.
+fn shown(alloc: Global, common: &Common) -> Result<String, AllocError> {
+    let mut text = format!(in alloc; "{}", common.end())?;
+    push_events(alloc, &mut text, " rf", common.graph().rf())?;
+    for order in common.graph().co() {
+        push_events(alloc, &mut text, " co", order.writes())?;
+    }
+    Ok(text)
 }
 
 /// Whether the blocks around the execution found last are these.
-fn has_blocks(alloc: Global, walk: &Walk, blocks: &[Block]) -> Result<bool, AllocError> {
+fn has_blocks(alloc: Global, walk: &Walk, blocks: &str) -> Result<bool, AllocError> {
     let mut common = Common::nothing(alloc);
-    for (depth, block) in blocks.iter().enumerate() {
+    for (depth, block) in blocks.lines().enumerate() {
         again!(_, walk.show_common(alloc, depth, &mut common))?;
-        if walk.end_of(depth) != block.0 || !is_shown(&common, block) {
+        if walk.end_of(depth) != common.end() || shown(alloc, &common)?.as_str() != block {
             return Ok(false);
         }
     }
-    Ok(walk.depths() == blocks.len())
+    Ok(walk.depths() == blocks.lines().count())
 }
 
 /// Whether a walk that passes the numbers before this one finds this execution next, with these blocks around it.
@@ -100,7 +78,7 @@ fn finds(
     walk: &mut Walk,
     passed: u64,
     number: u64,
-    blocks: &[Block],
+    blocks: &str,
 ) -> Result<bool, AllocError> {
     walk.pass(passed);
     if again!(_, walk.next(alloc))? != Some(number) {

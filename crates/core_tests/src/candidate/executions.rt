@@ -1,7 +1,14 @@
 //! How many candidates texts have, and how many of them are executions.
 
-use crate::candidate::texts::{Question, Row, SB, all_tell};
-use candidates::SpaceFault;
+use crate::candidate::growth::G;
+use crate::candidate::texts::tells;
+use crate::rows::all_hold;
+
+/// Store buffering.
+const SB: &str = "C SB\n{}\n\
+P0 (atomic_int* x, atomic_int* y) { atomic_store_explicit(x, 1, memory_order_relaxed); int r0 = atomic_load_explicit(y, memory_order_relaxed); }\n\
+P1 (atomic_int* x, atomic_int* y) { atomic_store_explicit(y, 1, memory_order_relaxed); int r0 = atomic_load_explicit(x, memory_order_relaxed); }\n\
+exists (0:r0=0 /\\ 1:r0=0)\n";
 
 const LB_DATA: &str = "C LB\n{}\n\
 P0 (atomic_int* x, atomic_int* y) { int r0 = atomic_load_explicit(x, memory_order_relaxed); atomic_store_explicit(y, r0, memory_order_relaxed); }\n\
@@ -14,7 +21,7 @@ P1 (atomic_int* x) { int r1 = atomic_exchange_explicit(x, 2, memory_order_relaxe
 exists (0:r0=0 /\\ 1:r1=0)\n";
 
 /// Two adds of one location.
-pub const ADDITIONS: &str = "C A\n{}\n\
+const ADDITIONS: &str = "C A\n{}\n\
 P0 (atomic_int* x) { int r0 = atomic_fetch_add_explicit(x, 1, memory_order_relaxed); }\n\
 P1 (atomic_int* x) { int r1 = atomic_fetch_add_explicit(x, 1, memory_order_relaxed); }\n\
 exists (0:r0=0 /\\ 1:r1=0)\n";
@@ -32,30 +39,6 @@ P2 (atomic_int* x, atomic_int* y) { int r0 = atomic_load_explicit(x, memory_orde
 P3 (atomic_int* x, atomic_int* y) { int r0 = atomic_load_explicit(y, memory_order_acquire); int r1 = atomic_load_explicit(x, memory_order_acquire); }\n\
 exists (2:r0=1 /\\ 2:r1=0 /\\ 3:r0=1 /\\ 3:r1=0)\n";
 
-const SIZES_OF_SPACES: &[Row] = &[
-    (SB, Question::Size, Ok(16)),
-    (LB_DATA, Question::Size, Ok(16)),
-    (ADDITIONS, Question::Size, Ok(162)),
-];
-
-const EXECUTIONS: &[Row] = &[
-    (SB, Question::Executions, Ok(4)),
-    (LB_DATA, Question::Executions, Ok(5)),
-    (EXCHANGES, Question::Executions, Ok(18)),
-    (ADDITIONS, Question::Executions, Ok(6)),
-    (BRANCHES, Question::Executions, Ok(2)),
-    (IRIW, Question::Executions, Ok(16)),
-];
-
-const WALKS: &[Row] = &[
-    (SB, Question::Walked, Ok(4)),
-    (LB_DATA, Question::Walked, Ok(5)),
-    (EXCHANGES, Question::Walked, Ok(18)),
-    (ADDITIONS, Question::Walked, Ok(6)),
-    (BRANCHES, Question::Walked, Ok(2)),
-    (IRIW, Question::Walked, Ok(16)),
-];
-
 const TWELVE_STORES: &str =
     "C T\n{}\nP0 (atomic_int* x) {\n@atomic_store_explicit(x, 1, memory_order_relaxed);\n@12@}\nexists (x=0)\n";
 
@@ -67,26 +50,6 @@ const TWELVE_LOADS: &str =
 
 const THIRTEEN_LOADS: &str =
     "C T\n{}\nP0 (atomic_int* x) {\n@r0 = atomic_load_explicit(x, memory_order_relaxed);\n@13@}\nexists (x=0)\n";
-
-const SIZES: &[Row] = &[
-    (TWELVE_STORES, Question::Size, Ok(479_001_600)),
-    (
-        THIRTEEN_STORES,
-        Question::Size,
-        Err(SpaceFault::TooManyCandidates),
-    ),
-    (TWELVE_LOADS, Question::Size, Ok(4096)),
-    (
-        THIRTEEN_LOADS,
-        Question::Size,
-        Err(SpaceFault::TooManyRuns(0)),
-    ),
-    (
-        "C T\n{}\nP0 (atomic_int* x) {\n}\nexists (x=0)\n",
-        Question::Size,
-        Ok(1),
-    ),
-];
 
 const TWELVE_LOADS_IN_R0: &str =
     "C T\n{}\nP0 (atomic_int* x) {\n@r0 = atomic_load_explicit(x, memory_order_relaxed);\n@12@}\nexists (0:r0=0)\n";
@@ -106,21 +69,95 @@ P4 (atomic_int* x) { int r0 = atomic_load(x); }\nP5 (atomic_int* x) { int r0 = a
 P6 (atomic_int* x) { int r0 = atomic_load(x); }\nP7 (atomic_int* x) { int r0 = atomic_load(x); }\n\
 exists (0:r0=0)\n";
 
-/// Each of the 12! candidates of twelve stores is an execution, far from the first ones, too. Of the 4,096 of twelve loads, of
-/// the 2^30 of thirty, and of the 2^32 of sixteen values one is.
-const LONG_WALKS: &[Row] = &[
-    (TWELVE_STORES, Question::WalkedFrom(1 << 20), Ok(16)),
-    (TWELVE_STORES, Question::WalkedFrom(479_001_584), Ok(16)),
-    (TWELVE_LOADS_IN_R0, Question::Walked, Ok(1)),
-    (THIRTY_LOADS, Question::Size, Ok(1 << 30)),
-    (THIRTY_LOADS, Question::Walked, Ok(1)),
-    (EIGHT, Question::Size, Ok(1 << 32)),
-    (EIGHT, Question::Walked, Ok(1)),
+/// The tests, by their names.
+pub const TEXTS: &[(&str, &str)] = &[
+    ("SB", SB),
+    ("LB", LB_DATA),
+    ("EX", EXCHANGES),
+    ("A", ADDITIONS),
+    ("CT", BRANCHES),
+    ("IRIW", IRIW),
+    ("12 stores", TWELVE_STORES),
+    ("13 stores", THIRTEEN_STORES),
+    ("12 loads", TWELVE_LOADS),
+    ("13 loads", THIRTEEN_LOADS),
+    ("12 loads in r0", TWELVE_LOADS_IN_R0),
+    ("30 loads", THIRTY_LOADS),
+    ("eight", EIGHT),
+    ("G", G),
 ];
+
+const SPACES: &str = "# sizes of spaces
+
+size: SB ==> 16
+
+size: LB ==> 16
+
+size: A ==> 162
+
+# executions
+
+executions: SB ==> 4
+
+executions: LB ==> 5
+
+executions: EX ==> 18
+
+executions: A ==> 6
+
+executions: CT ==> 2
+
+executions: IRIW ==> 16
+
+# walks
+
+walked: SB ==> 4
+
+walked: LB ==> 5
+
+walked: EX ==> 18
+
+walked: A ==> 6
+
+walked: CT ==> 2
+
+walked: IRIW ==> 16
+
+# sizes
+
+size: 12 stores ==> 479001600
+
+size: 13 stores ==> TooManyCandidates
+
+size: 12 loads ==> 4096
+
+size: 13 loads ==> TooManyRuns(0)
+
+size: C T
+{}
+P0 (atomic_int* x) {
+}
+exists (x=0)
+ ==> 1
+
+# long walks: each of the 12! candidates of twelve stores is an execution, far from the first ones, too. Of the 4,096 of twelve loads, of
+# the 2^30 of thirty, and of the 2^32 of sixteen values one is.
+
+walked from 1048576: 12 stores ==> 16
+
+walked from 479001584: 12 stores ==> 16
+
+walked: 12 loads in r0 ==> 1
+
+size: 30 loads ==> 1073741824
+
+walked: 30 loads ==> 1
+
+size: eight ==> 4294967296
+
+walked: eight ==> 1";
 
 #[test]
 fn spaces(rt: HostRuntime) {
-    for rows in [SIZES_OF_SPACES, EXECUTIONS, WALKS, SIZES, LONG_WALKS] {
-        all_tell(&rt, rt.alloc(), rows);
-    }
+    all_hold(&rt, rt.alloc(), "spaces", SPACES, tells);
 }

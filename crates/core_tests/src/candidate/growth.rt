@@ -2,11 +2,12 @@
 //! that is refused answers NoMemory, and made again it gives its own answer. So `tools/refuse-each-growth` runs the tests
 //! once for each request.
 
-use crate::candidate::texts::{Question, Row, SB, all_tell, any, has_runs};
-use candidates::SpaceFault;
+use crate::candidate::texts::{any, has_runs, tells};
+use crate::rows::all_hold;
 use events::{Access, Order, Run};
 
-const TEXT: &str = "C G
+/// A test with each kind of statement.
+pub const G: &str = "C G
 { int x=3; 1:q=2; y }
 P0 (atomic_int* x, int* y) {
   int a = atomic_load(x), b;
@@ -42,27 +43,29 @@ fn read_0_to_4(runs: &[Run]) -> bool {
 /// The first thread reads one of five values, and then one of five again, into `b` or, where it read 0, into `a`.
 #[test]
 fn runs_of_threads(rt: HostRuntime) {
-    assert!(rt; has_runs(rt.alloc(), TEXT, 0, Some(Ok(25)), read_0_to_4));
-    assert!(rt; has_runs(rt.alloc(), TEXT, 1, Some(Ok(1)), any));
+    assert!(rt;
+        has_runs(rt.alloc(), "G", 0, Some(Ok(25)), read_0_to_4),
+        "P0"
+    );
+    assert!(rt; has_runs(rt.alloc(), "G", 1, Some(Ok(1)), any), "P1");
 }
 
-const SPACES: &[Row] = &[
-    (SB, Question::Size, Ok(16)),
-    (SB, Question::Executions, Ok(4)),
-];
-
 /// 13 later writes of one location are in more than 2^32 orders.
-const NO_SPACE: &[Row] = &[(
-    "C T\n{}P0(atomic_int*x){
+const SPACES: &str = "# spaces
+
+size: SB ==> 16
+
+executions: SB ==> 4
+
+# no space
+
+size: C T
+{}P0(atomic_int*x){
         atomic_store(x,1); atomic_store(x,1); atomic_store(x,1); atomic_store(x,1); atomic_store(x,1);
         atomic_store(x,1); atomic_store(x,1); atomic_store(x,1); atomic_store(x,1); atomic_store(x,1);
-        atomic_store(x,1); atomic_store(x,1); atomic_store(x,1); }exists x=0",
-    Question::Size,
-    Err(SpaceFault::TooManyCandidates),
-)];
+        atomic_store(x,1); atomic_store(x,1); atomic_store(x,1); }exists x=0 ==> TooManyCandidates";
 
 #[test]
 fn spaces(rt: HostRuntime) {
-    all_tell(&rt, rt.alloc(), SPACES);
-    all_tell(&rt, rt.alloc(), NO_SPACE);
+    all_hold(&rt, rt.alloc(), "spaces", SPACES, tells);
 }

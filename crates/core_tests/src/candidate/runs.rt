@@ -1,66 +1,88 @@
 //! The runs of threads.
 
-use crate::candidate::executions::ADDITIONS;
-use crate::candidate::texts::{Count, SB, any, has_runs};
+use crate::candidate::texts::{Count, any, has_runs};
+use crate::rows::all_hold;
 use c11_threads::RunFault;
 use events::{Access, Event, Order, Run};
+use std::alloc::{AllocError, Global};
 
-/// A test, the number of one of its threads, and how many runs that has.
-type Row = (&'static str, usize, Count);
+/// The number of a thread and a test, and how many runs the thread has. The two adds of `A` are of 1, and its values are 0 to 3. Where four
+/// calls add 2, the values are 0, 1 and up to 8 and 9, and each of the calls reads one of the eight that are at most 7.
+const COUNTS: &str = "# threads
 
-/// Threads of store buffering and of two adds of 1, whose values are 0 to 3.
-const THREADS: [Row; 5] = [
-    (SB, 0, Some(Ok(2))),
-    (SB, 1, Some(Ok(2))),
-    (SB, 2, None),
-    (ADDITIONS, 0, Some(Ok(3))),
-    (ADDITIONS, 1, Some(Ok(3))),
-];
+0 SB ==> 2
 
-/// Where four calls add 2, the values are 0, 1 and up to 8 and 9, and each of the calls reads one of the eight that are at most 7.
-const SIZES: [Row; 6] = [
-    (
-        "C T\n{}\nP0 (atomic_int* x, atomic_int* y) {\n@r = atomic_load_explicit(x, memory_order_relaxed);\n@12@}\nexists (x=0 /\\ y=0)\n",
-        0,
-        Some(Ok(4096)),
-    ),
-    (
-        "C T\n{}\nP0 (atomic_int* x, atomic_int* y) {\n@r = atomic_load_explicit(x, memory_order_relaxed);\n@12@if (r) {} else ;\nr = 0;\n}\nexists (x=0 /\\ y=0)\n",
-        0,
-        Some(Ok(4096)),
-    ),
-    (
-        "C T\n{}\nP0 (atomic_int* x, atomic_int* y) {\n@r = atomic_load_explicit(x, memory_order_relaxed);\n@12@r = atomic_load(x);\n}\nexists (x=0 /\\ y=0)\n",
-        0,
-        Some(Err(RunFault::TooManyRuns(0))),
-    ),
-    (
-        "C T\n{}\nP0 (atomic_int* x, atomic_int* y) {\n;}\nexists (x=0 /\\ y=0)\n",
-        0,
-        Some(Ok(1)),
-    ),
-    (
-        "C T\n{}\nP0 (atomic_int* x, atomic_int* y) {\natomic_fetch_add(x, 2); atomic_fetch_add(x, 2); atomic_fetch_add(x, 2); atomic_fetch_add(x, 2);}\nexists (x=0 /\\ y=0)\n",
-        0,
-        Some(Ok(4096)),
-    ),
-    (
-        "C T\n{}\nP0 (atomic_int* x, atomic_int* y) {\natomic_fetch_add(x, 2); atomic_fetch_add(x, 2); atomic_fetch_add(x, 2); atomic_fetch_add(x, 2); r = atomic_load(x);}\nexists (x=0 /\\ y=0)\n",
-        0,
-        Some(Err(RunFault::TooManyRuns(0))),
-    ),
-];
+1 SB ==> 2
 
-#[test]
-fn counts(rt: HostRuntime) {
-    for rows in [THREADS.as_slice(), SIZES.as_slice()] {
-        for (text, thread, count) in rows {
-            assert!(rt;
-                has_runs(rt.alloc(), text, *thread, *count, any),
-                "P{thread} of {text}"
-            );
-        }
+2 SB ==> none
+
+0 A ==> 3
+
+1 A ==> 3
+
+# sizes
+
+0 C T
+{}
+P0 (atomic_int* x, atomic_int* y) {
+@r = atomic_load_explicit(x, memory_order_relaxed);
+@12@}
+exists (x=0 /\\ y=0)
+ ==> 4096
+
+0 C T
+{}
+P0 (atomic_int* x, atomic_int* y) {
+@r = atomic_load_explicit(x, memory_order_relaxed);
+@12@if (r) {} else ;
+r = 0;
+}
+exists (x=0 /\\ y=0)
+ ==> 4096
+
+0 C T
+{}
+P0 (atomic_int* x, atomic_int* y) {
+@r = atomic_load_explicit(x, memory_order_relaxed);
+@12@r = atomic_load(x);
+}
+exists (x=0 /\\ y=0)
+ ==> TooManyRuns(0)
+
+0 C T
+{}
+P0 (atomic_int* x, atomic_int* y) {
+;}
+exists (x=0 /\\ y=0)
+ ==> 1
+
+0 C T
+{}
+P0 (atomic_int* x, atomic_int* y) {
+atomic_fetch_add(x, 2); atomic_fetch_add(x, 2); atomic_fetch_add(x, 2); atomic_fetch_add(x, 2);}
+exists (x=0 /\\ y=0)
+ ==> 4096
+
+0 C T
+{}
+P0 (atomic_int* x, atomic_int* y) {
+atomic_fetch_add(x, 2); atomic_fetch_add(x, 2); atomic_fetch_add(x, 2); atomic_fetch_add(x, 2); r = atomic_load(x);}
+exists (x=0 /\\ y=0)
+ ==> TooManyRuns(0)";
+
+fn count_of(words: &str) -> Count {
+    match words {
+        "none" => None,
+        "TooManyRuns(0)" => Some(Err(RunFault::TooManyRuns(0))),
+        _ => Some(Ok(words.parse::<usize>().ok()?)),
     }
+}
+
+/// Whether a thread has so many runs.
+fn is_counted(alloc: Global, given: &str, words: &str) -> Result<bool, AllocError> {
+    let (thread, text) = given.split_once(' ').unwrap_or((given, ""));
+    let thread = thread.parse::<usize>().unwrap_or(usize::MAX);
+    Ok(has_runs(alloc, text, thread, count_of(words), any))
 }
 
 fn event_at(runs: &[Run], run: usize, event: usize) -> Option<&Event> {
@@ -118,8 +140,9 @@ const ADDITION: &str =
     "C T\n{}\nP0 (atomic_int* x, atomic_int* y) {\natomic_fetch_add_explicit(x, 2, memory_order_acq_rel);\n}\nexists (x=0 /\\ y=0)\n";
 
 #[test]
-fn events(rt: HostRuntime) {
+fn runs_of_threads(rt: HostRuntime) {
     let alloc = rt.alloc();
+    all_hold(&rt, alloc, "counts", COUNTS, is_counted);
     assert!(rt; has_runs(alloc, CTRL, 0, Some(Ok(2)), depend_so), "ctrl");
     assert!(rt;
         has_runs(alloc, EXCHANGE, 0, Some(Ok(3)), exchange_so),

@@ -1,28 +1,17 @@
 //! Texts, and what is asked of the tests that they spell. A call that memory was wanting for is made again.
 
-use crate::rows::{again, expanded};
+use crate::candidate::executions::TEXTS;
+use crate::litmus::read;
+use crate::rows::{again, meant};
 use c11_threads::{RunFault, runs};
 use candidates::{Space, SpaceFault, Walk};
 use events::{Coherence, Graph, Run};
-use litmus_c::{Test, TestFault, read_test};
+use litmus_c::Test;
 use std::alloc::{AllocError, Global};
-use std::process::Abort;
 
-/// Store buffering.
-pub const SB: &str = "C SB\n{}\n\
-P0 (atomic_int* x, atomic_int* y) { atomic_store_explicit(x, 1, memory_order_relaxed); int r0 = atomic_load_explicit(y, memory_order_relaxed); }\n\
-P1 (atomic_int* x, atomic_int* y) { atomic_store_explicit(y, 1, memory_order_relaxed); int r0 = atomic_load_explicit(x, memory_order_relaxed); }\n\
-exists (0:r0=0 /\\ 1:r0=0)\n";
-
-/// The test that a text spells, in which `@part@times@` stands for that part so many times.
-fn read(alloc: Global, text: &str) -> Result<Test, TestFault> {
-    match again!(_, expanded(alloc, text)) {
-        Ok(text) => again!(
-            TestFault::NoMemory,
-            read_test(alloc, text.as_str().as_bytes())
-        ),
-        Err(_) => Err(TestFault::NoMemory),
-    }
+/// The test that a text spells, or that has this name.
+fn named(alloc: Global, text: &str) -> Result<Test, AllocError> {
+    read(alloc, meant(TEXTS, text).unwrap_or(text))
 }
 
 /// How many runs a thread has, or why they aren't listed; `None` where the thread isn't there.
@@ -48,7 +37,7 @@ fn has_runs_in(alloc: Global, test: &Test, thread: usize, wanted: Count, check: 
 pub fn has_runs(alloc: Global, text: &str, thread: usize, wanted: Count, check: Check) -> bool
     requires { IsAlwaysCallable check }
 {
-    match read(alloc, text) {
+    match named(alloc, text) {
         Ok(test) => has_runs_in(alloc, &test, thread, wanted, check),
         Err(_) => false,
     }
@@ -59,55 +48,39 @@ pub fn any(_runs: &[Run]) -> bool {
     true
 }
 
-/// What is asked of the space of a test's candidates.
-#[derive(Clone, Copy)]
-pub enum Question {
-    /// How many candidates it has.
-    Size,
-    /// How many of them are executions.
-    Executions,
-    /// How many executions a walk finds.
-    Walked,
-    /// How many a walk finds at this number and the fifteen behind it.
-    WalkedFrom(u64),
-}
-
-/// What is reported of a space, or why there is none.
-pub type Told = Result<u64, SpaceFault>;
-
-/// A text, what is asked of the space of its test, and what is reported.
-pub type Row = (&'static str, Question, Told);
-
-fn answer(alloc: Global, space: &Space, question: Question) -> Result<u64, AllocError> {
+/// What is reported of a space: how many candidates it has, how many of them are executions, how many executions a walk finds, or how many
+/// it finds at a number and the fifteen behind it.
+fn answer(alloc: Global, space: &Space, question: &str) -> Result<u64, AllocError> {
     match question {
-        Question::Size => Ok(space.size()),
-        Question::Executions => count_executions(alloc, space),
-        Question::Walked => count_walked(alloc, space),
-        Question::WalkedFrom(number) => count_next(alloc, space, number),
+        "size" => Ok(space.size()),
+        "executions" => count_executions(alloc, space),
+        "walked" => count_walked(alloc, space),
+        _ => match question.strip_prefix("walked from ") {
+            Some(number) => count_next(alloc, space, number.parse::<u64>().unwrap_or(u64::MAX)),
+            None => Err(AllocError),
+        },
     }
 }
 
-fn tells_in(alloc: Global, space: &Space, question: Question, wanted: Told) -> bool {
-    match answer(alloc, space, question) {
-        Ok(number) => wanted == Ok(number),
-        Err(_) => false,
-    }
+/// Whether a fault is of this name.
+fn is_fault(alloc: Global, fault: SpaceFault, wanted: &str) -> Result<bool, AllocError> {
+    let shown = again!(_, format!(in alloc; "{fault:?}"))?;
+    Ok(shown.as_str() == wanted)
 }
 
 /// Whether this is reported of the space of a test.
-fn tells_of(alloc: Global, test: &Test, question: Question, wanted: Told) -> bool {
+fn tells_of(alloc: Global, test: &Test, question: &str, wanted: &str) -> Result<bool, AllocError> {
     match again!(SpaceFault::NoMemory, Space::new(alloc, test)) {
-        Ok(space) => tells_in(alloc, &space, question, wanted),
-        Err(fault) => wanted == Err(fault),
+        Ok(space) => Ok(wanted.parse::<u64>().ok() == Some(answer(alloc, &space, question)?)),
+        Err(fault) => is_fault(alloc, fault, wanted),
     }
 }
 
-/// Whether this is reported of the space of the test that a text spells.
-pub fn tells(alloc: Global, text: &str, question: Question, wanted: Told) -> bool {
-    match read(alloc, text) {
-        Ok(test) => tells_of(alloc, &test, question, wanted),
-        Err(_) => false,
-    }
+/// Whether this is reported of the space of the test that a text spells, or that has this name.
+pub fn tells(alloc: Global, given: &str, wanted: &str) -> Result<bool, AllocError> {
+    let (question, text) = given.split_once(": ").unwrap_or((given, ""));
+    let test = named(alloc, text)?;
+    tells_of(alloc, &test, question, wanted)
 }
 
 /// What may hold of a space.
@@ -130,13 +103,6 @@ pub fn holds_of(alloc: Global, text: &str, check: SpaceCheck) -> bool
     match read(alloc, text) {
         Ok(test) => holds_of_test(alloc, &test, check),
         Err(_) => false,
-    }
-}
-
-/// Fails at the first text of which something else is reported.
-pub fn all_tell(rt: &impl Abort, alloc: Global, rows: &[Row]) {
-    for (text, question, wanted) in rows {
-        assert!(rt; tells(alloc, text, *question, *wanted), "{text}");
     }
 }
 

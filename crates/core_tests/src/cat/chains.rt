@@ -1,43 +1,15 @@
 //! The longest chains of operators, and the deepest nestings, that a model of 4,096 nodes holds: read, copied, compared,
 //! resolved and judged.
 
-use crate::cat::judging::is_so;
-use crate::cat::loading::is_read_as;
-use crate::rows::{all_lines_hold, confirm, expanded};
-use cat_syntax::{CatFile, read_cat};
+use crate::cat::loading::is_so;
+use crate::cat::syntax::compare;
+use crate::rows::all_hold;
 use std::alloc::{AllocError, Global};
-use std::test::Fail;
 
-fn has_copy(file: &CatFile) -> bool {
-    match file.copy() {
-        Ok(copy) => copy == *file,
-        Err(_) => false,
-    }
-}
-
-/// Whether the copy of what a text is read as is equal to it, and what another text is read as is not.
-fn is_copied(alloc: Global, text: &str, other: &str) -> bool {
-    match read_cat(alloc, text.as_bytes()) {
-        Ok(file) => has_copy(&file) && is_read_as(alloc, &file, other) == Some(false),
-        Err(_) => false,
-    }
-}
-
-fn are_apart(alloc: Global, text: &str, other: &str) -> Result<bool, AllocError> {
-    let text = expanded(alloc, text)?;
-    let other = expanded(alloc, other)?;
-    Ok(is_copied(alloc, text.as_str(), other.as_str()))
-}
-
-/// Fails unless a text is equal to its copy and not to the text beside it, and that holds of it.
-fn is_copied_and_so(alloc: Global, texts: &str, words: &str) -> Result<(), Fail> {
-    match texts.split_once(" <> ") {
-        Some((text, other)) => {
-            confirm(are_apart(alloc, text, other)?, texts)?;
-            is_so(alloc, text, words)
-        }
-        None => Err(Fail::new(texts)),
-    }
+/// Whether a text is equal to its copy and not to the text beside it, and that holds of it.
+fn is_copied_and_so(alloc: Global, texts: &str, words: &str) -> Result<bool, AllocError> {
+    let (text, _) = texts.split_once(" <> ").unwrap_or((texts, ""));
+    Ok(compare(alloc, texts, false)? && is_so(alloc, text, words)?)
 }
 
 /// Texts, and others that they aren't equal to.
@@ -70,6 +42,12 @@ empty @0 | 0 ; 0 \\ 0 & (@64@rf@)@64@ <> empty @0 | 0 ; 0 \\ 0 & (@64@rf@)@63@ ;
 empty @(@64@fr@ & fr \\ 0 ; id | 0)@64@ <> empty @(@64@fr@ & fr \\ 0 ; id | 0)@63@) ==> forbids";
 
 #[test]
-fn chains_and_nestings(rt: HostRuntime) -> Result<(), Fail> {
-    all_lines_hold(rt.alloc(), CHAINS, is_copied_and_so)
+fn chains_and_nestings(rt: HostRuntime) {
+    all_hold(
+        &rt,
+        rt.alloc(),
+        "chains and nestings",
+        CHAINS,
+        is_copied_and_so,
+    );
 }

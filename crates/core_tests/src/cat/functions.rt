@@ -1,11 +1,8 @@
 //! Functions of models: how they are read, what is refused, and what they mean.
 
-use crate::cat::judging::is_so;
-use crate::cat::loading::{Fact, follow, holds_alone};
+use crate::cat::loading::{follow, is_so};
 use crate::cat::syntax::reads_as;
-use crate::rows::all_lines_hold;
-use events::Order;
-use std::test::Fail;
+use crate::rows::all_hold;
 
 /// A function with its parameter and body is three nodes, a call one, and its parentheses are a level.
 const READ: &str = "# calls
@@ -57,11 +54,6 @@ empty f(0@, 0@4092@, f() ==> 52 Syntax 12289
 empty f(0@, 0@4093@, f() ==> 55 TooLarge
 @let f(x) = x @1365@unshow x ==> x.x
 @let f(x) = x @1365@unshow x, y ==> 55 TooLarge";
-
-#[test]
-fn reading(rt: HostRuntime) -> Result<(), Fail> {
-    all_lines_hold(rt.alloc(), READ, reads_as)
-}
 
 const RESOLVED: &str = "# unbound
 # In a body, though nothing calls the function.
@@ -182,16 +174,8 @@ let f(r) = ~r let rec r = f(~fr) | r empty r ==> forbids
 empty fencerel(R) ==> allows
 let po = po | fr empty fencerel(R) ==> allows
 let po = po | fr let fencerel(b) = (po & (_ * b)) ; po empty fencerel(R) ==> forbids
-show f(x), fencerel as f empty fr ==> forbids";
-
-#[test]
-fn resolving_and_meanings(rt: HostRuntime) -> Result<(), Fail> {
-    let alloc = rt.alloc();
-    all_lines_hold(alloc, RESOLVED, is_so)?;
-    all_lines_hold(alloc, MEANINGS, is_so)?;
-    let text = "let r = po let f(x) = x | r let r = 0 flag ~empty (f(r) \\ 0) as kept";
-    holds_alone(alloc, text, Fact::Says(Order::Na, true, &["kept"]))
-}
+show f(x), fencerel as f empty fr ==> forbids
+let r = po let f(x) = x | r let r = 0 flag ~empty (f(r) \\ 0) as kept ==> na allows kept";
 
 /// 65,536 nodes and no more, each call replaced. Each next function is the union of two calls of the one before; of f0 to f14 the
 /// last makes 65,535 nodes of one.
@@ -324,9 +308,20 @@ const INCLUDED: &str = "base.cat: let f(x) = x | fr
 - root.cat ==> allows";
 
 #[test]
-fn files_with_functions(rt: HostRuntime) -> Result<(), Fail> {
-    for script in [NODES, DROPPED, DEPTHS, LARGE, ORDER, INCLUDED] {
-        follow(rt.alloc(), script)?;
-    }
-    Ok(())
+fn functions(rt: HostRuntime) {
+    let alloc = rt.alloc();
+    all_hold(&rt, alloc, "reading", READ, reads_as);
+    all_hold(&rt, alloc, "resolving", RESOLVED, is_so);
+    all_hold(&rt, alloc, "meanings", MEANINGS, is_so);
+}
+
+#[test]
+fn files_with_functions(rt: HostRuntime) {
+    let alloc = rt.alloc();
+    follow(&rt, alloc, "nodes", NODES);
+    follow(&rt, alloc, "dropped", DROPPED);
+    follow(&rt, alloc, "depths", DEPTHS);
+    follow(&rt, alloc, "a large file", LARGE);
+    follow(&rt, alloc, "order", ORDER);
+    follow(&rt, alloc, "included", INCLUDED);
 }

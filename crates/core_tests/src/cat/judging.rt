@@ -1,51 +1,69 @@
 //! What models say of executions that are made by hand.
 
-use crate::cat::loading::{Fact, holds_alone};
-use crate::rows::all_lines_hold;
+use crate::cat::loading::is_so;
+use crate::cat::texts::RC11;
+use crate::graphs::{ORDERS, STORE_BUFFERING, graph};
+use crate::rows::{all_hold, meant};
 use cat_eval::judge;
 use cat_model::Model;
-use events::EventId::{Initial, Own};
-use events::{Access, Coherence, Event, Graph, GraphView, Order, Run, no_places};
+use events::{Graph, GraphView, Order};
 use std::alloc::{AllocError, Global};
-use std::test::Fail;
 use wb_text::Name;
 
-/// An event that depends on nothing.
-pub fn event(thread: usize, access: Access, loc: usize, value: u32, order: Order) -> Event {
-    Event {
-        thread,
-        access,
-        loc,
-        value,
-        order,
-        data_from: no_places(),
-        ctrl_from: no_places(),
+/// What is to hold of a name among files.
+#[derive(Clone, Copy)]
+pub enum Fact<'a> {
+    /// `resolve` answers this for it as a root.
+    Answer(&'a str),
+    /// Its model comes from so many files.
+    Files(usize),
+    /// Its model allows store buffering of this order, or forbids it, and raises these flags.
+    Says(Order, bool, &'a str),
+    /// Of a partial message passing of this order it is known, or isn't, that its model forbids all that goes on from it.
+    Refutes(Order, bool),
+    /// Of its model it is known, or isn't, that it says the same of executions that differ in their coherence orders alone.
+    Orderless(bool),
+    /// The copy of its model is equal to a second model of it.
+    Copied,
+    /// It stands for what this text is read as.
+    Text(&'a str),
+    /// Its file can be taken away, and then not once more.
+    Removed,
+    /// These are the names that were put, in order, with their versions.
+    Put(&'a str),
+}
+
+/// What is to hold of a model, in words without an order.
+fn fact_of_order(order: Order, words: &str) -> Fact<'_> {
+    let (word, rest) = words.split_once(' ').unwrap_or((words, ""));
+    match word {
+        "allows" => Fact::Says(order, true, rest),
+        "forbids" => Fact::Says(order, false, rest),
+        "refuted" => Fact::Refutes(order, true),
+        "open" => Fact::Refutes(order, false),
+        _ => Fact::Answer(words),
     }
 }
 
-/// Store buffering, where both reads read the initial writes.
-///
-/// Events 0 and 1 are the initial writes of x and y, 2 and 3 the write of x and the read of y of P0, 4 and 5 the write of
-/// y and the read of x of P1. So po is (2,3) (4,5), rf (1,3) (0,5), co (0,2) (1,4), and fr (3,4) (5,2).
-fn store_buffering(alloc: Global, order: Order) -> Result<Graph, AllocError> {
-    let first = vec![in alloc;
-        event(0, Access::Write, 0, 1, order),
-        event(0, Access::Read, 1, 0, order),
-    ]?;
-    let second = vec![in alloc;
-        event(1, Access::Write, 1, 1, order),
-        event(1, Access::Read, 0, 0, order),
-    ]?;
-    let runs = vec![in alloc;
-        Run::new(first, vec![in alloc; 0]?),
-        Run::new(second, vec![in alloc; 0]?),
-    ]?;
-    let co = vec![in alloc;
-        Coherence::new(vec![in alloc; Initial(0), Own(0, 0)]?),
-        Coherence::new(vec![in alloc; Initial(1), Own(1, 0)]?),
-    ]?;
-    let rf = vec![in alloc; Initial(1), Initial(0)]?;
-    Ok(Graph::new(vec![in alloc; 0, 0]?, runs, rf, co))
+/// What is to hold of a name, in words.
+pub fn fact_of(words: &str) -> Fact<'_> {
+    let (word, rest) = words.split_once(' ').unwrap_or((words, ""));
+    if let Some(order) = meant(ORDERS, word) {
+        return fact_of_order(order, rest);
+    }
+    if rest == "files" {
+        return Fact::Files(word.parse::<usize>().unwrap_or(0));
+    }
+    match word {
+        "orderless" => Fact::Orderless(true),
+        "ordered" => Fact::Orderless(false),
+        "copied" => Fact::Copied,
+        "removed" => Fact::Removed,
+        "rc11" => Fact::Text(RC11),
+        "is" => Fact::Text(rest),
+        "put" => Fact::Put(words),
+        _ => fact_of_order(Order::Rlx, words),
+    }
 }
 
 /// Whether one of the names is written so.
@@ -59,22 +77,21 @@ fn is_among(names: &[Name], wanted: &str) -> bool {
 }
 
 /// Whether these are the names, in any order.
-fn are_names(names: &[Name], wanted: &[&str]) -> bool {
-    for name in wanted {
+fn are_names(names: &[Name], wanted: &str) -> bool {
+    for name in wanted.split_whitespace() {
         if !is_among(names, name) {
             return false;
         }
     }
-    names.len() == wanted.len()
+    names.len() == wanted.split_whitespace().count()
 }
 
-/// Whether a model says this of an execution.
-fn says(
+fn says_of_view(
     alloc: Global,
     view: &GraphView,
     model: &Model,
     allowed: bool,
-    flags: &[&str],
+    flags: &str,
 ) -> Result<bool, AllocError> {
     let judgement = judge(alloc, model, view)?;
     Ok(judgement.allowed() == allowed && are_names(judgement.flags(), flags))
@@ -82,68 +99,30 @@ fn says(
 
 fn says_of_graph(
     alloc: Global,
-    graph: &Graph,
+    execution: &Graph,
     model: &Model,
     allowed: bool,
-    flags: &[&str],
+    flags: &str,
 ) -> Result<bool, AllocError> {
-    let view = GraphView::of(alloc, graph)?;
-    says(alloc, &view, model, allowed, flags)
+    let view = GraphView::of(alloc, execution)?;
+    says_of_view(alloc, &view, model, allowed, flags)
 }
 
 /// Whether a model says this of store buffering of this order.
-pub fn says_of_order(
+pub fn says(
     alloc: Global,
     model: &Model,
     order: Order,
     allowed: bool,
-    flags: &[&str],
+    flags: &str,
 ) -> Result<bool, AllocError> {
-    let graph = store_buffering(alloc, order)?;
-    says_of_graph(alloc, &graph, model, allowed, flags)
+    let execution = graph(alloc, STORE_BUFFERING, order)?;
+    says_of_graph(alloc, &execution, model, allowed, flags)
 }
 
-/// Whether a model is judged so of store buffering of this order.
-pub fn is_judged(
-    alloc: Global,
-    model: &Model,
-    order: Order,
-    allowed: bool,
-    flags: &[&str],
-) -> bool {
-    matches!(says_of_order(alloc, model, order, allowed, flags), Ok(true))
-}
-
-/// Store buffering of relaxed accesses is allowed.
-pub const ALLOWS: Fact = Fact::Says(Order::Rlx, true, &[]);
-
-/// Store buffering of relaxed accesses is forbidden.
-pub const FORBIDS: Fact = Fact::Says(Order::Rlx, false, &[]);
-
-/// What is to hold of a model, in words.
-pub fn fact_of(words: &str) -> Fact<'_> {
-    match words {
-        "allows" => ALLOWS,
-        "forbids" => FORBIDS,
-        "refuted" => Fact::Refutes(Order::Rlx, true),
-        "open" => Fact::Refutes(Order::Rlx, false),
-        "orderless" => Fact::Orderless(true),
-        "ordered" => Fact::Orderless(false),
-        "removed" => Fact::Removed,
-        "16 files" => Fact::Files(16),
-        _ => match words.strip_prefix("is ") {
-            Some(text) => Fact::Text(text),
-            None => Fact::Answer(words),
-        },
-    }
-}
-
-/// Fails unless that holds of one file of a text.
-pub fn is_so(alloc: Global, text: &str, words: &str) -> Result<(), Fail> {
-    holds_alone(alloc, text, fact_of(words))
-}
-
-const ALLOWED: &str = " ==> allows
+/// What is said of store buffering with relaxed accesses, or with accesses of the order that is named.
+const JUDGED: &str = "# allowed
+ ==> allows
 acyclic rf | co | fr ==> allows
 ~acyclic po | fr ==> allows
 irreflexive po ; fr ==> allows
@@ -162,9 +141,9 @@ let rec r = r ; po empty r ==> allows
 let rec r = po | r ; r irreflexive r ==> allows
 empty ~(_ * _) ==> allows
 irreflexive ~id ==> allows
-include \"rc11.cat\" ==> allows";
-
-const FORBIDDEN: &str = "acyclic po | rf | co | fr ==> forbids
+include \"rc11.cat\" ==> allows
+# forbidden
+acyclic po | rf | co | fr ==> forbids
 acyclic po | fr empty rmw ==> forbids
 ~acyclic po ==> forbids
 irreflexive po ; fr ; po ; fr ==> forbids
@@ -181,39 +160,16 @@ let rec r = po | r ; r empty r ==> forbids
 let rec r = po | fr | r ; r irreflexive r ==> forbids
 let rec a = po | po ; b and b = fr ; a irreflexive a ; fr ==> forbids
 empty ~0 ==> forbids
-acyclic ~id ==> forbids";
+acyclic ~id ==> forbids
+include \"rc11.cat\" ==> sc forbids
+# flags
+flag ~empty fr as read ==> na allows read
+flag empty fr as none ==> na allows
+flag ~empty fr as b flag ~empty rf as a flag ~empty co as b ==> na allows a b
+flag ~empty fr as read acyclic po | fr as order flag acyclic po as late ==> na forbids read late
+include \"rc11.cat\" ==> na allows data-race";
 
 #[test]
-fn allowed_and_forbidden(rt: HostRuntime) -> Result<(), Fail> {
-    all_lines_hold(rt.alloc(), ALLOWED, is_so)?;
-    all_lines_hold(rt.alloc(), FORBIDDEN, is_so)?;
-    holds_alone(rt.alloc(), BUILT_IN, Fact::Says(Order::Sc, false, &[]))
-}
-
-/// The built-in model.
-pub const BUILT_IN: &str = "include \"rc11.cat\"";
-
-const FLAGS: &[(&str, Fact)] = &[
-    (
-        "flag ~empty fr as read",
-        Fact::Says(Order::Na, true, &["read"]),
-    ),
-    ("flag empty fr as none", Fact::Says(Order::Na, true, &[])),
-    (
-        "flag ~empty fr as b flag ~empty rf as a flag ~empty co as b",
-        Fact::Says(Order::Na, true, &["a", "b"]),
-    ),
-    (
-        "flag ~empty fr as read acyclic po | fr as order flag acyclic po as late",
-        Fact::Says(Order::Na, false, &["read", "late"]),
-    ),
-    (BUILT_IN, Fact::Says(Order::Na, true, &["data-race"])),
-];
-
-#[test]
-fn flags(rt: HostRuntime) -> Result<(), Fail> {
-    for (text, fact) in FLAGS {
-        holds_alone(rt.alloc(), text, *fact)?;
-    }
-    Ok(())
+fn allowed_and_forbidden_and_flags(rt: HostRuntime) {
+    all_hold(&rt, rt.alloc(), "judged", JUDGED, is_so);
 }

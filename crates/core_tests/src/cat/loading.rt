@@ -1,87 +1,77 @@
-//! Files with texts, and what is to hold of them.
+//! Files with texts, and what is to hold of them. What is refused for want of memory is made again.
 
-use crate::cat::judging::{fact_of, is_judged};
+use crate::cat::judging::{Fact, fact_of, says};
 use crate::cat::refuting::is_known;
-use crate::rows::{confirm, expanded};
+use crate::names::name;
+use crate::rows::{again, expanded};
 use cat_eval::is_orderless;
-use cat_model::{FileVersion, Files, Model, ModelFault, resolve};
-use cat_syntax::{CatFile, read_cat};
-use events::Order;
+use cat_model::{Files, Model, ModelFault, resolve};
+use cat_syntax::{CatFault, CatFile, read_cat};
 use std::alloc::{AllocError, Global};
-use std::test::Fail;
+use std::process::Abort;
 use wb_text::Name;
 
-/// What is to hold of a name among files.
-#[derive(Clone, Copy)]
-pub enum Fact<'a> {
-    /// `resolve` answers this for it as a root.
-    Answer(&'a str),
-    /// Its model comes from so many files.
-    Files(usize),
-    /// Its model allows store buffering of this order, or forbids it, and raises these flags.
-    Says(Order, bool, &'static [&'static str]),
-    /// Of a partial message passing of this order it is known, or isn't, that its model forbids all that goes on from it.
-    Refutes(Order, bool),
-    /// Of its model it is known, or isn't, that it says the same of executions that differ in their coherence orders alone.
-    Orderless(bool),
-    /// It stands for what this text is read as.
-    Text(&'a str),
-    /// Its file can be taken away, and then not once more.
-    Removed,
-}
-
-/// A name.
-pub fn named(alloc: Global, name: &str) -> Result<Name, Fail> {
-    match Name::new(alloc, name.as_bytes()) {
-        Ok(name) => Ok(name),
-        Err(_) => Err(Fail::new(name)),
-    }
-}
-
 /// The model that a text spells.
-pub fn read(alloc: Global, text: &str) -> Result<CatFile, Fail> {
-    match read_cat(alloc, text.as_bytes()) {
+pub fn read(alloc: Global, text: &str) -> Result<CatFile, AllocError> {
+    match again!(CatFault::NoMemory, read_cat(alloc, text.as_bytes())) {
         Ok(file) => Ok(file),
-        Err(_) => Err(Fail::new(text)),
+        Err(_) => Err(AllocError),
     }
 }
 
-/// Whether a model has this title and so many items.
-pub fn has_parts(file: &CatFile, title: &[u8], count: usize) -> bool {
-    match file.title() {
-        Some(found) => found.bytes() == title && file.items().len() == count,
-        None => false,
-    }
+/// The model that the text of a row spells.
+pub fn spelled(alloc: Global, text: &str) -> Result<CatFile, AllocError> {
+    let whole = again!(_, expanded(alloc, text))?;
+    read(alloc, whole.as_str())
 }
 
-/// Whether a file is what a text is read as; nothing if the text is no model.
-pub fn is_read_as(alloc: Global, file: &CatFile, text: &str) -> Option<bool> {
-    match read_cat(alloc, text.as_bytes()) {
-        Ok(read) => Some(*file == read),
-        Err(_) => None,
-    }
+/// What a file under a name is: its version, whether it is loaded, and how many items are to be put.
+fn state(files: &Files, name: &Name, file: &CatFile) -> (u32, bool, usize) {
+    (
+        files.version(name),
+        files.is_loaded(name),
+        file.items().len(),
+    )
 }
 
-/// Puts a file under a name at the next version, and says whether that was done.
-fn put_next(files: &mut Files, name: Name, file: CatFile) -> bool {
+/// Puts a file under a name at the next version, unless that is handed back.
+fn put_once(files: &mut Files, name: Name, file: CatFile) -> Result<(), (Name, CatFile)> {
     let version = files.version(&name);
     if version == u32::MAX {
-        return false;
+        return Err((name, file));
     }
-    files.put(name, version + 1, file).is_ok()
+    match files.put(name, version + 1, file) {
+        Ok(()) => Ok(()),
+        Err((name, file, _)) => Err((name, file)),
+    }
+}
+
+/// Puts a file under a name at the next version. A refused call hands it back and leaves things as they were.
+fn put_next(files: &mut Files, name: Name, file: CatFile) -> bool {
+    let before = state(files, &name, &file);
+    match put_once(files, name, file) {
+        Ok(()) => true,
+        Err((name, file)) => {
+            state(files, &name, &file) == before && put_once(files, name, file).is_ok()
+        }
+    }
 }
 
 /// Puts the text of a row under a name, at the next version.
-fn put(alloc: Global, files: &mut Files, name: &str, text: &str) -> Result<(), Fail> {
-    let name = named(alloc, name)?;
-    let whole = expanded(alloc, text)?;
-    let file = read(alloc, whole.as_str())?;
-    confirm(put_next(files, name, file), text)
+pub fn put(alloc: Global, files: &mut Files, word: &str, text: &str) -> Result<bool, AllocError> {
+    let name = name(alloc, word.as_bytes())?;
+    let file = spelled(alloc, text)?;
+    Ok(put_next(files, name, file))
 }
 
-/// Adds a file with its version.
-fn show_file(alloc: Global, text: &mut String, file: &FileVersion) -> Result<(), AllocError> {
-    let shown = format!(in alloc; " {} {}", file.name, file.version)?;
+/// Adds a name with a version.
+fn push_version(
+    alloc: Global,
+    text: &mut String,
+    name: &Name,
+    version: u32,
+) -> Result<(), AllocError> {
+    let shown = format!(in alloc; " {name} {version}")?;
     text.push_str(shown.as_str())
 }
 
@@ -89,43 +79,72 @@ fn show_file(alloc: Global, text: &mut String, file: &FileVersion) -> Result<(),
 fn shown(alloc: Global, model: &Model) -> Result<String, AllocError> {
     let mut text = format!(in alloc; "{}", model.items().len())?;
     for file in model.files() {
-        show_file(alloc, &mut text, file)?;
+        push_version(alloc, &mut text, &file.name, file.version)?;
     }
     Ok(text)
 }
 
-/// Whether a text was made, and is this one.
-fn is_text(made: Result<String, AllocError>, wanted: &str) -> bool {
-    match made {
-        Ok(text) => text.as_str() == wanted,
-        Err(_) => false,
+/// The files as text: those that were put, in order, with the versions of those that are loaded.
+fn shown_files(alloc: Global, files: &Files) -> Result<String, AllocError> {
+    let mut text = String::from_str(alloc, "put")?;
+    for place in 0..64 {
+        match files.name_at(place) {
+            Some(name) if files.is_loaded(name) => {
+                push_version(alloc, &mut text, name, files.version(name))?;
+            }
+            Some(_) => text.push_str(" none")?,
+            None => return Ok(text),
+        }
+    }
+    Ok(text)
+}
+
+/// Whether a model's copy is equal to a second model of a root.
+fn is_copied(alloc: Global, files: &Files, root: &Name, model: &Model) -> Result<bool, AllocError> {
+    match again!(ModelFault::NoMemory, resolve(alloc, files, root)) {
+        Ok(second) => Ok(again!(_, model.copy())? == second),
+        Err(_) => Ok(false),
     }
 }
 
 /// Whether a fact holds of what a name is resolved to.
-fn model_has(alloc: Global, model: &Model, fact: Fact) -> bool {
+fn model_has(alloc: Global, model: &Model, fact: Fact) -> Result<bool, AllocError> {
     match fact {
-        Fact::Answer(wanted) => is_text(shown(alloc, model), wanted),
-        Fact::Files(count) => model.files().len() == count,
-        Fact::Says(order, allowed, flags) => is_judged(alloc, model, order, allowed, flags),
+        Fact::Answer(wanted) => Ok(again!(_, shown(alloc, model))?.as_str() == wanted),
+        Fact::Files(count) => Ok(model.files().len() == count),
+        Fact::Says(order, allowed, flags) => again!(_, says(alloc, model, order, allowed, flags)),
         Fact::Refutes(order, known) => is_known(alloc, model, order, known),
-        Fact::Orderless(known) => is_orderless(model) == known,
-        _ => false,
+        Fact::Orderless(known) => Ok(is_orderless(model) == known),
+        _ => Ok(false),
     }
 }
 
 /// Whether a fact is that a name is refused so as a root.
-fn fault_is(alloc: Global, fault: &ModelFault, fact: Fact) -> bool {
+fn fault_is(alloc: Global, fault: &ModelFault, fact: Fact) -> Result<bool, AllocError> {
     match fact {
-        Fact::Answer(wanted) => is_text(format!(in alloc; "{fault}"), wanted),
-        _ => false,
+        Fact::Answer(wanted) => { Ok(again!(_, format!(in alloc; "{fault}"))?.as_str() == wanted) }
+        _ => Ok(false),
+    }
+}
+
+/// Whether a fact holds of the model of a root.
+fn root_has(
+    alloc: Global,
+    files: &Files,
+    root: &Name,
+    model: &Model,
+    fact: Fact,
+) -> Result<bool, AllocError> {
+    match fact {
+        Fact::Copied => is_copied(alloc, files, root, model),
+        _ => model_has(alloc, model, fact),
     }
 }
 
 /// Whether a fact holds of what `resolve` answers for a root.
-fn resolves(alloc: Global, files: &Files, root: &Name, fact: Fact) -> bool {
-    match resolve(alloc, files, root) {
-        Ok(model) => model_has(alloc, &model, fact),
+fn resolves(alloc: Global, files: &Files, root: &Name, fact: Fact) -> Result<bool, AllocError> {
+    match again!(ModelFault::NoMemory, resolve(alloc, files, root)) {
+        Ok(model) => root_has(alloc, files, root, &model, fact),
         Err(fault) => fault_is(alloc, &fault, fact),
     }
 }
@@ -151,98 +170,69 @@ fn is_removed_once(files: &mut Files, name: &Name) -> bool {
 }
 
 /// Whether a name stands for what a text is read as.
-fn holds_text(alloc: Global, files: &Files, name: &Name, text: &str) -> bool {
+fn holds_text(alloc: Global, files: &Files, name: &Name, text: &str) -> Result<bool, AllocError> {
+    let wanted = read(alloc, text)?;
     match files.get(name) {
-        Some(file) => is_read_as(alloc, file, text) == Some(true),
-        None => false,
+        Some(file) => Ok(*file == wanted),
+        None => Ok(false),
     }
 }
 
 /// Whether a fact holds of a name.
-fn has(alloc: Global, files: &mut Files, name: &Name, fact: Fact) -> bool {
+fn has(alloc: Global, files: &mut Files, name: &Name, fact: Fact) -> Result<bool, AllocError> {
     match fact {
         Fact::Text(text) => holds_text(alloc, files, name, text),
-        Fact::Removed => is_removed_once(files, name),
+        Fact::Removed => Ok(is_removed_once(files, name)),
+        Fact::Put(wanted) => Ok(again!(_, shown_files(alloc, files))?.as_str() == wanted),
         _ => resolves(alloc, files, name, fact),
     }
 }
 
-/// A fact holds of a name that is written so.
-fn confirm_has(
-    alloc: Global,
-    files: &mut Files,
-    (name, fact): (&str, Fact),
-    tried: &str,
-) -> Result<(), Fail> {
-    let root = named(alloc, name)?;
-    confirm(has(alloc, files, &root, fact), tried)
-}
-
-/// Whether the name at a place is written so.
-fn is_at(files: &Files, place: usize, wanted: &str) -> bool {
-    match files.name_at(place) {
-        Some(name) => name.bytes() == wanted.as_bytes(),
-        None => false,
-    }
-}
-
-/// Whether these are the names that were put, in order.
-fn names_are(files: &Files, wanted: &[&str]) -> bool {
-    for (place, name) in wanted.iter().enumerate() {
-        if !is_at(files, place, name) {
-            return false;
-        }
-    }
-    files.name_at(wanted.len()).is_none()
+/// Whether that holds of a name, in words.
+fn is_so_of(alloc: Global, files: &mut Files, word: &str, words: &str) -> Result<bool, AllocError> {
+    let name = name(alloc, word.as_bytes())?;
+    has(alloc, files, &name, fact_of(words))
 }
 
 /// Takes a step among files: `name: text` puts a text under a name at the next version, and `name ==> words` says what holds of
 /// a name. One that begins with `#` is a heading.
-fn take(alloc: Global, files: &mut Files, step: &str) -> Result<(), Fail> {
+fn take(alloc: Global, files: &mut Files, step: &str) -> Result<bool, AllocError> {
     if let Some((name, words)) = step.split_once(" ==> ") {
-        return confirm_has(alloc, files, (name, fact_of(words)), step);
+        return is_so_of(alloc, files, name, words);
     }
     match step.split_once(": ") {
         Some((name, text)) => put(alloc, files, name, text),
-        None => confirm(step.starts_with('#'), step),
+        None => Ok(step.starts_with('#')),
     }
 }
 
 /// Takes the steps of a script among files, in order.
-fn take_all(alloc: Global, files: &mut Files, script: &str) -> Result<(), Fail> {
+fn take_all(rt: &impl Abort, alloc: Global, files: &mut Files, name: &str, script: &str) {
     for step in script.split("\n- ") {
-        take(alloc, files, step)?;
+        assert!(rt; take(alloc, files, step) == Ok(true), "{name}: {step}");
     }
-    Ok(())
 }
 
-/// Takes the steps of a script, at first among the built-in files alone.
-pub fn follow(alloc: Global, script: &str) -> Result<(), Fail> {
-    let mut files = Files::new(alloc)?;
-    take_all(alloc, &mut files, script)
+/// Takes the steps of a script of this name, at first among the built-in files alone, and fails at the first that doesn't hold.
+pub fn follow(rt: &impl Abort, alloc: Global, name: &str, script: &str) {
+    match again!(_, Files::new(alloc)) {
+        Ok(mut files) => take_all(rt, alloc, &mut files, name, script),
+        Err(AllocError) => panic!(rt; "{name}"),
+    }
 }
 
-/// These are the names that are put by a script, in order.
-pub fn puts_in_order(alloc: Global, script: &str, names: &[&str]) -> Result<(), Fail> {
-    let mut files = Files::new(alloc)?;
-    take_all(alloc, &mut files, script)?;
-    confirm(names_are(&files, names), script)
+/// Puts one file of this text, and says whether that holds of it.
+fn put_and_has(
+    alloc: Global,
+    files: &mut Files,
+    text: &str,
+    words: &str,
+) -> Result<bool, AllocError> {
+    Ok(put(alloc, files, "main.cat", text)? && is_so_of(alloc, files, "main.cat", words)?)
 }
 
-/// A fact holds of a name among the built-in files.
-pub fn holds_beforehand(alloc: Global, name: &str, fact: Fact) -> Result<(), Fail> {
-    let mut files = Files::new(alloc)?;
-    confirm_has(alloc, &mut files, (name, fact), name)
-}
-
-/// Puts one file of this text, of which a fact holds.
-fn put_and_confirm(alloc: Global, files: &mut Files, text: &str, fact: Fact) -> Result<(), Fail> {
-    put(alloc, files, "main.cat", text)?;
-    confirm_has(alloc, files, ("main.cat", fact), text)
-}
-
-/// Of one file of a text a fact holds.
-pub fn holds_alone(alloc: Global, text: &str, fact: Fact) -> Result<(), Fail> {
-    let mut files = Files::new(alloc)?;
-    put_and_confirm(alloc, &mut files, text, fact)
+/// Whether that holds of one file of a text.
+pub fn is_so(alloc: Global, text: &str, words: &str) -> Result<bool, AllocError> {
+    let mut files = again!(_, Files::new(alloc))?;
+    put_and_has(alloc, &mut files, text, words)
 }

@@ -1,10 +1,7 @@
 //! What files are put together to.
 
-use crate::cat::judging::is_so;
-use crate::cat::loading::{Fact, follow, holds_beforehand, puts_in_order};
-use crate::cat::texts::RC11;
-use crate::rows::all_lines_hold;
-use std::test::Fail;
+use crate::cat::loading::{follow, is_so};
+use crate::rows::all_hold;
 
 const ONE_FILE: &str = "# Sorts and scope.
 let r = po acyclic r ==> 2 main.cat 1
@@ -29,13 +26,9 @@ let r = W ; po and s = t ==> 64 Unbound t
 let rec r = ~s and s = W ==> 65 WrongSort s
 acyclic r include \"main.cat\" ==> 63 IncludeCycle main.cat";
 
-#[test]
-fn one_file(rt: HostRuntime) -> Result<(), Fail> {
-    all_lines_hold(rt.alloc(), ONE_FILE, is_so)
-}
-
 const BEFOREHAND: &str = "none.cat ==> 61 NoCat none.cat
 - rc11.cat ==> 20 rc11.cat 0
+- rc11.cat ==> rc11
 - stdlib.cat ==> 0 stdlib.cat 0
 - cos.cat ==> 0 cos.cat 0
 - c11_cos.cat ==> 0 c11_cos.cat 0";
@@ -97,13 +90,18 @@ const EACH_OTHER: &str = "one.cat: include \"two.cat\"
 /// Names are listed in order of first put.
 const NAMES: &str = "b.cat: empty 0
 - a.cat: empty 0
-- b.cat: empty 0";
+- b.cat: empty 0
+- b.cat ==> put b.cat 2 a.cat 1";
 
 #[test]
-fn files(rt: HostRuntime) -> Result<(), Fail> {
-    for script in [BEFOREHAND, VERSIONS, HIDDEN, CHAIN, MANY_ITEMS, EACH_OTHER] {
-        follow(rt.alloc(), script)?;
-    }
-    holds_beforehand(rt.alloc(), "rc11.cat", Fact::Text(RC11))?;
-    puts_in_order(rt.alloc(), NAMES, &["b.cat", "a.cat"])
+fn files(rt: HostRuntime) {
+    let alloc = rt.alloc();
+    all_hold(&rt, alloc, "one file", ONE_FILE, is_so);
+    follow(&rt, alloc, "beforehand", BEFOREHAND);
+    follow(&rt, alloc, "versions", VERSIONS);
+    follow(&rt, alloc, "hidden", HIDDEN);
+    follow(&rt, alloc, "a chain", CHAIN);
+    follow(&rt, alloc, "many items", MANY_ITEMS);
+    follow(&rt, alloc, "each other", EACH_OTHER);
+    follow(&rt, alloc, "names", NAMES);
 }

@@ -1,8 +1,7 @@
 //! Which models are known to say the same of executions that differ in their coherence orders alone.
 
-use crate::cat::judging::is_so;
-use crate::rows::all_lines_hold;
-use std::test::Fail;
+use crate::cat::loading::is_so;
+use crate::rows::all_hold;
 
 const MODELS: &str = " ==> orderless
 acyclic po | rf as x ==> orderless
@@ -28,6 +27,6 @@ let co = rf empty co ==> ordered
 show co ==> orderless";
 
 #[test]
-fn known_or_not(rt: HostRuntime) -> Result<(), Fail> {
-    all_lines_hold(rt.alloc(), MODELS, is_so)
+fn known_or_not(rt: HostRuntime) {
+    all_hold(&rt, rt.alloc(), "known or not", MODELS, is_so);
 }

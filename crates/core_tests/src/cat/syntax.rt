@@ -1,33 +1,24 @@
 //! What texts are read as, and equality and copies of what is read.
 
-use crate::cat::loading::{has_parts, is_read_as, read};
-use crate::cat::texts::{EACH_KIND, RC11};
-use crate::rows::{all_lines_hold, confirm, expanded};
+use crate::cat::loading::{read, spelled};
+use crate::cat::texts::RC11;
+use crate::rows::{again, all_hold, expanded};
 use cat_syntax::{
     CatFault, CatFile, Definition, Expression, Infix, Item, Leaf, Node, Sign, read_cat,
 };
 use std::alloc::{AllocError, Global};
-use std::test::Fail;
 
-/// What is written before the operand of a sign.
-fn opening(sign: Sign) -> &'static str {
+/// What is written before the operand of a sign, and behind it.
+fn around(sign: Sign) -> (&'static str, &'static str) {
     match sign {
-        Sign::Complement => "~(",
-        Sign::Domain => "domain(",
-        Sign::Range => "range(",
-        Sign::Identity => "id(",
-        _ => "(",
-    }
-}
-
-/// What is written behind it.
-fn closing(sign: Sign) -> &'static str {
-    match sign {
-        Sign::Plus => ")+",
-        Sign::Star => ")*",
-        Sign::Optional => ")?",
-        Sign::Inverse => ")^-1",
-        _ => ")",
+        Sign::Complement => ("~(", ")"),
+        Sign::Domain => ("domain(", ")"),
+        Sign::Range => ("range(", ")"),
+        Sign::Identity => ("id(", ")"),
+        Sign::Plus => ("(", ")+"),
+        Sign::Star => ("(", ")*"),
+        Sign::Optional => ("(", ")?"),
+        Sign::Inverse => ("(", ")^-1"),
     }
 }
 
@@ -79,7 +70,8 @@ fn show_node(alloc: Global, node: &Node, texts: &mut Vec<String>) -> Result<Stri
         Node::Leaf(leaf) => show_leaf(alloc, leaf),
         Node::Sign(sign) => {
             let operand = latest(alloc, texts);
-            format!(in alloc; "{}{}{}", opening(*sign), operand, closing(*sign))
+            let (before, behind) = around(*sign);
+            format!(in alloc; "{before}{operand}{behind}")
         }
         Node::Infix(operator) => {
             let right = latest(alloc, texts);
@@ -116,36 +108,32 @@ fn show_definition(
     show(alloc, text, &definition.value)
 }
 
-/// Adds what a file's first item binds first, if that is `let r = ..`.
-fn show_first(alloc: Global, text: &mut String, file: &CatFile) -> Result<(), AllocError> {
-    match file.items().first() {
-        Some(Item::Let(definitions)) => match definitions.first() {
-            Some(definition) => show_definition(alloc, text, definition),
-            None => text.push_str("no binding"),
-        },
-        _ => text.push_str("a tree"),
-    }
-}
-
+/// What a file's first item binds first, if that is `let r = ..`.
 fn first_shown(alloc: Global, file: &CatFile) -> Result<String, AllocError> {
     let mut text = String::new(alloc);
-    show_first(alloc, &mut text, file)?;
+    match file.items().first() {
+        Some(Item::Let(definitions)) => match definitions.first() {
+            Some(definition) => show_definition(alloc, &mut text, definition)?,
+            None => text.push_str("no binding")?,
+        },
+        _ => text.push_str("a tree")?,
+    }
     Ok(text)
 }
 
 /// What the text of a row is read as: what a first item `let r = ..` binds, else `a tree`, or the fault.
 fn shown(alloc: Global, text: &str) -> Result<String, AllocError> {
-    let text = expanded(alloc, text)?;
-    match read_cat(alloc, text.as_bytes()) {
-        Ok(file) => first_shown(alloc, &file),
-        Err(fault) => format!(in alloc; "{fault}"),
+    let text = again!(_, expanded(alloc, text))?;
+    match again!(CatFault::NoMemory, read_cat(alloc, text.as_bytes())) {
+        Ok(file) => again!(_, first_shown(alloc, &file)),
+        Err(fault) => again!(_, format!(in alloc; "{fault}")),
     }
 }
 
-/// Fails unless that is what the text of a row is read as.
-pub fn reads_as(alloc: Global, text: &str, wanted: &str) -> Result<(), Fail> {
+/// Whether that is what the text of a row is read as.
+pub fn reads_as(alloc: Global, text: &str, wanted: &str) -> Result<bool, AllocError> {
     let found = shown(alloc, text)?;
-    confirm(found.as_str() == wanted, text)
+    Ok(found.as_str() == wanted)
 }
 
 const READ: &str = "# operators and levels
@@ -178,59 +166,42 @@ empty rf@ | rf@2048@) ==> 55 TooLarge
 empty rf@ | rf@2046@ | ) ==> 52 Syntax 10241
 empty rf@ | rf@2047@ show ) ==> 52 Syntax 10249";
 
-#[test]
-fn reading(rt: HostRuntime) -> Result<(), Fail> {
-    all_lines_hold(rt.alloc(), READ, reads_as)
-}
-
-/// Whether a fault is told as one of a text.
-fn is_of_text(alloc: Global, fault: &CatFault) -> bool {
-    match format!(in alloc; "{fault}") {
-        Ok(told) => told.as_str().starts_with("5"),
-        Err(_) => false,
-    }
-}
-
-/// Whether a text is a tree or, where it may be refused, a fault of a text.
-fn is_answered(alloc: Global, text: &[u8], may_be_refused: bool) -> bool {
+/// Whether a text is a tree or a fault of a text.
+fn is_answered(alloc: Global, text: &[u8]) -> Result<bool, AllocError> {
     match read_cat(alloc, text) {
-        Ok(_) => true,
-        Err(fault) => may_be_refused && is_of_text(alloc, &fault),
+        Ok(_) => Ok(true),
+        Err(fault) => Ok(format!(in alloc; "{fault}")?.as_str().starts_with("5")),
     }
 }
 
-/// Each prefix of a text is a tree or a fault of a text.
-fn all_prefixes_are_answered(alloc: Global, text: &[u8]) -> Result<(), Fail> {
+/// Whether each prefix of a text is a tree or a fault of a text.
+fn all_prefixes_are_answered(alloc: Global, text: &[u8]) -> Result<bool, AllocError> {
     for end in 0..text.len() {
-        confirm(is_answered(alloc, &text[..end], true), "a prefix")?;
+        if !is_answered(alloc, &text[..end])? {
+            return Ok(false);
+        }
     }
-    Ok(())
+    Ok(true)
 }
 
-#[test]
-fn hostile_input_row_1(rt: HostRuntime) -> Result<(), Fail> {
-    all_prefixes_are_answered(rt.alloc(), RC11.as_bytes())?;
-    confirm(is_answered(rt.alloc(), RC11.as_bytes(), false), RC11)
+/// Whether a file is equal to its copy, and to another file or not.
+fn is_copied_as(file: &CatFile, other: &CatFile, equal: bool) -> Result<bool, AllocError> {
+    let copy = again!(_, file.copy())?;
+    Ok(copy == *file && (copy == *other) == equal && (*file == *other) == equal)
 }
 
-const ITEMS: &str =
-    "\"a title\" let rec r = r and s = r include \"b.cat\" flag ~empty r as none show r as a, s unshow r, s";
-
-/// Whether two texts are equal models; nothing if one is no model.
-fn are_equal(alloc: Global, text: &str, other: &str) -> Option<bool> {
-    match read_cat(alloc, text.as_bytes()) {
-        Ok(file) => is_read_as(alloc, &file, other),
-        Err(_) => None,
-    }
-}
-
-/// Fails unless two texts are models that are equal, or another to each other.
-fn compares(alloc: Global, texts: &str, words: &str) -> Result<(), Fail> {
-    let holds = match texts.split_once(" <> ") {
-        Some((text, other)) => are_equal(alloc, text, other) == Some(words == "equal"),
-        None => false,
+/// Whether two texts are models that are equal, or another to each other, and the first is equal to its copy.
+pub fn compare(alloc: Global, texts: &str, equal: bool) -> Result<bool, AllocError> {
+    let Some((text, other)) = texts.split_once(" <> ") else {
+        return Ok(false);
     };
-    confirm(holds, texts)
+    let file = spelled(alloc, text)?;
+    let other = spelled(alloc, other)?;
+    is_copied_as(&file, &other, equal)
+}
+
+fn compares(alloc: Global, texts: &str, words: &str) -> Result<bool, AllocError> {
+    compare(alloc, texts, words == "equal")
 }
 
 const EQUALITY: &str = "T flag ~empty r as none <> \"T\" flag ~ empty (r) as none ==> equal
@@ -265,36 +236,46 @@ let r = f(a) <> let r = f ==> another
 let r = f(g(a), b) <> let r = f(g(a, b)) ==> another";
 
 #[test]
-fn equal_and_unequal_models(rt: HostRuntime) -> Result<(), Fail> {
-    all_lines_hold(rt.alloc(), EQUALITY, compares)
+fn reading_and_equality(rt: HostRuntime) {
+    let alloc = rt.alloc();
+    all_hold(&rt, alloc, "reading", READ, reads_as);
+    all_hold(&rt, alloc, "equal and unequal models", EQUALITY, compares);
+    let prefixes = all_prefixes_are_answered(alloc, RC11.as_bytes());
+    assert!(rt;
+        prefixes == Ok(true) && read(alloc, RC11).is_ok(),
+        "hostile input row 1"
+    );
 }
 
-/// Whether the copy of a file of seven items is equal to it.
-fn file_is_copied(file: &CatFile) -> Result<bool, AllocError> {
-    let copy = file.copy()?;
-    Ok(copy == *file && copy.items().len() == 7)
-}
-
-/// Whether the copy of an item is equal to it.
-pub fn item_is_copied(item: &Item) -> Result<bool, AllocError> {
-    match item.copy() {
-        Ok(copy) => Ok(copy == *item),
-        Err(refused) => Err(refused),
+/// Whether the copies of these items are equal to them.
+fn are_copied(items: &[Item]) -> Result<bool, AllocError> {
+    for item in items {
+        if again!(_, item.copy())? != *item {
+            return Ok(false);
+        }
     }
+    Ok(true)
 }
 
-/// The copies of a file and of each of its items are equal to them.
-fn all_is_copied(file: &CatFile) -> Result<(), Fail> {
-    for item in file.items() {
-        confirm(matches!(item_is_copied(item), Ok(true)), "an item")?;
-    }
-    confirm(matches!(file_is_copied(file), Ok(true)), "the file")
+/// Whether a file has so many items and this title, and the copies of each item and of the file are equal to them, and the file's to
+/// what is read again.
+fn has_copies(file: &CatFile, other: &CatFile, words: &str) -> Result<bool, AllocError> {
+    let (count, title) = words.split_once(' ').unwrap_or((words, ""));
+    let is_titled = match file.title() {
+        Some(name) => name.bytes() == title.as_bytes(),
+        None => false,
+    };
+    Ok(
+        is_titled
+            && count.parse::<usize>().ok() == Some(file.items().len())
+            && are_copied(file.items())?
+            && is_copied_as(file, other, true)?,
+    )
 }
 
-#[test]
-fn items_and_copies(rt: HostRuntime) -> Result<(), Fail> {
-    let file = read(rt.alloc(), ITEMS)?;
-    confirm(has_parts(&file, b"a title", 5), ITEMS)?;
-    let file = read(rt.alloc(), EACH_KIND)?;
-    all_is_copied(&file)
+/// Whether that holds of a text.
+pub fn is_copied(alloc: Global, text: &str, words: &str) -> Result<bool, AllocError> {
+    let file = read(alloc, text)?;
+    let other = read(alloc, text)?;
+    has_copies(&file, &other, words)
 }

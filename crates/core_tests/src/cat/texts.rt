@@ -23,7 +23,3 @@ let conflict = (((W * M) | (M * W)) & loc) \\ id
 let race = conflict \\ ((A * A) | (hb | hb^-1))
 flag ~empty race as data-race
 ";
-
-/// A model with each kind of item and expression: seven items, and the title `T`.
-pub const EACH_KIND: &str =
-    "T let rec r = a | b ; c \\ d & W * R and s = ~(r+) let t = r* | r? | r^-1 | domain(r) | range(r) | [W] | 0 | {} | _ and f(x, y) = g(y, x | r) include \"b.cat\" flag ~empty r as none acyclic s show r as a, s unshow r, s";

@@ -1,13 +1,13 @@
 //! What is told of a text, and of the files of a model.
 
 use crate::names::name;
-use crate::rows::confirm;
+use crate::rows::Check;
 use cat_model::{Files, ModelFault, resolve};
 use cat_syntax::{CatFault, CatFile, read_cat};
 use fault_messages::{Source, cat_trouble, model_fault, test_fault};
 use litmus_c::read_test;
 use std::alloc::{AllocError, Global};
-use std::test::Fail;
+use std::process::Abort;
 
 /// What is told of a text that is no test, or an empty text of one that is.
 fn told_of_test(alloc: Global, text: &[u8]) -> Result<String, AllocError> {
@@ -17,22 +17,34 @@ fn told_of_test(alloc: Global, text: &[u8]) -> Result<String, AllocError> {
     }
 }
 
-/// Fails with a message that isn't the one that is told of a text of any bytes.
-pub fn confirm_told(alloc: Global, text: &[u8], message: &str) -> Result<(), Fail> {
+/// Whether this message is told of a text of any bytes.
+pub fn is_told(alloc: Global, text: &[u8], message: &str) -> Result<bool, AllocError> {
     let told = told_of_test(alloc, text)?;
-    confirm(told.as_str() == message, message)
+    Ok(told.as_str() == message)
 }
 
-/// Fails with the first message that isn't the one that is told of its text: rows of a text, `----` and its message, with `====`
-/// between them. Each of the two signs has a line end behind it, and stands where what is before it ends.
-pub fn all_are_told(alloc: Global, rows: &str) -> Result<(), Fail> {
-    for row in rows.split("====\n") {
-        match row.split_once("----\n") {
-            Some((text, message)) => confirm_told(alloc, text.as_bytes(), message)?,
-            None => return Err(Fail::new(row)),
-        }
+/// Whether this message is told of a text.
+pub fn is_told_of_text(alloc: Global, text: &str, message: &str) -> Result<bool, AllocError> {
+    is_told(alloc, text.as_bytes(), message)
+}
+
+fn holds(alloc: Global, row: &str, check: Check) -> bool
+    requires { IsAlwaysCallable check }
+{
+    match row.split_once("----\n") {
+        Some((text, message)) => check(alloc, text, message).unwrap_or(false),
+        None => false,
     }
-    Ok(())
+}
+
+/// Fails with the first row that doesn't hold: rows of a text, or of the files of a model, `----` and its message, with `====` between them.
+/// Each of the two signs has a line end behind it, and stands where what is before it ends.
+pub fn all_are_told(rt: &impl Abort, alloc: Global, name: &str, rows: &str, check: Check)
+    requires { IsAlwaysCallable check }
+{
+    for row in rows.split("====\n") {
+        assert!(rt; holds(alloc, row, check), "{name}: {row}");
+    }
 }
 
 /// A file of a model: a line with its name, and its text.
@@ -110,17 +122,8 @@ fn told_of_model(alloc: Global, texts: &str) -> Result<String, AllocError> {
     }
 }
 
-/// Fails with the first message that isn't the one that is told of its files: rows as those of tests, with files in place of a
-/// text.
-pub fn all_are_told_of(alloc: Global, rows: &str) -> Result<(), Fail> {
-    for row in rows.split("====\n") {
-        match row.split_once("----\n") {
-            Some((texts, message)) => {
-                let told = told_of_model(alloc, texts)?;
-                confirm(told.as_str() == message, message)?;
-            }
-            None => return Err(Fail::new(row)),
-        }
-    }
-    Ok(())
+/// Whether this message is told of the files of a model.
+pub fn is_told_of_model(alloc: Global, files: &str, message: &str) -> Result<bool, AllocError> {
+    let told = told_of_model(alloc, files)?;
+    Ok(told.as_str() == message)
 }

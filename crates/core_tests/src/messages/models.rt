@@ -1,7 +1,6 @@
 //! Wrong models with their messages, which were written by hand.
 
-use crate::messages::asked::all_are_told_of;
-use std::test::Fail;
+use crate::messages::asked::{all_are_told, is_told_of_model};
 
 /// Texts that are no cat files.
 const CAT: &str = "my.cat
@@ -361,9 +360,10 @@ my.cat:19:1: CallsTooLarge (69): with calls replaced by the functions' bodies th
 ";
 
 #[test]
-fn models(rt: HostRuntime) -> Result<(), Fail> {
-    for rows in [CAT, NAMES, DENIED, FILES] {
-        all_are_told_of(rt.alloc(), rows)?;
-    }
-    Ok(())
+fn models(rt: HostRuntime) {
+    let alloc = rt.alloc();
+    all_are_told(&rt, alloc, "texts", CAT, is_told_of_model);
+    all_are_told(&rt, alloc, "names", NAMES, is_told_of_model);
+    all_are_told(&rt, alloc, "denied names", DENIED, is_told_of_model);
+    all_are_told(&rt, alloc, "files", FILES, is_told_of_model);
 }

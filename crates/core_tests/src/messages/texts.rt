@@ -1,7 +1,6 @@
 //! Wrong texts with their messages, which were written by hand: bytes and tokens.
 
-use crate::messages::asked::{all_are_told, confirm_told};
-use std::test::Fail;
+use crate::messages::asked::{all_are_told, is_told, is_told_of_text};
 
 /// Bytes that begin no token, and what is never closed.
 const BYTES: &str = "C t
@@ -349,10 +348,16 @@ const ABOVE_MESSAGE: &str =
 ";
 
 #[test]
-fn bytes_and_tokens(rt: HostRuntime) -> Result<(), Fail> {
+fn bytes_and_tokens(rt: HostRuntime) {
     let alloc = rt.alloc();
-    confirm_told(alloc, MARKED_TEXT, MARKED_MESSAGE)?;
-    confirm_told(alloc, ABOVE_TEXT, ABOVE_MESSAGE)?;
-    all_are_told(alloc, BYTES)?;
-    all_are_told(alloc, SYNTAX)
+    assert!(rt;
+        is_told(alloc, MARKED_TEXT, MARKED_MESSAGE) == Ok(true),
+        "{MARKED_MESSAGE}"
+    );
+    assert!(rt;
+        is_told(alloc, ABOVE_TEXT, ABOVE_MESSAGE) == Ok(true),
+        "{ABOVE_MESSAGE}"
+    );
+    all_are_told(&rt, alloc, "bytes", BYTES, is_told_of_text);
+    all_are_told(&rt, alloc, "tokens", SYNTAX, is_told_of_text);
 }

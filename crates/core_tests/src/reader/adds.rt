@@ -1,11 +1,7 @@
 //! Texts with `atomic_fetch_add`, and the answers that they get.
 
-use crate::reader::answers::is_answered;
-use crate::rows::all_blocks_hold;
-use std::test::Fail;
-
 /// In row 3, 1, 2 and 4 make nine values of 0 and 1, and 8 besides makes seventeen. 1 and 2147483646 are 2147483647.
-const ADDS: &str =
+pub const ADDS: &str =
     "# fetch add row 3: 1, 2 and 4 make nine values of 0 and 1, and 8 besides makes seventeen. 1 and 2147483646 are 2147483647.
 
 C a
@@ -89,8 +85,3 @@ C A
 
 C A
 {x=2147483647;}P0(atomic_int*x){int r;@if (0) atomic_fetch_add(x,0);@1@}exists x=0 ==> a test";
-
-#[test]
-fn adds(rt: HostRuntime) -> Result<(), Fail> {
-    all_blocks_hold(rt.alloc(), ADDS, is_answered)
-}

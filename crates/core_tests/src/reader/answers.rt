@@ -1,9 +1,12 @@
 //! Texts that several tests read, and what the reader answers.
 
-use crate::rows::{self, again, expanded};
+use crate::litmus::{answer_to, read};
+use crate::reader::adds::ADDS;
+use crate::reader::refusals::REFUSALS;
+use crate::reader::sizes::SIZES;
+use crate::rows::{again, all_hold, expanded};
 use litmus_c::{Test, TestFault, read_test};
 use std::alloc::{AllocError, Global};
-use std::test::Fail;
 
 /// Store buffering.
 pub const SB: &str = "C SB
@@ -19,57 +22,62 @@ P1 (atomic_int* x, atomic_int* y) {
 exists (0:r0=0 /\\ 1:r0=0)
 ";
 
-/// The answer to a text, which is asked for again where memory was wanting.
-pub fn answer_to(alloc: Global, text: &str) -> Result<Test, TestFault> {
-    again!(TestFault::NoMemory, read_test(alloc, text.as_bytes()))
-}
-
 /// What may hold of a test. A check makes a call again that memory was wanting for.
 pub type Check = fn(Global, &Test) -> Result<bool, AllocError>;
 
-/// The test that a text spells.
-fn read(alloc: Global, text: &str) -> Result<Test, Fail> {
-    match answer_to(alloc, text) {
-        Ok(test) => Ok(test),
-        Err(_) => Err(Fail::new("the text is a test")),
-    }
-}
-
-/// Fails with its text where this doesn't hold of a test.
-fn confirm(alloc: Global, test: &Test, check: Check, text: &'static str) -> Result<(), Fail>
+/// Whether this holds of the test that a text spells.
+pub fn holds_of(alloc: Global, text: &str, check: Check) -> bool
     requires { IsAlwaysCallable check }
 {
-    if check(alloc, test)? {
-        Ok(())
-    } else {
-        Err(Fail::new(text))
+    match read(alloc, text) {
+        Ok(test) => check(alloc, &test).unwrap_or(false),
+        Err(_) => false,
     }
-}
-
-/// Fails where a text is no test, or one of which this doesn't hold.
-pub fn expect(alloc: Global, text: &'static str, check: Check) -> Result<(), Fail>
-    requires { IsAlwaysCallable check }
-{
-    let test = read(alloc, text)?;
-    confirm(alloc, &test, check, text)
 }
 
 /// Whether a refusal is printed so.
 fn is_printed(alloc: Global, fault: &TestFault, wanted: &str) -> Result<bool, AllocError> {
-    let printed = format!(in alloc; "{fault}")?;
+    let printed = again!(_, format!(in alloc; "{fault}"))?;
     Ok(printed.as_str() == wanted)
 }
 
 /// Whether the text of a row is answered so: by the words "a test", or by the refusal as it is printed.
-fn is_answered_once(alloc: Global, text: &str, wanted: &str) -> Result<bool, AllocError> {
-    let text = expanded(alloc, text)?;
+pub fn is_answered(alloc: Global, text: &str, wanted: &str) -> Result<bool, AllocError> {
+    let text = again!(_, expanded(alloc, text))?;
     match answer_to(alloc, text.as_str()).err() {
         None => Ok(wanted == "a test"),
         Some(fault) => is_printed(alloc, &fault, wanted),
     }
 }
 
-/// Fails unless the text of a row is answered so, where it is asked again if memory was wanting.
-pub fn is_answered(alloc: Global, text: &str, wanted: &str) -> Result<(), Fail> {
-    rows::confirm(again!(_, is_answered_once(alloc, text, wanted))?, text)
+/// Whether a text is refused as one that is cut off. An order's name that is cut off is none of the five.
+fn is_cut_off(alloc: Global, text: &[u8]) -> bool {
+    matches!(
+        read_test(alloc, text).err(),
+        Some(TestFault::Text(_) | TestFault::Syntax(_) | TestFault::Unsupported(_))
+    )
+}
+
+/// Whether each of the prefixes of a text that are shorter than it by more than so much is refused as cut off.
+fn all_are_cut_off(alloc: Global, text: &[u8], by: usize) -> bool {
+    for length in 0..text.len().saturating_sub(by) {
+        if !is_cut_off(alloc, &text[..length]) {
+            return false;
+        }
+    }
+    true
+}
+
+/// Whether that holds of store buffering, which ends with `)` and a line feed: the longest prefix lacks both.
+fn prefixes_are_cut_off(alloc: Global) -> bool {
+    SB.as_bytes().ends_with(b")\n") && all_are_cut_off(alloc, SB.as_bytes(), 1)
+}
+
+#[test]
+fn answers(rt: HostRuntime) {
+    let alloc = rt.alloc();
+    all_hold(&rt, alloc, "adds", ADDS, is_answered);
+    all_hold(&rt, alloc, "refusals", REFUSALS, is_answered);
+    all_hold(&rt, alloc, "sizes", SIZES, is_answered);
+    assert!(rt; prefixes_are_cut_off(alloc), "hostile input row 1");
 }

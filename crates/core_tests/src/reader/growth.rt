@@ -2,17 +2,18 @@
 //! that is refused answers NoMemory, and made again it gives its own answer. So `tools/refuse-each-growth` runs the tests
 //! once for each request.
 
-use crate::reader::answers::{SB, expect, is_answered};
-use crate::reader::copies::{are_copied, is_another, is_the_same};
-use crate::rows::{again, all_blocks_hold};
-use conditions::{Place, observed};
+use crate::candidate::states::observes;
+use crate::reader::answers::{holds_of, is_answered};
+use crate::reader::copies::{bindings_are_copied, compares, places_are_copied};
+use crate::rows::{again, all_hold, all_so};
 use litmus_c::Test;
 use litmus_syntax::{Draft, Symbol, SyntaxFault, Terminal, read_draft, symbols};
 use std::alloc::{AllocError, Global};
 use std::test::Fail;
 use wb_text::{Dialect, TextFault, tokens};
 
-const TEXT: &str = "C G
+/// A test with each kind of statement.
+pub const G: &str = "C G
 { int x=3; 1:q=2; y }
 P0 (atomic_int* x, int* y) {
   int a = atomic_load(x), b;
@@ -27,44 +28,19 @@ locations [y; 0:b]
 forall ~(1:q=2 /\\ x=1) \\/ 0:a=0 => (true \\/ false)
 ";
 
-/// Whether a place is a register of this thread, or a location where there is no thread, with this name.
-fn is_place(place: Option<&Place>, thread: Option<usize>, name: &[u8]) -> bool {
-    match (place, thread) {
-        (Some(Place::Reg(number, register)), Some(thread)) => {
-            *number == thread && register.bytes() == name
-        }
-        (Some(Place::Loc(location)), None) => location.bytes() == name,
-        _ => false,
-    }
-}
-
-/// Whether these are `0:a`, `0:b`, `1:q`, `x` and `y`.
-fn are_observed(places: &[Place]) -> bool {
-    places.len() == 5
-        && is_place(places.get(0), Some(0), b"a")
-        && is_place(places.get(1), Some(0), b"b")
-        && is_place(places.get(2), Some(1), b"q")
-        && is_place(places.get(3), None, b"x")
-        && is_place(places.get(4), None, b"y")
-}
-
 /// Whether a test observes `0:a`, `0:b`, `1:q`, `x` and `y`.
-fn observes(alloc: Global, test: &Test) -> Result<bool, AllocError> {
-    let places = again!(_, observed(alloc, test.condition(), test.listed()))?;
-    Ok(are_observed(&places))
+fn observes_five(alloc: Global, test: &Test) -> Result<bool, AllocError> {
+    observes(alloc, test, "0:a 0:b 1:q x y")
 }
 
 /// Whether the copies of a test's three entries and two listed places are equal to them.
-fn places_are_copied(_alloc: Global, test: &Test) -> Result<bool, AllocError> {
-    if test.initial().len() != 3 || test.listed().len() != 2 {
-        return Ok(false);
-    }
-    Ok(are_copied(test.initial())? && are_copied(test.listed())?)
-}
-
-/// Whether a test is the one of the text, read once more, and so is its copy, and neither is store buffering.
-fn is_copied(alloc: Global, test: &Test) -> Result<bool, AllocError> {
-    Ok(is_the_same(alloc, TEXT, test)? && is_another(alloc, SB, test)?)
+fn has_copies(_alloc: Global, test: &Test) -> Result<bool, AllocError> {
+    Ok(
+        test.initial().len() == 3
+            && test.listed().len() == 2
+            && bindings_are_copied(test.initial())?
+            && places_are_copied(test.listed())?,
+    )
 }
 
 /// Whether a test is named `G`, has two locations, and two registers in its first thread.
@@ -101,7 +77,7 @@ fn are_drafted(alloc: Global, symbols: &[Symbol]) -> bool {
 #[test]
 fn symbols_and_drafts(rt: HostRuntime) -> Result<(), Fail> {
     let alloc = rt.alloc();
-    let text = TEXT.as_bytes();
+    let text = G.as_bytes();
     let tokens = again!(TextFault::NoMemory, tokens(alloc, text, Dialect::Litmus))?;
     let symbols = again!(_, symbols(alloc, text, &tokens))?;
     assert!(rt; are_drafted(alloc, &symbols));
@@ -131,19 +107,33 @@ exists (x=4)
 ";
 
 #[test]
-fn tests(rt: HostRuntime) -> Result<(), Fail> {
+fn tests(rt: HostRuntime) {
     let alloc = rt.alloc();
-    expect(alloc, TEXT, is_g)?;
-    expect(alloc, TEXT, observes)?;
-    expect(alloc, TEXT, has_five_values)?;
-    expect(alloc, ADDS, has_six_values)
+    all_so(
+        &rt,
+        &[
+            ("a test", holds_of(alloc, G, is_g)),
+            ("observed places", holds_of(alloc, G, observes_five)),
+            ("five values", holds_of(alloc, G, has_five_values)),
+            ("six values", holds_of(alloc, ADDS, has_six_values)),
+        ],
+    );
 }
 
+const COPIES: &str = "# the same text, and another
+
+G
+<>
+G ==> equal
+
+G
+<>
+SB ==> another";
+
 #[test]
-fn copies(rt: HostRuntime) -> Result<(), Fail> {
-    let alloc = rt.alloc();
-    expect(alloc, TEXT, places_are_copied)?;
-    expect(alloc, TEXT, is_copied)
+fn copies(rt: HostRuntime) {
+    assert!(rt; holds_of(rt.alloc(), G, has_copies), "entries and places");
+    all_hold(&rt, rt.alloc(), "tests", COPIES, compares);
 }
 
 const REFUSALS: &str = "# reading no test
@@ -163,6 +153,6 @@ C a
 {}P0(){while}exists true ==> 17 Unsupported while";
 
 #[test]
-fn refusals(rt: HostRuntime) -> Result<(), Fail> {
-    all_blocks_hold(rt.alloc(), REFUSALS, is_answered)
+fn refusals(rt: HostRuntime) {
+    all_hold(&rt, rt.alloc(), "refusals", REFUSALS, is_answered);
 }

@@ -1,12 +1,7 @@
 //! Texts with the answers that they get.
 
-use crate::reader::answers::{SB, is_answered};
-use crate::rows::all_blocks_hold;
-use litmus_c::{TestFault, read_test};
-use std::alloc::Global;
-use std::test::Fail;
-
-const REFUSALS: &str = "# reading faults
+/// The first fault of each text, from the left or in the order of the refusals.
+pub const REFUSALS: &str = "# reading faults
 
 C SB
 { ==> 12 Syntax 6
@@ -203,32 +198,3 @@ C a
 
 C a
 {x}P0(){}P1(){}P2(){}P3(){}P4(){}P5(){}P6(){}P7(){}P8(){}exists while ==> 17 Unsupported while";
-
-#[test]
-fn refusals(rt: HostRuntime) -> Result<(), Fail> {
-    all_blocks_hold(rt.alloc(), REFUSALS, is_answered)
-}
-
-/// Whether a text is refused as one that is cut off. An order's name that is cut off is none of the five.
-fn is_cut_off(alloc: Global, text: &[u8]) -> bool {
-    matches!(
-        read_test(alloc, text).err(),
-        Some(TestFault::Text(_) | TestFault::Syntax(_) | TestFault::Unsupported(_))
-    )
-}
-
-/// Whether each of the prefixes of a text that are shorter than it by more than so much is refused as cut off.
-fn all_are_cut_off(alloc: Global, text: &[u8], by: usize) -> bool {
-    for length in 0..text.len().saturating_sub(by) {
-        if !is_cut_off(alloc, &text[..length]) {
-            return false;
-        }
-    }
-    true
-}
-
-#[test]
-fn hostile_input_row_1(rt: HostRuntime) {
-    // The text ends with `)` and a line feed; the longest prefix lacks both.
-    assert!(rt; SB.as_bytes().ends_with(b")\n") && all_are_cut_off(rt.alloc(), SB.as_bytes(), 1));
-}

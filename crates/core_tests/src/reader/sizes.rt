@@ -1,11 +1,7 @@
 //! Long and deep texts with the answers that they get.
 
-use crate::reader::answers::is_answered;
-use crate::rows::all_blocks_hold;
-use std::test::Fail;
-
 /// Each kind of nesting is a test at 32 levels, and too deep at 33.
-const SIZES: &str = "# longest way
+pub const SIZES: &str = "# longest way
 
 C E
 {}P0(atomic_int*x){@atomic_thread_fence(memory_order_seq_cst);@63@}exists true ==> a test
@@ -141,8 +137,3 @@ C a
 
 C a
 {x}P0(){}exists @x=0 => @33@x=0 ==> 18 TooDeep";
-
-#[test]
-fn sizes(rt: HostRuntime) -> Result<(), Fail> {
-    all_blocks_hold(rt.alloc(), SIZES, is_answered)
-}

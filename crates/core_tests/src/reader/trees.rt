@@ -1,11 +1,11 @@
 //! The tests that texts spell: their trees, equality and copies.
 
-use crate::reader::answers::{SB, expect};
-use crate::reader::copies::{is_another, is_the_same};
+use crate::reader::answers::{SB, holds_of};
+use crate::reader::copies::compares;
+use crate::rows::{all_hold, all_so};
 use conditions::{Binding, Kind, Place};
 use litmus_c::{Leaf, Link, Operator, RightSide, Statement, Test, Thread};
 use std::alloc::{AllocError, Global};
-use std::test::Fail;
 
 /// How many parameters, statements and registers a thread has.
 fn counts(thread: &Thread) -> [usize; 3] {
@@ -174,57 +174,81 @@ fn has_entries(_alloc: Global, test: &Test) -> Result<bool, AllocError> {
     Ok(counts_of_test(test) == [3, 1, 0, 2] && have_values(test.initial()))
 }
 
-fn is_sb_again(alloc: Global, test: &Test) -> Result<bool, AllocError> {
-    is_the_same(alloc, SB, test)
-}
+const COPIES: &str = "# store buffering, read once more
 
-/// A test with a store.
-const STORE: &str =
-    "C a\n{x=1}P0(atomic_int*y){atomic_store_explicit(y,1,memory_order_relaxed);}exists x=0";
+SB
+<>
+SB ==> equal
 
-/// Texts that differ from it in one place each.
-const OTHERS: [&str; 6] = [
-    "C b\n{x=1}P0(atomic_int*y){atomic_store_explicit(y,1,memory_order_relaxed);}exists x=0",
-    "C a\n{x=0}P0(atomic_int*y){atomic_store_explicit(y,1,memory_order_relaxed);}exists x=0",
-    "C a\n{x=1}P0(atomic_int*y){atomic_store_explicit(y,0,memory_order_relaxed);}exists x=0",
-    "C a\n{x=1}P0(atomic_int*y){int r=atomic_load_explicit(y,memory_order_relaxed);}exists x=0",
-    "C a\n{x=1}P0(atomic_int*y){atomic_store_explicit(y,1,memory_order_relaxed);}exists y=0",
-    "C a\n{x=1}P0(atomic_int*y){atomic_store_explicit(y,1,memory_order_relaxed);}P1(){}exists x=0",
-];
+# a store, and texts that differ from it in one place each
 
-/// Whether each of these texts spells another test.
-fn all_differ(alloc: Global, texts: &[&str], test: &Test) -> Result<bool, AllocError> {
-    for text in texts {
-        if !is_another(alloc, text, test)? {
-            return Ok(false);
-        }
-    }
-    Ok(true)
-}
+C a
+{x=1}P0(atomic_int*y){atomic_store_explicit(y,1,memory_order_relaxed);}exists x=0
+<>
+C b
+{x=1}P0(atomic_int*y){atomic_store_explicit(y,1,memory_order_relaxed);}exists x=0 ==> another
 
-fn others_differ(alloc: Global, test: &Test) -> Result<bool, AllocError> {
-    all_differ(alloc, &OTHERS, test)
-}
+C a
+{x=1}P0(atomic_int*y){atomic_store_explicit(y,1,memory_order_relaxed);}exists x=0
+<>
+C a
+{x=0}P0(atomic_int*y){atomic_store_explicit(y,1,memory_order_relaxed);}exists x=0 ==> another
 
-/// A test with an add.
-const ADD: &str =
-    "C a\n{}P0(atomic_int*y){int r=atomic_fetch_add_explicit(y,1,memory_order_relaxed);}exists y=0";
+C a
+{x=1}P0(atomic_int*y){atomic_store_explicit(y,1,memory_order_relaxed);}exists x=0
+<>
+C a
+{x=1}P0(atomic_int*y){atomic_store_explicit(y,0,memory_order_relaxed);}exists x=0 ==> another
 
-/// Texts that differ from it in one place each.
-const OTHER_ADDS: [&str; 4] = [
-    "C a\n{}P0(atomic_int*y){int r=atomic_fetch_add_explicit(y,2,memory_order_relaxed);}exists y=0",
-    "C a\n{}P0(atomic_int*y){int r=atomic_fetch_add_explicit(y,1,memory_order_acquire);}exists y=0",
-    "C a\n{}P0(atomic_int*y){int r=atomic_exchange_explicit(y,1,memory_order_relaxed);}exists y=0",
-    "C a\n{}P0(atomic_int*y,atomic_int*z){int r=atomic_fetch_add_explicit(z,1,memory_order_relaxed);}exists y=0",
-];
+C a
+{x=1}P0(atomic_int*y){atomic_store_explicit(y,1,memory_order_relaxed);}exists x=0
+<>
+C a
+{x=1}P0(atomic_int*y){int r=atomic_load_explicit(y,memory_order_relaxed);}exists x=0 ==> another
 
-fn is_add_again(alloc: Global, test: &Test) -> Result<bool, AllocError> {
-    is_the_same(alloc, ADD, test)
-}
+C a
+{x=1}P0(atomic_int*y){atomic_store_explicit(y,1,memory_order_relaxed);}exists x=0
+<>
+C a
+{x=1}P0(atomic_int*y){atomic_store_explicit(y,1,memory_order_relaxed);}exists y=0 ==> another
 
-fn other_adds_differ(alloc: Global, test: &Test) -> Result<bool, AllocError> {
-    all_differ(alloc, &OTHER_ADDS, test)
-}
+C a
+{x=1}P0(atomic_int*y){atomic_store_explicit(y,1,memory_order_relaxed);}exists x=0
+<>
+C a
+{x=1}P0(atomic_int*y){atomic_store_explicit(y,1,memory_order_relaxed);}P1(){}exists x=0 ==> another
+
+# an add, read once more, and texts that differ from it in one place each
+
+C a
+{}P0(atomic_int*y){int r=atomic_fetch_add_explicit(y,1,memory_order_relaxed);}exists y=0
+<>
+C a
+{}P0(atomic_int*y){int r=atomic_fetch_add_explicit(y,1,memory_order_relaxed);}exists y=0 ==> equal
+
+C a
+{}P0(atomic_int*y){int r=atomic_fetch_add_explicit(y,1,memory_order_relaxed);}exists y=0
+<>
+C a
+{}P0(atomic_int*y){int r=atomic_fetch_add_explicit(y,2,memory_order_relaxed);}exists y=0 ==> another
+
+C a
+{}P0(atomic_int*y){int r=atomic_fetch_add_explicit(y,1,memory_order_relaxed);}exists y=0
+<>
+C a
+{}P0(atomic_int*y){int r=atomic_fetch_add_explicit(y,1,memory_order_acquire);}exists y=0 ==> another
+
+C a
+{}P0(atomic_int*y){int r=atomic_fetch_add_explicit(y,1,memory_order_relaxed);}exists y=0
+<>
+C a
+{}P0(atomic_int*y){int r=atomic_exchange_explicit(y,1,memory_order_relaxed);}exists y=0 ==> another
+
+C a
+{}P0(atomic_int*y){int r=atomic_fetch_add_explicit(y,1,memory_order_relaxed);}exists y=0
+<>
+C a
+{}P0(atomic_int*y,atomic_int*z){int r=atomic_fetch_add_explicit(z,1,memory_order_relaxed);}exists y=0 ==> another";
 
 /// `||` binds most loosely, then `&&`, then `==`, and `!` most tightly.
 const OPERATORS: &str = "C a\n{}P0(){int r; r = 1 == 2 && 3 || !r && 4;}exists true";
@@ -234,19 +258,19 @@ const NEAREST_IF: &str = "C a\n{}P0(){int r; if (r) if (r) r = 1; else r = 2;}ex
 const TWO_ENTRIES: &str = "C a\n{int x=1; [x]=2; 0:r=3; y=4; y}P0(){}exists x=0";
 
 #[test]
-fn trees(rt: HostRuntime) -> Result<(), Fail> {
+fn trees(rt: HostRuntime) {
     let alloc = rt.alloc();
-    expect(alloc, SB, is_sb)?;
-    expect(alloc, OPERATORS, binds)?;
-    expect(alloc, NEAREST_IF, ends_with_inner)?;
-    expect(alloc, TWO_ENTRIES, has_entries)
-}
-
-#[test]
-fn copies_and_other_tests(rt: HostRuntime) -> Result<(), Fail> {
-    let alloc = rt.alloc();
-    expect(alloc, SB, is_sb_again)?;
-    expect(alloc, STORE, others_differ)?;
-    expect(alloc, ADD, is_add_again)?;
-    expect(alloc, ADD, other_adds_differ)
+    all_so(
+        &rt,
+        &[
+            ("store buffering", holds_of(alloc, SB, is_sb)),
+            ("operators", holds_of(alloc, OPERATORS, binds)),
+            (
+                "the nearest if",
+                holds_of(alloc, NEAREST_IF, ends_with_inner),
+            ),
+            ("two entries", holds_of(alloc, TWO_ENTRIES, has_entries)),
+        ],
+    );
+    all_hold(&rt, alloc, "copies and other tests", COPIES, compares);
 }

@@ -2,7 +2,6 @@
 
 use cat_model::Model;
 use std::alloc::Global;
-use std::test::Fail;
 use suite::{CatText, load_model};
 use wb_text::Name;
 
@@ -59,9 +58,6 @@ fn is_built_in(alloc: Global) -> Option<bool> {
 }
 
 #[test]
-fn rc11_is_the_built_in_model(rt: HostRuntime) -> Result<(), Fail> {
-    match is_built_in(rt.alloc()) {
-        Some(true) => Ok(()),
-        _ => Err(Fail::new("rc11.cat")),
-    }
+fn rc11_is_the_built_in_model(rt: HostRuntime) {
+    assert!(rt; is_built_in(rt.alloc()) == Some(true), "rc11.cat");
 }

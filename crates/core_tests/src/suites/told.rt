@@ -6,7 +6,6 @@ use crate::names::name;
 use cat_model::Model;
 use slices::Verdict;
 use std::alloc::{AllocError, Global};
-use std::test::Fail;
 use std::thread::Threads;
 use suite::{
     Case, CatText, Endless, Row, TestTrouble, answer_of, are_alike, cell_of, differences,
@@ -110,44 +109,34 @@ fn are_told(alloc: Global, verdicts: &[Verdict]) -> bool {
     }
 }
 
-/// The first verdict is told as it is expected.
-fn confirm_told(alloc: Global, verdicts: &[Verdict]) -> Result<(), Fail> {
-    if are_told(alloc, verdicts) {
-        Ok(())
-    } else {
-        Err(Fail::new("SB under sc"))
-    }
-}
-
-/// The verdict on SB by so many threads is told as it is expected.
-fn confirm<R: Threads + Sync>(rt: &R, alloc: Global, threads: u16) -> Result<(), Fail> {
+/// Whether the verdict on SB by so many threads is told as it is expected.
+fn is_judged<R: Threads + Sync>(rt: &R, alloc: Global, threads: u16) -> Result<bool, AllocError> {
     let mut models = Vec::new(alloc);
     models.push(model(alloc)?)?;
     let mut patience = Endless;
     match judge_text(rt, alloc, SB, &models, threads, &mut patience) {
-        Ok(verdicts) => confirm_told(alloc, &verdicts),
-        Err(_trouble) => Err(Fail::new("SB is a test")),
+        Ok(verdicts) => Ok(are_told(alloc, &verdicts)),
+        Err(_trouble) => Ok(false),
     }
 }
 
-#[test]
-fn one_thread(rt: HostRuntime) -> Result<(), Fail> {
-    confirm(&rt, rt.alloc(), 1)
-}
-
-#[test]
-fn several_threads(rt: HostRuntime) -> Result<(), Fail> {
-    confirm(&rt, rt.alloc(), 3)
-}
-
-#[test]
-fn a_text_that_is_no_test(rt: HostRuntime) -> Result<(), Fail> {
-    let alloc = rt.alloc();
+/// Whether a text that is no test is told to be none.
+fn is_no_test<R: Threads + Sync>(rt: &R, alloc: Global) -> bool {
     let models: Vec<Model> = Vec::new(alloc);
-    match judge_text(&rt, alloc, b"C SB\n{", &models, 1, &mut Endless) {
-        Err(TestTrouble::Test(_)) => Ok(()),
-        _ => Err(Fail::new("no test")),
-    }
+    matches!(
+        judge_text(rt, alloc, b"C SB\n{", &models, 1, &mut Endless),
+        Err(TestTrouble::Test(_))
+    )
+}
+
+#[test]
+fn verdicts(rt: HostRuntime) {
+    assert!(rt; is_judged(&rt, rt.alloc(), 1) == Ok(true), "one thread");
+    assert!(rt;
+        is_judged(&rt, rt.alloc(), 3) == Ok(true),
+        "several threads"
+    );
+    assert!(rt; is_no_test(&rt, rt.alloc()), "a text that is no test");
 }
 
 /// A copy of bytes.
@@ -185,17 +174,19 @@ fn table_row_is(
     Ok(row.as_slice() == expected && are_alike(&cells) == expected.starts_with(b"  "))
 }
 
-#[test]
-fn tables(rt: HostRuntime) -> Result<(), Fail> {
-    let alloc = rt.alloc();
-    let models = all_owned(alloc, &[b"rc11.cat", b"sc.cat"])?;
-    let head = head_of(alloc, 6, &models)?;
-    assert!(rt; head.as_slice() == HEAD);
+fn are_rows(alloc: Global, models: &[Vec<u8>]) -> Result<bool, AllocError> {
     for (cells, expected) in &TABLE {
-        let holds = table_row_is(alloc, &models, cells, expected)?;
-        assert!(rt; holds);
+        if !table_row_is(alloc, models, cells, expected)? {
+            return Ok(false);
+        }
     }
-    Ok(())
+    Ok(head_of(alloc, 6, models)?.as_slice() == HEAD)
+}
+
+/// Whether the head and the rows of a table are as expected.
+fn is_table(alloc: Global) -> Result<bool, AllocError> {
+    let models = all_owned(alloc, &[b"rc11.cat", b"sc.cat"])?;
+    are_rows(alloc, &models)
 }
 
 /// Rows of a suite: path, answer, and how many states.
@@ -227,28 +218,33 @@ fn rows(alloc: Global, texts: &[(&[u8], &[u8], &[u8])]) -> Result<Vec<Row>, Allo
     Ok(rows)
 }
 
-#[test]
-fn two_suites(rt: HostRuntime) -> Result<(), Fail> {
-    let alloc = rt.alloc();
+fn are_changes(alloc: Global, expected: &[Row], found: &[Row]) -> Result<bool, AllocError> {
+    let told = differences(alloc, expected, found)?;
+    let same = differences(alloc, found, found)?;
+    Ok(told.as_slice() == CHANGES && same.is_empty())
+}
+
+/// Whether the differences between two suites are those, and there are none between a suite and itself.
+fn differ(alloc: Global) -> Result<bool, AllocError> {
     let expected = rows(alloc, &EXPECTED)?;
     let found = rows(alloc, &LATER)?;
-    let told = differences(alloc, &expected, &found)?;
-    assert!(rt; told.as_slice() == CHANGES);
-    let same = differences(alloc, &found, &found)?;
-    assert!(rt; same.is_empty());
-    Ok(())
+    are_changes(alloc, &expected, &found)
 }
 
 /// As `sha256sum` prints the digests of both texts.
 const DIGESTS: &[u8] = b"m.cat=a6d48b49766874d0,base.cat=87f2162ba8e02842";
 
-#[test]
-fn texts_of_a_model(rt: HostRuntime) -> Result<(), Fail> {
-    let alloc = rt.alloc();
+/// Whether the digests of a model's texts are those.
+fn are_digests(alloc: Global) -> Result<bool, AllocError> {
     let root = name(alloc, b"m.cat")?;
     let base = name(alloc, b"base.cat")?;
-    let both = texts(&root, &base);
-    let told = digests_of(alloc, &both)?;
-    assert!(rt; told.as_slice() == DIGESTS);
-    Ok(())
+    let told = digests_of(alloc, &texts(&root, &base))?;
+    Ok(told.as_slice() == DIGESTS)
+}
+
+#[test]
+fn tables_suites_and_digests(rt: HostRuntime) {
+    assert!(rt; is_table(rt.alloc()) == Ok(true), "tables");
+    assert!(rt; differ(rt.alloc()) == Ok(true), "two suites");
+    assert!(rt; are_digests(rt.alloc()) == Ok(true), "texts of a model");
 }

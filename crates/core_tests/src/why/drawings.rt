@@ -3,22 +3,15 @@
 //! The expected bytes are written by hand, after the definitions of `drawing`.
 
 mod expected;
-mod graphs;
 
+use crate::graphs::{STORE_BUFFERING, graph};
 use crate::names::name;
+use crate::rows::again;
 use drawing::{Broken, Chain, DrawFault, Drawing, Step, dot, text, write_dot, write_text};
-use events::Graph;
+use events::{Graph, Order};
 use expected::*;
-use graphs::{alone, exchanged, store_buffering};
 use std::alloc::{AllocError, Global};
-use std::test::Fail;
 use wb_text::{MemSink, Name};
-
-/// The steps of a chain: the labels, and the number of the event that each leads to.
-type Steps = &'static [(&'static [&'static [u8]], usize)];
-
-/// The cycle of store buffering: from the write of x, by program order and from-reads in turn.
-const CYCLE: Steps = &[(&[b"po"], 3), (&[b"fr"], 4), (&[b"po"], 5), (&[b"fr"], 2)];
 
 /// What is told of an execution.
 #[derive(Drop)]
@@ -30,76 +23,144 @@ struct Told {
     chain: Option<Chain>,
 }
 
-/// Makes the call, and makes it again if it is refused.
-macro_rules! again {
-    ($call:expr) => {
-        match $call {
-            Ok(made) => Ok(made),
-            Err(_) => $call,
-        }
-    };
+/// An execution, what is told of it, and how both are drawn.
+struct Case {
+    name: &'static str,
+    execution: &'static str,
+    told: &'static str,
+    text: &'static [u8],
+    dot: &'static [u8],
 }
 
-fn names(alloc: Global, texts: &[&[u8]]) -> Result<Vec<Name>, AllocError> {
+/// The cycle that breaks store buffering under sc: from the write of x, by program order and from-reads in turn.
+const CYCLE: &str = "SB
+x y
+sc
+acyclic sc
+2 po>3 fr>4 po>5 fr>2";
+
+/// A lone event as evidence, and names that Graphviz would read otherwise, one of 64 bytes.
+const ODD: &str = "\"\\N&lt;\"
+lllllllllllllllllllllllllllllllllllllllllllllllllllllllllllllll\\ \\\"l
+C:\\new\\sc.cat
+irreflexive \"r\"
+2 a\\n,\"b\">2";
+
+/// A test of one location, of which no more is told.
+const PLAIN: &str = "T
+x";
+
+/// A check that is denied, and so has no evidence.
+const DENIED: &str = "T
+x
+m
+~empty rf";
+
+/// No read: a thread that has no event, and one with a plain write, a fence and a release write, of which the second comes first in the
+/// order of x.
+const ALONE: &str = "init 7
+run
+run | W 0 1 na | F 0 0 acq_rel | W 0 2 rel
+co i0 1.2 1.0";
+
+/// Two exchanges of x, the second of what the first wrote, and a read of what the second wrote.
+const EXCHANGED: &str = "init 0
+run | xR 0 0 acq | xW 0 1 acq | R 0 2 sc
+run | xR 0 1 rlx | xW 0 2 rlx
+rf i0 1.1 0.1
+co i0 0.1 1.1";
+
+const CASES: [Case; 4] = [
+    Case {
+        name: "store buffering under sc",
+        execution: STORE_BUFFERING,
+        told: CYCLE,
+        text: STORE_BUFFERING_TEXT,
+        dot: STORE_BUFFERING_DOT,
+    },
+    Case {
+        name: "names in quotes",
+        execution: STORE_BUFFERING,
+        told: ODD,
+        text: ODD_TEXT,
+        dot: ODD_DOT,
+    },
+    Case {
+        name: "an execution without reads",
+        execution: ALONE,
+        told: PLAIN,
+        text: ALONE_TEXT,
+        dot: ALONE_DOT,
+    },
+    Case {
+        name: "exchanges under a denied check",
+        execution: EXCHANGED,
+        told: DENIED,
+        text: EXCHANGED_TEXT,
+        dot: EXCHANGED_DOT,
+    },
+];
+
+fn names(alloc: Global, words: &str, between: char) -> Result<Vec<Name>, AllocError> {
     let mut names = Vec::new(alloc);
-    for text in texts {
-        names.push(name(alloc, text)?)?;
+    for word in words.split(between) {
+        names.push(name(alloc, word.as_bytes())?)?;
     }
     Ok(names)
 }
 
-fn chain(alloc: Global, first: usize, rows: Steps) -> Result<Chain, AllocError> {
+fn number(word: &str) -> Result<usize, AllocError> {
+    match word.parse::<usize>() {
+        Ok(number) => Ok(number),
+        Err(_) => Err(AllocError),
+    }
+}
+
+/// A step of a chain: its labels, and the number of the event that it leads to.
+fn step(alloc: Global, word: &str) -> Result<Step, AllocError> {
+    let (labels, to) = word.split_once('>').unwrap_or((word, ""));
+    let to = number(to)?;
+    let labels = names(alloc, labels, ',')?;
+    Ok(Step { to, labels })
+}
+
+fn chain(alloc: Global, words: &str) -> Result<Chain, AllocError> {
+    let (first, words) = words.split_once(' ').unwrap_or((words, ""));
+    let first = number(first)?;
     let mut steps = Vec::new(alloc);
-    for (labels, to) in rows {
-        steps.push(Step {
-            to: *to,
-            labels: names(alloc, labels)?,
-        })?;
+    for word in words.split(' ') {
+        steps.push(step(alloc, word)?)?;
     }
     Ok(Chain { first, steps })
 }
 
-/// Store buffering, and the cycle that breaks it under sc.
-fn sc_of_store_buffering(alloc: Global) -> Result<Told, AllocError> {
-    Ok(Told {
-        name: name(alloc, b"SB")?,
-        locations: names(alloc, &[b"x", b"y"])?,
-        model: Some(b"sc"),
-        check: Some(b"acyclic sc"),
-        chain: Some(chain(alloc, 2, CYCLE)?),
-    })
+fn chain_of(alloc: Global, words: Option<&str>) -> Result<Option<Chain>, AllocError> {
+    match words {
+        Some(words) => Ok(Some(chain(alloc, words)?)),
+        None => Ok(None),
+    }
 }
 
-/// A lone event as evidence, and names that Graphviz would read otherwise.
-fn odd_names(alloc: Global) -> Result<Told, AllocError> {
-    Ok(Told {
-        name: name(alloc, b"\"\\N&lt;\"")?,
-        locations: names(alloc, &[LONG, b"\\\"l"])?,
-        model: Some(b"C:\\new\\sc.cat"),
-        check: Some(b"irreflexive \"r\""),
-        chain: Some(chain(alloc, 2, &[(&[b"a\\n", b"\"b\""], 2)])?),
-    })
+fn bytes_of(line: Option<&'static str>) -> Option<&'static [u8]> {
+    match line {
+        Some(line) => Some(line.as_bytes()),
+        None => None,
+    }
 }
 
-/// A test of one location, of which no more is told.
-fn plain(alloc: Global) -> Result<Told, AllocError> {
+/// What the lines of a text tell: the names of the test and of its locations, the model, the check that is broken, and its chain.
+fn told_of(alloc: Global, lines: &'static str) -> Result<Told, AllocError> {
+    let mut lines = lines.lines();
+    let test = lines.next().unwrap_or("");
+    let locations = lines.next().unwrap_or("");
+    let model = bytes_of(lines.next());
+    let check = bytes_of(lines.next());
     Ok(Told {
-        name: name(alloc, b"T")?,
-        locations: names(alloc, &[b"x"])?,
-        model: None,
-        check: None,
-        chain: None,
-    })
-}
-
-/// A check that is denied, and so has no evidence.
-fn denied(alloc: Global) -> Result<Told, AllocError> {
-    Ok(Told {
-        name: name(alloc, b"T")?,
-        locations: names(alloc, &[b"x"])?,
-        model: Some(b"m"),
-        check: Some(b"~empty rf"),
-        chain: None,
+        name: name(alloc, test.as_bytes())?,
+        locations: names(alloc, locations, ' ')?,
+        model,
+        check,
+        chain: chain_of(alloc, lines.next())?,
     })
 }
 
@@ -113,141 +174,59 @@ fn broken(told: &Told) -> Option<Broken<'_>> {
     }
 }
 
-/// The text, or the file.
-fn drawn(alloc: Global, told: &Told, graph: &Graph, as_dot: bool) -> Result<Vec<u8>, AllocError> {
-    let drawing = Drawing {
+fn drawing<'a>(told: &'a Told, execution: &'a Graph) -> Drawing<'a> {
+    Drawing {
         name: &told.name,
         locations: &told.locations,
-        graph,
+        graph: execution,
         model: told.model,
         broken: broken(told),
-    };
-    if as_dot {
-        dot(alloc, &drawing)
-    } else {
-        text(alloc, &drawing)
     }
 }
 
-/// Whether it is drawn so, though a request for memory be refused.
-fn is_drawn(alloc: Global, told: &Told, graph: &Graph, as_dot: bool, expected: &[u8]) -> bool {
-    match again!(drawn(alloc, told, graph, as_dot)) {
-        Ok(bytes) => bytes.as_slice() == expected,
-        Err(_) => false,
-    }
+/// Whether both drawings are those of a case, though a request for memory be refused.
+fn are_drawn(alloc: Global, drawing: &Drawing<'_>, case: &Case) -> Result<bool, AllocError> {
+    let as_text = again!(_, text(alloc, drawing))?;
+    let as_dot = again!(_, dot(alloc, drawing))?;
+    Ok(as_text.as_slice() == case.text && as_dot.as_slice() == case.dot)
 }
 
-/// Whether both drawings are these.
-fn are_drawn(alloc: Global, told: &Told, graph: &Graph, as_text: &[u8], as_dot: &[u8]) -> bool {
-    is_drawn(alloc, told, graph, false, as_text) && is_drawn(alloc, told, graph, true, as_dot)
+/// Whether both drawings of a case, of which this is told, are as expected.
+fn are_drawn_of(alloc: Global, told: &Told, case: &Case) -> Result<bool, AllocError> {
+    let execution = again!(_, graph(alloc, case.execution, Order::Rlx))?;
+    are_drawn(alloc, &drawing(told, &execution), case)
 }
 
-/// The executions that are drawn, and what is told of them.
-#[derive(Clone, Copy)]
-enum Case {
-    /// Store buffering under sc.
-    Cycle,
-    /// Store buffering, with names in quotes.
-    Odd,
-    /// A graph without reads, of which no more is told.
-    Plain,
-    /// Exchanges under a check that is denied.
-    Denied,
-}
-
-fn told_of(alloc: Global, case: Case) -> Result<Told, AllocError> {
-    match case {
-        Case::Cycle => sc_of_store_buffering(alloc),
-        Case::Odd => odd_names(alloc),
-        Case::Plain => plain(alloc),
-        Case::Denied => denied(alloc),
-    }
-}
-
-fn graph_of(alloc: Global, case: Case) -> Result<Graph, AllocError> {
-    match case {
-        Case::Cycle | Case::Odd => store_buffering(alloc),
-        Case::Plain => alone(alloc),
-        Case::Denied => exchanged(alloc),
-    }
-}
-
-/// Whether both drawings of a case, of which this is told, are these.
-fn are_drawn_of(alloc: Global, case: Case, told: &Told, as_text: &[u8], as_dot: &[u8]) -> bool {
-    match again!(graph_of(alloc, case)) {
-        Ok(graph) => are_drawn(alloc, told, &graph, as_text, as_dot),
-        Err(_) => false,
-    }
-}
-
-/// Whether both drawings of a case are these.
-fn draws(alloc: Global, case: Case, as_text: &[u8], as_dot: &[u8]) -> bool {
-    match again!(told_of(alloc, case)) {
-        Ok(told) => are_drawn_of(alloc, case, &told, as_text, as_dot),
-        Err(_) => false,
-    }
-}
-
-#[test]
-fn store_buffering_under_sc(rt: HostRuntime) {
-    assert!(rt;
-        draws(
-            rt.alloc(),
-            Case::Cycle,
-            STORE_BUFFERING_TEXT,
-            STORE_BUFFERING_DOT
-        )
-    );
-}
-
-#[test]
-fn names_in_quotes(rt: HostRuntime) {
-    assert!(rt; draws(rt.alloc(), Case::Odd, ODD_TEXT, ODD_DOT));
-}
-
-#[test]
-fn an_execution_without_reads(rt: HostRuntime) {
-    assert!(rt; draws(rt.alloc(), Case::Plain, ALONE_TEXT, ALONE_DOT));
-}
-
-#[test]
-fn exchanges_under_a_denied_check(rt: HostRuntime) {
-    assert!(rt; draws(rt.alloc(), Case::Denied, EXCHANGED_TEXT, EXCHANGED_DOT));
+/// Whether both drawings of a case are as expected.
+fn draws(alloc: Global, case: &Case) -> Result<bool, AllocError> {
+    let told = again!(_, told_of(alloc, case.told))?;
+    are_drawn_of(alloc, &told, case)
 }
 
 /// What is written to a writer with so much room.
 fn written(
     alloc: Global,
-    told: &Told,
-    graph: &Graph,
+    drawing: &Drawing<'_>,
     as_dot: bool,
     writer: &mut MemSink,
 ) -> Result<(), DrawFault> {
-    let drawing = Drawing {
-        name: &told.name,
-        locations: &told.locations,
-        graph,
-        model: told.model,
-        broken: broken(told),
-    };
     if as_dot {
-        write_dot(alloc, &drawing, writer)
+        write_dot(alloc, drawing, writer)
     } else {
-        write_text(alloc, &drawing, writer)
+        write_text(alloc, drawing, writer)
     }
 }
 
 /// Whether a writer with so much room is left with just the front part of the bytes, and says that it failed unless that is all of them.
 fn has_a_front_part(
     alloc: Global,
-    told: &Told,
-    graph: &Graph,
+    drawing: &Drawing<'_>,
     as_dot: bool,
     bytes: &[u8],
     room: usize,
 ) -> Result<bool, AllocError> {
     let mut writer = MemSink::new(alloc, room)?;
-    let result = written(alloc, told, graph, as_dot, &mut writer);
+    let result = written(alloc, drawing, as_dot, &mut writer);
     let all = room >= bytes.len();
     let ends_so = match result {
         Ok(()) => all,
@@ -260,32 +239,44 @@ fn has_a_front_part(
 /// The first room, up to one that is enough, with which that doesn't hold.
 fn first_wrong_room(
     alloc: Global,
-    told: &Told,
-    graph: &Graph,
+    drawing: &Drawing<'_>,
     as_dot: bool,
     bytes: &[u8],
 ) -> Result<Option<usize>, AllocError> {
     for room in 0..=bytes.len() {
-        if !has_a_front_part(alloc, told, graph, as_dot, bytes, room)? {
+        if !has_a_front_part(alloc, drawing, as_dot, bytes, room)? {
             return Ok(Some(room));
         }
     }
     Ok(None)
 }
 
-/// The first wrong room of the text of a graph without reads, and that of its file.
-fn wrong_rooms(alloc: Global, told: &Told) -> Result<(Option<usize>, Option<usize>), AllocError> {
-    let graph = alone(alloc)?;
+/// The first wrong room of each drawing, of a text and of a file.
+type Rooms = (Option<usize>, Option<usize>);
+
+fn wrong_rooms_of(alloc: Global, told: &Told) -> Result<Rooms, AllocError> {
+    let execution = graph(alloc, ALONE, Order::Rlx)?;
+    let drawing = drawing(told, &execution);
     Ok((
-        first_wrong_room(alloc, told, &graph, false, ALONE_TEXT)?,
-        first_wrong_room(alloc, told, &graph, true, ALONE_DOT)?,
+        first_wrong_room(alloc, &drawing, false, ALONE_TEXT)?,
+        first_wrong_room(alloc, &drawing, true, ALONE_DOT)?,
     ))
 }
 
+/// The wrong rooms of a graph without reads.
+fn wrong_rooms(alloc: Global) -> Result<Rooms, AllocError> {
+    let told = told_of(alloc, PLAIN)?;
+    wrong_rooms_of(alloc, &told)
+}
+
 #[test]
-fn a_writer_with_too_little_room(rt: HostRuntime) -> Result<(), Fail> {
-    let told = plain(rt.alloc())?;
-    let rooms = wrong_rooms(rt.alloc(), &told)?;
-    assert!(rt; matches!(rooms, (None, None)), "at {rooms:?}");
-    Ok(())
+fn drawings(rt: HostRuntime) {
+    for case in &CASES {
+        assert!(rt; draws(rt.alloc(), case) == Ok(true), "{}", case.name);
+    }
+    let rooms = wrong_rooms(rt.alloc());
+    assert!(rt;
+        rooms == Ok((None, None)),
+        "a writer with too little room, at {rooms:?}"
+    );
 }

@@ -1,8 +1,5 @@
 //! What is drawn, by hand.
 
-/// A name of 64 bytes.
-pub const LONG: &[u8] = b"lllllllllllllllllllllllllllllllllllllllllllllllllllllllllllllll\\";
-
 /// Store buffering under sc.
 pub const STORE_BUFFERING_TEXT: &[u8] =
     b"SB under sc\na: P0 W x=1 rlx\nb: P0 R y=0 rlx\nc: P1 W y=1 rlx\nd: P1 R x=0 rlx\ne: init x=0\nf: init y=0\nrf: f->b e->d\nco: e->a f->c\nfr: b->c d->a\nbreaks acyclic sc: a -po-> b -fr-> c -po-> d -fr-> a\n";
