@@ -1,5 +1,6 @@
 //! Texts that rows name: some stand here, and others in examples/.
 
+use crate::rows::again;
 use crate::script::examples::EXAMPLES;
 use std::alloc::{AllocError, Global};
 
@@ -11,6 +12,11 @@ const NAMED: &[(&str, &str)] = &[
     ("IRIW", INDEPENDENT_READS),
     ("IRIW summary", ALL_STATES),
     ("256 jobs", JOBS),
+    ("script_first", FIRST),
+    ("script_first answers", FIRST_ANSWERS),
+    ("script_replaced", REPLACED),
+    ("two locations", TWO_LOCATIONS),
+    ("two locations summary", TWO_LOCATIONS_SUMMARY),
     ("store buffering", BUFFERED),
     ("store buffering with fences", FENCED),
     ("location by location", LOCATION_BY_LOCATION),
@@ -57,13 +63,17 @@ fn push_part(all: &mut String, part: &str) -> Result<(), AllocError> {
     }
 }
 
-/// A text of a row, with texts in the place of their names.
-pub fn expanded(alloc: Global, text: &str) -> Result<String, AllocError> {
+fn expanded_once(alloc: Global, text: &str) -> Result<String, AllocError> {
     let mut all = String::new(alloc);
     for part in text.split('%') {
         push_part(&mut all, part)?;
     }
     Ok(all)
+}
+
+/// A text of a row, with texts in the place of their names.
+pub fn expanded(alloc: Global, text: &str) -> Result<String, AllocError> {
+    again!(AllocError, expanded_once(alloc, text))
 }
 
 pub const STORE_BUFFERING: &str = "C SB
@@ -90,6 +100,106 @@ Witnesses
 Positive: 1 Negative: 3
 Condition exists (0:r0=0 /\\ 1:r0=0)
 Observation SB Sometimes 1 3
+";
+
+/// The script of row script_first: a session's put, ask, claim, return and poll.
+pub const FIRST: &str = "0 cat none.cat
+.
+0 test
+C SB
+{}
+P0 (atomic_int* x, atomic_int* y) {
+  atomic_store_explicit(x, 1, memory_order_relaxed);
+  int r0 = atomic_load_explicit(y, memory_order_relaxed);
+}
+P1 (atomic_int* x, atomic_int* y) {
+  atomic_store_explicit(y, 1, memory_order_relaxed);
+  int r0 = atomic_load_explicit(x, memory_order_relaxed);
+}
+exists (0:r0=0 /\\ 1:r0=0)
+.
+0 ask SB none.cat
+0 poll 1
+1 claim
+1 return 1
+0 poll 1
+";
+
+pub const FIRST_ANSWERS: &str = "version none.cat 1
+version SB 1
+job 1
+pending 0 1
+piece 1 job 1 slice 0 from 0 to 16
+taken 1 1
+verdict SB 1 none.cat 1
+Test SB Allowed
+States 4
+0:r0=0; 1:r0=0;
+0:r0=0; 1:r0=1;
+0:r0=1; 1:r0=0;
+0:r0=1; 1:r0=1;
+Ok
+Witnesses
+Positive: 1 Negative: 3
+Condition exists (0:r0=0 /\\ 1:r0=0)
+Observation SB Sometimes 1 3
+finish ok 7
+";
+
+/// The script of row script_replaced.
+pub const REPLACED: &str = "0 cat base.cat
+let com = rf | co | fr
+.
+0 cat sc.cat
+include \"base.cat\"
+acyclic po | com as sc
+.
+0 test
+C SB
+{}
+P0 (atomic_int* x, atomic_int* y) {
+  atomic_store_explicit(x, 1, memory_order_relaxed);
+  int r0 = atomic_load_explicit(y, memory_order_relaxed);
+}
+P1 (atomic_int* x, atomic_int* y) {
+  atomic_store_explicit(y, 1, memory_order_relaxed);
+  int r0 = atomic_load_explicit(x, memory_order_relaxed);
+}
+exists (0:r0=0 /\\ 1:r0=0)
+.
+0 ask SB sc.cat
+1 claim
+0 cat base.cat
+let com = rf | co | fr
+.
+1 return 1
+1 return 1
+0 poll 1
+0 ask SB sc.cat
+work
+0 poll 2
+0 list
+";
+
+const TWO_LOCATIONS: &str = "C W2+3 {} P0 (atomic_int* x, atomic_int* y) {
+  atomic_store(x, 1); atomic_store(x, 2);
+} P1 (atomic_int* x, atomic_int* y) {
+  atomic_store(y, 1); atomic_store(y, 2); atomic_store(y, 3);
+} exists (x=1 /\\ y=3)";
+
+const TWO_LOCATIONS_SUMMARY: &str = "Test W2+3 Allowed
+States 6
+[x]=1; [y]=1;
+[x]=1; [y]=2;
+[x]=1; [y]=3;
+[x]=2; [y]=1;
+[x]=2; [y]=2;
+[x]=2; [y]=3;
+Ok
+Witnesses
+Positive: 2 Negative: 10
+Condition exists ([x]=1 /\\ [y]=3)
+Observation W2+3 Sometimes 2 10
 ";
 
 const NEVER: &str = "Test SB Allowed

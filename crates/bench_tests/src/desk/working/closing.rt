@@ -2,11 +2,11 @@
 
 ghost use Rattle.std.specs.Prelude.{◌≡◌, ◌≤◌, All, length};
 
-use crate::desk::calls::{Call, last_reply, made};
+use crate::desk::calls::{last_reply, recorded};
 use crate::desk::working::calls::{all_alternate, put_back, take_last};
 use crate::desk::working::gates::Holding;
 use crate::desk::working::running::{Course, asked, ended, goes_well, sums_of, workers_closed};
-use book::{Refusal, Reply};
+use book::{Command, Refusal, Reply};
 use sessions::{Desk, Pass};
 use std::alloc::{AllocError, Global};
 use std::sync::Wait;
@@ -20,7 +20,6 @@ use workers::Report;
 /// Closes once a piece is held, and lets it go on then.
 fn close_while_held<L: Ledger, R: Wait + Clock>(
     rt: &R,
-    alloc: Global,
     desk: &Desk<L>,
     mut session: Pass<L>,
     gate: &Holding<'_, R>,
@@ -29,7 +28,7 @@ fn close_while_held<L: Ledger, R: Wait + Clock>(
     ensures { result.parts ≡ 1 }
 {
     gate.wait_held();
-    let _ = made(rt, alloc, desk, &mut session, Call::Close);
+    let _ = recorded(rt, desk, &mut session, Command::Close);
     gate.tell_closed();
     session
 }
@@ -58,7 +57,7 @@ fn beside<L: Ledger + Send + Sync, R: Threads + Wait + Clock + Sync>(
         || -> Pass<L>
             requires { session.parts ≡ 1 }
             ensures { result.parts ≡ 1 }
-        { close_while_held(rt, alloc, desk, session, gate) },
+        { close_while_held(rt, desk, session, gate) },
     );
     (passes, report, session)
 }

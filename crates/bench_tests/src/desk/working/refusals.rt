@@ -4,7 +4,8 @@ ghost use Rattle.std.specs.Prelude.{◌≡◌};
 ghost use Rattle.journal.specs.Lines.{returned};
 ghost use Rattle.workers.specs.Replies.{Replied, claimed_of, goes_on, is_done};
 
-use crate::desk::working::calls::{ask_often, last_claim};
+use crate::desk::calls::make_all;
+use crate::desk::working::calls::last_claim;
 use crate::desk::working::gates::Watching;
 use crate::desk::working::running::LIMITS;
 use book::Refused;
@@ -93,6 +94,24 @@ impl<'a, L: Ledger> Calls<L> for Refusing<'a, L> {
 /// What a worker did: the evaluations, give-backs and refusals that it counted, and its receipts.
 type Done = (u64, u64, u64, usize);
 
+/// Puts store buffering, and asks for it twice: two jobs of one piece each.
+const TWO_JOBS: &str = "
+> 1 test
+C SB
+{}
+P0 (atomic_int* x, atomic_int* y) {
+  atomic_store_explicit(x, 1, memory_order_relaxed);
+  int r0 = atomic_load_explicit(y, memory_order_relaxed);
+}
+P1 (atomic_int* x, atomic_int* y) {
+  atomic_store_explicit(y, 1, memory_order_relaxed);
+  int r0 = atomic_load_explicit(x, memory_order_relaxed);
+}
+exists (0:r0=0 /\\ 1:r0=0)
+> 1 ask SB rc11.cat
+> 1 ask SB rc11.cat
+";
+
 /// What one worker does with two jobs of one piece, where these are refused.
 fn run_refused<L: Ledger, R: Wait>(
     rt: &R,
@@ -103,7 +122,7 @@ fn run_refused<L: Ledger, R: Wait>(
     requires { (blank.name ≡ L.name) × (blank.parts ≡ L.parts) × (blank.parts ≡ 2) }
 {
     let (desk, mut passes) = open::<L>(alloc, blank, LIMITS, 2)?;
-    let _ = ask_often(rt, alloc, &desk, &mut passes[1], 2);
+    let _ = make_all(rt, alloc, &desk, &mut passes[1], TWO_JOBS);
     Ok(worked(rt, alloc, &desk, &mut passes[0], refused))
 }
 

@@ -2,14 +2,14 @@
 
 ghost use Rattle.std.specs.Prelude.{◌≡◌, ◌≤◌, ◌<◌, All, length};
 
-use crate::desk::calls::{Call, entries, last_reply, made};
+use crate::desk::calls::{entries, last_reply, make_all, recorded};
 use crate::desk::working::calls::{
     all_alternate, had_verdict, job_of, last_claim, put_back, take_last,
 };
 use crate::desk::working::closing::held_beside;
 use crate::desk::working::gates::Meeting;
 use crate::desk::working::sharing::shared_beside;
-use book::{Limits, Reply};
+use book::{Command, Limits, Reply};
 use sessions::{Desk, Pass, open};
 use std::alloc::{AllocError, Global};
 use std::marker::Brand;
@@ -27,8 +27,10 @@ pub const LIMITS: Limits = Limits {
     claims: 10_000,
 };
 
-/// Independent reads of independent writes, with two values more: 4,096 numbers, in sixteen slices.
-const IRIW: &[u8] = b"C IRIW
+/// Puts independent reads of independent writes, with two values more, and asks for them: 4,096 numbers, in sixteen slices.
+const IRIW: &str = "
+> 2 test
+C IRIW
 { 0:r8=2; 0:r9=3; }
 P0 (atomic_int* x) {
   atomic_store_explicit(x, 1, memory_order_release);
@@ -45,6 +47,7 @@ P3 (atomic_int* x, atomic_int* y) {
   int r1 = atomic_load_explicit(x, memory_order_acquire);
 }
 exists (2:r0=1 /\\ 2:r1=0 /\\ 3:r0=1 /\\ 3:r1=0)
+> 2 ask IRIW rc11.cat
 ";
 
 /// Puts the reads of independent writes, and asks for them under RC11: one job of sixteen pieces.
@@ -52,9 +55,7 @@ pub fn asked<L: Ledger, R: Wait>(rt: &R, alloc: Global, desk: &Desk<L>, pass: &m
     requires { pass.old.parts ≡ 1 }
     ensures { pass.new.parts ≡ 1 }
 {
-    let put = made(rt, alloc, desk, pass, Call::PutTest(IRIW));
-    let asked = made(rt, alloc, desk, pass, Call::Ask(b"IRIW", b"rc11.cat"));
-    put && asked
+    make_all(rt, alloc, desk, pass, IRIW) == 2
 }
 
 /// The evaluations, the give-backs and the refusals of all workers.
@@ -155,7 +156,7 @@ fn idle_beside<L: Ledger + Send + Sync, R: Threads + Wait + Clock + Sync>(
     let asked = asked(rt, alloc, &desk, &mut session);
     let gate = Meeting::new(rt);
     let report = work_until_idle(rt, alloc, &desk, &mut passes, &gate);
-    let polled = made(rt, alloc, &desk, &mut session, Call::Poll(1));
+    let polled = recorded(rt, &desk, &mut session, Command::Poll(1));
     let told = asked && polled && had_verdict(&session) && are_alternating(&passes, &gate);
     let told = told && gate.missed.load(Ordering::SeqCst) == 0 && sums_of(&report) == (16, 0, 0);
     ended(desk, passes, session, told, Some(2 + 32 + 2 + 1))
@@ -220,7 +221,7 @@ fn both<L: Ledger + Send + Sync, G: Gate + Sync, R: Threads + Wait + Clock + Syn
         || -> Pass<L>
             requires { session.parts ≡ 1 }
             ensures { result.parts ≡ 1 }
-        { close_at_verdict(rt, alloc, desk, session) },
+        { close_at_verdict(rt, desk, session) },
     );
     (passes, report, session)
 }
@@ -244,7 +245,6 @@ pub fn workers_closed<L: Ledger + Send + Sync, G: Gate + Sync, R: Threads + Wait
 /// Polls its job until it has a verdict, for at most 10,000 turns of a millisecond.
 pub fn poll_to_verdict<L: Ledger, R: Wait + Clock>(
     rt: &R,
-    alloc: Global,
     desk: &Desk<L>,
     pass: &mut Pass<L>,
     job: u32,
@@ -253,7 +253,7 @@ pub fn poll_to_verdict<L: Ledger, R: Wait + Clock>(
     ensures { pass.new.parts ≡ 1 }
 {
     for _ in 0..10_000u32 {
-        let _ = made(rt, alloc, desk, pass, Call::Poll(job));
+        let _ = recorded(rt, desk, pass, Command::Poll(job));
         if matches!(last_reply(pass), Some(Reply::Verdict(_))) {
             return;
         }
@@ -263,7 +263,6 @@ pub fn poll_to_verdict<L: Ledger, R: Wait + Clock>(
 
 fn close_at_verdict<L: Ledger, R: Wait + Clock>(
     rt: &R,
-    alloc: Global,
     desk: &Desk<L>,
     mut session: Pass<L>,
 ) -> Pass<L>
@@ -271,9 +270,9 @@ fn close_at_verdict<L: Ledger, R: Wait + Clock>(
     ensures { result.parts ≡ 1 }
 {
     if let Some(job) = job_of(&session) {
-        poll_to_verdict(rt, alloc, desk, &mut session, job);
+        poll_to_verdict(rt, desk, &mut session, job);
     }
-    let _ = made(rt, alloc, desk, &mut session, Call::Close);
+    let _ = recorded(rt, desk, &mut session, Command::Close);
     session
 }
 

@@ -2,11 +2,11 @@
 
 ghost use Rattle.std.specs.Prelude.{◌≡◌, ◌≤◌, All, IfSome, length};
 
-use crate::desk::calls::{Call, all_rise, count_receipts, entries, last_reply, made};
+use crate::desk::calls::{entries, last_reply, make_all, recorded};
 use crate::desk::working::calls::{all_alternate, job_of, put_back, take_last};
 use crate::desk::working::gates::Open;
 use crate::desk::working::running::{Course, goes_well, poll_to_verdict, workers_closed};
-use book::Reply;
+use book::{Command, Reply};
 use sessions::{Desk, Pass};
 use std::alloc::{AllocError, Global};
 use std::sync::Wait;
@@ -19,23 +19,38 @@ use std::time::Clock;
 #[derive(Clone, Copy)]
 struct Own {
     file: &'static [u8],
-    model: &'static [u8],
     test: &'static [u8],
-    text: &'static [u8],
+    calls: &'static str,
 }
 
 const FIRST: Own = Own {
     file: b"first.cat",
-    model: b"acyclic po | rf | co | fr as sc\n",
     test: b"First",
-    text: b"C First\n{ x; }\nP0 () {}\nexists (x=0)\n",
+    calls: "
+> 0 cat first.cat
+acyclic po | rf | co | fr as sc
+> 0 test
+C First
+{ x; }
+P0 () {}
+exists (x=0)
+> 0 ask First first.cat
+",
 };
 
 const SECOND: Own = Own {
     file: b"second.cat",
-    model: b"acyclic rf | co | fr as coherent\n",
     test: b"Second",
-    text: b"C Second\n{ x; }\nP0 () {}\nexists (x=0)\n",
+    calls: "
+> 1 cat second.cat
+acyclic rf | co | fr as coherent
+> 1 test
+C Second
+{ x; }
+P0 () {}
+exists (x=0)
+> 1 ask Second second.cat
+",
 };
 
 /// Puts a file and a test, asks, and polls until there is a verdict.
@@ -49,17 +64,9 @@ fn session<L: Ledger, R: Wait + Clock>(
     requires { pass.parts ≡ 1 }
     ensures { result.parts ≡ 1 }
 {
-    let _ = made(
-        rt,
-        alloc,
-        desk,
-        &mut pass,
-        Call::PutCat(own.file, own.model),
-    );
-    let _ = made(rt, alloc, desk, &mut pass, Call::PutTest(own.text));
-    let _ = made(rt, alloc, desk, &mut pass, Call::Ask(own.test, own.file));
+    let _ = make_all(rt, alloc, desk, &mut pass, own.calls);
     if let Some(job) = job_of(&pass) {
-        poll_to_verdict(rt, alloc, desk, &mut pass, job);
+        poll_to_verdict(rt, desk, &mut pass, job);
     }
     pass
 }
@@ -111,7 +118,7 @@ fn sessions_then_close<L: Ledger + Send + Sync, R: Threads + Wait + Clock + Sync
     );
     let one = has_own_verdict(&first, FIRST);
     let two = has_own_verdict(&second, SECOND);
-    let closed = made(rt, alloc, desk, &mut first, Call::Close);
+    let closed = recorded(rt, desk, &mut first, Command::Close);
     (first, second, one && two && closed)
 }
 
@@ -144,15 +151,6 @@ fn all<L: Ledger + Send + Sync, R: Threads + Wait + Clock + Sync>(
         { sessions_then_close(rt, alloc, desk, first, second) },
     );
     (workers, first, second, told)
-}
-
-/// Whether each receipt has its entry and each entry its receipt, the places of each pass's receipts rise, and all else is told.
-fn is_whole<L: Ledger>(desk: Desk<L>, passes: Vec<Pass<L>>, told: bool) -> bool
-    requires { All (λ p. p.parts ≡ 1) passes.items }
-{
-    let receipts = count_receipts(&passes);
-    let rising = all_rise(&passes);
-    entries(desk, passes) == Some(receipts) && rising && told
 }
 
 /// Two sessions, of which the second is the last pass, and workers: whether each session has its own verdict, and each worker returns a
@@ -190,7 +188,7 @@ fn run_all<L: Ledger + Send + Sync, R: Threads + Wait + Clock + Sync>(
     let (mut passes, first, second, told) = all(rt, alloc, &desk, workers, first, second);
     let told = told && all_alternate(&passes);
     put_both(&mut passes, first, second)?;
-    Ok(is_whole(desk, passes, told))
+    Ok(entries(desk, passes).is_some() && told)
 }
 
 fn put_both<L: Ledger>(
