@@ -134,7 +134,13 @@ pub fn entries<L: Ledger>(desk: Desk<L>, passes: Vec<Pass<L>>) -> Option<usize>
 {
     let receipts = count_rising(&passes);
     match finish(desk, passes) {
-        Ok(closed) if receipts == Some(closed.journal.len()) => receipts,
-        _ => None,
+        Ok(closed) => {
+            if receipts == Some(closed.journal.len()) {
+                receipts
+            } else {
+                None
+            }
+        }
+        Err(_) => None,
     }
 }

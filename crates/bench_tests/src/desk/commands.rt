@@ -104,10 +104,13 @@ pub fn sink(alloc: Global) -> Result<MemSink, AllocError> {
 
 /// Whether a reply is printed so.
 pub fn is_told(alloc: Global, reply: Option<&Reply>, wanted: &str) -> bool {
-    match (reply, sink(alloc)) {
-        (Some(reply), Ok(mut writer)) => {
-            write_reply(reply, &mut writer) == Ok(()) && writer.bytes() == wanted.as_bytes()
+    let Some(reply) = reply else {
+        return false;
+    };
+    match sink(alloc) {
+        Ok(mut writer) => {
+            write_reply(reply, &mut writer).is_ok() && writer.bytes() == wanted.as_bytes()
         }
-        _ => false,
+        Err(AllocError) => false,
     }
 }

@@ -149,14 +149,22 @@ fn try_under(alloc: Global, test: &str, model: &str, way: Way, wanted: &str) -> 
     }
 }
 
+/// In how many slices a call evaluates.
+fn slices_of(call: &str) -> u16
+    ensures { (1 ≤ result) × (result ≤ 256) }
+{
+    let slices = number_behind(call, " in ").unwrap_or(1);
+    if 1 <= slices && slices <= 256 {
+        slices as u16
+    } else {
+        1
+    }
+}
+
 /// What becomes of a test under each model: what became of it under the first that isn't answered so.
 fn try_under_each(alloc: Global, call: &str, test: &str, models: &str, wanted: &str) -> Tried {
-    let slices = match number_behind(call, " in ") {
-        Some(slices) => u16::try_from(slices).unwrap_or(0).max(1).min(256),
-        None => 1,
-    };
     let way = Way {
-        slices,
+        slices: slices_of(call),
         fails: false,
         room: 4096,
     };
@@ -169,13 +177,20 @@ fn try_under_each(alloc: Global, call: &str, test: &str, models: &str, wanted: &
     Tried::Answered
 }
 
+/// How many workers a call names.
+fn workers_of(call: &str) -> u8
+    ensures { result ≤ 8 }
+{
+    let workers = number_behind(call, " workers ").unwrap_or(0);
+    if workers > 8 { 8 } else { workers as u8 }
+}
+
 /// The options that a call of `serve` names, and the others of `ALONE`.
 fn options_of(call: &str) -> Options
     ensures { result.workers ≤ 8 }
 {
-    let workers = number_behind(call, " workers ").unwrap_or(0).min(8);
     Options {
-        workers: u8::try_from(workers).unwrap_or(0),
+        workers: workers_of(call),
         limits: limits_of(call),
     }
 }
@@ -278,7 +293,7 @@ fn try_call<T: Threads + Wait + Sync>(
 }
 
 /// What becomes of a row.
-pub fn tried<T: Threads + Wait + Sync>(rt: &T, alloc: Global, row: &str) -> Tried {
+pub fn try_row<T: Threads + Wait + Sync>(rt: &T, alloc: Global, row: &str) -> Tried {
     let Some((given, call, wanted)) = parts_of(row) else {
         return Tried::Wrong;
     };
@@ -291,7 +306,7 @@ pub fn tried<T: Threads + Wait + Sync>(rt: &T, alloc: Global, row: &str) -> Trie
 /// Fails with the first row that isn't answered as it says.
 pub fn all_hold<T: Threads + Wait + Sync>(rt: &T, alloc: Global, rows: &str) -> Result<(), Fail> {
     for row in rows.split("=== ").skip(1) {
-        confirm(matches!(tried(rt, alloc, row), Tried::Answered), row)?;
+        confirm(matches!(try_row(rt, alloc, row), Tried::Answered), row)?;
     }
     Ok(())
 }

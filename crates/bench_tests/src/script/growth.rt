@@ -4,7 +4,7 @@
 //! `tools/refuse-each-growth` runs these tests once for each request. Where none is refused they compare the answers alone.
 
 use crate::rows::confirm;
-use crate::script::calls::{Tried, tried};
+use crate::script::calls::{Tried, try_row};
 use crate::script::words::are_told;
 use std::alloc::Global;
 use std::sync::Wait;
@@ -199,9 +199,9 @@ finish ok 4
 /// Whether a row is answered as it says. Where memory is refused the call is made again, and then has its own answer: so a line that
 /// isn't taken with ample memory is no answer.
 fn is_answered<T: Threads + Wait + Sync>(rt: &T, alloc: Global, row: &str) -> bool {
-    match tried(rt, alloc, row) {
+    match try_row(rt, alloc, row) {
         Tried::Answered => true,
-        Tried::Refused => matches!(tried(rt, alloc, row), Tried::Answered),
+        Tried::Refused => matches!(try_row(rt, alloc, row), Tried::Answered),
         Tried::Wrong => false,
     }
 }

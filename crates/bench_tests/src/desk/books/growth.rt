@@ -8,7 +8,7 @@ use crate::desk::commands::{SB, put_cat};
 use crate::desk::works::{whole_part, whole_piece, work_of};
 use crate::rows::{again, all_so, confirm};
 use book::{Command, Said};
-use slices::{KeptSpace, PieceResult, Tally, Verdict, VerdictRef, WorkRef};
+use slices::{KeptSpace, Piece, PieceResult, Tally, Verdict, VerdictRef, WorkRef};
 use std::alloc::{AllocError, Global};
 use std::test::Fail;
 
@@ -91,18 +91,24 @@ fn are_kept_apart(alloc: Global, sb: &WorkRef, one: &WorkRef) -> bool {
         && is_over(&mut space, sb, BUFFERING)
 }
 
-/// Whether the copies of a result and of its piece are their originals.
-fn are_copied(part: &PieceResult) -> bool {
-    match (part.piece().share(), part.share()) {
-        (Ok(piece), Ok(copy)) => piece == *part.piece() && copy == *part,
-        _ => false,
+fn is_piece_copied(piece: &Piece) -> bool {
+    match piece.share() {
+        Ok(copy) => copy == *piece,
+        Err(AllocError) => false,
     }
 }
 
-/// Whether those of the result of all numbers are.
+fn is_part_copied(part: &PieceResult) -> bool {
+    match part.share() {
+        Ok(copy) => copy == *part,
+        Err(AllocError) => false,
+    }
+}
+
+/// Whether the copies of the result of all numbers and of its piece are their originals.
 fn is_copied(alloc: Global, work: &WorkRef) -> bool {
     match whole_part(alloc, work) {
-        Ok(part) => are_copied(&part),
+        Ok(part) => is_piece_copied(part.piece()) && is_part_copied(&part),
         Err(AllocError) => false,
     }
 }
@@ -155,11 +161,17 @@ fn tally_of(alloc: Global, work: &WorkRef) -> Result<Tally, AllocError>
 }
 
 /// The verdict of a tally, which stays as it is.
+fn verdict_of(tally: &Tally) -> Result<Verdict, AllocError>
+    requires { IsWhole tally.now }
+{
+    again!(AllocError, tally.verdict(1))
+}
+
 fn tallied(alloc: Global, work: &WorkRef) -> Result<Verdict, AllocError> {
     let part = whole_part(alloc, work)?;
     let mut tally = tally_of(alloc, work)?;
     add(&mut tally, part)?;
-    again!(AllocError, tally.verdict(1))
+    verdict_of(&tally)
 }
 
 fn is_tallied(alloc: Global, work: &WorkRef) -> bool {

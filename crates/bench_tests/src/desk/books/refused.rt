@@ -138,17 +138,18 @@ fn is_refused_when_full(alloc: Global, row: &str) -> bool {
     }
 }
 
-/// Whether the last two replies are the same.
-fn is_repeated(book: &Book) -> bool {
-    match book.journal() {
-        [.., before, now] => *now.reply() == *before.reply(),
+/// Whether the replies at a place of the journal and before it are the same.
+fn is_repeated(book: &Book, place: usize) -> bool {
+    let journal = book.journal();
+    match (journal.get(place), journal.get(place.saturating_sub(1))) {
+        (Some(now), Some(before)) => *now.reply() == *before.reply(),
         _ => false,
     }
 }
 
 /// Whether a list, the last command before one that was refused, is answered again as it was.
 fn lists_as_before(alloc: Global, book: &mut Book, place: usize) -> bool {
-    book.journal().len() == place && play(alloc, book, "> 0 list\n") && is_repeated(book)
+    book.journal().len() == place && play(alloc, book, "> 0 list\n") && is_repeated(book, place)
 }
 
 /// Whether the last reply is printed so.

@@ -7,7 +7,7 @@ use crate::desk::commands::is_told;
 use crate::rows::{again, all_so};
 use crate::script::texts::expanded;
 use book::{Command, Entry, Limits, Refused};
-use sessions::{Desk, FinishCause, FinishFault, Pass, finish, open};
+use sessions::{Desk, FinishCause, FinishFault, Pass, Receipt, finish, open};
 use std::alloc::{AllocError, Global};
 use std::marker::Brand;
 use std::sync::Wait;
@@ -83,13 +83,18 @@ fn is_entry(alloc: Global, entry: &Entry, place: u32, seat: u8, wanted: &str) ->
     entry.place() == place && entry.seat() == seat && is_told(alloc, Some(entry.reply()), wanted)
 }
 
+fn is_only(receipts: &[Receipt], entry: &Entry) -> bool {
+    match receipts {
+        [receipt] => receipt.entry() == entry,
+        _ => false,
+    }
+}
+
 fn are_left<L: Ledger>(passes: &[Pass<L>], list: &Entry) -> bool {
     match passes {
         [first, last] => {
             let seated = first.seat() == 0 && last.seat() == 2;
-            seated
-                && first.receipts().is_empty()
-                && matches!(last.receipts(), [receipt] if receipt.entry() == list)
+            seated && first.receipts().is_empty() && is_only(last.receipts(), list)
         }
         _ => false,
     }

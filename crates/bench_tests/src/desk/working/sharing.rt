@@ -1,14 +1,13 @@
-//! Two sessions and two workers over one desk.
+//! Two sessions that ask and poll for a verdict of their own.
 
-ghost use Rattle.std.specs.Prelude.{◌≡◌, ◌≤◌, All, IfSome, length};
+ghost use Rattle.std.specs.Prelude.{◌≡◌};
 
-use crate::desk::calls::{entries, last_reply, make_all, recorded};
-use crate::desk::working::calls::{all_alternate, job_of, put_back, take_last};
-use crate::desk::working::gates::Open;
-use crate::desk::working::running::{Course, goes_well, poll_to_verdict, workers_closed};
+use crate::desk::calls::{last_reply, make_all, recorded};
+use crate::desk::working::calls::job_of;
+use crate::desk::working::running::poll_to_verdict;
 use book::{Command, Reply};
 use sessions::{Desk, Pass};
-use std::alloc::{AllocError, Global};
+use std::alloc::Global;
 use std::sync::Wait;
 use std::sync::ledger::Ledger;
 use std::thread;
@@ -93,7 +92,7 @@ fn is_of_file(verdict: &slices::Verdict, file: &[u8]) -> bool {
 }
 
 /// Both sessions, and then one closes. Whether each has its own verdict.
-fn sessions_then_close<L: Ledger + Send + Sync, R: Threads + Wait + Clock + Sync>(
+pub fn sessions_then_close<L: Ledger + Send + Sync, R: Threads + Wait + Clock + Sync>(
     rt: &R,
     alloc: Global,
     desk: &Desk<L>,
@@ -120,92 +119,4 @@ fn sessions_then_close<L: Ledger + Send + Sync, R: Threads + Wait + Clock + Sync
     let two = has_own_verdict(&second, SECOND);
     let closed = recorded(rt, desk, &mut first, Command::Close);
     (first, second, one && two && closed)
-}
-
-/// The sessions and the workers side by side.
-fn all<L: Ledger + Send + Sync, R: Threads + Wait + Clock + Sync>(
-    rt: &R,
-    alloc: Global,
-    desk: &Desk<L>,
-    workers: Vec<Pass<L>>,
-    first: Pass<L>,
-    second: Pass<L>,
-) -> (Vec<Pass<L>>, Pass<L>, Pass<L>, bool)
-    requires shares { All (λ p. p.parts ≡ 1) workers.items }
-    requires few { length workers.items ≤ 64 }
-    requires first { first.parts ≡ 1 }
-    requires second { second.parts ≡ 1 }
-    ensures shares { All (λ p. p.parts ≡ 1) result.0.items }
-    ensures first { result.1.parts ≡ 1 }
-    ensures second { result.2.parts ≡ 1 }
-{
-    let ((workers, _), (first, second, told)) = thread::join(
-        rt,
-        || -> (Vec<Pass<L>>, workers::Report)
-            requires { All (λ p. p.parts ≡ 1) workers.items × (length workers.items ≤ 64) }
-            ensures { All (λ p. p.parts ≡ 1) result.0.items }
-        { workers_closed(rt, alloc, desk, workers, &Open) },
-        || -> (Pass<L>, Pass<L>, bool)
-            requires { (first.parts ≡ 1) × (second.parts ≡ 1) }
-            ensures { (result.0.parts ≡ 1) × (result.1.parts ≡ 1) }
-        { sessions_then_close(rt, alloc, desk, first, second) },
-    );
-    (workers, first, second, told)
-}
-
-/// Two sessions, of which the second is the last pass, and workers: whether each session has its own verdict, and each worker returns a
-/// piece before it claims the next.
-pub fn shared_beside<L: Ledger + Send + Sync, R: Threads + Wait + Clock + Sync>(
-    rt: &R,
-    alloc: Global,
-    desk: Desk<L>,
-    mut passes: Vec<Pass<L>>,
-    second: Pass<L>,
-) -> Result<bool, AllocError>
-    requires shares { All (λ p. p.parts ≡ 1) passes.items }
-    requires few { length passes.items ≤ 64 }
-    requires one { second.parts ≡ 1 }
-{
-    match take_last(&mut passes) {
-        Some(first) => run_all(rt, alloc, desk, passes, first, second),
-        None => Ok(false),
-    }
-}
-
-fn run_all<L: Ledger + Send + Sync, R: Threads + Wait + Clock + Sync>(
-    rt: &R,
-    alloc: Global,
-    desk: Desk<L>,
-    workers: Vec<Pass<L>>,
-    first: Pass<L>,
-    second: Pass<L>,
-) -> Result<bool, AllocError>
-    requires shares { All (λ p. p.parts ≡ 1) workers.items }
-    requires few { length workers.items ≤ 64 }
-    requires first { first.parts ≡ 1 }
-    requires second { second.parts ≡ 1 }
-{
-    let (mut passes, first, second, told) = all(rt, alloc, &desk, workers, first, second);
-    let told = told && all_alternate(&passes);
-    put_both(&mut passes, first, second)?;
-    Ok(entries(desk, passes).is_some() && told)
-}
-
-fn put_both<L: Ledger>(
-    passes: &mut Vec<Pass<L>>,
-    first: Pass<L>,
-    second: Pass<L>,
-) -> Result<(), AllocError>
-    requires all { All (λ p. p.parts ≡ 1) passes.old.items }
-    requires one { first.parts ≡ 1 }
-    requires other { second.parts ≡ 1 }
-    ensures { All (λ p. p.parts ≡ 1) passes.new.items }
-{
-    put_back(passes, first)?;
-    put_back(passes, second)
-}
-
-#[test]
-fn two_sessions_two_workers(rt: HostRuntime) {
-    assert!(rt; goes_well(&rt, rt.alloc(), Course::Shared, 4));
 }
