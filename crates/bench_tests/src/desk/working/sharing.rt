@@ -3,9 +3,10 @@
 ghost use Rattle.std.specs.Prelude.{◌≡◌};
 
 use crate::desk::calls::{last_reply, make_all, recorded};
+use crate::desk::commands::is_told;
 use crate::desk::working::calls::job_of;
 use crate::desk::working::running::poll_to_verdict;
-use book::{Command, Reply};
+use book::Command;
 use sessions::{Desk, Pass};
 use std::alloc::Global;
 use std::sync::Wait;
@@ -17,14 +18,12 @@ use std::time::Clock;
 /// What a session puts and asks for.
 #[derive(Clone, Copy)]
 struct Own {
-    file: &'static [u8],
-    test: &'static [u8],
     calls: &'static str,
+    /// The verdict of its own test under its own file, each at its first version.
+    verdict: &'static str,
 }
 
 const FIRST: Own = Own {
-    file: b"first.cat",
-    test: b"First",
     calls: "
 > 0 cat first.cat
 acyclic po | rf | co | fr as sc
@@ -35,11 +34,19 @@ P0 () {}
 exists (x=0)
 > 0 ask First first.cat
 ",
+    verdict: "verdict First 1 first.cat 1
+Test First Allowed
+States 1
+[x]=0;
+Ok
+Witnesses
+Positive: 1 Negative: 0
+Condition exists ([x]=0)
+Observation First Always 1 0
+",
 };
 
 const SECOND: Own = Own {
-    file: b"second.cat",
-    test: b"Second",
     calls: "
 > 1 cat second.cat
 acyclic rf | co | fr as coherent
@@ -49,6 +56,16 @@ C Second
 P0 () {}
 exists (x=0)
 > 1 ask Second second.cat
+",
+    verdict: "verdict Second 1 second.cat 1
+Test Second Allowed
+States 1
+[x]=0;
+Ok
+Witnesses
+Positive: 1 Negative: 0
+Condition exists ([x]=0)
+Observation Second Always 1 0
 ",
 };
 
@@ -68,27 +85,6 @@ fn session<L: Ledger, R: Wait + Clock>(
         poll_to_verdict(rt, desk, &mut pass, job);
     }
     pass
-}
-
-/// Whether the last reply is a verdict of the session's own test, and its file, each at its first version.
-fn has_own_verdict<L: Ledger>(pass: &Pass<L>, own: Own) -> bool {
-    match last_reply(pass) {
-        Some(Reply::Verdict(verdict)) => {
-            let verdict = verdict.verdict();
-            let test = verdict.name().bytes() == own.test && verdict.version() == 1;
-            test && is_of_file(verdict, own.file)
-        }
-        _ => false,
-    }
-}
-
-fn is_of_file(verdict: &slices::Verdict, file: &[u8]) -> bool {
-    for read in verdict.versions() {
-        if read.name.bytes() == file {
-            return read.version == 1;
-        }
-    }
-    false
 }
 
 /// Both sessions, and then one closes. Whether each has its own verdict.
@@ -115,8 +111,8 @@ pub fn sessions_then_close<L: Ledger + Send + Sync, R: Threads + Wait + Clock + 
             ensures { result.parts ≡ 1 }
         { session(rt, alloc, desk, second, SECOND) },
     );
-    let one = has_own_verdict(&first, FIRST);
-    let two = has_own_verdict(&second, SECOND);
+    let one = is_told(alloc, last_reply(&first), FIRST.verdict);
+    let two = is_told(alloc, last_reply(&second), SECOND.verdict);
     let closed = recorded(rt, desk, &mut first, Command::Close);
     (first, second, one && two && closed)
 }
