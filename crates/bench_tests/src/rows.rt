@@ -1,9 +1,10 @@
 //! What tests share: calls that are made again, what a test fails with, and the parts of a row.
 
 use book::Limits;
-use std::alloc::Global;
+use std::alloc::{AllocError, Global};
 use std::fmt::Display;
 use std::test::Fail;
+use wb_text::MemSink;
 
 /// A call's answer, made again once where it was refused so.
 macro_rules! again {
@@ -28,6 +29,11 @@ pub fn all_so(rows: &[(&str, bool)]) -> Result<(), Fail> {
         confirm(*holds, name)?;
     }
     Ok(())
+}
+
+/// An empty sink of so much room.
+pub fn sink(alloc: Global, room: usize) -> Result<MemSink, AllocError> {
+    again!(AllocError, MemSink::new(alloc, room))
 }
 
 /// Whether a value is printed so.

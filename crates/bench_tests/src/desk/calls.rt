@@ -2,7 +2,8 @@
 
 ghost use Rattle.std.specs.Prelude.{◌≡◌, All};
 
-use crate::desk::commands::{claim_of, command_of, give, head_of, sink};
+use crate::desk::commands::{claim_of, command_of, give, head_of};
+use crate::rows::sink;
 use book::{Command, Reply};
 use report::write_reply;
 use sessions::{Desk, Pass, finish};
@@ -96,7 +97,7 @@ fn tell<L: Ledger>(pass: &Pass<L>, writer: &mut MemSink) -> bool {
 
 /// Whether all replies to a pass are printed so.
 pub fn are_told<L: Ledger>(alloc: Global, pass: &Pass<L>, wanted: &str) -> bool {
-    match sink(alloc) {
+    match sink(alloc, 8192) {
         Ok(mut writer) => tell(pass, &mut writer) && writer.bytes() == wanted.as_bytes(),
         Err(AllocError) => false,
     }

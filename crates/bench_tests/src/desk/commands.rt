@@ -3,13 +3,13 @@
 //! A script of calls is one text. Each call stands behind `> `: the seat and what is asked, as in a line of a script, and in the lines behind
 //! it the text of a cat file or a test.
 
-use crate::rows::again;
+use crate::rows::{again, sink};
 use book::{Command, Reply, Text};
 use report::write_reply;
 use scripts::{Head, Request, read_head};
 use slices::{PieceResult, evaluate};
 use std::alloc::{AllocError, Global};
-use wb_text::{MemSink, Name};
+use wb_text::Name;
 
 /// Store buffering.
 pub const SB: &[u8] = b"C SB
@@ -97,17 +97,12 @@ pub fn give(alloc: Global, reply: Option<&Reply>) -> Result<Command, AllocError>
     Ok(Command::Return(evaluated(alloc, reply)?))
 }
 
-/// Room for what is printed of replies.
-pub fn sink(alloc: Global) -> Result<MemSink, AllocError> {
-    again!(AllocError, MemSink::new(alloc, 8192))
-}
-
 /// Whether a reply is printed so.
 pub fn is_told(alloc: Global, reply: Option<&Reply>, wanted: &str) -> bool {
     let Some(reply) = reply else {
         return false;
     };
-    match sink(alloc) {
+    match sink(alloc, 8192) {
         Ok(mut writer) => {
             write_reply(reply, &mut writer).is_ok() && writer.bytes() == wanted.as_bytes()
         }

@@ -17,7 +17,7 @@
 ghost use Rattle.std.specs.Prelude.{◌≤◌};
 
 use crate::desk::books::scene::is_played;
-use crate::rows::{again, confirm, is_shown, limits_of, number_behind, parts_of};
+use crate::rows::{confirm, is_shown, limits_of, number_behind, parts_of, sink};
 use crate::script::tasks::is_done;
 use crate::script::texts::expanded;
 use book::Limits;
@@ -48,11 +48,6 @@ pub const ALONE: Options = Options {
         claims: 100,
     },
 };
-
-/// An empty sink of so much room.
-fn sink(alloc: Global, room: usize) -> Result<MemSink, AllocError> {
-    again!(AllocError, MemSink::new(alloc, room))
-}
 
 /// How `one` is called.
 #[derive(Clone, Copy)]
@@ -154,11 +149,10 @@ fn slices_of(call: &str) -> u16
     ensures { (1 ≤ result) × (result ≤ 256) }
 {
     let slices = number_behind(call, " in ").unwrap_or(1);
-    if 1 <= slices && slices <= 256 {
-        slices as u16
-    } else {
-        1
+    if slices > 256 {
+        return 256;
     }
+    if slices < 1 { 1 } else { slices as u16 }
 }
 
 /// What becomes of a test under each model: what became of it under the first that isn't answered so.

@@ -4,7 +4,7 @@ ghost use Rattle.slices.specs.Parts.{test_size};
 
 use crate::desk::works::work_of;
 use crate::rows::{all_so, is_cut_off};
-use crate::script::texts::{INDEPENDENT_READS, STORE_BUFFERING, STORE_BUFFERING_SUMMARY};
+use crate::script::texts::meant;
 use conditions::{Place, observed};
 use report::{WriteFault, write_summary};
 use slices::{Piece, Tally, Verdict, WorkRef, evaluate};
@@ -69,11 +69,11 @@ fn observes_both(alloc: Global, work: &WorkRef) -> bool {
 }
 
 /// Whether a summary that is written to so little room ends in 95, with just the prefix written.
-fn is_told_in_part(alloc: Global, verdict: &Verdict, room: usize) -> bool {
+fn is_told_in_part(alloc: Global, verdict: &Verdict, summary: &str, room: usize) -> bool {
     match MemSink::new(alloc, room) {
         Ok(mut writer) => {
             write_summary(verdict, &mut writer) == Err(WriteFault::Write)
-                && is_cut_off(writer.bytes(), STORE_BUFFERING_SUMMARY, room)
+                && is_cut_off(writer.bytes(), summary, room)
         }
         Err(_) => false,
     }
@@ -81,8 +81,9 @@ fn is_told_in_part(alloc: Global, verdict: &Verdict, room: usize) -> bool {
 
 /// Whether the summary of a verdict is cut off so wherever the writer fails.
 fn is_told_in_parts(alloc: Global, verdict: &Verdict) -> bool {
-    for room in 0..STORE_BUFFERING_SUMMARY.len() {
-        if !is_told_in_part(alloc, verdict, room) {
+    let summary = meant("SB summary");
+    for room in 0..summary.len() {
+        if !is_told_in_part(alloc, verdict, summary, room) {
             return false;
         }
     }
@@ -99,8 +100,8 @@ fn is_told_in_parts_of(alloc: Global, work: &WorkRef) -> bool {
 #[test]
 fn pieces(rt: HostRuntime) -> Result<(), Fail> {
     let alloc = rt.alloc();
-    let reads = work_of(alloc, INDEPENDENT_READS.as_bytes(), b"rc11.cat")?;
-    let buffering = work_of(alloc, STORE_BUFFERING.as_bytes(), b"stdlib.cat")?;
+    let reads = work_of(alloc, meant("IRIW").as_bytes(), b"rc11.cat")?;
+    let buffering = work_of(alloc, meant("SB").as_bytes(), b"stdlib.cat")?;
     all_so(&[
         (
             "iriw: four pieces, from the last to the first",

@@ -2,7 +2,7 @@
 
 use crate::rows::is_cut_off;
 use crate::script::calls::{ALONE, served};
-use crate::script::texts::{FIRST, FIRST_ANSWERS, REPLACED};
+use crate::script::texts::meant;
 use scripts::{ServeFault, serve};
 use std::alloc::{AllocError, Global};
 use std::io;
@@ -509,7 +509,7 @@ fn ends_well<T: Threads + Wait + Sync>(rt: &T, alloc: Global, script: &[u8]) -> 
 #[test]
 fn hostile_input_row_1(rt: HostRuntime) {
     let alloc = rt.alloc();
-    let script = REPLACED.as_bytes();
+    let script = meant("script_replaced").as_bytes();
     for length in 0..script.len() {
         assert!(rt; ends_well(&rt, alloc, &script[..length]), "at {length}");
     }
@@ -517,9 +517,11 @@ fn hostile_input_row_1(rt: HostRuntime) {
 
 /// Whether a writer of too little room has just the prefix of the answers, with the fault that says so.
 fn has_a_front_part<T: Threads + Wait + Sync>(rt: &T, alloc: Global, room: usize) -> bool {
-    match served(rt, alloc, FIRST.as_bytes(), &ALONE, false, room) {
+    let script = meant("script_first").as_bytes();
+    match served(rt, alloc, script, &ALONE, false, room) {
         Ok((outcome, writer)) => {
-            outcome == Err(ServeFault::Write) && is_cut_off(writer.bytes(), FIRST_ANSWERS, room)
+            let answers = meant("script_first answers");
+            outcome == Err(ServeFault::Write) && is_cut_off(writer.bytes(), answers, room)
         }
         Err(_) => false,
     }
@@ -528,7 +530,7 @@ fn has_a_front_part<T: Threads + Wait + Sync>(rt: &T, alloc: Global, room: usize
 #[test]
 fn hostile_input_row_6_writer(rt: HostRuntime) {
     let alloc = rt.alloc();
-    for room in 0..FIRST_ANSWERS.len() {
+    for room in 0..meant("script_first answers").len() {
         assert!(rt; has_a_front_part(&rt, alloc, room), "at {room}");
     }
 }

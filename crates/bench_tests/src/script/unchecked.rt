@@ -2,7 +2,7 @@
 
 use crate::rows::is_cut_off;
 use crate::script::calls::{Way, summarized};
-use crate::script::texts::{STORE_BUFFERING, STORE_BUFFERING_SUMMARY};
+use crate::script::texts::meant;
 use program::OneFault;
 use std::alloc::{AllocError, Global};
 
@@ -291,7 +291,7 @@ fn ends_so(
     };
     match summarized(alloc, input.as_bytes(), b"", way) {
         Ok((outcome, writer)) => {
-            outcome == *end && is_cut_off(writer.bytes(), STORE_BUFFERING_SUMMARY, written)
+            outcome == *end && is_cut_off(writer.bytes(), meant("SB summary"), written)
         }
         Err(AllocError) => false,
     }
@@ -302,9 +302,9 @@ fn ends_so(
 fn hostile_input_row_6_summary(rt: HostRuntime) {
     let alloc = rt.alloc();
     let end = Err(OneFault::Write);
-    for room in 0..STORE_BUFFERING_SUMMARY.len() {
+    for room in 0..meant("SB summary").len() {
         assert!(rt;
-            ends_so(alloc, STORE_BUFFERING, false, room, &end, room),
+            ends_so(alloc, meant("SB"), false, room, &end, room),
             "at {room}"
         );
     }

@@ -4,9 +4,9 @@
 
 ghost use Rattle.std.specs.Prelude.{◌<◌};
 
-use crate::desk::commands::{claim_of, command_of, give, head_of, sink};
+use crate::desk::commands::{claim_of, command_of, give, head_of};
 use crate::desk::works::{whole_part, work_of};
-use crate::rows::{again, limits_of};
+use crate::rows::{again, limits_of, sink};
 use book::{Book, Command, Limits, Reply};
 use report::write_reply;
 use std::alloc::{AllocError, Global};
@@ -101,7 +101,7 @@ fn tell(book: &Book, writer: &mut MemSink) -> bool {
 
 /// Whether all replies are printed so.
 fn are_told(alloc: Global, book: &Book, wanted: &str) -> bool {
-    match sink(alloc) {
+    match sink(alloc, 8192) {
         Ok(mut writer) => tell(book, &mut writer) && writer.bytes() == wanted.as_bytes(),
         Err(AllocError) => false,
     }
