@@ -174,7 +174,7 @@ fn close_while_held<L: Ledger, R: Wait + Clock>(
 }
 
 /// What the sessions do while the workers work, and whether each that asks for itself has its own verdict.
-fn sessions<L: Ledger + Send + Sync, R: Threads + Wait + Clock + Sync>(
+fn sessions_beside<L: Ledger + Send + Sync, R: Threads + Wait + Clock + Sync>(
     rt: &R,
     alloc: Global,
     desk: &Desk<L>,
@@ -251,7 +251,7 @@ fn all<L: Ledger + Send + Sync, R: Threads + Wait + Clock + Sync>(
         || -> (Pass<L>, Pass<L>, bool)
             requires { (first.parts ≡ 1) × (second.parts ≡ 1) }
             ensures { (result.0.parts ≡ 1) × (result.1.parts ≡ 1) }
-        { sessions(rt, alloc, desk, first, second, course, gate) },
+        { sessions_beside(rt, alloc, desk, first, second, course, gate) },
     );
     (workers, report, first, second, told)
 }
@@ -365,7 +365,7 @@ fn goes_well<R: Threads + Wait + Clock + Sync>(rt: &R, alloc: Global, course: Co
 }
 
 #[test]
-fn workers(rt: HostRuntime) -> Result<(), Fail> {
+fn courses(rt: HostRuntime) -> Result<(), Fail> {
     let alloc = rt.alloc();
     all_so(&[
         (
