@@ -1,7 +1,8 @@
 //! The book, the desk that sessions share, and its workers.
 
-mod books;
+pub mod books;
 mod calls;
-mod commands;
+pub mod commands;
 mod passes;
 mod working;
+pub mod works;

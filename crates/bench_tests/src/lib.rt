@@ -5,4 +5,6 @@
 #[cfg(test)]
 mod desk;
 #[cfg(test)]
+mod rows;
+#[cfg(test)]
 mod script;

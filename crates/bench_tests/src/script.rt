@@ -1,16 +1,42 @@
 //! Worked rows of `one` under models, scripts, the texts of `examples/`, and calls that are refused memory.
 
-mod calls;
+pub mod calls;
 mod commands;
 mod examples;
+mod faults;
 mod growth;
 mod in_turn;
 mod models;
 mod pieces;
-mod rows;
 mod served;
+mod sizes;
 mod tasks;
-mod texts;
+pub mod texts;
 mod threads;
 mod unchecked;
 mod words;
+
+use crate::script::calls::all_hold;
+use std::test::Fail;
+
+/// Tests and their summaries.
+#[test]
+fn summaries(rt: HostRuntime) -> Result<(), Fail> {
+    let alloc = rt.alloc();
+    all_hold(&rt, alloc, unchecked::ROWS)?;
+    all_hold(&rt, alloc, models::ROWS)?;
+    all_hold(&rt, alloc, sizes::ROWS)?;
+    all_hold(&rt, alloc, examples::ROWS)?;
+    all_hold(&rt, alloc, examples::fences::ROWS)
+}
+
+/// Scripts and their answers, and the words of the program.
+#[test]
+fn scripts(rt: HostRuntime) -> Result<(), Fail> {
+    let alloc = rt.alloc();
+    all_hold(&rt, alloc, served::ROWS)?;
+    all_hold(&rt, alloc, commands::ROWS)?;
+    all_hold(&rt, alloc, threads::ROWS)?;
+    all_hold(&rt, alloc, examples::SCRIPTS)?;
+    all_hold(&rt, alloc, tasks::ROWS)
+}

@@ -6,4 +6,4 @@
 mod calls;
 mod growth;
 mod refused;
-mod scene;
+pub mod scene;

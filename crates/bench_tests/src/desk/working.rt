@@ -1,7 +1,6 @@
 //! Tests of the workers: several on real threads, beside sessions, and one whose calls are refused.
 
 mod calls;
-mod closing;
 mod gates;
 mod refusals;
 mod running;

@@ -1,11 +1,24 @@
-//! One test and its summary, and rows: what `one` or `serve` is given, and what it is to answer.
+//! Rows: what is given, the call that is made of it, and what is to be answered.
 //!
 //! A literal of many rows is dear to prove, and a text costs nothing. So the rows stand in texts, and a test reads them: each row is
 //! behind `=== `, its name on the first line, and a test fails with the text of the first row that doesn't hold. In a row a name between
 //! signs of percent is the text of that name, and `%3 times TEXT%` is TEXT three times.
+//!
+//! What is given is followed by a line of `+++` and the call, and what is answered stands behind a line `---`:
+//!
+//! - `+++ one`, or `+++ one in 5 slices`: a test, then models, one a line, and the summary or the refusal under each of them. A line of three
+//!   dots stands for whatever is left out there.
+//! - `+++ serve`, with limits, workers or `a reader that fails`: a script, and its end in a line before its answers. Behind lines
+//!   `--- or` are ends and answers of a script that is refused memory.
+//! - `+++ book`, with limits: calls of a script, each behind `> `, and their replies.
+//! - `+++ bench` with words, and behind them `, room 16` where the writer has so little: an input, and the status in a line before what is
+//!   written.
 
 ghost use Rattle.std.specs.Prelude.{◌≤◌};
 
+use crate::desk::books::scene::is_played;
+use crate::rows::{confirm, is_shown, limits_of, number_behind, parts_of, sink};
+use crate::script::tasks::is_done;
 use crate::script::texts::expanded;
 use book::Limits;
 use program::{OneFault, one};
@@ -16,132 +29,49 @@ use std::test::Fail;
 use std::thread::Threads;
 use wb_text::{MemSink, MemSource};
 
-/// Scripts that are served under the same limits, where the reader fails at the end of each or not. A row has a script, behind `+++`
-/// how it ends, and behind `---` what is answered.
-pub struct Scripts {
-    pub limits: Limits,
-    pub fails: bool,
-    pub rows: &'static str,
+/// What becomes of a row.
+#[derive(Clone, Copy)]
+pub enum Tried {
+    /// It is answered as it says.
+    Answered,
+    /// It is refused memory, and told so as it may be.
+    Refused,
+    Wrong,
 }
 
-/// The limits of a book whose journal is not to be full.
-pub const WIDE: Limits = Limits {
-    journal: 100,
-    versions: 100,
-    claims: 100,
+/// One worker, on the thread of the script, and a book whose journal is not to be full.
+pub const ALONE: Options = Options {
+    workers: 0,
+    limits: Limits {
+        journal: 100,
+        versions: 100,
+        claims: 100,
+    },
 };
 
-/// Fails with what was tried, unless it held.
-pub fn confirm(holds: bool, tried: &str) -> Result<(), Fail> {
-    if holds { Ok(()) } else { Err(Fail::new(tried)) }
+/// How `one` is called.
+#[derive(Clone, Copy)]
+pub struct Way {
+    pub slices: u16,
+    /// Whether the reader fails behind the input.
+    pub fails: bool,
+    /// How much room the writer has.
+    pub room: usize,
 }
 
-/// What is answered to an input under a cat text where the writer has so much room, and what it then holds.
+/// What is answered to an input under a cat text, and what the writer then holds.
 pub fn summarized(
     alloc: Global,
     input: &[u8],
     cat: &[u8],
-    room: usize,
-) -> Result<(Result<(), OneFault>, MemSink), AllocError> {
-    let mut reader = MemSource::new(input, false);
-    let mut writer = MemSink::new(alloc, room)?;
-    let outcome = one(alloc, &mut reader, cat, 1, &mut writer);
+    way: Way,
+) -> Result<(Result<(), OneFault>, MemSink), AllocError>
+    requires { (1 ≤ way.slices) × (way.slices ≤ 256) }
+{
+    let mut reader = MemSource::new(input, way.fails);
+    let mut writer = sink(alloc, way.room)?;
+    let outcome = one(alloc, &mut reader, cat, way.slices, &mut writer);
     Ok((outcome, writer))
-}
-
-/// The three parts of a row behind its name.
-fn parts_of(row: &str) -> Option<(&str, &str, &str)> {
-    let (_, row) = row.split_once('\n')?;
-    let (first, row) = row.split_once("+++\n")?;
-    let (second, third) = row.split_once("---\n")?;
-    Some((first, second, third))
-}
-
-/// Fails with the text of a row, if one is given.
-fn confirm_none(row: &str) -> Result<(), Fail> {
-    confirm(row.is_empty(), row)
-}
-
-/// Whether these bytes are a text or, where that has a gap, a line of three dots, begin and end so.
-fn is_text(bytes: &[u8], wanted: &str) -> bool {
-    match wanted.split_once("...\n") {
-        Some((start, end)) => {
-            bytes.starts_with(start.as_bytes()) && bytes.ends_with(end.as_bytes())
-        }
-        None => bytes == wanted.as_bytes(),
-    }
-}
-
-/// Whether a fault is printed so, behind the word of a refusal.
-pub fn is_printed(alloc: Global, fault: &OneFault, wanted: &str) -> bool {
-    match fault.to_string(alloc) {
-        Ok(shown) => wanted.strip_prefix("refused ") == Some(shown.as_str()),
-        Err(_) => false,
-    }
-}
-
-/// Whether this outcome, with these bytes written, is what is wanted: a summary, or a line of a refusal, by which nothing is written.
-fn is_wanted(alloc: Global, outcome: &Result<(), OneFault>, bytes: &[u8], wanted: &str) -> bool {
-    match outcome {
-        Ok(()) => is_text(bytes, wanted),
-        Err(fault) => {
-            fault.is_refusal() && bytes.is_empty() && is_printed(alloc, fault, wanted.trim_end())
-        }
-    }
-}
-
-/// Whether a test under a model is answered so.
-fn is_answered(alloc: Global, test: &str, cat: &str, wanted: &str) -> bool {
-    match summarized(alloc, test.as_bytes(), cat.as_bytes(), 4096) {
-        Ok((outcome, writer)) => is_wanted(alloc, &outcome, writer.bytes(), wanted),
-        Err(_) => false,
-    }
-}
-
-fn is_answered_under(alloc: Global, test: &str, cat: &str, wanted: &str) -> bool {
-    match expanded(alloc, cat) {
-        Ok(cat) => is_answered(alloc, test, cat.as_str(), wanted),
-        Err(_) => false,
-    }
-}
-
-/// Whether a test is answered so under each model.
-fn is_answered_under_each(alloc: Global, test: &str, cats: &str, wanted: &str) -> bool {
-    for cat in cats.lines() {
-        if !is_answered_under(alloc, test, cat, wanted) {
-            return false;
-        }
-    }
-    true
-}
-
-/// Whether a row holds: a test, behind `+++` models, one a line, and behind `---` what is answered under each of them.
-fn holds(alloc: Global, row: &str) -> bool {
-    let Some((test, cats, wanted)) = parts_of(row) else {
-        return false;
-    };
-    let test = test.strip_suffix('\n').unwrap_or(test);
-    match (expanded(alloc, test), expanded(alloc, wanted)) {
-        (Ok(test), Ok(wanted)) => {
-            is_answered_under_each(alloc, test.as_str(), cats, wanted.as_str())
-        }
-        _ => false,
-    }
-}
-
-/// The first row that doesn't hold, or nothing.
-fn first_wrong(alloc: Global, rows: &str) -> &str {
-    for row in rows.split("=== ").skip(1) {
-        if !holds(alloc, row) {
-            return row;
-        }
-    }
-    ""
-}
-
-/// Follows the rows.
-pub fn all_hold(alloc: Global, rows: &str) -> Result<(), Fail> {
-    confirm_none(first_wrong(alloc, rows))
 }
 
 /// What is answered to a script under these options, where the reader fails at its end or not and the writer has so much
@@ -157,99 +87,220 @@ pub fn served<T: Threads + Wait + Sync>(
     requires { options.now.workers ≤ 8 }
 {
     let mut reader = MemSource::new(script, fails);
-    let mut writer = MemSink::new(alloc, room)?;
+    let mut writer = sink(alloc, room)?;
     let outcome = serve(rt, alloc, &mut reader, &mut writer, options);
     Ok((outcome, writer))
 }
 
-/// Whether a script ends so.
-fn is_end(alloc: Global, outcome: &Result<(), ServeFault>, end: &str) -> bool {
+/// Whether these bytes are a text or, where that has a gap, a line of three dots, begin and end so.
+fn is_text(bytes: &[u8], wanted: &str) -> bool {
+    match wanted.split_once("...\n") {
+        Some((start, end)) => {
+            bytes.starts_with(start.as_bytes()) && bytes.ends_with(end.as_bytes())
+        }
+        None => bytes == wanted.as_bytes(),
+    }
+}
+
+/// Whether this outcome, with these bytes written, is what is wanted: a summary, or the line of a refusal, by which nothing is written.
+fn is_wanted(alloc: Global, outcome: &Result<(), OneFault>, bytes: &[u8], wanted: &str) -> bool {
     match outcome {
-        Ok(()) => end == "ok\n",
-        Err(fault) => match fault.to_string(alloc) {
-            Ok(shown) => end.strip_suffix('\n') == Some(shown.as_str()),
-            Err(_) => false,
+        Ok(()) => is_text(bytes, wanted),
+        Err(fault) => match wanted.strip_prefix("refused ") {
+            Some(refusal) => {
+                fault.is_refusal() && bytes.is_empty() && is_shown(alloc, fault, refusal.trim_end())
+            }
+            None => false,
         },
     }
 }
 
-/// Whether a script is answered so.
-fn is_played<T: Threads + Wait + Sync>(
-    rt: &T,
-    alloc: Global,
-    script: &str,
-    options: &Options,
-    fails: bool,
-    end: &str,
-    answers: &str,
-) -> bool
-    requires { options.now.workers ≤ 8 }
-{
-    match served(rt, alloc, script.as_bytes(), options, fails, 4096) {
-        Ok((outcome, writer)) => {
-            is_end(alloc, &outcome, end) && writer.bytes() == answers.as_bytes()
-        }
-        Err(_) => false,
+/// What became of a call of `one`. One that is refused memory writes nothing.
+fn judged(alloc: Global, outcome: &Result<(), OneFault>, bytes: &[u8], wanted: &str) -> Tried {
+    if is_wanted(alloc, outcome, bytes, wanted) {
+        Tried::Answered
+    } else if bytes.is_empty() && matches!(outcome, Err(OneFault::NoMemory)) {
+        Tried::Refused
+    } else {
+        Tried::Wrong
     }
 }
 
-/// Whether the script of a row is answered as it says.
-fn goes_well<T: Threads + Wait + Sync>(
-    rt: &T,
-    alloc: Global,
-    row: &str,
-    options: &Options,
-    fails: bool,
-) -> bool
-    requires { options.now.workers ≤ 8 }
+fn try_summary(alloc: Global, test: &str, cat: &str, way: Way, wanted: &str) -> Tried
+    requires { (1 ≤ way.slices) × (way.slices ≤ 256) }
 {
-    let Some((script, end, answers)) = parts_of(row) else {
-        return false;
+    match summarized(alloc, test.as_bytes(), cat.as_bytes(), way) {
+        Ok((outcome, writer)) => judged(alloc, &outcome, writer.bytes(), wanted),
+        Err(AllocError) => Tried::Wrong,
+    }
+}
+
+fn try_under(alloc: Global, test: &str, model: &str, way: Way, wanted: &str) -> Tried
+    requires { (1 ≤ way.slices) × (way.slices ≤ 256) }
+{
+    match expanded(alloc, model) {
+        Ok(cat) => try_summary(alloc, test, cat.as_str(), way, wanted),
+        Err(AllocError) => Tried::Wrong,
+    }
+}
+
+/// In how many slices a call evaluates.
+fn slices_of(call: &str) -> u16
+    ensures { (1 ≤ result) × (result ≤ 256) }
+{
+    let slices = number_behind(call, " in ").unwrap_or(1);
+    if slices > 256 {
+        return 256;
+    }
+    if slices < 1 { 1 } else { slices as u16 }
+}
+
+/// What becomes of a test under each model: what became of it under the first that isn't answered so.
+fn try_under_each(alloc: Global, call: &str, test: &str, models: &str, wanted: &str) -> Tried {
+    let way = Way {
+        slices: slices_of(call),
+        fails: false,
+        room: 4096,
     };
-    match (expanded(alloc, script), expanded(alloc, answers)) {
-        (Ok(script), Ok(answers)) => is_played(
-            rt,
-            alloc,
-            script.as_str(),
-            options,
-            fails,
-            end,
-            answers.as_str(),
-        ),
-        _ => false,
-    }
-}
-
-/// The first script that doesn't go well, or nothing.
-fn first_lost<T: Threads + Wait + Sync>(
-    rt: &T,
-    alloc: Global,
-    scripts: &Scripts,
-    workers: u8,
-) -> &'static str
-    requires { workers ≤ 8 }
-{
-    let limits = scripts.limits;
-    let options = Options { workers, limits };
-    for row in scripts.rows.split("=== ").skip(1) {
-        if !goes_well(rt, alloc, row, &options, scripts.fails) {
-            return row;
+    for model in models.lines() {
+        match try_under(alloc, test, model, way, wanted) {
+            Tried::Answered => {}
+            other => return other,
         }
     }
-    ""
+    Tried::Answered
 }
 
-/// Plays the scripts, with so many workers.
-pub fn all_go_well<T: Threads + Wait + Sync>(
+/// How many workers a call names.
+fn workers_of(call: &str) -> u8
+    ensures { result ≤ 8 }
+{
+    let workers = number_behind(call, " workers ").unwrap_or(0);
+    if workers > 8 { 8 } else { workers as u8 }
+}
+
+/// The options that a call of `serve` names, and the others of `ALONE`.
+fn options_of(call: &str) -> Options
+    ensures { result.workers ≤ 8 }
+{
+    Options {
+        workers: workers_of(call),
+        limits: limits_of(call),
+    }
+}
+
+/// Whether a script ends so, with this written.
+fn is_answer(alloc: Global, outcome: &Result<(), ServeFault>, bytes: &[u8], wanted: &str) -> bool {
+    match wanted.split_once('\n') {
+        Some((end, answers)) => bytes == answers.as_bytes() && is_end(alloc, outcome, end),
+        None => false,
+    }
+}
+
+fn is_end(alloc: Global, outcome: &Result<(), ServeFault>, end: &str) -> bool {
+    match outcome {
+        Ok(()) => end == "ok",
+        Err(fault) => is_shown(alloc, fault, end),
+    }
+}
+
+/// Whether these bytes are whole lines at the front of the answers behind an end.
+fn is_front_of(bytes: &[u8], wanted: &str) -> bool {
+    match wanted.split_once('\n') {
+        Some((_, answers)) => {
+            answers.as_bytes().starts_with(bytes) && (bytes.is_empty() || bytes.ends_with(b"\n"))
+        }
+        None => false,
+    }
+}
+
+/// Whether a script ends as one of these, where a line isn't taken.
+fn is_one_of(alloc: Global, outcome: &Result<(), ServeFault>, bytes: &[u8], others: &str) -> bool {
+    for other in others.split("--- or\n") {
+        if is_answer(alloc, outcome, bytes, other) {
+            return true;
+        }
+    }
+    false
+}
+
+/// What became of a script that has its own answers or, where a line isn't taken, others. One that is refused memory as a whole has the
+/// first of its own answers.
+fn judged_script(
+    alloc: Global,
+    outcome: &Result<(), ServeFault>,
+    bytes: &[u8],
+    wanted: &str,
+) -> Tried {
+    let (own, others) = wanted.split_once("--- or\n").unwrap_or((wanted, ""));
+    if is_answer(alloc, outcome, bytes, own) {
+        return Tried::Answered;
+    }
+    let refused = match outcome {
+        Err(ServeFault::NoMemory) => is_front_of(bytes, own),
+        _ => is_one_of(alloc, outcome, bytes, others),
+    };
+    if refused {
+        Tried::Refused
+    } else {
+        Tried::Wrong
+    }
+}
+
+fn try_script<T: Threads + Wait + Sync>(
     rt: &T,
     alloc: Global,
-    groups: &[Scripts],
-    workers: u8,
-) -> Result<(), Fail>
-    requires { workers ≤ 8 }
-{
-    for scripts in groups {
-        confirm_none(first_lost(rt, alloc, scripts, workers))?;
+    call: &str,
+    script: &str,
+    wanted: &str,
+) -> Tried {
+    let options = options_of(call);
+    let fails = call.ends_with("a reader that fails");
+    match served(rt, alloc, script.as_bytes(), &options, fails, 4096) {
+        Ok((outcome, writer)) => judged_script(alloc, &outcome, writer.bytes(), wanted),
+        Err(AllocError) => Tried::Wrong,
+    }
+}
+
+/// What becomes of what is given, by a call and the models behind it.
+fn try_call<T: Threads + Wait + Sync>(
+    rt: &T,
+    alloc: Global,
+    call: &str,
+    given: &str,
+    wanted: &str,
+) -> Tried {
+    let (call, models) = call.split_once('\n').unwrap_or((call, ""));
+    if call.starts_with("one") {
+        let test = given.strip_suffix('\n').unwrap_or(given);
+        return try_under_each(alloc, call, test, models, wanted);
+    }
+    if call.starts_with("serve") {
+        return try_script(rt, alloc, call, given, wanted);
+    }
+    let holds = if call.starts_with("book") {
+        is_played(alloc, call, given, wanted)
+    } else {
+        is_done(rt, alloc, call, given, wanted)
+    };
+    if holds { Tried::Answered } else { Tried::Wrong }
+}
+
+/// What becomes of a row.
+pub fn try_row<T: Threads + Wait + Sync>(rt: &T, alloc: Global, row: &str) -> Tried {
+    let Some((given, call, wanted)) = parts_of(row) else {
+        return Tried::Wrong;
+    };
+    match (expanded(alloc, given), expanded(alloc, wanted)) {
+        (Ok(given), Ok(wanted)) => try_call(rt, alloc, call, given.as_str(), wanted.as_str()),
+        _ => Tried::Wrong,
+    }
+}
+
+/// Fails with the first row that isn't answered as it says.
+pub fn all_hold<T: Threads + Wait + Sync>(rt: &T, alloc: Global, rows: &str) -> Result<(), Fail> {
+    for row in rows.split("=== ").skip(1) {
+        confirm(matches!(try_row(rt, alloc, row), Tried::Answered), row)?;
     }
     Ok(())
 }

@@ -1,39 +1,10 @@
-//! Worked rows of scripts: drops, work, slices, and the commands that end what was asked.
+//! Rows of scripts: drops, work, slices, and the commands that end what was asked.
 
-use crate::script::calls::{Scripts, WIDE, all_go_well};
-use book::Limits;
-use std::test::Fail;
-
-const COMMANDS: &[Scripts] = &[
-    Scripts {
-        limits: WIDE,
-        fails: false,
-        rows: "
-=== script_replaced
-0 cat base.cat
-let com = rf | co | fr
-.
-0 cat sc.cat
-include \"base.cat\"
-acyclic po | com as sc
-.
-0 test
-%SB%.
-0 ask SB sc.cat
-1 claim
-0 cat base.cat
-let com = rf | co | fr
-.
-1 return 1
-1 return 1
-0 poll 1
-0 ask SB sc.cat
-work
-0 poll 2
-0 list
-+++
-ok
+pub const ROWS: &str = "
+=== commands: script_replaced
+%script_replaced%+++ serve
 ---
+ok
 version base.cat 1
 version sc.cat 1
 version SB 1
@@ -53,7 +24,7 @@ job 1 SB sc.cat 0 1
 job 2 SB sc.cat 1 1
 end
 finish ok 15
-=== script_release
+=== commands: script_release
 0 test
 %SB%.
 0 ask SB rc11.cat
@@ -70,9 +41,9 @@ finish ok 15
 0 poll 1
 0 close
 0 list
-+++
-ok
++++ serve
 ---
+ok
 version SB 1
 job 1
 piece 1 job 1 slice 0 from 0 to 16
@@ -89,7 +60,7 @@ refused 77 NoJob 1
 done
 refused 71 Closed
 finish ok 15
-=== iriw
+=== commands: iriw
 0 test
 %IRIW%.
 0 ask IRIW rc11.cat
@@ -112,9 +83,9 @@ finish ok 15
 0 poll 1
 1 return 1
 0 poll 1
-+++
-ok
++++ serve
 ---
+ok
 version IRIW 1
 job 1
 piece 1 job 1 slice 0 from 0 to 256
@@ -153,7 +124,7 @@ pending 15 16
 taken 16 16
 verdict IRIW 1 rc11.cat 0
 %IRIW summary%finish ok 37
-=== work takes what sessions left
+=== commands: work takes what sessions left
 0 test
 %IRIW%.
 0 ask IRIW rc11.cat
@@ -163,9 +134,9 @@ work
 0 poll 1
 1 return 1
 0 poll 1
-+++
-ok
++++ serve
 ---
+ok
 version IRIW 1
 job 1
 piece 1 job 1 slice 0 from 0 to 256
@@ -175,24 +146,24 @@ pending 15 16
 taken 16 16
 verdict IRIW 1 rc11.cat 0
 %IRIW summary%finish ok 38
-=== work over an empty book
+=== commands: work over an empty book
 %2 times work
-%+++
-ok
+%+++ serve
 ---
+ok
 worked 0 0 0
 worked 0 0 0
 finish ok 2
-=== work over a closed book
+=== commands: work over a closed book
 0 close
 work
-+++
-ok
++++ serve
 ---
+ok
 done
 worked 0 0 0
 finish ok 2
-=== drops
+=== commands: drops
 0 droptest SB
 0 dropcat rc11.cat
 0 test
@@ -208,9 +179,9 @@ finish ok 2
 .
 0 droptest SB
 0 list
-+++
-ok
++++ serve
 ---
+ok
 refused 73 NoTest SB
 refused 74 Model 61 NoCat rc11.cat
 version SB 1
@@ -228,7 +199,7 @@ cat a.cat 3
 job 1 SB a.cat 0 1
 end
 finish ok 12
-=== Lost-workers-row-1
+=== commands: Lost-workers-row-1
 0 test
 %SB%.
 0 ask SB rc11.cat
@@ -248,9 +219,9 @@ finish ok 12
 2 return 3
 0 close
 work
-+++
-ok
++++ serve
 ---
+ok
 version SB 1
 job 1
 piece 1 job 1 slice 0 from 0 to 16
@@ -269,49 +240,29 @@ refused 78 NoClaim 3
 done
 worked 0 0 0
 finish ok 17
-",
-    },
-    Scripts {
-        limits: Limits {
-            journal: 3,
-            versions: 100,
-            claims: 100,
-        },
-        fails: false,
-        rows: "
-=== journal_full
+=== commands: journal_full
 %4 times 0 list
-%+++
-ok
+%+++ serve journal 3
 ---
+ok
 end
 end
 end
 not taken JournalFull
 finish ok 3
-=== Lost-workers-row-2: a journal of 3
+=== commands: Lost-workers-row-2: a journal of 3
 0 test
 %SB%.
 0 ask SB rc11.cat
 work
-+++
-ok
++++ serve journal 3
 ---
+ok
 version SB 1
 job 1
 worked 1 0 2
 finish ok 3
-",
-    },
-    Scripts {
-        limits: Limits {
-            journal: 20,
-            versions: 2,
-            claims: 1,
-        },
-        fails: false,
-        rows: "
-=== spent
+=== commands: spent
 0 cat a.cat
 .
 0 dropcat a.cat
@@ -323,9 +274,9 @@ finish ok 3
 0 claim
 0 back 1
 0 claim
-+++
-ok
++++ serve journal 20 versions 2 claims 1
 ---
+ok
 version a.cat 1
 version a.cat 2
 refused 81 VersionsSpent a.cat
@@ -335,26 +286,16 @@ piece 1 job 1 slice 0 from 0 to 16
 done
 refused 82 ClaimsSpent
 finish ok 8
-",
-    },
-    Scripts {
-        limits: Limits {
-            journal: 4,
-            versions: 100,
-            claims: 100,
-        },
-        fails: false,
-        rows: "
-=== work where the journal is full
+=== commands: work where the journal is full
 0 test
 %SB%.
 0 ask SB rc11.cat
 0 list
 work
 work
-+++
-ok
++++ serve journal 4
 ---
+ok
 version SB 1
 job 1
 test SB 1
@@ -363,77 +304,43 @@ end
 worked 1 0 2
 worked 0 0 1
 finish ok 4
-=== Lost-workers-row-2: a journal of 4
+=== commands: Lost-workers-row-2: a journal of 4
 0 test
 %SB%.
 0 ask SB rc11.cat
 work
-+++
-ok
++++ serve journal 4
 ---
+ok
 version SB 1
 job 1
 worked 1 0 1
 finish ok 4
-",
-    },
-    Scripts {
-        limits: Limits {
-            journal: 2,
-            versions: 100,
-            claims: 100,
-        },
-        fails: false,
-        rows: "
-=== Lost-workers-row-2: a journal of 2
+=== commands: Lost-workers-row-2: a journal of 2
 0 test
 %SB%.
 0 ask SB rc11.cat
 work
-+++
-ok
++++ serve journal 2
 ---
+ok
 version SB 1
 job 1
 worked 0 0 1
 finish ok 2
-",
-    },
-    Scripts {
-        limits: Limits {
-            journal: 5,
-            versions: 100,
-            claims: 100,
-        },
-        fails: false,
-        rows: "
-=== Lost-workers-row-2: a journal of 5
+=== commands: Lost-workers-row-2: a journal of 5
 0 test
 %SB%.
 0 ask SB rc11.cat
 work
-+++
-ok
++++ serve journal 5
 ---
+ok
 version SB 1
 job 1
 worked 1 0 0
 finish ok 5
-",
-    },
-];
-
-#[test]
-fn commands(rt: HostRuntime) -> Result<(), Fail> {
-    all_go_well(&rt, rt.alloc(), COMMANDS, 0)
-}
-
-const SIZES: &[Scripts] = &[
-    Scripts {
-        limits: WIDE,
-        fails: false,
-        rows: "
-=== sizes: twelve stores
+=== sizes_of_jobs: sizes: twelve stores
 0 cat none.cat
 .
 0 test
@@ -446,9 +353,9 @@ exists ([x]=1)
 .
 0 ask S none.cat
 0 list
-+++
-ok
++++ serve
 ---
+ok
 version none.cat 1
 version S 1
 job 1
@@ -457,7 +364,7 @@ cat none.cat 1
 job 1 S none.cat 0 256
 end
 finish ok 4
-=== sizes: thirteen stores
+=== sizes_of_jobs: sizes: thirteen stores
 0 cat none.cat
 .
 0 test
@@ -469,14 +376,14 @@ P0 (atomic_int* x) {
 exists ([x]=1)
 .
 0 ask S none.cat
-+++
-ok
++++ serve
 ---
+ok
 version none.cat 1
 version S 1
 refused 75 Space 41 TooManyCandidates
 finish ok 3
-=== sizes: thirteen loads
+=== sizes_of_jobs: sizes: thirteen loads
 0 cat none.cat
 .
 0 test
@@ -489,42 +396,25 @@ P0 (atomic_int* x) {
 exists (0:r0=0)
 .
 0 ask L none.cat
-+++
-ok
++++ serve
 ---
+ok
 version none.cat 1
 version L 1
 refused 75 Space 31 TooManyRuns 0
 finish ok 3
-",
-    },
-    Scripts {
-        limits: Limits {
-            journal: 300,
-            versions: 10,
-            claims: 10,
-        },
-        fails: false,
-        rows: "
-=== sizes: the 257th job
+=== sizes_of_jobs: sizes: the 257th job
 0 test
 %SB%.
 %257 times 0 ask SB stdlib.cat
 %0 forget 1
 0 ask SB stdlib.cat
-+++
-ok
++++ serve journal 300 versions 10 claims 10
 ---
+ok
 version SB 1
 %256 jobs%refused 76 JobsFull
 done
 job 257
 finish ok 260
-",
-    },
-];
-
-#[test]
-fn sizes_of_jobs(rt: HostRuntime) -> Result<(), Fail> {
-    all_go_well(&rt, rt.alloc(), SIZES, 0)
-}
+";

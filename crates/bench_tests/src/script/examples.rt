@@ -2,17 +2,15 @@
 //!
 //! The verdicts were worked out by hand from the models' checks.
 
-mod fences;
+pub mod fences;
 mod texts;
 
-use crate::script::calls::{Scripts, WIDE, all_go_well, all_hold};
-use std::test::Fail;
 pub use texts::EXAMPLES;
 
-const OF_BUFFERING: &str = "
-=== sb, under rc11.cat
+pub const ROWS: &str = "
+=== buffers_of_stores: sb, under rc11.cat
 %SB.litmus%
-+++
++++ one
 %RC11%
 ---
 Test SB Allowed
@@ -23,9 +21,9 @@ Witnesses
 Positive: 1 Negative: 3
 Condition exists (0:r0=0 /\\ 1:r0=0)
 Observation SB Sometimes 1 3
-=== sb, under sc.cat
+=== buffers_of_stores: sb, under sc.cat
 %SB.litmus%
-+++
++++ one
 %sc.cat%
 ---
 Test SB Allowed
@@ -36,9 +34,9 @@ Witnesses
 Positive: 0 Negative: 3
 Condition exists (0:r0=0 /\\ 1:r0=0)
 Observation SB Never 0 3
-=== sb, under tso.cat
+=== buffers_of_stores: sb, under tso.cat
 %SB.litmus%
-+++
++++ one
 %tso.cat%
 ---
 Test SB Allowed
@@ -49,9 +47,9 @@ Witnesses
 Positive: 1 Negative: 3
 Condition exists (0:r0=0 /\\ 1:r0=0)
 Observation SB Sometimes 1 3
-=== sb_sc
+=== buffers_of_stores: sb_sc
 %SB+sc.litmus%
-+++
++++ one
 %RC11%
 %sc.cat%
 %tso.cat%
@@ -64,9 +62,9 @@ Witnesses
 Positive: 0 Negative: 3
 Condition exists (0:r0=0 /\\ 1:r0=0)
 Observation SB+sc Never 0 3
-=== sb_fences
+=== buffers_of_stores: sb_fences
 %SB+fences.litmus%
-+++
++++ one
 %RC11%
 %sc.cat%
 %tso.cat%
@@ -79,9 +77,9 @@ Witnesses
 Positive: 0 Negative: 3
 Condition exists (0:r0=0 /\\ 1:r0=0)
 Observation SB+fences Never 0 3
-=== sb_forall, under rc11.cat
+=== buffers_of_stores: sb_forall, under rc11.cat
 %SB+forall.litmus%
-+++
++++ one
 %RC11%
 ---
 Test SB+forall Required
@@ -92,9 +90,9 @@ Witnesses
 Positive: 3 Negative: 1
 Condition forall (0:r0=1 \\/ 1:r0=1)
 Observation SB+forall Sometimes 3 1
-=== sb_forall, under sc.cat
+=== buffers_of_stores: sb_forall, under sc.cat
 %SB+forall.litmus%
-+++
++++ one
 %sc.cat%
 ---
 Test SB+forall Required
@@ -105,9 +103,9 @@ Witnesses
 Positive: 3 Negative: 0
 Condition forall (0:r0=1 \\/ 1:r0=1)
 Observation SB+forall Always 3 0
-=== sb_forall, under tso.cat
+=== buffers_of_stores: sb_forall, under tso.cat
 %SB+forall.litmus%
-+++
++++ one
 %tso.cat%
 ---
 Test SB+forall Required
@@ -118,17 +116,9 @@ Witnesses
 Positive: 3 Negative: 1
 Condition forall (0:r0=1 \\/ 1:r0=1)
 Observation SB+forall Sometimes 3 1
-";
-
-#[test]
-fn buffers_of_stores(rt: HostRuntime) -> Result<(), Fail> {
-    all_hold(rt.alloc(), OF_BUFFERING)
-}
-
-const OF_MESSAGES: &str = "
-=== mp, under rc11.cat
+=== messages_and_loads: mp, under rc11.cat
 %MP.litmus%
-+++
++++ one
 %RC11%
 ---
 Test MP Allowed
@@ -139,9 +129,9 @@ Witnesses
 Positive: 1 Negative: 3
 Condition exists (1:r0=1 /\\ 1:r1=0)
 Observation MP Sometimes 1 3
-=== mp, under sc.cat and tso.cat
+=== messages_and_loads: mp, under sc.cat and tso.cat
 %MP.litmus%
-+++
++++ one
 %sc.cat%
 %tso.cat%
 ---
@@ -153,9 +143,9 @@ Witnesses
 Positive: 0 Negative: 3
 Condition exists (1:r0=1 /\\ 1:r1=0)
 Observation MP Never 0 3
-=== mp_rel, under rc11.cat
+=== messages_and_loads: mp_rel, under rc11.cat
 %MP+rel.litmus%
-+++
++++ one
 %RC11%
 ---
 Test MP+rel Allowed
@@ -166,9 +156,9 @@ Witnesses
 Positive: 1 Negative: 3
 Condition exists (1:r0=1 /\\ 1:r1=0)
 Observation MP+rel Sometimes 1 3
-=== mp_rel, under sc.cat and tso.cat
+=== messages_and_loads: mp_rel, under sc.cat and tso.cat
 %MP+rel.litmus%
-+++
++++ one
 %sc.cat%
 %tso.cat%
 ---
@@ -180,9 +170,9 @@ Witnesses
 Positive: 0 Negative: 3
 Condition exists (1:r0=1 /\\ 1:r1=0)
 Observation MP+rel Never 0 3
-=== mp_rel_acq
+=== messages_and_loads: mp_rel_acq
 %MP+rel+acq.litmus%
-+++
++++ one
 %RC11%
 %sc.cat%
 %tso.cat%
@@ -195,9 +185,9 @@ Witnesses
 Positive: 0 Negative: 3
 Condition exists (1:r0=1 /\\ 1:r1=0)
 Observation MP+rel+acq Never 0 3
-=== lb
+=== messages_and_loads: lb
 %LB.litmus%
-+++
++++ one
 %RC11%
 %sc.cat%
 %tso.cat%
@@ -210,17 +200,9 @@ Witnesses
 Positive: 0 Negative: 3
 Condition exists (0:r0=1 /\\ 1:r0=1)
 Observation LB Never 0 3
-";
-
-#[test]
-fn messages_and_loads(rt: HostRuntime) -> Result<(), Fail> {
-    all_hold(rt.alloc(), OF_MESSAGES)
-}
-
-const OF_COHERENCE: &str = "
-=== iriw, under rc11.cat
+=== orders_of_writes: iriw, under rc11.cat
 %IRIW.litmus%
-+++
++++ one
 %RC11%
 ---
 Test IRIW Allowed
@@ -231,9 +213,9 @@ Witnesses
 Positive: 1 Negative: 15
 Condition exists (2:r0=1 /\\ 2:r1=0 /\\ 3:r0=1 /\\ 3:r1=0)
 Observation IRIW Sometimes 1 15
-=== iriw, under sc.cat and tso.cat
+=== orders_of_writes: iriw, under sc.cat and tso.cat
 %IRIW.litmus%
-+++
++++ one
 %sc.cat%
 %tso.cat%
 ---
@@ -245,9 +227,9 @@ Witnesses
 Positive: 0 Negative: 15
 Condition exists (2:r0=1 /\\ 2:r1=0 /\\ 3:r0=1 /\\ 3:r1=0)
 Observation IRIW Never 0 15
-=== iriw_sc
+=== orders_of_writes: iriw_sc
 %IRIW+sc.litmus%
-+++
++++ one
 %RC11%
 %sc.cat%
 %tso.cat%
@@ -260,9 +242,9 @@ Witnesses
 Positive: 0 Negative: 15
 Condition exists (2:r0=1 /\\ 2:r1=0 /\\ 3:r0=1 /\\ 3:r1=0)
 Observation IRIW+sc Never 0 15
-=== two_plus_two_w, under rc11.cat
+=== orders_of_writes: two_plus_two_w, under rc11.cat
 %2+2W.litmus%
-+++
++++ one
 %RC11%
 ---
 Test 2+2W Allowed
@@ -273,9 +255,9 @@ Witnesses
 Positive: 1 Negative: 3
 Condition exists ([x]=1 /\\ [y]=1)
 Observation 2+2W Sometimes 1 3
-=== two_plus_two_w, under sc.cat and tso.cat
+=== orders_of_writes: two_plus_two_w, under sc.cat and tso.cat
 %2+2W.litmus%
-+++
++++ one
 %sc.cat%
 %tso.cat%
 ---
@@ -287,9 +269,9 @@ Witnesses
 Positive: 0 Negative: 3
 Condition exists ([x]=1 /\\ [y]=1)
 Observation 2+2W Never 0 3
-=== corr
+=== orders_of_writes: corr
 %CoRR.litmus%
-+++
++++ one
 %RC11%
 %sc.cat%
 %tso.cat%
@@ -302,17 +284,9 @@ Witnesses
 Positive: 0 Negative: 3
 Condition exists (1:r0=1 /\\ 1:r1=0)
 Observation CoRR Never 0 3
-";
-
-#[test]
-fn orders_of_writes(rt: HostRuntime) -> Result<(), Fail> {
-    all_hold(rt.alloc(), OF_COHERENCE)
-}
-
-const OF_RACES: &str = "
-=== race, under rc11.cat
+=== plain_accesses: race, under rc11.cat
 %race.litmus%
-+++
++++ one
 %RC11%
 ---
 Test race Allowed
@@ -324,9 +298,9 @@ Positive: 1 Negative: 3
 Flag data-race
 Condition exists (1:r0=1 /\\ 1:r1=0)
 Observation race Sometimes 1 3
-=== race, under sc.cat and tso.cat
+=== plain_accesses: race, under sc.cat and tso.cat
 %race.litmus%
-+++
++++ one
 %sc.cat%
 %tso.cat%
 ---
@@ -338,9 +312,9 @@ Witnesses
 Positive: 0 Negative: 3
 Condition exists (1:r0=1 /\\ 1:r1=0)
 Observation race Never 0 3
-=== race_free
+=== plain_accesses: race_free
 %race-free.litmus%
-+++
++++ one
 %RC11%
 %sc.cat%
 %tso.cat%
@@ -353,9 +327,9 @@ Witnesses
 Positive: 0 Negative: 2
 Condition exists (1:r0=1 /\\ 1:r1=0)
 Observation race-free Never 0 2
-=== rs
+=== plain_accesses: rs
 %RS.litmus%
-+++
++++ one
 %RC11%
 %sc.cat%
 %tso.cat%
@@ -368,17 +342,9 @@ Witnesses
 Positive: 0 Negative: 9
 Condition exists (1:r0=1 /\\ 2:r0=2 /\\ 2:r1=0)
 Observation RS Never 0 9
-";
-
-#[test]
-fn plain_accesses(rt: HostRuntime) -> Result<(), Fail> {
-    all_hold(rt.alloc(), OF_RACES)
-}
-
-const OF_RELEASES: &str = "
-=== rs_load_store, under rc11.cat
+=== sequences_and_exchanges: rs_load_store, under rc11.cat
 %RS+load+store.litmus%
-+++
++++ one
 %RC11%
 ---
 Test RS+load+store Allowed
@@ -389,9 +355,9 @@ Witnesses
 Positive: 1 Negative: 14
 Condition exists (1:r0=1 /\\ 2:r0=2 /\\ 2:r1=0)
 Observation RS+load+store Sometimes 1 14
-=== rs_load_store, under sc.cat and tso.cat
+=== sequences_and_exchanges: rs_load_store, under sc.cat and tso.cat
 %RS+load+store.litmus%
-+++
++++ one
 %sc.cat%
 %tso.cat%
 ---
@@ -403,9 +369,9 @@ Witnesses
 Positive: 0 Negative: 13
 Condition exists (1:r0=1 /\\ 2:r0=2 /\\ 2:r1=0)
 Observation RS+load+store Never 0 13
-=== rs_same
+=== sequences_and_exchanges: rs_same
 %RS+same.litmus%
-+++
++++ one
 %RC11%
 %sc.cat%
 %tso.cat%
@@ -418,9 +384,9 @@ Witnesses
 Positive: 0 Negative: 4
 Condition exists (1:r0=2 /\\ 1:r1=0)
 Observation RS+same Never 0 4
-=== swap
+=== sequences_and_exchanges: swap
 %swap.litmus%
-+++
++++ one
 %RC11%
 %sc.cat%
 %tso.cat%
@@ -433,9 +399,9 @@ Witnesses
 Positive: 0 Negative: 2
 Condition exists (0:r0=0 /\\ 1:r0=0)
 Observation swap Never 0 2
-=== rs_add
+=== sequences_and_exchanges: rs_add
 %RS+add.litmus%
-+++
++++ one
 %RC11%
 %sc.cat%
 %tso.cat%
@@ -448,9 +414,9 @@ Witnesses
 Positive: 0 Negative: 9
 Condition exists (2:r0=2 /\\ 2:r1=0)
 Observation RS+add Never 0 9
-=== counter, 1
+=== sequences_and_exchanges: counter, 1
 %counter.litmus%
-+++
++++ one
 %RC11%
 %sc.cat%
 %tso.cat%
@@ -463,16 +429,16 @@ Witnesses
 Positive: 0 Negative: 2
 Condition exists ([x]=1)
 Observation counter Never 0 2
-=== counter, 2
+=== sequences_and_exchanges: counter, 2
 %counter.litmus%
-+++
++++ one
 
 ---
 ...
 Observation counter Sometimes 4 2
-=== initial
+=== sequences_and_exchanges: initial
 %initial.litmus%
-+++
++++ one
 %RC11%
 %sc.cat%
 %tso.cat%
@@ -485,17 +451,9 @@ Witnesses
 Positive: 1 Negative: 0
 Condition exists (0:r0=5 /\\ 0:r1=7 /\\ [y]=3)
 Observation initial Always 1 0
-";
-
-#[test]
-fn sequences_and_exchanges(rt: HostRuntime) -> Result<(), Fail> {
-    all_hold(rt.alloc(), OF_RELEASES)
-}
-
-const OWN_MODELS: &str = "
-=== location_by_location: LOAD_BUFFERING
+=== models_of_ones_own: location_by_location: LOAD_BUFFERING
 %LB.litmus%
-+++
++++ one
 %location by location%
 ---
 Test LB Allowed
@@ -506,9 +464,9 @@ Witnesses
 Positive: 1 Negative: 3
 Condition exists (0:r0=1 /\\ 1:r0=1)
 Observation LB Sometimes 1 3
-=== location_by_location: COHERENT_READS
+=== models_of_ones_own: location_by_location: COHERENT_READS
 %CoRR.litmus%
-+++
++++ one
 %location by location%
 ---
 Test CoRR Allowed
@@ -519,9 +477,9 @@ Witnesses
 Positive: 0 Negative: 3
 Condition exists (1:r0=1 /\\ 1:r1=0)
 Observation CoRR Never 0 3
-=== without_atomicity: EXCHANGES
+=== models_of_ones_own: without_atomicity: EXCHANGES
 %swap.litmus%
-+++
++++ one
 %without atomicity%
 ---
 Test swap Allowed
@@ -532,9 +490,9 @@ Witnesses
 Positive: 2 Negative: 2
 Condition exists (0:r0=0 /\\ 1:r0=0)
 Observation swap Sometimes 2 2
-=== without_atomicity: COUNTER
+=== models_of_ones_own: without_atomicity: COUNTER
 %counter.litmus%
-+++
++++ one
 %without atomicity%
 ---
 Test counter Allowed
@@ -546,9 +504,9 @@ Witnesses
 Positive: 2 Negative: 2
 Condition exists ([x]=1)
 Observation counter Sometimes 2 2
-=== weakness: STORE_BUFFERING
+=== models_of_ones_own: weakness: STORE_BUFFERING
 %SB.litmus%
-+++
++++ one
 %weakness%
 ---
 Test SB Allowed
@@ -560,9 +518,9 @@ Positive: 1 Negative: 3
 Flag not-sc
 Condition exists (0:r0=0 /\\ 1:r0=0)
 Observation SB Sometimes 1 3
-=== weakness: STORE_BUFFERING_SC
+=== models_of_ones_own: weakness: STORE_BUFFERING_SC
 %SB+sc.litmus%
-+++
++++ one
 %weakness%
 ---
 Test SB+sc Allowed
@@ -573,9 +531,9 @@ Witnesses
 Positive: 0 Negative: 3
 Condition exists (0:r0=0 /\\ 1:r0=0)
 Observation SB+sc Never 0 3
-=== weakness: PLAIN_MESSAGE
+=== models_of_ones_own: weakness: PLAIN_MESSAGE
 %race.litmus%
-+++
++++ one
 %weakness%
 ---
 Test race Allowed
@@ -590,16 +548,8 @@ Condition exists (1:r0=1 /\\ 1:r1=0)
 Observation race Sometimes 1 3
 ";
 
-#[test]
-fn models_of_ones_own(rt: HostRuntime) -> Result<(), Fail> {
-    all_hold(rt.alloc(), OWN_MODELS)
-}
-
-const SCRIPTS: &[Scripts] = &[Scripts {
-    limits: WIDE,
-    fails: false,
-    rows: "
-=== script_teaching
+pub const SCRIPTS: &str = "
+=== scripts: script_teaching
 # A session, 0, puts a model and a test, and asks for the verdict under two models.
 0 cat sc.cat
 %sc.cat%.
@@ -615,10 +565,10 @@ const SCRIPTS: &[Scripts] = &[Scripts {
 # Both verdicts are there.
 0 poll 1
 0 poll 2
-+++
-ok
++++ serve
 ---
-%teaching.out%=== script_versions
+ok
+%teaching.out%=== scripts: script_versions
 # A model of two files. The first version of common.cat forgets fr.
 0 cat common.cat
 let com = rf | co
@@ -642,13 +592,7 @@ let com = rf | co | fr
 1 claim
 1 return 2
 0 poll 2
-+++
-ok
++++ serve
 ---
-%versions.out%",
-}];
-
-#[test]
-fn scripts(rt: HostRuntime) -> Result<(), Fail> {
-    all_go_well(&rt, rt.alloc(), SCRIPTS, 0)
-}
+ok
+%versions.out%";

@@ -1,7 +1,7 @@
 //! A reader that hands over a part of a script only once all before it is answered.
 
-use crate::script::calls::WIDE;
-use scripts::{Options, ServeFault, serve};
+use crate::script::calls::ALONE;
+use scripts::{ServeFault, serve};
 use std::alloc::Global;
 use std::io;
 use std::io::{ErrorKind, Read, Write};
@@ -69,11 +69,7 @@ fn served_in_turn<T: Threads + Wait + Sync>(
         written: &written,
     });
     let mut writer = WriteSink::new(Counting { written: &written });
-    let options = Options {
-        workers: 0,
-        limits: WIDE,
-    };
-    let outcome = serve(rt, alloc, &mut reader, &mut writer, &options);
+    let outcome = serve(rt, alloc, &mut reader, &mut writer, &ALONE);
     (outcome, written.load(Ordering::SeqCst))
 }
 

@@ -2,34 +2,18 @@
 
 ghost use Rattle.slices.specs.Parts.{test_size};
 
-use crate::script::calls::confirm;
-use crate::script::texts::{INDEPENDENT_READS, STORE_BUFFERING, STORE_BUFFERING_SUMMARY};
-use cat_model::{Files, Model, resolve};
+use crate::desk::works::work_of;
+use crate::rows::{all_so, is_cut_off};
+use crate::script::texts::meant;
 use conditions::{Place, observed};
-use litmus_c::read_test;
 use report::{WriteFault, write_summary};
-use slices::{Piece, Tally, Verdict, Work, WorkRef, evaluate};
+use slices::{Piece, Tally, Verdict, WorkRef, evaluate};
 use std::alloc::{AllocError, Global};
 use std::test::Fail;
-use wb_text::{MemSink, Name};
+use wb_text::MemSink;
 
 /// How many numbers a piece has at most.
 const QUARTER: u64 = 1024;
-
-/// A built-in model.
-fn model_of(alloc: Global, name: &[u8]) -> Option<Model> {
-    let root = Name::new(alloc, name).ok()?;
-    let files = Files::new(alloc).ok()?;
-    resolve(alloc, &files, &root).ok()
-}
-
-/// The work of a test under a built-in model.
-fn work_of(alloc: Global, test: &str, name: &[u8]) -> Option<WorkRef> {
-    let model = model_of(alloc, name)?;
-    let test = read_test(alloc, test.as_bytes()).ok()?;
-    let work = Work::new(alloc, test, model).ok()?;
-    WorkRef::new(alloc, work).ok()
-}
 
 /// The verdict of a work whose pieces are evaluated and merged from the last to the first.
 fn from_last(alloc: Global, work: &WorkRef) -> Result<Verdict, AllocError> {
@@ -84,81 +68,52 @@ fn observes_both(alloc: Global, work: &WorkRef) -> bool {
     }
 }
 
-fn is_iriw(alloc: Global) -> bool {
-    match work_of(alloc, INDEPENDENT_READS, b"rc11.cat") {
-        Some(work) => is_put_together(alloc, &work, 4096, 1, 15),
-        None => false,
-    }
-}
-
-#[test]
-fn iriw(rt: HostRuntime) -> Result<(), Fail> {
-    confirm(
-        is_iriw(rt.alloc()),
-        "four pieces, from the last to the first",
-    )
-}
-
-fn is_store_buffering(alloc: Global) -> bool {
-    match work_of(alloc, STORE_BUFFERING, b"stdlib.cat") {
-        Some(work) => { is_put_together(alloc, &work, 16, 1, 3) && observes_both(alloc, &work) }
-        None => false,
-    }
-}
-
-#[test]
-fn sb_calls(rt: HostRuntime) -> Result<(), Fail> {
-    confirm(is_store_buffering(rt.alloc()), "the one piece")
-}
-
 /// Whether a summary that is written to so little room ends in 95, with just the prefix written.
-fn is_cut_off(alloc: Global, verdict: &Verdict, room: usize) -> bool {
+fn is_told_in_part(alloc: Global, verdict: &Verdict, summary: &str, room: usize) -> bool {
     match MemSink::new(alloc, room) {
         Ok(mut writer) => {
             write_summary(verdict, &mut writer) == Err(WriteFault::Write)
-                && writer.bytes().len() == room
-                && STORE_BUFFERING_SUMMARY
-                    .as_bytes()
-                    .starts_with(writer.bytes())
+                && is_cut_off(writer.bytes(), summary, room)
         }
         Err(_) => false,
     }
 }
 
 /// Whether the summary of a verdict is cut off so wherever the writer fails.
-fn is_cut_off_anywhere(alloc: Global, verdict: &Verdict) -> bool {
-    for room in 0..STORE_BUFFERING_SUMMARY.len() {
-        if !is_cut_off(alloc, verdict, room) {
+fn is_told_in_parts(alloc: Global, verdict: &Verdict) -> bool {
+    let summary = meant("SB summary");
+    for room in 0..summary.len() {
+        if !is_told_in_part(alloc, verdict, summary, room) {
             return false;
         }
     }
     true
 }
 
-fn is_told(alloc: Global) -> bool {
-    match work_of(alloc, STORE_BUFFERING, b"stdlib.cat") {
-        Some(work) => match from_last(alloc, &work) {
-            Ok(verdict) => is_cut_off_anywhere(alloc, &verdict),
-            Err(AllocError) => false,
-        },
-        None => false,
+fn is_told_in_parts_of(alloc: Global, work: &WorkRef) -> bool {
+    match from_last(alloc, work) {
+        Ok(verdict) => is_told_in_parts(alloc, &verdict),
+        Err(AllocError) => false,
     }
 }
 
 #[test]
-fn hostile_input_row_6_write_summary(rt: HostRuntime) -> Result<(), Fail> {
-    confirm(is_told(rt.alloc()), "95 at each write in turn")
-}
-
-/// How a fault of the writer is printed.
-fn is_labelled(alloc: Global) -> bool {
-    match WriteFault::Write.to_string(alloc) {
-        Ok(text) => text.as_str() == "95 Write" && WriteFault::Write.label() == "95 Write",
-        Err(_) => false,
-    }
-}
-
-#[test]
-fn labels(rt: HostRuntime) {
-    assert!(rt; is_labelled(rt.alloc()));
+fn pieces(rt: HostRuntime) -> Result<(), Fail> {
+    let alloc = rt.alloc();
+    let reads = work_of(alloc, meant("IRIW").as_bytes(), b"rc11.cat")?;
+    let buffering = work_of(alloc, meant("SB").as_bytes(), b"stdlib.cat")?;
+    all_so(&[
+        (
+            "iriw: four pieces, from the last to the first",
+            is_put_together(alloc, &reads, 4096, 1, 15),
+        ),
+        (
+            "sb_calls: the one piece",
+            is_put_together(alloc, &buffering, 16, 1, 3) && observes_both(alloc, &buffering),
+        ),
+        (
+            "hostile_input_row_6_write_summary: 95 at each write in turn",
+            is_told_in_parts_of(alloc, &buffering),
+        ),
+    ])
 }

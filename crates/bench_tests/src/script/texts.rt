@@ -1,31 +1,17 @@
 //! Texts that rows name: some stand here, and others in examples/.
 
+use crate::rows::again;
 use crate::script::examples::EXAMPLES;
 use std::alloc::{AllocError, Global};
-
-/// Texts that rows name, beside those of examples/.
-const NAMED: &[(&str, &str)] = &[
-    ("SB", STORE_BUFFERING),
-    ("SB summary", STORE_BUFFERING_SUMMARY),
-    ("SB never", NEVER),
-    ("IRIW", INDEPENDENT_READS),
-    ("IRIW summary", ALL_STATES),
-    ("256 jobs", JOBS),
-    ("store buffering", BUFFERED),
-    ("store buffering with fences", FENCED),
-    ("location by location", LOCATION_BY_LOCATION),
-    ("without atomicity", WITHOUT_ATOMICITY),
-    ("weakness", WEAKNESS),
-];
 
 /// What stands behind the name of an entry, if that is its name.
 fn text_behind<'a>(entry: &'a str, name: &str) -> Option<&'a str> {
     entry.strip_prefix(name)?.strip_prefix('\n')
 }
 
-/// The file of examples/ of this name.
-fn example(name: &str) -> Option<&'static str> {
-    for entry in EXAMPLES.split('%') {
+/// The text of this name, of texts that each stand behind a sign of percent and a line with their name.
+fn text_in(texts: &'static str, name: &str) -> Option<&'static str> {
+    for entry in texts.split('%') {
         if let Some(text) = text_behind(entry, name) {
             return Some(text);
         }
@@ -34,13 +20,11 @@ fn example(name: &str) -> Option<&'static str> {
 }
 
 /// The text of a name, or the part of a row itself where there is none.
-fn meant(part: &str) -> &str {
-    for (name, text) in NAMED {
-        if part == *name {
-            return text;
-        }
+pub fn meant(part: &str) -> &str {
+    match text_in(NAMED, part) {
+        Some(text) => text,
+        None => text_in(EXAMPLES, part).unwrap_or(part),
     }
-    example(part).unwrap_or(part)
 }
 
 fn push_often(all: &mut String, times: usize, text: &str) -> Result<(), AllocError> {
@@ -57,8 +41,7 @@ fn push_part(all: &mut String, part: &str) -> Result<(), AllocError> {
     }
 }
 
-/// A text of a row, with texts in the place of their names.
-pub fn expanded(alloc: Global, text: &str) -> Result<String, AllocError> {
+fn expanded_once(alloc: Global, text: &str) -> Result<String, AllocError> {
     let mut all = String::new(alloc);
     for part in text.split('%') {
         push_part(&mut all, part)?;
@@ -66,7 +49,18 @@ pub fn expanded(alloc: Global, text: &str) -> Result<String, AllocError> {
     Ok(all)
 }
 
-pub const STORE_BUFFERING: &str = "C SB
+/// A text of a row, with texts in the place of their names.
+pub fn expanded(alloc: Global, text: &str) -> Result<String, AllocError> {
+    again!(AllocError, expanded_once(alloc, text))
+}
+
+/// Texts that rows name, beside those of examples/. `SB` is store buffering as it stands in the rows of scripts, `store buffering` the same on
+/// fewer lines, with a fence between the two accesses of each thread in `store buffering with fences`. `location by location` is a model of each
+/// location alone, `without atomicity` one that forgets that an exchange is one step, and `weakness` has a flag on what `rc11.cat` allows beyond
+/// sequential consistency. `script_first` is a session's put, ask, claim, return and poll, and `256 jobs` what is answered to the first asks.
+const NAMED: &str = "
+%SB
+C SB
 {}
 P0 (atomic_int* x, atomic_int* y) {
   atomic_store_explicit(x, 1, memory_order_relaxed);
@@ -77,9 +71,8 @@ P1 (atomic_int* x, atomic_int* y) {
   int r0 = atomic_load_explicit(x, memory_order_relaxed);
 }
 exists (0:r0=0 /\\ 1:r0=0)
-";
-
-pub const STORE_BUFFERING_SUMMARY: &str = "Test SB Allowed
+%SB summary
+Test SB Allowed
 States 4
 0:r0=0; 1:r0=0;
 0:r0=0; 1:r0=1;
@@ -90,9 +83,8 @@ Witnesses
 Positive: 1 Negative: 3
 Condition exists (0:r0=0 /\\ 1:r0=0)
 Observation SB Sometimes 1 3
-";
-
-const NEVER: &str = "Test SB Allowed
+%SB never
+Test SB Allowed
 States 3
 0:r0=0; 1:r0=1;
 0:r0=1; 1:r0=0;
@@ -102,9 +94,8 @@ Witnesses
 Positive: 0 Negative: 3
 Condition exists (0:r0=0 /\\ 1:r0=0)
 Observation SB Never 0 3
-";
-
-pub const INDEPENDENT_READS: &str = "C IRIW
+%IRIW
+C IRIW
 { 0:r8=2; 0:r9=3; }
 P0 (atomic_int* x) { atomic_store_explicit(x, 1, memory_order_release); }
 P1 (atomic_int* y) { atomic_store_explicit(y, 1, memory_order_release); }
@@ -117,9 +108,8 @@ P3 (atomic_int* x, atomic_int* y) {
   int r1 = atomic_load_explicit(x, memory_order_acquire);
 }
 exists (2:r0=1 /\\ 2:r1=0 /\\ 3:r0=1 /\\ 3:r1=0)
-";
-
-const ALL_STATES: &str = "Test IRIW Allowed
+%IRIW summary
+Test IRIW Allowed
 States 16
 2:r0=0; 2:r1=0; 3:r0=0; 3:r1=0;
 2:r0=0; 2:r1=0; 3:r0=0; 3:r1=1;
@@ -142,49 +132,8 @@ Witnesses
 Positive: 1 Negative: 15
 Condition exists (2:r0=1 /\\ 2:r1=0 /\\ 3:r0=1 /\\ 3:r1=0)
 Observation IRIW Sometimes 1 15
-";
-
-/// Store buffering, in relaxed order.
-const BUFFERED: &str = "C SB {}
-P0 (atomic_int* x, atomic_int* y) {
-  atomic_store_explicit(x, 1, memory_order_relaxed);
-  int r0 = atomic_load_explicit(y, memory_order_relaxed);
-}
-P1 (atomic_int* x, atomic_int* y) {
-  atomic_store_explicit(y, 1, memory_order_relaxed);
-  int r0 = atomic_load_explicit(x, memory_order_relaxed);
-}
-exists (0:r0=0 /\\ 1:r0=0)";
-
-/// Store buffering, in relaxed order, with a fence between the two accesses of each thread.
-const FENCED: &str = "C SB {}
-P0 (atomic_int* x, atomic_int* y) {
-  atomic_store_explicit(x, 1, memory_order_relaxed);
-  atomic_thread_fence(memory_order_seq_cst);
-  int r0 = atomic_load_explicit(y, memory_order_relaxed);
-}
-P1 (atomic_int* x, atomic_int* y) {
-  atomic_store_explicit(y, 1, memory_order_relaxed);
-  atomic_thread_fence(memory_order_seq_cst);
-  int r0 = atomic_load_explicit(x, memory_order_relaxed);
-}
-exists (0:r0=0 /\\ 1:r0=0)";
-
-/// A model of each location alone.
-const LOCATION_BY_LOCATION: &str = "acyclic po-loc | rf | co | fr as coherence
-";
-
-/// A model that forgets that an exchange is one step.
-const WITHOUT_ATOMICITY: &str = "acyclic po | rf | co | fr as sc
-";
-
-/// A flag on what `rc11.cat` allows beyond sequential consistency.
-const WEAKNESS: &str = "include \"rc11.cat\"
-flag ~acyclic po | rf | co | fr as not-sc
-";
-
-/// The first 256 jobs.
-const JOBS: &str = "job 1
+%256 jobs
+job 1
 job 2
 job 3
 job 4
@@ -440,4 +389,126 @@ job 253
 job 254
 job 255
 job 256
+%script_first
+0 cat none.cat
+.
+0 test
+C SB
+{}
+P0 (atomic_int* x, atomic_int* y) {
+  atomic_store_explicit(x, 1, memory_order_relaxed);
+  int r0 = atomic_load_explicit(y, memory_order_relaxed);
+}
+P1 (atomic_int* x, atomic_int* y) {
+  atomic_store_explicit(y, 1, memory_order_relaxed);
+  int r0 = atomic_load_explicit(x, memory_order_relaxed);
+}
+exists (0:r0=0 /\\ 1:r0=0)
+.
+0 ask SB none.cat
+0 poll 1
+1 claim
+1 return 1
+0 poll 1
+%script_first answers
+version none.cat 1
+version SB 1
+job 1
+pending 0 1
+piece 1 job 1 slice 0 from 0 to 16
+taken 1 1
+verdict SB 1 none.cat 1
+Test SB Allowed
+States 4
+0:r0=0; 1:r0=0;
+0:r0=0; 1:r0=1;
+0:r0=1; 1:r0=0;
+0:r0=1; 1:r0=1;
+Ok
+Witnesses
+Positive: 1 Negative: 3
+Condition exists (0:r0=0 /\\ 1:r0=0)
+Observation SB Sometimes 1 3
+finish ok 7
+%script_replaced
+0 cat base.cat
+let com = rf | co | fr
+.
+0 cat sc.cat
+include \"base.cat\"
+acyclic po | com as sc
+.
+0 test
+C SB
+{}
+P0 (atomic_int* x, atomic_int* y) {
+  atomic_store_explicit(x, 1, memory_order_relaxed);
+  int r0 = atomic_load_explicit(y, memory_order_relaxed);
+}
+P1 (atomic_int* x, atomic_int* y) {
+  atomic_store_explicit(y, 1, memory_order_relaxed);
+  int r0 = atomic_load_explicit(x, memory_order_relaxed);
+}
+exists (0:r0=0 /\\ 1:r0=0)
+.
+0 ask SB sc.cat
+1 claim
+0 cat base.cat
+let com = rf | co | fr
+.
+1 return 1
+1 return 1
+0 poll 1
+0 ask SB sc.cat
+work
+0 poll 2
+0 list
+%two locations
+C W2+3 {} P0 (atomic_int* x, atomic_int* y) {
+  atomic_store(x, 1); atomic_store(x, 2);
+} P1 (atomic_int* x, atomic_int* y) {
+  atomic_store(y, 1); atomic_store(y, 2); atomic_store(y, 3);
+} exists (x=1 /\\ y=3)%two locations summary
+Test W2+3 Allowed
+States 6
+[x]=1; [y]=1;
+[x]=1; [y]=2;
+[x]=1; [y]=3;
+[x]=2; [y]=1;
+[x]=2; [y]=2;
+[x]=2; [y]=3;
+Ok
+Witnesses
+Positive: 2 Negative: 10
+Condition exists ([x]=1 /\\ [y]=3)
+Observation W2+3 Sometimes 2 10
+%store buffering
+C SB {}
+P0 (atomic_int* x, atomic_int* y) {
+  atomic_store_explicit(x, 1, memory_order_relaxed);
+  int r0 = atomic_load_explicit(y, memory_order_relaxed);
+}
+P1 (atomic_int* x, atomic_int* y) {
+  atomic_store_explicit(y, 1, memory_order_relaxed);
+  int r0 = atomic_load_explicit(x, memory_order_relaxed);
+}
+exists (0:r0=0 /\\ 1:r0=0)%store buffering with fences
+C SB {}
+P0 (atomic_int* x, atomic_int* y) {
+  atomic_store_explicit(x, 1, memory_order_relaxed);
+  atomic_thread_fence(memory_order_seq_cst);
+  int r0 = atomic_load_explicit(y, memory_order_relaxed);
+}
+P1 (atomic_int* x, atomic_int* y) {
+  atomic_store_explicit(y, 1, memory_order_relaxed);
+  atomic_thread_fence(memory_order_seq_cst);
+  int r0 = atomic_load_explicit(x, memory_order_relaxed);
+}
+exists (0:r0=0 /\\ 1:r0=0)%location by location
+acyclic po-loc | rf | co | fr as coherence
+%without atomicity
+acyclic po | rf | co | fr as sc
+%weakness
+include \"rc11.cat\"
+flag ~acyclic po | rf | co | fr as not-sc
 ";

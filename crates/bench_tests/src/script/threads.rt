@@ -1,39 +1,11 @@
-//! Tests of scripts with workers on threads of their own. What they print is the same whatever the schedule.
+//! Rows of scripts with workers on threads of their own. What they print is the same whatever the schedule.
 
-use crate::script::calls::{Scripts, WIDE, all_go_well};
-use book::Limits;
-use std::test::Fail;
-
-/// With two workers, each of which ends on one claim that gives nothing.
-const TWO: &[Scripts] = &[Scripts {
-    limits: WIDE,
-    fails: false,
-    rows: "
-=== Workers-row
-0 cat base.cat
-let com = rf | co | fr
-.
-0 cat sc.cat
-include \"base.cat\"
-acyclic po | com as sc
-.
-0 test
-%SB%.
-0 ask SB sc.cat
-1 claim
-0 cat base.cat
-let com = rf | co | fr
-.
-1 return 1
-1 return 1
-0 poll 1
-0 ask SB sc.cat
-work
-0 poll 2
-0 list
-+++
-ok
+/// With two workers each ends on one claim that gives nothing. One worker is no other thread's.
+pub const ROWS: &str = "
+=== two_workers: Workers-row
+%script_replaced%+++ serve workers 2
 ---
+ok
 version base.cat 1
 version sc.cat 1
 version SB 1
@@ -53,7 +25,7 @@ job 1 SB sc.cat 0 1
 job 2 SB sc.cat 1 1
 end
 finish ok 16
-=== two workers take what sessions left
+=== two_workers: two workers take what sessions left
 0 test
 %IRIW%.
 0 ask IRIW rc11.cat
@@ -63,9 +35,9 @@ work
 0 poll 1
 1 return 1
 0 poll 1
-+++
-ok
++++ serve workers 2
 ---
+ok
 version IRIW 1
 job 1
 piece 1 job 1 slice 0 from 0 to 256
@@ -75,123 +47,67 @@ pending 15 16
 taken 16 16
 verdict IRIW 1 rc11.cat 0
 %IRIW summary%finish ok 40
-",
-}];
-
-#[test]
-fn two_workers(rt: HostRuntime) -> Result<(), Fail> {
-    all_go_well(&rt, rt.alloc(), TWO, 2)
-}
-
-/// With eight workers.
-const EIGHT: &[Scripts] = &[
-    Scripts {
-        limits: WIDE,
-        fails: false,
-        rows: "
-=== eight workers do a job
+=== eight_workers: eight workers do a job
 0 test
 %IRIW%.
 0 ask IRIW rc11.cat
 work
 0 poll 1
-+++
-ok
++++ serve workers 8
 ---
+ok
 version IRIW 1
 job 1
 worked 16 0 0
 verdict IRIW 1 rc11.cat 0
 %IRIW summary%finish ok 43
-=== eight workers over a closed book
+=== eight_workers: eight workers over a closed book
 0 close
 work
-+++
-ok
++++ serve workers 8
 ---
+ok
 done
 worked 0 0 0
 finish ok 9
-",
-    },
-    Scripts {
-        limits: Limits {
-            journal: 1,
-            versions: 100,
-            claims: 100,
-        },
-        fails: false,
-        rows: "
-=== eight workers where the journal is full
+=== eight_workers: eight workers where the journal is full
 0 list
 work
 0 list
-+++
-ok
++++ serve journal 1 workers 8
 ---
+ok
 end
 worked 0 0 8
 not taken JournalFull
 finish ok 1
-",
-    },
-];
-
-#[test]
-fn eight_workers(rt: HostRuntime) -> Result<(), Fail> {
-    all_go_well(&rt, rt.alloc(), EIGHT, 8)
-}
-
-/// With one worker, which is no other thread's.
-const ONE: &[Scripts] = &[
-    Scripts {
-        limits: WIDE,
-        fails: false,
-        rows: "
-=== one worker and its receipts
+=== one_worker: one worker and its receipts
 0 test
 %SB%.
 0 ask SB rc11.cat
 work
 7 poll 1
-+++
-ok
++++ serve workers 1
 ---
+ok
 version SB 1
 job 1
 worked 1 0 0
 verdict SB 1 rc11.cat 0
 %SB summary%finish ok 6
-",
-    },
-    Scripts {
-        limits: Limits {
-            journal: 3,
-            versions: 100,
-            claims: 100,
-        },
-        fails: false,
-        rows: "
-=== a return where the journal is full
+=== one_worker: a return where the journal is full
 0 test
 %SB%.
 0 ask SB rc11.cat
 1 claim
 2 return 1
 2 return 2
-+++
-98 BadLine 17
++++ serve journal 3 workers 1
 ---
+98 BadLine 17
 version SB 1
 job 1
 piece 1 job 1 slice 0 from 0 to 16
 not taken JournalFull
 bad line 17
-",
-    },
-];
-
-#[test]
-fn one_worker(rt: HostRuntime) -> Result<(), Fail> {
-    all_go_well(&rt, rt.alloc(), ONE, 1)
-}
+";

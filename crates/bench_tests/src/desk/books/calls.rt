@@ -1,418 +1,282 @@
 //! Calls that no script can make: a result of another book, small limits, and a command that comes back. Scripts are
 //! tested where they are read.
 
-use crate::desk::books::scene::{Answer, Script, Step, WIDE, plays};
-use crate::desk::commands::SB;
-use book::Limits;
+use crate::script::calls::all_hold;
+use std::test::Fail;
 
-/// A result of another book is returned, and then its own.
-const STRANGER: Script = Script {
-    limits: WIDE,
-    steps: &[
-        Step::Test(SB),
-        Step::Ask(b"SB", b"stdlib.cat"),
-        Step::Claim,
-        Step::Foreign,
-        Step::Return(2),
-    ],
-    answers: &[(3, Answer::Stranger), (4, Answer::Taken(1, 1))],
-};
-
-#[test]
-fn stranger(rt: HostRuntime) {
-    assert!(rt; plays(rt.alloc(), &STRANGER));
-}
-
-/// A file is put three times.
-const SPENT_VERSIONS: Script = Script {
-    limits: Limits {
-        journal: 20,
-        versions: 2,
-        claims: 1,
-    },
-    steps: &[
-        Step::Cat(b"a.cat", b""),
-        Step::Cat(b"a.cat", b""),
-        Step::Cat(b"a.cat", b""),
-    ],
-    answers: &[
-        (0, Answer::Version(1)),
-        (1, Answer::Version(2)),
-        (2, Answer::VersionsSpent),
-    ],
-};
-
-#[test]
-fn spent_versions(rt: HostRuntime) {
-    assert!(rt; plays(rt.alloc(), &SPENT_VERSIONS));
-}
-
-/// A dropped file's version goes on.
-const SPENT: Script = Script {
-    limits: Limits {
-        journal: 20,
-        versions: 2,
-        claims: 1,
-    },
-    steps: &[
-        Step::Cat(b"a.cat", b""),
-        Step::DropCat(b"a.cat"),
-        Step::Cat(b"a.cat", b""),
-        Step::Test(SB),
-        Step::Ask(b"SB", b"rc11.cat"),
-        Step::Claim,
-        Step::GiveBack(1),
-        Step::Claim,
-    ],
-    answers: &[
-        (0, Answer::Version(1)),
-        (1, Answer::Version(2)),
-        (2, Answer::VersionsSpent),
-        (5, Answer::Piece(0, 0, 16)),
-        (6, Answer::Done),
-        (7, Answer::ClaimsSpent),
-    ],
-};
-
-#[test]
-fn spent(rt: HostRuntime) {
-    assert!(rt; plays(rt.alloc(), &SPENT));
-}
-
-/// A slice is released and claimed again, and the late result comes back.
-const RELEASE: Script = Script {
-    limits: WIDE,
-    steps: &[
-        Step::Test(SB),
-        Step::Ask(b"SB", b"rc11.cat"),
-        Step::ClaimBy(1),
-        Step::Release(1),
-        Step::ClaimBy(2),
-        Step::ReturnBy(1, 2),
-        Step::ReturnBy(1, 4),
-        Step::ReturnBy(2, 4),
-        Step::ReturnBy(2, 4),
-        Step::Claim,
-        Step::Poll(1),
-        Step::Forget(1),
-        Step::Poll(1),
-        Step::Close,
-        Step::List,
-    ],
-    answers: &[
-        (2, Answer::Piece(0, 0, 16)),
-        (3, Answer::Freed(1)),
-        (4, Answer::Piece(0, 0, 16)),
-        (5, Answer::NoClaim(1)),
-        (6, Answer::NoClaim(2)),
-        (7, Answer::Taken(1, 1)),
-        (8, Answer::NoClaim(2)),
-        (9, Answer::Nothing),
-        (10, Answer::Verdict(1, 3)),
-        (11, Answer::Done),
-        (12, Answer::NoJob(1)),
-        (13, Answer::Done),
-        (14, Answer::Closed),
-    ],
-};
-
-#[test]
-fn script_release(rt: HostRuntime) {
-    assert!(rt; plays(rt.alloc(), &RELEASE));
-}
-
-/// Names are listed where they are loaded.
-const LISTED: Script = Script {
-    limits: WIDE,
-    steps: &[
-        Step::List,
-        Step::Cat(b"a.cat", b""),
-        Step::Test(SB),
-        Step::Ask(b"SB", b"a.cat"),
-        Step::List,
-        Step::DropCat(b"a.cat"),
-        Step::DropTest(b"SB"),
-        Step::List,
-        Step::DropTest(b"SB"),
-        Step::DropCat(b"rc11.cat"),
-        Step::Cat(b"a.cat", b""),
-        Step::List,
-    ],
-    answers: &[
-        (0, Answer::Listed(0, 0, 0)),
-        (4, Answer::Listed(1, 1, 1)),
-        (7, Answer::Listed(0, 0, 1)),
-        (8, Answer::NoName),
-        (9, Answer::NoName),
-        (10, Answer::Version(3)),
-        (11, Answer::Listed(0, 1, 1)),
-    ],
-};
-
-#[test]
-fn what_is_dropped_is_not_listed(rt: HostRuntime) {
-    assert!(rt; plays(rt.alloc(), &LISTED));
-}
-
-/// One thread with 12 stores to one location: 479,001,600 candidates.
-const STORES: &[u8] = b"C S {} P0 (atomic_int* x) {
-atomic_store_explicit(x, 1, memory_order_relaxed); atomic_store_explicit(x, 1, memory_order_relaxed);
-atomic_store_explicit(x, 1, memory_order_relaxed); atomic_store_explicit(x, 1, memory_order_relaxed);
-atomic_store_explicit(x, 1, memory_order_relaxed); atomic_store_explicit(x, 1, memory_order_relaxed);
-atomic_store_explicit(x, 1, memory_order_relaxed); atomic_store_explicit(x, 1, memory_order_relaxed);
-atomic_store_explicit(x, 1, memory_order_relaxed); atomic_store_explicit(x, 1, memory_order_relaxed);
-atomic_store_explicit(x, 1, memory_order_relaxed); atomic_store_explicit(x, 1, memory_order_relaxed);
-} exists (x=1)";
-
-/// Thirteen stores: 6,227,020,800 candidates.
-const MORE_STORES: &[u8] = b"C S {} P0 (atomic_int* x) {
-atomic_store_explicit(x, 1, memory_order_relaxed); atomic_store_explicit(x, 1, memory_order_relaxed);
-atomic_store_explicit(x, 1, memory_order_relaxed); atomic_store_explicit(x, 1, memory_order_relaxed);
-atomic_store_explicit(x, 1, memory_order_relaxed); atomic_store_explicit(x, 1, memory_order_relaxed);
-atomic_store_explicit(x, 1, memory_order_relaxed); atomic_store_explicit(x, 1, memory_order_relaxed);
-atomic_store_explicit(x, 1, memory_order_relaxed); atomic_store_explicit(x, 1, memory_order_relaxed);
-atomic_store_explicit(x, 1, memory_order_relaxed); atomic_store_explicit(x, 1, memory_order_relaxed);
-atomic_store_explicit(x, 1, memory_order_relaxed);
-} exists (x=1)";
-
-/// One thread with 13 loads from one location: 8,192 runs.
-const LOADS: &[u8] = b"C L {} P0 (atomic_int* x) {
+/// A result of another book is returned, and then its own (`stranger`). A file is put three times (`spent_versions`), and a dropped file's
+/// version goes on (`spent`). A slice is released and claimed again, and the late result comes back (`script_release`). Names are listed where
+/// they are loaded. The job of twelve stores to one location, which have 479,001,600 candidates, has 256 slices, of which the first runs to
+/// 479,001,600 / 256, rounded down; thirteen have 6,227,020,800, and 13 loads 8,192 runs (`sizes`). Sixteen slices are returned from the last
+/// to the first (`iriw`). Two claims are made where two pieces are free (`spent_claims`). A job under a model that includes another file is
+/// done, and polled; the included file is put again, with equal text, before the return; and a built-in file is asked under before a file of
+/// its name is put.
+const ROWS: &str = "
+=== stranger
+> 0 test
+%SB%> 0 ask SB stdlib.cat
+> 0 claim
+> 0 return 0
+> 0 return 1
++++ book journal 20 versions 10 claims 10
+---
+version SB 1
+job 1
+piece 1 job 1 slice 0 from 0 to 16
+refused 80 Stranger 1
+taken 1 1
+=== spent_versions
+> 0 cat a.cat
+> 0 cat a.cat
+> 0 cat a.cat
++++ book journal 20 versions 2 claims 1
+---
+version a.cat 1
+version a.cat 2
+refused 81 VersionsSpent a.cat
+=== spent
+> 0 cat a.cat
+> 0 dropcat a.cat
+> 0 cat a.cat
+> 0 test
+%SB%> 0 ask SB rc11.cat
+> 0 claim
+> 0 back 1
+> 0 claim
++++ book journal 20 versions 2 claims 1
+---
+version a.cat 1
+version a.cat 2
+refused 81 VersionsSpent a.cat
+version SB 1
+job 1
+piece 1 job 1 slice 0 from 0 to 16
+done
+refused 82 ClaimsSpent
+=== script_release
+> 0 test
+%SB%> 0 ask SB rc11.cat
+> 1 claim
+> 0 release 1
+> 2 claim
+> 1 return 1
+> 1 return 2
+> 2 return 2
+> 2 return 2
+> 0 claim
+> 0 poll 1
+> 0 forget 1
+> 0 poll 1
+> 0 close
+> 0 list
++++ book journal 20 versions 10 claims 10
+---
+version SB 1
+job 1
+piece 1 job 1 slice 0 from 0 to 16
+freed 1
+piece 2 job 1 slice 0 from 0 to 16
+refused 78 NoClaim 1
+refused 78 NoClaim 2
+taken 1 1
+refused 78 NoClaim 2
+nothing
+verdict SB 1 rc11.cat 0
+%SB summary%done
+refused 77 NoJob 1
+done
+refused 71 Closed
+=== what_is_dropped_is_not_listed
+> 0 list
+> 0 cat a.cat
+> 0 test
+%SB%> 0 ask SB a.cat
+> 0 list
+> 0 dropcat a.cat
+> 0 droptest SB
+> 0 list
+> 0 droptest SB
+> 0 dropcat rc11.cat
+> 0 cat a.cat
+> 0 list
++++ book journal 20 versions 10 claims 10
+---
+end
+version a.cat 1
+version SB 1
+job 1
+test SB 1
+cat a.cat 1
+job 1 SB a.cat 0 1
+end
+version a.cat 2
+version SB 2
+job 1 SB a.cat 0 1
+end
+refused 73 NoTest SB
+refused 74 Model 61 NoCat rc11.cat
+version a.cat 3
+cat a.cat 3
+job 1 SB a.cat 0 1
+end
+=== sizes
+> 0 test
+C S {} P0 (atomic_int* x) {
+%12 times atomic_store_explicit(x, 1, memory_order_relaxed);
+%} exists (x=1)
+> 0 ask S stdlib.cat
+> 0 poll 1
+> 0 claim
+> 0 claim
+> 0 test
+C S {} P0 (atomic_int* x) {
+%13 times atomic_store_explicit(x, 1, memory_order_relaxed);
+%} exists (x=1)
+> 0 ask S stdlib.cat
+> 0 test
+C L {} P0 (atomic_int* x) {
 int r0 = atomic_load_explicit(x, memory_order_relaxed);
-r0 = atomic_load_explicit(x, memory_order_relaxed); r0 = atomic_load_explicit(x, memory_order_relaxed);
-r0 = atomic_load_explicit(x, memory_order_relaxed); r0 = atomic_load_explicit(x, memory_order_relaxed);
-r0 = atomic_load_explicit(x, memory_order_relaxed); r0 = atomic_load_explicit(x, memory_order_relaxed);
-r0 = atomic_load_explicit(x, memory_order_relaxed); r0 = atomic_load_explicit(x, memory_order_relaxed);
-r0 = atomic_load_explicit(x, memory_order_relaxed); r0 = atomic_load_explicit(x, memory_order_relaxed);
-r0 = atomic_load_explicit(x, memory_order_relaxed); r0 = atomic_load_explicit(x, memory_order_relaxed);
-} exists (0:r0=0)";
-
-/// The job of twelve stores has 256 slices. The first runs to 479,001,600 / 256, rounded down.
-const SIZES: Script = Script {
-    limits: WIDE,
-    steps: &[
-        Step::Test(STORES),
-        Step::Ask(b"S", b"stdlib.cat"),
-        Step::Poll(1),
-        Step::Claim,
-        Step::Claim,
-        Step::Test(MORE_STORES),
-        Step::Ask(b"S", b"stdlib.cat"),
-        Step::Test(LOADS),
-        Step::Ask(b"L", b"stdlib.cat"),
-    ],
-    answers: &[
-        (2, Answer::Pending(0, 256)),
-        (3, Answer::Piece(0, 0, 1871100)),
-        (4, Answer::Piece(1, 1871100, 3742200)),
-        (6, Answer::TooManyCandidates),
-        (8, Answer::TooManyRuns(0)),
-    ],
-};
-
-#[test]
-fn sizes(rt: HostRuntime) {
-    assert!(rt; plays(rt.alloc(), &SIZES));
-}
-
-/// Two writers, and two readers that see them in unlike orders. With 2 and 3 in registers there are four values, so that
-/// there are 4,096 candidates.
-const IRIW: &[u8] = b"C IRIW
-{ 0:r8=2; 0:r9=3; }
-P0 (atomic_int* x) {
-  atomic_store_explicit(x, 1, memory_order_release);
-}
-P1 (atomic_int* y) {
-  atomic_store_explicit(y, 1, memory_order_release);
-}
-P2 (atomic_int* x, atomic_int* y) {
-  int r0 = atomic_load_explicit(x, memory_order_acquire);
-  int r1 = atomic_load_explicit(y, memory_order_acquire);
-}
-P3 (atomic_int* x, atomic_int* y) {
-  int r0 = atomic_load_explicit(y, memory_order_acquire);
-  int r1 = atomic_load_explicit(x, memory_order_acquire);
-}
-exists (2:r0=1 /\\ 2:r1=0 /\\ 3:r0=1 /\\ 3:r1=0)
+%12 times r0 = atomic_load_explicit(x, memory_order_relaxed);
+%} exists (0:r0=0)
+> 0 ask L stdlib.cat
++++ book journal 20 versions 10 claims 10
+---
+version S 1
+job 1
+pending 0 256
+piece 1 job 1 slice 0 from 0 to 1871100
+piece 2 job 1 slice 1 from 1871100 to 3742200
+version S 2
+refused 75 Space 41 TooManyCandidates
+version L 1
+refused 75 Space 31 TooManyRuns 0
+=== iriw
+> 0 test
+%IRIW%> 0 ask IRIW rc11.cat
+%17 times > 0 claim
+%> 0 return 16
+> 0 return 15
+> 0 return 14
+> 0 return 13
+> 0 return 12
+> 0 return 11
+> 0 return 10
+> 0 return 9
+> 0 return 8
+> 0 return 7
+> 0 return 6
+> 0 return 5
+> 0 return 4
+> 0 return 3
+> 0 return 2
+> 0 poll 1
+> 0 return 1
+> 0 poll 1
++++ book journal 40 versions 10 claims 20
+---
+version IRIW 1
+job 1
+piece 1 job 1 slice 0 from 0 to 256
+piece 2 job 1 slice 1 from 256 to 512
+piece 3 job 1 slice 2 from 512 to 768
+piece 4 job 1 slice 3 from 768 to 1024
+piece 5 job 1 slice 4 from 1024 to 1280
+piece 6 job 1 slice 5 from 1280 to 1536
+piece 7 job 1 slice 6 from 1536 to 1792
+piece 8 job 1 slice 7 from 1792 to 2048
+piece 9 job 1 slice 8 from 2048 to 2304
+piece 10 job 1 slice 9 from 2304 to 2560
+piece 11 job 1 slice 10 from 2560 to 2816
+piece 12 job 1 slice 11 from 2816 to 3072
+piece 13 job 1 slice 12 from 3072 to 3328
+piece 14 job 1 slice 13 from 3328 to 3584
+piece 15 job 1 slice 14 from 3584 to 3840
+piece 16 job 1 slice 15 from 3840 to 4096
+nothing
+taken 1 16
+taken 2 16
+taken 3 16
+taken 4 16
+taken 5 16
+taken 6 16
+taken 7 16
+taken 8 16
+taken 9 16
+taken 10 16
+taken 11 16
+taken 12 16
+taken 13 16
+taken 14 16
+taken 15 16
+pending 15 16
+taken 16 16
+verdict IRIW 1 rc11.cat 0
+%IRIW summary%=== spent_claims
+> 0 test
+%SB%> 0 ask SB stdlib.cat
+> 0 ask SB stdlib.cat
+> 0 claim
+> 0 claim
++++ book journal 20 versions 2 claims 1
+---
+version SB 1
+job 1
+job 2
+piece 1 job 1 slice 0 from 0 to 16
+refused 82 ClaimsSpent
+=== a_verdict_under_a_model
+> 0 cat base.cat
+let com = rf | co | fr
+> 0 cat sc.cat
+include \"base.cat\" acyclic po | com as sc
+> 0 test
+%SB%> 0 ask SB sc.cat
+> 0 claim
+> 0 return 1
+> 0 poll 1
++++ book journal 20 versions 10 claims 10
+---
+version base.cat 1
+version sc.cat 1
+version SB 1
+job 1
+piece 1 job 1 slice 0 from 0 to 16
+taken 1 1
+verdict SB 1 sc.cat 1 base.cat 1
+%SB never%=== an_included_file_put_again
+> 0 cat base.cat
+let com = rf | co | fr
+> 0 cat sc.cat
+include \"base.cat\" acyclic po | com as sc
+> 0 test
+%SB%> 0 ask SB sc.cat
+> 0 claim
+> 0 cat base.cat
+let com = rf | co | fr
+> 0 return 1
++++ book journal 20 versions 10 claims 10
+---
+version base.cat 1
+version sc.cat 1
+version SB 1
+job 1
+piece 1 job 1 slice 0 from 0 to 16
+version base.cat 2
+refused 79 Replaced cat base.cat 2
+=== a_built_in_file_hidden
+> 0 test
+%SB%> 0 ask SB stdlib.cat
+> 0 cat stdlib.cat
+> 0 poll 1
++++ book journal 4 versions 1 claims 10
+---
+version SB 1
+job 1
+version stdlib.cat 1
+refused 79 Replaced cat stdlib.cat 1
 ";
 
-/// Their sixteen slices are returned from the last to the first.
-const SIXTEEN_SLICES: Script = Script {
-    limits: Limits {
-        journal: 40,
-        versions: 10,
-        claims: 20,
-    },
-    steps: &[
-        Step::Test(IRIW),
-        Step::Ask(b"IRIW", b"rc11.cat"),
-        Step::Claim,
-        Step::Claim,
-        Step::Claim,
-        Step::Claim,
-        Step::Claim,
-        Step::Claim,
-        Step::Claim,
-        Step::Claim,
-        Step::Claim,
-        Step::Claim,
-        Step::Claim,
-        Step::Claim,
-        Step::Claim,
-        Step::Claim,
-        Step::Claim,
-        Step::Claim,
-        Step::Claim,
-        Step::Return(17),
-        Step::Return(16),
-        Step::Return(15),
-        Step::Return(14),
-        Step::Return(13),
-        Step::Return(12),
-        Step::Return(11),
-        Step::Return(10),
-        Step::Return(9),
-        Step::Return(8),
-        Step::Return(7),
-        Step::Return(6),
-        Step::Return(5),
-        Step::Return(4),
-        Step::Return(3),
-        Step::Poll(1),
-        Step::Return(2),
-        Step::Poll(1),
-    ],
-    answers: &[
-        (2, Answer::Piece(0, 0, 256)),
-        (3, Answer::Piece(1, 256, 512)),
-        (4, Answer::Piece(2, 512, 768)),
-        (5, Answer::Piece(3, 768, 1024)),
-        (6, Answer::Piece(4, 1024, 1280)),
-        (7, Answer::Piece(5, 1280, 1536)),
-        (8, Answer::Piece(6, 1536, 1792)),
-        (9, Answer::Piece(7, 1792, 2048)),
-        (10, Answer::Piece(8, 2048, 2304)),
-        (11, Answer::Piece(9, 2304, 2560)),
-        (12, Answer::Piece(10, 2560, 2816)),
-        (13, Answer::Piece(11, 2816, 3072)),
-        (14, Answer::Piece(12, 3072, 3328)),
-        (15, Answer::Piece(13, 3328, 3584)),
-        (16, Answer::Piece(14, 3584, 3840)),
-        (17, Answer::Piece(15, 3840, 4096)),
-        (18, Answer::Nothing),
-        (19, Answer::Taken(1, 16)),
-        (20, Answer::Taken(2, 16)),
-        (21, Answer::Taken(3, 16)),
-        (22, Answer::Taken(4, 16)),
-        (23, Answer::Taken(5, 16)),
-        (24, Answer::Taken(6, 16)),
-        (25, Answer::Taken(7, 16)),
-        (26, Answer::Taken(8, 16)),
-        (27, Answer::Taken(9, 16)),
-        (28, Answer::Taken(10, 16)),
-        (29, Answer::Taken(11, 16)),
-        (30, Answer::Taken(12, 16)),
-        (31, Answer::Taken(13, 16)),
-        (32, Answer::Taken(14, 16)),
-        (33, Answer::Taken(15, 16)),
-        (34, Answer::Pending(15, 16)),
-        (35, Answer::Taken(16, 16)),
-        (36, Answer::Verdict(1, 15)),
-    ],
-};
-
 #[test]
-fn iriw(rt: HostRuntime) {
-    assert!(rt; plays(rt.alloc(), &SIXTEEN_SLICES));
-}
-
-/// Two claims are made where two pieces are free.
-const SPENT_CLAIMS: Script = Script {
-    limits: Limits {
-        journal: 20,
-        versions: 2,
-        claims: 1,
-    },
-    steps: &[
-        Step::Test(SB),
-        Step::Ask(b"SB", b"stdlib.cat"),
-        Step::Ask(b"SB", b"stdlib.cat"),
-        Step::Claim,
-        Step::Claim,
-    ],
-    answers: &[(4, Answer::ClaimsSpent)],
-};
-
-#[test]
-fn spent_claims(rt: HostRuntime) {
-    assert!(rt; plays(rt.alloc(), &SPENT_CLAIMS));
-}
-
-/// What a model includes.
-const BASE: &[u8] = b"let com = rf | co | fr";
-
-/// A model that includes it.
-const SC: &[u8] = b"include \"base.cat\" acyclic po | com as sc";
-
-/// A job under a model that includes another file is done, and polled.
-const VERDICT: Script = Script {
-    limits: WIDE,
-    steps: &[
-        Step::Cat(b"base.cat", BASE),
-        Step::Cat(b"sc.cat", SC),
-        Step::Test(SB),
-        Step::Ask(b"SB", b"sc.cat"),
-        Step::Claim,
-        Step::Return(4),
-        Step::Poll(1),
-    ],
-    answers: &[(5, Answer::Taken(1, 1)), (6, Answer::Verdict(0, 3))],
-};
-
-#[test]
-fn a_verdict_under_a_model(rt: HostRuntime) {
-    assert!(rt; plays(rt.alloc(), &VERDICT));
-}
-
-/// The included file is put again, with equal text, before the return.
-const REPLACED: Script = Script {
-    limits: WIDE,
-    steps: &[
-        Step::Cat(b"base.cat", BASE),
-        Step::Cat(b"sc.cat", SC),
-        Step::Test(SB),
-        Step::Ask(b"SB", b"sc.cat"),
-        Step::Claim,
-        Step::Cat(b"base.cat", BASE),
-        Step::Return(4),
-    ],
-    answers: &[(6, Answer::ReplacedFile(b"base.cat", 2))],
-};
-
-#[test]
-fn an_included_file_put_again(rt: HostRuntime) {
-    assert!(rt; plays(rt.alloc(), &REPLACED));
-}
-
-/// A built-in file is asked under, and then a file of its name is put.
-const HIDDEN: Script = Script {
-    limits: Limits {
-        journal: 4,
-        versions: 1,
-        claims: 10,
-    },
-    steps: &[
-        Step::Test(SB),
-        Step::Ask(b"SB", b"stdlib.cat"),
-        Step::Cat(b"stdlib.cat", b""),
-        Step::Poll(1),
-    ],
-    answers: &[
-        (2, Answer::Version(1)),
-        (3, Answer::ReplacedFile(b"stdlib.cat", 1)),
-    ],
-};
-
-#[test]
-fn a_built_in_file_hidden(rt: HostRuntime) {
-    assert!(rt; plays(rt.alloc(), &HIDDEN));
+fn rows(rt: HostRuntime) -> Result<(), Fail> {
+    all_hold(&rt, rt.alloc(), ROWS)
 }

@@ -3,100 +3,24 @@
 
 ghost use Rattle.std.specs.Prelude.{◌≡◌, [], IfOk, OnOk};
 ghost use Rattle.bench_tests.specs.Whole.{IsOver, IsWhole};
-ghost use Rattle.slices.specs.Parts.{test_size};
 
-use crate::desk::commands::{SB, name, put_cat};
+use crate::desk::commands::{SB, put_cat};
+use crate::desk::works::{whole_part, whole_piece, work_of};
+use crate::rows::{again, all_so, confirm};
 use book::{Command, Said};
-use cat_model::{Files, Model, resolve};
-use litmus_c::{Test, read_test};
-use slices::{KeptSpace, Piece, PieceResult, Tally, Verdict, VerdictRef, Work, WorkRef, evaluate};
+use slices::{KeptSpace, Piece, PieceResult, Tally, Verdict, VerdictRef, WorkRef};
 use std::alloc::{AllocError, Global};
 use std::test::Fail;
-use wb_text::Name;
 
-/// How many numbers SB has: two values of each of two loads, each of two writes, and one order of each location.
-const NUMBERS: u64 = 16;
+/// How many executions have the proposition, how many don't, and how many final states there are.
+type Counts = (u64, u64, usize);
 
-fn test_once(alloc: Global, text: &[u8]) -> Result<Test, AllocError> {
-    match read_test(alloc, text) {
-        Ok(test) => Ok(test),
-        Err(_) => Err(AllocError),
-    }
-}
-
-fn test(alloc: Global, text: &[u8]) -> Result<Test, AllocError> {
-    match test_once(alloc, text) {
-        Ok(test) => Ok(test),
-        Err(AllocError) => test_once(alloc, text),
-    }
-}
-
-fn resolved(alloc: Global, files: &Files, root: &Name) -> Result<Model, AllocError> {
-    match resolve(alloc, files, root) {
-        Ok(model) => Ok(model),
-        Err(_) => Err(AllocError),
-    }
-}
-
-fn model_once(alloc: Global) -> Result<Model, AllocError> {
-    let files = Files::new(alloc)?;
-    let root = name(alloc, b"stdlib.cat")?;
-    resolved(alloc, &files, &root)
-}
-
-/// The model of no constraint.
-fn model(alloc: Global) -> Result<Model, AllocError> {
-    match model_once(alloc) {
-        Ok(model) => Ok(model),
-        Err(AllocError) => model_once(alloc),
-    }
-}
-
-fn work_once(alloc: Global, test: Test) -> Result<Work, AllocError> {
-    match Work::new(alloc, test, model(alloc)?) {
-        Ok(work) => Ok(work),
-        Err(_) => Err(AllocError),
-    }
-}
-
-/// A test under no constraint. What is refused leaves the test, which is kept more than once.
-fn work(alloc: Global, text: &[u8]) -> Result<Work, AllocError> {
-    let test = test(alloc, text)?;
-    match work_once(alloc, test.copy()?) {
-        Ok(work) => Ok(work),
-        Err(AllocError) => work_once(alloc, test),
-    }
-}
-
-fn work_of(alloc: Global, text: &[u8]) -> Result<WorkRef, AllocError> {
-    match WorkRef::new(alloc, work(alloc, text)?) {
-        Ok(work) => Ok(work),
-        Err(AllocError) => WorkRef::new(alloc, work(alloc, text)?),
-    }
-}
-
-fn work_ref(alloc: Global) -> Result<WorkRef, AllocError> {
-    work_of(alloc, SB)
-}
-
-/// Fails with what was tried, unless it held.
-fn confirm(holds: bool, tried: &str) -> Result<(), Fail> {
-    if holds { Ok(()) } else { Err(Fail::new(tried)) }
-}
-
-#[test]
-fn works(rt: HostRuntime) -> Result<(), Fail> {
-    let work = work_ref(rt.alloc())?;
-    confirm(
-        work.work().size() == NUMBERS && work.work() == work.work(),
-        "how many numbers SB has",
-    )
-}
+/// Of SB under no constraint.
+const BUFFERING: Counts = (1, 3, 4);
 
 /// A store, and twelve loads of its location: two values of each load and two writes that it may read from, and one order. So many
 /// numbers has a slice of a job of 2^32, which is cut into 256.
-const LARGEST: (&[u8], u64) = (
-    b"C LARGEST
+const LARGEST: &[u8] = b"C LARGEST
 {}
 P0 (atomic_int* x) {
   atomic_store_explicit(x, 1, memory_order_relaxed);
@@ -116,68 +40,7 @@ P1 (atomic_int* x) {
   int r11 = atomic_load_explicit(x, memory_order_relaxed);
 }
 exists (1:r0=1 /\\ 1:r11=1)
-",
-    1 << 24,
-);
-
-/// Whether of the executions a quarter has the proposition: each load reads from the one write or the other.
-fn is_largest(alloc: Global, work: &WorkRef) -> bool {
-    match whole_part(alloc, work) {
-        Ok(part) => {
-            let finding = part.found().finding();
-            let counts = (finding.positive(), finding.negative());
-            part.piece().to() == LARGEST.1 && counts == (1_024, 3_072)
-        }
-        Err(AllocError) => false,
-    }
-}
-
-#[test]
-fn largest_piece(rt: HostRuntime) -> Result<(), Fail> {
-    let work = work_of(rt.alloc(), LARGEST.0)?;
-    confirm(is_largest(rt.alloc(), &work), "the largest piece")
-}
-
-/// The piece of all numbers.
-fn whole_piece(work: &WorkRef) -> Result<Piece, AllocError>
-    ensures work { IfOk result (λ p. p.work ≡ work.now) }
-    ensures first { IfOk result (λ p. p.from ≡ 0) }
-    ensures last { IfOk result (λ p. p.to ≡ test_size work.now.test) }
-{
-    let size = work.work().size();
-    Ok(Piece::new(3, 2, 0, 0, size, work.share()?))
-}
-
-/// The result of all numbers.
-fn whole_part(alloc: Global, work: &WorkRef) -> Result<PieceResult, AllocError>
-    ensures { IfOk result (IsOver work.now) }
-{
-    let piece = whole_piece(work)?;
-    match evaluate(alloc, &piece) {
-        Ok(part) => Ok(part),
-        Err(AllocError) => evaluate(alloc, &piece),
-    }
-}
-
-/// Whether these are the counts of SB under no constraint: one execution with the proposition and three without.
-fn is_found(part: &PieceResult) -> bool {
-    let finding = part.found().finding();
-    finding.positive() == 1 && finding.negative() == 3 && finding.states().len() == 4
-}
-
-/// Whether the result of all numbers has these counts.
-fn is_evaluated(alloc: Global, work: &WorkRef) -> bool {
-    match whole_part(alloc, work) {
-        Ok(part) => is_found(&part) && part.piece().to() == NUMBERS,
-        Err(AllocError) => false,
-    }
-}
-
-#[test]
-fn results(rt: HostRuntime) -> Result<(), Fail> {
-    let work = work_ref(rt.alloc())?;
-    confirm(is_evaluated(rt.alloc(), &work), "the result of all numbers")
-}
+";
 
 /// A test of one execution, which has the proposition.
 const ONE: &[u8] = b"C ONE
@@ -188,38 +51,44 @@ P0 (atomic_int* x) {
 exists (x=1)
 ";
 
-/// The result of all numbers, over what the piece before left.
-fn part_over(space: &mut KeptSpace, work: &WorkRef) -> Result<PieceResult, AllocError> {
-    let piece = whole_piece(work)?;
-    match space.evaluate(&piece) {
-        Ok(part) => Ok(part),
-        Err(AllocError) => space.evaluate(&piece),
+fn is_found(part: &PieceResult, counts: Counts) -> bool {
+    let finding = part.found().finding();
+    (
+        finding.positive(),
+        finding.negative(),
+        finding.states().len(),
+    ) == counts
+}
+
+/// Whether there are so many numbers, and the result of all of them has these counts.
+fn is_evaluated(alloc: Global, work: &WorkRef, numbers: u64, counts: Counts) -> bool {
+    match whole_part(alloc, work) {
+        Ok(part) => is_found(&part, counts) && part.piece().to() == numbers,
+        Err(AllocError) => false,
     }
 }
 
-/// Whether the work's results are those of SB, two pieces one after another.
-fn are_found(space: &mut KeptSpace, work: &WorkRef) -> Result<bool, AllocError> {
-    let first = part_over(space, work)?;
-    let second = part_over(space, work)?;
-    Ok(is_found(&first) && is_found(&second))
+/// The result of all numbers, over what the piece before left.
+fn part_over(space: &mut KeptSpace, work: &WorkRef) -> Result<PieceResult, AllocError> {
+    let piece = whole_piece(work)?;
+    again!(AllocError, space.evaluate(&piece))
 }
 
-fn is_one(space: &mut KeptSpace, work: &WorkRef) -> Result<bool, AllocError> {
-    let part = part_over(space, work)?;
-    let finding = part.found().finding();
-    Ok((finding.positive(), finding.negative()) == (1, 0))
+fn is_over(space: &mut KeptSpace, work: &WorkRef, counts: Counts) -> bool {
+    match part_over(space, work) {
+        Ok(part) => is_found(&part, counts),
+        Err(AllocError) => false,
+    }
 }
 
-/// Whether pieces of SB, of another test and of SB again each have their own counts, over the candidates of the piece before.
-#[test]
-fn kept_spaces(rt: HostRuntime) -> Result<(), Fail> {
-    let sb = work_ref(rt.alloc())?;
-    let one = work_of(rt.alloc(), ONE)?;
-    let mut space = KeptSpace::new(rt.alloc());
-    let first = are_found(&mut space, &sb)?;
-    let other = is_one(&mut space, &one)?;
-    let last = are_found(&mut space, &sb)?;
-    confirm(first && other && last, "pieces of two tests, in turn")
+/// Whether two pieces of SB, one of another test and two of SB again each have their own counts, over the candidates of the piece before.
+fn are_kept_apart(alloc: Global, sb: &WorkRef, one: &WorkRef) -> bool {
+    let mut space = KeptSpace::new(alloc);
+    is_over(&mut space, sb, BUFFERING)
+        && is_over(&mut space, sb, BUFFERING)
+        && is_over(&mut space, one, (1, 0, 1))
+        && is_over(&mut space, sb, BUFFERING)
+        && is_over(&mut space, sb, BUFFERING)
 }
 
 fn is_piece_copied(piece: &Piece) -> bool {
@@ -242,12 +111,6 @@ fn is_copied(alloc: Global, work: &WorkRef) -> bool {
         Ok(part) => is_piece_copied(part.piece()) && is_part_copied(&part),
         Err(AllocError) => false,
     }
-}
-
-#[test]
-fn copies(rt: HostRuntime) -> Result<(), Fail> {
-    let work = work_ref(rt.alloc())?;
-    confirm(is_copied(rt.alloc(), &work), "copies of the result")
 }
 
 /// Whether this is the verdict on SB under no constraint, for this version of the test.
@@ -278,22 +141,12 @@ fn add(tally: &mut Tally, part: PieceResult) -> Result<(), AllocError>
     match tally.merge(part) {
         Ok(()) => Ok(()),
         Err((part, AllocError)) => {
-            if tally.spans().is_empty() && is_found(&part) {
+            if tally.spans().is_empty() && is_found(&part, BUFFERING) {
                 add_once(tally, part)
             } else {
                 Err(AllocError)
             }
         }
-    }
-}
-
-/// The verdict of a tally, which stays as it is.
-fn verdict_of(tally: &Tally) -> Result<Verdict, AllocError>
-    requires { IsWhole tally.now }
-{
-    match tally.verdict(1) {
-        Ok(verdict) => Ok(verdict),
-        Err(AllocError) => tally.verdict(1),
     }
 }
 
@@ -305,6 +158,13 @@ fn tally_of(alloc: Global, work: &WorkRef) -> Result<Tally, AllocError>
         Ok(tally) => Ok(tally),
         Err(AllocError) => Tally::new(alloc, work.share()?),
     }
+}
+
+/// The verdict of a tally, which stays as it is.
+fn verdict_of(tally: &Tally) -> Result<Verdict, AllocError>
+    requires { IsWhole tally.now }
+{
+    again!(AllocError, tally.verdict(1))
 }
 
 fn tallied(alloc: Global, work: &WorkRef) -> Result<Verdict, AllocError> {
@@ -321,40 +181,54 @@ fn is_tallied(alloc: Global, work: &WorkRef) -> bool {
     }
 }
 
-#[test]
-fn sb_calls(rt: HostRuntime) -> Result<(), Fail> {
-    let work = work_ref(rt.alloc())?;
-    confirm(
-        is_tallied(rt.alloc(), &work),
-        "the verdict of a tally on version 1",
-    )
-}
-
 fn judged(alloc: Global, work: &WorkRef) -> Result<Verdict, AllocError> {
-    match Verdict::judge(alloc, work.share()?, 4, 7) {
-        Ok(verdict) => Ok(verdict),
-        Err(AllocError) => Verdict::judge(alloc, work.share()?, 4, 7),
-    }
+    again!(AllocError, Verdict::judge(alloc, work.share()?, 4, 7))
 }
 
-fn kept_verdict(alloc: Global, work: &WorkRef) -> Result<VerdictRef, AllocError> {
-    match VerdictRef::new(alloc, judged(alloc, work)?) {
-        Ok(verdict) => Ok(verdict),
-        Err(AllocError) => VerdictRef::new(alloc, judged(alloc, work)?),
-    }
-}
-
-fn is_kept(alloc: Global, work: &WorkRef) -> bool {
-    match kept_verdict(alloc, work) {
-        Ok(verdict) => is_judged(verdict.verdict(), 7),
-        Err(AllocError) => false,
-    }
+fn is_kept(alloc: Global, work: &WorkRef) -> Result<bool, AllocError> {
+    let verdict = again!(AllocError, VerdictRef::new(alloc, judged(alloc, work)?))?;
+    Ok(is_judged(verdict.verdict(), 7))
 }
 
 #[test]
-fn verdicts(rt: HostRuntime) -> Result<(), Fail> {
-    let work = work_ref(rt.alloc())?;
-    confirm(is_kept(rt.alloc(), &work), "the verdict on version 7")
+fn results(rt: HostRuntime) -> Result<(), Fail> {
+    let alloc = rt.alloc();
+    let sb = work_of(alloc, SB, b"stdlib.cat")?;
+    let one = work_of(alloc, ONE, b"stdlib.cat")?;
+    all_so(&[
+        (
+            "works: how many numbers SB has",
+            sb.work().size() == 16 && sb.work() == sb.work(),
+        ),
+        (
+            "results: the result of all numbers",
+            is_evaluated(alloc, &sb, 16, BUFFERING),
+        ),
+        ("copies: copies of the result", is_copied(alloc, &sb)),
+        (
+            "sb_calls: the verdict of a tally on version 1",
+            is_tallied(alloc, &sb),
+        ),
+        (
+            "verdicts: the verdict on version 7",
+            is_kept(alloc, &sb) == Ok(true),
+        ),
+        (
+            "kept_spaces: pieces of two tests, in turn",
+            are_kept_apart(alloc, &sb, &one),
+        ),
+    ])
+}
+
+/// A quarter of the executions has the proposition: each load reads from the one write or the other.
+#[test]
+fn largest_piece(rt: HostRuntime) -> Result<(), Fail> {
+    let alloc = rt.alloc();
+    let work = work_of(alloc, LARGEST, b"stdlib.cat")?;
+    confirm(
+        is_evaluated(alloc, &work, 1 << 24, (1_024, 3_072, 4)),
+        "the largest piece",
+    )
 }
 
 /// Whether a command is shown as the put of SB as a cat file.
@@ -365,31 +239,17 @@ fn is_put(said: &Said) -> bool {
     }
 }
 
-/// The command as the journal shows it. What is refused leaves the command.
-fn seen(command: &Command) -> Result<Said, AllocError> {
-    match command.seen() {
-        Ok(said) => Ok(said),
-        Err(AllocError) => command.seen(),
-    }
-}
-
-/// A copy of what is shown. What is refused leaves it.
-fn copied(said: &Said) -> Result<Said, AllocError> {
-    match said.copy() {
-        Ok(copy) => Ok(copy),
-        Err(AllocError) => said.copy(),
-    }
-}
-
+/// Whether a copy of what is shown is shown so. What is refused leaves it.
 fn is_copy(said: &Said) -> bool {
-    match copied(said) {
+    match again!(AllocError, said.copy()) {
         Ok(copy) => is_put(&copy) && copy == *said,
         Err(AllocError) => false,
     }
 }
 
+/// Whether the journal shows the command so. What is refused leaves the command.
 fn is_shown(command: &Command) -> bool {
-    match seen(command) {
+    match again!(AllocError, command.seen()) {
         Ok(said) => is_put(&said) && is_copy(&said),
         Err(AllocError) => false,
     }

@@ -2,17 +2,17 @@
 
 ghost use Rattle.std.specs.Prelude.{◌≡◌, All};
 
-use crate::desk::calls::{
-    Answer, Call, TEST_A, TEST_B, all_rise, are_answered, entries, is_reply, last_reply, made,
-    make_all,
-};
-use crate::desk::commands::SB;
+use crate::desk::calls::{are_told, entries, last_reply, make_all, recorded};
+use crate::desk::commands::is_told;
+use crate::rows::{again, all_so};
+use crate::script::texts::expanded;
 use book::{Command, Entry, Limits, Refused};
 use sessions::{Desk, FinishCause, FinishFault, Pass, Receipt, finish, open};
 use std::alloc::{AllocError, Global};
 use std::marker::Brand;
+use std::sync::Wait;
 use std::sync::ledger::{Blank, Ledger};
-use std::sync::{Arc, Wait};
+use std::test::Fail;
 
 pub const WIDE: Limits = Limits {
     journal: 1_000_000,
@@ -20,60 +20,67 @@ pub const WIDE: Limits = Limits {
     claims: 1_000_000,
 };
 
-pub const FIRST: [Call; 4] = [
-    Call::PutTest(TEST_A),
-    Call::Ask(b"A", b"rc11.cat"),
-    Call::Claim,
-    Call::Return,
-];
+/// Puts a test of one thread that does nothing, and asks for it.
+pub const FIRST: &str = "
+> 0 test
+C A
+{ x; }
+P0 () {}
+exists (x=0)
+> 0 ask A rc11.cat
+";
 
-pub const SECOND: [Call; 4] = [
-    Call::PutTest(TEST_B),
-    Call::Ask(b"B", b"rc11.cat"),
-    Call::Claim,
-    Call::Return,
-];
+pub const SECOND: &str = "
+> 1 test
+C B
+{ x; }
+P0 () {}
+exists (x=0)
+> 1 ask B rc11.cat
+";
 
-/// Two sessions call in turn: what `finish` counts, how many calls were recorded, and whether the places of each pass's receipts rise.
+/// Returns what is found of a piece.
+const THEN: &str = "
+> 0 claim
+> 0 return 1
+";
+
+/// Asks, and returns what is found of a piece. How many calls were recorded.
+pub fn asks_and_returns<L: Ledger, R: Wait>(
+    rt: &R,
+    alloc: Global,
+    desk: &Desk<L>,
+    pass: &mut Pass<L>,
+    asks: &str,
+) -> usize
+    requires { pass.old.parts ≡ 1 }
+    ensures { pass.new.parts ≡ 1 }
+{
+    let asked = make_all(rt, alloc, desk, pass, asks);
+    asked.saturating_add(make_all(rt, alloc, desk, pass, THEN))
+}
+
+/// Two sessions call in turn: what `finish` counts, and how many calls were recorded.
 fn run_both<L: Ledger, R: Wait>(
     rt: &R,
     alloc: Global,
     blank: Blank,
-) -> Result<(Option<usize>, usize, bool), AllocError>
+) -> Result<(Option<usize>, usize), AllocError>
     requires { (blank.name ≡ L.name) × (blank.parts ≡ L.parts) × (blank.parts ≡ 2) }
 {
     let (desk, mut passes) = open::<L>(alloc, blank, WIDE, 2)?;
-    let first = make_all(rt, alloc, &desk, &mut passes[0], &FIRST);
-    let second = make_all(rt, alloc, &desk, &mut passes[1], &SECOND);
-    let rising = all_rise(&passes);
+    let first = asks_and_returns(rt, alloc, &desk, &mut passes[0], FIRST);
+    let second = asks_and_returns(rt, alloc, &desk, &mut passes[1], SECOND);
     let entries = entries(desk, passes);
-    Ok((entries, first.saturating_add(second), rising))
+    Ok((entries, first.saturating_add(second)))
 }
 
 fn both<R: Wait>(rt: &R, alloc: Global) -> bool {
-    match run_both::<Brand, R>(rt, alloc, Blank::new(2)) {
-        Ok(found) => found == (Some(8), 8, true),
-        Err(AllocError) => false,
-    }
+    run_both::<Brand, R>(rt, alloc, Blank::new(2)) == Ok((Some(8), 8))
 }
 
-#[test]
-fn two_sessions_in_turn(rt: HostRuntime) {
-    assert!(rt; both(&rt, rt.alloc()));
-}
-
-fn is_entry(entry: &Entry, place: u32, seat: u8, answer: Answer) -> bool {
-    entry.place() == place && entry.seat() == seat && is_reply(entry.reply(), answer)
-}
-
-fn is_put_and_list(journal: &[Arc<Entry>]) -> bool {
-    match journal {
-        [put, list] => {
-            is_entry(put, 0, 1, Answer::Version(b"a.cat", 1))
-                && is_entry(list, 1, 2, Answer::Listed(0, 1, 0))
-        }
-        _ => false,
-    }
+fn is_entry(alloc: Global, entry: &Entry, place: u32, seat: u8, wanted: &str) -> bool {
+    entry.place() == place && entry.seat() == seat && is_told(alloc, Some(entry.reply()), wanted)
 }
 
 fn is_only(receipts: &[Receipt], entry: &Entry) -> bool {
@@ -94,24 +101,24 @@ fn are_left<L: Ledger>(passes: &[Pass<L>], list: &Entry) -> bool {
 }
 
 /// Whether seat 1 is told as missing, the journal has its put and the list of seat 2, and the other passes have what they had.
-fn lacks_seat_1<L: Ledger>(fault: &FinishFault<L>) -> bool {
-    let journal = fault.closed.journal.as_slice();
-    match journal.last() {
-        Some(list) => {
+fn lacks_seat_1<L: Ledger>(alloc: Global, fault: &FinishFault<L>) -> bool {
+    match fault.closed.journal.as_slice() {
+        [put, list] => {
             fault.cause == FinishCause::MissingPass(1)
-                && is_put_and_list(journal)
+                && is_entry(alloc, put, 0, 1, "version a.cat 1\n")
+                && is_entry(alloc, list, 1, 2, "cat a.cat 1\nend\n")
                 && are_left(&fault.closed.passes, list)
         }
-        None => false,
+        _ => false,
     }
 }
 
-fn is_amiss<L: Ledger>(desk: Desk<L>, passes: Vec<Pass<L>>) -> bool
+fn is_amiss<L: Ledger>(alloc: Global, desk: Desk<L>, passes: Vec<Pass<L>>) -> bool
     requires { All (λ p. p.parts ≡ 1) passes.items }
 {
     match finish(desk, passes) {
         Ok(_) => false,
-        Err(fault) => lacks_seat_1(&fault),
+        Err(fault) => lacks_seat_1(alloc, &fault),
     }
 }
 
@@ -120,39 +127,14 @@ fn run_missing<L: Ledger, R: Wait>(rt: &R, alloc: Global, blank: Blank) -> Resul
     requires { (blank.name ≡ L.name) × (blank.parts ≡ L.parts) × (blank.parts ≡ 3) }
 {
     let (desk, mut passes) = open::<L>(alloc, blank, WIDE, 3)?;
-    let put = Call::PutCat(b"a.cat", b"");
-    let _ = made(rt, alloc, &desk, &mut passes[1], put);
-    let _ = made(rt, alloc, &desk, &mut passes[2], Call::List);
+    let _ = make_all(rt, alloc, &desk, &mut passes[1], "> 1 cat a.cat\n");
+    let _ = make_all(rt, alloc, &desk, &mut passes[2], "> 2 list\n");
     drop(passes.remove(1));
-    Ok(is_amiss(desk, passes))
+    Ok(is_amiss(alloc, desk, passes))
 }
 
 fn missing<R: Wait>(rt: &R, alloc: Global) -> bool {
     run_missing::<Brand, R>(rt, alloc, Blank::new(3)) == Ok(true)
-}
-
-#[test]
-fn missing_pass(rt: HostRuntime) {
-    assert!(rt; missing(&rt, rt.alloc()));
-}
-
-const LABELS: [(FinishCause, &str); 2] = [
-    (FinishCause::MissingPass(3), "91 MissingPass"),
-    (FinishCause::Mismatch(7), "92 Mismatch"),
-];
-
-fn are_labelled() -> bool {
-    for (cause, label) in LABELS {
-        if cause.label() != label {
-            return false;
-        }
-    }
-    true
-}
-
-#[test]
-fn labels(rt: HostRuntime) {
-    assert!(rt; are_labelled());
 }
 
 /// Whether a command is refused as the journal is full, and handed back.
@@ -173,47 +155,139 @@ fn differ<L: Ledger>(pass: &Pass<L>) -> bool {
 }
 
 /// Two versions of a file, and the third spent; one claim given back, and the second spent.
-const SPENDING: &[Call] = &[
-    Call::PutCat(b"a.cat", b""),
-    Call::DropCat(b"a.cat"),
-    Call::PutCat(b"a.cat", b""),
-    Call::PutTest(SB),
-    Call::Ask(b"SB", b"rc11.cat"),
-    Call::Claim,
-    Call::GiveBack(1),
-    Call::Claim,
-];
+const SPENDING: &str = "
+> 0 cat a.cat
+> 0 dropcat a.cat
+> 0 cat a.cat
+> 0 test
+%SB%> 0 ask SB rc11.cat
+> 0 claim
+> 0 back 1
+> 0 claim
+";
 
-const SPENT: &[(usize, Answer)] = &[
-    (0, Answer::Version(b"a.cat", 1)),
-    (1, Answer::Version(b"a.cat", 2)),
-    (2, Answer::VersionsSpent(b"a.cat")),
-    (5, Answer::Piece(1)),
-    (6, Answer::Done),
-    (7, Answer::ClaimsSpent),
-];
+const SPENT: &str = "version a.cat 1
+version a.cat 2
+refused 81 VersionsSpent a.cat
+version SB 1
+job 1
+piece 1 job 1 slice 0 from 0 to 16
+done
+refused 82 ClaimsSpent
+";
 
 /// How often a file is put, and a slice claimed, at a desk of the widest limits.
 const OFTEN: u32 = 1_001;
 
-fn is_last<L: Ledger>(pass: &Pass<L>, answer: Answer) -> bool {
-    match last_reply(pass) {
-        Some(reply) => is_reply(reply, answer),
-        None => false,
+/// Each command once, and what there is between.
+const EACH: &str = "
+> 0 cat a.cat
+acyclic po | rf | co | fr as sc
+> 0 test
+%SB%> 0 list
+> 0 ask SB a.cat
+> 0 poll 1
+> 0 claim
+> 0 list
+> 0 release 1
+> 0 claim
+> 0 back 2
+> 0 claim
+> 0 return 3
+> 0 poll 1
+> 0 forget 1
+> 0 list
+> 0 dropcat a.cat
+> 0 droptest SB
+> 0 list
+> 0 close
+> 0 poll 1
+";
+
+const EACH_ANSWERED: &str = "version a.cat 1
+version SB 1
+test SB 1
+cat a.cat 1
+end
+job 1
+pending 0 1
+piece 1 job 1 slice 0 from 0 to 16
+test SB 1
+cat a.cat 1
+job 1 SB a.cat 0 1
+end
+freed 1
+piece 2 job 1 slice 0 from 0 to 16
+done
+piece 3 job 1 slice 0 from 0 to 16
+taken 1 1
+verdict SB 1 a.cat 1
+%SB never%done
+test SB 1
+cat a.cat 1
+end
+version a.cat 2
+version SB 2
+end
+done
+refused 71 Closed
+";
+
+/// What a session does alone at a desk.
+#[derive(Clone, Copy)]
+enum Session {
+    /// Fills a journal of three entries, and calls once more.
+    Full,
+    /// These calls, so many, which are to be answered so.
+    Calls(&'static str, usize, &'static str),
+    /// Puts a file and claims a slice so often.
+    Often,
+}
+
+/// Whether three calls were recorded, and the fourth handed back.
+fn fills<L: Ledger, R: Wait>(rt: &R, alloc: Global, desk: &Desk<L>, pass: &mut Pass<L>) -> bool
+    requires { pass.old.parts ≡ 1 }
+    ensures { pass.new.parts ≡ 1 }
+{
+    let recorded = make_all(rt, alloc, desk, pass, "> 0 list\n> 0 list\n> 0 list\n");
+    recorded == 3 && is_full(rt, desk, pass) && differ(pass)
+}
+
+/// Whether so many calls were recorded, and answered so.
+fn is_answered<L: Ledger, R: Wait>(
+    rt: &R,
+    alloc: Global,
+    desk: &Desk<L>,
+    pass: &mut Pass<L>,
+    calls: &str,
+    number: usize,
+    answers: &str,
+) -> bool
+    requires { pass.old.parts ≡ 1 }
+    ensures { pass.new.parts ≡ 1 }
+{
+    match (expanded(alloc, calls), expanded(alloc, answers)) {
+        (Ok(calls), Ok(answers)) => {
+            make_all(rt, alloc, desk, pass, calls.as_str()) == number
+                && are_told(alloc, pass, answers.as_str())
+        }
+        _ => false,
     }
 }
 
-fn put_often<L: Ledger, R: Wait>(rt: &R, alloc: Global, desk: &Desk<L>, pass: &mut Pass<L>) -> bool
+/// Whether version 1,001 of a file is reached.
+fn puts_often<L: Ledger, R: Wait>(rt: &R, alloc: Global, desk: &Desk<L>, pass: &mut Pass<L>) -> bool
     requires { pass.old.parts ≡ 1 }
     ensures { pass.new.parts ≡ 1 }
 {
     for _ in 0..OFTEN {
-        let _ = made(rt, alloc, desk, pass, Call::PutCat(b"a.cat", b""));
+        let _ = make_all(rt, alloc, desk, pass, "> 0 cat a.cat\n");
     }
-    is_last(pass, Answer::Version(b"a.cat", OFTEN))
+    is_told(alloc, last_reply(pass), "version a.cat 1001\n")
 }
 
-fn claim_often<L: Ledger, R: Wait>(
+/// Whether claim 1,001 is reached.
+fn claims_often<L: Ledger, R: Wait>(
     rt: &R,
     alloc: Global,
     desk: &Desk<L>,
@@ -222,140 +296,57 @@ fn claim_often<L: Ledger, R: Wait>(
     requires { pass.old.parts ≡ 1 }
     ensures { pass.new.parts ≡ 1 }
 {
-    let _ = make_all(rt, alloc, desk, pass, &FIRST[..2]);
+    let _ = make_all(rt, alloc, desk, pass, FIRST);
     for claim in 1..OFTEN {
-        let _ = made(rt, alloc, desk, pass, Call::Claim);
-        let _ = made(rt, alloc, desk, pass, Call::GiveBack(claim));
+        let _ = recorded(rt, desk, pass, Command::Claim);
+        let _ = recorded(rt, desk, pass, Command::GiveBack(claim));
     }
-    let _ = made(rt, alloc, desk, pass, Call::Claim);
-    is_last(pass, Answer::Piece(OFTEN))
+    let _ = recorded(rt, desk, pass, Command::Claim);
+    is_told(
+        alloc,
+        last_reply(pass),
+        "piece 1001 job 1 slice 0 from 0 to 1\n",
+    )
 }
 
-/// Each command once, and what there is between.
-const EACH: &[Call] = &[
-    Call::PutCat(b"a.cat", b"acyclic po | rf | co | fr as sc"),
-    Call::PutTest(SB),
-    Call::List,
-    Call::Ask(b"SB", b"a.cat"),
-    Call::Poll(1),
-    Call::Claim,
-    Call::List,
-    Call::Release(1),
-    Call::Claim,
-    Call::GiveBack(2),
-    Call::Claim,
-    Call::Return,
-    Call::Poll(1),
-    Call::Forget(1),
-    Call::List,
-    Call::DropCat(b"a.cat"),
-    Call::DropTest(b"SB"),
-    Call::List,
-    Call::Close,
-    Call::Poll(1),
-];
-
-const EACH_ANSWERED: &[(usize, Answer)] = &[
-    (0, Answer::Version(b"a.cat", 1)),
-    (1, Answer::Version(b"SB", 1)),
-    (2, Answer::Listed(1, 1, 0)),
-    (5, Answer::Piece(1)),
-    (6, Answer::Listed(1, 1, 1)),
-    (7, Answer::Freed(1)),
-    (9, Answer::Done),
-    (11, Answer::Taken(1, 1)),
-    (13, Answer::Done),
-    (14, Answer::Listed(1, 1, 0)),
-    (15, Answer::Version(b"a.cat", 2)),
-    (16, Answer::Version(b"SB", 2)),
-    (17, Answer::Listed(0, 0, 0)),
-    (18, Answer::Done),
-];
-
-/// What a session does alone at a desk.
-#[derive(Clone, Copy)]
-enum Session {
-    /// Fills a journal of three entries, and calls once more.
-    Full,
-    /// These calls, which are to be answered so.
-    Calls(&'static [Call], &'static [(usize, Answer)]),
-    /// Puts a file and claims a slice so often.
-    Often,
-}
-
-/// How many calls were recorded, and whether the fourth was handed back.
-fn fill<L: Ledger, R: Wait>(
-    rt: &R,
-    alloc: Global,
-    desk: &Desk<L>,
-    pass: &mut Pass<L>,
-) -> (usize, bool)
-    requires { pass.old.parts ≡ 1 }
-    ensures { pass.new.parts ≡ 1 }
-{
-    let lists = [Call::List, Call::List, Call::List];
-    let recorded = make_all(rt, alloc, desk, pass, &lists);
-    (recorded, is_full(rt, desk, pass) && differ(pass))
-}
-
-/// How many calls were recorded, and whether they were answered so.
-fn make_calls<L: Ledger, R: Wait>(
-    rt: &R,
-    alloc: Global,
-    desk: &Desk<L>,
-    pass: &mut Pass<L>,
-    calls: &[Call],
-    answers: &[(usize, Answer)],
-) -> (usize, bool)
-    requires { pass.old.parts ≡ 1 }
-    ensures { pass.new.parts ≡ 1 }
-{
-    let recorded = make_all(rt, alloc, desk, pass, calls);
-    (recorded, are_answered(pass, answers))
-}
-
-/// Whether version 1,001 and claim 1,001 are reached.
-fn call_often<L: Ledger, R: Wait>(rt: &R, alloc: Global, desk: &Desk<L>, pass: &mut Pass<L>) -> bool
-    requires { pass.old.parts ≡ 1 }
-    ensures { pass.new.parts ≡ 1 }
-{
-    let put = put_often(rt, alloc, desk, pass);
-    let claimed = claim_often(rt, alloc, desk, pass);
-    put && claimed
-}
-
-/// How many calls were recorded, where they are counted, and whether all went as it should.
+/// Whether all goes as it should.
 fn follow<L: Ledger, R: Wait>(
     rt: &R,
     alloc: Global,
     desk: &Desk<L>,
     pass: &mut Pass<L>,
     session: Session,
-) -> (usize, bool)
+) -> bool
     requires { pass.old.parts ≡ 1 }
     ensures { pass.new.parts ≡ 1 }
 {
     match session {
-        Session::Full => fill(rt, alloc, desk, pass),
-        Session::Calls(calls, answers) => make_calls(rt, alloc, desk, pass, calls, answers),
-        Session::Often => (0, call_often(rt, alloc, desk, pass)),
+        Session::Full => fills(rt, alloc, desk, pass),
+        Session::Calls(calls, number, answers) => {
+            is_answered(rt, alloc, desk, pass, calls, number, answers)
+        }
+        Session::Often => {
+            let put = puts_often(rt, alloc, desk, pass);
+            let claimed = claims_often(rt, alloc, desk, pass);
+            put && claimed
+        }
     }
 }
 
-/// A session alone: what `finish` counts, how many calls were recorded, and whether all went as it should.
+/// A session alone: what `finish` counts, and whether all went as it should.
 fn run_alone<L: Ledger, R: Wait>(
     rt: &R,
     alloc: Global,
     blank: Blank,
     limits: Limits,
     session: Session,
-) -> Result<(Option<usize>, usize, bool), AllocError>
+) -> Result<(Option<usize>, bool), AllocError>
     requires { (blank.name ≡ L.name) × (blank.parts ≡ L.parts) × (blank.parts ≡ 1) }
 {
     let (desk, mut passes) = open::<L>(alloc, blank, limits, 1)?;
-    let (recorded, told) = follow(rt, alloc, &desk, &mut passes[0], session);
+    let told = follow(rt, alloc, &desk, &mut passes[0], session);
     let entries = entries(desk, passes);
-    Ok((entries, recorded, told))
+    Ok((entries, told))
 }
 
 fn alone<R: Wait>(
@@ -363,28 +354,21 @@ fn alone<R: Wait>(
     alloc: Global,
     limits: Limits,
     session: Session,
-) -> Result<(Option<usize>, usize, bool), AllocError> {
+) -> Result<(Option<usize>, bool), AllocError> {
     run_alone::<Brand, R>(rt, alloc, Blank::new(1), limits, session)
 }
 
-/// Whether a session alone makes so many calls and all goes as it should, with so many entries where that is told. A desk that isn't
-/// opened for want of memory is opened again.
+/// Whether all goes as it should in a session alone, with so many entries where that is told. A desk that isn't opened for want of memory is
+/// opened again.
 fn goes_well<R: Wait>(
     rt: &R,
     alloc: Global,
     limits: Limits,
     session: Session,
     entries: Option<usize>,
-    recorded: usize,
 ) -> bool {
-    let found = match alone(rt, alloc, limits, session) {
-        Ok(found) => Ok(found),
-        Err(AllocError) => alone(rt, alloc, limits, session),
-    };
-    match found {
-        Ok((found, made, told)) => {
-            (found == entries || entries.is_none() && found.is_some()) && made == recorded && told
-        }
+    match again!(AllocError, alone(rt, alloc, limits, session)) {
+        Ok((found, told)) => found.is_some() && (found == entries || entries.is_none()) && told,
         Err(AllocError) => false,
     }
 }
@@ -396,11 +380,6 @@ const NARROW: Limits = Limits {
     claims: 1,
 };
 
-#[test]
-fn journal_full(rt: HostRuntime) {
-    assert!(rt; goes_well(&rt, rt.alloc(), NARROW, Session::Full, Some(3), 3));
-}
-
 /// Limits that `SPENDING` reaches.
 const SPENT_AT: Limits = Limits {
     journal: 20,
@@ -409,27 +388,27 @@ const SPENT_AT: Limits = Limits {
 };
 
 #[test]
-fn spent(rt: HostRuntime) {
-    assert!(rt;
-        goes_well(
-            &rt,
-            rt.alloc(),
-            SPENT_AT,
-            Session::Calls(SPENDING, SPENT),
-            None,
-            8
-        )
-    );
-}
-
-#[test]
-fn a_thousand_versions_and_claims(rt: HostRuntime) {
-    assert!(rt; goes_well(&rt, rt.alloc(), WIDE, Session::Often, None, 0));
+fn desks(rt: HostRuntime) -> Result<(), Fail> {
+    let alloc = rt.alloc();
+    let spending = Session::Calls(SPENDING, 8, SPENT);
+    all_so(&[
+        ("two_sessions_in_turn", both(&rt, alloc)),
+        ("missing_pass", missing(&rt, alloc)),
+        (
+            "journal_full",
+            goes_well(&rt, alloc, NARROW, Session::Full, Some(3)),
+        ),
+        ("spent", goes_well(&rt, alloc, SPENT_AT, spending, Some(8))),
+        (
+            "a_thousand_versions_and_claims",
+            goes_well(&rt, alloc, WIDE, Session::Often, None),
+        ),
+    ])
 }
 
 /// `tools/refuse-each-growth` runs this once for each request for memory.
 #[test]
 fn each_call(rt: HostRuntime) {
-    let each = Session::Calls(EACH, EACH_ANSWERED);
-    assert!(rt; goes_well(&rt, rt.alloc(), WIDE, each, None, 20));
+    let each = Session::Calls(EACH, 20, EACH_ANSWERED);
+    assert!(rt; goes_well(&rt, rt.alloc(), WIDE, each, Some(20)));
 }

@@ -2,16 +2,16 @@
 
 ghost use Rattle.std.specs.Prelude.{◌≡◌, ◌≤◌, ◌<◌, All};
 
-use crate::desk::calls::{
-    Answer, Call, TEST_A, TEST_B, TEST_C, TEST_D, all_rise, count_receipts, entries, is_answered,
-    make_all,
-};
-use crate::desk::passes::desks::{FIRST, SECOND, WIDE};
+use crate::desk::calls::{entries, make_all};
+use crate::desk::commands::is_told;
+use crate::desk::passes::desks::{FIRST, SECOND, WIDE, asks_and_returns};
+use crate::rows::all_so;
 use sessions::{Desk, Pass, open};
 use std::alloc::{AllocError, Global};
 use std::marker::Brand;
 use std::sync::Wait;
 use std::sync::ledger::{Blank, Ledger};
+use std::test::Fail;
 use std::thread;
 use std::thread::Threads;
 
@@ -24,30 +24,44 @@ enum Session {
     Mixed,
 }
 
-const OTHERS: [Call; 2] = [Call::Claim, Call::Return];
-
-const MIXED: [Call; 20] = [
-    Call::PutTest(TEST_A),
-    Call::Ask(b"A", b"stdlib.cat"),
-    Call::Claim,
-    Call::Return,
-    Call::Poll(1),
-    Call::PutTest(TEST_B),
-    Call::Ask(b"B", b"stdlib.cat"),
-    Call::Claim,
-    Call::GiveBack(1),
-    Call::Poll(2),
-    Call::PutTest(TEST_C),
-    Call::Ask(b"C", b"stdlib.cat"),
-    Call::Claim,
-    Call::Return,
-    Call::Poll(3),
-    Call::PutTest(TEST_D),
-    Call::Ask(b"D", b"stdlib.cat"),
-    Call::PutCat(b"a.cat", b""),
-    Call::DropCat(b"a.cat"),
-    Call::List,
-];
+const MIXED: &str = "
+> 0 test
+C A
+{ x; }
+P0 () {}
+exists (x=0)
+> 0 ask A stdlib.cat
+> 0 claim
+> 0 return 1
+> 0 poll 1
+> 0 test
+C B
+{ x; }
+P0 () {}
+exists (x=0)
+> 0 ask B stdlib.cat
+> 0 claim
+> 0 back 1
+> 0 poll 2
+> 0 test
+C C
+{ x; }
+P0 () {}
+exists (x=0)
+> 0 ask C stdlib.cat
+> 0 claim
+> 0 return 1
+> 0 poll 3
+> 0 test
+C D
+{ x; }
+P0 () {}
+exists (x=0)
+> 0 ask D stdlib.cat
+> 0 cat a.cat
+> 0 dropcat a.cat
+> 0 list
+";
 
 /// At least 200 calls, since each round has 18 that need no piece.
 fn mixed<L: Ledger, R: Wait>(rt: &R, alloc: Global, desk: &Desk<L>, pass: &mut Pass<L>) -> usize
@@ -56,7 +70,7 @@ fn mixed<L: Ledger, R: Wait>(rt: &R, alloc: Global, desk: &Desk<L>, pass: &mut P
 {
     let mut recorded = 0usize;
     for _ in 0..12u8 {
-        recorded = recorded.saturating_add(make_all(rt, alloc, desk, pass, &MIXED));
+        recorded = recorded.saturating_add(make_all(rt, alloc, desk, pass, MIXED));
     }
     recorded
 }
@@ -72,11 +86,14 @@ fn make_session<L: Ledger, R: Wait>(
     ensures { pass.new.parts ≡ 1 }
 {
     match session {
-        Session::Once => match pass.seat() {
-            0 => make_all(rt, alloc, desk, pass, &FIRST),
-            1 => make_all(rt, alloc, desk, pass, &SECOND),
-            _ => make_all(rt, alloc, desk, pass, &OTHERS),
-        },
+        Session::Once => {
+            let asks = match pass.seat() {
+                0 => FIRST,
+                1 => SECOND,
+                _ => "",
+            };
+            asks_and_returns(rt, alloc, desk, pass, asks)
+        }
         Session::Mixed => mixed(rt, alloc, desk, pass),
     }
 }
@@ -106,77 +123,75 @@ fn all<L: Ledger + Send + Sync, R: Threads + Wait + Sync>(
     );
 }
 
-fn begins_with_version<L: Ledger>(pass: &Pass<L>) -> bool {
-    match pass.seat() {
-        0 => is_answered(pass, 0, Answer::Version(b"A", 1)),
-        1 => is_answered(pass, 0, Answer::Version(b"B", 1)),
-        _ => false,
+/// Whether a pass begins with the first version of its test.
+fn begins_with_version<L: Ledger>(alloc: Global, pass: &Pass<L>) -> bool {
+    let version = match pass.seat() {
+        0 => "version A 1\n",
+        1 => "version B 1\n",
+        _ => return false,
+    };
+    match pass.receipts().first() {
+        Some(receipt) => is_told(alloc, Some(receipt.entry().reply()), version),
+        None => false,
     }
 }
 
-/// How many passes begin with the first version of their test.
-fn count_versions<L: Ledger>(passes: &[Pass<L>]) -> usize {
+/// How many passes begin so.
+fn count_versions<L: Ledger>(alloc: Global, passes: &[Pass<L>]) -> usize {
     let mut count = 0usize;
     for pass in passes {
-        if begins_with_version(pass) {
+        if begins_with_version(alloc, pass) {
             count = count.saturating_add(1);
         }
     }
     count
 }
 
-/// What the passes of a run came to, where `finish` answers Ok: how many receipts there are, and how many passes begin with the first
-/// version of their test. None where a receipt has no entry, or an entry no receipt, or where the places of a pass's receipts don't rise.
-type Outcome = Option<(usize, usize)>;
-
-fn ended<L: Ledger>(desk: Desk<L>, passes: Vec<Pass<L>>) -> Outcome
-    requires { All (λ p. p.parts ≡ 1) passes.items }
-{
-    let receipts = count_receipts(&passes);
-    let rising = all_rise(&passes);
-    let versions = count_versions(&passes);
-    if entries(desk, passes) == Some(receipts) && rising {
-        Some((receipts, versions))
-    } else {
-        None
-    }
-}
-
+/// What the passes of a run come to: how many receipts there are where `finish` answers Ok and all is told, and how many passes begin with the
+/// first version of their test.
 fn run<L: Ledger + Send + Sync, R: Threads + Wait + Sync>(
     rt: &R,
     alloc: Global,
     blank: Blank,
     what: Session,
     n: u8,
-) -> Result<Outcome, AllocError>
+) -> Result<(Option<usize>, usize), AllocError>
     requires ledger { (blank.name ≡ L.name) × (blank.parts ≡ L.parts) × (blank.parts ≡ n) }
     requires seats { (0 < n) × (n ≤ 64) }
 {
     let (desk, mut passes) = open::<L>(alloc, blank, WIDE, n)?;
     all(rt, alloc, what, &desk, &mut passes);
-    Ok(ended(desk, passes))
+    let versions = count_versions(alloc, &passes);
+    Ok((entries(desk, passes), versions))
 }
 
-fn four_once<R: Threads + Wait + Sync>(rt: &R, alloc: Global) -> bool {
-    match run::<Brand, R>(rt, alloc, Blank::new(4), Session::Once, 4) {
-        Ok(Some((_, versions))) => versions == 2,
-        _ => false,
-    }
-}
-
-fn eight_mixed<R: Threads + Wait + Sync>(rt: &R, alloc: Global) -> bool {
-    match run::<Brand, R>(rt, alloc, Blank::new(8), Session::Mixed, 8) {
-        Ok(Some((receipts, _))) => receipts >= 1600,
+fn goes_well<R: Threads + Wait + Sync>(
+    rt: &R,
+    alloc: Global,
+    what: Session,
+    n: u8,
+    least: usize,
+    versions: Option<usize>,
+) -> bool
+    requires { (0 < n) × (n ≤ 64) }
+{
+    match run::<Brand, R>(rt, alloc, Blank::new(n.into()), what, n) {
+        Ok((Some(receipts), found)) => receipts >= least && versions.unwrap_or(found) == found,
         _ => false,
     }
 }
 
 #[test]
-fn four_passes(rt: HostRuntime) {
-    assert!(rt; four_once(&rt, rt.alloc()));
-}
-
-#[test]
-fn eight_sessions_of_mixed_calls(rt: HostRuntime) {
-    assert!(rt; eight_mixed(&rt, rt.alloc()));
+fn threads(rt: HostRuntime) -> Result<(), Fail> {
+    let alloc = rt.alloc();
+    all_so(&[
+        (
+            "four_passes",
+            goes_well(&rt, alloc, Session::Once, 4, 0, Some(2)),
+        ),
+        (
+            "eight_sessions_of_mixed_calls",
+            goes_well(&rt, alloc, Session::Mixed, 8, 1600, None),
+        ),
+    ])
 }

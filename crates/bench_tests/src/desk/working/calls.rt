@@ -2,32 +2,11 @@
 
 ghost use Rattle.std.specs.Prelude.{◌≡◌, ◌≤◌, IfSome, All, length};
 
-use crate::desk::calls::{Call, last_reply, made};
-use crate::desk::commands::SB;
+use crate::desk::calls::last_reply;
 use book::{Reply, Said};
-use sessions::{Desk, Pass};
-use std::alloc::{AllocError, Global};
-use std::sync::Wait;
+use sessions::Pass;
+use std::alloc::AllocError;
 use std::sync::ledger::Ledger;
-
-/// Puts store buffering, and asks for it so often under RC11: each job is of one piece.
-pub fn ask_often<L: Ledger, R: Wait>(
-    rt: &R,
-    alloc: Global,
-    desk: &Desk<L>,
-    pass: &mut Pass<L>,
-    jobs: u8,
-) -> bool
-    requires { pass.old.parts ≡ 1 }
-    ensures { pass.new.parts ≡ 1 }
-{
-    let mut all = made(rt, alloc, desk, pass, Call::PutTest(SB));
-    for _ in 0..jobs {
-        let asked = made(rt, alloc, desk, pass, Call::Ask(b"SB", b"rc11.cat"));
-        all = all && asked;
-    }
-    all
-}
 
 /// The job that the last call asked for.
 pub fn job_of<L: Ledger>(pass: &Pass<L>) -> Option<u32> {

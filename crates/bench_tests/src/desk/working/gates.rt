@@ -1,4 +1,4 @@
-//! Gates: one that holds nobody, one that holds a piece until others have entered, and one that holds it until the book is closed.
+//! The gate of two workers: it holds nobody, or each piece until two have entered or until the book is closed, and notes what is amiss.
 
 use slices::Piece;
 use std::sync::Wait;
@@ -6,16 +6,6 @@ use std::sync::atomic::{AtomicU64, Ordering};
 use std::thread;
 use std::time::{Clock, Duration};
 use workers::Gate;
-
-/// Holds nobody.
-#[derive(Drop)]
-pub struct Open;
-
-impl Gate for Open {
-    fn enter<R: Wait>(&self, _rt: &R, _pass: usize, _piece: &Piece) {}
-
-    fn leave<R: Wait>(&self, _rt: &R, _pass: usize, _piece: &Piece) {}
-}
 
 /// A pass's place, which notes what is amiss: a piece that comes in while another is in, is evaluated outside, or leaves without having come in.
 #[derive(Drop)]
@@ -28,7 +18,7 @@ pub struct Doorway {
 }
 
 impl Doorway {
-    pub fn new() -> Self {
+    fn new() -> Self {
         Doorway {
             inside: AtomicU64::new(0),
             last: AtomicU64::new(0),
@@ -43,7 +33,7 @@ impl Doorway {
         }
     }
 
-    pub fn enter(&self, piece: &Piece) {
+    fn enter(&self, piece: &Piece) {
         let found = self.inside.swap(u64::from(piece.claim()), Ordering::SeqCst);
         self.expect(0, found);
     }
@@ -52,7 +42,7 @@ impl Doorway {
         self.expect(piece.claim(), self.inside.load(Ordering::SeqCst));
     }
 
-    pub fn leave(&self, piece: &Piece) {
+    fn leave(&self, piece: &Piece) {
         self.expect(piece.claim(), self.inside.swap(0, Ordering::SeqCst));
         self.last.store(u64::from(piece.claim()), Ordering::SeqCst);
     }
@@ -65,102 +55,70 @@ impl Doorway {
     }
 }
 
-/// Watches one pass, whose place it knows.
+/// Until when a gate holds a piece.
+#[derive(Clone, Copy)]
+pub enum Holds {
+    Never,
+    /// Until two pieces have entered.
+    Two,
+    /// Until it is told that the book is closed.
+    Closed,
+}
+
+/// Watches two passes, whose places it knows, and holds each piece for at most 10,000 turns of a millisecond.
 #[derive(Drop)]
-pub struct Watching {
-    pub place: usize,
-    pub door: Doorway,
-    pub strange: AtomicU64,
-}
-
-impl Watching {
-    pub fn new(place: usize) -> Self {
-        Watching {
-            place,
-            door: Doorway::new(),
-            strange: AtomicU64::new(0),
-        }
-    }
-
-    fn expect(&self, place: usize) {
-        if place != self.place {
-            self.strange.fetch_add(1, Ordering::SeqCst);
-        }
-    }
-}
-
-impl Gate for Watching {
-    fn enter<R: Wait>(&self, _rt: &R, pass: usize, piece: &Piece) {
-        self.expect(pass);
-        self.door.enter(piece);
-    }
-
-    fn leave<R: Wait>(&self, _rt: &R, pass: usize, piece: &Piece) {
-        self.expect(pass);
-        self.door.leave(piece);
-    }
-}
-
-/// Holds the first pieces of two passes until both have entered, for at most 10,000 turns of a millisecond.
-#[derive(Drop)]
-pub struct Meeting<'a, C> {
+pub struct Watching<'a, C> {
     clock: &'a C,
-    entered: AtomicU64,
+    holds: Holds,
+    /// The place of the first pass. The second is behind it.
+    place: usize,
     pub first: Doorway,
     pub second: Doorway,
-    pub missed: AtomicU64,
+    entered: AtomicU64,
+    closed: AtomicU64,
+    /// How many pieces were held in vain, and how many were told at another place.
+    amiss: AtomicU64,
 }
 
-impl<'a, C: Clock> Meeting<'a, C> {
-    pub fn new(clock: &'a C) -> Self {
-        Meeting {
+impl<'a, C: Clock> Watching<'a, C> {
+    pub fn new(clock: &'a C, holds: Holds, place: usize) -> Self {
+        Watching {
             clock,
-            entered: AtomicU64::new(0),
+            holds,
+            place,
             first: Doorway::new(),
             second: Doorway::new(),
-            missed: AtomicU64::new(0),
+            entered: AtomicU64::new(0),
+            closed: AtomicU64::new(0),
+            amiss: AtomicU64::new(0),
+        }
+    }
+
+    /// How many pieces have entered, or None where one was held in vain or told at another place.
+    pub fn entered(&self) -> Option<u64> {
+        if self.amiss.load(Ordering::SeqCst) == 0 {
+            Some(self.entered.load(Ordering::SeqCst))
+        } else {
+            None
         }
     }
 
     fn door(&self, pass: usize) -> &Doorway {
-        if pass == 0 { &self.first } else { &self.second }
-    }
-}
-
-impl<'a, C: Clock> Gate for Meeting<'a, C> {
-    fn enter<R: Wait>(&self, _rt: &R, pass: usize, piece: &Piece) {
-        self.door(pass).enter(piece);
-        self.entered.fetch_add(1, Ordering::SeqCst);
-        for _ in 0..10_000 {
-            if self.entered.load(Ordering::SeqCst) >= 2 {
-                return;
-            }
-            thread::sleep(self.clock, Duration::from_millis(1));
+        if pass == self.place {
+            return &self.first;
         }
-        self.missed.fetch_add(1, Ordering::SeqCst);
+        if pass != self.place.saturating_add(1) {
+            self.amiss.fetch_add(1, Ordering::SeqCst);
+        }
+        &self.second
     }
 
-    fn leave<R: Wait>(&self, _rt: &R, pass: usize, piece: &Piece) {
-        self.door(pass).leave(piece);
-    }
-}
-
-/// Holds each piece until it is told that the book is closed, for at most 10,000 turns of a millisecond.
-#[derive(Drop)]
-pub struct Holding<'a, C> {
-    clock: &'a C,
-    pub entered: AtomicU64,
-    closed: AtomicU64,
-    pub missed: AtomicU64,
-}
-
-impl<'a, C: Clock> Holding<'a, C> {
-    pub fn new(clock: &'a C) -> Self {
-        Holding {
-            clock,
-            entered: AtomicU64::new(0),
-            closed: AtomicU64::new(0),
-            missed: AtomicU64::new(0),
+    /// Whether a piece needn't be held any longer.
+    fn is_open(&self) -> bool {
+        match self.holds {
+            Holds::Never => true,
+            Holds::Two => self.entered.load(Ordering::SeqCst) >= 2,
+            Holds::Closed => self.closed.load(Ordering::SeqCst) > 0,
         }
     }
 
@@ -179,17 +137,20 @@ impl<'a, C: Clock> Holding<'a, C> {
     }
 }
 
-impl<'a, C: Clock> Gate for Holding<'a, C> {
-    fn enter<R: Wait>(&self, _rt: &R, _pass: usize, _piece: &Piece) {
+impl<'a, C: Clock> Gate for Watching<'a, C> {
+    fn enter<R: Wait>(&self, _rt: &R, pass: usize, piece: &Piece) {
+        self.door(pass).enter(piece);
         self.entered.fetch_add(1, Ordering::SeqCst);
         for _ in 0..10_000 {
-            if self.closed.load(Ordering::SeqCst) > 0 {
+            if self.is_open() {
                 return;
             }
             thread::sleep(self.clock, Duration::from_millis(1));
         }
-        self.missed.fetch_add(1, Ordering::SeqCst);
+        self.amiss.fetch_add(1, Ordering::SeqCst);
     }
 
-    fn leave<R: Wait>(&self, _rt: &R, _pass: usize, _piece: &Piece) {}
+    fn leave<R: Wait>(&self, _rt: &R, pass: usize, piece: &Piece) {
+        self.door(pass).leave(piece);
+    }
 }

@@ -4,8 +4,9 @@ ghost use Rattle.std.specs.Prelude.{◌≡◌};
 ghost use Rattle.journal.specs.Lines.{returned};
 ghost use Rattle.workers.specs.Replies.{Replied, claimed_of, goes_on, is_done};
 
-use crate::desk::working::calls::{ask_often, last_claim};
-use crate::desk::working::gates::Watching;
+use crate::desk::calls::make_all;
+use crate::desk::working::calls::last_claim;
+use crate::desk::working::gates::{Doorway, Holds, Watching};
 use crate::desk::working::running::LIMITS;
 use book::Refused;
 use sessions::{Desk, Pass, open};
@@ -15,6 +16,7 @@ use std::marker::Brand;
 use std::sync::Wait;
 use std::sync::atomic::{AtomicU64, Ordering};
 use std::sync::ledger::{Blank, Ledger};
+use std::time::Clock;
 use workers::{Calls, Claimed, Form, work};
 
 /// Refuses the calls, and the evaluations, whose numbers, from 0, are in a set of bits.
@@ -28,7 +30,7 @@ struct Denied {
 #[derive(Drop)]
 struct Refusing<'a, L: Ledger> {
     desk: &'a Desk<L>,
-    gate: &'a Watching,
+    door: &'a Doorway,
     made: AtomicU64,
     evaluated: AtomicU64,
     refused: Denied,
@@ -59,7 +61,7 @@ impl<'a, L: Ledger> Calls<L> for Refusing<'a, L> {
     }
 
     fn evaluate(&self, space: &mut KeptSpace, piece: &Piece) -> Result<PieceResult, AllocError> {
-        self.gate.door.evaluate(piece);
+        self.door.evaluate(piece);
         if is_next(&self.evaluated, self.refused.evaluations) {
             return Err(AllocError);
         }
@@ -93,8 +95,26 @@ impl<'a, L: Ledger> Calls<L> for Refusing<'a, L> {
 /// What a worker did: the evaluations, give-backs and refusals that it counted, and its receipts.
 type Done = (u64, u64, u64, usize);
 
+/// Puts store buffering, and asks for it twice: two jobs of one piece each.
+const TWO_JOBS: &str = "
+> 1 test
+C SB
+{}
+P0 (atomic_int* x, atomic_int* y) {
+  atomic_store_explicit(x, 1, memory_order_relaxed);
+  int r0 = atomic_load_explicit(y, memory_order_relaxed);
+}
+P1 (atomic_int* x, atomic_int* y) {
+  atomic_store_explicit(y, 1, memory_order_relaxed);
+  int r0 = atomic_load_explicit(x, memory_order_relaxed);
+}
+exists (0:r0=0 /\\ 1:r0=0)
+> 1 ask SB rc11.cat
+> 1 ask SB rc11.cat
+";
+
 /// What one worker does with two jobs of one piece, where these are refused.
-fn run_refused<L: Ledger, R: Wait>(
+fn run_refused<L: Ledger, R: Wait + Clock>(
     rt: &R,
     alloc: Global,
     blank: Blank,
@@ -103,12 +123,12 @@ fn run_refused<L: Ledger, R: Wait>(
     requires { (blank.name ≡ L.name) × (blank.parts ≡ L.parts) × (blank.parts ≡ 2) }
 {
     let (desk, mut passes) = open::<L>(alloc, blank, LIMITS, 2)?;
-    let _ = ask_often(rt, alloc, &desk, &mut passes[1], 2);
+    let _ = make_all(rt, alloc, &desk, &mut passes[1], TWO_JOBS);
     Ok(worked(rt, alloc, &desk, &mut passes[0], refused))
 }
 
 /// None where the gate wasn't told of each evaluation, before and behind it, at the place of the pass.
-fn worked<L: Ledger, R: Wait>(
+fn worked<L: Ledger, R: Wait + Clock>(
     rt: &R,
     alloc: Global,
     desk: &Desk<L>,
@@ -117,16 +137,16 @@ fn worked<L: Ledger, R: Wait>(
 ) -> Option<Done>
     requires { pass.old.parts ≡ 1 }
 {
-    let gate = Watching::new(5);
+    let gate = Watching::new(rt, Holds::Never, 5);
     let calls = Refusing {
         desk,
-        gate: &gate,
+        door: &gate.first,
         made: AtomicU64::new(0),
         evaluated: AtomicU64::new(0),
         refused,
     };
     work(rt, alloc, Form::UntilIdle, &calls, &gate, 5, pass);
-    if !gate.door.is_left_by(last_claim(pass)) || gate.strange.load(Ordering::SeqCst) > 0 {
+    if !gate.first.is_left_by(last_claim(pass)) || gate.entered().is_none() {
         return None;
     }
     let counts = pass.counts();
@@ -138,12 +158,16 @@ fn worked<L: Ledger, R: Wait>(
     ))
 }
 
-fn done_under<R: Wait>(rt: &R, alloc: Global, refused: Denied) -> Result<Option<Done>, AllocError> {
+fn done_under<R: Wait + Clock>(
+    rt: &R,
+    alloc: Global,
+    refused: Denied,
+) -> Result<Option<Done>, AllocError> {
     run_refused::<Brand, R>(rt, alloc, Blank::new(2), refused)
 }
 
 /// Whether a worker does so under these refusals.
-fn is_done<R: Wait>(rt: &R, alloc: Global, refused: Denied, wanted: Done) -> bool {
+fn is_done<R: Wait + Clock>(rt: &R, alloc: Global, refused: Denied, wanted: Done) -> bool {
     match done_under(rt, alloc, refused) {
         Ok(done) => done == Some(wanted),
         Err(AllocError) => false,

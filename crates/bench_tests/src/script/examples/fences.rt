@@ -1,77 +1,65 @@
 //! Examples under the model of fences, `examples/models/fences.cat`, and an example with fences under all models.
 
-use crate::script::calls::all_hold;
-use std::test::Fail;
-
-/// What each example ends with under the model of fences.
-const ENDS: &str = "
-=== SB under fences.cat
+pub const ROWS: &str = "
+=== fences_alone: SB under fences.cat
 %SB.litmus%
-+++
++++ one
 %fences.cat%
 ---
 ...
 Observation SB Sometimes 1 3
-=== SB+fences under fences.cat
+=== fences_alone: SB+fences under fences.cat
 %SB+fences.litmus%
-+++
++++ one
 %fences.cat%
 ---
 ...
 Observation SB+fences Never 0 3
-=== MP under fences.cat
+=== fences_alone: MP under fences.cat
 %MP.litmus%
-+++
++++ one
 %fences.cat%
 ---
 ...
 Observation MP Sometimes 1 3
-=== MP+rel+acq under fences.cat
+=== fences_alone: MP+rel+acq under fences.cat
 %MP+rel+acq.litmus%
-+++
++++ one
 %fences.cat%
 ---
 ...
 Observation MP+rel+acq Sometimes 1 3
-=== LB under fences.cat
+=== fences_alone: LB under fences.cat
 %LB.litmus%
-+++
++++ one
 %fences.cat%
 ---
 ...
 Observation LB Sometimes 1 3
-=== 2+2W under fences.cat
+=== fences_alone: 2+2W under fences.cat
 %2+2W.litmus%
-+++
++++ one
 %fences.cat%
 ---
 ...
 Observation 2+2W Sometimes 1 3
-=== CoRR under fences.cat
+=== fences_alone: CoRR under fences.cat
 %CoRR.litmus%
-+++
++++ one
 %fences.cat%
 ---
 ...
 Observation CoRR Never 0 3
-=== swap under fences.cat
+=== fences_alone: swap under fences.cat
 %swap.litmus%
-+++
++++ one
 %fences.cat%
 ---
 ...
 Observation swap Never 0 2
-";
-
-#[test]
-fn fences_alone(rt: HostRuntime) -> Result<(), Fail> {
-    all_hold(rt.alloc(), ENDS)
-}
-
-const FENCED: &str = "
-=== mp_fences
+=== fences_in_a_test: mp_fences
 %MP+fences.litmus%
-+++
++++ one
 %RC11%
 %sc.cat%
 %tso.cat%
@@ -86,8 +74,3 @@ Positive: 0 Negative: 3
 Condition exists (1:r0=1 /\\ 1:r1=0)
 Observation MP+fences Never 0 3
 ";
-
-#[test]
-fn fences_in_a_test(rt: HostRuntime) -> Result<(), Fail> {
-    all_hold(rt.alloc(), FENCED)
-}
