@@ -130,8 +130,8 @@ impl PartialEq for Item {
             (Item::LetRec(a), Item::LetRec(b)) => are_same(a, b),
             (Item::Check(a), Item::Check(b)) => a == b,
             (Item::Include(a), Item::Include(b)) => a == b,
-            (Item::Show(a), Item::Show(b)) => a == b,
-            (Item::Unshow(a), Item::Unshow(b)) => a == b,
+            (Item::Show(a), Item::Show(b)) => are_same(a, b),
+            (Item::Unshow(a), Item::Unshow(b)) => are_same(a, b),
             _ => false,
         }
     }

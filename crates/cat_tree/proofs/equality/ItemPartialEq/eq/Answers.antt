@@ -13,7 +13,7 @@ pub returns-in-Check-Check-clause-exact : goal.returns-in-Check-Check-clause-exa
 returns-in-Check-Check-clause-exact c = clause_told (clause_of c.args.self.now) (clause_of c.args.other.now) c.eq.result (search rules)
 
 pub returns-in-Show-Show-clause-exact : goal.returns-in-Show-Show-clause-exact
-returns-in-Show-Show-clause-exact c = clause_told (clause_of c.args.self.now) (clause_of c.args.other.now) c.eq-in-Show-Show.result (grind (arith, shown_told))
+returns-in-Show-Show-clause-exact c = clause_told (clause_of c.args.self.now) (clause_of c.args.other.now) c.are_same-in-Show-Show.result (grind (arith, shown_told))
 
 pub returns-in-Unshow-Unshow-clause-exact : goal.returns-in-Unshow-Unshow-clause-exact
-returns-in-Unshow-Unshow-clause-exact c = clause_told (clause_of c.args.self.now) (clause_of c.args.other.now) c.eq-in-Unshow-Unshow.result (search rules)
+returns-in-Unshow-Unshow-clause-exact c = clause_told (clause_of c.args.self.now) (clause_of c.args.other.now) c.are_same-in-Unshow-Unshow.result (search rules)
