@@ -153,4 +153,4 @@ loop-walk-smaller c =
     walk_nearer c.in-Some.number c.loop-walk.walk c.passes.new.walk here.step.to (let next = here.step.next in omega (arith, next)) hit.later hit.below
 
 pub returns-in_err-weigh_alike-clause-evaluator : goal.returns-in_err-weigh_alike-clause-evaluator
-returns-in_err-weigh_alike-clause-evaluator c = cc (c.in_ok-judgement.ensures.model, c.in_ok-passes.ensures.model, c.loop-walk.invariant.model)
+returns-in_err-weigh_alike-clause-evaluator c = c.in_ok-judgement.ensures.model ∙ c.in_ok-passes.ensures.model ∙ c.loop-walk.invariant.model ∙ sym c.requires.evaluator

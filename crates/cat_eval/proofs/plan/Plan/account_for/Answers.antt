@@ -16,3 +16,6 @@ pub returns-clause-flags : goal.returns-clause-flags
 returns-clause-flags c =
     let P : List Clause → Type 0 = λ items. IfOk c.account_by.result (λ a. Lists {X = Word} (Raised items c.args.view.now) a.judgement.flags) in
     subst P (ap (λ (xs : List PlannedItem). map planned_clause xs) c.deref-4.ensures.value ∙ c.self.view_is) c.account_by.ensures.flags
+
+pub account_by-requires-clause-plan : goal.account_by-requires-clause-plan
+account_by-requires-clause-plan c = rw (c.deref-2.ensures.value, c.deref-4.ensures.value) c.self.invariant.plan

@@ -20,3 +20,6 @@ returns-clause-allowed c =
 
 pub judge_early_by-requires-clause-holds : goal.judge_early_by-requires-clause-holds
 judge_early_by-requires-clause-holds c = holds_nothing _ _ _ _ _ c.nothing-kept.ensures.runs c.nothing-kept.ensures.sources
+
+pub judge_early_by-requires-clause-plan : goal.judge_early_by-requires-clause-plan
+judge_early_by-requires-clause-plan c = rw (c.deref-2.ensures.value, c.deref-4.ensures.value) c.self.invariant.plan
