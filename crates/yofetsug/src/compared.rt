@@ -1,7 +1,7 @@
 //! What is stored of a run, and how another differs.
 
 use crate::rows::{parts_of, row_in};
-use crate::trouble::{Trouble, unreadable};
+use inputs::{Trouble, unreadable};
 use std::fs;
 use std::fs::OpenOptions;
 use std::rt::Files;

@@ -1,13 +1,12 @@
 //! Judging one test.
 
 use crate::deadline::Deadline;
-use crate::files::{read_front, text_of};
 use crate::messages::test_trouble;
 use crate::meter::{Meter, milliseconds_since};
-use crate::models::Models;
 use crate::outcome::{Outcome, Told};
 use crate::why::Answer;
 use crate::words::{Form, Words};
+use inputs::{Models, read_front, text_of};
 use slices::Verdict;
 use std::alloc::{AllocError, Global};
 use std::rt::Files;
@@ -134,7 +133,7 @@ impl<'a> Test<'a> {
         threads: u16,
         deadline: &mut Deadline<'_, R>,
     ) -> Result<(), AllocError> {
-        let models = plan.models.models.as_slice();
+        let models = plan.models.models();
         let judged = judge_text(rt, alloc, &self.text, models, threads, deadline);
         self.milliseconds = milliseconds_since(rt, deadline.began);
         match &judged {
@@ -173,7 +172,7 @@ impl<'a> Test<'a> {
         self.fate = Fate::Refused;
         let (message, label) = test_trouble(alloc, self.path, &self.text, trouble)?;
         self.message = message;
-        for place in 0..plan.models.models.len() {
+        for place in 0..plan.models.models().len() {
             let case = plan.models.case(self.path, place);
             self.add(alloc, plan, case, Outcome::Refused(label))?;
         }
@@ -193,7 +192,7 @@ impl<'a> Test<'a> {
         }
         self.differs = !are_alike(&cells);
         if let Form::Table = &plan.words.form {
-            let (path, names) = (self.path.as_bytes(), plan.models.names.as_slice());
+            let (path, names) = (self.path.as_bytes(), plan.models.names());
             self.lines
                 .append(&mut table_row_of(alloc, plan.width, path, names, &cells)?)?;
         }

@@ -2,12 +2,10 @@
 
 use crate::compared::{compare, read_rows, see_writable, store, write_file};
 use crate::deadline::Deadline;
-use crate::files::Paths;
 use crate::meter::Meter;
-use crate::models::Models;
 use crate::run::{Fate, Plan, Test};
-use crate::trouble::Trouble;
 use crate::words::{Form, Words};
+use inputs::{Models, Paths, Trouble};
 use std::alloc::AllocError;
 use std::rt::Files;
 use std::thread;
@@ -106,12 +104,12 @@ fn judge_all<R: Reach>(rt: &R, words: &Words<'_>, shows: bool) -> Result<u8, Tro
         differing: 0,
         rows: Vec::new(alloc),
         dot: Vec::new(alloc),
-        meter: Meter::new(rt, given.paths.tests.len(), shows),
+        meter: Meter::new(rt, given.paths.tests.paths().len(), shows),
     };
     let plan = Plan {
         words,
         models: &given.models,
-        width: given.paths.width,
+        width: given.paths.tests.width(),
         threads: threads_of(rt, words),
         limit: match words.timeout {
             Some(seconds) => u64::from(seconds).saturating_mul(1_000),
@@ -158,7 +156,7 @@ impl Progress {
     fn judge<R: Reach>(&mut self, rt: &R, paths: &Paths, plan: &Plan<'_>) -> Result<(), Trouble> {
         self.begin(rt, &paths.unread, plan)?;
         let size = usize::from(plan.threads).saturating_mul(BATCH).max(1);
-        for batch in paths.tests.chunks(size) {
+        for batch in paths.tests.paths().chunks(size) {
             self.judge_batch(rt, batch, plan)?;
             self.meter.tick(rt)?;
         }
@@ -174,7 +172,7 @@ impl Progress {
         plan: &Plan<'_>,
     ) -> Result<(), Trouble> {
         if matches!(&plan.words.form, Form::Table) {
-            rt.write_all(&head_of(rt.alloc(), plan.width, &plan.models.names)?)?;
+            rt.write_all(&head_of(rt.alloc(), plan.width, plan.models.names())?)?;
         }
         for message in unread {
             rt.eprint(message.as_str())?;

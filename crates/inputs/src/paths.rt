@@ -1,26 +1,20 @@
 //! Which tests are judged: files, folders, lists, and standard input.
 
+use crate::tests::Tests;
+use crate::text::{is_there, sibling};
 use std::alloc::{AllocError, Global};
 use std::fmt::Display;
-use std::io::Read;
 use std::rt::Files;
-use std::{fs, io, mem};
-
-/// The most bytes of a text that are read: one more than a test or a cat file may have.
-const MOST_BYTES: u64 = 65_537;
+use std::{fs, mem};
 
 /// The most folders that are gone through.
 const MOST_FOLDERS: usize = 1_000_000;
 
-/// How wide the paths of a table are at most.
-const WIDEST: usize = 60;
-
-/// The tests that the words name, and what is told of the paths that couldn't be read on the way.
+/// The tests that words name, and what is told of the paths that couldn't be read on the way.
 pub struct Paths {
-    pub tests: Vec<String>,
+    pub tests: Tests,
+    /// Each ends in a line feed.
     pub unread: Vec<String>,
-    /// How wide the paths of a table are.
-    pub width: usize,
     /// The folders that are still to be gone through.
     folders: Vec<String>,
     /// The tests that were found in folders.
@@ -32,52 +26,18 @@ impl Drop for Paths {
         let Paths {
             tests: _,
             unread: _,
-            width: _,
             folders: _,
             found: _,
         } = self;
     }
 }
 
-/// The text of a file, as far as a text may go and one byte more.
-pub fn text_of<R: Files + AllocGlobal>(rt: &R, path: &str) -> io::Result<Vec<u8>> {
-    read_front(rt.alloc(), fs::open(rt, path)?)
-}
-
-/// The front of what a reader has.
-pub fn read_front<S: Read + Drop>(alloc: Global, reader: S) -> io::Result<Vec<u8>> {
-    let mut text = Vec::new(alloc);
-    reader.take(MOST_BYTES).read_to_end(&mut text)?;
-    Ok(text)
-}
-
-/// Whether something is there, as far as that can be told.
-pub fn is_there<R: Files>(rt: &R, path: &str) -> bool {
-    matches!(fs::exists(rt, path), Ok(true))
-}
-
-/// The path of a name beside a file.
-pub fn sibling(alloc: Global, file: &str, name: &str) -> Result<String, AllocError> {
-    match file.rsplit_once('/') {
-        Some((folder, _)) => joined(alloc, folder, name),
-        None => String::from_str(alloc, name),
-    }
-}
-
-/// The path of a name in a folder.
-pub fn joined(alloc: Global, folder: &str, name: &str) -> Result<String, AllocError> {
-    if name.starts_with('/') {
-        return String::from_str(alloc, name);
-    }
-    format!(in alloc; "{folder}/{name}")
-}
-
 impl Paths {
+    /// None yet.
     pub fn new(alloc: Global) -> Self {
         Paths {
-            tests: Vec::new(alloc),
+            tests: Tests::new(alloc),
             unread: Vec::new(alloc),
-            width: 0,
             folders: Vec::new(alloc),
             found: Vec::new(alloc),
         }
@@ -100,12 +60,9 @@ impl Paths {
 
     /// Adds a test. A line can't tell one whose path would end the line or the field.
     fn add_test(&mut self, path: &str) -> Result<(), AllocError> {
-        if path.contains(['\n', '\t']) {
-            return self.add_unread(path, "its path has a tab or a line feed");
+        if !self.tests.add(path)? {
+            self.add_unread(path, "its path has a tab or a line feed")?;
         }
-        self.width = self.width.max(path.len()).min(WIDEST);
-        let path = String::from_str(*self.tests.allocator(), path)?;
-        self.tests.push(path)?;
         Ok(())
     }
 

@@ -1,15 +1,18 @@
-//! Why the program ends early.
+//! Why a run ends early.
 
 use std::alloc::{AllocError, AllocFailed};
 use std::io;
+use thiserror::Error;
 
-/// Why the program ends early.
-#[derive(Drop)]
+/// Why a run ends early.
+#[derive(Debug, Drop, Error)]
 pub enum Trouble {
-    /// Writing failed.
+    #[error("standard output: {0}")]
     Write(io::Error),
     /// What was wrong has been told already, and this is the status.
+    #[error("status {0}")]
     Told(u8),
+    #[error("memory ran out")]
     NoMemory,
 }
 
