@@ -1,15 +1,10 @@
 //! Judges litmus tests under cat models.
 #![tactic(auto)]
 
-mod compared;
 mod deadline;
-mod messages;
 mod meter;
-mod outcome;
-mod rows;
 mod run;
 mod session;
-mod why;
 mod words;
 
 use clap::error::ErrorKind;
