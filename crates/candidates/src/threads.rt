@@ -28,7 +28,7 @@ pub(crate) fn put_run(runs: &mut Vec<Run>, place: usize, run: &Run) -> Result<()
         return Ok(());
     }
     if !runs[place].is_same(run) {
-        runs[place] = run.copy()?;
+        runs[place].become_copy(run)?;
     }
     Ok(())
 }

@@ -8,7 +8,7 @@ ghost use Rattle.cat_model.specs.Scopes.{IsModel};
 use cat_tree::{Definition, Item};
 use std::alloc::{AllocError, Global};
 use std::sync::Arc;
-use wb_text::Name;
+use wb_text::{Name, are_same};
 
 /// A file that was read, with its version then.
 #[derive(Drop)]
@@ -94,7 +94,7 @@ impl PartialEq for Model {
         ensures value { result ≡ same_assembly self.now other.now }
         ensures exact { IsTrue result ↔ (self.now ≡ other.now) }
     {
-        self.items() == other.items() && self.files() == other.files()
+        are_same(self.items(), other.items()) && are_same(self.files(), other.files())
     }
 }
 

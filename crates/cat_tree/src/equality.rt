@@ -1,6 +1,7 @@
 //! Equality: true exactly of equal trees.
 
 use crate::tree::{Binding, Check, Definition, Element, Item};
+use wb_text::are_same;
 
 impl PartialEq for Definition {
     ghost use Rattle.std.specs.Prelude.{◌≡◌, ◌↔◌, IsTrue};
@@ -17,7 +18,9 @@ impl PartialEq for Definition {
         ensures value { result ≡ same_defined (defined_of self.now) (defined_of other.now) }
         ensures exact { IsTrue result ↔ (defined_of self.now ≡ defined_of other.now) }
     {
-        self.name == other.name && self.parameters == other.parameters && self.value == other.value
+        self.name == other.name
+            && are_same(&self.parameters, &other.parameters)
+            && self.value == other.value
     }
 }
 
@@ -123,12 +126,12 @@ impl PartialEq for Item {
         ensures exact { IsTrue result ↔ (clause_of self.now ≡ clause_of other.now) }
     {
         match (self, other) {
-            (Item::Let(a), Item::Let(b)) => a == b,
-            (Item::LetRec(a), Item::LetRec(b)) => a == b,
+            (Item::Let(a), Item::Let(b)) => are_same(a, b),
+            (Item::LetRec(a), Item::LetRec(b)) => are_same(a, b),
             (Item::Check(a), Item::Check(b)) => a == b,
             (Item::Include(a), Item::Include(b)) => a == b,
-            (Item::Show(a), Item::Show(b)) => a == b,
-            (Item::Unshow(a), Item::Unshow(b)) => a == b,
+            (Item::Show(a), Item::Show(b)) => are_same(a, b),
+            (Item::Unshow(a), Item::Unshow(b)) => are_same(a, b),
             _ => false,
         }
     }

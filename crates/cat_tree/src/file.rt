@@ -7,6 +7,7 @@ use crate::copying::items_copy;
 use crate::tree::Item;
 use std::alloc::AllocError;
 use std::marker::Model;
+use wb_text::are_same;
 
 /// The title of a model. Contracts see its bytes.
 pub struct Title {
@@ -120,7 +121,7 @@ impl PartialEq for CatFile {
         ensures value { result ≡ same_file self.now other.now }
         ensures exact { IsTrue result ↔ (self.now ≡ other.now) }
     {
-        self.title == other.title && self.items == other.items
+        self.title == other.title && are_same(&self.items, &other.items)
     }
 }
 

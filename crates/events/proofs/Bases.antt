@@ -1,5 +1,5 @@
 -- What a set or a relation rests on decides it.
-use Rattle.std.proofs.Common.{◌≡◌, ℕ, List, refl, sym, ap, ◌∙◌, subst, inl, inr, IsTrue}
+use Rattle.std.proofs.Common.{◌≡◌, ℕ, List, sym, ap, ◌∙◌, subst, inl, inr, IsTrue}
 use Rattle.listings.specs.Lists.{StandsAt}
 use Rattle.relations.specs.Events.{EventSet}
 use Rattle.events.specs.declared.event.Access.{Access}
@@ -12,7 +12,7 @@ use Rattle.events.specs.declared.named.RelName.TheVariants.{Po, Int, Ext, Loc, P
 use Rattle.events.specs.declared.named.Basis.TheVariants.{Runs, Sources}
 use Rattle.events.specs.Bases.{basis_of}
 use Rattle.events.specs.Executions.{GraphValue, is_read, is_write}
-use Rattle.events.specs.Named.{event_names, access_of, order_of, location_of, data_of, control_of, IsRead, IsWrite, IsMemory, IsOfCall, IsAtOneLocation, IsExchange, IsDependency, ReadsFrom, InSet, InRel, NamedSet, NamedRel}
+use Rattle.events.specs.Named.{access_of, order_of, data_of, control_of, IsRead, IsWrite, IsMemory, IsOfCall, IsAtOneLocation, IsDependency, ReadsFrom, InSet, InRel, NamedSet, NamedRel}
 use Rattle.events.specs.Structures.{Sourced, structure_of, sourced_of}
 use Rattle.events.proofs.Shapes.{names_same, access_same, location_same, order_same, data_same, control_same, reads_same}
 

@@ -8,7 +8,7 @@ use Rattle.events.specs.declared.named.RelName.TheVariants.{Po, Int, Ext, Loc, P
 use Rattle.events.specs.declared.named.Basis.TheVariants.{Runs}
 use Rattle.events.specs.Bases.{basis_of}
 use Rattle.events.specs.Executions.{GraphValue, ThreadRun, IsNamed, IsGraph}
-use Rattle.events.specs.Named.{event_names, event_count, event_at, read_names, InRel, ReadsFrom, IsCoherenceBefore, StandsFrom, StandsBefore, NamedSet, NamedRel}
+use Rattle.events.specs.Named.{InRel, ReadsFrom, IsCoherenceBefore, StandsFrom, StandsBefore, NamedSet, NamedRel}
 use Rattle.events.specs.Structures.{structure_of}
 use Rattle.events.proofs.Bases.{same_sets, same_on_runs}
 use Rattle.events.proofs.Shapes.{names_same, reads_same}

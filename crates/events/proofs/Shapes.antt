@@ -1,18 +1,15 @@
 -- What executions of one structure have in common, whatever their values are.
-use Rattle.std.proofs.Common.{◌≡◌, ℕ, zero, suc, ◌+◌, ◌<◌, List, [], ◌∷◌, ◌++◌, length, map, get_or, drop, Bool, refl, sym, ap, ◌∙◌, subst}
+use Rattle.std.proofs.Common.{◌≡◌, ℕ, zero, suc, ◌+◌, ◌<◌, List, [], ◌∷◌, ◌++◌, length, map, get_or, drop, Bool, refl, sym, ap, ◌∙◌}
 use Rattle.std.specs.Prelude.{sum_by, cond}
 use Rattle.std.specs.List.{filter}
 use Rattle.std.proofs.Math.ListN.{get_or-map}
 use Rattle.std.proofs.lemmas.List as lists
 use Rattle.std.proofs.lemmas.List.{length-map}
 use Rattle.std.proofs.lemmas.List.Sums.{sum_by-cons}
-use Rattle.relations.specs.Events.{EventSet}
 use Rattle.listings.specs.Lists.{tabulate}
-use Rattle.events.specs.declared.event.Access.{Access}
 use Rattle.events.specs.declared.event.Event.{Event}
 use Rattle.events.specs.declared.event.EventId.{EventId}
 use Rattle.events.specs.declared.event.EventId.TheVariants.{Initial, Own}
-use Rattle.events.specs.declared.event.Order.{Order}
 use Rattle.events.specs.Executions.{GraphValue, ThreadRun, is_read, empty_run}
 use Rattle.events.specs.Named.{names_from, thread_names, event_names, event_count, event_at, no_event, access_of, location_of, order_of, data_of, control_of, read_names}
 use Rattle.events.specs.Structures.{Structure, unvalued, unvalued_run, nought, structure_of, bare}

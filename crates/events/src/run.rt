@@ -1,6 +1,6 @@
 //! Runs of a thread.
 
-ghost use Rattle.std.specs.Prelude.{◌≡◌, ◌↔◌, map, IfOk, IsTrue};
+ghost use Rattle.std.specs.Prelude.{◌≡◌, ◌↔◌, length, map, IfOk, IsTrue, OnErr, OnOk};
 ghost use Rattle.events.specs.Structures.{unvalued, unvalued_run};
 
 use crate::event::Event;
@@ -40,6 +40,16 @@ pub fn copy_events(alloc: Global, events: &[Event], room: usize) -> Result<Vec<E
         copies.push(event.copy())?;
     }
     Ok(copies)
+}
+
+/// Writes events over as many others.
+fn overwrite(list: &mut Vec<Event>, events: &[Event])
+    requires { length list.old.items ≡ length events.now }
+    ensures { list.new.items ≡ events.now }
+{
+    for place in 0..events.len() {
+        list[place] = events[place].copy();
+    }
 }
 
 /// Whether the events are like the others.
@@ -158,5 +168,21 @@ impl Run {
             events: copy_events(*self.events.allocator(), &self.events, 0)?,
             registers: self.registers.clone()?,
         })
+    }
+
+    /// Becomes a run like the other. It takes memory only if the other is longer or shorter.
+    pub fn become_copy(&mut self, other: &Self) -> Result<(), AllocError>
+        ensures done { OnOk result (self.new ≡ other.now) }
+        ensures same { OnErr result (self.new ≡ self.old) }
+    {
+        if self.events.len() != other.events.len()
+            || self.registers.len() != other.registers.len()
+        {
+            *self = other.copy()?;
+            return Ok(());
+        }
+        overwrite(&mut self.events, &other.events);
+        self.registers.copy_from_slice(&other.registers);
+        Ok(())
     }
 }

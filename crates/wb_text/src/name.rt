@@ -6,6 +6,7 @@ ghost use Rattle.wb_text.specs.Names.{IsName, IsPrintable};
 ghost use Rattle.wb_text.specs.declared.fault.NameFault.TheVariants.{BadName, NoMemory};
 
 use crate::fault::NameFault;
+use crate::same::are_same;
 use std::alloc::{AllocError, Global};
 use std::cmp::Ordering;
 use std::fmt;
@@ -94,7 +95,7 @@ impl PartialEq for Name {
         ensures value { result ≡ bytes_eq self.now other.now }
         ensures equal { IsTrue result ↔ (self.now ≡ other.now) }
     {
-        self.bytes.as_slice() == other.bytes.as_slice()
+        are_same(&self.bytes, &other.bytes)
     }
 }
 

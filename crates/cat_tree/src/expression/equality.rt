@@ -7,6 +7,7 @@ ghost use Rattle.cat_tree.specs.Equality.{same_term};
 ghost use Rattle.cat_tree.specs.Exact.{expression_equivalence};
 
 use crate::expression::Expression;
+use wb_text::are_same;
 
 impl PartialEq for Expression {
     ghost eq = { λ a b. same_term (term_of a) (term_of b) };
@@ -18,7 +19,7 @@ impl PartialEq for Expression {
         ensures value { result ≡ same_term (term_of self.now) (term_of other.now) }
         ensures exact { IsTrue result ↔ (term_of self.now ≡ term_of other.now) }
     {
-        self.nodes == other.nodes
+        are_same(&self.nodes, &other.nodes)
     }
 }
 

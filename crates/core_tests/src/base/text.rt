@@ -3,7 +3,7 @@
 use crate::names::name;
 use crate::rows::{again, all_hold, expanded};
 use std::alloc::{AllocError, Global};
-use wb_text::{Dialect, Name, NameFault, TextFault, Token, decimal, tokens};
+use wb_text::{Dialect, Name, NameFault, TextFault, Token, are_same, decimal, tokens};
 
 /// The bytes of the text of a row, in which `ÿ` stands for the byte 255.
 fn bytes_of(alloc: Global, text: &str) -> Result<Vec<u8>, AllocError> {
@@ -204,6 +204,16 @@ fn are_in_order(alloc: Global) -> Result<bool, AllocError> {
     is_x_before_y(alloc, &x, &y)
 }
 
+/// Are only lists of one length, with the same values, the same?
+fn lists_compare() -> bool {
+    let list = "ab".as_bytes();
+    are_same(list, "ab".as_bytes())
+        && !are_same(list, "ac".as_bytes())
+        && !are_same(list, "bb".as_bytes())
+        && !are_same(list, "a".as_bytes())
+        && !are_same(list, "abb".as_bytes())
+}
+
 #[test]
 fn tokens_names_and_numbers(rt: HostRuntime) {
     let alloc = rt.alloc();
@@ -212,4 +222,5 @@ fn tokens_names_and_numbers(rt: HostRuntime) {
     all_hold(&rt, alloc, "names", NAMES, name_is);
     all_hold(&rt, alloc, "numbers", NUMBERS, number_is);
     assert!(rt; are_in_order(alloc) == Ok(true), "x before y!~");
+    assert!(rt; lists_compare(), "lists");
 }

@@ -12,16 +12,18 @@ use crate::event::EventId;
 use relations::{Rel, Set};
 
 impl Numbered<'_> {
-    /// `rf`.
-    #[tactic(auto, using(crate::proofs::Adding::reads_begun, crate::proofs::Adding::reads_on, crate::proofs::Adding::reads_done))]
-    pub(super) fn reads_from(&self) -> Rel
-        ensures { IsExactly (event_count self.now) (NamedRel self.now Rf) result }
+    /// Writes `rf`, and its pairs turned, over what the two had. The second is filled beside the first: to turn a relation as a whole
+    /// costs much more.
+    #[tactic(auto, using(crate::proofs::Adding::reads_begun, crate::proofs::Adding::reads_on, crate::proofs::Adding::reads_done, crate::proofs::Turning::turned_begun))]
+    pub(super) fn reads_into(&self, rel: &mut Rel, turned: &mut Rel)
+        ensures rel { IsExactly (event_count self.now) (NamedRel self.now Rf) rel.new }
+        ensures turned { IsExactly rel.new.count (λ i j. In rel.new j i) turned.new }
     {
-        let mut rel = Rel::empty(self.count());
+        rel.become_empty(self.count());
+        turned.become_empty(self.count());
         for read in 0..self.reads.len() {
-            self.relate_read(&mut rel, read);
+            self.relate_read(rel, turned, read);
         }
-        rel
     }
 
     /// Writes `co` over what `rel` had.
@@ -37,28 +39,33 @@ impl Numbered<'_> {
 
     // Adds the pair of the read with this number among the reads and the write that it reads from.
     #[tactic(auto, using(crate::proofs::Adding::read_more, crate::proofs::Adding::no_read_more, crate::proofs::Standing::stands_read))]
-    fn relate_read(&self, rel: &mut Rel, read: usize)
+    fn relate_read(&self, rel: &mut Rel, turned: &mut Rel, read: usize)
         requires count { rel.old.count ≡ event_count self.now }
+        requires turned { IsExactly rel.old.count (λ i j. In rel.old j i) turned.old }
         requires read { read < length (read_names self.now) }
-        ensures { IsExactly (event_count self.now) (λ i j. In rel.old i j ⊎ ByNumbers self.now (IsReadAt self.now read) i j) rel.new }
+        ensures rel { IsExactly (event_count self.now) (λ i j. In rel.old i j ⊎ ByNumbers self.now (IsReadAt self.now read) i j) rel.new }
+        ensures turned { IsExactly rel.new.count (λ i j. In rel.new j i) turned.new }
     {
         let _ = rel.count();
         let sources = self.graph.rf();
         if read < sources.len() {
-            self.relate(rel, sources[read], self.read(read));
+            self.relate(rel, turned, sources[read], self.read(read));
         }
     }
 
-    // Adds the pair of two events.
+    // Adds the pair of two events, and the pair turned to the relation that has the pairs turned.
     #[tactic(auto, using(crate::proofs::Adding::pair_more, crate::proofs::Adding::nothing_more))]
-    fn relate(&self, rel: &mut Rel, first: EventId, second: EventId)
-        requires { rel.old.count ≡ event_count self.now }
-        ensures { IsExactly (event_count self.now) (λ i j. In rel.old i j ⊎ (IsNumber self.now i first × IsNumber self.now j second)) rel.new }
+    fn relate(&self, rel: &mut Rel, turned: &mut Rel, first: EventId, second: EventId)
+        requires count { rel.old.count ≡ event_count self.now }
+        requires turned { IsExactly rel.old.count (λ i j. In rel.old j i) turned.old }
+        ensures rel { IsExactly (event_count self.now) (λ i j. In rel.old i j ⊎ (IsNumber self.now i first × IsNumber self.now j second)) rel.new }
+        ensures turned { IsExactly rel.new.count (λ i j. In rel.new j i) turned.new }
     {
         let _ = rel.count();
         if let Some(from) = self.number_of(first) {
             if let Some(to) = self.number_of(second) {
                 rel.insert(from, to);
+                turned.insert(to, from);
             }
         }
     }

@@ -56,12 +56,14 @@ impl SourcedStructure {
     {
         let structure = EventStructure::of(alloc, graph)?;
         let sources = Vec::from_slice(alloc, graph.rf())?;
-        let rf = structure.numbered(graph).reads_from();
+        let mut rf = Rel::empty(0);
+        let mut turned = Rel::empty(0);
+        structure.numbered(graph).reads_into(&mut rf, &mut turned);
         Ok(SourcedStructure {
             structure,
             sources,
-            turned: rf.inverse(),
             rf,
+            turned,
         })
     }
 
@@ -119,8 +121,11 @@ impl SourcedStructure {
         ensures same { OnErr result (self.new ≡ self.old) }
     {
         let sources = Vec::from_slice(alloc, graph.rf())?;
-        let rf = self.structure.numbered(graph).reads_from();
-        let turned = rf.inverse();
+        let mut rf = Rel::empty(0);
+        let mut turned = Rel::empty(0);
+        self.structure
+            .numbered(graph)
+            .reads_into(&mut rf, &mut turned);
         self.turned = turned;
         self.rf = rf;
         self.sources = sources;

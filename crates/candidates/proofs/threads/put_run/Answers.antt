@@ -8,8 +8,8 @@ returns-then-place-len c =
     put_behind c.args.runs.now.items c.push.new.self.items c.args.place c.args.run.now c.requires (omega (arith, c.if-place-len.true, c.len.ensures))
     (c.in_ok-push.ensures.items ∙ ap (λ (r : ThreadRun). c.args.runs.now.items ++ r ∷ []) c.in_ok-copy.ensures)
 
-pub returns-in_ok-runs : goal.returns-in_ok-runs
-returns-in_ok-runs c = put_over c.args.runs.now.items _ c.args.place c.args.run.now (omega (arith, c.if-place-len.false, c.len.ensures)) (ap (λ (r : ThreadRun). set c.args.runs.now.items c.args.place r) c.in_ok-runs.ensures)
+pub returns-in_ok-become_copy : goal.returns-in_ok-become_copy
+returns-in_ok-become_copy c = put_over c.args.runs.now.items _ c.args.place c.args.run.now (omega (arith, c.if-place-len.false, c.len.ensures)) (ap (λ (r : ThreadRun). set c.args.runs.now.items c.args.place r) c.in_ok-become_copy.ensures.done)
 
 pub returns-else-not-is_same : goal.returns-else-not-is_same
 returns-else-not-is_same c = put_already c.args.runs.now.items c.args.place c.args.run.now c.index.result.now (omega (arith, c.if-place-len.false, c.len.ensures)) c.index.ensures (c.is_same.ensures.0 c.if-not-is_same.false)

@@ -38,3 +38,15 @@ loop-i-preserved c =
       rw (counted, behind, nested) few,
       omega (arith, c.depth_behind-depth.ensures.most, c.loop-i.invariant.4),
     )
+
+pub returns-then-announces-clause-weight : goal.returns-then-announces-clause-weight
+returns-then-announces-clause-weight c =
+    let symbol = c.index-symbols-i.result in
+    let counted : c.cost.result ≡ cost c.loop-i.context c.loop-i.depth (get_or c.args.symbols.now c.loop-i.i symbol) = c.cost.ensures.value ∙ ap (cost c.loop-i.context c.loop-i.depth) c.index-symbols-i.is in
+    omega (arith, counted, c.if-nodes-gt-NODES.true, c.loop-i.invariant.0, weight_next c.loop-i.context c.loop-i.depth c.args.symbols.now c.loop-i.i symbol c.loop-i-test.true)
+
+pub returns-else-announces-clause-weight : goal.returns-else-announces-clause-weight
+returns-else-announces-clause-weight c =
+    let symbol = c.index-symbols-i.result in
+    let counted : c.cost.result ≡ cost c.loop-i.context c.loop-i.depth (get_or c.args.symbols.now c.loop-i.i symbol) = c.cost.ensures.value ∙ ap (cost c.loop-i.context c.loop-i.depth) c.index-symbols-i.is in
+    omega (arith, counted, c.if-nodes-gt-NODES.true, c.loop-i.invariant.0, weight_next c.loop-i.context c.loop-i.depth c.args.symbols.now c.loop-i.i symbol c.loop-i-test.true)

@@ -2,6 +2,7 @@ use Rattle.std.proofs.Common.{◌≡◌, sym, subst, ◌∙◌, ap}
 use Rattle.wb_text.specs.declared.fault.TextFault.TheVariants as texts
 use Rattle.cat_syntax.specs.Items.{IsFile}
 use Rattle.cat_syntax.specs.Symbols.{symbols_of}
+use Rattle.cat_syntax.proofs.Tokens.{symbols_length}
 use Rattle.cat_syntax.proofs.Whole.{no_memory, refused, text_refused}
 use Rattle.cat_syntax.proofs.reading.read_cat.Goals as goal
 
@@ -25,3 +26,7 @@ returns-clause-cause c =
 
 pub returns-in_err-tokens-clause-cause : goal.returns-in_err-tokens-clause-cause
 returns-in_err-tokens-clause-cause c = text_refused c.args.text.now c.from_residual.result c.in_err-tokens.field-0.0 c.from_residual.ensures.1 c.in_err-tokens.ensures.cause
+
+pub read_symbols-requires : goal.read_symbols-requires
+read_symbols-requires c =
+    rw (c.deref-2.ensures.value, c.deref-3.ensures.value, c.in_ok-symbols.ensures, c.deref.ensures.value) (symbols_length c.args.text.now c.in_ok-tokens.tokens.items)

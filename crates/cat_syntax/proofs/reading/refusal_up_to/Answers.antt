@@ -1,5 +1,5 @@
-use Rattle.std.proofs.Common.{◌<◌, ◌-◌, length, arith, rules}
-use Rattle.cat_syntax.proofs.Refusals.{within_of, large_behind, large_read, shown_of}
+use Rattle.std.proofs.Common.{◌<◌, ◌≤◌, ◌-◌, length, arith, rules}
+use Rattle.cat_syntax.proofs.Refusals.{among, within_of, large_behind, large_read, shown_of}
 use Rattle.cat_syntax.proofs.reading.refusal_up_to.Goals as goal
 
 pub refusal-requires-clause-first : goal.refusal-requires-clause-first
@@ -19,3 +19,9 @@ returns-in-Ok c = (
   large_read c.args.symbols.now c.file.new.self.rest.now c.min-shown.result c.args.place c.in-Ok.field-0
       (shown_of c.args.symbols.now c.min-shown.result c.args.place c.min-shown.ensures) c.requires.excess c.in-Ok.ensures,
 )
+
+pub refusal-requires-clause-stops : goal.refusal-requires-clause-stops
+refusal-requires-clause-stops c =
+    let before : c.saturating_sub-stopped.result ≤ c.args.place = omega arith in
+    among c.args.symbols.now c.file.new.self.rest.now c.min-shown.result c.args.place c.saturating_sub-stopped.result c.in-Err.fault (omega (arith, c.min-shown.ensures))
+    (shown_of c.args.symbols.now c.min-shown.result c.args.place c.min-shown.ensures) c.saturating_sub-stopped.ensures before c.in-Err.ensures

@@ -1,4 +1,4 @@
-use Rattle.std.proofs.Common.{rules, arith, ap, subst, length, List, true, ◌≡◌}
+use Rattle.std.proofs.Common.{rules, arith}
 use Rattle.events.specs.Structures.{unvalued_run}
 use Rattle.events.proofs.Shapes.{mapped_here}
 use Rattle.events.proofs.run.are_like_runs.Goals as goal

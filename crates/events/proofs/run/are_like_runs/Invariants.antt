@@ -1,4 +1,4 @@
-use Rattle.std.proofs.Common.{◌≡◌, length, map, take}
+use Rattle.std.proofs.Common.{◌≡◌, map, take}
 use Rattle.events.specs.Structures.{unvalued_run}
 use Rattle.events.proofs.run.are_like_runs.Given as goal
 

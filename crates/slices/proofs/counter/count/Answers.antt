@@ -151,3 +151,6 @@ loop-walk-smaller c =
     let H : Walking → Type 0 = λ w. IsHit c.loop-walk.walk w c.in-Some.number in
     let here = subst H (sym same) hit in
     walk_nearer c.in-Some.number c.loop-walk.walk c.passes.new.walk here.step.to (let next = here.step.next in omega (arith, next)) hit.later hit.below
+
+pub returns-in_err-weigh_alike-clause-evaluator : goal.returns-in_err-weigh_alike-clause-evaluator
+returns-in_err-weigh_alike-clause-evaluator c = cc (c.in_ok-judgement.ensures.model, c.in_ok-passes.ensures.model, c.loop-walk.invariant.model)

@@ -1,8 +1,9 @@
-use Rattle.std.proofs.Common.{◌<◌, ◌+◌, ◌*◌, ℕ, List, drop, get_or, length, ap, sym, subst, ◌∙◌, arith}
+use Rattle.std.proofs.Common.{◌<◌, ◌+◌, ◌*◌, ℕ, List, drop, get_or, length, ap, sym, subst, ◌∙◌, arith, ◌≡◌, rules}
 use Rattle.std.specs.Prelude.{◌^◌, All}
 use Rattle.litmus_value.specs.Values.{with_sums}
 use Rattle.litmus_value.proofs.Bounds.{sums_below}
 use Rattle.litmus_value.proofs.Sums.{next_sums, longer_sums}
+use Rattle.std.proofs.lemmas.List.{drop_all}
 use Rattle.test_places.proofs.values.are_many.Goals as goal
 
 pub returns-then-len-gt-MOST_VALUES : goal.returns-then-len-gt-MOST_VALUES
@@ -15,3 +16,9 @@ loop-place-preserved c = record {
       subst P (sym c.in_ok-insert_sums.ensures) (sums_below c.loop-place.values.items (get_or c.args.adds.now c.loop-place.place 0) ((c.loop-place.place + 1) * 2 ^ 32) ((c.loop-place.place + 1 + 1) * 2 ^ 32)
       c.loop-place.invariant.narrow (omega (arith, c.type_inv.adds c.loop-place.place)) (omega arith)));
 }
+
+pub returns : goal.returns
+returns c =
+    let sums = rw (drop_all c.loop-place.place c.args.adds.now c.loop-place-test.false) at c.loop-place.invariant.rest in
+    let many : c.len-2.result ≡ length (with_sums c.args.constants.now c.args.adds.now) = omega (arith, c.len-2.ensures, ap length sums) in
+    rw (← many) (search rules)

@@ -44,3 +44,19 @@ loop-place-preserved c =
       narrow = c.in_ok-note.ensures.narrow;
       few = few_more values 16 numbers place c.loop-place.invariant.few (omega (arith, seen, values_are (take (place + 1) numbers) c.deref.result.now c.deref-in-loop-place.result.now (c.deref.ensures.value ∙ constants) (c.deref-in-loop-place.ensures.value ∙ adds)));
     }
+
+pub returns-then-branch : goal.returns-then-branch
+returns-then-branch c =
+    let numbers = c.args.numbers.now in
+    let place = c.loop-place.place in
+    let constants : c.note.new.constants.items ≡ fold with_constant (0 ∷ 1 ∷ []) (take (place + 1) numbers) =
+    noted with_constant (0 ∷ 1 ∷ []) numbers place _ c.loop-place.constants.items c.note.new.constants.items c.loop-place-test.true c.loop-place.invariant.constants c.in_ok-note.ensures.constants in
+    let adds : c.note.new.adds.items ≡ fold with_added [] (take (place + 1) numbers) =
+    noted with_added [] numbers place _ c.loop-place.adds.items c.note.new.adds.items c.loop-place-test.true c.loop-place.invariant.adds c.in_ok-note.ensures.adds in
+    let seen : 16 < length (with_sums c.deref.result.now c.deref-in-loop-place.result.now) =
+    (let P : Bool → Type 0 = λ b. MatchBool b (16 < length (with_sums c.deref.result.now c.deref-in-loop-place.result.now)) (length (with_sums c.deref.result.now c.deref-in-loop-place.result.now) ≤ 16) in subst P c.if-branch.true c.in_ok-are_many.ensures) in
+    record {
+      within = c.loop-place-test.true;
+      few = c.loop-place.invariant.few;
+      many = omega (arith, seen, values_are (take (place + 1) numbers) c.deref.result.now c.deref-in-loop-place.result.now (c.deref.ensures.value ∙ constants) (c.deref-in-loop-place.ensures.value ∙ adds));
+    }

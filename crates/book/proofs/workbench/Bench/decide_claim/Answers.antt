@@ -2,7 +2,7 @@ use Rattle.std.proofs.Common.{◌≡◌, ◌<◌, ◌≤◌, ◌+◌, ◌∙◌,
 use Rattle.std.proofs.lemmas.Grind.{common_steps}
 use Rattle.book.specs.Workbench.{Workbench}
 use Rattle.book.proofs.Claims.{nothing, claims_spent, given}
-use Rattle.book.proofs.Frees.{first_ready}
+use Rattle.book.proofs.Frees.{first_ready, slice_inside}
 use Rattle.book.proofs.workbench.Bench.decide_claim.Goals as goal
 
 pub returns-in_default-clause-step : goal.returns-in_default-clause-step
@@ -24,3 +24,6 @@ pub returns-clause-ready : goal.returns-clause-ready
 returns-clause-ready c =
     let next : c.last-last.result + 1 ≡ c.args.self.now.last_claim + 1 = ap (λ n. n + 1) c.last-last.ensures ∙ ap (λ (s : Workbench). s.last_claim + 1) c.self.view_is in
     rw c.number.ensures (first_ready c.args.self.now c.in-Some.free.job.now c.in-Some.free.place c.in-Some.free.slice (c.last-last.result + 1) c.in-Some.ensures next)
+
+pub piece-requires : goal.piece-requires
+piece-requires c = slice_inside c.args.self.now c.in-Some.free.job.now c.in-Some.free.place c.in-Some.free.slice c.in-Some.ensures

@@ -2,8 +2,8 @@ use Rattle.std.proofs.Common.{arith}
 use Rattle.cat_model.proofs.Equal.{clauses_told, assembly_told}
 use Rattle.cat_model.proofs.model.ModelPartialEq.eq.Goals as goal
 
-pub returns-then-eq-clause-exact : goal.returns-then-eq-clause-exact
-returns-then-eq-clause-exact c = assembly_told c.args.self.now c.args.other.now c.eq-then-eq.result (grind (arith, clauses_told))
+pub returns-then-are_same-clause-exact : goal.returns-then-are_same-clause-exact
+returns-then-are_same-clause-exact c = assembly_told c.args.self.now c.args.other.now c.are_same-then-are_same.result (grind (arith, clauses_told))
 
-pub returns-else-eq-clause-exact : goal.returns-else-eq-clause-exact
-returns-else-eq-clause-exact c = assembly_told c.args.self.now c.args.other.now c.eq.result (grind (arith, clauses_told))
+pub returns-else-are_same-clause-exact : goal.returns-else-are_same-clause-exact
+returns-else-are_same-clause-exact c = assembly_told c.args.self.now c.args.other.now c.are_same.result (grind (arith, clauses_told))

@@ -15,3 +15,6 @@ invariant_of-self-in-Ok c =
     let last = ap (λ (p : PieceValue). p.to) c.in_ok-part.ensures ∙ c.in_ok-piece.ensures.to in
     let P : CourseValue → Type 0 = λ v. v.done < v.total in
     stepped _ _ _ c.in_ok-part.part c.self.invariant (subst P (sym c.self.view_is) c.requires) first last c.in-Ok.ensures.merged
+
+pub invariant_of-self-in-Err : goal.invariant_of-self-in-Err
+invariant_of-self-in-Err c = rw c.in-Err.ensures.same c.self.invariant

@@ -1,5 +1,5 @@
-use Rattle.std.proofs.Common.{◌∙◌, ap, sym, arith}
-use Rattle.slices.specs.Tallies.{TallyValue}
+use Rattle.std.proofs.Common.{◌∙◌, ap, sym, arith, ◌++◌, [], ◌∷◌}
+use Rattle.slices.specs.Tallies.{TallyValue, span_of}
 use Rattle.slices.proofs.Together.{at_piece, part_of, part_few, part_merged, tally_same, taken_back}
 use Rattle.slices.proofs.tally.Tally.add.Goals as goal
 
@@ -29,3 +29,17 @@ invariant_of-self-in-Err c =
     let spans = c.self.inside.spans.items in
     let back = taken_back _ spans c.push.new.self.items c.pop.new.self.items c.span-span.result c.in_ok-push.ensures.items c.pop.ensures.rest (omega (arith, c.in_ok-push.ensures.len, c.self.inside.spans.ok.0)) in
     tally_same w.test w.model.items spans c.pop.new.self.items c.self.inside.sum c.add.new.self back c.in-Err.ensures.same c.self.invariant
+
+pub invariant_of-self : goal.invariant_of-self
+invariant_of-self c = rw c.in_err-push.ensures.items c.self.invariant
+
+pub returns-in-Err-clause-same : goal.returns-in-Err-clause-same
+returns-in-Err-clause-same c =
+    let spans = c.self.inside.spans.items in
+    let back = taken_back _ spans c.push.new.self.items c.pop.new.self.items c.span-span.result c.in_ok-push.ensures.items c.pop.ensures.rest (omega (arith, c.in_ok-push.ensures.len, c.self.inside.spans.ok.0)) in
+    rw back c.self.view_is
+
+pub returns-in-Ok-clause-merged : goal.returns-in-Ok-clause-merged
+returns-in-Ok-clause-merged c =
+    let span = c.span-span.ensures.value ∙ ap at_piece c.piece-piece.ensures in
+    rw (c.in_ok-push.ensures.items, span) (ap (λ (x : TallyValue). record x { spans = x.spans ++ span_of c.args.part.now ∷ [] }) c.self.view_is)

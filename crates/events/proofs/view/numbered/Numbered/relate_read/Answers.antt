@@ -5,15 +5,15 @@ use Rattle.events.proofs.Standing.{stands_index}
 use Rattle.events.proofs.Adding.{read_more, no_read_more}
 use Rattle.events.proofs.view.numbered.Numbered.relate_read.Goals as goal
 
-pub returns-then-read-sources : goal.returns-then-read-sources
-returns-then-read-sources c =
+pub returns-then-read-sources-clause-rel : goal.returns-then-read-sources-clause-rel
+returns-then-read-sources-clause-rel c =
     let g = c.args.self.now in
     let sources = c.rf-sources.result.now in
     read_more (event_count g) g c.args.read (get_or sources c.args.read (Initial 0)) c.read.result c.args.rel.now c.relate.new.rel c.read.ensures
     (stands_index sources g.rf c.args.read (Initial 0) (c.rf-sources.ensures ∙ ap (λ g. g.rf) c.self.view_is) c.if-read-sources.true)
-    c.relate.ensures
+    c.relate.ensures.rel
 
-pub returns-else-read-sources : goal.returns-else-read-sources
-returns-else-read-sources c =
+pub returns-else-read-sources-clause-rel : goal.returns-else-read-sources-clause-rel
+returns-else-read-sources-clause-rel c =
     let e = c.rf-sources.ensures ∙ ap (λ g. g.rf) c.self.view_is in
     no_read_more c.args.self.now c.args.read c.args.rel.now (omega (arith, ap length e, c.if-read-sources.false)) c.requires.count c.count.ensures.canonical

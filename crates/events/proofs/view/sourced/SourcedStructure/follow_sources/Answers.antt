@@ -12,6 +12,6 @@ invariant_of-self c =
     ap sourced_of c.numbered.ensures
     ∙ sym (like_plain _ c.args.graph.now (sym (same_sourced c.args.graph.now c.self.inside.structure c.in_ok-sources.sources.items (ap (λ s. s.structure) c.self.view_is ∙ c.requires) (c.in_ok-sources.ensures.items ∙ c.rf.ensures)))) in
     record {
-      rf = moved_rf m h _ e c.reads_from-rf.ensures;
-      turned = moved_turned m h _ e (turned_named m _ _ c.reads_from-rf.ensures c.inverse-turned.ensures);
+      rf = moved_rf m h _ e c.reads_into.ensures.rel;
+      turned = moved_turned m h _ e (turned_named m _ _ c.reads_into.ensures.rel c.reads_into.ensures.turned);
     }

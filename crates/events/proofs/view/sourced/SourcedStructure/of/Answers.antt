@@ -12,6 +12,6 @@ invariant_of-result c =
     ap sourced_of c.numbered.ensures
     ∙ sym (like_plain _ c.args.graph.now (sym (same_sourced c.args.graph.now c.in_ok-structure.structure c.in_ok-sources.sources.items c.in_ok-structure.ensures (c.in_ok-sources.ensures.items ∙ c.rf.ensures)))) in
     record {
-      rf = moved_rf m h _ e c.reads_from-rf.ensures;
-      turned = moved_turned m h _ e (turned_named m _ _ c.reads_from-rf.ensures c.inverse.ensures);
+      rf = moved_rf m h _ e c.reads_into.ensures.rel;
+      turned = moved_turned m h _ e (turned_named m _ _ c.reads_into.ensures.rel c.reads_into.ensures.turned);
     }

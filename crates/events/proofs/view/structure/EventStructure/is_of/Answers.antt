@@ -1,7 +1,7 @@
 use Rattle.std.proofs.Common.{ℕ, List, map, length, ap, sym, ◌∙◌, arith}
 use Rattle.events.specs.Executions.{ThreadRun}
 use Rattle.events.specs.Structures.{Structure, unvalued_run}
-use Rattle.events.proofs.Structures.{as_many, one_init, one_structured}
+use Rattle.events.proofs.Structures.{one_init, one_structured}
 use Rattle.events.proofs.view.structure.EventStructure.is_of.Goals as goal
 
 pub returns-then-len-init : goal.returns-then-len-init

@@ -1,7 +1,0 @@
-use Rattle.relations.specs.Relation.{IsExactly}
-use Rattle.events.specs.Named.{event_count}
-use Rattle.events.specs.Rows.{ByNumbers, ReadsAmong}
-use Rattle.events.proofs.view.numbered.Numbered.reads_from.Given as goal
-
-abbrev pub invariant-loop-read : goal.invariant-loop-read
-invariant-loop-read l = IsExactly (event_count l.self) (ByNumbers l.self (ReadsAmong l.self l.read)) l.rel

@@ -1,0 +1,18 @@
+use Rattle.std.proofs.Common.{◌≡◌, ◌∙◌, List, ap, sym, subst}
+use Rattle.cat_tree.specs.Tree.{Clause}
+use Rattle.cat_model.specs.Models.{Assembly}
+use Rattle.cat_eval.specs.Prepared.{IsReadyFor}
+use Rattle.slices.specs.Works.{WorkValue}
+use Rattle.slices.proofs.kept_space.Made.evaluate.Goals as goal
+
+pub evaluate_in-requires-clause-evaluator : goal.evaluate_in-requires-clause-evaluator
+evaluate_in-requires-clause-evaluator c =
+    c.in_ok-evaluator.ensures ∙ ap (λ (m : Assembly). m.items) c.model.ensures ∙ ap (λ (w : WorkValue). w.model.items) (c.work-2.ensures ∙ c.work.ensures.work)
+
+pub invariant_of-made : goal.invariant_of-made
+invariant_of-made c =
+    let own : c.args.piece.now.work ≡ c.self.inside.work = sym (c.self.view_is ∙ c.requires) in
+    let same : c.evaluate_in.new.evaluator ≡ c.self.inside.work.model.items =
+    c.evaluate_in.ensures.evaluator ∙ c.in_ok-evaluator.ensures ∙ ap (λ (m : Assembly). m.items) c.model.ensures ∙ ap (λ (w : WorkValue). w.model.items) (c.work-2.ensures ∙ c.work.ensures.work ∙ own) in
+    let P : List Clause → Type 0 = λ items. IsReadyFor items c.in_ok-without_model.field-0 in
+    record { space = c.self.invariant.space; ready = rw c.in_ok-ready.ensures.ok (subst P same c.in_ok-without_model.ensures) }
