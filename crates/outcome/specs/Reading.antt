@@ -1,10 +1,22 @@
 -- Rows that were stored, or printed between tabs, read back. (docs/COMMAND.md, "A suite".)
-use Rattle.std.specs.Prelude.{◌≡◌, ◌≢◌, ℕ, ◌+◌, List, [], ◌∷◌, ◌++◌, length, take, get_or, fold, ◌==◌, Option, Some, None, slice_get, if◌then◌else◌, codes}
+use Rattle.std.specs.Prelude.{◌≡◌, ◌≢◌, ℕ, ◌+◌, List, [], ◌∷◌, ◌++◌, All, length, take, get_or, fold, ◌==◌, Option, Some, None, slice_get, if◌then◌else◌, codes}
 use Rattle.std.specs.List.{slice_split}
 use Rattle.std.specs.Str.{bytes_eq}
+use Rattle.suite.specs.declared.expected.Row.{Row}
 use Rattle.outcome.specs.Rows.{RowTexts}
 use Rattle.outcome.specs.declared.reading.RowsFault.{RowsFault}
 use Rattle.outcome.specs.declared.reading.RowsFault.TheVariants.{NoRow, NoMemory}
+
+-- no tab and no line feed
+abbrev pub IsField : List ℕ → Type 0
+IsField text = All (λ b. (b ≢ 9) × (b ≢ 10)) text
+
+-- so it is of each field of a row
+pub record IsWhole (r : Row) : Type 0 where
+  pub path : IsField r.path.items
+  pub model : IsField r.model.items
+  pub answer : IsField r.answer.items
+  pub states : IsField r.states.items
 
 -- the parts of a text between these bytes
 abbrev pub parts : ℕ → List ℕ → List (List ℕ)

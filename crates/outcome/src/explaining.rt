@@ -1,6 +1,6 @@
 //! Why a verdict is what it is: an execution that shows it, or what forbids the one that would.
 
-ghost use Rattle.std.specs.Prelude.{◌≡◌, ◌++◌, Option, None, Some, codes, IfOk};
+ghost use Rattle.std.specs.Prelude.{◌≡◌, [], ◌++◌, Option, None, Some, codes, IfOk};
 ghost use Rattle.drawing.specs.Dots.{Dot};
 ghost use Rattle.drawing.specs.Texts.{Text as drawing_text};
 ghost use Rattle.slices.specs.Questions.{IsAnswer};
@@ -48,6 +48,7 @@ pub(crate) fn asks_with(kind: Kind) -> bool
 }
 
 /// The heading of an execution that the model allows.
+#[tactic(auto, unfolding(crate::specs::Reasons::allowed_heading))]
 fn allowed_heading<'a>(has: bool) -> &'a [u8]
     ensures { result.now ≡ texts.allowed_heading has }
 {
@@ -59,6 +60,7 @@ fn allowed_heading<'a>(has: bool) -> &'a [u8]
 }
 
 /// The heading of one that it forbids.
+#[tactic(auto, unfolding(crate::specs::Reasons::forbidden_heading))]
 fn forbidden_heading<'a>(has: bool) -> &'a [u8]
     ensures { result.now ≡ texts.forbidden_heading has }
 {
@@ -70,6 +72,7 @@ fn forbidden_heading<'a>(has: bool) -> &'a [u8]
 }
 
 /// That no execution is as it is asked for.
+#[tactic(auto, unfolding(crate::specs::Reasons::lack))]
 fn lack<'a>(has: bool) -> &'a [u8]
     ensures { result.now ≡ texts.lack has }
 {
@@ -145,6 +148,16 @@ fn forbidden(
     }
 }
 
+/// That there is no execution to draw.
+fn nothing(alloc: Global, has: bool) -> Result<Answer, AllocError>
+    ensures { IfOk result (λ a. (a.text.items ≡ texts.lack has) × (a.dot.items ≡ [])) }
+{
+    Ok(Answer {
+        text: Vec::from_slice(alloc, lack(has))?,
+        dot: Vec::new(alloc),
+    })
+}
+
 /// Why no execution that the model allows is as it is asked for.
 fn lacking(alloc: Global, work: &Work, model: &[u8], has: bool) -> Result<Answer, AllocError>
     ensures { IfOk result (λ a. IsLacking work.now has model.now a.text.items a.dot.items) }
@@ -154,10 +167,7 @@ fn lacking(alloc: Global, work: &Work, model: &[u8], has: bool) -> Result<Answer
             let graph = &graph;
             forbidden(alloc, has, &Shown { work, graph, model })
         }
-        None => Ok(Answer {
-            text: Vec::from_slice(alloc, lack(has))?,
-            dot: Vec::new(alloc),
-        }),
+        None => nothing(alloc, has),
     }
 }
 

@@ -1,9 +1,13 @@
 //! Rows that were stored, read back.
 
-ghost use Rattle.std.specs.Prelude.{◌≡◌, map, fold, length, option_map, IfOk, IfErr, OnOk};
+ghost use Rattle.std.specs.Prelude.{◌≡◌, List, All, map, fold, length, option_map, IfOk, IfErr, MatchResult, OnOk};
+ghost use Rattle.std.specs.List.{flat_map};
+ghost use Rattle.suite.specs.Expected.{stored_text};
+ghost use Rattle.suite.specs.declared.expected.Row.{Row};
 ghost use Rattle.outcome.specs.Reading as texts;
-ghost use Rattle.outcome.specs.Reading.{AreRowsOf, IsNoRow, parts};
+ghost use Rattle.outcome.specs.Reading.{AreRowsOf, IsNoRow, IsWhole, parts};
 ghost use Rattle.outcome.specs.Rows.{texts_of};
+ghost use Rattle.outcome.specs.declared.reading.RowsFault.TheVariants.{NoMemory};
 
 use crate::rows::row_of;
 use std::alloc::{AllocError, AllocFailed, Global};
@@ -144,6 +148,8 @@ fn rows_of(alloc: Global, lines: &[&[u8]]) -> Result<Vec<Row>, RowsFault>
 pub fn rows_in(alloc: Global, text: &[u8]) -> Result<Vec<Row>, RowsFault>
     ensures rows { IfOk result (λ v. AreRowsOf (parts 10 text.now) (map texts_of v.items)) }
     ensures cause { IfErr result (IsNoRow (parts 10 text.now)) }
+    // What was stored is read back, unless memory runs out.
+    ensures stored { (stored : List Row) → All IsWhole stored → text.now ≡ flat_map stored_text stored → MatchResult result (λ v. map texts_of v.items ≡ map texts_of stored) (λ e. e ≡ NoMemory) }
 {
     let lines = parts_of(alloc, text, b'\n')?;
     rows_of(alloc, &lines)
