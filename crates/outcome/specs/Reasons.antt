@@ -131,3 +131,8 @@ pub record Explains (old_why old_dot : List ℕ) (c : Case) (v : VerdictValue) (
   pub explained : IsExplained v.work (asks_with v.finding.kind) c.model.now why dot
   pub text : new_why ≡ old_why ++ why
   pub file : new_dot ≡ old_dot ++ dot
+
+-- what is added for verdicts, one after another, each under its own case
+abbrev pub AreExplained : (old_why old_dot : List ℕ) → List (Case × VerdictValue) → (new_why new_dot : List ℕ) → Type 0
+AreExplained old_why old_dot [] new_why new_dot = (new_why ≡ old_why) × (new_dot ≡ old_dot)
+AreExplained old_why old_dot (p ∷ ps) new_why new_dot = (why : List ℕ) × (dot : List ℕ) × Explains old_why old_dot p.0 p.1 why dot × AreExplained why dot ps new_why new_dot

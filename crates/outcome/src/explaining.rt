@@ -1,20 +1,22 @@
 //! Why a verdict is what it is: an execution that shows it, or what forbids the one that would.
 
-ghost use Rattle.std.specs.Prelude.{◌≡◌, [], ◌++◌, Option, None, Some, codes, IfOk};
+ghost use Rattle.std.specs.Prelude.{◌≡◌, [], ◌++◌, Option, None, Some, codes, IfOk, OnOk};
+ghost use Rattle.std.specs.List.{zip};
 ghost use Rattle.drawing.specs.Dots.{Dot};
 ghost use Rattle.drawing.specs.Texts.{Text as drawing_text};
 ghost use Rattle.slices.specs.Questions.{IsAnswer};
 ghost use Rattle.witness.specs.Witnesses.{IsFirst, IsWitness};
 ghost use Rattle.witness.specs.declared.reasons.Reason.{Reason};
 ghost use Rattle.outcome.specs.Reasons as texts;
-ghost use Rattle.outcome.specs.Reasons.{IsAllowed, IsDrawn, IsExplained, IsForbidden, IsLacking, TellsReason};
+ghost use Rattle.outcome.specs.Reasons.{AreExplained, Explains, IsAllowed, IsDrawn, IsExplained, IsForbidden, IsLacking, TellsReason};
 
 use crate::evidence::{chain_of, words_of};
 use conditions::Kind;
 use drawing::{Broken, Drawing, dot, text};
 use events::Graph;
-use slices::Work;
+use slices::{Verdict, Work};
 use std::alloc::{AllocError, Global};
+use suite::Case;
 use witness::{Reason, closest, reason, witness};
 
 /// What answers the question why: text for a terminal, and a file for Graphviz.
@@ -38,7 +40,7 @@ pub(crate) struct Shown<'a> {
 }
 
 /// Whether an execution with the proposition is looked for: of `exists` and `~exists` one with it, of `forall` one without it.
-pub(crate) fn asks_with(kind: Kind) -> bool
+fn asks_with(kind: Kind) -> bool
     ensures { result ≡ texts.asks_with kind }
 {
     match kind {
@@ -48,7 +50,6 @@ pub(crate) fn asks_with(kind: Kind) -> bool
 }
 
 /// The heading of an execution that the model allows.
-#[tactic(auto, unfolding(crate::specs::Reasons::allowed_heading))]
 fn allowed_heading<'a>(has: bool) -> &'a [u8]
     ensures { result.now ≡ texts.allowed_heading has }
 {
@@ -60,7 +61,6 @@ fn allowed_heading<'a>(has: bool) -> &'a [u8]
 }
 
 /// The heading of one that it forbids.
-#[tactic(auto, unfolding(crate::specs::Reasons::forbidden_heading))]
 fn forbidden_heading<'a>(has: bool) -> &'a [u8]
     ensures { result.now ≡ texts.forbidden_heading has }
 {
@@ -72,7 +72,6 @@ fn forbidden_heading<'a>(has: bool) -> &'a [u8]
 }
 
 /// That no execution is as it is asked for.
-#[tactic(auto, unfolding(crate::specs::Reasons::lack))]
 fn lack<'a>(has: bool) -> &'a [u8]
     ensures { result.now ≡ texts.lack has }
 {
@@ -133,11 +132,7 @@ fn against(
 }
 
 /// An execution that the model forbids, with what speaks against it.
-fn forbidden(
-    alloc: Global,
-    has: bool,
-    execution: &Shown<'_>,
-) -> Result<Answer, AllocError>
+fn forbidden(alloc: Global, has: bool, execution: &Shown<'_>) -> Result<Answer, AllocError>
     requires { IsFirst execution.now.work.now.test (λ x. IsAnswer execution.now.work.now.test x has) execution.now.graph.now }
     ensures { IfOk result (λ a. IsForbidden execution.now.work.now has execution.now.model.now a.text.items a.dot.items) }
 {
@@ -181,12 +176,7 @@ fn allowed(alloc: Global, has: bool, execution: &Shown<'_>) -> Result<Answer, Al
 
 /// Why a verdict on a work is what it is: the first execution by number that the model allows and that has the proposition, or has it not; else the first
 /// that the model forbids, with the first check that it breaks.
-pub(crate) fn explanation(
-    alloc: Global,
-    work: &Work,
-    model: &[u8],
-    has: bool,
-) -> Result<Answer, AllocError>
+fn explanation(alloc: Global, work: &Work, model: &[u8], has: bool) -> Result<Answer, AllocError>
     ensures { IfOk result (λ a. IsExplained work.now has model.now a.text.items a.dot.items) }
 {
     match witness(alloc, work, has)? {
@@ -196,4 +186,37 @@ pub(crate) fn explanation(
         }
         None => lacking(alloc, work, model, has),
     }
+}
+
+/// Adds why a verdict is what it is, under its own case.
+fn push_reason(
+    why: &mut Vec<u8>,
+    dot: &mut Vec<u8>,
+    alloc: Global,
+    case: &Case<'_>,
+    verdict: &Verdict,
+) -> Result<(), AllocError>
+    ensures { OnOk result (Explains why.old.items dot.old.items case.now verdict.now why.new.items dot.new.items) }
+{
+    let has = asks_with(verdict.finding().kind());
+    let mut answer = explanation(alloc, verdict.work().work(), case.model.as_bytes(), has)?;
+    why.append(&mut answer.text)?;
+    dot.append(&mut answer.dot)?;
+    Ok(())
+}
+
+/// Adds why each verdict is what it is.
+pub(crate) fn push_reasons(
+    why: &mut Vec<u8>,
+    dot: &mut Vec<u8>,
+    alloc: Global,
+    cases: &[Case<'_>],
+    verdicts: &[Verdict],
+) -> Result<(), AllocError>
+    ensures { OnOk result (AreExplained why.old.items dot.old.items (zip cases.now verdicts.now) why.new.items dot.new.items) }
+{
+    for (case, verdict) in cases.iter().zip(verdicts) {
+        push_reason(why, dot, alloc, case, verdict)?;
+    }
+    Ok(())
 }

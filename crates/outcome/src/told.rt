@@ -1,18 +1,19 @@
 //! What is told of one test.
 
 ghost use Rattle.std.specs.Prelude.{◌≡◌, ◌++◌, [], map, length, false, IfOk, OnOk, string_bytes};
+ghost use Rattle.std.specs.List.{zip};
 ghost use Rattle.outcome.specs.Forms.{differ, lines_text};
-ghost use Rattle.outcome.specs.Reasons.{Explains};
+ghost use Rattle.outcome.specs.Reasons.{AreExplained};
 ghost use Rattle.outcome.specs.Refusals as refusals;
 ghost use Rattle.outcome.specs.Rows.{texts_of, verdict_rows, if_kept};
 
-use crate::explaining::{asks_with, explanation};
+use crate::explaining::push_reasons;
 use crate::form::{Tested, Wanted};
 use crate::refusal::{label_of, message_of, push_refusals, push_refused};
 use crate::verdicts::{cells_for, push_lines, push_rows};
 use slices::Verdict;
 use std::alloc::{AllocError, Global};
-use suite::{Case, Row, TestTrouble, are_alike};
+use suite::{Row, TestTrouble, are_alike};
 
 /// What is told of one test.
 pub struct Told {
@@ -86,22 +87,21 @@ impl Told {
         Ok(())
     }
 
-    /// Adds why a verdict is what it is, under its own case. Which names the arrows of the evidence have is left open: `witness::labels` gives them, and those
-    /// that tell nothing more are left out.
+    /// Adds why each verdict is what it is, under its own case. Which names the arrows of the evidence have is left open: `witness::labels` gives them, and
+    /// those that tell nothing more are left out.
     pub fn explain(
         &mut self,
         alloc: Global,
-        case: &Case<'_>,
-        verdict: &Verdict,
+        test: &Tested<'_>,
+        verdicts: &[Verdict],
     ) -> Result<(), AllocError>
-        ensures why { OnOk result (Explains self.old.why.items self.old.dot.items case.now verdict.now self.new.why.items self.new.dot.items) }
-        ensures rest { (self.new.lines ≡ self.old.lines) × (self.new.rows ≡ self.old.rows) × (self.new.message ≡ self.old.message) × (self.new.differs ≡ self.old.differs) }
+        ensures why { OnOk result (AreExplained self.old.why.items self.old.dot.items (zip test.now.cases.now verdicts.now) self.new.why.items self.new.dot.items) }
+        ensures lines { self.new.lines ≡ self.old.lines }
+        ensures rows { self.new.rows ≡ self.old.rows }
+        ensures message { self.new.message ≡ self.old.message }
+        ensures differs { self.new.differs ≡ self.old.differs }
     {
-        let has = asks_with(verdict.finding().kind());
-        let mut answer = explanation(alloc, verdict.work().work(), case.model.as_bytes(), has)?;
-        self.why.append(&mut answer.text)?;
-        self.dot.append(&mut answer.dot)?;
-        Ok(())
+        push_reasons(&mut self.why, &mut self.dot, alloc, test.cases, verdicts)
     }
 
     /// Adds what is told of a test that is refused, under each of its cases.
@@ -119,7 +119,14 @@ impl Told {
     {
         let label = label_of(trouble);
         self.message = message_of(alloc, test.path, test.text, trouble)?;
-        push_refusals(&mut self.lines, alloc, wanted.form, test.milliseconds, label, test.cases)?;
+        push_refusals(
+            &mut self.lines,
+            alloc,
+            wanted.form,
+            test.milliseconds,
+            label,
+            test.cases,
+        )?;
         if wanted.keeps_rows {
             return push_refused(&mut self.rows, alloc, label, test.cases);
         }

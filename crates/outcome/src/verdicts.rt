@@ -10,9 +10,7 @@ use crate::rows::row_with;
 use itoa::Buffer;
 use slices::Verdict;
 use std::alloc::{AllocError, Global};
-use suite::{
-    Case, Row, answer_of, cell_of, line_of, object_of, row_of, summary_of, table_row_of,
-};
+use suite::{Case, Row, answer_of, cell_of, line_of, object_of, row_of, summary_of, table_row_of};
 
 /// The cells of a test's row, a verdict each.
 pub(crate) fn cells_for(alloc: Global, verdicts: &[Verdict]) -> Result<Vec<Vec<u8>>, AllocError>
@@ -80,7 +78,13 @@ fn table_of(
     ensures { (vs : List VerdictValue) → map (λ c. c.items) cells.now ≡ cells_of vs → IfOk result (λ v. v.items ≡ table_text wanted.now.form wanted.now test.now vs) }
 {
     match wanted.form {
-        Form::Table => table_row_of(alloc, wanted.width, test.path.as_bytes(), wanted.models, cells),
+        Form::Table => table_row_of(
+            alloc,
+            wanted.width,
+            test.path.as_bytes(),
+            wanted.models,
+            cells,
+        ),
         _ => Ok(Vec::new(alloc)),
     }
 }
@@ -98,7 +102,14 @@ pub(crate) fn push_lines(
     ensures { OnOk result (text.new.items ≡ text.old.items ++ lines_text wanted.now test.now verdicts.now) }
 {
     text.append(&mut table_of(alloc, wanted, test, cells)?)?;
-    push_verdicts(text, alloc, wanted.form, test.milliseconds, test.cases, verdicts)
+    push_verdicts(
+        text,
+        alloc,
+        wanted.form,
+        test.milliseconds,
+        test.cases,
+        verdicts,
+    )
 }
 
 /// What is compared or stored of a verdict.
