@@ -2,7 +2,7 @@
 use Rattle.std.specs.Prelude.{ℕ, ◌+◌, ◌%◌, List, [], ◌∷◌, ◌++◌, length, ◌==◌, if◌then◌else◌, codes, decimal}
 use Rattle.outcome.specs.declared.counts.Counts.{Counts}
 use Rattle.outcome.specs.declared.form.Form.{Form}
-use Rattle.outcome.specs.declared.form.Form.TheVariants.{Summary, Line, Table, Tabs, Json}
+use Rattle.outcome.specs.declared.form.Form.TheVariants.{Table}
 
 -- a comma before three, six, .. digits
 abbrev pub comma_before : List ℕ → List ℕ

@@ -1,6 +1,6 @@
 -- Why a verdict is what it is. (docs/WHY.md.)
 use Rattle.std.specs.Prelude.{◌≡◌, ◌⊎◌, ℕ, List, [], ◌∷◌, ◌++◌, map, Bool, true, false, Option, None, Some, option_map, if◌then◌else◌, codes}
-use Rattle.cat_tree.specs.Tree.{Word, Clause}
+use Rattle.cat_tree.specs.Tree.{Word}
 use Rattle.cat_tree.specs.declared.tree.CheckKind.{CheckKind}
 use Rattle.cat_tree.specs.declared.tree.CheckKind.TheVariants.{Acyclic, Irreflexive, Empty}
 use Rattle.conditions.specs.declared.condition.Kind.{Kind}
@@ -11,7 +11,6 @@ use Rattle.drawing.specs.declared.drawing.Broken.{Broken}
 use Rattle.drawing.specs.declared.drawing.Chain.{Chain}
 use Rattle.drawing.specs.declared.drawing.Drawing.{Drawing}
 use Rattle.events.specs.Executions.{GraphValue}
-use Rattle.litmus_tree.specs.Tree.{Litmus}
 use Rattle.slices.specs.Questions.{IsAnswer}
 use Rattle.slices.specs.VerdictValues.{VerdictValue}
 use Rattle.slices.specs.Works.{WorkValue}
