@@ -1,4 +1,6 @@
 //! What is printed of suites, and the models that are shipped.
 
+mod named;
+mod outcomes;
 mod shipped;
 mod told;

@@ -1,26 +1,18 @@
 //! Judges litmus tests under cat models.
 #![tactic(auto)]
 
-mod compared;
 mod deadline;
-mod files;
-mod messages;
 mod meter;
-mod models;
-mod outcome;
-mod rows;
 mod run;
 mod session;
-mod trouble;
-mod why;
 mod words;
 
 use clap::error::ErrorKind;
+use inputs::Trouble;
 use session::{Reach, run_all};
 use std::io::IsTerminal;
 use std::process::ExitCode;
 use std::{env, io};
-use trouble::Trouble;
 use words::{read_words, words_of};
 
 /// Ends with 0; with 1 where a file, memory or a write fails; with 2 where something is refused, or the words are bad; with 3 where something is not
@@ -57,14 +49,15 @@ fn run_words<R: Reach>(rt: &R, words: &[String], shows: bool) -> ExitCode {
 
 /// The status, once it is told why the program ends early, if it does.
 fn end(rt: &impl Eprint, ended: Result<u8, Trouble>) -> ExitCode {
-    let told = match &ended {
-        Ok(status) | Err(Trouble::Told(status)) => return ExitCode::from(*status),
+    match ended {
+        Ok(status) | Err(Trouble::Told(status)) => ExitCode::from(status),
         // Whoever reads the output has had enough.
         Err(Trouble::Write(error)) if error.kind() == io::ErrorKind::BrokenPipe =>
-            return ExitCode::SUCCESS,
-        Err(Trouble::Write(error)) => eprintln!(rt; "yofetsug: standard output: {error}"),
-        Err(Trouble::NoMemory) => eprintln!(rt; "yofetsug: memory ran out"),
-    };
-    let _ = told;
-    ExitCode::FAILURE
+            ExitCode::SUCCESS,
+        Err(trouble) => {
+            // Where standard error fails, too, nobody can be told.
+            let _ = eprintln!(rt; "yofetsug: {trouble}");
+            ExitCode::FAILURE
+        }
+    }
 }

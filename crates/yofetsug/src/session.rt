@@ -1,19 +1,17 @@
 //! A run of the program: models, tests, comparison, and the last line.
 
-use crate::compared::{compare, read_rows, see_writable, store, write_file};
 use crate::deadline::Deadline;
-use crate::files::Paths;
 use crate::meter::Meter;
-use crate::models::Models;
 use crate::run::{Fate, Plan, Test};
-use crate::trouble::Trouble;
-use crate::words::{Form, Words};
+use crate::words::Words;
+use inputs::{Models, Paths, Trouble, read_rows, see_writable, store_rows, write_file};
+use outcome::{Counts, Form, Wanted};
 use std::alloc::AllocError;
 use std::rt::Files;
 use std::thread;
 use std::thread::Threads;
 use std::time::Clock;
-use suite::{Row, head_of};
+use suite::{Row, differences, head_of};
 
 /// How many tests each thread is given at once.
 const BATCH: usize = 16;
@@ -50,13 +48,9 @@ impl Drop for Given {
     }
 }
 
-/// What the run has come to: how many tests were judged, refused and not read, and how many the models tell apart; what is compared or
-/// stored, and what is drawn.
+/// What the run has come to: how many tests were judged, and how; what is compared or stored, and what is drawn.
 struct Progress {
-    judged: usize,
-    refused: usize,
-    unread: usize,
-    differing: usize,
+    counts: Counts,
     rows: Vec<Row>,
     dot: Vec<u8>,
     meter: Meter,
@@ -65,10 +59,7 @@ struct Progress {
 impl Drop for Progress {
     fn drop(self) {
         let Progress {
-            judged: _,
-            refused: _,
-            unread: _,
-            differing: _,
+            counts: _,
             rows: _,
             dot: _,
             meter: _,
@@ -100,18 +91,27 @@ fn judge_all<R: Reach>(rt: &R, words: &Words<'_>, shows: bool) -> Result<u8, Tro
     };
     given.read(rt, words)?;
     let mut progress = Progress {
-        judged: 0,
-        refused: 0,
-        unread: 0,
-        differing: 0,
+        counts: Counts {
+            judged: 0,
+            refused: 0,
+            unread: 0,
+            differing: 0,
+        },
         rows: Vec::new(alloc),
         dot: Vec::new(alloc),
-        meter: Meter::new(rt, given.paths.tests.len(), shows),
+        meter: Meter::new(rt, given.paths.tests.paths().len(), shows),
+    };
+    let wanted = Wanted {
+        form: words.form,
+        width: given.paths.tests.width(),
+        models: given.models.names(),
+        keeps_rows: words.expected.is_some() || words.write_expected.is_some(),
     };
     let plan = Plan {
-        words,
         models: &given.models,
-        width: given.paths.width,
+        wanted,
+        why: words.why,
+        draws: words.dot.is_some(),
         threads: threads_of(rt, words),
         limit: match words.timeout {
             Some(seconds) => u64::from(seconds).saturating_mul(1_000),
@@ -158,7 +158,7 @@ impl Progress {
     fn judge<R: Reach>(&mut self, rt: &R, paths: &Paths, plan: &Plan<'_>) -> Result<(), Trouble> {
         self.begin(rt, &paths.unread, plan)?;
         let size = usize::from(plan.threads).saturating_mul(BATCH).max(1);
-        for batch in paths.tests.chunks(size) {
+        for batch in paths.tests.paths().chunks(size) {
             self.judge_batch(rt, batch, plan)?;
             self.meter.tick(rt)?;
         }
@@ -173,14 +173,15 @@ impl Progress {
         unread: &[String],
         plan: &Plan<'_>,
     ) -> Result<(), Trouble> {
-        if matches!(&plan.words.form, Form::Table) {
-            rt.write_all(&head_of(rt.alloc(), plan.width, &plan.models.names)?)?;
+        let wanted = &plan.wanted;
+        if matches!(wanted.form, Form::Table) {
+            rt.write_all(&head_of(rt.alloc(), wanted.width, wanted.models)?)?;
         }
         for message in unread {
             rt.eprint(message.as_str())?;
         }
-        self.unread = unread.len();
-        self.meter.done = self.unread;
+        self.counts.unread = unread.len() as u64;
+        self.meter.done = unread.len();
         Ok(())
     }
 
@@ -204,7 +205,7 @@ impl Progress {
             if matches!(&test.fate, Fate::Waiting) {
                 self.judge_wholly(rt, test, plan)?;
             }
-            self.show(rt, test, plan.words.why)?;
+            self.show(rt, test, plan.why)?;
         }
         Ok(())
     }
@@ -230,21 +231,23 @@ impl Progress {
         why: bool,
     ) -> Result<(), Trouble> {
         self.meter.clear(rt)?;
+        let counts = &mut self.counts;
         match &test.fate {
-            Fate::Judged => self.judged = self.judged.saturating_add(1),
-            Fate::Refused => self.refused = self.refused.saturating_add(1),
-            Fate::Unread => self.unread = self.unread.saturating_add(1),
+            Fate::Judged => counts.judged = counts.judged.saturating_add(1),
+            Fate::Refused => counts.refused = counts.refused.saturating_add(1),
+            Fate::Unread => counts.unread = counts.unread.saturating_add(1),
             Fate::Waiting | Fate::Lost => return Err(Trouble::NoMemory),
         }
-        self.differing = self.differing.saturating_add(usize::from(test.differs));
+        let told = &mut test.told;
+        counts.differing = counts.differing.saturating_add(u64::from(told.differs));
         self.meter.done = self.meter.done.saturating_add(1);
-        self.rows.append(&mut test.rows)?;
-        self.dot.append(&mut test.answer.dot)?;
-        rt.write_all(&test.lines)?;
+        self.rows.append(&mut told.rows)?;
+        self.dot.append(&mut told.dot)?;
+        rt.write_all(&told.lines)?;
         if why {
-            rt.write_all(&test.answer.text)?;
+            rt.write_all(&told.why)?;
         }
-        rt.eprint(test.message.as_str())?;
+        rt.eprint(told.message.as_str())?;
         Ok(())
     }
 
@@ -259,15 +262,15 @@ impl Progress {
             write_file(rt, path, &self.dot)?;
         }
         if let Some(path) = words.write_expected {
-            store(rt, path, &self.rows)?;
+            store_rows(rt, path, &self.rows)?;
         }
         let differ = words.expected.is_some() && compare(rt, expected, &self.rows)?;
-        self.print_counts(rt, &words.form)?;
+        self.print_counts(rt, words.form)?;
         Ok(if differ {
             3
-        } else if self.unread > 0 {
+        } else if self.counts.unread > 0 {
             1
-        } else if self.refused > 0 {
+        } else if self.counts.refused > 0 {
             2
         } else {
             0
@@ -278,30 +281,26 @@ impl Progress {
     fn print_counts<R: Print + Eprint + AllocGlobal>(
         &self,
         rt: &R,
-        form: &Form,
+        form: Form,
     ) -> Result<(), Trouble> {
-        let mut line = String::new(rt.alloc());
-        let all = self.meter.done;
-        let tests = if all == 1 { " test: " } else { " tests: " };
-        for (before, number) in [
-            ("", all),
-            (tests, self.judged),
-            (" judged, ", self.refused),
-            (" refused, ", self.unread),
-        ] {
-            push_grouped(&mut line, before, number)?;
-        }
-        line.push_str(" not read")?;
+        let line = self.counts.line(rt.alloc(), form)?;
         match form {
-            Form::Tabs | Form::Json => return Ok(rt.eprintln(line.as_str())?),
-            Form::Summary | Form::Line => {}
-            Form::Table => {
-                push_grouped(&mut line, "; the models differ in ", self.differing)?;
-                line.push_str(" (*)")?;
-            }
+            Form::Tabs | Form::Json => rt.eprint(std::str::from_utf8(&line).unwrap_or(""))?,
+            Form::Summary | Form::Line | Form::Table => rt.write_all(&line)?,
         }
-        Ok(rt.println(line.as_str())?)
+        Ok(())
     }
+}
+
+/// Prints how the rows differ from those that are expected, and answers whether they do.
+fn compare<R: Print + AllocGlobal>(
+    rt: &R,
+    expected: &[Row],
+    found: &[Row],
+) -> Result<bool, Trouble> {
+    let told = differences(rt.alloc(), expected, found)?;
+    rt.write_all(&told)?;
+    Ok(!told.is_empty())
 }
 
 /// Reads the tests of these paths, one after another.
@@ -314,17 +313,4 @@ fn read_tests<'a, R: Files + Input + AllocGlobal>(
         tests.push(Test::read(rt, path.as_str())?)?;
     }
     Ok(tests)
-}
-
-/// Adds what stands before a number, and the number with a comma before each group of three digits.
-fn push_grouped(text: &mut String, before: &str, number: usize) -> Result<(), AllocError> {
-    text.push_str(before)?;
-    let digits = format!(in *text.allocator(); "{number}")?;
-    for (place, digit) in digits.as_str().chars().enumerate() {
-        if place > 0 && (digits.len().saturating_sub(place)) % 3 == 0 {
-            text.push(',')?;
-        }
-        text.push(digit)?;
-    }
-    Ok(())
 }

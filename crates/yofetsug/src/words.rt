@@ -1,25 +1,11 @@
 //! The words of the command line.
 
 use clap::{Arg, ArgAction, ArgMatches, Command, Error, value_parser};
+use outcome::Form;
 use std::alloc::{AllocError, Global};
 
 /// The models where none is named.
 const MODELS: [&str; 1] = ["rc11.cat"];
-
-/// What is printed of each test.
-#[derive(Drop)]
-pub enum Form {
-    /// The summary.
-    Summary,
-    /// One line.
-    Line,
-    /// A row of a table, with a column for each model.
-    Table,
-    /// Fields between tabs.
-    Tabs,
-    /// An object of JSON.
-    Json,
-}
 
 /// What the words ask for.
 #[derive(Drop)]

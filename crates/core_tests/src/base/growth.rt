@@ -44,13 +44,18 @@ fn texts(rt: HostRuntime) {
     assert!(rt; begins_empty(alloc), "a sink");
 }
 
-/// Has the copy of a run of two events two?
+/// Has the copy of a run of two events two, and does it become a run of one?
 fn is_made_and_copied(alloc: Global) -> Result<bool, AllocError> {
-    let text = "run | W 0 1 rlx | R 0 1 acq";
+    let text = "run | W 0 1 rlx | R 0 1 acq\nrun | W 0 1 rlx";
     let execution = again!(_, graph(alloc, text, Order::Rlx))?;
-    match execution.runs().first() {
-        Some(run) => Ok(again!(_, run.copy())?.events().len() == 2),
-        None => Ok(false),
+    match execution.runs() {
+        [first, second] => {
+            let mut copy = again!(_, first.copy())?;
+            let has_two = copy.events().len() == 2;
+            again!(_, copy.become_copy(second))?;
+            Ok(has_two && copy.is_same(second))
+        }
+        _ => Ok(false),
     }
 }
 

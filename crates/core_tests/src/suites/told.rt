@@ -14,7 +14,7 @@ use suite::{
 };
 use wb_text::Name;
 
-const SB: &[u8] =
+pub const SB: &[u8] =
     b"C SB\n{}\nP0 (atomic_int* x, atomic_int* y) {\n  atomic_store_explicit(x, 1, memory_order_relaxed);\n  int r0 = atomic_load_explicit(y, memory_order_relaxed);\n}\nP1 (atomic_int* x, atomic_int* y) {\n  atomic_store_explicit(y, 1, memory_order_relaxed);\n  int r0 = atomic_load_explicit(x, memory_order_relaxed);\n}\nexists (0:r0=0 /\\ 1:r0=0)\n";
 
 /// Sequential consistency, with an include.
@@ -22,7 +22,7 @@ const SC: &[u8] = b"include \"base.cat\" acyclic po | com as sc";
 
 const BASE: &[u8] = b"let com = rf | co | fr";
 
-const CASE: Case = Case {
+pub const CASE: Case = Case {
     path: "SB.litmus",
     model: "sc.cat",
     digests: "sc.cat=0123456789abcdef",
@@ -49,7 +49,7 @@ fn texts<'a>(root: &'a Name, base: &'a Name) -> [CatText<'a>; 2] {
 }
 
 /// The model of `SC` under the name `m.cat`.
-fn model(alloc: Global) -> Result<Model, AllocError> {
+pub fn model(alloc: Global) -> Result<Model, AllocError> {
     let root = name(alloc, b"m.cat")?;
     let base = name(alloc, b"base.cat")?;
     let both = texts(&root, &base);

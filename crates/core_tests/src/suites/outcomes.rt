@@ -1,0 +1,188 @@
+//! What is told of a test in each form, rows that are read back, and the last line of a run.
+//!
+//! The expected texts are written by hand, after docs/COMMAND.md.
+
+use crate::suites::told::{CASE, SB, model};
+use outcome::{Counts, Form, RowsFault, Tested, Told, Wanted, rows_in};
+use std::alloc::{AllocError, Global};
+use std::thread::Threads;
+use suite::{Endless, Row, TestTrouble, judge_text};
+
+/// Forms, and the bytes of a verdict in them.
+const FORMS: [(Form, &str); 3] = [
+    (Form::Line, "SB.litmus SB No Never 0 3\n"),
+    (Form::Table, "  SB.litmus   Never\n"),
+    (
+        Form::Tabs,
+        "SB.litmus\tsc.cat\tSB\tAllowed\tNo\tNever\t0\t3\t3\t\t7\tsc.cat=0123456789abcdef\n",
+    ),
+];
+
+/// Forms, and the bytes of a refusal in them.
+const REFUSED: [(Form, &str); 3] = [
+    (Form::Summary, ""),
+    (
+        Form::Tabs,
+        "SB.litmus\tsc.cat\t\t\trefused\tLate\t\t\t\t\t7\tsc.cat=0123456789abcdef\n",
+    ),
+    (
+        Form::Json,
+        "{\"digests\":\"sc.cat=0123456789abcdef\",\"file\":\"SB.litmus\",\"milliseconds\":7,\"model\":\"sc.cat\",\"refused\":\"Late\"}\n",
+    ),
+];
+
+/// The test under one model.
+const TEST: Tested = Tested {
+    path: "SB.litmus",
+    text: SB,
+    cases: &[CASE],
+    milliseconds: 7,
+};
+
+/// Rows as they are stored, or as they are printed between tabs, and as they are stored once they were read.
+const ROWS: [(&str, &str); 4] = [
+    ("a\tm\tNever 0 3\t3\n\nb\tm\trefused 13 BadOrder\t\n", "a\tm\tNever 0 3\t3\nb\tm\trefused 13 BadOrder\t\n"),
+    (
+        "a\tm\tSB\tAllowed\tOk\tSometimes\t1\t3\t4\tdata-race,other\t7\td\n",
+        "a\tm\tSometimes 1 3 data-race other\t4\n",
+    ),
+    (
+        "a\tm\t\t\trefused\t13 BadOrder\t\t\t\t\t7\td",
+        "a\tm\trefused 13 BadOrder\t\n",
+    ),
+    ("", ""),
+];
+
+/// Texts with a line that is no row, and its number.
+const NO_ROWS: [(&str, usize); 2] = [("a\tb\tc\td\n\nabc\n", 3), ("a\tb\tc\n", 1)];
+
+/// How many tests were judged, refused and not read, how many differ, and the last line.
+const COUNTS: [(Form, [u64; 4], &str); 3] = [
+    (
+        Form::Line,
+        [981, 18, 1, 0],
+        "1,000 tests: 981 judged, 18 refused, 1 not read\n",
+    ),
+    (
+        Form::Json,
+        [1, 0, 0, 1],
+        "1 test: 1 judged, 0 refused, 0 not read\n",
+    ),
+    (
+        Form::Table,
+        [1_234_567, 0, 999, 1_000],
+        "1,235,566 tests: 1,234,567 judged, 0 refused, 999 not read; the models differ in 1,000 (*)\n",
+    ),
+];
+
+/// The lines of the verdict on SB in a form.
+fn lines<R: Threads + Sync>(rt: &R, alloc: Global, form: Form) -> Result<Vec<u8>, AllocError> {
+    let mut models = Vec::new(alloc);
+    models.push(model(alloc)?)?;
+    let mut names = Vec::new(alloc);
+    names.push(Vec::from_slice(alloc, b"sc.cat")?)?;
+    let wanted = Wanted {
+        form,
+        width: 10,
+        models: &names,
+        keeps_rows: true,
+    };
+    match judge_text(rt, alloc, SB, &models, 1, &mut Endless) {
+        Ok(verdicts) => {
+            let mut told = Told::new(alloc);
+            told.tell(alloc, &wanted, &TEST, &verdicts)?;
+            Vec::from_slice(alloc, &told.lines)
+        }
+        Err(_trouble) => Err(AllocError),
+    }
+}
+
+#[test]
+fn verdict_in_each_form(rt: HostRuntime) {
+    let alloc = rt.alloc();
+    for (form, text) in &FORMS {
+        match lines(&rt, alloc, *form) {
+            Ok(found) => assert!(rt; found.as_slice() == text.as_bytes(), "{text}"),
+            Err(_) => assert!(rt; false, "no memory"),
+        }
+    }
+}
+
+/// The lines of a refusal in a form.
+fn refusal(alloc: Global, form: Form) -> Result<Vec<u8>, AllocError> {
+    let wanted = Wanted {
+        form,
+        width: 10,
+        models: &[],
+        keeps_rows: true,
+    };
+    let mut told = Told::new(alloc);
+    told.refuse(alloc, &wanted, &TEST, &TestTrouble::Late)?;
+    Vec::from_slice(alloc, &told.lines)
+}
+
+#[test]
+fn refusal_in_each_form(rt: HostRuntime) {
+    for (form, text) in &REFUSED {
+        match refusal(rt.alloc(), *form) {
+            Ok(found) => assert!(rt; found.as_slice() == text.as_bytes(), "{text}"),
+            Err(_) => assert!(rt; false, "no memory"),
+        }
+    }
+}
+
+/// The rows of a text, stored again.
+fn stored(alloc: Global, rows: &[Row]) -> Result<Vec<u8>, AllocError> {
+    let mut text = Vec::new(alloc);
+    for row in rows {
+        text.append(&mut row.stored(alloc)?)?;
+    }
+    Ok(text)
+}
+
+/// Whether the rows of a text are these.
+fn are_read(alloc: Global, text: &str, expected: &str) -> bool {
+    match rows_in(alloc, text.as_bytes()) {
+        Ok(rows) => match stored(alloc, &rows) {
+            Ok(found) => found.as_slice() == expected.as_bytes(),
+            Err(_) => false,
+        },
+        Err(_fault) => false,
+    }
+}
+
+#[test]
+fn rows_read_back(rt: HostRuntime) {
+    for (text, expected) in &ROWS {
+        assert!(rt; are_read(rt.alloc(), text, expected), "{expected}");
+    }
+    for (text, number) in &NO_ROWS {
+        let told = match rows_in(rt.alloc(), text.as_bytes()) {
+            Err(RowsFault::NoRow(line)) => line == *number,
+            _ => false,
+        };
+        assert!(rt; told, "{text}");
+    }
+}
+
+/// The last line of a run.
+fn last_line(alloc: Global, form: Form, counts: &[u64; 4]) -> Result<Vec<u8>, AllocError> {
+    let [judged, refused, unread, differing] = *counts;
+    let counts = Counts {
+        judged,
+        refused,
+        unread,
+        differing,
+    };
+    counts.line(alloc, form)
+}
+
+#[test]
+fn last_lines(rt: HostRuntime) {
+    for (form, counts, text) in &COUNTS {
+        match last_line(rt.alloc(), *form, counts) {
+            Ok(found) => assert!(rt; found.as_slice() == text.as_bytes(), "{text}"),
+            Err(_) => assert!(rt; false, "no memory"),
+        }
+    }
+}

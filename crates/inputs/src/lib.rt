@@ -1,0 +1,17 @@
+//! The tests and the models that words name: files, folders, lists, and what models include; and what is stored of a run.
+#![tactic(auto)]
+
+mod models;
+mod paths;
+mod sources;
+mod stored;
+mod tests;
+mod text;
+mod trouble;
+
+pub use models::Models;
+pub use paths::Paths;
+pub use stored::{read_rows, see_writable, store_rows, write_file};
+pub use tests::Tests;
+pub use text::{read_front, text_of};
+pub use trouble::Trouble;

@@ -1,0 +1,61 @@
+//! What is stored of a run in files, and read back.
+
+use crate::trouble::{Trouble, unreadable};
+use outcome::{RowsFault, rows_in};
+use std::fs;
+use std::fs::OpenOptions;
+use std::rt::Files;
+use suite::Row;
+
+/// The rows of a file, a line each. Empty lines are none.
+pub fn read_rows<R: Files + Eprint + AllocGlobal>(rt: &R, path: &str) -> Result<Vec<Row>, Trouble> {
+    let text = match fs::read(rt, path) {
+        Ok(text) => text,
+        Err(error) => return Err(unreadable(rt, path, &error)),
+    };
+    match rows_in(rt.alloc(), &text) {
+        Ok(rows) => Ok(rows),
+        Err(RowsFault::NoRow(number)) => Err(no_row(rt, path, number)),
+        Err(RowsFault::NoMemory) => Err(Trouble::NoMemory),
+    }
+}
+
+/// Tells on standard error that a line of a file is no row.
+fn no_row<R: Eprint>(rt: &R, path: &str, number: usize) -> Trouble {
+    match eprintln!(rt;
+        "{path}:{number}: no line of --write-expected or --tsv, whose fields stand between tabs"
+    ) {
+        Ok(()) => Trouble::Told(1),
+        Err(error) => Trouble::Write(error),
+    }
+}
+
+/// Stores rows in a file.
+pub fn store_rows<R: Files + Eprint + AllocGlobal>(
+    rt: &R,
+    path: &str,
+    rows: &[Row],
+) -> Result<(), Trouble> {
+    let alloc = rt.alloc();
+    let mut text = Vec::new(alloc);
+    for row in rows {
+        text.append(&mut row.stored(alloc)?)?;
+    }
+    write_file(rt, path, &text)
+}
+
+/// Writes bytes to a file.
+pub fn write_file<R: Files + Eprint>(rt: &R, path: &str, bytes: &[u8]) -> Result<(), Trouble> {
+    match fs::write(rt, path, bytes) {
+        Ok(()) => Ok(()),
+        Err(error) => Err(unreadable(rt, path, &error)),
+    }
+}
+
+/// Sees that a file can be written, before hours go into what is to be written there. It makes one that is empty where there is none.
+pub fn see_writable<R: Files + Eprint>(rt: &R, path: &str) -> Result<(), Trouble> {
+    match OpenOptions::new().append(true).create(true).open(rt, path) {
+        Ok(_) => Ok(()),
+        Err(error) => Err(unreadable(rt, path, &error)),
+    }
+}

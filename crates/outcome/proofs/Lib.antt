@@ -1,0 +1,4 @@
+pub mod Explained
+pub mod ReadBack
+pub mod Stored
+pub mod Zipped

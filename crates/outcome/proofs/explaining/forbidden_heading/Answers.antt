@@ -1,0 +1,11 @@
+use Rattle.std.proofs.Common.{refl}
+use Rattle.outcome.specs.Reasons.{forbidden_heading}
+use Rattle.outcome.proofs.explaining.forbidden_heading.Goals as goal
+
+pub returns-then-has : goal.returns-then-has
+unfolding forbidden_heading
+returns-then-has c = rw c.if-has.true refl
+
+pub returns-else-has : goal.returns-else-has
+unfolding forbidden_heading
+returns-else-has c = rw c.if-has.false refl

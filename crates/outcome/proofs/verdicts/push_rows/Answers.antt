@@ -1,0 +1,6 @@
+use Rattle.std.proofs.lemmas.Slice.Zip.{either_empty_from_Zip}
+use Rattle.outcome.proofs.Zipped.{no_rows, at_end}
+use Rattle.outcome.proofs.verdicts.push_rows.Goals as goal
+
+pub returns : goal.returns
+returns c = at_end _ _ _ c.loop-case.invariant (no_rows _ _ (either_empty_from_Zip c.loop-case.case-iterator c.next.new.self _ c.in-None.is c.next.ensures.steps))
