@@ -124,9 +124,7 @@ impl<'a> Test<'a> {
                 self.fate = Fate::Judged;
                 self.told.tell(alloc, &plan.wanted, &test, verdicts)?;
                 if plan.why || plan.draws {
-                    for (case, verdict) in cases.iter().zip(verdicts) {
-                        self.told.explain(alloc, case, verdict)?;
-                    }
+                    self.told.explain(alloc, &test, verdicts)?;
                 }
                 Ok(())
             }
