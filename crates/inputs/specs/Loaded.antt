@@ -1,5 +1,5 @@
 -- The models of a run, each with the texts that it is made of.
-use Rattle.std.specs.Prelude.{ℕ, ◌≡◌, ◌<◌, ◌++◌, List, [], ◌∷◌, length, get_or}
+use Rattle.std.specs.Prelude.{ℕ, ◌≡◌, ◌++◌, List, [], ◌∷◌}
 use Rattle.std.specs.Str.{IsUtf8}
 use Rattle.cat_tree.specs.Tree.{Word}
 use Rattle.cat_model.specs.Models.{Assembly}
@@ -38,8 +38,3 @@ pub record IsCase (path name told : List ℕ) (c : Case) : Type 0 where
   pub path_is : c.path.now ≡ path
   pub model_is : IsUtf8 name → c.model.now ≡ name
   pub digests_is : IsUtf8 told → c.digests.now ≡ told
-
--- a test under each of the models, in their order
-pub record AreCases (path : List ℕ) (labels : Labels) (cases : List Case) : Type 0 where
-  pub count : length cases ≡ length labels.names
-  pub each : (i : ℕ) (d : Case) → i < length cases → IsCase path (get_or labels.names i []) (get_or labels.digests i []) (get_or cases i d)

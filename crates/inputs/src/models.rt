@@ -1,9 +1,9 @@
 //! Models, with the files that they include.
 
-ghost use Rattle.std.specs.Prelude.{◌≡◌, ◌++◌, ◌∷◌, ◌<◌, ◌≤◌, [], IfOk, OnErr, OnOk, get_or, map, vec_len};
+ghost use Rattle.std.specs.Prelude.{◌≡◌, ◌++◌, ◌∷◌, ◌<◌, ◌≤◌, [], OnErr, OnOk, get_or, map, vec_len};
 ghost use Rattle.std.specs.Str.{IsUtf8};
 ghost use Rattle.std.specs.Vec.{vec_capacity};
-ghost use Rattle.inputs.specs.Loaded.{AreCases, AreLoaded, IsCase, IsLoaded, IsOneMore};
+ghost use Rattle.inputs.specs.Loaded.{AreLoaded, IsCase, IsLoaded, IsOneMore};
 
 use crate::sources::Sources;
 use crate::trouble::Trouble;
@@ -70,23 +70,8 @@ impl Models {
         &self.names
     }
 
-    /// A test under each of the models, in their order.
-    pub fn cases<'a>(
-        &'a self,
-        alloc: Global,
-        path: &'a str,
-    ) -> Result<Vec<Case<'a>>, AllocError>
-        ensures { IfOk result (λ v. AreCases path.now self.now v.items) }
-    {
-        let mut cases = Vec::new(alloc);
-        for place in 0..self.names.len() {
-            cases.push(self.case(path, place))?;
-        }
-        Ok(cases)
-    }
-
     /// A test under the model at a place.
-    fn case<'a>(&'a self, path: &'a str, place: usize) -> Case<'a>
+    pub fn case<'a>(&'a self, path: &'a str, place: usize) -> Case<'a>
         ensures { IsCase path.now (get_or self.now.names place []) (get_or self.now.digests place []) result }
     {
         Case {

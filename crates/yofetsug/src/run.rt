@@ -8,7 +8,7 @@ use std::alloc::{AllocError, Global};
 use std::rt::Files;
 use std::thread::Threads;
 use std::time::Clock;
-use suite::{TestTrouble, judge_text};
+use suite::{Case, TestTrouble, judge_text};
 
 /// After so many milliseconds a test is left to a later pass.
 const WHILE: u64 = 200;
@@ -112,7 +112,7 @@ impl<'a> Test<'a> {
     ) -> Result<(), AllocError> {
         let models = plan.models.models();
         let judged = judge_text(rt, alloc, &self.text, models, threads, deadline);
-        let cases = plan.models.cases(alloc, self.path)?;
+        let cases = cases_of(alloc, plan.models, self.path)?;
         let test = Tested {
             path: self.path,
             text: &self.text,
@@ -135,4 +135,17 @@ impl<'a> Test<'a> {
             }
         }
     }
+}
+
+/// A test under each of the models, in their order.
+fn cases_of<'a>(
+    alloc: Global,
+    models: &'a Models,
+    path: &'a str,
+) -> Result<Vec<Case<'a>>, AllocError> {
+    let mut cases = Vec::new(alloc);
+    for place in 0..models.models().len() {
+        cases.push(models.case(path, place))?;
+    }
+    Ok(cases)
 }
