@@ -41,7 +41,10 @@ const TEST: Tested = Tested {
 
 /// Rows as they are stored, or as they are printed between tabs, and as they are stored once they were read.
 const ROWS: [(&str, &str); 4] = [
-    ("a\tm\tNever 0 3\t3\n\nb\tm\trefused 13 BadOrder\t\n", "a\tm\tNever 0 3\t3\nb\tm\trefused 13 BadOrder\t\n"),
+    (
+        "a\tm\tNever 0 3\t3\n\nb\tm\trefused 13 BadOrder\t\n",
+        "a\tm\tNever 0 3\t3\nb\tm\trefused 13 BadOrder\t\n",
+    ),
     (
         "a\tm\tSB\tAllowed\tOk\tSometimes\t1\t3\t4\tdata-race,other\t7\td\n",
         "a\tm\tSometimes 1 3 data-race other\t4\n",
