@@ -5,6 +5,7 @@ use crate::meter::{Meter, milliseconds_since};
 use inputs::{Models, read_front, text_of};
 use outcome::{Tested, Told, Wanted};
 use std::alloc::{AllocError, Global};
+use std::io;
 use std::rt::Files;
 use std::thread::Threads;
 use std::time::Clock;
@@ -78,7 +79,7 @@ impl<'a> Test<'a> {
         match read {
             Ok(text) => test.text = text,
             Err(error) => {
-                test.told.message = format!(in alloc; "{path}: {error}\n")?;
+                test.told.message = unread_message(alloc, path, &error)?;
                 test.fate = Fate::Unread;
             }
         }
@@ -135,6 +136,11 @@ impl<'a> Test<'a> {
             }
         }
     }
+}
+
+/// What is told of a test that can't be read.
+fn unread_message(alloc: Global, path: &str, error: &io::Error) -> Result<String, AllocError> {
+    format!(in alloc; "{path}: {error}\n")
 }
 
 /// A test under each of the models, in their order.
