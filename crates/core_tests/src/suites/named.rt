@@ -52,5 +52,5 @@ fn models_are_named(rt: HostRuntime) {
 #[test]
 fn fronts(rt: HostRuntime) {
     let text = read_front(rt.alloc(), b"C SB".as_slice());
-    assert!(rt; matches!(&text, Ok(text) if text.as_slice() == b"C SB"));
+    assert!(rt; matches!(&text, Ok(text) if text.as_slice() == b"C SB".as_slice()));
 }
