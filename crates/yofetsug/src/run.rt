@@ -65,25 +65,25 @@ impl<'a> Test<'a> {
     /// The test of a path, which is read from standard input where the path is `-`.
     pub fn read<R: Files + Input + AllocGlobal>(rt: &R, path: &'a str) -> Result<Self, AllocError> {
         let alloc = rt.alloc();
-        let mut test = Test {
-            path,
-            text: Vec::new(alloc),
-            fate: Fate::Waiting,
-            told: Told::new(alloc),
-        };
         let read = if path == "-" {
             read_front(alloc, rt.reader())
         } else {
             text_of(rt, path)
         };
-        match read {
-            Ok(text) => test.text = text,
+        let mut told = Told::new(alloc);
+        let (text, fate) = match read {
+            Ok(text) => (text, Fate::Waiting),
             Err(error) => {
-                test.told.message = unread_message(alloc, path, &error)?;
-                test.fate = Fate::Unread;
+                told.message = unread_message(alloc, path, &error)?;
+                (Vec::new(alloc), Fate::Unread)
             }
-        }
-        Ok(test)
+        };
+        Ok(Test {
+            path,
+            text,
+            fate,
+            told,
+        })
     }
 
     /// Judges a test that waits by one thread. It waits on where it takes more than a while.
