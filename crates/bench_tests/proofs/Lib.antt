@@ -1,2 +1,0 @@
-pub mod Quarters
-pub mod Tallied

@@ -1,5 +1,0 @@
-use Rattle.std.proofs.Common.{◌≡◌}
-use Rattle.bench_tests.proofs.desk.passes.desks.claims_often.Given as goal
-
-abbrev pub invariant-loop-claim : goal.invariant-loop-claim
-invariant-loop-claim g l = l.pass.parts ≡ 1

@@ -1,6 +1,0 @@
-use Rattle.events.specs.Executions.{IsNamed}
-use Rattle.core_tests.proofs.Parts.{AllBelow}
-use Rattle.core_tests.proofs.graphs.are_named.Given as goal
-
-abbrev pub invariant-loop-event : goal.invariant-loop-event
-invariant-loop-event l = AllBelow (IsNamed l.init l.runs) l.events l.event-index

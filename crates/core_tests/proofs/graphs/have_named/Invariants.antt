@@ -1,7 +1,0 @@
-use Rattle.std.specs.Prelude.{All}
-use Rattle.events.specs.Executions.{IsNamed}
-use Rattle.core_tests.proofs.Parts.{AllBelow}
-use Rattle.core_tests.proofs.graphs.have_named.Given as goal
-
-abbrev pub invariant-loop-order : goal.invariant-loop-order
-invariant-loop-order l = AllBelow (All (IsNamed l.init l.runs)) l.co l.order-index
