@@ -2,8 +2,8 @@
 
 ghost use Rattle.std.specs.Prelude.{◌≡◌, All};
 
-use crate::desk::commands::{claim_of, command_of, give, head_of};
 use crate::cases::sink;
+use crate::desk::commands::{claim_of, command_of, give, head_of};
 use book::{Command, Reply};
 use report::write_reply;
 use sessions::{Desk, Pass, finish};

@@ -16,8 +16,8 @@
 
 ghost use Rattle.std.specs.Prelude.{◌≤◌};
 
-use crate::desk::books::scene::is_played;
 use crate::cases::{confirm, is_shown, limits_of, number_behind, parts_of, sink};
+use crate::desk::books::scene::is_played;
 use crate::script::tasks::is_done;
 use crate::script::texts::expanded;
 use book::Limits;

@@ -2,8 +2,8 @@
 
 ghost use Rattle.slices.specs.Parts.{test_size};
 
-use crate::desk::works::work_of;
 use crate::cases::{confirm_all, is_cut_off};
+use crate::desk::works::work_of;
 use crate::script::texts::meant;
 use conditions::{Place, observed};
 use report::{WriteFault, write_summary};

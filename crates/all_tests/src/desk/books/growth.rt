@@ -4,9 +4,9 @@
 ghost use Rattle.std.specs.Prelude.{◌≡◌, [], IfOk, OnOk};
 ghost use Rattle.all_tests.specs.Whole.{IsOver, IsWhole};
 
+use crate::cases::{confirm, confirm_all};
 use crate::desk::commands::{SB, put_cat};
 use crate::desk::works::{whole_part, whole_piece, work_of};
-use crate::cases::{confirm, confirm_all};
 use crate::rows::again;
 use book::{Command, Said};
 use slices::{KeptSpace, Piece, PieceResult, Tally, Verdict, VerdictRef, WorkRef};

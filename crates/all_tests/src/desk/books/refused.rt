@@ -4,9 +4,9 @@
 
 ghost use Rattle.std.specs.Prelude.{◌<◌};
 
+use crate::cases::{confirm, parts_of};
 use crate::desk::books::scene::{call, call_of, new_book, play, refused};
 use crate::desk::commands::is_told;
-use crate::cases::{confirm, parts_of};
 use crate::script::texts::expanded;
 use book::{Book, Command, Limits, Refused};
 use std::alloc::{AllocError, Global};

@@ -4,9 +4,9 @@
 
 ghost use Rattle.std.specs.Prelude.{◌<◌};
 
+use crate::cases::{limits_of, sink};
 use crate::desk::commands::{claim_of, command_of, give, head_of};
 use crate::desk::works::{whole_part, work_of};
-use crate::cases::{limits_of, sink};
 use crate::rows::again;
 use book::{Book, Command, Limits, Reply};
 use report::write_reply;

@@ -2,9 +2,9 @@
 
 ghost use Rattle.std.specs.Prelude.{◌≡◌, All};
 
+use crate::cases::confirm_all;
 use crate::desk::calls::{are_told, entries, last_reply, make_all, recorded};
 use crate::desk::commands::is_told;
-use crate::cases::confirm_all;
 use crate::rows::again;
 use crate::script::texts::expanded;
 use book::{Command, Entry, Limits, Refused};

@@ -2,10 +2,10 @@
 
 ghost use Rattle.std.specs.Prelude.{◌≡◌, ◌≤◌, ◌<◌, All};
 
+use crate::cases::confirm_all;
 use crate::desk::calls::{entries, make_all};
 use crate::desk::commands::is_told;
 use crate::desk::passes::desks::{FIRST, SECOND, WIDE, asks_and_returns};
-use crate::cases::confirm_all;
 use sessions::{Desk, Pass, open};
 use std::alloc::{AllocError, Global};
 use std::marker::Brand;

@@ -3,13 +3,13 @@
 
 ghost use Rattle.std.specs.Prelude.{◌≡◌, ◌≤◌, ◌<◌, All, length};
 
+use crate::cases::confirm_all;
 use crate::desk::calls::{entries, last_reply, make_all, recorded};
 use crate::desk::working::calls::{
     all_alternate, had_verdict, job_of, last_claim, put_back, take_last,
 };
 use crate::desk::working::gates::{Holds, Watching};
 use crate::desk::working::sharing::sessions_then_close;
-use crate::cases::confirm_all;
 use book::{Command, Limits, Refusal, Reply};
 use sessions::{Desk, Pass, open};
 use std::alloc::{AllocError, Global};
