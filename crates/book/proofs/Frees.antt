@@ -1,14 +1,20 @@
 -- The search for a free slice.
-use Rattle.std.proofs.Common.{◌≡◌, ℕ, zero, suc, ◌+◌, ◌<◌, ◌≤◌, ◌||◌, ◌&&◌, not, ◌∷◌, ◌++◌, length, get_or, Bool, true, false, List, [], Some, refl, sym, ap, ◌∙◌, subst, inl, inr, arith}
-use Rattle.std.specs.Prelude.{slice_get, ◌==◌, ◌⊎◌}
+use Rattle.std.proofs.Common.{◌≡◌, ◌≢◌, ℕ, zero, suc, ◌+◌, ◌<◌, ◌≤◌, ◌||◌, ◌&&◌, not, ◌∷◌, ◌++◌, length, get_or, Bool, true, false, List, [], Option, None, Some, refl, sym, ap, ◌∙◌, subst, inl, inr, arith}
+use Rattle.std.specs.Prelude.{slice_get, ◌==◌, ◌⊎◌, IfSome}
 use Rattle.std.specs.List.{list_any}
 use Rattle.std.proofs.lemmas.List.Folds.{list_any-append}
 use Rattle.listings.specs.Lists.{IsIn}
 use Rattle.book.specs.Frees.{IsFreeAt, IsNoneBefore, IsPassed, IsFirstFree}
+use Rattle.book.specs.Changes.{HoldsSlice}
+use Rattle.book.specs.Held.{AreClaimedBut}
 use Rattle.book.specs.Jobs as jobs
+use Rattle.book.specs.Numbers.{AreRising}
+use Rattle.book.specs.Step.{others, taken}
 use Rattle.book.specs.Workbench.{Workbench, is_claimed, is_replaced, is_free, free_among, has_free, any_free}
 use Rattle.book.specs.declared.live.Live.{Live}
 use Rattle.book.specs.declared.slice.Slice.{Slice}
+use Rattle.book.proofs.Claims.{free_has}
+use Rattle.book.proofs.Numbers.{marked_at}
 
 -- one slice
 
@@ -154,6 +160,78 @@ module _ (s : Workbench) (number : ℕ) (claim : Live) where
     jobs = λ n job lt at. still_none job 0 job.slices (h.jobs n job lt at);
     slices = λ job at. record { none = λ n x lt e. still_taken job n x ((h.slices job at).none n x lt e) };
   }
+
+-- nor does a result that is taken
+
+-- what stands at a place of a job with a slice returned
+mark_at : (xs : List Slice) (i n : ℕ) (x : Slice) → slice_get (jobs.mark i xs) n ≡ Some x → ((n ≡ i) × (x.returned ≡ true)) ⊎ ((n ≢ i) × (slice_get xs n ≡ Some x))
+mark_at [] i n x e = cc
+mark_at (y ∷ ys) zero zero x e =
+    let same : record y { returned = true } ≡ x = cc in
+    inl (refl, ap (λ (z : Slice). z.returned) (sym same))
+mark_at (y ∷ ys) zero (suc n) x e = inr ((λ q. absurd (omega (arith, q))), e)
+mark_at (y ∷ ys) (suc i) zero x e = inr ((λ q. absurd (omega (arith, q))), e)
+mark_at (y ∷ ys) (suc i) (suc n) x e = by (mark_at ys i n x e)
+  where
+    by : ((n ≡ i) × (x.returned ≡ true)) ⊎ ((n ≢ i) × (slice_get ys n ≡ Some x)) → ((suc n ≡ suc i) × (x.returned ≡ true)) ⊎ ((suc n ≢ suc i) × (slice_get ys n ≡ Some x))
+    by (inl p) = inl (ap suc p.0, p.1)
+    by (inr p) = inr ((λ q. p.0 (omega (arith, q))), p.1)
+
+closed_still : (r a b p : Bool) → ((not r && not a) && not p) ≡ false → (a ≡ true → b ≡ true) → ((not r && not b) && not p) ≡ false
+closed_still true a b p h more = refl
+closed_still false true b p h more = ap (λ c. not c && not p) (more refl)
+closed_still false false true p h more = refl
+closed_still false false false p h more = h
+
+none_before : (s : Workbench) (job : jobs.Job) (m : ℕ) → has_free s job ≡ false → IsNoneBefore s job m
+none_before s job m h = record { none = λ n x lt e. by n x e (is_free s job n x) refl }
+  where
+    by : (n : ℕ) (x : Slice) → slice_get job.slices n ≡ Some x → (b : Bool) → is_free s job n x ≡ b → b ≡ false
+    by n x e false k = refl
+    by n x e true k = sym (free_has s job n (x, e, k)) ∙ h
+
+module _ (s : Workbench) (number seat id slice : ℕ) (c : Live) (h : AreClaimedBut c s.live (others number seat s.live)) (of_job : c.job ≡ id) (of_slice : c.slice ≡ slice) where
+  abbrev then : Workbench
+  then = taken s number seat id slice
+
+  claimed_still : (job : ℕ) (n : ℕ) → (job ≡ id → n ≡ slice → ⊥) → is_claimed s.live job n ≡ true → is_claimed then.live job n ≡ true
+  claimed_still job n other t = elim (h job n t) [
+    | inl p ↦ p
+    | inr p ↦ absurd (other (sym p.0 ∙ of_job) (sym p.1 ∙ of_slice))
+  ]
+
+  none_other : (job : jobs.Job) (m : ℕ) → job.number ≢ id → IsNoneBefore s job m → IsNoneBefore then job m
+  none_other job m other none = record {
+    none = λ n x lt e. closed_still x.returned (is_claimed s.live job.number n) (is_claimed then.live job.number n) (is_replaced s job) (none.none n x lt e) (claimed_still job.number n (λ p q. other p));
+  }
+
+  none_marked : (job : jobs.Job) (m : ℕ) → IsNoneBefore s job m → IsNoneBefore then (jobs.marked slice job) m
+  none_marked job m none = record { none = λ n x lt e. by n x lt (mark_at job.slices slice n x e) }
+    where
+      by : (n : ℕ) (x : Slice) → n < m → ((n ≡ slice) × (x.returned ≡ true)) ⊎ ((n ≢ slice) × (slice_get job.slices n ≡ Some x)) → is_free then (jobs.marked slice job) n x ≡ false
+      by n x lt (inl p) = ap (λ b. (not b && not (is_claimed then.live job.number n)) && not (is_replaced s job)) p.1
+      by n x lt (inr p) = closed_still x.returned (is_claimed s.live job.number n) (is_claimed then.live job.number n) (is_replaced s job) (none.none n x lt p.1) (claimed_still job.number n (λ q r. p.0 r))
+
+  none_then : (job next : jobs.Job) (m : ℕ) → ((job.number ≢ id) × (next ≡ job)) ⊎ ((job.number ≡ id) × (next ≡ jobs.marked slice job)) → IsNoneBefore s job m → IsNoneBefore then next m
+  none_then job next m (inl p) none = subst (λ j. IsNoneBefore then j m) (sym p.1) (none_other job m p.0 none)
+  none_then job next m (inr p) none = subst (λ j. IsNoneBefore then j m) (sym p.1) (none_marked job m none)
+
+  taken_passed : (k i : ℕ) → AreRising s.jobs → IsPassed s k i → IsPassed then k i
+  taken_passed k i rising passed = record {
+    jobs = λ n job lt at.
+        let was = marked_at s.jobs id slice n job rising at in
+        let m = length job.slices in
+        none_here then job m (none_then was.0 job m was.2 (none_before s was.0 m (passed.jobs n was.0 lt was.1))) (omega arith);
+    slices = λ job at.
+        let was = marked_at s.jobs id slice k job rising at in
+        none_then was.0 job i was.2 (passed.slices was.0 was.1);
+  }
+
+pub result_passed : (s : Workbench) (number seat id slice k i : ℕ) (left : List Live) (o : Option Live) → HoldsSlice o id slice → IfSome o (λ c. AreClaimedBut c s.live left) → left ≡ others number seat s.live → AreRising s.jobs → IsPassed s k i → IsPassed (taken s number seat id slice) k i
+result_passed s number seat id slice k i left None h stay is rising passed = absurd h
+result_passed s number seat id slice k i left (Some c) h stay is rising passed =
+    let P : List Live → Type 0 = λ l. AreClaimedBut c s.live l in
+    taken_passed s number seat id slice c (subst P is stay) h.0 h.1 k i rising passed
 
 -- nor does a closed book
 pub closed_passed : (s : Workbench) (k i : ℕ) (closed : Bool) → IsPassed s k i → IsPassed (record s { closed = closed }) k i

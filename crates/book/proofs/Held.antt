@@ -1,6 +1,6 @@
 -- Live claims as entries by number, beside the slices that they hold.
-use Rattle.std.proofs.Common.{◌≡◌, ℕ, ◌+◌, ◌<◌, ◌≤◌, arith, ◌&&◌, ◌||◌, ◌==◌, not, List, [], ◌∷◌, ◌++◌, map, filter, count_by, Bool, true, false, cond, None, Some, refl, sym, ap, ◌∙◌, subst}
-use Rattle.std.specs.Prelude.{nat_le}
+use Rattle.std.proofs.Common.{◌≡◌, ℕ, ◌+◌, ◌<◌, ◌≤◌, arith, ◌&&◌, ◌||◌, ◌==◌, not, List, [], ◌∷◌, ◌++◌, map, filter, count_by, Bool, true, false, cond, None, Some, refl, sym, ap, ◌∙◌, subst, inl, inr}
+use Rattle.std.specs.Prelude.{◌⊎◌, Option, IfSome, nat_le}
 use Rattle.std.specs.BTreeMap.{insert_entry, is_at}
 use Rattle.std.specs.Cmp.{nat_cmp_is, ranked}
 use Rattle.std.specs.List.{find, list_any, list_all}
@@ -11,7 +11,7 @@ use Rattle.std.specs.declared.cmp.Ordering.TheVariants.{Less, Equal, Greater}
 use Rattle.std.proofs.lemmas.Bool.{eq-eqb, eqb-true, ne_eqb, eqb-false, and_parts, leb-true, le-leb}
 use Rattle.std.proofs.lemmas.List.Folds.{list_any-append}
 use Rattle.std.proofs.lemmas.List.Sums.{sum_by-cons}
-use Rattle.book.specs.Held.{live_of, is_used, AreApart, are_upto, IsHeld, same_place}
+use Rattle.book.specs.Held.{live_of, is_used, AreApart, are_upto, IsHeld, AreClaimedBut, same_place}
 use Rattle.book.specs.Step.{is_of, others, elsewhere}
 use Rattle.book.specs.Workbench.{is_claimed, is_claim, claim_of}
 use Rattle.book.specs.declared.live.Held.{Held}
@@ -74,7 +74,7 @@ any_kept {X} q keep (x ∷ xs) h = by (keep x) (or_false _ _ h).0 (any_kept q ke
     by true e rest = ap (λ b. b || list_any q (filter keep xs)) e ∙ rest
     by false e rest = rest
 
-all_kept : {X : Type 0} (q keep : X → Bool) (xs : List X) → list_all q xs ≡ true → list_all q (filter keep xs) ≡ true
+pub all_kept : {X : Type 0} (q keep : X → Bool) (xs : List X) → list_all q xs ≡ true → list_all q (filter keep xs) ≡ true
 all_kept q keep [] h = refl
 all_kept {X} q keep (x ∷ xs) h = by (keep x) (and_parts _ _ h).0 (all_kept q keep xs (and_parts _ _ h).1)
   where
@@ -297,6 +297,25 @@ held_less es after holds then last n s c h f e is =
       same = λ job slice.
           is job slice ∙ ap (λ b. cond (holds_at c job slice) false b) (h.same job slice) ∙ sym (claimed_less (map live_of es) n s c h.apart f job slice);
     })
+
+-- and each other is
+claimed_but : (es : List (ℕ × Held)) (holds : ℕ → ℕ → Bool) (last n s : ℕ) (c : Live) → IsHeld (map live_of es) holds last → claim_of (map live_of es) n s ≡ Some c → AreClaimedBut c (map live_of es) (others n s (map live_of es))
+unfolding others
+claimed_but es holds last n s c h f job slice t = by (holds_at c job slice) refl
+  where
+    by : (b : Bool) → holds_at c job slice ≡ b → (is_claimed (filter (λ d. not (is_claim n s d)) (map live_of es)) job slice ≡ true) ⊎ ((c.job ≡ job) × (c.slice ≡ slice))
+    by true k =
+        let parts = and_parts (c.job == job) (c.slice == slice) k in
+        inr (eqb-true c.job job parts.0, eqb-true c.slice slice parts.1)
+    by false k = inl (claimed_less (map live_of es) n s c h.apart f job slice ∙ ap (λ b. cond b false (is_claimed (map live_of es) job slice)) k ∙ t)
+
+pub stay_but : (es after : List (ℕ × Held)) (holds : ℕ → ℕ → Bool) (last n s : ℕ) (c : Live) (old : List Live) → IsHeld (map live_of es) holds last → claim_of (map live_of es) n s ≡ Some c
+    → after ≡ remove_entry (is_at (nat_cmp n)) es → map live_of es ≡ old → IfSome (claim_of old n s) (λ k. AreClaimedBut k old (map live_of after))
+stay_but es after holds last n s c old h f e is =
+    let P : List Live → Type 0 = λ l. IfSome (claim_of l n s) (λ k. AreClaimedBut k l (map live_of after)) in
+    let Q : Option Live → Type 0 = λ o. IfSome o (λ k. AreClaimedBut k (map live_of es) (map live_of after)) in
+    let R : List Live → Type 0 = λ l. AreClaimedBut c (map live_of es) l in
+    subst P is (subst Q (sym f) (subst R (sym (less_seen es after holds last n s c h f e)) (claimed_but es holds last n s c h f)))
 
 pub no_less : (live : List Live) (n s : ℕ) → claim_of live n s ≡ None → live ≡ others n s live
 unfolding others

@@ -18,7 +18,7 @@ use Rattle.litmus_c.specs.declared.fault.TestFault.TheVariants as of_test
 use Rattle.candidates.specs.Faults.{IsSpaceFault}
 use Rattle.candidates.specs.declared.fault.SpaceFault.{SpaceFault}
 use Rattle.candidates.specs.declared.fault.SpaceFault.TheVariants as of_space
-use Rattle.book.specs.Changes.{FitsJob, FitsVerdict}
+use Rattle.book.specs.Changes.{FitsJob, FitsVerdict, HoldsSlice}
 use Rattle.book.specs.Jobs as jobs
 use Rattle.book.specs.Jobs.{done, is_done, marked}
 use Rattle.book.specs.Results.{HasRoot}
@@ -135,8 +135,13 @@ return_stranger s seat r c job open' e f h not = returns_to s seat r c (Some job
 pub return_taken : (s : Workbench) (seat d n : ℕ) (r : Returned) (c : Live) (job : jobs.Job) → s.closed ≡ false → claim_of s.live r.claim seat ≡ Some c → job_of s.jobs c.job ≡ Some job → replaced s job ≡ None → IsOwn c job r → d ≡ done (marked r.slice job) → n ≡ length job.slices → Step s seat (Return r) (Taken d n) (taken s r.claim seat c.job r.slice)
 return_taken s seat d n r c job open' e f h own count total = returns_to s seat r c (Some job) _ _ open' e f (h, own, refl, count, total)
 
-pub fits_job : (s : Workbench) (number : ℕ) (c : Live) (job : jobs.Job) (r : PieceResultValue) → job_of s.jobs number ≡ Some job → IsOwn c job (returned r) → FitsJob (job_of s.jobs number) r
+fits_job : (s : Workbench) (number : ℕ) (c : Live) (job : jobs.Job) (r : PieceResultValue) → job_of s.jobs number ≡ Some job → IsOwn c job (returned r) → FitsJob (job_of s.jobs number) r
 fits_job s number c job r e own = let P : Option jobs.Job → Type 0 = λ o. FitsJob o r in subst P (sym e) (record { work = own.2; range = own.1 })
+
+pub take_ready : (s : Workbench) (number seat : ℕ) (c : Live) (job : jobs.Job) (r : PieceResultValue) → claim_of s.live number seat ≡ Some c → job_of s.jobs c.job ≡ Some job → IsOwn c job (returned r) → FitsJob (job_of s.jobs c.job) r × HoldsSlice (claim_of s.live number seat) c.job r.piece.slice
+take_ready s number seat c job r e f own =
+    let P : Option Live → Type 0 = λ o. HoldsSlice o c.job r.piece.slice in
+    (fits_job s c.job c job r f own, subst P (sym e) (refl, sym own.0))
 
 pub opened_job : (s : Workbench) (seat : ℕ) (test cat : Word) (t u : Litmus) (m : Assembly) (number version : ℕ) (work w : WorkValue) (job : jobs.Job) → s.closed ≡ false → test_of s.tests test ≡ Some t → IsModelOf s.cats cat m → u ≡ t → work ≡ record { test = u; model = m } → IsAdmitted work.test → length s.jobs < 256 → number ≡ s.last_job + 1 → version ≡ test_version s.tests test → w ≡ work
     → job.number ≡ number → job.version ≡ version → job.work ≡ w → IsCut (test_size w.test) job.slices

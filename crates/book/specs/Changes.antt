@@ -1,5 +1,5 @@
 -- What a call does to the workbench.
-use Rattle.std.specs.Prelude.{◌≡◌, ◌+◌, ◌<◌, true, false, [], ◌∷◌, ◌++◌, Option, None, Some, is_some, slice_get}
+use Rattle.std.specs.Prelude.{◌≡◌, ℕ, ◌+◌, ◌<◌, true, false, [], ◌∷◌, ◌++◌, Option, None, Some, is_some, slice_get}
 use Rattle.std.specs.Str.{bytes_eq}
 use Rattle.indexmap.specs.IndexMap.{insert_entry}
 use Rattle.cat_model.specs.Files.{version_of, loaded, store}
@@ -9,7 +9,8 @@ use Rattle.book.specs.Results.{IsVerdictOn}
 use Rattle.slices.specs.VerdictValues.{VerdictValue}
 use Rattle.slices.specs.Parts.{PieceResultValue}
 use Rattle.book.specs.Step.{HasRange, ended, taken, released, forgotten}
-use Rattle.book.specs.Workbench.{Workbench, job_of, is_claimed}
+use Rattle.book.specs.Workbench.{Workbench, job_of, claim_of, is_claimed}
+use Rattle.book.specs.declared.live.Live.{Live}
 use Rattle.book.specs.declared.plan.Change.{Change}
 use Rattle.book.specs.declared.plan.Change.TheVariants.{Keep, PutCat, DropCat, SetTest, Open, Forget, Release, Hold, End, Take, Judge, Close}
 
@@ -36,15 +37,20 @@ abbrev pub FitsJob : Option Job → PieceResultValue → Type 0
 FitsJob None part = ⊥
 FitsJob (Some job) part = IsFit job part
 
+-- the claim is live, and holds this slice of the job
+abbrev pub HoldsSlice : Option Live → ℕ → ℕ → Type 0
+HoldsSlice None job slice = ⊥
+HoldsSlice (Some c) job slice = (c.job ≡ job) × (c.slice ≡ slice)
+
 -- the verdict is one on the job
 abbrev pub FitsVerdict : Option Job → VerdictValue → Type 0
 FitsVerdict None v = ⊥
 FitsVerdict (Some job) v = IsVerdictOn job.work job.version v
 
--- A taken result must be of a job that is there, a verdict must be one on a job that is there, a put or a drop raises the version, and what is dropped must be there.
+-- A taken result must be of a job that is there, and of the slice that a live claim holds; a verdict must be one on a job that is there, a put or a drop raises the version, and what is dropped must be there.
 -- A claim has a new number, and the slice that it is to hold must not be claimed, and no slice before the mark free.
 abbrev pub IsReady : Workbench → Change → Type 0
-IsReady s (Take number seat job part) = FitsJob (job_of s.jobs job) part
+IsReady s (Take number seat job part) = FitsJob (job_of s.jobs job) part × HoldsSlice (claim_of s.live number seat) job part.piece.slice
 IsReady s (Judge id v) = FitsVerdict (job_of s.jobs id) v
 IsReady s (PutCat name version file) = version_of name s.cats < version
 IsReady s (DropCat name version) = (is_some (loaded name s.cats) ≡ true) × (version_of name s.cats < version)

@@ -1,5 +1,5 @@
 -- Live claims as entries by number, beside the slices that they hold.
-use Rattle.std.specs.Prelude.{◌≡◌, ℕ, ◌==◌, ◌&&◌, Bool, true, false, List, [], ◌∷◌, nat_le}
+use Rattle.std.specs.Prelude.{◌≡◌, ◌⊎◌, ℕ, ◌==◌, ◌&&◌, Bool, true, false, List, [], ◌∷◌, nat_le}
 use Rattle.std.specs.List.{list_any, list_all}
 use Rattle.book.specs.Workbench.{is_claimed}
 use Rattle.book.specs.declared.live.Held.{Held}
@@ -28,6 +28,10 @@ pub record IsHeld (live : List Live) (holds : ℕ → ℕ → Bool) (last : ℕ)
   pub apart : AreApart live
   pub upto : are_upto last live ≡ true
   pub same : (job slice : ℕ) → holds job slice ≡ is_claimed live job slice
+
+-- each slice that is claimed before is claimed after, but for that of this claim
+abbrev pub AreClaimedBut : Live → List Live → List Live → Type 0
+AreClaimedBut c before after = (job slice : ℕ) → is_claimed before job slice ≡ true → (is_claimed after job slice ≡ true) ⊎ ((c.job ≡ job) × (c.slice ≡ slice))
 
 -- whether the two are one slice
 abbrev pub same_place : Place → Place → Bool

@@ -1,6 +1,7 @@
 //! Live claims.
 
-ghost use Rattle.std.specs.Prelude.{◌≡◌, ◌<◌, ◌∷◌, ◌++◌, [], false, not, ◌==◌, OnOk, OnErr, count_by};
+ghost use Rattle.std.specs.Prelude.{◌≡◌, ◌<◌, ◌∷◌, ◌++◌, [], false, not, ◌==◌, IfSome, OnOk, OnErr, count_by};
+ghost use Rattle.book.specs.Held.{AreClaimedBut};
 ghost use Rattle.book.specs.Step.{is_of, others, elsewhere};
 ghost use Rattle.book.specs.Workbench.{is_claimed, claim_of};
 
@@ -157,7 +158,8 @@ impl LiveClaims {
 
     /// Ends the claim of a number and seat.
     pub fn end(&mut self, number: u32, seat: u8)
-        ensures { self.new ≡ (others number seat self.old.0, self.old.1) }
+        ensures ended { self.new ≡ (others number seat self.old.0, self.old.1) }
+        ensures stay { IfSome (claim_of self.old.0 number seat) (λ c. AreClaimedBut c self.old.0 self.new.0) }
     {
         if let Some(claim) = self.find(number, seat) {
             self.claims.remove(&number);

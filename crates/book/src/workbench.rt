@@ -58,6 +58,7 @@ impl Drop for Bench {
 impl std::marker::Model for Bench {
     ghost use Rattle.book.specs.BenchCodes.{coded_workbench};
     ghost use Rattle.book.specs.Frees.{IsPassed};
+    ghost use Rattle.book.specs.Numbers.{AreNumbered};
     ghost use Rattle.book.specs.Workbench.{Workbench};
 
     ghost Value = { Workbench };
@@ -66,12 +67,11 @@ impl std::marker::Model for Bench {
 
     ghost view = { λ b. record { limits = b.limits; tests = b.tests; cats = b.cats; jobs = b.jobs.items; live = b.live.0; last_job = b.last_job; last_claim = b.live.1; closed = b.closed } };
 
-    ghost invariant = { λ b. IsPassed (record { limits = b.limits; tests = b.tests; cats = b.cats; jobs = b.jobs.items; live = b.live.0; last_job = b.last_job; last_claim = b.live.1; closed = b.closed }) b.mark.job b.mark.slice };
+    ghost invariant = { λ b. record { passed : IsPassed (record { limits = b.limits; tests = b.tests; cats = b.cats; jobs = b.jobs.items; live = b.live.0; last_job = b.last_job; last_claim = b.live.1; closed = b.closed }) b.mark.job b.mark.slice; numbered : AreNumbered b.jobs.items b.last_job } };
 }
 
 impl Bench {
     /// The empty workbench.
-    #[tactic(auto, using(crate::proofs::Frees::passed_start))]
     pub fn new(alloc: Global, limits: Limits) -> Result<Self, AllocError>
         ensures { IfOk result (λ b. b ≡ empty limits) }
     {

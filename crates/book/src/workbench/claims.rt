@@ -58,7 +58,7 @@ impl Bench {
         })
     }
 
-    #[tactic(auto, using(crate::proofs::Steps::no_claim, crate::proofs::Steps::claim_of_no_job, crate::proofs::Steps::return_replaced, crate::proofs::Steps::return_stranger, crate::proofs::Steps::return_taken, crate::proofs::Steps::fits_job))]
+    #[tactic(auto, using(crate::proofs::Steps::no_claim, crate::proofs::Steps::claim_of_no_job, crate::proofs::Steps::return_replaced, crate::proofs::Steps::return_stranger, crate::proofs::Steps::return_taken, crate::proofs::Steps::take_ready))]
     pub(crate) fn decide_return(&self, seat: u8, part: &PieceResult) -> Result<Plan, AllocError>
         requires { self.now.closed ≡ false }
         ensures step { IfOk result (λ p. Step self.now seat (Said.Return (returned part.now)) p.reply (changed self.now p.change)) }

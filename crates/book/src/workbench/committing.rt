@@ -1,12 +1,12 @@
 //! What calls change.
 
-ghost use Rattle.std.specs.Prelude.{◌≡◌, ◌<◌, ◌∷◌, ◌++◌, [], true, false, None, Some, is_some, OnOk, OnErr};
+ghost use Rattle.std.specs.Prelude.{◌≡◌, ◌<◌, ◌+◌, ◌∷◌, ◌++◌, [], true, false, None, Some, is_some, OnOk, OnErr};
 ghost use Rattle.std.specs.Str.{bytes_eq};
 ghost use Rattle.indexmap.specs.IndexMap.{insert_entry};
-ghost use Rattle.book.specs.Changes.{changed, IsReady, FitsJob, FitsVerdict};
+ghost use Rattle.book.specs.Changes.{changed, IsReady, FitsJob, FitsVerdict, HoldsSlice};
 ghost use Rattle.book.specs.Frees.{IsPassed};
 ghost use Rattle.book.specs.Step.{ended, forgotten, released, taken, without};
-ghost use Rattle.book.specs.Workbench.{is_claimed, job_of, marked_in};
+ghost use Rattle.book.specs.Workbench.{is_claimed, claim_of, job_of, marked_in};
 ghost use Rattle.cat_model.specs.Files.{version_of, loaded, store};
 
 use crate::jobs::Job;
@@ -83,8 +83,8 @@ impl Bench {
     }
 
     /// Adds a job, or changes nothing.
-    #[tactic(auto, using(crate::proofs::Frees::passed_start))]
     fn open(&mut self, job: Job) -> Result<(), AllocError>
+        requires { job.number ≡ self.old.last_job + 1 }
         ensures ok { OnOk result (self.new ≡ record self.old { last_job = job.number; jobs = self.old.jobs ++ job ∷ [] }) }
         ensures err { OnErr result (self.new ≡ self.old) }
     {
@@ -96,7 +96,6 @@ impl Bench {
     }
 
     /// Takes a job away, and ends its claims.
-    #[tactic(auto, using(crate::proofs::Frees::passed_start))]
     fn forget(&mut self, number: u32)
         ensures { self.new ≡ forgotten self.old number }
     {
@@ -136,14 +135,13 @@ impl Bench {
         self.live.end(number, seat);
     }
 
-    /// Takes a result of a job in and ends its claim, or changes nothing.
-    #[tactic(auto, using(crate::proofs::Frees::passed_start))]
+    /// Takes a result of a job in and ends its claim, or changes nothing. No slice comes to be free.
     fn take(&mut self, number: u32, seat: u8, job: u32, part: PieceResult) -> Result<(), AllocError>
-        requires { FitsJob (job_of self.old.jobs job) part }
+        requires fits { FitsJob (job_of self.old.jobs job) part }
+        requires holds { HoldsSlice (claim_of self.old.live number seat) job part.piece.slice }
         ensures ok { OnOk result (self.new ≡ taken self.old number seat job part.piece.slice) }
         ensures err { OnErr result (self.new ≡ self.old) }
     {
-        self.mark = START;
         take_in(&mut self.jobs, job, part)?;
         self.live.end(number, seat);
         Ok(())
