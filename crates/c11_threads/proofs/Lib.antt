@@ -3,6 +3,7 @@ pub mod Filling
 pub mod Reaching
 pub mod Few
 pub mod Filtered
+pub mod Naming
 pub mod Kept
 pub mod Numerals
 pub mod RunLists

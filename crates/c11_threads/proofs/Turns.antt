@@ -1,6 +1,6 @@
 -- Ways that are taken part by part.
 use Rattle.std.proofs.Common.{◌≡◌, ℕ, zero, suc, filter, subst, ◌+◌, ◌≤◌, ◌<◌, List, [], ◌∷◌, ◌++◌, length, map, get_or, drop, drop-cons, add-one, refl, sym, ◌∙◌, ap, arith, append-nil, Option, None, Some, Bool, true, false, if◌then◌else◌, length-append, Box, Vec}
-use Rattle.std.specs.Prelude.{◌&&◌}
+use Rattle.std.specs.Prelude.{◌&&◌, Result, Ok, Err, OnOk}
 use Rattle.std.proofs.lemmas.Bool.{false≢true}
 use Rattle.std.proofs.lemmas.List.{drop_all, length-map}
 use Rattle.std.proofs.lemmas.Grind.{flat_map-append}
@@ -11,10 +11,12 @@ use Rattle.litmus_tree.specs.declared.tree.Declarator.{Declarator}
 use Rattle.litmus_tree.specs.declared.expression.Expression.{Expression}
 use Rattle.litmus_tree.specs.declared.tree.RightSide.TheVariants.{Value as Value'}
 use Rattle.litmus_tree.specs.declared.tree.Statement.{Statement}
-use Rattle.litmus_tree.specs.declared.tree.Statement.TheVariants.{Block as Block', Assign as Assign', If as If', rolls-Block, rolls-Assign}
+use Rattle.litmus_tree.specs.declared.tree.Call.{Call}
+use Rattle.litmus_tree.specs.declared.tree.RightSide.{RightSide}
+use Rattle.litmus_tree.specs.declared.tree.Statement.TheVariants.{Block as Block', Declare as Declare', Assign as Assign', Write as Write', Perform as Perform', If as If', rolls-Block, rolls-Declare, rolls-Assign, rolls-Write, rolls-Perform}
 use Rattle.litmus_tree.specs.declared.tree.Statement.TheOpen.{Statement-F}
 use Rattle.litmus_tree.specs.declared.tree.Statement.TheFolds.{fold-roll-Statement}
-use Rattle.litmus_tree.specs.Tree.{Word, Action, load, store, exchange, modify, fence, computed_by, Right, computed, plain_read, value_of, Declared, Step, empty, block, declare, assign, plain_write, perform, if_only, if_else, Steps, no_steps, in_turn, layer, step_of, steps_of, term_of, declared_of}
+use Rattle.litmus_tree.specs.Tree.{Word, Action, load, store, exchange, modify, fence, computed_by, Right, computed, plain_read, value_of, Declared, Step, empty, block, declare, assign, plain_write, perform, if_only, if_else, Steps, no_steps, in_turn, layer, step_of, steps_of, term_of, action_of, right_of, declared_of}
 use Rattle.litmus_tree.proofs.Steps.{only_if, if_and_else}
 use Rattle.c11_threads.specs.declared.fault.RunFault.{RunFault}
 use Rattle.c11_threads.specs.declared.fault.RunFault.TheVariants.{TooManyRuns, NoMemory}
@@ -87,6 +89,23 @@ idle_all f h (p ∷ ps) = ap (λ (qs : List Progress). qs ++ flat_map f ps) (h p
 pub after_idle : (s : Setting) (c : EventSet) (a : Step) (ps : List Progress) → is_idle a ≡ true → ps ≡ flat_map (step_runs a s c) ps
 after_idle s c a ps h = sym (idle_all (step_runs a s c) (λ p. idle_step a s c p h) ps)
 
+-- Statements by their variants.
+
+pub block_step : (a : Statement) (all : Vec Statement Global) → a ≡ Block' all → step_of a ≡ block (steps_of all.items)
+block_step a all is = ap step_of (is ∙ sym (rolls-Block all)) ∙ fold-roll-Statement Step layer (Statement-F.Block all)
+
+pub declare_step : (a : Statement) (ds : Vec Declarator Global) → a ≡ Declare' ds → step_of a ≡ declare (map declared_of ds.items)
+declare_step a ds is = ap step_of (is ∙ sym (rolls-Declare ds)) ∙ fold-roll-Statement Step layer (Statement-F.Declare ds)
+
+pub assign_step : (a : Statement) (r : Word) (right : RightSide) → a ≡ Assign' r right → step_of a ≡ assign r (right_of right)
+assign_step a r right is = ap step_of (is ∙ sym (rolls-Assign r right)) ∙ fold-roll-Statement Step layer (Statement-F.Assign r right)
+
+pub write_step : (a : Statement) (x : Word) (e : Expression) → a ≡ Write' x e → step_of a ≡ plain_write x (term_of e)
+write_step a x e is = ap step_of (is ∙ sym (rolls-Write x e)) ∙ fold-roll-Statement Step layer (Statement-F.Write x e)
+
+pub perform_step : (a : Statement) (call : Call) → a ≡ Perform' call → step_of a ≡ perform (action_of call)
+perform_step a call is = ap step_of (is ∙ sym (rolls-Perform call)) ∙ fold-roll-Statement Step layer (Statement-F.Perform call)
+
 -- A computed value changes each way into one.
 flat_map_each : (f : Progress → Progress) (ps : List Progress) → flat_map (λ p. f p ∷ []) ps ≡ map f ps
 flat_map_each f [] = refl
@@ -101,8 +120,12 @@ in_value s c a r e n ps is at =
 
 pub in_block : (s : Setting) (c : EventSet) (a : Statement) (inside : List Statement) (all : Vec Statement Global) → a ≡ Block' all → inside ≡ all.items → steps_runs (steps_of inside) s c ≡ step_runs (step_of a) s c
 in_block s c a inside all e f =
-    let g : step_of a ≡ block (steps_of all.items) = ap step_of (e ∙ sym (rolls-Block all)) ∙ fold-roll-Statement Step layer (Statement-F.Block all) in
-    ap (λ (as' : List Statement). steps_runs (steps_of as') s c) f ∙ ap (λ (b : Step). step_runs b s c) (sym g)
+    ap (λ (as' : List Statement). steps_runs (steps_of as') s c) f ∙ ap (λ (b : Step). step_runs b s c) (sym (block_step a all e))
+
+-- One way more, where there is room for one.
+pub one_within : {T E : Type 0} (P : Type 0) (r : Result T E) (old new most : ℕ) → OnOk r P → OnOk r (new ≡ old + 1) → old < most → OnOk r (P × (new ≤ most))
+one_within P (Ok x) old new most p e l = (p, omega (arith, e, l))
+one_within P (Err f) old new most p e l = tt
 
 -- The arms of an if, by its test.
 
@@ -115,6 +138,11 @@ arm_taken s c p a e first (Some other) is h =
     let g : step_of a ≡ if_else (term_of e) (step_of first.value) (step_of other.value) = ap step_of is ∙ if_and_else e first other in
     sym (ap (λ (b : Step). step_runs b s c p) g ∙ ap (λ (t : Bool). if t then step_runs (step_of first.value) s (under s c (term_of e) p) p else step_runs (step_of other.value) s (under s c (term_of e) p) p) h)
 
+pub arm_untaken : (s : Setting) (c : EventSet) (p : Progress) (a : Statement) (e : Expression) (first : Box Statement Global) → a ≡ If' e first None → holds s (term_of e) p ≡ false → p ∷ [] ≡ step_runs (step_of a) s c p
+arm_untaken s c p a e first is h =
+    let g : step_of a ≡ if_only (term_of e) (step_of first.value) = ap step_of is ∙ only_if e first in
+    sym (ap (λ (b : Step). step_runs b s c p) g ∙ ap (λ (t : Bool). if t then step_runs (step_of first.value) s (under s c (term_of e) p) p else p ∷ []) h)
+
 pub arm_behind_else : (s : Setting) (c : EventSet) (p : Progress) (a : Statement) (e : Expression) (first other : Box Statement Global) → a ≡ If' e first (Some other) → holds s (term_of e) p ≡ false →
     step_runs (step_of other.value) s (under s c (term_of e) p) p ≡ step_runs (step_of a) s c p
 arm_behind_else s c p a e first other is h =
@@ -126,7 +154,7 @@ pub still_fault : (k room most n m : ℕ) (e : RunFault) → most + n ≤ room +
 still_fault k room most n m (TooManyRuns j) l h = (h.0, omega (arith, h.1, l))
 still_fault k room most n m NoMemory l h = h
 
-drop_first : {A : Type 0} (a : A) (xs : List A) (i : ℕ) → i < length xs → a ≡ get_or xs i a → drop i xs ≡ a ∷ drop (i + 1) xs
+pub drop_first : {A : Type 0} (a : A) (xs : List A) (i : ℕ) → i < length xs → a ≡ get_or xs i a → drop i xs ≡ a ∷ drop (i + 1) xs
 drop_first a xs i l e = rw add-one (drop-cons xs i a l ∙ ap (λ y. y ∷ drop (suc i) xs) (sym e))
 
 -- Each way has an end: 0 can be read.
@@ -220,6 +248,14 @@ pub serves_at : (values : List ℕ) (statements : List Statement) (i : ℕ) (a :
 serves_at values statements i a h l is =
     let P : List Statement → Type 0 = λ as'. ServesSteps values (steps_of as') in
     (subst P (drop_first a statements i l is) (serves_behind values i statements h)).0
+
+-- What serves a statement serves what stands in it.
+
+pub declare_serves : (values : List ℕ) (a : Statement) (inside : List Declarator) (ds : Vec Declarator Global) → a ≡ Declare' ds → inside ≡ ds.items → Serves values (step_of a) → ServesAll values (map declared_of inside)
+declare_serves values a inside ds is same h =
+    let P : Step → Type 0 = Serves values in
+    let Q : List Declarator → Type 0 = λ es. ServesAll values (map declared_of es) in
+    subst Q (sym same) (subst P (declare_step a ds is) h)
 
 served_behind : (values : List ℕ) (i : ℕ) (ds : List Declarator) → ServesAll values (map declared_of ds) → ServesAll values (map declared_of (drop i ds))
 served_behind values zero ds h = h

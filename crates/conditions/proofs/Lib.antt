@@ -4,3 +4,4 @@ pub mod Links
 pub mod ObservedPlaces
 pub mod Places
 pub mod StateValues
+pub mod Left

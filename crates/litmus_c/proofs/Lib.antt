@@ -3,6 +3,7 @@ pub mod Fair
 pub mod FirstRefusal
 pub mod Found
 pub mod Kept
+pub mod Left
 pub mod Names
 pub mod OneRefusal
 pub mod Steps

@@ -1,5 +1,5 @@
 -- The greatest value is the greatest constant with all that is added.
-use Rattle.std.proofs.Common.{◌≡◌, ℕ, ◌+◌, ◌≤◌, ◌<◌, List, [], ◌∷◌, ◌++◌, map, length, take, get_or, ap, sym, subst, ◌∙◌, refl, arith, inl, inr, Bool, true, if◌then◌else◌, ◌==◌}
+use Rattle.std.proofs.Common.{◌≢◌, ◌≡◌, ℕ, ◌+◌, ◌≤◌, ◌<◌, List, [], ◌∷◌, ◌++◌, map, length, take, get_or, ap, sym, subst, ◌∙◌, refl, arith, inl, inr, Bool, true, if◌then◌else◌, ◌==◌}
 use Rattle.std.specs.Prelude.{fold, max}
 use Rattle.std.specs.List.{list_any}
 use Rattle.std.proofs.lemmas.Bool.{cases_Bool, or_cases, eqb-true, false≢true}
@@ -108,6 +108,11 @@ greatest_is rs =
     omega (arith, top_sums constants (fold with_added [] rs) (omega (arith, constants_longer (0 ∷ 1 ∷ []) rs)), constants_top (0 ∷ 1 ∷ []) rs, adds_total [] rs)
 
 -- one number more
+
+pub greatest_behind : (m n : ℕ) (r : Role) → ((k : ℕ) → r ≢ Constant k) → ((k : ℕ) → r ≢ Added k) → (m ≡ constant_behind m r) × (n ≡ added_behind n r)
+greatest_behind m n (Constant k) f g = absurd (f k refl)
+greatest_behind m n (Added k) f g = absurd (g k refl)
+greatest_behind m n r f g = (refl, refl)
 
 pub next_greatest : (rs : List Role) (i : ℕ) (r d : Role) (m n m' n' : ℕ) → i < length rs → r ≡ get_or rs i d → m ≡ greatest_constant (take i rs) → n ≡ added (take i rs) → m' ≡ constant_behind m r → n' ≡ added_behind n r →
     (m' ≡ greatest_constant (take (i + 1) rs)) × (n' ≡ added (take (i + 1) rs))

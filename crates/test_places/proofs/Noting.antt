@@ -1,5 +1,6 @@
 -- Numbers that are noted one after another.
-use Rattle.std.proofs.Common.{◌≡◌, ℕ, ◌+◌, ◌≤◌, ◌<◌, List, [], ◌∷◌, length, take, get_or, ap, sym, subst, ◌∙◌, arith, inl, inr}
+use Rattle.std.proofs.Common.{Bool, cond, ◌≡◌, ℕ, ◌+◌, ◌≤◌, ◌<◌, List, [], ◌∷◌, length, take, get_or, ap, sym, subst, ◌∙◌, arith, inl, inr}
+use Rattle.std.specs.List.{count_by}
 use Rattle.std.specs.Prelude.{◌^◌, All, fold}
 use Rattle.std.proofs.lemmas.Bool.{cases_lt}
 use Rattle.std.proofs.lemmas.List.Sums.{fold_more}
@@ -26,6 +27,12 @@ skipped f b rs i d old l e n = noted f b rs i d old old l e (sym n)
 -- how many values there are, by what is noted
 pub values_are : (rs : List Role) (vs cs : List ℕ) → vs ≡ fold with_constant (0 ∷ 1 ∷ []) rs → cs ≡ fold with_added [] rs → values rs ≡ length (with_sums vs cs)
 values_are rs vs cs e f = sym (ap (λ us. length (with_sums us cs)) e ∙ ap (λ ds. length (with_sums (fold with_constant (0 ∷ 1 ∷ []) rs) ds)) f)
+
+-- how many pass a test, with one more
+pub count_more : {X : Type 0} (p : X → Bool) (xs : List X) (i : ℕ) (x : X) (b : Bool) → i < length xs → x ≡ get_or xs i x → b ≡ p x → count_by p (take (i + 1) xs) ≡ count_by p (take i xs) + cond b 1 0
+count_more p xs i x b l e t =
+    fold_more (λ a y. a + cond (p y) 1 0) 0 xs i x l ∙ ap (λ y. count_by p (take i xs) + cond (p y) 1 0) (sym e)
+    ∙ ap (λ c. count_by p (take i xs) + cond c 1 0) (sym t)
 
 -- few up to a place, and with one more
 pub few_more : {X : Type 0} (size : List X → ℕ) (most : ℕ) (xs : List X) (i : ℕ) → ((j : ℕ) → j ≤ i → size (take j xs) ≤ most) → size (take (i + 1) xs) ≤ most → (j : ℕ) → j ≤ i + 1 → size (take j xs) ≤ most

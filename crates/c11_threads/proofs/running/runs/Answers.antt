@@ -1,7 +1,9 @@
-use Rattle.std.proofs.Common.{ap, sym, subst}
+use Rattle.std.proofs.Common.{ap, sym, subst, length, arith}
 use Rattle.std.proofs.lemmas.Result.{err_from_is_err_and}
+use Rattle.std.proofs.lemmas.List.{length-map}
 use Rattle.litmus_tree.specs.Tree.{Steps, steps_of}
 use Rattle.litmus_value.specs.Values.{values_of}
+use Rattle.c11_threads.specs.Runs.{run_of}
 use Rattle.c11_threads.specs.Unrolled.{Setting}
 use Rattle.c11_threads.specs.Serving.{ServesSteps}
 use Rattle.c11_threads.proofs.Numerals.{serves_thread}
@@ -30,3 +32,6 @@ returns-clause-each c =
     let k = c.args.thread in
     let e = unrolled t k c.within-setting.result c.no_places.result (steps_of c.statements.result.now) c.in_ok-from.from c.within-setting.ensures.setting c.no_places.ensures c.statements.ensures c.in_ok-from.ensures in
     all_listed t k c.in_ok-runs_from.field-0.items (as_runs t k c.in_ok-runs_from.field-0.items c.in_ok-ends.ends.items _ c.in_ok-runs_from.ensures c.in_ok-ends.ensures.done.0 e)
+
+pub returns-clause-within : goal.returns-clause-within
+returns-clause-within c = omega (arith, ap length c.in_ok-runs_from.ensures, length-map c.in_ok-ends.ends.items run_of, c.in_ok-ends.ensures.done.1)

@@ -1,8 +1,10 @@
-use Rattle.std.proofs.Common.{◌≤◌, ◌+◌, [], arith, ap, ◌∙◌, sym, drop, length}
+use Rattle.std.proofs.Common.{◌∙◌, List, ap, sym, ◌≤◌, ◌+◌, [], arith, drop, length}
 use Rattle.std.specs.List.{flat_map}
-use Rattle.std.proofs.lemmas.Result.{err_from_is_err_and}
+use Rattle.std.proofs.lemmas.List.{drop_all}
+use Rattle.conditions.specs.declared.place.Binding.{Binding}
 use Rattle.litmus_c.specs.Rules.{place_locations}
 use Rattle.litmus_tree.specs.Names.{with_names}
+use Rattle.std.proofs.lemmas.Result.{err_from_is_err_and}
 use Rattle.litmus_c.proofs.Names.{at_least, next, explained}
 use Rattle.litmus_c.proofs.making.entry_locations.Goals as goal
 
@@ -22,3 +24,8 @@ loop-entry-preserved c =
           sym (next (λ b. place_locations b.place) c.entry-item.result es i c.loop-entry.locations.items c.loop-entry-test.true c.entry-item.is) ∙ c.loop-entry.invariant.rest;
       few = c.in_ok-note_place.ensures.few;
     }
+
+pub returns-clause-done : goal.returns-clause-done
+returns-clause-done c =
+    let all = c.loop-entry.locations.items in
+    sym (ap (λ (xs : List Binding). with_names all (flat_map (λ b. place_locations b.place) xs)) (drop_all c.loop-entry.entry-index c.args.entries.now c.loop-entry-test.false)) ∙ c.loop-entry.invariant.rest

@@ -1,9 +1,11 @@
-use Rattle.std.proofs.Common.{◌≤◌, ◌+◌, [], arith, ap, ◌∙◌, sym, drop, length, map}
+use Rattle.std.proofs.Common.{◌∙◌, List, map, ap, sym, ◌≤◌, ◌+◌, [], arith, drop, length}
 use Rattle.std.specs.List.{flat_map}
-use Rattle.std.proofs.lemmas.Result.{err_from_is_err_and}
+use Rattle.std.proofs.lemmas.List.{drop_all}
+use Rattle.litmus_syntax.specs.declared.draft.Body.{Body}
 use Rattle.litmus_syntax.specs.Drafts.{listing_of}
-use Rattle.litmus_c.specs.Rules.{place_locations, parameter_names}
+use Rattle.litmus_c.specs.Rules.{parameter_names, place_locations}
 use Rattle.litmus_tree.specs.Names.{with_names}
+use Rattle.std.proofs.lemmas.Result.{err_from_is_err_and}
 use Rattle.litmus_c.proofs.Names.{at_least_of, next_of, explained, first_longer}
 use Rattle.litmus_c.proofs.making.find_locations.Goals as goal
 
@@ -35,3 +37,8 @@ loop-body-preserved c =
           sym (next_of parameter_names listing_of c.body-item.result bs i c.loop-body.locations.items c.loop-body-test.true c.body-item.is) ∙ c.loop-body.invariant.rest;
       few = c.in_ok-note_parameters.ensures.few;
     }
+
+pub returns-clause-done : goal.returns-clause-done
+returns-clause-done c =
+    let all = c.loop-body.locations.items in
+    sym (ap (λ (xs : List Body). with_names all (flat_map parameter_names (map listing_of xs))) (drop_all c.loop-body.body-index c.args.bodies.now c.loop-body-test.false)) ∙ c.loop-body.invariant.rest

@@ -1,4 +1,4 @@
-use Rattle.std.proofs.Common.{◌≡◌, ◌≤◌, ◌<◌, List, arith, length, map, rules}
+use Rattle.std.proofs.Common.{ap, ◌≡◌, ◌≤◌, ◌<◌, List, arith, length, map, rules}
 use Rattle.conditions.specs.Conditions.{Condition}
 use Rattle.conditions.specs.declared.place.Binding.{Binding}
 use Rattle.conditions.specs.declared.place.Place.{Place}
@@ -91,3 +91,9 @@ returns-clause-kept c n =
     let small_values = rw (c.as_slice-4.ensures.value, c.as_slice-5.ensures.value) at c.in_ok-check_values.ensures.small in
     let events = rw (c.as_slice-6.ensures.value, c.as_slice-7.ensures.value) at c.in_ok-check_events.ensures.few in
     kept_rules w is ts xs c.in_ok-initial.ensures c.in_ok-threads.ensures locations (omega (arith, few, map_len listing_of c.args.bodies.items)) c.in_ok-locations.ensures.few names plain atomic values small_values events
+
+pub returns-clause-threads : goal.returns-clause-threads
+returns-clause-threads c = c.in_ok-threads.ensures
+
+pub check_events-requires : goal.check_events-requires
+check_events-requires c = omega (arith, ap length c.as_slice-6.ensures.value, c.in_ok-locations.ensures.few)

@@ -1,6 +1,8 @@
-use Rattle.std.proofs.Common.{◌≤◌, ◌+◌, arith, ap, ◌∙◌, sym, drop, length, map}
+use Rattle.std.proofs.Common.{◌∙◌, List, map, ap, sym, ◌≤◌, ◌+◌, arith, drop, length}
+use Rattle.std.proofs.lemmas.List.{drop_all}
+use Rattle.litmus_tree.specs.declared.tree.Parameter.{Parameter}
+use Rattle.litmus_tree.specs.Names.{with_names, with_name}
 use Rattle.std.proofs.lemmas.Result.{err_from_is_err_and}
-use Rattle.litmus_tree.specs.Names.{with_name, with_names}
 use Rattle.litmus_c.proofs.Names.{at_least_with, next_with, explained}
 use Rattle.litmus_c.proofs.making.note_parameters.Goals as goal
 
@@ -20,3 +22,8 @@ loop-parameter-preserved c =
           sym (next_with (λ p. p.name) c.parameter-item.result ps i c.loop-parameter.locations.items c.loop-parameter-test.true c.parameter-item.is) ∙ c.loop-parameter.invariant.rest;
       few = c.in_ok-note_location.ensures.few;
     }
+
+pub returns-clause-done : goal.returns-clause-done
+returns-clause-done c =
+    let all = c.loop-parameter.locations.items in
+    sym (ap (λ (xs : List Parameter). with_names all (map (λ p. p.name) xs)) (drop_all c.loop-parameter.parameter-index c.args.parameters.now c.loop-parameter-test.false)) ∙ c.loop-parameter.invariant.rest

@@ -60,3 +60,6 @@ returns-then-branch c =
       few = c.loop-place.invariant.few;
       many = omega (arith, seen, values_are (take (place + 1) numbers) c.deref.result.now c.deref-in-loop-place.result.now (c.deref.ensures.value ∙ constants) (c.deref-in-loop-place.ensures.value ∙ adds));
     }
+
+pub note-requires : goal.note-requires
+note-requires c = c.loop-place.invariant.narrow

@@ -6,7 +6,7 @@ use Rattle.std.proofs.lemmas.List.{length-map}
 use Rattle.litmus_tree.specs.declared.tree.RightSide.TheVariants.{Value as Value'}
 use Rattle.litmus_tree.specs.declared.tree.Statement.TheVariants.{Assign as Assign', If as If'}
 use Rattle.litmus_tree.proofs.tree.Statement.TheLaws.{the_size}
-use Rattle.litmus_tree.specs.Tree.{step_of, term_of}
+use Rattle.litmus_tree.specs.Tree.{Step, step_of, term_of}
 use denote.Param.Weighed.{at_most}
 use Rattle.c11_threads.specs.Runs.{Progress}
 use Rattle.c11_threads.specs.declared.content.Content.{Content}
@@ -14,7 +14,7 @@ use Rattle.c11_threads.specs.Contents.{joined}
 use Rattle.c11_threads.specs.Unrolled.{under, holds, step_runs}
 use Rattle.c11_threads.specs.Faults.{IsFaultAt}
 use Rattle.c11_threads.proofs.Filling.{joined_on, all_joined, still_within}
-use Rattle.c11_threads.proofs.Turns.{Ways, arm_taken, arm_behind_else, some_step, way_fault, further, turned, turn_fault, after_idle, in_value, in_block, serves_at}
+use Rattle.c11_threads.proofs.Turns.{Ways, arm_taken, arm_behind_else, arm_untaken, declare_step, assign_step, write_step, perform_step, block_step, one_within, declare_serves, some_step, way_fault, further, turned, turn_fault, after_idle, in_value, in_block, serves_at}
 use Rattle.c11_threads.proofs.unroll.Setting.+performing.Goals as goal
 
 pub perform-returns-in-Empty-clause-fault : goal.perform-returns-in-Empty-clause-fault
@@ -149,3 +149,94 @@ perform_all-perform_each-requires n c =
       omega (arith, c.decreases, at_most the_size statements at item c.loop-statement-test.true, ap the_size c.statement-item.is),
       (c.requires.fit, (serves_at c.args.self.now.values statements at item c.requires.values c.loop-statement-test.true c.statement-item.is, omega (arith, c.loop-statement.invariant.within))),
     )
+
+pub perform_each-perform_apart-requires : goal.perform_each-perform_apart-requires
+perform_each-perform_apart-requires n c = (omega (arith, c.decreases), (c.requires.fit, (c.requires.values, c.requires.most)))
+
+pub perform_apart-perform-requires : goal.perform_apart-perform-requires
+perform_apart-perform-requires n c =
+    let at = c.loop-from in
+    let rest = into_iter_items c.next.new.self in
+    let steps : into_iter_items at.from-iterator ≡ c.in-Some.from ∷ rest = c.in-Some.ensures.steps.0 in
+    (omega (arith, c.decreases), (c.requires.fit, (c.requires.values, omega (arith, at.invariant.within, at.invariant.waiting, ap length steps))))
+
+pub perform_each-perform_apart-requires-in_default : goal.perform_each-perform_apart-requires-in_default
+perform_each-perform_apart-requires-in_default n c = (omega (arith, c.decreases), (c.requires.fit, (c.requires.values, c.requires.most)))
+
+pub perform-returns-in-None-clause-done : goal.perform-returns-in-None-clause-done
+perform-returns-in-None-clause-done n c =
+    let s = c.args.self.now in
+    let e = term_of c.in-If.expression in
+    let test : holds s e c.args.from ≡ false = search rules in
+    let is = c.in-If.is ∙ ap (If' c.in-If.expression c.in-If.first) c.in-None.is in
+    let all = c.add-in-None.new.ends.items in
+    let P : List Progress → Type 0 = λ rs. OnOk c.add-in-None.result ((all ≡ c.args.ends.now.items ++ rs) × (length all ≤ c.args.most)) in
+    subst P (arm_untaken s c.args.ctrl.now c.args.from c.args.statement.now c.in-If.expression c.in-If.first is test) (one_within _ c.add-in-None.result (length c.args.ends.now.items) (length all) c.args.most c.add-in-None.ensures.items c.add-in-None.ensures.len c.requires.most)
+
+pub perform_from-perform_all-requires : goal.perform_from-perform_all-requires
+perform_from-perform_all-requires n c = (omega (arith, c.decreases), (c.requires.fit, (c.requires.values, rw c.in_ok-single.ensures c.requires.most)))
+
+pub perform-returns-in-Write-clause-done : goal.perform-returns-in-Write-clause-done
+perform-returns-in-Write-clause-done n c =
+    let s = c.args.self.now in
+    let all = c.store.new.ends.items in
+    let P : Step → Type 0 = λ b. OnOk c.store.result ((all ≡ c.args.ends.now.items ++ step_runs b s c.args.ctrl.now c.args.from) × (length all ≤ c.args.most)) in
+    subst P (sym (write_step c.args.statement.now c.in-Write.location c.in-Write.expression c.in-Write.is)) (one_within _ c.store.result (length c.args.ends.now.items) (length all) c.args.most c.store.ensures.items c.store.ensures.len c.requires.most)
+
+pub perform-returns-in-Perform-clause-done : goal.perform-returns-in-Perform-clause-done
+perform-returns-in-Perform-clause-done n c =
+    let s = c.args.self.now in
+    let all = c.call.new.ends.items in
+    let P : Step → Type 0 = λ b. OnOk c.call.result ((all ≡ c.args.ends.now.items ++ step_runs b s c.args.ctrl.now c.args.from) × (length all ≤ c.args.most)) in
+    subst P (sym (perform_step c.args.statement.now c.in-Perform.call c.in-Perform.is)) c.call.ensures.done
+
+pub perform-returns-in-Assign-clause-done : goal.perform-returns-in-Assign-clause-done
+perform-returns-in-Assign-clause-done n c =
+    let s = c.args.self.now in
+    let all = c.assign.new.ends.items in
+    let P : Step → Type 0 = λ b. OnOk c.assign.result ((all ≡ c.args.ends.now.items ++ step_runs b s c.args.ctrl.now c.args.from) × (length all ≤ c.args.most)) in
+    subst P (sym (assign_step c.args.statement.now c.in-Assign.register c.in-Assign.right c.in-Assign.is)) (rw c.register.ensures at c.assign.ensures.done)
+
+pub perform-returns-in-Block-clause-done : goal.perform-returns-in-Block-clause-done
+perform-returns-in-Block-clause-done n c =
+    let s = c.args.self.now in
+    let all = c.perform_onto.new.ends.items in
+    let P : Step → Type 0 = λ b. OnOk c.perform_onto.result ((all ≡ c.args.ends.now.items ++ step_runs b s c.args.ctrl.now c.args.from) × (length all ≤ c.args.most)) in
+    subst P (sym (block_step c.args.statement.now c.in-Block.statements c.in-Block.is)) (rw c.as_slice.ensures.value at c.perform_onto.ensures.done)
+
+pub perform-returns-in-Declare-clause-done : goal.perform-returns-in-Declare-clause-done
+perform-returns-in-Declare-clause-done n c =
+    let s = c.args.self.now in
+    let all = c.declare_onto.new.ends.items in
+    let P : Step → Type 0 = λ b. OnOk c.declare_onto.result ((all ≡ c.args.ends.now.items ++ step_runs b s c.args.ctrl.now c.args.from) × (length all ≤ c.args.most)) in
+    subst P (sym (declare_step c.args.statement.now c.in-Declare.declarators c.in-Declare.is)) (rw c.as_slice-in-Declare.ensures.value at c.declare_onto.ensures.done)
+
+pub perform_onto-perform_from-requires : goal.perform_onto-perform_from-requires
+perform_onto-perform_from-requires n c = (omega (arith, c.decreases), (c.requires.fit, (c.requires.values, omega (arith, c.requires.most, c.len.ensures))))
+
+pub perform-declare_onto-requires-clause-values : goal.perform-declare_onto-requires-clause-values
+perform-declare_onto-requires-clause-values n c = declare_serves c.args.self.now.values c.args.statement.now c.as_slice-in-Declare.result.now c.in-Declare.declarators c.in-Declare.is c.as_slice-in-Declare.ensures.value c.requires.values
+
+pub perform-returns-in-Perform-clause-fault : goal.perform-returns-in-Perform-clause-fault
+perform-returns-in-Perform-clause-fault n c =
+    let s = c.args.self.now in
+    let P : Step → Type 0 = λ b. IfErr c.call.result (IsFaultAt s.thread c.args.most (length c.args.ends.now.items + length (step_runs b s c.args.ctrl.now c.args.from))) in
+    subst P (sym (perform_step c.args.statement.now c.in-Perform.call c.in-Perform.is)) c.call.ensures.fault
+
+pub perform-returns-in-Assign-clause-fault : goal.perform-returns-in-Assign-clause-fault
+perform-returns-in-Assign-clause-fault n c =
+    let s = c.args.self.now in
+    let P : Step → Type 0 = λ b. IfErr c.assign.result (IsFaultAt s.thread c.args.most (length c.args.ends.now.items + length (step_runs b s c.args.ctrl.now c.args.from))) in
+    subst P (sym (assign_step c.args.statement.now c.in-Assign.register c.in-Assign.right c.in-Assign.is)) (rw c.register.ensures at c.assign.ensures.fault)
+
+pub perform-returns-in-Block-clause-fault : goal.perform-returns-in-Block-clause-fault
+perform-returns-in-Block-clause-fault n c =
+    let s = c.args.self.now in
+    let P : Step → Type 0 = λ b. IfErr c.perform_onto.result (IsFaultAt s.thread c.args.most (length c.args.ends.now.items + length (step_runs b s c.args.ctrl.now c.args.from))) in
+    subst P (sym (block_step c.args.statement.now c.in-Block.statements c.in-Block.is)) (rw c.as_slice.ensures.value at c.perform_onto.ensures.fault)
+
+pub perform-returns-in-Declare-clause-fault : goal.perform-returns-in-Declare-clause-fault
+perform-returns-in-Declare-clause-fault n c =
+    let s = c.args.self.now in
+    let P : Step → Type 0 = λ b. IfErr c.declare_onto.result (IsFaultAt s.thread c.args.most (length c.args.ends.now.items + length (step_runs b s c.args.ctrl.now c.args.from))) in
+    subst P (sym (declare_step c.args.statement.now c.in-Declare.declarators c.in-Declare.is)) (rw c.as_slice-in-Declare.ensures.value at c.declare_onto.ensures.fault)

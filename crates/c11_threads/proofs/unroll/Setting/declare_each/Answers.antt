@@ -3,7 +3,7 @@ use Rattle.std.specs.Vec.Iter.{into_iter_items}
 use Rattle.std.proofs.lemmas.Result.{err_from_is_err_and}
 use Rattle.litmus_tree.specs.Tree.{declared_of}
 use Rattle.c11_threads.specs.Unrolled.{declare_runs}
-use Rattle.c11_threads.proofs.Filling.{joined_on}
+use Rattle.c11_threads.proofs.Filling.{joined_on, all_joined}
 use Rattle.c11_threads.proofs.Turns.{some_declare, way_fault}
 use Rattle.c11_threads.proofs.unroll.Setting.declare_each.Goals as goal
 
@@ -33,3 +33,10 @@ loop-from-preserved c =
       waiting = omega (arith, at.invariant.waiting, short);
       left = omega (arith, c.in-Some.ensures.steps.1, at.invariant.left, short);
     }
+
+pub returns-clause-done : goal.returns-clause-done
+returns-clause-done c =
+    let at = c.loop-from in
+    let d = declared_of c.args.declarator.now in
+    let none : length (into_iter_items at.from-iterator) ≡ 0 = omega (arith, c.in-None.ensures.steps.0, at.invariant.left) in
+    (all_joined (declare_runs c.args.self.now c.args.ctrl.now d.register d.value) (into_iter_items at.from-iterator) at.ends.items _ none at.invariant.is, omega (arith, at.invariant.within))
