@@ -22,4 +22,3 @@ pub mod Spelled
 pub mod Statements
 pub mod SingleSymbols
 pub mod Unspelled
-pub mod Variants
