@@ -8,7 +8,6 @@ pub mod Levels
 pub mod ItemsSound
 pub mod Lists
 pub mod Complete
-pub mod Exits
 pub mod ItemsComplete
 pub mod Alike
 pub mod AlikeReadings
