@@ -3,8 +3,8 @@ use Rattle.std.proofs.Common.{◌≡◌, List, map, Bool, IsTrue, ◌↔◌, sym
 use Rattle.std.specs.Cmp.Derive.Mapped.{pointwise-map}
 use Rattle.std.specs.Cmp.Lexicographic.{pointwise}
 use Rattle.cat_tree.specs.Equality.{same_defined, same_bound, same_shown, same_clause, same_file}
-use Rattle.cat_tree.specs.Exact.{defined_exact, clause_exact, file_exact}
-use Rattle.cat_tree.specs.Tree.{defined_of, bound_of, shown_of, clause_of, Defined, Clause, File}
+use Rattle.cat_tree.specs.Exact.{defined_exact, bound_exact, clause_exact, file_exact}
+use Rattle.cat_tree.specs.Tree.{defined_of, bound_of, shown_of, clause_of, Defined, Bound, Clause, File}
 use Rattle.cat_tree.specs.declared.tree.Binding.{Binding}
 use Rattle.cat_tree.specs.declared.tree.Definition.{Definition}
 use Rattle.cat_tree.specs.declared.tree.Element.{Element}
@@ -26,6 +26,9 @@ clauses_told xs ys = sym (pointwise-map clause_of same_clause xs ys)
 
 pub definition_told : (a b : Defined) (r : Bool) → r ≡ same_defined a b → IsTrue r ↔ (a ≡ b)
 definition_told a b r e = rw e (defined_exact a b)
+
+pub binding_told : (a b : Bound) (r : Bool) → r ≡ same_bound a b → IsTrue r ↔ (a ≡ b)
+binding_told a b r e = rw e (bound_exact a b)
 
 pub clause_told : (a b : Clause) (r : Bool) → r ≡ same_clause a b → IsTrue r ↔ (a ≡ b)
 clause_told a b r e = rw e (clause_exact a b)
