@@ -11,3 +11,4 @@ pub mod Bases
 pub mod Exact
 pub mod Direct
 pub mod Extending
+pub mod Told

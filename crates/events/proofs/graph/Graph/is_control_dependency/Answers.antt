@@ -7,3 +7,6 @@ returns-in-None c = (
   λ t. absurd (false≢true t),
   λ h. absurd (no_control c.args.self.now c.args.first c.args.second c.in-Own.thread c.in-Own.place c.in-Own.is c.in-None.ensures h),
 )
+
+pub returns-in-Some : goal.returns-in-Some
+returns-in-Some c = rw c.in-Own.is (rw c.in-Some.ensures at c.is_dependency.ensures)

@@ -3,6 +3,7 @@ use Rattle.events.specs.declared.event.EventId.{EventId}
 use Rattle.events.specs.declared.event.EventId.TheVariants.{Own}
 use Rattle.events.specs.Named.{names_from}
 use Rattle.events.proofs.Numbers.{names_next}
+use Rattle.std.proofs.lemmas.List.{drop_all, append-nil}
 use Rattle.events.proofs.view.names.push_names.Goals as goal
 
 pub loop-place-preserved : goal.loop-place-preserved
@@ -15,3 +16,6 @@ loop-place-preserved c =
     ∙ append_assoc c.loop-place.names.items (Own k p ∷ []) rest
     ∙ ap (λ (ns : List EventId). c.loop-place.names.items ++ ns) (sym (names_next k p es c.loop-place-test.true))
     ∙ c.loop-place.invariant
+
+pub returns : goal.returns
+returns c = sym (append-nil c.loop-place.names.items) ∙ rw (drop_all c.loop-place.place c.args.events.now c.loop-place-test.false) at c.loop-place.invariant

@@ -1,4 +1,4 @@
-use Rattle.std.proofs.Common.{◌≡◌, ◌∙◌, ap, refl, List}
+use Rattle.std.proofs.Common.{◌≡◌, ◌∙◌, ap, refl, List, subst, sym, ℕ}
 use Rattle.std.specs.Prelude.{filter}
 use Rattle.events.specs.declared.event.EventId.{EventId}
 use Rattle.events.specs.declared.named.RelName.TheVariants as names
@@ -6,6 +6,7 @@ use Rattle.events.specs.Executions.{is_read}
 use Rattle.events.specs.Named.{read_names, access_of}
 use Rattle.events.specs.Structures.{structure_of, bare}
 use Rattle.events.proofs.Structures.{moved_names, moved_reads, moved_firsts, moved, same_structure}
+use Rattle.events.specs.Rows.{AreFirsts}
 use Rattle.events.proofs.view.structure.EventStructure.of.Goals as goal
 
 pub new-numbered-requires-clause-reads : goal.new-numbered-requires-clause-reads
@@ -30,3 +31,6 @@ invariant_of-result c =
       int = moved m h names.Int _ refl d c.tested-2.ensures;
       loc = moved m h names.Loc _ refl d c.tested-3.ensures;
     }
+
+pub new-numbered-requires-clause-firsts : goal.new-numbered-requires-clause-firsts
+new-numbered-requires-clause-firsts c = let P : List ℕ → Type 0 = λ fs. AreFirsts c.args.graph.now fs in subst P (sym c.deref-4.ensures.value) c.in_ok-firsts.ensures
