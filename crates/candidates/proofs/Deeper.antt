@@ -1,7 +1,7 @@
 -- What is known at the depths that are listed so far, and at those that are left.
 use Rattle.std.proofs.Common.{◌≡◌, ℕ, zero, suc, ◌+◌, ◌-◌, ◌*◌, ◌<◌, ◌≤◌, List, [], ◌∷◌, ◌++◌, append_assoc, append-nil, length, map, drop, drop-cons, get_or, add-one, Bool, true, false, nat_lt, if◌then◌else◌, refl, sym, ◌∙◌, ap, arith}
 use Rattle.std.proofs.lemmas.List.{map-append, drop_all}
-use Rattle.std.proofs.lemmas.List.Elements.{filter-append, All-head, All-tail}
+use Rattle.std.proofs.lemmas.List.Elements.{filter-append, All-head, All-push, All-tail}
 use Rattle.std.specs.List.{All, filter}
 use Rattle.events.specs.declared.event.Event.{Event}
 use Rattle.events.specs.Executions.{ThreadRun}
@@ -96,3 +96,8 @@ pub no_depths : (n : ℕ) → depths_of n [] ≡ []
 no_depths n =
     let rest = filter (is_open n []) (by_locations [] n) in
     ap (λ z. map (depth_of n []) (if nat_lt 1 (z * 1) then Sources 0 ∷ rest else rest)) (ones (upto n)) ∙ ap (λ ks. map (depth_of n []) (filter (is_open n []) ks)) (no_places n)
+
+-- A depth that may be added is one of the block's.
+pub depths_more : (n : ℕ) (runs : List ThreadRun) (old new : List Depth) (d : Depth) (b : Bool) → new ≡ (if b then old ++ d ∷ [] else old) → IsDepth n runs d → All (IsDepth n runs) old → All (IsDepth n runs) new
+depths_more n runs old new d true e k h = rw e (All-push (IsDepth n runs) old d h k)
+depths_more n runs old new d false e k h = rw e h

@@ -31,3 +31,5 @@ pub mod Stretches
 pub mod Tallies
 pub mod Walked
 pub mod Writing
+pub mod Pages
+pub mod Scenes

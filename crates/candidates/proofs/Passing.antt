@@ -61,6 +61,15 @@ again_of init runs orders number h is e inside k =
       };
     }
 
+-- From a number on whose reads come behind a known execution's, and before the next that may fit, no candidate is an execution.
+pub behind_of : (init : List ℕ) (runs : List ThreadRun) (orders number : ℕ) (h : Hit) → orders ≡ count_co (length init) runs → h.at / orders < number / orders → number < h.until → IsKnown init runs h → IsLook init runs number (of_look.Until h.until)
+behind_of init runs orders number h is later inside k =
+    let o = count_co (length init) runs in
+    let s : 1 ≤ o = product_positive (count_orders runs) (orders_positive runs) (upto (length init)) in
+    let P : ℕ → Type 0 = λ q. h.at / q < number / q in
+    let far : h.at / o < number / o = subst P is later in
+    (inside, k.most, λ m a b. k.behind m (omega (arith, far, later_div number m o (omega (arith, s)) a)) b)
+
 -- From the first number by which the reads fit to the first execution.
 pub first_of : (init : List ℕ) (runs : List ThreadRun) (orders number at : ℕ) (h : Hit) → orders ≡ count_co (length init) runs → IsWhole init runs (reads runs) (number / orders) h → number ≤ at → h.at * orders ≤ at → (at ≡ number ⊎ at ≡ h.at * orders) → IsFirst init runs number (record { at = at; until = h.until * orders })
 first_of init runs orders number at h is whole low high one =

@@ -1,10 +1,11 @@
-use Rattle.std.proofs.Common.{◌∙◌, ◌/◌, List, ap, subst, sym}
+use Rattle.std.proofs.Common.{◌∙◌, ◌/◌, List, ap, subst, sym, length}
 use Rattle.events.specs.declared.event.Event.{Event}
 use Rattle.events.specs.Executions.{GraphValue, IsGraph}
 use Rattle.candidates.specs.Readings.{read_at}
 use Rattle.candidates.proofs.Graphs.{is_candidate, is_graph}
 use Rattle.candidates.proofs.Listed.{by_writes}
 use Rattle.std.proofs.lemmas.Result.{IfOk-from_err}
+use Rattle.candidates.proofs.Pages.{reading_within, some_orders}
 use Rattle.candidates.proofs.assembly.assemble.Goals as goal
 
 pub read_from-requires-clause-page : goal.read_from-requires-clause-page
@@ -48,3 +49,9 @@ returns c =
     c.new.ensures ∙ is_candidate init runs orders number c.in_ok-values.values.items c.in_ok-runs.runs.items c.in_ok-rf.rf.items c.in_ok-co.co.items
     c.in_ok-values.ensures.items (c.in_ok-runs.ensures ∙ c.deref-2.ensures.value) c.requires.page.orders
     (c.in_ok-rf.ensures ∙ ap (λ (rs : List Event). read_at runs rs (number / orders)) (c.deref.ensures.value ∙ c.requires.page.reads_are)) c.in_ok-co.ensures
+
+pub read_from-requires-clause-number : goal.read_from-requires-clause-number
+read_from-requires-clause-number c = reading_within (length c.args.init.now) c.args.page.now c.args.number c.requires.page c.requires.number
+
+pub nonzero_rem-number : goal.nonzero_rem-number
+nonzero_rem-number c = some_orders (length c.args.init.now) c.args.page.now c.requires.page

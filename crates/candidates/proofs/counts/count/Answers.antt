@@ -1,7 +1,7 @@
-use Rattle.std.proofs.Common.{rules, ◌≡◌, ◌≢◌, ◌∙◌, ◌+◌, ℕ, true, false, List, ap, sym}
+use Rattle.std.proofs.Common.{rules, ◌≡◌, ◌≢◌, ◌∙◌, ◌+◌, ℕ, true, false, List, ap, sym, take, arith}
 use Rattle.std.specs.List.{count_by}
-use Rattle.std.proofs.lemmas.List.{take_all}
-use Rattle.std.proofs.lemmas.List.Sums.{count_by_more_yes, count_by_more_no}
+use Rattle.std.proofs.lemmas.List.{take_all, length-take-le}
+use Rattle.std.proofs.lemmas.List.Sums.{count_by_more_yes, count_by_more_no, count_by-le-length}
 use Rattle.events.specs.declared.event.Event.{Event}
 use Rattle.events.specs.Executions.{is_read, writes_to}
 use Rattle.candidates.specs.Bounds.{reads_from}
@@ -45,3 +45,15 @@ returns-clause-reads c = c.loop-event.invariant.reads ∙ ap (λ (es : List Even
 
 pub returns-clause-writes : goal.returns-clause-writes
 returns-clause-writes c = c.loop-event.invariant.writes ∙ ap (λ (es : List Event). count_by (writes_to c.args.location) es) (take_all c.loop-event.event-index c.args.events.now c.loop-event-test.false)
+
+pub overflow_add-writes : goal.overflow_add-writes
+overflow_add-writes c =
+    let i = c.loop-event.event-index in
+    let front = take i c.args.events.now in
+    omega (arith, c.loop-event.invariant.writes, count_by-le-length (writes_to c.args.location) front, length-take-le i c.args.events.now (omega (arith, c.loop-event-test.true)), c.loop-event-test.true)
+
+pub overflow_add-reads : goal.overflow_add-reads
+overflow_add-reads c =
+    let i = c.loop-event.event-index in
+    let front = take i c.args.events.now in
+    omega (arith, c.loop-event.invariant.reads, count_by-le-length (reads_from c.args.location) front, length-take-le i c.args.events.now (omega (arith, c.loop-event-test.true)), c.loop-event-test.true)

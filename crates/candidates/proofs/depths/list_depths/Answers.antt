@@ -1,10 +1,10 @@
-use Rattle.std.proofs.Common.{◌≡◌, ◌∙◌, ◌++◌, List, length, ap, arith}
+use Rattle.std.proofs.Common.{◌≡◌, ◌∙◌, ◌++◌, List, length, ap, arith, ltb}
 use Rattle.std.proofs.lemmas.Result.{IfOk-from_err}
 use Rattle.events.specs.declared.event.Event.{Event}
 use Rattle.candidates.specs.declared.depths.Depth.{Depth}
 use Rattle.candidates.specs.declared.depths.Known.TheVariants.{Sources}
 use Rattle.candidates.specs.Depths.{before_reads, known_of}
-use Rattle.candidates.proofs.Deeper.{all_depths, last_depth}
+use Rattle.candidates.proofs.Deeper.{all_depths, last_depth, depths_more}
 use Rattle.candidates.proofs.depths.list_depths.Goals as goal
 
 pub returns-clause-are : goal.returns-clause-are
@@ -49,3 +49,12 @@ returns-in_err-push_orders-clause-depths c = IfOk-from_err c.from_residual-in_er
 
 pub returns-in_err-push_orders-clause-are : goal.returns-in_err-push_orders-clause-are
 returns-in_err-push_orders-clause-are c = IfOk-from_err c.from_residual-in_err-push_orders.result _ c.from_residual-in_err-push_orders.ensures.0
+
+pub push_orders-requires-clause-depths : goal.push_orders-requires-clause-depths
+push_orders-requires-clause-depths c =
+    let runs = c.args.page.now.runs.items in
+    let rs = c.deref.result.now in
+    let many : c.len.result ≡ length rs = omega (arith, c.len.ensures, ap (λ (es : List Event). length es) c.deref.ensures.value) in
+    let d : Depth = record { size = c.args.page.now.orders; known = Sources c.len.result } in
+    depths_more c.args.locations runs c.push_reading.new.depths.items c.push_depth.new.depths.items d (ltb 1 d.size) c.in_ok-push_depth.ensures
+    (last_depth c.args.locations runs rs d.size c.len.result (c.deref.ensures.value ∙ c.requires.reads_are) c.requires.orders many) c.in_ok-push_reading.ensures.depths

@@ -1,6 +1,7 @@
-use Rattle.std.proofs.Common.{subst, sym}
+use Rattle.std.proofs.Common.{subst, sym, length}
 use Rattle.events.specs.Executions.{GraphValue, IsGraph}
 use Rattle.candidates.proofs.Graphs.{is_candidate, is_graph}
+use Rattle.candidates.proofs.Pages.{some_orders}
 use Rattle.candidates.proofs.partial.assemble_in.Goals as goal
 
 pub new-requires : goal.new-requires
@@ -13,3 +14,6 @@ new-requires c =
     c.in_ok-filled.ensures.init c.in_ok-filled.ensures.runs c.requires.page.orders c.in_ok-filled.ensures.rf c.in_ok-co.ensures in
     let P : GraphValue → Type 0 = IsGraph in
     subst P (sym e) (is_graph init runs number c.requires.page.within c.requires.number)
+
+pub nonzero_rem-number : goal.nonzero_rem-number
+nonzero_rem-number c = some_orders (length c.args.init.now) c.args.page.now c.requires.page

@@ -6,6 +6,7 @@ use Rattle.candidates.specs.Blocks.{open_pairs}
 use Rattle.candidates.specs.Executions.{upto}
 use Rattle.candidates.proofs.Graphs.{is_graph}
 use Rattle.candidates.proofs.Spanning.{cut_of_orders, cut_is_graph}
+use Rattle.candidates.proofs.Pages.{some_orders}
 use Rattle.candidates.proofs.partial.by_orders.Goals as goal
 
 pub new-requires : goal.new-requires
@@ -37,3 +38,6 @@ returns c =
     let co = c.in_ok-push_open.ensures ∙ ap (λ (ws : List (List EventId)). ws ++ open_pairs runs free k (upto n)) c.in_ok-co.ensures in
     c.new.ensures ∙ cut_of_orders init runs free k number page.orders c.in_ok-filled.filled.init.items c.in_ok-filled.filled.runs.items c.in_ok-filled.filled.rf.items c.push_open.new.co.items
     c.in_ok-filled.ensures.init c.in_ok-filled.ensures.runs c.requires.page.orders rf co
+
+pub nonzero_rem-digits : goal.nonzero_rem-digits
+nonzero_rem-digits c = some_orders (length c.args.init.now) c.args.page.now c.requires.page

@@ -1,6 +1,7 @@
 use Rattle.candidates.proofs.Listed.{by_writes}
-use Rattle.std.proofs.Common.{◌∙◌}
+use Rattle.std.proofs.Common.{◌∙◌, length}
 use Rattle.std.proofs.lemmas.Result.{IfOk-from_err}
+use Rattle.candidates.proofs.Pages.{reading_within, some_orders}
 use Rattle.candidates.proofs.partial.refill.Goals as goal
 
 pub read_into-requires-clause-page : goal.read_into-requires-clause-page
@@ -41,3 +42,9 @@ returns-in_err-rf-clause-runs c = IfOk-from_err c.from_residual-in_err-rf.result
 
 pub returns-in_err-rf-clause-rf : goal.returns-in_err-rf-clause-rf
 returns-in_err-rf-clause-rf c = IfOk-from_err c.from_residual-in_err-rf.result _ c.from_residual-in_err-rf.ensures.0
+
+pub read_into-requires-clause-number : goal.read_into-requires-clause-number
+read_into-requires-clause-number c = reading_within (length c.args.init.now) c.args.page.now c.args.number c.requires.page c.requires.number
+
+pub nonzero_div-number : goal.nonzero_div-number
+nonzero_div-number c = some_orders (length c.args.init.now) c.args.page.now c.requires.page

@@ -1,8 +1,9 @@
-use Rattle.std.proofs.Common.{◌≡◌, ◌∙◌, ◌<◌, ◌/◌, ◌+◌, ◌≤◌, nat_lt, length, ap, subst, arith}
+use Rattle.std.proofs.Common.{◌≡◌, ◌∙◌, ◌<◌, ◌/◌, ◌+◌, ◌≤◌, nat_lt, length, ap, subst, arith, sym}
 use Rattle.candidates.specs.Candidates.{count_sources}
 use Rattle.candidates.proofs.Fitting.{Misses, can_fit, stands_end, stands_on, stands_until}
 use Rattle.candidates.proofs.Listed.{placed}
 use Rattle.candidates.proofs.Sources.{ways_from}
+use Rattle.std.proofs.Math.Nat.{mul-le-mul_right}
 use Rattle.candidates.proofs.reading.compare.Goals as goal
 
 pub sources_of-sources-requires : goal.sources_of-sources-requires
@@ -72,3 +73,49 @@ fitting-next-requires-clause-sources c = c.sources_of-sources.ensures
 
 pub fitting-next-requires-clause-first : goal.fitting-next-requires-clause-first
 fitting-next-requires-clause-first c = omega (arith, c.if-fit-sources.false)
+
+pub nonzero_div-first : goal.nonzero_div-first
+nonzero_div-first c =
+    let at = c.loop-read in
+    let can = can_fit c.args.init.now c.args.page.now.runs.items c.args.reads.now c.args.number at.read-index at.start at.rest at.ways at.other c.read-item.result c.loop-read-test.true c.read-item.is at.invariant in
+    let below : at.ways / c.sources_of-sources.result ≡ ways_from c.args.page.now.runs.items c.args.reads.now (at.read-index + 1) = ap (λ n. at.ways / n) c.sources_of-sources.ensures ∙ can.0 in
+    omega (arith, below, can.1)
+
+pub rest_behind-rest-requires : goal.rest_behind-rest-requires
+rest_behind-rest-requires c =
+    let at = c.loop-read in
+    let can = can_fit c.args.init.now c.args.page.now.runs.items c.args.reads.now c.args.number at.read-index at.start at.rest at.ways at.other c.read-item.result c.loop-read-test.true c.read-item.is at.invariant in
+    let below : at.ways / c.sources_of-sources.result ≡ ways_from c.args.page.now.runs.items c.args.reads.now (at.read-index + 1) = ap (λ n. at.ways / n) c.sources_of-sources.ensures ∙ can.0 in
+    omega (arith, below, can.1)
+
+pub overflow_mul-start : goal.overflow_mul-start
+overflow_mul-start c =
+    let at = c.loop-read in
+    let can = can_fit c.args.init.now c.args.page.now.runs.items c.args.reads.now c.args.number at.read-index at.start at.rest at.ways at.other c.read-item.result c.loop-read-test.true c.read-item.is at.invariant in
+    let below : at.ways / c.sources_of-sources.result ≡ ways_from c.args.page.now.runs.items c.args.reads.now (at.read-index + 1) = ap (λ n. at.ways / n) c.sources_of-sources.ensures ∙ can.0 in
+    let q = ways_from c.args.page.now.runs.items c.args.reads.now (at.read-index + 1) in
+    let whole = can.3 in
+    let few : c.fitting-fit.result ≤ count_sources c.args.page.now.runs.items c.read-item.result = omega (arith, c.if-fit-sources.false, c.sources_of-sources.ensures) in
+    rw below (omega (arith, whole, mul-le-mul_right q few))
+
+pub overflow_add-start : goal.overflow_add-start
+overflow_add-start c =
+    let at = c.loop-read in
+    let can = can_fit c.args.init.now c.args.page.now.runs.items c.args.reads.now c.args.number at.read-index at.start at.rest at.ways at.other c.read-item.result c.loop-read-test.true c.read-item.is at.invariant in
+    let below : at.ways / c.sources_of-sources.result ≡ ways_from c.args.page.now.runs.items c.args.reads.now (at.read-index + 1) = ap (λ n. at.ways / n) c.sources_of-sources.ensures ∙ can.0 in
+    let q = ways_from c.args.page.now.runs.items c.args.reads.now (at.read-index + 1) in
+    let whole = can.3 in
+    let few : c.fitting-fit.result ≤ count_sources c.args.page.now.runs.items c.read-item.result = omega (arith, c.if-fit-sources.false, c.sources_of-sources.ensures) in
+    let ways : ways_from c.args.page.now.runs.items c.args.reads.now 0 ≡ c.args.page.now.ways = ap (λ es. ways_from c.args.page.now.runs.items es 0) (c.requires.reads ∙ c.requires.page.reads_are) ∙ sym c.requires.page.ways in
+    rw below (omega (arith, whole, mul-le-mul_right q few, at.invariant.far, at.invariant.most, ways))
+
+pub other_start-other-requires : goal.other_start-other-requires
+other_start-other-requires c =
+    let at = c.loop-read in
+    let can = can_fit c.args.init.now c.args.page.now.runs.items c.args.reads.now c.args.number at.read-index at.start at.rest at.ways at.other c.read-item.result c.loop-read-test.true c.read-item.is at.invariant in
+    let below : at.ways / c.sources_of-sources.result ≡ ways_from c.args.page.now.runs.items c.args.reads.now (at.read-index + 1) = ap (λ n. at.ways / n) c.sources_of-sources.ensures ∙ can.0 in
+    let q = ways_from c.args.page.now.runs.items c.args.reads.now (at.read-index + 1) in
+    let whole = can.3 in
+    let few : c.fitting-next.result ≤ count_sources c.args.page.now.runs.items c.read-item.result = omega (arith, c.fitting-next.ensures.within, c.sources_of-sources.ensures) in
+    let ways : ways_from c.args.page.now.runs.items c.args.reads.now 0 ≡ c.args.page.now.ways = ap (λ es. ways_from c.args.page.now.runs.items es 0) (c.requires.reads ∙ c.requires.page.reads_are) ∙ sym c.requires.page.ways in
+    rw below (omega (arith, whole, mul-le-mul_right q few, at.invariant.far, at.invariant.most, ways))

@@ -1,8 +1,11 @@
-use Rattle.std.proofs.Common.{◌∙◌, List, subst, inl, inr, refl, arith, ◌*◌, ◌/◌}
+use Rattle.std.proofs.Common.{◌∙◌, List, subst, inl, inr, refl, arith, ◌*◌, ◌/◌, ◌≤◌, sym, ap, length}
 use Rattle.events.specs.declared.event.Event.{Event}
 use Rattle.candidates.specs.declared.reading.Fit.TheVariants.{Until, Whole}
 use Rattle.candidates.specs.Readings.{IsFit}
 use Rattle.candidates.proofs.Passing.{first_of, until_of}
+use Rattle.listings.specs.Lists.{product_by}
+use Rattle.candidates.specs.Candidates.{count_sources}
+use Rattle.candidates.proofs.Pages.{reading_within, start_within}
 use Rattle.candidates.proofs.reading.look_anew.Goals as goal
 
 pub returns-in-Until : goal.returns-in-Until
@@ -34,3 +37,24 @@ returns-else-start-number c =
     let read = rw c.in-Whole.is at c.compare.ensures in
     let Q : List Event → Type 0 = λ es. IsFit init runs es i (Whole c.in-Whole.hit) in
     first_of init runs page.orders c.args.number (c.in-Whole.hit.at * page.orders) c.in-Whole.hit c.requires.page.orders (subst Q (c.deref.ensures.value ∙ c.requires.page.reads_are) read) (omega (arith, c.if-start-number.false)) (omega arith) (inr refl)
+
+pub compare-requires-clause-number : goal.compare-requires-clause-number
+compare-requires-clause-number c = reading_within (length c.args.init.now) c.args.page.now c.args.number c.requires.page c.requires.number
+
+pub overflow_mul-until : goal.overflow_mul-until
+overflow_mul-until c =
+    let ways = ap (λ es. product_by (count_sources c.args.page.now.runs.items) es) (c.deref.ensures.value ∙ c.requires.page.reads_are) ∙ sym c.requires.page.ways in
+    let within : c.in-Whole.hit.until ≤ c.args.page.now.ways = omega (arith, c.in-Whole.ensures.most, ways) in
+    omega (arith, start_within (length c.args.init.now) c.args.page.now c.in-Whole.hit.until c.requires.page within)
+
+pub overflow_mul-start : goal.overflow_mul-start
+overflow_mul-start c =
+    let ways = ap (λ es. product_by (count_sources c.args.page.now.runs.items) es) (c.deref.ensures.value ∙ c.requires.page.reads_are) ∙ sym c.requires.page.ways in
+    let within : c.in-Whole.hit.at ≤ c.args.page.now.ways = omega (arith, c.in-Whole.ensures.within, ways) in
+    omega (arith, start_within (length c.args.init.now) c.args.page.now c.in-Whole.hit.at c.requires.page within)
+
+pub overflow_mul-result : goal.overflow_mul-result
+overflow_mul-result c =
+    let ways = ap (λ es. product_by (count_sources c.args.page.now.runs.items) es) (c.deref.ensures.value ∙ c.requires.page.reads_are) ∙ sym c.requires.page.ways in
+    let within : c.in-Until.next ≤ c.args.page.now.ways = omega (arith, c.in-Until.ensures.1, ways) in
+    omega (arith, start_within (length c.args.init.now) c.args.page.now c.in-Until.next c.requires.page within)

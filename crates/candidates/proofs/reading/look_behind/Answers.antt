@@ -1,4 +1,5 @@
-use Rattle.candidates.proofs.Passing.{again_of}
+use Rattle.candidates.proofs.Passing.{again_of, behind_of}
+use Rattle.std.proofs.Common.{arith}
 use Rattle.candidates.proofs.reading.look_behind.Goals as goal
 
 pub returns-then-last-reading : goal.returns-then-last-reading
@@ -12,3 +13,6 @@ look_anew-requires-clause-page c = c.requires.page
 
 pub look_anew-requires-clause-number : goal.look_anew-requires-clause-number
 look_anew-requires-clause-number c = c.requires.number
+
+pub returns-then-number-known : goal.returns-then-number-known
+returns-then-number-known c = behind_of c.args.init.now c.args.page.now.runs.items c.args.page.now.orders c.args.number c.args.known c.requires.page.orders (omega arith) (omega arith) c.requires.known

@@ -84,3 +84,6 @@ returns-in-Until-clause-reached c = rw c.in-Until.is at c.in_ok-rest.ensures.loc
 
 pub returns-in-Until-clause-levels : goal.returns-in-Until-clause-levels
 returns-in-Until-clause-levels c = c.locate.ensures.levels
+
+pub returns-in-Until-clause-stretch : goal.returns-in-Until-clause-stretch
+returns-in-Until-clause-stretch c some = absurd (omega (arith, some))

@@ -219,3 +219,31 @@ returns-in_err-put_run-clause-levels c = c.choose_run.ensures.levels
 
 pub returns-clause-levels : goal.returns-clause-levels
 returns-clause-levels c = c.loop-thread.invariant.levels
+
+pub offset_bounds-runs-choice : goal.offset_bounds-runs-choice
+offset_bounds-runs-choice c =
+    let n = length c.args.threads.now.init.now in
+    let threads = c.args.threads.now.runs.now in
+    let groups = c.args.threads.now.groups.now in
+    let at = c.loop-thread in
+    let l = c.loop-thread-test.true in
+    let sizes = sizes_of at.tally (get_or groups at.thread []) (drop (at.thread + 1) groups) in
+    let e = enter n (choices threads) c.args.number at.rest at.tally (take at.thread at.runs.items) threads groups at.thread (get_or groups at.thread []) (drop (at.thread + 1) groups) sizes c.requires.threads.tallied l
+    (same_default groups at.thread (as_many_groups (tallies_of n) groups threads at.thread c.requires.threads.tallied l)) refl at.invariant.down refl in
+    let m = run_within n (choices threads) c.args.number at.rest at.tally (take at.thread at.runs.items) threads at.thread sizes c.in_ok-choice.choice.place e c.in_ok-choice.ensures.chosen.place in
+    let runs = c.runs.ensures ∙ get_or_default threads at.thread c.index-threads-thread-in-loop-thread.result [] l in
+    omega (arith, m, ap (λ (rs : List ThreadRun). length rs) runs, c.runs.type_inv)
+
+pub tally_at-requires : goal.tally_at-requires
+tally_at-requires c =
+    let n = length c.args.threads.now.init.now in
+    let threads = c.args.threads.now.runs.now in
+    let groups = c.args.threads.now.groups.now in
+    let at = c.loop-thread in
+    let l = c.loop-thread-test.true in
+    let sizes = sizes_of at.tally (get_or groups at.thread []) (drop (at.thread + 1) groups) in
+    let e = enter n (choices threads) c.args.number at.rest at.tally (take at.thread at.runs.items) threads groups at.thread (get_or groups at.thread []) (drop (at.thread + 1) groups) sizes c.requires.threads.tallied l
+    (same_default groups at.thread (as_many_groups (tallies_of n) groups threads at.thread c.requires.threads.tallied l)) refl at.invariant.down refl in
+    let m = run_within n (choices threads) c.args.number at.rest at.tally (take at.thread at.runs.items) threads at.thread sizes c.in_ok-choice.choice.place e c.in_ok-choice.ensures.chosen.place in
+    let here = tallies_here n threads groups at.thread (get_or groups at.thread c.index-threads-thread-in-loop-thread-2.result) c.requires.threads.tallied l (ap (λ ts. get_or groups at.thread ts) c.index-threads-thread-in-loop-thread-2.is) in
+    omega (arith, m, ap (λ ts. length ts) here, length_mapped (λ (run : ThreadRun). tally_of n run.events) (get_or threads at.thread []))

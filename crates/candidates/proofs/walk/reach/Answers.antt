@@ -2,6 +2,9 @@ use Rattle.std.proofs.Common.{List, sym, subst, ◌<◌}
 use Rattle.candidates.specs.Candidates.{Choices, size_of}
 use Rattle.candidates.specs.declared.counts.Counts.{Counts}
 use Rattle.candidates.specs.Levels.{AreLevels}
+use Rattle.std.specs.Prelude.{IfOk}
+use Rattle.candidates.specs.Readings.{MayBeStretch}
+use Rattle.candidates.specs.Walks.{IsReached}
 use Rattle.candidates.proofs.walk.reach.Goals as goal
 
 pub go_to-requires-clause-levels : goal.go_to-requires-clause-levels
@@ -13,3 +16,14 @@ pub go_to-requires-clause-number : goal.go_to-requires-clause-number
 go_to-requires-clause-number c =
     let P : Choices → Type 0 = λ s. c.args.number < size_of s in
     subst P (sym c.threads.ensures.choices) c.requires.number
+
+pub returns-clause-ahead : goal.returns-clause-ahead
+returns-clause-ahead c =
+    let P : Choices → Type 0 = λ s. MayBeStretch s c.go_to.new.stretch in
+    let Q : List (List (List Counts)) → Type 0 = λ gs. AreLevels gs c.go_to.new.levels.items in
+    record { stretch = subst P c.threads.ensures.choices c.go_to.ensures.stretch; levels = subst Q c.threads.ensures.groups c.go_to.ensures.levels }
+
+pub returns-clause-reached : goal.returns-clause-reached
+returns-clause-reached c =
+    let P : Choices → Type 0 = λ s. IfOk c.go_to.result (IsReached s c.args.number c.go_to.new.stretch) in
+    subst P c.threads.ensures.choices c.go_to.ensures.reached

@@ -1,5 +1,10 @@
-use Rattle.std.proofs.Common.{arith}
+use Rattle.std.proofs.Common.{arith, ℕ, ◌<◌, List, length, subst, sym}
 use Rattle.std.proofs.lemmas.Result.{IfOk-from_err}
+use Rattle.candidates.specs.Executions.{block}
+use Rattle.candidates.specs.Readings.{IsPage}
+use Rattle.candidates.specs.Walks.{IsAhead}
+use Rattle.candidates.specs.declared.page.Ahead.{Ahead}
+use Rattle.candidates.proofs.Scenes.{ahead_kept, scene_kept, scene_shown}
 use Rattle.candidates.proofs.walk.Walk.next.Goals as goal
 
 pub search_near-requires-clause-scene : goal.search_near-requires-clause-scene
@@ -37,3 +42,57 @@ returns-in_err-hit-clause-found c = IfOk-from_err c.from_residual.result _ c.fro
 
 pub returns-in_err-show-in-Some-clause-found : goal.returns-in_err-show-in-Some-clause-found
 returns-in_err-show-in-Some-clause-found c = IfOk-from_err c.from_residual-in_err-show-in-Some.result _ c.from_residual-in_err-show-in-Some.ensures.0
+
+pub show-requires-clause-page : goal.show-requires-clause-page
+show-requires-clause-page c =
+    let found = rw c.in-Some.is at c.in_ok-hit.ensures.found in
+    let P : List ℕ → Type 0 = λ is. IsPage (length is) c.search.new.ahead.stretch.page in
+    subst P (sym c.init-in-Some.ensures) found.1.stretch.page
+
+pub show-requires-clause-number : goal.show-requires-clause-number
+show-requires-clause-number c =
+    let found = rw c.in-Some.is at c.in_ok-hit.ensures.found in
+    let P : List ℕ → Type 0 = λ is. c.in-Some.hit.at < block (length is) c.search.new.ahead.stretch.page.runs.items in
+    subst P (sym c.init-in-Some.ensures) (omega (arith, found.1.within, found.1.stretch.size))
+
+pub turn-requires-clause-page : goal.turn-requires-clause-page
+turn-requires-clause-page c =
+    let P : List ℕ → Type 0 = λ is. IsPage (length is) c.self.inside.scene.stretch.page in
+    subst P (sym c.init.ensures) c.in-Found.ensures.1.stretch.page
+
+pub turn-requires-clause-number : goal.turn-requires-clause-number
+turn-requires-clause-number c =
+    let P : List ℕ → Type 0 = λ is. c.in-Found.hit.at < block (length is) c.self.inside.scene.stretch.page.runs.items in
+    subst P (sym c.init.ensures) (omega (arith, c.in-Found.ensures.1.within, c.in-Found.ensures.1.stretch.size))
+
+pub invariant_of-self : goal.invariant_of-self
+invariant_of-self c =
+    let s = c.self.inside.space.now in
+    let P : Ahead → Type 0 = λ a. IsAhead s a in
+    record {
+      order = omega (arith, c.in-Found.ensures.0);
+      within = c.self.invariant.within;
+      scene = scene_shown s c.turn.new.scene c.init.result.now c.self.inside.next c.self.inside.scene.stretch c.in-Found.hit c.init.ensures c.turn.ensures.stretch c.turn.ensures.hit c.turn.ensures.shown c.in-Found.ensures.1
+          (subst P (sym c.turn.ensures.ahead) c.self.invariant.scene.ahead);
+    }
+
+pub invariant_of-self-in-Some : goal.invariant_of-self-in-Some
+invariant_of-self-in-Some c =
+    let s = c.self.inside.space.now in
+    let found = rw c.in-Some.is at c.in_ok-hit.ensures.found in
+    let told = c.in_ok-show-in-Some.ensures in
+    record {
+      order = omega (arith, found.0);
+      within = c.self.invariant.within;
+      scene = scene_shown s c.show.new.scene c.init-in-Some.result.now c.in-Until.from c.search.new.ahead.stretch c.in-Some.hit c.init-in-Some.ensures told.stretch told.hit told.shown found.1
+          (ahead_kept s c.show.new.scene.ahead c.search.new.ahead c.self.inside.scene.stretch told.ahead told.levels c.self.invariant.scene.stretch c.in_ok-hit.ensures.ahead);
+    }
+
+pub invariant_of-self-in_err-show-in-Some : goal.invariant_of-self-in_err-show-in-Some
+invariant_of-self-in_err-show-in-Some c =
+    let same = c.in_err-show-in-Some.ensures.same in
+    record {
+      order = c.self.invariant.order;
+      within = c.self.invariant.within;
+      scene = scene_kept c.self.inside.space.now c.show.new.scene c.self.inside.scene c.search.new.ahead same.0 same.1 same.2 same.3 c.self.invariant.scene c.in_ok-hit.ensures.ahead;
+    }

@@ -1,0 +1,5 @@
+use Rattle.candidates.proofs.Scenes.{found_on}
+use Rattle.candidates.proofs.walk.search_near.Goals as goal
+
+pub returns-then-scene-hit : goal.returns-then-scene-hit
+returns-then-scene-hit c = (c.if-scene-hit.true, found_on c.args.space.now c.args.from c.loop-number.number c.args.scene.now.stretch c.in-Found.hit c.loop-number.invariant.order c.loop-number.invariant.none c.in-Found.ensures)
