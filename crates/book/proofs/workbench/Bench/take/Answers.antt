@@ -1,9 +1,6 @@
-use Rattle.std.proofs.Common.{◌≡◌, ◌∙◌, List, ap, sym, subst}
-use Rattle.std.specs.Prelude.{IfSome}
+use Rattle.std.proofs.Common.{ap, sym, subst}
 use Rattle.book.specs.Changes.{HoldsSlice}
-use Rattle.book.specs.Step.{others}
 use Rattle.book.specs.Workbench.{Workbench, claim_of}
-use Rattle.book.specs.declared.live.Live.{Live}
 use Rattle.book.proofs.Frees.{result_passed}
 use Rattle.book.proofs.Numbers.{numbered_marked}
 use Rattle.book.proofs.workbench.Bench.take.Goals as goal
