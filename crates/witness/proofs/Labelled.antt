@@ -1,5 +1,5 @@
 -- Which names relate two events, from what the items come to.
-use Rattle.std.proofs.Common.{◌≡◌, ℕ, zero, suc, ◌<◌, ◌≤◌, ◌+◌, ◌↔◌, List, [], ◌∷◌, ◌++◌, ◌⊎◌, Bool, true, false, not, cond, IsTrue, Option, Some, None, length, min, take, drop, get_or, map, filter, inl, inr, refl, sym, ◌∙◌, ap, subst, arith, append_assoc, append-nil, ◌||◌}
+use Rattle.std.proofs.Common.{◌≡◌, ℕ, zero, suc, ◌<◌, ◌≤◌, ◌+◌, List, [], ◌∷◌, ◌++◌, ◌⊎◌, Bool, true, false, not, cond, Option, Some, None, length, min, take, drop, get_or, map, inl, inr, refl, sym, ◌∙◌, ap, subst, arith, append_assoc, append-nil, ◌||◌}
 use Rattle.std.proofs.lemmas.Bool.{cases_lt, false≢true}
 use Rattle.std.proofs.lemmas.Slice.Eq.{bytes_eq-Decides}
 use Rattle.std.proofs.lemmas.List.{take_more, drop_more, map_more}
@@ -10,14 +10,13 @@ use Rattle.std.specs.Prelude.{codes}
 use Rattle.cat_eval.specs.Judging.{Behind, Binds, First}
 use Rattle.cat_eval.specs.Laws.{BehindAll, OneLeast, OneValue}
 use Rattle.cat_eval.specs.Meaning.{Applied, Environment, IsEntryOf, IsLeast, Just, Means, Under, With, WithFunctions}
-use Rattle.cat_eval.specs.Names.{Beforehand, Names}
-use Rattle.cat_eval.specs.Operators.{IsRelation, IsSet}
+use Rattle.cat_eval.specs.Names.{Beforehand}
 use Rattle.cat_eval.specs.Outcomes.{AreOutcomes}
 use Rattle.cat_eval.specs.declared.value.Entry.{Entry}
 use Rattle.cat_eval.specs.declared.value.Value.{Value}
 use Rattle.cat_eval.specs.declared.value.Value.TheVariants.{Events, Pairs}
 use Rattle.cat_eval.specs.declared.valuing.Outcome.{Outcome}
-use Rattle.cat_model.specs.Beforehand.{beforehand, fencerel}
+use Rattle.cat_model.specs.Beforehand.{fencerel}
 use Rattle.cat_model.specs.Named.{all_named, named_of, spelling_of, written}
 use Rattle.cat_model.specs.declared.named.Named.{Named}
 use Rattle.cat_model.specs.declared.named.Named.TheVariants.{Set, Rel}
@@ -26,14 +25,14 @@ use Rattle.cat_tree.specs.declared.tree.Item.{Item}
 use Rattle.events.specs.Executions.{GraphValue}
 use Rattle.events.specs.Named.{event_count, NamedRel}
 use Rattle.events.specs.declared.named.RelName.{RelName}
-use Rattle.events.specs.declared.named.RelName.TheVariants as rels
-use Rattle.events.specs.declared.named.SetName.TheVariants as sets
 use Rattle.listings.specs.Lists.{ForEach, IsIn, Lists, NoRepeats}
 use Rattle.relations.specs.Equality.{pair_below}
-use Rattle.relations.specs.Relation.{IsCanonical, IsExactly, Relation, In}
+use Rattle.relations.specs.Relation.{IsExactly, Relation, In}
 use Rattle.relations.specs.Tables.{cell}
 use Rattle.witness.specs.Labels.{AreInOrder, IsLabel, IsWritten, all_labelled, at_last, bound_by, defined_in, hidden_by, hidden_if, is_related, labelled, named_relations, names_in, names_of, rebound, without, words_of}
-use Rattle.witness.specs.Reasons.{HasValue, MeansBehind}
+use Rattle.witness.specs.Reasons.{MeansBehind}
+use Rattle.events.specs.declared.named.RelName.TheVariants as rels
+use Rattle.events.specs.declared.named.SetName.TheVariants as sets
 
 -- a list without some of its words, and with one more
 
@@ -471,6 +470,9 @@ next_ordered rs k r d b y xs ys low is spelt new o =
     map_more (λ z. spelling_of (Rel z)) rs k d low ∙ ap (λ z. words_of (take k rs) ++ spelling_of (Rel z) ∷ []) (sym is) in
     subst F (sym more) (subst G (ap (λ z. rebound z b xs) (sym spelt) ∙ sym new) (rebound_order (spelling_of (Rel r)) b xs (words_of (take k rs)) o))
 
+pub drop_first : {X : Type 0} (x : X) (xs : List X) (k : ℕ) → k < length xs → x ≡ get_or xs k x → drop k xs ≡ x ∷ drop (k + 1) xs
+drop_first x xs k low is = drop_more xs k x low ∙ ap (λ z. z ∷ drop (k + 1) xs) (sym is)
+
 pub next_item : (i j k : ℕ) (items : List Item) (os : List Outcome) (item : Item) (o : Outcome) (xs ys : List Word) → k < length items → k < length os → item ≡ get_or items k item → o ≡ get_or os k o → ys ≡ labelled i j (clause_of item) o.bound.items xs →
     all_labelled i j (map clause_of (drop (k + 1) items)) (drop (k + 1) os) ys ≡ all_labelled i j (map clause_of (drop k items)) (drop k os) xs
 next_item i j k items os item o xs ys low high is stands new =
@@ -480,7 +482,7 @@ next_item i j k items os item o xs ys low high is stands new =
 
 -- the first items, as many as there are at most
 
-take_all : {X : Type 0} (xs : List X) (k : ℕ) → length xs ≤ k → take k xs ≡ xs
+pub take_all : {X : Type 0} (xs : List X) (k : ℕ) → length xs ≤ k → take k xs ≡ xs
 take_all [] zero l = refl
 take_all [] (suc k) l = refl
 take_all (x ∷ xs) zero l = absurd (omega (arith, l))

@@ -1,6 +1,6 @@
+use Rattle.candidates.specs.Candidates.{size_of, Choices, graph_at}
 use Rattle.std.proofs.Common.{◌≡◌, ◌<◌, ◌∙◌, ℕ, Bool, List, Option, ap, arith, subst, sym}
 use Rattle.std.proofs.lemmas.Bool.{false≢true}
-use Rattle.candidates.specs.Candidates.{Choices, graph_at}
 use Rattle.candidates.specs.Walks.{Walking}
 use Rattle.cat_eval.specs.Judging.{Allowed}
 use Rattle.cat_tree.specs.Tree.{Clause}
@@ -105,3 +105,40 @@ returns c =
     let W : GraphValue → Type 0 = IsWitness t (judged c.args.judge.now) c.args.has in
     let miss = miss_number v c.next.new.self c.in_ok-number.field-0 c.in_default.not-Some c.in_ok-number.ensures.found in
     found_none c.numbering.ensures t W v.to c.requires.admitted inv.to (none_at_all t W v c.next.new.self inv.space inv.none miss)
+
+pub graph-requires-then-branch-2 : goal.graph-requires-then-branch-2
+graph-requires-then-branch-2 c =
+    let inv = c.loop-walk.invariant in
+    let v = c.loop-walk.walk in
+    let w = c.next.new.self in
+    let hit = hit_number v w c.in_ok-number.field-0 c.in-Some.number c.in-Some.is c.in_ok-number.ensures.found in
+    let l = hit.below in
+    omega (arith, l, inv.to, ap size_of c.requires.space)
+
+pub loop-walk-smaller : goal.loop-walk-smaller
+loop-walk-smaller c =
+    let inv = c.loop-walk.invariant in
+    let v = c.loop-walk.walk in
+    let w = c.next.new.self in
+    let hit = hit_number v w c.in_ok-number.field-0 c.in-Some.number c.in-Some.is c.in_ok-number.ensures.found in
+    let same : c.passes.new.walk ≡ w = not_passed c.in_ok-passes.field-0 (ArePassed (judged c.loop-walk.judge) c.in-Some.number w c.passes.new.walk) (c.passes.new.walk ≡ w) c.if-branch.false c.in_ok-passes.ensures.passed in
+    let next = hit.step.next in
+    let to = hit.step.to in
+    let later = hit.later in
+    let below = hit.below in
+    omega (arith, next, to, later, below, ap (λ (u : Walking). u.next) same, ap (λ (u : Walking). u.to) same)
+
+pub loop-walk-smaller-then-branch : goal.loop-walk-smaller-then-branch
+loop-walk-smaller-then-branch c =
+    let inv = c.loop-walk.invariant in
+    let v = c.loop-walk.walk in
+    let w = c.next.new.self in
+    let hit = hit_number v w c.in_ok-number.field-0 c.in-Some.number c.in-Some.is c.in_ok-number.ensures.found in
+    let A : List Clause → Type 0 = λ items. ArePassed items c.in-Some.number w c.passes.new.walk in
+    let passed = is_passed c.in_ok-passes.field-0 (A (judged c.loop-walk.judge)) (c.passes.new.walk ≡ w) c.if-branch.true c.in_ok-passes.ensures.passed in
+    let further = passed.later in
+    let same = passed.to in
+    let to = hit.step.to in
+    let later = hit.later in
+    let below = hit.below in
+    omega (arith, further, same, to, later, below)
