@@ -4,3 +4,4 @@ pub mod Objects
 pub mod Sent
 pub mod Told
 pub mod Verdicts
+pub mod Pushed

@@ -1,0 +1,18 @@
+use Rattle.std.proofs.Common.{ℕ, ◌+◌, ◌∙◌, ap}
+use Rattle.slices.specs.Works.{WorkValue}
+use Rattle.slices.specs.Parts.{test_size, PieceValue}
+use Rattle.slices.specs.Tallies.{cut}
+use Rattle.std.proofs.lemmas.Result.{IfOk-weaker}
+use Rattle.suite.specs.Together.{IsSlice}
+use Rattle.suite.proofs.together.evaluate_slice.Goals as goal
+
+pub returns : goal.returns
+returns c =
+    let size = c.size-size.ensures.size ∙ ap (λ (w : WorkValue). test_size w.test) c.work.ensures in
+    IfOk-weaker c.evaluate.result _ (IsSlice c.args.work.now c.args.total c.args.slice)
+    (λ r is. (
+      ap (λ (p : PieceValue). p.work) (is ∙ c.new.ensures) ∙ c.in_ok-share.ensures,
+      ap (λ (p : PieceValue). p.from) (is ∙ c.new.ensures) ∙ c.cut-from.ensures ∙ ap (λ (n : ℕ). cut n c.args.total c.args.slice) size,
+      ap (λ (p : PieceValue). p.to) (is ∙ c.new.ensures) ∙ c.cut-to.ensures ∙ ap (λ (n : ℕ). cut n c.args.total (c.args.slice + 1)) size,
+    ))
+    c.evaluate.ensures
