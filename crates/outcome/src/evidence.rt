@@ -109,7 +109,7 @@ fn trail(alloc: Global, evidence: &Evidence) -> Result<Vec<usize>, AllocError>
 }
 
 /// The names that tell nothing of an arrow that its ends and its other names don't: of threads and locations, and of parts of rf, co and fr.
-const PLAIN: [&[u8]; 11] = [
+static PLAIN: [&[u8]; 11] = [
     b"int", b"ext", b"loc", b"po-loc", b"rfi", b"rfe", b"coi", b"coe", b"fri", b"fre", b"id",
 ];
 
