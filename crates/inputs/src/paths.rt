@@ -85,29 +85,47 @@ impl Paths {
         self.add_test(path)
     }
 
-    /// Adds the paths of a list, one a line. Empty lines, and those that begin with `#`, are left out, and a path that isn't there is looked for beside the list.
+    /// Adds the paths of a list.
     fn add_list<R: Files + AllocGlobal + Clone + Drop>(
         &mut self,
         rt: &R,
         list: &str,
     ) -> Result<(), AllocError> {
-        let text = match fs::read_to_string(rt, list) {
-            Ok(text) => text,
-            Err(error) => return self.add_unread(list, error),
-        };
-        for line in text.as_str().lines() {
-            let line = line.trim();
-            if line.is_empty() || line.starts_with('#') {
-                continue;
-            }
-            let beside = sibling(rt.alloc(), list, line)?;
-            if !is_there(rt, line) && is_there(rt, beside.as_str()) {
-                self.add_path(rt, beside.as_str())?;
-            } else {
-                self.add_path(rt, line)?;
+        match fs::read_to_string(rt, list) {
+            Ok(text) => self.add_lines(rt, list, text.as_str()),
+            Err(error) => self.add_unread(list, error),
+        }
+    }
+
+    /// Adds the paths of a list's text, one a line. Empty lines, and those that begin with `#`, are left out.
+    fn add_lines<R: Files + AllocGlobal + Clone + Drop>(
+        &mut self,
+        rt: &R,
+        list: &str,
+        text: &str,
+    ) -> Result<(), AllocError> {
+        for line in text.lines() {
+            let path = line.trim();
+            if !path.is_empty() && !path.starts_with('#') {
+                self.add_listed(rt, list, path)?;
             }
         }
         Ok(())
+    }
+
+    /// Adds a path of a list. Where nothing is there, it is looked for beside the list.
+    fn add_listed<R: Files + AllocGlobal + Clone + Drop>(
+        &mut self,
+        rt: &R,
+        list: &str,
+        path: &str,
+    ) -> Result<(), AllocError> {
+        if is_there(rt, path) {
+            return self.add_path(rt, path);
+        }
+        let beside = sibling(rt.alloc(), list, path)?;
+        let is_beside = is_there(rt, beside.as_str());
+        self.add_path(rt, if is_beside { beside.as_str() } else { path })
     }
 
     /// Adds all `*.litmus` files in a folder and below, by their paths.

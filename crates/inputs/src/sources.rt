@@ -36,15 +36,7 @@ impl<'a> Sources<'a> {
         word: &str,
         root: &Name,
     ) -> Result<(), Trouble> {
-        match text_of(rt, word) {
-            Ok(text) => self.add(rt.alloc(), root, word, text)?,
-            Err(error) => {
-                if error.kind() == io::ErrorKind::NotFound && is_built_in(rt.alloc(), word, root)? {
-                    return Ok(());
-                }
-                return Err(unreadable(rt, word, &error));
-            }
-        }
+        self.add_root(rt, word, root)?;
         for place in 0..MOST_FILES {
             if place >= self.files.len() {
                 break;
@@ -54,6 +46,24 @@ impl<'a> Sources<'a> {
         Ok(())
     }
 
+    /// Adds the file of a word, if it isn't a built-in one.
+    fn add_root<R: Files + Eprint + AllocGlobal>(
+        &mut self,
+        rt: &R,
+        word: &str,
+        root: &Name,
+    ) -> Result<(), Trouble> {
+        match text_of(rt, word) {
+            Ok(text) => self.add(rt.alloc(), root, word, text),
+            Err(error) => {
+                if error.kind() == io::ErrorKind::NotFound && is_built_in(rt.alloc(), word, root)? {
+                    return Ok(());
+                }
+                Err(unreadable(rt, word, &error))
+            }
+        }
+    }
+
     /// Adds a file.
     fn add(
         &mut self,
@@ -61,7 +71,7 @@ impl<'a> Sources<'a> {
         name: &Name,
         path: &str,
         text: Vec<u8>,
-    ) -> Result<(), AllocError> {
+    ) -> Result<(), Trouble> {
         let name = name.copy()?;
         let path = String::from_str(alloc, path)?;
         self.files.push(Source { name, path, text })?;
@@ -101,7 +111,7 @@ impl<'a> Sources<'a> {
             }
         }
         match text_of(rt, path) {
-            Ok(text) => Ok(self.add(rt.alloc(), name, path, text)?),
+            Ok(text) => self.add(rt.alloc(), name, path, text),
             Err(error) => Err(unreadable(rt, path, &error)),
         }
     }

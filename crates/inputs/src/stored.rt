@@ -9,11 +9,19 @@ use suite::Row;
 
 /// The rows of a file, a line each. Empty lines are none.
 pub fn read_rows<R: Files + Eprint + AllocGlobal>(rt: &R, path: &str) -> Result<Vec<Row>, Trouble> {
-    let text = match fs::read(rt, path) {
-        Ok(text) => text,
-        Err(error) => return Err(unreadable(rt, path, &error)),
-    };
-    match rows_in(rt.alloc(), &text) {
+    match fs::read(rt, path) {
+        Ok(text) => rows_or_told(rt, path, rows_in(rt.alloc(), &text)),
+        Err(error) => Err(unreadable(rt, path, &error)),
+    }
+}
+
+/// The rows of a file. Where it has a line that is none, that is told on standard error.
+fn rows_or_told<R: Eprint>(
+    rt: &R,
+    path: &str,
+    rows: Result<Vec<Row>, RowsFault>,
+) -> Result<Vec<Row>, Trouble> {
+    match rows {
         Ok(rows) => Ok(rows),
         Err(RowsFault::NoRow(number)) => Err(no_row(rt, path, number)),
         Err(RowsFault::NoMemory) => Err(Trouble::NoMemory),
