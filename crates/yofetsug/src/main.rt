@@ -7,6 +7,7 @@ mod run;
 mod session;
 mod words;
 
+use clap::Error;
 use clap::error::ErrorKind;
 use inputs::Trouble;
 use session::{Reach, run_all};
@@ -31,19 +32,22 @@ fn main(rt: HostRuntime) -> ExitCode {
     }
 }
 
-/// Does what the words ask for, or prints what clap says: what is wrong with them, or the help that they ask for.
+/// Does what the words ask for.
 fn run_words<R: Reach>(rt: &R, words: &[String], shows: bool) -> ExitCode {
     match read_words(rt.alloc(), words) {
         Ok(matches) => end(rt, run_all(rt, &words_of(&matches), shows)),
-        Err(error) => {
-            if error.kind() == ErrorKind::OutOfMemory {
-                return ExitCode::FAILURE;
-            }
-            match error.print(rt) {
-                Ok(()) => ExitCode::from(error.exit_code() as u8),
-                Err(error) => end(rt, Err(Trouble::Write(error))),
-            }
-        }
+        Err(error) => answer(rt, &error),
+    }
+}
+
+/// Prints what clap says of the words: what is wrong with them, or the help that they ask for.
+fn answer<R: Print + Eprint>(rt: &R, said: &Error) -> ExitCode {
+    if said.kind() == ErrorKind::OutOfMemory {
+        return ExitCode::FAILURE;
+    }
+    match said.print(rt) {
+        Ok(()) => ExitCode::from(said.exit_code() as u8),
+        Err(error) => end(rt, Err(Trouble::Write(error))),
     }
 }
 

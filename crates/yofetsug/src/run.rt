@@ -4,6 +4,7 @@ use crate::deadline::Deadline;
 use crate::meter::{Meter, milliseconds_since};
 use inputs::{Models, read_front, text_of};
 use outcome::{Tested, Told, Wanted};
+use slices::Verdict;
 use std::alloc::{AllocError, Global};
 use std::io;
 use std::rt::Files;
@@ -15,7 +16,7 @@ use suite::{Case, TestTrouble, judge_text};
 const WHILE: u64 = 200;
 
 /// What all tests have in common.
-#[derive(Drop)]
+#[derive(Clone, Copy)]
 pub struct Plan<'a> {
     pub models: &'a Models,
     pub wanted: Wanted<'a>,
@@ -30,7 +31,7 @@ pub struct Plan<'a> {
 }
 
 /// What became of a test.
-#[derive(Drop)]
+#[derive(Clone, Copy)]
 pub enum Fate {
     /// It is still to be judged.
     Waiting,
@@ -70,18 +71,25 @@ impl<'a> Test<'a> {
         } else {
             text_of(rt, path)
         };
+        match read {
+            Ok(text) => Ok(Test {
+                path,
+                text,
+                fate: Fate::Waiting,
+                told: Told::new(alloc),
+            }),
+            Err(error) => Test::unread(alloc, path, &error),
+        }
+    }
+
+    /// A test that can't be read.
+    fn unread(alloc: Global, path: &'a str, error: &io::Error) -> Result<Self, AllocError> {
         let mut told = Told::new(alloc);
-        let (text, fate) = match read {
-            Ok(text) => (text, Fate::Waiting),
-            Err(error) => {
-                told.message = unread_message(alloc, path, &error)?;
-                (Vec::new(alloc), Fate::Unread)
-            }
-        };
+        told.message = format!(in alloc; "{path}: {error}\n")?;
         Ok(Test {
             path,
-            text,
-            fate,
+            text: Vec::new(alloc),
+            fate: Fate::Unread,
             told,
         })
     }
@@ -93,7 +101,7 @@ impl<'a> Test<'a> {
         alloc: Global,
         plan: &Plan<'_>,
     ) {
-        if !matches!(&self.fate, Fate::Waiting) {
+        if !matches!(self.fate, Fate::Waiting) {
             return;
         }
         let mut deadline = Deadline::new(rt, plan.limit.min(WHILE), Meter::new(rt, 0, false));
@@ -113,23 +121,32 @@ impl<'a> Test<'a> {
     ) -> Result<(), AllocError> {
         let models = plan.models.models();
         let judged = judge_text(rt, alloc, &self.text, models, threads, deadline);
+        match &judged {
+            Err(TestTrouble::Late) if deadline.limit < plan.limit => Ok(()),
+            _ => self.take(alloc, plan, milliseconds_since(rt, deadline.began), &judged),
+        }
+    }
+
+    /// Takes what came of judging the test, which took so long.
+    fn take(
+        &mut self,
+        alloc: Global,
+        plan: &Plan<'_>,
+        milliseconds: u64,
+        judged: &Result<Vec<Verdict>, TestTrouble>,
+    ) -> Result<(), AllocError> {
         let cases = cases_of(alloc, plan.models, self.path)?;
         let test = Tested {
             path: self.path,
             text: &self.text,
             cases: &cases,
-            milliseconds: milliseconds_since(rt, deadline.began),
+            milliseconds,
         };
-        match &judged {
+        match judged {
             Ok(verdicts) => {
                 self.fate = Fate::Judged;
-                self.told.tell(alloc, &plan.wanted, &test, verdicts)?;
-                if plan.why || plan.draws {
-                    self.told.explain(alloc, &test, verdicts)?;
-                }
-                Ok(())
+                tell(&mut self.told, alloc, plan, &test, verdicts)
             }
-            Err(TestTrouble::Late) if deadline.limit < plan.limit => Ok(()),
             Err(trouble) => {
                 self.fate = Fate::Refused;
                 self.told.refuse(alloc, &plan.wanted, &test, trouble)
@@ -138,9 +155,19 @@ impl<'a> Test<'a> {
     }
 }
 
-/// What is told of a test that can't be read.
-fn unread_message(alloc: Global, path: &str, error: &io::Error) -> Result<String, AllocError> {
-    format!(in alloc; "{path}: {error}\n")
+/// Tells the verdicts on a test, and why they are what they are if that is asked for.
+fn tell(
+    told: &mut Told,
+    alloc: Global,
+    plan: &Plan<'_>,
+    test: &Tested<'_>,
+    verdicts: &[Verdict],
+) -> Result<(), AllocError> {
+    told.tell(alloc, &plan.wanted, test, verdicts)?;
+    if plan.why || plan.draws {
+        return told.explain(alloc, test, verdicts);
+    }
+    Ok(())
 }
 
 /// A test under each of the models, in their order.

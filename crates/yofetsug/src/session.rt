@@ -6,7 +6,7 @@ use crate::run::{Fate, Plan, Test};
 use crate::words::Words;
 use inputs::{Models, Paths, Trouble, read_rows, see_writable, store_rows, write_file};
 use outcome::{Counts, Form, Wanted};
-use std::alloc::AllocError;
+use std::alloc::{AllocError, Global};
 use std::rt::Files;
 use std::thread;
 use std::thread::Threads;
@@ -69,9 +69,18 @@ impl Drop for Progress {
 
 /// Judges all tests that the words name, or compares what was found before, and answers the status.
 pub fn run_all<R: Reach>(rt: &R, words: &Words<'_>, shows: bool) -> Result<u8, Trouble> {
-    let (Some(expected), Some(found)) = (words.expected, words.found) else {
-        return judge_all(rt, words, shows);
-    };
+    match (words.expected, words.found) {
+        (Some(expected), Some(found)) => compare_files(rt, expected, found),
+        _ => judge_all(rt, words, shows),
+    }
+}
+
+/// Compares rows that were found before with those that are expected, and answers the status.
+fn compare_files<R: Files + Print + Eprint + AllocGlobal>(
+    rt: &R,
+    expected: &str,
+    found: &str,
+) -> Result<u8, Trouble> {
     let expected = read_rows(rt, expected)?;
     let found = read_rows(rt, found)?;
     Ok(if compare(rt, &expected, &found)? {
@@ -83,49 +92,17 @@ pub fn run_all<R: Reach>(rt: &R, words: &Words<'_>, shows: bool) -> Result<u8, T
 
 /// Judges all tests that the words name, and answers the status.
 fn judge_all<R: Reach>(rt: &R, words: &Words<'_>, shows: bool) -> Result<u8, Trouble> {
-    let alloc = rt.alloc();
-    let mut given = Given {
-        models: Models::new(alloc),
-        expected: Vec::new(alloc),
-        paths: Paths::new(alloc),
-    };
+    let mut given = Given::new(rt.alloc());
     given.read(rt, words)?;
-    let mut progress = Progress {
-        counts: Counts {
-            judged: 0,
-            refused: 0,
-            unread: 0,
-            differing: 0,
-        },
-        rows: Vec::new(alloc),
-        dot: Vec::new(alloc),
-        meter: Meter::new(rt, given.paths.tests.paths().len(), shows),
-    };
-    let wanted = Wanted {
-        form: words.form,
-        width: given.paths.tests.width(),
-        models: given.models.names(),
-        keeps_rows: words.expected.is_some() || words.write_expected.is_some(),
-    };
-    let plan = Plan {
-        models: &given.models,
-        wanted,
-        why: words.why,
-        draws: words.dot.is_some(),
-        threads: threads_of(rt, words),
-        limit: match words.timeout {
-            Some(seconds) => u64::from(seconds).saturating_mul(1_000),
-            None => u64::MAX,
-        },
-    };
-    progress.judge(rt, &given.paths, &plan)?;
+    let mut progress = Progress::new(rt, given.paths.tests.paths().len(), shows);
+    progress.judge(rt, &given.paths, &given.plan(rt, words))?;
     progress.finish(rt, words, &given.expected)
 }
 
 /// How many threads judge: as many as the words say, or as there are processors, up to 8.
 fn threads_of<R: Threads>(rt: &R, words: &Words<'_>) -> u16 {
     match words.threads {
-        Some(threads) => u16::from(threads),
+        Some(threads) => u16::try_from(threads).unwrap_or(u16::MAX),
         None => match thread::available_parallelism(rt) {
             Ok(count) => u16::try_from(count.get().min(8)).unwrap_or(8),
             Err(_) => 1,
@@ -134,8 +111,46 @@ fn threads_of<R: Threads>(rt: &R, words: &Words<'_>) -> u16 {
 }
 
 impl Given {
+    /// Nothing yet.
+    fn new(alloc: Global) -> Self {
+        Given {
+            models: Models::new(alloc),
+            expected: Vec::new(alloc),
+            paths: Paths::new(alloc),
+        }
+    }
+
+    /// What all tests have in common.
+    fn plan<'a, R: Threads>(&'a self, rt: &R, words: &Words<'_>) -> Plan<'a> {
+        Plan {
+            models: &self.models,
+            wanted: self.wanted(words),
+            why: words.why,
+            draws: words.dot.is_some(),
+            threads: threads_of(rt, words),
+            limit: match words.timeout {
+                Some(seconds) => u64::from(seconds).saturating_mul(1_000),
+                None => u64::MAX,
+            },
+        }
+    }
+
+    /// What is asked of each test.
+    fn wanted<'a>(&'a self, words: &Words<'_>) -> Wanted<'a> {
+        Wanted {
+            form: words.form,
+            width: self.paths.tests.width(),
+            models: self.models.names(),
+            keeps_rows: words.expected.is_some() || words.write_expected.is_some(),
+        }
+    }
+
     /// Reads the models and the rows that are expected, sees that what the words ask for can be written, and looks for the tests.
-    fn read<R: Reach>(&mut self, rt: &R, words: &Words<'_>) -> Result<(), Trouble> {
+    fn read<R: Files + Eprint + AllocGlobal + Clone + Drop>(
+        &mut self,
+        rt: &R,
+        words: &Words<'_>,
+    ) -> Result<(), Trouble> {
         for word in words.models {
             self.models.add(rt, word, words.folders)?;
         }
@@ -154,20 +169,34 @@ impl Given {
 }
 
 impl Progress {
+    /// None of so many tests is done.
+    fn new<R: Clock + AllocGlobal>(rt: &R, tests: usize, shows: bool) -> Self {
+        Progress {
+            counts: Counts {
+                judged: 0,
+                refused: 0,
+                unread: 0,
+                differing: 0,
+            },
+            rows: Vec::new(rt.alloc()),
+            dot: Vec::new(rt.alloc()),
+            meter: Meter::new(rt, tests, shows),
+        }
+    }
+
     /// Judges the tests, some at a time, and prints what is told of each in their order.
     fn judge<R: Reach>(&mut self, rt: &R, paths: &Paths, plan: &Plan<'_>) -> Result<(), Trouble> {
         self.begin(rt, &paths.unread, plan)?;
         let size = usize::from(plan.threads).saturating_mul(BATCH).max(1);
         for batch in paths.tests.paths().chunks(size) {
             self.judge_batch(rt, batch, plan)?;
-            self.meter.tick(rt)?;
         }
         self.meter.clear(rt)?;
         Ok(())
     }
 
     /// Prints the head of a table, where one is printed, and tells which paths couldn't be read on the way to the tests.
-    fn begin<R: Reach>(
+    fn begin<R: Print + Eprint + AllocGlobal>(
         &mut self,
         rt: &R,
         unread: &[String],
@@ -185,24 +214,29 @@ impl Progress {
         Ok(())
     }
 
-    /// Judges some tests side by side, those that take more than a while one after another, and prints what is told of each in their order.
+    /// Judges some tests, and prints what is told of each in their order.
     fn judge_batch<R: Reach>(
         &mut self,
         rt: &R,
         paths: &[String],
         plan: &Plan<'_>,
     ) -> Result<(), Trouble> {
-        let alloc = rt.alloc();
         let mut tests = read_tests(rt, paths)?;
-        let threads = usize::from(plan.threads).max(1);
-        thread::for_each_mut(
-            rt,
-            &mut tests,
-            threads,
-            &|_, test| { test.judge_quickly(rt, alloc, plan) },
-        );
-        for test in &mut tests {
-            if matches!(&test.fate, Fate::Waiting) {
+        judge_side_by_side(rt, &mut tests, plan);
+        self.show_all(rt, &mut tests, plan)?;
+        self.meter.tick(rt)?;
+        Ok(())
+    }
+
+    /// Judges the tests that wait on, one after another, and prints what is told of each in their order.
+    fn show_all<R: Print + Eprint + AllocGlobal + Clock + Threads + Sync>(
+        &mut self,
+        rt: &R,
+        tests: &mut [Test<'_>],
+        plan: &Plan<'_>,
+    ) -> Result<(), Trouble> {
+        for test in tests {
+            if matches!(test.fate, Fate::Waiting) {
                 self.judge_wholly(rt, test, plan)?;
             }
             self.show(rt, test, plan.why)?;
@@ -211,7 +245,7 @@ impl Progress {
     }
 
     /// Judges a test by all threads.
-    fn judge_wholly<R: Reach>(
+    fn judge_wholly<R: Eprint + AllocGlobal + Clock + Threads + Sync>(
         &mut self,
         rt: &R,
         test: &mut Test<'_>,
@@ -232,7 +266,7 @@ impl Progress {
     ) -> Result<(), Trouble> {
         self.meter.clear(rt)?;
         let counts = &mut self.counts;
-        match &test.fate {
+        match test.fate {
             Fate::Judged => counts.judged = counts.judged.saturating_add(1),
             Fate::Refused => counts.refused = counts.refused.saturating_add(1),
             Fate::Unread => counts.unread = counts.unread.saturating_add(1),
@@ -313,4 +347,20 @@ fn read_tests<'a, R: Files + Input + AllocGlobal>(
         tests.push(Test::read(rt, path.as_str())?)?;
     }
     Ok(tests)
+}
+
+/// Judges tests side by side. Those that take more than a while wait on.
+fn judge_side_by_side<R: Eprint + AllocGlobal + Clock + Threads + Sync>(
+    rt: &R,
+    tests: &mut [Test<'_>],
+    plan: &Plan<'_>,
+) {
+    let alloc = rt.alloc();
+    let threads = usize::from(plan.threads).max(1);
+    thread::for_each_mut(
+        rt,
+        tests,
+        threads,
+        &|_, test| { test.judge_quickly(rt, alloc, plan) },
+    );
 }

@@ -8,7 +8,7 @@ use std::alloc::{AllocError, Global};
 const MODELS: [&str; 1] = ["rc11.cat"];
 
 /// What the words ask for.
-#[derive(Drop)]
+#[derive(Clone, Copy)]
 pub struct Words<'a> {
     pub models: &'a [&'a str],
     pub folders: &'a [&'a str],
@@ -22,14 +22,13 @@ pub struct Words<'a> {
     /// Rows that were found before, which are compared in place of tests that are judged.
     pub found: Option<&'a str>,
     /// How many threads judge, if it is said.
-    pub threads: Option<u8>,
+    pub threads: Option<u32>,
     /// After how many seconds a test is given up, if it is said.
     pub timeout: Option<u32>,
     pub tests: &'a [&'a str],
 }
 
 /// What stands behind a word.
-#[derive(Drop)]
 enum Value {
     /// Nothing.
     None,
@@ -39,16 +38,13 @@ enum Value {
     Each(&'static str),
     /// A file of rows that were found before.
     Found,
-    /// A number of threads.
-    Threads,
-    /// A number of seconds.
-    Seconds,
+    /// A number from 1 on, up to this one.
+    Number(&'static str, i64),
     /// What stands there is a test, and no word before it.
     Test,
 }
 
 /// A word: its name, its letter if it has one, what stands behind it, and what the help tells of it.
-#[derive(Drop)]
 struct Word {
     name: &'static str,
     letter: Option<char>,
@@ -125,13 +121,13 @@ static OTHERS: [Word; 7] = [
     Word {
         name: "threads",
         letter: Some('j'),
-        value: Value::Threads,
+        value: Value::Number("N", 64),
         help: "How many threads judge; else one for each processor, up to 8",
     },
     Word {
         name: "timeout",
         letter: None,
-        value: Value::Seconds,
+        value: Value::Number("S", 1_000_000),
         help: "Give a test up after so many seconds, and go on",
     },
     Word {
@@ -148,45 +144,45 @@ fn argument<'a>(alloc: Global, word: &Word) -> Result<Arg<'a>, AllocError> {
     if let Some(letter) = word.letter {
         arg = arg.short(letter);
     }
-    if let Value::Test = &word.value {
-        return arg
-            .action(ArgAction::Append)
-            .value_name("TEST")
-            .required_unless_present("found");
-    }
-    let arg = arg.long(word.name).action(ArgAction::Set);
-    match &word.value {
-        Value::None | Value::Test => Ok(arg.action(ArgAction::SetTrue)),
-        Value::One(name) => Ok(arg.value_name(name)),
-        Value::Each(name) => Ok(arg.action(ArgAction::Append).value_name(name)),
-        Value::Found => arg
-            .value_name("FILE")
+    match word.value {
+        Value::None => Ok(arg.long(word.name).action(ArgAction::SetTrue)),
+        Value::One(name) => Ok(with_value(arg, word, name)),
+        Value::Each(name) => Ok(with_value(arg, word, name).action(ArgAction::Append)),
+        Value::Found => with_value(arg, word, "FILE")
             .requires_arg("expected")?
             .conflicts_with("test"),
-        Value::Threads => {
-            Ok(
-                arg.value_name("N")
-                    .value_parser(value_parser!(u8).range(1..=64)),
-            )
+        Value::Number(name, most) => {
+            Ok(with_value(arg, word, name).value_parser(value_parser!(u32).range(1..=most)))
         }
-        Value::Seconds => {
-            Ok(
-                arg.value_name("S")
-                    .value_parser(value_parser!(u32).range(1..=1_000_000)),
-            )
-        }
+        Value::Test => arg
+            .action(ArgAction::Append)
+            .value_name("TEST")
+            .required_unless_present("found"),
     }
+}
+
+/// The argument of a word with one value behind it, which the help calls by this name.
+fn with_value<'a>(arg: Arg<'a>, word: &Word, name: &'static str) -> Arg<'a> {
+    arg.long(word.name).action(ArgAction::Set).value_name(name)
+}
+
+/// The arguments that the words are.
+fn arguments<'a>(alloc: Global) -> Result<Vec<Arg<'a>>, AllocError> {
+    let mut arguments = Vec::new(alloc);
+    for word in FORMS.iter().chain(&OTHERS) {
+        arguments.push(argument(alloc, word)?)?;
+    }
+    Ok(arguments)
 }
 
 /// The words as clap reads them. The first is the program's name.
 pub fn read_words<'a>(alloc: Global, words: &'a [String]) -> Result<ArgMatches<'a>, Error> {
-    let mut command = Command::new(alloc, "yofetsug")
+    let arguments = arguments(alloc)?;
+    Command::new(alloc, "yofetsug")
         .about("Judges C litmus tests under cat memory models; its verdicts are proved")
-        .version("0.1.0");
-    for word in FORMS.iter().chain(&OTHERS) {
-        command = command.arg(argument(alloc, word)?)?;
-    }
-    command.try_get_matches_from(words)
+        .version("0.1.0")
+        .args(arguments)?
+        .try_get_matches_from(words)
 }
 
 /// What is asked for by the words that clap found.
@@ -201,7 +197,7 @@ pub fn words_of<'a>(matches: &'a ArgMatches<'_>) -> Words<'a> {
         expected: matches.get_str("expected"),
         write_expected: matches.get_str("write-expected"),
         found: matches.get_str("found"),
-        threads: matches.get_one::<u8>("threads"),
+        threads: matches.get_one::<u32>("threads"),
         timeout: matches.get_one::<u32>("timeout"),
         tests: matches.get_strs("test").unwrap_or(&[]),
     }
