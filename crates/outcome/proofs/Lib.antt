@@ -1,3 +1,4 @@
+pub mod Added
 pub mod Explained
 pub mod ReadBack
 pub mod Stored

@@ -1,5 +1,5 @@
 -- Stored rows, read back.
-use Rattle.std.proofs.Common.{◌≡◌, ℕ, zero, suc, List, [], ◌∷◌, ◌++◌, map, false, ◌==◌, Some, None, Result, Ok, Err, refl, sym, ap, ◌∙◌, subst, append_assoc}
+use Rattle.std.proofs.Common.{◌≡◌, ℕ, zero, suc, List, [], ◌∷◌, ◌++◌, map, length, false, ◌==◌, Some, None, Result, Ok, Err, refl, sym, ap, ◌∙◌, subst, append_assoc}
 use Rattle.std.specs.Prelude.{◌≢◌, All, slice_get, MatchResult, IfOk, IfErr}
 use Rattle.std.specs.List.{flat_map}
 use Rattle.std.proofs.lemmas.Bool.{ne_eqb}
@@ -31,6 +31,10 @@ fields_in r h =
 
 is_row : (r : Row) → IsWhole r → row_of_line (line_of r) ≡ Some (texts_of r)
 is_row r h = ap of_fields (fields_in r h)
+
+-- neither four fields nor twelve
+pub no_row : (fs : List (List ℕ)) (n : ℕ) → length fs ≡ n → n ≢ 4 → n ≢ 12 → None ≡ of_fields fs
+no_row fs n e four twelve = rw (e, ne_eqb n 4 four, ne_eqb n 12 twelve) refl
 
 -- no line feed in the line
 one_line : (r : Row) → IsWhole r → All (λ b. (b == 10) ≡ false) (line_of r)
