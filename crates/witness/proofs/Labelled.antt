@@ -482,7 +482,7 @@ next_item i j k items os item o xs ys low high is stands new =
 
 -- the first items, as many as there are at most
 
-pub take_all : {X : Type 0} (xs : List X) (k : ℕ) → length xs ≤ k → take k xs ≡ xs
+take_all : {X : Type 0} (xs : List X) (k : ℕ) → length xs ≤ k → take k xs ≡ xs
 take_all [] zero l = refl
 take_all [] (suc k) l = refl
 take_all (x ∷ xs) zero l = absurd (omega (arith, l))
