@@ -123,10 +123,8 @@ fn is_judged<R: Threads + Sync>(rt: &R, alloc: Global, threads: u16) -> Result<b
 /// Whether a text that is no test is told to be none.
 fn is_no_test<R: Threads + Sync>(rt: &R, alloc: Global) -> bool {
     let models: Vec<Model> = Vec::new(alloc);
-    matches!(
-        judge_text(rt, alloc, b"C SB\n{", &models, 1, &mut Endless),
-        Err(TestTrouble::Test(_))
-    )
+    let judged = judge_text(rt, alloc, b"C SB\n{", &models, 1, &mut Endless);
+    matches!(&judged, Err(TestTrouble::Test(_)))
 }
 
 #[test]
