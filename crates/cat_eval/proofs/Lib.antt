@@ -48,3 +48,4 @@ pub mod Grown
 pub mod Aside
 pub mod Alike
 pub mod Accounts
+pub mod Slots

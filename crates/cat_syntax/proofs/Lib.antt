@@ -8,6 +8,7 @@ pub mod Levels
 pub mod ItemsSound
 pub mod Lists
 pub mod Complete
+pub mod Exits
 pub mod ItemsComplete
 pub mod Alike
 pub mod AlikeReadings

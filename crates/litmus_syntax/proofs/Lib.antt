@@ -22,3 +22,4 @@ pub mod Spelled
 pub mod Statements
 pub mod SingleSymbols
 pub mod Unspelled
+pub mod Variants

@@ -43,3 +43,6 @@ returns-clause-more c =
 
 pub returns-clause-seen : goal.returns-clause-seen
 returns-clause-seen c = (kept_push c.args.names.now.items c.push-2.new.self.items _ c.args.before c.in_ok-push-2.ensures.items c.requires.before).1
+
+pub returns-clause-before : goal.returns-clause-before
+returns-clause-before c = omega (arith, c.requires.before, c.in_ok-push-2.ensures.len)

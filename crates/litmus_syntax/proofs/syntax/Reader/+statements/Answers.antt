@@ -1,8 +1,10 @@
-use Rattle.std.proofs.Common.{rules, arith, ap, length}
-use Rattle.litmus_tree.specs.Tree.{step_of, steps_of}
+use Rattle.std.proofs.Common.{ap, rules, arith, length}
+use Rattle.std.specs.Prelude.{Ok}
+use Rattle.litmus_tree.specs.Tree.{Step, step_of, steps_of}
+use Rattle.litmus_syntax.specs.Reading.{step_with, block_with, inside, unless, expected, steps_with, if_with, else_with, tested_at, open_at, opened}
+use Rattle.litmus_syntax.proofs.Variants.{block_step}
 use Rattle.litmus_syntax.proofs.Statements.{step_takes, steps_turn}
 use Rattle.litmus_tree.proofs.Steps.{only_if, if_and_else, pushed}
-use Rattle.litmus_syntax.specs.Reading.{unless, expected, steps_with, if_with, else_with, inside, tested_at, open_at, opened}
 use Rattle.litmus_syntax.proofs.syntax.Reader.+statements.Goals as goal
 
 pub statements-loop-self-smaller : goal.statements-loop-self-smaller
@@ -33,3 +35,7 @@ branch-returns-then-not-take t c = let tree = only_if c.in_ok-test.test c.in_ok-
 pub branch-returns : goal.branch-returns
 unfolding if_with else_with inside tested_at open_at opened
 branch-returns t c = let tree = if_and_else c.in_ok-test.test c.in_ok-arm.arm c.in_ok-other.other in search (rules, tree)
+
+pub statement-returns-then-take-2 : goal.statement-returns-then-take-2
+unfolding step_with block_with inside
+statement-returns-then-take-2 t c = rw (c.if-take.ensures.0, ← c.if-take.ensures.1, c.if-take-2.ensures, c.in_ok-nesting.ensures.ok, c.in_ok-statements.ensures) (ap (λ (s : Step). Ok (s, c.statements.new.self.rest.now)) (block_step c.in_ok-statements.field-0))

@@ -1,0 +1,10 @@
+use Rattle.std.proofs.Common.{ap}
+use Rattle.std.specs.Prelude.{Ok}
+use Rattle.litmus_tree.specs.Tree.{Step}
+use Rattle.litmus_syntax.specs.Reading.{simple_at, declaration_at}
+use Rattle.litmus_syntax.proofs.Variants.{declare_step}
+use Rattle.litmus_syntax.proofs.syntax.Reader.simple.Goals as goal
+
+pub returns-then-take : goal.returns-then-take
+unfolding simple_at declaration_at
+returns-then-take c = rw (c.if-take.ensures, c.in_ok-declarators.ensures) (ap (λ (s : Step). Ok (s, c.declarators.new.self.rest.now)) (declare_step c.in_ok-declarators.field-0))
