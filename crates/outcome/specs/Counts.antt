@@ -1,8 +1,33 @@
--- The last line of a run: `1,000 tests: 981 judged, 18 refused, 1 not read`. (docs/COMMAND.md, "What is printed".)
-use Rattle.std.specs.Prelude.{ℕ, ◌+◌, ◌%◌, List, [], ◌∷◌, ◌++◌, length, ◌==◌, if◌then◌else◌, codes, decimal}
+-- What a run has come to, its status, and its last line: `1,000 tests: 981 judged, 18 refused, 1 not read`.
+-- (docs/COMMAND.md, "What is printed" and "Status".)
+use Rattle.std.specs.Prelude.{ℕ, suc, ◌+◌, ◌-◌, ◌^◌, ◌%◌, min, Bool, List, [], ◌∷◌, ◌++◌, length, ◌==◌, if◌then◌else◌, codes, decimal}
 use Rattle.outcome.specs.declared.counts.Counts.{Counts}
+use Rattle.outcome.specs.declared.counts.Fate.{Fate}
+use Rattle.outcome.specs.declared.counts.Fate.TheVariants.{Judged, Refused, Unread}
 use Rattle.outcome.specs.declared.form.Form.{Form}
 use Rattle.outcome.specs.declared.form.Form.TheVariants.{Table}
+
+-- tests that couldn't be read, and no others
+abbrev pub unread_alone : ℕ → Counts
+unread_alone n = record { judged = 0; refused = 0; unread = n; differing = 0 }
+
+-- one more, up to the most that 64 bits hold
+abbrev pub one_more : ℕ → ℕ
+one_more n = min (n + 1) (2 ^ 64 - 1)
+
+-- one test more has this fate
+abbrev pub with_fate : Fate → Counts → Counts
+with_fate Judged c = record c { judged = one_more c.judged }
+with_fate Refused c = record c { refused = one_more c.refused }
+with_fate Unread c = record c { unread = one_more c.unread }
+
+-- and the models tell it apart, or they don't
+abbrev pub counted : Fate → Bool → Counts → Counts
+counted fate differs c = let d = with_fate fate c in if differs then record d { differing = one_more d.differing } else d
+
+-- 3 where something differs from what is expected; else 1 where a test couldn't be read; else 2 where one was refused; else 0
+abbrev pub status : Bool → Counts → ℕ
+status differs c = if differs then 3 else if c.unread == 0 then (if c.refused == 0 then 0 else 2) else 1
 
 -- a comma before three, six, .. digits
 abbrev pub comma_before : List ℕ → List ℕ

@@ -7,6 +7,14 @@ use crate::form::Form;
 use itoa::Buffer;
 use std::alloc::{AllocError, Global};
 
+/// What became of a test.
+#[derive(Clone, Copy)]
+pub enum Fate {
+    Judged,
+    Refused,
+    Unread,
+}
+
 /// What a run has come to: how many tests were judged, refused and not read, and how many the models tell apart.
 #[derive(Clone, Copy)]
 pub struct Counts {
@@ -62,6 +70,47 @@ fn push_between(
 }
 
 impl Counts {
+    /// Those of a run in which so many tests couldn't be read, and no other was tried.
+    pub fn unread(tests: u64) -> Self
+        ensures { result ≡ texts.unread_alone tests }
+    {
+        Counts {
+            judged: 0,
+            refused: 0,
+            unread: tests,
+            differing: 0,
+        }
+    }
+
+    /// Counts a test, and whether the models tell it apart. A count of 2^64 - 1 stays as it is.
+    pub fn count(&mut self, fate: Fate, differs: bool)
+        ensures { self.new ≡ texts.counted fate differs self.old }
+    {
+        match fate {
+            Fate::Judged => self.judged = self.judged.saturating_add(1),
+            Fate::Refused => self.refused = self.refused.saturating_add(1),
+            Fate::Unread => self.unread = self.unread.saturating_add(1),
+        }
+        if differs {
+            self.differing = self.differing.saturating_add(1);
+        }
+    }
+
+    /// The status with which a run ends whose rows differ from those that are expected, or don't, or weren't compared.
+    pub fn status(&self, differs: bool) -> u8
+        ensures { result ≡ texts.status differs self.now }
+    {
+        if differs {
+            3
+        } else if self.unread > 0 {
+            1
+        } else if self.refused > 0 {
+            2
+        } else {
+            0
+        }
+    }
+
     /// How many tests there were.
     fn all(&self) -> u128
         ensures { result ≡ texts.all self.now }

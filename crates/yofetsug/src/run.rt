@@ -3,7 +3,7 @@
 use crate::deadline::Deadline;
 use crate::meter::{Meter, milliseconds_since};
 use inputs::{Models, read_front, text_of};
-use outcome::{Tested, Told, Wanted};
+use outcome::{Fate, Tested, Told, Wanted};
 use slices::Verdict;
 use std::alloc::{AllocError, Global};
 use std::io;
@@ -30,14 +30,12 @@ pub struct Plan<'a> {
     pub limit: u64,
 }
 
-/// What became of a test.
+/// How far a test is.
 #[derive(Clone, Copy)]
-pub enum Fate {
+pub enum Stage {
     /// It is still to be judged.
     Waiting,
-    Judged,
-    Refused,
-    Unread,
+    Done(Fate),
     /// There was no memory to judge it.
     Lost,
 }
@@ -46,7 +44,7 @@ pub enum Fate {
 pub struct Test<'a> {
     path: &'a str,
     text: Vec<u8>,
-    pub fate: Fate,
+    pub stage: Stage,
     pub told: Told,
 }
 
@@ -56,7 +54,7 @@ impl<'a> Drop for Test<'a> {
         let Test {
             path: _,
             text: _,
-            fate: _,
+            stage: _,
             told: _,
         } = self;
     }
@@ -75,7 +73,7 @@ impl<'a> Test<'a> {
             Ok(text) => Ok(Test {
                 path,
                 text,
-                fate: Fate::Waiting,
+                stage: Stage::Waiting,
                 told: Told::new(alloc),
             }),
             Err(error) => Test::unread(alloc, path, &error),
@@ -89,7 +87,7 @@ impl<'a> Test<'a> {
         Ok(Test {
             path,
             text: Vec::new(alloc),
-            fate: Fate::Unread,
+            stage: Stage::Done(Fate::Unread),
             told,
         })
     }
@@ -101,12 +99,12 @@ impl<'a> Test<'a> {
         alloc: Global,
         plan: &Plan<'_>,
     ) {
-        if !matches!(self.fate, Fate::Waiting) {
+        if !matches!(self.stage, Stage::Waiting) {
             return;
         }
         let mut deadline = Deadline::new(rt, plan.limit.min(WHILE), Meter::new(rt, 0, false));
         if self.judge(rt, alloc, plan, 1, &mut deadline).is_err() {
-            self.fate = Fate::Lost;
+            self.stage = Stage::Lost;
         }
     }
 
@@ -144,11 +142,11 @@ impl<'a> Test<'a> {
         };
         match judged {
             Ok(verdicts) => {
-                self.fate = Fate::Judged;
+                self.stage = Stage::Done(Fate::Judged);
                 tell(&mut self.told, alloc, plan, &test, verdicts)
             }
             Err(trouble) => {
-                self.fate = Fate::Refused;
+                self.stage = Stage::Done(Fate::Refused);
                 self.told.refuse(alloc, &plan.wanted, &test, trouble)
             }
         }

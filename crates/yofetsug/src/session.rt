@@ -2,7 +2,7 @@
 
 use crate::deadline::Deadline;
 use crate::meter::Meter;
-use crate::run::{Fate, Plan, Test};
+use crate::run::{Plan, Stage, Test};
 use crate::words::Words;
 use inputs::{Models, Paths, Trouble, read_rows, see_writable, store_rows, write_file};
 use outcome::{Counts, Form, Wanted};
@@ -172,12 +172,7 @@ impl Progress {
     /// None of so many tests is done.
     fn new<R: Clock + AllocGlobal>(rt: &R, tests: usize, shows: bool) -> Self {
         Progress {
-            counts: Counts {
-                judged: 0,
-                refused: 0,
-                unread: 0,
-                differing: 0,
-            },
+            counts: Counts::unread(0),
             rows: Vec::new(rt.alloc()),
             dot: Vec::new(rt.alloc()),
             meter: Meter::new(rt, tests, shows),
@@ -209,7 +204,7 @@ impl Progress {
         for message in unread {
             rt.eprint(message.as_str())?;
         }
-        self.counts.unread = unread.len() as u64;
+        self.counts = Counts::unread(unread.len() as u64);
         self.meter.done = unread.len();
         Ok(())
     }
@@ -236,7 +231,7 @@ impl Progress {
         plan: &Plan<'_>,
     ) -> Result<(), Trouble> {
         for test in tests {
-            if matches!(test.fate, Fate::Waiting) {
+            if matches!(test.stage, Stage::Waiting) {
                 self.judge_wholly(rt, test, plan)?;
             }
             self.show(rt, test, plan.why)?;
@@ -265,15 +260,11 @@ impl Progress {
         why: bool,
     ) -> Result<(), Trouble> {
         self.meter.clear(rt)?;
-        let counts = &mut self.counts;
-        match test.fate {
-            Fate::Judged => counts.judged = counts.judged.saturating_add(1),
-            Fate::Refused => counts.refused = counts.refused.saturating_add(1),
-            Fate::Unread => counts.unread = counts.unread.saturating_add(1),
-            Fate::Waiting | Fate::Lost => return Err(Trouble::NoMemory),
-        }
         let told = &mut test.told;
-        counts.differing = counts.differing.saturating_add(u64::from(told.differs));
+        match test.stage {
+            Stage::Done(fate) => self.counts.count(fate, told.differs),
+            Stage::Waiting | Stage::Lost => return Err(Trouble::NoMemory),
+        }
         self.meter.done = self.meter.done.saturating_add(1);
         self.rows.append(&mut told.rows)?;
         self.dot.append(&mut told.dot)?;
@@ -300,15 +291,7 @@ impl Progress {
         }
         let differ = words.expected.is_some() && compare(rt, expected, &self.rows)?;
         self.print_counts(rt, words.form)?;
-        Ok(if differ {
-            3
-        } else if self.counts.unread > 0 {
-            1
-        } else if self.counts.refused > 0 {
-            2
-        } else {
-            0
-        })
+        Ok(self.counts.status(differ))
     }
 
     /// Prints how many tests were judged, refused and not read. It goes to standard error where programs read the output.

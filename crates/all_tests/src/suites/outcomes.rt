@@ -3,7 +3,7 @@
 //! The expected texts are written by hand, after docs/COMMAND.md.
 
 use crate::suites::told::{CASE, SB, model};
-use outcome::{Counts, Form, RowsFault, Tested, Told, Wanted, rows_in};
+use outcome::{Counts, Fate, Form, RowsFault, Tested, Told, Wanted, rows_in};
 use std::alloc::{AllocError, Global};
 use std::thread::Threads;
 use suite::{Endless, Row, TestTrouble, judge_text};
@@ -29,6 +29,16 @@ const REFUSED: [(Form, &str); 3] = [
         Form::Json,
         "{\"digests\":\"sc.cat=0123456789abcdef\",\"file\":\"SB.litmus\",\"milliseconds\":7,\"model\":\"sc.cat\",\"refused\":\"Late\"}\n",
     ),
+];
+
+/// How many tests were judged, refused and not read, whether something differs from what is expected, and the status.
+const STATUSES: [([u64; 3], bool, u8); 6] = [
+    ([0, 0, 0], false, 0),
+    ([5, 0, 0], false, 0),
+    ([5, 1, 0], false, 2),
+    ([5, 0, 1], false, 1),
+    ([5, 1, 1], false, 1),
+    ([5, 1, 1], true, 3),
 ];
 
 /// The test under one model.
@@ -168,16 +178,20 @@ fn rows_read_back(rt: HostRuntime) {
     }
 }
 
-/// The last line of a run.
-fn last_line(alloc: Global, form: Form, counts: &[u64; 4]) -> Result<Vec<u8>, AllocError> {
-    let [judged, refused, unread, differing] = *counts;
-    let counts = Counts {
+/// Counts as they are in a row.
+fn counts_of(judged: u64, refused: u64, unread: u64, differing: u64) -> Counts {
+    Counts {
         judged,
         refused,
         unread,
         differing,
-    };
-    counts.line(alloc, form)
+    }
+}
+
+/// The last line of a run.
+fn last_line(alloc: Global, form: Form, counts: &[u64; 4]) -> Result<Vec<u8>, AllocError> {
+    let [judged, refused, unread, differing] = *counts;
+    counts_of(judged, refused, unread, differing).line(alloc, form)
 }
 
 #[test]
@@ -187,5 +201,24 @@ fn last_lines(rt: HostRuntime) {
             Ok(found) => assert!(rt; found.as_slice() == text.as_bytes(), "{text}"),
             Err(_) => assert!(rt; false, "no memory"),
         }
+    }
+}
+
+#[test]
+fn tests_are_counted(rt: HostRuntime) {
+    let mut counts = Counts::unread(2);
+    counts.count(Fate::Judged, true);
+    counts.count(Fate::Judged, false);
+    counts.count(Fate::Refused, false);
+    counts.count(Fate::Unread, false);
+    assert!(rt; counts.judged == 2 && counts.refused == 1);
+    assert!(rt; counts.unread == 3 && counts.differing == 1);
+}
+
+#[test]
+fn statuses(rt: HostRuntime) {
+    for ([judged, refused, unread], differs, status) in &STATUSES {
+        let counts = counts_of(*judged, *refused, *unread, 0);
+        assert!(rt; counts.status(*differs) == *status, "{status}");
     }
 }
