@@ -1,6 +1,6 @@
 -- Loops that add to a list what is made of each element in turn.
 use Rattle.std.specs.List.{flat_map}
-use Rattle.std.proofs.Common.{◌≡◌, ℕ, ◌+◌, ◌-◌, ◌<◌, ◌≤◌, List, [], ◌∷◌, ◌++◌, length, map, get_or, drop, reverse, sym, ◌∙◌, ap, arith, append_assoc, append-nil, length-append}
+use Rattle.std.proofs.Common.{◌≡◌, ℕ, ◌+◌, ◌<◌, ◌≤◌, List, [], ◌∷◌, ◌++◌, length, map, get_or, drop, reverse, sym, ◌∙◌, ap, append_assoc, append-nil}
 use Rattle.std.proofs.lemmas.List.{drop_all, drop_more, map-append, reverse-append, nil_from_length}
 
 -- one more copy
@@ -38,9 +38,6 @@ joined_on f xs rest x done next all steps more so_far =
 pub all_joined : {X Y : Type 0} (f : X → List Y) (xs : List X) (done all : List Y) → length xs ≡ 0 → done ++ flat_map f xs ≡ all → done ≡ all
 all_joined f xs done all none so_far =
     sym (append-nil done) ∙ ap (λ ys. done ++ flat_map f ys) (sym (nil_from_length xs none)) ∙ so_far
-
-pub still_within : {Y : Type 0} (old more next : List Y) (most : ℕ) → length old < most → length more ≤ most - length old → next ≡ old ++ more → length next ≤ most
-still_within {Y = Y} old more next most l m e = omega (arith, l, m, ap (λ (ys : List Y). length ys) e, length-append old more)
 
 -- What comes last is the first from behind.
 pub last_first : {X Y : Type 0} (f : X → Y) (xs : List X) (x : X) → reverse (map f (xs ++ (x ∷ []))) ≡ f x ∷ reverse (map f xs)

@@ -9,9 +9,8 @@ use Rattle.litmus_tree.specs.Tree.{Action, load, store, exchange, modify, fence,
 use Rattle.litmus_value.specs.Values.{Numeral, literal, addend, term_numerals, action_numerals, right_numerals, optional_numerals, step_numerals, steps_numerals, program_numerals, numerals_among, constants_in, adds_in, values_of}
 use Rattle.litmus_value.proofs.Sums.{lists_values, add_is_value}
 use Rattle.c11_threads.specs.Runs.{no_program, thread_of}
-use Rattle.litmus_value.specs.Limits.{IsTest}
 use Rattle.litmus_value.proofs.Sums.{constant_is_value}
-use Rattle.c11_threads.specs.Serving.{AreValues, ServesCall, ServesRight, ServesOption, ServesAll, Serves, ServesSteps}
+use Rattle.c11_threads.specs.Serving.{ServesCall, ServesRight, ServesOption, ServesAll, Serves, ServesSteps}
 
 pub literal_in : (ns : List Numeral) (n : ℕ) → IsIn (literal n) ns → IsIn n (constants_in ns)
 literal_in [] n h = absurd h
@@ -23,26 +22,26 @@ addend_in [] n h = absurd h
 addend_in (literal m ∷ ns) n h = elim h [ inl e ↦ absurd (cc (e)) | inr r ↦ addend_in ns n r ]
 addend_in (addend m ∷ ns) n h = elim h [ inl e ↦ inl (cc (e)) | inr r ↦ inr (addend_in ns n r) ]
 
--- each addend is one of the values
+-- 0 is one of the values, and each addend
 abbrev pub AreServed : List ℕ → List Numeral → Type 0
-AreServed values ns = (c : ℕ) → IsIn (addend c) ns → IsIn c values
+AreServed values ns = IsIn 0 values × ((c : ℕ) → IsIn (addend c) ns → IsIn c values)
 
 left_served : (values : List ℕ) (xs ys : List Numeral) → AreServed values (xs ++ ys) → AreServed values xs
-left_served values xs ys h c m = h c (in_left xs ys (addend c) m)
+left_served values xs ys h = (h.0, λ c m. h.1 c (in_left xs ys (addend c) m))
 
 right_served : (values : List ℕ) (xs ys : List Numeral) → AreServed values (xs ++ ys) → AreServed values ys
-right_served values xs ys h c m = h c (in_right xs ys (addend c) m)
+right_served values xs ys h = (h.0, λ c m. h.1 c (in_right xs ys (addend c) m))
 
 call_served : (values : List ℕ) (a : Action) → AreServed values (action_numerals a) → ServesCall values a
-call_served values (load x o) h = tt
+call_served values (load x o) h = h.0
 call_served values (store x e o) h = tt
-call_served values (exchange x e o) h = tt
-call_served values (modify x Addition c o) h = h c (inl refl)
+call_served values (exchange x e o) h = h.0
+call_served values (modify x Addition c o) h = (h.0, h.1 c (inl refl))
 call_served values (fence o) h = tt
 
 right_is_served : (values : List ℕ) (r : Right) → AreServed values (right_numerals r) → ServesRight values r
 right_is_served values (computed e) h = tt
-right_is_served values (plain_read x) h = tt
+right_is_served values (plain_read x) h = h.0
 right_is_served values (value_of a) h = call_served values a h
 
 option_served : (values : List ℕ) (r : Option Right) → AreServed values (optional_numerals r) → ServesOption values r
@@ -83,9 +82,9 @@ mutual
 -- The values of a test serve each of its threads.
 pub serves_thread : (t : Litmus) (k : ℕ) → k < length t.threads → ServesSteps (values_of t) (thread_of t k).steps
 serves_thread t k l =
-    steps_served (values_of t) (thread_of t k).steps
-    (λ c h. (lists_values t.initial t.threads).all c
-    (add_is_value t.initial t.threads c (addend_in (numerals_among t.threads) c (flat_map_in program_numerals t.threads (thread_of t k) (addend c) (in_get_or t.threads k no_program l) h))))
-
-pub fit_values : (t : Litmus) → IsTest t → AreValues (values_of t)
-fit_values t h = record { zero = (lists_values t.initial t.threads).all 0 (constant_is_value t.initial t.threads 0 (inl refl)); small = h.small }
+    let lists = lists_values t.initial t.threads in
+    steps_served (values_of t) (thread_of t k).steps (
+      lists.all 0 (constant_is_value t.initial t.threads 0 (inl refl)),
+      λ c h. lists.all c
+          (add_is_value t.initial t.threads c (addend_in (numerals_among t.threads) c (flat_map_in program_numerals t.threads (thread_of t k) (addend c) (in_get_or t.threads k no_program l) h))),
+    )

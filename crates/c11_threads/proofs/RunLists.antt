@@ -20,7 +20,7 @@ use Rattle.c11_threads.proofs.Filtered.{lists_filter, all_pass}
 use Rattle.c11_threads.specs.declared.content.Content.{Content}
 use Rattle.c11_threads.specs.Contents.{place_of, nothing, modified}
 use Rattle.c11_threads.specs.Runs.{Progress, after, next_read, Site, thread_of, given_by, inside, reads_from, writes_into, fences, CanModify, Calls, Assigns, Declares, DeclaresAll, Branches, Performs, PerformsAll, body, start, run_of, IsRun}
-use Rattle.c11_threads.specs.Unrolled.{setting_of, giving, call_runs, right_runs, declare_runs, declares_runs, under, holds, step_runs, steps_runs, ends_of, runs_of}
+use Rattle.c11_threads.specs.Unrolled.{setting_of, giving, call_runs, right_runs, optional_runs, declare_runs, declares_runs, under, holds, step_runs, steps_runs, ends_of, runs_of}
 
 append_cancel : {X : Type 0} (xs ys zs : List X) → xs ++ ys ≡ xs ++ zs → ys ≡ zs
 append_cancel [] ys zs e = e
@@ -177,7 +177,7 @@ read_apart s a x o v w xs ys e = ap first_value e
 abbrev pub Giving : Site → Action → Option ℕ → Progress → Progress → Type 0
 Giving s a r p q = (w : Content) × (m : Progress) × Calls s a p w m × (q ≡ giving r w m)
 
-call_listed : (t : Litmus) (k : ℕ) (c : EventSet) (a : Action) (r : Option ℕ) (p : Progress) → IsListed p (Giving (site t k c) a r p) (call_runs (setting_of t k) c a r p)
+call_listed : (t : Litmus) (k : ℕ) (c : EventSet) (a : Action) (r : Option ℕ) (p : Progress) → IsListed p (Giving (site t k c) a r p) (call_runs (setting_of t k c) a r p)
 call_listed t k c (load x o) r p =
     let s = site t k c in
     any_listed t p (λ v. reads_from s Read x o v ∷ []) r (λ v w xs ys e. read_apart s Read x o v w xs ys e)
@@ -195,7 +195,7 @@ call_listed t k c (modify x f n o) r p =
     (λ v w xs ys e. read_apart s ExRead x o v w (write v ∷ xs) (write w ∷ ys) e)
 call_listed t k c (fence o) r p = made p nothing (fences (site t k c) o ∷ []) r
 
-right_listed : (t : Litmus) (k : ℕ) (c : EventSet) (name : Word) (right : Right) (p : Progress) → IsListed p (Assigns (site t k c) name right p) (right_runs (setting_of t k) c right (place_of name (thread_of t k).registers) p)
+right_listed : (t : Litmus) (k : ℕ) (c : EventSet) (name : Word) (right : Right) (p : Progress) → IsListed p (Assigns (site t k c) name right p) (right_runs (setting_of t k c) right (place_of name (thread_of t k).registers) p)
 right_listed t k c name (computed e) p =
     let s = site t k c in
     let r = place_of name (thread_of t k).registers in
@@ -207,20 +207,20 @@ right_listed t k c name (plain_read x) p =
     any_listed t p (λ v. reads_from s Read x Na v ∷ []) (Some (place_of name (thread_of t k).registers)) (λ v w xs ys e. read_apart s Read x Na v w xs ys e)
 right_listed t k c name (value_of a) p = call_listed t k c a (Some (place_of name (thread_of t k).registers)) p
 
-declare_listed : (t : Litmus) (k : ℕ) (c : EventSet) (name : Word) (right : Option Right) (p : Progress) → IsListed p (Declares (site t k c) name right p) (declare_runs (setting_of t k) c name right p)
+declare_listed : (t : Litmus) (k : ℕ) (c : EventSet) (name : Word) (right : Option Right) (p : Progress) → IsListed p (Declares (site t k c) name right p) (optional_runs (setting_of t k c) right (place_of name (thread_of t k).registers) p)
 declare_listed t k c name None p =
     let q = giving (Some (place_of name (thread_of t k).registers)) nothing p in
     alone p q (Declares (site t k c) name None p) [] (still p) refl (λ r h. h)
 declare_listed t k c name (Some right) p = right_listed t k c name right p
 
-declares_listed : (t : Litmus) (k : ℕ) (c : EventSet) (ds : List Declared) (p : Progress) → IsListed p (DeclaresAll (site t k c) ds p) (declares_runs (setting_of t k) c ds p)
+declares_listed : (t : Litmus) (k : ℕ) (c : EventSet) (ds : List Declared) (p : Progress) → IsListed p (DeclaresAll (site t k c) ds p) (declares_runs (setting_of t k c) ds p)
 declares_listed t k c [] p = stays p
 declares_listed t k c (d ∷ ds) p =
-    followed p (Declares (site t k c) d.register d.value p) (λ m q. DeclaresAll (site t k c) ds m q) (declare_runs (setting_of t k) c d.register d.value p) (declares_runs (setting_of t k) c ds)
+    followed p (Declares (site t k c) d.register d.value p) (λ m q. DeclaresAll (site t k c) ds m q) (declare_runs (setting_of t k c) d p) (declares_runs (setting_of t k c) ds)
     (declare_listed t k c d.register d.value p) (λ m. declares_listed t k c ds m)
 
 mutual
-  pub step_listed : (a : Step) (t : Litmus) (k : ℕ) (c : EventSet) (p : Progress) → IsListed p (λ q. Performs a (site t k c) p q) (step_runs a (setting_of t k) c p)
+  pub step_listed : (a : Step) (t : Litmus) (k : ℕ) (c : EventSet) (p : Progress) → IsListed p (λ q. Performs a (site t k c) p q) (step_runs a (setting_of t k c) p)
   step_listed empty t k c p = stays p
   step_listed (block steps) t k c p = steps_listed steps t k c p
   step_listed (declare ds) t k c p = declares_listed t k c ds p
@@ -231,23 +231,23 @@ mutual
       let q = after p (event ∷ []) in
       alone p q (λ r. r ≡ q) (event ∷ []) refl refl (λ r h. h)
   step_listed (perform a) t k c p =
-      reworded p (Giving (site t k c) a None p) (λ q. (w : Content) × Calls (site t k c) a p w q) (call_runs (setting_of t k) c a None p)
+      reworded p (Giving (site t k c) a None p) (λ q. (w : Content) × Calls (site t k c) a p w q) (call_runs (setting_of t k c) a None p)
       (λ q h. (let F : Progress → Type 0 = λ u. Calls (site t k c) a p h.0 u in (h.0, subst F (sym h.3) h.2)))
       (λ q h. (h.0, q, h.1, refl))
       (call_listed t k c a None p)
   step_listed (if_only e a) t k c p =
-      let s = setting_of t k in
-      branched p (holds s e p) (λ q. Performs a (inside (site t k c) p e) p q) (λ q. q ≡ p) (step_runs a s (under s c e p) p) (p ∷ [])
-      (step_listed a t k (under s c e p) p) (stays p)
+      let s = setting_of t k c in
+      branched p (holds s e p) (λ q. Performs a (inside (site t k c) p e) p q) (λ q. q ≡ p) (step_runs a (under s e p) p) (p ∷ [])
+      (step_listed a t k (under s e p).ctrl p) (stays p)
   step_listed (if_else e a b) t k c p =
-      let s = setting_of t k in
-      branched p (holds s e p) (λ q. Performs a (inside (site t k c) p e) p q) (λ q. Performs b (inside (site t k c) p e) p q) (step_runs a s (under s c e p) p) (step_runs b s (under s c e p) p)
-      (step_listed a t k (under s c e p) p) (step_listed b t k (under s c e p) p)
+      let s = setting_of t k c in
+      branched p (holds s e p) (λ q. Performs a (inside (site t k c) p e) p q) (λ q. Performs b (inside (site t k c) p e) p q) (step_runs a (under s e p) p) (step_runs b (under s e p) p)
+      (step_listed a t k (under s e p).ctrl p) (step_listed b t k (under s e p).ctrl p)
 
-  pub steps_listed : (steps : Steps) (t : Litmus) (k : ℕ) (c : EventSet) (p : Progress) → IsListed p (λ q. PerformsAll steps (site t k c) p q) (steps_runs steps (setting_of t k) c p)
+  pub steps_listed : (steps : Steps) (t : Litmus) (k : ℕ) (c : EventSet) (p : Progress) → IsListed p (λ q. PerformsAll steps (site t k c) p q) (steps_runs steps (setting_of t k c) p)
   steps_listed no_steps t k c p = stays p
   steps_listed (in_turn a rest) t k c p =
-      followed p (λ m. Performs a (site t k c) p m) (λ m q. PerformsAll rest (site t k c) m q) (step_runs a (setting_of t k) c p) (steps_runs rest (setting_of t k) c)
+      followed p (λ m. Performs a (site t k c) p m) (λ m q. PerformsAll rest (site t k c) m q) (step_runs a (setting_of t k c) p) (steps_runs rest (setting_of t k c))
       (step_listed a t k c p) (λ m. steps_listed rest t k c m)
 
 ends_listed : (t : Litmus) (k : ℕ) → IsListed (start t k) (λ q. PerformsAll (thread_of t k).steps (body t k) (start t k) q) (ends_of t k)

@@ -7,11 +7,6 @@ use Rattle.c11_threads.specs.declared.fault.RunFault.{RunFault}
 use Rattle.c11_threads.specs.declared.fault.RunFault.TheVariants as of_runs
 use Rattle.c11_threads.specs.Runs.{IsRun}
 
--- What a fault means where thread k has n ways on, and at most so many are wanted.
-abbrev pub IsFaultAt : ℕ → ℕ → ℕ → RunFault → Type 0
-IsFaultAt k most n (of_runs.TooManyRuns j) = (j ≡ k) × (most < n)
-IsFaultAt k most n of_runs.NoMemory = Unit {0}
-
 -- the number of runs of thread k
 abbrev pub HasRuns : Litmus → ℕ → ℕ → Type 0
 HasRuns t k n = (runs : List ThreadRun) × Lists (IsRun t k) runs × (length runs ≡ n)

@@ -7,3 +7,4 @@ pub mod RunExamples
 pub mod Runs
 pub mod Serving
 pub mod Unrolled
+pub mod Ways

@@ -1,15 +1,17 @@
 //! The runs of a thread of C11 atomics.
 #![tactic(auto)]
 
-mod behind;
 mod content;
 mod fault;
 mod idle;
 mod initial;
 pub mod laws;
 mod progress;
+mod reading;
 mod running;
+mod setting;
 mod unroll;
+mod ways;
 
 pub use content::{Content, place_of};
 pub use fault::{MOST_RUNS, RunFault};

@@ -1,18 +1,19 @@
 //! The runs of a thread.
 
-ghost use Rattle.std.specs.Prelude.{◌≡◌, ◌<◌, ◌≤◌, ◌∷◌, [], length, map, IfOk, IfErr};
+ghost use Rattle.std.specs.Prelude.{◌≡◌, ◌<◌, ◌≤◌, length, map, IfOk, IfErr};
 ghost use Rattle.listings.specs.Lists.{Lists};
 ghost use Rattle.litmus_value.specs.Values.{values_of};
 ghost use Rattle.litmus_tree.specs.Tree.{steps_of};
-ghost use Rattle.c11_threads.specs.Serving.{AreValues};
+ghost use Rattle.events.specs.Executions.{no_places};
 ghost use Rattle.c11_threads.specs.Runs.{IsRun, thread_of, start, run_of};
 ghost use Rattle.c11_threads.specs.Unrolled.{setting_of, runs_of};
 ghost use Rattle.c11_threads.specs.Faults.{IsRunFault};
 
-use crate::fault::{MOST_RUNS, RunFault};
+use crate::fault::RunFault;
 use crate::initial::initial_contents;
 use crate::progress::Progress;
-use crate::unroll::Setting;
+use crate::setting::Setting;
+use crate::ways::Ways;
 use events::{Run, no_places};
 use litmus_tree::Statement;
 use litmus_value::Test;
@@ -30,14 +31,14 @@ fn start(alloc: Global, test: &Test, thread: usize) -> Result<Progress, AllocErr
 fn within<'a>(test: &'a Test, thread: usize, values: &'a [u32]) -> Setting<'a>
     requires thread { thread < length test.now.threads }
     requires values { values.now ≡ values_of test.now }
-    ensures setting { result ≡ setting_of test.entry.now thread }
-    ensures fit { AreValues result.values }
+    ensures { result ≡ setting_of test.entry.now thread no_places }
 {
     Setting {
         thread,
         locations: test.locations(),
         registers: test.threads()[thread].registers(),
         values,
+        ctrl: no_places(),
     }
 }
 
@@ -71,12 +72,7 @@ pub fn runs(alloc: Global, test: &Test, thread: usize) -> Result<Vec<Run>, RunFa
     let values = test.values(alloc)?;
     let setting = within(test, thread, &values);
     let from = start(alloc, test, thread)?;
-    let ends = setting.perform_from(
-        alloc,
-        &no_places(),
-        statements(test, thread),
-        from,
-        MOST_RUNS,
-    )?;
-    Ok(runs_from(alloc, ends)?)
+    let start = Ways::new(alloc, thread, from)?;
+    let ends = setting.perform_all(alloc, statements(test, thread), start)?;
+    Ok(runs_from(alloc, ends.into_ends())?)
 }

@@ -49,3 +49,4 @@ pub mod Aside
 pub mod Alike
 pub mod Accounts
 pub mod Slots
+pub mod Turns

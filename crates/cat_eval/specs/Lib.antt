@@ -18,3 +18,4 @@ pub mod Outcomes
 pub mod Laws
 pub mod Orderless
 pub mod Prepared
+pub mod Machine

@@ -17,6 +17,7 @@ mod judging;
 mod keeping;
 pub mod laws;
 mod lowering;
+mod machine;
 mod making;
 mod naming;
 mod orderless;

@@ -1,23 +1,21 @@
 //! What a partial execution tells of all that go on from it.
 
-ghost use Rattle.std.specs.Prelude.{◌≡◌, ◌≤◌, length, map, IsTrue};
+ghost use Rattle.std.specs.Prelude.{◌≤◌, length, IsTrue};
 ghost use Rattle.events.specs.Executions.{GraphValue};
 ghost use Rattle.events.specs.Extends.{Extends};
-ghost use Rattle.cat_model.specs.Scopes.{IsModel};
 ghost use Rattle.cat_eval.specs.Judging.{Allowed};
-ghost use Rattle.cat_eval.specs.Code.{planned_clause, IsPlan};
+ghost use Rattle.cat_eval.specs.Code.{planned_clause};
 ghost use Rattle.cat_eval.specs.Growth.{AreGrown, IsTelling};
-ghost use Rattle.cat_eval.specs.Keeping.{AreGraded, Holds};
+ghost use Rattle.cat_eval.specs.Machine.{clauses_of, IsCode, Keeps, HasMade};
 
 use crate::growing::growth_at;
 use crate::growth::Growth;
-use crate::judging::weigh;
 use crate::keeping::Kept;
+use crate::machine::{Code, Machine};
 use crate::plan::PlannedItem;
-use crate::step::Step;
 use crate::value::Value;
 use cat_tree::Item;
-use events::{Basis, GraphView, laws};
+use events::{GraphView, laws};
 
 // Can the item only come to fail? So can a check without a flag and without `~`, whose value loses nothing.
 fn tells<'m>(growths: &[Growth], item: &PlannedItem<'m>) -> bool
@@ -46,40 +44,59 @@ pub fn telling<'m>(growths: &[Growth], items: &[PlannedItem<'m>]) -> usize
     count
 }
 
+impl Machine<'_, '_, '_> {
+    // Is it known of the execution that the model allows none that goes on from it? The first items are looked at, up to one that refutes it. So
+    // many values are made.
+    fn refutes(
+        &self,
+        growths: &[Growth],
+        count: usize,
+        values: &mut [Value],
+        made: &mut usize,
+    ) -> bool
+        requires code { IsCode self.now.code }
+        requires grown { AreGrown self.now.code.steps.now self.now.code.items.now growths.now }
+        requires count { count ≤ length self.now.code.items.now }
+        requires machine { HasMade self.now values.old made.old }
+        ensures machine { HasMade self.now values.new made.new }
+        ensures refuted { IsTrue result → (h : GraphValue) → Extends self.now.view.now h → ¬ Allowed (clauses_of self.now.code) h }
+    {
+        laws::extension();
+        for number in 0..count {
+            let item = &self.code.items[number];
+            let weighed = self.weigh(values, made, item);
+            if !weighed.permits && tells(growths, item) {
+                return true;
+            }
+        }
+        false
+    }
+}
+
 /// Is it known of a partial execution that the model allows none that goes on from it? The first items are looked at, up to one that
 /// refutes it. Values that are kept are not made again, and those that are made are kept.
-pub(crate) fn refutes_by<'m>(
+pub(crate) fn refutes_by(
     view: &GraphView,
-    steps: &[Step],
-    bases: &[Basis],
-    ends: &[usize],
+    code: &Code<'_, '_>,
     growths: &[Growth],
-    items: &[PlannedItem<'m>],
     count: usize,
     kept: &mut Kept,
     values: &mut [Value],
 ) -> bool
-    requires plan { IsPlan steps.now items.now }
-    requires graded { AreGraded steps.now bases.now }
-    requires grown { AreGrown steps.now items.now growths.now }
-    requires model { IsModel (map planned_clause items.now) }
-    requires count { count ≤ length items.now }
-    requires values { length values.old ≡ length steps.now }
-    requires holds { Holds view.now steps.now bases.now kept.old values.old }
-    ensures length { length values.new ≡ length values.old }
-    ensures holds { Holds view.now steps.now bases.now kept.new values.new }
-    ensures refuted { IsTrue result → (h : GraphValue) → Extends view.now h → ¬ Allowed (map planned_clause items.now) h }
+    requires code { IsCode code.now }
+    requires grown { AreGrown code.now.steps.now code.now.items.now growths.now }
+    requires count { count ≤ length code.now.items.now }
+    requires kept { Keeps view.now code.now kept.old values.old }
+    ensures kept { Keeps view.now code.now kept.new values.new }
+    ensures refuted { IsTrue result → (h : GraphValue) → Extends view.now h → ¬ Allowed (clauses_of code.now) h }
 {
-    laws::extension();
+    let machine = Machine {
+        view,
+        code: *code,
+        kept: *kept,
+    };
     let mut made = 0;
-    for number in 0..count {
-        let item = &items[number];
-        let weighed = weigh(view, steps, bases, ends, *kept, values, &mut made, item);
-        if !weighed.permits && tells(growths, item) {
-            *kept = kept.with(made);
-            return true;
-        }
-    }
+    let known = machine.refutes(growths, count, values, &mut made);
     *kept = kept.with(made);
-    false
+    known
 }

@@ -96,7 +96,7 @@ files_send : IsSend Files.the_row
 files_send = search (crosses, sendable) depth 60 fits 20000
 
 tally_send : IsSend Tally.the_row
-tally_send = search (maps_cross, work_send, crosses, sendable) depth 60 fits 20000
+tally_send = search (work_send, finding_send, crosses, sendable) depth 60 fits 20000
 
 live_send : IsSend Live.the_row
 live_send = search (maps_cross, crosses, sendable) depth 60 fits 20000

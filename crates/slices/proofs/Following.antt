@@ -1,39 +1,48 @@
 -- Executions that follow those that were found.
-use Rattle.std.proofs.Common.{◌≡◌, ◌⊎◌, ℕ, zero, suc, ◌+◌, ◌-◌, ◌<◌, List, [], ◌∷◌, ◌++◌, Bool, cond, not, count_by, Option, Some, refl, sym, ◌∙◌, ap, subst, inl, inr, arith}
-use Rattle.std.specs.Prelude.{◌↔◌}
-use Rattle.std.specs.BTreeSet.{insert_key}
-use Rattle.std.proofs.lemmas.List.Sums.{fold-append}
+use Rattle.std.proofs.Common.{◌≡◌, ℕ, zero, suc, ◌+◌, ◌-◌, ◌<◌, ◌≤◌, ◌⊎◌, List, [], ◌∷◌, ◌++◌, Bool, cond, count_by, Option, Some, append-nil, refl, sym, ◌∙◌, ap, subst, inl, inr, arith}
+use Rattle.std.proofs.lemmas.List.{append_assoc}
 use Rattle.events.specs.Executions.{GraphValue}
 use Rattle.cat_eval.specs.Judging.{Allowed, Raised}
 use Rattle.cat_tree.specs.Tree.{Clause}
-use Rattle.conditions.specs.declared.place.Place.{Place}
 use Rattle.litmus_tree.specs.Tree.{Litmus, Word}
 use Rattle.listings.specs.Lists.{IsIn}
 use Rattle.candidates.specs.Candidates.{Choices, found, graph_at, some_of}
-use Rattle.slices.specs.declared.counter.Counter.{Counter}
-use Rattle.slices.specs.Alike.{GoesOn, inserted}
-use Rattle.slices.specs.Counters.{IsCountOf, collected}
-use Rattle.slices.specs.Finals.{obs, has}
+use Rattle.candidates.proofs.Walked.{found_from}
+use Rattle.slices.specs.Alike.{followed}
+use Rattle.slices.specs.Findings.{FindingValue}
 use Rattle.slices.specs.Parts.{AreThose}
+use Rattle.slices.specs.Sums.{IsSum}
 use Rattle.slices.specs.Totals.{total}
-use Rattle.slices.specs.Verdicts.{AreSorted, IsRaised}
-use Rattle.slices.proofs.Counted.{count_by-push, raised-push, those-push}
-use Rattle.slices.proofs.Inserted.{sorted_collected}
-use Rattle.slices.proofs.Rows.{row_cmp}
-
--- xs, and behind them the first m values of f
-abbrev pub followed : {X : Type 0} → List X → (ℕ → X) → ℕ → List X
-followed xs f zero = xs
-followed xs f (suc m) = followed xs f m ++ f m ∷ []
+use Rattle.slices.proofs.Counted.{IsCountOf, at_last, count_by-push, in_front, of_push, those-push}
+use Rattle.slices.proofs.Told.{AreBoth, Says, both_behind, sum_told}
 
 pub count_followed : {X : Type 0} (p : X → Bool) (xs : List X) (f : ℕ → X) (m : ℕ) → count_by p (followed xs f m) ≡ count_by p xs + total m (λ t. cond (p (f t)) 1 0)
 count_followed p xs f zero = let e : count_by p xs ≡ count_by p xs + 0 = omega arith in e
 count_followed p xs f (suc m) = omega (arith, count_by-push p (followed xs f m) (f m), count_followed p xs f m)
 
-collected_followed : (t : Litmus) (places : List Place) (xs : List GraphValue) (f : ℕ → GraphValue) (m : ℕ) → collected t places (followed xs f m) ≡ inserted (λ i. obs t places (f i)) (collected t places xs) m
-collected_followed t places xs f zero = refl
-collected_followed t places xs f (suc m) =
-    fold-append (λ rows y. insert_key row_cmp rows (obs t places y)) [] (followed xs f m) (f m ∷ []) ∙ ap (λ rows. insert_key row_cmp rows (obs t places (f m))) (collected_followed t places xs f m)
+pub from_followed : {X : Type 0} (x : X) (f : ℕ → X) (m : ℕ) → IsIn x (followed [] f m) → (i : ℕ) × (i < m) × (x ≡ f i)
+from_followed x f zero p = absurd p
+from_followed x f (suc m) p = elim (of_push x (followed [] f m) (f m) p) [
+  | inl q ↦ (let r = from_followed x f m q in (r.0, omega (arith, r.1), r.2))
+  | inr e ↦ (m, omega arith, e)
+]
+
+last_or_before : (i m : ℕ) → i < suc m → (i < m) ⊎ (i ≡ m)
+last_or_before zero zero l = inr refl
+last_or_before (suc i) zero l = absurd (omega (arith, l))
+last_or_before zero (suc m) l = inl (omega arith)
+last_or_before (suc i) (suc m) l = elim (last_or_before i m (omega (arith, l))) [ inl u ↦ inl (omega (arith, u)) | inr e ↦ inr (ap suc e) ]
+
+pub in_followed : {X : Type 0} (f : ℕ → X) (m i : ℕ) → i < m → IsIn (f i) (followed [] f m)
+in_followed f zero i l = absurd (omega (arith, l))
+in_followed {X} f (suc m) i l = elim (last_or_before i m l) [
+  | inl u ↦ in_front (f i) (followed [] f m) (f m) (in_followed f m i u)
+  | inr e ↦ (let P : ℕ → Type 0 = λ j. IsIn (f j) (followed [] f m ++ f m ∷ []) in subst P (sym e) (at_last (followed [] f m) (f m)))
+]
+
+both_followed : {X : Type 0} (xs : List X) (f : ℕ → X) (m : ℕ) → followed xs f m ≡ xs ++ followed [] f m
+both_followed xs f zero = sym (append-nil xs)
+both_followed xs f (suc m) = ap (λ ys. ys ++ f m ∷ []) (both_followed xs f m) ∙ append_assoc xs (followed [] f m) (f m ∷ [])
 
 those_followed : {X : Type 0} {P : X → Type 0} {xs ys : List X} (f : ℕ → X) (m : ℕ) → ((i : ℕ) → i < m → P (f i)) → AreThose P xs ys → AreThose P (followed xs f m) (followed ys f m)
 those_followed f zero p h = h
@@ -49,61 +58,27 @@ found_followed at f k (suc m) h =
 abbrev pub AreJudgedAlike : List Clause → (ℕ → GraphValue) → ℕ → Type 0
 AreJudgedAlike items f m = (i : ℕ) → i < m → Allowed items (f i) × ((name : Word) → Raised items (f i) name → Raised items (f 0) name)
 
-raised_before : (items : List Clause) (xs : List GraphValue) (f : ℕ → GraphValue) (m : ℕ) (name : Word) → IsRaised items xs name → IsRaised items (followed xs f m) name
-raised_before items xs f zero name r = r
-raised_before items xs f (suc m) name r = (raised-push items (followed xs f m) (f m) name).1 (inl (raised_before items xs f m name r))
+-- A count up to the number a goes on to one up to b.
+abbrev pub GoesOn : Litmus → List Clause → Choices → (a b : ℕ) → (before after : FindingValue) → Type 0
+GoesOn t items s a b before after = (from : ℕ) → from ≤ a → IsCountOf t items (found_from s from a) before → IsCountOf t items (found_from s from b) after
 
-raised_first : (items : List Clause) (xs : List GraphValue) (f : ℕ → GraphValue) (m : ℕ) (name : Word) → 0 < m → Raised items (f 0) name → IsRaised items (followed xs f m) name
-raised_first items xs f zero name l r = absurd (omega (arith, l))
-raised_first items xs f (suc zero) name l r = (raised-push items xs (f 0) name).1 (inr r)
-raised_first items xs f (suc (suc m)) name l r = (raised-push items (followed xs f (suc m)) (f (suc m)) name).1 (inl (raised_first items xs f (suc m) name (omega arith) r))
+-- what w says is right for the first m of the executions f, of a test that asks what v asks
+abbrev pub AreSaid : Litmus → List Clause → (ℕ → GraphValue) → ℕ → FindingValue → FindingValue → Type 0
+AreSaid t items f m v w = v.formula ≡ t.condition.formula → Says t items v.places (followed [] f m) w
 
-raised_behind : (items : List Clause) (xs : List GraphValue) (f : ℕ → GraphValue) (m : ℕ) (name : Word) → AreJudgedAlike items f m → IsRaised items (followed xs f m) name → IsRaised items xs name ⊎ Raised items (f 0) name
-raised_behind items xs f zero name alike r = inl r
-raised_behind items xs f (suc m) name alike r = elim ((raised-push items (followed xs f m) (f m) name).0 r) [
-  | inl before ↦ raised_behind items xs f m name (λ i l. alike i (omega (arith, l))) before
-  | inr here ↦ inr ((alike m (omega arith)).1 name here)
-]
-
--- The first m of the executions f stand behind a, and are counted, with the flags that the first raises.
-pub record AreFollowing (t : Litmus) (items : List Clause) (places : List Place) (f : ℕ → GraphValue) (m : ℕ) (before after : Counter) : Type 0 where
-  pub positive : after.positive ≡ before.positive + total m (λ i. cond (has t places (f i)) 1 0)
-  pub negative : after.negative ≡ before.negative + total m (λ i. cond (not (has t places (f i))) 1 0)
-  pub states : AreSorted before.states.keys → after.states.keys ≡ inserted (λ i. obs t places (f i)) before.states.keys m
-  pub flags : (name : Word) → IsIn name after.flags.keys ↔ (IsIn name before.flags.keys ⊎ Raised items (f 0) name)
-
--- To a count the names of the flags that x raises are added.
-pub record AreMarked (items : List Clause) (x : GraphValue) (before after : Counter) : Type 0 where
-  pub positive : after.positive ≡ before.positive
-  pub negative : after.negative ≡ before.negative
-  pub states : after.states.keys ≡ before.states.keys
-  pub flags : (name : Word) → IsIn name after.flags.keys ↔ (IsIn name before.flags.keys ⊎ Raised items x name)
-
-counted : (t : Litmus) (items : List Clause) (places : List Place) (all : List GraphValue) (f : ℕ → GraphValue) (m : ℕ) (before after : Counter) → 0 < m → AreJudgedAlike items f m → AreFollowing t items places f m before after → IsCountOf t items places all before → IsCountOf t items places (followed all f m) after
-counted t items places all f m before after some alike h c =
-    let xs : List GraphValue = c.executions in
-    let sorted : AreSorted before.states.keys = (let P : List (List ℕ) → Type 0 = AreSorted in subst P (sym c.count.states) (sorted_collected (obs t places) [] xs tt)) in
-    record {
-      executions = followed xs f m;
-      those = those_followed f m (λ i l. (alike i l).0) c.those;
-      count = record {
-        positive = omega (arith, h.positive, c.count.positive, count_followed (has t places) xs f m);
-        negative = omega (arith, h.negative, c.count.negative, count_followed (λ x. not (has t places x)) xs f m);
-        states = h.states sorted ∙ ap (λ ks. inserted (λ i. obs t places (f i)) ks m) c.count.states ∙ sym (collected_followed t places xs f m);
-        flags = λ name. (
-          (λ p. elim ((h.flags name).0 p) [ inl q ↦ raised_before items xs f m name ((c.count.flags name).0 q) | inr r ↦ raised_first items xs f m name some r ]),
-          (λ r. (h.flags name).1 (elim (raised_behind items xs f m name alike r) [ inl q ↦ inl ((c.count.flags name).1 q) | inr p ↦ inr p ])),
-        );
-      };
-    }
+counted : (t : Litmus) (items : List Clause) (all : List GraphValue) (f : ℕ → GraphValue) (m : ℕ) (before w after : FindingValue) → AreJudgedAlike items f m → AreSaid t items f m before w → IsSum before w after → IsCountOf t items all before → IsCountOf t items (followed all f m) after
+counted t items all f m before w after alike said is c =
+    let xs : List GraphValue = c.0 in
+    let ys : List GraphValue = followed [] f m in
+    let B : List GraphValue → Type 0 = λ zs. AreBoth xs ys zs in
+    (followed xs f m, those_followed f m (λ i l. (alike i l).0) c.1, sum_told t items xs ys (followed xs f m) before w after c.2 (said c.2.formula) is (subst B (sym (both_followed xs f m)) (both_behind xs ys)))
 
 -- where the executions at the numbers from a on are those of f, a count up to a goes on to one up to m numbers further
-pub goes_on : (t : Litmus) (items : List Clause) (places : List Place) (s : Choices) (a m : ℕ) (f : ℕ → GraphValue) (before after : Counter) → 0 < m → AreJudgedAlike items f m → ((i : ℕ) → i < m → graph_at s (a + i) ≡ Some (f i)) → AreFollowing t items places f m before after →
-    GoesOn t items places s a (a + m) before after
-goes_on t items places s a m f before after some alike stand h from l c =
+pub goes_on : (t : Litmus) (items : List Clause) (s : Choices) (a m : ℕ) (f : ℕ → GraphValue) (before w after : FindingValue) → AreJudgedAlike items f m → ((i : ℕ) → i < m → graph_at s (a + i) ≡ Some (f i)) → AreSaid t items f m before w → IsSum before w after → GoesOn t items s a (a + m) before after
+goes_on t items s a m f before w after alike stand said is from l c =
     let at : ℕ → Option GraphValue = λ i. graph_at s (from + i) in
     let e : (a - from) + m ≡ a + m - from = omega (arith, l) in
     let there : found at ((a - from) + m) ≡ followed (found at (a - from)) f m =
     found_followed at f (a - from) m (λ i u. ap (graph_at s) (let d : from + ((a - from) + i) ≡ a + i = omega (arith, l) in d) ∙ stand i u) in
-    let P : List GraphValue → Type 0 = λ xs. IsCountOf t items places xs after in
-    subst P (sym there ∙ ap (found at) e) (counted t items places (found at (a - from)) f m before after some alike h c)
+    let P : List GraphValue → Type 0 = λ xs. IsCountOf t items xs after in
+    subst P (sym there ∙ ap (found at) e) (counted t items (found at (a - from)) f m before w after alike said is c)

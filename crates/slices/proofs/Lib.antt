@@ -8,7 +8,6 @@ pub mod Cuts
 pub mod Digits
 pub mod Following
 pub mod Fronts
-pub mod Inserted
 pub mod Mapped
 pub mod Members
 pub mod Merging
@@ -22,3 +21,6 @@ pub mod Shown
 pub mod Sorted
 pub mod Spread
 pub mod Together
+pub mod Told
+pub mod Unions
+pub mod Weighed

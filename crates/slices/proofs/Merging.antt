@@ -9,10 +9,11 @@ use Rattle.events.specs.Executions.{GraphValue}
 use Rattle.listings.specs.Lists.{IsIn, NoRepeats, Lists}
 use Rattle.listings.proofs.Listings.{in_append, in_left, in_right, once_append}
 use Rattle.litmus_tree.specs.Tree.{Litmus}
-use Rattle.candidates.specs.Candidates.{At, IsNumberedBy, Numbering, found, some_of}
+use Rattle.candidates.specs.Candidates.{At, IsNumberedBy, found, some_of}
 use Rattle.candidates.specs.Executions.{IsExecution}
+use Rattle.candidates.proofs.Law.{numbering, sized}
 use Rattle.slices.specs.declared.span.Span.{Span}
-use Rattle.slices.specs.Parts.{AreThose, IsAdmitted, executions_in, test_size}
+use Rattle.slices.specs.Parts.{AreThose, executions_in, test_size}
 use Rattle.slices.specs.Tallies.{holds, IsHeld, IsApart, IsCover, IsAmong}
 use Rattle.slices.specs.Verdicts.{IsAllowed}
 use Rattle.slices.proofs.Counted.{in_front, at_last, of_push, lists_those}
@@ -140,5 +141,5 @@ few_listed t items n spans xs within l =
     let inside = no_longer xs (found (At t) n) l.once (λ x p. let a = l.only x p in found_in (At t) n a.0.0 x (held_below n spans within a.0.0 a.0.1) a.0.2) in
     omega (arith, inside, found_most (At t) n)
 
-pub law_of : Numbering → (t : Litmus) → IsAdmitted t → IsNumberedBy t (test_size t) (At t)
-law_of numbering t admitted = numbering t (test_size t) admitted.size
+pub law_of : (t : Litmus) → IsNumberedBy t (test_size t) (At t)
+law_of t = numbering t (test_size t) (sized t)

@@ -1,5 +1,5 @@
 -- Executions that differ in their orders alone, counted by the writes that stand last in these.
-use Rattle.std.proofs.Common.{◌≡◌, ◌⊎◌, ℕ, zero, suc, ◌+◌, ◌-◌, ◌*◌, ◌/◌, ◌%◌, ◌<◌, ◌≤◌, ◌^◌, List, [], ◌∷◌, length, map, Bool, true, false, cond, not, if◌then◌else◌, Option, Some, refl, sym, ◌∙◌, ap, subst, inl, inr, arith}
+use Rattle.std.proofs.Common.{◌≡◌, ◌⊎◌, ℕ, zero, suc, ◌+◌, ◌-◌, ◌*◌, ◌/◌, ◌%◌, ◌<◌, ◌≤◌, ◌^◌, List, [], ◌∷◌, length, map, Bool, true, false, cond, not, count_by, if◌then◌else◌, Option, Some, refl, sym, ◌∙◌, ap, subst, inl, inr, arith}
 use Rattle.std.specs.Prelude.{slice_index_or, ◌↔◌}
 use Rattle.std.specs.List.{list_any}
 use Rattle.std.specs.Str.{bytes_eq}
@@ -13,8 +13,9 @@ use Rattle.events.specs.Structures.{sourced_of}
 use Rattle.cat_eval.specs.Judging.{Allowed, Raised}
 use Rattle.cat_eval.specs.Orderless.{IsOrderless}
 use Rattle.cat_tree.specs.Tree.{Clause}
-use Rattle.listings.specs.Lists.{IsIn, product_by, tabulate}
+use Rattle.listings.specs.Lists.{IsIn, Lists, product_by, tabulate}
 use Rattle.listings.specs.Numbered.{arrange, digits}
+use Rattle.conditions.specs.States.{bindings, holds_in}
 use Rattle.conditions.specs.declared.place.Place.{Place}
 use Rattle.litmus_tree.specs.Tree.{Litmus, Word}
 use Rattle.candidates.specs.declared.open_orders.OpenOrders.{OpenOrders}
@@ -22,19 +23,19 @@ use Rattle.candidates.specs.Alike.{AreAlike, IsOpen, with_orders}
 use Rattle.candidates.specs.Blocks.{ways_of_orders as open_ways}
 use Rattle.candidates.specs.Candidates.{Choices, count_orders, graph_at, order_at, write_value}
 use Rattle.candidates.specs.Executions.{later_writes, upto}
-use Rattle.slices.specs.declared.counter.Counter.{Counter}
 use Rattle.slices.specs.declared.slot.Slot.{Slot}
 use Rattle.slices.specs.declared.slot.Slot.TheVariants.{Register, Location}
-use Rattle.slices.specs.Alike.{AreAdded, AreFew, GoesOn, row_by, row_has, weight_at}
+use Rattle.slices.specs.Alike.{AreFew, followed, of_ways, weight_at}
 use Rattle.slices.specs.Finals.{has, last_or, obs}
+use Rattle.slices.specs.Findings.{FindingValue}
 use Rattle.slices.specs.Passing.{NoneAllowed}
 use Rattle.slices.specs.Slots.{slot_by, slot_of, slot_value}
+use Rattle.slices.specs.Sums.{IsSum, state_has}
 use Rattle.slices.specs.Totals.{total}
-use Rattle.slices.specs.Ways.{WaysValue, count_of_ways, is_location, is_seen, shown_ways, size_of_ways, way, weight_of_way}
+use Rattle.slices.specs.Ways.{WaysValue, count_of_ways, is_location, is_seen, shown_ways, size_of_ways, way, ways_shown, weight_of_way}
 use Rattle.slices.proofs.Counted.{row_is, turned}
 use Rattle.slices.proofs.Digits.{AllSpread, all_spread, by_digits}
-use Rattle.slices.proofs.Following.{AreFollowing, AreJudgedAlike, AreMarked, goes_on}
-use Rattle.slices.proofs.Inserted.{AreAmong, same_inserted}
+use Rattle.slices.proofs.Following.{AreJudgedAlike, AreSaid, GoesOn, count_followed, from_followed, goes_on, in_followed}
 use Rattle.slices.proofs.PassedOver.{counts_pass}
 use Rattle.slices.proofs.Opened.{AreSound, Fits, last_by, opened_digits, opened_size, opened_sound, opened_spread, opened_values, opened_ways, ways_of_orders}
 use Rattle.slices.proofs.Picked.{few_picks, one_total, some_total, weights_add, weights_some}
@@ -156,6 +157,10 @@ sums slots init runs o times F h =
 
 -- THE SAME ROWS
 
+-- each of the first m rows of f is one of the first n of g
+abbrev AreAmong : (f g : ℕ → List ℕ) → (m n : ℕ) → Type 0
+AreAmong f g m n = (i : ℕ) → i < m → (j : ℕ) × (j < n) × (f i ≡ g j)
+
 shows : (b : Bool) → 0 < cond b 1 0 → b ≡ true
 shows true l = refl
 shows false l = absurd (omega (arith, l))
@@ -196,11 +201,10 @@ among_picks {X} row xs ys weight m n some h j l =
 
 -- THE COUNT
 
--- the executions of a block, from those that were found by the writes that stand last
-following : (t : Litmus) (items : List Clause) (places : List Place) (slots : List Slot) (init : List ℕ) (runs : List ThreadRun) (rf : List EventId) (o : OpenOrders) (times j : ℕ) (before now after : Counter) → slots ≡ map (slot_of t) places → IsOpen (length init) runs o →
-    (let ws = ways_in slots (length init) runs o times in AreAdded t places (weight_at ws) (row_by (with_orders init runs rf j) slots ws) (product_by count_of_ways ws) before now →
-    AreMarked items (with_orders init runs rf (o.size * times + 0)) now after → AreFollowing t items places (λ i. with_orders init runs rf (o.size * times + i)) o.size before after)
-following t items places slots init runs rf o times j before now after e h added marked =
+-- what the ways of a block say is right for its executions
+said : (t : Litmus) (items : List Clause) (v : FindingValue) (slots : List Slot) (init : List ℕ) (runs : List ThreadRun) (rf : List EventId) (o : OpenOrders) (times j : ℕ) (flags : List Word) → slots ≡ map (slot_of t) v.places → IsOpen (length init) runs o →
+    (let f : ℕ → GraphValue = λ i. with_orders init runs rf (o.size * times + i) in AreJudgedAlike items f o.size → Lists (Raised items (f 0)) flags → AreSaid t items f o.size v (of_ways v (with_orders init runs rf j) slots (ways_in slots (length init) runs o times) flags))
+said t items v slots init runs rf o times j flags e h alike raised formula =
     let ws : List WaysValue = ways_in slots (length init) runs o times in
     let g : GraphValue = with_orders init runs rf j in
     let f : ℕ → GraphValue = λ i. with_orders init runs rf (o.size * times + i) in
@@ -208,22 +212,37 @@ following t items places slots init runs rf o times j before now after e h added
     let row : List EventId → List ℕ = λ lasts. map (slot_by g lasts) slots in
     let pick : ℕ → List EventId = digits count_of_ways way ws in
     let m : ℕ = product_by count_of_ways ws in
-    let seen : (i : ℕ) → obs t places (f i) ≡ row (L i) = λ i. obs_is t places slots init runs rf (o.size * times + i) j e in
-    let P : List EventId → ℕ = λ lasts. cond (row_has t places (row lasts)) 1 0 in
-    let N : List EventId → ℕ = λ lasts. cond (row_has t places (row lasts)) 0 1 in
+    let seen : (i : ℕ) → obs t v.places (f i) ≡ row (L i) = λ i. obs_is t v.places slots init runs rf (o.size * times + i) j e in
+    let asked : (i : ℕ) → has t v.places (f i) ≡ state_has v (row (L i)) = λ i. ap (λ r. holds_in (bindings v.places r) t.condition.formula) (seen i) ∙ ap (holds_in (bindings v.places (row (L i)))) (sym formula) in
+    let P : List EventId → ℕ = λ lasts. cond (state_has v (row lasts)) 1 0 in
+    let N : List EventId → ℕ = λ lasts. cond (state_has v (row lasts)) 0 1 in
     let all : (F : List EventId → ℕ) → total o.size (λ i. F (L i)) ≡ total m (λ k. weight_at ws k * F (pick k)) = λ F. sums slots init runs o times F h in
-    let positive : total o.size (λ i. cond (has t places (f i)) 1 0) ≡ total m (λ k. weight_at ws k * P (pick k)) =
-    total_same o.size (λ i. cond (has t places (f i)) 1 0) (λ i. P (L i)) (λ i l. ap (λ r. cond (row_has t places r) 1 0) (seen i)) ∙ all P in
-    let negative : total o.size (λ i. cond (not (has t places (f i))) 1 0) ≡ total m (λ k. weight_at ws k * N (pick k)) =
-    total_same o.size (λ i. cond (not (has t places (f i))) 1 0) (λ i. N (L i)) (λ i l. turned (has t places (f i)) 1 0 ∙ ap (λ r. cond (row_has t places r) 0 1) (seen i)) ∙ all N in
+    let positive : total o.size (λ i. cond (has t v.places (f i)) 1 0) ≡ total m (λ k. weight_at ws k * P (pick k)) =
+    total_same o.size (λ i. cond (has t v.places (f i)) 1 0) (λ i. P (L i)) (λ i l. ap (λ b. cond b 1 0) (asked i)) ∙ all P in
+    let negative : total o.size (λ i. cond (not (has t v.places (f i))) 1 0) ≡ total m (λ k. weight_at ws k * N (pick k)) =
+    total_same o.size (λ i. cond (not (has t v.places (f i))) 1 0) (λ i. N (L i)) (λ i l. turned (has t v.places (f i)) 1 0 ∙ ap (λ b. cond b 0 1) (asked i)) ∙ all N in
     let some : (k : ℕ) → 0 < weight_at ws k = λ k. weights_some ws k (sound_in slots (length init) runs o times) in
-    let to : AreAmong (λ k. row (pick k)) (λ i. obs t places (f i)) m o.size = (λ k l. (let r = among_picks row L pick (weight_at ws) o.size m some all k l in (r.0, r.1, r.2 ∙ sym (seen r.0)))) in
-    let from : AreAmong (λ i. obs t places (f i)) (λ k. row (pick k)) o.size m = (λ i l. (let r = picks_among row L pick (weight_at ws) o.size m all i l in (r.0, r.1, seen i ∙ r.2))) in
+    let opened = h.some in
     record {
-      positive = (let x = added.positive in let y = marked.positive in omega (arith, x, y, positive));
-      negative = (let x = added.negative in let y = marked.negative in omega (arith, x, y, negative));
-      states = λ sorted. marked.states ∙ added.states ∙ same_inserted (λ k. row (pick k)) (λ i. obs t places (f i)) before.states.keys m o.size sorted to from;
-      flags = let K : List Word → Type 0 = λ ks. (name : Word) → IsIn name after.flags.keys ↔ (IsIn name ks ⊎ Raised items (f 0) name) in subst K added.flags marked.flags;
+      positive = (let c : count_by (has t v.places) (followed [] f o.size) ≡ 0 + total o.size (λ i. cond (has t v.places (f i)) 1 0) = count_followed (has t v.places) [] f o.size in
+          let e : total m (λ k. weight_at ws k * P (pick k)) ≡ count_by (has t v.places) (followed [] f o.size) = omega (arith, c, positive) in e);
+      negative = (let c : count_by (λ x. not (has t v.places x)) (followed [] f o.size) ≡ 0 + total o.size (λ i. cond (not (has t v.places (f i))) 1 0) = count_followed (λ x. not (has t v.places x)) [] f o.size in
+          let e : total m (λ k. weight_at ws k * N (pick k)) ≡ count_by (λ x. not (has t v.places x)) (followed [] f o.size) = omega (arith, c, negative) in e);
+      states = λ s. (
+        (λ p. (let k = from_followed s (λ i. row (pick i)) m p in
+            let r = among_picks row L pick (weight_at ws) o.size m some all k.0 k.1 in
+            (f r.0, in_followed f o.size r.0 r.1, k.2 ∙ r.2 ∙ sym (seen r.0)))),
+        (λ q. (let i = from_followed q.0 f o.size q.1 in
+            let r = picks_among row L pick (weight_at ws) o.size m all i.0 i.1 in
+            let S : List ℕ → Type 0 = λ y. IsIn y (followed [] (λ k. row (pick k)) m) in
+            subst S (sym (q.2 ∙ ap (obs t v.places) i.2 ∙ seen i.0 ∙ r.2)) (in_followed (λ k. row (pick k)) m r.0 r.1))),
+      );
+      flags = λ name. (
+        (λ p. (f 0, in_followed f o.size 0 (omega (arith, opened)), raised.only name p)),
+        (λ q. (let i = from_followed q.0 f o.size q.1 in
+            let R : GraphValue → Type 0 = λ x. Raised items x name in
+            raised.all name ((alike i.0 i.1).1 name (subst R i.2 q.2)))),
+      );
     }
 
 some_is : (x y : GraphValue) → ◌≡◌ {A = Option GraphValue} (Some x) (Some y) → x ≡ y
@@ -237,7 +256,7 @@ shown_is s a o x h at =
     some_is x y (sym at ∙ ap (graph_at s) (sym e) ∙ h.at 0 (omega (arith, l)))
 
 ways_are : (slots : List Slot) (s : Choices) (a : ℕ) (o : OpenOrders) (x : GraphValue) → (h : AreAlike s a o) → graph_at s a ≡ Some x →
-    shown_ways Initial (is_seen slots) o.unplaced.locations o.unplaced.writes 0 x.co ≡ ways_in slots (length s.init) h.runs o h.times
+    ways_shown slots o x ≡ ways_in slots (length s.init) h.runs o h.times
 ways_are slots s a o x h at =
     let n : ℕ = length s.init in
     let free : ℕ = o.unplaced.locations in
@@ -250,7 +269,7 @@ ways_are slots s a o x h at =
     shown_opened Initial (later_writes h.runs) (is_seen slots) free k 0 n h.times
 
 -- What the orders of an execution show is no more than there is.
-pub are_few : (slots : List Slot) (s : Choices) (a : ℕ) (o : OpenOrders) (x : GraphValue) (ways : List WaysValue) → AreAlike s a o → graph_at s a ≡ Some x → ways ≡ shown_ways Initial (is_seen slots) o.unplaced.locations o.unplaced.writes 0 x.co → o.size ≤ 2 ^ 32 →
+pub are_few : (slots : List Slot) (s : Choices) (a : ℕ) (o : OpenOrders) (x : GraphValue) (ways : List WaysValue) → AreAlike s a o → graph_at s a ≡ Some x → ways ≡ ways_shown slots o x → o.size ≤ 2 ^ 32 →
     AreFew ways × (product_by size_of_ways ways ≡ o.size)
 are_few slots s a o x ways h at is few =
     let n : ℕ = length s.init in
@@ -262,25 +281,23 @@ are_few slots s a o x ways h at is few =
     subst P (sym (is ∙ ways_are slots s a o x h at)) (record { most = few_picks ws vs (sound_in slots n h.runs o h.times) spread; all = weights_add ws vs spread; few = omega (arith, p, few) }, p)
 
 -- A count goes on over a block whose first execution is allowed.
-pub block_counted : (t : Litmus) (items : List Clause) (places : List Place) (slots : List Slot) (s : Choices) (a : ℕ) (o : OpenOrders) (x : GraphValue) (ways : List WaysValue) (before now after : Counter) → IsOrderless items → Allowed items x → slots ≡ map (slot_of t) places → AreAlike s a o →
-    graph_at s a ≡ Some x → ways ≡ shown_ways Initial (is_seen slots) o.unplaced.locations o.unplaced.writes 0 x.co → AreAdded t places (weight_at ways) (row_by x slots ways) (product_by count_of_ways ways) before now → AreMarked items x now after →
-    GoesOn t items places s a (a + o.size) before after
-block_counted t items places slots s a o x ways before now after orderless allowed e h at is added marked =
+pub block_counted : (t : Litmus) (items : List Clause) (slots : List Slot) (s : Choices) (a : ℕ) (o : OpenOrders) (x : GraphValue) (flags : List Word) (before after : FindingValue) → IsOrderless items → Allowed items x → slots ≡ map (slot_of t) before.places → AreAlike s a o →
+    graph_at s a ≡ Some x → Lists (Raised items x) flags → IsSum before (of_ways before x slots (ways_shown slots o x) flags) after → GoesOn t items s a (a + o.size) before after
+block_counted t items slots s a o x flags before after orderless allowed e h at raised is =
     let f : ℕ → GraphValue = λ i. with_orders s.init h.runs h.rf (o.size * h.times + i) in
     let ws : List WaysValue = ways_in slots (length s.init) h.runs o h.times in
     let first : x ≡ f 0 = shown_is s a o x h at in
     let same : (i : ℕ) → sourced_of (f i) ≡ sourced_of x = λ i. sym (ap sourced_of first) in
     let alike : AreJudgedAlike items f o.size = λ i l. ((orderless (f i) x (same i)).0.1 allowed, λ name r. ((orderless (f i) (f 0) refl).1 name).0 r) in
-    let W : List WaysValue → Type 0 = λ w. AreAdded t places (weight_at w) (row_by x slots w) (product_by count_of_ways w) before now in
-    let G : GraphValue → Type 0 = λ y. AreAdded t places (weight_at ws) (row_by y slots ws) (product_by count_of_ways ws) before now in
-    let M : GraphValue → Type 0 = λ y. AreMarked items y now after in
-    let some = h.opens.some in
-    goes_on t items places s a o.size f before after (omega (arith, some)) alike h.at
-    (following t items places slots s.init h.runs h.rf o h.times (o.size * h.times + 0) before now after e h.opens (subst G first (subst W (is ∙ ways_are slots s a o x h at) added)) (subst M first marked))
+    let W : List WaysValue → Type 0 = λ w. IsSum before (of_ways before x slots w flags) after in
+    let G : GraphValue → Type 0 = λ y. IsSum before (of_ways before y slots ws flags) after in
+    let R : GraphValue → Type 0 = λ y. Lists (Raised items y) flags in
+    goes_on t items s a o.size f before (of_ways before (f 0) slots ws flags) after alike h.at
+    (said t items before slots s.init h.runs h.rf o h.times (o.size * h.times + 0) flags e h.opens alike (subst R first raised)) (subst G first (subst W (ways_are slots s a o x h at) is))
 
 -- It stays over a block whose first execution isn't.
-pub block_forbidden : (t : Litmus) (items : List Clause) (places : List Place) (s : Choices) (a : ℕ) (o : OpenOrders) (x : GraphValue) (counter : Counter) → IsOrderless items → ¬ Allowed items x → AreAlike s a o → graph_at s a ≡ Some x → GoesOn t items places s a (a + o.size) counter counter
-block_forbidden t items places s a o x counter orderless forbidden h at from l c =
+pub block_forbidden : (t : Litmus) (items : List Clause) (s : Choices) (a : ℕ) (o : OpenOrders) (x : GraphValue) (v : FindingValue) → IsOrderless items → ¬ Allowed items x → AreAlike s a o → graph_at s a ≡ Some x → GoesOn t items s a (a + o.size) v v
+block_forbidden t items s a o x v orderless forbidden h at from l c =
     let f : ℕ → GraphValue = λ i. with_orders s.init h.runs h.rf (o.size * h.times + i) in
     let first : x ≡ f 0 = shown_is s a o x h at in
     let same : (i : ℕ) → sourced_of (f i) ≡ sourced_of x = λ i. sym (ap sourced_of first) in
@@ -290,4 +307,4 @@ block_forbidden t items places s a o x counter orderless forbidden h at from l c
     let here : y ≡ f i = some_is y (f i) (sym is ∙ ap (graph_at s) (sym there) ∙ h.at i (omega (arith, low, up))) in
     let A : GraphValue → Type 0 = Allowed items in
     forbidden ((orderless (f i) x (same i)).0.0 (subst A here allowed))) in
-    counts_pass t items places s counter from a (a + o.size) l (omega arith) none c
+    counts_pass t items s v from a (a + o.size) l (omega arith) none c

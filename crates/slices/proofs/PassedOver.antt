@@ -3,7 +3,6 @@ use Rattle.std.proofs.Common.{◌≡◌, ℕ, zero, suc, ◌+◌, ◌-◌, ◌<�
 use Rattle.std.specs.Prelude.{max, min, Bool, true, false, MatchBool, MatchOption, ◌↔◌}
 use Rattle.events.specs.Executions.{GraphValue}
 use Rattle.events.specs.Extends.{Extends}
-use Rattle.conditions.specs.declared.place.Place.{Place}
 use Rattle.litmus_tree.specs.Tree.{Litmus}
 use Rattle.cat_tree.specs.Tree.{Clause}
 use Rattle.cat_eval.specs.Judging.{Allowed}
@@ -11,11 +10,10 @@ use Rattle.candidates.specs.Blocks.{AllExtend, CommonValue}
 use Rattle.candidates.specs.Candidates.{Choices, found, graph_at, some_of}
 use Rattle.candidates.specs.Walks.{IsHit, IsMiss, NoneFrom, Walking}
 use Rattle.candidates.proofs.Walked.{found_from}
-use Rattle.slices.specs.declared.counter.Counter.{Counter}
-use Rattle.slices.specs.Counters.{IsCountOf}
+use Rattle.slices.specs.Findings.{FindingValue}
 use Rattle.slices.specs.Parts.{AreThose}
 use Rattle.slices.specs.Passing.{ArePassed, IsForbidden, NoneAllowed}
-use Rattle.slices.proofs.Counted.{IsUnderWay, those-pass}
+use Rattle.slices.proofs.Counted.{IsCountOf, IsUnderWay, those-pass}
 
 pass_one : (P : GraphValue → Type 0) (xs ys : List GraphValue) (o : Option GraphValue) → ((x : GraphValue) → o ≡ Some x → ¬ P x) → AreThose P xs ys → AreThose P (xs ++ some_of o) ys
 pass_one P xs ys None f h = let Q : List GraphValue → Type 0 = λ zs. AreThose P zs ys in subst Q (sym (append-nil xs)) h
@@ -29,16 +27,12 @@ pass_all P at ys m (suc k) f h =
     (pass_one P (found at (m + k)) ys (at (m + k)) (λ x. f (m + k) (omega arith) (omega arith) x) (pass_all P at ys m k (λ i l u. f i l (omega (arith, u))) h))
 
 -- a count up to a number is one up to a later one, where none from there on is allowed
-pub counts_pass : (t : Litmus) (items : List Clause) (places : List Place) (s : Choices) (counter : Counter) (from a b : ℕ) → from ≤ a → a ≤ b → NoneAllowed items s a b → IsCountOf t items places (found_from s from a) counter → IsCountOf t items places (found_from s from b) counter
-counts_pass t items places s counter from a b l o none h =
+pub counts_pass : (t : Litmus) (items : List Clause) (s : Choices) (v : FindingValue) (from a b : ℕ) → from ≤ a → a ≤ b → NoneAllowed items s a b → IsCountOf t items (found_from s from a) v → IsCountOf t items (found_from s from b) v
+counts_pass t items s v from a b l o none h =
     let at : ℕ → Option GraphValue = λ i. graph_at s (from + i) in
     let e : (a - from) + (b - a) ≡ b - from = omega (arith, l, o) in
-    let Q : ℕ → Type 0 = λ z. IsCountOf t items places (found at z) counter in
-    subst Q e (record {
-      executions = h.executions;
-      those = pass_all (Allowed items) at h.executions (a - from) (b - a) (λ i low up x is. none (from + i) (omega (arith, l, low)) (omega (arith, l, o, up)) x is) h.those;
-      count = h.count;
-    })
+    let Q : ℕ → Type 0 = λ z. IsCountOf t items (found at z) v in
+    subst Q e (h.0, pass_all (Allowed items) at h.0 (a - from) (b - a) (λ i low up x is. none (from + i) (omega (arith, l, low)) (omega (arith, l, o, up)) x is) h.1, h.2)
 
 -- where nothing stands, nothing is allowed
 pub none_stands : (items : List Clause) (s : Choices) (a b : ℕ) → NoneFrom s a b → NoneAllowed items s a b
@@ -74,13 +68,13 @@ pub walk_nearer : (n : ℕ) (v w : Walking) → w.to ≡ v.to → n < w.next →
 walk_nearer n v w to later old below = omega (arith, to, later, old, below)
 
 -- what is found and passed over isn't counted
-pub walked_over : (t : Litmus) (items : List Clause) (places : List Place) (from to n : ℕ) (u v w : Walking) (counter : Counter) → IsUnderWay t items places from to u counter → IsHit u v n → ArePassed items n v w → IsUnderWay t items places from to w counter
-walked_over t items places from to n u v w counter h hit p =
+pub walked_over : (t : Litmus) (items : List Clause) (from to n : ℕ) (u v w : Walking) (f : FindingValue) → IsUnderWay t items from to u f → IsHit u v n → ArePassed items n v w → IsUnderWay t items from to w f
+walked_over t items from to n u v w f h hit p =
     let space : w.space ≡ u.space = p.space ∙ hit.step.space in
     let P : Choices → Type 0 = λ s. NoneAllowed items s n w.next in
-    let Q : Choices → Type 0 = λ s. IsCountOf t items places (found_from s from w.next) counter in
-    let before = counts_pass t items places u.space counter from u.next n h.order hit.later (none_stands items u.space u.next n hit.none) h.counted in
-    let behind = counts_pass t items places u.space counter from n w.next (omega (arith, h.order, hit.later)) (omega (arith, p.later)) (subst P hit.step.space p.none) before in
+    let Q : Choices → Type 0 = λ s. IsCountOf t items (found_from s from w.next) f in
+    let before = counts_pass t items u.space f from u.next n h.order hit.later (none_stands items u.space u.next n hit.none) h.counted in
+    let behind = counts_pass t items u.space f from n w.next (omega (arith, h.order, hit.later)) (omega (arith, p.later)) (subst P hit.step.space p.none) before in
     record {
       counted = subst Q (sym space) behind;
       few = omega (arith, h.few, hit.later, p.later);

@@ -1,16 +1,14 @@
 -- Rows in order, each once.
-use Rattle.std.proofs.Common.{◌≡◌, ℕ, List, [], ◌∷◌, ◌⊎◌, inl, inr, refl, sym, subst, arith}
-use Rattle.std.specs.Prelude.{fold}
+use Rattle.std.proofs.Common.{◌≡◌, ℕ, List, [], ◌∷◌, ◌⊎◌, inl, inr, refl, arith}
 use Rattle.std.specs.BTreeSet.{insert_key}
 use Rattle.std.specs.Cmp.{ranked}
 use Rattle.std.specs.Cmp.Lexicographic.{slice_cmp}
-use Rattle.std.specs.List.{AllByRecursion}
 use Rattle.std.specs.List.Sorted.{IsStrictlySortedBy}
 use Rattle.std.specs.Ordering.{nat_cmp, match_ordering, ordering_then}
 use Rattle.std.specs.declared.cmp.Ordering.{Ordering}
 use Rattle.std.specs.declared.cmp.Ordering.TheVariants.{Less, Equal, Greater}
 use Rattle.std.proofs.lemmas.Map.Lookups.{exact_bytes}
-use Rattle.listings.specs.Lists.{IsIn, NoRepeats}
+use Rattle.listings.specs.Lists.{IsIn}
 use Rattle.slices.specs.Verdicts.{Precedes, AreSorted}
 
 abbrev pub row_cmp : List ℕ → List ℕ → Ordering
@@ -63,38 +61,7 @@ pub in_insert_new : (k : List ℕ) (ks : List (List ℕ)) → IsIn k (insert_key
 in_insert_new k [] = inl refl
 in_insert_new k (x ∷ xs) = new_choice (row_cmp k x) k x xs (insert_key row_cmp xs k) refl (in_insert_new k xs)
 
--- the rows of f, collected into ks
-
-pub from_collected : {X : Type 0} (f : X → List ℕ) (s : List ℕ) (ks : List (List ℕ)) (xs : List X) → IsIn s (fold (λ rows x. insert_key row_cmp rows (f x)) ks xs) → IsIn s ks ⊎ ((x : X) × IsIn x xs × (s ≡ f x))
-from_collected f s ks [] p = inl p
-from_collected f s ks (x ∷ xs) p =
-    elim (from_collected f s (insert_key row_cmp ks (f x)) xs p) [
-      | inl q ↦ elim (from_insert s (f x) ks q) [ inl e ↦ inr (x, inl refl, e) | inr r ↦ inl r ]
-      | inr q ↦ inr (q.0, inr q.1, q.2)
-    ]
-
-pub collected_old : {X : Type 0} (f : X → List ℕ) (s : List ℕ) (ks : List (List ℕ)) (xs : List X) → IsIn s ks → IsIn s (fold (λ rows x. insert_key row_cmp rows (f x)) ks xs)
-collected_old f s ks [] p = p
-collected_old f s ks (x ∷ xs) p = collected_old f s (insert_key row_cmp ks (f x)) xs (in_insert_old s (f x) ks p)
-
-pub in_collected : {X : Type 0} (f : X → List ℕ) (ks : List (List ℕ)) (xs : List X) (x : X) → IsIn x xs → IsIn (f x) (fold (λ rows y. insert_key row_cmp rows (f y)) ks xs)
-in_collected f ks [] x p = absurd p
-in_collected {X} f ks (y ∷ ys) x (inl e) =
-    let P : X → Type 0 = λ z. IsIn (f z) (fold (λ rows w. insert_key row_cmp rows (f w)) (insert_key row_cmp ks (f y)) ys) in
-    subst P (sym e) (collected_old f (f y) (insert_key row_cmp ks (f y)) ys (in_insert_new (f y) ks))
-in_collected f ks (y ∷ ys) x (inr p) = in_collected f (insert_key row_cmp ks (f y)) ys x p
-
 -- what being in order gives
-
-pub not_among : (k : List ℕ) (ks : List (List ℕ)) → AllByRecursion (λ y. row_cmp k y ≡ Less) ks → ¬ IsIn k ks
-not_among k [] h p = p
-not_among k (x ∷ xs) h (inl e) = precedes-irreflexive k (let P : List ℕ → Type 0 = λ y. Precedes k y in subst P (sym e) (less_precedes k x h.0))
-not_among k (x ∷ xs) h (inr p) = not_among k xs h.1 p
-
-pub no_repeats : (ks : List (List ℕ)) → IsStrictlySortedBy row_cmp ks → NoRepeats ks
-unfolding IsStrictlySortedBy
-no_repeats [] h = tt
-no_repeats (k ∷ ks) h = (not_among k ks h.0, no_repeats ks h.1)
 
 pub are_sorted : (ks : List (List ℕ)) → IsStrictlySortedBy row_cmp ks → AreSorted ks
 unfolding IsStrictlySortedBy

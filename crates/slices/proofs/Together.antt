@@ -1,184 +1,44 @@
 -- What results say together.
-use Rattle.std.proofs.Common.{◌≡◌, ℕ, ◌+◌, ◌<◌, ◌≤◌, ◌^◌, List, [], ◌∷◌, ◌++◌, length, take, ◌-◌, not, count_by, refl, sym, ap, ◌∙◌, subst, inl, inr, arith}
-use Rattle.std.specs.Prelude.{◌↔◌}
-use Rattle.std.specs.List.Sorted.{IsStrictlySortedBy}
+use Rattle.std.proofs.Common.{◌≡◌, ℕ, ◌+◌, ◌<◌, ◌≤◌, ◌^◌, List, [], ◌∷◌, ◌++◌, length, take, ◌-◌, not, refl, sym, ap, ◌∙◌, subst, arith}
+use Rattle.std.proofs.lemmas.List.{length-append}
 use Rattle.cat_tree.specs.Tree.{Clause}
-use Rattle.events.specs.Executions.{GraphValue}
-use Rattle.listings.specs.Lists.{IsIn, Lists}
-use Rattle.listings.proofs.Listings.{in_append, in_left, in_right}
-use Rattle.litmus_tree.specs.Tree.{Litmus, Word}
-use Rattle.conditions.specs.States.{AreObserved}
-use Rattle.conditions.specs.declared.place.Place.{Place}
-use Rattle.conditions.proofs.ObservedPlaces.{same_observed}
-use Rattle.candidates.specs.Candidates.{Numbering}
-use Rattle.slices.specs.declared.finding.Totals.{Totals}
+use Rattle.litmus_tree.specs.Tree.{Litmus}
 use Rattle.slices.specs.declared.span.Span.{Span}
-use Rattle.slices.specs.declared.sum.Sum.{Sum}
-use Rattle.slices.specs.Counters.{finding_of}
-use Rattle.slices.specs.Finals.{obs, has}
+use Rattle.slices.specs.Finals.{has}
 use Rattle.slices.specs.Findings.{FindingValue}
 use Rattle.slices.specs.Parts.{IsAdmitted, IsPart, IsRange, PieceResultValue, PieceValue, test_size}
-use Rattle.slices.specs.Sums.{IsAdded, IsUnchanged, in_order}
+use Rattle.slices.specs.Sums.{AddsUp}
 use Rattle.slices.specs.Tallies.{IsApart, IsCover, IsTally, TallyValue, span_of}
-use Rattle.slices.specs.Verdicts.{Tells, IsRaised, IsVerdict}
+use Rattle.slices.specs.Verdicts.{Tells, IsVerdict}
 use Rattle.slices.specs.Works.{WorkValue}
-use Rattle.slices.proofs.Rows.{row_cmp, from_collected, in_collected, no_repeats, are_sorted}
-use Rattle.slices.proofs.Members.{count-append, count_most}
+use Rattle.slices.proofs.Members.{count_most}
 use Rattle.slices.proofs.Merging.{law_of, merged_listing, whole_listing, few_listed, within_push}
 
 -- nothing is told of no range
-pub tally_none : (t : Litmus) (items : List Clause) (places : List Place) (spans : List Span) (sum : Sum) → AreObserved t.condition t.listed places → spans ≡ [] → sum.positive ≡ 0 → sum.negative ≡ 0 → sum.states.value.keys ≡ [] → sum.flags.keys ≡ [] → IsTally t items spans sum
-tally_none t items places spans sum observed none p n s f =
-    let I : List Span → Type 0 = λ l. (r : Span) → ¬ IsIn r l in
-    let out : (r : Span) → ¬ IsIn r spans = subst I (sym none) (λ r q. q) in
-    let K : List (List ℕ) → Type 0 = λ l. (x : List ℕ) → ¬ IsIn x l in
-    let no_state = subst K (sym s) (λ x q. q) in
-    let no_flag = subst K (sym f) (λ x q. q) in
-    record {
-      within = λ r q. absurd (out r q);
+pub tally_none : (t : Litmus) (items : List Clause) (spans : List Span) (v : FindingValue) → spans ≡ [] → Tells t items [] v → IsTally t items spans v
+tally_none t items spans v none told =
+    let T : List Span → Type 0 = λ l. IsTally t items l v in
+    subst T (sym none) (record {
+      within = λ r q. absurd q;
       executions = [];
-      each = record { once = tt; only = λ x q. absurd q; all = λ x q. absurd (out q.0.1.0 q.0.1.1) };
-      places = places;
-      observed = observed;
-      positive = p;
-      negative = n;
-      states = λ x. ((λ q. absurd (no_state x q)), (λ q. absurd q.1));
-      flags = λ x. ((λ q. absurd (no_flag x q)), (λ q. absurd q.1));
-    }
-
--- a sum that says the same is as right
-pub tally_same : (t : Litmus) (items : List Clause) (old new : List Span) (before after : Sum) → new ≡ old → IsUnchanged before after → IsTally t items old before → IsTally t items new after
-tally_same t items old new before after e same h =
-    let S : List (List ℕ) → Type 0 = λ ks. (s : List ℕ) → IsIn s ks ↔ ((x : GraphValue) × IsIn x h.executions × (s ≡ obs t h.places x)) in
-    let F : List Word → Type 0 = λ ks. (name : Word) → IsIn name ks ↔ IsRaised items h.executions name in
-    let T : List Span → Type 0 = λ spans. IsTally t items spans after in
-    subst T (sym e) (record {
-      within = h.within;
-      executions = h.executions;
-      each = h.each;
-      places = h.places;
-      observed = h.observed;
-      positive = same.positive ∙ h.positive;
-      negative = same.negative ∙ h.negative;
-      states = subst S (sym same.states) h.states;
-      flags = subst F (sym same.flags) h.flags;
+      each = record { once = tt; only = λ x q. absurd q; all = λ x q. absurd q.0.1.1 };
+      told = told;
     })
 
-pub few_together : (t : Litmus) (items : List Clause) (spans : List Span) (s : Span) (before : Sum) (v : FindingValue) → Numbering → IsAdmitted t → s.to ≤ test_size t → IsApart s spans → IsTally t items spans before → IsPart t items s.from s.to v
-    → (before.positive + v.positive < 2 ^ 64) × (before.negative + v.negative < 2 ^ 64)
-few_together t items spans s before v numbering admitted le apart h part =
+few_together : (t : Litmus) (items : List Clause) (spans : List Span) (s : Span) (f v : FindingValue) → IsAdmitted t → s.to ≤ test_size t → IsApart s spans → IsTally t items spans f → IsPart t items s.from s.to v → (f.positive + v.positive < 2 ^ 64) × (f.negative + v.negative < 2 ^ 64)
+few_together t items spans s f v admitted le apart h part =
     let xs = h.executions in
     let ys = part.0 in
-    let together = merged_listing t items (test_size t) spans s xs ys (law_of numbering t admitted) le h.within apart h.each part.1 in
+    let together = merged_listing t items (test_size t) spans s xs ys (law_of t) le h.within apart h.each part.1 in
     let most = few_listed t items (test_size t) (spans ++ s ∷ []) (ys ++ xs) (within_push (test_size t) spans s le h.within) together in
-    let same : v.places ≡ h.places = same_observed t.condition t.listed v.places h.places part.2.places h.observed in
-    let p : v.positive ≡ count_by (has t h.places) ys = part.2.positive ∙ ap (λ ps. count_by (has t ps) ys) same in
-    let n : v.negative ≡ count_by (λ x. not (has t h.places x)) ys = part.2.negative ∙ ap (λ ps. count_by (λ x. not (has t ps x)) ys) same in
+    let all = length-append ys xs in
     let few = admitted.few in (
-      omega (arith, p, h.positive, count-append (has t h.places) ys xs, count_most (has t h.places) (ys ++ xs), most, few),
-      omega (arith, n, h.negative, count-append (λ x. not (has t h.places x)) ys xs, count_most (λ x. not (has t h.places x)) (ys ++ xs), most, few),
+      omega (arith, h.told.positive, part.2.positive, count_most (has t f.places) xs, count_most (has t v.places) ys, all, most, few),
+      omega (arith, h.told.negative, part.2.negative, count_most (λ x. not (has t f.places x)) xs, count_most (λ x. not (has t v.places x)) ys, all, most, few),
     )
 
-pub tally_merged : (t : Litmus) (items : List Clause) (spans new : List Span) (s : Span) (before after : Sum) (v : FindingValue) → Numbering → IsAdmitted t → s.to ≤ test_size t → IsApart s spans → IsTally t items spans before → IsPart t items s.from s.to v
-    → IsAdded before v after → new ≡ spans ++ s ∷ [] → IsTally t items new after
-tally_merged t items spans new s before after v numbering admitted le apart h part added pushed =
-    let xs = h.executions in
-    let ys = part.0 in
-    let same : v.places ≡ h.places = same_observed t.condition t.listed v.places h.places part.2.places h.observed in
-    let p : v.positive ≡ count_by (has t h.places) ys = part.2.positive ∙ ap (λ ps. count_by (has t ps) ys) same in
-    let n : v.negative ≡ count_by (λ x. not (has t h.places x)) ys = part.2.negative ∙ ap (λ ps. count_by (λ x. not (has t ps x)) ys) same in
-    let T : List Span → Type 0 = λ l. IsTally t items l after in
-    subst T (sym pushed) (record {
-      within = within_push (test_size t) spans s le h.within;
-      executions = ys ++ xs;
-      each = merged_listing t items (test_size t) spans s xs ys (law_of numbering t admitted) le h.within apart h.each part.1;
-      places = h.places;
-      observed = h.observed;
-      positive = omega (arith, added.positive, p, h.positive, count-append (has t h.places) ys xs);
-      negative = omega (arith, added.negative, n, h.negative, count-append (λ x. not (has t h.places x)) ys xs);
-      states = λ q. (
-        (λ m. elim ((added.states q).0 m) [
-          | inl a ↦ (let r = (h.states q).0 a in (r.0, in_right ys xs r.0 r.1, r.2))
-          | inr b ↦ (let r = part.2.states.only q b in (r.0, in_left ys xs r.0 r.1, r.2 ∙ ap (λ ps. obs t ps r.0) same))
-        ]),
-        (λ r. (added.states q).1 (elim (in_append ys xs r.0 r.1) [
-          | inl a ↦ inr (part.2.states.all q (r.0, a, r.2 ∙ ap (λ ps. obs t ps r.0) (sym same)))
-          | inr b ↦ inl ((h.states q).1 (r.0, b, r.2))
-        ])),
-      );
-      flags = λ q. (
-        (λ m. elim ((added.flags q).0 m) [
-          | inl a ↦ (let r = (h.flags q).0 a in (r.0, in_right ys xs r.0 r.1, r.2))
-          | inr b ↦ (let r = part.2.flags.only q b in (r.0, in_left ys xs r.0 r.1, r.2))
-        ]),
-        (λ r. (added.flags q).1 (elim (in_append ys xs r.0 r.1) [
-          | inl a ↦ inr (part.2.flags.all q (r.0, a, r.2))
-          | inr b ↦ inl ((h.flags q).1 (r.0, b, r.2))
-        ])),
-      );
-    })
-
--- rows put in order are the same rows
-in_order_of : (s : List ℕ) (rows : List (List ℕ)) → IsIn s (in_order rows) ↔ IsIn s rows
-in_order_of s rows = (
-  (λ p. elim (from_collected (λ (y : List ℕ). y) s [] rows p) [
-    | inl q ↦ absurd q
-    | inr q ↦ (let P : List ℕ → Type 0 = λ y. IsIn y rows in subst P (sym q.2) q.1)
-  ]),
-  (λ p. in_collected (λ (y : List ℕ). y) [] rows s p),
-)
-
-listed : {P : List ℕ → Type 0} (rows keys : List (List ℕ)) → ((s : List ℕ) → IsIn s rows ↔ P s) → keys ≡ in_order rows → IsStrictlySortedBy row_cmp keys → Lists P keys
-listed {P} rows keys members ordered sorted =
-    let K : List (List ℕ) → Type 0 = λ ks. (s : List ℕ) → IsIn s ks ↔ IsIn s rows in
-    let same = subst K (sym ordered) (λ s. in_order_of s rows) in
-    record {
-      once = no_repeats keys sorted;
-      only = λ s p. (members s).0 ((same s).0 p);
-      all = λ s p. (same s).1 ((members s).1 p);
-    }
-
--- what totals keep of a sum
-pub record AreTotalsOf (sum : Sum) (totals : Totals) : Type 0 where
-  pub positive : totals.positive ≡ sum.positive
-  pub negative : totals.negative ≡ sum.negative
-  pub states : totals.states.value.keys ≡ sum.states.value.keys
-  pub flags : totals.flags.items ≡ in_order sum.flags.keys
-  pub sorted : IsStrictlySortedBy row_cmp totals.states.value.keys
-  pub in_order : IsStrictlySortedBy row_cmp totals.flags.items
-
-pub tally_verdict : (t u : Litmus) (items : List Clause) (spans : List Span) (sum : Sum) (places : List Place) (totals : Totals) (v : FindingValue) → Numbering → IsAdmitted t → IsCover (test_size t) spans → IsTally t items spans sum
-    → u ≡ t → AreObserved u.condition u.listed places
-    → AreTotalsOf sum totals → v ≡ finding_of t places totals
-    → IsVerdict t items v
-tally_verdict t u items spans sum places totals v numbering admitted cover h e seen same is =
-    let O : Litmus → Type 0 = λ w. AreObserved w.condition w.listed places in
-    let observed = subst O e seen in
-    let one : h.places ≡ places = same_observed t.condition t.listed h.places places h.observed observed in
-    let S : List Place → Type 0 = λ ps. (s : List ℕ) → IsIn s sum.states.value.keys ↔ ((x : GraphValue) × IsIn x h.executions × (s ≡ obs t ps x)) in
-    let states = subst S one h.states in
-    let K : List (List ℕ) → Type 0 = λ ks. (s : List ℕ) → IsIn s ks ↔ IsIn s sum.states.value.keys in
-    let members = subst K (sym same.states) (λ s. ((λ p. p), (λ p. p))) in
-    let V : FindingValue → Type 0 = λ w. Tells t items h.executions w in (
-      h.executions,
-      whole_listing t items (test_size t) spans h.executions (law_of numbering t admitted) h.within cover h.each,
-      subst V (sym is) (record {
-        name = refl;
-        kind = refl;
-        formula = refl;
-        places = observed;
-        positive = same.positive ∙ h.positive ∙ ap (λ ps. count_by (has t ps) h.executions) one;
-        negative = same.negative ∙ h.negative ∙ ap (λ ps. count_by (λ x. not (has t ps x)) h.executions) one;
-        states = record {
-          once = no_repeats totals.states.value.keys same.sorted;
-          only = λ s p. (states s).0 ((members s).0 p);
-          all = λ s p. (members s).1 ((states s).1 p);
-        };
-        sorted = are_sorted totals.states.value.keys same.sorted;
-        flags = listed sum.flags.keys totals.flags.items h.flags same.flags same.in_order;
-        in_order = are_sorted totals.flags.items same.in_order;
-      }),
-    )
+pub tally_verdict : (t : Litmus) (items : List Clause) (spans : List Span) (v : FindingValue) → IsCover (test_size t) spans → IsTally t items spans v → IsVerdict t items v
+tally_verdict t items spans v cover h = (h.executions, whole_listing t items (test_size t) spans h.executions (law_of t) h.within cover h.each, h.told)
 
 -- what a merge knows of the result
 
@@ -212,11 +72,20 @@ part_of w u now spans s r p v eu admitted ew es er apart ep range right ev esp =
       part = subst J (sym esp) (subst K (sym ev) (subst Q rp right));
     }
 
-pub part_few : (w : WorkValue) (spans : List Span) (s : Span) (v : FindingValue) (sum : Sum) → Numbering → PartOf w spans s v → IsTally w.test w.model.items spans sum → (sum.positive + v.positive < 2 ^ 64) × (sum.negative + v.negative < 2 ^ 64)
-part_few w spans s v sum numbering h tally = few_together w.test w.model.items spans s sum v numbering h.admitted h.le h.apart tally h.part
+pub part_few : (w : WorkValue) (spans : List Span) (s : Span) (v f : FindingValue) → PartOf w spans s v → IsTally w.test w.model.items spans f → (f.positive + v.positive < 2 ^ 64) × (f.negative + v.negative < 2 ^ 64)
+part_few w spans s v f h tally = few_together w.test w.model.items spans s f v h.admitted h.le h.apart tally h.part
 
-pub part_merged : (w : WorkValue) (spans new : List Span) (s : Span) (v : FindingValue) (sum after : Sum) → Numbering → PartOf w spans s v → IsTally w.test w.model.items spans sum → IsAdded sum v after → new ≡ spans ++ s ∷ [] → IsTally w.test w.model.items new after
-part_merged w spans new s v sum after numbering h tally added pushed = tally_merged w.test w.model.items spans new s sum after v numbering h.admitted h.le h.apart tally h.part added pushed
+pub part_merged : (w : WorkValue) (spans new : List Span) (s : Span) (v old sum : FindingValue) → PartOf w spans s v → IsTally w.test w.model.items spans old → AddsUp old v sum → new ≡ spans ++ s ∷ [] → IsTally w.test w.model.items new sum
+part_merged w spans new s v old sum h tally added pushed =
+    let t : Litmus = w.test in
+    let items : List Clause = w.model.items in
+    let T : List Span → Type 0 = λ l. IsTally t items l sum in
+    subst T (sym pushed) (record {
+      within = within_push (test_size t) spans s h.le tally.within;
+      executions = h.part.0 ++ tally.executions;
+      each = merged_listing t items (test_size t) spans s tally.executions h.part.0 (law_of t) h.le tally.within h.apart tally.each h.part.1;
+      told = added t items tally.executions h.part.0 tally.told h.part.2;
+    })
 
 -- the last range is taken back
 

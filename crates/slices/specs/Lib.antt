@@ -1,6 +1,5 @@
 pub mod Alike
 pub mod Codes
-pub mod Counters
 pub mod Courses
 pub mod Finals
 pub mod Findings

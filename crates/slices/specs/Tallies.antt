@@ -1,18 +1,15 @@
 -- What is put together of the results of a work's slices.
-use Rattle.std.specs.Prelude.{◌≡◌, ℕ, suc, ◌*◌, ◌/◌, ◌<◌, ◌≤◌, ◌↔◌, List, not, count_by, Some}
+use Rattle.std.specs.Prelude.{◌≡◌, ℕ, suc, ◌*◌, ◌/◌, ◌<◌, ◌≤◌, List, Some}
 use Rattle.cat_eval.specs.Judging.{Allowed}
 use Rattle.cat_tree.specs.Tree.{Clause}
 use Rattle.events.specs.Executions.{GraphValue}
 use Rattle.listings.specs.Lists.{IsIn, Lists}
-use Rattle.litmus_tree.specs.Tree.{Litmus, Word}
-use Rattle.conditions.specs.States.{AreObserved}
-use Rattle.conditions.specs.declared.place.Place.{Place}
+use Rattle.litmus_tree.specs.Tree.{Litmus}
 use Rattle.candidates.specs.Candidates.{At}
 use Rattle.slices.specs.declared.span.Span.{Span}
-use Rattle.slices.specs.declared.sum.Sum.{Sum}
-use Rattle.slices.specs.Finals.{obs, has}
+use Rattle.slices.specs.Findings.{FindingValue}
 use Rattle.slices.specs.Parts.{PieceResultValue, test_size}
-use Rattle.slices.specs.Verdicts.{IsRaised}
+use Rattle.slices.specs.Verdicts.{Tells}
 use Rattle.slices.specs.Works.{WorkValue}
 
 -- i is one of the numbers
@@ -45,16 +42,11 @@ abbrev pub IsAmong : Litmus → List Clause → List Span → GraphValue → Typ
 IsAmong t items spans x = ((i : ℕ) × IsHeld spans i × (At t i ≡ Some x)) × Allowed items x
 
 -- What a tally keeps is right for the allowed executions at the numbers of its ranges, each counted once.
-pub record IsTally (t : Litmus) (items : List Clause) (spans : List Span) (sum : Sum) : Type 0 where
+pub record IsTally (t : Litmus) (items : List Clause) (spans : List Span) (v : FindingValue) : Type 0 where
   pub within : (s : Span) → IsIn s spans → s.to ≤ test_size t
   pub executions : List GraphValue
   pub each : Lists (IsAmong t items spans) executions
-  pub places : List Place
-  pub observed : AreObserved t.condition t.listed places
-  pub positive : sum.positive ≡ count_by (has t places) executions
-  pub negative : sum.negative ≡ count_by (λ x. not (has t places x)) executions
-  pub states : (s : List ℕ) → IsIn s sum.states.value.keys ↔ ((x : GraphValue) × IsIn x executions × (s ≡ obs t places x))
-  pub flags : (name : Word) → IsIn name sum.flags.keys ↔ IsRaised items executions name
+  pub told : Tells t items executions v
 
 -- where slice i begins when n numbers are cut into so many slices
 abbrev pub cut : ℕ → ℕ → ℕ → ℕ

@@ -3,7 +3,10 @@ use Rattle.std.specs.Prelude.{ℕ, zero, suc, ◌-◌, ◌*◌, ◌≤◌, ◌/�
 use Rattle.std.specs.List.{list_any}
 use Rattle.std.proofs.Common.{get_or}
 use Rattle.events.specs.declared.event.EventId.{EventId}
+use Rattle.events.specs.declared.event.EventId.TheVariants.{Initial}
+use Rattle.events.specs.Executions.{GraphValue}
 use Rattle.candidates.specs.Blocks.{open_among, placings}
+use Rattle.candidates.specs.declared.open_orders.OpenOrders.{OpenOrders}
 use Rattle.slices.specs.declared.slot.Slot.{Slot}
 use Rattle.slices.specs.declared.slot.Slot.TheVariants.{Register, Location}
 use Rattle.slices.specs.Finals.{last_or}
@@ -69,3 +72,7 @@ shown_way first seen free k x order = record { initial = first x; writes = tail 
 abbrev pub shown_ways : (first : ℕ → EventId) → (seen : ℕ → Bool) → (free k x : ℕ) → List (List EventId) → List WaysValue
 shown_ways first seen free k x [] = []
 shown_ways first seen free k x (o ∷ os) = shown_way first seen free k x o ∷ shown_ways first seen free k (suc x) os
+
+-- the ways of each location's order in an execution of which some orders are open
+abbrev pub ways_shown : List Slot → OpenOrders → GraphValue → List WaysValue
+ways_shown slots o x = shown_ways Initial (is_seen slots) o.unplaced.locations o.unplaced.writes 0 x.co

@@ -1,38 +1,34 @@
 //! What is found of executions.
 
-ghost use Rattle.std.specs.Prelude.{◌≡◌, IfOk};
-ghost use Rattle.std.specs.Arc.{arc_value};
+ghost use Rattle.std.specs.Prelude.{◌≡◌, ◌+◌, ◌<◌, ◌^◌, List, [], length, IfOk, OnOk, OnErr, IsTrue};
+ghost use Rattle.std.specs.BTreeSet.{insert_key};
+ghost use Rattle.std.specs.Cmp.Lexicographic.{slice_cmp};
+ghost use Rattle.std.specs.Ordering.{nat_cmp};
+ghost use Rattle.cat_tree.specs.Tree.{Clause};
 ghost use Rattle.conditions.specs.Conditions.{formula_of};
-ghost use Rattle.slices.specs.Counters.{finding_of};
-ghost use Rattle.slices.specs.Findings.{is_ok};
-ghost use Rattle.slices.specs.Findings.{word};
+ghost use Rattle.slices.specs.Findings.{is_ok, word};
+ghost use Rattle.slices.specs.Sums.{AddsUp, IsSum, IsUnion, of_flags, of_state};
+ghost use Rattle.slices.specs.Verdicts.{AreSorted, Tells};
 
 use crate::row::Row;
+use crate::state_set::add_rows;
 use crate::work::WorkRef;
-use conditions::{Kind, Place, Prop, ok_of};
+use conditions::{Kind, Place, Prop, State, holds, observed, ok_of};
 use std::alloc::{AllocError, Global};
+use std::cmp::Ordering;
 use std::collections::BTreeSet;
 use std::marker::Model;
 use std::sync::Arc;
 use wb_text::Name;
 
-/// How many executions have a test's proposition and how many have it not, and which final states and flags there are, each once
-/// and in order.
-#[derive(Drop)]
-pub struct Totals {
-    pub positive: u64,
-    pub negative: u64,
-    pub states: Arc<BTreeSet<Row>>,
-    pub flags: Vec<Name>,
-}
-
-/// What is found of some executions of a work's test: of those that the work's model allows. Its states may be kept elsewhere too.
+/// What is found of some executions of a work's test, of those that the work's model allows: how many have the proposition and how many
+/// have it not, which final states there are, and which flags were raised, each once and in order.
 pub struct Finding {
     work: WorkRef,
     places: Vec<Place>,
     positive: u64,
     negative: u64,
-    states: Arc<BTreeSet<Row>>,
+    states: BTreeSet<Row>,
     flags: Vec<Name>,
 }
 
@@ -51,7 +47,7 @@ impl Drop for Finding {
 }
 
 impl Model for Finding {
-    ghost use Rattle.std.specs.Arc.{arc_value};
+    ghost use Rattle.conditions.specs.States.{AreObserved};
     ghost use Rattle.slices.specs.Findings.{FindingValue};
     ghost use Rattle.slices.specs.Codes.{coded_finding};
 
@@ -66,9 +62,11 @@ impl Model for Finding {
       places = v.places.items;
       positive = v.positive;
       negative = v.negative;
-      states = (arc_value v.states).keys;
+      states = v.states.keys;
       flags = v.flags.items;
     } };
+
+    ghost invariant = { λ v. AreObserved v.work.test.condition v.work.test.listed v.places.items };
 }
 
 /// A finding that is kept more than once. Contracts see the finding.
@@ -120,23 +118,30 @@ impl FindingRef {
             finding: Arc::try_clone(&self.finding)?,
         })
     }
+
+    /// Adds what is found of other executions, or changes nothing. Where nothing was found yet, it is then kept together with the other one.
+    /// What is kept elsewhere too is not changed there: a grown copy takes its place here.
+    pub(crate) fn merge(&mut self, alloc: Global, other: &FindingRef) -> Result<(), AllocError>
+        requires few { (self.old.positive + other.now.positive < 2 ^ 64) × (self.old.negative + other.now.negative < 2 ^ 64) }
+        requires sorted { AreSorted self.old.states }
+        ensures merged { OnOk result (AddsUp self.old other.now self.new) }
+        ensures same { OnErr result (self.new ≡ self.old) }
+    {
+        if self.finding.is_nothing() {
+            *self = other.share()?;
+            return Ok(());
+        }
+        match Arc::get_mut(&mut self.finding) {
+            Some(own) => own.merge(alloc, &other.finding),
+            None => {
+                *self = FindingRef::new(alloc, self.finding.merged(alloc, &other.finding)?)?;
+                Ok(())
+            }
+        }
+    }
 }
 
 impl Finding {
-    /// What is told by these totals over executions of a work's test.
-    pub(crate) fn new(work: WorkRef, places: Vec<Place>, totals: Totals) -> Self
-        ensures { result ≡ finding_of work.test places.items totals }
-    {
-        Finding {
-            work,
-            places,
-            positive: totals.positive,
-            negative: totals.negative,
-            states: totals.states,
-            flags: totals.flags,
-        }
-    }
-
     /// The name of the test.
     pub fn name(&self) -> &Name
         ensures { result.now ≡ self.now.name }
@@ -186,13 +191,6 @@ impl Finding {
         &self.states
     }
 
-    /// The final states, as they are kept.
-    pub(crate) fn shared_states(&self) -> &Arc<BTreeSet<Row>>
-        ensures { (arc_value result.now).keys ≡ self.now.states }
-    {
-        &self.states
-    }
-
     /// The names of the flags that were raised, once each, in order of their bytes.
     pub fn flags(&self) -> &[Name]
         ensures { result.now ≡ self.now.flags }
@@ -219,4 +217,105 @@ impl Finding {
             "Sometimes"
         }
     }
+}
+
+impl Finding {
+    /// What is found of no execution.
+    pub(crate) fn nothing(alloc: Global, work: WorkRef) -> Result<Self, AllocError>
+        ensures { IfOk result (λ v. (items : List Clause) → Tells work.test items [] v) }
+    {
+        let test = work.work().test();
+        let places = observed(alloc, test.condition(), test.listed())?;
+        Ok(Finding {
+            work,
+            places,
+            positive: 0,
+            negative: 0,
+            states: BTreeSet::new(alloc),
+            flags: Vec::new(alloc),
+        })
+    }
+
+    /// Adds a final state that is found so many times.
+    pub(crate) fn add(&mut self, state: Row, times: u64) -> Result<(), AllocError>
+        requires few { self.old.positive + self.old.negative + times < 2 ^ 64 }
+        requires whole { length self.old.places ≡ length state }
+        ensures { OnOk result (IsSum self.old (of_state self.old state times []) self.new) }
+    {
+        let has = holds(self.prop(), &State::new(&self.places, state.values()));
+        self.states.insert(state)?;
+        if has {
+            self.positive += times;
+        } else {
+            self.negative += times;
+        }
+        Ok(())
+    }
+
+    /// Adds the names of flags that were raised.
+    pub(crate) fn raise(&mut self, names: &[Name]) -> Result<(), AllocError>
+        ensures { OnOk result (IsSum self.old (of_flags self.old names.now) self.new) }
+    {
+        add_names(&mut self.flags, names)
+    }
+
+    /// Adds what is found of other executions, or changes nothing. It costs a look-up for each of their states.
+    fn merge(&mut self, alloc: Global, other: &Finding) -> Result<(), AllocError>
+        requires few { (self.old.positive + other.now.positive < 2 ^ 64) × (self.old.negative + other.now.negative < 2 ^ 64) }
+        requires sorted { AreSorted self.old.states }
+        ensures merged { OnOk result (IsSum self.old other.now self.new) }
+        ensures same { OnErr result (self.new ≡ self.old) }
+    {
+        let mut flags = Vec::new(alloc);
+        add_names(&mut flags, &self.flags)?;
+        add_names(&mut flags, &other.flags)?;
+        add_rows(alloc, &mut self.states, &other.states)?;
+        self.flags = flags;
+        self.positive += other.positive;
+        self.negative += other.negative;
+        Ok(())
+    }
+
+    /// What is found of these executions and of others.
+    fn merged(&self, alloc: Global, other: &Finding) -> Result<Finding, AllocError>
+        requires few { (self.now.positive + other.now.positive < 2 ^ 64) × (self.now.negative + other.now.negative < 2 ^ 64) }
+        requires sorted { AreSorted self.now.states }
+        ensures { IfOk result (IsSum self.now other.now) }
+    {
+        let mut both = Finding::nothing(alloc, self.work.share()?)?;
+        both.merge(alloc, self)?;
+        both.merge(alloc, other)?;
+        Ok(both)
+    }
+
+    /// Whether it is found of no execution.
+    fn is_nothing(&self) -> bool
+        ensures { IsTrue result → (self.now.positive ≡ 0) × (self.now.negative ≡ 0) }
+    {
+        self.positive == 0 && self.negative == 0
+    }
+}
+
+/// Adds the names that aren't there, each at its place in the order.
+fn add_names(flags: &mut Vec<Name>, names: &[Name]) -> Result<(), AllocError>
+    ensures { OnOk result (IsUnion flags.old.items names.now flags.new.items) }
+{
+    for name in names {
+        add_name(flags, name)?;
+    }
+    Ok(())
+}
+
+/// Adds a name at its place in the order, unless it is there.
+fn add_name(flags: &mut Vec<Name>, name: &Name) -> Result<(), AllocError>
+    ensures { OnOk result (flags.new.items ≡ insert_key (slice_cmp nat_cmp) flags.old.items name.now) }
+{
+    for place in 0..flags.len() {
+        match name.cmp(&flags[place]) {
+            Ordering::Greater => {}
+            Ordering::Equal => return Ok(()),
+            Ordering::Less => return Ok(flags.insert(place, name.copy()?)?),
+        }
+    }
+    Ok(flags.push(name.copy()?)?)
 }

@@ -2,7 +2,7 @@
 #![tactic(auto)]
 
 mod alike;
-mod counter;
+mod counting;
 mod course;
 mod equality;
 mod finding;
@@ -17,7 +17,6 @@ mod row;
 mod slot;
 mod span;
 mod state_set;
-mod sum;
 mod tally;
 mod verdict;
 mod ways;

@@ -4,14 +4,13 @@ ghost use Rattle.std.specs.Prelude.{◌≡◌, IfOk};
 ghost use Rattle.candidates.specs.Candidates.{choices_of};
 ghost use Rattle.slices.specs.Parts.{IsPart, IsRange};
 
-use crate::counter::count;
-use crate::finding::{Finding, FindingRef};
+use crate::counting::count;
+use crate::finding::FindingRef;
 use crate::pruning::Pruner;
 use crate::span::Span;
 use crate::work::{Work, WorkRef};
 use candidates::{Common, Space, SpaceFault};
 use cat_eval::Evaluator;
-use conditions::observed;
 use std::alloc::{AllocError, Global};
 use std::marker::Model;
 
@@ -124,49 +123,9 @@ pub fn evaluate_in(
     ensures evaluator { evaluator.new ≡ evaluator.old }
 {
     let piece = piece.share()?;
-    let finding = find(
-        alloc,
-        &piece.work,
-        space,
-        evaluator,
-        pruner,
-        piece.from,
-        piece.to,
-    )?;
+    let finding = count(alloc, &piece.work, space, evaluator, pruner, piece.span())?;
     let found = FindingRef::new(alloc, finding)?;
     Ok(PieceResult::new(piece, found))
-}
-
-/// What is found at the numbers from `from` to `to - 1` of a work.
-fn find(
-    alloc: Global,
-    work: &WorkRef,
-    space: &Space,
-    evaluator: &mut Evaluator<'_>,
-    pruner: &mut Pruner,
-    from: u64,
-    to: u64,
-) -> Result<Finding, AllocError>
-    requires range { IsRange work.now.test from to }
-    requires space { space.now ≡ choices_of work.now.test }
-    requires evaluator { evaluator.old ≡ work.now.model.items }
-    ensures part { IfOk result (IsPart work.now.test work.now.model.items from to) }
-    ensures evaluator { evaluator.new ≡ evaluator.old }
-{
-    let test = work.work().test();
-    let places = observed(alloc, test.condition(), test.listed())?;
-    let counter = count(
-        alloc,
-        work.work(),
-        space,
-        evaluator,
-        pruner,
-        &places,
-        from,
-        to,
-    )?;
-    let totals = counter.totals(alloc)?;
-    Ok(Finding::new(work.share()?, places, totals))
 }
 
 impl Piece {

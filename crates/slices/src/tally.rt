@@ -1,7 +1,6 @@
 //! The results of a work's slices, put together.
 
 ghost use Rattle.std.specs.Prelude.{◌≡◌, ◌++◌, ◌∷◌, ◌+◌, [], ◌<◌, ◌≤◌, IfOk, IfErr, OnOk, OnErr};
-ghost use Rattle.candidates.specs.Candidates.{choices_of};
 ghost use Rattle.slices.specs.Parts.{test_size};
 ghost use Rattle.slices.specs.Tallies.{IsApart, IsCover, IsTally, cut, span_of};
 ghost use Rattle.slices.specs.Verdicts.{IsVerdict};
@@ -10,20 +9,17 @@ use crate::finding::{Finding, FindingRef};
 use crate::piece::{Piece, PieceResult, evaluate_in, evaluator_of, space_of};
 use crate::pruning::Pruner;
 use crate::span::{Span, cut};
-use crate::sum::Sum;
 use crate::verdict::Verdict;
 use crate::work::WorkRef;
-use candidates::laws;
-use conditions::observed;
 use std::alloc::{AllocError, Global};
 use std::marker::Model;
 
-/// The results of a work so far: their counts, states and flags put together, and their ranges, in which no number stands
-/// twice. Contracts see the work and the ranges.
+/// The results of a work so far: what they found together, and their ranges, in which no number stands twice. Contracts see the work and the
+/// ranges.
 pub struct Tally {
     work: WorkRef,
     spans: Vec<Span>,
-    sum: Sum,
+    found: FindingRef,
 }
 
 // A function of its own: whoever holds one drops it by a call.
@@ -32,7 +28,7 @@ impl Drop for Tally {
         let Tally {
             work: _,
             spans: _,
-            sum: _,
+            found: _,
         } = self;
     }
 }
@@ -47,7 +43,7 @@ impl Model for Tally {
 
     ghost view = { λ t. record { work = t.work; spans = t.spans.items } };
 
-    ghost invariant = { λ t. IsTally t.work.test t.work.model.items t.spans.items t.sum };
+    ghost invariant = { λ t. IsTally t.work.test t.work.model.items t.spans.items t.found };
 }
 
 impl Tally {
@@ -55,13 +51,12 @@ impl Tally {
     pub fn new(alloc: Global, work: WorkRef) -> Result<Self, AllocError>
         ensures { IfOk result (λ t. t ≡ record { work = work; spans = [] }) }
     {
-        let test = work.work().test();
-        let _places = observed(alloc, test.condition(), test.listed())?;
-        let sum = Sum::new(alloc)?;
+        let finding = Finding::nothing(alloc, work.share()?)?;
+        let found = FindingRef::new(alloc, finding)?;
         Ok(Tally {
             work,
             spans: Vec::new(alloc),
-            sum,
+            found,
         })
     }
 
@@ -101,13 +96,12 @@ impl Tally {
             (self.new ≡ record self.old { spans = self.old.spans ++ span_of part.now ∷ [] }) }
         ensures same { OnErr result (self.new ≡ self.old) }
     {
-        laws::numbering();
         let alloc = *self.spans.allocator();
         let _size = self.work.work().size();
         let piece = part.piece();
         let span = piece.span();
         self.spans.push(span)?;
-        match self.sum.add(alloc, part.found().finding()) {
+        match self.found.merge(alloc, part.found()) {
             Ok(()) => Ok(()),
             Err(AllocError) => {
                 self.spans.pop();
@@ -116,30 +110,14 @@ impl Tally {
         }
     }
 
-    /// The verdict on the work, where the results are over all its numbers. It shares the states, and costs no more for many of them.
+    /// The verdict on the work, where the results are over all its numbers. It shares what was found, and copies nothing.
     pub fn verdict(&self, test_version: u32) -> Result<Verdict, AllocError>
         requires { IsCover (test_size self.now.work.test) self.now.spans }
         ensures work { IfOk result (λ v. v.work ≡ self.now.work) }
         ensures version { IfOk result (λ v. v.version ≡ test_version) }
         ensures right { IfOk result (λ v. IsVerdict v.work.test v.work.model.items v.finding) }
     {
-        let alloc = *self.spans.allocator();
-        let found = FindingRef::new(alloc, self.finding(alloc)?)?;
-        Ok(Verdict::new(self.work.share()?, test_version, found))
-    }
-
-    /// What is found over all numbers.
-    fn finding(&self, alloc: Global) -> Result<Finding, AllocError>
-        requires { IsCover (test_size self.now.work.test) self.now.spans }
-        ensures { IfOk result (IsVerdict self.now.work.test self.now.work.model.items) }
-    {
-        laws::numbering();
-        let work = self.work.work();
-        let _size = work.size();
-        let test = work.test();
-        let places = observed(alloc, test.condition(), test.listed())?;
-        let totals = self.sum.totals(alloc)?;
-        Ok(Finding::new(self.work.share()?, places, totals))
+        Ok(Verdict::new(self.work.share()?, test_version, self.found.share()?))
     }
 }
 

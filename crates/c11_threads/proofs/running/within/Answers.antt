@@ -1,7 +1,6 @@
 use Rattle.std.proofs.Common.{sym, subst}
-use Rattle.c11_threads.specs.Serving.{AreValues}
-use Rattle.c11_threads.proofs.Numerals.{fit_values}
+use Rattle.c11_threads.specs.Serving.{AreSmall}
 use Rattle.c11_threads.proofs.running.within.Goals as goal
 
-pub returns-clause-fit : goal.returns-clause-fit
-returns-clause-fit c = subst AreValues (sym c.requires.values) (fit_values c.args.test.now c.threads.ensures.test)
+pub invariant_of-result : goal.invariant_of-result
+invariant_of-result c = subst AreSmall (sym c.requires.values) c.threads.ensures.test.small

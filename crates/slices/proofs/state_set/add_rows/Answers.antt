@@ -1,16 +1,15 @@
-use Rattle.slices.proofs.Sets.{all_in, as_before, in_or_not}
+use Rattle.slices.proofs.Sets.{all_in, as_before}
 use Rattle.slices.proofs.state_set.add_rows.Goals as goal
 
 pub returns-in-Ok-clause-added : goal.returns-in-Ok-clause-added
-returns-in-Ok-clause-added c =
-    let missing = c.in_ok-missing.missing.items in
-    let only = rw c.deref.ensures.value at c.in-Ok.ensures.only in
-    let all = rw c.deref.ensures.value at c.in-Ok.ensures.all in
-    all_in c.args.set.now.keys c.insert_each.new.set.keys c.args.rows.now.keys missing (λ s. in_or_not s c.args.set.now.keys) c.in_ok-missing.ensures c.in-Ok.ensures.old only all
+returns-in-Ok-clause-added c = all_in c.args.set.now.keys c.insert_each.new.set.keys c.args.rows.now.keys c.in_ok-missing.missing.items c.in_ok-missing.ensures (rw c.deref.ensures.value at c.in-Ok.ensures.all)
+
+pub remove_each-requires : goal.remove_each-requires
+remove_each-requires c = c.in-Err.ensures.some.1.sorted c.requires.sorted
 
 pub returns-clause-same : goal.returns-clause-same
 returns-clause-same c =
     let missing = c.in_ok-missing.missing.items in
-    let only = rw c.deref.ensures.value at c.in-Err.ensures.only in
-    let out = rw c.deref-in-Err.ensures.value at c.remove_each.ensures.members in
-    as_before c.args.set.now.keys c.insert_each.new.set.keys c.remove_each.new.set.keys c.args.rows.now.keys missing c.len.ensures.ordered c.remove_each.ensures.sorted c.in_ok-missing.ensures c.in-Err.ensures.old only out
+    let some = rw c.deref.ensures.value at c.in-Err.ensures.some in
+    let without = rw c.deref-in-Err.ensures.value at c.remove_each.ensures in
+    as_before c.args.set.now.keys c.insert_each.new.set.keys c.remove_each.new.set.keys c.args.rows.now.keys missing some.0 c.requires.sorted c.in_ok-missing.ensures some.1 without

@@ -1,11 +1,17 @@
-use Rattle.std.proofs.Common.{◌≡◌, ◌∙◌, ◌≤◌, length, sym, arith}
+use Rattle.std.proofs.Common.{◌<◌, ◌≤◌, length, arith}
 use Rattle.std.proofs.lemmas.Grind.{common_steps}
-use Rattle.std.proofs.lemmas.List.{at_drop_all}
-use Rattle.slices.proofs.Sets.{taken_out, taken_members}
+use Rattle.slices.proofs.Sets.{without_all, without_more, without_none}
 use Rattle.slices.proofs.state_set.remove_each.Goals as goal
 
-pub returns-clause-members : goal.returns-clause-members
-returns-clause-members c =
+pub loop-row-init : goal.loop-row-init
+loop-row-init c = without_none c.args.set.now.keys c.requires
+
+pub loop-row-preserved : goal.loop-row-preserved
+loop-row-preserved c =
+    let lt : c.loop-row.row-index < length c.args.rows.now = grind (arith, common_steps) in
+    without_more c.args.set.now.keys c.args.rows.now c.loop-row.set.keys c.remove.new.self.keys c.loop-row.row-index c.row-item.result lt c.row-item.is c.loop-row.invariant c.remove.ensures.keys c.remove.ensures.ordered
+
+pub returns : goal.returns
+returns c =
     let le : length c.args.rows.now ≤ c.loop-row.row-index = grind (arith, common_steps) in
-    let out : c.loop-row.set.keys ≡ taken_out c.args.set.now.keys c.args.rows.now = sym (at_drop_all (taken_out c.loop-row.set.keys) c.args.rows.now c.loop-row.row-index le) ∙ c.loop-row.invariant.0 in
-    taken_members c.args.set.now.keys c.loop-row.set.keys c.args.rows.now c.len.ensures.ordered out
+    without_all c.args.set.now.keys c.args.rows.now c.loop-row.set.keys c.loop-row.row-index le c.loop-row.invariant

@@ -1,25 +1,23 @@
-use Rattle.std.proofs.Common.{List, map, ap, subst, ◌∙◌}
+use Rattle.std.proofs.Common.{List, length, subst, ap, ◌∙◌}
 use Rattle.std.specs.Prelude.{◌↔◌, IfOk, IsTrue}
 use Rattle.listings.specs.Lists.{Lists}
 use Rattle.cat_tree.specs.Tree.{Word, Clause}
-use Rattle.cat_eval.specs.declared.plan.PlannedItem.{PlannedItem}
-use Rattle.cat_eval.specs.Code.{planned_clause}
 use Rattle.cat_eval.specs.Judging.{Allowed, Raised}
 use Rattle.cat_eval.proofs.Held.{holds_nothing}
 use Rattle.cat_eval.proofs.plan.Plan.judge_early.Goals as goal
 
-pub returns-clause-flags : goal.returns-clause-flags
-returns-clause-flags c =
-    let P : List Clause → Type 0 = λ items. IfOk c.judge_early_by.result (λ j. Lists {X = Word} (λ name. Allowed items c.args.view.now × Raised items c.args.view.now name) j.flags) in
-    subst P (ap (λ (xs : List PlannedItem). map planned_clause xs) c.deref-4.ensures.value ∙ c.self.view_is) c.judge_early_by.ensures.flags
+pub judge_early_by-requires : goal.judge_early_by-requires
+judge_early_by-requires c = record {
+  code = c.code-code.ensures.code;
+  kept = record { long = ap length c.deref_mut.ensures.value ∙ c.in_ok-values.ensures; holds = holds_nothing _ _ _ _ _ c.nothing-kept.ensures.runs c.nothing-kept.ensures.sources };
+}
 
 pub returns-clause-allowed : goal.returns-clause-allowed
 returns-clause-allowed c =
     let P : List Clause → Type 0 = λ items. IfOk c.judge_early_by.result (λ j. IsTrue j.allowed ↔ Allowed items c.args.view.now) in
-    subst P (ap (λ (xs : List PlannedItem). map planned_clause xs) c.deref-4.ensures.value ∙ c.self.view_is) c.judge_early_by.ensures.allowed
+    subst P c.code-code.ensures.items c.judge_early_by.ensures.allowed
 
-pub judge_early_by-requires-clause-holds : goal.judge_early_by-requires-clause-holds
-judge_early_by-requires-clause-holds c = holds_nothing _ _ _ _ _ c.nothing-kept.ensures.runs c.nothing-kept.ensures.sources
-
-pub judge_early_by-requires-clause-plan : goal.judge_early_by-requires-clause-plan
-judge_early_by-requires-clause-plan c = rw (c.deref-2.ensures.value, c.deref-4.ensures.value) c.self.invariant.plan
+pub returns-clause-flags : goal.returns-clause-flags
+returns-clause-flags c =
+    let P : List Clause → Type 0 = λ items. IfOk c.judge_early_by.result (λ j. Lists {X = Word} (λ name. Allowed items c.args.view.now × Raised items c.args.view.now name) j.flags) in
+    subst P c.code-code.ensures.items c.judge_early_by.ensures.flags

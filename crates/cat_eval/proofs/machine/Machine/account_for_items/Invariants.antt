@@ -1,0 +1,9 @@
+use Rattle.cat_eval.specs.Machine.{HasMade}
+use Rattle.cat_eval.proofs.Accounts.{Told}
+use Rattle.cat_eval.proofs.machine.Machine.account_for_items.Given as goal
+
+abbrev pub invariant-loop-item : goal.invariant-loop-item
+invariant-loop-item l = record {
+  machine : HasMade l.self l.values l.made;
+  told : Told l.self.view.now l.self.code.steps.now l.self.code.items.now l.values l.item-index l.allowed l.flags.items l.outcomes.items;
+}

@@ -1,0 +1,80 @@
+//! What is found at some of the numbers of a test: the allowed executions are counted.
+
+ghost use Rattle.std.specs.Prelude.{◌≡◌, ◌+◌, ◌-◌, ◌^◌, ◌<◌, length, map, IfOk, OnOk, MatchBool};
+ghost use Rattle.candidates.specs.Candidates.{choices_of};
+ghost use Rattle.slices.specs.Parts.{IsPart, IsRange};
+ghost use Rattle.slices.specs.Slots.{slot_value};
+ghost use Rattle.slices.specs.Sums.{IsSum, of_state};
+
+use crate::alike::alike_behind;
+use crate::finding::Finding;
+use crate::pruning::Pruner;
+use crate::slot::{Slot, row, slots};
+use crate::span::Span;
+use crate::work::WorkRef;
+use candidates::Space;
+use cat_eval::{Evaluator, Judgement};
+use events::Graph;
+use std::alloc::{AllocError, Global};
+
+/// What is found at these numbers of a work, one after another. The evaluator is one of the work's model.
+pub fn count(
+    alloc: Global,
+    work: &WorkRef,
+    space: &Space,
+    evaluator: &mut Evaluator<'_>,
+    pruner: &mut Pruner,
+    numbers: Span,
+) -> Result<Finding, AllocError>
+    requires range { IsRange work.now.test numbers.from numbers.to }
+    requires space { space.now ≡ choices_of work.now.test }
+    requires evaluator { evaluator.old ≡ work.now.model.items }
+    ensures part { IfOk result (IsPart work.now.test work.now.model.items numbers.from numbers.to) }
+    ensures evaluator { evaluator.new ≡ evaluator.old }
+{
+    let inner = work.work();
+    let _size = inner.size();
+    let mut finding = Finding::nothing(alloc, work.share()?)?;
+    let slots = slots(alloc, inner.test(), finding.places())?;
+    let mut walk = space.walk(alloc, numbers.from, numbers.to);
+    pruner.begin();
+    while let Some(number) = walk.next(alloc)? {
+        if pruner.passes(alloc, evaluator, &mut walk, number)? {
+            continue;
+        }
+        let graph = walk.graph();
+        let judgement = evaluator.judge_next(alloc, graph)?;
+        pruner.note(&judgement);
+        if let Some(range) = alike_behind(inner, &walk) {
+            finding.weigh_alike(alloc, &slots, graph, range, &judgement)?;
+            walk.pass(number + range.size());
+            continue;
+        }
+        finding.weigh(alloc, &slots, graph, &judgement)?;
+    }
+    Ok(finding)
+}
+
+impl Finding {
+    /// Counts an execution, if it is allowed.
+    fn weigh(
+        &mut self,
+        alloc: Global,
+        slots: &[Slot],
+        graph: &Graph,
+        judgement: &Judgement,
+    ) -> Result<(), AllocError>
+        requires few { self.old.positive + self.old.negative < 2 ^ 64 - 1 }
+        requires whole { length self.old.places ≡ length slots.now }
+        ensures { OnOk result (MatchBool judgement.now.allowed
+            (IsSum self.old (of_state self.old (map (slot_value graph.now) slots.now) 1 judgement.now.flags) self.new)
+            (self.new ≡ self.old)) }
+    {
+        if !judgement.allowed() {
+            return Ok(());
+        }
+        self.add(row(alloc, slots, graph)?, 1)?;
+        self.raise(judgement.flags())?;
+        Ok(())
+    }
+}
