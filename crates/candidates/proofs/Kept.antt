@@ -25,9 +25,6 @@ kept_in k old left new level t e l m =
       | inr n ↦ elim n [ inl i ↦ inl i | inr z ↦ absurd z ]
     ]
 
-pub left_in : (k : ℕ) (old left new : List Level) (level : Level) → left ≡ take k old → new ≡ left → (l : Level) → IsIn l new → IsIn l (level ∷ old)
-left_in k old left new level t e l m = let P : List Level → Type 0 = λ ls. IsIn l ls in inr (in_take k old l (subst P (e ∙ t) m))
-
 set_in : {X : Type 0} (xs : List X) (i : ℕ) (y x : X) → IsIn x (set xs i y) → (x ≡ y) ⊎ IsIn x xs
 set_in [] i y x m = inr m
 set_in (z ∷ zs) zero y x m = elim m [ inl e ↦ inl e | inr n ↦ inr (inr n) ]
