@@ -6,7 +6,7 @@ ghost use Rattle.std.specs.Vec.{vec_capacity};
 ghost use Rattle.inputs.specs.Loaded.{AreLoaded, IsCase, IsLoaded, IsOneMore};
 
 use crate::sources::Sources;
-use crate::trouble::Trouble;
+use crate::trouble::{Trouble, told};
 use cat_model::Model;
 use fault_messages::{Source, cat_trouble, model_fault};
 use std::alloc::{AllocError, Global};
@@ -208,10 +208,7 @@ fn tell<R: Eprint + AllocGlobal>(
         ModelTrouble::NoMemory => Err(AllocError),
     };
     match message {
-        Ok(message) => match eprint!(rt; "{message}") {
-            Ok(()) => Trouble::Told(2),
-            Err(error) => Trouble::Write(error),
-        },
+        Ok(message) => told(2, rt.eprint(message.as_str())),
         Err(_) => Trouble::NoMemory,
     }
 }

@@ -5,7 +5,7 @@ use crate::text::{is_there, sibling};
 use std::alloc::{AllocError, Global};
 use std::fmt::Display;
 use std::rt::Files;
-use std::{fs, mem};
+use std::{fs, io, mem};
 
 /// The most folders that are gone through.
 const MOST_FOLDERS: usize = 1_000_000;
@@ -30,6 +30,18 @@ impl Drop for Paths {
             found: _,
         } = self;
     }
+}
+
+/// Adds a path to a list.
+fn push_path(list: &mut Vec<String>, path: &str) -> Result<(), AllocError> {
+    let path = String::from_str(*list.allocator(), path)?;
+    list.push(path)?;
+    Ok(())
+}
+
+/// Whether something is a folder, as far as that can be told.
+fn is_folder(about: io::Result<fs::Metadata>) -> bool {
+    matches!(about, Ok(about) if about.is_dir())
 }
 
 impl Paths {
@@ -79,32 +91,23 @@ impl Paths {
         rt: &R,
         path: &str,
     ) -> Result<(), AllocError> {
-        if path != "-" && matches!(fs::metadata(rt, path), Ok(about) if about.is_dir()) {
+        if path != "-" && is_folder(fs::metadata(rt, path)) {
             return self.add_folder(rt, path);
         }
         self.add_test(path)
     }
 
-    /// Adds the paths of a list.
+    /// Adds the paths of a list, one a line. Empty lines, and those that begin with `#`, are left out.
     fn add_list<R: Files + AllocGlobal + Clone + Drop>(
         &mut self,
         rt: &R,
         list: &str,
     ) -> Result<(), AllocError> {
-        match fs::read_to_string(rt, list) {
-            Ok(text) => self.add_lines(rt, list, text.as_str()),
-            Err(error) => self.add_unread(list, error),
-        }
-    }
-
-    /// Adds the paths of a list's text, one a line. Empty lines, and those that begin with `#`, are left out.
-    fn add_lines<R: Files + AllocGlobal + Clone + Drop>(
-        &mut self,
-        rt: &R,
-        list: &str,
-        text: &str,
-    ) -> Result<(), AllocError> {
-        for line in text.lines() {
+        let text = match fs::read_to_string(rt, list) {
+            Ok(text) => text,
+            Err(error) => return self.add_unread(list, error),
+        };
+        for line in text.as_str().lines() {
             let path = line.trim();
             if !path.is_empty() && !path.starts_with('#') {
                 self.add_listed(rt, list, path)?;
@@ -120,12 +123,10 @@ impl Paths {
         list: &str,
         path: &str,
     ) -> Result<(), AllocError> {
-        if is_there(rt, path) {
-            return self.add_path(rt, path);
-        }
         let beside = sibling(rt.alloc(), list, path)?;
-        let is_beside = is_there(rt, beside.as_str());
-        self.add_path(rt, if is_beside { beside.as_str() } else { path })
+        let beside = beside.as_str();
+        let is_beside = !is_there(rt, path) && is_there(rt, beside);
+        self.add_path(rt, if is_beside { beside } else { path })
     }
 
     /// Adds all `*.litmus` files in a folder and below, by their paths.
@@ -157,12 +158,12 @@ impl Paths {
             top => top,
         };
         self.folders.clear();
-        self.folders.push(String::from_str(rt.alloc(), top)?)?;
+        push_path(&mut self.folders, top)?;
         for _ in 0..MOST_FOLDERS {
-            match self.folders.pop() {
-                Some(next) => self.go_through(rt, next.as_str())?,
-                None => break,
-            }
+            let Some(next) = self.folders.pop() else {
+                break;
+            };
+            self.go_through(rt, next.as_str())?;
         }
         self.found.sort()
     }
@@ -170,11 +171,11 @@ impl Paths {
     /// Adds what an entry of a folder is, if it is a folder or a test.
     fn add_entry<R: Files>(&mut self, entry: &fs::DirEntry<R>) -> Result<(), AllocError> {
         let path = entry.path();
-        let path = String::from_str(*self.found.allocator(), path.as_str())?;
-        if matches!(entry.metadata(), Ok(about) if about.is_dir()) {
-            self.folders.push(path)?;
-        } else if path.ends_with(".litmus") {
-            self.found.push(path)?;
+        if is_folder(entry.metadata()) {
+            return push_path(&mut self.folders, path.as_str());
+        }
+        if path.as_str().ends_with(".litmus") {
+            return push_path(&mut self.found, path.as_str());
         }
         Ok(())
     }

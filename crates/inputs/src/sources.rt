@@ -1,7 +1,7 @@
 //! The files of a model, with those that they include.
 
 use crate::text::{is_there, joined, sibling, text_of};
-use crate::trouble::{Trouble, unreadable};
+use crate::trouble::{Trouble, told, unreadable};
 use cat_model::Files as CatFiles;
 use cat_syntax::{CatFault, Item, read_cat};
 use fault_messages::Source;
@@ -78,18 +78,24 @@ impl<'a> Sources<'a> {
         Ok(())
     }
 
-    /// Adds the files that the file at a place includes.
+    /// Adds the files that the file at a place includes. A text that is no cat file includes none: it is told later.
     fn include_all<R: Files + Eprint + AllocGlobal>(
         &mut self,
         rt: &R,
         place: usize,
     ) -> Result<(), Trouble> {
-        let Some(file) = self.files.get(place) else {
+        let Some(source) = self.files.get(place) else {
             return Ok(());
         };
-        let names = included(rt.alloc(), &file.text)?;
-        for name in &names {
-            self.include(rt, name, place)?;
+        let file = match read_cat(rt.alloc(), &source.text) {
+            Ok(file) => file,
+            Err(CatFault::NoMemory) => return Err(Trouble::NoMemory),
+            Err(_) => return Ok(()),
+        };
+        for item in file.items() {
+            if let Item::Include(name) = item {
+                self.include(rt, name, place)?;
+            }
         }
         Ok(())
     }
@@ -146,30 +152,10 @@ fn see_same<R: Eprint>(rt: &R, first: &str, path: &str) -> Result<(), Trouble> {
     if first == path {
         return Ok(());
     }
-    eprintln!(rt;
+    let printed = eprintln!(rt;
         "{path}: its name is included for {first}, too; give one of the two files another name"
-    )?;
-    Err(Trouble::Told(2))
-}
-
-/// The names that a text includes. A text that is no cat file includes none: it is told later.
-fn included(alloc: Global, text: &[u8]) -> Result<Vec<Name>, AllocError> {
-    match read_cat(alloc, text) {
-        Ok(file) => names_in(alloc, file.items()),
-        Err(CatFault::NoMemory) => Err(AllocError),
-        Err(_) => Ok(Vec::new(alloc)),
-    }
-}
-
-/// The names that the items include.
-fn names_in(alloc: Global, items: &[Item]) -> Result<Vec<Name>, AllocError> {
-    let mut names = Vec::new(alloc);
-    for item in items {
-        if let Item::Include(name) = item {
-            names.push(name.copy()?)?;
-        }
-    }
-    Ok(names)
+    );
+    Err(told(2, printed))
 }
 
 /// Whether a word, whose file would have this name, is that of a built-in file.

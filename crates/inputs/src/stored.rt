@@ -1,6 +1,6 @@
 //! What is stored of a run in files, and read back.
 
-use crate::trouble::{Trouble, unreadable};
+use crate::trouble::{Trouble, told, unreadable};
 use outcome::{RowsFault, rows_in};
 use std::fs;
 use std::fs::OpenOptions;
@@ -30,12 +30,10 @@ fn rows_or_told<R: Eprint>(
 
 /// Tells on standard error that a line of a file is no row.
 fn no_row<R: Eprint>(rt: &R, path: &str, number: usize) -> Trouble {
-    match eprintln!(rt;
+    let printed = eprintln!(rt;
         "{path}:{number}: no line of --write-expected or --tsv, whose fields stand between tabs"
-    ) {
-        Ok(()) => Trouble::Told(1),
-        Err(error) => Trouble::Write(error),
-    }
+    );
+    told(1, printed)
 }
 
 /// Stores rows in a file.

@@ -34,10 +34,15 @@ impl<T: Drop> From<AllocFailed<T>> for Trouble {
     }
 }
 
-/// Tells on standard error that a file can't be read or written.
-pub fn unreadable<R: Eprint>(rt: &R, path: &str, error: &io::Error) -> Trouble {
-    match eprintln!(rt; "{path}: {error}") {
-        Ok(()) => Trouble::Told(1),
+/// What was wrong and has been told, if it could be. The run ends with this status.
+pub(crate) fn told(status: u8, printed: io::Result<()>) -> Trouble {
+    match printed {
+        Ok(()) => Trouble::Told(status),
         Err(error) => Trouble::Write(error),
     }
+}
+
+/// Tells on standard error that a file can't be read or written.
+pub(crate) fn unreadable<R: Eprint>(rt: &R, path: &str, error: &io::Error) -> Trouble {
+    told(1, eprintln!(rt; "{path}: {error}"))
 }
