@@ -9,6 +9,7 @@ use crate::sources::Sources;
 use crate::trouble::{Trouble, told};
 use cat_model::Model;
 use fault_messages::{Source, cat_trouble, model_fault};
+use outcome::Status;
 use std::alloc::{AllocError, Global};
 use std::rt::Files;
 use suite::{Case, CatText, ModelTrouble, digests_of, load_model};
@@ -208,7 +209,7 @@ fn tell<R: Eprint + AllocGlobal>(
         ModelTrouble::NoMemory => Err(AllocError),
     };
     match message {
-        Ok(message) => told(2, rt.eprint(message.as_str())),
+        Ok(message) => told(Status::Refused, rt.eprint(message.as_str())),
         Err(_) => Trouble::NoMemory,
     }
 }

@@ -5,6 +5,7 @@ use crate::trouble::{Trouble, told, unreadable};
 use cat_model::Files as CatFiles;
 use cat_syntax::{CatFault, Item, read_cat};
 use fault_messages::Source;
+use outcome::Status;
 use std::alloc::{AllocError, Global};
 use std::io;
 use std::rt::Files;
@@ -155,7 +156,7 @@ fn see_same<R: Eprint>(rt: &R, first: &str, path: &str) -> Result<(), Trouble> {
     let printed = eprintln!(rt;
         "{path}: its name is included for {first}, too; give one of the two files another name"
     );
-    Err(told(2, printed))
+    Err(told(Status::Refused, printed))
 }
 
 /// Whether a word, whose file would have this name, is that of a built-in file.

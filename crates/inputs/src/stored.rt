@@ -1,7 +1,7 @@
 //! What is stored of a run in files, and read back.
 
 use crate::trouble::{Trouble, told, unreadable};
-use outcome::{RowsFault, rows_in};
+use outcome::{RowsFault, Status, rows_in};
 use std::fs;
 use std::fs::OpenOptions;
 use std::rt::Files;
@@ -33,7 +33,7 @@ fn no_row<R: Eprint>(rt: &R, path: &str, number: usize) -> Trouble {
     let printed = eprintln!(rt;
         "{path}:{number}: no line of --write-expected or --tsv, whose fields stand between tabs"
     );
-    told(1, printed)
+    told(Status::Failed, printed)
 }
 
 /// Stores rows in a file.

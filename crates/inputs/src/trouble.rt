@@ -1,5 +1,6 @@
 //! Why a run ends early.
 
+use outcome::Status;
 use std::alloc::{AllocError, AllocFailed};
 use std::io;
 use thiserror::Error;
@@ -9,9 +10,9 @@ use thiserror::Error;
 pub enum Trouble {
     #[error("standard output: {0}")]
     Write(io::Error),
-    /// What was wrong has been told already, and this is the status.
-    #[error("status {0}")]
-    Told(u8),
+    /// What was wrong has been told already, and the run ends so.
+    #[error("what was wrong has been told")]
+    Told(Status),
     #[error("memory ran out")]
     NoMemory,
 }
@@ -34,8 +35,8 @@ impl<T: Drop> From<AllocFailed<T>> for Trouble {
     }
 }
 
-/// What was wrong and has been told, if it could be. The run ends with this status.
-pub(crate) fn told(status: u8, printed: io::Result<()>) -> Trouble {
+/// What was wrong and has been told, if it could be. The run ends so.
+pub(crate) fn told(status: Status, printed: io::Result<()>) -> Trouble {
     match printed {
         Ok(()) => Trouble::Told(status),
         Err(error) => Trouble::Write(error),
@@ -44,5 +45,5 @@ pub(crate) fn told(status: u8, printed: io::Result<()>) -> Trouble {
 
 /// Tells on standard error that a file can't be read or written.
 pub(crate) fn unreadable<R: Eprint>(rt: &R, path: &str, error: &io::Error) -> Trouble {
-    told(1, eprintln!(rt; "{path}: {error}"))
+    told(Status::Failed, eprintln!(rt; "{path}: {error}"))
 }

@@ -1,9 +1,11 @@
 -- What a run has come to, its status, and its last line: `1,000 tests: 981 judged, 18 refused, 1 not read`.
--- (docs/COMMAND.md, "What is printed" and "Status".)
-use Rattle.std.specs.Prelude.{ℕ, suc, ◌+◌, ◌-◌, ◌^◌, ◌%◌, min, Bool, List, [], ◌∷◌, ◌++◌, length, ◌==◌, if◌then◌else◌, codes, decimal}
+-- (docs/COMMAND.md, "What is printed" and "Status, threads and time".)
+use Rattle.std.specs.Prelude.{ℕ, ◌+◌, ◌-◌, ◌^◌, ◌%◌, min, Bool, List, [], ◌∷◌, ◌++◌, length, ◌==◌, if◌then◌else◌, codes, decimal}
 use Rattle.outcome.specs.declared.counts.Counts.{Counts}
 use Rattle.outcome.specs.declared.counts.Fate.{Fate}
 use Rattle.outcome.specs.declared.counts.Fate.TheVariants.{Judged, Refused, Unread}
+use Rattle.outcome.specs.declared.counts.Status.{Status}
+use Rattle.outcome.specs.declared.counts.Status.TheVariants as statuses
 use Rattle.outcome.specs.declared.form.Form.{Form}
 use Rattle.outcome.specs.declared.form.Form.TheVariants.{Table}
 
@@ -25,9 +27,16 @@ with_fate Unread c = record c { unread = one_more c.unread }
 abbrev pub counted : Fate → Bool → Counts → Counts
 counted fate differs c = let d = with_fate fate c in if differs then record d { differing = one_more d.differing } else d
 
--- 3 where something differs from what is expected; else 1 where a test couldn't be read; else 2 where one was refused; else 0
-abbrev pub status : Bool → Counts → ℕ
-status differs c = if differs then 3 else if c.unread == 0 then (if c.refused == 0 then 0 else 2) else 1
+-- that something differs from what is expected, else that a test couldn't be read, else that one was refused
+abbrev pub status : Bool → Counts → Status
+status differs c = if differs then statuses.Differs else if c.unread == 0 then (if c.refused == 0 then statuses.Done else statuses.Refused) else statuses.Failed
+
+-- the number with which the program ends
+abbrev pub code : Status → ℕ
+code statuses.Done = 0
+code statuses.Failed = 1
+code statuses.Refused = 2
+code statuses.Differs = 3
 
 -- a comma before three, six, .. digits
 abbrev pub comma_before : List ℕ → List ℕ

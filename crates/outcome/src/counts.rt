@@ -15,6 +15,33 @@ pub enum Fate {
     Unread,
 }
 
+/// How a run ends.
+#[derive(Clone, Copy, Debug, PartialEq, Eq)]
+pub enum Status {
+    /// Nothing is wrong.
+    Done,
+    /// A file couldn't be read or written, or memory ran out.
+    Failed,
+    /// A test, a model or a word was refused.
+    Refused,
+    /// Something differs from what is expected.
+    Differs,
+}
+
+impl Status {
+    /// The number with which the program ends.
+    pub fn code(self) -> u8
+        ensures { result ≡ texts.code self }
+    {
+        match self {
+            Status::Done => 0,
+            Status::Failed => 1,
+            Status::Refused => 2,
+            Status::Differs => 3,
+        }
+    }
+}
+
 /// What a run has come to: how many tests were judged, refused and not read, and how many the models tell apart.
 #[derive(Clone, Copy)]
 pub struct Counts {
@@ -97,17 +124,17 @@ impl Counts {
     }
 
     /// The status with which a run ends whose rows differ from those that are expected, or don't, or weren't compared.
-    pub fn status(&self, differs: bool) -> u8
+    pub fn status(&self, differs: bool) -> Status
         ensures { result ≡ texts.status differs self.now }
     {
         if differs {
-            3
+            Status::Differs
         } else if self.unread > 0 {
-            1
+            Status::Failed
         } else if self.refused > 0 {
-            2
+            Status::Refused
         } else {
-            0
+            Status::Done
         }
     }
 

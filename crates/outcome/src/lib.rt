@@ -11,7 +11,7 @@ mod rows;
 mod told;
 mod verdicts;
 
-pub use counts::{Counts, Fate};
+pub use counts::{Counts, Fate, Status};
 pub use form::{Form, Tested, Wanted};
 pub use reading::{RowsFault, rows_in};
 pub use told::Told;

@@ -10,6 +10,7 @@ mod words;
 use clap::Error;
 use clap::error::ErrorKind;
 use inputs::Trouble;
+use outcome::Status;
 use session::{Reach, run_all};
 use std::io::IsTerminal;
 use std::process::ExitCode;
@@ -26,7 +27,7 @@ fn main(rt: HostRuntime) -> ExitCode {
             Err(_) => ExitCode::FAILURE,
         },
         Err(_) => match eprintln!(rt; "error: a word of the command line is not UTF-8") {
-            Ok(()) => ExitCode::from(2),
+            Ok(()) => ExitCode::from(Status::Refused.code()),
             Err(_) => ExitCode::FAILURE,
         },
     }
@@ -52,9 +53,9 @@ fn answer<R: Print + Eprint>(rt: &R, said: &Error) -> ExitCode {
 }
 
 /// The status, once it is told why the program ends early, if it does.
-fn end(rt: &impl Eprint, ended: Result<u8, Trouble>) -> ExitCode {
+fn end(rt: &impl Eprint, ended: Result<Status, Trouble>) -> ExitCode {
     match ended {
-        Ok(status) | Err(Trouble::Told(status)) => ExitCode::from(status),
+        Ok(status) | Err(Trouble::Told(status)) => ExitCode::from(status.code()),
         // Whoever reads the output has had enough.
         Err(Trouble::Write(error)) if error.kind() == io::ErrorKind::BrokenPipe =>
             ExitCode::SUCCESS,

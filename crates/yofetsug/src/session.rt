@@ -5,7 +5,7 @@ use crate::meter::Meter;
 use crate::run::{Plan, Stage, Test};
 use crate::words::Words;
 use inputs::{Models, Paths, Trouble, read_rows, see_writable, store_rows, write_file};
-use outcome::{Counts, Form, Wanted};
+use outcome::{Counts, Form, Status, Wanted};
 use std::alloc::{AllocError, Global};
 use std::rt::Files;
 use std::thread;
@@ -67,31 +67,31 @@ impl Drop for Progress {
     }
 }
 
-/// Judges all tests that the words name, or compares what was found before, and answers the status.
-pub fn run_all<R: Reach>(rt: &R, words: &Words<'_>, shows: bool) -> Result<u8, Trouble> {
+/// Judges all tests that the words name, or compares what was found before, and answers how the run ends.
+pub fn run_all<R: Reach>(rt: &R, words: &Words<'_>, shows: bool) -> Result<Status, Trouble> {
     match (words.expected, words.found) {
         (Some(expected), Some(found)) => compare_files(rt, expected, found),
         _ => judge_all(rt, words, shows),
     }
 }
 
-/// Compares rows that were found before with those that are expected, and answers the status.
+/// Compares rows that were found before with those that are expected, and answers how the run ends.
 fn compare_files<R: Files + Print + Eprint + AllocGlobal>(
     rt: &R,
     expected: &str,
     found: &str,
-) -> Result<u8, Trouble> {
+) -> Result<Status, Trouble> {
     let expected = read_rows(rt, expected)?;
     let found = read_rows(rt, found)?;
     Ok(if compare(rt, &expected, &found)? {
-        3
+        Status::Differs
     } else {
-        0
+        Status::Done
     })
 }
 
-/// Judges all tests that the words name, and answers the status.
-fn judge_all<R: Reach>(rt: &R, words: &Words<'_>, shows: bool) -> Result<u8, Trouble> {
+/// Judges all tests that the words name, and answers how the run ends.
+fn judge_all<R: Reach>(rt: &R, words: &Words<'_>, shows: bool) -> Result<Status, Trouble> {
     let mut given = Given::new(rt.alloc());
     given.read(rt, words)?;
     let mut progress = Progress::new(rt, given.paths.tests.paths().len(), shows);
@@ -276,13 +276,13 @@ impl Progress {
         Ok(())
     }
 
-    /// Compares and stores what was found, prints the last line, and answers the status.
+    /// Compares and stores what was found, prints the last line, and answers how the run ends.
     fn finish<R: Files + Print + Eprint + AllocGlobal>(
         &self,
         rt: &R,
         words: &Words<'_>,
         expected: &[Row],
-    ) -> Result<u8, Trouble> {
+    ) -> Result<Status, Trouble> {
         if let Some(path) = words.dot {
             write_file(rt, path, &self.dot)?;
         }
