@@ -4,21 +4,7 @@ use crate::rows::again;
 use book::Limits;
 use std::alloc::{AllocError, Global};
 use std::fmt::Display;
-use std::test::Fail;
 use wb_text::MemSink;
-
-/// Fails with what was tried, unless it held.
-pub fn confirm(holds: bool, tried: &str) -> Result<(), Fail> {
-    if holds { Ok(()) } else { Err(Fail::new(tried)) }
-}
-
-/// Fails with the name of the first that doesn't hold.
-pub fn confirm_all(rows: &[(&str, bool)]) -> Result<(), Fail> {
-    for (name, holds) in rows {
-        confirm(*holds, name)?;
-    }
-    Ok(())
-}
 
 /// An empty sink of so much room.
 pub fn sink(alloc: Global, room: usize) -> Result<MemSink, AllocError> {

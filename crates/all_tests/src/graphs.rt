@@ -8,7 +8,7 @@
 ghost use Rattle.std.specs.Prelude.{◌≡◌, ◌+◌, ◌≤◌, ◌↔◌, IsTrue, All, length, sum_by};
 ghost use Rattle.events.specs.Executions.{IsNamed, IsGraph};
 
-use crate::rows::meant;
+use crate::rows::{meant, number_of};
 use events::{Access, Coherence, Event, EventId, Graph, GraphParts, Order, Run, no_places};
 use relations::Places;
 use std::alloc::{AllocError, Global};
@@ -39,26 +39,34 @@ fn place_behind(word: &str, sign: &str) -> Places {
     }
 }
 
+/// The order that a word names, or this one where there is no word.
+fn order_of(word: Option<&str>, order: Order) -> Option<Order> {
+    match word {
+        Some(word) => meant(ORDERS, word),
+        None => Some(order),
+    }
+}
+
 /// The event that words spell, of this order where they name none.
 fn event_of(thread: usize, words: &str, order: Order) -> Option<Event> {
     let mut words = words.split(' ');
-    let access = meant(ACCESSES, words.next()?)?;
-    let loc = words.next()?.parse::<usize>().ok()?;
-    let value = words.next()?.parse::<u32>().ok()?;
-    let order = match words.next() {
-        Some(word) => meant(ORDERS, word)?,
-        None => order,
-    };
+    let access = meant(ACCESSES, words.next().unwrap_or(""));
+    let loc = number_of(words.next());
+    let value = words.next().unwrap_or("").parse::<u32>().ok();
+    let order = order_of(words.next(), order);
     let needs = words.next().unwrap_or("");
-    Some(Event {
-        thread,
-        access,
-        loc,
-        value,
-        order,
-        data_from: place_behind(needs, "data"),
-        ctrl_from: place_behind(needs, "ctrl"),
-    })
+    match (access, loc, value, order) {
+        (Some(access), Some(loc), Some(value), Some(order)) => Some(Event {
+            thread,
+            access,
+            loc,
+            value,
+            order,
+            data_from: place_behind(needs, "data"),
+            ctrl_from: place_behind(needs, "ctrl"),
+        }),
+        _ => None,
+    }
 }
 
 pub fn push_values(values: &mut Vec<u32>, words: &str) -> Result<(), AllocError> {

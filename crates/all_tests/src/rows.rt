@@ -19,11 +19,12 @@ pub(crate) use again;
 /// Whether what is given is answered so.
 pub type Check = fn(Global, &str, &str) -> Result<bool, AllocError>;
 
-/// Fails with the name of the first that doesn't hold.
-pub fn all_so(rt: &impl Abort, rows: &[(&str, bool)]) {
-    for (name, holds) in rows {
-        assert!(rt; *holds, "{name}");
-    }
+/// What is answered to what is given, or `Err` where memory was wanting alone.
+pub type Answer = fn(Global, &str) -> Result<String, AllocError>;
+
+/// Fails with a name, unless it holds.
+pub fn expect(rt: &impl Abort, name: &str, holds: bool) {
+    assert!(rt; holds, "{name}");
 }
 
 /// Whether a row holds. One that begins with `#` is a heading.
@@ -31,9 +32,34 @@ fn holds(alloc: Global, row: &str, check: Check) -> bool
     requires { IsAlwaysCallable check }
 {
     match row.split_once(" ==> ") {
-        Some((given, answer)) => check(alloc, given, answer).unwrap_or(false),
+        Some((given, wanted)) => check(alloc, given, wanted).unwrap_or(false),
         None => row.starts_with('#'),
     }
+}
+
+/// Whether what is given is answered so. Where memory was wanting it is asked again.
+pub fn is_answer(alloc: Global, given: &str, wanted: &str, answer: Answer) -> bool
+    requires { IsAlwaysCallable answer }
+{
+    match again!(_, answer(alloc, given)) {
+        Ok(found) => found.as_str() == wanted,
+        Err(AllocError) => false,
+    }
+}
+
+/// Whether a row is answered so. One that begins with `#` is a heading.
+fn is_answered(alloc: Global, row: &str, answer: Answer) -> bool
+    requires { IsAlwaysCallable answer }
+{
+    match row.split_once(" ==> ") {
+        Some((given, wanted)) => is_answer(alloc, given, wanted, answer),
+        None => row.starts_with('#'),
+    }
+}
+
+/// The text between the rows of a table: a line's end, or an empty line where there is one.
+fn between(rows: &str) -> &'static str {
+    if rows.contains("\n\n") { "\n\n" } else { "\n" }
 }
 
 /// Fails with the name of a table and its first row that doesn't hold. Rows are lines, and where there is an empty line all between two of
@@ -41,9 +67,25 @@ fn holds(alloc: Global, row: &str, check: Check) -> bool
 pub fn all_hold(rt: &impl Abort, alloc: Global, name: &str, rows: &str, check: Check)
     requires { IsAlwaysCallable check }
 {
-    let between = if rows.contains("\n\n") { "\n\n" } else { "\n" };
-    for row in rows.split(between) {
+    for row in rows.split(between(rows)) {
         assert!(rt; holds(alloc, row, check), "{name}: {row}");
+    }
+}
+
+/// Fails with the name of a table and its first row that isn't answered as it says.
+pub fn all_answered(rt: &impl Abort, alloc: Global, name: &str, rows: &str, answer: Answer)
+    requires { IsAlwaysCallable answer }
+{
+    for row in rows.split(between(rows)) {
+        assert!(rt; is_answered(alloc, row, answer), "{name}: {row}");
+    }
+}
+
+/// The number that a word spells, if there is one.
+pub fn number_of(word: Option<&str>) -> Option<usize> {
+    match word {
+        Some(word) => word.parse::<usize>().ok(),
+        None => None,
     }
 }
 
@@ -55,12 +97,6 @@ pub fn meant<T: Copy>(table: &[(&str, T)], word: &str) -> Option<T> {
         }
     }
     None
-}
-
-/// Adds a number with a blank before it.
-pub fn push_number(alloc: Global, text: &mut String, number: usize) -> Result<(), AllocError> {
-    let shown = format!(in alloc; " {number}")?;
-    text.push_str(shown.as_str())
 }
 
 /// Adds a part so many times.

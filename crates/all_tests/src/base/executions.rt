@@ -2,7 +2,7 @@
 
 use crate::graphs::graph;
 use crate::names::name;
-use crate::rows::{again, all_hold, meant, push_number};
+use crate::rows::{again, all_hold, expect, meant};
 use cat_model::Named;
 use events::EventId::{Initial, Own};
 use events::{Basis, Coherence, EventId, Graph, GraphView, Order, SourcedStructure};
@@ -137,53 +137,51 @@ a structure leaves values out ==> crossed orders weak
 a structure follows a map ==> strong sources crossed
 a structure stays ==> strong orders strong";
 
-fn push_pair(alloc: Global, text: &mut String, from: usize, to: usize) -> Result<(), AllocError> {
-    let shown = format!(in alloc; " {from}-{to}")?;
-    text.push_str(shown.as_str())
-}
-
-fn push_set(alloc: Global, text: &mut String, set: &Set) -> Result<(), AllocError> {
+fn push_set(text: &mut String, set: &Set) -> Result<(), AllocError> {
     for event in 0..set.count() {
         if set.contains(event) {
-            push_number(alloc, text, event)?;
+            write!(text, " {event}")?;
         }
     }
     Ok(())
 }
 
-fn push_rel(alloc: Global, text: &mut String, rel: &Rel) -> Result<(), AllocError> {
+fn push_rel(text: &mut String, rel: &Rel) -> Result<(), AllocError> {
     for from in 0..rel.count() {
         for to in 0..rel.count() {
             if rel.contains(from, to) {
-                push_pair(alloc, text, from, to)?;
+                write!(text, " {from}-{to}")?;
             }
         }
     }
     Ok(())
 }
 
-/// What a word stands for in models.
-fn named(alloc: Global, word: &str) -> Result<Option<Named>, AllocError> {
-    let name = name(alloc, word.as_bytes())?;
-    Ok(Named::of(&name))
-}
-
-/// Is this line seen in the view: the name of a set or a relation with just its members, or how many events there are?
-fn is_line_seen(alloc: Global, view: &GraphView, line: &str) -> Result<bool, AllocError> {
-    let (word, _) = line.split_once(' ').unwrap_or((line, ""));
-    let mut text = String::from_str(alloc, word)?;
-    match named(alloc, word)? {
-        Some(Named::Set(set)) => push_set(alloc, &mut text, &view.set(set))?,
-        Some(Named::Rel(rel)) => push_rel(alloc, &mut text, &view.rel(rel))?,
-        None => push_number(alloc, &mut text, view.count())?,
+/// Adds the members of what a word stands for in models, or how many events there are where it stands for nothing.
+fn push_members(
+    text: &mut String,
+    view: &GraphView,
+    named: Option<Named>,
+) -> Result<(), AllocError> {
+    match named {
+        Some(Named::Set(set)) => push_set(text, &view.set(set)),
+        Some(Named::Rel(rel)) => push_rel(text, &view.rel(rel)),
+        None => write!(text, " {}", view.count()),
     }
-    Ok(text.as_str() == line)
 }
 
-/// Is each line seen in the view?
+/// What is seen of a word in the view.
+fn seen_of(alloc: Global, view: &GraphView, word: &str) -> Result<String, AllocError> {
+    let name = name(alloc, word.as_bytes())?;
+    let mut text = String::from_str(alloc, word)?;
+    push_members(&mut text, view, Named::of(&name)).and(Ok(text))
+}
+
+/// Is each line seen in the view: the name of a set or a relation with just its members, or how many events there are?
 fn is_seen(alloc: Global, view: &GraphView, seen: &str) -> Result<bool, AllocError> {
     for line in seen.lines() {
-        if !again!(_, is_line_seen(alloc, view, line))? {
+        let (word, _) = line.split_once(' ').unwrap_or((line, ""));
+        if again!(_, seen_of(alloc, view, word))?.as_str() != line {
             return Ok(false);
         }
     }
@@ -214,14 +212,8 @@ fn is_followed(
     let mut sourced = SourcedStructure::of(alloc, from)?;
     let basis = sourced.follow(alloc, execution)?;
     let mut room = Rel::empty(0);
-    if meant(BASES, told) != Some(basis) {
-        return Ok(false);
-    }
-    is_seen(
-        alloc,
-        &GraphView::over(&sourced, execution, &mut room),
-        seen,
-    )
+    let view = GraphView::over(&sourced, execution, &mut room);
+    Ok(meant(BASES, told) == Some(basis) && is_seen(alloc, &view, seen)?)
 }
 
 /// Has this name an execution whose structure follows another so?
@@ -274,8 +266,6 @@ fn gives_back(alloc: Global, writes: &[EventId]) -> Result<bool, AllocError> {
 #[test]
 fn views(rt: HostRuntime) {
     all_hold(&rt, rt.alloc(), "views", VIEWS, is_as_seen);
-    assert!(rt;
-        gives_back(rt.alloc(), &[Initial(1), Own(1, 0)]) == Ok(true),
-        "an order"
-    );
+    let is_given_back = gives_back(rt.alloc(), &[Initial(1), Own(1, 0)]);
+    expect(&rt, "an order", is_given_back == Ok(true));
 }

@@ -1,7 +1,7 @@
 //! Sources and sinks in memory, and over a reader and a writer that fail: what no contract of std's tells.
 
-use crate::rows::all_so;
-use std::alloc::{AllocError, Global};
+use crate::rows::expect;
+use std::alloc::Global;
 use std::io;
 use std::io::{ErrorKind, Read, Write};
 use wb_text::{
@@ -63,19 +63,21 @@ fn answers<S: Sink>(sink: &mut S, rows: &[Answer]) -> bool {
 const UNTIL_FULL: &[Answer] = &[(b"de", Ok(1)), (b"", Ok(0)), (b"e", Err(Failed))];
 
 /// Does a sink for four bytes take four, and no fifth?
-fn takes_four(alloc: Global) -> Result<bool, AllocError> {
-    let mut sink = MemSink::new(alloc, 4)?;
-    Ok(
-        give_all(&mut sink, b"abc") == Ok(())
-            && answers(&mut sink, UNTIL_FULL)
-            && sink.bytes() == b"abcd".as_slice(),
-    )
+fn takes_four(alloc: Global) -> bool {
+    match MemSink::new(alloc, 4) {
+        Ok(mut sink) => {
+            give_all(&mut sink, b"abc").is_ok()
+                && answers(&mut sink, UNTIL_FULL)
+                && sink.bytes() == b"abcd".as_slice()
+        }
+        Err(_) => false,
+    }
 }
 
 /// Does a sink over a writer take bytes, and flush it?
 fn takes_and_flushes(alloc: Global) -> bool {
     let mut sink = WriteSink::new(Vec::new(alloc));
-    give_all(&mut sink, b"abc") == Ok(()) && sink.flush() == Ok(())
+    give_all(&mut sink, b"abc").is_ok() && sink.flush().is_ok()
 }
 
 /// A reader or a writer of which some calls fail so: those whose bits are set, from the second bit on. It moves so many bytes a call at most,
@@ -183,31 +185,25 @@ fn writes_and_fails_with_its_writer(alloc: Global) -> bool {
 fn flushes_its_writer(alloc: Global) -> bool {
     let mut writer = failing(Vec::new(alloc));
     let mut sink = WriteSink::new(&mut writer);
-    sink.flush() == Ok(())
-        && sink.flush() == Err(Failed)
-        && sink.flush() == Ok(())
-        && writer.calls == 3
+    sink.flush().is_ok() && sink.flush().is_err() && sink.flush().is_ok() && writer.calls == 3
 }
 
 #[test]
 fn sources_and_sinks(rt: HostRuntime) {
     let alloc = rt.alloc();
-    all_so(
+    expect(&rt, "a source in parts", is_read_in_parts(alloc));
+    expect(&rt, "a source that fails", fails_at_its_end(alloc));
+    expect(&rt, "a source up to a limit", is_read_up_to_two(alloc));
+    expect(&rt, "a sink", takes_four(alloc));
+    expect(&rt, "a sink that is flushed", takes_and_flushes(alloc));
+    expect(&rt, "an interrupted source", reads_all(alloc));
+    expect(&rt, "an interrupted sink", takes_all(alloc));
+    expect(
         &rt,
-        &[
-            ("a source in parts", is_read_in_parts(alloc)),
-            ("a source that fails", fails_at_its_end(alloc)),
-            ("a source up to a limit", is_read_up_to_two(alloc)),
-            ("a sink", takes_four(alloc).unwrap_or(false)),
-            ("a sink that is flushed", takes_and_flushes(alloc)),
-            ("an interrupted source", reads_all(alloc)),
-            ("an interrupted sink", takes_all(alloc)),
-            ("a reader that fails", reads_and_fails_with_its_reader()),
-            (
-                "a writer that fails",
-                writes_and_fails_with_its_writer(alloc),
-            ),
-            ("a flush that fails", flushes_its_writer(alloc)),
-        ],
+        "a reader that fails",
+        reads_and_fails_with_its_reader(),
     );
+    let is_as_its_writer = writes_and_fails_with_its_writer(alloc);
+    expect(&rt, "a writer that fails", is_as_its_writer);
+    expect(&rt, "a flush that fails", flushes_its_writer(alloc));
 }

@@ -4,10 +4,10 @@
 //! were and is made again. So `tools/refuse-each-growth all_tests` runs them once for each request.
 
 use crate::base::executions::is_as_seen;
-use crate::base::text::{litmus_is, name_is};
+use crate::base::text::{litmus_told, name_told};
 use crate::graphs::graph;
-use crate::rows::{again, all_hold};
-use events::Order;
+use crate::rows::{again, all_answered, all_hold, expect};
+use events::{Order, Run};
 use std::alloc::{AllocError, Global};
 use wb_text::{MemSink, MemSource, read_up_to};
 
@@ -38,29 +38,37 @@ C SB
 #[test]
 fn texts(rt: HostRuntime) {
     let alloc = rt.alloc();
-    all_hold(&rt, alloc, "names", NAMES, name_is);
-    all_hold(&rt, alloc, "tokens", TOKENS, litmus_is);
-    assert!(rt; is_read(alloc, b"abcd"), "bytes of a source");
-    assert!(rt; begins_empty(alloc), "a sink");
+    all_answered(&rt, alloc, "names", NAMES, name_told);
+    all_answered(&rt, alloc, "tokens", TOKENS, litmus_told);
+    expect(&rt, "bytes of a source", is_read(alloc, b"abcd"));
+    expect(&rt, "a sink", begins_empty(alloc));
 }
 
-/// Has the copy of a run of two events two, and does it become a run of one?
-fn is_made_and_copied(alloc: Global) -> Result<bool, AllocError> {
-    let text = "run | W 0 1 rlx | R 0 1 acq\nrun | W 0 1 rlx";
+/// Whether the copy of a run of two events has two, and becomes the run behind it.
+fn is_copied(first: &Run, second: &Run) -> Result<bool, AllocError> {
+    let mut copy = again!(_, first.copy())?;
+    let has_two = copy.events().len() == 2;
+    again!(_, copy.become_copy(second))?;
+    Ok(has_two && copy.is_same(second))
+}
+
+/// Whether two runs are made, and that holds of them.
+fn are_made_and_copied(alloc: Global, text: &str, _words: &str) -> Result<bool, AllocError> {
     let execution = again!(_, graph(alloc, text, Order::Rlx))?;
     match execution.runs() {
-        [first, second] => {
-            let mut copy = again!(_, first.copy())?;
-            let has_two = copy.events().len() == 2;
-            again!(_, copy.become_copy(second))?;
-            Ok(has_two && copy.is_same(second))
-        }
+        [first, second] => is_copied(first, second),
         _ => Ok(false),
     }
 }
 
+const RUNS: &str = "# two events, and one
+
+run | W 0 1 rlx | R 0 1 acq
+run | W 0 1 rlx ==> copied";
+
 #[test]
 fn runs_and_views(rt: HostRuntime) {
-    assert!(rt; is_made_and_copied(rt.alloc()) == Ok(true), "a run");
-    all_hold(&rt, rt.alloc(), "views", "a view ==> weak made", is_as_seen);
+    let alloc = rt.alloc();
+    all_hold(&rt, alloc, "runs", RUNS, are_made_and_copied);
+    all_hold(&rt, alloc, "views", "a view ==> weak made", is_as_seen);
 }

@@ -1,6 +1,6 @@
 mod plain;
 
-use crate::rows::all_so;
+use crate::rows::expect;
 use plain::{amiss, amiss_of_sets, pair_count, relation, set};
 use relations::{Places, Rel, Set};
 use std::process::Abort;
@@ -43,7 +43,12 @@ fn are_full_and_empty() -> bool {
 
 /// Have the places 3 and 63, in one set, and no other place of it or past it?
 fn are_just_two(places: &Places) -> bool {
-    (0..70).all(|place| places.contains(place) == (place == 3 || place == 63))
+    for place in 0..70 {
+        if places.contains(place) != (place == 3 || place == 63) {
+            return false;
+        }
+    }
+    true
 }
 
 /// Are the places of a run joined, compared and copied as they are?
@@ -58,15 +63,14 @@ fn are_places() -> bool {
 
 #[test]
 fn closures_counts_and_places(rt: HostRuntime) {
-    all_so(
+    expect(&rt, "closures", are_closed());
+    expect(&rt, "a chain of 64 events", is_chain_closed());
+    expect(
         &rt,
-        &[
-            ("closures", are_closed()),
-            ("a chain of 64 events", is_chain_closed()),
-            ("the greatest and the least count", are_full_and_empty()),
-            ("places of a run", are_places()),
-        ],
+        "the greatest and the least count",
+        are_full_and_empty(),
     );
+    expect(&rt, "places of a run", are_places());
 }
 
 /// Fails with the name of what is amiss.

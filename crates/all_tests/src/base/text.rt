@@ -1,7 +1,7 @@
 //! Tests of what no clause says, and of each call once.
 
 use crate::names::name;
-use crate::rows::{again, all_hold, expanded};
+use crate::rows::{all_answered, expanded, expect};
 use std::alloc::{AllocError, Global};
 use wb_text::{Dialect, Name, NameFault, TextFault, Token, are_same, decimal, tokens};
 
@@ -22,45 +22,29 @@ fn bytes_of(alloc: Global, text: &str) -> Result<Vec<u8>, AllocError> {
 fn shown(alloc: Global, tokens: &[Token]) -> Result<String, AllocError> {
     let mut text = String::from_str(alloc, "tokens")?;
     for token in tokens {
-        let shown = format!(in alloc; " {:?} {} {}", token.kind, token.from, token.to)?;
-        text.push_str(shown.as_str())?;
+        write!(text, " {:?} {} {}", token.kind, token.from, token.to)?;
     }
     Ok(text)
 }
 
-/// Are the tokens just those, or any?
-fn are(alloc: Global, tokens: &[Token], wanted: &str) -> Result<bool, AllocError> {
-    if wanted == "no fault" {
-        return Ok(true);
-    }
-    let shown = again!(_, shown(alloc, tokens))?;
-    Ok(shown.as_str() == wanted)
-}
-
-/// Is the fault of this name?
-fn is_fault(alloc: Global, fault: TextFault, wanted: &str) -> Result<bool, AllocError> {
-    let shown = again!(_, format!(in alloc; "{fault:?}"))?;
-    Ok(shown.as_str() == wanted)
-}
-
-/// Is just that told of the text of a dialect: these tokens, any tokens, or a fault?
-fn is_told(alloc: Global, dialect: Dialect, text: &[u8], wanted: &str) -> Result<bool, AllocError> {
-    match again!(TextFault::NoMemory, tokens(alloc, text, dialect)) {
-        Ok(found) => are(alloc, &found, wanted),
-        Err(fault) => is_fault(alloc, fault, wanted),
+/// What is told of the text of a dialect: its tokens, or a fault.
+fn told(alloc: Global, dialect: Dialect, text: &str) -> Result<String, AllocError> {
+    let bytes = bytes_of(alloc, text)?;
+    match tokens(alloc, &bytes, dialect) {
+        Ok(found) => shown(alloc, &found),
+        Err(TextFault::NoMemory) => Err(AllocError),
+        Err(fault) => format!(in alloc; "{fault:?}"),
     }
 }
 
-/// Is just that told of the text of a cat model?
-fn cat_is(alloc: Global, text: &str, wanted: &str) -> Result<bool, AllocError> {
-    let bytes = again!(_, bytes_of(alloc, text))?;
-    is_told(alloc, Dialect::Cat, &bytes, wanted)
+/// What is told of the text of a cat model.
+fn cat_told(alloc: Global, text: &str) -> Result<String, AllocError> {
+    told(alloc, Dialect::Cat, text)
 }
 
-/// Is just that told of the text of a litmus test?
-pub fn litmus_is(alloc: Global, text: &str, wanted: &str) -> Result<bool, AllocError> {
-    let bytes = again!(_, bytes_of(alloc, text))?;
-    is_told(alloc, Dialect::Litmus, &bytes, wanted)
+/// What is told of the text of a litmus test.
+pub fn litmus_told(alloc: Global, text: &str) -> Result<String, AllocError> {
+    told(alloc, Dialect::Litmus, text)
 }
 
 const LITMUS: &str = "# heads
@@ -142,12 +126,12 @@ a /* b */ ==> BadByte
 a ^- 1 ==> BadByte
 # faults
 \"aÿb\" ==> NotAscii
-(*ÿ*) ==> no fault
+(*ÿ*) ==> tokens
 (* (* *)  ==> OpenComment
 (*)ÿ ==> OpenComment
 \"ÿ ==> OpenString
-2147483647 ==> no fault
-0002147483647 ==> no fault
+2147483647 ==> tokens Number 0 10
+0002147483647 ==> tokens Number 0 13
 2147483648 ==> NumberTooBig
 99999999999999999999999999 # ==> NumberTooBig
 # ÿ ==> BadByte
@@ -155,18 +139,20 @@ a ^- 1 ==> BadByte
 @ @65536@ ==> tokens
 @ @65536@# ==> TooLong";
 
-/// Has the name these bytes, and is its copy equal to it?
-fn is_name_of(name: &Name, bytes: &[u8]) -> Result<bool, AllocError> {
-    let copy = again!(_, name.copy())?;
-    Ok(name.bytes() == bytes && copy.bytes() == bytes && *name == copy)
+/// What is told of a name: whether it has these bytes, and its copy is equal to it.
+fn name_shown(alloc: Global, name: &Name, bytes: &[u8]) -> Result<String, AllocError> {
+    let copy = name.copy()?;
+    let is_copied = name.bytes() == bytes && copy.bytes() == bytes && *name == copy;
+    String::from_str(alloc, if is_copied { "a name" } else { "another name" })
 }
 
-/// Are these bytes a name, or none for this reason?
-pub fn name_is(alloc: Global, text: &str, wanted: &str) -> Result<bool, AllocError> {
-    let bytes = again!(_, bytes_of(alloc, text))?;
-    match again!(NameFault::NoMemory, Name::new(alloc, &bytes)) {
-        Ok(name) => Ok(wanted == "a name" && is_name_of(&name, &bytes)?),
-        Err(fault) => Ok(wanted == "BadName" && fault == NameFault::BadName),
+/// What is told of the bytes of a text: that they are a name, which has them and whose copy is equal to it, or a fault.
+pub fn name_told(alloc: Global, text: &str) -> Result<String, AllocError> {
+    let bytes = bytes_of(alloc, text)?;
+    match Name::new(alloc, &bytes) {
+        Ok(name) => name_shown(alloc, &name, &bytes),
+        Err(NameFault::NoMemory) => Err(AllocError),
+        Err(fault) => format!(in alloc; "{fault:?}"),
     }
 }
 
@@ -179,9 +165,12 @@ a\x7f ==> BadName
 ÿ ==> BadName
 x ==> a name";
 
-/// Do the digits tell this number, or none?
-fn number_is(_alloc: Global, digits: &str, wanted: &str) -> Result<bool, AllocError> {
-    Ok(decimal(digits.as_bytes()) == wanted.parse::<u32>().ok())
+/// What number digits tell, or that they tell none.
+fn number_told(alloc: Global, digits: &str) -> Result<String, AllocError> {
+    match decimal(digits.as_bytes()) {
+        Some(number) => format!(in alloc; "{number}"),
+        None => String::from_str(alloc, "none"),
+    }
 }
 
 const NUMBERS: &str = "0 ==> 0
@@ -191,18 +180,27 @@ const NUMBERS: &str = "0 ==> 0
  ==> none
 1a ==> none";
 
-/// Are these `x` and `y!~`, in that order?
-fn is_x_before_y(alloc: Global, x: &Name, y: &Name) -> Result<bool, AllocError> {
-    let text = format!(in alloc; "{x} {y}")?;
-    Ok(x != y && x < y && text.as_str() == "x y!~")
+/// Two names, with the sign of their order between them.
+fn order_shown(alloc: Global, first: &Name, second: &Name) -> Result<String, AllocError> {
+    let sign = if *first == *second {
+        '='
+    } else if *first < *second {
+        '<'
+    } else {
+        '>'
+    };
+    format!(in alloc; "{first} {sign} {second}")
 }
 
-/// Are `x` and `y!~` names in that order, and printed so?
-fn are_in_order(alloc: Global) -> Result<bool, AllocError> {
-    let x = name(alloc, b"x")?;
-    let y = name(alloc, b"y!~")?;
-    is_x_before_y(alloc, &x, &y)
+/// What order two names are in.
+fn order_told(alloc: Global, words: &str) -> Result<String, AllocError> {
+    let (first, second) = words.split_once(' ').unwrap_or((words, ""));
+    let first = name(alloc, first.as_bytes())?;
+    let second = name(alloc, second.as_bytes())?;
+    order_shown(alloc, &first, &second)
 }
+
+const ORDERS: &str = "x y!~ ==> x < y!~";
 
 /// Are only lists of one length, with the same values, the same?
 fn lists_compare() -> bool {
@@ -217,10 +215,10 @@ fn lists_compare() -> bool {
 #[test]
 fn tokens_names_and_numbers(rt: HostRuntime) {
     let alloc = rt.alloc();
-    all_hold(&rt, alloc, "tokens of litmus tests", LITMUS, litmus_is);
-    all_hold(&rt, alloc, "tokens of models", CAT, cat_is);
-    all_hold(&rt, alloc, "names", NAMES, name_is);
-    all_hold(&rt, alloc, "numbers", NUMBERS, number_is);
-    assert!(rt; are_in_order(alloc) == Ok(true), "x before y!~");
-    assert!(rt; lists_compare(), "lists");
+    all_answered(&rt, alloc, "tokens of litmus tests", LITMUS, litmus_told);
+    all_answered(&rt, alloc, "tokens of models", CAT, cat_told);
+    all_answered(&rt, alloc, "names", NAMES, name_told);
+    all_answered(&rt, alloc, "numbers", NUMBERS, number_told);
+    all_answered(&rt, alloc, "orders of names", ORDERS, order_told);
+    expect(&rt, "lists", lists_compare());
 }

@@ -1,9 +1,9 @@
 //! What the executions of blocks have in common, and passing over blocks.
 
 use crate::candidate::texts::holds_of;
-use crate::rows::again;
+use crate::rows::{again, expect};
 use candidates::{Common, Space, Walk};
-use events::EventId;
+use events::{EventId, Graph};
 use std::alloc::{AllocError, Global};
 
 /// Three later writes of x and one of y, and a read of each: 48 candidates for each choice of runs.
@@ -29,23 +29,26 @@ const AT_54: &str = "96 rf co i0 0.0 co i0 0.1 co i0 1.0 co i1 1.1
 60 rf i1 0.0 co i0 0.0 co i0 0.1 co i0 1.0 co i1 1.1
 57 rf i1 0.0 co i0 0.1 1.0 co i1 1.1 co i0 0.0";
 
-fn push_event(alloc: Global, text: &mut String, event: EventId) -> Result<(), AllocError> {
-    let shown = match event {
-        EventId::Initial(location) => format!(in alloc; " i{location}")?,
-        EventId::Own(thread, place) => format!(in alloc; " {thread}.{place}")?,
-    };
-    text.push_str(shown.as_str())
+fn push_event(text: &mut String, event: EventId) -> Result<(), AllocError> {
+    match event {
+        EventId::Initial(location) => write!(text, " i{location}"),
+        EventId::Own(thread, place) => write!(text, " {thread}.{place}"),
+    }
 }
 
-fn push_events(
-    alloc: Global,
-    text: &mut String,
-    head: &str,
-    events: &[EventId],
-) -> Result<(), AllocError> {
+fn push_events(text: &mut String, head: &str, events: &[EventId]) -> Result<(), AllocError> {
     text.push_str(head)?;
     for event in events {
-        push_event(alloc, text, *event)?;
+        push_event(text, *event)?;
+    }
+    Ok(())
+}
+
+/// Adds what the executions of a block have in common.
+fn push_common(text: &mut String, graph: &Graph) -> Result<(), AllocError> {
+    push_events(text, " rf", graph.rf())?;
+    for order in graph.co() {
+        push_events(text, " co", order.writes())?;
     }
     Ok(())
 }
@@ -53,11 +56,7 @@ fn push_events(
 /// What the executions of a block have in common, and its end.
 fn shown(alloc: Global, common: &Common) -> Result<String, AllocError> {
     let mut text = format!(in alloc; "{}", common.end())?;
-    push_events(alloc, &mut text, " rf", common.graph().rf())?;
-    for order in common.graph().co() {
-        push_events(alloc, &mut text, " co", order.writes())?;
-    }
-    Ok(text)
+    push_common(&mut text, common.graph()).and(Ok(text))
 }
 
 /// Whether the blocks around the execution found last are these.
@@ -117,6 +116,9 @@ fn stays_within(alloc: Global, space: &Space) -> Result<bool, AllocError> {
 
 #[test]
 fn blocks(rt: HostRuntime) {
-    assert!(rt; holds_of(rt.alloc(), WRITES_AND_READS, has_all_blocks));
-    assert!(rt; holds_of(rt.alloc(), WRITES_AND_READS, stays_within));
+    let alloc = rt.alloc();
+    let have_blocks = holds_of(alloc, WRITES_AND_READS, has_all_blocks);
+    expect(&rt, "what blocks have in common", have_blocks);
+    let stays = holds_of(alloc, WRITES_AND_READS, stays_within);
+    expect(&rt, "a walk within its numbers", stays);
 }

@@ -1,8 +1,8 @@
 //! How many candidates texts have, and how many of them are executions.
 
 use crate::candidate::growth::G;
-use crate::candidate::texts::tells;
-use crate::rows::all_hold;
+use crate::candidate::texts::told;
+use crate::rows::all_answered;
 
 /// Store buffering.
 const SB: &str = "C SB\n{}\n\
@@ -159,5 +159,5 @@ walked: eight ==> 1";
 
 #[test]
 fn spaces(rt: HostRuntime) {
-    all_hold(&rt, rt.alloc(), "spaces", SPACES, tells);
+    all_answered(&rt, rt.alloc(), "spaces", SPACES, told);
 }

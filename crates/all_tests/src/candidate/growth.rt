@@ -2,8 +2,8 @@
 //! that is refused answers NoMemory, and made again it gives its own answer. So `tools/refuse-each-growth` runs the tests
 //! once for each request.
 
-use crate::candidate::texts::{any, has_runs, tells};
-use crate::rows::all_hold;
+use crate::candidate::texts::{any, has_runs, told};
+use crate::rows::{all_answered, expect};
 use events::{Access, Order, Run};
 
 /// A test with each kind of statement.
@@ -43,11 +43,13 @@ fn read_0_to_4(runs: &[Run]) -> bool {
 /// The first thread reads one of five values, and then one of five again, into `b` or, where it read 0, into `a`.
 #[test]
 fn runs_of_threads(rt: HostRuntime) {
-    assert!(rt;
-        has_runs(rt.alloc(), "G", 0, Some(Ok(25)), read_0_to_4),
-        "P0"
+    let alloc = rt.alloc();
+    expect(
+        &rt,
+        "P0",
+        has_runs(alloc, "G", 0, Some(Ok(25)), read_0_to_4),
     );
-    assert!(rt; has_runs(rt.alloc(), "G", 1, Some(Ok(1)), any), "P1");
+    expect(&rt, "P1", has_runs(alloc, "G", 1, Some(Ok(1)), any));
 }
 
 /// 13 later writes of one location are in more than 2^32 orders.
@@ -67,5 +69,5 @@ size: C T
 
 #[test]
 fn spaces(rt: HostRuntime) {
-    all_hold(&rt, rt.alloc(), "spaces", SPACES, tells);
+    all_answered(&rt, rt.alloc(), "spaces", SPACES, told);
 }

@@ -1,7 +1,7 @@
 //! The runs of threads.
 
 use crate::candidate::texts::{Count, any, has_runs};
-use crate::rows::all_hold;
+use crate::rows::{all_hold, expect};
 use c11_threads::RunFault;
 use events::{Access, Event, Order, Run};
 use std::alloc::{AllocError, Global};
@@ -143,13 +143,16 @@ const ADDITION: &str =
 fn runs_of_threads(rt: HostRuntime) {
     let alloc = rt.alloc();
     all_hold(&rt, alloc, "counts", COUNTS, is_counted);
-    assert!(rt; has_runs(alloc, CTRL, 0, Some(Ok(2)), depend_so), "ctrl");
-    assert!(rt;
+    let two = Some(Ok(2));
+    expect(&rt, "ctrl", has_runs(alloc, CTRL, 0, two, depend_so));
+    expect(
+        &rt,
+        "exchange",
         has_runs(alloc, EXCHANGE, 0, Some(Ok(3)), exchange_so),
-        "exchange"
     );
-    assert!(rt;
-        has_runs(alloc, ADDITION, 0, Some(Ok(2)), addition_so),
-        "addition"
+    expect(
+        &rt,
+        "addition",
+        has_runs(alloc, ADDITION, 0, two, addition_so),
     );
 }

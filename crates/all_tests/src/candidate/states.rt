@@ -4,7 +4,7 @@ use crate::graphs::push_values;
 use crate::litmus::read;
 use crate::names::name;
 use crate::reader::copies::bindings_are_copied;
-use crate::rows::{again, all_hold};
+use crate::rows::{again, all_hold, expect};
 use conditions::{Cond, Kind, Place, Prop, State, holds, observed, ok_of};
 use litmus_c::Test;
 use std::alloc::{AllocError, Global};
@@ -121,18 +121,14 @@ fn answers(kind: Kind) -> [bool; 3] {
 fn conditions_and_places(rt: HostRuntime) {
     let alloc = rt.alloc();
     all_hold(&rt, alloc, "judges states", STATES, is_so_at);
-    assert!(rt;
-        is_observed_and_copied(alloc) == Ok(true),
-        "observed places and copies of bindings"
-    );
-    assert!(rt;
-        is_equal_to_itself(alloc) == Ok(true),
-        "equal and other conditions"
-    );
-    assert!(rt; answers(Kind::Exists) == [false, true, true], "exists");
-    assert!(rt;
-        answers(Kind::NotExists) == [true, false, false],
-        "not exists"
-    );
-    assert!(rt; answers(Kind::Forall) == [true, false, true], "forall");
+    let is_observed = is_observed_and_copied(alloc).unwrap_or(false);
+    expect(&rt, "observed places and copies of bindings", is_observed);
+    let is_equal = is_equal_to_itself(alloc).unwrap_or(false);
+    expect(&rt, "equal and other conditions", is_equal);
+    let exists = answers(Kind::Exists);
+    expect(&rt, "exists", exists == [false, true, true]);
+    let not_exists = answers(Kind::NotExists);
+    expect(&rt, "not exists", not_exists == [true, false, false]);
+    let forall = answers(Kind::Forall);
+    expect(&rt, "forall", forall == [true, false, true]);
 }

@@ -2,11 +2,11 @@
 
 use crate::candidate::executions::TEXTS;
 use crate::litmus::read;
-use crate::rows::{again, meant};
+use crate::rows::{again, expanded, meant};
 use c11_threads::{RunFault, runs};
 use candidates::{Space, SpaceFault, Walk};
 use events::{Coherence, Graph, Run};
-use litmus_c::Test;
+use litmus_c::{Test, TestFault, read_test};
 use std::alloc::{AllocError, Global};
 
 /// The test that a text spells, or that has this name.
@@ -50,7 +50,7 @@ pub fn any(_runs: &[Run]) -> bool {
 
 /// What is reported of a space: how many candidates it has, how many of them are executions, how many executions a walk finds, or how many
 /// it finds at a number and the fifteen behind it.
-fn answer(alloc: Global, space: &Space, question: &str) -> Result<u64, AllocError> {
+fn report(alloc: Global, space: &Space, question: &str) -> Result<u64, AllocError> {
     match question {
         "size" => Ok(space.size()),
         "executions" => count_executions(alloc, space),
@@ -62,25 +62,30 @@ fn answer(alloc: Global, space: &Space, question: &str) -> Result<u64, AllocErro
     }
 }
 
-/// Whether a fault is of this name.
-fn is_fault(alloc: Global, fault: SpaceFault, wanted: &str) -> Result<bool, AllocError> {
-    let shown = again!(_, format!(in alloc; "{fault:?}"))?;
-    Ok(shown.as_str() == wanted)
+/// What is reported of a space, as a text.
+fn report_shown(alloc: Global, space: &Space, question: &str) -> Result<String, AllocError> {
+    let number = report(alloc, space, question)?;
+    format!(in alloc; "{number}")
 }
 
-/// Whether this is reported of the space of a test.
-fn tells_of(alloc: Global, test: &Test, question: &str, wanted: &str) -> Result<bool, AllocError> {
-    match again!(SpaceFault::NoMemory, Space::new(alloc, test)) {
-        Ok(space) => Ok(wanted.parse::<u64>().ok() == Some(answer(alloc, &space, question)?)),
-        Err(fault) => is_fault(alloc, fault, wanted),
+/// What is reported of the space of a test.
+fn told_of(alloc: Global, test: &Test, question: &str) -> Result<String, AllocError> {
+    match Space::new(alloc, test) {
+        Ok(space) => report_shown(alloc, &space, question),
+        Err(SpaceFault::NoMemory) => Err(AllocError),
+        Err(fault) => format!(in alloc; "{fault:?}"),
     }
 }
 
-/// Whether this is reported of the space of the test that a text spells, or that has this name.
-pub fn tells(alloc: Global, given: &str, wanted: &str) -> Result<bool, AllocError> {
+/// What is reported of the space of the test that a text spells, or that has this name.
+pub fn told(alloc: Global, given: &str) -> Result<String, AllocError> {
     let (question, text) = given.split_once(": ").unwrap_or((given, ""));
-    let test = named(alloc, text)?;
-    tells_of(alloc, &test, question, wanted)
+    let whole = expanded(alloc, meant(TEXTS, text).unwrap_or(text))?;
+    match read_test(alloc, whole.as_bytes()) {
+        Ok(test) => told_of(alloc, &test, question),
+        Err(TestFault::NoMemory) => Err(AllocError),
+        Err(_) => String::from_str(alloc, "no test"),
+    }
 }
 
 /// What may hold of a space.

@@ -1,8 +1,8 @@
 //! Functions of models: how they are read, what is refused, and what they mean.
 
 use crate::cat::loading::{follow, is_so};
-use crate::cat::syntax::reads_as;
-use crate::rows::all_hold;
+use crate::cat::syntax::read_as;
+use crate::rows::{all_answered, all_hold};
 
 /// A function with its parameter and body is three nodes, a call one, and its parentheses are a level.
 const READ: &str = "# calls
@@ -310,7 +310,7 @@ const INCLUDED: &str = "base.cat: let f(x) = x | fr
 #[test]
 fn functions(rt: HostRuntime) {
     let alloc = rt.alloc();
-    all_hold(&rt, alloc, "reading", READ, reads_as);
+    all_answered(&rt, alloc, "reading", READ, read_as);
     all_hold(&rt, alloc, "resolving", RESOLVED, is_so);
     all_hold(&rt, alloc, "meanings", MEANINGS, is_so);
 }

@@ -4,8 +4,8 @@
 //! `tools/refuse-each-growth all_tests cat::growth::reading ..` runs these tests once for each request for memory.
 
 use crate::cat::loading::follow;
-use crate::cat::syntax::{is_copied, reads_as};
-use crate::rows::all_hold;
+use crate::cat::syntax::{is_copied, read_as};
+use crate::rows::{all_answered, all_hold};
 
 /// Texts with the numbers of their items and their titles. The first has each kind of item and expression.
 const COPIES: &str =
@@ -17,7 +17,7 @@ const LEFT_OUT: &str = "let rec f(x) = x ==> 53 Unsupported f";
 #[test]
 fn reading(rt: HostRuntime) {
     all_hold(&rt, rt.alloc(), "items and copies", COPIES, is_copied);
-    all_hold(&rt, rt.alloc(), "a word left out", LEFT_OUT, reads_as);
+    all_answered(&rt, rt.alloc(), "a word left out", LEFT_OUT, read_as);
 }
 
 /// The files of a root that includes two others, one of them built in. Store buffering with plain accesses is forbidden.

@@ -52,7 +52,8 @@ fn put_next(files: &mut Files, name: Name, file: CatFile) -> bool {
     match put_once(files, name, file) {
         Ok(()) => true,
         Err((name, file)) => {
-            state(files, &name, &file) == before && put_once(files, name, file).is_ok()
+            let same = state(files, &name, &file) == before;
+            put_once(files, name, file).is_ok() && same
         }
     }
 }
@@ -64,22 +65,11 @@ pub fn put(alloc: Global, files: &mut Files, word: &str, text: &str) -> Result<b
     Ok(put_next(files, name, file))
 }
 
-/// Adds a name with a version.
-fn push_version(
-    alloc: Global,
-    text: &mut String,
-    name: &Name,
-    version: u32,
-) -> Result<(), AllocError> {
-    let shown = format!(in alloc; " {name} {version}")?;
-    text.push_str(shown.as_str())
-}
-
 /// A model as text: how many items it has, and the files with their versions.
 fn shown(alloc: Global, model: &Model) -> Result<String, AllocError> {
     let mut text = format!(in alloc; "{}", model.items().len())?;
     for file in model.files() {
-        push_version(alloc, &mut text, &file.name, file.version)?;
+        write!(text, " {} {}", file.name, file.version)?;
     }
     Ok(text)
 }
@@ -90,7 +80,7 @@ fn shown_files(alloc: Global, files: &Files) -> Result<String, AllocError> {
     for place in 0..64 {
         match files.name_at(place) {
             Some(name) if files.is_loaded(name) => {
-                push_version(alloc, &mut text, name, files.version(name))?;
+                write!(text, " {name} {}", files.version(name))?;
             }
             Some(_) => text.push_str(" none")?,
             None => return Ok(text),

@@ -2,7 +2,7 @@
 
 use crate::cat::loading::{read, spelled};
 use crate::cat::texts::RC11;
-use crate::rows::{again, all_hold, expanded};
+use crate::rows::{again, all_answered, all_hold, expanded, expect};
 use cat_syntax::{
     CatFault, CatFile, Definition, Expression, Infix, Item, Leaf, Node, Sign, read_cat,
 };
@@ -102,8 +102,7 @@ fn show_definition(
     definition: &Definition,
 ) -> Result<(), AllocError> {
     for parameter in &definition.parameters {
-        let shown = format!(in alloc; "{parameter}.")?;
-        text.push_str(shown.as_str())?;
+        write!(text, "{parameter}.")?;
     }
     show(alloc, text, &definition.value)
 }
@@ -122,18 +121,13 @@ fn first_shown(alloc: Global, file: &CatFile) -> Result<String, AllocError> {
 }
 
 /// What the text of a row is read as: what a first item `let r = ..` binds, else `a tree`, or the fault.
-fn shown(alloc: Global, text: &str) -> Result<String, AllocError> {
-    let text = again!(_, expanded(alloc, text))?;
-    match again!(CatFault::NoMemory, read_cat(alloc, text.as_bytes())) {
-        Ok(file) => again!(_, first_shown(alloc, &file)),
-        Err(fault) => again!(_, format!(in alloc; "{fault}")),
+pub fn read_as(alloc: Global, text: &str) -> Result<String, AllocError> {
+    let text = expanded(alloc, text)?;
+    match read_cat(alloc, text.as_bytes()) {
+        Ok(file) => first_shown(alloc, &file),
+        Err(CatFault::NoMemory) => Err(AllocError),
+        Err(fault) => format!(in alloc; "{fault}"),
     }
-}
-
-/// Whether that is what the text of a row is read as.
-pub fn reads_as(alloc: Global, text: &str, wanted: &str) -> Result<bool, AllocError> {
-    let found = shown(alloc, text)?;
-    Ok(found.as_str() == wanted)
 }
 
 const READ: &str = "# operators and levels
@@ -238,13 +232,11 @@ let r = f(g(a), b) <> let r = f(g(a, b)) ==> another";
 #[test]
 fn reading_and_equality(rt: HostRuntime) {
     let alloc = rt.alloc();
-    all_hold(&rt, alloc, "reading", READ, reads_as);
+    all_answered(&rt, alloc, "reading", READ, read_as);
     all_hold(&rt, alloc, "equal and unequal models", EQUALITY, compares);
     let prefixes = all_prefixes_are_answered(alloc, RC11.as_bytes());
-    assert!(rt;
-        prefixes == Ok(true) && read(alloc, RC11).is_ok(),
-        "hostile input row 1"
-    );
+    expect(&rt, "hostile input row 1", prefixes.unwrap_or(false));
+    expect(&rt, "a text that is a model", read(alloc, RC11).is_ok());
 }
 
 /// Whether the copies of these items are equal to them.

@@ -29,6 +29,22 @@ fn call_of<L: Ledger>(alloc: Global, pass: &Pass<L>, call: &str) -> Result<Comma
     }
 }
 
+/// Makes the call of a command, which comes back where it is refused.
+fn refused<L: Ledger, R: Wait>(
+    rt: &R,
+    desk: &Desk<L>,
+    pass: &mut Pass<L>,
+    command: Command,
+) -> Option<Command>
+    requires { pass.old.parts ≡ 1 }
+    ensures { pass.new.parts ≡ 1 }
+{
+    match desk.call(rt, pass, command) {
+        Ok(()) => None,
+        Err((command, _)) => Some(command),
+    }
+}
+
 /// Makes the call of a command. One that is refused adds no receipt and hands the command back, which is then made once more.
 pub fn recorded<L: Ledger, R: Wait>(
     rt: &R,
@@ -40,10 +56,11 @@ pub fn recorded<L: Ledger, R: Wait>(
     ensures { pass.new.parts ≡ 1 }
 {
     let before = pass.receipts().len();
-    match desk.call(rt, pass, command) {
-        Ok(()) => true,
-        Err((command, _)) => {
-            pass.receipts().len() == before && desk.call(rt, pass, command).is_ok()
+    match refused(rt, desk, pass, command) {
+        None => true,
+        Some(command) => {
+            let same = pass.receipts().len() == before;
+            refused(rt, desk, pass, command).is_none() && same
         }
     }
 }

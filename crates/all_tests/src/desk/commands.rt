@@ -3,6 +3,8 @@
 //! A script of calls is one text. Each call stands behind `> `: the seat and what is asked, as in a line of a script, and in the lines behind
 //! it the text of a cat file or a test.
 
+ghost use Rattle.std.specs.Prelude.{◌<◌, IfOk};
+
 use crate::cases::sink;
 use crate::rows::again;
 use book::{Command, Reply, Text};
@@ -62,7 +64,9 @@ fn requested(request: Request) -> Result<Command, AllocError> {
 }
 
 /// The seat and the head of a call, and the text behind it.
-pub fn head_of(alloc: Global, call: &str) -> Result<(u8, Head, &str), AllocError> {
+pub fn head_of(alloc: Global, call: &str) -> Result<(u8, Head, &str), AllocError>
+    ensures { IfOk result (λ r. r.0 < 8) }
+{
     let (line, text) = call.split_once('\n').unwrap_or((call, ""));
     let (seat, head) = again!(_, read_head(alloc, line.as_bytes())).or(Err(AllocError))?;
     Ok((seat, head, text))

@@ -1,7 +1,7 @@
 //! What is told of a text, and of the files of a model.
 
 use crate::names::name;
-use crate::rows::Check;
+use crate::rows::{Answer, is_answer};
 use cat_model::{Files, ModelFault, resolve};
 use cat_syntax::{CatFault, CatFile, read_cat};
 use fault_messages::{Source, cat_trouble, model_fault, test_fault};
@@ -9,41 +9,35 @@ use litmus_c::read_test;
 use std::alloc::{AllocError, Global};
 use std::process::Abort;
 
-/// What is told of a text that is no test, or an empty text of one that is.
-fn told_of_test(alloc: Global, text: &[u8]) -> Result<String, AllocError> {
+/// What is told of a text of any bytes that is no test, or an empty text of one that is.
+pub fn told_of_test(alloc: Global, text: &[u8]) -> Result<String, AllocError> {
     match read_test(alloc, text).err() {
         Some(fault) => test_fault(alloc, "t.litmus", text, &fault),
         None => Ok(String::new(alloc)),
     }
 }
 
-/// Whether this message is told of a text of any bytes.
-pub fn is_told(alloc: Global, text: &[u8], message: &str) -> Result<bool, AllocError> {
-    let told = told_of_test(alloc, text)?;
-    Ok(told.as_str() == message)
+/// What is told of a text.
+pub fn told_of_text(alloc: Global, text: &str) -> Result<String, AllocError> {
+    told_of_test(alloc, text.as_bytes())
 }
 
-/// Whether this message is told of a text.
-pub fn is_told_of_text(alloc: Global, text: &str, message: &str) -> Result<bool, AllocError> {
-    is_told(alloc, text.as_bytes(), message)
-}
-
-fn holds(alloc: Global, row: &str, check: Check) -> bool
-    requires { IsAlwaysCallable check }
+fn holds(alloc: Global, row: &str, answer: Answer) -> bool
+    requires { IsAlwaysCallable answer }
 {
     match row.split_once("----\n") {
-        Some((text, message)) => check(alloc, text, message).unwrap_or(false),
+        Some((given, message)) => is_answer(alloc, given, message, answer),
         None => false,
     }
 }
 
 /// Fails with the first row that doesn't hold: rows of a text, or of the files of a model, `----` and its message, with `====` between them.
 /// Each of the two signs has a line end behind it, and stands where what is before it ends.
-pub fn all_are_told(rt: &impl Abort, alloc: Global, name: &str, rows: &str, check: Check)
-    requires { IsAlwaysCallable check }
+pub fn all_are_told(rt: &impl Abort, alloc: Global, name: &str, rows: &str, answer: Answer)
+    requires { IsAlwaysCallable answer }
 {
     for row in rows.split("====\n") {
-        assert!(rt; holds(alloc, row, check), "{name}: {row}");
+        assert!(rt; holds(alloc, row, answer), "{name}: {row}");
     }
 }
 
@@ -110,20 +104,17 @@ fn told_of_root(
 }
 
 /// What is told of the first text that is no cat file, or nothing where each is one, and then of the model.
-fn told_of_model(alloc: Global, texts: &str) -> Result<String, AllocError> {
-    let sources = sources(alloc, texts)?;
+fn told_of_sources(alloc: Global, sources: &[Source]) -> Result<String, AllocError> {
     let mut files = Files::new(alloc)?;
-    if let Some(told) = put_all(alloc, &mut files, &sources)? {
-        return Ok(told);
-    }
-    match sources.first() {
-        Some(root) => told_of_root(alloc, &files, root, &sources),
-        None => Ok(String::new(alloc)),
+    match (put_all(alloc, &mut files, sources)?, sources.first()) {
+        (Some(told), _) => Ok(told),
+        (None, Some(root)) => told_of_root(alloc, &files, root, sources),
+        (None, None) => Ok(String::new(alloc)),
     }
 }
 
-/// Whether this message is told of the files of a model.
-pub fn is_told_of_model(alloc: Global, files: &str, message: &str) -> Result<bool, AllocError> {
-    let told = told_of_model(alloc, files)?;
-    Ok(told.as_str() == message)
+/// The same of the files of a model.
+pub fn told_of_model(alloc: Global, texts: &str) -> Result<String, AllocError> {
+    let sources = sources(alloc, texts)?;
+    told_of_sources(alloc, &sources)
 }

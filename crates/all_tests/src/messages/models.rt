@@ -1,6 +1,6 @@
 //! Wrong models with their messages, which were written by hand.
 
-use crate::messages::asked::{all_are_told, is_told_of_model};
+use crate::messages::asked::{all_are_told, told_of_model};
 
 /// Texts that are no cat files.
 const CAT: &str = "my.cat
@@ -362,8 +362,8 @@ my.cat:19:1: CallsTooLarge (69): with calls replaced by the functions' bodies th
 #[test]
 fn models(rt: HostRuntime) {
     let alloc = rt.alloc();
-    all_are_told(&rt, alloc, "texts", CAT, is_told_of_model);
-    all_are_told(&rt, alloc, "names", NAMES, is_told_of_model);
-    all_are_told(&rt, alloc, "denied names", DENIED, is_told_of_model);
-    all_are_told(&rt, alloc, "files", FILES, is_told_of_model);
+    all_are_told(&rt, alloc, "texts", CAT, told_of_model);
+    all_are_told(&rt, alloc, "names", NAMES, told_of_model);
+    all_are_told(&rt, alloc, "denied names", DENIED, told_of_model);
+    all_are_told(&rt, alloc, "files", FILES, told_of_model);
 }

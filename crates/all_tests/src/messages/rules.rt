@@ -1,6 +1,6 @@
 //! Wrong texts with their messages, which were written by hand: orders, names and limits.
 
-use crate::messages::asked::{all_are_told, is_told_of_text};
+use crate::messages::asked::{all_are_told, told_of_text};
 
 /// Orders that their calls don't take.
 const ORDERS: &str = "C t
@@ -324,8 +324,8 @@ t.litmus:5:23: ValueTooBig (23): with this an add can make a value above 2147483
 #[test]
 fn rules(rt: HostRuntime) {
     let alloc = rt.alloc();
-    all_are_told(&rt, alloc, "orders", ORDERS, is_told_of_text);
-    all_are_told(&rt, alloc, "names", NAMES, is_told_of_text);
-    all_are_told(&rt, alloc, "words left out", LEFT_OUT, is_told_of_text);
-    all_are_told(&rt, alloc, "limits", LIMITS, is_told_of_text);
+    all_are_told(&rt, alloc, "orders", ORDERS, told_of_text);
+    all_are_told(&rt, alloc, "names", NAMES, told_of_text);
+    all_are_told(&rt, alloc, "words left out", LEFT_OUT, told_of_text);
+    all_are_told(&rt, alloc, "limits", LIMITS, told_of_text);
 }

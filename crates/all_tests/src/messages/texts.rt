@@ -1,6 +1,8 @@
 //! Wrong texts with their messages, which were written by hand: bytes and tokens.
 
-use crate::messages::asked::{all_are_told, is_told, is_told_of_text};
+use crate::messages::asked::{all_are_told, told_of_test, told_of_text};
+use crate::rows::expect;
+use std::alloc::{AllocError, Global};
 
 /// Bytes that begin no token, and what is never closed.
 const BYTES: &str = "C t
@@ -347,17 +349,21 @@ const ABOVE_MESSAGE: &str =
               ^
 ";
 
+/// Whether this message is told of a text of any bytes.
+fn is_told(alloc: Global, text: &[u8], message: &str) -> bool {
+    match told_of_test(alloc, text) {
+        Ok(told) => told.as_str() == message,
+        Err(AllocError) => false,
+    }
+}
+
 #[test]
 fn bytes_and_tokens(rt: HostRuntime) {
     let alloc = rt.alloc();
-    assert!(rt;
-        is_told(alloc, MARKED_TEXT, MARKED_MESSAGE) == Ok(true),
-        "{MARKED_MESSAGE}"
-    );
-    assert!(rt;
-        is_told(alloc, ABOVE_TEXT, ABOVE_MESSAGE) == Ok(true),
-        "{ABOVE_MESSAGE}"
-    );
-    all_are_told(&rt, alloc, "bytes", BYTES, is_told_of_text);
-    all_are_told(&rt, alloc, "tokens", SYNTAX, is_told_of_text);
+    let is_marked_told = is_told(alloc, MARKED_TEXT, MARKED_MESSAGE);
+    expect(&rt, MARKED_MESSAGE, is_marked_told);
+    let is_above_told = is_told(alloc, ABOVE_TEXT, ABOVE_MESSAGE);
+    expect(&rt, ABOVE_MESSAGE, is_above_told);
+    all_are_told(&rt, alloc, "bytes", BYTES, told_of_text);
+    all_are_told(&rt, alloc, "tokens", SYNTAX, told_of_text);
 }

@@ -1,10 +1,10 @@
 //! Texts that several tests read, and what the reader answers.
 
-use crate::litmus::{answer_to, read};
+use crate::litmus::read;
 use crate::reader::adds::ADDS;
 use crate::reader::refusals::REFUSALS;
 use crate::reader::sizes::SIZES;
-use crate::rows::{again, all_hold, expanded};
+use crate::rows::{all_answered, expanded, expect};
 use litmus_c::{Test, TestFault, read_test};
 use std::alloc::{AllocError, Global};
 
@@ -35,18 +35,13 @@ pub fn holds_of(alloc: Global, text: &str, check: Check) -> bool
     }
 }
 
-/// Whether a refusal is printed so.
-fn is_printed(alloc: Global, fault: &TestFault, wanted: &str) -> Result<bool, AllocError> {
-    let printed = again!(_, format!(in alloc; "{fault}"))?;
-    Ok(printed.as_str() == wanted)
-}
-
-/// Whether the text of a row is answered so: by the words "a test", or by the refusal as it is printed.
-pub fn is_answered(alloc: Global, text: &str, wanted: &str) -> Result<bool, AllocError> {
-    let text = again!(_, expanded(alloc, text))?;
-    match answer_to(alloc, text.as_str()).err() {
-        None => Ok(wanted == "a test"),
-        Some(fault) => is_printed(alloc, &fault, wanted),
+/// What the text of a row is answered: the words "a test", or the refusal as it is printed.
+pub fn answered(alloc: Global, text: &str) -> Result<String, AllocError> {
+    let text = expanded(alloc, text)?;
+    match read_test(alloc, text.as_bytes()).err() {
+        None => String::from_str(alloc, "a test"),
+        Some(TestFault::NoMemory) => Err(AllocError),
+        Some(fault) => format!(in alloc; "{fault}"),
     }
 }
 
@@ -76,8 +71,8 @@ fn prefixes_are_cut_off(alloc: Global) -> bool {
 #[test]
 fn answers(rt: HostRuntime) {
     let alloc = rt.alloc();
-    all_hold(&rt, alloc, "adds", ADDS, is_answered);
-    all_hold(&rt, alloc, "refusals", REFUSALS, is_answered);
-    all_hold(&rt, alloc, "sizes", SIZES, is_answered);
-    assert!(rt; prefixes_are_cut_off(alloc), "hostile input row 1");
+    all_answered(&rt, alloc, "adds", ADDS, answered);
+    all_answered(&rt, alloc, "refusals", REFUSALS, answered);
+    all_answered(&rt, alloc, "sizes", SIZES, answered);
+    expect(&rt, "hostile input row 1", prefixes_are_cut_off(alloc));
 }

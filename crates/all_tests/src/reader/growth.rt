@@ -2,15 +2,17 @@
 //! that is refused answers NoMemory, and made again it gives its own answer. So `tools/refuse-each-growth` runs the tests
 //! once for each request.
 
+ghost use Rattle.std.specs.Prelude.{All, length};
+ghost use Rattle.wb_text.specs.Tokens.{IsWithin};
+
 use crate::candidate::states::observes;
-use crate::reader::answers::{holds_of, is_answered};
+use crate::reader::answers::{answered, holds_of};
 use crate::reader::copies::{bindings_are_copied, compares, places_are_copied};
-use crate::rows::{again, all_hold, all_so};
+use crate::rows::{again, all_answered, all_hold, expect};
 use litmus_c::Test;
 use litmus_syntax::{Draft, Symbol, SyntaxFault, Terminal, read_draft, symbols};
 use std::alloc::{AllocError, Global};
-use std::test::Fail;
-use wb_text::{Dialect, TextFault, tokens};
+use wb_text::{Dialect, TextFault, Token, tokens};
 
 /// A test with each kind of statement.
 pub const G: &str = "C G
@@ -74,14 +76,31 @@ fn are_drafted(alloc: Global, symbols: &[Symbol]) -> bool {
     }
 }
 
+/// Whether the tokens of a text make the symbols of its draft.
+fn are_read(alloc: Global, text: &[u8], tokens: &[Token]) -> bool
+    requires { All (IsWithin (length text.now)) tokens.now }
+{
+    match again!(_, symbols(alloc, text, tokens)) {
+        Ok(symbols) => are_drafted(alloc, &symbols),
+        Err(_) => false,
+    }
+}
+
+/// Whether a text has tokens that make the symbols of its draft.
+fn is_drafted(alloc: Global, text: &[u8]) -> bool {
+    match again!(TextFault::NoMemory, tokens(alloc, text, Dialect::Litmus)) {
+        Ok(tokens) => are_read(alloc, text, &tokens),
+        Err(_) => false,
+    }
+}
+
 #[test]
-fn symbols_and_drafts(rt: HostRuntime) -> Result<(), Fail> {
-    let alloc = rt.alloc();
-    let text = G.as_bytes();
-    let tokens = again!(TextFault::NoMemory, tokens(alloc, text, Dialect::Litmus))?;
-    let symbols = again!(_, symbols(alloc, text, &tokens))?;
-    assert!(rt; are_drafted(alloc, &symbols));
-    Ok(())
+fn symbols_and_drafts(rt: HostRuntime) {
+    expect(
+        &rt,
+        "symbols and drafts",
+        is_drafted(rt.alloc(), G.as_bytes()),
+    );
 }
 
 /// Whether a test has the values 0, 1, 3, 2 and 4, in this order.
@@ -109,15 +128,10 @@ exists (x=4)
 #[test]
 fn tests(rt: HostRuntime) {
     let alloc = rt.alloc();
-    all_so(
-        &rt,
-        &[
-            ("a test", holds_of(alloc, G, is_g)),
-            ("observed places", holds_of(alloc, G, observes_five)),
-            ("five values", holds_of(alloc, G, has_five_values)),
-            ("six values", holds_of(alloc, ADDS, has_six_values)),
-        ],
-    );
+    expect(&rt, "a test", holds_of(alloc, G, is_g));
+    expect(&rt, "observed places", holds_of(alloc, G, observes_five));
+    expect(&rt, "five values", holds_of(alloc, G, has_five_values));
+    expect(&rt, "six values", holds_of(alloc, ADDS, has_six_values));
 }
 
 const COPIES: &str = "# the same text, and another
@@ -132,8 +146,9 @@ SB ==> another";
 
 #[test]
 fn copies(rt: HostRuntime) {
-    assert!(rt; holds_of(rt.alloc(), G, has_copies), "entries and places");
-    all_hold(&rt, rt.alloc(), "tests", COPIES, compares);
+    let alloc = rt.alloc();
+    expect(&rt, "entries and places", holds_of(alloc, G, has_copies));
+    all_hold(&rt, alloc, "tests", COPIES, compares);
 }
 
 const REFUSALS: &str = "# reading no test
@@ -154,5 +169,5 @@ C a
 
 #[test]
 fn refusals(rt: HostRuntime) {
-    all_hold(&rt, rt.alloc(), "refusals", REFUSALS, is_answered);
+    all_answered(&rt, rt.alloc(), "refusals", REFUSALS, answered);
 }

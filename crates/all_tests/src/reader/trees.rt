@@ -2,7 +2,7 @@
 
 use crate::reader::answers::{SB, holds_of};
 use crate::reader::copies::compares;
-use crate::rows::{all_hold, all_so};
+use crate::rows::{all_hold, expect};
 use conditions::{Binding, Kind, Place};
 use litmus_c::{Leaf, Link, Operator, RightSide, Statement, Test, Thread};
 use std::alloc::{AllocError, Global};
@@ -260,17 +260,11 @@ const TWO_ENTRIES: &str = "C a\n{int x=1; [x]=2; 0:r=3; y=4; y}P0(){}exists x=0"
 #[test]
 fn trees(rt: HostRuntime) {
     let alloc = rt.alloc();
-    all_so(
-        &rt,
-        &[
-            ("store buffering", holds_of(alloc, SB, is_sb)),
-            ("operators", holds_of(alloc, OPERATORS, binds)),
-            (
-                "the nearest if",
-                holds_of(alloc, NEAREST_IF, ends_with_inner),
-            ),
-            ("two entries", holds_of(alloc, TWO_ENTRIES, has_entries)),
-        ],
-    );
+    expect(&rt, "store buffering", holds_of(alloc, SB, is_sb));
+    expect(&rt, "operators", holds_of(alloc, OPERATORS, binds));
+    let is_nearest = holds_of(alloc, NEAREST_IF, ends_with_inner);
+    expect(&rt, "the nearest if", is_nearest);
+    let has_two = holds_of(alloc, TWO_ENTRIES, has_entries);
+    expect(&rt, "two entries", has_two);
     all_hold(&rt, alloc, "copies and other tests", COPIES, compares);
 }

@@ -16,16 +16,17 @@
 
 ghost use Rattle.std.specs.Prelude.{◌≤◌};
 
-use crate::cases::{confirm, is_shown, limits_of, number_behind, parts_of, sink};
+use crate::cases::{is_shown, limits_of, number_behind, parts_of, sink};
 use crate::desk::books::scene::is_played;
+use crate::rows::expect;
 use crate::script::tasks::is_done;
 use crate::script::texts::expanded;
 use book::Limits;
 use program::{OneFault, one};
 use scripts::{Options, ServeFault, serve};
 use std::alloc::{AllocError, Global};
+use std::process::Abort;
 use std::sync::Wait;
-use std::test::Fail;
 use std::thread::Threads;
 use wb_text::{MemSink, MemSource};
 
@@ -55,41 +56,35 @@ pub struct Way {
     pub slices: u16,
     /// Whether the reader fails behind the input.
     pub fails: bool,
-    /// How much room the writer has.
-    pub room: usize,
 }
 
-/// What is answered to an input under a cat text, and what the writer then holds.
+/// What is answered to an input under a cat text, by what is left in a writer.
 pub fn summarized(
     alloc: Global,
     input: &[u8],
     cat: &[u8],
     way: Way,
-) -> Result<(Result<(), OneFault>, MemSink), AllocError>
+    writer: &mut MemSink,
+) -> Result<(), OneFault>
     requires { (1 ≤ way.slices) × (way.slices ≤ 256) }
 {
     let mut reader = MemSource::new(input, way.fails);
-    let mut writer = sink(alloc, way.room)?;
-    let outcome = one(alloc, &mut reader, cat, way.slices, &mut writer);
-    Ok((outcome, writer))
+    one(alloc, &mut reader, cat, way.slices, writer)
 }
 
-/// What is answered to a script under these options, where the reader fails at its end or not and the writer has so much
-/// room, and what the writer then holds.
+/// What is answered to a script under these options, where the reader fails at its end or not, by what is left in a writer.
 pub fn served<T: Threads + Wait + Sync>(
     rt: &T,
     alloc: Global,
     script: &[u8],
     options: &Options,
     fails: bool,
-    room: usize,
-) -> Result<(Result<(), ServeFault>, MemSink), AllocError>
+    writer: &mut MemSink,
+) -> Result<(), ServeFault>
     requires { options.now.workers ≤ 8 }
 {
     let mut reader = MemSource::new(script, fails);
-    let mut writer = sink(alloc, room)?;
-    let outcome = serve(rt, alloc, &mut reader, &mut writer, options);
-    Ok((outcome, writer))
+    serve(rt, alloc, &mut reader, writer, options)
 }
 
 /// Whether these bytes are a text or, where that has a gap, a line of three dots, begin and end so.
@@ -129,8 +124,11 @@ fn judged(alloc: Global, outcome: &Result<(), OneFault>, bytes: &[u8], wanted: &
 fn try_summary(alloc: Global, test: &str, cat: &str, way: Way, wanted: &str) -> Tried
     requires { (1 ≤ way.slices) × (way.slices ≤ 256) }
 {
-    match summarized(alloc, test.as_bytes(), cat.as_bytes(), way) {
-        Ok((outcome, writer)) => judged(alloc, &outcome, writer.bytes(), wanted),
+    match sink(alloc, 4096) {
+        Ok(mut writer) => {
+            let outcome = summarized(alloc, test.as_bytes(), cat.as_bytes(), way, &mut writer);
+            judged(alloc, &outcome, writer.bytes(), wanted)
+        }
         Err(AllocError) => Tried::Wrong,
     }
 }
@@ -160,7 +158,6 @@ fn try_under_each(alloc: Global, call: &str, test: &str, models: &str, wanted: &
     let way = Way {
         slices: slices_of(call),
         fails: false,
-        room: 4096,
     };
     for model in models.lines() {
         match try_under(alloc, test, model, way, wanted) {
@@ -256,8 +253,11 @@ fn try_script<T: Threads + Wait + Sync>(
 ) -> Tried {
     let options = options_of(call);
     let fails = call.ends_with("a reader that fails");
-    match served(rt, alloc, script.as_bytes(), &options, fails, 4096) {
-        Ok((outcome, writer)) => judged_script(alloc, &outcome, writer.bytes(), wanted),
+    match sink(alloc, 4096) {
+        Ok(mut writer) => {
+            let outcome = served(rt, alloc, script.as_bytes(), &options, fails, &mut writer);
+            judged_script(alloc, &outcome, writer.bytes(), wanted)
+        }
         Err(AllocError) => Tried::Wrong,
     }
 }
@@ -291,16 +291,15 @@ pub fn try_row<T: Threads + Wait + Sync>(rt: &T, alloc: Global, row: &str) -> Tr
     let Some((given, call, wanted)) = parts_of(row) else {
         return Tried::Wrong;
     };
-    match (expanded(alloc, given), expanded(alloc, wanted)) {
+    match (&expanded(alloc, given), &expanded(alloc, wanted)) {
         (Ok(given), Ok(wanted)) => try_call(rt, alloc, call, given.as_str(), wanted.as_str()),
         _ => Tried::Wrong,
     }
 }
 
 /// Fails with the first row that isn't answered as it says.
-pub fn all_hold<T: Threads + Wait + Sync>(rt: &T, alloc: Global, rows: &str) -> Result<(), Fail> {
+pub fn all_hold<T: Threads + Wait + Sync + Abort>(rt: &T, alloc: Global, rows: &str) {
     for row in rows.split("=== ").skip(1) {
-        confirm(matches!(try_row(rt, alloc, row), Tried::Answered), row)?;
+        expect(rt, row, matches!(try_row(rt, alloc, row), Tried::Answered));
     }
-    Ok(())
 }

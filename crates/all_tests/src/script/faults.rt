@@ -1,13 +1,13 @@
 //! How faults are printed.
 
-use crate::cases::{confirm, is_shown};
+use crate::cases::is_shown;
+use crate::rows::expect;
 use cat_model::ModelFault;
 use program::OneFault;
 use report::WriteFault;
 use scripts::ServeFault;
 use sessions::FinishCause;
 use std::alloc::Global;
-use std::test::Fail;
 use wb_text::Name;
 
 /// How each status is printed.
@@ -39,19 +39,21 @@ fn is_no_file_shown(alloc: Global) -> bool {
 }
 
 #[test]
-fn statuses_print_their_numbers(rt: HostRuntime) -> Result<(), Fail> {
+fn statuses_print_their_numbers(rt: HostRuntime) {
     let alloc = rt.alloc();
     for (fault, wanted) in STATUSES {
-        confirm(is_shown(alloc, fault, wanted), wanted)?;
+        expect(&rt, wanted, is_shown(alloc, fault, wanted));
     }
-    confirm(is_no_file_shown(alloc), "no_file_of_a_name")?;
-    confirm(
-        WriteFault::Write.label() == "95 Write" && is_shown(alloc, &WriteFault::Write, "95 Write"),
+    expect(&rt, "no_file_of_a_name", is_no_file_shown(alloc));
+    let is_write_shown = is_shown(alloc, &WriteFault::Write, "95 Write");
+    expect(&rt, "shown: 95 Write", is_write_shown);
+    expect(
+        &rt,
         "labels: 95 Write",
-    )?;
-    confirm(
-        FinishCause::MissingPass(3).label() == "91 MissingPass"
-            && FinishCause::Mismatch(7).label() == "92 Mismatch",
-        "labels: 91 MissingPass, 92 Mismatch",
-    )
+        WriteFault::Write.label() == "95 Write",
+    );
+    let missing = FinishCause::MissingPass(3).label();
+    expect(&rt, "labels: 91 MissingPass", missing == "91 MissingPass");
+    let mismatch = FinishCause::Mismatch(7).label();
+    expect(&rt, "labels: 92 Mismatch", mismatch == "92 Mismatch");
 }

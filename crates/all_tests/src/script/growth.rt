@@ -3,12 +3,11 @@
 //!
 //! `tools/refuse-each-growth` runs these tests once for each request. Where none is refused they compare the answers alone.
 
-use crate::cases::confirm;
+use crate::rows::expect;
 use crate::script::calls::{Tried, try_row};
 use crate::script::words::are_told;
 use std::alloc::Global;
 use std::sync::Wait;
-use std::test::Fail;
 use std::thread::Threads;
 
 /// A model with a flag, a function and a recursive binding (`one_summary`), tests and models that are refused, the script of row
@@ -207,16 +206,16 @@ fn is_answered<T: Threads + Wait + Sync>(rt: &T, alloc: Global, row: &str) -> bo
 }
 
 #[test]
-fn rows(rt: HostRuntime) -> Result<(), Fail> {
+fn rows(rt: HostRuntime) {
     for row in ROWS.split("=== ").skip(1) {
-        confirm(is_answered(&rt, rt.alloc(), row), row)?;
+        expect(&rt, row, is_answered(&rt, rt.alloc(), row));
     }
-    Ok(())
 }
 
 #[test]
 fn words(rt: HostRuntime) {
     let wanted = "journal 12, workers 3.";
     let words = "bench --journal 12 --workers=3";
-    assert!(rt; are_told(rt.alloc(), words, wanted) || are_told(rt.alloc(), words, wanted));
+    let told = are_told(rt.alloc(), words, wanted) || are_told(rt.alloc(), words, wanted);
+    expect(&rt, words, told);
 }

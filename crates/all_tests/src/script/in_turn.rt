@@ -1,11 +1,11 @@
 //! A reader that hands over a part of a script only once all before it is answered.
 
+use crate::rows::expect;
 use crate::script::calls::ALONE;
-use scripts::{ServeFault, serve};
+use scripts::serve;
 use std::alloc::Global;
 use std::io;
 use std::io::{ErrorKind, Read, Write};
-use std::process::Abort;
 use std::sync::Wait;
 use std::sync::atomic::{AtomicU64, Ordering};
 use std::thread::Threads;
@@ -58,22 +58,20 @@ impl Write for Counting<'_> {
     }
 }
 
-/// How the script ends whose parts are handed over so, and how many bytes are written.
-fn served_in_turn<T: Threads + Wait + Sync>(
-    rt: &T,
-    alloc: Global,
-) -> (Result<(), ServeFault>, u64) {
+/// Whether the script whose parts are handed over so ends well, with so many bytes written.
+fn is_served_in_turn<T: Threads + Wait + Sync>(rt: &T, alloc: Global, bytes: u64) -> bool {
     let written = AtomicU64::new(0);
     let mut reader = ReadSource::new(InTurn {
         next: 0,
         written: &written,
     });
     let mut writer = WriteSink::new(Counting { written: &written });
-    let outcome = serve(rt, alloc, &mut reader, &mut writer, &ALONE);
-    (outcome, written.load(Ordering::SeqCst))
+    serve(rt, alloc, &mut reader, &mut writer, &ALONE).is_ok()
+        && written.load(Ordering::SeqCst) == bytes
 }
 
 #[test]
 fn each_answer_before_the_next_line(rt: HostRuntime) {
-    assert!(rt; served_in_turn(&rt, rt.alloc()) == (Ok(()), 61));
+    let is_served = is_served_in_turn(&rt, rt.alloc(), 61);
+    expect(&rt, "each answer before the next line", is_served);
 }

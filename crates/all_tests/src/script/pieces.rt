@@ -2,14 +2,15 @@
 
 ghost use Rattle.slices.specs.Parts.{test_size};
 
-use crate::cases::{confirm_all, is_cut_off};
+use crate::cases::is_cut_off;
 use crate::desk::works::work_of;
+use crate::rows::expect;
 use crate::script::texts::meant;
 use conditions::{Place, observed};
 use report::{WriteFault, write_summary};
 use slices::{Piece, Tally, Verdict, WorkRef, evaluate};
 use std::alloc::{AllocError, Global};
-use std::test::Fail;
+use std::process::Abort;
 use wb_text::MemSink;
 
 /// How many numbers a piece has at most.
@@ -97,23 +98,36 @@ fn is_told_in_parts_of(alloc: Global, work: &WorkRef) -> bool {
     }
 }
 
+/// Whether the works of two tests are put together from their pieces, and a summary is cut off where its writer fails.
+fn expect_pieces(rt: &impl Abort, alloc: Global, reads: &WorkRef, buffering: &WorkRef) {
+    let reads_so = is_put_together(alloc, reads, 4096, 1, 15);
+    expect(
+        rt,
+        "iriw: four pieces, from the last to the first",
+        reads_so,
+    );
+    let buffers_so = is_put_together(alloc, buffering, 16, 1, 3);
+    expect(rt, "sb_calls: the one piece", buffers_so);
+    expect(
+        rt,
+        "sb_calls: both registers",
+        observes_both(alloc, buffering),
+    );
+    let in_parts = is_told_in_parts_of(alloc, buffering);
+    expect(
+        rt,
+        "hostile_input_row_6_write_summary: 95 at each write in turn",
+        in_parts,
+    );
+}
+
 #[test]
-fn pieces(rt: HostRuntime) -> Result<(), Fail> {
+fn pieces(rt: HostRuntime) {
     let alloc = rt.alloc();
-    let reads = work_of(alloc, meant("IRIW").as_bytes(), b"rc11.cat")?;
-    let buffering = work_of(alloc, meant("SB").as_bytes(), b"stdlib.cat")?;
-    confirm_all(&[
-        (
-            "iriw: four pieces, from the last to the first",
-            is_put_together(alloc, &reads, 4096, 1, 15),
-        ),
-        (
-            "sb_calls: the one piece",
-            is_put_together(alloc, &buffering, 16, 1, 3) && observes_both(alloc, &buffering),
-        ),
-        (
-            "hostile_input_row_6_write_summary: 95 at each write in turn",
-            is_told_in_parts_of(alloc, &buffering),
-        ),
-    ])
+    let reads = work_of(alloc, meant("IRIW").as_bytes(), b"rc11.cat");
+    let buffering = work_of(alloc, meant("SB").as_bytes(), b"stdlib.cat");
+    match (&reads, &buffering) {
+        (Ok(reads), Ok(buffering)) => expect_pieces(&rt, alloc, reads, buffering),
+        _ => expect(&rt, "works of two tests", false),
+    }
 }

@@ -1,6 +1,7 @@
 //! Rows of scripts, and scripts that no row has: lines without end, each prefix of a script, and each room of a writer.
 
-use crate::cases::is_cut_off;
+use crate::cases::{is_cut_off, sink};
+use crate::rows::expect;
 use crate::script::calls::{ALONE, served};
 use crate::script::texts::meant;
 use scripts::{ServeFault, serve};
@@ -469,20 +470,21 @@ impl Read for Endless {
     }
 }
 
-/// How a script ends whose lines don't, and how many bytes are written.
-fn served_without_end<T: Threads + Wait + Sync>(
-    rt: &T,
-    alloc: Global,
-) -> Result<(Result<(), ServeFault>, usize), AllocError> {
+/// Whether a script whose lines don't end is given up, with nothing written.
+fn is_given_up<T: Threads + Wait + Sync>(rt: &T, alloc: Global) -> bool {
     let mut reader = ReadSource::new(Endless);
-    let mut writer = MemSink::new(alloc, 100)?;
-    let outcome = serve(rt, alloc, &mut reader, &mut writer, &ALONE);
-    Ok((outcome, writer.bytes().len()))
+    match MemSink::new(alloc, 100) {
+        Ok(mut writer) => {
+            serve(rt, alloc, &mut reader, &mut writer, &ALONE) == Err(ServeFault::Read)
+                && writer.bytes().is_empty()
+        }
+        Err(_) => false,
+    }
 }
 
 #[test]
 fn hostile_input_row_7_endless(rt: HostRuntime) {
-    assert!(rt; served_without_end(&rt, rt.alloc()) == Ok((Err(ServeFault::Read), 0)));
+    expect(&rt, "a script without end", is_given_up(&rt, rt.alloc()));
 }
 
 /// Whether a line of the bytes, the last, begins so.
@@ -496,12 +498,25 @@ fn ends_with_line(bytes: &[u8], start: &[u8]) -> bool {
     last.starts_with(start)
 }
 
+/// How the last line of a script with this outcome begins.
+fn last_line_of(outcome: &Result<(), ServeFault>) -> Option<&'static [u8]> {
+    match outcome {
+        Ok(()) => Some(b"finish ok "),
+        Err(ServeFault::BadLine(_)) => Some(b"bad line "),
+        Err(_) => None,
+    }
+}
+
 /// Whether a script ends with the line of its outcome.
 fn ends_well<T: Threads + Wait + Sync>(rt: &T, alloc: Global, script: &[u8]) -> bool {
-    match served(rt, alloc, script, &ALONE, false, 2000) {
-        Ok((Ok(()), writer)) => ends_with_line(writer.bytes(), b"finish ok "),
-        Ok((Err(ServeFault::BadLine(_)), writer)) => ends_with_line(writer.bytes(), b"bad line "),
-        _ => false,
+    match sink(alloc, 2000) {
+        Ok(mut writer) => {
+            match last_line_of(&served(rt, alloc, script, &ALONE, false, &mut writer)) {
+                Some(start) => ends_with_line(writer.bytes(), start),
+                None => false,
+            }
+        }
+        Err(AllocError) => false,
     }
 }
 
@@ -518,12 +533,12 @@ fn hostile_input_row_1(rt: HostRuntime) {
 /// Whether a writer of too little room has just the prefix of the answers, with the fault that says so.
 fn has_a_front_part<T: Threads + Wait + Sync>(rt: &T, alloc: Global, room: usize) -> bool {
     let script = meant("script_first").as_bytes();
-    match served(rt, alloc, script, &ALONE, false, room) {
-        Ok((outcome, writer)) => {
-            let answers = meant("script_first answers");
-            outcome == Err(ServeFault::Write) && is_cut_off(writer.bytes(), answers, room)
+    match sink(alloc, room) {
+        Ok(mut writer) => {
+            served(rt, alloc, script, &ALONE, false, &mut writer) == Err(ServeFault::Write)
+                && is_cut_off(writer.bytes(), meant("script_first answers"), room)
         }
-        Err(_) => false,
+        Err(AllocError) => false,
     }
 }
 

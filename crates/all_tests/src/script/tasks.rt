@@ -105,20 +105,25 @@ bad line 2
 end
 en";
 
-/// The status of a task on an input, and what is written.
-fn done<T: Threads + Wait + Sync>(
+/// Whether a task on an input comes to what is wanted, where the writer has so much room.
+fn is_done_so<T: Threads + Wait + Sync>(
     rt: &T,
     alloc: Global,
     task: Task,
     input: &str,
     room: usize,
-) -> Result<(u8, MemSink), AllocError>
+    wanted: &str,
+) -> bool
     requires { IsInRange task }
 {
     let mut reader = MemSource::new(input.as_bytes(), false);
-    let mut writer = MemSink::new(alloc, room)?;
-    let status = do_task(rt, alloc, task, &mut reader, &mut writer);
-    Ok((status, writer))
+    match MemSink::new(alloc, room) {
+        Ok(mut writer) => {
+            let status = do_task(rt, alloc, task, &mut reader, &mut writer);
+            is_wanted(status, writer.bytes(), wanted)
+        }
+        Err(_) => false,
+    }
 }
 
 /// Whether this status is the first line of what is wanted, and these bytes what stands behind it.
@@ -139,10 +144,7 @@ fn are_done<T: Threads + Wait + Sync>(
     wanted: &str,
 ) -> bool {
     match read_task(alloc, words) {
-        Ok(task) => match done(rt, alloc, task, input, room) {
-            Ok((status, writer)) => is_wanted(status, writer.bytes(), wanted),
-            Err(AllocError) => false,
-        },
+        Ok(task) => is_done_so(rt, alloc, task, input, room, wanted),
         Err(_) => false,
     }
 }

@@ -1,6 +1,7 @@
 //! Rows of tests with the model that has no checks, and of executions that are counted together; and calls whose reader or writer fails.
 
-use crate::cases::is_cut_off;
+use crate::cases::{is_cut_off, sink};
+use crate::rows::expect;
 use crate::script::calls::{Way, summarized};
 use crate::script::texts::meant;
 use program::OneFault;
@@ -284,14 +285,11 @@ fn ends_so(
     end: &Result<(), OneFault>,
     written: usize,
 ) -> bool {
-    let way = Way {
-        slices: 1,
-        fails,
-        room,
-    };
-    match summarized(alloc, input.as_bytes(), b"", way) {
-        Ok((outcome, writer)) => {
-            outcome == *end && is_cut_off(writer.bytes(), meant("SB summary"), written)
+    let way = Way { slices: 1, fails };
+    match sink(alloc, room) {
+        Ok(mut writer) => {
+            summarized(alloc, input.as_bytes(), b"", way, &mut writer) == *end
+                && is_cut_off(writer.bytes(), meant("SB summary"), written)
         }
         Err(AllocError) => false,
     }
@@ -314,5 +312,6 @@ fn hostile_input_row_6_summary(rt: HostRuntime) {
 fn a_reader_that_fails_leaves_nothing(rt: HostRuntime) {
     let front =
         "C SB\n{}\nP0 (atomic_int* x, atomic_int* y) {\n  atomic_store_explicit(x, 1, memory";
-    assert!(rt; ends_so(rt.alloc(), front, true, 1000, &Err(OneFault::Read), 0));
+    let leaves_nothing = ends_so(rt.alloc(), front, true, 1000, &Err(OneFault::Read), 0);
+    expect(&rt, "a reader that fails", leaves_nothing);
 }

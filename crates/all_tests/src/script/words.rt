@@ -1,9 +1,8 @@
 //! Tests of the words of the command line.
 
-use crate::cases::confirm;
+use crate::rows::expect;
 use program::{Task, read_task};
 use std::alloc::{AllocError, Global};
-use std::test::Fail;
 
 /// A name, the words, and how begins what is told of them: what they ask for, with a full stop behind it, or the status of their fault, where
 /// its text goes, and the text.
@@ -118,9 +117,8 @@ fn holds(alloc: Global, row: &str) -> bool {
 }
 
 #[test]
-fn words_are_read(rt: HostRuntime) -> Result<(), Fail> {
+fn words_are_read(rt: HostRuntime) {
     for row in ROWS.split("\n=== ").skip(1) {
-        confirm(holds(rt.alloc(), row), row)?;
+        expect(&rt, row, holds(rt.alloc(), row));
     }
-    Ok(())
 }

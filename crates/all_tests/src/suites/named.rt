@@ -1,5 +1,6 @@
 //! The tests and the models that words name. What lies in files is tried by tools/suite-of-files, since a test has none.
 
+use crate::rows::expect;
 use inputs::{Models, Paths, Trouble, read_front};
 use std::alloc::AllocError;
 use std::rt::Files;
@@ -15,8 +16,7 @@ fn are_named<R: Files + AllocGlobal + Clone + Drop>(
     paths.find(rt, words)?;
     let mut text = String::new(rt.alloc());
     for path in paths.tests.paths() {
-        text.push_str(path.as_str())?;
-        text.push('\n')?;
+        writeln!(text, "{}", path.as_str())?;
     }
     for message in &paths.unread {
         text.push_str(message.as_str())?;
@@ -27,7 +27,8 @@ fn are_named<R: Files + AllocGlobal + Clone + Drop>(
 #[test]
 fn tests_are_named(rt: HostRuntime) {
     let told = "-\nb.litmus\na\tb: its path has a tab or a line feed\n";
-    assert!(rt; are_named(&rt, &["-", "b.litmus", "a\tb"], told, 8).unwrap_or(false));
+    let are_named = are_named(&rt, &["-", "b.litmus", "a\tb"], told, 8);
+    expect(&rt, told, are_named.unwrap_or(false));
 }
 
 /// Whether the built-in model is found by its word, and is told by that.
@@ -46,11 +47,14 @@ fn is_built_in<R: Files + Eprint + AllocGlobal>(rt: &R) -> Result<bool, Trouble>
 
 #[test]
 fn models_are_named(rt: HostRuntime) {
-    assert!(rt; is_built_in(&rt).unwrap_or(false));
+    expect(&rt, "rc11.cat", is_built_in(&rt).unwrap_or(false));
 }
 
 #[test]
 fn fronts(rt: HostRuntime) {
-    let text = read_front(rt.alloc(), b"C SB".as_slice());
-    assert!(rt; matches!(&text, Ok(text) if text.as_slice() == b"C SB".as_slice()));
+    let is_front = match &read_front(rt.alloc(), b"C SB".as_slice()) {
+        Ok(text) => text.as_slice() == b"C SB".as_slice(),
+        Err(_) => false,
+    };
+    expect(&rt, "C SB", is_front);
 }

@@ -2,11 +2,13 @@
 //!
 //! The expected texts are written by hand, after docs/COMMAND.md.
 
-use crate::suites::told::{CASE, SB, model};
+use crate::rows::expect;
+use crate::suites::told::{CASE, SB, verdicts_of, words_of};
 use outcome::{Counts, Fate, Form, RowsFault, Tested, Told, Wanted, rows_in};
+use slices::Verdict;
 use std::alloc::{AllocError, Global};
-use std::thread::Threads;
-use suite::{Endless, Row, TestTrouble, judge_text};
+use std::process::Abort;
+use suite::{Row, TestTrouble};
 
 /// Forms, and the bytes of a verdict in them.
 const FORMS: [(Form, &str); 3] = [
@@ -88,41 +90,41 @@ const COUNTS: [(Form, [u64; 4], &str); 3] = [
     ),
 ];
 
-/// The lines of the verdict on SB in a form.
-fn lines<R: Threads + Sync>(rt: &R, alloc: Global, form: Form) -> Result<Vec<u8>, AllocError> {
-    let mut models = Vec::new(alloc);
-    models.push(model(alloc)?)?;
-    let mut names = Vec::new(alloc);
-    names.push(Vec::from_slice(alloc, b"sc.cat")?)?;
+/// Whether a verdict is told so in a form, under a model of this name.
+fn is_told(
+    alloc: Global,
+    models: &[Vec<u8>],
+    verdicts: &[Verdict],
+    form: Form,
+    text: &str,
+) -> bool {
     let wanted = Wanted {
         form,
         width: 10,
-        models: &names,
+        models,
         keeps_rows: true,
     };
-    match judge_text(rt, alloc, SB, &models, 1, &mut Endless) {
-        Ok(verdicts) => {
-            let mut told = Told::new(alloc);
-            told.tell(alloc, &wanted, &TEST, &verdicts)?;
-            Vec::from_slice(alloc, &told.lines)
-        }
-        Err(_trouble) => Err(AllocError),
+    let mut told = Told::new(alloc);
+    told.tell(alloc, &wanted, &TEST, verdicts).is_ok() && told.lines.as_slice() == text.as_bytes()
+}
+
+fn expect_forms(rt: &impl Abort, alloc: Global, models: &[Vec<u8>], verdicts: &[Verdict]) {
+    for (form, text) in &FORMS {
+        expect(rt, text, is_told(alloc, models, verdicts, *form, text));
     }
 }
 
 #[test]
 fn verdict_in_each_form(rt: HostRuntime) {
     let alloc = rt.alloc();
-    for (form, text) in &FORMS {
-        match lines(&rt, alloc, *form) {
-            Ok(found) => assert!(rt; found.as_slice() == text.as_bytes(), "{text}"),
-            Err(_) => assert!(rt; false, "no memory"),
-        }
+    match (&words_of(alloc, "sc.cat"), &verdicts_of(&rt, alloc, 1)) {
+        (Ok(models), Ok(verdicts)) => expect_forms(&rt, alloc, models, verdicts),
+        _ => expect(&rt, "no memory", false),
     }
 }
 
-/// The lines of a refusal in a form.
-fn refusal(alloc: Global, form: Form) -> Result<Vec<u8>, AllocError> {
+/// Whether a refusal is told so in a form.
+fn is_refused(alloc: Global, form: Form, text: &str) -> bool {
     let wanted = Wanted {
         form,
         width: 10,
@@ -130,17 +132,15 @@ fn refusal(alloc: Global, form: Form) -> Result<Vec<u8>, AllocError> {
         keeps_rows: true,
     };
     let mut told = Told::new(alloc);
-    told.refuse(alloc, &wanted, &TEST, &TestTrouble::Late)?;
-    Vec::from_slice(alloc, &told.lines)
+    told.refuse(alloc, &wanted, &TEST, &TestTrouble::Late)
+        .is_ok()
+        && told.lines.as_slice() == text.as_bytes()
 }
 
 #[test]
 fn refusal_in_each_form(rt: HostRuntime) {
     for (form, text) in &REFUSED {
-        match refusal(rt.alloc(), *form) {
-            Ok(found) => assert!(rt; found.as_slice() == text.as_bytes(), "{text}"),
-            Err(_) => assert!(rt; false, "no memory"),
-        }
+        expect(&rt, text, is_refused(rt.alloc(), *form, text));
     }
 }
 
@@ -153,28 +153,36 @@ fn stored(alloc: Global, rows: &[Row]) -> Result<Vec<u8>, AllocError> {
     Ok(text)
 }
 
+fn are_stored(alloc: Global, rows: &[Row], expected: &str) -> bool {
+    match &stored(alloc, rows) {
+        Ok(found) => found.as_slice() == expected.as_bytes(),
+        Err(AllocError) => false,
+    }
+}
+
 /// Whether the rows of a text are these.
 fn are_read(alloc: Global, text: &str, expected: &str) -> bool {
-    match rows_in(alloc, text.as_bytes()) {
-        Ok(rows) => match stored(alloc, &rows) {
-            Ok(found) => found.as_slice() == expected.as_bytes(),
-            Err(_) => false,
-        },
+    match &rows_in(alloc, text.as_bytes()) {
+        Ok(rows) => are_stored(alloc, rows, expected),
         Err(_fault) => false,
+    }
+}
+
+/// Whether the line of this number is told to be no row.
+fn is_no_row(alloc: Global, text: &str, number: usize) -> bool {
+    match &rows_in(alloc, text.as_bytes()) {
+        Err(RowsFault::NoRow(line)) => *line == number,
+        _ => false,
     }
 }
 
 #[test]
 fn rows_read_back(rt: HostRuntime) {
     for (text, expected) in &ROWS {
-        assert!(rt; are_read(rt.alloc(), text, expected), "{expected}");
+        expect(&rt, expected, are_read(rt.alloc(), text, expected));
     }
     for (text, number) in &NO_ROWS {
-        let told = match rows_in(rt.alloc(), text.as_bytes()) {
-            Err(RowsFault::NoRow(line)) => line == *number,
-            _ => false,
-        };
-        assert!(rt; told, "{text}");
+        expect(&rt, text, is_no_row(rt.alloc(), text, *number));
     }
 }
 
@@ -188,19 +196,19 @@ fn counts_of(judged: u64, refused: u64, unread: u64, differing: u64) -> Counts {
     }
 }
 
-/// The last line of a run.
-fn last_line(alloc: Global, form: Form, counts: &[u64; 4]) -> Result<Vec<u8>, AllocError> {
+/// Whether the last line of a run is this.
+fn is_last_line(alloc: Global, form: Form, counts: &[u64; 4], text: &str) -> bool {
     let [judged, refused, unread, differing] = *counts;
-    counts_of(judged, refused, unread, differing).line(alloc, form)
+    match &counts_of(judged, refused, unread, differing).line(alloc, form) {
+        Ok(found) => found.as_slice() == text.as_bytes(),
+        Err(AllocError) => false,
+    }
 }
 
 #[test]
 fn last_lines(rt: HostRuntime) {
     for (form, counts, text) in &COUNTS {
-        match last_line(rt.alloc(), *form, counts) {
-            Ok(found) => assert!(rt; found.as_slice() == text.as_bytes(), "{text}"),
-            Err(_) => assert!(rt; false, "no memory"),
-        }
+        expect(&rt, text, is_last_line(rt.alloc(), *form, counts, text));
     }
 }
 
@@ -211,8 +219,10 @@ fn tests_are_counted(rt: HostRuntime) {
     counts.count(Fate::Judged, false);
     counts.count(Fate::Refused, false);
     counts.count(Fate::Unread, false);
-    assert!(rt; counts.judged == 2 && counts.refused == 1);
-    assert!(rt; counts.unread == 3 && counts.differing == 1);
+    expect(&rt, "judged", counts.judged == 2);
+    expect(&rt, "refused", counts.refused == 1);
+    expect(&rt, "not read", counts.unread == 3);
+    expect(&rt, "differing", counts.differing == 1);
 }
 
 #[test]

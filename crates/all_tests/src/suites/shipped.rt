@@ -1,5 +1,6 @@
 //! The models that are shipped as texts.
 
+use crate::rows::expect;
 use cat_model::Model;
 use std::alloc::Global;
 use suite::{CatText, load_model};
@@ -59,5 +60,5 @@ fn is_built_in(alloc: Global) -> Option<bool> {
 
 #[test]
 fn rc11_is_the_built_in_model(rt: HostRuntime) {
-    assert!(rt; is_built_in(rt.alloc()) == Some(true), "rc11.cat");
+    expect(&rt, "rc11.cat", is_built_in(rt.alloc()).unwrap_or(false));
 }

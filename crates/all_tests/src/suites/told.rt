@@ -3,7 +3,9 @@
 //! The expected bytes are written by hand, after the definitions of `suite`.
 
 use crate::names::name;
+use crate::rows::{all_hold, expect};
 use cat_model::Model;
+use outcome::rows_in;
 use slices::Verdict;
 use std::alloc::{AllocError, Global};
 use std::thread::Threads;
@@ -100,133 +102,125 @@ fn is_told(alloc: Global, form: Form, verdict: &Verdict, expected: &[u8]) -> boo
     }
 }
 
+/// Whether a verdict is told in each form as it is expected.
+fn is_told_in_each(alloc: Global, verdict: &Verdict) -> bool {
+    for (form, expected) in &FORMS {
+        if !is_told(alloc, *form, verdict, expected) {
+            return false;
+        }
+    }
+    true
+}
+
 fn are_told(alloc: Global, verdicts: &[Verdict]) -> bool {
     match verdicts.first() {
-        Some(verdict) => FORMS.iter().all(|(form, expected)| is_told(
-            alloc, *form, verdict, expected,
-        )),
+        Some(verdict) => is_told_in_each(alloc, verdict),
         None => false,
     }
 }
 
-/// Whether the verdict on SB by so many threads is told as it is expected.
-fn is_judged<R: Threads + Sync>(rt: &R, alloc: Global, threads: u16) -> Result<bool, AllocError> {
-    let mut models = Vec::new(alloc);
-    models.push(model(alloc)?)?;
-    let mut patience = Endless;
-    match judge_text(rt, alloc, SB, &models, threads, &mut patience) {
-        Ok(verdicts) => Ok(are_told(alloc, &verdicts)),
-        Err(_trouble) => Ok(false),
+/// The verdict on SB by so many threads.
+pub fn verdicts_of<R: Threads + Sync>(
+    rt: &R,
+    alloc: Global,
+    threads: u16,
+) -> Result<Vec<Verdict>, AllocError> {
+    let models = [model(alloc)?];
+    match judge_text(rt, alloc, SB, &models, threads, &mut Endless) {
+        Ok(verdicts) => Ok(verdicts),
+        Err(_trouble) => Err(AllocError),
+    }
+}
+
+/// Whether that verdict is told as it is expected.
+fn is_judged<R: Threads + Sync>(rt: &R, alloc: Global, threads: u16) -> bool {
+    match &verdicts_of(rt, alloc, threads) {
+        Ok(verdicts) => are_told(alloc, verdicts),
+        Err(AllocError) => false,
     }
 }
 
 /// Whether a text that is no test is told to be none.
 fn is_no_test<R: Threads + Sync>(rt: &R, alloc: Global) -> bool {
-    let models: Vec<Model> = Vec::new(alloc);
-    let judged = judge_text(rt, alloc, b"C SB\n{", &models, 1, &mut Endless);
+    let judged = judge_text(rt, alloc, b"C SB\n{", &[], 1, &mut Endless);
     matches!(&judged, Err(TestTrouble::Test(_)))
 }
 
 #[test]
 fn verdicts(rt: HostRuntime) {
-    assert!(rt; is_judged(&rt, rt.alloc(), 1) == Ok(true), "one thread");
-    assert!(rt;
-        is_judged(&rt, rt.alloc(), 3) == Ok(true),
-        "several threads"
-    );
-    assert!(rt; is_no_test(&rt, rt.alloc()), "a text that is no test");
+    let alloc = rt.alloc();
+    expect(&rt, "one thread", is_judged(&rt, alloc, 1));
+    expect(&rt, "several threads", is_judged(&rt, alloc, 3));
+    expect(&rt, "a text that is no test", is_no_test(&rt, alloc));
 }
 
-/// A copy of bytes.
-fn owned(alloc: Global, bytes: &[u8]) -> Result<Vec<u8>, AllocError> {
-    let mut copy = Vec::new(alloc);
-    copy.extend_from_slice(bytes)?;
-    Ok(copy)
-}
-
-fn all_owned(alloc: Global, texts: &[&[u8]]) -> Result<Vec<Vec<u8>>, AllocError> {
-    let mut copies = Vec::new(alloc);
-    for text in texts {
-        copies.push(owned(alloc, text)?)?;
+/// The words of a line, as bytes.
+pub fn words_of(alloc: Global, line: &str) -> Result<Vec<Vec<u8>>, AllocError> {
+    let mut words = Vec::new(alloc);
+    for word in line.split(' ') {
+        words.push(Vec::from_slice(alloc, word.as_bytes())?)?;
     }
-    Ok(copies)
+    Ok(words)
 }
 
-/// The head of a table with two columns, behind paths of at most six bytes.
+/// The models of a table, and its head behind paths of at most six bytes.
+const MODELS: &str = "rc11.cat sc.cat";
+
 const HEAD: &[u8] = b"          rc11.cat   sc.cat\n";
 
-/// A row of it: the cells, and the bytes.
-const TABLE: [(&[&[u8]], &[u8]); 2] = [
-    (&[b"Sometimes", b"Never"], b"* a.lit   Sometimes  Never\n"),
-    (&[b"Never", b"Never"], b"  a.lit   Never      Never\n"),
-];
+/// Rows of it: the cells, and what is printed.
+const TABLE: &str = "Sometimes Never ==> * a.lit   Sometimes  Never
+Never Never ==>   a.lit   Never      Never";
 
-fn table_row_is(
+/// Whether cells are printed as a row so, with a line feed behind it, and are alike where it begins with blanks.
+fn is_row_of(
     alloc: Global,
     models: &[Vec<u8>],
-    cells: &[&[u8]],
-    expected: &[u8],
+    cells: &[Vec<u8>],
+    wanted: &[u8],
 ) -> Result<bool, AllocError> {
-    let cells = all_owned(alloc, cells)?;
-    let row = table_row_of(alloc, 6, b"a.lit", models, &cells)?;
-    Ok(row.as_slice() == expected && are_alike(&cells) == expected.starts_with(b"  "))
+    let row = table_row_of(alloc, 6, b"a.lit", models, cells)?;
+    Ok(row.strip_suffix(b"\n") == Some(wanted) && are_alike(cells) == wanted.starts_with(b"  "))
 }
 
-fn are_rows(alloc: Global, models: &[Vec<u8>]) -> Result<bool, AllocError> {
-    for (cells, expected) in &TABLE {
-        if !table_row_is(alloc, models, cells, expected)? {
-            return Ok(false);
-        }
-    }
-    Ok(head_of(alloc, 6, models)?.as_slice() == HEAD)
+/// Whether the words of a row are printed so.
+fn is_row(alloc: Global, words: &str, wanted: &str) -> Result<bool, AllocError> {
+    let models = words_of(alloc, MODELS)?;
+    let cells = words_of(alloc, words)?;
+    is_row_of(alloc, &models, &cells, wanted.as_bytes())
 }
 
-/// Whether the head and the rows of a table are as expected.
-fn is_table(alloc: Global) -> Result<bool, AllocError> {
-    let models = all_owned(alloc, &[b"rc11.cat", b"sc.cat"])?;
-    are_rows(alloc, &models)
+/// Whether the head of a table is as expected.
+fn is_head(alloc: Global) -> Result<bool, AllocError> {
+    let models = words_of(alloc, MODELS)?;
+    Ok(head_of(alloc, 6, &models)?.as_slice() == HEAD)
 }
 
-/// Rows of a suite: path, answer, and how many states.
-const EXPECTED: [(&[u8], &[u8], &[u8]); 3] = [
-    (b"tests/MP.litmus", b"Never 0 3", b"3"),
-    (b"tests/LB.litmus", b"Never 0 3", b"3"),
-    (b"tests/CoRR.litmus", b"Never 0 3", b"3"),
-];
+/// Rows of a suite: path, model, answer, and how many states.
+const EXPECTED: &[u8] = b"tests/MP.litmus\trc11.cat\tNever 0 3\t3
+tests/LB.litmus\trc11.cat\tNever 0 3\t3
+tests/CoRR.litmus\trc11.cat\tNever 0 3\t3
+";
 
-const LATER: [(&[u8], &[u8], &[u8]); 3] = [
-    (b"tests/CoRR.litmus", b"Never 0 3", b"3"),
-    (b"tests/MP.litmus", b"Sometimes 1 3", b"4"),
-    (b"tests/SB.litmus", b"Sometimes 1 3", b"4"),
-];
+const LATER: &[u8] = b"tests/CoRR.litmus\trc11.cat\tNever 0 3\t3
+tests/MP.litmus\trc11.cat\tSometimes 1 3\t4
+tests/SB.litmus\trc11.cat\tSometimes 1 3\t4
+";
 
 const CHANGES: &[u8] =
     b"CHANGED tests/MP.litmus rc11.cat: was Never 0 3, is Sometimes 1 3\nMISSING tests/LB.litmus rc11.cat\nNEW tests/SB.litmus rc11.cat: Sometimes 1 3\n";
 
-fn rows(alloc: Global, texts: &[(&[u8], &[u8], &[u8])]) -> Result<Vec<Row>, AllocError> {
-    let mut rows = Vec::new(alloc);
-    for (path, answer, states) in texts {
-        rows.push(Row {
-            path: owned(alloc, path)?,
-            model: owned(alloc, b"rc11.cat")?,
-            answer: owned(alloc, answer)?,
-            states: owned(alloc, states)?,
-        })?;
-    }
-    Ok(rows)
-}
-
 fn are_changes(alloc: Global, expected: &[Row], found: &[Row]) -> Result<bool, AllocError> {
     let told = differences(alloc, expected, found)?;
-    let same = differences(alloc, found, found)?;
-    Ok(told.as_slice() == CHANGES && same.is_empty())
+    Ok(told.as_slice() == CHANGES && differences(alloc, found, found)?.is_empty())
 }
 
 /// Whether the differences between two suites are those, and there are none between a suite and itself.
-fn differ(alloc: Global) -> Result<bool, AllocError> {
-    let expected = rows(alloc, &EXPECTED)?;
-    let found = rows(alloc, &LATER)?;
-    are_changes(alloc, &expected, &found)
+fn differ(alloc: Global) -> bool {
+    match (&rows_in(alloc, EXPECTED), &rows_in(alloc, LATER)) {
+        (Ok(expected), Ok(found)) => are_changes(alloc, expected, found).unwrap_or(false),
+        _ => false,
+    }
 }
 
 /// As `sha256sum` prints the digests of both texts.
@@ -242,7 +236,10 @@ fn are_digests(alloc: Global) -> Result<bool, AllocError> {
 
 #[test]
 fn tables_suites_and_digests(rt: HostRuntime) {
-    assert!(rt; is_table(rt.alloc()) == Ok(true), "tables");
-    assert!(rt; differ(rt.alloc()) == Ok(true), "two suites");
-    assert!(rt; are_digests(rt.alloc()) == Ok(true), "texts of a model");
+    let alloc = rt.alloc();
+    all_hold(&rt, alloc, "tables", TABLE, is_row);
+    expect(&rt, "the head of a table", is_head(alloc).unwrap_or(false));
+    expect(&rt, "two suites", differ(alloc));
+    let are_digests = are_digests(alloc).unwrap_or(false);
+    expect(&rt, "texts of a model", are_digests);
 }

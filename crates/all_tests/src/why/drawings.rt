@@ -4,14 +4,16 @@
 
 mod expected;
 
+use crate::cases::sink;
 use crate::graphs::{STORE_BUFFERING, graph};
 use crate::names::name;
-use crate::rows::again;
+use crate::rows::{again, expect};
 use drawing::{Broken, Chain, DrawFault, Drawing, Step, dot, text, write_dot, write_text};
 use events::{Graph, Order};
 use expected::*;
 use std::alloc::{AllocError, Global};
-use wb_text::{MemSink, Name};
+use std::process::Abort;
+use wb_text::Name;
 
 /// What is told of an execution.
 #[derive(Drop)]
@@ -203,80 +205,73 @@ fn draws(alloc: Global, case: &Case) -> Result<bool, AllocError> {
     are_drawn_of(alloc, &told, case)
 }
 
-/// What is written to a writer with so much room.
-fn written(
-    alloc: Global,
-    drawing: &Drawing<'_>,
-    as_dot: bool,
-    writer: &mut MemSink,
-) -> Result<(), DrawFault> {
-    if as_dot {
-        write_dot(alloc, drawing, writer)
-    } else {
-        write_text(alloc, drawing, writer)
-    }
-}
-
-/// Whether a writer with so much room is left with just the front part of the bytes, and says that it failed unless that is all of them.
+/// Whether the front part of the bytes is what a writer with so much room is left with, and its failure is told unless that is all of them.
 fn has_a_front_part(
     alloc: Global,
     drawing: &Drawing<'_>,
     as_dot: bool,
     bytes: &[u8],
     room: usize,
-) -> Result<bool, AllocError> {
-    let mut writer = MemSink::new(alloc, room)?;
-    let result = written(alloc, drawing, as_dot, &mut writer);
-    let all = room >= bytes.len();
-    let ends_so = match result {
-        Ok(()) => all,
-        Err(DrawFault::Write) => !all && writer.bytes().len() == room,
-        Err(DrawFault::NoMemory) => false,
-    };
-    Ok(ends_so && bytes.starts_with(writer.bytes()))
+) -> bool {
+    match sink(alloc, room) {
+        Ok(mut writer) => {
+            let outcome = if as_dot {
+                write_dot(alloc, drawing, &mut writer)
+            } else {
+                write_text(alloc, drawing, &mut writer)
+            };
+            ends_so(&outcome, writer.bytes(), bytes, room) && bytes.starts_with(writer.bytes())
+        }
+        Err(AllocError) => false,
+    }
 }
 
-/// The first room, up to one that is enough, with which that doesn't hold.
-fn first_wrong_room(
+/// Whether all was written, or the room was too little for that and is full.
+fn ends_so(outcome: &Result<(), DrawFault>, written: &[u8], bytes: &[u8], room: usize) -> bool {
+    match outcome {
+        Ok(()) => room >= bytes.len(),
+        Err(DrawFault::Write) => room < bytes.len() && written.len() == room,
+        Err(DrawFault::NoMemory) => false,
+    }
+}
+
+/// Fails with the first room, up to one that is enough, with which that doesn't hold.
+fn expect_front_parts(
+    rt: &impl Abort,
     alloc: Global,
     drawing: &Drawing<'_>,
     as_dot: bool,
     bytes: &[u8],
-) -> Result<Option<usize>, AllocError> {
+) {
     for room in 0..=bytes.len() {
-        if !has_a_front_part(alloc, drawing, as_dot, bytes, room)? {
-            return Ok(Some(room));
-        }
+        let has_a_front_part = has_a_front_part(alloc, drawing, as_dot, bytes, room);
+        assert!(rt;
+            has_a_front_part,
+            "a writer with too little room, at {room}"
+        );
     }
-    Ok(None)
 }
 
-/// The first wrong room of each drawing, of a text and of a file.
-type Rooms = (Option<usize>, Option<usize>);
-
-fn wrong_rooms_of(alloc: Global, told: &Told) -> Result<Rooms, AllocError> {
-    let execution = graph(alloc, ALONE, Order::Rlx)?;
-    let drawing = drawing(told, &execution);
-    Ok((
-        first_wrong_room(alloc, &drawing, false, ALONE_TEXT)?,
-        first_wrong_room(alloc, &drawing, true, ALONE_DOT)?,
-    ))
-}
-
-/// The wrong rooms of a graph without reads.
-fn wrong_rooms(alloc: Global) -> Result<Rooms, AllocError> {
-    let told = told_of(alloc, PLAIN)?;
-    wrong_rooms_of(alloc, &told)
+/// Both drawings of a graph without reads, of which this is told, for writers with too little room.
+fn expect_rooms(rt: &impl Abort, alloc: Global, told: &Told) {
+    match &graph(alloc, ALONE, Order::Rlx) {
+        Ok(execution) => {
+            let drawing = drawing(told, execution);
+            expect_front_parts(rt, alloc, &drawing, false, ALONE_TEXT);
+            expect_front_parts(rt, alloc, &drawing, true, ALONE_DOT);
+        }
+        Err(AllocError) => expect(rt, "an execution without reads", false),
+    }
 }
 
 #[test]
 fn drawings(rt: HostRuntime) {
+    let alloc = rt.alloc();
     for case in &CASES {
-        assert!(rt; draws(rt.alloc(), case) == Ok(true), "{}", case.name);
+        expect(&rt, case.name, draws(alloc, case).unwrap_or(false));
     }
-    let rooms = wrong_rooms(rt.alloc());
-    assert!(rt;
-        rooms == Ok((None, None)),
-        "a writer with too little room, at {rooms:?}"
-    );
+    match &told_of(alloc, PLAIN) {
+        Ok(told) => expect_rooms(&rt, alloc, told),
+        Err(AllocError) => expect(&rt, "what is told of an execution", false),
+    }
 }

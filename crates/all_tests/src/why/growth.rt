@@ -2,16 +2,16 @@
 //!
 //! `tools/refuse-each-growth all_tests why::growth::searching ..` runs these tests once for each request for memory.
 
-use crate::rows::all_hold;
-use crate::why::reasons::{are_related, is_why};
-use crate::why::searches::is_found;
+use crate::rows::all_answered;
+use crate::why::reasons::{names_between, why};
+use crate::why::searches::found;
 
 /// What is found of store buffering that RC11 forbids.
 const FOUND: &str = "SB+sc: rc11.cat ==> nothing other initial other";
 
 #[test]
 fn searching(rt: HostRuntime) {
-    all_hold(&rt, rt.alloc(), "store buffering", FOUND, is_found);
+    all_answered(&rt, rt.alloc(), "store buffering", FOUND, found);
 }
 
 const REASON: &str =
@@ -19,18 +19,13 @@ const REASON: &str =
 
 #[test]
 fn explaining(rt: HostRuntime) {
-    all_hold(&rt, rt.alloc(), "the cycle of two readers", REASON, is_why);
+    all_answered(&rt, rt.alloc(), "the cycle of two readers", REASON, why);
 }
 
 const STEP: &str = "3 4 1: let com = rf | co | fr acyclic po | com ==> fr loc ext fre com";
 
 #[test]
 fn naming(rt: HostRuntime) {
-    all_hold(
-        &rt,
-        rt.alloc(),
-        "bindings of a model's own",
-        STEP,
-        are_related,
-    );
+    let name = "bindings of a model's own";
+    all_answered(&rt, rt.alloc(), name, STEP, names_between);
 }

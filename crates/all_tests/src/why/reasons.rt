@@ -2,7 +2,7 @@
 //!
 //! The initial writes have the first numbers, those of x and of y, then come the events of the threads.
 
-use crate::rows::{again, all_hold, push_number};
+use crate::rows::{all_answered, number_of};
 use crate::why::made::{execution, model};
 use crate::why::texts::{STORE_BUFFERING, text_of};
 use cat_model::Model;
@@ -29,29 +29,32 @@ MP: rc11.cat ==> allowed
 MP: let fr = rmw empty fr let fr = po empty rf & fr acyclic fr | rf ==> allowed";
 
 /// Adds numbers, each with a blank before it.
-pub fn push_numbers(alloc: Global, text: &mut String, numbers: &[usize]) -> Result<(), AllocError> {
+pub fn push_numbers(text: &mut String, numbers: &[usize]) -> Result<(), AllocError> {
     for number in numbers {
-        push_number(alloc, text, *number)?;
+        write!(text, " {number}")?;
     }
     Ok(())
 }
 
 /// The place of the least event.
 fn place_of_least(events: &[usize]) -> usize {
+    let mut least = usize::MAX;
+    let mut found = 0;
     for (place, event) in events.iter().enumerate() {
-        if events.iter().all(|other| *event <= *other) {
-            return place;
+        if *event < least {
+            least = *event;
+            found = place;
         }
     }
-    0
+    found
 }
 
 /// A cycle, from its least event on and round to it.
 fn cycle_shown(alloc: Global, events: &[usize]) -> Result<String, AllocError> {
     let mut text = String::from_str(alloc, "cycle")?;
     let (before, behind) = events.split_at(place_of_least(events).min(events.len()));
-    push_numbers(alloc, &mut text, behind)?;
-    push_numbers(alloc, &mut text, before)?;
+    push_numbers(&mut text, behind)?;
+    push_numbers(&mut text, before)?;
     Ok(text)
 }
 
@@ -90,17 +93,11 @@ fn told_in(alloc: Global, execution: &Graph, model_text: &str) -> Result<String,
     told(alloc, &model, execution)
 }
 
-/// Why a model forbids the first execution of a test that has its proposition.
-fn explained(alloc: Global, test: &str, model_text: &str) -> Result<String, AllocError> {
-    let execution = execution(alloc, test)?;
-    told_in(alloc, &execution, model_text)
-}
-
-/// Whether the reason is as it is expected, though a request for memory be refused.
-pub fn is_why(alloc: Global, given: &str, wanted: &str) -> Result<bool, AllocError> {
+/// Why the model of a row forbids the first execution of its test that has the proposition.
+pub fn why(alloc: Global, given: &str) -> Result<String, AllocError> {
     let (test, model) = given.split_once(": ").unwrap_or((given, ""));
-    let told = again!(_, explained(alloc, text_of(test), model))?;
-    Ok(told.as_str() == wanted)
+    let execution = execution(alloc, text_of(test))?;
+    told_in(alloc, &execution, model)
 }
 
 /// Two events of store buffering, how many items of a model come before, and the names that relate them.
@@ -117,12 +114,10 @@ const STEPS: &str = "3 4 1: let com = rf | co | fr acyclic po | com ==> fr loc e
 fn names_shown(alloc: Global, names: &[Name]) -> Result<String, AllocError> {
     let mut text = String::new(alloc);
     for name in names {
-        let shown = if text.is_empty() {
-            format!(in alloc; "{name}")?
-        } else {
-            format!(in alloc; " {name}")?
-        };
-        text.push_str(shown.as_str())?;
+        if !text.is_empty() {
+            text.push(' ')?;
+        }
+        write!(text, "{name}")?;
     }
     Ok(text)
 }
@@ -132,22 +127,12 @@ type Place = (usize, usize, usize);
 
 fn place_of(words: &str) -> Option<Place> {
     let mut words = words.split(' ');
-    Some((
-        words.next()?.parse::<usize>().ok()?,
-        words.next()?.parse::<usize>().ok()?,
-        words.next()?.parse::<usize>().ok()?,
-    ))
-}
-
-fn related_by(
-    alloc: Global,
-    model: &Model,
-    execution: &Graph,
-    place: Place,
-) -> Result<String, AllocError> {
-    let (from, to, before) = place;
-    let names = labels(alloc, model, execution, from, to, before)?;
-    names_shown(alloc, &names)
+    let from = number_of(words.next());
+    let to = number_of(words.next());
+    match (from, to, number_of(words.next())) {
+        (Some(from), Some(to), Some(before)) => Some((from, to, before)),
+        _ => None,
+    }
 }
 
 fn related_in(
@@ -156,33 +141,25 @@ fn related_in(
     model_text: &str,
     place: Place,
 ) -> Result<String, AllocError> {
+    let (from, to, before) = place;
     let model = model(alloc, model_text)?;
-    related_by(alloc, &model, execution, place)
+    let names = labels(alloc, &model, execution, from, to, before)?;
+    names_shown(alloc, &names)
 }
 
-/// The names that relate two events of store buffering.
-fn related(alloc: Global, model_text: &str, place: Place) -> Result<String, AllocError> {
-    let execution = execution(alloc, STORE_BUFFERING)?;
-    related_in(alloc, &execution, model_text, place)
-}
-
-/// Whether the names are those that are expected, though a request for memory be refused.
-pub fn are_related(alloc: Global, given: &str, wanted: &str) -> Result<bool, AllocError> {
+/// The names that relate two events of store buffering by the model of a row.
+pub fn names_between(alloc: Global, given: &str) -> Result<String, AllocError> {
     let (words, model) = given.split_once(": ").unwrap_or((given, ""));
+    let execution = execution(alloc, STORE_BUFFERING)?;
     match place_of(words) {
-        Some(place) => Ok(again!(_, related(alloc, model, place))?.as_str() == wanted),
-        None => Ok(false),
+        Some(place) => related_in(alloc, &execution, model, place),
+        None => String::from_str(alloc, "no place"),
     }
 }
 
 #[test]
 fn reasons(rt: HostRuntime) {
-    all_hold(
-        &rt,
-        rt.alloc(),
-        "the first check that fails",
-        REASONS,
-        is_why,
-    );
-    all_hold(&rt, rt.alloc(), "names of steps", STEPS, are_related);
+    let alloc = rt.alloc();
+    all_answered(&rt, alloc, "the first check that fails", REASONS, why);
+    all_answered(&rt, alloc, "names of steps", STEPS, names_between);
 }

@@ -1,6 +1,6 @@
 //! Witnesses, closest executions and shortest cycles, expected by hand.
 
-use crate::rows::{again, all_hold};
+use crate::rows::{all_answered, number_of};
 use crate::why::made::work;
 use crate::why::reasons::push_numbers;
 use crate::why::texts::text_of;
@@ -40,16 +40,11 @@ fn found_of(alloc: Global, work: &Work) -> Result<String, AllocError> {
     format!(in alloc; "{witness_with} {witness_without} {with} {without}")
 }
 
-fn found(alloc: Global, test: &str, model_text: &str) -> Result<String, AllocError> {
-    let work = work(alloc, test, model_text)?;
-    found_of(alloc, &work)
-}
-
-/// Whether what is found is as it is expected, though a request for memory be refused.
-pub fn is_found(alloc: Global, given: &str, wanted: &str) -> Result<bool, AllocError> {
+/// What is found of the test and the model of a row.
+pub fn found(alloc: Global, given: &str) -> Result<String, AllocError> {
     let (test, model) = given.split_once(": ").unwrap_or((given, ""));
-    let found = again!(_, found(alloc, text_of(test), model))?;
-    Ok(found.as_str() == wanted)
+    let work = work(alloc, text_of(test), model)?;
+    found_of(alloc, &work)
 }
 
 /// Some pairs of a relation over five events, and its shortest cycle.
@@ -60,8 +55,11 @@ const RELATIONS: &str = " ==> none
 
 /// A pair of two of the five events.
 fn pair_of(words: &str) -> Option<(usize, usize)> {
-    let (from, to) = words.split_once('-')?;
-    Some((from.parse::<usize>().ok()?, to.parse::<usize>().ok()?))
+    let mut words = words.split('-');
+    match (number_of(words.next()), number_of(words.next())) {
+        (Some(from), Some(to)) => Some((from, to)),
+        _ => None,
+    }
 }
 
 fn relation_of(pairs: &str) -> Option<Rel> {
@@ -76,28 +74,28 @@ fn relation_of(pairs: &str) -> Option<Rel> {
     Some(relation)
 }
 
+/// The shortest cycle of a relation.
 fn cycle_of(alloc: Global, relation: &Rel) -> Result<String, AllocError> {
-    let found = shortest_cycle(alloc, relation)?;
-    let mut text = String::new(alloc);
-    match &found {
+    match &shortest_cycle(alloc, relation)? {
         Some(events) => {
-            text.push_str("cycle")?;
-            push_numbers(alloc, &mut text, events)?;
+            let mut text = String::from_str(alloc, "cycle")?;
+            push_numbers(&mut text, events).and(Ok(text))
         }
-        None => text.push_str("none")?,
+        None => String::from_str(alloc, "none"),
     }
-    Ok(text)
 }
 
-fn cycle_is(alloc: Global, pairs: &str, wanted: &str) -> Result<bool, AllocError> {
+/// The shortest cycle of the pairs of a row.
+fn cycle(alloc: Global, pairs: &str) -> Result<String, AllocError> {
     match relation_of(pairs) {
-        Some(relation) => Ok(cycle_of(alloc, &relation)?.as_str() == wanted),
-        None => Ok(false),
+        Some(relation) => cycle_of(alloc, &relation),
+        None => String::from_str(alloc, "no relation"),
     }
 }
 
 #[test]
 fn searches(rt: HostRuntime) {
-    all_hold(&rt, rt.alloc(), "first executions", FOUND, is_found);
-    all_hold(&rt, rt.alloc(), "cycles", RELATIONS, cycle_is);
+    let alloc = rt.alloc();
+    all_answered(&rt, alloc, "first executions", FOUND, found);
+    all_answered(&rt, alloc, "cycles", RELATIONS, cycle);
 }

@@ -4,14 +4,13 @@
 ghost use Rattle.std.specs.Prelude.{◌≡◌, [], IfOk, OnOk};
 ghost use Rattle.all_tests.specs.Whole.{IsOver, IsWhole};
 
-use crate::cases::{confirm, confirm_all};
 use crate::desk::commands::{SB, put_cat};
 use crate::desk::works::{whole_part, whole_piece, work_of};
-use crate::rows::again;
+use crate::rows::{again, expect};
 use book::{Command, Said};
 use slices::{KeptSpace, Piece, PieceResult, Tally, Verdict, VerdictRef, WorkRef};
 use std::alloc::{AllocError, Global};
-use std::test::Fail;
+use std::process::Abort;
 
 /// How many executions have the proposition, how many don't, and how many final states there are.
 type Counts = (u64, u64, usize);
@@ -191,45 +190,49 @@ fn is_kept(alloc: Global, work: &WorkRef) -> Result<bool, AllocError> {
     Ok(is_judged(verdict.verdict(), 7))
 }
 
+/// Whether the results of a test, and of one of one execution, are as they should be.
+fn expect_results(rt: &impl Abort, alloc: Global, sb: &WorkRef, one: &WorkRef) {
+    expect(rt, "works: how many numbers SB has", sb.work().size() == 16);
+    expect(rt, "works: SB itself", sb.work() == sb.work());
+    let is_evaluated = is_evaluated(alloc, sb, 16, BUFFERING);
+    expect(rt, "results: the result of all numbers", is_evaluated);
+    expect(rt, "copies: copies of the result", is_copied(alloc, sb));
+    let is_tallied = is_tallied(alloc, sb);
+    expect(
+        rt,
+        "sb_calls: the verdict of a tally on version 1",
+        is_tallied,
+    );
+    let is_kept = is_kept(alloc, sb).unwrap_or(false);
+    expect(rt, "verdicts: the verdict on version 7", is_kept);
+    let are_kept_apart = are_kept_apart(alloc, sb, one);
+    expect(
+        rt,
+        "kept_spaces: pieces of two tests, in turn",
+        are_kept_apart,
+    );
+}
+
 #[test]
-fn results(rt: HostRuntime) -> Result<(), Fail> {
+fn results(rt: HostRuntime) {
     let alloc = rt.alloc();
-    let sb = work_of(alloc, SB, b"stdlib.cat")?;
-    let one = work_of(alloc, ONE, b"stdlib.cat")?;
-    confirm_all(&[
-        (
-            "works: how many numbers SB has",
-            sb.work().size() == 16 && sb.work() == sb.work(),
-        ),
-        (
-            "results: the result of all numbers",
-            is_evaluated(alloc, &sb, 16, BUFFERING),
-        ),
-        ("copies: copies of the result", is_copied(alloc, &sb)),
-        (
-            "sb_calls: the verdict of a tally on version 1",
-            is_tallied(alloc, &sb),
-        ),
-        (
-            "verdicts: the verdict on version 7",
-            is_kept(alloc, &sb) == Ok(true),
-        ),
-        (
-            "kept_spaces: pieces of two tests, in turn",
-            are_kept_apart(alloc, &sb, &one),
-        ),
-    ])
+    let sb = work_of(alloc, SB, b"stdlib.cat");
+    let one = work_of(alloc, ONE, b"stdlib.cat");
+    match (&sb, &one) {
+        (Ok(sb), Ok(one)) => expect_results(&rt, alloc, sb, one),
+        _ => expect(&rt, "works of two tests", false),
+    }
 }
 
 /// A quarter of the executions has the proposition: each load reads from the one write or the other.
 #[test]
-fn largest_piece(rt: HostRuntime) -> Result<(), Fail> {
+fn largest_piece(rt: HostRuntime) {
     let alloc = rt.alloc();
-    let work = work_of(alloc, LARGEST, b"stdlib.cat")?;
-    confirm(
-        is_evaluated(alloc, &work, 1 << 24, (1_024, 3_072, 4)),
-        "the largest piece",
-    )
+    let is_evaluated = match &work_of(alloc, LARGEST, b"stdlib.cat") {
+        Ok(work) => is_evaluated(alloc, work, 1 << 24, (1_024, 3_072, 4)),
+        Err(AllocError) => false,
+    };
+    expect(&rt, "the largest piece", is_evaluated);
 }
 
 /// Whether a command is shown as the put of SB as a cat file.
@@ -257,7 +260,10 @@ fn is_shown(command: &Command) -> bool {
 }
 
 #[test]
-fn shown_commands(rt: HostRuntime) -> Result<(), Fail> {
-    let command = put_cat(rt.alloc(), b"a.cat", SB)?;
-    confirm(is_shown(&command), "the put of SB as a cat file")
+fn shown_commands(rt: HostRuntime) {
+    let is_shown = match &put_cat(rt.alloc(), b"a.cat", SB) {
+        Ok(command) => is_shown(command),
+        Err(AllocError) => false,
+    };
+    expect(&rt, "the put of SB as a cat file", is_shown);
 }

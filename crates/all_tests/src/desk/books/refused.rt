@@ -4,13 +4,14 @@
 
 ghost use Rattle.std.specs.Prelude.{◌<◌};
 
-use crate::cases::{confirm, parts_of};
+use crate::cases::parts_of;
 use crate::desk::books::scene::{call, call_of, new_book, play, refused};
 use crate::desk::commands::is_told;
+use crate::rows::expect;
 use crate::script::texts::expanded;
 use book::{Book, Command, Limits, Refused};
 use std::alloc::{AllocError, Global};
-use std::test::Fail;
+use std::process::Abort;
 
 /// Each command once: a call behind others, and what it is answered where it is taken.
 const ROWS: &str = "
@@ -165,7 +166,10 @@ fn gets_its_answer(alloc: Global, book: &mut Book, command: Command, wanted: &st
     let place = book.journal().len();
     let taken = match refused(book, 0, command) {
         None => true,
-        Some(command) => lists_as_before(alloc, book, place) && call(book, 0, command),
+        Some(command) => {
+            let same = lists_as_before(alloc, book, place);
+            call(book, 0, command) && same
+        }
     };
     taken && ends_so(alloc, book, wanted)
 }
@@ -198,22 +202,25 @@ fn is_answered(alloc: Global, row: &str) -> bool {
 }
 
 /// Fails with the first row that doesn't hold.
-fn all_hold(alloc: Global, holds: fn(Global, &str) -> bool) -> Result<(), Fail>
+fn all_hold(rt: &impl Abort, alloc: Global, holds: fn(Global, &str) -> bool)
     requires { IsAlwaysCallable holds }
 {
-    let rows = expanded(alloc, ROWS)?;
-    for row in rows.as_str().split("=== ").skip(1) {
-        confirm(holds(alloc, row), row)?;
+    match expanded(alloc, ROWS) {
+        Ok(rows) => {
+            for row in rows.as_str().split("=== ").skip(1) {
+                expect(rt, row, holds(alloc, row));
+            }
+        }
+        Err(AllocError) => expect(rt, "rows", false),
     }
-    Ok(())
 }
 
 #[test]
-fn journal_full(rt: HostRuntime) -> Result<(), Fail> {
-    all_hold(rt.alloc(), is_refused_when_full)
+fn journal_full(rt: HostRuntime) {
+    all_hold(&rt, rt.alloc(), is_refused_when_full);
 }
 
 #[test]
-fn each_command(rt: HostRuntime) -> Result<(), Fail> {
-    all_hold(rt.alloc(), is_answered)
+fn each_command(rt: HostRuntime) {
+    all_hold(&rt, rt.alloc(), is_answered);
 }

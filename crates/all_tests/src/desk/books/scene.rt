@@ -2,7 +2,7 @@
 //!
 //! Only `is_played` owns a book: each drop of a book makes a proof longer.
 
-ghost use Rattle.std.specs.Prelude.{◌<◌};
+ghost use Rattle.std.specs.Prelude.{◌<◌, IfOk};
 
 use crate::cases::{limits_of, sink};
 use crate::desk::commands::{claim_of, command_of, give, head_of};
@@ -62,7 +62,9 @@ fn foreign(alloc: Global) -> Result<Command, AllocError> {
 }
 
 /// The seat and the command of a call of a script. A claim of 0 is another book's.
-pub fn call_of(alloc: Global, book: &Book, call: &str) -> Result<(u8, Command), AllocError> {
+pub fn call_of(alloc: Global, book: &Book, call: &str) -> Result<(u8, Command), AllocError>
+    ensures { IfOk result (λ r. r.0 < 8) }
+{
     let (seat, head, text) = head_of(alloc, call)?;
     let command = match claim_of(&head) {
         Some(0) => foreign(alloc)?,
@@ -75,7 +77,7 @@ pub fn call_of(alloc: Global, book: &Book, call: &str) -> Result<(u8, Command), 
 /// Makes a call of a script, and says whether that was done.
 fn make(alloc: Global, book: &mut Book, line: &str) -> bool {
     match call_of(alloc, book, line) {
-        Ok((seat, command)) => seat < 64 && call(book, seat, command),
+        Ok((seat, command)) => call(book, seat, command),
         Err(AllocError) => false,
     }
 }

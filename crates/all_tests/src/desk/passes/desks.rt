@@ -2,10 +2,9 @@
 
 ghost use Rattle.std.specs.Prelude.{◌≡◌, All};
 
-use crate::cases::confirm_all;
 use crate::desk::calls::{are_told, entries, last_reply, make_all, recorded};
 use crate::desk::commands::is_told;
-use crate::rows::again;
+use crate::rows::{again, expect};
 use crate::script::texts::expanded;
 use book::{Command, Entry, Limits, Refused};
 use sessions::{Desk, FinishCause, FinishFault, Pass, Receipt, finish, open};
@@ -13,7 +12,6 @@ use std::alloc::{AllocError, Global};
 use std::marker::Brand;
 use std::sync::Wait;
 use std::sync::ledger::{Blank, Ledger};
-use std::test::Fail;
 
 pub const WIDE: Limits = Limits {
     journal: 1_000_000,
@@ -267,7 +265,7 @@ fn is_answered<L: Ledger, R: Wait>(
     requires { pass.old.parts ≡ 1 }
     ensures { pass.new.parts ≡ 1 }
 {
-    match (expanded(alloc, calls), expanded(alloc, answers)) {
+    match (&expanded(alloc, calls), &expanded(alloc, answers)) {
         (Ok(calls), Ok(answers)) => {
             make_all(rt, alloc, desk, pass, calls.as_str()) == number
                 && are_told(alloc, pass, answers.as_str())
@@ -389,27 +387,23 @@ const SPENT_AT: Limits = Limits {
 };
 
 #[test]
-fn desks(rt: HostRuntime) -> Result<(), Fail> {
+fn desks(rt: HostRuntime) {
     let alloc = rt.alloc();
     let spending = Session::Calls(SPENDING, 8, SPENT);
-    confirm_all(&[
-        ("two_sessions_in_turn", both(&rt, alloc)),
-        ("missing_pass", missing(&rt, alloc)),
-        (
-            "journal_full",
-            goes_well(&rt, alloc, NARROW, Session::Full, Some(3)),
-        ),
-        ("spent", goes_well(&rt, alloc, SPENT_AT, spending, Some(8))),
-        (
-            "a_thousand_versions_and_claims",
-            goes_well(&rt, alloc, WIDE, Session::Often, None),
-        ),
-    ])
+    expect(&rt, "two_sessions_in_turn", both(&rt, alloc));
+    expect(&rt, "missing_pass", missing(&rt, alloc));
+    let is_full = goes_well(&rt, alloc, NARROW, Session::Full, Some(3));
+    expect(&rt, "journal_full", is_full);
+    let are_spent = goes_well(&rt, alloc, SPENT_AT, spending, Some(8));
+    expect(&rt, "spent", are_spent);
+    let often = goes_well(&rt, alloc, WIDE, Session::Often, None);
+    expect(&rt, "a_thousand_versions_and_claims", often);
 }
 
 /// `tools/refuse-each-growth` runs this once for each request for memory.
 #[test]
 fn each_call(rt: HostRuntime) {
     let each = Session::Calls(EACH, 20, EACH_ANSWERED);
-    assert!(rt; goes_well(&rt, rt.alloc(), WIDE, each, Some(20)));
+    let is_answered = goes_well(&rt, rt.alloc(), WIDE, each, Some(20));
+    expect(&rt, "each call", is_answered);
 }

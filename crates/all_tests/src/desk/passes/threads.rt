@@ -2,16 +2,15 @@
 
 ghost use Rattle.std.specs.Prelude.{◌≡◌, ◌≤◌, ◌<◌, All};
 
-use crate::cases::confirm_all;
 use crate::desk::calls::{entries, make_all};
 use crate::desk::commands::is_told;
 use crate::desk::passes::desks::{FIRST, SECOND, WIDE, asks_and_returns};
+use crate::rows::expect;
 use sessions::{Desk, Pass, open};
 use std::alloc::{AllocError, Global};
 use std::marker::Brand;
 use std::sync::Wait;
 use std::sync::ledger::{Blank, Ledger};
-use std::test::Fail;
 use std::thread;
 use std::thread::Threads;
 
@@ -182,16 +181,10 @@ fn goes_well<R: Threads + Wait + Sync>(
 }
 
 #[test]
-fn threads(rt: HostRuntime) -> Result<(), Fail> {
+fn threads(rt: HostRuntime) {
     let alloc = rt.alloc();
-    confirm_all(&[
-        (
-            "four_passes",
-            goes_well(&rt, alloc, Session::Once, 4, 0, Some(2)),
-        ),
-        (
-            "eight_sessions_of_mixed_calls",
-            goes_well(&rt, alloc, Session::Mixed, 8, 1600, None),
-        ),
-    ])
+    let four = goes_well(&rt, alloc, Session::Once, 4, 0, Some(2));
+    expect(&rt, "four_passes", four);
+    let mixed = goes_well(&rt, alloc, Session::Mixed, 8, 1600, None);
+    expect(&rt, "eight_sessions_of_mixed_calls", mixed);
 }

@@ -188,11 +188,13 @@ const REFUSALS: [(u64, u64, Done); 8] = [
 
 #[test]
 fn refusals(rt: HostRuntime) {
-    for (calls, evaluations, wanted) in REFUSALS {
-        let refused = Denied { calls, evaluations };
-        assert!(rt;
-            is_done(&rt, rt.alloc(), refused, wanted),
-            "{calls} {evaluations}"
-        );
+    let alloc = rt.alloc();
+    for (calls, evaluations, wanted) in &REFUSALS {
+        let refused = Denied {
+            calls: *calls,
+            evaluations: *evaluations,
+        };
+        let is_done = is_done(&rt, alloc, refused, *wanted);
+        assert!(rt; is_done, "{calls} {evaluations}");
     }
 }

@@ -3,20 +3,19 @@
 
 ghost use Rattle.std.specs.Prelude.{◌≡◌, ◌≤◌, ◌<◌, All, length};
 
-use crate::cases::confirm_all;
 use crate::desk::calls::{entries, last_reply, make_all, recorded};
 use crate::desk::working::calls::{
     all_alternate, had_verdict, job_of, last_claim, put_back, take_last,
 };
 use crate::desk::working::gates::{Holds, Watching};
 use crate::desk::working::sharing::sessions_then_close;
+use crate::rows::expect;
 use book::{Command, Limits, Refusal, Reply};
 use sessions::{Desk, Pass, open};
 use std::alloc::{AllocError, Global};
 use std::marker::Brand;
 use std::sync::Wait;
 use std::sync::ledger::{Blank, Ledger};
-use std::test::Fail;
 use std::thread;
 use std::thread::Threads;
 use std::time::{Clock, Duration};
@@ -365,24 +364,14 @@ fn goes_well<R: Threads + Wait + Clock + Sync>(rt: &R, alloc: Global, course: Co
 }
 
 #[test]
-fn courses(rt: HostRuntime) -> Result<(), Fail> {
+fn courses(rt: HostRuntime) {
     let alloc = rt.alloc();
-    confirm_all(&[
-        (
-            "two_pieces_at_once: until the desk is idle",
-            goes_well(&rt, alloc, Course::Idle),
-        ),
-        (
-            "two_pieces_at_once: until the book is closed",
-            goes_well(&rt, alloc, Course::Closed),
-        ),
-        (
-            "closed_while_a_piece_is_held",
-            goes_well(&rt, alloc, Course::Held),
-        ),
-        (
-            "two_sessions_two_workers",
-            goes_well(&rt, alloc, Course::Shared),
-        ),
-    ])
+    let idle = goes_well(&rt, alloc, Course::Idle);
+    expect(&rt, "two_pieces_at_once: until the desk is idle", idle);
+    let closed = goes_well(&rt, alloc, Course::Closed);
+    expect(&rt, "two_pieces_at_once: until the book is closed", closed);
+    let held = goes_well(&rt, alloc, Course::Held);
+    expect(&rt, "closed_while_a_piece_is_held", held);
+    let shared = goes_well(&rt, alloc, Course::Shared);
+    expect(&rt, "two_sessions_two_workers", shared);
 }
