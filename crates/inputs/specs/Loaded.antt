@@ -38,3 +38,10 @@ pub record IsCase (path name told : List ℕ) (c : Case) : Type 0 where
   pub path_is : c.path.now ≡ path
   pub model_is : IsUtf8 name → c.model.now ≡ name
   pub digests_is : IsUtf8 told → c.digests.now ≡ told
+
+-- a test under each of some models, in their order
+pub data AreCases (path : List ℕ) : List (List ℕ) → List (List ℕ) → List Case → Type 0 where
+  no_case : AreCases path [] [] []
+  one_more : {names digests : List (List ℕ)} {cases : List Case} (name told : List ℕ) (c : Case)
+      → AreCases path names digests cases → IsCase path name told c
+      → AreCases path (names ++ name ∷ []) (digests ++ told ∷ []) (cases ++ c ∷ [])

@@ -1,9 +1,9 @@
 //! Models, with the files that they include.
 
-ghost use Rattle.std.specs.Prelude.{◌≡◌, ◌++◌, ◌∷◌, ◌<◌, ◌≤◌, [], OnErr, OnOk, get_or, map, vec_len};
+ghost use Rattle.std.specs.Prelude.{◌≡◌, ◌++◌, ◌∷◌, ◌<◌, ◌≤◌, [], IfOk, OnErr, OnOk, get_or, map, vec_len};
 ghost use Rattle.std.specs.Str.{IsUtf8};
 ghost use Rattle.std.specs.Vec.{vec_capacity};
-ghost use Rattle.inputs.specs.Loaded.{AreLoaded, IsCase, IsLoaded, IsOneMore};
+ghost use Rattle.inputs.specs.Loaded.{AreCases, AreLoaded, IsCase, IsLoaded, IsOneMore};
 
 use crate::sources::Sources;
 use crate::trouble::{Trouble, told};
@@ -80,6 +80,17 @@ impl Models {
             model: text_at(&self.names, place),
             digests: text_at(&self.digests, place),
         }
+    }
+
+    /// A test under each of the models, in their order.
+    pub fn cases<'a>(&'a self, alloc: Global, path: &'a str) -> Result<Vec<Case<'a>>, AllocError>
+        ensures { IfOk result (λ cases. AreCases path.now self.now.names self.now.digests cases.items) }
+    {
+        let mut cases = Vec::new(alloc);
+        for place in 0..self.models.len() {
+            cases.push(self.case(path, place))?;
+        }
+        Ok(cases)
     }
 
     /// Adds the model that a word names: that of a file, or a built-in one. What is wrong with it is told on standard error.

@@ -77,6 +77,8 @@ impl Told {
         ensures rows { OnOk result (map texts_of self.new.rows.items ≡ map texts_of self.old.rows.items ++ if_kept wanted.now.keeps_rows (verdict_rows test.now.cases.now verdicts.now)) }
         ensures differs { OnOk result (self.new.differs ≡ differ verdicts.now) }
         ensures message { self.new.message ≡ self.old.message }
+        ensures why { self.new.why ≡ self.old.why }
+        ensures dot { self.new.dot ≡ self.old.dot }
     {
         let cells = cells_for(alloc, verdicts)?;
         self.differs = !are_alike(&cells);
@@ -116,6 +118,8 @@ impl Told {
         ensures rows { OnOk result (map texts_of self.new.rows.items ≡ map texts_of self.old.rows.items ++ if_kept wanted.now.keeps_rows (refusals.refused_rows test.now trouble.now)) }
         ensures message { OnOk result (refusals.Tells test.now.path.now test.now.text.now trouble.now (string_bytes self.new.message)) }
         ensures differs { self.new.differs ≡ self.old.differs }
+        ensures why { self.new.why ≡ self.old.why }
+        ensures dot { self.new.dot ≡ self.old.dot }
     {
         let label = label_of(trouble);
         self.message = message_of(alloc, test.path, test.text, trouble)?;

@@ -1,14 +1,16 @@
 //! How long a test may take.
 
 use crate::meter::{Meter, milliseconds_since};
+use inputs::Timer;
 use std::time::{Clock, Instant};
 use suite::Patience;
 
 /// Someone who waits for so many milliseconds, and tells on the way how far the run is.
 pub struct Deadline<'a, R: Clock + Eprint> {
     rt: &'a R,
-    pub began: Option<Instant>,
-    pub limit: u64,
+    began: Option<Instant>,
+    limit: u64,
+    gives_up: bool,
     pub meter: Meter,
 }
 
@@ -18,17 +20,20 @@ impl<'a, R: Clock + Eprint> Drop for Deadline<'a, R> {
             rt: _,
             began: _,
             limit: _,
+            gives_up: _,
             meter: _,
         } = self;
     }
 }
 
 impl<'a, R: Clock + Eprint> Deadline<'a, R> {
-    pub fn new(rt: &'a R, limit: u64, meter: Meter) -> Self {
+    /// A wait of so many milliseconds, which is the last where a test may take no longer.
+    pub fn new(rt: &'a R, limit: u64, most: u64, meter: Meter) -> Self {
         Deadline {
             rt,
             began: Instant::now(rt).ok(),
             limit,
+            gives_up: limit >= most,
             meter,
         }
     }
@@ -38,6 +43,16 @@ impl<'a, R: Clock + Eprint> Patience for Deadline<'a, R> {
     fn is_over(&mut self) -> bool {
         // The line only tells how far the run is; a terminal that is gone ends nothing.
         let _ = self.meter.tick(self.rt);
-        milliseconds_since(self.rt, self.began) >= self.limit
+        self.milliseconds() >= self.limit
+    }
+}
+
+impl<'a, R: Clock + Eprint> Timer for Deadline<'a, R> {
+    fn milliseconds(&self) -> u64 {
+        milliseconds_since(self.rt, self.began)
+    }
+
+    fn gives_up(&self) -> bool {
+        self.gives_up
     }
 }

@@ -1,11 +1,10 @@
 //! A run of the program: models, tests, comparison, and the last line.
 
-use crate::deadline::Deadline;
 use crate::meter::Meter;
-use crate::run::{Plan, Stage, Test};
+use crate::run::{Plan, judge_quickly, judge_wholly};
 use crate::words::Words;
-use inputs::{Models, Paths, Trouble, read_rows, see_writable, store_rows, write_file};
-use outcome::{Counts, Form, Status, Wanted};
+use inputs::{Asked, Models, Paths, Stage, Test, Trouble, read_rows, see_writable, store_rows, write_file};
+use outcome::{Counts, Form, Status};
 use std::alloc::{AllocError, Global};
 use std::rt::Files;
 use std::thread;
@@ -123,10 +122,8 @@ impl Given {
     /// What all tests have in common.
     fn plan<'a, R: Threads>(&'a self, rt: &R, words: &Words<'_>) -> Plan<'a> {
         Plan {
-            models: &self.models,
-            wanted: self.wanted(words),
+            asked: self.asked(words),
             why: words.why,
-            draws: words.dot.is_some(),
             threads: threads_of(rt, words),
             limit: match words.timeout {
                 Some(seconds) => u64::from(seconds).saturating_mul(1_000),
@@ -136,12 +133,13 @@ impl Given {
     }
 
     /// What is asked of each test.
-    fn wanted<'a>(&'a self, words: &Words<'_>) -> Wanted<'a> {
-        Wanted {
+    fn asked<'a>(&'a self, words: &Words<'_>) -> Asked<'a> {
+        Asked {
+            models: &self.models,
             form: words.form,
             width: self.paths.tests.width(),
-            models: self.models.names(),
             keeps_rows: words.expected.is_some() || words.write_expected.is_some(),
+            explains: words.why || words.dot.is_some(),
         }
     }
 
@@ -197,7 +195,7 @@ impl Progress {
         unread: &[String],
         plan: &Plan<'_>,
     ) -> Result<(), Trouble> {
-        let wanted = &plan.wanted;
+        let wanted = plan.asked.wanted();
         if matches!(wanted.form, Form::Table) {
             rt.write_all(&head_of(rt.alloc(), wanted.width, wanted.models)?)?;
         }
@@ -232,24 +230,11 @@ impl Progress {
     ) -> Result<(), Trouble> {
         for test in tests {
             if matches!(test.stage, Stage::Waiting) {
-                self.judge_wholly(rt, test, plan)?;
+                judge_wholly(test, rt, plan, &mut self.meter);
             }
             self.show(rt, test, plan.why)?;
         }
         Ok(())
-    }
-
-    /// Judges a test by all threads.
-    fn judge_wholly<R: Eprint + AllocGlobal + Clock + Threads + Sync>(
-        &mut self,
-        rt: &R,
-        test: &mut Test<'_>,
-        plan: &Plan<'_>,
-    ) -> Result<(), AllocError> {
-        let mut deadline = Deadline::new(rt, plan.limit, self.meter);
-        let judged = test.judge(rt, rt.alloc(), plan, plan.threads, &mut deadline);
-        self.meter = deadline.meter;
-        judged
     }
 
     /// Prints what is told of a test, and why if that is asked for, counts it, and takes what is stored and drawn of it.
@@ -344,6 +329,6 @@ fn judge_side_by_side<R: Eprint + AllocGlobal + Clock + Threads + Sync>(
         rt,
         tests,
         threads,
-        &|_, test| { test.judge_quickly(rt, alloc, plan) },
+        &|_, test| { judge_quickly(test, rt, alloc, plan) },
     );
 }

@@ -1,0 +1,192 @@
+//! Judging one test of a run.
+
+ghost use Rattle.std.specs.Prelude.{◌≡◌, IfOk, OnOk};
+ghost use Rattle.inputs.specs.Telling.{IsRead, IsTold, IsWanted};
+
+use crate::models::Models;
+use crate::text::{read_front, text_of};
+use outcome::{Fate, Form, Tested, Told, Wanted};
+use slices::Verdict;
+use std::alloc::{AllocError, Global};
+use std::io;
+use std::rt::Files;
+use std::thread::Threads;
+use suite::{Patience, TestTrouble, judge_text};
+
+/// Someone who waits for a test, and has a clock.
+pub trait Timer: Patience {
+    /// How many milliseconds have passed.
+    fn milliseconds(&self) -> u64;
+
+    /// Whether a test that takes too long is given up. Else it waits on, for a later pass.
+    fn gives_up(&self) -> bool;
+}
+
+/// What is asked of the tests of a run.
+#[derive(Clone, Copy)]
+pub struct Asked<'a> {
+    pub models: &'a Models,
+    pub form: Form,
+    /// How wide the paths of a table are.
+    pub width: usize,
+    /// Whether rows are kept, to be compared or stored.
+    pub keeps_rows: bool,
+    /// Whether it is told, and drawn, why the verdicts are what they are.
+    pub explains: bool,
+}
+
+impl<'a> Asked<'a> {
+    /// What is asked of each test, with the names of the models.
+    pub fn wanted(&self) -> Wanted<'a>
+        ensures { IsWanted self.now result }
+    {
+        Wanted {
+            form: self.form,
+            width: self.width,
+            models: self.models.names(),
+            keeps_rows: self.keeps_rows,
+        }
+    }
+}
+
+/// How far a test is.
+#[derive(Clone, Copy)]
+pub enum Stage {
+    /// It is still to be judged.
+    Waiting,
+    Done(Fate),
+    /// There was no memory to judge it.
+    Lost,
+}
+
+/// A test, and what is told of it.
+pub struct Test<'a> {
+    pub path: &'a str,
+    pub text: Vec<u8>,
+    pub stage: Stage,
+    pub told: Told,
+}
+
+// A function of its own: whoever holds one drops it by a call.
+impl<'a> Drop for Test<'a> {
+    fn drop(self) {
+        let Test {
+            path: _,
+            text: _,
+            stage: _,
+            told: _,
+        } = self;
+    }
+}
+
+impl<'a> Test<'a> {
+    /// The test of a path, which is read from standard input where the path is `-`. What is wrong with one that can't be read is told.
+    pub fn read<R: Files + Input + AllocGlobal>(rt: &R, path: &'a str) -> Result<Self, AllocError>
+        ensures path { IfOk result (λ t. t.path.now ≡ path.now) }
+        ensures read { IfOk result (λ t. IsRead path.now t.stage t.told) }
+    {
+        let alloc = rt.alloc();
+        let read = if path == "-" {
+            read_front(alloc, rt.reader())
+        } else {
+            text_of(rt, path)
+        };
+        match read {
+            Ok(text) => Ok(Test {
+                path,
+                text,
+                stage: Stage::Waiting,
+                told: Told::new(alloc),
+            }),
+            Err(error) => Test::unread(alloc, path, &error),
+        }
+    }
+
+    /// A test that can't be read.
+    fn unread(alloc: Global, path: &'a str, error: &io::Error) -> Result<Self, AllocError>
+        ensures path { IfOk result (λ t. t.path.now ≡ path.now) }
+        ensures read { IfOk result (λ t. IsRead path.now t.stage t.told) }
+    {
+        let mut told = Told::new(alloc);
+        told.message = format!(in alloc; "{path}: {error}\n")?;
+        Ok(Test {
+            path,
+            text: Vec::new(alloc),
+            stage: Stage::Done(Fate::Unread),
+            told,
+        })
+    }
+
+    /// Judges the test by so many threads, and adds what is told of it. It waits on where it takes too long, and isn't given up.
+    pub fn judge<R: Threads + Sync, T: Timer>(
+        &mut self,
+        rt: &R,
+        alloc: Global,
+        asked: &Asked<'_>,
+        threads: u16,
+        timer: &mut T,
+    )
+        ensures path { self.new.path ≡ self.old.path }
+        ensures text { self.new.text ≡ self.old.text }
+        ensures told { IsTold asked.now self.old.path.now self.old.text.items self.new.stage self.old.told self.new.told }
+    {
+        let judged = judge_text(rt, alloc, &self.text, asked.models.models(), threads, timer);
+        if matches!(&judged, Err(TestTrouble::Late)) && !timer.gives_up() {
+            self.stage = Stage::Waiting;
+            return;
+        }
+        self.stage = match self.tell(alloc, asked, timer.milliseconds(), &judged) {
+            Ok(fate) => Stage::Done(fate),
+            Err(AllocError) => Stage::Lost,
+        };
+    }
+
+    /// Adds what is told of the verdicts, or of why there are none, and answers what became of the test.
+    fn tell(
+        &mut self,
+        alloc: Global,
+        asked: &Asked<'_>,
+        milliseconds: u64,
+        judged: &Result<Vec<Verdict>, TestTrouble>,
+    ) -> Result<Fate, AllocError>
+    {
+        let cases = asked.models.cases(alloc, self.path)?;
+        let test = Tested {
+            path: self.path,
+            text: &self.text,
+            cases: &cases,
+            milliseconds,
+        };
+        match judged {
+            Ok(verdicts) => tell_verdicts(&mut self.told, alloc, asked, &test, verdicts),
+            Err(trouble) => refuse(&mut self.told, alloc, asked, &test, trouble),
+        }
+    }
+}
+
+/// Adds what is told of the verdicts, and why they are what they are if that is asked for.
+fn tell_verdicts(
+    told: &mut Told,
+    alloc: Global,
+    asked: &Asked<'_>,
+    test: &Tested<'_>,
+    verdicts: &[Verdict],
+) -> Result<Fate, AllocError> {
+    told.tell(alloc, &asked.wanted(), test, verdicts)?;
+    if asked.explains {
+        told.explain(alloc, test, verdicts)?;
+    }
+    Ok(Fate::Judged)
+}
+
+/// Adds what is told of a test that has no verdict.
+fn refuse(
+    told: &mut Told,
+    alloc: Global,
+    asked: &Asked<'_>,
+    test: &Tested<'_>,
+    trouble: &TestTrouble,
+) -> Result<Fate, AllocError> {
+    told.refuse(alloc, &asked.wanted(), test, trouble)?;
+    Ok(Fate::Refused)
+}
