@@ -1,5 +1,6 @@
 //! What is printed of suites, and the models that are shipped.
 
+mod judged;
 mod named;
 mod outcomes;
 mod shipped;

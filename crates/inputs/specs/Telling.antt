@@ -65,6 +65,11 @@ pub record IsRefused (a : Asked) (path text : List ℕ) (old new : Told) : Type 
   pub differs : new.differs ≡ old.differs
   pub why : (new.why ≡ old.why) × (new.dot ≡ old.dot)
 
+-- It waits no more.
+abbrev pub IsSettled : Stage → Type 0
+IsSettled Waiting = ⊥
+IsSettled stage = Unit {0}
+
 -- nothing to print or to store
 pub record IsUntold (t : Told) : Type 0 where
   pub lines : t.lines.items ≡ []

@@ -1,7 +1,7 @@
 //! Judging one test of a run.
 
-ghost use Rattle.std.specs.Prelude.{◌≡◌, IfOk, OnOk};
-ghost use Rattle.inputs.specs.Telling.{IsRead, IsTold, IsWanted};
+ghost use Rattle.std.specs.Prelude.{◌≡◌, Bool, IfOk, IsTrue, OnOk};
+ghost use Rattle.inputs.specs.Telling.{IsRead, IsSettled, IsTold, IsWanted};
 
 use crate::models::Models;
 use crate::text::{read_front, text_of};
@@ -15,11 +15,14 @@ use suite::{Patience, TestTrouble, judge_text};
 
 /// Someone who waits for a test, and has a clock.
 pub trait Timer: Patience {
+    ghost is_last: { Self → Bool };
+
     /// How many milliseconds have passed.
     fn milliseconds(&self) -> u64;
 
     /// Whether a test that takes too long is given up. Else it waits on, for a later pass.
-    fn gives_up(&self) -> bool;
+    fn gives_up(&self) -> bool
+        ensures { result ≡ is_last self.now };
 }
 
 /// What is asked of the tests of a run.
@@ -129,9 +132,11 @@ impl<'a> Test<'a> {
         ensures path { self.new.path ≡ self.old.path }
         ensures text { self.new.text ≡ self.old.text }
         ensures told { IsTold asked.now self.old.path.now self.old.text.items self.new.stage self.old.told self.new.told }
+        ensures settled { IsTrue (T.Timer.is_last timer.old) → IsSettled self.new.stage }
     {
+        let gives_up = timer.gives_up();
         let judged = judge_text(rt, alloc, &self.text, asked.models.models(), threads, timer);
-        if matches!(&judged, Err(TestTrouble::Late)) && !timer.gives_up() {
+        if matches!(&judged, Err(TestTrouble::Late)) && !gives_up {
             self.stage = Stage::Waiting;
             return;
         }

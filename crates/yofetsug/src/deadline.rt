@@ -48,6 +48,8 @@ impl<'a, R: Clock + Eprint> Patience for Deadline<'a, R> {
 }
 
 impl<'a, R: Clock + Eprint> Timer for Deadline<'a, R> {
+    ghost is_last = { λ d. d.gives_up };
+
     fn milliseconds(&self) -> u64 {
         milliseconds_since(self.rt, self.began)
     }
