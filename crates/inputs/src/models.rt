@@ -6,6 +6,7 @@ ghost use Rattle.std.specs.Vec.{vec_capacity};
 ghost use Rattle.inputs.specs.Loaded.{AreCases, AreLoaded, IsCase, IsLoaded, IsOneMore};
 
 use crate::sources::Sources;
+use crate::tests::is_plain;
 use crate::trouble::{Trouble, told};
 use cat_model::Model;
 use fault_messages::{Source, cat_trouble, model_fault};
@@ -103,6 +104,9 @@ impl Models {
         ensures added { OnOk result (IsOneMore word.now self.old self.new) }
         ensures same { OnErr result (self.new ≡ self.old) }
     {
+        if !is_plain(word.as_bytes()) {
+            return Err(no_path(rt, word));
+        }
         let root = root_name(rt.alloc(), word)?;
         let mut sources = Sources {
             files: Vec::new(rt.alloc()),
@@ -185,6 +189,11 @@ fn root_name(alloc: Global, path: &str) -> Result<Name, AllocError> {
             Err(_) => Err(AllocError),
         },
     }
+}
+
+/// Tells on standard error that a line can't tell a model by this path.
+fn no_path<R: Eprint>(rt: &R, path: &str) -> Trouble {
+    told(Status::Failed, eprintln!(rt; "{path}: its path has a tab or a line feed"))
 }
 
 /// The texts of the files.

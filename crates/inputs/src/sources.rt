@@ -114,7 +114,7 @@ impl<'a> Sources<'a> {
         let path = path.as_str();
         for known in &self.files {
             if known.name == *name {
-                return see_same(rt, known.path.as_str(), path);
+                return see_same(rt, known, path);
             }
         }
         match text_of(rt, path) {
@@ -148,10 +148,20 @@ impl<'a> Sources<'a> {
     }
 }
 
-/// Sees that a name that stands for the file with the first path isn't included for another.
-fn see_same<R: Eprint>(rt: &R, first: &str, path: &str) -> Result<(), Trouble> {
+/// Sees that a name that stands for this file isn't included for another. Of one file there may be several paths, and two files with one text are as one.
+fn see_same<R: Files + Eprint + AllocGlobal>(
+    rt: &R,
+    known: &Source,
+    path: &str,
+) -> Result<(), Trouble> {
+    let first = known.path.as_str();
     if first == path {
         return Ok(());
+    }
+    match text_of(rt, path) {
+        Ok(text) if text.as_slice() == known.text.as_slice() => return Ok(()),
+        Ok(_) => {}
+        Err(error) => return Err(unreadable(rt, path, &error)),
     }
     let printed = eprintln!(rt;
         "{path}: its name is included for {first}, too; give one of the two files another name"

@@ -2,6 +2,7 @@
 
 use crate::trouble::{Trouble, told, unreadable};
 use outcome::{RowsFault, Status, rows_in};
+use std::alloc::{AllocError, Global};
 use std::fs;
 use std::fs::OpenOptions;
 use std::rt::Files;
@@ -10,9 +11,20 @@ use suite::Row;
 /// The rows of a file, a line each. Empty lines are none.
 pub fn read_rows<R: Files + Eprint + AllocGlobal>(rt: &R, path: &str) -> Result<Vec<Row>, Trouble> {
     match fs::read(rt, path) {
-        Ok(text) => rows_or_told(rt, path, rows_in(rt.alloc(), &text)),
+        Ok(text) => rows_or_told(rt, path, rows_in(rt.alloc(), &unix_lines(rt.alloc(), &text)?)),
         Err(error) => Err(unreadable(rt, path, &error)),
     }
+}
+
+/// A text without the carriage returns at the ends of its lines.
+fn unix_lines(alloc: Global, text: &[u8]) -> Result<Vec<u8>, AllocError> {
+    let mut lines = Vec::with_capacity(alloc, text.len())?;
+    for (place, byte) in text.iter().enumerate() {
+        if *byte != b'\r' || text.get(place + 1) != Some(&b'\n') {
+            lines.push(*byte)?;
+        }
+    }
+    Ok(lines)
 }
 
 /// The rows of a file. Where it has a line that is none, that is told on standard error.

@@ -75,7 +75,7 @@ impl Tests {
 }
 
 /// Whether a path has neither a tab nor a line feed.
-fn is_plain(path: &[u8]) -> bool
+pub(crate) fn is_plain(path: &[u8]) -> bool
     ensures { MatchBool result (IsPlain path.now) (¬ IsPlain path.now) }
 {
     !path.contains(&b'\t') && !path.contains(&b'\n')

@@ -16,6 +16,9 @@ const SLICE: u64 = 1 << 12;
 /// How many slices a round has, or as many as there are threads, where those are more.
 const ROUND: u16 = 16;
 
+/// The slices of a test with more numbers than this are long.
+const LONG: u64 = 1 << 24;
+
 /// Slices that threads evaluate at once: of so many in all those from one on, up to another. Executions lie close together among the numbers, and so each
 /// thread takes every n-th of these slices.
 #[derive(Clone, Copy)]
@@ -38,7 +41,8 @@ pub(crate) fn judge_together<R: Threads + Sync, P: Patience>(
     ensures work { IfOk result (λ o. IfSome o (λ v. v.work ≡ work)) }
     ensures right { IfOk result (λ o. IfSome o IsRight) }
 {
-    let total = slices_for(work.work().size(), SLICE);
+    let size = work.work().size();
+    let total = slices_for(size, SLICE);
     let threads = threads.min(total);
     let mut tally = Tally::new(alloc, work.share()?)?;
     let mut done = 0u16;
@@ -46,7 +50,7 @@ pub(crate) fn judge_together<R: Threads + Sync, P: Patience>(
         if patience.is_over() {
             return Ok(None);
         }
-        let count = threads.max(ROUND).min(total - done);
+        let count = slices_of_round(size, threads).min(total - done);
         let round = Round {
             total,
             from: done,
@@ -58,6 +62,14 @@ pub(crate) fn judge_together<R: Threads + Sync, P: Patience>(
         done += count;
     }
     Ok(Some(tally.verdict(1)?))
+}
+
+/// How many slices a round of a test with so many numbers has. Where they are long each thread has one, so that the patience is asked soon again.
+fn slices_of_round(size: u64, threads: u16) -> u16
+    requires { 1 ≤ threads }
+    ensures { 1 ≤ result }
+{
+    if size > LONG { threads } else { threads.max(ROUND) }
 }
 
 /// The results of the slices of a round, thread by thread.

@@ -82,7 +82,7 @@ fn compare_files<R: Files + Print + Eprint + AllocGlobal>(
 ) -> Result<Status, Trouble> {
     let expected = read_rows(rt, expected)?;
     let found = read_rows(rt, found)?;
-    Ok(if compare(rt, &expected, &found)? {
+    Ok(if compare(rt, Form::Line, &expected, &found)? {
         Status::Differs
     } else {
         Status::Done
@@ -232,7 +232,7 @@ impl Progress {
             if matches!(test.stage, Stage::Waiting) {
                 judge_wholly(test, rt, plan, &mut self.meter);
             }
-            self.show(rt, test, plan.why)?;
+            self.show(rt, test, plan)?;
         }
         Ok(())
     }
@@ -242,7 +242,7 @@ impl Progress {
         &mut self,
         rt: &R,
         test: &mut Test<'_>,
-        why: bool,
+        plan: &Plan<'_>,
     ) -> Result<(), Trouble> {
         self.meter.clear(rt)?;
         let told = &mut test.told;
@@ -254,8 +254,8 @@ impl Progress {
         self.rows.append(&mut told.rows)?;
         self.dot.append(&mut told.dot)?;
         rt.write_all(&told.lines)?;
-        if why {
-            rt.write_all(&told.why)?;
+        if plan.why {
+            print_words(rt, plan.asked.form, &told.why)?;
         }
         rt.eprint(told.message.as_str())?;
         Ok(())
@@ -274,35 +274,41 @@ impl Progress {
         if let Some(path) = words.write_expected {
             store_rows(rt, path, &self.rows)?;
         }
-        let differ = words.expected.is_some() && compare(rt, expected, &self.rows)?;
+        let differ = words.expected.is_some() && compare(rt, words.form, expected, &self.rows)?;
         self.print_counts(rt, words.form)?;
         Ok(self.counts.status(differ))
     }
 
-    /// Prints how many tests were judged, refused and not read. It goes to standard error where programs read the output.
+    /// Prints how many tests were judged, refused and not read.
     fn print_counts<R: Print + Eprint + AllocGlobal>(
         &self,
         rt: &R,
         form: Form,
     ) -> Result<(), Trouble> {
-        let line = self.counts.line(rt.alloc(), form)?;
-        match form {
-            Form::Tabs | Form::Json => rt.eprint(std::str::from_utf8(&line).unwrap_or(""))?,
-            Form::Summary | Form::Line | Form::Table => rt.write_all(&line)?,
-        }
-        Ok(())
+        print_words(rt, form, &self.counts.line(rt.alloc(), form)?)
     }
 }
 
 /// Prints how the rows differ from those that are expected, and answers whether they do.
-fn compare<R: Print + AllocGlobal>(
+fn compare<R: Print + Eprint + AllocGlobal>(
     rt: &R,
+    form: Form,
     expected: &[Row],
     found: &[Row],
 ) -> Result<bool, Trouble> {
     let told = differences(rt.alloc(), expected, found)?;
-    rt.write_all(&told)?;
+    print_words(rt, form, &told)?;
     Ok(!told.is_empty())
+}
+
+/// Prints what is for people. It goes to standard error where programs read the output.
+fn print_words<R: Print + Eprint>(rt: &R, form: Form, words: &[u8]) -> Result<(), Trouble> {
+    let is_for_people = matches!(form, Form::Summary | Form::Line | Form::Table);
+    match std::str::from_utf8(words) {
+        Ok(text) if !is_for_people => rt.eprint(text)?,
+        _ => rt.write_all(words)?,
+    }
+    Ok(())
 }
 
 /// Reads the tests of these paths, one after another.
