@@ -193,7 +193,10 @@ fn root_name(alloc: Global, path: &str) -> Result<Name, AllocError> {
 
 /// Tells on standard error that a line can't tell a model by this path.
 fn no_path<R: Eprint>(rt: &R, path: &str) -> Trouble {
-    told(Status::Failed, eprintln!(rt; "{path}: its path has a tab or a line feed"))
+    told(
+        Status::Failed,
+        eprintln!(rt; "{path}: its path has a tab or a line feed"),
+    )
 }
 
 /// The texts of the files.

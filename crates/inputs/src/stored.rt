@@ -11,7 +11,11 @@ use suite::Row;
 /// The rows of a file, a line each. Empty lines are none.
 pub fn read_rows<R: Files + Eprint + AllocGlobal>(rt: &R, path: &str) -> Result<Vec<Row>, Trouble> {
     match fs::read(rt, path) {
-        Ok(text) => rows_or_told(rt, path, rows_in(rt.alloc(), &unix_lines(rt.alloc(), &text)?)),
+        Ok(text) => rows_or_told(
+            rt,
+            path,
+            rows_in(rt.alloc(), &unix_lines(rt.alloc(), &text)?),
+        ),
         Err(error) => Err(unreadable(rt, path, &error)),
     }
 }

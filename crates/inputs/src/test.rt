@@ -110,8 +110,10 @@ impl<'a> Test<'a> {
         ensures path { IfOk result (λ t. t.path.now ≡ path.now) }
         ensures read { IfOk result (λ t. IsRead path.now t.stage t.told) }
     {
+        let why = format!(in alloc; "{error}")?;
+        let why = why.as_str();
         let mut told = Told::new(alloc);
-        told.message = format!(in alloc; "{path}: {error}\n")?;
+        told.message = format!(in alloc; "{path}: {why}\n")?;
         Ok(Test {
             path,
             text: Vec::new(alloc),
@@ -153,8 +155,7 @@ impl<'a> Test<'a> {
         asked: &Asked<'_>,
         milliseconds: u64,
         judged: &Result<Vec<Verdict>, TestTrouble>,
-    ) -> Result<Fate, AllocError>
-    {
+    ) -> Result<Fate, AllocError> {
         let cases = asked.models.cases(alloc, self.path)?;
         let test = Tested {
             path: self.path,

@@ -69,7 +69,11 @@ fn slices_of_round(size: u64, threads: u16) -> u16
     requires { 1 ≤ threads }
     ensures { 1 ≤ result }
 {
-    if size > LONG { threads } else { threads.max(ROUND) }
+    if size > LONG {
+        threads
+    } else {
+        threads.max(ROUND)
+    }
 }
 
 /// The results of the slices of a round, thread by thread.

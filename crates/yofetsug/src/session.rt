@@ -3,7 +3,9 @@
 use crate::meter::Meter;
 use crate::run::{Plan, judge_quickly, judge_wholly};
 use crate::words::Words;
-use inputs::{Asked, Models, Paths, Stage, Test, Trouble, read_rows, see_writable, store_rows, write_file};
+use inputs::{
+    Asked, Models, Paths, Stage, Test, Trouble, read_rows, see_writable, store_rows, write_file,
+};
 use outcome::{Counts, Form, Status};
 use std::alloc::{AllocError, Global};
 use std::rt::Files;
