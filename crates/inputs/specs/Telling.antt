@@ -1,5 +1,5 @@
 -- What a run tells of a test. (docs/COMMAND.md, "What is printed" and "What is refused".)
-use Rattle.std.specs.Prelude.{◌≡◌, ℕ, List, [], ◌++◌, map, Bool, true, false, codes, string_bytes}
+use Rattle.std.specs.Prelude.{◌≡◌, ℕ, List, [], ◌++◌, map, Bool, true, false, Result, Ok, Err, codes, string_bytes}
 use Rattle.std.specs.List.{zip}
 use Rattle.cat_model.specs.Models.{Assembly}
 use Rattle.slices.specs.VerdictValues.{VerdictValue}
@@ -10,6 +10,7 @@ use Rattle.outcome.specs.Forms.{differ, lines_text}
 use Rattle.outcome.specs.Reasons.{AreExplained}
 use Rattle.outcome.specs.Refusals.{Tells, refusals_text, refused_rows}
 use Rattle.outcome.specs.Rows.{if_kept, texts_of, verdict_rows}
+use Rattle.outcome.specs.declared.counts.Fate.{Fate}
 use Rattle.outcome.specs.declared.counts.Fate.TheVariants.{Judged, Refused, Unread}
 use Rattle.outcome.specs.declared.form.Tested.{Tested}
 use Rattle.outcome.specs.declared.form.Wanted.{Wanted}
@@ -37,33 +38,48 @@ abbrev pub IsWhyAdded : Bool → (old new : Told) → List Case → List Verdict
 IsWhyAdded true old new cs vs = AreExplained old.why.items old.dot.items (zip cs vs) new.why.items new.dot.items
 IsWhyAdded false old new cs vs = (new.why ≡ old.why) × (new.dot ≡ old.dot)
 
--- What is added for a test that was judged: the texts of its verdicts, each right for the text under its own model.
-pub record IsJudged (a : Asked) (path text : List ℕ) (old new : Told) : Type 0 where
-  pub models : List Assembly
-  pub loaded : AreLoaded models a.models.now.names a.models.now.digests
-  pub verdicts : List VerdictValue
-  pub right : HasVerdicts text models verdicts
+-- What is added for verdicts: the texts of each under its own model.
+pub record TellsVerdicts (a : Asked) (path text : List ℕ) (verdicts : List VerdictValue) (old new : Told) : Type 0 where
   pub wanted : Wanted
   pub as_asked : IsWanted a wanted
   pub tested : Tested
   pub same_test : IsTested a.models.now path text tested
   pub lines : new.lines.items ≡ old.lines.items ++ lines_text wanted tested verdicts
-  pub rows : map texts_of new.rows.items ≡ map texts_of old.rows.items ++ if_kept a.keeps_rows (verdict_rows tested.cases.now verdicts)
+  pub rows : map texts_of new.rows.items ≡ map texts_of old.rows.items ++ if_kept wanted.keeps_rows (verdict_rows tested.cases.now verdicts)
   pub differs : new.differs ≡ differ verdicts
   pub why : IsWhyAdded a.explains old new tested.cases.now verdicts
   pub message : new.message ≡ old.message
 
--- What is added for a test that has no verdict: its refusal under each of the models, and the message of the fault that the text has.
-pub record IsRefused (a : Asked) (path text : List ℕ) (old new : Told) : Type 0 where
-  pub trouble : TestTrouble
-  pub cause : HasNone text trouble
+-- What is added for a refusal: the number and name under each of the models, and the message of the fault.
+pub record TellsRefusal (a : Asked) (path text : List ℕ) (trouble : TestTrouble) (old new : Told) : Type 0 where
+  pub wanted : Wanted
+  pub as_asked : IsWanted a wanted
   pub tested : Tested
   pub same_test : IsTested a.models.now path text tested
-  pub lines : new.lines.items ≡ old.lines.items ++ refusals_text a.form tested trouble
-  pub rows : map texts_of new.rows.items ≡ map texts_of old.rows.items ++ if_kept a.keeps_rows (refused_rows tested trouble)
+  pub lines : new.lines.items ≡ old.lines.items ++ refusals_text wanted.form tested trouble
+  pub rows : map texts_of new.rows.items ≡ map texts_of old.rows.items ++ if_kept wanted.keeps_rows (refused_rows tested trouble)
   pub message : Tells path text trouble (string_bytes new.message)
   pub differs : new.differs ≡ old.differs
   pub why : (new.why ≡ old.why) × (new.dot ≡ old.dot)
+
+-- A test that was judged: the verdicts, each right for the text under its own model, and what is told of them.
+pub record IsJudged (a : Asked) (path text : List ℕ) (old new : Told) : Type 0 where
+  pub models : List Assembly
+  pub loaded : AreLoaded models a.models.now.names a.models.now.digests
+  pub verdicts : List VerdictValue
+  pub right : HasVerdicts text models verdicts
+  pub told : TellsVerdicts a path text verdicts old new
+
+-- A test that has no verdict: why the text has none, and what is told of that.
+pub record IsRefused (a : Asked) (path text : List ℕ) (old new : Told) : Type 0 where
+  pub trouble : TestTrouble
+  pub cause : HasNone text trouble
+  pub told : TellsRefusal a path text trouble old new
+
+-- how far a test is of which this is told, if there was memory
+abbrev pub stage_of : {A E : Type 0} → Fate → Result A E → Stage
+stage_of fate (Ok _) = Done fate
+stage_of fate (Err _) = Lost
 
 -- It waits no more.
 abbrev pub IsSettled : Stage → Type 0
@@ -81,7 +97,7 @@ pub record IsUntold (t : Told) : Type 0 where
 -- What is told of a test that was read, or couldn't be: nothing, or the path and why.
 abbrev pub IsRead : (path : List ℕ) → Stage → Told → Type 0
 IsRead path Waiting t = IsUntold t × (string_bytes t.message ≡ [])
-IsRead path (Done Unread) t = IsUntold t × ((why : List ℕ) × (string_bytes t.message ≡ path ++ codes ": " ++ why ++ codes "\n"))
+IsRead path (Done Unread) t = IsUntold t × ((why : List ℕ) × (string_bytes t.message ≡ path ++ (codes ": " ++ (why ++ codes "\n"))))
 IsRead path stage t = ⊥
 
 -- What is told of a test, by how far it is. Where memory ran out, nothing is known of it.

@@ -1,7 +1,7 @@
 //! Judging one test of a run.
 
 ghost use Rattle.std.specs.Prelude.{◌≡◌, Bool, IfOk, IsTrue, OnOk};
-ghost use Rattle.inputs.specs.Telling.{IsRead, IsSettled, IsTold, IsWanted};
+ghost use Rattle.inputs.specs.Telling.{IsRead, IsSettled, IsTold, IsWanted, TellsRefusal, TellsVerdicts, stage_of};
 
 use crate::models::Models;
 use crate::text::{read_front, text_of};
@@ -138,24 +138,31 @@ impl<'a> Test<'a> {
     {
         let gives_up = timer.gives_up();
         let judged = judge_text(rt, alloc, &self.text, asked.models.models(), threads, timer);
-        if matches!(&judged, Err(TestTrouble::Late)) && !gives_up {
-            self.stage = Stage::Waiting;
-            return;
-        }
-        self.stage = match self.tell(alloc, asked, timer.milliseconds(), &judged) {
-            Ok(fate) => Stage::Done(fate),
-            Err(AllocError) => Stage::Lost,
+        self.stage = match &judged {
+            Ok(verdicts) => {
+                let told = self.tell(alloc, asked, timer.milliseconds(), verdicts);
+                done(Fate::Judged, told)
+            }
+            Err(TestTrouble::Late) if !gives_up => Stage::Waiting,
+            Err(trouble) => {
+                let told = self.refuse(alloc, asked, timer.milliseconds(), trouble);
+                done(Fate::Refused, told)
+            }
         };
     }
 
-    /// Adds what is told of the verdicts, or of why there are none, and answers what became of the test.
+    /// Adds what is told of the verdicts.
     fn tell(
         &mut self,
         alloc: Global,
         asked: &Asked<'_>,
         milliseconds: u64,
-        judged: &Result<Vec<Verdict>, TestTrouble>,
-    ) -> Result<Fate, AllocError> {
+        verdicts: &[Verdict],
+    ) -> Result<(), AllocError>
+        ensures path { self.new.path ≡ self.old.path }
+        ensures text { self.new.text ≡ self.old.text }
+        ensures told { OnOk result (TellsVerdicts asked.now self.old.path.now self.old.text.items verdicts.now self.old.told self.new.told) }
+    {
         let cases = asked.models.cases(alloc, self.path)?;
         let test = Tested {
             path: self.path,
@@ -163,36 +170,44 @@ impl<'a> Test<'a> {
             cases: &cases,
             milliseconds,
         };
-        match judged {
-            Ok(verdicts) => tell_verdicts(&mut self.told, alloc, asked, &test, verdicts),
-            Err(trouble) => refuse(&mut self.told, alloc, asked, &test, trouble),
+        self.told.tell(alloc, &asked.wanted(), &test, verdicts)?;
+        if asked.explains {
+            self.told.explain(alloc, &test, verdicts)?;
+            return Ok(());
         }
+        Ok(())
+    }
+
+    /// Adds what is told of a test that has no verdict.
+    fn refuse(
+        &mut self,
+        alloc: Global,
+        asked: &Asked<'_>,
+        milliseconds: u64,
+        trouble: &TestTrouble,
+    ) -> Result<(), AllocError>
+        ensures path { self.new.path ≡ self.old.path }
+        ensures text { self.new.text ≡ self.old.text }
+        ensures told { OnOk result (TellsRefusal asked.now self.old.path.now self.old.text.items trouble.now self.old.told self.new.told) }
+    {
+        let cases = asked.models.cases(alloc, self.path)?;
+        let test = Tested {
+            path: self.path,
+            text: &self.text,
+            cases: &cases,
+            milliseconds,
+        };
+        self.told.refuse(alloc, &asked.wanted(), &test, trouble)?;
+        Ok(())
     }
 }
 
-/// Adds what is told of the verdicts, and why they are what they are if that is asked for.
-fn tell_verdicts(
-    told: &mut Told,
-    alloc: Global,
-    asked: &Asked<'_>,
-    test: &Tested<'_>,
-    verdicts: &[Verdict],
-) -> Result<Fate, AllocError> {
-    told.tell(alloc, &asked.wanted(), test, verdicts)?;
-    if asked.explains {
-        told.explain(alloc, test, verdicts)?;
+/// How far a test is of which this is told, if there was memory.
+fn done(fate: Fate, told: Result<(), AllocError>) -> Stage
+    ensures { result ≡ stage_of fate told }
+{
+    match told {
+        Ok(()) => Stage::Done(fate),
+        Err(AllocError) => Stage::Lost,
     }
-    Ok(Fate::Judged)
-}
-
-/// Adds what is told of a test that has no verdict.
-fn refuse(
-    told: &mut Told,
-    alloc: Global,
-    asked: &Asked<'_>,
-    test: &Tested<'_>,
-    trouble: &TestTrouble,
-) -> Result<Fate, AllocError> {
-    told.refuse(alloc, &asked.wanted(), test, trouble)?;
-    Ok(Fate::Refused)
 }
