@@ -14,18 +14,20 @@ pub fn bad_byte(byte: u8, dialect: Dialect) -> &'static str {
 fn of_tests(byte: u8) -> &'static str {
     match byte {
         b'+' | b'-' => {
-            "arithmetic is left out; write the value itself, or add to a location by atomic_fetch_add(x, 1)"
+            "arithmetic and negative numbers are left out; write the value itself, or add to a location by atomic_fetch_add(x, 1)"
         }
         b'%' | b'/' | b'^' => "arithmetic is left out; write the value itself",
         b'&' => {
             "a single & is left out; a parameter is a pointer already, so write x for &x, and && for a conjunction"
         }
         b'|' => "a single | is left out; write || for a disjunction",
-        b'<' | b'>' => "only == and != compare; name the values, as in r == 1 || r == 2",
+        b'<' | b'>' =>
+            "only == and != compare, and = in a condition; name the values, as in r == 1 || r == 2",
         b'#' =>
             "preprocessor lines are left out; take the line away, and write out what it defines",
         b'?' => "the conditional operator is left out; write if and else",
-        b'.' => "only whole numbers are taken, and no members of structures",
+        b'.' =>
+            "only whole numbers are taken, and no members; calls are those of <stdatomic.h>, as atomic_load(x)",
         b'\'' => "characters are left out; write the number",
         b'\\' => r"a \ begins only \/, the disjunction of conditions",
         _ => "no token of a test begins with this byte; take it away",

@@ -5,7 +5,7 @@ ghost use Rattle.std.specs.String.{string_bytes};
 ghost use Rattle.fault_messages.specs.Told.{TellsCat};
 
 use crate::text::text_trouble;
-use crate::words::{Row, shown, told_of};
+use crate::words::{Row, nearest_in, shown, told_of, with_meant};
 use cat_places::{Source, place_of_text};
 use cat_syntax::CatFault;
 use places::{message_at, message_without_place, token_at};
@@ -49,8 +49,7 @@ fn syntax_sentence(alloc: Global, text: &[u8], offset: usize) -> Result<String, 
     match tokens(alloc, text, Dialect::Cat) {
         Ok(tokens) => match token_at(text, &tokens, offset) {
             Some(token) => {
-                let word = shown(token);
-                return format!(in alloc; "{word} can't stand here; docs/MODELS.md has the grammar");
+                return misplaced(alloc, shown(token));
             }
             None => {
                 return String::from_str(
@@ -62,6 +61,16 @@ fn syntax_sentence(alloc: Global, text: &[u8], offset: usize) -> Result<String, 
         Err(TextFault::NoMemory) => return Err(AllocError),
         Err(_found) => return String::from_str(alloc, "this can't stand here"),
     }
+}
+
+/// The words that begin an item, or stand in one, with a blank between them.
+const WORDS: &str = "let rec and acyclic irreflexive empty flag include show unshow domain range";
+
+/// What is wrong with a word that nothing takes where it stands.
+fn misplaced(alloc: Global, word: &str) -> Result<String, AllocError> {
+    let sentence = format!(in alloc; "{word} can't stand here; docs/MODELS.md has the grammar")?;
+    let meant = nearest_in(alloc, word, &[WORDS])?;
+    with_meant(alloc, sentence, meant)
 }
 
 /// Words that models leave out, with the whole sentence.

@@ -27,7 +27,7 @@ pub fn left_out_sentence(alloc: Global, word: &[u8]) -> Result<String, AllocErro
 }
 
 /// Words of C's statements, and of the kernel.
-const STATEMENTS: [Row; 6] = [
+const STATEMENTS: [Row; 8] = [
     (
         "while for do goto break continue",
         "loops and jumps are left out; write the turns that matter one behind another, with if",
@@ -39,7 +39,7 @@ const STATEMENTS: [Row; 6] = [
     ),
     (
         "filter",
-        "filter is left out; join its proposition to the condition by /\\",
+        "filter p is left out; write exists (p /\\ ..) in place of exists, and forall (p => ..) in place of forall",
     ),
     (
         "READ_ONCE",
@@ -48,6 +48,14 @@ const STATEMENTS: [Row; 6] = [
     (
         "WRITE_ONCE",
         "WRITE_ONCE is left out; write atomic_store_explicit(x, 1, memory_order_relaxed), with atomic_int* x",
+    ),
+    (
+        "smp_load_acquire",
+        "smp_load_acquire is left out; write atomic_load_explicit(x, memory_order_acquire), with atomic_int* x",
+    ),
+    (
+        "smp_store_release",
+        "smp_store_release is left out; write atomic_store_explicit(x, 1, memory_order_release), with atomic_int* x",
     ),
 ];
 
@@ -60,7 +68,7 @@ pub fn of_statement(word: &[u8]) -> Option<&'static str> {
 fn of_call(word: &[u8]) -> Option<&'static str> {
     if word.starts_with(b"atomic_compare_exchange") {
         return Some(
-            "compare-exchange is left out; where it can't fail, atomic_exchange_explicit(x, 1, memory_order_acq_rel) does the same",
+            "compare-exchange is left out; where it can't fail, atomic_exchange_explicit with its order of success does the same",
         );
     }
     if word.starts_with(b"atomic_fetch_sub")

@@ -3,7 +3,7 @@
 ghost use Rattle.std.specs.Prelude.{All, length};
 ghost use Rattle.wb_text.specs.Tokens.{IsWithin};
 
-use crate::words::shown;
+use crate::words::{nearest, shown, with_meant};
 use litmus_c::{LocationKind, TestFault};
 use litmus_syntax::symbols;
 use std::alloc::{AllocError, Global};
@@ -44,26 +44,77 @@ fn told(
     mark: &Mark,
     fault: &TestFault,
 ) -> Result<String, AllocError> {
-    let name = match &mark.name {
-        Some(name) => shown(name.bytes()),
-        None => "this",
-    };
+    let name = name_of(mark);
     let used = Use {
         name,
         part: mark.part,
         role: mark.role,
     };
     match fault {
+        TestFault::UnknownName => {
+            let sentence = unknown(alloc, marks, used)?;
+            with_meant(alloc, sentence, meant(alloc, marks, used)?)
+        }
         TestFault::PlainOnAtomic => format!(in alloc;
             "{name} is an atomic_int* here, and takes calls alone; use atomic_load_explicit or atomic_store_explicit, or make it an int*"
         ),
-        TestFault::AtomicOnPlain => format!(in alloc;
+        _ => format!(in alloc;
             "{name} is an int* here, and takes plain access alone; make it an atomic_int*, or write *{name}"
         ),
-        _ => match mark.part {
-            Part::Thread(thread) => unknown_inside(alloc, marks, used, thread),
-            Part::Initial | Part::Final => unknown_outside(alloc, marks, used),
-        },
+    }
+}
+
+/// What is wrong with a name that a test hasn't.
+fn unknown(alloc: Global, marks: &[Mark], used: Use<'_>) -> Result<String, AllocError> {
+    match used.part {
+        Part::Thread(thread) => unknown_inside(alloc, marks, used, thread),
+        Part::Initial | Part::Final => unknown_outside(alloc, marks, used),
+    }
+}
+
+/// The name that may be meant by one that a test hasn't.
+fn meant<'a>(
+    alloc: Global,
+    marks: &'a [Mark],
+    used: Use<'_>,
+) -> Result<Option<&'a str>, AllocError> {
+    let part = match (used.part, used.role) {
+        (Part::Thread(thread), _) => Some(Part::Thread(thread)),
+        (_, Role::Register(thread)) => Some(Part::Thread(thread as usize)),
+        _ => None,
+    };
+    nearest_given(alloc, marks, part, used.name)
+}
+
+/// The nearest of the names that a test gives in a part, or in any, if one is near.
+fn nearest_given<'a>(
+    alloc: Global,
+    marks: &'a [Mark],
+    part: Option<Part>,
+    name: &str,
+) -> Result<Option<&'a str>, AllocError> {
+    let mut known = Vec::new(alloc);
+    for mark in marks {
+        if gives(mark, part) {
+            known.push(name_of(mark))?;
+        }
+    }
+    nearest(alloc, name, &known)
+}
+
+/// Whether a mark names a parameter or a register of a thread that is this part, or a parameter of any.
+fn gives(mark: &Mark, part: Option<Part>) -> bool {
+    match part {
+        Some(part) => { mark.part == part && matches!(mark.role, Role::Parameter(_) | Role::Given) }
+        None => matches!(mark.role, Role::Parameter(_)),
+    }
+}
+
+/// The name of a mark.
+fn name_of(mark: &Mark) -> &str {
+    match &mark.name {
+        Some(name) => shown(name.bytes()),
+        None => "this",
     }
 }
 

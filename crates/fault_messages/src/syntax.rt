@@ -40,6 +40,10 @@ pub fn syntax_sentence(
     }
     match found_at(text, tokens, offset) {
         Some(found) => told(alloc, found),
+        None if tokens.is_empty() => String::from_str(
+            alloc,
+            "the file is empty; a C test begins with a line of C and its name, as C MP",
+        ),
         None => String::from_str(
             alloc,
             "the test ends here, where more is wanted; last of all comes a condition, as exists (x=1)",
@@ -161,21 +165,37 @@ fn of_type(word: &[u8]) -> Option<&'static str> {
 }
 
 /// Signs of threads that stand in a condition.
-const IN_CONDITIONS: [Row; 3] = [
+const IN_CONDITIONS: [Row; 4] = [
     (
         "==",
         "compares in threads; a condition has one =, as in 0:r0=1",
     ),
     ("&& ||", "joins in threads; a condition has /\\ and \\/"),
     ("!", "denies in threads; a condition has ~"),
+    (
+        "!=",
+        "compares in threads; a condition has ~ and =, as in ~(0:r0=1)",
+    ),
 ];
 
 /// Signs of conditions that stand in a thread.
-const IN_THREADS: [Row; 2] = [
+const IN_THREADS: [Row; 5] = [
     ("=", "can't stand here; an expression compares by =="),
     (
         "/\\ \\/",
         "joins in conditions; an expression has && and ||",
+    ),
+    (
+        "== !=",
+        "can't stand here; what is loaded goes to a register first, as in int r0 = atomic_load(x); and the register is compared",
+    ),
+    (
+        "true false",
+        "stands in conditions; a register takes a number, as 0 or 1",
+    ),
+    (
+        "relaxed acquire release acq_rel seq_cst",
+        "is no order by itself; memory_order_ stands before it",
     ),
 ];
 
@@ -189,6 +209,9 @@ fn of_word(found: Found<'_>) -> Option<&'static str> {
             "can't stand inside an expression; read the location first, as in int r = *x;",
         ),
         b"atomic_int" => Some("can't stand here; a register is an int"),
+        _ if found.before == b"if".as_slice() => Some(
+            "can't stand here; the test of an if stands in parentheses, as in if (r0 == 1)",
+        ),
         _ => of_sign(found),
     }
 }

@@ -47,6 +47,11 @@ fn told(
             return not_c(alloc, word);
         }
     }
+    if fault == TextFault::BadByte {
+        if let Some(byte) = unprintable_at(text, offset) {
+            return format!(in alloc; "no token begins with the byte 0x{byte:02x}; take it away");
+        }
+    }
     String::from_str(
         alloc,
         match once_before(text, fault, offset) {
@@ -54,6 +59,14 @@ fn told(
             None => sentence(text, dialect, fault, offset),
         },
     )
+}
+
+/// The byte at an offset, if it can't be printed.
+fn unprintable_at(text: &[u8], offset: usize) -> Option<u8> {
+    match text.get(offset) {
+        Some(byte) if byte.is_ascii_control() => Some(*byte),
+        _ => None,
+    }
 }
 
 /// What is wrong with a text that begins with another word than `C`.

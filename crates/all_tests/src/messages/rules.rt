@@ -168,7 +168,7 @@ P0 (int* x, atomic_int* y) {
 }
 exists (x=1)
 ----
-t.litmus:4:3: Unsupported (17): compare-exchange is left out; where it can't fail, atomic_exchange_explicit(x, 1, memory_order_acq_rel) does the same
+t.litmus:4:3: Unsupported (17): compare-exchange is left out; where it can't fail, atomic_exchange_explicit with its order of success does the same
       atomic_compare_exchange_strong(y, x, 1);
       ^
 ====

@@ -12,7 +12,7 @@ P0 (int* x, atomic_int* y) {
 }
 exists (x=1)
 ----
-t.litmus:4:10: Text (11): BadByte (2): arithmetic is left out; write the value itself, or add to a location by atomic_fetch_add(x, 1)
+t.litmus:4:10: Text (11): BadByte (2): arithmetic and negative numbers are left out; write the value itself, or add to a location by atomic_fetch_add(x, 1)
       *x = 1 + 1;
              ^
 ====
@@ -23,7 +23,7 @@ P0 (int* x, atomic_int* y) {
 }
 exists (x=1)
 ----
-t.litmus:4:26: Text (11): BadByte (2): arithmetic is left out; write the value itself, or add to a location by atomic_fetch_add(x, 1)
+t.litmus:4:26: Text (11): BadByte (2): arithmetic and negative numbers are left out; write the value itself, or add to a location by atomic_fetch_add(x, 1)
       int r = 1 && 0; *x = r - 1;
                              ^
 ====
@@ -45,7 +45,7 @@ P0 (int* x, atomic_int* y) {
 }
 exists (x=1)
 ----
-t.litmus:4:21: Text (11): BadByte (2): only == and != compare; name the values, as in r == 1 || r == 2
+t.litmus:4:21: Text (11): BadByte (2): only == and != compare, and = in a condition; name the values, as in r == 1 || r == 2
       int r = *x; if (r < 2) *x = 1;
                         ^
 ====
