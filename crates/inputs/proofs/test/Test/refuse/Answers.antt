@@ -13,4 +13,5 @@ returns-clause-told c =
       rows = told.rows;
       message = rw (← c.deref.ensures.value) told.message;
       differs = told.differs;
-      why = (told.why, told.dot) }
+      why = (told.why, told.dot);
+    }

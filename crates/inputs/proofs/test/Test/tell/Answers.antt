@@ -22,7 +22,8 @@ returns-then-asked-clause-told c =
       rows = ap (λ v. map texts_of v.items) explained.rows ∙ told.rows;
       differs = explained.differs ∙ told.differs;
       why = subst (λ e. IsWhyAdded e c.args.self.now.told new c.deref-2.result.now c.args.verdicts.now) (sym c.if-asked.true) both;
-      message = explained.message ∙ told.message }
+      message = explained.message ∙ told.message;
+    }
 
 pub returns-clause-told : goal.returns-clause-told
 returns-clause-told c =
@@ -36,4 +37,5 @@ returns-clause-told c =
       rows = told.rows;
       differs = told.differs;
       why = subst (λ e. IsWhyAdded e c.args.self.now.told c.tell.new.self c.deref-2.result.now c.args.verdicts.now) (sym c.if-asked.false) (told.why, told.dot);
-      message = told.message }
+      message = told.message;
+    }
