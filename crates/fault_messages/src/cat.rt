@@ -5,7 +5,7 @@ ghost use Rattle.std.specs.String.{string_bytes};
 ghost use Rattle.fault_messages.specs.Told.{TellsCat};
 
 use crate::text::text_trouble;
-use crate::words::{Row, nearest_in, shown, told_of, with_meant};
+use crate::words::{Row, is_among, nearest_in, shown, told_of};
 use cat_places::{Source, place_of_text};
 use cat_syntax::CatFault;
 use places::{message_at, message_without_place, token_at};
@@ -48,9 +48,7 @@ fn sentence(alloc: Global, text: &[u8], fault: &CatFault) -> Result<String, Allo
 fn syntax_sentence(alloc: Global, text: &[u8], offset: usize) -> Result<String, AllocError> {
     match tokens(alloc, text, Dialect::Cat) {
         Ok(tokens) => match token_at(text, &tokens, offset) {
-            Some(token) => {
-                return misplaced(alloc, shown(token));
-            }
+            Some(token) => return misplaced(alloc, token),
             None => {
                 return String::from_str(
                     alloc,
@@ -63,14 +61,18 @@ fn syntax_sentence(alloc: Global, text: &[u8], offset: usize) -> Result<String, 
     }
 }
 
-/// The words that begin an item, or stand in one, with a blank between them.
-const WORDS: &str = "let rec and acyclic irreflexive empty flag include show unshow domain range";
+/// The words with which items of a model begin, or that stand between their parts.
+const KEYWORDS: &str = "let rec and acyclic irreflexive empty include show unshow flag as";
 
-/// What is wrong with a word that nothing takes where it stands.
-fn misplaced(alloc: Global, word: &str) -> Result<String, AllocError> {
-    let sentence = format!(in alloc; "{word} can't stand here; docs/MODELS.md has the grammar")?;
-    let meant = nearest_in(alloc, word, &[WORDS])?;
-    with_meant(alloc, sentence, meant)
+/// What is told of a token that nothing takes.
+fn misplaced(alloc: Global, token: &[u8]) -> Result<String, AllocError> {
+    let word = shown(token);
+    if !is_among(KEYWORDS, token) {
+        if let Some(known) = nearest_in(alloc, word, &[KEYWORDS])? {
+            return format!(in alloc; "{word} can't stand here; did you mean {known}?");
+        }
+    }
+    format!(in alloc; "{word} can't stand here; docs/MODELS.md has the grammar")
 }
 
 /// Words that models leave out, with the whole sentence.

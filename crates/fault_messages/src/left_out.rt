@@ -39,7 +39,7 @@ const STATEMENTS: [Row; 8] = [
     ),
     (
         "filter",
-        "filter p is left out; write exists (p /\\ ..) in place of exists, and forall (p => ..) in place of forall",
+        "filter is left out; with its proposition p write exists (p /\\ q), ~exists (p /\\ q) or forall (p => q)",
     ),
     (
         "READ_ONCE",
@@ -68,7 +68,7 @@ pub fn of_statement(word: &[u8]) -> Option<&'static str> {
 fn of_call(word: &[u8]) -> Option<&'static str> {
     if word.starts_with(b"atomic_compare_exchange") {
         return Some(
-            "compare-exchange is left out; where it can't fail, atomic_exchange_explicit with its order of success does the same",
+            "compare-exchange is left out, and no call of a test does the same; if only its success matters, write int r = atomic_exchange_explicit(x, 1, o) with its order o for success, and ask in the condition that r is the value that it expects",
         );
     }
     if word.starts_with(b"atomic_fetch_sub")

@@ -1,8 +1,10 @@
 //! What is wrong with a text, in words for people.
 #![tactic(auto)]
 
+mod arguments;
 mod bytes;
 mod cat;
+mod found;
 mod left_out;
 mod model;
 mod names;

@@ -73,7 +73,7 @@ fn sentence(alloc: Global, sources: &[Source], fault: &ModelFault) -> Result<Str
         ModelFault::WrongSort(name) => {
             let name = shown(name.bytes());
             format!(in alloc;
-                "at {name} a set stands where a relation is wanted, or the other way round; [s] makes a relation of a set, domain(r) and range(r) make sets"
+                "at {name} a set stands where a relation is wanted, or the other way round, or a call is wrong; [s] makes a relation of a set, domain(r) and range(r) make sets, and functions alone are called, with as many arguments as they have, as in fencerel(F)"
             )
         }
         ModelFault::NotMonotone(name) => {

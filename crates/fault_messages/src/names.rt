@@ -3,7 +3,7 @@
 ghost use Rattle.std.specs.Prelude.{All, length};
 ghost use Rattle.wb_text.specs.Tokens.{IsWithin};
 
-use crate::words::{nearest, shown, with_meant};
+use crate::words::{nearest, shown};
 use litmus_c::{LocationKind, TestFault};
 use litmus_syntax::symbols;
 use std::alloc::{AllocError, Global};
@@ -44,77 +44,26 @@ fn told(
     mark: &Mark,
     fault: &TestFault,
 ) -> Result<String, AllocError> {
-    let name = name_of(mark);
+    let name = match &mark.name {
+        Some(name) => shown(name.bytes()),
+        None => "this",
+    };
     let used = Use {
         name,
         part: mark.part,
         role: mark.role,
     };
     match fault {
-        TestFault::UnknownName => {
-            let sentence = unknown(alloc, marks, used)?;
-            with_meant(alloc, sentence, meant(alloc, marks, used)?)
-        }
         TestFault::PlainOnAtomic => format!(in alloc;
             "{name} is an atomic_int* here, and takes calls alone; use atomic_load_explicit or atomic_store_explicit, or make it an int*"
         ),
-        _ => format!(in alloc;
+        TestFault::AtomicOnPlain => format!(in alloc;
             "{name} is an int* here, and takes plain access alone; make it an atomic_int*, or write *{name}"
         ),
-    }
-}
-
-/// What is wrong with a name that a test hasn't.
-fn unknown(alloc: Global, marks: &[Mark], used: Use<'_>) -> Result<String, AllocError> {
-    match used.part {
-        Part::Thread(thread) => unknown_inside(alloc, marks, used, thread),
-        Part::Initial | Part::Final => unknown_outside(alloc, marks, used),
-    }
-}
-
-/// The name that may be meant by one that a test hasn't.
-fn meant<'a>(
-    alloc: Global,
-    marks: &'a [Mark],
-    used: Use<'_>,
-) -> Result<Option<&'a str>, AllocError> {
-    let part = match (used.part, used.role) {
-        (Part::Thread(thread), _) => Some(Part::Thread(thread)),
-        (_, Role::Register(thread)) => Some(Part::Thread(thread as usize)),
-        _ => None,
-    };
-    nearest_given(alloc, marks, part, used.name)
-}
-
-/// The nearest of the names that a test gives in a part, or in any, if one is near.
-fn nearest_given<'a>(
-    alloc: Global,
-    marks: &'a [Mark],
-    part: Option<Part>,
-    name: &str,
-) -> Result<Option<&'a str>, AllocError> {
-    let mut known = Vec::new(alloc);
-    for mark in marks {
-        if gives(mark, part) {
-            known.push(name_of(mark))?;
-        }
-    }
-    nearest(alloc, name, &known)
-}
-
-/// Whether a mark names a parameter or a register of a thread that is this part, or a parameter of any.
-fn gives(mark: &Mark, part: Option<Part>) -> bool {
-    match part {
-        Some(part) => { mark.part == part && matches!(mark.role, Role::Parameter(_) | Role::Given) }
-        None => matches!(mark.role, Role::Parameter(_)),
-    }
-}
-
-/// The name of a mark.
-fn name_of(mark: &Mark) -> &str {
-    match &mark.name {
-        Some(name) => shown(name.bytes()),
-        None => "this",
+        _ => match mark.part {
+            Part::Thread(thread) => unknown_inside(alloc, marks, used, thread),
+            Part::Initial | Part::Final => unknown_outside(alloc, marks, used),
+        },
     }
 }
 
@@ -128,6 +77,53 @@ fn kind_of(marks: &[Mark], thread: usize, name: &str) -> Option<LocationKind> {
         }
     }
     None
+}
+
+/// The name that may be meant by one that isn't there.
+fn meant_by<'a>(
+    alloc: Global,
+    marks: &'a [Mark],
+    used: Use<'_>,
+) -> Result<Option<&'a str>, AllocError> {
+    let mut known = Vec::new(alloc);
+    for mark in marks {
+        if let Some(name) = &mark.name {
+            if may_stand_there(mark, used) {
+                known.push(shown(name.bytes()))?;
+            }
+        }
+    }
+    nearest(alloc, used.name, &known)
+}
+
+/// Whether a mark names what may be named where a name is used.
+fn may_stand_there(mark: &Mark, used: Use<'_>) -> bool {
+    match used.role {
+        Role::Register(thread) => is_register(mark, thread as usize),
+        Role::Location => is_location(mark),
+        _ => match used.part {
+            Part::Thread(thread) if used.role == Role::Read => is_register(mark, thread),
+            _ => mark.part == used.part && matches!(&mark.role, Role::Parameter(_)),
+        },
+    }
+}
+
+/// Whether a mark gives a thread a register.
+fn is_register(mark: &Mark, thread: usize) -> bool {
+    match mark.role {
+        Role::Given => mark.part == Part::Thread(thread),
+        Role::Register(other) => mark.part == Part::Initial && other as usize == thread,
+        _ => false,
+    }
+}
+
+/// Whether a mark gives the test a location.
+fn is_location(mark: &Mark) -> bool {
+    match mark.role {
+        Role::Parameter(_) => true,
+        Role::Location => mark.part == Part::Initial,
+        _ => false,
+    }
 }
 
 fn is_named(mark: &Mark, name: &str) -> bool {
@@ -156,11 +152,43 @@ fn unknown_inside(
             Some(LocationKind::Plain) => format!(in alloc;
                 "{name} is a parameter of P{thread}, and no register; read its location first, as in int r = *{name};"
             ),
-            None => format!(in alloc;
-                "{name} is no register of P{thread}; declare it there, as in int {name} = 0;"
-            ),
+            None => no_register(alloc, marks, used, thread),
         },
-        _ => format!(in alloc;
+        _ => no_parameter(alloc, marks, used, thread),
+    }
+}
+
+/// What is wrong with a name that is read in a thread, and is nothing there.
+fn no_register(
+    alloc: Global,
+    marks: &[Mark],
+    used: Use<'_>,
+    thread: usize,
+) -> Result<String, AllocError> {
+    let name = used.name;
+    match meant_by(alloc, marks, used)? {
+        Some(known) => format!(in alloc;
+            "{name} is no register of P{thread}; did you mean {known}?"
+        ),
+        None => format!(in alloc;
+            "{name} is no register of P{thread}; declare it there, as in int {name} = 0;"
+        ),
+    }
+}
+
+/// What is wrong with a name that is accessed in a thread, and is no parameter.
+fn no_parameter(
+    alloc: Global,
+    marks: &[Mark],
+    used: Use<'_>,
+    thread: usize,
+) -> Result<String, AllocError> {
+    let name = used.name;
+    match meant_by(alloc, marks, used)? {
+        Some(known) => format!(in alloc;
+            "{name} is no parameter of P{thread}; did you mean {known}?"
+        ),
+        None => format!(in alloc;
             "{name} is no parameter of P{thread}; add int* {name} or atomic_int* {name} to its parameters"
         ),
     }
@@ -188,10 +216,33 @@ fn unknown_outside(alloc: Global, marks: &[Mark], used: Use<'_>) -> Result<Strin
         Role::Register(thread) if used.part == Part::Initial => format!(in alloc;
             "{name} is a parameter of P{thread}, and no register; the location itself is {name}, without {thread}:"
         ),
-        Role::Register(thread) => format!(in alloc;
+        Role::Register(thread) => not_in_thread(alloc, marks, used, thread),
+        _ => no_location(alloc, marks, used),
+    }
+}
+
+/// What is wrong with a register that is listed or asked for, and that its thread doesn't have.
+fn not_in_thread(
+    alloc: Global,
+    marks: &[Mark],
+    used: Use<'_>,
+    thread: u32,
+) -> Result<String, AllocError> {
+    let name = used.name;
+    match meant_by(alloc, marks, used)? {
+        Some(known) => format!(in alloc; "P{thread} has no register {name}; did you mean {known}?"),
+        None => format!(in alloc;
             "P{thread} has no register {name}; it has those that it declares or assigns, and those of the initial state"
         ),
-        _ => format!(in alloc;
+    }
+}
+
+/// What is wrong with a location that is listed or asked for, and that isn't there.
+fn no_location(alloc: Global, marks: &[Mark], used: Use<'_>) -> Result<String, AllocError> {
+    let name = used.name;
+    match meant_by(alloc, marks, used)? {
+        Some(known) => format!(in alloc; "there is no location {name}; did you mean {known}?"),
+        None => format!(in alloc;
             "there is no location {name}; a location is named in the initial state or by a parameter, and a register with its thread, as in 0:{name}"
         ),
     }

@@ -3,25 +3,13 @@
 ghost use Rattle.std.specs.Prelude.{All, length};
 ghost use Rattle.wb_text.specs.Tokens.{IsWithin};
 
+use crate::arguments::of_argument;
+use crate::found::{Found, Region, found_at, has_value};
 use crate::text::not_c;
 use crate::words::{Row, is_among, nearest_known, shown, told_of};
 use places::spelled;
 use std::alloc::{AllocError, Global};
 use wb_text::{Token, TokenKind};
-
-/// The token that isn't taken, and the one before it.
-#[derive(Clone, Copy)]
-struct Found<'a> {
-    word: &'a [u8],
-    kind: TokenKind,
-    before: &'a [u8],
-    /// Whether the one before is a number that ends where this begins.
-    is_suffix: bool,
-    /// Whether the one before ends a value.
-    behind_value: bool,
-    /// Whether a condition began before.
-    in_condition: bool,
-}
 
 /// What is wrong with the token at an offset, or with the end of the text.
 pub fn syntax_sentence(
@@ -32,18 +20,17 @@ pub fn syntax_sentence(
 ) -> Result<String, AllocError>
     requires { All (IsWithin (length text.now)) tokens.now }
 {
-    if let Some(token) = tokens.first() {
-        let word = spelled(text, token);
-        if word != b"C".as_slice() {
-            return not_c(alloc, word);
+    match tokens.first() {
+        Some(token) => {
+            let word = spelled(text, token);
+            if word != b"C".as_slice() {
+                return not_c(alloc, word);
+            }
         }
+        None => return String::from_str(alloc, without_tokens(text)),
     }
     match found_at(text, tokens, offset) {
         Some(found) => told(alloc, found),
-        None if tokens.is_empty() => String::from_str(
-            alloc,
-            "the file is empty; a C test begins with a line of C and its name, as C MP",
-        ),
         None => String::from_str(
             alloc,
             "the test ends here, where more is wanted; last of all comes a condition, as exists (x=1)",
@@ -51,40 +38,13 @@ pub fn syntax_sentence(
     }
 }
 
-/// The token that begins at an offset, if one does.
-fn found_at<'a>(text: &'a [u8], tokens: &[Token], offset: usize) -> Option<Found<'a>>
-    requires { All (IsWithin (length text.now)) tokens.now }
-{
-    let mut before: &[u8] = b"";
-    let mut number_end = None;
-    let mut behind_value = false;
-    let mut in_condition = false;
-    for token in tokens {
-        let word = spelled(text, token);
-        if token.from == offset {
-            return Some(Found {
-                word,
-                kind: token.kind,
-                before,
-                is_suffix: number_end == Some(offset),
-                behind_value,
-                in_condition,
-            });
-        }
-        in_condition = in_condition || begins_condition(word);
-        number_end = match token.kind {
-            TokenKind::Number => Some(token.to),
-            _ => None,
-        };
-        behind_value = token.kind != TokenKind::Sign || word == b")".as_slice();
-        before = word;
+/// What is wrong with a text that has no token.
+fn without_tokens(text: &[u8]) -> &'static str {
+    if text.is_empty() {
+        "the file is empty; a C test begins with a line of C and its name, as C MP"
+    } else {
+        "the file has blanks and comments alone; a C test begins with a line of C and its name, as C MP"
     }
-    None
-}
-
-/// Whether a word begins a condition.
-fn begins_condition(word: &[u8]) -> bool {
-    matches!(word, b"exists" | b"forall")
 }
 
 /// A word, and what is wrong with it.
@@ -116,13 +76,28 @@ fn known(found: Found<'_>) -> Option<(&[u8], &'static str)> {
             "can't stand behind a number; numbers are decimal, without a suffix: 1, not 1U or 0x1",
         ));
     }
+    if is_of_namespace(found) {
+        return Some((
+            b"std",
+            "can't stand here; calls and orders have no std:: before them, as in memory_order_acquire",
+        ));
+    }
     if let Some(sentence) = of_type(found.word) {
         return Some((found.word, sentence));
     }
     if let Some(sentence) = of_type(found.before) {
         return Some((found.before, sentence));
     }
+    if let Some(sentence) = of_argument(found) {
+        return Some((found.word, sentence));
+    }
     of_word(found).map(|sentence| (found.word, sentence))
+}
+
+/// Whether a token is `std`, or stands behind it in `std::`.
+fn is_of_namespace(found: Found<'_>) -> bool {
+    let std = b"std".as_slice();
+    found.word == std || (found.before == std && found.word == b":".as_slice())
 }
 
 /// What is wrong with a token of which no more is known.
@@ -165,7 +140,7 @@ fn of_type(word: &[u8]) -> Option<&'static str> {
 }
 
 /// Signs of threads that stand in a condition.
-const IN_CONDITIONS: [Row; 4] = [
+const IN_CONDITIONS: [Row; 6] = [
     (
         "==",
         "compares in threads; a condition has one =, as in 0:r0=1",
@@ -174,11 +149,38 @@ const IN_CONDITIONS: [Row; 4] = [
     ("!", "denies in threads; a condition has ~"),
     (
         "!=",
-        "compares in threads; a condition has ~ and =, as in ~(0:r0=1)",
+        "compares in threads; a condition has = alone, and ~ denies, as in ~(0:r0=1)",
     ),
+    (
+        ",",
+        "can't stand here; propositions are joined by /\\ and \\/",
+    ),
+    (":", NUMBER),
 ];
 
-/// Signs of conditions that stand in a thread.
+/// What is told of a `:` that stands behind no number.
+const NUMBER: &str = "can't stand here; a thread's number stands before it, as in 0:r=1";
+
+/// Signs that stand in the initial state.
+const IN_INITIAL: [Row; 3] = [
+    (
+        ",",
+        "can't stand here; entries end with ;, as in { x=0; y=0; }",
+    ),
+    ("==", "compares in threads; an entry has one =, as in x=0"),
+    (":", NUMBER),
+];
+
+/// Signs that stand in what is listed.
+const IN_LISTED: [Row; 2] = [
+    (
+        ",",
+        "can't stand here; entries end with ;, as in locations [x; y;]",
+    ),
+    (":", NUMBER),
+];
+
+/// Signs and words of conditions that stand in a thread.
 const IN_THREADS: [Row; 5] = [
     ("=", "can't stand here; an expression compares by =="),
     (
@@ -186,17 +188,11 @@ const IN_THREADS: [Row; 5] = [
         "joins in conditions; an expression has && and ||",
     ),
     (
-        "== !=",
-        "can't stand here; what is loaded goes to a register first, as in int r0 = atomic_load(x); and the register is compared",
+        "==",
+        "can't stand here; it compares inside an expression, and a statement gives a value by =",
     ),
-    (
-        "true false",
-        "stands in conditions; a register takes a number, as 0 or 1",
-    ),
-    (
-        "relaxed acquire release acq_rel seq_cst",
-        "is no order by itself; memory_order_ stands before it",
-    ),
+    ("true", "stands in conditions alone; in a thread write 1"),
+    ("false", "stands in conditions alone; in a thread write 0"),
 ];
 
 /// What is wrong with a word or a sign, where that is known.
@@ -209,8 +205,8 @@ fn of_word(found: Found<'_>) -> Option<&'static str> {
             "can't stand inside an expression; read the location first, as in int r = *x;",
         ),
         b"atomic_int" => Some("can't stand here; a register is an int"),
-        _ if found.before == b"if".as_slice() => Some(
-            "can't stand here; the test of an if stands in parentheses, as in if (r0 == 1)",
+        b"==" | b"!=" | b"&&" | b"||" if found.is_behind_read() => Some(
+            "can't stand here; a load stands alone on the right of =, so load into a register first, and compare that",
         ),
         _ => of_sign(found),
     }
@@ -218,23 +214,20 @@ fn of_word(found: Found<'_>) -> Option<&'static str> {
 
 /// What is wrong with a call or a sign.
 fn of_sign(found: Found<'_>) -> Option<&'static str> {
-    if is_call(found.word) {
+    if has_value(found.word) {
         return Some(
             "can't stand inside an expression; give its value to a register first, as in int r = atomic_load(x);",
         );
     }
-    if found.in_condition {
-        told_of(&IN_CONDITIONS, found.word)
-    } else {
-        told_of(&IN_THREADS, found.word)
+    if found.before == b"if".as_slice() {
+        return Some("can't stand behind if; parentheses are wanted, as in if (r == 1)");
     }
-}
-
-/// Whether a word is a call that has a value.
-fn is_call(word: &[u8]) -> bool {
-    word.starts_with(b"atomic_load")
-        || word.starts_with(b"atomic_exchange")
-        || word.starts_with(b"atomic_fetch_add")
+    match found.region {
+        Region::Initial => told_of(&IN_INITIAL, found.word),
+        Region::Threads => told_of(&IN_THREADS, found.word),
+        Region::Listed => told_of(&IN_LISTED, found.word),
+        Region::Condition => told_of(&IN_CONDITIONS, found.word),
+    }
 }
 
 /// Whether a statement or a part of one begins behind a token that ends none.

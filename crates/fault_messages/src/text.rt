@@ -14,6 +14,9 @@ use wb_text::{Dialect, TextFault};
 /// The bytes of a byte order mark.
 const MARK: &[u8] = b"\xef\xbb\xbf";
 
+/// The bytes of a no-break space.
+const NO_BREAK: &[u8] = b"\xc2\xa0";
+
 /// Why a text has no tokens, under the label of a test's or of a cat file's refusal.
 pub fn text_trouble(
     alloc: Global,
@@ -47,25 +50,33 @@ fn told(
             return not_c(alloc, word);
         }
     }
-    if fault == TextFault::BadByte {
-        if let Some(byte) = unprintable_at(text, offset) {
-            return format!(in alloc; "no token begins with the byte 0x{byte:02x}; take it away");
-        }
+    match fault {
+        TextFault::BadByte => bad_byte(alloc, text, offset, dialect),
+        TextFault::NotAscii => not_ascii(alloc, text, offset),
+        _ => String::from_str(
+            alloc,
+            once_before(text, fault, offset).unwrap_or(sentence(dialect, fault)),
+        ),
     }
-    String::from_str(
-        alloc,
-        match once_before(text, fault, offset) {
-            Some(found) => found,
-            None => sentence(text, dialect, fault, offset),
-        },
-    )
 }
 
-/// The byte at an offset, if it can't be printed.
-fn unprintable_at(text: &[u8], offset: usize) -> Option<u8> {
-    match text.get(offset) {
-        Some(byte) if byte.is_ascii_control() => Some(*byte),
-        _ => None,
+/// What is wrong with a byte above 127.
+fn not_ascii(alloc: Global, text: &[u8], offset: usize) -> Result<String, AllocError> {
+    if text.starts_with(MARK) {
+        return String::from_str(
+            alloc,
+            "the file begins with a byte order mark; save it as UTF-8 without one",
+        );
+    }
+    match text.split_at_checked(offset) {
+        Some((_, behind)) if behind.starts_with(NO_BREAK) => String::from_str(
+            alloc,
+            "the bytes 0xc2 0xa0, a no-break space, may stand in comments alone; write a blank here",
+        ),
+        Some((_, [byte, ..])) => format!(in alloc;
+            "the byte 0x{byte:02x} is above 127, and only comments may have such bytes; write ASCII here"
+        ),
+        _ => String::from_str(alloc, "only comments may have bytes above 127"),
     }
 }
 
@@ -110,18 +121,8 @@ fn once_before(text: &[u8], fault: TextFault, offset: usize) -> Option<&'static 
 }
 
 /// What is wrong, and what to do.
-fn sentence(text: &[u8], dialect: Dialect, fault: TextFault, offset: usize) -> &'static str {
+fn sentence(dialect: Dialect, fault: TextFault) -> &'static str {
     match fault {
-        TextFault::NotAscii if text.starts_with(MARK) => {
-            "the file begins with a byte order mark; save it as UTF-8 without one"
-        }
-        TextFault::NotAscii => {
-            "this byte is above 127, and only comments may have such bytes; write ASCII here"
-        }
-        TextFault::BadByte => match text.get(offset) {
-            Some(byte) => bad_byte(*byte, dialect),
-            None => "no token begins here",
-        },
         TextFault::OpenComment => match dialect {
             Dialect::Litmus => {
                 "this comment is never closed; (* always opens one, so a plain read in parentheses has to be made before, as in int r = *x;"
@@ -134,6 +135,6 @@ fn sentence(text: &[u8], dialect: Dialect, fault: TextFault, offset: usize) -> &
             "this number is above 2147483647, the greatest that is taken; write a smaller one"
         }
         TextFault::TooLong => "a text has at most 65536 bytes, and here come more; shorten it",
-        TextFault::NoMemory => "memory ran out",
+        _ => "memory ran out",
     }
 }

@@ -65,6 +65,47 @@ let r = po (* rf
 my.cat:2:12: Text (51): OpenComment (3): this comment is never closed; (* always opens one, whatever stands before
     let r = po (* rf
                ^
+====
+my.cat
+M
+let a = po
+acylic a
+----
+my.cat:3:1: Syntax (52): acylic can't stand here; did you mean acyclic?
+    acylic a
+    ^
+====
+my.cat
+M
+inclde \"a.cat\"
+----
+my.cat:2:1: Syntax (52): inclde can't stand here; did you mean include?
+    inclde \"a.cat\"
+    ^
+====
+my.cat
+M
+let a = unshow
+----
+my.cat:2:9: Syntax (52): unshow can't stand here; docs/MODELS.md has the grammar
+    let a = unshow
+            ^
+====
+my.cat
+M
+let f = fun x -> x
+----
+my.cat:2:15: Text (51): BadByte (2): -> is left out, and fun with it; bind a function by let, as in let f(x) = x ; po
+    let f = fun x -> x
+                  ^
+====
+my.cat
+M
+$
+----
+my.cat:2:1: Text (51): BadByte (2): no token of a model begins with this byte; take it away
+    $
+    ^
 ";
 
 /// Names that are bound nowhere, of the wrong sort, or denied in their own group.
@@ -135,7 +176,7 @@ my.cat
 M
 acyclic po acyclic W as w
 ----
-my.cat:2:12: WrongSort (65): at acyclic a set stands where a relation is wanted, or the other way round; [s] makes a relation of a set, domain(r) and range(r) make sets
+my.cat:2:12: WrongSort (65): at acyclic a set stands where a relation is wanted, or the other way round, or a call is wrong; [s] makes a relation of a set, domain(r) and range(r) make sets, and functions alone are called, with as many arguments as they have, as in fencerel(F)
     acyclic po acyclic W as w
                ^
 ====
@@ -144,7 +185,7 @@ M
 let a = po
 let b = rf and r = W ; po
 ----
-my.cat:3:16: WrongSort (65): at r a set stands where a relation is wanted, or the other way round; [s] makes a relation of a set, domain(r) and range(r) make sets
+my.cat:3:16: WrongSort (65): at r a set stands where a relation is wanted, or the other way round, or a call is wrong; [s] makes a relation of a set, domain(r) and range(r) make sets, and functions alone are called, with as many arguments as they have, as in fencerel(F)
     let b = rf and r = W ; po
                    ^
 ====
@@ -164,6 +205,30 @@ let rec r = (r ; po) | f(r)
 my.cat:3:26: NotMonotone (66): r is bound by this let rec, and may not stand under ~ or right of \\ in it
     let rec r = (r ; po) | f(r)
                              ^
+====
+my.cat
+M
+acyclic fencerel(W, R)
+----
+my.cat:2:1: WrongSort (65): at acyclic a set stands where a relation is wanted, or the other way round, or a call is wrong; [s] makes a relation of a set, domain(r) and range(r) make sets, and functions alone are called, with as many arguments as they have, as in fencerel(F)
+    acyclic fencerel(W, R)
+    ^
+====
+my.cat
+M
+acyclic po(W)
+----
+my.cat:2:1: WrongSort (65): at acyclic a set stands where a relation is wanted, or the other way round, or a call is wrong; [s] makes a relation of a set, domain(r) and range(r) make sets, and functions alone are called, with as many arguments as they have, as in fencerel(F)
+    acyclic po(W)
+    ^
+====
+my.cat
+M
+acyclic fencerel
+----
+my.cat:2:1: WrongSort (65): at acyclic a set stands where a relation is wanted, or the other way round, or a call is wrong; [s] makes a relation of a set, domain(r) and range(r) make sets, and functions alone are called, with as many arguments as they have, as in fencerel(F)
+    acyclic fencerel
+    ^
 ";
 
 /// Which use of its name a 66 is told at: the first that stands under `~` or right of `\`, with calls replaced.

@@ -136,6 +136,91 @@ exists (x=1)
 t.litmus:4:40: AtomicOnPlain (16): x is an int* here, and takes plain access alone; make it an atomic_int*, or write *x
       int r = atomic_load(y); atomic_store(x, r);
                                            ^
+====
+C t
+{}
+P0 (int* message, atomic_int* yyyy) {
+  atomic_store(yy, 1);
+}
+exists (yyyy=1)
+----
+t.litmus:4:16: UnknownName (14): yy is no parameter of P0; add int* yy or atomic_int* yy to its parameters
+      atomic_store(yy, 1);
+                   ^
+====
+C t
+{}
+P0 (int* message, atomic_int* y) {
+  atomic_store(mesage, 1);
+}
+exists (y=1)
+----
+t.litmus:4:16: UnknownName (14): mesage is no parameter of P0; did you mean message?
+      atomic_store(mesage, 1);
+                   ^
+====
+C t
+{}
+P0 (int* message, atomic_int* y) {
+  int r = *massage;
+}
+exists (y=1)
+----
+t.litmus:4:12: UnknownName (14): massage is no parameter of P0; did you mean message?
+      int r = *massage;
+               ^
+====
+C t
+{}
+P0 (int* message, atomic_int* y) {
+  int result = 0; *message = resutl;
+}
+exists (y=1)
+----
+t.litmus:4:30: UnknownName (14): resutl is no register of P0; did you mean result?
+      int result = 0; *message = resutl;
+                                 ^
+====
+C t
+{}
+P0 (int* message, atomic_int* y) {
+  int result = 0;
+}
+exists (0:rezult=1)
+----
+t.litmus:6:11: UnknownName (14): P0 has no register rezult; did you mean result?
+    exists (0:rezult=1)
+              ^
+====
+C t
+{}
+P0 (int* message, atomic_int* y) {
+  int result = 0;
+}
+exists (y=1 /\\ messages=1)
+----
+t.litmus:6:16: UnknownName (14): there is no location messages; did you mean message?
+    exists (y=1 /\\ messages=1)
+                   ^
+====
+C t
+{ 0:counter=1; flagged=1; }
+P0 (int* x) {}
+exists (0:countr=1)
+----
+t.litmus:4:11: UnknownName (14): P0 has no register countr; did you mean counter?
+    exists (0:countr=1)
+              ^
+====
+C t
+{ 0:counter=1; flagged=1; }
+P0 (int* x) {}
+locations [flaged]
+exists (x=1)
+----
+t.litmus:4:12: UnknownName (14): there is no location flaged; did you mean flagged?
+    locations [flaged]
+               ^
 ";
 
 /// Words that tests leave out.
@@ -168,7 +253,7 @@ P0 (int* x, atomic_int* y) {
 }
 exists (x=1)
 ----
-t.litmus:4:3: Unsupported (17): compare-exchange is left out; where it can't fail, atomic_exchange_explicit with its order of success does the same
+t.litmus:4:3: Unsupported (17): compare-exchange is left out, and no call of a test does the same; if only its success matters, write int r = atomic_exchange_explicit(x, 1, o) with its order o for success, and ask in the condition that r is the value that it expects
       atomic_compare_exchange_strong(y, x, 1);
       ^
 ====
@@ -215,6 +300,37 @@ exists (x=1)
 t.litmus:4:21: Unsupported (17): atomic_r is no call of a test
       int atomic_r = 1; atomic_r(y);
                         ^
+====
+C t
+{}
+P0 (int* x) {}
+filter (x=1) forall (x=1)
+----
+t.litmus:4:1: Unsupported (17): filter is left out; with its proposition p write exists (p /\\ q), ~exists (p /\\ q) or forall (p => q)
+    filter (x=1) forall (x=1)
+    ^
+====
+C t
+{}
+P0 (int* message, atomic_int* y) {
+  smp_store_release(y, 1);
+}
+exists (y=1)
+----
+t.litmus:4:3: Unsupported (17): smp_store_release is left out; write atomic_store_explicit(x, 1, memory_order_release), with atomic_int* x
+      smp_store_release(y, 1);
+      ^
+====
+C t
+{}
+P0 (int* message, atomic_int* y) {
+  int r = smp_load_acquire(y);
+}
+exists (y=1)
+----
+t.litmus:4:11: Unsupported (17): smp_load_acquire is left out; write atomic_load_explicit(x, memory_order_acquire), with atomic_int* x
+      int r = smp_load_acquire(y);
+              ^
 ";
 
 /// Limits, each at the first place at which it is passed.

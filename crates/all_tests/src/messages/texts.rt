@@ -12,7 +12,7 @@ P0 (int* x, atomic_int* y) {
 }
 exists (x=1)
 ----
-t.litmus:4:10: Text (11): BadByte (2): arithmetic and negative numbers are left out; write the value itself, or add to a location by atomic_fetch_add(x, 1)
+t.litmus:4:10: Text (11): BadByte (2): arithmetic is left out; write the value itself, or add to a location by atomic_fetch_add(x, 1)
       *x = 1 + 1;
              ^
 ====
@@ -23,7 +23,7 @@ P0 (int* x, atomic_int* y) {
 }
 exists (x=1)
 ----
-t.litmus:4:26: Text (11): BadByte (2): arithmetic and negative numbers are left out; write the value itself, or add to a location by atomic_fetch_add(x, 1)
+t.litmus:4:26: Text (11): BadByte (2): arithmetic is left out; write the value itself, or add to a location by atomic_fetch_add(x, 1)
       int r = 1 && 0; *x = r - 1;
                              ^
 ====
@@ -45,7 +45,7 @@ P0 (int* x, atomic_int* y) {
 }
 exists (x=1)
 ----
-t.litmus:4:21: Text (11): BadByte (2): only == and != compare, and = in a condition; name the values, as in r == 1 || r == 2
+t.litmus:4:21: Text (11): BadByte (2): only == and != compare; name the values, as in r == 1 || r == 2
       int r = *x; if (r < 2) *x = 1;
                         ^
 ====
@@ -121,6 +121,83 @@ exists (x=1)
 t.litmus:4:13: Text (11): OpenComment (3): WRITE_ONCE is left out; write atomic_store_explicit(x, 1, memory_order_relaxed), with atomic_int* x
       WRITE_ONCE(*x, 1);
                 ^
+====
+C t
+{}
+P0 (int* message, atomic_int* y) {
+  *message = -1;
+}
+exists (y=1)
+----
+t.litmus:4:14: Text (11): BadByte (2): values are 0 to 2147483647, and none is negative; write another number
+      *message = -1;
+                 ^
+====
+C t
+{}
+P0 (int* message, atomic_int* y) {
+  int r = y->load();
+}
+exists (y=1)
+----
+t.litmus:4:12: Text (11): BadByte (2): members are left out; calls are those of <stdatomic.h>, as in atomic_load(x)
+      int r = y->load();
+               ^
+====
+C t
+{}
+P0 (int* message, atomic_int* y) {
+  int r = y.load();
+}
+exists (y=1)
+----
+t.litmus:4:12: Text (11): BadByte (2): members are left out; calls are those of <stdatomic.h>, as in atomic_load(x)
+      int r = y.load();
+               ^
+====
+C t
+{}
+P0 (int* message, atomic_int* y) {
+  int r = 1.5;
+}
+exists (y=1)
+----
+t.litmus:4:12: Text (11): BadByte (2): only whole numbers are taken, and no members of structures
+      int r = 1.5;
+               ^
+====
+C t
+{}
+P0 (int* message, atomic_int* y) {
+  int r = 1; *message = r -1;
+}
+exists (y=1)
+----
+t.litmus:4:27: Text (11): BadByte (2): arithmetic is left out; write the value itself, or add to a location by atomic_fetch_add(x, 1)
+      int r = 1; *message = r -1;
+                              ^
+====
+C t
+{}
+P0 (int* message, atomic_int* y) {
+  int result = 0;
+}
+exists (0:result<>1)
+----
+t.litmus:6:17: Text (11): BadByte (2): <> is no sign of a test; write ~(0:r=1) in a condition, and r != 1 in a thread
+    exists (0:result<>1)
+                    ^
+====
+C t
+{}
+P0 (int* message, atomic_int* y) {
+  $
+}
+exists (y=1)
+----
+t.litmus:4:3: Text (11): BadByte (2): no token of a test begins with this byte; take it away
+      $
+      ^
 ";
 
 /// Tokens that the grammar doesn't take.
@@ -330,6 +407,280 @@ exists (x=1)
 t.litmus:4:3: Syntax (12): atomic_int can't stand here; a register is an int
       atomic_int r = 1;
       ^
+====
+C t
+{}
+P0 (int* message, atomic_int* y) {
+  int r = atomic_load(y) == 1;
+}
+exists (y=1)
+----
+t.litmus:4:26: Syntax (12): == can't stand here; a load stands alone on the right of =, so load into a register first, and compare that
+      int r = atomic_load(y) == 1;
+                             ^
+====
+C t
+{}
+P0 (int* message, atomic_int* y) {
+  int r0 = *message == 1;
+}
+exists (y=1)
+----
+t.litmus:4:21: Syntax (12): == can't stand here; a load stands alone on the right of =, so load into a register first, and compare that
+      int r0 = *message == 1;
+                        ^
+====
+C t
+{}
+P0 (int* message, atomic_int* y) {
+  int r = 0; r == 1;
+}
+exists (y=1)
+----
+t.litmus:4:16: Syntax (12): == can't stand here; it compares inside an expression, and a statement gives a value by =
+      int r = 0; r == 1;
+                   ^
+====
+C t
+{}
+P0 (int* message, atomic_int* y) {
+  atomic_store_explicit(y, 1);
+}
+exists (y=1)
+----
+t.litmus:4:29: Syntax (12): ) can't stand here; an order is wanted before it, such as memory_order_relaxed
+      atomic_store_explicit(y, 1);
+                                ^
+====
+C t
+{}
+P0 (int* message, atomic_int* y) {
+  int r = atomic_load_explicit(y);
+}
+exists (y=1)
+----
+t.litmus:4:33: Syntax (12): ) can't stand here; an order is wanted before it, such as memory_order_relaxed
+      int r = atomic_load_explicit(y);
+                                    ^
+====
+C t
+{}
+P0 (int* message, atomic_int* y) {
+  atomic_thread_fence();
+}
+exists (y=1)
+----
+t.litmus:4:23: Syntax (12): ) can't stand here; an order is wanted, such as memory_order_relaxed
+      atomic_thread_fence();
+                          ^
+====
+C t
+{}
+P0 (int* message, atomic_int* y) {
+  atomic_store_explicit(y, 1, relaxed);
+}
+exists (y=1)
+----
+t.litmus:4:31: Syntax (12): relaxed is no order; did you mean memory_order_relaxed?
+      atomic_store_explicit(y, 1, relaxed);
+                                  ^
+====
+C t
+{}
+P0 (int* message, atomic_int* y) {
+  int r = atomic_load_explicit(y, acquire);
+}
+exists (y=1)
+----
+t.litmus:4:35: Syntax (12): acquire is no order; did you mean memory_order_acquire?
+      int r = atomic_load_explicit(y, acquire);
+                                      ^
+====
+C t
+{}
+P0 (int* message, atomic_int* y) {
+  atomic_store_explicit(y, 1, release);
+}
+exists (y=1)
+----
+t.litmus:4:31: Syntax (12): release is no order; did you mean memory_order_release?
+      atomic_store_explicit(y, 1, release);
+                                  ^
+====
+C t
+{}
+P0 (int* message, atomic_int* y) {
+  atomic_exchange_explicit(y, 1, acq_rel);
+}
+exists (y=1)
+----
+t.litmus:4:34: Syntax (12): acq_rel is no order; did you mean memory_order_acq_rel?
+      atomic_exchange_explicit(y, 1, acq_rel);
+                                     ^
+====
+C t
+{}
+P0 (int* message, atomic_int* y) {
+  atomic_thread_fence(seq_cst);
+}
+exists (y=1)
+----
+t.litmus:4:23: Syntax (12): seq_cst is no order; did you mean memory_order_seq_cst?
+      atomic_thread_fence(seq_cst);
+                          ^
+====
+C t
+{}
+P0 (int* message, atomic_int* y) {
+  atomic_thread_fence(std::memory_order_acquire);
+}
+exists (y=1)
+----
+t.litmus:4:23: Syntax (12): std can't stand here; calls and orders have no std:: before them, as in memory_order_acquire
+      atomic_thread_fence(std::memory_order_acquire);
+                          ^
+====
+C t
+{}
+P0 (int* message, atomic_int* y) {
+  std::atomic_store(y, 1);
+}
+exists (y=1)
+----
+t.litmus:4:6: Syntax (12): std can't stand here; calls and orders have no std:: before them, as in memory_order_acquire
+      std::atomic_store(y, 1);
+         ^
+====
+C t
+{x=0, y=0}
+P0 (int* x) {}
+exists (x=1)
+----
+t.litmus:2:5: Syntax (12): , can't stand here; entries end with ;, as in { x=0; y=0; }
+    {x=0, y=0}
+        ^
+====
+C t
+{x==0;}
+P0 (int* x) {}
+exists (x=1)
+----
+t.litmus:2:3: Syntax (12): == compares in threads; an entry has one =, as in x=0
+    {x==0;}
+      ^
+====
+C t
+{P0:r=0;}
+P0 (int* x) {}
+exists (x=1)
+----
+t.litmus:2:4: Syntax (12): : can't stand here; a thread's number stands before it, as in 0:r=1
+    {P0:r=0;}
+       ^
+====
+C t
+{}
+P0 (int* x, int* y) {}
+locations [x, y]
+exists (x=1)
+----
+t.litmus:4:13: Syntax (12): , can't stand here; entries end with ;, as in locations [x; y;]
+    locations [x, y]
+                ^
+====
+C t
+{}
+P0 (int* x, int* y) {}
+locations [P0:r]
+exists (x=1)
+----
+t.litmus:4:14: Syntax (12): : can't stand here; a thread's number stands before it, as in 0:r=1
+    locations [P0:r]
+                 ^
+====
+C t
+{}
+P0 (int* message, atomic_int* y) {
+  int result = 0;
+}
+exists (P0:result=1)
+----
+t.litmus:6:11: Syntax (12): : can't stand here; a thread's number stands before it, as in 0:r=1
+    exists (P0:result=1)
+              ^
+====
+C t
+{}
+P0 (int* message, atomic_int* y) {
+  int result = 0;
+}
+exists (0:result!=1)
+----
+t.litmus:6:17: Syntax (12): != compares in threads; a condition has = alone, and ~ denies, as in ~(0:r0=1)
+    exists (0:result!=1)
+                    ^
+====
+C t
+{}
+P0 (int* message, atomic_int* y) {
+  int result = 0;
+}
+exists (y=1, y=0)
+----
+t.litmus:6:12: Syntax (12): , can't stand here; propositions are joined by /\\ and \\/
+    exists (y=1, y=0)
+               ^
+====
+C t
+{}
+P0 (int* message, atomic_int* y) {
+  int r = 0; if r == 1 r = 2;
+}
+exists (y=1)
+----
+t.litmus:4:17: Syntax (12): r can't stand behind if; parentheses are wanted, as in if (r == 1)
+      int r = 0; if r == 1 r = 2;
+                    ^
+====
+C t
+{}
+P0 (int* message, atomic_int* y) {
+  int r = true;
+}
+exists (y=1)
+----
+t.litmus:4:11: Syntax (12): true stands in conditions alone; in a thread write 1
+      int r = true;
+              ^
+====
+C t
+{}
+P0 (int* message, atomic_int* y) {
+  int r = false;
+}
+exists (y=1)
+----
+t.litmus:4:11: Syntax (12): false stands in conditions alone; in a thread write 0
+      int r = false;
+              ^
+====
+----
+t.litmus:1:1: Syntax (12): the file is empty; a C test begins with a line of C and its name, as C MP
+    
+    ^
+====
+ 
+----
+t.litmus:2:1: Syntax (12): the file has blanks and comments alone; a C test begins with a line of C and its name, as C MP
+    
+    ^
+====
+C exists
+{ x=0 && y=0; }
+----
+t.litmus:2:7: Syntax (12): && can't stand here; docs/LITMUS.md has the grammar
+    { x=0 && y=0; }
+          ^
 ";
 
 const MARKED_TEXT: &[u8] = b"\xef\xbb\xbfC t\n{}\n";
@@ -344,9 +695,41 @@ const ABOVE_TEXT: &[u8] =
     b"C t\n{}\nP0 (int* x, atomic_int* y) {\n  *x = 1; \xc3\xa9\n}\nexists (x=1)\n";
 
 const ABOVE_MESSAGE: &str =
-    "t.litmus:4:11: Text (11): NotAscii (1): this byte is above 127, and only comments may have such bytes; write ASCII here
+    "t.litmus:4:11: Text (11): NotAscii (1): the byte 0xc3 is above 127, and only comments may have such bytes; write ASCII here
       *x = 1; ??
               ^
+";
+
+const START_TEXT: &[u8] = b"C t\n{}\nP0 (int* x) {\n  \x01\n}\nexists (x=1)\n";
+
+const START_MESSAGE: &str =
+    "t.litmus:4:3: Text (11): BadByte (2): the byte 0x01 begins no token of a test; take it away
+       
+      ^
+";
+
+const NUL_TEXT: &[u8] = b"C t\n{}\nP0 (int* x) {\n  \x00\n}\nexists (x=1)\n";
+
+const NUL_MESSAGE: &str =
+    "t.litmus:4:3: Text (11): BadByte (2): the byte 0x00 begins no token of a test; take it away
+       
+      ^
+";
+
+const DELETE_TEXT: &[u8] = b"C t\n{}\nP0 (int* x) {\n  \x7f\n}\nexists (x=1)\n";
+
+const DELETE_MESSAGE: &str =
+    "t.litmus:4:3: Text (11): BadByte (2): the byte 0x7f begins no token of a test; take it away
+       
+      ^
+";
+
+const NO_BREAK_TEXT: &[u8] = b"C t\n{}\nP0 (int* x) {\n  \xc2\xa0\n}\nexists (x=1)\n";
+
+const NO_BREAK_MESSAGE: &str =
+    "t.litmus:4:3: Text (11): NotAscii (1): the bytes 0xc2 0xa0, a no-break space, may stand in comments alone; write a blank here
+      ??
+      ^
 ";
 
 /// Whether this message is told of a text of any bytes.
@@ -366,4 +749,17 @@ fn bytes_and_tokens(rt: HostRuntime) {
     expect(&rt, ABOVE_MESSAGE, is_above_told);
     all_are_told(&rt, alloc, "bytes", BYTES, told_of_text);
     all_are_told(&rt, alloc, "tokens", SYNTAX, told_of_text);
+}
+
+#[test]
+fn bytes_that_are_not_seen(rt: HostRuntime) {
+    let alloc = rt.alloc();
+    let is_start_told = is_told(alloc, START_TEXT, START_MESSAGE);
+    expect(&rt, START_MESSAGE, is_start_told);
+    let is_nul_told = is_told(alloc, NUL_TEXT, NUL_MESSAGE);
+    expect(&rt, NUL_MESSAGE, is_nul_told);
+    let is_delete_told = is_told(alloc, DELETE_TEXT, DELETE_MESSAGE);
+    expect(&rt, DELETE_MESSAGE, is_delete_told);
+    let is_no_break_told = is_told(alloc, NO_BREAK_TEXT, NO_BREAK_MESSAGE);
+    expect(&rt, NO_BREAK_MESSAGE, is_no_break_told);
 }
