@@ -7,15 +7,14 @@ use Rattle.slices.specs.Tallies.{TallyValue, IsApart, IsHeld, IsCover, cut, span
 use Rattle.slices.specs.Works.{WorkValue}
 use Rattle.slices.proofs.Cuts.{cuts, next_apart, next_below, next_held, all_held}
 
-pub begun : (w : WorkValue) (total : ℕ) (t : TallyValue) → 1 ≤ total → total ≤ 256 → t ≡ record { work = w; spans = [] } → IsCourse (record { work = w; total = total; done = 0 }) t
-begun w total t some few is =
+pub begun : (w : WorkValue) (total : ℕ) (t : TallyValue) → 1 ≤ total → t ≡ record { work = w; spans = [] } → IsCourse (record { work = w; total = total; done = 0 }) t
+begun w total t some is =
     let n = test_size w.test in
     let first = (cuts n total some).first in
     let spans : t.spans ≡ [] = ap (λ (x : TallyValue). x.spans) is in
     record {
       work = ap (λ (x : TallyValue). x.work) is;
       some = some;
-      few = few;
       done = omega arith;
       below = λ i h. let H : List Span → Type 0 = λ l. IsHeld l i in let k = subst H spans h in absurd k.1;
       held = λ i l. absurd (omega (arith, l, first));
@@ -32,7 +31,6 @@ stepped c old new r is less first last pushed =
     record {
       work = ap (λ (x : TallyValue). x.work) pushed ∙ is.work;
       some = is.some;
-      few = is.few;
       done = omega (arith, less);
       below = next_below n c.total c.done r old.spans new.spans is.some spans last is.below;
       held = next_held n c.total c.done r old.spans new.spans spans first last is.held;

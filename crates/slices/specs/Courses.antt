@@ -14,7 +14,6 @@ pub record CourseValue : Type 0 where
 pub record IsCourse (c : CourseValue) (t : TallyValue) : Type 0 where
   pub work : t.work ≡ c.work
   pub some : 1 ≤ c.total
-  pub few : c.total ≤ 256
   pub done : c.done ≤ c.total
   pub below : (i : ℕ) → IsHeld t.spans i → i < cut (test_size c.work.test) c.total c.done
   pub held : (i : ℕ) → i < cut (test_size c.work.test) c.total c.done → IsHeld t.spans i

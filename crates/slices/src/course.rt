@@ -49,7 +49,7 @@ impl Model for Course {
 impl Course {
     /// An evaluation of which no slice is done.
     pub fn new(alloc: Global, work: WorkRef, total: u16) -> Result<Self, AllocError>
-        requires { (1 ≤ total) × (total ≤ 256) }
+        requires { 1 ≤ total }
         ensures { IfOk result (λ c. c ≡ record { work = work; total = total; done = 0 }) }
     {
         let tally = Tally::new(alloc, work.share()?)?;

@@ -129,7 +129,7 @@ impl Verdict {
         total: u16,
         test_version: u32,
     ) -> Result<Self, AllocError>
-        requires { (1 ≤ total) × (total ≤ 256) }
+        requires { 1 ≤ total }
         ensures work { IfOk result (λ v. v.work ≡ work) }
         ensures version { IfOk result (λ v. v.version ≡ test_version) }
         ensures right { IfOk result (λ v. IsVerdict v.work.test v.work.model.items v.finding) }

@@ -17,7 +17,7 @@ pub record IsRound (r : Round) : Type 0 where
   pub threads : r.threads ≤ r.total
   pub order : r.from ≤ r.to
   pub within : r.to ≤ r.total
-  pub few : r.total ≤ 256
+  pub few : r.total ≤ 1024
 
 -- They are the results of a thread's slices in a round, in their order: thread t has slice t of the round, and from there on each n-th, where n threads are.
 pub record IsFoundBy (w : WorkValue) (r : Round) (t : ℕ) (xs : List PieceResultValue) : Type 0 where

@@ -33,6 +33,9 @@ impl Patience for Endless {
 /// How many numbers a slice has, where there are as many slices as that takes.
 const SLICE: u64 = 1 << 16;
 
+/// The most slices that a test is evaluated in: the patience is asked so often, and each costs what it takes to begin one.
+const MOST_SLICES: u16 = 1_024;
+
 /// The verdicts on the test that a text is, one for each of the models, in their order. So many threads evaluate slices of it at once.
 pub fn judge_text<R: Threads + Sync, P: Patience>(
     rt: &R,
@@ -107,14 +110,18 @@ fn judge_one<R: Threads + Sync, P: Patience>(
     }
 }
 
-/// How many slices a test of so many numbers is evaluated in, where a slice has this many, or more where they would be too many.
+/// How many slices a test of so many numbers is evaluated in, where a slice has this many, or more where there would be more than 1,024 of them.
 pub(crate) fn slices_for(size: u64, slice: u64) -> u16
     requires { 2 ≤ slice }
     ensures some { 1 ≤ result }
-    ensures few { result ≤ 256 }
+    ensures few { result ≤ MOST_SLICES }
 {
     let wanted = size / slice + 1;
-    if wanted > 256 { 256 } else { wanted as u16 }
+    if wanted > u64::from(MOST_SLICES) {
+        MOST_SLICES
+    } else {
+        wanted as u16
+    }
 }
 
 /// The verdict on a work, or none where the patience is over before.

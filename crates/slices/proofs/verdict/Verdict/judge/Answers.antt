@@ -19,7 +19,7 @@ loop-slice-preserved c =
     record {
       same = ap (λ (t : TallyValue). t.work) c.in-Ok.ensures.merged ∙ c.loop-slice.invariant.same;
       evaluator = c.evaluate_in.ensures.evaluator ∙ c.loop-slice.invariant.evaluator;
-      below = next_below n c.args.total c.loop-slice.slice c.in_ok-part.part c.loop-slice.tally.spans c.merge.new.self.spans c.requires.0 pushed last c.loop-slice.invariant.below;
+      below = next_below n c.args.total c.loop-slice.slice c.in_ok-part.part c.loop-slice.tally.spans c.merge.new.self.spans c.requires pushed last c.loop-slice.invariant.below;
       held = next_held n c.args.total c.loop-slice.slice c.in_ok-part.part c.loop-slice.tally.spans c.merge.new.self.spans pushed first last c.loop-slice.invariant.held;
     }
 
@@ -27,7 +27,7 @@ pub verdict-requires : goal.verdict-requires
 verdict-requires c =
     let size : test_size c.loop-slice.tally.work.test ≡ test_size c.args.work.test = ap (λ (w : WorkValue). test_size w.test) c.loop-slice.invariant.same in
     let done : c.loop-slice.slice ≡ c.args.total = omega arith in
-    λ j l. all_held (test_size c.args.work.test) c.args.total c.loop-slice.slice c.loop-slice.tally.spans c.requires.0 done c.loop-slice.invariant.held j (omega (arith, size, l))
+    λ j l. all_held (test_size c.args.work.test) c.args.total c.loop-slice.slice c.loop-slice.tally.spans c.requires done c.loop-slice.invariant.held j (omega (arith, size, l))
 
 pub merge-requires-clause-work : goal.merge-requires-clause-work
 merge-requires-clause-work c = ap (λ (p : PieceValue). p.work) c.in_ok-part.ensures.piece ∙ c.in_ok-piece.ensures.work ∙ sym c.loop-slice.invariant.same
