@@ -1,4 +1,5 @@
 pub mod EachSlice
+pub mod Firsts
 pub mod Loaded
 pub mod Objects
 pub mod Sent

@@ -8,6 +8,10 @@ use Rattle.suite.specs.declared.expected.Row.{Row}
 abbrev pub same_case : Row → Row → Bool
 same_case r s = bytes_eq r.path.items s.path.items && bytes_eq r.model.items s.model.items
 
+-- It is of the test at this path under the model at that one.
+abbrev pub is_of : Row → List ℕ → List ℕ → Bool
+is_of r path model = bytes_eq r.path.items path && bytes_eq r.model.items model
+
 abbrev pub same_answer : Row → Row → Bool
 same_answer r s = bytes_eq r.answer.items s.answer.items
 

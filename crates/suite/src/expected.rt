@@ -1,12 +1,14 @@
 //! What is expected of tests under models, and how what is found differs.
 
 ghost use Rattle.std.specs.Prelude.{◌≡◌, ◌++◌, ◌&&◌, take, drop, find, option_map, IfOk, OnOk};
+ghost use Rattle.std.specs.HashMap.{get_by};
 ghost use Rattle.std.specs.List.{flat_map};
 ghost use Rattle.suite.specs.Expected as texts;
-ghost use Rattle.suite.specs.Expected.{same_case, fate, novelty};
+ghost use Rattle.suite.specs.Expected.{same_case, is_of, fate, novelty};
 
 use crate::text::push_parts;
 use std::alloc::{AllocError, Global};
+use std::collections::HashMap;
 
 /// What is found of a test under a model, as texts. None of them has a tab or a line feed.
 #[derive(Drop)]
@@ -21,6 +23,9 @@ pub struct Row {
     pub states: Vec<u8>,
 }
 
+/// Rows by the path of their test and that of their model.
+type ByCase<'a> = HashMap<(&'a [u8], &'a [u8]), &'a Row>;
+
 /// The differences, a line each: what was expected and is otherwise or not there, in the order of what was expected, and then what wasn't expected.
 pub fn differences(alloc: Global, expected: &[Row], found: &[Row]) -> Result<Vec<u8>, AllocError>
     ensures { IfOk result (λ v. v.items ≡ texts.differences_text expected.now found.now) }
@@ -32,42 +37,60 @@ pub fn differences(alloc: Global, expected: &[Row], found: &[Row]) -> Result<Vec
 }
 
 /// Adds what is told of each expected row.
-fn push_fates(text: &mut Vec<u8>, expected: &[Row], found: &[Row]) -> Result<(), AllocError>
+fn push_fates<'a>(
+    text: &mut Vec<u8>,
+    expected: &'a [Row],
+    found: &'a [Row],
+) -> Result<(), AllocError>
     ensures { OnOk result (text.new.items ≡ text.old.items ++ flat_map (λ r. fate r (find (same_case r) found.now)) expected.now) }
 {
+    let firsts = first_rows(*text.allocator(), found)?;
     for row in expected {
-        push_fate(text, row, row_for(row, found))?;
+        push_fate(text, row, row_for(row, &firsts))?;
     }
     Ok(())
 }
 
 /// Adds each row that wasn't expected.
-fn push_novelties(text: &mut Vec<u8>, expected: &[Row], found: &[Row]) -> Result<(), AllocError>
+fn push_novelties<'a>(
+    text: &mut Vec<u8>,
+    expected: &'a [Row],
+    found: &'a [Row],
+) -> Result<(), AllocError>
     ensures { OnOk result (text.new.items ≡ text.old.items ++ flat_map (λ s. novelty s (find (same_case s) expected.now)) found.now) }
 {
+    let firsts = first_rows(*text.allocator(), expected)?;
     for row in found {
-        push_novelty(text, row, row_for(row, expected))?;
+        push_novelty(text, row, row_for(row, &firsts))?;
     }
     Ok(())
 }
 
-/// The first of the rows that is of the same test under the same model.
-fn row_for<'a>(row: &Row, rows: &'a [Row]) -> Option<&'a Row>
-    ensures { option_map (λ r. r.now) result ≡ find (same_case row.now) rows.now }
+/// The first of the rows of each case.
+fn first_rows<'a>(alloc: Global, rows: &'a [Row]) -> Result<ByCase<'a>, AllocError>
+    ensures { IfOk result (λ m. (r : Row) → option_map (λ s. s.now) (get_by (λ c. is_of r c.0.now c.1.now) m) ≡ find (same_case r) rows.now) }
 {
-    for other in rows {
-        if is_same_case(row, other) {
-            return Some(other);
-        }
+    let mut firsts = HashMap::new(alloc);
+    // From the back, so that of the rows of a case the first is put last, and stays.
+    for row in rows.iter().rev() {
+        firsts.insert(case_of(row), row)?;
     }
-    None
+    Ok(firsts)
 }
 
-fn is_same_case(first: &Row, second: &Row) -> bool
-    ensures { result ≡ same_case first.now second.now }
+/// The row that is there for the case of this one.
+fn row_for<'a>(row: &'a Row, rows: &ByCase<'a>) -> Option<&'a Row>
+    ensures { option_map (λ s. s.now) result ≡ option_map (λ s. s.now) (get_by (λ c. is_of row.now c.0.now c.1.now) rows.now) }
 {
-    first.path.as_slice() == second.path.as_slice()
-        && first.model.as_slice() == second.model.as_slice()
+    rows.get(&case_of(row)).copied()
+}
+
+/// Which test under which model a row is of.
+fn case_of(row: &Row) -> (&[u8], &[u8])
+    ensures path { result.0.now ≡ row.now.path.items }
+    ensures model { result.1.now ≡ row.now.model.items }
+{
+    (row.path.as_slice(), row.model.as_slice())
 }
 
 /// Adds what is told of an expected row, where this one was found for it.
