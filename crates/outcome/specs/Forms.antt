@@ -30,13 +30,13 @@ verdicts_text form ms cs vs = flat_map (λ p. verdict_text form ms p.0 p.1.findi
 abbrev pub cells_of : List VerdictValue → List (List ℕ)
 cells_of vs = map (λ v. cell v.finding) vs
 
--- a row of the test's path and of each verdict below its model's name
-abbrev pub table_text : Form → Wanted → Tested → List VerdictValue → List ℕ
-table_text Table w t vs = table_row w.width t.path.now (map (λ m. m.items) w.models.now) (cells_of vs)
-table_text form w t vs = []
+-- a row of the test's path and of each cell below its model's name
+abbrev pub table_text : Form → Wanted → Tested → List (List ℕ) → List ℕ
+table_text Table w t cells = table_row w.width t.path.now (map (λ m. m.items) w.models.now) cells
+table_text form w t cells = []
 
 abbrev pub lines_text : Wanted → Tested → List VerdictValue → List ℕ
-lines_text w t vs = table_text w.form w t vs ++ verdicts_text w.form t.milliseconds t.cases.now vs
+lines_text w t vs = table_text w.form w t (cells_of vs) ++ verdicts_text w.form t.milliseconds t.cases.now vs
 
 -- whether the models tell different words or flags
 abbrev pub differ : List VerdictValue → Bool

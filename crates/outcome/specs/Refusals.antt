@@ -9,10 +9,12 @@ use Rattle.fault_messages.specs.Told.{TellsTest, IsMessageAlone}
 use Rattle.suite.specs.declared.case.Case.{Case}
 use Rattle.suite.specs.declared.fault.TestTrouble.{TestTrouble}
 use Rattle.suite.specs.declared.fault.TestTrouble.TheVariants.{Test, Space, Late, NoMemory}
+use Rattle.outcome.specs.Forms.{table_text}
 use Rattle.outcome.specs.Rows.{RowTexts, row_for}
 use Rattle.outcome.specs.declared.form.Form.{Form}
 use Rattle.outcome.specs.declared.form.Form.TheVariants.{Summary, Line, Table, Tabs, Json}
 use Rattle.outcome.specs.declared.form.Tested.{Tested}
+use Rattle.outcome.specs.declared.form.Wanted.{Wanted}
 
 -- the number and the name of a refusal
 abbrev pub label : TestTrouble → List ℕ
@@ -26,6 +28,10 @@ abbrev pub refusal_row : Case → ℕ → List ℕ → List ℕ
 refusal_row c ms label =
     c.path.now ++ codes "\t" ++ c.model.now ++ codes "\t\t\t" ++ codes "refused\t" ++ label ++ codes "\t\t\t\t\t" ++ decimal ms ++ codes "\t" ++ c.digests.now ++ codes "\n"
 
+-- for people, with the label for what a verdict's line has behind its path
+abbrev pub refusal_line : Case → List ℕ → List ℕ
+refusal_line c label = c.path.now ++ codes " refused " ++ label ++ codes "\n"
+
 -- the members, in the order of their names
 abbrev pub refusal_data : Case → ℕ → List ℕ → Data
 refusal_data c ms label =
@@ -36,17 +42,21 @@ refusal_data c ms label =
     (member (codes "refused") (string label)
     no_members)))))
 
--- Only the forms for programs have a line for a refusal.
+-- Of a refusal under one model: a line, fields between tabs, or an object on a line. A summary tells nothing of it, and a table what all models have at once.
 abbrev pub refusal_text : Form → ℕ → List ℕ → Case → List ℕ
 refusal_text Summary ms label c = []
-refusal_text Line ms label c = []
+refusal_text Line ms label c = refusal_line c label
 refusal_text Table ms label c = []
 refusal_text Tabs ms label c = refusal_row c ms label
 refusal_text Json ms label c = compact_text (refusal_data c ms label) ++ codes "\n"
 
--- under each of the models
-abbrev pub refusals_text : Form → Tested → TestTrouble → List ℕ
-refusals_text form t trouble = flat_map (refusal_text form t.milliseconds (label trouble)) t.cases.now
+-- what a table tells under each of the models
+abbrev pub refused_cells : Wanted → List (List ℕ)
+refused_cells w = map (λ m. codes "refused") w.models.now
+
+-- in a table the test's row, else what is told under each of the models
+abbrev pub refusals_text : Wanted → Tested → TestTrouble → List ℕ
+refusals_text w t trouble = table_text w.form w t (refused_cells w) ++ flat_map (refusal_text w.form t.milliseconds (label trouble)) t.cases.now
 
 -- `refused 13 BadOrder`, and no number of states
 abbrev pub refused_row : List ℕ → Case → RowTexts

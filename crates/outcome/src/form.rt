@@ -5,15 +5,15 @@ use suite::Case;
 /// What is printed of each test.
 #[derive(Clone, Copy)]
 pub enum Form {
-    /// The summary of each verdict.
+    /// The summary of each verdict, and nothing of a refusal.
     Summary,
-    /// One line for each verdict.
+    /// One line for each verdict or refusal.
     Line,
-    /// A row of a table, with a column for each model.
+    /// A row of a table for each test, with a column for each model.
     Table,
-    /// Fields between tabs, a line for each verdict.
+    /// Fields between tabs, a line for each verdict or refusal.
     Tabs,
-    /// An object of JSON for each verdict.
+    /// An object of JSON for each verdict or refusal.
     Json,
 }
 

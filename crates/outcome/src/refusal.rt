@@ -4,13 +4,14 @@ ghost use Rattle.std.specs.Prelude.{◌≡◌, ◌++◌, map, IfOk, OnOk, string
 ghost use Rattle.std.specs.List.{flat_map};
 ghost use Rattle.serde_json.specs.View.{view};
 ghost use Rattle.serde_json.specs.Written.{compact_text};
+ghost use Rattle.outcome.specs.Forms.{table_text};
 ghost use Rattle.outcome.specs.Refusals as texts;
 ghost use Rattle.outcome.specs.Refusals.{refusal_text, refused_row};
 ghost use Rattle.outcome.specs.Rows.{texts_of};
 
-use crate::form::Form;
+use crate::form::{Form, Tested, Wanted};
 use crate::rows::row_with;
-use crate::verdicts::ended;
+use crate::verdicts::{ended, table_of};
 use fault_messages::{space_trouble, test_fault};
 use itoa::Buffer;
 use serde_json::{Value, json};
@@ -83,6 +84,15 @@ fn push_parts(text: &mut Vec<u8>, parts: &[&str]) -> Result<(), AllocError>
     Ok(())
 }
 
+/// A refusal as a line for people.
+fn line_of(alloc: Global, label: &str, case: &Case<'_>) -> Result<Vec<u8>, AllocError>
+    ensures { IfOk result (λ v. v.items ≡ texts.refusal_line case.now label.now) }
+{
+    let mut text = Vec::new(alloc);
+    push_parts(&mut text, &[case.path, " refused ", label, "\n"])?;
+    Ok(text)
+}
+
 /// A refusal as an object of JSON.
 fn object_of(
     alloc: Global,
@@ -114,7 +124,7 @@ fn value_of(
     })
 }
 
-/// What is printed of a refusal.
+/// What is printed of a refusal by itself.
 fn text_of(
     alloc: Global,
     form: Form,
@@ -125,14 +135,15 @@ fn text_of(
     ensures { IfOk result (λ v. v.items ≡ refusal_text form milliseconds label.now case.now) }
 {
     match form {
-        Form::Summary | Form::Line | Form::Table => Ok(Vec::new(alloc)),
+        Form::Summary | Form::Table => Ok(Vec::new(alloc)),
+        Form::Line => line_of(alloc, label, case),
         Form::Tabs => fields_of(alloc, milliseconds, label, case),
         Form::Json => ended(object_of(alloc, milliseconds, label, case)?.into_bytes()),
     }
 }
 
-/// Adds what is printed of a refusal, under each of the models.
-pub(crate) fn push_refusals(
+/// Adds what is printed of a refusal by itself, under each of the models.
+fn push_refusals(
     text: &mut Vec<u8>,
     alloc: Global,
     form: Form,
@@ -146,6 +157,42 @@ pub(crate) fn push_refusals(
         text.append(&mut text_of(alloc, form, milliseconds, label, case)?)?;
     }
     Ok(())
+}
+
+/// The test's row of a table, with the same cell under each of the models, or nothing in another form.
+fn refused_table(
+    alloc: Global,
+    wanted: &Wanted<'_>,
+    test: &Tested<'_>,
+) -> Result<Vec<u8>, AllocError>
+    ensures { IfOk result (λ v. v.items ≡ table_text wanted.now.form wanted.now test.now (texts.refused_cells wanted.now)) }
+{
+    let mut cells = Vec::new(alloc);
+    for _ in wanted.models {
+        cells.push(Vec::from_slice(alloc, b"refused")?)?;
+    }
+    table_of(alloc, wanted, test, &cells)
+}
+
+/// Adds what is printed of a refused test: in a table its row, else the refusal under each of the models.
+pub(crate) fn push_refused_lines(
+    text: &mut Vec<u8>,
+    alloc: Global,
+    wanted: &Wanted<'_>,
+    test: &Tested<'_>,
+    trouble: &TestTrouble,
+) -> Result<(), AllocError>
+    ensures { OnOk result (text.new.items ≡ text.old.items ++ texts.refusals_text wanted.now test.now trouble.now) }
+{
+    text.append(&mut refused_table(alloc, wanted, test)?)?;
+    push_refusals(
+        text,
+        alloc,
+        wanted.form,
+        test.milliseconds,
+        label_of(trouble),
+        test.cases,
+    )
 }
 
 /// Adds what is compared or stored of a refusal, under each of the models.

@@ -9,7 +9,7 @@ ghost use Rattle.outcome.specs.Rows.{texts_of, verdict_rows, if_kept};
 
 use crate::explaining::push_reasons;
 use crate::form::{Tested, Wanted};
-use crate::refusal::{label_of, message_of, push_refusals, push_refused};
+use crate::refusal::{label_of, message_of, push_refused, push_refused_lines};
 use crate::verdicts::{cells_for, push_lines, push_rows};
 use slices::Verdict;
 use std::alloc::{AllocError, Global};
@@ -114,25 +114,17 @@ impl Told {
         test: &Tested<'_>,
         trouble: &TestTrouble,
     ) -> Result<(), AllocError>
-        ensures lines { OnOk result (self.new.lines.items ≡ self.old.lines.items ++ refusals.refusals_text wanted.now.form test.now trouble.now) }
+        ensures lines { OnOk result (self.new.lines.items ≡ self.old.lines.items ++ refusals.refusals_text wanted.now test.now trouble.now) }
         ensures rows { OnOk result (map texts_of self.new.rows.items ≡ map texts_of self.old.rows.items ++ if_kept wanted.now.keeps_rows (refusals.refused_rows test.now trouble.now)) }
         ensures message { OnOk result (refusals.Tells test.now.path.now test.now.text.now trouble.now (string_bytes self.new.message)) }
         ensures differs { self.new.differs ≡ self.old.differs }
         ensures why { self.new.why ≡ self.old.why }
         ensures dot { self.new.dot ≡ self.old.dot }
     {
-        let label = label_of(trouble);
         self.message = message_of(alloc, test.path, test.text, trouble)?;
-        push_refusals(
-            &mut self.lines,
-            alloc,
-            wanted.form,
-            test.milliseconds,
-            label,
-            test.cases,
-        )?;
+        push_refused_lines(&mut self.lines, alloc, wanted, test, trouble)?;
         if wanted.keeps_rows {
-            return push_refused(&mut self.rows, alloc, label, test.cases);
+            return push_refused(&mut self.rows, alloc, label_of(trouble), test.cases);
         }
         Ok(())
     }

@@ -1,8 +1,7 @@
 //! What is printed and kept of the verdicts on a test.
 
-ghost use Rattle.std.specs.Prelude.{◌≡◌, ◌++◌, List, map, codes, IfOk, OnOk};
+ghost use Rattle.std.specs.Prelude.{◌≡◌, ◌++◌, map, codes, IfOk, OnOk};
 ghost use Rattle.outcome.specs.Forms.{verdict_text, verdicts_text, cells_of, table_text, lines_text};
-ghost use Rattle.slices.specs.VerdictValues.{VerdictValue};
 ghost use Rattle.outcome.specs.Rows.{texts_of, verdict_row, verdict_rows};
 
 use crate::form::{Form, Tested, Wanted};
@@ -69,13 +68,13 @@ fn push_verdicts(
 }
 
 /// The test's row of a table, or nothing in another form.
-fn table_of(
+pub(crate) fn table_of(
     alloc: Global,
     wanted: &Wanted<'_>,
     test: &Tested<'_>,
     cells: &[Vec<u8>],
 ) -> Result<Vec<u8>, AllocError>
-    ensures { (vs : List VerdictValue) → map (λ c. c.items) cells.now ≡ cells_of vs → IfOk result (λ v. v.items ≡ table_text wanted.now.form wanted.now test.now vs) }
+    ensures { IfOk result (λ v. v.items ≡ table_text wanted.now.form wanted.now test.now (map (λ c. c.items) cells.now)) }
 {
     match wanted.form {
         Form::Table => table_row_of(
