@@ -56,7 +56,7 @@ pub record TellsRefusal (a : Asked) (path text : List ℕ) (trouble : TestTroubl
   pub as_asked : IsWanted a wanted
   pub tested : Tested
   pub same_test : IsTested a.models.now path text tested
-  pub lines : new.lines.items ≡ old.lines.items ++ refusals_text wanted.form tested trouble
+  pub lines : new.lines.items ≡ old.lines.items ++ refusals_text wanted tested trouble
   pub rows : map texts_of new.rows.items ≡ map texts_of old.rows.items ++ if_kept wanted.keeps_rows (refused_rows tested trouble)
   pub message : Tells path text trouble (string_bytes new.message)
   pub differs : new.differs ≡ old.differs

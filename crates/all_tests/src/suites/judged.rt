@@ -167,6 +167,7 @@ fn late_tests(rt: HostRuntime) {
         "waits",
         is_told(&rt, LB, Form::Line, HURRIED, "waiting\n"),
     );
-    let told = "refused\na.litmus: given up: it took longer than --timeout says\n";
+    let told =
+        "refused\na.litmus refused Late\na.litmus refused Late\na.litmus: given up: it took longer than --timeout says\n";
     expect(&rt, "given up", is_told(&rt, LB, Form::Line, SPENT, told));
 }

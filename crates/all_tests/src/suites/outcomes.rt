@@ -21,8 +21,10 @@ const FORMS: [(Form, &str); 3] = [
 ];
 
 /// Forms, and the bytes of a refusal in them.
-const REFUSED: [(Form, &str); 3] = [
+const REFUSED: [(Form, &str); 5] = [
     (Form::Summary, ""),
+    (Form::Line, "SB.litmus refused Late\n"),
+    (Form::Table, "  SB.litmus   refused\n"),
     (
         Form::Tabs,
         "SB.litmus\tsc.cat\t\t\trefused\tLate\t\t\t\t\t7\tsc.cat=0123456789abcdef\n",
@@ -123,12 +125,12 @@ fn verdict_in_each_form(rt: HostRuntime) {
     }
 }
 
-/// Whether a refusal is told so in a form.
-fn is_refused(alloc: Global, form: Form, text: &str) -> bool {
+/// Whether a refusal is told so in a form, under a model of this name.
+fn is_refused(alloc: Global, models: &[Vec<u8>], form: Form, text: &str) -> bool {
     let wanted = Wanted {
         form,
         width: 10,
-        models: &[],
+        models,
         keeps_rows: true,
     };
     let mut told = Told::new(alloc);
@@ -137,10 +139,17 @@ fn is_refused(alloc: Global, form: Form, text: &str) -> bool {
         && told.lines.as_slice() == text.as_bytes()
 }
 
+fn expect_refusals(rt: &impl Abort, alloc: Global, models: &[Vec<u8>]) {
+    for (form, text) in &REFUSED {
+        expect(rt, text, is_refused(alloc, models, *form, text));
+    }
+}
+
 #[test]
 fn refusal_in_each_form(rt: HostRuntime) {
-    for (form, text) in &REFUSED {
-        expect(&rt, text, is_refused(rt.alloc(), *form, text));
+    match &words_of(rt.alloc(), "sc.cat") {
+        Ok(models) => expect_refusals(&rt, rt.alloc(), models),
+        Err(AllocError) => expect(&rt, "no memory", false),
     }
 }
 
