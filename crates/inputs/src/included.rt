@@ -1,54 +1,61 @@
 //! The names of the files that a cat text includes, as they are written there.
 
 use std::alloc::{AllocError, Global};
-use wb_text::Name;
+use wb_text::{Dialect, Name, TextFault, Token, TokenKind, tokens};
 
 /// The most bytes of a name that a book can have.
 const LONGEST: usize = 64;
 
-/// Where the name of an included file stands in a text: from the byte behind its first quote up to its last quote.
+/// Where the name of an included file stands in a text, with its quotes.
 #[derive(Clone, Copy)]
 pub(crate) struct Included {
     from: usize,
-    pub(crate) to: usize,
+    to: usize,
 }
 
 impl Included {
-    /// The first one behind so many bytes of a text, which don't end within a comment, quotes or a word. One in a comment is none.
-    pub(crate) fn next(text: &[u8], behind: usize) -> Option<Self> {
-        let (_, mut rest) = text.split_at_checked(behind)?;
-        let mut is_included = false;
-        for _ in 0..text.len() {
-            let (piece, next) = rest.split_at_checked(piece_len(rest))?;
-            match piece {
-                [b'(', b'*', ..] | [b'/', b'/', ..] | [b' ' | b'\t' | b'\r' | b'\n', ..] => {}
-                [b'"', name @ .., _] if is_included => {
-                    let to = text.len().saturating_sub(next.len() + 1);
-                    let from = to.saturating_sub(name.len());
-                    return Some(Included { from, to });
-                }
-                _ => is_included = piece == b"include".as_slice(),
+    /// All of a text, in their order. A text that has no tokens includes none; a byte above 127 counts as a letter, since the name of a file may have it.
+    pub(crate) fn all(alloc: Global, text: &[u8]) -> Result<Vec<Self>, AllocError> {
+        let mut plain = Vec::from_slice(alloc, text)?;
+        for byte in plain.iter_mut() {
+            if !byte.is_ascii() {
+                *byte = b'_';
             }
-            rest = next;
         }
-        None
+        match tokens(alloc, &plain, Dialect::Cat) {
+            Ok(tokens) => Included::among(alloc, text, &tokens),
+            Err(TextFault::NoMemory) => Err(AllocError),
+            Err(_) => Ok(Vec::new(alloc)),
+        }
+    }
+
+    /// Those among the tokens of a text: what is quoted behind the word `include`.
+    fn among(alloc: Global, text: &[u8], tokens: &[Token]) -> Result<Vec<Self>, AllocError> {
+        let mut found = Vec::new(alloc);
+        let mut is_included = false;
+        for token in tokens {
+            let Token { kind, from, to } = *token;
+            if is_included && kind == TokenKind::Quoted {
+                found.push(Included { from, to })?;
+            }
+            is_included = text.get(from..to) == Some(b"include".as_slice());
+        }
+        Ok(found)
     }
 
     /// The name as it is written. It is empty where no file can have it.
     pub(crate) fn written(self, text: &[u8]) -> &str {
-        let name = text.get(self.from..self.to).unwrap_or(&[]);
-        if name.contains(&b'\n') {
-            return "";
+        match text.get(self.from..self.to) {
+            Some([b'"', name @ .., b'"']) => std::str::from_utf8(name).unwrap_or(""),
+            _ => "",
         }
-        std::str::from_utf8(name).unwrap_or("")
     }
 
     /// The name that stands for the written one in a book, which is put in the place of that.
     pub(crate) fn replace(self, alloc: Global, text: &mut [u8]) -> Result<Name, AllocError> {
-        let end = self.to.saturating_add(1);
-        match text.get_mut(self.from..end) {
-            Some(quoted) => stand_in(alloc, quoted),
-            None => Err(AllocError),
+        match text.get_mut(self.from..self.to) {
+            Some([_, name @ ..]) => stand_in(alloc, name),
+            _ => Err(AllocError),
         }
     }
 }
@@ -68,56 +75,4 @@ fn stand_in(alloc: Global, quoted: &mut [u8]) -> Result<Name, AllocError> {
         Ok(name) => Ok(name),
         Err(_) => Err(AllocError),
     }
-}
-
-/// How long the comment, the quoted text, the word or else the byte is that a text begins with. A quoted text that is never closed is longer than what there is.
-fn piece_len(text: &[u8]) -> usize {
-    match text {
-        [b'(', b'*', ..] => comment_len(text),
-        [b'/', b'/', ..] => len_before(text, b'\n'),
-        [b'"', inside @ ..] => len_before(inside, b'"').saturating_add(2),
-        [byte, ..] if byte.is_ascii_alphabetic() || *byte == b'_' => word_len(text),
-        _ => 1,
-    }
-}
-
-/// How long the comment is that a text begins with. Comments nest.
-fn comment_len(text: &[u8]) -> usize {
-    let mut rest = text;
-    let mut depth = 0usize;
-    for _ in 0..text.len() {
-        if rest.starts_with(b"(*") {
-            depth = depth.saturating_add(1);
-            rest = &rest[2..];
-        } else if rest.starts_with(b"*)") {
-            depth = depth.saturating_sub(1);
-            rest = &rest[2..];
-        } else if !rest.is_empty() {
-            rest = &rest[1..];
-        }
-        if depth == 0 {
-            break;
-        }
-    }
-    text.len().saturating_sub(rest.len())
-}
-
-/// How many bytes stand before the first that is this one.
-fn len_before(text: &[u8], end: u8) -> usize {
-    for (len, byte) in text.iter().enumerate() {
-        if *byte == end {
-            return len;
-        }
-    }
-    text.len()
-}
-
-/// How long the word is that a text begins with.
-fn word_len(text: &[u8]) -> usize {
-    for (len, byte) in text.iter().enumerate() {
-        if !byte.is_ascii_alphanumeric() && !b"_.-".contains(byte) {
-            return len;
-        }
-    }
-    text.len()
 }

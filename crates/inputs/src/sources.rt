@@ -14,9 +14,6 @@ use wb_text::Name;
 /// The most files of a model that are read.
 const MOST_FILES: usize = 4_096;
 
-/// The most bytes of a text, and so the most includes in it.
-const MOST_INCLUDES: usize = 65_537;
-
 /// The files of a model, of which the first is its root, and the folders in which those that they include are looked for.
 pub(crate) struct Sources<'a> {
     pub(crate) files: Vec<Source>,
@@ -88,16 +85,12 @@ impl<'a> Sources<'a> {
         rt: &R,
         place: usize,
     ) -> Result<(), Trouble> {
-        let mut behind = 0usize;
-        for _ in 0..MOST_INCLUDES {
-            let Some(source) = self.files.get(place) else {
-                break;
-            };
-            let Some(included) = Included::next(&source.text, behind) else {
-                break;
-            };
-            self.include(rt, place, included)?;
-            behind = included.to.saturating_add(1);
+        let Some(source) = self.files.get(place) else {
+            return Ok(());
+        };
+        let all = Included::all(rt.alloc(), &source.text)?;
+        for included in &all {
+            self.include(rt, place, *included)?;
         }
         Ok(())
     }
