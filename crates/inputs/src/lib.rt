@@ -1,6 +1,7 @@
 //! The tests and the models that words name: files, folders, lists, and what models include; what a run tells of each test; and what is stored of it.
 #![tactic(auto)]
 
+mod included;
 mod models;
 mod paths;
 mod sources;

@@ -1,9 +1,9 @@
 //! The files of a model, with those that they include.
 
+use crate::included::Included;
 use crate::text::{is_there, joined, sibling, text_of};
 use crate::trouble::{Trouble, told, unreadable};
 use cat_model::Files as CatFiles;
-use cat_syntax::{CatFault, Item, read_cat};
 use fault_messages::Source;
 use outcome::Status;
 use std::alloc::{AllocError, Global};
@@ -79,7 +79,7 @@ impl<'a> Sources<'a> {
         Ok(())
     }
 
-    /// Adds the files that the file at a place includes. A text that is no cat file includes none: it is told later.
+    /// Adds the files that the file at a place includes.
     fn include_all<R: Files + Eprint + AllocGlobal>(
         &mut self,
         rt: &R,
@@ -88,33 +88,58 @@ impl<'a> Sources<'a> {
         let Some(source) = self.files.get(place) else {
             return Ok(());
         };
-        let file = match read_cat(rt.alloc(), &source.text) {
-            Ok(file) => file,
-            Err(CatFault::NoMemory) => return Err(Trouble::NoMemory),
-            Err(_) => return Ok(()),
-        };
-        for item in file.items() {
-            if let Item::Include(name) = item {
-                self.include(rt, name, place)?;
-            }
+        let all = Included::all(rt.alloc(), &source.text)?;
+        for included in &all {
+            self.include(rt, place, *included)?;
         }
         Ok(())
     }
 
-    /// Adds the file of a name that the file at this place includes, if it isn't there yet, and lies somewhere. One name can't stand for two files.
+    /// Adds the file of a name that the file at this place includes, if it lies somewhere.
     fn include<R: Files + Eprint + AllocGlobal>(
         &mut self,
         rt: &R,
-        name: &Name,
         place: usize,
+        included: Included,
     ) -> Result<(), Trouble> {
-        let Some(path) = self.find(rt, name, place)? else {
+        let Some(source) = self.files.get(place) else {
             return Ok(());
         };
-        let path = path.as_str();
+        let written = included.written(&source.text);
+        if written.is_empty() {
+            return Ok(());
+        }
+        let path = find(rt, self.folders, source.path.as_str(), written)?;
+        if !is_there(rt, path.as_str()) {
+            return Ok(());
+        }
+        let name = self.name(rt.alloc(), place, included)?;
+        self.add_once(rt, &name, path.as_str())
+    }
+
+    /// The name under which a file is kept that the file at this place includes. It is put in the place of the one that is written there.
+    fn name(
+        &mut self,
+        alloc: Global,
+        place: usize,
+        included: Included,
+    ) -> Result<Name, AllocError> {
+        match self.files.get_mut(place) {
+            Some(source) => included.replace(alloc, &mut source.text),
+            None => Err(AllocError),
+        }
+    }
+
+    /// Adds a file, if it isn't there yet. One name can't stand for two files.
+    fn add_once<R: Files + Eprint + AllocGlobal>(
+        &mut self,
+        rt: &R,
+        name: &Name,
+        path: &str,
+    ) -> Result<(), Trouble> {
         for known in &self.files {
             if known.name == *name {
-                return see_same(rt, known, path);
+                return see_same(rt, known.path.as_str(), path);
             }
         }
         match text_of(rt, path) {
@@ -122,51 +147,48 @@ impl<'a> Sources<'a> {
             Err(error) => Err(unreadable(rt, path, &error)),
         }
     }
-
-    /// Where the file of a name lies that the file at this place includes: beside that, or in one of the folders.
-    fn find<R: Files + AllocGlobal>(
-        &self,
-        rt: &R,
-        name: &Name,
-        place: usize,
-    ) -> Result<Option<String>, AllocError> {
-        let (Some(file), Ok(name)) = (self.files.get(place), std::str::from_utf8(name.bytes()))
-        else {
-            return Ok(None);
-        };
-        let mut path = sibling(rt.alloc(), file.path.as_str(), name)?;
-        for folder in self.folders {
-            if is_there(rt, path.as_str()) {
-                break;
-            }
-            path = joined(rt.alloc(), folder, name)?;
-        }
-        if is_there(rt, path.as_str()) {
-            return Ok(Some(path));
-        }
-        Ok(None)
-    }
 }
 
-/// Sees that a name that stands for this file isn't included for another. Of one file there may be several paths, and two files with one text are as one.
+/// Where the file of a name lies that a file includes: beside that, or in one of the folders. If nothing is there, it lies nowhere.
+fn find<R: Files + AllocGlobal>(
+    rt: &R,
+    folders: &[&str],
+    file: &str,
+    name: &str,
+) -> Result<String, AllocError> {
+    let mut path = sibling(rt.alloc(), file, name)?;
+    for folder in folders {
+        if is_there(rt, path.as_str()) {
+            break;
+        }
+        path = joined(rt.alloc(), folder, name)?;
+    }
+    Ok(path)
+}
+
+/// Sees that a name that stands for the first of two files isn't included for another. Of one file there may be several paths, and two files with one text are as one.
 fn see_same<R: Files + Eprint + AllocGlobal>(
     rt: &R,
-    known: &Source,
+    first: &str,
     path: &str,
 ) -> Result<(), Trouble> {
-    let first = known.path.as_str();
     if first == path {
         return Ok(());
     }
-    match text_of(rt, path) {
-        Ok(text) if text.as_slice() == known.text.as_slice() => return Ok(()),
-        Ok(_) => {}
+    match have_same_text(rt, first, path) {
+        Ok(true) => return Ok(()),
+        Ok(false) => {}
         Err(error) => return Err(unreadable(rt, path, &error)),
     }
     let printed = eprintln!(rt;
         "{path}: its name is included for {first}, too; give one of the two files another name"
     );
     Err(told(Status::Refused, printed))
+}
+
+/// Whether two files have the same text.
+fn have_same_text<R: Files + AllocGlobal>(rt: &R, first: &str, second: &str) -> io::Result<bool> {
+    Ok(text_of(rt, first)?.as_slice() == text_of(rt, second)?.as_slice())
 }
 
 /// Whether a word, whose file would have this name, is that of a built-in file.

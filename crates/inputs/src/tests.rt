@@ -45,7 +45,7 @@ impl Tests {
 
     /// Adds a path, if a line can tell it, and answers whether it can.
     pub(crate) fn add(&mut self, path: &str) -> Result<bool, AllocError>
-        ensures added { IfOk result (λ is. MatchBool is (IsPlain path.now × (self.new ≡ self.old ++ path.now ∷ [])) (self.new ≡ self.old)) }
+        ensures added { IfOk result (λ is. MatchBool is (IsPlain path.now × (self.new ≡ self.old ++ path.now ∷ [])) ((¬ IsPlain path.now) × (self.new ≡ self.old))) }
         ensures same { OnErr result (self.new ≡ self.old) }
     {
         if !is_plain(path.as_bytes()) {

@@ -1,0 +1,78 @@
+//! The names of the files that a cat text includes, as they are written there.
+
+use std::alloc::{AllocError, Global};
+use wb_text::{Dialect, Name, TextFault, Token, TokenKind, tokens};
+
+/// The most bytes of a name that a book can have.
+const LONGEST: usize = 64;
+
+/// Where the name of an included file stands in a text, with its quotes.
+#[derive(Clone, Copy)]
+pub(crate) struct Included {
+    from: usize,
+    to: usize,
+}
+
+impl Included {
+    /// All of a text, in their order. A text that has no tokens includes none; a byte above 127 counts as a letter, since the name of a file may have it.
+    pub(crate) fn all(alloc: Global, text: &[u8]) -> Result<Vec<Self>, AllocError> {
+        let mut plain = Vec::from_slice(alloc, text)?;
+        for byte in plain.iter_mut() {
+            if !byte.is_ascii() {
+                *byte = b'_';
+            }
+        }
+        match tokens(alloc, &plain, Dialect::Cat) {
+            Ok(tokens) => Included::among(alloc, text, &tokens),
+            Err(TextFault::NoMemory) => Err(AllocError),
+            Err(_) => Ok(Vec::new(alloc)),
+        }
+    }
+
+    /// Those among the tokens of a text: what is quoted behind the word `include`.
+    fn among(alloc: Global, text: &[u8], tokens: &[Token]) -> Result<Vec<Self>, AllocError> {
+        let mut found = Vec::new(alloc);
+        let mut is_included = false;
+        for token in tokens {
+            let Token { kind, from, to } = *token;
+            if is_included && kind == TokenKind::Quoted {
+                found.push(Included { from, to })?;
+            }
+            is_included = text.get(from..to) == Some(b"include".as_slice());
+        }
+        Ok(found)
+    }
+
+    /// The name as it is written. It is empty where no file can have it.
+    pub(crate) fn written(self, text: &[u8]) -> &str {
+        match text.get(self.from..self.to) {
+            Some([b'"', name @ .., b'"']) => std::str::from_utf8(name).unwrap_or(""),
+            _ => "",
+        }
+    }
+
+    /// The name that stands for the written one in a book, which is put in the place of that.
+    pub(crate) fn replace(self, alloc: Global, text: &mut [u8]) -> Result<Name, AllocError> {
+        match text.get_mut(self.from..self.to) {
+            Some([_, name @ ..]) => stand_in(alloc, name),
+            _ => Err(AllocError),
+        }
+    }
+}
+
+/// Makes a name that a book can have of one that stands before a closing quote: its last 64 bytes, with `_` for each that no name can have. Bytes that get free become blanks behind the quote.
+fn stand_in(alloc: Global, quoted: &mut [u8]) -> Result<Name, AllocError> {
+    let name_len = quoted.len().saturating_sub(1).min(LONGEST);
+    quoted.rotate_left(quoted.len().saturating_sub(LONGEST + 1));
+    for (at, byte) in quoted.iter_mut().enumerate() {
+        if at > LONGEST {
+            *byte = b' ';
+        } else if !byte.is_ascii_graphic() {
+            *byte = b'_';
+        }
+    }
+    match Name::new(alloc, &quoted[..name_len]) {
+        Ok(name) => Ok(name),
+        Err(_) => Err(AllocError),
+    }
+}
