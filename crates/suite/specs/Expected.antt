@@ -1,5 +1,7 @@
 -- How what is found differs from what is expected.
-use Rattle.std.specs.Prelude.{ℕ, List, [], ◌++◌, Bool, ◌&&◌, Option, None, Some, find, if◌then◌else◌, codes}
+use denote.Bor.{Bor}
+use Rattle.std.specs.Prelude.{◌≡◌, ℕ, List, [], ◌++◌, Bool, ◌&&◌, Option, None, Some, option_map, find, if◌then◌else◌, codes}
+use Rattle.std.specs.HashMap.{HashMap, get_by}
 use Rattle.std.specs.List.{flat_map}
 use Rattle.std.specs.Str.{bytes_eq}
 use Rattle.suite.specs.declared.expected.Row.{Row}
@@ -11,6 +13,10 @@ same_case r s = bytes_eq r.path.items s.path.items && bytes_eq r.model.items s.m
 -- It is of the test at this path under the model at that one.
 abbrev pub is_of : Row → List ℕ → List ℕ → Bool
 is_of r path model = bytes_eq r.path.items path && bytes_eq r.model.items model
+
+-- Of each case, what the map has at its path and model is the first of the rows.
+unfoldable pub HasFirsts : {S : Type 0} → HashMap (Bor (List ℕ) × Bor (List ℕ)) (Bor Row) S → List Row → Type 0
+HasFirsts m rows = (r : Row) → option_map (λ s. s.now) (get_by (λ c. is_of r c.0.now c.1.now) m) ≡ find (same_case r) rows
 
 abbrev pub same_answer : Row → Row → Bool
 same_answer r s = bytes_eq r.answer.items s.answer.items

@@ -4,7 +4,7 @@ ghost use Rattle.std.specs.Prelude.{◌≡◌, ◌++◌, ◌&&◌, take, drop, f
 ghost use Rattle.std.specs.HashMap.{get_by};
 ghost use Rattle.std.specs.List.{flat_map};
 ghost use Rattle.suite.specs.Expected as texts;
-ghost use Rattle.suite.specs.Expected.{same_case, is_of, fate, novelty};
+ghost use Rattle.suite.specs.Expected.{same_case, is_of, HasFirsts, fate, novelty};
 
 use crate::text::push_parts;
 use std::alloc::{AllocError, Global};
@@ -68,7 +68,7 @@ fn push_novelties<'a>(
 
 /// The first of the rows of each case.
 fn first_rows<'a>(alloc: Global, rows: &'a [Row]) -> Result<ByCase<'a>, AllocError>
-    ensures { IfOk result (λ m. (r : Row) → option_map (λ s. s.now) (get_by (λ c. is_of r c.0.now c.1.now) m) ≡ find (same_case r) rows.now) }
+    ensures { IfOk result (λ m. HasFirsts m rows.now) }
 {
     let mut firsts = HashMap::new(alloc);
     // From the back, so that of the rows of a case the first is put last, and stays.
