@@ -6,7 +6,7 @@ use std::alloc::{AllocError, Global};
 use std::fs;
 use std::fs::OpenOptions;
 use std::rt::Files;
-use suite::Row;
+use suite::{Row, differences};
 
 /// The rows of a file, a line each. Empty lines are none.
 pub fn read_rows<R: Files + Eprint + AllocGlobal>(rt: &R, path: &str) -> Result<Vec<Row>, Trouble> {
@@ -31,14 +31,14 @@ fn unix_lines(alloc: Global, text: &[u8]) -> Result<Vec<u8>, AllocError> {
     Ok(lines)
 }
 
-/// The rows of a file. Where it has a line that is none, that is told on standard error.
-fn rows_or_told<R: Eprint>(
+/// The rows of a file. Where it has a line that is none, or two lines that contradict each other, that is told on standard error.
+fn rows_or_told<R: Eprint + AllocGlobal>(
     rt: &R,
     path: &str,
     rows: Result<Vec<Row>, RowsFault>,
 ) -> Result<Vec<Row>, Trouble> {
     match rows {
-        Ok(rows) => Ok(rows),
+        Ok(rows) => see_agreeing(rt, path, &rows).and(Ok(rows)),
         Err(RowsFault::NoRow(number)) => Err(no_row(rt, path, number)),
         Err(RowsFault::NoMemory) => Err(Trouble::NoMemory),
     }
@@ -50,6 +50,17 @@ fn no_row<R: Eprint>(rt: &R, path: &str, number: usize) -> Trouble {
         "{path}:{number}: no line of --write-expected or --tsv, whose fields stand between tabs"
     );
     told(Status::Failed, printed)
+}
+
+/// Sees that no two rows of one test under one model differ.
+fn see_agreeing<R: Eprint + AllocGlobal>(rt: &R, path: &str, rows: &[Row]) -> Result<(), Trouble> {
+    let differences = differences(rt.alloc(), rows, rows)?;
+    if differences.is_empty() {
+        return Ok(());
+    }
+    let found = std::str::from_utf8(&differences).unwrap_or("");
+    let printed = eprintln!(rt; "{path}: it has two lines for one test and model:\n{found}");
+    Err(told(Status::Failed, printed))
 }
 
 /// Stores rows in a file.
