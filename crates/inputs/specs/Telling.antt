@@ -38,24 +38,26 @@ abbrev pub IsWhyAdded : Bool → (old new : Told) → List Case → List Verdict
 IsWhyAdded true old new cs vs = AreExplained old.why.items old.dot.items (zip cs vs) new.why.items new.dot.items
 IsWhyAdded false old new cs vs = (new.why ≡ old.why) × (new.dot ≡ old.dot)
 
--- What is added for verdicts: the texts of each under its own model.
-pub record TellsVerdicts (a : Asked) (path text : List ℕ) (verdicts : List VerdictValue) (old new : Told) : Type 0 where
+-- What is added for verdicts, which took so many milliseconds: the texts of each under its own model.
+pub record TellsVerdicts (a : Asked) (milliseconds : ℕ) (path text : List ℕ) (verdicts : List VerdictValue) (old new : Told) : Type 0 where
   pub wanted : Wanted
   pub as_asked : IsWanted a wanted
   pub tested : Tested
   pub same_test : IsTested a.models.now path text tested
+  pub time_is : tested.milliseconds ≡ milliseconds
   pub lines : new.lines.items ≡ old.lines.items ++ lines_text wanted tested verdicts
   pub rows : map texts_of new.rows.items ≡ map texts_of old.rows.items ++ if_kept wanted.keeps_rows (verdict_rows tested.cases.now verdicts)
   pub differs : new.differs ≡ differ verdicts
   pub why : IsWhyAdded a.explains old new tested.cases.now verdicts
   pub message : new.message ≡ old.message
 
--- What is added for a refusal: the number and name under each of the models, and the message of the fault.
-pub record TellsRefusal (a : Asked) (path text : List ℕ) (trouble : TestTrouble) (old new : Told) : Type 0 where
+-- What is added for a refusal, which took so many milliseconds: the number and name under each of the models, and the message of the fault.
+pub record TellsRefusal (a : Asked) (milliseconds : ℕ) (path text : List ℕ) (trouble : TestTrouble) (old new : Told) : Type 0 where
   pub wanted : Wanted
   pub as_asked : IsWanted a wanted
   pub tested : Tested
   pub same_test : IsTested a.models.now path text tested
+  pub time_is : tested.milliseconds ≡ milliseconds
   pub lines : new.lines.items ≡ old.lines.items ++ refusals_text wanted tested trouble
   pub rows : map texts_of new.rows.items ≡ map texts_of old.rows.items ++ if_kept wanted.keeps_rows (refused_rows tested trouble)
   pub message : Tells path text trouble (string_bytes new.message)
@@ -63,18 +65,22 @@ pub record TellsRefusal (a : Asked) (path text : List ℕ) (trouble : TestTroubl
   pub why : (new.why ≡ old.why) × (new.dot ≡ old.dot)
 
 -- A test that was judged: the verdicts, each right for the text under its own model, and what is told of them.
-pub record IsJudged (a : Asked) (path text : List ℕ) (old new : Told) : Type 0 where
+pub record IsJudged (MayTell : ℕ → Type 0) (a : Asked) (path text : List ℕ) (old new : Told) : Type 0 where
   pub models : List Assembly
   pub loaded : AreLoaded models a.models.now.names a.models.now.digests
   pub verdicts : List VerdictValue
   pub right : HasVerdicts text models verdicts
-  pub told : TellsVerdicts a path text verdicts old new
+  pub milliseconds : ℕ
+  pub time : MayTell milliseconds
+  pub told : TellsVerdicts a milliseconds path text verdicts old new
 
 -- A test that has no verdict: why the text has none, and what is told of that.
-pub record IsRefused (a : Asked) (path text : List ℕ) (old new : Told) : Type 0 where
+pub record IsRefused (MayTell : ℕ → Type 0) (a : Asked) (path text : List ℕ) (old new : Told) : Type 0 where
   pub trouble : TestTrouble
   pub cause : HasNone text trouble
-  pub told : TellsRefusal a path text trouble old new
+  pub milliseconds : ℕ
+  pub time : MayTell milliseconds
+  pub told : TellsRefusal a milliseconds path text trouble old new
 
 -- how far a test is of which this is told, if there was memory
 abbrev pub stage_of : {A E : Type 0} → Fate → Result A E → Stage
@@ -100,10 +106,10 @@ IsRead path Waiting t = IsUntold t × (string_bytes t.message ≡ [])
 IsRead path (Done Unread) t = IsUntold t × ((why : List ℕ) × (string_bytes t.message ≡ path ++ (codes ": " ++ (why ++ codes "\n"))))
 IsRead path stage t = ⊥
 
--- What is told of a test, by how far it is. Where memory ran out, nothing is known of it.
-abbrev pub IsTold : Asked → (path text : List ℕ) → Stage → (old new : Told) → Type 0
-IsTold a path text Waiting old new = new ≡ old
-IsTold a path text (Done Judged) old new = IsJudged a path text old new
-IsTold a path text (Done Refused) old new = IsRefused a path text old new
-IsTold a path text (Done Unread) old new = ⊥
-IsTold a path text Lost old new = Unit {0}
+-- What is told of a test, by how far it is, where this may be told of how long it took. Where memory ran out, nothing is known of it.
+abbrev pub IsTold : (MayTell : ℕ → Type 0) → Asked → (path text : List ℕ) → Stage → (old new : Told) → Type 0
+IsTold M a path text Waiting old new = new ≡ old
+IsTold M a path text (Done Judged) old new = IsJudged M a path text old new
+IsTold M a path text (Done Refused) old new = IsRefused M a path text old new
+IsTold M a path text (Done Unread) old new = ⊥
+IsTold M a path text Lost old new = Unit {0}

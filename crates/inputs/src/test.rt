@@ -1,6 +1,6 @@
 //! Judging one test of a run.
 
-ghost use Rattle.std.specs.Prelude.{◌≡◌, Bool, IfOk, IsTrue, OnOk};
+ghost use Rattle.std.specs.Prelude.{◌≡◌, ℕ, Bool, IfOk, IsTrue, OnOk};
 ghost use Rattle.inputs.specs.Telling.{IsRead, IsSettled, IsTold, IsWanted, TellsRefusal, TellsVerdicts, stage_of};
 
 use crate::models::Models;
@@ -17,8 +17,12 @@ use suite::{Patience, TestTrouble, judge_text};
 pub trait Timer: Patience {
     ghost is_last: { Self → Bool };
 
+    /// What it may tell of how long it took.
+    ghost may_tell: { Self → ℕ → Type 0 };
+
     /// How many milliseconds have passed.
-    fn milliseconds(&self) -> u64;
+    fn milliseconds(&self) -> u64
+        ensures { may_tell self.now result };
 
     /// Whether a test that takes too long is given up. Else it waits on, for a later pass.
     fn gives_up(&self) -> bool
@@ -133,7 +137,7 @@ impl<'a> Test<'a> {
     )
         ensures path { self.new.path ≡ self.old.path }
         ensures text { self.new.text ≡ self.old.text }
-        ensures told { IsTold asked.now self.old.path.now self.old.text.items self.new.stage self.old.told self.new.told }
+        ensures told { IsTold (T.Timer.may_tell timer.new) asked.now self.old.path.now self.old.text.items self.new.stage self.old.told self.new.told }
         ensures settled { IsTrue (T.Timer.is_last timer.old) → IsSettled self.new.stage }
     {
         let gives_up = timer.gives_up();
@@ -161,7 +165,7 @@ impl<'a> Test<'a> {
     ) -> Result<(), AllocError>
         ensures path { self.new.path ≡ self.old.path }
         ensures text { self.new.text ≡ self.old.text }
-        ensures told { OnOk result (TellsVerdicts asked.now self.old.path.now self.old.text.items verdicts.now self.old.told self.new.told) }
+        ensures told { OnOk result (TellsVerdicts asked.now milliseconds self.old.path.now self.old.text.items verdicts.now self.old.told self.new.told) }
     {
         let cases = asked.models.cases(alloc, self.path)?;
         let test = Tested {
@@ -188,7 +192,7 @@ impl<'a> Test<'a> {
     ) -> Result<(), AllocError>
         ensures path { self.new.path ≡ self.old.path }
         ensures text { self.new.text ≡ self.old.text }
-        ensures told { OnOk result (TellsRefusal asked.now self.old.path.now self.old.text.items trouble.now self.old.told self.new.told) }
+        ensures told { OnOk result (TellsRefusal asked.now milliseconds self.old.path.now self.old.text.items trouble.now self.old.told self.new.told) }
     {
         let cases = asked.models.cases(alloc, self.path)?;
         let test = Tested {

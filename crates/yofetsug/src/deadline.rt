@@ -50,6 +50,9 @@ impl<'a, R: Clock + Eprint> Patience for Deadline<'a, R> {
 impl<'a, R: Clock + Eprint> Timer for Deadline<'a, R> {
     ghost is_last = { λ d. d.gives_up };
 
+    // A clock may tell anything.
+    ghost may_tell = { λ d ms. Unit {0} };
+
     fn milliseconds(&self) -> u64 {
         milliseconds_since(self.rt, self.began)
     }

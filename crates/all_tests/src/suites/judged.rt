@@ -28,6 +28,8 @@ impl Patience for Waits {
 impl Timer for Waits {
     ghost is_last = { λ w. w.gives_up };
 
+    ghost may_tell = { λ w ms. ms ≡ 7 };
+
     fn milliseconds(&self) -> u64 {
         7
     }

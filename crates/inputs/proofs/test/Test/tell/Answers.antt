@@ -18,6 +18,7 @@ returns-then-asked-clause-told c =
       as_asked = c.wanted.ensures;
       tested = record { path = c.args.self.now.path; text = c.deref.result; cases = c.deref-2.result; milliseconds = c.args.milliseconds };
       same_test = record { path_is = refl; text_is = c.deref.ensures.value; cases_are = rw c.deref-2.ensures.value c.in_ok-cases.ensures };
+      time_is = refl;
       lines = ap (λ v. v.items) explained.lines ∙ told.lines;
       rows = ap (λ v. map texts_of v.items) explained.rows ∙ told.rows;
       differs = explained.differs ∙ told.differs;
@@ -33,6 +34,7 @@ returns-clause-told c =
       as_asked = c.wanted.ensures;
       tested = record { path = c.args.self.now.path; text = c.deref.result; cases = c.deref-2.result; milliseconds = c.args.milliseconds };
       same_test = record { path_is = refl; text_is = c.deref.ensures.value; cases_are = rw c.deref-2.ensures.value c.in_ok-cases.ensures };
+      time_is = refl;
       lines = told.lines;
       rows = told.rows;
       differs = told.differs;
