@@ -1,5 +1,4 @@
 use Rattle.std.proofs.Common.{ℕ, List, length, map, take, refl, subst, sym, ◌∙◌, ap, arith}
-use Rattle.std.proofs.lemmas.Grind.{common_steps}
 use Rattle.std.proofs.lemmas.List.{take_all}
 use Rattle.cat_tree.specs.Tree.{Defined, defined_of, functions_in}
 use Rattle.cat_eval.specs.declared.naming.BoundName.{BoundName}
@@ -52,9 +51,3 @@ pub returns-clause-replace : goal.returns-clause-replace
 returns-clause-replace c = λ B R p q.
     (let P : List Definition → Type 0 = λ ds. Replace c.loop-definition.functions.items c.loop-definition.names.items (with_function_texts B (functions_in (map defined_of ds)) R) in
     subst P (take_all c.loop-definition.definition-index c.args.definitions.now c.loop-definition-test.false) (c.loop-definition.invariant.replace B R p q))
-
-pub bind_if_function-requires-clause-bound : goal.bind_if_function-requires-clause-bound
-bind_if_function-requires-clause-bound c = grind (arith, common_steps)
-
-pub returns-clause-bound : goal.returns-clause-bound
-returns-clause-bound c = grind (arith, common_steps)

@@ -1,9 +1,8 @@
-use Rattle.std.proofs.Common.{◌≡◌, ◌+◌, ◌++◌, ap, arith, ℕ, List, length, map, take, refl, sym, subst, ◌∙◌}
+use Rattle.std.proofs.Common.{◌+◌, ℕ, List, length, map, take, refl, sym, subst, ◌∙◌}
 use Rattle.std.proofs.lemmas.List.{append-nil, take_all}
 use Rattle.cat_tree.specs.Tree.{bound_of}
 use Rattle.cat_tree.specs.declared.tree.Binding.{Binding}
 use Rattle.cat_eval.specs.Lowered.{Replace}
-use Rattle.cat_eval.specs.Planned.{run_from}
 use Rattle.cat_eval.specs.Replacing.{Replacing, with_value_texts}
 use Rattle.cat_eval.proofs.Past.{number_more}
 use Rattle.cat_eval.proofs.Scoped.{group_values, group_replaced}
@@ -42,8 +41,3 @@ returns-clause-bound c = c.loop-number.invariant.bound
 
 pub returns-clause-kept : goal.returns-clause-kept
 returns-clause-kept c = c.loop-number.invariant.kept
-
-pub returns-clause-values : goal.returns-clause-values
-returns-clause-values c =
-    let e : c.loop-number.number ≡ length c.args.bindings.now = omega (arith, c.loop-number-test.false) in
-    c.loop-number.invariant.values ∙ ap (λ (n : ℕ). c.args.values.now.items ++ run_from c.args.from n) e

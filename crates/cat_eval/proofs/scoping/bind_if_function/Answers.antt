@@ -1,5 +1,4 @@
 use Rattle.std.proofs.Common.{◌≡◌, List, [], length, take, ap, refl, arith, sym, ◌∙◌, subst}
-use Rattle.std.proofs.lemmas.Grind.{common_steps}
 use Rattle.cat_tree.specs.Tree.{Word, Defined, defined_of, function_if}
 use Rattle.cat_eval.specs.Lowered.{AreBelow, Replace}
 use Rattle.cat_eval.specs.declared.instruction.Function.{Function}
@@ -47,9 +46,3 @@ returns-clause-seen c = (kept_push c.args.names.now.items c.push-2.new.self.item
 
 pub returns-clause-before : goal.returns-clause-before
 returns-clause-before c = omega (arith, c.requires.before, c.in_ok-push-2.ensures.len)
-
-pub lower_function-requires-clause-bound : goal.lower_function-requires-clause-bound
-lower_function-requires-clause-bound c = grind (arith, common_steps)
-
-pub lower_function-requires-clause-functions : goal.lower_function-requires-clause-functions
-lower_function-requires-clause-functions c = grind (arith, common_steps)

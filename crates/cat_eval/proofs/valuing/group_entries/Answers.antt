@@ -1,5 +1,4 @@
-use Rattle.std.proofs.Common.{◌≡◌, ◌+◌, ◌∙◌, ℕ, List, length, map, take, ap, sym, subst, arith}
-use Rattle.std.proofs.lemmas.Grind.{common_steps}
+use Rattle.std.proofs.Common.{◌≡◌, ◌+◌, ◌∙◌, ℕ, List, length, map, take, ap, sym, subst}
 use Rattle.std.proofs.lemmas.List.{length-map}
 use Rattle.cat_tree.specs.Tree as trees
 use Rattle.cat_tree.specs.Tree.{bound_of}
@@ -20,6 +19,3 @@ loop-number-preserved c =
     let V : ℕ → Type 0 = λ n. c.in_ok-entry.field-0.value ≡ at vs (c.args.from + n) in
     let long : i ≡ length es = sym (ap length inv ∙ entries_long before c.args.from vs ∙ length-map (take i bs) bound_of ∙ take_length bs i c.loop-number-test.true) in
     entries_next before (map bound_of (take (i + 1) bs)) (bound_of b) c.args.from vs es c.push.new.self.items c.in_ok-entry.field-0 next inv c.in_ok-push.ensures.items c.in_ok-entry.ensures.name (subst V long c.in_ok-entry.ensures.value)
-
-pub returns : goal.returns
-returns c = grind (arith, common_steps)

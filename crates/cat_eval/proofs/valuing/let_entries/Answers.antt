@@ -1,5 +1,4 @@
 use Rattle.std.proofs.Common.{◌≡◌, ◌+◌, ◌∙◌, ◌++◌, ℕ, List, length, map, take, arith, ap, append-nil, sym, subst}
-use Rattle.std.proofs.lemmas.Grind.{common_steps}
 use Rattle.std.proofs.lemmas.List.{length-append}
 use Rattle.cat_tree.specs.Tree as trees
 use Rattle.cat_tree.specs.Tree.{defined_of, values_in}
@@ -53,6 +52,3 @@ loop-definition-preserved c =
           ap (λ v. v.items) w.entries-is ∙ inv ∙ ap (λ bs. entries_from bs c.args.from vs) (sym (append-nil before) ∙ ap (λ bs. before ++ bs) (sym none) ∙ sym next)
           )
     ]
-
-pub returns : goal.returns
-returns c = grind (arith, common_steps)

@@ -1,5 +1,4 @@
 use Rattle.std.proofs.Common.{◌≡◌, ◌++◌, [], List, IsSome, All, sym, subst, inl, inr, arith, vec_len}
-use Rattle.std.proofs.lemmas.Grind.{common_steps}
 use Rattle.std.specs.List.{Contains}
 use Rattle.std.proofs.lemmas.Bool.{eqb-true}
 use Rattle.std.proofs.lemmas.List.Elements.{All-cons, All-nil}
@@ -35,6 +34,3 @@ returns-then-is_empty-clause-err c =
       | inl m ↦ inl m
       | inr u ↦ inr (let P : List Word → Type 0 = λ ps. Contains (value_if ps d []) b in (b, u.0, subst P (sym none) (contains_first b []), u.1))
     ]) c.bind_value.ensures.err
-
-pub returns-else-is_empty-clause-ok : goal.returns-else-is_empty-clause-ok
-returns-else-is_empty-clause-ok c = grind (arith, common_steps)

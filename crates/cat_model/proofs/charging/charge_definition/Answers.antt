@@ -1,5 +1,4 @@
 use Rattle.std.proofs.Common.{◌≡◌, [], List, inl, inr, subst, sym, arith, vec_len}
-use Rattle.std.proofs.lemmas.Grind.{common_steps}
 use Rattle.std.proofs.lemmas.Bool.{eqb-true}
 use Rattle.std.proofs.lemmas.Result.{IfErr-weaker}
 use Rattle.cat_tree.specs.Tree.{Word, Defined, defined_of, value_if}
@@ -16,6 +15,3 @@ returns-then-is_empty-clause-err c =
       | inl m ↦ inl m
       | inr u ↦ inr (λ W cs f k. (let o = u W cs f k in let P : List Word → Type 0 = λ ps. IsOver cs (charges_for W.sizes W.depths (value_if ps d [])) o.0 in (o.0, o.1, subst P (sym none) o.2)))
     ]) c.charge_value.ensures.err
-
-pub returns-then-is_empty-clause-ok : goal.returns-then-is_empty-clause-ok
-returns-then-is_empty-clause-ok c = grind (arith, common_steps)

@@ -1,5 +1,4 @@
-use Rattle.std.proofs.Common.{◌++◌, ◌∙◌, List, map, inl, inr, true, false, refl, sym, ap, subst, append-nil, arith}
-use Rattle.std.proofs.lemmas.Grind.{common_steps}
+use Rattle.std.proofs.Common.{◌++◌, ◌∙◌, List, map, inl, inr, true, false, refl, sym, ap, subst, append-nil}
 use Rattle.std.proofs.lemmas.Result.{err_from_is_err_and}
 use Rattle.cat_tree.specs.Tree.{Defined, defined_of, values_in, functions_in, bind}
 use Rattle.cat_model.specs.Behind.{World, Fit, values_above, functions_above, behind, first}
@@ -52,6 +51,3 @@ returns-clause-ok c = λ front s.
     let all = c.in_ok-bind_functions.ensures W (values_above W (values_in ds) W) s.fit values in
     let whole : Fit c.append.new.self.items (functions_above W (functions_in ds) (values_above W (values_in ds) W)) = subst (λ l. Fit l (functions_above W (functions_in ds) (values_above W (values_in ds) W))) (sym c.in_ok-append.ensures.items) all in
     stands_push ns c.append.new.self.items c.args.total c.in_ok-sum.sum front (bind ds) s whole (c.in_ok-sum.ensures.ok W (charges front) s.fit s.count) b (c.in_ok-bind_values.ensures.sorted W s.fit))
-
-pub returns-in_err-append-clause-err : goal.returns-in_err-append-clause-err
-returns-in_err-append-clause-err c = grind (arith, common_steps)

@@ -1,5 +1,4 @@
-use Rattle.std.proofs.Common.{List, map, take, inl, inr, subst, arith}
-use Rattle.std.proofs.lemmas.Grind.{common_steps}
+use Rattle.std.proofs.Common.{List, map, take, inl, inr, subst}
 use Rattle.std.proofs.lemmas.List.Elements.{All-contains}
 use Rattle.std.proofs.lemmas.Result.{err_from_is_err_and}
 use Rattle.cat_tree.specs.Tree.{Clause, clause_of}
@@ -31,9 +30,3 @@ loop-item-preserved c =
     let k = c.loop-item.item-index in
     subst (Stands c.follow.new.scope.names.items c.in_ok-total.total) (front_more is k (clause_of c.item-item.result) (long_map clause_of c.args.items.now k c.loop-item-test.true) (at_map clause_of c.args.items.now k c.item-item.result c.loop-item-test.true c.item-item.is))
     (c.in_ok-total.ensures.ok (take k is) c.loop-item.invariant)
-
-pub loop-item-init : goal.loop-item-init
-loop-item-init c = grind (arith, common_steps)
-
-pub returns-clause-ok : goal.returns-clause-ok
-returns-clause-ok c = grind (arith, common_steps)

@@ -1,5 +1,4 @@
-use Rattle.std.proofs.Common.{◌↔◌, ◌⊎◌, ◌∙◌, List, map, subst, rules, arith}
-use Rattle.std.proofs.lemmas.Grind.{common_steps}
+use Rattle.std.proofs.Common.{◌↔◌, ◌⊎◌, ◌∙◌, List, map, subst, rules}
 use Rattle.std.specs.Prelude.{OnOk}
 use Rattle.std.specs.List.{Contains}
 use Rattle.cat_model.specs.Marked.{trace_if}
@@ -11,6 +10,3 @@ pub returns-in-Some-clause-added : goal.returns-in-Some-clause-added
 returns-in-Some-clause-added c =
     let P : List Trace → Type 0 = λ l. OnOk c.add_inner.result ((q : Trace) → Contains c.add_inner.new.once.listed.items q ↔ (Contains c.args.once.now.listed.items q ⊎ Contains (map (trace_if c.args.trace.denied) l) q)) in
     subst P (c.deref.ensures.value ∙ looked_up c.args.arguments.now c.args.trace.place c.in-Some.argument.now (search rules)) c.add_inner.ensures.added
-
-pub returns-in-None-clause-added : goal.returns-in-None-clause-added
-returns-in-None-clause-added c = grind (arith, common_steps)

@@ -1,5 +1,4 @@
-use Rattle.std.proofs.Common.{List, [], sym, subst, map, arith}
-use Rattle.std.proofs.lemmas.Grind.{common_steps}
+use Rattle.std.proofs.Common.{List, [], sym, subst, map}
 use Rattle.std.specs.Prelude.{reverse}
 use Rattle.cat_tree.specs.Terms.{left_by, left_by_all}
 use Rattle.cat_model.specs.Marked.{AreTraced}
@@ -22,6 +21,3 @@ returns c =
     let k = c.loop-node.invariant in
     traced_whole c.args.scope.now.names.items (map (λ x. x.now) c.args.tracked.now) c.args.expression.now.nodes.items (reverse (map (λ a. a.items) c.loop-node.waiting.items)) c.latest.result.items k.0 c.args.expression.now.whole c.latest.ensures.value
     (walk_end c.deref-node-items.result.now c.args.expression.now.nodes.items c.loop-node.node-index k.0 (left_by_all [] c.args.expression.now.nodes.items) c.deref-node-items.ensures.value c.loop-node-test.false k.1) k.2
-
-pub loop-node-init : goal.loop-node-init
-loop-node-init c = grind (arith, common_steps)

@@ -1,5 +1,4 @@
 use Rattle.std.proofs.Common.{◌↔◌, List, map, arith, subst}
-use Rattle.std.proofs.lemmas.Grind.{common_steps}
 use Rattle.std.specs.List.{Contains}
 use Rattle.cat_model.specs.Marked.{Composes}
 use Rattle.cat_model.specs.declared.denials.Trace.{Trace}
@@ -13,6 +12,3 @@ returns c =
     let f = subst P c.deref.ensures.value (h q) in
     let l = c.if-arguments-marked.false in
     (λ x. (omega (arith, l), f.0 x), λ x. f.1 x.1))) c.compose.ensures
-
-pub returns-then-arguments-marked : goal.returns-then-arguments-marked
-returns-then-arguments-marked c = grind (arith, common_steps)

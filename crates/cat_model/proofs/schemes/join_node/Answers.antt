@@ -1,5 +1,4 @@
 use Rattle.std.proofs.Common.{map, arith}
-use Rattle.std.proofs.lemmas.Grind.{common_steps}
 use Rattle.std.specs.Prelude.{reverse}
 use Rattle.cat_model.proofs.Standing.{kept_leaf, kept_sign, kept_infix, kept_call, names_by}
 use Rattle.cat_model.proofs.schemes.join_node.Goals as goal
@@ -23,6 +22,3 @@ returns-in-Call-clause-kept c = λ ts h.
     kept_call c.args.scope.now.names.items (map (λ x. x.now) c.args.parameters.now) c.args.node.now c.in-Call.name c.in-Call.count c.saturating_sub-from.result c.args.classes.now c.join_name-class.new.classes c.args.waiting.now.items c.truncate.new.self.items
     c.join_name-class.result ts c.in-Call.is (omega (arith, c.saturating_sub-from.ensures, c.len.ensures)) c.truncate.ensures.items
     (names_by c.args.scope.now.names.items (map (λ x. x.now) c.args.parameters.now) c.in-Call.name c.deref.result.now c.args.waiting.now.items c.saturating_sub-from.result c.args.classes.now c.join_name-class.new.classes c.join_name-class.result c.deref.ensures.value c.join_name-class.ensures.made) h
-
-pub returns-in-Call-clause-long : goal.returns-in-Call-clause-long
-returns-in-Call-clause-long c = grind (arith, common_steps)

@@ -1,5 +1,4 @@
-use Rattle.std.proofs.Common.{◌∙◌, ap, sym, arith}
-use Rattle.std.proofs.lemmas.Grind.{common_steps}
+use Rattle.std.proofs.Common.{◌∙◌, ap, sym}
 use Rattle.std.specs.Prelude.{option_map}
 use Rattle.cat_model.specs.declared.sort.Sort.TheVariants.{Set}
 use Rattle.cat_model.proofs.Standing.{outer_none}
@@ -7,18 +6,3 @@ use Rattle.cat_model.proofs.schemes.join_outer.Goals as goal
 
 pub returns-in-None-of-clause-made : goal.returns-in-None-of-clause-made
 returns-in-None-of-clause-made c = outer_none _ c.args.name.now c.args.arguments.now c.args.classes.now c.refuse.new.classes Set (sym c.held.ensures ∙ ap (option_map (λ h. h.now)) c.in-None.is) (sym c.of.ensures ∙ c.in-None-of.is) c.refuse.ensures.never
-
-pub returns-in-Some-Function-clause-made : goal.returns-in-Some-Function-clause-made
-returns-in-Some-Function-clause-made c = grind (arith, common_steps)
-
-pub returns-in-Some-clause-made : goal.returns-in-Some-clause-made
-returns-in-Some-clause-made c = grind (arith, common_steps)
-
-pub returns-in-None-of-clause-flat : goal.returns-in-None-of-clause-flat
-returns-in-None-of-clause-flat c = grind (arith, common_steps)
-
-pub returns-in-None-of-clause-long : goal.returns-in-None-of-clause-long
-returns-in-None-of-clause-long c = grind (arith, common_steps)
-
-pub returns-in-Some-Value-clause-made : goal.returns-in-Some-Value-clause-made
-returns-in-Some-Value-clause-made c = grind (arith, common_steps)

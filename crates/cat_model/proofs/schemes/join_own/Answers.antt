@@ -1,5 +1,4 @@
-use Rattle.std.proofs.Common.{◌∙◌, ap, map, sym, refl, arith}
-use Rattle.std.proofs.lemmas.Grind.{common_steps}
+use Rattle.std.proofs.Common.{◌∙◌, ap, map, sym, refl}
 use Rattle.cat_model.specs.Classing.{swapped}
 use Rattle.cat_model.specs.declared.schemes.Classes.{Classes}
 use Rattle.cat_model.proofs.Joining.{flat_swapped, joined_left, joined_right, joined_apart, joined_known}
@@ -28,12 +27,3 @@ returns-then-not-is_same-clause-joined c =
 pub returns-else-not-is_same-clause-joined : goal.returns-else-not-is_same-clause-joined
 returns-else-not-is_same-clause-joined c =
     joined_known c.args.classes.now c.args.left c.args.right c.in-Known.sort c.in-Known-right.other c.in-Known.is c.in-Known-right.is (sym c.is_same.ensures ∙ c.if-not-is_same.false)
-
-pub returns-in-Same-clause-long : goal.returns-in-Same-clause-long
-returns-in-Same-clause-long c = grind (arith, common_steps)
-
-pub returns-in-Same-right-clause-long : goal.returns-in-Same-right-clause-long
-returns-in-Same-right-clause-long c = grind (arith, common_steps)
-
-pub returns-then-not-is_same-clause-long : goal.returns-then-not-is_same-clause-long
-returns-then-not-is_same-clause-long c = grind (arith, common_steps)

@@ -1,7 +1,5 @@
-use Rattle.std.proofs.Common.{◌≡◌, ◌∙◌, ◌∷◌, ◌++◌, [], List, add-one, ap, refl, length, arith, true}
+use Rattle.std.proofs.Common.{◌≡◌, ◌∙◌, ap, refl, length, arith, true}
 use Rattle.cat_model.specs.Classing.{own_classes}
-use Rattle.cat_model.specs.declared.schemes.Class.{Class}
-use Rattle.cat_model.specs.declared.schemes.Class.TheVariants.{Same}
 use Rattle.cat_model.specs.declared.schemes.Classes.{Classes}
 use Rattle.cat_model.proofs.Joining.{own_long, own_flat, own_agree}
 use Rattle.cat_model.proofs.schemes.own_classes.Goals as goal
@@ -19,6 +17,3 @@ returns-clause-all c =
     let e : c.loop-place.place ≡ c.args.count = omega (arith, c.loop-place-test.false, c.loop-place.auto.place-end) in
     let made : Classes = record { possible = true; items = c.loop-place.items } in
     own_agree c.args.count made refl (c.loop-place.invariant ∙ ap own_classes e)
-
-pub loop-place-preserved : goal.loop-place-preserved
-loop-place-preserved c = rw add-one (c.in_ok-push.ensures.items ∙ ap (λ (cs : List Class). cs ++ Same c.loop-place.place ∷ []) c.loop-place.invariant)

@@ -1,5 +1,4 @@
-use Rattle.std.proofs.Common.{◌∙◌, ◌∷◌, List, [], map, refl, ap, sym, subst, arith}
-use Rattle.std.proofs.lemmas.Grind.{common_steps}
+use Rattle.std.proofs.Common.{◌∙◌, ◌∷◌, List, [], map, refl, ap, sym, subst}
 use Rattle.std.specs.Prelude.{reverse}
 use Rattle.std.proofs.lemmas.List.{length-map, reverse-append}
 use Rattle.cat_tree.specs.Terms.{left_by, left_by_all}
@@ -37,6 +36,3 @@ returns c =
     kept_last c.args.scope.now.names.items (map (λ x. x.now) c.args.parameters.now) c.args.body.now.nodes.items c.loop-node.classes (reverse c.loop-node.waiting.items) (record { classes = c.loop-node.classes; result = c.latest-result.result }) k.0
     c.args.body.now.whole refl c.latest-result.ensures.value (c.loop-node.invariant.long ∙ sym (length-map c.args.parameters.now (λ x. x.now)))
     (walk_end c.deref-node-items.result.now c.args.body.now.nodes.items c.loop-node.node-index k.0 (left_by_all [] c.args.body.now.nodes.items) c.deref-node-items.ensures.value c.loop-node-test.false k.1) k.2
-
-pub join_node-class-requires : goal.join_node-class-requires
-join_node-class-requires c = grind (arith, common_steps)

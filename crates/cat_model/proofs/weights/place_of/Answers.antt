@@ -1,5 +1,4 @@
-use Rattle.std.proofs.Common.{sym, ◌∙◌, arith}
-use Rattle.std.proofs.lemmas.Grind.{common_steps}
+use Rattle.std.proofs.Common.{sym, ◌∙◌}
 use Rattle.cat_model.proofs.Counting.{place_found, place_passed}
 use Rattle.cat_model.proofs.weights.place_of.Goals as goal
 
@@ -8,6 +7,3 @@ returns-then-eq c = place_found c.loop-last.rest.now c.in-Some.before.now c.in-S
 
 pub loop-last-preserved : goal.loop-last-preserved
 loop-last-preserved c = place_passed c.loop-last.rest.now c.in-Some.before.now c.in-Some.last.now c.args.name.now _ c.in-Some.ensures.cases.0 (sym c.eq.ensures.value ∙ c.if-eq.false) c.loop-last.invariant
-
-pub returns : goal.returns
-returns c = grind (arith, common_steps)

@@ -1,5 +1,4 @@
-use Rattle.std.proofs.Common.{ℕ, get_or, arith}
-use Rattle.std.proofs.lemmas.Grind.{common_steps}
+use Rattle.std.proofs.Common.{ℕ, get_or}
 use Rattle.std.proofs.lemmas.List.{get_or_default}
 use Rattle.cat_model.proofs.Counting.{within_more}
 use Rattle.cat_model.proofs.weights.wait_within.Goals as goal
@@ -11,6 +10,3 @@ loop-time-preserved c =
     let h = c.loop-time.invariant in
     within_more c.args.measure c.args.weight c.args.waiting.now.items c.loop-time.waiting.items c.push.new.self.items h.0 c.within.result c.args.times.now i t h.1 c.in_ok-push.ensures.items h.2 c.loop-time-test.true
     (get_or_default c.args.times.now i 0 t c.loop-time-test.true) c.within.ensures
-
-pub returns : goal.returns
-returns c = grind (arith, common_steps)

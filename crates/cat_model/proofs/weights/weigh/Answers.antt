@@ -1,5 +1,4 @@
-use Rattle.std.proofs.Common.{sym, ◌∙◌, arith}
-use Rattle.std.proofs.lemmas.Grind.{common_steps}
+use Rattle.std.proofs.Common.{sym, ◌∙◌}
 use Rattle.cat_tree.specs.Tree.{term_of}
 use Rattle.cat_model.proofs.Trees.{kept_first, kept_more, kept_last}
 use Rattle.cat_model.proofs.weights.weigh.Goals as goal
@@ -17,6 +16,3 @@ loop-last-preserved c =
 pub returns : goal.returns
 returns c =
     kept_last c.args.measure c.args.scope.now.names.items c.args.parameters.now (term_of c.args.expression.now) c.args.weight c.loop-last.nodes.now c.loop-last.tally.weights.items c.loop-last.tally.waiting.items c.in_default.ensures.cases c.loop-last.invariant
-
-pub count_latest-requires-clause-some : goal.count_latest-requires-clause-some
-count_latest-requires-clause-some c = grind (arith, common_steps)

@@ -1,5 +1,4 @@
 use Rattle.std.proofs.Common.{◌≡◌, ◌∙◌, List, map, sym, subst, arith}
-use Rattle.std.proofs.lemmas.Grind.{common_steps}
 use Rattle.cat_tree.specs.Tree.{Clause}
 use Rattle.cat_model.specs.Scopes.{IsModel}
 use Rattle.cat_eval.specs.Code.{planned_clause}
@@ -24,9 +23,3 @@ invariant_of-result c =
       values = c.requires.values;
       holds = c.requires.holds;
     }
-
-pub planned-requires : goal.planned-requires
-planned-requires c = grind (arith, common_steps)
-
-pub returns : goal.returns
-returns c = grind (arith, common_steps)

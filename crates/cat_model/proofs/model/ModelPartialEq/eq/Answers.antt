@@ -1,5 +1,4 @@
 use Rattle.std.proofs.Common.{arith}
-use Rattle.std.proofs.lemmas.Grind.{common_steps}
 use Rattle.cat_model.proofs.Equal.{clauses_told, assembly_told}
 use Rattle.cat_model.proofs.model.ModelPartialEq.eq.Goals as goal
 
@@ -8,9 +7,3 @@ returns-then-are_same-clause-exact c = assembly_told c.args.self.now c.args.othe
 
 pub returns-else-are_same-clause-exact : goal.returns-else-are_same-clause-exact
 returns-else-are_same-clause-exact c = assembly_told c.args.self.now c.args.other.now c.are_same.result (grind (arith, clauses_told))
-
-pub returns-else-are_same-clause-value : goal.returns-else-are_same-clause-value
-returns-else-are_same-clause-value c = grind (arith, common_steps, clauses_told)
-
-pub returns-then-are_same-clause-value : goal.returns-then-are_same-clause-value
-returns-then-are_same-clause-value c = grind (arith, common_steps, clauses_told)

@@ -1,5 +1,4 @@
 use Rattle.std.proofs.Common.{◌≡◌, ◌<◌, ◌≤◌, ◌∙◌, ◌∷◌, [], ◌+◌, Some, true, false, sym, subst, refl, map, length, arith, rules, IsSome}
-use Rattle.std.proofs.lemmas.Grind.{common_steps}
 use Rattle.std.proofs.lemmas.List.{length-map}
 use Rattle.std.proofs.lemmas.Result.{err_from_is_err_and, on_ok_weaker, IfErr-weaker}
 use Rattle.cat_tree.specs.Tree.{include, clause_of}
@@ -99,18 +98,3 @@ pub items-loop-item-preserved : goal.items-loop-item-preserved
 items-loop-item-preserved t c =
     places_more c.args.self.now.files.now (told c.args.path.now) (map clause_of c.args.items.now) c.loop-item.item-index (clause_of c.item-item.result) c.args.draft.now c.loop-item.draft c.item.new.draft
     (long_map clause_of c.args.items.now c.loop-item.item-index c.loop-item-test.true) (at_map clause_of c.args.items.now c.loop-item.item-index c.item-item.result c.loop-item-test.true c.item-item.is) c.loop-item.invariant c.in_ok-item.ensures.ok
-
-pub include-returns-in_default-clause-err : goal.include-returns-in_default-clause-err
-include-returns-in_default-clause-err t c = grind (arith, common_steps)
-
-pub item-include-requires : goal.item-include-requires
-item-include-requires t c = grind (arith, common_steps)
-
-pub items-item-requires : goal.items-item-requires
-items-item-requires t c = grind (arith, common_steps)
-
-pub item-returns-in-Include-clause-err : goal.item-returns-in-Include-clause-err
-item-returns-in-Include-clause-err t c = grind (arith, common_steps)
-
-pub items-returns-clause-ok : goal.items-returns-clause-ok
-items-returns-clause-ok t c = grind (arith, common_steps)

@@ -1,5 +1,4 @@
-use Rattle.std.proofs.Common.{◌≡◌, Some, [], ◌∷◌, refl, sym, arith}
-use Rattle.std.proofs.lemmas.Grind.{common_steps}
+use Rattle.std.proofs.Common.{◌≡◌, Some, [], ◌∷◌, refl, sym}
 use Rattle.cat_model.proofs.Walking.{places_call}
 use Rattle.cat_model.proofs.Whole.{closure_whole, own_whole, only_whole}
 use Rattle.cat_model.specs.Files.{file_of}
@@ -21,6 +20,3 @@ returns-clause-only c =
     let e : Some c.in-Some.file.now ≡ file_of c.args.self.now.root.now c.args.self.now.files.now = c.in-Some.ensures in
     let p = places_call c.args.self.now.files.now c.args.self.now.root.now [] (c.args.self.now.root ∷ []) (c.args.self.now.root ∷ []) c.in-Some.file.now c.items.result.now c.note.new.self c.items-2.new.draft refl refl c.items.ensures c.in_ok-items.ensures.ok in
     only_whole c.args.self.now.files.now c.args.self.now.root.now c.in-Some.file.now c.note.new.self c.items-2.new.draft (sym e) p c.items-2.new.draft.few
-
-pub items-requires-2 : goal.items-requires-2
-items-requires-2 c = grind (arith, common_steps)

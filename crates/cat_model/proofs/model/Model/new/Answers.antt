@@ -1,9 +1,0 @@
-use Rattle.std.proofs.Common.{arith}
-use Rattle.std.proofs.lemmas.Grind.{common_steps}
-use Rattle.cat_model.proofs.model.Model.new.Goals as goal
-
-pub invariant_of-result : goal.invariant_of-result
-invariant_of-result c = grind (arith, common_steps)
-
-pub returns : goal.returns
-returns c = grind (arith, common_steps)

@@ -1,9 +1,0 @@
-use Rattle.std.proofs.Common.{arith}
-use Rattle.std.proofs.lemmas.Grind.{common_steps}
-use Rattle.cat_model.proofs.rc11_text.add.Goals as goal
-
-pub loop-line-preserved : goal.loop-line-preserved
-loop-line-preserved c = grind (arith, common_steps)
-
-pub returns : goal.returns
-returns c = grind (arith, common_steps)
