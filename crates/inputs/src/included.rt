@@ -53,9 +53,9 @@ impl Included {
 
     /// The name that stands for the written one in a book, which is put in the place of that.
     pub(crate) fn replace(self, alloc: Global, text: &mut [u8]) -> Result<Name, AllocError> {
-        match text.get_mut(self.from..self.to) {
-            Some([_, name @ ..]) => stand_in(alloc, name),
-            _ => Err(AllocError),
+        match text.get_mut(self.from.saturating_add(1)..self.to) {
+            Some(quoted) => stand_in(alloc, quoted),
+            None => Err(AllocError),
         }
     }
 }
