@@ -64,6 +64,13 @@ fn syntax_sentence(alloc: Global, text: &[u8], offset: usize) -> Result<String, 
 /// The words with which items of a model begin, or that stand between their parts.
 const KEYWORDS: &str = "let rec and acyclic irreflexive empty include show unshow flag as";
 
+/// What helps with a quoted text that nothing takes.
+const QUOTED: &str =
+    "a quoted text is the model's title or, after include, names a file that is there: beside this one, or in a folder of -I";
+
+/// What helps with any other token that nothing takes.
+const GRAMMAR: &str = "docs/MODELS.md has the grammar";
+
 /// What is told of a token that nothing takes.
 fn misplaced(alloc: Global, token: &[u8]) -> Result<String, AllocError> {
     let word = shown(token);
@@ -72,7 +79,12 @@ fn misplaced(alloc: Global, token: &[u8]) -> Result<String, AllocError> {
             return format!(in alloc; "{word} can't stand here; did you mean {known}?");
         }
     }
-    format!(in alloc; "{word} can't stand here; docs/MODELS.md has the grammar")
+    let help = if word.starts_with('"') {
+        QUOTED
+    } else {
+        GRAMMAR
+    };
+    format!(in alloc; "{word} can't stand here; {help}")
 }
 
 /// Words that models leave out, with the whole sentence.

@@ -85,6 +85,14 @@ my.cat:2:1: Syntax (52): inclde can't stand here; did you mean include?
 ====
 my.cat
 M
+include \"my base.cat\"
+----
+my.cat:2:9: Syntax (52): \"my base.cat\" can't stand here; a quoted text is the model's title or, after include, names a file that is there: beside this one, or in a folder of -I
+    include \"my base.cat\"
+            ^
+====
+my.cat
+M
 let a = unshow
 ----
 my.cat:2:9: Syntax (52): unshow can't stand here; docs/MODELS.md has the grammar
