@@ -1,4 +1,5 @@
 pub mod Answered
+pub mod Arguments
 mod FlagReads
 pub mod Inputs
 mod Names
