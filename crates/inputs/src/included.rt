@@ -43,10 +43,12 @@ impl Included {
         Ok(found)
     }
 
-    /// The name as it is written. It is empty where no file can have it.
+    /// The name as it is written. It is empty where it isn't UTF-8, or has a line's end: a stand-in would move the lines behind.
     pub(crate) fn written(self, text: &[u8]) -> &str {
         match text.get(self.from..self.to) {
-            Some([b'"', name @ .., b'"']) => std::str::from_utf8(name).unwrap_or(""),
+            Some([b'"', name @ .., b'"']) if !name.contains(&b'\n') => {
+                std::str::from_utf8(name).unwrap_or("")
+            }
             _ => "",
         }
     }
