@@ -1,5 +1,7 @@
 //! What is told of a test of a run.
 
+ghost use Rattle.std.specs.Prelude.{◌≡◌};
+
 use crate::rows::expect;
 use inputs::{Asked, Models, Stage, Test, Timer, Trouble};
 use outcome::{Fate, Form, Told};
