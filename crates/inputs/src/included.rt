@@ -1,7 +1,7 @@
 //! The names of the files that a cat text includes, as they are written there.
 
 use std::alloc::{AllocError, Global};
-use wb_text::{Dialect, Name, TextFault, Token, TokenKind, tokens};
+use wb_text::{Dialect, Name, NameFault, TextFault, Token, TokenKind, tokens};
 
 /// The most bytes of a name that a book can have.
 const LONGEST: usize = 64;
@@ -53,17 +53,21 @@ impl Included {
         }
     }
 
-    /// The name that stands for the written one in a book, which is put in the place of that.
-    pub(crate) fn replace(self, alloc: Global, text: &mut [u8]) -> Result<Name, AllocError> {
+    /// The name that stands for the written one in a book, which is put in the place of that. There is none where no name is written.
+    pub(crate) fn replace(
+        self,
+        alloc: Global,
+        text: &mut [u8],
+    ) -> Result<Option<Name>, AllocError> {
         match text.get_mut(self.from.saturating_add(1)..self.to) {
             Some(quoted) => stand_in(alloc, quoted),
-            None => Err(AllocError),
+            None => Ok(None),
         }
     }
 }
 
 /// Makes a name that a book can have of one that stands before a closing quote: its last 64 bytes, with `_` for each that no name can have. Bytes that get free become blanks behind the quote.
-fn stand_in(alloc: Global, quoted: &mut [u8]) -> Result<Name, AllocError> {
+fn stand_in(alloc: Global, quoted: &mut [u8]) -> Result<Option<Name>, AllocError> {
     let name_len = quoted.len().saturating_sub(1).min(LONGEST);
     quoted.rotate_left(quoted.len().saturating_sub(LONGEST + 1));
     for (at, byte) in quoted.iter_mut().enumerate() {
@@ -74,7 +78,8 @@ fn stand_in(alloc: Global, quoted: &mut [u8]) -> Result<Name, AllocError> {
         }
     }
     match Name::new(alloc, &quoted[..name_len]) {
-        Ok(name) => Ok(name),
-        Err(_) => Err(AllocError),
+        Ok(name) => Ok(Some(name)),
+        Err(NameFault::NoMemory) => Err(AllocError),
+        Err(NameFault::BadName) => Ok(None),
     }
 }

@@ -113,8 +113,10 @@ impl<'a> Sources<'a> {
         if !is_there(rt, path.as_str()) {
             return Ok(());
         }
-        let name = self.name(rt.alloc(), place, included)?;
-        self.add_once(rt, &name, path.as_str())
+        match self.name(rt.alloc(), place, included)? {
+            Some(name) => self.add_once(rt, &name, path.as_str()),
+            None => Ok(()),
+        }
     }
 
     /// The name under which a file is kept that the file at this place includes. It is put in the place of the one that is written there.
@@ -123,10 +125,10 @@ impl<'a> Sources<'a> {
         alloc: Global,
         place: usize,
         included: Included,
-    ) -> Result<Name, AllocError> {
+    ) -> Result<Option<Name>, AllocError> {
         match self.files.get_mut(place) {
             Some(source) => included.replace(alloc, &mut source.text),
-            None => Err(AllocError),
+            None => Ok(None),
         }
     }
 
