@@ -1,5 +1,6 @@
 -- Names that are listed one after another.
-use Rattle.std.proofs.Common.{◌≡◌, ℕ, zero, suc, ◌+◌, List, [], ◌∷◌, ◌++◌, map, filter, drop, Bool, true, false, cond, None, Some, refl, sym, ap, ◌∙◌, arith}
+use Rattle.std.proofs.Common.{◌≡◌, ℕ, zero, suc, ◌+◌, ◌<◌, List, [], ◌∷◌, ◌++◌, length, get_or, map, filter, take, drop, Bool, true, false, cond, None, Some, refl, sym, ap, ◌∙◌, arith}
+use Rattle.std.proofs.lemmas.List.{map-append, take_more}
 use Rattle.std.specs.Prelude.{slice_get, option_map}
 use Rattle.cat_model.specs.declared.files.Entry.{Entry}
 use Rattle.journal.specs.declared.listing.Loaded.{Loaded}
@@ -85,3 +86,11 @@ cat_there cats i n items e is h = next_row of (is_cat cats) (cat_row cats) cats 
 
 pub cat_away : (cats : List Entry) (i : ℕ) (n : Word) (items : List Loaded) → option_map of (slice_get cats i) ≡ Some n → is_cat cats n ≡ false → CatsListed cats i items → CatsListed cats (i + 1) items
 cat_away cats i n items e is h = no_row of (is_cat cats) (cat_row cats) cats i n items (listed_cats cats) e is h
+
+-- one more of a list that is mapped from the front
+pub mapped_more : {A B : Type 0} (f : A → B) (xs : List A) (i : ℕ) (x : A) (y : B) (done more : List B) → i < length xs → x ≡ get_or xs i x → y ≡ f x → more ≡ done ++ y ∷ [] → done ≡ map f (take i xs) → more ≡ map f (take (i + 1) xs)
+mapped_more {B = B} f xs i x y done more l is e m h =
+    m ∙ ap (λ (ys : List B). ys ++ y ∷ []) h
+    ∙ ap (λ (z : B). map f (take i xs) ++ z ∷ []) (e ∙ ap f is)
+    ∙ sym (map-append f (take i xs) (get_or xs i x ∷ []))
+    ∙ ap (map f) (sym (take_more xs i x l))

@@ -30,6 +30,16 @@ sum_next as' bs i d l m =
     ∙ ap (λ (ys : List Counts). sum_tally (get_or as' i d ∷ drop (suc i) as') ys) (drop-cons bs i d m)
     ∙ ap (λ k. plus (get_or as' i d) (get_or bs i d) ∷ sum_tally (drop k as') (drop k bs)) n
 
+abbrev pub nowhere : Counts
+nowhere = record { reads = 0; writes = 0 }
+
+-- A sum more, and one place less to come.
+pub add_next : (as' bs : List Counts) (i : ℕ) (done more total : List Counts) → i < length as' → i < length bs → more ≡ done ++ plus (get_or as' i nowhere) (get_or bs i nowhere) ∷ [] → done ++ sum_tally (drop i as') (drop i bs) ≡ total → more ++ sum_tally (drop (i + 1) as') (drop (i + 1) bs) ≡ total
+add_next as' bs i done more total l m e h =
+    let sum = plus (get_or as' i nowhere) (get_or bs i nowhere) in
+    let rest = sum_tally (drop (i + 1) as') (drop (i + 1) bs) in
+    ap (λ (xs : List Counts). xs ++ rest) e ∙ append_assoc done (sum ∷ []) rest ∙ ap (λ (xs : List Counts). done ++ xs) (sym (sum_next as' bs i nowhere l m)) ∙ h
+
 sum_nothing : (xs : List Counts) → sum_tally xs [] ≡ []
 sum_nothing [] = refl
 sum_nothing (x ∷ xs) = refl
@@ -59,9 +69,6 @@ small_sum as' bs i d h l m =
 
 pub same_end : (as' bs : List Counts) (i : ℕ) → length as' ≤ i → length as' ≡ length bs → take i as' ≡ take i bs → as' ≡ bs
 same_end as' bs i l e t = sym (take_all i as' l) ∙ t ∙ take_all i bs (omega (arith, l, e))
-
-abbrev pub nowhere : Counts
-nowhere = record { reads = 0; writes = 0 }
 
 pub some_ways : (c : Counts) → 1 ≤ ways_of c
 some_ways c =

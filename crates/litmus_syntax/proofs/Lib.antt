@@ -20,6 +20,7 @@ pub mod Sound
 pub mod Sounds
 pub mod Spelled
 pub mod Statements
+pub mod Stops
 pub mod SingleSymbols
 pub mod Unspelled
 pub mod Variants

@@ -6,10 +6,13 @@ use Rattle.litmus_tree.specs.declared.tree.Call.{Call}
 use Rattle.litmus_tree.specs.declared.tree.Declarator.{Declarator}
 use Rattle.litmus_tree.specs.declared.tree.RightSide.{RightSide}
 use Rattle.litmus_tree.specs.declared.tree.Statement.{Statement}
-use Rattle.litmus_tree.specs.declared.tree.Statement.TheVariants.{Block, Declare, Assign, Write, Perform, rolls-Block, rolls-Declare, rolls-Assign, rolls-Write, rolls-Perform}
+use Rattle.litmus_tree.specs.declared.tree.Statement.TheVariants.{Empty, Block, Declare, Assign, Write, Perform, rolls-Block, rolls-Empty, rolls-Declare, rolls-Assign, rolls-Write, rolls-Perform}
 use Rattle.litmus_tree.specs.declared.tree.Statement.TheOpen.{Statement-F}
 use Rattle.litmus_tree.specs.declared.tree.Statement.TheFolds.{fold-roll-Statement}
-use Rattle.litmus_tree.specs.Tree.{Word, Step, block, declare, assign, plain_write, perform, term_of, action_of, right_of, declared_of, layer, step_of, steps_of}
+use Rattle.litmus_tree.specs.Tree.{Word, Step, empty, block, declare, assign, plain_write, perform, term_of, action_of, right_of, declared_of, layer, step_of, steps_of}
+
+pub empty_step : empty ≡ step_of Empty
+empty_step = sym (ap step_of (sym rolls-Empty) ∙ fold-roll-Statement Step layer Statement-F.Empty)
 
 pub block_step : (ss : Vec Statement Global) → block (steps_of ss.items) ≡ step_of (Block ss)
 block_step ss = sym (ap step_of (sym (rolls-Block ss)) ∙ fold-roll-Statement Step layer (Statement-F.Block ss))

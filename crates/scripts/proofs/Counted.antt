@@ -1,6 +1,6 @@
 -- Lines that are counted, one after another.
 use Rattle.std.proofs.Common.{◌≡◌, ◌≢◌, ◌≤◌, ◌<◌, ◌+◌, ◌++◌, ◌⊎◌, ℕ, List, [], ◌∷◌, ◌∙◌, sym, refl, subst, inl, inr, arith}
-use Rattle.std.specs.Prelude.{Option, None, Some, Result, Ok, Err, IsErrAnd}
+use Rattle.std.specs.Prelude.{Bool, true, false, Option, None, Some, Result, Ok, Err, IsErrAnd}
 use Rattle.std.specs.Io.KnownBytes.{Keeps}
 use Rattle.scripts.specs.declared.reading_fault.ScriptFault.{ScriptFault}
 use Rattle.scripts.specs.declared.reading_fault.ScriptFault.TheVariants as faults
@@ -42,3 +42,11 @@ more_ahead old block None next some kept = tt
 more_ahead old block (Some xs) None some kept = absurd kept
 more_ahead old [] (Some xs) (Some ys) some kept = absurd (some refl)
 more_ahead old (b ∷ bs) (Some xs) (Some ys) some kept = λ e. (let none : b ∷ (bs ++ ys) ≡ [] = kept ∙ e in cc)
+
+-- a result is one of both, and an answer one of both
+
+pub ok_is_no_err : {A F P : Type 0} (x : A) (f : F) → Ok x ≡ Err f → P
+ok_is_no_err x f e = absurd (cc)
+
+pub ok_false_is_no_true : {F P : Type 0} (r : Result Bool F) → r ≡ Ok false → r ≡ Ok true → P
+ok_false_is_no_true r is e = absurd (cc)

@@ -1,5 +1,6 @@
 pub mod Calls
 pub mod Counted
+pub mod Found
 pub mod Pieces
 pub mod Receipts
 pub mod Seated

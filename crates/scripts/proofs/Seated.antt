@@ -3,7 +3,7 @@ use Rattle.std.proofs.Common.{◌≡◌, ◌∙◌, ◌<◌, ◌≤◌, ◌+◌,
 use Rattle.std.specs.Prelude.{slice_get, All, Result, Ok, Err, IfOk, IsErr, OnErr, OnOk}
 use Rattle.std.specs.List.{AllByRecursion, AllZip, sum_by}
 use Rattle.std.proofs.lemmas.List.Elements.{All-from_recursion}
-use Rattle.std.proofs.Math.Seq.{get_or-append_seam}
+use Rattle.std.proofs.Math.Seq.{get_or-append_seam, take-append_seam}
 use Rattle.std.proofs.lemmas.List.{length-set, get_or-set_same, set-get_or}
 use Rattle.std.proofs.lemmas.List.Sums.{sum_by-cons}
 use Rattle.std.proofs.lemmas.Option.{slice_get-get_or, slice_get_within}
@@ -285,3 +285,7 @@ worked desk entries before after old new counts result table o n each c r =
         is = (omega (arith, long, number, whole, run_number), runs_of 8 (drop 8 before) new runs (workers_seated desk before table) works.worked);
       };
     }
+
+-- A vector whose slice was written has what was written.
+pub written_back : (n : ℕ) (new rest : List PassView) → n ≡ length new → take n (new ++ rest) ≡ new
+written_back n new rest e = let P : ℕ → Type 0 = λ m. take m (new ++ rest) ≡ new in subst P (sym e) (take-append_seam new rest)

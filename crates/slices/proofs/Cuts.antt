@@ -22,6 +22,13 @@ cuts n total some = record {
   rising = λ i. rises n total i some;
 }
 
+-- before the first slice there is none
+pub none_done : (n total : ℕ) (spans : List Span) → spans ≡ [] → ((j : ℕ) → IsHeld spans j → j < cut n total 0) × ((j : ℕ) → j < cut n total 0 → IsHeld spans j)
+none_done n total spans e =
+    let none = div-le_of_le-mul total {m = n * 0} {n = 0} (omega arith) in
+    let P : List Span → Type 0 = λ held. ((j : ℕ) → IsHeld held j → j < cut n total 0) × ((j : ℕ) → j < cut n total 0 → IsHeld held j) in
+    subst P (sym e) ((λ j h. absurd h.1), (λ j l. absurd (omega (arith, l, none))))
+
 -- a slice's numbers are among all
 pub slice_range : (t : Litmus) (n total i from to : ℕ) → n ≡ test_size t → i < total → from ≡ cut n total i → to ≡ cut n total (i + 1) → IsRange t from to
 slice_range t n total i from to size less first last =

@@ -9,7 +9,7 @@ use Rattle.slices.specs.Courses.{IsCourse}
 use Rattle.slices.specs.Parts.{PieceResultValue}
 use Rattle.slices.specs.Tallies.{TallyValue, span_of}
 use Rattle.slices.specs.Works.{WorkValue}
-use Rattle.slices.proofs.Coursing.{stepped}
+use Rattle.slices.proofs.Coursing.{begun, stepped}
 use Rattle.suite.specs.declared.together.Round.{Round}
 use Rattle.suite.specs.Together.{IsSlice, HasFirst, IsFoundBy, AreFound}
 
@@ -101,3 +101,16 @@ pub one_more : (total done : ℕ) (old new : TallyValue) (r : PieceResultValue) 
 one_more total done old new r before less here merged =
     let C : WorkValue → Type 0 = λ w. IsCourse (record { work = w; total = total; done = done + 1 }) new in
     subst C (sym (ap (λ (x : TallyValue). x.work) merged)) (stepped _ old new r before less here.1 here.2 merged)
+
+-- a tally with none yet
+pub none_yet : (total : ℕ) (w : WorkValue) (t : TallyValue) → 1 ≤ total → t ≡ record { work = w; spans = [] } → HasFirst total 0 t
+none_yet total w t some is =
+    let C : WorkValue → Type 0 = λ v. IsCourse (record { work = v; total = total; done = 0 }) t in
+    subst C (sym (ap (λ (x : TallyValue). x.work) is)) (begun w total t some is)
+
+-- what is found of a work, of the same work and in the same list
+pub found_for : {A E : Type 0} (v w : WorkValue) (r : Round) (xs ys : List (Result (Vec PieceResultValue A) E)) → v ≡ w → ys ≡ xs → AreFound w r xs → AreFound v r ys
+found_for {A} {E} v w r xs ys same list found =
+    let P : List (Result (Vec PieceResultValue A) E) → Type 0 = λ l. AreFound w r l in
+    let Q : WorkValue → Type 0 = λ u. AreFound u r ys in
+    subst Q (sym same) (subst P (sym list) found)

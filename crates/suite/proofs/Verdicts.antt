@@ -1,6 +1,6 @@
 -- Verdicts, one behind another.
-use Rattle.std.proofs.Common.{◌≡◌, ℕ, suc, ◌+◌, ◌<◌, List, [], ◌∷◌, ◌++◌, length, map, drop, get_or, sym, ap, ◌∙◌, subst, append_assoc, arith, drop-cons}
-use Rattle.std.proofs.lemmas.List.{map-append}
+use Rattle.std.proofs.Common.{◌≡◌, ℕ, suc, ◌+◌, ◌<◌, ◌≤◌, List, [], ◌∷◌, ◌++◌, length, map, drop, get_or, sym, ap, ◌∙◌, subst, append_assoc, append-nil, arith, drop-cons, refl}
+use Rattle.std.proofs.lemmas.List.{drop_all, map-append}
 use Rattle.std.specs.Prelude.{All}
 use Rattle.std.proofs.lemmas.List.Elements.{All-push}
 use Rattle.litmus_tree.specs.Tree.{Litmus}
@@ -28,3 +28,13 @@ pub judged_on : (t : Litmus) (ms : List Assembly) (k : ℕ) (m : Assembly) (vs m
 judged_on t ms k m vs more v done inside here is right pushed =
     let P : List VerdictValue → Type 0 = λ l. All IsRight l in
     (works_on t ms k m vs more v done.0 inside here is pushed, subst P (sym pushed) (All-push IsRight vs v done.1 right))
+
+pub judged_none : (t : Litmus) (ms : List Assembly) (vs : List VerdictValue) → vs ≡ [] → (map (λ x. x.work) vs ++ works_of t ms ≡ works_of t ms) × All IsRight vs
+judged_none t ms vs none =
+    let P : List VerdictValue → Type 0 = λ l. (map (λ x. x.work) l ++ works_of t ms ≡ works_of t ms) × All IsRight l in
+    subst P (sym none) (refl, λ k d l. absurd (omega (arith, l)))
+
+pub judged_all : (t : Litmus) (ms : List Assembly) (k : ℕ) (vs : List VerdictValue) → length ms ≤ k → map (λ x. x.work) vs ++ works_of t (drop k ms) ≡ works_of t ms → map (λ x. x.work) vs ≡ works_of t ms
+judged_all t ms k vs all so_far =
+    let W : VerdictValue → WorkValue = λ x. x.work in
+    sym (append-nil (map W vs)) ∙ ap (λ (l : List Assembly). map W vs ++ works_of t l) (sym (drop_all k ms all)) ∙ so_far

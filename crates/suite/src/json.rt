@@ -1,14 +1,14 @@
 //! A verdict as an object of JSON.
 
-ghost use Rattle.std.specs.Prelude.{◌≡◌, map, take, IfOk, string_bytes};
-ghost use Rattle.serde_json.specs.Data.{array, string};
-ghost use Rattle.serde_json.specs.View.{view, items_of};
+ghost use Rattle.std.specs.Prelude.{◌≡◌, [], map, take, IfOk, OnOk, string_bytes};
+ghost use Rattle.serde_json.specs.Data.{array, number, object, put as with_member, string, unsigned};
+ghost use Rattle.serde_json.specs.View.{view, items_of, members_view};
 ghost use Rattle.serde_json.specs.Written.{compact_text};
 ghost use Rattle.suite.specs.Objects.{object_data};
 
 use crate::case::Case;
 use crate::line::kind_text;
-use serde_json::{Value, json};
+use serde_json::{Map, Value, put};
 use slices::{Finding, Verdict};
 use std::alloc::{AllocError, Global};
 use wb_text::Name;
@@ -35,22 +35,58 @@ fn value_of(
 ) -> Result<Value, AllocError>
     ensures { IfOk result (λ v. view v ≡ object_data case.now milliseconds finding.now) }
 {
-    let flags = array_of(alloc, finding.flags())?;
-    let states = finding.states().len() as u64;
-    json!(in alloc; {
-        "digests": case.digests,
-        "file": case.path,
-        "flags": flags,
-        "kind": kind_text(finding.kind()),
-        "milliseconds": milliseconds,
-        "model": case.model,
-        "name": text_of(finding.name()),
-        "negative": finding.negative(),
-        "ok": finding.ok(),
-        "positive": finding.positive(),
-        "states": states,
-        "word": finding.word()
-    })
+    let mut members = Map::new(alloc);
+    put_members(&mut members, alloc, case, finding, milliseconds)?;
+    Ok(Value::Object(members))
+}
+
+/// Puts the members of a finding, where there are none before.
+fn put_members(
+    members: &mut Map<String, Value>,
+    alloc: Global,
+    case: &Case<'_>,
+    finding: &Finding,
+    milliseconds: u64,
+) -> Result<(), AllocError>
+    requires { members.old.entries ≡ [] }
+    ensures { OnOk result (object (members_view members.new.entries) ≡ object_data case.now milliseconds finding.now) }
+{
+    put_text(members, alloc, "digests", case.digests)?;
+    put_text(members, alloc, "file", case.path)?;
+    put(members, alloc, "flags", array_of(alloc, finding.flags())?)?;
+    put_text(members, alloc, "kind", kind_text(finding.kind()))?;
+    put_number(members, alloc, "milliseconds", milliseconds)?;
+    put_text(members, alloc, "model", case.model)?;
+    put_text(members, alloc, "name", text_of(finding.name()))?;
+    put_number(members, alloc, "negative", finding.negative())?;
+    put(members, alloc, "ok", Value::Bool(finding.ok()))?;
+    put_number(members, alloc, "positive", finding.positive())?;
+    put_number(members, alloc, "states", finding.states().len() as u64)?;
+    put_text(members, alloc, "word", finding.word())
+}
+
+/// Puts a text under a name.
+fn put_text(
+    members: &mut Map<String, Value>,
+    alloc: Global,
+    name: &str,
+    text: &str,
+) -> Result<(), AllocError>
+    ensures { OnOk result (members_view members.new.entries ≡ with_member name.now (string text.now) (members_view members.old.entries)) }
+{
+    put(members, alloc, name, Value::try_from_str(alloc, text)?)
+}
+
+/// Puts a number under a name.
+fn put_number(
+    members: &mut Map<String, Value>,
+    alloc: Global,
+    name: &str,
+    count: u64,
+) -> Result<(), AllocError>
+    ensures { OnOk result (members_view members.new.entries ≡ with_member name.now (number (unsigned count)) (members_view members.old.entries)) }
+{
+    put(members, alloc, name, Value::from(count))
 }
 
 /// The names as an array.

@@ -55,3 +55,6 @@ read_from-requires-clause-number c = reading_within (length c.args.init.now) c.a
 
 pub nonzero_rem-number : goal.nonzero_rem-number
 nonzero_rem-number c = some_orders (length c.args.init.now) c.args.page.now c.requires.page
+
+pub nonzero_div-number : goal.nonzero_div-number
+nonzero_div-number c = some_orders (length c.args.init.now) c.args.page.now c.requires.page

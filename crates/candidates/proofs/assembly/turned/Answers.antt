@@ -6,7 +6,7 @@ use Rattle.candidates.specs.Candidates.{count_orders, order_at}
 use Rattle.candidates.proofs.Graphs.{is_candidate, is_graph}
 use Rattle.candidates.proofs.Listed.{by_writes}
 use Rattle.candidates.specs.Readings.{IsPage}
-use Rattle.candidates.proofs.Pages.{reading_within}
+use Rattle.candidates.proofs.Pages.{reading_within, some_orders}
 use Rattle.candidates.proofs.assembly.turned.Goals as goal
 
 pub turn_sources-rf-requires-clause-page : goal.turn_sources-rf-requires-clause-page
@@ -44,3 +44,15 @@ turn_orders-co-requires-clause-page c =
     let same : c.len.result ≡ length c.args.graph.init = omega (arith, c.len.ensures, ap (λ (x : GraphValue). length x.init) c.into_parts-parts.ensures.parts) in
     let P : ℕ → Type 0 = λ n. IsPage n c.args.page.now in
     subst P (sym same) c.requires.page
+
+pub nonzero_rem-to : goal.nonzero_rem-to
+nonzero_rem-to c = some_orders (length c.args.graph.init) c.args.page.now c.requires.page
+
+pub nonzero_rem-from : goal.nonzero_rem-from
+nonzero_rem-from c = some_orders (length c.args.graph.init) c.args.page.now c.requires.page
+
+pub nonzero_div-to : goal.nonzero_div-to
+nonzero_div-to c = some_orders (length c.args.graph.init) c.args.page.now c.requires.page
+
+pub nonzero_div-from : goal.nonzero_div-from
+nonzero_div-from c = some_orders (length c.args.graph.init) c.args.page.now c.requires.page

@@ -58,3 +58,6 @@ push_orders-requires-clause-depths c =
     let d : Depth = record { size = c.args.page.now.orders; known = Sources c.len.result } in
     depths_more c.args.locations runs c.push_reading.new.depths.items c.push_depth.new.depths.items d (ltb 1 d.size) c.in_ok-push_depth.ensures
     (last_depth c.args.locations runs rs d.size c.len.result (c.deref.ensures.value ∙ c.requires.reads_are) c.requires.orders many) c.in_ok-push_reading.ensures.depths
+
+pub push_reading-requires-clause-depths : goal.push_reading-requires-clause-depths
+push_reading-requires-clause-depths c = λ k d l. absurd (omega (arith, l, ap (λ ds. length ds) c.clear.ensures.items))

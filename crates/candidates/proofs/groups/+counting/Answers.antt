@@ -1,4 +1,4 @@
-use Rattle.std.proofs.Common.{◌≡◌, ◌∙◌, ◌<◌, List, [], ◌∷◌, ◌++◌, ℕ, length, refl, sym, ap, subst, arith, append-nil}
+use Rattle.std.proofs.Common.{◌≡◌, ◌∙◌, ◌<◌, List, [], ◌∷◌, ◌++◌, ℕ, length, refl, sym, ap, subst, arith, append-nil, ◌-◌, take, drop}
 use Rattle.std.specs.List.{All}
 use Rattle.listings.specs.Lists.{IsIn}
 use Rattle.candidates.specs.declared.counts.Counts.{Counts}
@@ -107,3 +107,10 @@ count-returns-in-empty t c =
 
 pub count-size-requires : goal.count-size-requires
 count-size-requires t c = record { small = room_small c.args.tally.now c.args.threads.now c.requires.room }
+
+pub count-sizes-requires : goal.count-sizes-requires
+count-sizes-requires t c =
+    let threads = c.args.threads.now in
+    let e = front_rest threads c.first-item.result c.in-len1-up.len_at_least c.first-item.is in
+    let room : HasRoom c.args.tally.now (c.first-item.result ∷ take (length threads - 1) (drop 1 threads)) = subst (HasRoom c.args.tally.now) (sym e) c.requires.room in
+    (omega (arith, c.decreases, ap (λ (ts : List (List (List Counts))). length ts) e), room.1)

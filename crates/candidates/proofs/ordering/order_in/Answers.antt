@@ -1,4 +1,4 @@
-use Rattle.std.proofs.Common.{◌≡◌, ◌∙◌, List, [], ◌∷◌, ◌++◌, ap, arith}
+use Rattle.std.proofs.Common.{◌≡◌, ◌∙◌, List, [], ◌∷◌, ◌++◌, ap, arith, length}
 use Rattle.events.specs.declared.event.EventId.{EventId}
 use Rattle.events.specs.declared.event.EventId.TheVariants.{Initial}
 use Rattle.listings.specs.Numbered.{arrange}
@@ -21,3 +21,6 @@ returns-then-number-eq0 c =
     c.new-order.ensures ∙ c.in_ok-extend_from_slice.ensures.items
     ∙ ap (λ (ws : List EventId). ws ++ later) (c.in_ok-push.ensures.items ∙ ap (λ (ws : List EventId). ws ++ Initial c.args.location ∷ []) c.requires)
     ∙ ap (λ (ws : List EventId). Initial c.args.location ∷ ws) (first_order later ∙ ap (λ n. arrange later n) zero)
+
+pub turn_order-requires : goal.turn_order-requires
+turn_order-requires c = omega (arith, ap (λ es. length es) c.new-order.ensures, c.in_ok-extend_from_slice.ensures.len, c.in_ok-push.ensures.len)

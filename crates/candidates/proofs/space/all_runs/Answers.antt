@@ -34,3 +34,6 @@ pub returns-clause-within : goal.returns-clause-within
 returns-clause-within c =
     within_all c.args.test.now c.loop-thread.lists.items c.threads-thread-end.ensures.test
     (all_lists c.args.test.now c.loop-thread.thread c.loop-thread.lists.items (omega (arith, c.loop-thread-test.false, ap (λ ps. length ps) c.threads-thread-end.ensures.value)) c.loop-thread.invariant.is)
+
+pub runs-requires : goal.runs-requires
+runs-requires c = omega (arith, c.loop-thread-test.true, ap (λ ts. length ts) c.threads-thread-end.ensures.value)

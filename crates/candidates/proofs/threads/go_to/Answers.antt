@@ -7,6 +7,7 @@ use Rattle.candidates.specs.Located.{choices_by}
 use Rattle.candidates.proofs.Steps.{in_block, place_in_block, part_member, part_block}
 use Rattle.candidates.proofs.Stretches.{stretch_of, whole_page}
 use Rattle.std.proofs.lemmas.Result.{IfOk-from_err}
+use Rattle.candidates.proofs.Pages.{start_within}
 use Rattle.candidates.proofs.threads.go_to.Goals as goal
 
 pub fill_page-requires-clause-within : goal.fill_page-requires-clause-within
@@ -87,3 +88,8 @@ returns-in-Until-clause-levels c = c.locate.ensures.levels
 
 pub returns-in-Until-clause-stretch : goal.returns-in-Until-clause-stretch
 returns-in-Until-clause-stretch c some = absurd (omega (arith, some))
+
+pub overflow_mul-stretch : goal.overflow_mul-stretch
+overflow_mul-stretch c =
+    let page = c.fill_page.new.page in
+    omega (arith, start_within (length c.args.threads.now.init.now) page page.ways c.in_ok-fill_page-in-At.ensures.page (omega arith))

@@ -5,7 +5,6 @@ use Rattle.cat_tree.specs.Tree.{Clause}
 use Rattle.cat_eval.specs.Judging.{Allowed, Raised}
 use Rattle.cat_eval.specs.Orderless.{IsOrderless}
 use Rattle.candidates.specs.Walks.{IsHit, Walking}
-use Rattle.events.specs.Executions.{GraphValue}
 use Rattle.slices.specs.Parts.{IsAdmitted}
 use Rattle.slices.specs.Passing.{ArePassed}
 use Rattle.slices.specs.Slots.{slot_of}
@@ -162,3 +161,25 @@ loop-walk-smaller c =
 
 pub returns-in_err-weigh_alike-clause-evaluator : goal.returns-in_err-weigh_alike-clause-evaluator
 returns-in_err-weigh_alike-clause-evaluator c = c.in_ok-judgement.ensures.model ∙ c.in_ok-passes.ensures.model ∙ c.loop-walk.invariant.model ∙ sym c.requires.evaluator
+
+pub returns-in_err-weigh-clause-evaluator : goal.returns-in_err-weigh-clause-evaluator
+returns-in_err-weigh-clause-evaluator c = c.in_ok-judgement.ensures.model ∙ c.in_ok-passes.ensures.model ∙ c.loop-walk.invariant.model ∙ sym c.requires.evaluator
+
+pub returns-in_err-judgement-clause-evaluator : goal.returns-in_err-judgement-clause-evaluator
+returns-in_err-judgement-clause-evaluator c = c.judge_next.ensures.model ∙ c.in_ok-passes.ensures.model ∙ c.loop-walk.invariant.model ∙ sym c.requires.evaluator
+
+pub returns-clause-evaluator : goal.returns-clause-evaluator
+returns-clause-evaluator c = c.loop-walk.invariant.model ∙ sym c.requires.evaluator
+
+pub returns-in_err-passes-clause-evaluator : goal.returns-in_err-passes-clause-evaluator
+returns-in_err-passes-clause-evaluator c = c.passes.ensures.model ∙ c.loop-walk.invariant.model ∙ sym c.requires.evaluator
+
+pub returns-in_err-number-clause-evaluator : goal.returns-in_err-number-clause-evaluator
+returns-in_err-number-clause-evaluator c = c.loop-walk.invariant.model ∙ sym c.requires.evaluator
+
+pub weigh-requires-clause-few : goal.weigh-requires-clause-few
+weigh-requires-clause-few c =
+    let counted = c.loop-walk.invariant.counted in
+    let hit = hit_number c.loop-walk.walk c.next.new.self c.in_ok-number.field-0 c.in-Some.number c.in-Some.is c.in_ok-number.ensures.found in
+    let admitted = subst (λ (z : WorkValue). IsAdmitted z.test) c.work-inner.ensures c.size-size.ensures.admitted in
+    omega (arith, counted.few, counted.to_is, hit.later, hit.below, c.requires.range.within, admitted.few)

@@ -1,10 +1,16 @@
-use Rattle.std.proofs.Common.{ℕ, ◌+◌, ◌∙◌, ap}
+use Rattle.std.proofs.Common.{ℕ, ◌+◌, ◌∙◌, ap, sym}
 use Rattle.slices.specs.Works.{WorkValue}
 use Rattle.slices.specs.Parts.{test_size, PieceValue}
 use Rattle.slices.specs.Tallies.{cut}
+use Rattle.slices.proofs.Cuts.{slice_range}
 use Rattle.std.proofs.lemmas.Result.{IfOk-weaker}
 use Rattle.suite.specs.Together.{IsSlice}
 use Rattle.suite.proofs.together.evaluate_slice.Goals as goal
+
+pub new-requires : goal.new-requires
+new-requires c =
+    let size = c.size-size.ensures.size ∙ ap (λ (w : WorkValue). test_size w.test) (c.work.ensures ∙ sym c.in_ok-share.ensures) in
+    slice_range c.in_ok-share.field-0.test _ c.args.total c.args.slice _ _ size c.requires c.cut-from.ensures c.cut-to.ensures
 
 pub returns : goal.returns
 returns c =

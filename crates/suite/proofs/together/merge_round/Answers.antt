@@ -1,4 +1,4 @@
-use Rattle.std.proofs.Common.{◌≡◌, arith}
+use Rattle.std.proofs.Common.{◌≡◌, ◌∙◌, arith}
 use Rattle.suite.proofs.EachSlice.{counted, found_is}
 use Rattle.suite.proofs.together.merge_round.Goals as goal
 
@@ -11,3 +11,9 @@ pub returns-clause-merged : goal.returns-clause-merged
 returns-clause-merged c =
     let all : c.loop-slice.slice ≡ c.args.round.to = omega (arith, c.loop-slice-test.false, c.loop-slice.auto.slice-end, c.requires.round.order) in
     counted _ _ _ _ all c.loop-slice.invariant.before
+
+pub loop-slice-preserved : goal.loop-slice-preserved
+loop-slice-preserved c = record {
+  before = c.in_ok-merge_slice-in-Ok.ensures.merged;
+  work = c.in_ok-merge_slice-in-Ok.ensures.work ∙ c.loop-slice.invariant.work;
+}

@@ -1,6 +1,6 @@
-use Rattle.std.proofs.Common.{◌∙◌, ap}
-use Rattle.book.specs.Jobs.{Job}
-use Rattle.book.proofs.Results.{done_then, done_again, done_beyond, some_there, none_there}
+use Rattle.std.proofs.Common.{◌∙◌, ap, arith}
+use Rattle.book.specs.Jobs.{Job, done}
+use Rattle.book.proofs.Results.{done_then, done_again, done_beyond, some_there, none_there, done_few}
 use Rattle.book.proofs.jobs.Job.done_with.Goals as goal
 
 pub returns-then-slice : goal.returns-then-slice
@@ -19,3 +19,6 @@ pub returns-in-None : goal.returns-in-None
 returns-in-None c =
     let same = c.deref.ensures.value ∙ ap (λ (j : Job). j.slices) c.self.view_is in
     done_beyond c.args.self.now c.args.slice c.done-in-None.result (none_there c.args.self.now c.deref.result.now c.args.slice same c.in-None.ensures.lookup.0) c.done-in-None.ensures
+
+pub overflow_add-result : goal.overflow_add-result
+overflow_add-result c = omega (arith, c.done-else-slice.ensures, ap done c.self.view_is, done_few c.self.inside.tally c.self.inside.slices.items c.self.invariant.tied)

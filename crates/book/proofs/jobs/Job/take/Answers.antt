@@ -1,11 +1,11 @@
-use Rattle.std.proofs.Common.{◌≡◌, ◌∙◌, ap, sym, subst, Some}
+use Rattle.std.proofs.Common.{◌≡◌, ◌∙◌, ap, sym, subst, Some, arith}
 use Rattle.std.specs.Prelude.{slice_get, IfSome}
 use Rattle.slices.specs.Parts.{PieceValue}
 use Rattle.slices.specs.Tallies.{TallyValue, span_of}
 use Rattle.book.specs.Jobs.{Job, marked}
-use Rattle.book.specs.Results.{IsVerdictOn}
+use Rattle.book.specs.Results.{IsVerdictOn, IsTied}
 use Rattle.book.specs.Step.{HasRange}
-use Rattle.book.proofs.Results.{here_range, marked_again, apart, merged_tied, merged_shown}
+use Rattle.book.proofs.Results.{here_range, marked_again, apart, merged_tied, merged_shown, inside}
 use Rattle.book.proofs.jobs.Job.take.Goals as goal
 use Rattle.book.proofs.jobs.Job.take.Goals.{in-Ok, in-Err}
 
@@ -52,3 +52,24 @@ returns-clause-ok c =
           rw w.result-is done)
       | in-Err w ↦ rw w.result-is tt
     ]
+
+pub index-slice-requires : goal.index-slice-requires
+index-slice-requires c =
+    let p = c.args.part.piece in
+    let place : c.slice-place.result ≡ p.slice = c.slice-place.ensures ∙ ap (λ (q : PieceValue). q.slice) c.piece.ensures in
+    let R : Job → Type 0 = λ j. HasRange (slice_get j.slices p.slice) p.from p.to in
+    omega (arith, place, inside c.self.inside.slices.items p.slice p.from p.to (subst R (sym c.self.view_is) c.requires.range))
+
+pub index_mut-requires : goal.index_mut-requires
+index_mut-requires c =
+    let p = c.args.part.piece in
+    let place : c.slice-place.result ≡ p.slice = c.slice-place.ensures ∙ ap (λ (q : PieceValue). q.slice) c.piece.ensures in
+    let R : Job → Type 0 = λ j. HasRange (slice_get j.slices p.slice) p.from p.to in
+    omega (arith, place, inside c.self.inside.slices.items p.slice p.from p.to (subst R (sym c.self.view_is) c.requires.range))
+
+pub invariant_of-self-in-Err : goal.invariant_of-self-in-Err
+invariant_of-self-in-Err c =
+    let same = c.in-Err.ensures.same in
+    let T : TallyValue → Type 0 = λ t. IsTied t c.self.inside.slices.items in
+    let K : TallyValue → Type 0 = λ t. IfSome c.self.inside.verdict (IsVerdictOn t.work c.self.inside.version) in
+    record { tied = subst T (sym same) c.self.invariant.tied; kept = subst K (sym same) c.self.invariant.kept }

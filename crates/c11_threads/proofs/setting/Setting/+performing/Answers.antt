@@ -152,3 +152,15 @@ perform-declare_onto-requires n c = declare_serves c.args.self.now.values c.args
 
 pub perform_each-declare_all-requires : goal.perform_each-declare_all-requires
 perform_each-declare_all-requires n c = declare_serves c.args.self.now.values c.args.statement.now c.as_slice-in-Declare.result.now c.in-Declare.declarators c.in-Declare.is c.as_slice-in-Declare.ensures.value c.requires
+
+pub perform_each-perform_apart-requires : goal.perform_each-perform_apart-requires
+perform_each-perform_apart-requires n c = (omega (arith, c.decreases), c.requires)
+
+pub perform_each-perform_apart-requires-in_default : goal.perform_each-perform_apart-requires-in_default
+perform_each-perform_apart-requires-in_default n c = (omega (arith, c.decreases), c.requires)
+
+pub perform_apart-perform-requires : goal.perform_apart-perform-requires
+perform_apart-perform-requires n c = (omega (arith, c.decreases), c.requires)
+
+pub perform_onto-perform_all-requires : goal.perform_onto-perform_all-requires
+perform_onto-perform_all-requires n c = (omega (arith, c.decreases), c.requires)

@@ -96,3 +96,13 @@ invariant_of-self-in_err-show-in-Some c =
       within = c.self.invariant.within;
       scene = scene_kept c.self.inside.space.now c.show.new.scene c.self.inside.scene c.search.new.ahead same.0 same.1 same.2 same.3 c.self.invariant.scene c.in_ok-hit.ensures.ahead;
     }
+
+pub overflow_add-self-in-Some : goal.overflow_add-self-in-Some
+overflow_add-self-in-Some c =
+    let found = rw c.in-Some.is at c.in_ok-hit.ensures.found in
+    omega (arith, found.0)
+
+pub overflow_add-number-in-Some : goal.overflow_add-number-in-Some
+overflow_add-number-in-Some c =
+    let found = rw c.in-Some.is at c.in_ok-hit.ensures.found in
+    omega (arith, found.0)

@@ -1,6 +1,7 @@
 use Rattle.std.proofs.Common.{rules}
 use Rattle.conditions.specs.Conditions.{formula_of}
-use Rattle.litmus_syntax.specs.Reading.{conjunction_more, or_more}
+use Rattle.litmus_syntax.specs.Reading.{conjunction_more, or_more, atomic_with, enclosed_with, propositions_below}
+use Rattle.litmus_syntax.proofs.Stops.{ended}
 use Rattle.litmus_syntax.proofs.Propositions.{conjunction_turn, conjunction_turn_takes, or_turn, or_turn_takes}
 use Rattle.litmus_syntax.proofs.syntax.Reader.+propositions.Goals as goal
 
@@ -51,3 +52,13 @@ disjunction-returns-in_err-left-2 t c =
 
 pub disjunction-returns : goal.disjunction-returns
 disjunction-returns t c = let turn = or_turn c.args.nesting (formula_of c.loop-left.left) c.loop-left.self.rest.now in search (rules, turn)
+
+-- what nests
+
+pub atomic-returns : goal.atomic-returns
+unfolding atomic_with enclosed_with propositions_below
+atomic-returns t c = rw (c.if-take_denial.ensures.0, ← c.if-take_denial.ensures.1, c.if-not-take.ensures, c.in_ok-nesting-2.ensures.ok, c.in_ok-inner.ensures, c.and.ensures) (ended _ c.expect.result _ _ _ c.expect.ensures)
+
+pub atomic-returns-then-not-take : goal.atomic-returns-then-not-take
+unfolding atomic_with
+atomic-returns-then-not-take t c = rw (c.if-take_denial.ensures.0, ← c.if-take_denial.ensures.1, c.if-not-take.ensures.0, ← c.if-not-take.ensures.1) c.plain_atomic.ensures

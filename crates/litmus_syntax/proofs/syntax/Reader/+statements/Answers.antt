@@ -2,8 +2,9 @@ use Rattle.std.proofs.Common.{ap, rules, arith, length}
 use Rattle.std.specs.Prelude.{Ok}
 use Rattle.litmus_tree.specs.Tree.{Step, step_of, steps_of}
 use Rattle.litmus_syntax.specs.Reading.{step_with, block_with, inside, unless, expected, steps_with, if_with, else_with, tested_at, open_at, opened}
-use Rattle.litmus_syntax.proofs.Variants.{block_step}
+use Rattle.litmus_syntax.proofs.Variants.{empty_step, block_step}
 use Rattle.litmus_syntax.proofs.Statements.{step_takes, steps_turn}
+use Rattle.litmus_syntax.proofs.Stops.{opens}
 use Rattle.litmus_tree.proofs.Steps.{only_if, if_and_else, pushed}
 use Rattle.litmus_syntax.proofs.syntax.Reader.+statements.Goals as goal
 
@@ -39,3 +40,23 @@ branch-returns t c = let tree = if_and_else c.in_ok-test.test c.in_ok-arm.arm c.
 pub statement-returns-then-take-2 : goal.statement-returns-then-take-2
 unfolding step_with block_with inside
 statement-returns-then-take-2 t c = rw (c.if-take.ensures.0, ← c.if-take.ensures.1, c.if-take-2.ensures, c.in_ok-nesting.ensures.ok, c.in_ok-statements.ensures) (ap (λ (s : Step). Ok (s, c.statements.new.self.rest.now)) (block_step c.in_ok-statements.field-0))
+
+-- the other statements
+
+pub statement-returns-then-take : goal.statement-returns-then-take
+unfolding step_with
+statement-returns-then-take t c = rw (c.if-take.ensures) (ap (λ (s : Step). Ok (s, c.take.new.self.rest.now)) empty_step)
+
+pub statement-returns-then-take-3 : goal.statement-returns-then-take-3
+unfolding step_with
+statement-returns-then-take-3 t c = rw (c.if-take.ensures.0, ← c.if-take.ensures.1, c.if-take-2.ensures.0, ← c.if-take-2.ensures.1, c.if-take-3.ensures) c.branch-self.ensures
+
+pub statement-returns : goal.statement-returns
+unfolding step_with
+statement-returns t c = rw (c.if-take.ensures.0, ← c.if-take.ensures.1, c.if-take-2.ensures.0, ← c.if-take-2.ensures.1, c.if-take-3.ensures.0, ← c.if-take-3.ensures.1) c.closed.ensures
+
+pub branch-arm-requires : goal.branch-arm-requires
+branch-arm-requires t c = omega (arith, opens c.args.nesting c.in_ok-nesting.nesting c.args.self.now.rest.now c.open.new.self.rest.now c.in_ok-nesting.ensures)
+
+pub branch-arm-requires-2 : goal.branch-arm-requires-2
+branch-arm-requires-2 t c = omega (arith, opens c.args.nesting c.in_ok-nesting.nesting c.args.self.now.rest.now c.open.new.self.rest.now c.in_ok-nesting.ensures)

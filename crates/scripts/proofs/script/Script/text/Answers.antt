@@ -1,10 +1,10 @@
-use Rattle.std.proofs.Common.{◌++◌, ◌-◌, [], length, take, sym, refl, ap, ◌∙◌, Ok, Err, arith}
+use Rattle.std.proofs.Common.{◌++◌, ◌-◌, [], length, take, sym, refl, ap, subst, ◌∙◌, Ok, Err, arith}
 use Rattle.std.proofs.KnownBytes.{Keeps-refl}
 use Rattle.std.proofs.lemmas.Bool.{false≢true}
-use Rattle.scripts.specs.Lines.{nothing_read}
+use Rattle.scripts.specs.Lines.{ahead, IsNextLine, nothing_read}
 use Rattle.scripts.specs.Scripts.{no_text, long_line, open_text}
 use Rattle.scripts.specs.declared.reading_fault.ScriptFault.TheVariants as faults
-use Rattle.scripts.proofs.Counted.{counted, same_number, told_on}
+use Rattle.scripts.proofs.Counted.{counted, ok_is_no_err, same_number, told_on}
 use Rattle.scripts.proofs.Taken.{ended, lost_both, lost_none}
 use Rattle.scripts.proofs.Texts.{gathered}
 use Rattle.scripts.proofs.script.Script.text.Goals as goal
@@ -13,6 +13,22 @@ pub returns-then-is_last-clause-lines : goal.returns-then-is_last-clause-lines
 returns-then-is_last-clause-lines g c =
     let is = c.in_ok-next.was ∙ ap Ok c.if-branch.true in
     counted _ _ _ _ _ _ _ c.loop-bytes.invariant.lines (c.next.ensures.room is) (c.next.ensures.next is) (c.next.ensures.count is)
+
+pub returns-then-is_last-clause-text : goal.returns-then-is_last-clause-text
+returns-then-is_last-clause-text g c =
+    let text = c.loop-bytes.invariant.text in
+    let start = ahead c.loop-bytes.self.lines.block (g.R.Source.left c.loop-bytes.reader) in
+    let behind = ahead c.next.new.self.block (g.R.Source.left c.next.new.reader) in
+    record {
+      end = start;
+      whole = text.whole;
+      lines = text.lines;
+      closed = subst (IsNextLine start behind) (sym c.line.ensures ∙ c.is_last.ensures.0 c.if-is_last.true) (c.next.ensures.next (c.in_ok-next.was ∙ ap Ok c.if-branch.true));
+      kept = c.in_ok-new.ensures ∙ text.kept;
+    }
+
+pub returns-then-is_last-clause-read : goal.returns-then-is_last-clause-read
+returns-then-is_last-clause-read g c e = ok_is_no_err _ _ e
 
 pub returns-in_err-next-clause-line : goal.returns-in_err-next-clause-line
 returns-in_err-next-clause-line g c n e =

@@ -1,4 +1,4 @@
-use Rattle.std.proofs.Common.{◌∙◌, ◌<◌, ap, sym, subst}
+use Rattle.std.proofs.Common.{◌∙◌, ◌<◌, ap, sym, subst, ◌+◌}
 use Rattle.slices.specs.Courses.{CourseValue}
 use Rattle.slices.specs.Parts.{PieceValue}
 use Rattle.slices.proofs.Coursing.{apart, stepped}
@@ -18,3 +18,8 @@ invariant_of-self-in-Ok c =
 
 pub invariant_of-self-in-Err : goal.invariant_of-self-in-Err
 invariant_of-self-in-Err c = rw c.in-Err.ensures.same c.self.invariant
+
+pub returns-in-Ok-clause-done : goal.returns-in-Ok-clause-done
+returns-in-Ok-clause-done c =
+    let N : CourseValue → CourseValue = λ v. record { work = v.work; total = v.total; done = v.done + 1 } in
+    ap N c.self.view_is

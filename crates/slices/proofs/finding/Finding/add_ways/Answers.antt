@@ -62,3 +62,11 @@ returns c =
     let e : at.number ≡ n = omega (arith, most, within) in
     let P : ℕ → Type 0 = λ m. IsSum c.args.self.now (of_states c.args.self.now (weight_at ways) (row_by c.args.graph.now c.args.slots.now ways) m []) at.self in
     subst P e at.invariant.added
+
+pub loop-lasts-smaller : goal.loop-lasts-smaller
+loop-lasts-smaller c =
+    let at = c.loop-lasts in
+    let ways = c.args.ways.now in
+    let k = chosen_some c.in_ok-times.field-0 c.in-Some.times (product_by count_of_ways ways) at.number (weight_at ways at.number) c.in-Some.is c.in_ok-times.ensures.weight in
+    let below = k.0 in
+    omega (arith, below)

@@ -1,8 +1,11 @@
-use Rattle.std.proofs.Common.{◌≡◌, ◌∙◌, ap, sym, arith}
+use Rattle.std.proofs.Common.{◌≡◌, ◌∙◌, ap, sym, arith, subst}
 use Rattle.slices.specs.Parts.{PieceValue, test_size}
 use Rattle.slices.specs.Tallies.{TallyValue}
 use Rattle.slices.specs.Works.{WorkValue}
-use Rattle.slices.proofs.Cuts.{next_apart, next_below, next_held, all_held}
+use Rattle.slices.proofs.Cuts.{next_apart, next_below, next_held, all_held, none_done}
+use Rattle.std.specs.Result.{IfOk}
+use Rattle.candidates.specs.Candidates.{choices_of}
+use Rattle.slices.specs.VerdictValues.{VerdictValue}
 use Rattle.slices.proofs.verdict.Verdict.judge.Goals as goal
 
 pub merge-requires-clause-apart : goal.merge-requires-clause-apart
@@ -40,3 +43,22 @@ returns-clause-version c = c.verdict.ensures.version
 
 pub returns-clause-right : goal.returns-clause-right
 returns-clause-right c = c.verdict.ensures.right
+
+pub loop-slice-init : goal.loop-slice-init
+loop-slice-init c =
+    let tally = c.in_ok-tally.ensures in
+    let none = none_done (test_size c.args.work.test) c.args.total c.in_ok-tally.tally.spans (ap (λ (t : TallyValue). t.spans) tally) in
+    record {
+      same = ap (λ (t : TallyValue). t.work) tally ∙ c.in_ok-share.ensures;
+      evaluator = c.in_ok-evaluator.ensures ∙ ap (λ (w : WorkValue). w.model.items) c.work-2.ensures;
+      below = none.0;
+      held = none.1;
+    }
+
+pub evaluate_in-requires-clause-space : goal.evaluate_in-requires-clause-space
+evaluate_in-requires-clause-space c = c.in_ok-space.ensures ∙ ap (λ (w : WorkValue). choices_of w.test) (c.work.ensures ∙ sym c.in_ok-piece.ensures.work)
+
+pub returns-clause-work : goal.returns-clause-work
+returns-clause-work c =
+    let P : WorkValue → Type 0 = λ w. IfOk c.verdict.result (λ (v : VerdictValue). v.work ≡ w) in
+    subst P c.loop-slice.invariant.same c.verdict.ensures.work
