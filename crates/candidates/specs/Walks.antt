@@ -16,6 +16,7 @@ use Rattle.candidates.specs.declared.walk.Near.TheVariants as of_near
 use Rattle.candidates.specs.declared.page.Stretch.{Stretch}
 use Rattle.candidates.specs.declared.page.Scene.{Scene}
 use Rattle.candidates.specs.declared.walk.Block.{Block}
+use Rattle.candidates.specs.declared.walk.PausedWalk.{PausedWalk}
 
 -- A walk goes on from the number `next`, and ends before the number `to`. It shows the execution that it found last.
 pub record Walking : Type 0 where
@@ -100,6 +101,10 @@ pub record IsScene (s : Choices) (c : Scene) : Type 0 where
   pub known : 1 ≤ c.stretch.size → IsKnown s.init c.stretch.page.runs.items c.hit
   pub depths : c.stretch.page.depths.items ≡ depths_of (length s.init) c.graph.runs
   pub ahead : IsAhead s c.ahead
+
+-- The paused walk may go on among these candidates.
+abbrev pub IsPausedIn : Choices → PausedWalk → Type 0
+IsPausedIn s p = IsScene s p.scene
 
 -- The number before n is in the stretch.
 abbrev pub IsPlace : Stretch → ℕ → ℕ → Type 0

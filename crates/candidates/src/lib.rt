@@ -26,4 +26,4 @@ pub use common::Common;
 pub use fault::SpaceFault;
 pub use open_orders::OpenOrders;
 pub use space::Space;
-pub use walk::Walk;
+pub use walk::{PausedWalk, Walk};

@@ -11,13 +11,14 @@ ghost use Rattle.candidates.specs.Groups.{tally_of, HasRoom};
 ghost use Rattle.candidates.specs.Parts.{AreAllWithin, AreShort};
 ghost use Rattle.candidates.specs.Levels.{groups_of};
 ghost use Rattle.candidates.specs.Located.{AreThreads, choices_by};
+ghost use Rattle.candidates.specs.Walks.{IsPausedIn};
 
 use crate::choosing::{RunList, group_all};
 use crate::fault::{MOST_CANDIDATES, SpaceFault};
 use crate::groups::{Groups, count_all};
 use crate::impossible::{Marks, mark_all};
 use crate::threads::Threads;
-use crate::walk::{Walk, find};
+use crate::walk::{PausedWalk, Walk, find};
 use c11_threads::{initial_value, runs};
 use conditions::Place;
 use events::Graph;
@@ -167,6 +168,17 @@ impl Space {
         requires within { to ≤ size_of self.now }
         ensures { result ≡ record { space = self.now; next = from; to = to; shown = no_execution } }
     {
-        Walk::new(alloc, self, from, to)
+        self.resume(PausedWalk::new(alloc), from, to)
+    }
+
+    /// A walk over the executions at the numbers from `from` to `to - 1`, which goes on from where another over these candidates was
+    /// paused. To begin takes no memory.
+    pub fn resume(&self, paused: PausedWalk, from: u64, to: u64) -> Walk<'_>
+        requires order { from ≤ to }
+        requires within { to ≤ size_of self.now }
+        requires paused { IsPausedIn self.now paused }
+        ensures { result ≡ record { space = self.now; next = from; to = to; shown = paused.scene.graph } }
+    {
+        Walk::resumed(self, paused, from, to)
     }
 }

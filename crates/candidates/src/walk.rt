@@ -8,7 +8,7 @@ ghost use Rattle.candidates.specs.Blocks.{AllExtend};
 ghost use Rattle.candidates.specs.Candidates.{Choices, candidate, graph_at, is_consistent, size_of, no_execution};
 ghost use Rattle.candidates.specs.Depths.{cut_at, end_at};
 ghost use Rattle.candidates.specs.Readings.{IsKnown, IsPage, IsSeen, MayBeStretch};
-ghost use Rattle.candidates.specs.Walks.{IsAhead, IsBefore, IsBlock, IsCommon, IsFind, IsFound, IsHit, IsJustFound, IsMiss, IsNear, IsPlace, IsReached, IsScene, IsVisit, IsWithin, HasNoBlock, depths_around};
+ghost use Rattle.candidates.specs.Walks.{IsAhead, IsBefore, IsBlock, IsCommon, IsFind, IsFound, IsHit, IsJustFound, IsMiss, IsNear, IsPausedIn, IsPlace, IsReached, IsScene, IsVisit, IsWithin, HasNoBlock, depths_around};
 
 use crate::assembly::{assemble, no_parts, nothing, turned};
 use crate::common::Common;
@@ -55,6 +55,19 @@ impl<'a> Model for Walk<'a> {
     ghost view = { λ w. record { space = w.space.now; next = w.next; to = w.to; shown = w.scene.graph } };
 
     ghost invariant = { λ w. record { order : w.next ≤ w.to; within : w.to ≤ size_of w.space.now; scene : IsScene w.space.now w.scene } };
+}
+
+/// A walk that is put aside, without its space: what it shows, and where it looks on. It may go on at any numbers of that space, and
+/// begins at once where these lie near what it shows.
+pub struct PausedWalk {
+    pub(crate) scene: Scene,
+}
+
+// A function of its own: whoever holds one drops it by a call.
+impl Drop for PausedWalk {
+    fn drop(self) {
+        let PausedWalk { scene: _ } = self;
+    }
 }
 
 /// A stretch of no numbers.
@@ -339,19 +352,53 @@ fn graph_before(alloc: Global, space: &Space, next: u64) -> Result<Graph, AllocE
     }
 }
 
+impl PausedWalk {
+    /// One that has not begun, of any space.
+    pub fn new(alloc: Global) -> Self
+        ensures paused { (s : Choices) → IsPausedIn s result }
+        ensures shown { result.scene.graph ≡ no_execution }
+    {
+        PausedWalk {
+            scene: no_scene(alloc),
+        }
+    }
+
+    /// What it shows, and where it looks on.
+    fn into_scene(self) -> Scene
+        ensures { result ≡ self.scene }
+    {
+        let PausedWalk { scene } = self;
+        scene
+    }
+}
+
 impl<'a> Walk<'a> {
-    /// A walk over the numbers from `from` to `to - 1`.
-    pub(crate) fn new(alloc: Global, space: &'a Space, from: u64, to: u64) -> Self
+    /// A walk over the numbers from `from` to `to - 1`, which goes on from where it was paused.
+    pub(crate) fn resumed(space: &'a Space, paused: PausedWalk, from: u64, to: u64) -> Self
         requires order { from ≤ to }
         requires within { to ≤ size_of space.now }
-        ensures { result ≡ record { space = space.entry.now; next = from; to = to; shown = no_execution } }
+        requires paused { IsPausedIn space.now paused }
+        ensures { result ≡ record { space = space.entry.now; next = from; to = to; shown = paused.scene.graph } }
     {
         Walk {
             space,
             next: from,
             to,
-            scene: no_scene(alloc),
+            scene: paused.into_scene(),
         }
+    }
+
+    /// Puts the walk aside.
+    pub fn pause(self) -> PausedWalk
+        ensures { IsPausedIn self.entry.space result }
+    {
+        let Walk {
+            space: _,
+            next: _,
+            to: _,
+            scene,
+        } = self;
+        PausedWalk { scene }
     }
 
     /// Goes on to the next execution and gives its number, or to the end if there is none.

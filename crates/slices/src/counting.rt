@@ -10,42 +10,40 @@ use crate::alike::alike_behind;
 use crate::finding::Finding;
 use crate::pruning::Pruner;
 use crate::slot::{Slot, row, slots};
-use crate::span::Span;
 use crate::work::WorkRef;
-use candidates::Space;
+use candidates::Walk;
 use cat_eval::{Evaluator, Judgement};
 use events::Graph;
 use std::alloc::{AllocError, Global};
 
-/// What is found at these numbers of a work, one after another. The evaluator is one of the work's model.
+/// What is found at the numbers of a walk over a work's candidates, one after another. The evaluator is one of the work's model.
 pub fn count(
     alloc: Global,
     work: &WorkRef,
-    space: &Space,
+    walk: &mut Walk<'_>,
     evaluator: &mut Evaluator<'_>,
     pruner: &mut Pruner,
-    numbers: Span,
 ) -> Result<Finding, AllocError>
-    requires range { IsRange work.now.test numbers.from numbers.to }
-    requires space { space.now ≡ choices_of work.now.test }
+    requires range { IsRange work.now.test walk.old.next walk.old.to }
+    requires space { walk.old.space ≡ choices_of work.now.test }
     requires evaluator { evaluator.old ≡ work.now.model.items }
-    ensures part { IfOk result (IsPart work.now.test work.now.model.items numbers.from numbers.to) }
+    ensures part { IfOk result (IsPart work.now.test work.now.model.items walk.old.next walk.old.to) }
     ensures evaluator { evaluator.new ≡ evaluator.old }
+    ensures space { OnOk result (walk.new.space ≡ walk.old.space) }
 {
     let inner = work.work();
     let _size = inner.size();
     let mut finding = Finding::nothing(alloc, work.share()?)?;
     let slots = slots(alloc, inner.test(), finding.places())?;
-    let mut walk = space.walk(alloc, numbers.from, numbers.to);
     pruner.begin();
     while let Some(number) = walk.next(alloc)? {
-        if pruner.passes(alloc, evaluator, &mut walk, number)? {
+        if pruner.passes(alloc, evaluator, walk, number)? {
             continue;
         }
         let graph = walk.graph();
         let judgement = evaluator.judge_next(alloc, graph)?;
         pruner.note(&judgement);
-        if let Some(range) = alike_behind(inner, &walk) {
+        if let Some(range) = alike_behind(inner, walk) {
             finding.weigh_alike(alloc, &slots, graph, range, &judgement)?;
             walk.pass(number + range.size());
             continue;

@@ -96,3 +96,24 @@ impl Course {
         self.tally.verdict(test_version)
     }
 }
+
+impl Verdict {
+    /// The verdict on a work, whose numbers are evaluated in so many slices, one after another.
+    pub fn judge(
+        alloc: Global,
+        work: WorkRef,
+        total: u16,
+        test_version: u32,
+    ) -> Result<Self, AllocError>
+        requires { 1 ≤ total }
+        ensures work { IfOk result (λ v. v.work ≡ work) }
+        ensures version { IfOk result (λ v. v.version ≡ test_version) }
+        ensures right { IfOk result (λ v. IsVerdict v.work.test v.work.model.items v.finding) }
+    {
+        let mut course = Course::new(alloc, work, total)?;
+        while course.goes_on() {
+            course.step()?;
+        }
+        course.verdict(test_version)
+    }
+}

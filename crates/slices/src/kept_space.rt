@@ -6,18 +6,20 @@ ghost use Rattle.slices.specs.Works.{WorkValue};
 
 use crate::piece::{Piece, PieceResult, evaluate_in, evaluator_of, space_of};
 use crate::pruning::Pruner;
+use crate::span::Span;
 use crate::work::WorkRef;
-use candidates::Space;
+use candidates::{PausedWalk, Space};
 use cat_eval::Prepared;
 use litmus_value::Test;
 use std::alloc::{AllocError, Global};
 use std::marker::Model;
 
-/// A work with the numbered candidates of its test, and with its model made ready. Contracts see the work. What is large lies elsewhere, since
-/// a value of this type is moved for each piece.
+/// A work with the numbered candidates of its test, where the walk over them came to, and with its model made ready. Contracts see the work.
+/// What is large lies elsewhere, since a value of this type is moved for each piece.
 struct Made {
     work: WorkRef,
     space: Space,
+    paused: Box<PausedWalk>,
     ready: Box<Prepared>,
     pruner: Box<Pruner>,
 }
@@ -28,6 +30,7 @@ impl Drop for Made {
         let Made {
             work: _,
             space: _,
+            paused: _,
             ready: _,
             pruner: _,
         } = self;
@@ -37,6 +40,7 @@ impl Drop for Made {
 impl Model for Made {
     ghost use Rattle.std.specs.Prelude.{◌≡◌};
     ghost use Rattle.candidates.specs.Candidates.{choices_of};
+    ghost use Rattle.candidates.specs.Walks.{IsPausedIn};
     ghost use Rattle.cat_eval.specs.Prepared.{IsReadyFor};
     ghost use Rattle.slices.specs.Codes.{coded_work};
     ghost use Rattle.slices.specs.Works.{WorkValue};
@@ -47,7 +51,7 @@ impl Model for Made {
 
     ghost view = { λ m. m.work };
 
-    ghost invariant = { λ m. record { space : m.space ≡ choices_of m.work.test; ready : IsReadyFor m.work.model.items m.ready.value } };
+    ghost invariant = { λ m. record { space : m.space ≡ choices_of m.work.test; paused : IsPausedIn m.space m.paused.value; ready : IsReadyFor m.work.model.items m.ready.value } };
 }
 
 impl Made {
@@ -69,10 +73,12 @@ impl Made {
         let ready = evaluator_of(alloc, work.work())?.without_model(alloc)?;
         let ready = Box::new(alloc, ready)?;
         let pruner = Box::new(alloc, Pruner::new(alloc, work.work().model()))?;
+        let paused = Box::new(alloc, PausedWalk::new(alloc))?;
         let work = work.share()?;
         Ok(Made {
             work,
             space,
+            paused,
             ready,
             pruner,
         })
@@ -100,6 +106,7 @@ impl Made {
         let Made {
             work: _,
             space,
+            paused: _,
             ready: _,
             pruner: _,
         } = self;
@@ -115,16 +122,21 @@ impl Made {
         let Made {
             work,
             space,
+            paused,
             ready,
             mut pruner,
         } = self;
+        let Span { from, to } = piece.span();
+        let mut walk = space.resume(Box::into_inner(paused), from, to);
         let ready = Box::into_inner(ready);
         let mut evaluator = ready.with_model(alloc, piece.work().work().model())?;
-        let result = evaluate_in(alloc, &space, &mut evaluator, &mut pruner, piece)?;
+        let result = evaluate_in(alloc, &mut walk, &mut evaluator, &mut pruner, piece)?;
         let ready = Box::new(alloc, evaluator.without_model(alloc)?)?;
+        let paused = Box::new(alloc, walk.pause())?;
         let made = Made {
             work,
             space,
+            paused,
             ready,
             pruner,
         };
@@ -132,8 +144,9 @@ impl Made {
     }
 }
 
-/// What one piece leaves for the next one: the numbered candidates of its test and its model made ready, which every piece of a job needs. Where
-/// the next piece is of another work, they are made anew; the candidates only if it is of another test. It holds one work's at a time.
+/// What one piece leaves for the next one: the numbered candidates of its test, where the walk over them came to, and its model made ready. Each
+/// piece of a job needs these, and its numbers often begin where those of the one before it end. Where the next piece is of another work,
+/// they are made anew; the candidates only if it is of another test. It holds one work's at a time.
 pub struct KeptSpace {
     alloc: Global,
     made: Option<Made>,

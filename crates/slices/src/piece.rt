@@ -1,6 +1,6 @@
 //! Pieces of a work's numbers, and what is found of them.
 
-ghost use Rattle.std.specs.Prelude.{◌≡◌, IfOk};
+ghost use Rattle.std.specs.Prelude.{◌≡◌, IfOk, OnOk};
 ghost use Rattle.candidates.specs.Candidates.{choices_of};
 ghost use Rattle.slices.specs.Parts.{IsPart, IsRange};
 
@@ -9,7 +9,7 @@ use crate::finding::FindingRef;
 use crate::pruning::Pruner;
 use crate::span::Span;
 use crate::work::{Work, WorkRef};
-use candidates::{Common, Space, SpaceFault};
+use candidates::{Common, Space, SpaceFault, Walk};
 use cat_eval::Evaluator;
 use std::alloc::{AllocError, Global};
 use std::marker::Model;
@@ -85,7 +85,9 @@ pub fn evaluate(alloc: Global, piece: &Piece) -> Result<PieceResult, AllocError>
     let space = space_of(alloc, work)?;
     let mut evaluator = evaluator_of(alloc, work)?;
     let mut pruner = Pruner::new(alloc, work.model());
-    evaluate_in(alloc, &space, &mut evaluator, &mut pruner, piece)
+    let Span { from, to } = piece.span();
+    let mut walk = space.walk(alloc, from, to);
+    evaluate_in(alloc, &mut walk, &mut evaluator, &mut pruner, piece)
 }
 
 /// The numbered candidates of a work's test.
@@ -109,21 +111,24 @@ pub fn evaluator_of<'w>(alloc: Global, work: &'w Work) -> Result<Evaluator<'w>, 
     Evaluator::of(alloc, work.model(), nothing.graph())
 }
 
-/// Evaluates a piece over the candidates of its test, by an evaluator of its work's model.
+/// Evaluates a piece by a walk over its numbers among the candidates of its test, and by an evaluator of its work's model.
 pub fn evaluate_in(
     alloc: Global,
-    space: &Space,
+    walk: &mut Walk<'_>,
     evaluator: &mut Evaluator<'_>,
     pruner: &mut Pruner,
     piece: &Piece,
 ) -> Result<PieceResult, AllocError>
-    requires space { space.now ≡ choices_of piece.now.work.test }
+    requires space { walk.old.space ≡ choices_of piece.now.work.test }
+    requires from { walk.old.next ≡ piece.now.from }
+    requires to { walk.old.to ≡ piece.now.to }
     requires evaluator { evaluator.old ≡ piece.now.work.model.items }
     ensures piece { IfOk result (λ r. r.piece ≡ piece.now) }
     ensures evaluator { evaluator.new ≡ evaluator.old }
+    ensures space { OnOk result (walk.new.space ≡ walk.old.space) }
 {
     let piece = piece.share()?;
-    let finding = count(alloc, &piece.work, space, evaluator, pruner, piece.span())?;
+    let finding = count(alloc, &piece.work, walk, evaluator, pruner)?;
     let found = FindingRef::new(alloc, finding)?;
     Ok(PieceResult::new(piece, found))
 }

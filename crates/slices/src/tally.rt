@@ -6,8 +6,7 @@ ghost use Rattle.slices.specs.Tallies.{IsApart, IsCover, IsTally, cut, span_of};
 ghost use Rattle.slices.specs.Verdicts.{IsVerdict};
 
 use crate::finding::{Finding, FindingRef};
-use crate::piece::{Piece, PieceResult, evaluate_in, evaluator_of, space_of};
-use crate::pruning::Pruner;
+use crate::piece::{Piece, PieceResult};
 use crate::span::{Span, cut};
 use crate::verdict::Verdict;
 use crate::work::WorkRef;
@@ -118,35 +117,6 @@ impl Tally {
         ensures right { IfOk result (λ v. IsVerdict v.work.test v.work.model.items v.finding) }
     {
         Ok(Verdict::new(self.work.share()?, test_version, self.found.share()?))
-    }
-}
-
-impl Verdict {
-    /// The verdict on a work, whose numbers are evaluated in so many slices, one after another.
-    pub fn judge(
-        alloc: Global,
-        work: WorkRef,
-        total: u16,
-        test_version: u32,
-    ) -> Result<Self, AllocError>
-        requires { 1 ≤ total }
-        ensures work { IfOk result (λ v. v.work ≡ work) }
-        ensures version { IfOk result (λ v. v.version ≡ test_version) }
-        ensures right { IfOk result (λ v. IsVerdict v.work.test v.work.model.items v.finding) }
-    {
-        let space = space_of(alloc, work.work())?;
-        let mut evaluator = evaluator_of(alloc, work.work())?;
-        let mut pruner = Pruner::new(alloc, work.work().model());
-        let mut tally = Tally::new(alloc, work.share()?)?;
-        for slice in 0..total {
-            let piece = slice_of(&work, total, slice)?;
-            let part = evaluate_in(alloc, &space, &mut evaluator, &mut pruner, &piece)?;
-            match tally.merge(part) {
-                Ok(()) => {}
-                Err((_, AllocError)) => return Err(AllocError),
-            }
-        }
-        tally.verdict(test_version)
     }
 }
 

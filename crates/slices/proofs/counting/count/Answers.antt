@@ -1,4 +1,4 @@
-use Rattle.std.proofs.Common.{◌≡◌, ◌+◌, ◌↔◌, ◌∙◌, List, [], map, sym, ap, subst, IsTrue, arith}
+use Rattle.std.proofs.Common.{◌≡◌, ◌+◌, ◌↔◌, ◌∙◌, List, [], map, refl, sym, ap, subst, IsTrue, arith}
 use Rattle.std.specs.Prelude.{max, min}
 use Rattle.listings.specs.Lists.{Lists}
 use Rattle.cat_tree.specs.Tree.{Clause}
@@ -15,71 +15,70 @@ use Rattle.slices.proofs.PassedOver.{hit_number, is_passed, miss_number, not_pas
 use Rattle.slices.proofs.Weighed.{IsJudged, alike_at, alike_within, as_long, few_ways, same_places, walked_alike, walked_one}
 use Rattle.slices.proofs.counting.count.Goals as goal
 
-pub loop-walk-init : goal.loop-walk-init
-loop-walk-init c =
+pub loop-slots-init : goal.loop-slots-init
+loop-slots-init c =
     let w = c.args.work.now in
-    let is = c.walk-walk.ensures in
     let T : WorkValue → Type 0 = λ z. Tells z.test w.model.items [] c.in_ok-finding.finding in
     record {
-      counted = walked_none_yet w.test w.model.items c.args.numbers.from c.args.numbers.to c.walk-walk.result c.in_ok-finding.finding
-          (ap (λ (w : Walking). w.space) is ∙ c.requires.space) (ap (λ (w : Walking). w.next) is) (ap (λ (w : Walking). w.to) is) (subst T c.in_ok-share.ensures (c.in_ok-finding.ensures w.model.items));
+      counted = walked_none_yet w.test w.model.items c.args.walk.now.next c.args.walk.now.to c.args.walk.now c.in_ok-finding.finding
+          c.requires.space refl refl (subst T c.in_ok-share.ensures (c.in_ok-finding.ensures w.model.items));
       slots = c.in_ok-slots.ensures ∙ ap (λ t. map (slot_of t) c.places.result.now) (c.test.ensures ∙ ap (λ (z : WorkValue). z.test) c.work-inner.ensures) ∙ ap (map (slot_of w.test)) c.places.ensures;
       model = c.requires.evaluator;
     }
 
 pub weigh_alike-requires-clause-whole : goal.weigh_alike-requires-clause-whole
-weigh_alike-requires-clause-whole c = as_long c.args.work.now.test c.loop-walk.finding.places c.deref.result.now (c.deref.ensures.value ∙ c.loop-walk.invariant.slots)
+weigh_alike-requires-clause-whole c = as_long c.args.work.now.test c.loop-slots.finding.places c.deref.result.now (c.deref.ensures.value ∙ c.loop-slots.invariant.slots)
 
 pub weigh_alike-requires-clause-ways : goal.weigh_alike-requires-clause-ways
 weigh_alike-requires-clause-ways c =
     let n = c.in-Some.number in
-    let hit = hit_number c.loop-walk.walk c.next.new.self c.in_ok-number.field-0 n c.in-Some.is c.in_ok-number.ensures.found in
-    let same = not_passed c.in_ok-passes.field-0 (ArePassed c.loop-walk.evaluator n c.next.new.self c.passes.new.walk) (c.passes.new.walk ≡ c.next.new.self) c.if-branch.false c.in_ok-passes.ensures.passed in
-    let H : Walking → Type 0 = λ w. IsHit c.loop-walk.walk w n in
+    let hit = hit_number c.loop-slots.walk c.next.new.self c.in_ok-number.field-0 n c.in-Some.is c.in_ok-number.ensures.found in
+    let same = not_passed c.in_ok-passes.field-0 (ArePassed c.loop-slots.evaluator n c.next.new.self c.passes.new.walk) (c.passes.new.walk ≡ c.next.new.self) c.if-branch.false c.in_ok-passes.ensures.passed in
+    let H : Walking → Type 0 = λ w. IsHit c.loop-slots.walk w n in
     let here = subst H (sym same) hit in
     let o = c.in-Some-alike_behind.range in
-    let alike = alike_at c.loop-walk.walk c.passes.new.walk n o here c.in-Some-alike_behind.ensures.alike in
-    let within = alike_within c.args.work.now.test c.args.work.now.model.items c.args.numbers.from c.args.numbers.to n o.size c.loop-walk.walk c.passes.new.walk c.loop-walk.finding c.loop-walk.invariant.counted here c.requires.range (subst (λ (z : WorkValue). IsAdmitted z.test) c.work-inner.ensures c.size-size.ensures.admitted) c.in-Some-alike_behind.ensures.within in
-    (few_ways c.args.work.now.test c.args.work.now.model.items c.args.numbers.from c.args.numbers.to n c.loop-walk.walk c.passes.new.walk c.deref.result.now o c.graph-graph.result.now c.loop-walk.finding c.loop-walk.invariant.counted here alike.0 alike.1 c.graph-graph.ensures within).0
+    let alike = alike_at c.loop-slots.walk c.passes.new.walk n o here c.in-Some-alike_behind.ensures.alike in
+    let within = alike_within c.args.work.now.test c.args.work.now.model.items c.args.walk.now.next c.args.walk.now.to n o.size c.loop-slots.walk c.passes.new.walk c.loop-slots.finding c.loop-slots.invariant.counted here c.requires.range (subst (λ (z : WorkValue). IsAdmitted z.test) c.work-inner.ensures c.size-size.ensures.admitted) c.in-Some-alike_behind.ensures.within in
+    (few_ways c.args.work.now.test c.args.work.now.model.items c.args.walk.now.next c.args.walk.now.to n c.loop-slots.walk c.passes.new.walk c.deref.result.now o c.graph-graph.result.now c.loop-slots.finding c.loop-slots.invariant.counted here alike.0 alike.1 c.graph-graph.ensures within).0
 
 pub weigh_alike-requires-clause-few : goal.weigh_alike-requires-clause-few
 weigh_alike-requires-clause-few c =
     let n = c.in-Some.number in
-    let hit = hit_number c.loop-walk.walk c.next.new.self c.in_ok-number.field-0 n c.in-Some.is c.in_ok-number.ensures.found in
-    let same = not_passed c.in_ok-passes.field-0 (ArePassed c.loop-walk.evaluator n c.next.new.self c.passes.new.walk) (c.passes.new.walk ≡ c.next.new.self) c.if-branch.false c.in_ok-passes.ensures.passed in
-    let H : Walking → Type 0 = λ w. IsHit c.loop-walk.walk w n in
+    let hit = hit_number c.loop-slots.walk c.next.new.self c.in_ok-number.field-0 n c.in-Some.is c.in_ok-number.ensures.found in
+    let same = not_passed c.in_ok-passes.field-0 (ArePassed c.loop-slots.evaluator n c.next.new.self c.passes.new.walk) (c.passes.new.walk ≡ c.next.new.self) c.if-branch.false c.in_ok-passes.ensures.passed in
+    let H : Walking → Type 0 = λ w. IsHit c.loop-slots.walk w n in
     let here = subst H (sym same) hit in
     let o = c.in-Some-alike_behind.range in
-    let alike = alike_at c.loop-walk.walk c.passes.new.walk n o here c.in-Some-alike_behind.ensures.alike in
-    let within = alike_within c.args.work.now.test c.args.work.now.model.items c.args.numbers.from c.args.numbers.to n o.size c.loop-walk.walk c.passes.new.walk c.loop-walk.finding c.loop-walk.invariant.counted here c.requires.range (subst (λ (z : WorkValue). IsAdmitted z.test) c.work-inner.ensures c.size-size.ensures.admitted) c.in-Some-alike_behind.ensures.within in
-    (few_ways c.args.work.now.test c.args.work.now.model.items c.args.numbers.from c.args.numbers.to n c.loop-walk.walk c.passes.new.walk c.deref.result.now o c.graph-graph.result.now c.loop-walk.finding c.loop-walk.invariant.counted here alike.0 alike.1 c.graph-graph.ensures within).1
+    let alike = alike_at c.loop-slots.walk c.passes.new.walk n o here c.in-Some-alike_behind.ensures.alike in
+    let within = alike_within c.args.work.now.test c.args.work.now.model.items c.args.walk.now.next c.args.walk.now.to n o.size c.loop-slots.walk c.passes.new.walk c.loop-slots.finding c.loop-slots.invariant.counted here c.requires.range (subst (λ (z : WorkValue). IsAdmitted z.test) c.work-inner.ensures c.size-size.ensures.admitted) c.in-Some-alike_behind.ensures.within in
+    (few_ways c.args.work.now.test c.args.work.now.model.items c.args.walk.now.next c.args.walk.now.to n c.loop-slots.walk c.passes.new.walk c.deref.result.now o c.graph-graph.result.now c.loop-slots.finding c.loop-slots.invariant.counted here alike.0 alike.1 c.graph-graph.ensures within).1
 
 pub overflow_add-number : goal.overflow_add-number
 overflow_add-number c =
     let n = c.in-Some.number in
-    let hit = hit_number c.loop-walk.walk c.next.new.self c.in_ok-number.field-0 n c.in-Some.is c.in_ok-number.ensures.found in
-    let same = not_passed c.in_ok-passes.field-0 (ArePassed c.loop-walk.evaluator n c.next.new.self c.passes.new.walk) (c.passes.new.walk ≡ c.next.new.self) c.if-branch.false c.in_ok-passes.ensures.passed in
-    let H : Walking → Type 0 = λ w. IsHit c.loop-walk.walk w n in
+    let hit = hit_number c.loop-slots.walk c.next.new.self c.in_ok-number.field-0 n c.in-Some.is c.in_ok-number.ensures.found in
+    let same = not_passed c.in_ok-passes.field-0 (ArePassed c.loop-slots.evaluator n c.next.new.self c.passes.new.walk) (c.passes.new.walk ≡ c.next.new.self) c.if-branch.false c.in_ok-passes.ensures.passed in
+    let H : Walking → Type 0 = λ w. IsHit c.loop-slots.walk w n in
     let here = subst H (sym same) hit in
     let o = c.in-Some-alike_behind.range in
-    let within = alike_within c.args.work.now.test c.args.work.now.model.items c.args.numbers.from c.args.numbers.to n o.size c.loop-walk.walk c.passes.new.walk c.loop-walk.finding c.loop-walk.invariant.counted here c.requires.range (subst (λ (z : WorkValue). IsAdmitted z.test) c.work-inner.ensures c.size-size.ensures.admitted) c.in-Some-alike_behind.ensures.within in
+    let within = alike_within c.args.work.now.test c.args.work.now.model.items c.args.walk.now.next c.args.walk.now.to n o.size c.loop-slots.walk c.passes.new.walk c.loop-slots.finding c.loop-slots.invariant.counted here c.requires.range (subst (λ (z : WorkValue). IsAdmitted z.test) c.work-inner.ensures c.size-size.ensures.admitted) c.in-Some-alike_behind.ensures.within in
     let end = within.0 in
     let least = within.1 in
     let size = c.size.ensures in
     omega (arith, end, least, size)
 
-pub loop-walk-preserved-in-Some-alike_behind : goal.loop-walk-preserved-in-Some-alike_behind
-loop-walk-preserved-in-Some-alike_behind c =
+pub loop-slots-preserved-in-Some-alike_behind : goal.loop-slots-preserved-in-Some-alike_behind
+loop-slots-preserved-in-Some-alike_behind c =
     let w = c.args.work.now in
-    let inv = c.loop-walk.invariant in
+    let inv = c.loop-slots.invariant in
     let n = c.in-Some.number in
-    let hit = hit_number c.loop-walk.walk c.next.new.self c.in_ok-number.field-0 n c.in-Some.is c.in_ok-number.ensures.found in
-    let same = not_passed c.in_ok-passes.field-0 (ArePassed c.loop-walk.evaluator n c.next.new.self c.passes.new.walk) (c.passes.new.walk ≡ c.next.new.self) c.if-branch.false c.in_ok-passes.ensures.passed in
-    let H : Walking → Type 0 = λ w. IsHit c.loop-walk.walk w n in
+    let hit = hit_number c.loop-slots.walk c.next.new.self c.in_ok-number.field-0 n c.in-Some.is c.in_ok-number.ensures.found in
+    let same = not_passed c.in_ok-passes.field-0 (ArePassed c.loop-slots.evaluator n c.next.new.self c.passes.new.walk) (c.passes.new.walk ≡ c.next.new.self) c.if-branch.false c.in_ok-passes.ensures.passed in
+    let H : Walking → Type 0 = λ w. IsHit c.loop-slots.walk w n in
     let here = subst H (sym same) hit in
     let o = c.in-Some-alike_behind.range in
-    let alike = alike_at c.loop-walk.walk c.passes.new.walk n o here c.in-Some-alike_behind.ensures.alike in
-    let within = alike_within w.test w.model.items c.args.numbers.from c.args.numbers.to n o.size c.loop-walk.walk c.passes.new.walk c.loop-walk.finding inv.counted here c.requires.range (subst (λ (z : WorkValue). IsAdmitted z.test) c.work-inner.ensures c.size-size.ensures.admitted) c.in-Some-alike_behind.ensures.within in
+    let alike = alike_at c.loop-slots.walk c.passes.new.walk n o here c.in-Some-alike_behind.ensures.alike in
+    let within = alike_within w.test w.model.items c.args.walk.now.next c.args.walk.now.to n o.size c.loop-slots.walk c.passes.new.walk c.loop-slots.finding inv.counted here c.requires.range (subst (λ (z : WorkValue). IsAdmitted z.test) c.work-inner.ensures c.size-size.ensures.admitted) c.in-Some-alike_behind.ensures.within in
     let P : List Clause → Type 0 = λ items. IsTrue c.in_ok-judgement.judgement.allowed ↔ Allowed items c.graph-graph.result.now in
     let F : List Clause → Type 0 = λ items. Lists (λ name. Allowed items c.graph-graph.result.now × Raised items c.graph-graph.result.now name) c.in_ok-judgement.judgement.flags in
     let model = c.passes.ensures.model ∙ inv.model in
@@ -87,99 +86,99 @@ loop-walk-preserved-in-Some-alike_behind c =
     let orderless = subst (λ (z : WorkValue). IsOrderless z.model.items) c.work-inner.ensures c.in-Some-alike_behind.ensures.orderless in
     let next = c.pass.ensures.next ∙ ap (λ x. max c.passes.new.walk.next (min (n + x) c.passes.new.walk.to)) c.size.ensures in
     record {
-      counted = walked_alike w.test w.model.items c.args.numbers.from c.args.numbers.to n c.loop-walk.walk c.passes.new.walk c.pass.new.self c.graph-graph.result.now c.deref.result.now o c.in_ok-judgement.judgement.allowed c.in_ok-judgement.judgement.flags c.loop-walk.finding c.weigh_alike.new.self inv.counted here c.graph-graph.ensures orderless (c.deref.ensures.value ∙ inv.slots) alike.0 alike.1 judged within c.in_ok-weigh_alike.ensures c.pass.ensures.space c.pass.ensures.to next;
-      slots = inv.slots ∙ ap (map (slot_of w.test)) (sym (same_places c.in_ok-judgement.judgement.allowed c.loop-walk.finding _ c.weigh_alike.new.self c.in_ok-weigh_alike.ensures));
+      counted = walked_alike w.test w.model.items c.args.walk.now.next c.args.walk.now.to n c.loop-slots.walk c.passes.new.walk c.pass.new.self c.graph-graph.result.now c.deref.result.now o c.in_ok-judgement.judgement.allowed c.in_ok-judgement.judgement.flags c.loop-slots.finding c.weigh_alike.new.self inv.counted here c.graph-graph.ensures orderless (c.deref.ensures.value ∙ inv.slots) alike.0 alike.1 judged within c.in_ok-weigh_alike.ensures c.pass.ensures.space c.pass.ensures.to next;
+      slots = inv.slots ∙ ap (map (slot_of w.test)) (sym (same_places c.in_ok-judgement.judgement.allowed c.loop-slots.finding _ c.weigh_alike.new.self c.in_ok-weigh_alike.ensures));
       model = c.judge_next.ensures.model ∙ c.passes.ensures.model ∙ inv.model;
     }
 
-pub loop-walk-preserved-then-branch : goal.loop-walk-preserved-then-branch
-loop-walk-preserved-then-branch c =
-    let inv = c.loop-walk.invariant in
+pub loop-slots-preserved-then-branch : goal.loop-slots-preserved-then-branch
+loop-slots-preserved-then-branch c =
+    let inv = c.loop-slots.invariant in
     let n = c.in-Some.number in
-    let hit = hit_number c.loop-walk.walk c.next.new.self c.in_ok-number.field-0 n c.in-Some.is c.in_ok-number.ensures.found in
+    let hit = hit_number c.loop-slots.walk c.next.new.self c.in_ok-number.field-0 n c.in-Some.is c.in_ok-number.ensures.found in
     let P : List Clause → Type 0 = λ items. ArePassed items n c.next.new.self c.passes.new.walk in
-    let over = is_passed c.in_ok-passes.field-0 (P c.loop-walk.evaluator) (c.passes.new.walk ≡ c.next.new.self) c.if-branch.true c.in_ok-passes.ensures.passed in
+    let over = is_passed c.in_ok-passes.field-0 (P c.loop-slots.evaluator) (c.passes.new.walk ≡ c.next.new.self) c.if-branch.true c.in_ok-passes.ensures.passed in
     record {
-      counted = walked_over c.args.work.now.test c.args.work.now.model.items c.args.numbers.from c.args.numbers.to n c.loop-walk.walk c.next.new.self c.passes.new.walk c.loop-walk.finding inv.counted hit (subst P inv.model over);
+      counted = walked_over c.args.work.now.test c.args.work.now.model.items c.args.walk.now.next c.args.walk.now.to n c.loop-slots.walk c.next.new.self c.passes.new.walk c.loop-slots.finding inv.counted hit (subst P inv.model over);
       slots = inv.slots;
       model = c.passes.ensures.model ∙ inv.model;
     }
 
-pub loop-walk-preserved : goal.loop-walk-preserved
-loop-walk-preserved c =
+pub loop-slots-preserved : goal.loop-slots-preserved
+loop-slots-preserved c =
     let w = c.args.work.now in
-    let inv = c.loop-walk.invariant in
+    let inv = c.loop-slots.invariant in
     let n = c.in-Some.number in
-    let hit = hit_number c.loop-walk.walk c.next.new.self c.in_ok-number.field-0 n c.in-Some.is c.in_ok-number.ensures.found in
-    let same = not_passed c.in_ok-passes.field-0 (ArePassed c.loop-walk.evaluator n c.next.new.self c.passes.new.walk) (c.passes.new.walk ≡ c.next.new.self) c.if-branch.false c.in_ok-passes.ensures.passed in
-    let H : Walking → Type 0 = λ w. IsHit c.loop-walk.walk w n in
+    let hit = hit_number c.loop-slots.walk c.next.new.self c.in_ok-number.field-0 n c.in-Some.is c.in_ok-number.ensures.found in
+    let same = not_passed c.in_ok-passes.field-0 (ArePassed c.loop-slots.evaluator n c.next.new.self c.passes.new.walk) (c.passes.new.walk ≡ c.next.new.self) c.if-branch.false c.in_ok-passes.ensures.passed in
+    let H : Walking → Type 0 = λ w. IsHit c.loop-slots.walk w n in
     let P : List Clause → Type 0 = λ items. IsTrue c.in_ok-judgement.judgement.allowed ↔ Allowed items c.graph-graph.result.now in
     let F : List Clause → Type 0 = λ items. Lists (λ name. Allowed items c.graph-graph.result.now × Raised items c.graph-graph.result.now name) c.in_ok-judgement.judgement.flags in
     let model = c.passes.ensures.model ∙ inv.model in
     let judged : IsJudged w.model.items c.graph-graph.result.now c.in_ok-judgement.judgement.allowed c.in_ok-judgement.judgement.flags = record { allowed = subst P model c.in_ok-judgement.ensures.allowed; flags = subst F model c.in_ok-judgement.ensures.flags } in
     record {
-      counted = walked_one w.test w.model.items c.args.numbers.from c.args.numbers.to n c.loop-walk.walk c.passes.new.walk c.graph-graph.result.now c.deref-in-Some.result.now c.in_ok-judgement.judgement.allowed c.in_ok-judgement.judgement.flags c.loop-walk.finding c.weigh.new.self inv.counted (subst H (sym same) hit) c.graph-graph.ensures (c.deref-in-Some.ensures.value ∙ inv.slots) judged c.in_ok-weigh.ensures;
-      slots = inv.slots ∙ ap (map (slot_of w.test)) (sym (same_places c.in_ok-judgement.judgement.allowed c.loop-walk.finding _ c.weigh.new.self c.in_ok-weigh.ensures));
+      counted = walked_one w.test w.model.items c.args.walk.now.next c.args.walk.now.to n c.loop-slots.walk c.passes.new.walk c.graph-graph.result.now c.deref-in-Some.result.now c.in_ok-judgement.judgement.allowed c.in_ok-judgement.judgement.flags c.loop-slots.finding c.weigh.new.self inv.counted (subst H (sym same) hit) c.graph-graph.ensures (c.deref-in-Some.ensures.value ∙ inv.slots) judged c.in_ok-weigh.ensures;
+      slots = inv.slots ∙ ap (map (slot_of w.test)) (sym (same_places c.in_ok-judgement.judgement.allowed c.loop-slots.finding _ c.weigh.new.self c.in_ok-weigh.ensures));
       model = c.judge_next.ensures.model ∙ c.passes.ensures.model ∙ inv.model;
     }
 
 pub weigh-requires-clause-whole : goal.weigh-requires-clause-whole
-weigh-requires-clause-whole c = as_long c.args.work.now.test c.loop-walk.finding.places c.deref-in-Some.result.now (c.deref-in-Some.ensures.value ∙ c.loop-walk.invariant.slots)
+weigh-requires-clause-whole c = as_long c.args.work.now.test c.loop-slots.finding.places c.deref-in-Some.result.now (c.deref-in-Some.ensures.value ∙ c.loop-slots.invariant.slots)
 
 pub returns-clause-part : goal.returns-clause-part
 returns-clause-part c =
-    let miss = miss_number c.loop-walk.walk c.next.new.self c.in_ok-number.field-0 c.in_default.not-Some c.in_ok-number.ensures.found in
-    walked_none c.args.work.now.test c.args.work.now.model.items c.args.numbers.from c.args.numbers.to c.loop-walk.walk c.next.new.self c.loop-walk.finding c.loop-walk.invariant.counted miss
+    let miss = miss_number c.loop-slots.walk c.next.new.self c.in_ok-number.field-0 c.in_default.not-Some c.in_ok-number.ensures.found in
+    walked_none c.args.work.now.test c.args.work.now.model.items c.args.walk.now.next c.args.walk.now.to c.loop-slots.walk c.next.new.self c.loop-slots.finding c.loop-slots.invariant.counted miss
 
 pub passes-requires : goal.passes-requires
-passes-requires c = record { found = (hit_number c.loop-walk.walk c.next.new.self c.in_ok-number.field-0 c.in-Some.number c.in-Some.is c.in_ok-number.ensures.found).step.next }
+passes-requires c = record { found = (hit_number c.loop-slots.walk c.next.new.self c.in_ok-number.field-0 c.in-Some.number c.in-Some.is c.in_ok-number.ensures.found).step.next }
 
-pub loop-walk-smaller-then-branch : goal.loop-walk-smaller-then-branch
-loop-walk-smaller-then-branch c =
-    let hit = hit_number c.loop-walk.walk c.next.new.self c.in_ok-number.field-0 c.in-Some.number c.in-Some.is c.in_ok-number.ensures.found in
-    let over = is_passed c.in_ok-passes.field-0 (ArePassed c.loop-walk.evaluator c.in-Some.number c.next.new.self c.passes.new.walk) (c.passes.new.walk ≡ c.next.new.self) c.if-branch.true c.in_ok-passes.ensures.passed in
-    walk_nearer c.in-Some.number c.loop-walk.walk c.passes.new.walk (over.to ∙ hit.step.to) over.later hit.later hit.below
+pub loop-slots-smaller-then-branch : goal.loop-slots-smaller-then-branch
+loop-slots-smaller-then-branch c =
+    let hit = hit_number c.loop-slots.walk c.next.new.self c.in_ok-number.field-0 c.in-Some.number c.in-Some.is c.in_ok-number.ensures.found in
+    let over = is_passed c.in_ok-passes.field-0 (ArePassed c.loop-slots.evaluator c.in-Some.number c.next.new.self c.passes.new.walk) (c.passes.new.walk ≡ c.next.new.self) c.if-branch.true c.in_ok-passes.ensures.passed in
+    walk_nearer c.in-Some.number c.loop-slots.walk c.passes.new.walk (over.to ∙ hit.step.to) over.later hit.later hit.below
 
-pub loop-walk-smaller-in-Some-alike_behind : goal.loop-walk-smaller-in-Some-alike_behind
-loop-walk-smaller-in-Some-alike_behind c =
+pub loop-slots-smaller-in-Some-alike_behind : goal.loop-slots-smaller-in-Some-alike_behind
+loop-slots-smaller-in-Some-alike_behind c =
     let n = c.in-Some.number in
-    let hit = hit_number c.loop-walk.walk c.next.new.self c.in_ok-number.field-0 n c.in-Some.is c.in_ok-number.ensures.found in
-    let same = not_passed c.in_ok-passes.field-0 (ArePassed c.loop-walk.evaluator n c.next.new.self c.passes.new.walk) (c.passes.new.walk ≡ c.next.new.self) c.if-branch.false c.in_ok-passes.ensures.passed in
-    let H : Walking → Type 0 = λ w. IsHit c.loop-walk.walk w n in
+    let hit = hit_number c.loop-slots.walk c.next.new.self c.in_ok-number.field-0 n c.in-Some.is c.in_ok-number.ensures.found in
+    let same = not_passed c.in_ok-passes.field-0 (ArePassed c.loop-slots.evaluator n c.next.new.self c.passes.new.walk) (c.passes.new.walk ≡ c.next.new.self) c.if-branch.false c.in_ok-passes.ensures.passed in
+    let H : Walking → Type 0 = λ w. IsHit c.loop-slots.walk w n in
     let here = subst H (sym same) hit in
     let step = here.step.next in
     let next = c.pass.ensures.next in
-    walk_nearer n c.loop-walk.walk c.pass.new.self (c.pass.ensures.to ∙ here.step.to) (omega (arith, step, next)) hit.later hit.below
+    walk_nearer n c.loop-slots.walk c.pass.new.self (c.pass.ensures.to ∙ here.step.to) (omega (arith, step, next)) hit.later hit.below
 
-pub loop-walk-smaller : goal.loop-walk-smaller
-loop-walk-smaller c =
-    let hit = hit_number c.loop-walk.walk c.next.new.self c.in_ok-number.field-0 c.in-Some.number c.in-Some.is c.in_ok-number.ensures.found in
-    let same = not_passed c.in_ok-passes.field-0 (ArePassed c.loop-walk.evaluator c.in-Some.number c.next.new.self c.passes.new.walk) (c.passes.new.walk ≡ c.next.new.self) c.if-branch.false c.in_ok-passes.ensures.passed in
-    let H : Walking → Type 0 = λ w. IsHit c.loop-walk.walk w c.in-Some.number in
+pub loop-slots-smaller : goal.loop-slots-smaller
+loop-slots-smaller c =
+    let hit = hit_number c.loop-slots.walk c.next.new.self c.in_ok-number.field-0 c.in-Some.number c.in-Some.is c.in_ok-number.ensures.found in
+    let same = not_passed c.in_ok-passes.field-0 (ArePassed c.loop-slots.evaluator c.in-Some.number c.next.new.self c.passes.new.walk) (c.passes.new.walk ≡ c.next.new.self) c.if-branch.false c.in_ok-passes.ensures.passed in
+    let H : Walking → Type 0 = λ w. IsHit c.loop-slots.walk w c.in-Some.number in
     let here = subst H (sym same) hit in
-    walk_nearer c.in-Some.number c.loop-walk.walk c.passes.new.walk here.step.to (let next = here.step.next in omega (arith, next)) hit.later hit.below
+    walk_nearer c.in-Some.number c.loop-slots.walk c.passes.new.walk here.step.to (let next = here.step.next in omega (arith, next)) hit.later hit.below
 
 pub returns-in_err-weigh_alike-clause-evaluator : goal.returns-in_err-weigh_alike-clause-evaluator
-returns-in_err-weigh_alike-clause-evaluator c = c.in_ok-judgement.ensures.model ∙ c.in_ok-passes.ensures.model ∙ c.loop-walk.invariant.model ∙ sym c.requires.evaluator
+returns-in_err-weigh_alike-clause-evaluator c = c.in_ok-judgement.ensures.model ∙ c.in_ok-passes.ensures.model ∙ c.loop-slots.invariant.model ∙ sym c.requires.evaluator
 
 pub returns-in_err-weigh-clause-evaluator : goal.returns-in_err-weigh-clause-evaluator
-returns-in_err-weigh-clause-evaluator c = c.in_ok-judgement.ensures.model ∙ c.in_ok-passes.ensures.model ∙ c.loop-walk.invariant.model ∙ sym c.requires.evaluator
+returns-in_err-weigh-clause-evaluator c = c.in_ok-judgement.ensures.model ∙ c.in_ok-passes.ensures.model ∙ c.loop-slots.invariant.model ∙ sym c.requires.evaluator
 
 pub returns-in_err-judgement-clause-evaluator : goal.returns-in_err-judgement-clause-evaluator
-returns-in_err-judgement-clause-evaluator c = c.judge_next.ensures.model ∙ c.in_ok-passes.ensures.model ∙ c.loop-walk.invariant.model ∙ sym c.requires.evaluator
+returns-in_err-judgement-clause-evaluator c = c.judge_next.ensures.model ∙ c.in_ok-passes.ensures.model ∙ c.loop-slots.invariant.model ∙ sym c.requires.evaluator
 
 pub returns-clause-evaluator : goal.returns-clause-evaluator
-returns-clause-evaluator c = c.loop-walk.invariant.model ∙ sym c.requires.evaluator
+returns-clause-evaluator c = c.loop-slots.invariant.model ∙ sym c.requires.evaluator
 
 pub returns-in_err-passes-clause-evaluator : goal.returns-in_err-passes-clause-evaluator
-returns-in_err-passes-clause-evaluator c = c.passes.ensures.model ∙ c.loop-walk.invariant.model ∙ sym c.requires.evaluator
+returns-in_err-passes-clause-evaluator c = c.passes.ensures.model ∙ c.loop-slots.invariant.model ∙ sym c.requires.evaluator
 
 pub returns-in_err-number-clause-evaluator : goal.returns-in_err-number-clause-evaluator
-returns-in_err-number-clause-evaluator c = c.loop-walk.invariant.model ∙ sym c.requires.evaluator
+returns-in_err-number-clause-evaluator c = c.loop-slots.invariant.model ∙ sym c.requires.evaluator
 
 pub weigh-requires-clause-few : goal.weigh-requires-clause-few
 weigh-requires-clause-few c =
-    let counted = c.loop-walk.invariant.counted in
-    let hit = hit_number c.loop-walk.walk c.next.new.self c.in_ok-number.field-0 c.in-Some.number c.in-Some.is c.in_ok-number.ensures.found in
+    let counted = c.loop-slots.invariant.counted in
+    let hit = hit_number c.loop-slots.walk c.next.new.self c.in_ok-number.field-0 c.in-Some.number c.in-Some.is c.in_ok-number.ensures.found in
     let admitted = subst (λ (z : WorkValue). IsAdmitted z.test) c.work-inner.ensures c.size-size.ensures.admitted in
     omega (arith, counted.few, counted.to_is, hit.later, hit.below, c.requires.range.within, admitted.few)

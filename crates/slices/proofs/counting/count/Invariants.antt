@@ -3,12 +3,12 @@ use Rattle.slices.specs.Slots.{slot_of}
 use Rattle.slices.proofs.Counted.{IsUnderWay}
 use Rattle.slices.proofs.counting.count.Given as goal
 
-abbrev pub decreases-loop-walk : goal.decreases-loop-walk
-decreases-loop-walk l = l.walk.to - l.walk.next
+abbrev pub decreases-loop-slots : goal.decreases-loop-slots
+decreases-loop-slots l = l.walk.to - l.walk.next
 
-abbrev pub invariant-loop-walk : goal.invariant-loop-walk
-invariant-loop-walk l = record {
-  counted : IsUnderWay l.work.test l.work.model.items l.fn.numbers.from l.fn.numbers.to l.walk l.finding;
+abbrev pub invariant-loop-slots : goal.invariant-loop-slots
+invariant-loop-slots l = record {
+  counted : IsUnderWay l.work.test l.work.model.items l.fn.walk.next l.fn.walk.to l.walk l.finding;
   slots : l.slots.items ≡ map (slot_of l.work.test) l.finding.places;
   model : l.evaluator ≡ l.work.model.items;
 }

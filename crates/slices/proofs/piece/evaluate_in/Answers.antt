@@ -1,5 +1,4 @@
-use Rattle.std.proofs.Common.{ap, sym, subst, ◌∙◌}
-use Rattle.slices.specs.declared.span.Span.{Span}
+use Rattle.std.proofs.Common.{ℕ, ap, sym, subst, ◌∙◌}
 use Rattle.slices.specs.Findings.{FindingValue}
 use Rattle.slices.specs.Parts.{IsPart, PieceValue, PieceResultValue}
 use Rattle.slices.specs.Works.{WorkValue}
@@ -8,10 +7,14 @@ use Rattle.slices.proofs.piece.evaluate_in.Goals as goal
 pub new-requires-2 : goal.new-requires-2
 new-requires-2 c =
     let p : PieceValue = c.in_ok-piece.piece in
-    let W : WorkValue → Type 0 = λ w. IsPart w.test w.model.items c.span.result.from c.span.result.to c.in_ok-finding.finding in
-    let S : Span → Type 0 = λ s. IsPart p.work.test p.work.model.items s.from s.to c.in_ok-finding.finding in
+    let w = c.args.walk.now in
+    let W : WorkValue → Type 0 = λ v. IsPart v.test v.model.items w.next w.to c.in_ok-finding.finding in
+    let A : ℕ → Type 0 = λ n. IsPart p.work.test p.work.model.items n w.to c.in_ok-finding.finding in
+    let B : ℕ → Type 0 = λ n. IsPart p.work.test p.work.model.items p.from n c.in_ok-finding.finding in
     let F : FindingValue → Type 0 = IsPart p.work.test p.work.model.items p.from p.to in
-    subst F (sym c.in_ok-found.ensures) (subst S c.span.ensures.value (subst W (ap (λ (q : PieceValue). q.work) c.piece.view_is) c.in_ok-finding.ensures.part))
+    let from = c.requires.from ∙ ap (λ (q : PieceValue). q.from) (sym c.in_ok-piece.ensures) in
+    let to = c.requires.to ∙ ap (λ (q : PieceValue). q.to) (sym c.in_ok-piece.ensures) in
+    subst F (sym c.in_ok-found.ensures) (subst B to (subst A from (subst W (ap (λ (q : PieceValue). q.work) c.piece.view_is) c.in_ok-finding.ensures.part)))
 
 pub returns-clause-piece : goal.returns-clause-piece
 returns-clause-piece c = ap (λ (r : PieceResultValue). r.piece) c.new-2.ensures ∙ c.in_ok-piece.ensures

@@ -10,8 +10,7 @@ invariant_of-result c =
     let none = none_done (test_size c.args.work.test) c.args.total c.in_ok-tally.tally.spans (ap (λ (t : TallyValue). t.spans) tally) in
     record {
       work = ap (λ (t : TallyValue). t.work) tally ∙ c.in_ok-share.ensures;
-      some = c.requires.0;
-      few = c.requires.1;
+      some = c.requires;
       done = omega arith;
       below = none.0;
       held = none.1;

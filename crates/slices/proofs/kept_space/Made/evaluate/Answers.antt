@@ -1,6 +1,8 @@
 use Rattle.std.proofs.Common.{◌≡◌, ◌∙◌, List, ap, sym, subst}
 use Rattle.cat_tree.specs.Tree.{Clause}
 use Rattle.cat_model.specs.Models.{Assembly}
+use Rattle.candidates.specs.Candidates.{Choices}
+use Rattle.candidates.specs.Walks.{IsPausedIn, Walking}
 use Rattle.cat_eval.specs.Prepared.{IsReadyFor}
 use Rattle.slices.specs.Works.{WorkValue}
 use Rattle.slices.proofs.kept_space.Made.evaluate.Goals as goal
@@ -15,4 +17,6 @@ invariant_of-made c =
     let same : c.evaluate_in.new.evaluator ≡ c.self.inside.work.model.items =
     c.evaluate_in.ensures.evaluator ∙ c.in_ok-evaluator.ensures ∙ ap (λ (m : Assembly). m.items) c.model.ensures ∙ ap (λ (w : WorkValue). w.model.items) (c.work-2.ensures ∙ c.work.ensures.work ∙ own) in
     let P : List Clause → Type 0 = λ items. IsReadyFor items c.in_ok-without_model.field-0 in
-    record { space = c.self.invariant.space; ready = rw c.in_ok-ready.ensures.ok (subst P same c.in_ok-without_model.ensures) }
+    let W : Choices → Type 0 = λ s. IsPausedIn s c.pause.result in
+    let own_space = c.in_ok-result.ensures.space ∙ ap (λ (w : Walking). w.space) c.resume-walk.ensures in
+    record { space = c.self.invariant.space; paused = rw c.in_ok-paused.ensures.ok (subst W own_space c.pause.ensures); ready = rw c.in_ok-ready.ensures.ok (subst P same c.in_ok-without_model.ensures) }

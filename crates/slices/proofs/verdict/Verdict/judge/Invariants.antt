@@ -1,13 +1,11 @@
-use Rattle.std.proofs.Common.{◌≡◌, ◌<◌, ℕ}
-use Rattle.slices.specs.Parts.{test_size}
-use Rattle.slices.specs.Tallies.{IsHeld, cut}
+use Rattle.std.proofs.Common.{◌≡◌, ◌≤◌, ◌-◌}
 use Rattle.slices.proofs.verdict.Verdict.judge.Given as goal
 
--- the ranges hold just the numbers before the next slice
-abbrev pub invariant-loop-slice : goal.invariant-loop-slice
-invariant-loop-slice l = record {
-  same : l.tally.work ≡ l.fn.work;
-  evaluator : l.evaluator ≡ l.fn.work.model.items;
-  below : (i : ℕ) → IsHeld l.tally.spans i → i < cut (test_size l.fn.work.test) l.fn.total l.slice;
-  held : (i : ℕ) → i < cut (test_size l.fn.work.test) l.fn.total l.slice → IsHeld l.tally.spans i;
+abbrev pub decreases-loop-course : goal.decreases-loop-course
+decreases-loop-course l = l.course.total - l.course.done
+
+abbrev pub invariant-loop-course : goal.invariant-loop-course
+invariant-loop-course l = record {
+  work : l.course.work ≡ l.fn.work;
+  done : l.course.done ≤ l.course.total;
 }

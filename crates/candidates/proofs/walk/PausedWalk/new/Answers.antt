@@ -1,0 +1,24 @@
+use Rattle.std.proofs.Common.{◌∙◌, List, length, sym, ap, subst, arith}
+use Rattle.events.specs.Executions.{GraphValue}
+use Rattle.candidates.specs.declared.levels.Level.{Level}
+use Rattle.candidates.specs.Depths.{depths_of}
+use Rattle.candidates.specs.Levels.{AreLevels, groups_of}
+use Rattle.candidates.proofs.Deeper.{no_depths}
+use Rattle.candidates.proofs.walk.PausedWalk.new.Goals as goal
+
+pub returns-clause-paused : goal.returns-clause-paused
+returns-clause-paused c = λ s.
+    let e = c.no_scene.ensures in
+    let P : List Level → Type 0 = λ ls. AreLevels (groups_of s) ls in
+    record {
+      stretch = λ l. absurd (omega (arith, l, e.size));
+      none = λ z. e.depths;
+      within = λ l. absurd (omega (arith, l, e.size));
+      seen = λ l. absurd (omega (arith, l, e.size));
+      known = λ l. absurd (omega (arith, l, e.size));
+      depths = e.depths ∙ sym (no_depths (length s.init)) ∙ sym (ap (λ (x : GraphValue). depths_of (length s.init) x.runs) e.graph);
+      ahead = record {
+        stretch = λ l. absurd (omega (arith, l, e.ahead));
+        levels = subst P (sym e.levels) (λ l m. absurd m);
+      };
+    }
