@@ -18,6 +18,10 @@ use events::laws::extension;
 use events::{Coherence, EventId, Graph, GraphParts, Run};
 use std::alloc::{AllocError, Global};
 
+/// A partial execution has at most as many orders as events: one for each location, and one for each write that has no place. Room for so
+/// many is made at once, so that no list of orders grows.
+const MOST_ORDERS: usize = 64;
+
 /// The number of the order of some writes without so many of the first of them, where the order of them all has this number.
 fn number_behind(writes: usize, without: usize, number: u64) -> u64
     requires { without ≤ writes }
@@ -74,7 +78,7 @@ fn cut_each(
     requires unplaced { Fits locations page.now.runs.items (Orders unplaced) }
     ensures { IfOk result (λ v. v.items ≡ cut_orders page.now.runs.items unplaced.locations unplaced.writes (upto locations) number) }
 {
-    let mut co = Vec::with_capacity(alloc, locations)?;
+    let mut co = Vec::with_capacity(alloc, MOST_ORDERS)?;
     let mut rest = number;
     for location in 0..locations {
         let later = page.writes_to(location);
@@ -216,7 +220,7 @@ fn by_sources(
     let mut rf = filled.rf;
     rf.truncate(count);
     let mut spare = filled.co;
-    let mut co = Vec::with_capacity(alloc, spare.len())?;
+    let mut co = Vec::with_capacity(alloc, MOST_ORDERS)?;
     let unplaced = Unplaced {
         locations: init.len(),
         writes: 0,
