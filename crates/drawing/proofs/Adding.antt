@@ -1,6 +1,6 @@
--- What is added one part after another.
-use Rattle.std.proofs.Common.{◌≡◌, ◌∙◌, ℕ, ◌+◌, ◌<◌, ◌≤◌, List, [], ◌∷◌, ◌++◌, length, get_or, drop, Result, Ok, Err, ap, sym, refl, append_assoc, append-nil}
-use Rattle.std.specs.Prelude.{Option, OnOk, flat_map}
+-- What is added one part after another, and loops that add to a list what is made of each element in turn.
+use Rattle.std.proofs.Common.{◌≡◌, ◌∙◌, ℕ, ◌+◌, ◌<◌, ◌≤◌, Bool, true, false, List, [], ◌∷◌, ◌++◌, length, map, get_or, drop, Result, Ok, Err, ap, sym, refl, append_assoc, append-nil}
+use Rattle.std.specs.Prelude.{Option, OnOk, filter, flat_map}
 use Rattle.std.proofs.KnownBytes.{Appends-nil}
 use Rattle.wb_text.specs.Memory.{AppendsPrefix}
 use Rattle.std.proofs.lemmas.Grind.{flat_map-append}
@@ -28,12 +28,23 @@ one_more f n old mid new e g =
 pub nothing_written : (held : Option (List ℕ)) (bytes : List ℕ) → AppendsPrefix held held bytes
 nothing_written held bytes = (bytes, record { given = []; split = refl; grown = Appends-nil held })
 
--- the text of one more element of a list
-pub element_more : {A : Type 0} (F G : List A → List ℕ) (xs : List A) (i : ℕ) (d : A) (more old new all : List ℕ) → i < length xs → F (get_or xs i d ∷ drop (i + 1) xs) ≡ more ++ G (drop (i + 1) xs) → new ≡ old ++ more → old ++ F (drop i xs) ≡ all → new ++ G (drop (i + 1) xs) ≡ all
-element_more F G xs i d more old new all l step e h =
+-- one element more
+pub added : {A X : Type 0} (F G : List A → List X) (xs : List A) (i : ℕ) (d : A) (more done grown all : List X) → i < length xs → F (get_or xs i d ∷ drop (i + 1) xs) ≡ more ++ G (drop (i + 1) xs) → grown ≡ done ++ more → done ++ F (drop i xs) ≡ all → grown ++ G (drop (i + 1) xs) ≡ all
+added {X = X} F G xs i d more done grown all l step g h =
     let rest = G (drop (i + 1) xs) in
-    ap (λ l. l ++ rest) e ∙ append_assoc old more rest ∙ ap (λ l. old ++ l) (sym (at_drop_more F xs i d l ∙ step)) ∙ h
+    ap (λ (ys : List X). ys ++ rest) g ∙ append_assoc done more rest ∙ ap (λ (ys : List X). done ++ ys) (sym (at_drop_more F xs i d l ∙ step)) ∙ h
+
+-- an element that gives nothing
+pub none_added : {A X : Type 0} (F : List A → List X) (xs : List A) (i : ℕ) (d : A) (done grown all : List X) → i < length xs → F (get_or xs i d ∷ drop (i + 1) xs) ≡ F (drop (i + 1) xs) → grown ≡ done → done ++ F (drop i xs) ≡ all → grown ++ F (drop (i + 1) xs) ≡ all
+none_added F xs i d done grown all l step g h = added F F xs i d [] done grown all l step (g ∙ sym (append-nil done)) h
 
 -- no element is left
-pub none_more : {A : Type 0} (F : List A → List ℕ) (xs : List A) (i : ℕ) (old all : List ℕ) → length xs ≤ i → F [] ≡ [] → old ++ F (drop i xs) ≡ all → old ≡ all
-none_more F xs i old all l e h = sym (append-nil old) ∙ ap (λ l. old ++ l) (sym (at_drop_all F xs i l ∙ e)) ∙ h
+pub all_added : {A X : Type 0} (F : List A → List X) (xs : List A) (i : ℕ) (done all : List X) → length xs ≤ i → F [] ≡ [] → done ++ F (drop i xs) ≡ all → done ≡ all
+all_added {X = X} F xs i done all l e h = sym (append-nil done) ∙ ap (λ (ys : List X). done ++ ys) (sym (at_drop_all F xs i l ∙ e)) ∙ h
+
+-- an element that passes the test, and one that doesn't
+pub passes : {A X : Type 0} (f : A → X) (p : A → Bool) (x : A) (xs : List A) → p x ≡ true → map f (filter p (x ∷ xs)) ≡ f x ∷ map f (filter p xs)
+passes f p x xs e = rw e refl
+
+pub fails : {A X : Type 0} (f : A → X) (p : A → Bool) (x : A) (xs : List A) → p x ≡ false → map f (filter p (x ∷ xs)) ≡ map f (filter p xs)
+fails f p x xs e = rw e refl

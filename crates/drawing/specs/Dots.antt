@@ -3,18 +3,18 @@ use Rattle.std.specs.Prelude.{ℕ, List, [], ◌∷◌, ◌++◌, Bool, true, fa
 use Rattle.listings.specs.Lists.{tabulate}
 use Rattle.events.specs.declared.event.EventId.{EventId}
 use Rattle.events.specs.declared.event.EventId.TheVariants.{Initial, Own}
-use Rattle.scenes.specs.declared.arrows.Arrow.{Arrow}
-use Rattle.scenes.specs.declared.arrows.Relation.{Relation}
-use Rattle.scenes.specs.declared.arrows.Relation.TheVariants.{Po, Rf, Co, Fr, Rmw}
+use Rattle.drawing.specs.declared.arrows.Arrow.{Arrow}
+use Rattle.drawing.specs.declared.arrows.Relation.{Relation}
+use Rattle.drawing.specs.declared.arrows.Relation.TheVariants.{Po, Rf, Co, Fr, Rmw}
 use Rattle.drawing.specs.declared.drawing.Broken.{Broken}
 use Rattle.drawing.specs.declared.drawing.Chain.{Chain}
 use Rattle.drawing.specs.declared.drawing.Drawing.{Drawing}
 use Rattle.drawing.specs.declared.drawing.Step.{Step}
-use Rattle.scenes.specs.declared.group.Group.{Group}
-use Rattle.scenes.specs.declared.group.Group.TheVariants.{InitialWrites, Thread, Firsts}
-use Rattle.scenes.specs.Arrows.{arrows_of}
-use Rattle.scenes.specs.Naming.{SceneValue, members, number_of, event_of, name_of}
-use Rattle.scenes.specs.Telling.{called, event_text}
+use Rattle.drawing.specs.declared.group.Group.{Group}
+use Rattle.drawing.specs.declared.group.Group.TheVariants.{InitialWrites, Thread, Firsts}
+use Rattle.drawing.specs.Arrows.{arrows_of}
+use Rattle.drawing.specs.Naming.{SceneValue, members, number_of, event_of, name_of}
+use Rattle.drawing.specs.Telling.{called, event_text}
 use Rattle.drawing.specs.Texts.{listed, title, scene_of}
 
 -- TEXTS IN QUOTES

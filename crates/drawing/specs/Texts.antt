@@ -2,18 +2,18 @@
 use Rattle.std.specs.Prelude.{ℕ, List, [], ◌∷◌, ◌++◌, Option, None, Some, option_map, codes, decimal, flat_map}
 use Rattle.events.specs.declared.event.EventId.{EventId}
 use Rattle.events.specs.declared.event.EventId.TheVariants.{Initial, Own}
-use Rattle.scenes.specs.declared.arrows.Arrow.{Arrow}
-use Rattle.scenes.specs.declared.arrows.Relation.{Relation}
-use Rattle.scenes.specs.declared.arrows.Relation.TheVariants.{Po, Rf, Co, Fr, Rmw}
+use Rattle.drawing.specs.declared.arrows.Arrow.{Arrow}
+use Rattle.drawing.specs.declared.arrows.Relation.{Relation}
+use Rattle.drawing.specs.declared.arrows.Relation.TheVariants.{Po, Rf, Co, Fr, Rmw}
 use Rattle.drawing.specs.declared.drawing.Broken.{Broken}
 use Rattle.drawing.specs.declared.drawing.Chain.{Chain}
 use Rattle.drawing.specs.declared.drawing.Drawing.{Drawing}
 use Rattle.drawing.specs.declared.drawing.Step.{Step}
-use Rattle.scenes.specs.declared.group.Group.{Group}
-use Rattle.scenes.specs.declared.group.Group.TheVariants.{InitialWrites, Threads}
-use Rattle.scenes.specs.Arrows.{arrows_of}
-use Rattle.scenes.specs.Naming.{SceneValue, members, name_of}
-use Rattle.scenes.specs.Telling.{called, event_text}
+use Rattle.drawing.specs.declared.group.Group.{Group}
+use Rattle.drawing.specs.declared.group.Group.TheVariants.{InitialWrites, Threads}
+use Rattle.drawing.specs.Arrows.{arrows_of}
+use Rattle.drawing.specs.Naming.{SceneValue, members, name_of}
+use Rattle.drawing.specs.Telling.{called, event_text}
 
 -- LINES
 

@@ -4,11 +4,14 @@ ghost use Rattle.std.specs.Prelude.{◌≡◌, ◌++◌, IfOk, OnOk, flat_map, o
 ghost use Rattle.listings.specs.Lists.{tabulate};
 ghost use Rattle.drawing.specs.Dots as dots;
 
+use crate::arrows::{Arrow, Relation};
+use crate::bytes::{push_bytes, push_number};
 use crate::drawing::{Broken, Chain, Drawing, Step};
+use crate::group::Group;
 use crate::lines::{push_listed, push_title};
 use crate::quoting::push_quoted;
+use crate::scene::Scene;
 use events::EventId;
-use scenes::{Arrow, Group, Relation, Scene, push_bytes, push_number};
 use std::alloc::{AllocError, Global};
 
 /// Adds what the label of an event tells of it.

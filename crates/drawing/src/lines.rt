@@ -3,9 +3,12 @@
 ghost use Rattle.std.specs.Prelude.{◌≡◌, ◌++◌, IfOk, OnOk, flat_map, option_map, codes};
 ghost use Rattle.drawing.specs.Texts as texts;
 
+use crate::arrows::{Arrow, Relation};
+use crate::bytes::{push_bytes, push_number};
 use crate::drawing::{Broken, Chain, Drawing, Step};
+use crate::group::Group;
+use crate::scene::Scene;
 use events::EventId;
-use scenes::{Arrow, Group, Relation, Scene, push_bytes, push_number};
 use std::alloc::{AllocError, Global};
 use wb_text::Name;
 

@@ -3,7 +3,7 @@
 ghost use Rattle.std.specs.Prelude.{◌≡◌, ◌++◌, OnOk, flat_map};
 ghost use Rattle.drawing.specs.Dots.{quoted, quoted_byte};
 
-use scenes::push_bytes;
+use crate::bytes::push_bytes;
 use std::alloc::AllocError;
 
 fn push_quoted_byte(out: &mut Vec<u8>, byte: u8) -> Result<(), AllocError>

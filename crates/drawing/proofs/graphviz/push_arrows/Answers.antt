@@ -1,5 +1,5 @@
 use Rattle.std.specs.Prelude.{◌++◌, option_map}
-use Rattle.scenes.specs.declared.arrows.Relation.TheVariants.{Po, Rf, Co, Fr, Rmw}
+use Rattle.drawing.specs.declared.arrows.Relation.TheVariants.{Po, Rf, Co, Fr, Rmw}
 use Rattle.drawing.specs.Dots.{plain_lines, evidence_lines, arrows_lines}
 use Rattle.drawing.proofs.Adding.{both, three}
 use Rattle.drawing.proofs.graphviz.push_arrows.Goals as goal

@@ -1,5 +1,5 @@
 use Rattle.std.specs.Prelude.{codes}
-use Rattle.scenes.specs.Telling.{called}
+use Rattle.drawing.specs.Telling.{called}
 use Rattle.drawing.specs.Dots.{below_line}
 use Rattle.drawing.proofs.Adding.{three}
 use Rattle.drawing.proofs.graphviz.push_below.Goals as goal

@@ -1,5 +1,5 @@
 use Rattle.std.specs.Prelude.{codes}
-use Rattle.scenes.specs.Naming.{name_of}
+use Rattle.drawing.specs.Naming.{name_of}
 use Rattle.drawing.specs.Dots.{bold_line}
 use Rattle.drawing.proofs.Adding.{three}
 use Rattle.drawing.proofs.graphviz.push_bold.Goals as goal

@@ -1,5 +1,5 @@
 use Rattle.std.specs.Prelude.{codes}
-use Rattle.scenes.specs.declared.group.Group.TheVariants.{Thread}
+use Rattle.drawing.specs.declared.group.Group.TheVariants.{Thread}
 use Rattle.drawing.specs.Dots.{cluster, cluster_head, nodes}
 use Rattle.drawing.proofs.Adding.{three}
 use Rattle.drawing.proofs.graphviz.push_cluster.Goals as goal

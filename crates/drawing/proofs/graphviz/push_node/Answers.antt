@@ -1,5 +1,5 @@
 use Rattle.std.specs.Prelude.{◌++◌, codes}
-use Rattle.scenes.specs.Telling.{called}
+use Rattle.drawing.specs.Telling.{called}
 use Rattle.drawing.specs.Dots.{told, node_line}
 use Rattle.drawing.proofs.Adding.{both, three}
 use Rattle.drawing.proofs.graphviz.push_node.Goals as goal

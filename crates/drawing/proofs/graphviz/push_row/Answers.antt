@@ -1,5 +1,5 @@
 use Rattle.std.specs.Prelude.{codes}
-use Rattle.scenes.specs.declared.group.Group.TheVariants.{InitialWrites}
+use Rattle.drawing.specs.declared.group.Group.TheVariants.{InitialWrites}
 use Rattle.drawing.specs.Dots.{initial_row, nodes}
 use Rattle.drawing.proofs.Adding.{three}
 use Rattle.drawing.proofs.graphviz.push_row.Goals as goal

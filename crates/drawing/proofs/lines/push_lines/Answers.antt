@@ -2,16 +2,16 @@ use Rattle.std.proofs.Common.{◌++◌, ◌∙◌, List, ap, refl}
 use Rattle.std.specs.Prelude.{flat_map}
 use Rattle.events.specs.declared.event.EventId.{EventId}
 use Rattle.drawing.specs.Texts.{event_line}
-use Rattle.drawing.proofs.Adding.{element_more, none_more}
+use Rattle.drawing.proofs.Adding.{added, all_added}
 use Rattle.drawing.proofs.lines.push_lines.Goals as goal
 
 pub loop-event-preserved : goal.loop-event-preserved
 loop-event-preserved c =
     let F = flat_map (event_line c.args.scene.now) in
-    element_more F F c.deref-event-items.result.now c.loop-event.event-index _ _ c.loop-event.out.items c.push_line.new.out.items _ c.loop-event-test.true refl c.in_ok-push_line.ensures c.loop-event.invariant
+    added F F c.deref-event-items.result.now c.loop-event.event-index _ _ c.loop-event.out.items c.push_line.new.out.items _ c.loop-event-test.true refl c.in_ok-push_line.ensures c.loop-event.invariant
 
 pub returns : goal.returns
 returns c =
     let F = flat_map (event_line c.args.scene.now) in
-    none_more F c.deref-event-items.result.now c.loop-event.event-index c.loop-event.out.items _ c.loop-event-test.false refl c.loop-event.invariant
+    all_added F c.deref-event-items.result.now c.loop-event.event-index c.loop-event.out.items _ c.loop-event-test.false refl c.loop-event.invariant
     ∙ ap (λ (es : List EventId). c.args.out.now.items ++ F es) (c.deref-event-items.ensures.value ∙ c.in_ok-members.ensures)

@@ -1,6 +1,0 @@
-use Rattle.std.proofs.Common.{◌≡◌, ◌++◌, drop}
-use Rattle.scenes.specs.Arrows.{links}
-use Rattle.scenes.proofs.arrows.push_links.Given as goal
-
-abbrev pub invariant-loop-event : goal.invariant-loop-event
-invariant-loop-event l = l.arrows.items ++ links l.last (drop l.event-index l.others) ≡ l.fn.arrows.items ++ links l.fn.first l.others

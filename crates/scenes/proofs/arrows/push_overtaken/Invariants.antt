@@ -1,6 +1,0 @@
-use Rattle.std.proofs.Common.{◌≡◌, ◌++◌, drop}
-use Rattle.scenes.specs.Arrows.{overtaken}
-use Rattle.scenes.proofs.arrows.push_overtaken.Given as goal
-
-abbrev pub invariant-loop-step : goal.invariant-loop-step
-invariant-loop-step l = l.arrows.items ++ overtaken (drop l.step-index l.co) l.read ≡ l.fn.arrows.items ++ overtaken l.co l.read

@@ -1,4 +1,0 @@
-pub mod Arrows
-pub mod Examples
-pub mod Naming
-pub mod Telling
