@@ -1,8 +1,11 @@
 //! A model that is ready to judge executions.
 
-ghost use Rattle.std.specs.Prelude.{◌≡◌, map, IfOk};
+ghost use Rattle.std.specs.Prelude.{◌≡◌, map, IfOk, IsTrue};
+ghost use Rattle.std.specs.Cmp.Lexicographic.{pointwise};
+ghost use Rattle.cat_tree.specs.Equality.{same_clause};
 ghost use Rattle.cat_tree.specs.Tree.{clause_of, defined_of};
 ghost use Rattle.cat_model.specs.Beforehand.{beforehand as functions_beforehand};
+ghost use Rattle.cat_model.specs.Rc11.{rc11 as rc11_tree};
 ghost use Rattle.cat_model.specs.Scopes.{IsModel};
 
 use cat_tree::{Definition, Item};
@@ -46,6 +49,8 @@ struct Parts {
     beforehand: Vec<Definition>,
     items: Vec<Item>,
     files: Vec<FileVersion>,
+    // Whether the items are known to be those of the built-in `rc11.cat`.
+    is_rc11: bool,
 }
 
 /// The items of a model with all includes in place, and the files that they come from; beside them the functions that are bound
@@ -73,11 +78,13 @@ impl std::marker::Model for Model {
     ghost use Rattle.std.specs.Prelude.{◌≡◌, map};
     ghost use Rattle.cat_tree.specs.Tree.{clause_of, defined_of};
     ghost use Rattle.cat_model.specs.Beforehand.{beforehand as functions_beforehand};
+    ghost use Rattle.cat_model.specs.Rc11.{rc11 as rc11_tree};
     ghost use Rattle.cat_model.specs.Scopes.{IsModel};
+    ghost use Rattle.std.specs.Prelude.{IsTrue};
 
     ghost view = { λ m. let p = arc_value m.parts in record { items = map clause_of p.items.items; files = p.files.items } };
 
-    ghost invariant = { λ m. let p = arc_value m.parts in (map defined_of p.beforehand.items ≡ functions_beforehand) × IsModel (map clause_of p.items.items) };
+    ghost invariant = { λ m. let p = arc_value m.parts in (map defined_of p.beforehand.items ≡ functions_beforehand) × IsModel (map clause_of p.items.items) × (IsTrue p.is_rc11 → map clause_of p.items.items ≡ rc11_tree.items) };
 }
 
 impl PartialEq for Model {
@@ -89,12 +96,11 @@ impl PartialEq for Model {
 
     ghost laws = { partial_equiv_from_equiv assembly_equivalence };
 
-    #[tactic(auto, using(crate::proofs::Equal::clauses_told))]
     fn eq(&self, other: &Model) -> bool
         ensures value { result ≡ same_assembly self.now other.now }
         ensures exact { IsTrue result ↔ (self.now ≡ other.now) }
     {
-        are_same(self.items(), other.items()) && are_same(self.files(), other.files())
+        self.has_items_of(other) && are_same(self.files(), other.files())
     }
 }
 
@@ -105,25 +111,46 @@ impl Eq for Model {
 }
 
 impl Model {
-    /// The model of these items, which come from these files.
+    /// The model of these items, which come from these files, and whether it is known that they are those of the built-in `rc11.cat`.
     pub(crate) fn new(
         alloc: Global,
         beforehand: Vec<Definition>,
         items: Vec<Item>,
         files: Vec<FileVersion>,
+        is_rc11: bool,
     ) -> Result<Self, AllocError>
         requires beforehand { map defined_of beforehand.items ≡ functions_beforehand }
         requires model { IsModel (map clause_of items.items) }
+        requires rc11 { IsTrue is_rc11 → map clause_of items.items ≡ rc11_tree.items }
         ensures { IfOk result (λ m. m ≡ record { items = map clause_of items.items; files = files.items }) }
     {
         let parts = Parts {
             beforehand,
             items,
             files,
+            is_rc11,
         };
         Ok(Model {
             parts: Arc::new(alloc, parts)?,
         })
+    }
+
+    /// Whether it is known that its items are those of the built-in `rc11.cat`.
+    fn is_rc11(&self) -> bool
+        ensures { IsTrue result → self.now.items ≡ rc11_tree.items }
+    {
+        self.parts.is_rc11
+    }
+
+    /// Whether its items are those of the other. Two of the built-in `rc11.cat` needn't be compared.
+    #[tactic(auto, using(crate::proofs::Equal::clauses_told))]
+    fn has_items_of(&self, other: &Model) -> bool
+        ensures { result ≡ pointwise same_clause self.now.items other.now.items }
+    {
+        if self.is_rc11() && other.is_rc11() {
+            return true;
+        }
+        are_same(self.items(), other.items())
     }
 
     /// The functions that are bound before any item.

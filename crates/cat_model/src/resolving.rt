@@ -31,5 +31,6 @@ pub fn resolve(alloc: Global, files: &Files, root: &Name) -> Result<Model, Model
     let draft = walk.whole()?;
     let beforehand = functions_beforehand(alloc)?;
     require_model(alloc, &beforehand, &draft.items)?;
-    Ok(Model::new(alloc, beforehand, draft.items, draft.files)?)
+    let is_rc11 = files.are_rc11(&draft.items);
+    Ok(Model::new(alloc, beforehand, draft.items, draft.files, is_rc11)?)
 }
