@@ -1,4 +1,4 @@
-use Rattle.std.proofs.Common.{◌≡◌, ◌<◌, ◌+◌, ◌^◌, [], ap, sym, subst, arith}
+use Rattle.std.proofs.Common.{◌≡◌, [], ap, sym, subst, arith}
 use Rattle.conditions.specs.States.{AreObserved}
 use Rattle.slices.specs.Findings.{FindingValue}
 use Rattle.slices.specs.Verdicts.{Tells}
