@@ -1,5 +1,5 @@
 -- What is known of a relation made of words.
-use Rattle.std.proofs.Common.{◌≡◌, ℕ, ◌<◌, ◌≤◌, ◌⊎◌, ◌↔◌, ◌+◌, ◌/◌, ◌^◌, ◌==◌, List, Bool, true, false, refl, sym, ◌∙◌, ap, subst, inl, inr, arith, length, get_or, set, get_or-set_same, get_or-set_other, bit_and, bit_or, replicate, ◌*◌, ◌-◌, ◌%◌, ◌≢◌}
+use Rattle.std.proofs.Common.{◌≡◌, ℕ, ◌<◌, ◌≤◌, ◌⊎◌, ◌↔◌, ◌+◌, ◌/◌, ◌^◌, ◌==◌, List, Bool, true, false, refl, sym, ◌∙◌, ap, subst, inl, inr, arith, length, get_or, set, get_or-set_same, get_or-set_other, bit_and, bit_or, replicate, ◌*◌, ◌-◌, ◌%◌}
 use Rattle.std.proofs.lemmas.Bool.{false≢true, cases_eq}
 use Rattle.std.proofs.lemmas.List.{get_or-replicate}
 use Rattle.relations.specs.Tables.{cell}
