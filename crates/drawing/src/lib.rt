@@ -8,7 +8,6 @@ mod event;
 mod graphviz;
 mod group;
 mod lines;
-mod names;
 mod quoting;
 mod scene;
 mod write;

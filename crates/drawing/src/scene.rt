@@ -8,8 +8,7 @@ ghost use Rattle.drawing.specs.Telling.{called, location_text};
 
 use crate::bytes::push_letters;
 use crate::group::Group;
-use crate::names::event_names;
-use events::{EventId, Graph};
+use events::{EventId, Graph, event_names};
 use std::alloc::{AllocError, Global};
 use std::marker::Model;
 use wb_text::Name;

@@ -1,5 +1,5 @@
 -- What depends on a structure alone, or on it and the read-from map, is the same in each execution that has these.
-use Rattle.std.proofs.Common.{◌≡◌, ℕ, List, [], ◌∷◌, length, map, refl, sym, ap, ◌∙◌, subst, arith}
+use Rattle.std.proofs.Common.{◌≡◌, ℕ, ◌≤◌, List, [], ◌∷◌, length, map, refl, sym, ap, ◌∙◌, subst, arith}
 use Rattle.std.proofs.lemmas.List.{length-map}
 use Rattle.relations.specs.Relation.{Relation, IsExactly}
 use Rattle.events.specs.declared.event.Event.{Event}
@@ -26,6 +26,9 @@ moved_firsts g h firsts e f = record {
   threads = f.threads ∙ threads_same g h e;
   first = λ k l. omega (arith, f.first k (omega (arith, l, threads_same g h e)), rest_same g h e k, count_same g h e);
 }
+
+pub moved_few : (g h : GraphValue) → structure_of g ≡ structure_of h → event_count g ≤ 64 → event_count h ≤ 64
+moved_few g h e f = omega (arith, f, count_same g h e)
 
 -- a relation that is exactly one is exactly each other that relates the same events
 exactly_as : (m n : ℕ) (P Q : ℕ → ℕ → Type 0) (r : Relation) → m ≡ n → ((i j : ℕ) → P i j → Q i j) → ((i j : ℕ) → Q i j → P i j) → IsExactly m P r → IsExactly n Q r

@@ -12,4 +12,4 @@ pub use event::{Access, Event, EventId, Order, no_places};
 pub use graph::{Coherence, Graph, GraphParts};
 pub use named::{Basis, RelName, SetName};
 pub use run::{Run, copy_events, copy_runs};
-pub use view::{GraphView, SourcedStructure};
+pub use view::{GraphView, SourcedStructure, event_names};

@@ -24,6 +24,7 @@ mod structure;
 mod table;
 
 use held::{Held, Placed};
+pub use names::event_names;
 use numbered::Numbered;
 pub use sourced::SourcedStructure;
 use structure::EventStructure;

@@ -42,8 +42,9 @@ fn push_threads(names: &mut Vec<EventId>, runs: &[Run]) -> Result<(), AllocError
     Ok(())
 }
 
-/// The events of an execution.
-pub(super) fn event_names(alloc: Global, graph: &Graph) -> Result<Vec<EventId>, AllocError>
+/// The events of an execution, in the order of their numbers: the initial writes in the order of locations, then thread by thread
+/// in program order. It fails only where memory is wanting.
+pub fn event_names(alloc: Global, graph: &Graph) -> Result<Vec<EventId>, AllocError>
     ensures names { IfOk result (λ v. v.items ≡ event_names graph.now) }
     ensures count { IfOk result (λ v. length v.items ≡ event_count graph.now) }
     ensures few { IfOk result (λ _. event_count graph.now ≤ 64) }

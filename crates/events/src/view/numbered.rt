@@ -50,10 +50,9 @@ impl<'a> Numbered<'a> {
         requires events { events.now ≡ event_names graph.now }
         requires reads { reads.now ≡ read_names graph.now }
         requires firsts { AreFirsts graph.now firsts.now }
+        requires few { event_count graph.now ≤ 64 }
         ensures { result ≡ graph.entry.now }
     {
-        // They tell that the events are few.
-        let _ = graph.runs();
         Numbered {
             graph,
             events,
@@ -140,7 +139,7 @@ impl<'a> Numbered<'a> {
         requires { number < event_count self.now }
         ensures { IsNumber self.now number result }
     {
-        let _ = &self.events;
+        prove!(number < self.events.len());
         self.events[number]
     }
 
@@ -149,7 +148,7 @@ impl<'a> Numbered<'a> {
         requires { place < length (read_names self.now) }
         ensures { StandsAt (read_names self.now) place result }
     {
-        let _ = &self.reads;
+        prove!(place < self.reads.len());
         self.reads[place]
     }
 }

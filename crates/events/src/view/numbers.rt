@@ -68,7 +68,6 @@ impl Numbered<'_> {
     fn number_of_own(&self, thread: usize, place: usize) -> Option<usize>
         ensures { MatchOption result ((i : ℕ) → ¬ IsNumber self.now i (Own thread place)) (λ i. IsNumber self.now i (Own thread place)) }
     {
-        let _ = &self.firsts;
         let runs = self.graph.runs();
         if thread >= runs.len() {
             return None;
@@ -76,6 +75,7 @@ impl Numbered<'_> {
         if place >= runs[thread].events().len() {
             return None;
         }
+        prove!(thread < self.firsts.len());
         Some(self.firsts[thread] + place)
     }
 }

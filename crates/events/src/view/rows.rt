@@ -1,8 +1,8 @@
 //! The relations that read-from maps and coherence orders tell, row by row.
 
 ghost use Rattle.std.specs.Prelude.{◌≡◌, ◌<◌, ◌⊎◌, length};
-ghost use Rattle.relations.specs.Events.{Has, IsExactlySet};
-ghost use Rattle.relations.specs.Relation.{In, IsExactly};
+ghost use Rattle.relations.specs.Events.{Has, IsCanonicalSet, IsExactlySet};
+ghost use Rattle.relations.specs.Relation.{In, IsCanonical, IsExactly};
 ghost use Rattle.events.specs.declared.named.RelName.TheVariants.{Rf, Co};
 ghost use Rattle.events.specs.Named.{IsNumber, event_count, NamedRel, StandsBefore, read_names};
 ghost use Rattle.events.specs.Rows.{ByNumbers, IsReadAt};
@@ -41,12 +41,12 @@ impl Numbered<'_> {
     #[tactic(auto, using(crate::proofs::Adding::read_more, crate::proofs::Adding::no_read_more, crate::proofs::Standing::stands_read))]
     fn relate_read(&self, rel: &mut Rel, turned: &mut Rel, read: usize)
         requires count { rel.old.count ≡ event_count self.now }
+        requires canonical { IsCanonical rel.old }
         requires turned { IsExactly rel.old.count (λ i j. In rel.old j i) turned.old }
         requires read { read < length (read_names self.now) }
         ensures rel { IsExactly (event_count self.now) (λ i j. In rel.old i j ⊎ ByNumbers self.now (IsReadAt self.now read) i j) rel.new }
         ensures turned { IsExactly rel.new.count (λ i j. In rel.new j i) turned.new }
     {
-        let _ = rel.count();
         let sources = self.graph.rf();
         if read < sources.len() {
             self.relate(rel, turned, sources[read], self.read(read));
@@ -57,11 +57,11 @@ impl Numbered<'_> {
     #[tactic(auto, using(crate::proofs::Adding::pair_more, crate::proofs::Adding::nothing_more))]
     fn relate(&self, rel: &mut Rel, turned: &mut Rel, first: EventId, second: EventId)
         requires count { rel.old.count ≡ event_count self.now }
+        requires canonical { IsCanonical rel.old }
         requires turned { IsExactly rel.old.count (λ i j. In rel.old j i) turned.old }
         ensures rel { IsExactly (event_count self.now) (λ i j. In rel.old i j ⊎ (IsNumber self.now i first × IsNumber self.now j second)) rel.new }
         ensures turned { IsExactly rel.new.count (λ i j. In rel.new j i) turned.new }
     {
-        let _ = rel.count();
         if let Some(from) = self.number_of(first) {
             if let Some(to) = self.number_of(second) {
                 rel.insert(from, to);
@@ -73,10 +73,10 @@ impl Numbered<'_> {
     // Adds the pairs of an order, from its last event on.
     #[tactic(auto, using(crate::proofs::Adding::behind_begun, crate::proofs::Adding::order_begun, crate::proofs::Adding::behind_on, crate::proofs::Adding::order_on, crate::proofs::Adding::order_done, crate::proofs::Standing::stands))]
     fn relate_order(&self, rel: &mut Rel, order: &[EventId])
-        requires { rel.old.count ≡ event_count self.now }
+        requires count { rel.old.count ≡ event_count self.now }
+        requires canonical { IsCanonical rel.old }
         ensures { IsExactly (event_count self.now) (λ i j. In rel.old i j ⊎ ByNumbers self.now (StandsBefore order.now) i j) rel.new }
     {
-        let _ = rel.count();
         let mut behind = Set::empty(self.count());
         let mut place = order.len();
         while place > 0 {
@@ -90,11 +90,11 @@ impl Numbered<'_> {
     fn relate_behind(&self, rel: &mut Rel, behind: &mut Set, event: EventId)
         requires rel { rel.old.count ≡ event_count self.now }
         requires behind { behind.old.count ≡ event_count self.now }
+        requires canonical_rel { IsCanonical rel.old }
+        requires canonical_behind { IsCanonicalSet behind.old }
         ensures rel { IsExactly (event_count self.now) (λ i j. In rel.old i j ⊎ (IsNumber self.now i event × Has behind.old j)) rel.new }
         ensures behind { IsExactlySet (event_count self.now) (λ j. Has behind.old j ⊎ IsNumber self.now j event) behind.new }
     {
-        let _ = rel.count();
-        let _ = behind.count();
         if let Some(number) = self.number_of(event) {
             rel.insert_all(number, behind);
             behind.insert(number);

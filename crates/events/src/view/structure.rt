@@ -31,7 +31,7 @@ pub(super) struct EventStructure {
 }
 
 impl Model for EventStructure {
-    ghost use Rattle.std.specs.Prelude.{◌≡◌};
+    ghost use Rattle.std.specs.Prelude.{◌≡◌, ◌≤◌};
     ghost use Rattle.relations.specs.Relation.{IsExactly};
     ghost use Rattle.events.specs.Named.{event_names, event_count, read_names, NamedRel};
     ghost use Rattle.events.specs.Rows.{AreFirsts};
@@ -43,7 +43,7 @@ impl Model for EventStructure {
     ghost view = { λ s. structured s.init.items s.runs.items };
 
     ghost invariant = { λ s. let g = bare (record { init = s.init.items; runs = s.runs.items }) in
-        record { events : s.events.items ≡ event_names g; reads : s.reads.items ≡ read_names g; firsts : AreFirsts g s.firsts.items; po : IsExactly (event_count g) (NamedRel g names.Po) s.po; int : IsExactly (event_count g) (NamedRel g names.Int) s.int; loc : IsExactly (event_count g) (NamedRel g names.Loc) s.loc } };
+        record { events : s.events.items ≡ event_names g; reads : s.reads.items ≡ read_names g; firsts : AreFirsts g s.firsts.items; few : event_count g ≤ 64; po : IsExactly (event_count g) (NamedRel g names.Po) s.po; int : IsExactly (event_count g) (NamedRel g names.Int) s.int; loc : IsExactly (event_count g) (NamedRel g names.Loc) s.loc } };
 }
 
 impl EventStructure {

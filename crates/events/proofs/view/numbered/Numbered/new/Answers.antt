@@ -8,5 +8,5 @@ invariant_of-result c = record {
   reads = c.requires.reads;
   firsts = c.requires.firsts;
   count = ap length c.requires.events ∙ counted c.args.graph.now;
-  few = c.runs.ensures.graph.few;
+  few = c.requires.few;
 }

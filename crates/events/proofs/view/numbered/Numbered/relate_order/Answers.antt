@@ -12,8 +12,8 @@ loop-place-init c =
     let n = event_count c.args.self.now in
     let P : ℕ → Type 0 = λ k. IsExactlySet k (λ i. ⊥) c.empty-behind.result in (
       omega arith,
-      behind_begun n c.args.self.now c.args.order.now (length c.args.order.now) c.empty-behind.result refl (subst P c.count-2.ensures.is c.empty-behind.ensures),
-      order_begun n c.args.self.now c.args.order.now (length c.args.order.now) c.args.rel.now refl c.requires c.count.ensures.canonical,
+      behind_begun n c.args.self.now c.args.order.now (length c.args.order.now) c.empty-behind.result refl (subst P c.count.ensures.is c.empty-behind.ensures),
+      order_begun n c.args.self.now c.args.order.now (length c.args.order.now) c.args.rel.now refl c.requires.count c.requires.canonical,
     )
 
 pub loop-place-preserved : goal.loop-place-preserved

@@ -16,4 +16,4 @@ returns-then-read-sources-clause-rel c =
 pub returns-else-read-sources-clause-rel : goal.returns-else-read-sources-clause-rel
 returns-else-read-sources-clause-rel c =
     let e = c.rf-sources.ensures ∙ ap (λ g. g.rf) c.self.view_is in
-    no_read_more c.args.self.now c.args.read c.args.rel.now (omega (arith, ap length e, c.if-read-sources.false)) c.requires.count c.count.ensures.canonical
+    no_read_more c.args.self.now c.args.read c.args.rel.now (omega (arith, ap length e, c.if-read-sources.false)) c.requires.count c.requires.canonical

@@ -1,7 +1,7 @@
 use Rattle.std.proofs.Common.{ℕ, List, sym, subst, ◌∙◌}
 use Rattle.events.specs.Structures.{bare}
 use Rattle.events.specs.Rows.{AreFirsts}
-use Rattle.events.proofs.Structures.{moved_names, moved_reads, moved_firsts}
+use Rattle.events.proofs.Structures.{moved_names, moved_reads, moved_firsts, moved_few}
 use Rattle.events.proofs.view.structure.EventStructure.numbered.Goals as goal
 
 pub new-requires-clause-events : goal.new-requires-clause-events
@@ -19,3 +19,8 @@ new-requires-clause-firsts c =
     let g = bare (record { init = c.self.inside.init.items; runs = c.self.inside.runs.items }) in
     let P : List ℕ → Type 0 = λ firsts. AreFirsts c.args.graph.now firsts in
     subst P (sym c.deref-3.ensures.value) (moved_firsts g c.args.graph.now _ (c.self.view_is ∙ c.requires) c.self.invariant.firsts)
+
+pub new-requires-clause-few : goal.new-requires-clause-few
+new-requires-clause-few c =
+    let g = bare (record { init = c.self.inside.init.items; runs = c.self.inside.runs.items }) in
+    moved_few g c.args.graph.now (c.self.view_is ∙ c.requires) c.self.invariant.few

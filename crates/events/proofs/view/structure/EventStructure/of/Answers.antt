@@ -5,7 +5,7 @@ use Rattle.events.specs.declared.named.RelName.TheVariants as names
 use Rattle.events.specs.Executions.{is_read}
 use Rattle.events.specs.Named.{read_names, access_of}
 use Rattle.events.specs.Structures.{structure_of, bare}
-use Rattle.events.proofs.Structures.{moved_names, moved_reads, moved_firsts, moved, same_structure}
+use Rattle.events.proofs.Structures.{moved_names, moved_reads, moved_firsts, moved_few, moved, same_structure}
 use Rattle.events.specs.Rows.{AreFirsts}
 use Rattle.events.proofs.view.structure.EventStructure.of.Goals as goal
 
@@ -27,6 +27,7 @@ invariant_of-result c =
       events = moved_names g h _ e c.in_ok-events.ensures.names;
       reads = moved_reads g h _ e (c.in_ok-reads.ensures ∙ ap (λ (es : List EventId). filter (λ e. is_read (access_of g e)) es) (c.deref.ensures.value ∙ c.in_ok-events.ensures.names));
       firsts = moved_firsts g h _ e c.in_ok-firsts.ensures;
+      few = moved_few g h e c.in_ok-events.ensures.few;
       po = moved m h names.Po _ refl d c.tested.ensures;
       int = moved m h names.Int _ refl d c.tested-2.ensures;
       loc = moved m h names.Loc _ refl d c.tested-3.ensures;
@@ -34,3 +35,6 @@ invariant_of-result c =
 
 pub new-numbered-requires-clause-firsts : goal.new-numbered-requires-clause-firsts
 new-numbered-requires-clause-firsts c = let P : List ℕ → Type 0 = λ fs. AreFirsts c.args.graph.now fs in subst P (sym c.deref-4.ensures.value) c.in_ok-firsts.ensures
+
+pub new-numbered-requires-clause-few : goal.new-numbered-requires-clause-few
+new-numbered-requires-clause-few c = c.in_ok-events.ensures.few
