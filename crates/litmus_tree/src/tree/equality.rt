@@ -8,6 +8,7 @@ ghost use Rattle.litmus_tree.specs.Exact.{parameter_equivalence, action_equivale
 ghost use Rattle.litmus_tree.specs.Tree.{action_of, right_of, declared_of, step_of, steps_of};
 
 use crate::tree::{Call, Declarator, Parameter, RightSide, Statement, Thread};
+use wb_text::are_same;
 
 impl PartialEq for Parameter {
     ghost eq = { same_parameter };
@@ -226,9 +227,9 @@ impl Thread {
     fn has_parts_of(&self, other: &Thread) -> bool
         ensures { result ≡ same_program self.now other.now }
     {
-        self.parameters == other.parameters
+        are_same(&self.parameters, &other.parameters)
             && are_same_statements(&self.statements, &other.statements)
-            && self.registers() == other.registers()
+            && are_same(self.registers(), other.registers())
     }
 }
 
@@ -239,5 +240,5 @@ impl Eq for Thread {
 fn are_same_declarators(declarators: &[Declarator], others: &[Declarator]) -> bool
     ensures { result ≡ pointwise same_declared (map declared_of declarators.now) (map declared_of others.now) }
 {
-    declarators == others
+    are_same(declarators, others)
 }

@@ -6,6 +6,7 @@ ghost use Rattle.litmus_tree.specs.Equality.{same_litmus};
 ghost use Rattle.litmus_tree.specs.Exact.{litmus_equivalence};
 
 use crate::test::Test;
+use wb_text::are_same;
 
 impl PartialEq for Test {
     ghost eq = { same_litmus };
@@ -26,11 +27,11 @@ impl Test {
         ensures { result ≡ same_litmus self.now other.now }
     {
         self.name() == other.name()
-            && self.initial() == other.initial()
-            && self.threads() == other.threads()
+            && are_same(self.initial(), other.initial())
+            && are_same(self.threads(), other.threads())
             && self.condition() == other.condition()
-            && self.listed() == other.listed()
-            && self.locations() == other.locations()
+            && are_same(self.listed(), other.listed())
+            && are_same(self.locations(), other.locations())
     }
 }
 

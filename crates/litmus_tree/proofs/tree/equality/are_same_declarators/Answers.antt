@@ -5,4 +5,4 @@ use Rattle.litmus_tree.proofs.Lists.{pointwise_map}
 use Rattle.litmus_tree.proofs.tree.equality.are_same_declarators.Goals as goal
 
 pub returns : goal.returns
-returns c = c.eq.ensures ∙ pointwise_map declared_of same_declared c.args.declarators.now c.args.others.now
+returns c = c.are_same.ensures ∙ pointwise_map declared_of same_declared c.args.declarators.now c.args.others.now
