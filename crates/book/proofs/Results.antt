@@ -119,6 +119,14 @@ mark_beyond (y ∷ ys) (suc i) e = ap (λ zs. y ∷ zs) (mark_beyond ys i e)
 pub done_beyond : (job : Job) (i n : ℕ) → slice_get job.slices i ≡ None → n ≡ done job → n ≡ done (marked i job)
 done_beyond job i n e is = is ∙ sym (ap (count_by (λ (y : Slice). y.returned)) (mark_beyond job.slices i e))
 
+-- so many more are returned once this one is
+pub count_set : (xs : List Slice) (i place n : ℕ) (x : Slice) → slice_get xs i ≡ Some x → x.returned ≡ false → place ≡ i → n ≡ count_by (λ y. y.returned) xs →
+    n + 1 ≡ count_by (λ y. y.returned) (set xs place (record { from = x.from; to = x.to; returned = true }))
+count_set xs i place n x e f here is =
+    let C : List Slice → ℕ = count_by (λ y. y.returned) in
+    let y : Slice = record { from = x.from; to = x.to; returned = true } in
+    ap (λ k. k + 1) is ∙ sym (count_marked xs i x e f) ∙ ap C (sym (ap (λ k. set xs k y) here ∙ mark_set xs i x e))
+
 pub done_few : (merged : TallyValue) (slices : List Slice) → IsTied merged slices → count_by (λ x. x.returned) slices ≤ 256
 done_few merged slices tie = omega (arith, count_by-le-length (λ (x : Slice). x.returned) slices, tie.few)
 
@@ -178,6 +186,12 @@ is_range merged slices i x tie e =
       order = leb-true x.from x.to (and_left (nat_le x.from x.to) _ fits);
       within = leb-true x.to (test_size merged.work.test) (and_right (nat_le x.from x.to) _ fits);
     }
+
+pub none_returned : (xs : List Slice) → list_all (λ x. not x.returned) xs ≡ true → 0 ≡ count_by (λ x. x.returned) xs
+none_returned [] h = refl
+none_returned (x ∷ xs) h =
+    let is : weight x.returned ≡ 0 = ap weight (not_false x.returned (and_left (not x.returned) _ h)) in
+    omega (arith, is, count-cons (λ (z : Slice). z.returned) x xs, none_returned xs (and_right (not x.returned) _ h))
 
 pub fresh_tied : (work : WorkValue) (slices : List Slice) → IsCut (test_size work.test) slices → HasRoot work.model.files → IsTied (record { work = work; spans = [] }) slices
 fresh_tied work slices cut root = record {

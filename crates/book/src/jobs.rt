@@ -22,6 +22,8 @@ pub struct Job {
     number: u32,
     version: u32,
     slices: Vec<Slice>,
+    // How many of the slices are returned.
+    returned: usize,
     tally: Tally,
     verdict: Option<VerdictRef>,
 }
@@ -33,6 +35,7 @@ impl Drop for Job {
             number: _,
             version: _,
             slices: _,
+            returned: _,
             tally: _,
             verdict: _,
         } = self;
@@ -42,7 +45,7 @@ impl Drop for Job {
 impl Model for Job {
     ghost use Rattle.book.specs.JobCodes.{coded_job};
     ghost use Rattle.book.specs.Jobs.{Job};
-    ghost use Rattle.std.specs.Prelude.{IfSome};
+    ghost use Rattle.std.specs.Prelude.{◌≡◌, IfSome, count_by};
     ghost use Rattle.book.specs.Results.{IsTied, IsVerdictOn};
 
     ghost Value = { Job };
@@ -56,7 +59,7 @@ impl Model for Job {
       slices = j.slices.items;
     } };
 
-    ghost invariant = { λ j. record { tied : IsTied j.tally j.slices.items; kept : IfSome j.verdict (IsVerdictOn j.tally.work j.version) } };
+    ghost invariant = { λ j. record { tied : IsTied j.tally j.slices.items; counted : j.returned ≡ count_by (λ x. x.returned) j.slices.items; kept : IfSome j.verdict (IsVerdictOn j.tally.work j.version) } };
 }
 
 impl Job {
@@ -75,6 +78,7 @@ impl Job {
             number,
             version,
             slices,
+            returned: 0,
             tally,
             verdict: None,
         })
@@ -113,7 +117,7 @@ impl Job {
     pub fn done(&self) -> usize
         ensures { result ≡ done self.now }
     {
-        self.slices.iter().filter(|slice| slice.returned).count()
+        self.returned
     }
 
     /// How many are returned once this one is.
@@ -216,6 +220,7 @@ impl Job {
                     to: slice.to,
                     returned: true,
                 };
+                self.returned += 1;
                 Ok(())
             }
             Err(_) => Err(AllocError),

@@ -5,7 +5,7 @@ use Rattle.slices.specs.Tallies.{TallyValue, span_of}
 use Rattle.book.specs.Jobs.{Job, marked}
 use Rattle.book.specs.Results.{IsVerdictOn, IsTied}
 use Rattle.book.specs.Step.{HasRange}
-use Rattle.book.proofs.Results.{here_range, marked_again, apart, merged_tied, merged_shown, inside}
+use Rattle.book.proofs.Results.{here_range, marked_again, apart, merged_tied, merged_shown, inside, count_set, done_few}
 use Rattle.book.proofs.jobs.Job.take.Goals as goal
 use Rattle.book.proofs.jobs.Job.take.Goals.{in-Ok, in-Err}
 
@@ -37,7 +37,11 @@ invariant_of-self c =
     let at = here_range c.self.inside.slices.items p.slice c.slice-place.result p.from p.to x place (subst R (sym c.self.view_is) c.requires.range) c.index-slice.ensures in
     let tied = merged_tied c.self.inside.tally c.merge.new.self c.self.inside.slices.items p.slice c.slice-place.result x (span_of c.args.part) c.self.invariant.tied at.0 place (sym at.1) (sym at.2) c.in-Ok.ensures.merged in
     let K : TallyValue → Type 0 = λ r. IfSome c.self.inside.verdict (IsVerdictOn r.work c.self.inside.version) in
-    record { tied = tied; kept = subst K (sym c.in-Ok.ensures.merged) c.self.invariant.kept }
+    record {
+      tied = tied;
+      counted = count_set c.self.inside.slices.items p.slice c.slice-place.result c.self.inside.returned x at.0 c.if-slice.false place c.self.invariant.counted;
+      kept = subst K (sym c.in-Ok.ensures.merged) c.self.invariant.kept;
+    }
 
 pub returns-clause-ok : goal.returns-clause-ok
 returns-clause-ok c =
@@ -72,4 +76,7 @@ invariant_of-self-in-Err c =
     let same = c.in-Err.ensures.same in
     let T : TallyValue → Type 0 = λ t. IsTied t c.self.inside.slices.items in
     let K : TallyValue → Type 0 = λ t. IfSome c.self.inside.verdict (IsVerdictOn t.work c.self.inside.version) in
-    record { tied = subst T (sym same) c.self.invariant.tied; kept = subst K (sym same) c.self.invariant.kept }
+    record { tied = subst T (sym same) c.self.invariant.tied; counted = c.self.invariant.counted; kept = subst K (sym same) c.self.invariant.kept }
+
+pub overflow_add-self : goal.overflow_add-self
+overflow_add-self c = omega (arith, c.self.invariant.counted, done_few c.self.inside.tally c.self.inside.slices.items c.self.invariant.tied)
