@@ -21,7 +21,7 @@ once_some : (o : Option GraphValue) → NoRepeats (some_of o)
 once_some None = tt
 once_some (Some y) = (λ h. h, tt)
 
-in_found : (at : ℕ → Option GraphValue) (n : ℕ) (x : GraphValue) → IsIn x (found at n) → (i : ℕ) × (i < n) × (at i ≡ Some x)
+pub in_found : (at : ℕ → Option GraphValue) (n : ℕ) (x : GraphValue) → IsIn x (found at n) → (i : ℕ) × (i < n) × (at i ≡ Some x)
 in_found at zero x h = absurd h
 in_found at (suc n) x h = elim (in_append (found at n) (some_of (at n)) x h) [
   | inl a ↦ (let r = in_found at n x a in (r.0, omega (arith, r.1), r.2))
@@ -31,14 +31,14 @@ in_found at (suc n) x h = elim (in_append (found at n) (some_of (at n)) x h) [
 last : (i n : ℕ) → i < suc n → (i < n) ⊎ (i ≡ n)
 last i n l = elim (cases_lt i n) [ inl k ↦ inl k | inr k ↦ inr (omega (arith, l, k)) ]
 
-found_in : (at : ℕ → Option GraphValue) (n i : ℕ) (x : GraphValue) → i < n → at i ≡ Some x → IsIn x (found at n)
+pub found_in : (at : ℕ → Option GraphValue) (n i : ℕ) (x : GraphValue) → i < n → at i ≡ Some x → IsIn x (found at n)
 found_in at zero i x l e = absurd (omega (arith, l))
 found_in at (suc n) i x l e = elim (last i n l) [
   | inl k ↦ in_left (found at n) (some_of (at n)) x (found_in at n i x k e)
   | inr k ↦ in_right (found at n) (some_of (at n)) x (some_in (at n) x (ap at (sym k) ∙ e))
 ]
 
-once_found : (at : ℕ → Option GraphValue) (n : ℕ) → ((x : GraphValue) (i j : ℕ) → i < n → j < n → at i ≡ Some x → at j ≡ Some x → i ≡ j) → NoRepeats (found at n)
+pub once_found : (at : ℕ → Option GraphValue) (n : ℕ) → ((x : GraphValue) (i j : ℕ) → i < n → j < n → at i ≡ Some x → at j ≡ Some x → i ≡ j) → NoRepeats (found at n)
 once_found at zero once = tt
 once_found at (suc n) once =
     once_append (found at n) (some_of (at n)) (once_found at n (λ x i j li lj. once x i j (omega (arith, li)) (omega (arith, lj)))) (once_some (at n))

@@ -3,8 +3,9 @@
 ghost use Rattle.std.specs.Prelude.{◌≡◌};
 ghost use Rattle.candidates.specs.Candidates.{no_execution};
 
-use crate::assembly::{no_parts, nothing};
-use events::{Graph, GraphParts};
+use crate::assembly::nothing;
+use crate::partial::Spare;
+use events::Graph;
 use std::alloc::Global;
 use std::marker::Model;
 use std::mem::replace;
@@ -13,8 +14,8 @@ use std::mem::replace;
 pub struct Common {
     graph: Graph,
     end: u64,
-    /// What was shown before: its room is used again.
-    spare: GraphParts,
+    /// Where the next one is written.
+    spare: Spare,
 }
 
 // A function of its own: whoever holds one drops it by a call.
@@ -44,23 +45,24 @@ impl Common {
         Common {
             graph: nothing(alloc),
             end: 0,
-            spare: no_parts(alloc),
+            spare: Spare::none(alloc),
         }
     }
 
-    /// Parts that aren't shown any more.
-    pub(crate) fn take_spare(&mut self, alloc: Global) -> GraphParts
+    /// Room to write in.
+    pub(crate) fn take_spare(&mut self, alloc: Global) -> Spare
         ensures { self.new ≡ self.old }
     {
-        replace(&mut self.spare, no_parts(alloc))
+        replace(&mut self.spare, Spare::none(alloc))
     }
 
-    /// Shows this partial execution, and the number behind those of the executions.
-    pub(crate) fn show(&mut self, graph: Graph, end: u64)
+    /// Shows this partial execution, and the number behind those of the executions. The room of what was shown before is spare then.
+    pub(crate) fn show(&mut self, graph: Graph, end: u64, spare: Spare)
         ensures { self.new ≡ record { graph = graph; end = end } }
     {
-        self.spare = replace(&mut self.graph, graph).into_parts();
+        let parts = replace(&mut self.graph, graph).into_parts();
         self.end = end;
+        self.spare = spare.with_parts(parts);
     }
 
     /// The partial execution.

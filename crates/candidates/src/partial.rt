@@ -9,6 +9,7 @@ ghost use Rattle.candidates.specs.declared.depths.Known.TheVariants.{Orders};
 ghost use Rattle.candidates.specs.Executions.{block, later_writes, upto};
 ghost use Rattle.candidates.specs.Readings.{IsPage};
 
+use crate::assembly::no_parts;
 use crate::depths::{Known, Unplaced};
 use crate::ordering::{coherence, order_in};
 use crate::page::Page;
@@ -17,10 +18,50 @@ use crate::threads::put_run;
 use events::laws::extension;
 use events::{Coherence, EventId, Graph, GraphParts, Run};
 use std::alloc::{AllocError, Global};
+use std::mem::replace;
 
-/// A partial execution has at most as many orders as events: one for each location, and one for each write that has no place. Room for so
-/// many is made at once, so that no list of orders grows.
-const MOST_ORDERS: usize = 64;
+/// Where partial executions are written: in the room of one that isn't shown any more, and of lists that an earlier one had. So none of
+/// them asks for memory once there is room for the largest.
+pub(crate) struct Spare {
+    pub(crate) parts: GraphParts,
+    pub(crate) lists: Vec<Coherence>,
+}
+
+// A function of its own: whoever holds one drops it by a call.
+impl Drop for Spare {
+    fn drop(self) {
+        let Spare { parts: _, lists: _ } = self;
+    }
+}
+
+impl Spare {
+    /// No room.
+    pub(crate) fn none(alloc: Global) -> Self {
+        Spare {
+            parts: no_parts(alloc),
+            lists: Vec::new(alloc),
+        }
+    }
+
+    /// The room of this execution in place of the other's.
+    pub(crate) fn with_parts(self, parts: GraphParts) -> Self {
+        let Spare { parts: _, lists } = self;
+        Spare { parts, lists }
+    }
+
+    /// The room of the execution.
+    fn take_parts(&mut self, alloc: Global) -> GraphParts {
+        replace(&mut self.parts, no_parts(alloc))
+    }
+
+    /// The list without its orders, whose lists are spare then.
+    fn emptied(&mut self, mut orders: Vec<Coherence>) -> Result<Vec<Coherence>, AllocError>
+        ensures { IfOk result (λ v. v.items ≡ []) }
+    {
+        self.lists.append(&mut orders)?;
+        Ok(orders)
+    }
+}
 
 /// The number of the order of some writes without so many of the first of them, where the order of them all has this number.
 fn number_behind(writes: usize, without: usize, number: u64) -> u64
@@ -65,20 +106,22 @@ fn cut_order(
     order_in(alloc, list, location, &later[without..], number)
 }
 
-/// The orders with this number, without the writes that have no place.
+/// Writes the orders with this number, without the writes that have no place, into an empty list.
 fn cut_each(
     alloc: Global,
     spare: &mut Vec<Coherence>,
+    room: Vec<Coherence>,
     page: &Page,
     locations: usize,
     unplaced: Unplaced,
     number: u64,
 ) -> Result<Vec<Coherence>, AllocError>
+    requires room { room.items ≡ [] }
     requires page { IsPage locations page.now }
     requires unplaced { Fits locations page.now.runs.items (Orders unplaced) }
     ensures { IfOk result (λ v. v.items ≡ cut_orders page.now.runs.items unplaced.locations unplaced.writes (upto locations) number) }
 {
-    let mut co = Vec::with_capacity(alloc, MOST_ORDERS)?;
+    let mut co = room;
     let mut rest = number;
     for location in 0..locations {
         let later = page.writes_to(location);
@@ -210,22 +253,21 @@ fn by_sources(
     page: &Page,
     count: usize,
     number: u64,
-    parts: GraphParts,
+    spare: &mut Spare,
 ) -> Result<Graph, AllocError>
     requires page { IsPage (length init.now) page.now }
     requires number { number < block (length init.now) page.now.runs.items }
     ensures { IfOk result (λ g. g ≡ cut_by_reads init.now page.now.runs.items count number) }
 {
-    let filled = refill(init, page, number, parts)?;
+    let filled = refill(init, page, number, spare.take_parts(alloc))?;
     let mut rf = filled.rf;
     rf.truncate(count);
-    let mut spare = filled.co;
-    let mut co = Vec::with_capacity(alloc, MOST_ORDERS)?;
+    let mut co = spare.emptied(filled.co)?;
     let unplaced = Unplaced {
         locations: init.len(),
         writes: 0,
     };
-    push_open(alloc, &mut spare, &mut co, page, init.len(), unplaced)?;
+    push_open(alloc, &mut spare.lists, &mut co, page, init.len(), unplaced)?;
     extension();
     Ok(Graph::new(filled.init, filled.runs, rf, co))
 }
@@ -237,31 +279,32 @@ fn by_orders(
     page: &Page,
     unplaced: Unplaced,
     number: u64,
-    parts: GraphParts,
+    spare: &mut Spare,
 ) -> Result<Graph, AllocError>
     requires page { IsPage (length init.now) page.now }
     requires unplaced { Fits (length init.now) page.now.runs.items (Orders unplaced) }
     requires number { number < block (length init.now) page.now.runs.items }
     ensures { IfOk result (λ g. g ≡ cut_by_orders init.now page.now.runs.items unplaced.locations unplaced.writes number) }
 {
-    let filled = refill(init, page, number, parts)?;
-    let mut spare = filled.co;
+    let filled = refill(init, page, number, spare.take_parts(alloc))?;
+    let room = spare.emptied(filled.co)?;
+    let lists = &mut spare.lists;
     let digits = number % page.orders;
-    let mut co = cut_each(alloc, &mut spare, page, init.len(), unplaced, digits)?;
-    push_open(alloc, &mut spare, &mut co, page, init.len(), unplaced)?;
+    let mut co = cut_each(alloc, lists, room, page, init.len(), unplaced, digits)?;
+    push_open(alloc, lists, &mut co, page, init.len(), unplaced)?;
     extension();
     Ok(Graph::new(filled.init, filled.runs, filled.rf, co))
 }
 
 /// What the candidates of the page's runs have in common of which the same is known as of the one with this number. It is
-/// written in the room of other parts.
+/// written in spare room.
 pub(crate) fn cut(
     alloc: Global,
     init: &[u32],
     page: &Page,
     known: Known,
     number: u64,
-    parts: GraphParts,
+    spare: &mut Spare,
 ) -> Result<Graph, AllocError>
     requires page { IsPage (length init.now) page.now }
     requires known { Fits (length init.now) page.now.runs.items known }
@@ -269,7 +312,7 @@ pub(crate) fn cut(
     ensures { IfOk result (λ g. g ≡ cut_by init.now page.now.runs.items known number) }
 {
     match known {
-        Known::Sources(count) => by_sources(alloc, init, page, count, number, parts),
-        Known::Orders(unplaced) => by_orders(alloc, init, page, unplaced, number, parts),
+        Known::Sources(count) => by_sources(alloc, init, page, count, number, spare),
+        Known::Orders(unplaced) => by_orders(alloc, init, page, unplaced, number, spare),
     }
 }

@@ -485,15 +485,16 @@ impl<'a> Walk<'a> {
         match block_before(&self.scene.stretch, self.next, depth) {
             Some(block) => {
                 let page = &self.scene.stretch.page;
-                let parts = common.take_spare(alloc);
+                let mut spare = common.take_spare(alloc);
                 let init = self.space.init();
-                let graph = cut(alloc, init, page, block.known, block.place, parts)?;
-                common.show(graph, block.end);
+                let graph = cut(alloc, init, page, block.known, block.place, &mut spare)?;
+                common.show(graph, block.end, spare);
                 Ok(())
             }
             None => {
                 let graph = graph_before(alloc, self.space, self.next)?;
-                common.show(graph, self.next);
+                let spare = common.take_spare(alloc);
+                common.show(graph, self.next, spare);
                 Ok(())
             }
         }

@@ -16,7 +16,7 @@ new-requires c =
     let number = c.args.number in
     let n = length init in
     let rf = c.truncate.ensures.items ∙ ap (λ (ws : List EventId). take c.args.count ws) (c.in_ok-filled.ensures.rf) in
-    let co = c.in_ok-push_open.ensures ∙ ap (λ (ws : List (List EventId)). ws ++ open_pairs runs n 0 (upto n)) c.in_ok-co.ensures.items in
+    let co = c.in_ok-push_open.ensures ∙ ap (λ (ws : List (List EventId)). ws ++ open_pairs runs n 0 (upto n)) c.in_ok-co.ensures in
     let e = cut_of_reads init runs c.args.count number page.orders c.in_ok-filled.filled.init.items c.in_ok-filled.filled.runs.items c.truncate.new.self.items c.push_open.new.co.items
     c.in_ok-filled.ensures.init c.in_ok-filled.ensures.runs c.requires.page.orders rf co in
     let P : GraphValue → Type 0 = IsGraph in
@@ -30,6 +30,6 @@ returns c =
     let number = c.args.number in
     let n = length init in
     let rf = c.truncate.ensures.items ∙ ap (λ (ws : List EventId). take c.args.count ws) (c.in_ok-filled.ensures.rf) in
-    let co = c.in_ok-push_open.ensures ∙ ap (λ (ws : List (List EventId)). ws ++ open_pairs runs n 0 (upto n)) c.in_ok-co.ensures.items in
+    let co = c.in_ok-push_open.ensures ∙ ap (λ (ws : List (List EventId)). ws ++ open_pairs runs n 0 (upto n)) c.in_ok-co.ensures in
     c.new.ensures ∙ cut_of_reads init runs c.args.count number page.orders c.in_ok-filled.filled.init.items c.in_ok-filled.filled.runs.items c.truncate.new.self.items c.push_open.new.co.items
     c.in_ok-filled.ensures.init c.in_ok-filled.ensures.runs c.requires.page.orders rf co

@@ -16,7 +16,7 @@ loop-location-init c =
     let k = c.args.unplaced.writes in
     let rest : List (List EventId) = cut_orders c.args.page.now.runs.items (free - 0) (left_at free k 0) (upto c.args.locations) c.args.number in
     record {
-      is = ap (λ (ys : List (List EventId)). ys ++ rest) c.in_ok-co.ensures.items ∙ first;
+      is = ap (λ (ys : List (List EventId)). ys ++ rest) c.requires.room ∙ first;
       within = omega arith;
     }
 
