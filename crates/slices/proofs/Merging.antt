@@ -12,6 +12,7 @@ use Rattle.litmus_tree.specs.Tree.{Litmus}
 use Rattle.candidates.specs.Candidates.{At, IsNumberedBy, found, some_of}
 use Rattle.candidates.specs.Executions.{IsExecution}
 use Rattle.candidates.proofs.Law.{numbering, sized}
+use Rattle.candidates.proofs.Tallies.{in_found, found_in, once_found}
 use Rattle.slices.specs.declared.span.Span.{Span}
 use Rattle.slices.specs.Parts.{AreThose, executions_in, test_size}
 use Rattle.slices.specs.Tallies.{holds, IsHeld, IsApart, IsCover, IsAmong}
@@ -21,49 +22,13 @@ use Rattle.slices.proofs.Members.{lists_same, lists_append, no_longer}
 
 -- what stands at the numbers of a range
 
-in_some : (o : Option GraphValue) (x : GraphValue) → IsIn x (some_of o) → o ≡ Some x
-in_some None x h = absurd h
-in_some (Some y) x h = elim h [ inl e ↦ ap (λ (z : GraphValue). Some z) (sym e) | inr n ↦ absurd n ]
-
-some_in : (o : Option GraphValue) (x : GraphValue) → o ≡ Some x → IsIn x (some_of o)
-some_in o x e = let P : Option GraphValue → Type 0 = λ p. IsIn x (some_of p) in subst P (sym e) (inl refl)
-
-once_some : (o : Option GraphValue) → NoRepeats (some_of o)
-once_some None = tt
-once_some (Some y) = (λ h. h, tt)
-
 few_some : (o : Option GraphValue) → length (some_of o) ≤ 1
 few_some None = omega arith
 few_some (Some y) = omega arith
 
-in_found : (at : ℕ → Option GraphValue) (n : ℕ) (x : GraphValue) → IsIn x (found at n) → (i : ℕ) × (i < n) × (at i ≡ Some x)
-in_found at zero x h = absurd h
-in_found at (suc n) x h = elim (in_append (found at n) (some_of (at n)) x h) [
-  | inl a ↦ (let r = in_found at n x a in (r.0, omega (arith, r.1), r.2))
-  | inr b ↦ (n, omega arith, in_some (at n) x b)
-]
-
-last : (i n : ℕ) → i < suc n → (i < n) ⊎ (i ≡ n)
-last i n l = elim (cases_lt i n) [ inl k ↦ inl k | inr k ↦ inr (omega (arith, l, k)) ]
-
-found_in : (at : ℕ → Option GraphValue) (n i : ℕ) (x : GraphValue) → i < n → at i ≡ Some x → IsIn x (found at n)
-found_in at zero i x l e = absurd (omega (arith, l))
-found_in at (suc n) i x l e = elim (last i n l) [
-  | inl k ↦ in_left (found at n) (some_of (at n)) x (found_in at n i x k e)
-  | inr k ↦ in_right (found at n) (some_of (at n)) x (some_in (at n) x (ap at (sym k) ∙ e))
-]
-
 found_most : (at : ℕ → Option GraphValue) (n : ℕ) → length (found at n) ≤ n
 found_most at zero = omega arith
 found_most at (suc n) = omega (arith, found_most at n, few_some (at n), length-append (found at n) (some_of (at n)))
-
-once_found : (at : ℕ → Option GraphValue) (n : ℕ) → ((x : GraphValue) (i j : ℕ) → i < n → j < n → at i ≡ Some x → at j ≡ Some x → i ≡ j) → NoRepeats (found at n)
-once_found at zero once = tt
-once_found at (suc n) once =
-    once_append (found at n) (some_of (at n)) (once_found at n (λ x i j li lj. once x i j (omega (arith, li)) (omega (arith, lj)))) (once_some (at n))
-    (λ x a b. let r = in_found at n x a in
-    let e : r.0 ≡ n = once x r.0 n (omega (arith, r.1)) (omega arith) r.2 (in_some (at n) x b) in
-    absurd (omega (arith, e, r.1)))
 
 shifted : (from to i j : ℕ) → i < to - from → j < to - from → from + i ≡ from + j → i ≡ j
 shifted from to i j li lj e = omega (arith, e)
