@@ -1,4 +1,5 @@
 pub mod Latest
+pub mod Paired
 pub mod Waiting
 pub mod Contained
 pub mod Listed

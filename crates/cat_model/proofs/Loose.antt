@@ -12,7 +12,8 @@ use Rattle.cat_tree.specs.Tree.{Defined}
 use Rattle.cat_tree.specs.declared.node.Node.{Node}
 use Rattle.cat_tree.specs.declared.node.Node.TheVariants as nodes
 use Rattle.cat_tree.specs.Terms.{Word, Term, call, terms_of, applied, joined, name, universe, latest, earlier, left_by}
-use Rattle.cat_model.proofs.Waiting.{for_latest, node_as, pushed}
+use Rattle.cat_model.proofs.Paired.{for_latest}
+use Rattle.cat_model.proofs.Waiting.{paired_along, node_as, pushed}
 use Rattle.cat_model.specs.Along.{is_loose, IsFirstLoose, first_some, ForEach}
 use Rattle.cat_model.proofs.Contained.{kept, was_kept}
 use Rattle.cat_model.specs.Names.{names, all_names, free_names, is_among}
@@ -111,9 +112,9 @@ module _ (ns : List BoundName) (ps : List Word) where
       let R = IsFirstLoose ns ps in
       let a : Term = latest universe (earlier us) in
       let b : Term = latest universe us in
-      let p = for_latest R None (reverse ks) us refl h in
+      let p = for_latest (paired_along R) None universe (reverse ks) us refl h in
       let A : List (Option (Bor Word)) → Type 0 = λ z. ForEach R z (earlier us) in
-      let q = for_latest R None (reverse ls) (earlier us) refl (subst A (sym els) p.1) in
+      let q = for_latest (paired_along R) None universe (reverse ls) (earlier us) refl (subst A (sym els) p.1) in
       let B : List (Option (Bor Word)) → Type 0 = λ z. ForEach R z (earlier (earlier us)) in
       let L : Option (Bor Word) → Type 0 = λ z. R z a in
       let K : Option (Bor Word) → Type 0 = λ z. R z b in

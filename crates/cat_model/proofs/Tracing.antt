@@ -5,7 +5,7 @@ use Rattle.std.specs.List.{Contains}
 use Rattle.std.specs.Option.{option_or}
 use Rattle.std.specs.Str.{bytes_eq}
 use Rattle.std.proofs.lemmas.Bool.{cases_lt}
-use Rattle.std.proofs.lemmas.List.{take_rest, map-append, take-append-drop, reverse-append, reverse-reverse, length-reverse, length-drop, length-map}
+use Rattle.std.proofs.lemmas.List.{take_rest, map-append, reverse-append, length-map}
 use Rattle.std.proofs.lemmas.List.Elements.{Contains-append_left, Contains-append_right, Contains-append_cases}
 use Rattle.cat_tree.specs.declared.node.Infix.{Infix}
 use Rattle.cat_tree.specs.declared.node.Infix.TheVariants.{Union, Sequence, Difference, Intersection, Product}
@@ -20,13 +20,14 @@ use Rattle.cat_tree.specs.Terms.{Word, Term, name, universe, call, leaf_of, appl
 use Rattle.cat_model.specs.Classing.{place_in}
 use Rattle.cat_model.specs.Denials.{Mark, Marking, denied_mark, deny, marks, all_marks, with_mark, applied_marks}
 use Rattle.cat_model.specs.Lookups.{held_in}
-use Rattle.cat_model.specs.Marked.{mark_if, Comes, IsMarked, IsMarkedBy, FitMarks, given_marks, Traced, trace_if, Composes, ForEach, AreTraced, traces_applied, traces_joined, IsOuter, IsNamedAt, IsNamed}
+use Rattle.cat_model.specs.Marked.{mark_if, Comes, IsMarked, IsMarkedBy, FitMarks, given_marks, Traced, trace_if, Composes, AreTraced, traces_applied, traces_joined, IsOuter, IsNamedAt, IsNamed}
 use Rattle.cat_model.specs.declared.denials.Marked.{Marked}
 use Rattle.cat_model.specs.declared.denials.Trace.{Trace}
 use Rattle.cat_model.specs.declared.scope.BoundName.{BoundName}
 use Rattle.cat_model.specs.declared.scope.Held.{Held}
 use Rattle.cat_model.specs.declared.scope.Held.TheVariants.{Value, Function}
 use Rattle.cat_model.specs.declared.scope.Summary.{Summary}
+use Rattle.cat_model.proofs.Paired.{IsPaired, for_length, for_latest, for_call}
 use Rattle.cat_model.proofs.Members.{nothing_in, contains_first, contains_one, mapped, map_member}
 
 -- traces
@@ -139,11 +140,8 @@ at_traced ns xs (v ∷ vs) [] h M f ms l i m = absurd h
 at_traced ns xs (v ∷ vs) (u ∷ us) h M f ms l zero m = h.0 M f ms l m
 at_traced ns xs (v ∷ vs) (u ∷ us) h M f ms l (suc i) m = at_traced ns xs vs us h.1 M f ms l i m
 
-each_long : {A X : Type 0} (R : A → X → Type 0) (as' : List A) (xs : List X) → ForEach R as' xs → length as' ≡ length xs
-each_long R [] [] h = refl
-each_long R [] (x ∷ xs) h = absurd h
-each_long R (a ∷ as') [] h = absurd h
-each_long R (a ∷ as') (x ∷ xs) h = ap suc (each_long R as' xs h.1)
+paired_traced : (ns : List BoundName) (xs : List Word) → IsPaired (Traced ns xs) (AreTraced ns xs)
+paired_traced ns xs = record { ends = tt; too_long = λ k ks h. h; too_short = λ t ts h. h; both = λ k ks t ts. (λ h. h, λ h. h) }
 
 body_traced : (s : Marked) (vs : List (List Trace)) (ls ms : List (List Mark)) (ts : List Trace) (L : List Mark) → length vs ≡ length ls → ((i : ℕ) (m : Mark) → Contains (get_or ls i []) m ↔ Comes (get_or vs i []) ms m) →
     ((m : Mark) → Contains L m ↔ ((s.count ≤ length ls) × Comes s.traces.items ls m)) → ((q : Trace) → Contains ts q ↔ ((s.count ≤ length vs) × Composes s.traces.items vs q)) → (m : Mark) → Contains L m ↔ Comes ts ms m
@@ -198,7 +196,7 @@ named_traced ns xs x vs us ts o p h n M f ms l m =
     subst P (sym (given_is M xs ms x ls l ∙ ap (λ q. marks_at q ms (M x ls)) p)) (by o n)
   where
     long : length vs ≡ length (map (marks (given_marks M xs ms)) us)
-    long = each_long (Traced ns xs) vs us h ∙ sym (length-map us (marks (given_marks M xs ms)))
+    long = for_length (paired_traced ns xs) vs us h ∙ sym (length-map us (marks (given_marks M xs ms)))
 
     by : (o : Option ℕ) → IsNamedAt o (held_in ns x) vs ts → Contains (marks_at o ms (M x (map (marks (given_marks M xs ms)) us))) m ↔ Comes ts ms m
     by (Some i) e = (let Q : List Trace → Type 0 = λ k. Contains (get_or ms i []) m ↔ Comes k ms m in subst Q (sym e) (comes_one i ms m))
@@ -222,56 +220,6 @@ traced_nothing ns xs ts t e d M f ms l m = (
   λ c. absurd (comes_none ms m (let P : List Trace → Type 0 = λ k. Comes k ms m in subst P e c)),
 )
 
--- stacks
-
-for_first : {A X : Type 0} (R : A → X → Type 0) (as' : List A) (xs : List X) (d : A) (e : X) → R d e → ForEach R as' xs → R (latest d as') (latest e xs) × ForEach R (earlier as') (earlier xs)
-for_first R [] [] d e r h = (r, tt)
-for_first R [] (x ∷ xs) d e r h = absurd h
-for_first R (a ∷ as') [] d e r h = absurd h
-for_first R (a ∷ as') (x ∷ xs) d e r h = h
-
-for_push : {A X : Type 0} (R : A → X → Type 0) (as' : List A) (xs : List X) (a : A) (x : X) → ForEach R as' xs → R a x → ForEach R (as' ++ a ∷ []) (xs ++ x ∷ [])
-for_push R [] [] a x h r = (r, tt)
-for_push R [] (y ∷ xs) a x h r = absurd h
-for_push R (b ∷ as') [] a x h r = absurd h
-for_push R (b ∷ as') (y ∷ xs) a x h r = (h.0, for_push R as' xs a x h.1 r)
-
-for_reverse : {A X : Type 0} (R : A → X → Type 0) (as' : List A) (xs : List X) → ForEach R as' xs → ForEach R (reverse as') (reverse xs)
-for_reverse R [] [] h = tt
-for_reverse R [] (y ∷ xs) h = absurd h
-for_reverse R (b ∷ as') [] h = absurd h
-for_reverse {A} {X} R (b ∷ as') (y ∷ xs) h =
-    let P : List A → Type 0 = λ l. ForEach R l (reverse (y ∷ xs)) in
-    let Q : List X → Type 0 = λ l. ForEach R (reverse as' ++ b ∷ []) l in
-    subst P (sym (reverse-append (b ∷ []) as')) (subst Q (sym (reverse-append (y ∷ []) xs)) (for_push R (reverse as') (reverse xs) b y (for_reverse R as' xs h.1) h.0))
-
-for_split : {A X : Type 0} (R : A → X → Type 0) (bs cs : List A) (xs : List X) (n : ℕ) → ((length bs ≡ n) ⊎ ((cs ≡ []) × (length bs ≤ n))) → ForEach R (bs ++ cs) xs → ForEach R bs (take n xs) × ForEach R cs (drop n xs)
-for_split R [] cs xs zero w h = (tt, h)
-for_split {A} {X} R [] cs [] (suc n) w h = (tt, h)
-for_split {A} {X} R [] cs (x ∷ xs) (suc n) (inl e) h = absurd (omega (arith, e))
-for_split {A} {X} R [] cs (x ∷ xs) (suc n) (inr e) h = (let P : List A → Type 0 = λ l. ForEach R l (x ∷ xs) in absurd (subst P e.0 h))
-for_split R (b ∷ bs) cs [] n w h = absurd h
-for_split R (b ∷ bs) cs (x ∷ xs) zero (inl e) h = absurd (omega (arith, e))
-for_split R (b ∷ bs) cs (x ∷ xs) zero (inr e) h = (let a = e.1 in absurd (omega (arith, a)))
-for_split R (b ∷ bs) cs (x ∷ xs) (suc n) (inl e) h = (let r = for_split R bs cs xs n (inl (omega (arith, e))) h.1 in ((h.0, r.0), r.1))
-for_split R (b ∷ bs) cs (x ∷ xs) (suc n) (inr e) h = (let a = e.1 in let r = for_split R bs cs xs n (inr (e.0, omega (arith, a))) h.1 in ((h.0, r.0), r.1))
-
-cases_from : {A : Type 0} (ks : List A) (m n : ℕ) → m ≡ length ks - n → length (reverse (drop m ks)) ≡ length ks - m → (length (reverse (drop m ks)) ≡ n) ⊎ ((reverse (take m ks) ≡ []) × (length (reverse (drop m ks)) ≤ n))
-cases_from ks m n e a = elim (cases_lt (length ks) n) [
-  | inl l ↦ inr ((let z : m ≡ 0 = omega (arith, l, e) in ap (λ j. reverse (take j ks)) z), omega (arith, a, l))
-  | inr l ↦ inl (omega (arith, a, l, e))
-]
-
--- the latest of a vector, as many as n, and those before them
-for_call : {A X : Type 0} (R : A → X → Type 0) (ks : List A) (m n : ℕ) (ts : List X) → m ≡ length ks - n → ForEach R (reverse ks) ts → ForEach R (drop m ks) (reverse (take n ts)) × ForEach R (reverse (take m ks)) (drop n ts)
-for_call {A} {X} R ks m n ts e h =
-    let whole : reverse ks ≡ reverse (drop m ks) ++ reverse (take m ks) = ap (λ l. reverse l) (sym (take-append-drop m ks)) ∙ reverse-append (take m ks) (drop m ks) in
-    let P : List A → Type 0 = λ l. ForEach R l ts in
-    let a : length (reverse (drop m ks)) ≡ length ks - m = length-reverse (drop m ks) ∙ length-drop m ks in
-    let r = for_split R (reverse (drop m ks)) (reverse (take m ks)) ts n (cases_from ks m n e a) (subst P whole h) in
-    let Q : List A → Type 0 = λ l. ForEach R l (reverse (take n ts)) in
-    (subst Q (reverse-reverse (drop m ks)) (for_reverse R (reverse (drop m ks)) (take n ts) r.0), r.1)
-
 -- nodes
 
 traced_universe : (ns : List BoundName) (xs : List Word) → Traced ns xs [] universe
@@ -288,16 +236,15 @@ pub trace_signs : (ns : List BoundName) (xs : List Word) (n : Node) (u : Sign) (
 trace_signs ns xs n u v w vs ws ts e f g d h =
     let P : List Trace → Type 0 = λ a. Traced ns xs a (applied u (latest universe ts)) in
     let Q : List (List Trace) → Type 0 = λ a. AreTraced ns xs a (earlier ts) in
-    let r = for_first (Traced ns xs) vs ts [] universe (traced_universe ns xs) h in
+    let r = for_latest (paired_traced ns xs) [] universe vs ts (traced_universe ns xs) h in
     node_by ns xs n (nodes.Sign u) (v ∷ ws) ts e (subst P (sym (d ∙ ap (traces_applied u) f)) (traced_sign ns xs u (latest universe ts) (latest [] vs) r.0), subst Q (sym g) r.1)
 
 pub trace_operators : (ns : List BoundName) (xs : List Word) (n : Node) (o : Infix) (v a b : List Trace) (vs ws us : List (List Trace)) (ts : List Term) → n ≡ nodes.Infix o → b ≡ latest [] vs → ws ≡ earlier vs → a ≡ latest [] ws → us ≡ earlier ws →
     v ≡ traces_joined o a b → AreTraced ns xs vs ts → AreTraced ns xs (v ∷ us) (left_by n ts)
 trace_operators ns xs n o v a b vs ws us ts e f g x y d h =
-    let R : List Trace → Term → Type 0 = Traced ns xs in
-    let r = for_first R vs ts [] universe (traced_universe ns xs) h in
+    let r = for_latest (paired_traced ns xs) [] universe vs ts (traced_universe ns xs) h in
     let W : List (List Trace) → Type 0 = λ k. AreTraced ns xs k (earlier ts) in
-    let s = for_first R ws (earlier ts) [] universe (traced_universe ns xs) (subst W (sym g) r.1) in
+    let s = for_latest (paired_traced ns xs) [] universe ws (earlier ts) (traced_universe ns xs) (subst W (sym g) r.1) in
     let B : List Trace → Type 0 = λ k. Traced ns xs k (latest universe ts) in
     let A : List Trace → Type 0 = λ k. Traced ns xs k (latest universe (earlier ts)) in
     let P : List Trace → Type 0 = λ k. Traced ns xs k (joined o (latest universe (earlier ts)) (latest universe ts)) in
@@ -308,7 +255,7 @@ trace_operators ns xs n o v a b vs ws us ts e f g x y d h =
 pub trace_calls : (ns : List BoundName) (xs : List Word) (n : Node) (f : Word) (count m : ℕ) (v : List Trace) (vs as' ws : List (List Trace)) (ts : List Term) → n ≡ nodes.Call f count → m ≡ length vs - count → as' ≡ drop m vs → ws ≡ take m vs →
     IsNamed ns xs f as' v → AreTraced ns xs (reverse vs) ts → AreTraced ns xs (v ∷ reverse ws) (left_by n ts)
 trace_calls ns xs n f count m v vs as' ws ts e l a g made h =
-    let r = for_call (Traced ns xs) vs m count ts l h in
+    let r = for_call (paired_traced ns xs) vs m count ts l h in
     let P : List (List Trace) → Type 0 = λ k. AreTraced ns xs (reverse k) (drop count ts) in
     let Q : List (List Trace) → Type 0 = λ k. AreTraced ns xs k (reverse (take count ts)) in
     node_by ns xs n (nodes.Call f count) (v ∷ reverse ws) ts e (traced_call ns xs f as' (reverse (take count ts)) v (subst Q (sym a) r.0) made, subst P (sym g) r.1)
@@ -318,7 +265,7 @@ trace_calls ns xs n f count m v vs as' ws ts e l a g made h =
 pub traced_whole : (ns : List BoundName) (xs : List Word) (ms : List Node) (vs : List (List Trace)) (v : List Trace) (ts : List Term) → postorder (term_in ms) ≡ ms → v ≡ latest [] vs → ts ≡ left_by_all [] ms → AreTraced ns xs vs ts → Traced ns xs v (term_in ms)
 traced_whole ns xs ms vs v ts w e g h =
     let P : List Term → Type 0 = λ k. AreTraced ns xs vs k in
-    let r = for_first (Traced ns xs) vs (term_in ms ∷ []) [] universe (traced_universe ns xs) (subst P (g ∙ left_alone ms w) h) in
+    let r = for_latest (paired_traced ns xs) [] universe vs (term_in ms ∷ []) (traced_universe ns xs) (subst P (g ∙ left_alone ms w) h) in
     let Q : List Trace → Type 0 = λ k. Traced ns xs k (term_in ms) in
     subst Q (sym e) r.0
 
