@@ -3,7 +3,7 @@
 ghost use Rattle.std.specs.Prelude.{◌≡◌, length, map, IfOk};
 ghost use Rattle.cat_tree.specs.Tree.{clause_of};
 ghost use Rattle.cat_eval.specs.Code.{planned_clause};
-ghost use Rattle.cat_eval.specs.Prepared.{IsReadyFor, stretch_of};
+ghost use Rattle.cat_eval.specs.Prepared.{IsReadyFor, steps_of_item};
 
 use crate::evaluator::Evaluator;
 use crate::growth::Growth;
@@ -19,7 +19,7 @@ use std::alloc::{AllocError, Global};
 
 /// Where the steps of an item are, as a planned item says it.
 #[derive(Clone, Copy)]
-pub(crate) struct Stretch {
+pub(crate) struct ItemSteps {
     start: usize,
     from: usize,
     to: usize,
@@ -30,7 +30,7 @@ pub struct Prepared {
     pub(crate) steps: Vec<Step>,
     pub(crate) bases: Vec<Basis>,
     pub(crate) ends: Vec<usize>,
-    pub(crate) stretches: Vec<Stretch>,
+    pub(crate) item_steps: Vec<ItemSteps>,
     pub(crate) growths: Vec<Growth>,
     pub(crate) telling: usize,
     pub(crate) values: Vec<Value>,
@@ -46,7 +46,7 @@ impl Drop for Prepared {
             steps: _,
             bases: _,
             ends: _,
-            stretches: _,
+            item_steps: _,
             growths: _,
             telling: _,
             values: _,
@@ -58,36 +58,36 @@ impl Drop for Prepared {
 }
 
 /// Where the steps of items are.
-pub(crate) fn stretches<'m>(
+pub(crate) fn item_steps<'m>(
     alloc: Global,
     items: &[PlannedItem<'m>],
-) -> Result<Vec<Stretch>, AllocError>
-    ensures { IfOk result (λ v. v.items ≡ map stretch_of items.now) }
+) -> Result<Vec<ItemSteps>, AllocError>
+    ensures { IfOk result (λ v. v.items ≡ map steps_of_item items.now) }
 {
-    let mut stretches = Vec::with_capacity(alloc, items.len())?;
+    let mut item_steps = Vec::with_capacity(alloc, items.len())?;
     for item in items {
-        stretches.push(Stretch {
+        item_steps.push(ItemSteps {
             start: item.start,
             from: item.from,
             to: item.to,
         })?;
     }
-    Ok(stretches)
+    Ok(item_steps)
 }
 
 /// Items with their steps.
 fn planned<'m>(
     alloc: Global,
     items: &'m [Item],
-    stretches: &[Stretch],
+    item_steps: &[ItemSteps],
 ) -> Result<Vec<PlannedItem<'m>>, AllocError>
-    requires { length items.now ≡ length stretches.now }
+    requires { length items.now ≡ length item_steps.now }
     ensures clauses { IfOk result (λ v. map planned_clause v.items ≡ map clause_of items.entry.now) }
-    ensures stretches { IfOk result (λ v. map stretch_of v.items ≡ stretches.now) }
+    ensures item_steps { IfOk result (λ v. map steps_of_item v.items ≡ item_steps.now) }
 {
     let mut planned = Vec::with_capacity(alloc, items.len())?;
     for (number, item) in items.iter().enumerate() {
-        let Stretch { start, from, to } = stretches[number];
+        let ItemSteps { start, from, to } = item_steps[number];
         planned.push(PlannedItem {
             item,
             start,
@@ -108,12 +108,12 @@ impl Prepared {
         requires { IsReadyFor model.now.items self }
         ensures { IfOk result (λ e. e ≡ model.entry.now.items) }
     {
-        let items = planned(alloc, model.items(), &self.stretches)?;
+        let items = planned(alloc, model.items(), &self.item_steps)?;
         let Prepared {
             steps,
             bases,
             ends,
-            stretches: _,
+            item_steps: _,
             growths,
             telling,
             values,
