@@ -11,7 +11,7 @@ use crate::walk::{MOST_ITEMS, Turn, Visit, items_of};
 use cat_model::{Files, ModelFault, resolve};
 use cat_syntax::{CatFile, Item};
 use std::alloc::{AllocError, Global};
-use wb_text::Name;
+use wb_text::{Name, NameFault};
 
 /// The item of a visit, if there is one.
 pub fn item_of<'a>(files: &'a [CatFile], visit: &Visit) -> Option<&'a Item>
@@ -97,6 +97,17 @@ pub fn items_put(
     Ok(items)
 }
 
+/// The name of a file of its own.
+fn main_name(alloc: Global) -> Result<Name, AllocError>
+    ensures { IfOk result (λ n. n ≡ spec.main) }
+{
+    match Name::new(alloc, b"main.cat") {
+        Ok(name) => Ok(name),
+        Err(NameFault::NoMemory) => Err(AllocError),
+        Err(NameFault::BadName) => unreachable!(),
+    }
+}
+
 /// The files with these items as the only one.
 fn alone(alloc: Global, main: &Name, items: Vec<Item>) -> Result<Files, AllocError>
     requires { main.now ≡ spec.main }
@@ -124,9 +135,7 @@ pub fn is_model(alloc: Global, items: Vec<Item>) -> Result<bool, AllocError>
     ensures yes { IfOk result (λ b. b ≡ true → (e : Fault) → ¬ IsCause e (spec.alone (map clause_of items.items)) spec.main) }
     ensures no { IfOk result (λ b. b ≡ false → (e : Fault) × IsCause e (spec.alone (map clause_of items.items)) spec.main) }
 {
-    let Ok(main) = Name::new(alloc, b"main.cat") else {
-        return Err(AllocError);
-    };
+    let main = main_name(alloc)?;
     let files = alone(alloc, &main, items)?;
     match resolve(alloc, &files, &main) {
         Ok(_model) => return Ok(true),
