@@ -12,7 +12,9 @@ use Rattle.candidates.specs.Walks.{IsHit, IsMiss, NoneFrom, Walking}
 use Rattle.candidates.proofs.Walked.{found_from}
 use Rattle.slices.specs.Findings.{FindingValue}
 use Rattle.slices.specs.Parts.{AreThose}
-use Rattle.slices.specs.Passing.{ArePassed, IsForbidden, NoneAllowed}
+use Rattle.slices.specs.Passing.{ArePassed, HasGoneOver, IsForbidden, Knows, NoneAllowed}
+use Rattle.slices.specs.declared.pruning.Pruner.{Pruner}
+use Rattle.slices.specs.declared.span.Span.{Span}
 use Rattle.slices.proofs.Counted.{IsCountOf, IsUnderWay, those-pass}
 
 pass_one : (P : GraphValue → Type 0) (xs ys : List GraphValue) (o : Option GraphValue) → ((x : GraphValue) → o ≡ Some x → ¬ P x) → AreThose P xs ys → AreThose P (xs ++ some_of o) ys
@@ -66,6 +68,26 @@ miss_number v w (Some m) none h = absurd (none m refl)
 -- a walk that goes on behind what it found has less before it
 pub walk_nearer : (n : ℕ) (v w : Walking) → w.to ≡ v.to → n < w.next → v.next ≤ n → n < v.to → w.to - w.next < v.to - v.next
 walk_nearer n v w to later old below = omega (arith, to, later, old, below)
+
+-- what a pruner knows, by its numbers alone
+pub knows_alike : (s u : Choices) (items clauses : List Clause) (p q : Pruner) → s ≡ u → items ≡ clauses → q.refuted ≡ p.refuted → Knows s items p → Knows u clauses q
+knows_alike s u items clauses p q space model same known =
+    let P : Choices → Type 0 = λ z. Knows z items p in
+    let Q : List Clause → Type 0 = λ z. Knows u z p in
+    let R : Span → Type 0 = λ z. NoneAllowed clauses u z.from z.to in
+    subst R (sym same) (subst Q model (subst P space known))
+
+-- what is gone over isn't counted
+pub walked_on : (t : Litmus) (items : List Clause) (from to : ℕ) (v w : Walking) (f : FindingValue) → IsUnderWay t items from to v f → HasGoneOver items v w → IsUnderWay t items from to w f
+walked_on t items from to v w f h p =
+    let Q : Choices → Type 0 = λ s. IsCountOf t items (found_from s from w.next) f in
+    record {
+      counted = subst Q (sym p.space) (counts_pass t items v.space f from v.next w.next h.order p.order p.none h.counted);
+      few = omega (arith, h.few, p.order);
+      order = omega (arith, h.order, p.order);
+      space = p.space ∙ h.space;
+      to_is = p.to ∙ h.to_is;
+    }
 
 -- what is found and passed over isn't counted
 pub walked_over : (t : Litmus) (items : List Clause) (from to n : ℕ) (u v w : Walking) (f : FindingValue) → IsUnderWay t items from to u f → IsHit u v n → ArePassed items n v w → IsUnderWay t items from to w f

@@ -5,6 +5,7 @@ use Rattle.cat_tree.specs.Tree.{Clause}
 use Rattle.events.specs.Executions.{GraphValue}
 use Rattle.candidates.specs.Candidates.{Choices, graph_at}
 use Rattle.candidates.specs.Walks.{Walking}
+use Rattle.slices.specs.declared.pruning.Pruner.{Pruner}
 
 -- A model of these items allows no execution at the numbers from a to before b.
 abbrev pub NoneAllowed : List Clause → Choices → ℕ → ℕ → Type 0
@@ -20,3 +21,14 @@ pub record ArePassed (items : List Clause) (n : ℕ) (v w : Walking) : Type 0 wh
   pub to : w.to ≡ v.to
   pub later : n < w.next
   pub none : NoneAllowed items v.space n w.next
+
+-- From v to w a walk has gone on, if at all, over executions that a model of these items doesn't allow.
+pub record HasGoneOver (items : List Clause) (v w : Walking) : Type 0 where
+  pub space : w.space ≡ v.space
+  pub to : w.to ≡ v.to
+  pub order : v.next ≤ w.next
+  pub none : NoneAllowed items v.space v.next w.next
+
+-- What the pruner keeps is right for these candidates: a model of these items allows none at the numbers that were refuted last.
+abbrev pub Knows : Choices → List Clause → Pruner → Type 0
+Knows s items p = NoneAllowed items s p.refuted.from p.refuted.to

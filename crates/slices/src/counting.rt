@@ -3,6 +3,7 @@
 ghost use Rattle.std.specs.Prelude.{◌≡◌, ◌+◌, ◌-◌, ◌^◌, ◌<◌, length, map, IfOk, OnOk, MatchBool};
 ghost use Rattle.candidates.specs.Candidates.{choices_of};
 ghost use Rattle.slices.specs.Parts.{IsPart, IsRange};
+ghost use Rattle.slices.specs.Passing.{Knows};
 ghost use Rattle.slices.specs.Slots.{slot_value};
 ghost use Rattle.slices.specs.Sums.{IsSum, of_state};
 
@@ -16,26 +17,30 @@ use cat_eval::{Evaluator, Judgement};
 use events::Graph;
 use std::alloc::{AllocError, Global};
 
-/// What is found at the numbers of a walk over a work's candidates, one after another. The evaluator is one of the work's model.
+/// What is found at the numbers of a walk over a work's candidates from this one on, one after another. The evaluator is one of the work's model.
 pub fn count(
     alloc: Global,
     work: &WorkRef,
+    from: u64,
     walk: &mut Walk<'_>,
     evaluator: &mut Evaluator<'_>,
     pruner: &mut Pruner,
 ) -> Result<Finding, AllocError>
     requires range { IsRange work.now.test walk.old.next walk.old.to }
+    requires from { walk.old.next ≡ from }
     requires space { walk.old.space ≡ choices_of work.now.test }
     requires evaluator { evaluator.old ≡ work.now.model.items }
+    requires known { Knows (choices_of work.now.test) work.now.model.items pruner.old }
     ensures part { IfOk result (IsPart work.now.test work.now.model.items walk.old.next walk.old.to) }
     ensures evaluator { evaluator.new ≡ evaluator.old }
     ensures space { OnOk result (walk.new.space ≡ walk.old.space) }
+    ensures known { OnOk result (Knows (choices_of work.now.test) work.now.model.items pruner.new) }
 {
     let inner = work.work();
-    let _size = inner.size();
+    prove!(inner.size() <= u64::MAX);
     let mut finding = Finding::nothing(alloc, work.share()?)?;
     let slots = slots(alloc, inner.test(), finding.places())?;
-    pruner.begin();
+    pruner.begin(walk, from);
     while let Some(number) = walk.next(alloc)? {
         if pruner.passes(alloc, evaluator, walk, number)? {
             continue;

@@ -43,6 +43,7 @@ impl Model for Made {
     ghost use Rattle.candidates.specs.Walks.{IsPausedIn};
     ghost use Rattle.cat_eval.specs.Prepared.{IsReadyFor};
     ghost use Rattle.slices.specs.Codes.{coded_work};
+    ghost use Rattle.slices.specs.Passing.{Knows};
     ghost use Rattle.slices.specs.Works.{WorkValue};
 
     ghost Value = { WorkValue };
@@ -51,7 +52,7 @@ impl Model for Made {
 
     ghost view = { λ m. m.work };
 
-    ghost invariant = { λ m. record { space : m.space ≡ choices_of m.work.test; paused : IsPausedIn m.space m.paused.value; ready : IsReadyFor m.work.model.items m.ready.value } };
+    ghost invariant = { λ m. record { space : m.space ≡ choices_of m.work.test; paused : IsPausedIn m.space m.paused.value; ready : IsReadyFor m.work.model.items m.ready.value; known : Knows m.space m.work.model.items m.pruner.value } };
 }
 
 impl Made {

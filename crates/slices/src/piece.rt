@@ -3,6 +3,7 @@
 ghost use Rattle.std.specs.Prelude.{◌≡◌, IfOk, OnOk};
 ghost use Rattle.candidates.specs.Candidates.{choices_of};
 ghost use Rattle.slices.specs.Parts.{IsPart, IsRange};
+ghost use Rattle.slices.specs.Passing.{Knows};
 
 use crate::counting::count;
 use crate::finding::FindingRef;
@@ -94,7 +95,7 @@ pub fn evaluate(alloc: Global, piece: &Piece) -> Result<PieceResult, AllocError>
 pub fn space_of(alloc: Global, work: &Work) -> Result<Space, AllocError>
     ensures { IfOk result (λ s. s ≡ choices_of work.now.test) }
 {
-    let _size = work.size();
+    prove!(work.size() <= u64::MAX);
     match Space::new(alloc, work.test()) {
         Ok(space) => Ok(space),
         Err(SpaceFault::NoMemory) => Err(AllocError),
@@ -123,12 +124,14 @@ pub fn evaluate_in(
     requires from { walk.old.next ≡ piece.now.from }
     requires to { walk.old.to ≡ piece.now.to }
     requires evaluator { evaluator.old ≡ piece.now.work.model.items }
+    requires known { Knows (choices_of piece.now.work.test) piece.now.work.model.items pruner.old }
     ensures piece { IfOk result (λ r. r.piece ≡ piece.now) }
     ensures evaluator { evaluator.new ≡ evaluator.old }
     ensures space { OnOk result (walk.new.space ≡ walk.old.space) }
+    ensures known { OnOk result (Knows (choices_of piece.now.work.test) piece.now.work.model.items pruner.new) }
 {
     let piece = piece.share()?;
-    let finding = count(alloc, &piece.work, walk, evaluator, pruner)?;
+    let finding = count(alloc, &piece.work, piece.from, walk, evaluator, pruner)?;
     let found = FindingRef::new(alloc, finding)?;
     Ok(PieceResult::new(piece, found))
 }

@@ -1,9 +1,12 @@
 //! What a model is known to forbid together, so that it needn't be judged one by one.
 
-ghost use Rattle.std.specs.Prelude.{◌≡◌, ◌+◌, MatchBool, IfOk, IfSome};
-ghost use Rattle.slices.specs.Passing.{ArePassed, IsForbidden};
+ghost use Rattle.std.specs.Prelude.{◌≡◌, ◌+◌, List, MatchBool, IfOk, IfSome};
+ghost use Rattle.candidates.specs.Candidates.{Choices};
+ghost use Rattle.cat_tree.specs.Tree.{Clause};
+ghost use Rattle.slices.specs.Passing.{ArePassed, HasGoneOver, IsForbidden, Knows};
 
 use crate::prospects::Prospects;
+use crate::span::Span;
 use candidates::{Common, Walk};
 use cat_eval::{Evaluator, Judgement};
 use cat_model::Model;
@@ -16,6 +19,8 @@ pub struct Pruner {
     may_refute: bool,
     common: Common,
     prospects: Prospects,
+    /// The numbers that were refuted last; none at first.
+    refuted: Span,
 }
 
 // A function of its own: whoever holds one drops it by a call.
@@ -25,6 +30,7 @@ impl Drop for Pruner {
             may_refute: _,
             common: _,
             prospects: _,
+            refuted: _,
         } = self;
     }
 }
@@ -39,17 +45,28 @@ fn may_refute(item: &Item) -> bool {
 
 impl Pruner {
     /// For executions that are judged under this model.
-    pub fn new(alloc: Global, model: &Model) -> Self {
+    pub fn new(alloc: Global, model: &Model) -> Self
+        ensures known { (s : Choices) (items : List Clause) → Knows s items result }
+    {
         Pruner {
             may_refute: model.items().iter().any(may_refute),
             common: Common::nothing(alloc),
             prospects: Prospects::new(),
+            refuted: Span { from: 0, to: 0 },
         }
     }
 
-    /// Begins with another walk. What was asked before tells what is worth asking.
-    pub(crate) fn begin(&mut self) {
+    /// Begins with another walk, which goes on from this number: over what was refuted last, if the number is in it. What was asked
+    /// before tells what is worth asking.
+    pub(crate) fn begin(&mut self, walk: &mut Walk<'_>, from: u64)
+        requires from { walk.old.next ≡ from }
+        ensures refuted { self.new.refuted ≡ self.old.refuted }
+        ensures passed { (items : List Clause) → Knows walk.old.space items self.old → HasGoneOver items walk.old walk.new }
+    {
         self.prospects.begin();
+        if self.refuted.from <= from {
+            walk.pass(self.refuted.to);
+        }
     }
 
     /// The end of the block of a depth around the execution found last, if it is known that the model allows none of the block's.
@@ -61,6 +78,7 @@ impl Pruner {
         depth: usize,
     ) -> Result<Option<u64>, AllocError>
         ensures model { evaluator.new ≡ evaluator.old }
+        ensures refuted { self.new.refuted ≡ self.old.refuted }
         ensures forbidden { IfOk result (λ end. IfSome end (IsForbidden evaluator.old walk.now)) }
     {
         if !self.prospects.pay(depth) {
@@ -84,7 +102,9 @@ impl Pruner {
         number: u64,
     ) -> Result<bool, AllocError>
         requires found { walk.old.next ≡ number + 1 }
+        requires known { Knows walk.old.space evaluator.old self.old }
         ensures model { evaluator.new ≡ evaluator.old }
+        ensures known { Knows walk.old.space evaluator.old self.new }
         ensures passed { IfOk result (λ passed. MatchBool passed (ArePassed evaluator.old number walk.old walk.new) (walk.new ≡ walk.old)) }
     {
         if !self.may_refute || self.prospects.are_early() {
@@ -92,6 +112,10 @@ impl Pruner {
         }
         for depth in self.prospects.leave(number)..walk.depths() {
             if let Some(end) = self.ask(alloc, evaluator, walk, depth)? {
+                self.refuted = Span {
+                    from: number,
+                    to: end,
+                };
                 walk.pass(end);
                 return Ok(true);
             }
@@ -101,7 +125,9 @@ impl Pruner {
     }
 
     /// Notes what was said of an execution that wasn't passed over.
-    pub fn note(&mut self, judgement: &Judgement) {
+    pub fn note(&mut self, judgement: &Judgement)
+        ensures refuted { self.new.refuted ≡ self.old.refuted }
+    {
         self.prospects.note(judgement.allowed());
     }
 }

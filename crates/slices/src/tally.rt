@@ -96,7 +96,7 @@ impl Tally {
         ensures same { OnErr result (self.new ≡ self.old) }
     {
         let alloc = *self.spans.allocator();
-        let _size = self.work.work().size();
+        prove!(self.work.work().size() <= u64::MAX);
         let piece = part.piece();
         let span = piece.span();
         self.spans.push(span)?;

@@ -1,9 +1,10 @@
 //! Which executions are looked for: those that a model allows, or all.
 
 ghost use Rattle.std.specs.Prelude.{◌≡◌, ◌+◌, ◌↔◌, [], IfOk, IsTrue, MatchBool};
+ghost use Rattle.candidates.specs.Candidates.{Choices};
 ghost use Rattle.cat_eval.specs.Judging.{Allowed};
-ghost use Rattle.slices.specs.Passing.{ArePassed};
-ghost use Rattle.witness.specs.Judges.{judged};
+ghost use Rattle.slices.specs.Passing.{ArePassed, Knows};
+ghost use Rattle.witness.specs.Judges.{KnowsOf, judged};
 
 use candidates::{Common, Walk};
 use cat_eval::Evaluator;
@@ -12,7 +13,7 @@ use events::Graph;
 use slices::Pruner;
 use std::alloc::{AllocError, Global};
 
-/// A model that judges one execution after another. Contracts see its items.
+/// A model that judges one execution after another.
 pub struct ModelJudge<'m> {
     evaluator: Evaluator<'m>,
     pruner: Pruner,
@@ -28,19 +29,6 @@ impl<'m> Drop for ModelJudge<'m> {
     }
 }
 
-impl<'m> std::marker::Model for ModelJudge<'m> {
-    ghost use Rattle.std.specs.Prelude.{List};
-    ghost use Rattle.std.specs.Coded.{coded_list};
-    ghost use Rattle.cat_tree.specs.Codes.{coded_clause};
-    ghost use Rattle.cat_tree.specs.Tree.{Clause};
-
-    ghost Value = { List Clause };
-
-    ghost coded = { coded_list coded_clause };
-
-    ghost view = { λ j. j.evaluator };
-}
-
 /// What decides whether an execution counts.
 #[derive(Drop)]
 pub enum Judge<'m> {
@@ -52,7 +40,8 @@ pub enum Judge<'m> {
 
 impl<'m> ModelJudge<'m> {
     fn new(alloc: Global, model: &'m Model) -> Result<Self, AllocError>
-        ensures { IfOk result (λ j. j ≡ model.entry.now.items) }
+        ensures items { IfOk result (λ j. j.evaluator ≡ model.entry.now.items) }
+        ensures known { (s : Choices) → IfOk result (λ j. Knows s j.evaluator j.pruner) }
     {
         let none = Common::nothing(alloc);
         let evaluator = Evaluator::of(alloc, model, none.graph())?;
@@ -67,15 +56,18 @@ impl<'m> ModelJudge<'m> {
         number: u64,
     ) -> Result<bool, AllocError>
         requires found { walk.old.next ≡ number + 1 }
-        ensures items { self.new ≡ self.old }
-        ensures passed { IfOk result (λ passed. MatchBool passed (ArePassed self.old number walk.old walk.new) (walk.new ≡ walk.old)) }
+        requires known { Knows walk.old.space self.old.evaluator self.old.pruner }
+        ensures items { self.new.evaluator ≡ self.old.evaluator }
+        ensures known { Knows walk.old.space self.old.evaluator self.new.pruner }
+        ensures passed { IfOk result (λ passed. MatchBool passed (ArePassed self.old.evaluator number walk.old walk.new) (walk.new ≡ walk.old)) }
     {
         self.pruner.passes(alloc, &mut self.evaluator, walk, number)
     }
 
     fn allows(&mut self, alloc: Global, graph: &Graph) -> Result<bool, AllocError>
-        ensures items { self.new ≡ self.old }
-        ensures allowed { IfOk result (λ allowed. IsTrue allowed ↔ Allowed self.old graph.now) }
+        ensures items { self.new.evaluator ≡ self.old.evaluator }
+        ensures refuted { self.new.pruner.refuted ≡ self.old.pruner.refuted }
+        ensures allowed { IfOk result (λ allowed. IsTrue allowed ↔ Allowed self.old.evaluator graph.now) }
     {
         let judgement = self.evaluator.judge_next(alloc, graph)?;
         self.pruner.note(&judgement);
@@ -86,7 +78,8 @@ impl<'m> ModelJudge<'m> {
 impl<'m> Judge<'m> {
     /// By a model.
     pub fn by(alloc: Global, model: &'m Model) -> Result<Self, AllocError>
-        ensures { IfOk result (λ j. judged j ≡ model.entry.now.items) }
+        ensures items { IfOk result (λ j. judged j ≡ model.entry.now.items) }
+        ensures known { (s : Choices) → IfOk result (KnowsOf s) }
     {
         Ok(Judge::Model(ModelJudge::new(alloc, model)?))
     }
@@ -100,7 +93,9 @@ impl<'m> Judge<'m> {
         number: u64,
     ) -> Result<bool, AllocError>
         requires found { walk.old.next ≡ number + 1 }
+        requires known { KnowsOf walk.old.space self.old }
         ensures items { judged self.new ≡ judged self.old }
+        ensures known { KnowsOf walk.old.space self.new }
         ensures passed { IfOk result (λ passed. MatchBool passed (ArePassed (judged self.old) number walk.old walk.new) (walk.new ≡ walk.old)) }
     {
         match self {
@@ -112,6 +107,7 @@ impl<'m> Judge<'m> {
     /// Whether an execution counts.
     pub fn allows(&mut self, alloc: Global, graph: &Graph) -> Result<bool, AllocError>
         ensures items { judged self.new ≡ judged self.old }
+        ensures known { (s : Choices) → KnowsOf s self.old → KnowsOf s self.new }
         ensures allowed { IfOk result (λ allowed. IsTrue allowed ↔ Allowed (judged self.old) graph.now) }
     {
         match self {

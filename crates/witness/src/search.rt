@@ -4,7 +4,7 @@ ghost use Rattle.std.specs.Prelude.{◌≡◌, IfOk};
 ghost use Rattle.candidates.specs.Candidates.{choices_of};
 ghost use Rattle.slices.specs.Parts.{IsAdmitted};
 ghost use Rattle.slices.specs.Questions.{IsAnswer};
-ghost use Rattle.witness.specs.Judges.{judged};
+ghost use Rattle.witness.specs.Judges.{KnowsOf, judged};
 ghost use Rattle.witness.specs.Witnesses.{IsWitness, IsFound};
 
 use crate::judge::Judge;
@@ -25,6 +25,7 @@ fn find(
 ) -> Result<Option<Graph>, AllocError>
     requires space { space.now ≡ choices_of test.now }
     requires admitted { IsAdmitted test.now }
+    requires known { KnowsOf (choices_of test.now) judge.old }
     ensures { IfOk result (IsFound test.now (IsWitness test.now (judged judge.old) has)) }
 {
     numbers::numbering();
@@ -51,7 +52,7 @@ pub fn witness(alloc: Global, work: &Work, has: bool) -> Result<Option<Graph>, A
     ensures { let work = work.now in
         IfOk result (IsFound work.test (IsWitness work.test work.model.items has)) }
 {
-    let _size = work.size();
+    prove!(work.size() <= u64::MAX);
     let space = space_of(alloc, work)?;
     let mut judge = Judge::by(alloc, work.model())?;
     find(alloc, work.test(), &space, &mut judge, has)
@@ -63,7 +64,7 @@ pub fn closest(alloc: Global, work: &Work, has: bool) -> Result<Option<Graph>, A
     ensures { let work = work.now in
         IfOk result (IsFound work.test (λ x. IsAnswer work.test x has)) }
 {
-    let _size = work.size();
+    prove!(work.size() <= u64::MAX);
     let space = space_of(alloc, work)?;
     find(alloc, work.test(), &space, &mut Judge::All, has)
 }

@@ -4,6 +4,7 @@ use Rattle.listings.specs.Lists.{Lists}
 use Rattle.cat_tree.specs.Tree.{Clause}
 use Rattle.cat_eval.specs.Judging.{Allowed, Raised}
 use Rattle.cat_eval.specs.Orderless.{IsOrderless}
+use Rattle.candidates.specs.Candidates.{choices_of}
 use Rattle.candidates.specs.Walks.{IsHit, Walking}
 use Rattle.slices.specs.Parts.{IsAdmitted}
 use Rattle.slices.specs.Passing.{ArePassed}
@@ -11,7 +12,7 @@ use Rattle.slices.specs.Slots.{slot_of}
 use Rattle.slices.specs.Verdicts.{Tells}
 use Rattle.slices.specs.Works.{WorkValue}
 use Rattle.slices.proofs.Counted.{walked_none_yet, walked_none}
-use Rattle.slices.proofs.PassedOver.{hit_number, is_passed, miss_number, not_passed, walk_nearer, walked_over}
+use Rattle.slices.proofs.PassedOver.{hit_number, is_passed, knows_alike, miss_number, not_passed, walk_nearer, walked_on, walked_over}
 use Rattle.slices.proofs.Weighed.{IsJudged, alike_at, alike_within, as_long, few_ways, same_places, walked_alike, walked_one}
 use Rattle.slices.proofs.counting.count.Goals as goal
 
@@ -19,11 +20,14 @@ pub loop-slots-init : goal.loop-slots-init
 loop-slots-init c =
     let w = c.args.work.now in
     let T : WorkValue → Type 0 = λ z. Tells z.test w.model.items [] c.in_ok-finding.finding in
+    let begun = walked_none_yet w.test w.model.items c.args.walk.now.next c.args.walk.now.to c.args.walk.now c.in_ok-finding.finding
+        c.requires.space refl refl (subst T c.in_ok-share.ensures (c.in_ok-finding.ensures w.model.items)) in
+    let over = c.begin.ensures.passed w.model.items (knows_alike _ _ _ _ c.args.pruner.now c.args.pruner.now (sym c.requires.space) refl refl c.requires.known) in
     record {
-      counted = walked_none_yet w.test w.model.items c.args.walk.now.next c.args.walk.now.to c.args.walk.now c.in_ok-finding.finding
-          c.requires.space refl refl (subst T c.in_ok-share.ensures (c.in_ok-finding.ensures w.model.items));
+      counted = walked_on w.test w.model.items c.args.walk.now.next c.args.walk.now.to c.args.walk.now c.begin.new.walk c.in_ok-finding.finding begun over;
       slots = c.in_ok-slots.ensures ∙ ap (λ t. map (slot_of t) c.places.result.now) (c.test.ensures ∙ ap (λ (z : WorkValue). z.test) c.work-inner.ensures) ∙ ap (map (slot_of w.test)) c.places.ensures;
       model = c.requires.evaluator;
+      known = knows_alike (choices_of w.test) (choices_of w.test) w.model.items w.model.items c.args.pruner.now c.begin.new.self refl refl c.begin.ensures.refuted c.requires.known;
     }
 
 pub weigh_alike-requires-clause-whole : goal.weigh_alike-requires-clause-whole
@@ -38,7 +42,7 @@ weigh_alike-requires-clause-ways c =
     let here = subst H (sym same) hit in
     let o = c.in-Some-alike_behind.range in
     let alike = alike_at c.loop-slots.walk c.passes.new.walk n o here c.in-Some-alike_behind.ensures.alike in
-    let within = alike_within c.args.work.now.test c.args.work.now.model.items c.args.walk.now.next c.args.walk.now.to n o.size c.loop-slots.walk c.passes.new.walk c.loop-slots.finding c.loop-slots.invariant.counted here c.requires.range (subst (λ (z : WorkValue). IsAdmitted z.test) c.work-inner.ensures c.size-size.ensures.admitted) c.in-Some-alike_behind.ensures.within in
+    let within = alike_within c.args.work.now.test c.args.work.now.model.items c.args.walk.now.next c.args.walk.now.to n o.size c.loop-slots.walk c.passes.new.walk c.loop-slots.finding c.loop-slots.invariant.counted here c.requires.range (subst (λ (z : WorkValue). IsAdmitted z.test) c.work-inner.ensures c.size.ensures.admitted) c.in-Some-alike_behind.ensures.within in
     (few_ways c.args.work.now.test c.args.work.now.model.items c.args.walk.now.next c.args.walk.now.to n c.loop-slots.walk c.passes.new.walk c.deref.result.now o c.graph-graph.result.now c.loop-slots.finding c.loop-slots.invariant.counted here alike.0 alike.1 c.graph-graph.ensures within).0
 
 pub weigh_alike-requires-clause-few : goal.weigh_alike-requires-clause-few
@@ -50,7 +54,7 @@ weigh_alike-requires-clause-few c =
     let here = subst H (sym same) hit in
     let o = c.in-Some-alike_behind.range in
     let alike = alike_at c.loop-slots.walk c.passes.new.walk n o here c.in-Some-alike_behind.ensures.alike in
-    let within = alike_within c.args.work.now.test c.args.work.now.model.items c.args.walk.now.next c.args.walk.now.to n o.size c.loop-slots.walk c.passes.new.walk c.loop-slots.finding c.loop-slots.invariant.counted here c.requires.range (subst (λ (z : WorkValue). IsAdmitted z.test) c.work-inner.ensures c.size-size.ensures.admitted) c.in-Some-alike_behind.ensures.within in
+    let within = alike_within c.args.work.now.test c.args.work.now.model.items c.args.walk.now.next c.args.walk.now.to n o.size c.loop-slots.walk c.passes.new.walk c.loop-slots.finding c.loop-slots.invariant.counted here c.requires.range (subst (λ (z : WorkValue). IsAdmitted z.test) c.work-inner.ensures c.size.ensures.admitted) c.in-Some-alike_behind.ensures.within in
     (few_ways c.args.work.now.test c.args.work.now.model.items c.args.walk.now.next c.args.walk.now.to n c.loop-slots.walk c.passes.new.walk c.deref.result.now o c.graph-graph.result.now c.loop-slots.finding c.loop-slots.invariant.counted here alike.0 alike.1 c.graph-graph.ensures within).1
 
 pub overflow_add-number : goal.overflow_add-number
@@ -61,10 +65,10 @@ overflow_add-number c =
     let H : Walking → Type 0 = λ w. IsHit c.loop-slots.walk w n in
     let here = subst H (sym same) hit in
     let o = c.in-Some-alike_behind.range in
-    let within = alike_within c.args.work.now.test c.args.work.now.model.items c.args.walk.now.next c.args.walk.now.to n o.size c.loop-slots.walk c.passes.new.walk c.loop-slots.finding c.loop-slots.invariant.counted here c.requires.range (subst (λ (z : WorkValue). IsAdmitted z.test) c.work-inner.ensures c.size-size.ensures.admitted) c.in-Some-alike_behind.ensures.within in
+    let within = alike_within c.args.work.now.test c.args.work.now.model.items c.args.walk.now.next c.args.walk.now.to n o.size c.loop-slots.walk c.passes.new.walk c.loop-slots.finding c.loop-slots.invariant.counted here c.requires.range (subst (λ (z : WorkValue). IsAdmitted z.test) c.work-inner.ensures c.size.ensures.admitted) c.in-Some-alike_behind.ensures.within in
     let end = within.0 in
     let least = within.1 in
-    let size = c.size.ensures in
+    let size = c.size-in-Some-alike_behind.ensures in
     omega (arith, end, least, size)
 
 pub loop-slots-preserved-in-Some-alike_behind : goal.loop-slots-preserved-in-Some-alike_behind
@@ -78,17 +82,18 @@ loop-slots-preserved-in-Some-alike_behind c =
     let here = subst H (sym same) hit in
     let o = c.in-Some-alike_behind.range in
     let alike = alike_at c.loop-slots.walk c.passes.new.walk n o here c.in-Some-alike_behind.ensures.alike in
-    let within = alike_within w.test w.model.items c.args.walk.now.next c.args.walk.now.to n o.size c.loop-slots.walk c.passes.new.walk c.loop-slots.finding inv.counted here c.requires.range (subst (λ (z : WorkValue). IsAdmitted z.test) c.work-inner.ensures c.size-size.ensures.admitted) c.in-Some-alike_behind.ensures.within in
+    let within = alike_within w.test w.model.items c.args.walk.now.next c.args.walk.now.to n o.size c.loop-slots.walk c.passes.new.walk c.loop-slots.finding inv.counted here c.requires.range (subst (λ (z : WorkValue). IsAdmitted z.test) c.work-inner.ensures c.size.ensures.admitted) c.in-Some-alike_behind.ensures.within in
     let P : List Clause → Type 0 = λ items. IsTrue c.in_ok-judgement.judgement.allowed ↔ Allowed items c.graph-graph.result.now in
     let F : List Clause → Type 0 = λ items. Lists (λ name. Allowed items c.graph-graph.result.now × Raised items c.graph-graph.result.now name) c.in_ok-judgement.judgement.flags in
     let model = c.passes.ensures.model ∙ inv.model in
     let judged : IsJudged w.model.items c.graph-graph.result.now c.in_ok-judgement.judgement.allowed c.in_ok-judgement.judgement.flags = record { allowed = subst P model c.in_ok-judgement.ensures.allowed; flags = subst F model c.in_ok-judgement.ensures.flags } in
     let orderless = subst (λ (z : WorkValue). IsOrderless z.model.items) c.work-inner.ensures c.in-Some-alike_behind.ensures.orderless in
-    let next = c.pass.ensures.next ∙ ap (λ x. max c.passes.new.walk.next (min (n + x) c.passes.new.walk.to)) c.size.ensures in
+    let next = c.pass.ensures.next ∙ ap (λ x. max c.passes.new.walk.next (min (n + x) c.passes.new.walk.to)) c.size-in-Some-alike_behind.ensures in
     record {
       counted = walked_alike w.test w.model.items c.args.walk.now.next c.args.walk.now.to n c.loop-slots.walk c.passes.new.walk c.pass.new.self c.graph-graph.result.now c.deref.result.now o c.in_ok-judgement.judgement.allowed c.in_ok-judgement.judgement.flags c.loop-slots.finding c.weigh_alike.new.self inv.counted here c.graph-graph.ensures orderless (c.deref.ensures.value ∙ inv.slots) alike.0 alike.1 judged within c.in_ok-weigh_alike.ensures c.pass.ensures.space c.pass.ensures.to next;
       slots = inv.slots ∙ ap (map (slot_of w.test)) (sym (same_places c.in_ok-judgement.judgement.allowed c.loop-slots.finding _ c.weigh_alike.new.self c.in_ok-weigh_alike.ensures));
       model = c.judge_next.ensures.model ∙ c.passes.ensures.model ∙ inv.model;
+      known = knows_alike _ _ _ _ c.passes.new.self c.note.new.self (hit.step.space ∙ inv.counted.space) inv.model c.note.ensures.refuted c.passes.ensures.known;
     }
 
 pub loop-slots-preserved-then-branch : goal.loop-slots-preserved-then-branch
@@ -102,6 +107,7 @@ loop-slots-preserved-then-branch c =
       counted = walked_over c.args.work.now.test c.args.work.now.model.items c.args.walk.now.next c.args.walk.now.to n c.loop-slots.walk c.next.new.self c.passes.new.walk c.loop-slots.finding inv.counted hit (subst P inv.model over);
       slots = inv.slots;
       model = c.passes.ensures.model ∙ inv.model;
+      known = knows_alike _ _ _ _ c.passes.new.self c.passes.new.self (hit.step.space ∙ inv.counted.space) inv.model refl c.passes.ensures.known;
     }
 
 pub loop-slots-preserved : goal.loop-slots-preserved
@@ -120,6 +126,7 @@ loop-slots-preserved c =
       counted = walked_one w.test w.model.items c.args.walk.now.next c.args.walk.now.to n c.loop-slots.walk c.passes.new.walk c.graph-graph.result.now c.deref-in-Some.result.now c.in_ok-judgement.judgement.allowed c.in_ok-judgement.judgement.flags c.loop-slots.finding c.weigh.new.self inv.counted (subst H (sym same) hit) c.graph-graph.ensures (c.deref-in-Some.ensures.value ∙ inv.slots) judged c.in_ok-weigh.ensures;
       slots = inv.slots ∙ ap (map (slot_of w.test)) (sym (same_places c.in_ok-judgement.judgement.allowed c.loop-slots.finding _ c.weigh.new.self c.in_ok-weigh.ensures));
       model = c.judge_next.ensures.model ∙ c.passes.ensures.model ∙ inv.model;
+      known = knows_alike _ _ _ _ c.passes.new.self c.note.new.self (hit.step.space ∙ inv.counted.space) inv.model c.note.ensures.refuted c.passes.ensures.known;
     }
 
 pub weigh-requires-clause-whole : goal.weigh-requires-clause-whole
@@ -131,7 +138,13 @@ returns-clause-part c =
     walked_none c.args.work.now.test c.args.work.now.model.items c.args.walk.now.next c.args.walk.now.to c.loop-slots.walk c.next.new.self c.loop-slots.finding c.loop-slots.invariant.counted miss
 
 pub passes-requires : goal.passes-requires
-passes-requires c = record { found = (hit_number c.loop-slots.walk c.next.new.self c.in_ok-number.field-0 c.in-Some.number c.in-Some.is c.in_ok-number.ensures.found).step.next }
+passes-requires c =
+    let inv = c.loop-slots.invariant in
+    let hit = hit_number c.loop-slots.walk c.next.new.self c.in_ok-number.field-0 c.in-Some.number c.in-Some.is c.in_ok-number.ensures.found in
+    record {
+      found = hit.step.next;
+      known = knows_alike _ _ _ _ c.loop-slots.pruner c.loop-slots.pruner (sym (hit.step.space ∙ inv.counted.space)) (sym inv.model) refl inv.known;
+    }
 
 pub loop-slots-smaller-then-branch : goal.loop-slots-smaller-then-branch
 loop-slots-smaller-then-branch c =
@@ -180,5 +193,5 @@ pub weigh-requires-clause-few : goal.weigh-requires-clause-few
 weigh-requires-clause-few c =
     let counted = c.loop-slots.invariant.counted in
     let hit = hit_number c.loop-slots.walk c.next.new.self c.in_ok-number.field-0 c.in-Some.number c.in-Some.is c.in_ok-number.ensures.found in
-    let admitted = subst (λ (z : WorkValue). IsAdmitted z.test) c.work-inner.ensures c.size-size.ensures.admitted in
+    let admitted = subst (λ (z : WorkValue). IsAdmitted z.test) c.work-inner.ensures c.size.ensures.admitted in
     omega (arith, counted.few, counted.to_is, hit.later, hit.below, c.requires.range.within, admitted.few)

@@ -1,4 +1,6 @@
 use Rattle.std.proofs.Common.{◌≡◌, ◌-◌, map}
+use Rattle.candidates.specs.Candidates.{choices_of}
+use Rattle.slices.specs.Passing.{Knows}
 use Rattle.slices.specs.Slots.{slot_of}
 use Rattle.slices.proofs.Counted.{IsUnderWay}
 use Rattle.slices.proofs.counting.count.Given as goal
@@ -11,4 +13,5 @@ invariant-loop-slots l = record {
   counted : IsUnderWay l.work.test l.work.model.items l.fn.walk.next l.fn.walk.to l.walk l.finding;
   slots : l.slots.items ≡ map (slot_of l.work.test) l.finding.places;
   model : l.evaluator ≡ l.work.model.items;
+  known : Knows (choices_of l.work.test) l.work.model.items l.pruner;
 }

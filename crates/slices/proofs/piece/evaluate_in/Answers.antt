@@ -1,6 +1,8 @@
 use Rattle.std.proofs.Common.{ℕ, ap, sym, subst, ◌∙◌}
+use Rattle.candidates.specs.Candidates.{choices_of}
 use Rattle.slices.specs.Findings.{FindingValue}
 use Rattle.slices.specs.Parts.{IsPart, PieceValue, PieceResultValue}
+use Rattle.slices.specs.Passing.{Knows}
 use Rattle.slices.specs.Works.{WorkValue}
 use Rattle.slices.proofs.piece.evaluate_in.Goals as goal
 
@@ -18,3 +20,8 @@ new-requires-2 c =
 
 pub returns-clause-piece : goal.returns-clause-piece
 returns-clause-piece c = ap (λ (r : PieceResultValue). r.piece) c.new-2.ensures ∙ c.in_ok-piece.ensures
+
+pub returns-clause-known : goal.returns-clause-known
+returns-clause-known c =
+    let K : WorkValue → Type 0 = λ w. Knows (choices_of w.test) w.model.items c.count.new.pruner in
+    subst K (ap (λ (q : PieceValue). q.work) (c.piece.view_is ∙ c.in_ok-piece.ensures)) c.in_ok-finding.ensures.known

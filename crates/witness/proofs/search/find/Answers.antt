@@ -1,4 +1,4 @@
-use Rattle.candidates.specs.Candidates.{size_of, Choices, graph_at}
+use Rattle.candidates.specs.Candidates.{choices_of, size_of, Choices, graph_at}
 use Rattle.std.proofs.Common.{◌≡◌, ◌<◌, ◌∙◌, ℕ, Bool, List, Option, ap, arith, subst, sym}
 use Rattle.std.proofs.lemmas.Bool.{false≢true}
 use Rattle.candidates.specs.Walks.{Walking}
@@ -9,7 +9,7 @@ use Rattle.litmus_tree.specs.Tree.{Litmus}
 use Rattle.slices.specs.Parts.{test_size}
 use Rattle.slices.specs.Passing.{ArePassed}
 use Rattle.slices.specs.Questions.{IsAnswer}
-use Rattle.witness.specs.Judges.{judged}
+use Rattle.witness.specs.Judges.{KnowsOf, judged}
 use Rattle.witness.specs.Witnesses.{IsFound, IsWitness, NoneBelow}
 use Rattle.witness.proofs.Searched.{agree, differ, found_first, found_none, hit_number, if_ok, is_passed, miss_number, none_at_all, none_behind, none_passed, none_to, not_passed, one_answer, shown_at}
 use Rattle.witness.proofs.search.find.Goals as goal
@@ -29,6 +29,7 @@ loop-walk-preserved-then-branch-has c =
       space = hit.step.space ∙ inv.space;
       to = hit.step.to ∙ inv.to;
       items = inv.items;
+      known = inv.known;
       none = none_behind t (IsWitness t (judged c.args.judge.now) c.args.has) v w n inv.space inv.none hit (λ q. differ c.in_ok-answer.field-0 c.args.has c.if-branch-has.true (one_answer c.observed_places.ensures t w.shown c.in_ok-answer.field-0 c.args.has answer q.1));
     }
 
@@ -41,11 +42,13 @@ loop-walk-preserved-then-branch c =
     let n = c.in-Some.number in
     let hit = hit_number v w c.in_ok-number.field-0 n c.in-Some.is c.in_ok-number.ensures.found in
     let A : List Clause → Type 0 = λ items. ArePassed items n w c.passes.new.walk in
+    let K : Choices → Type 0 = λ s. KnowsOf s c.passes.new.self in
     let passed = subst A inv.items (is_passed c.in_ok-passes.field-0 (A (judged c.loop-walk.judge)) (c.passes.new.walk ≡ w) c.if-branch.true c.in_ok-passes.ensures.passed) in
     record {
       space = passed.space ∙ hit.step.space ∙ inv.space;
       to = passed.to ∙ hit.step.to ∙ inv.to;
       items = c.passes.ensures.items ∙ inv.items;
+      known = subst K (hit.step.space ∙ inv.space) c.passes.ensures.known;
       none = none_passed t (IsWitness t (judged c.args.judge.now) c.args.has) (judged c.args.judge.now) v w c.passes.new.walk n inv.space inv.none hit passed (λ y q. q.0);
     }
 
@@ -88,14 +91,24 @@ loop-walk-preserved c =
     let I : List Clause → Type 0 = λ is. Allowed is w.shown in
     let A : GraphValue → Type 0 = λ x. Allowed (judged c.passes.new.self) x in
     let shown : c.graph-in-Some.result.now ≡ w.shown = c.graph-in-Some.ensures ∙ ap (λ (u : Walking). u.shown) same in
+    let K : Choices → Type 0 = λ s. KnowsOf s c.passes.new.self in
     let N : ℕ → Type 0 = NoneBelow t W in
     record {
       space = ap (λ (u : Walking). u.space) same ∙ hit.step.space ∙ inv.space;
       to = ap (λ (u : Walking). u.to) same ∙ hit.step.to ∙ inv.to;
       items = c.allows.ensures.items ∙ c.passes.ensures.items ∙ inv.items;
+      known = c.allows.ensures.known (choices_of t) (subst K (hit.step.space ∙ inv.space) c.passes.ensures.known);
       none = subst N (sym (ap (λ (u : Walking). u.next) same))
           (none_behind t W v w n inv.space inv.none hit (λ q. false≢true (sym c.if-branch-2.false ∙ c.in_ok-allows.ensures.allowed.1 (subst A (sym shown) (subst I (sym (c.passes.ensures.items ∙ inv.items)) q.0)))));
     }
+
+pub passes-requires : goal.passes-requires
+passes-requires c =
+    let inv = c.loop-walk.invariant in
+    let v = c.loop-walk.walk in
+    let hit = hit_number v c.next.new.self c.in_ok-number.field-0 c.in-Some.number c.in-Some.is c.in_ok-number.ensures.found in
+    let K : Choices → Type 0 = λ s. KnowsOf s c.loop-walk.judge in
+    record { found = hit.step.next; known = subst K (sym (hit.step.space ∙ inv.space)) inv.known }
 
 pub returns : goal.returns
 returns c =

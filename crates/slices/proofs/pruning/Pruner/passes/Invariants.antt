@@ -2,4 +2,4 @@ use Rattle.std.proofs.Common.{◌≡◌}
 use Rattle.slices.proofs.pruning.Pruner.passes.Given as goal
 
 abbrev pub invariant-loop-depth : goal.invariant-loop-depth
-invariant-loop-depth l = record { model : l.evaluator ≡ l.fn.evaluator; walk : l.walk ≡ l.fn.walk }
+invariant-loop-depth l = record { model : l.evaluator ≡ l.fn.evaluator; walk : l.walk ≡ l.fn.walk; refuted : l.self.refuted ≡ l.fn.self.refuted }

@@ -10,7 +10,7 @@ merge-requires-clause-few c =
     let v = c.found.result.now in
     let work = sym (ap (λ (x : TallyValue). x.work) c.self.view_is) in
     let ranges = sym (ap (λ (x : TallyValue). x.spans) c.self.view_is) in
-    let h = part_of w c.work.result.now c.args.self.now spans c.span-span.result c.args.part.now c.piece-piece.result.now v c.work.ensures c.size-size.ensures.admitted work ranges c.requires.work c.requires.apart c.piece-piece.ensures c.span-span.ensures.range c.found.ensures.right c.found.ensures.found (c.span-span.ensures.value ∙ ap at_piece c.piece-piece.ensures) in
+    let h = part_of w c.work.result.now c.args.self.now spans c.span-span.result c.args.part.now c.piece-piece.result.now v c.work.ensures c.size.ensures.admitted work ranges c.requires.work c.requires.apart c.piece-piece.ensures c.span-span.ensures.range c.found.ensures.right c.found.ensures.found (c.span-span.ensures.value ∙ ap at_piece c.piece-piece.ensures) in
     part_few w spans c.span-span.result v c.self.inside.found h c.self.invariant
 
 pub merge-requires-clause-sorted : goal.merge-requires-clause-sorted
@@ -23,7 +23,7 @@ invariant_of-self-in-Ok c =
     let v = c.found.result.now in
     let work = sym (ap (λ (x : TallyValue). x.work) c.self.view_is) in
     let ranges = sym (ap (λ (x : TallyValue). x.spans) c.self.view_is) in
-    let h = part_of w c.work.result.now c.args.self.now spans c.span-span.result c.args.part.now c.piece-piece.result.now v c.work.ensures c.size-size.ensures.admitted work ranges c.requires.work c.requires.apart c.piece-piece.ensures c.span-span.ensures.range c.found.ensures.right c.found.ensures.found (c.span-span.ensures.value ∙ ap at_piece c.piece-piece.ensures) in
+    let h = part_of w c.work.result.now c.args.self.now spans c.span-span.result c.args.part.now c.piece-piece.result.now v c.work.ensures c.size.ensures.admitted work ranges c.requires.work c.requires.apart c.piece-piece.ensures c.span-span.ensures.range c.found.ensures.right c.found.ensures.found (c.span-span.ensures.value ∙ ap at_piece c.piece-piece.ensures) in
     part_merged w spans c.push.new.self.items c.span-span.result v c.self.inside.found c.merge.new.self h c.self.invariant c.in-Ok.ensures.merged c.in_ok-push.ensures.items
 
 pub invariant_of-self-in-Err : goal.invariant_of-self-in-Err
