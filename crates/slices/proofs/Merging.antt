@@ -1,13 +1,11 @@
 -- The executions at the numbers of several ranges, each once.
-use Rattle.std.proofs.Common.{◌≡◌, ℕ, zero, suc, ◌+◌, ◌-◌, ◌<◌, ◌≤◌, ◌⊎◌, List, [], ◌∷◌, ◌++◌, length, Option, None, Some, refl, sym, ap, ◌∙◌, subst, inl, inr, arith}
+use Rattle.std.proofs.Common.{◌≡◌, ℕ, zero, suc, ◌+◌, ◌-◌, ◌<◌, ◌≤◌, ◌⊎◌, List, [], ◌∷◌, ◌++◌, length, Option, None, Some, sym, ap, ◌∙◌, subst, inl, inr, arith}
 use Rattle.std.specs.Prelude.{IfSome}
-use Rattle.std.proofs.lemmas.Bool.{cases_lt}
 use Rattle.std.proofs.lemmas.List.{length-append}
 use Rattle.cat_eval.specs.Judging.{Allowed}
 use Rattle.cat_tree.specs.Tree.{Clause}
 use Rattle.events.specs.Executions.{GraphValue}
-use Rattle.listings.specs.Lists.{IsIn, NoRepeats, Lists}
-use Rattle.listings.proofs.Listings.{in_append, in_left, in_right, once_append}
+use Rattle.listings.specs.Lists.{IsIn, Lists}
 use Rattle.litmus_tree.specs.Tree.{Litmus}
 use Rattle.candidates.specs.Candidates.{At, IsNumberedBy, found, some_of}
 use Rattle.candidates.specs.Executions.{IsExecution}

@@ -21,7 +21,7 @@ loop-slots-init c =
     let w = c.args.work.now in
     let T : WorkValue → Type 0 = λ z. Tells z.test w.model.items [] c.in_ok-finding.finding in
     let begun = walked_none_yet w.test w.model.items c.args.walk.now.next c.args.walk.now.to c.args.walk.now c.in_ok-finding.finding
-        c.requires.space refl refl (subst T c.in_ok-share.ensures (c.in_ok-finding.ensures w.model.items)) in
+    c.requires.space refl refl (subst T c.in_ok-share.ensures (c.in_ok-finding.ensures w.model.items)) in
     let over = c.begin.ensures.passed w.model.items (knows_alike _ _ _ _ c.args.pruner.now c.args.pruner.now (sym c.requires.space) refl refl c.requires.known) in
     record {
       counted = walked_on w.test w.model.items c.args.walk.now.next c.args.walk.now.to c.args.walk.now c.begin.new.walk c.in_ok-finding.finding begun over;
