@@ -7,7 +7,7 @@ use Rattle.std.proofs.lemmas.Bool.Decides.{eqb_tells}
 use Rattle.std.proofs.lemmas.List.Sums.{count_by-le-length}
 use Rattle.cat_model.specs.declared.model.FileVersion.{FileVersion}
 use Rattle.listings.proofs.Listings.{in_append, in_left, in_right}
-use Rattle.slices.specs.Parts.{IsRange, test_size}
+use Rattle.slices.specs.Parts.{IsAdmitted, IsRange, test_size}
 use Rattle.slices.specs.Tallies as tallies
 use Rattle.slices.specs.Tallies.{TallyValue, IsHeld, IsApart, holds}
 use Rattle.slices.specs.Works.{WorkValue}
@@ -193,8 +193,8 @@ none_returned (x ∷ xs) h =
     let is : weight x.returned ≡ 0 = ap weight (not_false x.returned (and_left (not x.returned) _ h)) in
     omega (arith, is, count-cons (λ (z : Slice). z.returned) x xs, none_returned xs (and_right (not x.returned) _ h))
 
-pub fresh_tied : (work : WorkValue) (slices : List Slice) → IsCut (test_size work.test) slices → HasRoot work.model.files → IsTied (record { work = work; spans = [] }) slices
-fresh_tied work slices cut root = record {
+pub fresh_tied : (work : WorkValue) (slices : List Slice) → IsCut (test_size work.test) slices → HasRoot work.model.files → IsAdmitted work.test → IsTied (record { work = work; spans = [] }) slices
+fresh_tied work slices cut root admitted = record {
   cover = record { within = cut.within; once = cut.once };
   few = cut.few;
   tied = λ i. (
@@ -202,6 +202,7 @@ fresh_tied work slices cut root = record {
     λ h. absurd h.1,
   );
   root = root;
+  admitted = admitted;
 }
 
 pub apart : (merged : TallyValue) (slices : List Slice) (i : ℕ) (x : Slice) (s : Span) → IsTied merged slices → slice_get slices i ≡ Some x → x.returned ≡ false → s.from ≡ x.from → s.to ≡ x.to → IsApart s merged.spans
@@ -236,6 +237,7 @@ still_tied merged slices i x s tie e f t = record {
     ]),
   );
   root = tie.root;
+  admitted = tie.admitted;
 }
 
 pub all_covered : (merged : TallyValue) (slices : List Slice) → IsTied merged slices → list_all (λ x. x.returned) slices ≡ true → tallies.IsCover (test_size merged.work.test) merged.spans

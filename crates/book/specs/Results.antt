@@ -2,7 +2,7 @@
 use Rattle.std.specs.Prelude.{◌≡◌, ◌↔◌, ℕ, ◌≤◌, true, List, [], ◌∷◌, Some, length, slice_get}
 use Rattle.cat_model.specs.declared.model.FileVersion.{FileVersion}
 use Rattle.slices.specs.VerdictValues.{VerdictValue}
-use Rattle.slices.specs.Parts.{test_size}
+use Rattle.slices.specs.Parts.{IsAdmitted, test_size}
 use Rattle.slices.specs.Tallies.{TallyValue, IsHeld}
 use Rattle.slices.specs.Verdicts.{IsVerdict}
 use Rattle.slices.specs.Works.{WorkValue}
@@ -24,6 +24,7 @@ pub record IsTied (merged : TallyValue) (slices : List Slice) : Type 0 where
   pub few : length slices ≤ 256
   pub tied : (i : ℕ) → IsReturned slices i ↔ IsHeld merged.spans i
   pub root : HasRoot merged.work.model.files
+  pub admitted : IsAdmitted merged.work.test
 
 -- v is a right verdict on a work, for this version of its test.
 abbrev pub IsVerdictOn : WorkValue → ℕ → VerdictValue → Type 0

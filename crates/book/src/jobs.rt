@@ -1,7 +1,7 @@
 //! Jobs.
 
 ghost use Rattle.std.specs.Prelude.{◌≡◌, ◌↔◌, ◌<◌, ◌≤◌, true, length, IfOk, OnOk, OnErr, IsTrue, slice_get};
-ghost use Rattle.slices.specs.Parts.{test_size};
+ghost use Rattle.slices.specs.Parts.{IsAdmitted, test_size};
 ghost use Rattle.slices.specs.Verdicts.{IsVerdict};
 ghost use Rattle.book.specs.Jobs.{done, is_done, marked};
 ghost use Rattle.book.specs.Listings.{root_of, row_of};
@@ -100,7 +100,8 @@ impl Job {
 
     /// Its work.
     pub fn work(&self) -> &WorkRef
-        ensures { result.now ≡ self.now.work }
+        ensures work { result.now ≡ self.now.work }
+        ensures admitted { IsAdmitted self.now.work.test }
     {
         self.tally.work()
     }

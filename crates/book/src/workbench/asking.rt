@@ -100,10 +100,7 @@ impl Bench {
         ensures fault { IfErr result (IsSpaceFault tree.now) }
     {
         match known_work(&self.jobs, tree, &model) {
-            Ok(Some(work)) => {
-                let _size = work.work().size();
-                Ok(work)
-            }
+            Ok(Some(work)) => Ok(work),
             Ok(None) => match Work::new(alloc, tree.copy()?, model) {
                 Ok(work) => Ok(WorkRef::new(alloc, work)?),
                 Err(fault) => Err(fault),
@@ -181,7 +178,8 @@ impl Bench {
 
 /// The work of the first of the jobs that has this test under this model.
 fn known_work(jobs: &[Job], tree: &Test, model: &Model) -> Result<Option<WorkRef>, AllocError>
-    ensures { IfOk result (λ o. IfSome o (λ w. w ≡ record { test = tree.now; model = model.now })) }
+    ensures work { IfOk result (λ o. IfSome o (λ w. w ≡ record { test = tree.now; model = model.now })) }
+    ensures admitted { IfOk result (λ o. IfSome o (λ w. IsAdmitted w.test)) }
 {
     for job in jobs {
         if is_work_of(job.work(), tree, model) {

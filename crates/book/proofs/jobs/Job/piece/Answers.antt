@@ -12,7 +12,7 @@ new-requires c =
     let slices = c.self.inside.slices.items in
     let x = c.index-range.result.now in
     let at = get_here slices c.args.slice x (omega (arith, c.requires, ap (λ (j : Job). length j.slices) c.self.view_is)) c.index-range.ensures in
-    let work = c.in_ok-work.ensures ∙ c.work.ensures ∙ sym (ap (λ (j : Job). j.work) c.self.view_is) in
+    let work = c.in_ok-work.ensures ∙ c.work.ensures.work ∙ sym (ap (λ (j : Job). j.work) c.self.view_is) in
     let R : WorkValue → Type 0 = λ w. IsRange w.test x.from x.to in
     subst R (sym work) (is_range c.self.inside.tally slices c.args.slice x c.self.invariant.tied at)
 
@@ -26,4 +26,4 @@ returns-clause-range c =
     subst P (sym c.new.ensures) (subst R c.self.view_is (has_range slices c.args.slice x at))
 
 pub returns-clause-work : goal.returns-clause-work
-returns-clause-work c = ap (λ (p : PieceValue). p.work) c.new.ensures ∙ c.in_ok-work.ensures ∙ c.work.ensures
+returns-clause-work c = ap (λ (p : PieceValue). p.work) c.new.ensures ∙ c.in_ok-work.ensures ∙ c.work.ensures.work

@@ -14,6 +14,3 @@ returns-in_ok-new-in-Ok-clause-work c =
 
 pub returns-in_ok-new-in-Ok-clause-admitted : goal.returns-in_ok-new-in-Ok-clause-admitted
 returns-in_ok-new-in-Ok-clause-admitted c = rw c.in_ok-new-in-Ok.ensures c.in-Ok.ensures.admitted
-
-pub returns-in-Ok-Some-clause-admitted : goal.returns-in-Ok-Some-clause-admitted
-returns-in-Ok-Some-clause-admitted c = rw (← c.work.ensures) c.size-size.ensures.admitted

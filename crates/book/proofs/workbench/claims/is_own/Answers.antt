@@ -8,7 +8,7 @@ use Rattle.book.proofs.workbench.claims.is_own.Goals as goal
 
 pub returns-then-has_range : goal.returns-then-has_range
 returns-then-has_range c =
-    let told : c.work-then-has_range.result.now ≡ c.args.job.now.work = cc in
+    let told : c.work-then-has_range.result.now ≡ c.args.job.now.work = c.work-then-has_range.ensures.work in
     let own : c.work.result.now ≡ c.work-then-has_range.result.now → c.args.piece.now.work ≡ c.args.job.now.work = λ e. sym c.work.ensures.work ∙ e ∙ told in
     let same : c.args.piece.now.work ≡ c.args.job.now.work → c.work.result.now ≡ c.work-then-has_range.result.now = λ e. c.work.ensures.work ∙ e ∙ sym told in
     elim c.if-slice-claim.branch [
