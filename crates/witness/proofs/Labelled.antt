@@ -16,7 +16,6 @@ use Rattle.cat_eval.specs.declared.value.Entry.{Entry}
 use Rattle.cat_eval.specs.declared.value.Value.{Value}
 use Rattle.cat_eval.specs.declared.value.Value.TheVariants.{Events, Pairs}
 use Rattle.cat_eval.specs.declared.valuing.Outcome.{Outcome}
-use Rattle.cat_model.specs.Beforehand.{fencerel}
 use Rattle.cat_model.specs.Named.{all_named, named_of, spelling_of, written}
 use Rattle.cat_model.specs.declared.named.Named.{Named}
 use Rattle.cat_model.specs.declared.named.Named.TheVariants.{Set, Rel}

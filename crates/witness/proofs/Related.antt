@@ -1,5 +1,5 @@
 -- Whether a relation has a pair, and how relations are written.
-use Rattle.std.proofs.Common.{◌≡◌, ℕ, ◌<◌, ◌≤◌, ◌↔◌, List, [], ◌∷◌, Bool, true, false, not, IsTrue, length, refl, sym, ◌∙◌, ap, subst, arith, ◌&&◌, ltb}
+use Rattle.std.proofs.Common.{◌≡◌, ℕ, ◌≤◌, ◌↔◌, List, [], ◌∷◌, Bool, true, false, IsTrue, length, refl, sym, ◌∙◌, arith, ◌&&◌, ltb}
 use Rattle.std.specs.Prelude.{All, nat_eq}
 use Rattle.std.specs.List.{list_all}
 use Rattle.std.proofs.lemmas.Bool.{and_parts, eq-eqb, eqb-true, false≢true}

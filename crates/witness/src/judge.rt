@@ -41,7 +41,7 @@ pub enum Judge<'m> {
 impl<'m> ModelJudge<'m> {
     fn new(alloc: Global, model: &'m Model) -> Result<Self, AllocError>
         ensures items { IfOk result (λ j. j.evaluator ≡ model.entry.now.items) }
-        ensures known { (s : Choices) → IfOk result (λ j. Knows s j.evaluator j.pruner) }
+        ensures known { IfOk result (λ j. (s : Choices) → Knows s j.evaluator j.pruner) }
     {
         let none = Common::nothing(alloc);
         let evaluator = Evaluator::of(alloc, model, none.graph())?;
@@ -79,7 +79,7 @@ impl<'m> Judge<'m> {
     /// By a model.
     pub fn by(alloc: Global, model: &'m Model) -> Result<Self, AllocError>
         ensures items { IfOk result (λ j. judged j ≡ model.entry.now.items) }
-        ensures known { (s : Choices) → IfOk result (KnowsOf s) }
+        ensures known { IfOk result (λ j. (s : Choices) → KnowsOf s j) }
     {
         Ok(Judge::Model(ModelJudge::new(alloc, model)?))
     }

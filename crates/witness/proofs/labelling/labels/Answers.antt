@@ -1,7 +1,6 @@
-use Rattle.std.proofs.Common.{List, map, take, subst, sym, ap, ◌≡◌, ◌∙◌}
+use Rattle.std.proofs.Common.{take, subst, ap, ◌∙◌}
 use Rattle.cat_eval.specs.Judging.{First}
 use Rattle.cat_eval.specs.Outcomes.{AreOutcomes}
-use Rattle.cat_tree.specs.Tree.{Clause}
 use Rattle.events.specs.Executions.{GraphValue}
 use Rattle.events.specs.Named.{event_count}
 use Rattle.listings.specs.Lists.{Lists}
