@@ -27,8 +27,7 @@ fn root_name(alloc: Global) -> Result<Name, AllocError>
 {
     match Name::new(alloc, b"main.cat") {
         Ok(name) => Ok(name),
-        Err(NameFault::NoMemory) => Err(AllocError),
-        Err(NameFault::BadName) => unreachable!(),
+        Err(NameFault::BadName | NameFault::NoMemory) => Err(AllocError),
     }
 }
 
