@@ -19,7 +19,7 @@ use std::alloc::{AllocError, Global};
 use wb_text::Name;
 
 /// The most items of a model, each include counted as one more.
-const ITEMS: usize = 4096;
+const MOST_ITEMS: usize = 4096;
 
 /// The most files on a path.
 const DEPTH: usize = 16;
@@ -49,7 +49,7 @@ impl Draft {
         ensures ok { OnOk result ((self.new.count ≡ self.old.count + 1) × (self.new.items ≡ self.old.items) × (self.new.files ≡ self.old.files)) }
         ensures err { IfErr result (λ e. (e ≡ ModelTooLarge) × (self.old.count ≡ 4096)) }
     {
-        if self.count == ITEMS {
+        if self.count == MOST_ITEMS {
             return Err(ModelFault::ModelTooLarge);
         }
         self.count += 1;

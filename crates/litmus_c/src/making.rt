@@ -25,11 +25,11 @@ use litmus_value::{Test, ValuesFault, values_among};
 use std::alloc::{AllocError, Global};
 use wb_text::Name;
 
-const MAX_THREADS: usize = 8;
+const MOST_THREADS: usize = 8;
 
-const MAX_LOCATIONS: usize = 8;
+const MOST_LOCATIONS: usize = 8;
 
-const MAX_EVENTS: usize = 64;
+const MOST_EVENTS: usize = 64;
 
 /// Adds a location that isn't there yet, up to the most that a test has.
 fn note_location(locations: &mut Vec<Name>, name: &Name) -> Result<(), TestFault>
@@ -40,7 +40,7 @@ fn note_location(locations: &mut Vec<Name>, name: &Name) -> Result<(), TestFault
     if !is_one_of(locations.as_slice(), name) {
         locations.push(name.copy()?)?;
     }
-    if locations.len() > MAX_LOCATIONS {
+    if locations.len() > MOST_LOCATIONS {
         return Err(TestFault::TooManyLocations);
     }
     Ok(())
@@ -344,7 +344,7 @@ fn check_events(locations: &[Name], threads: &[Thread]) -> Result<(), TestFault>
     ensures few { OnOk result (length locations.now + sum_by program_events threads.now ≤ 64) }
     ensures cause { IfErr result (λ e. (e ≡ TooManyEvents) × (64 < length locations.now + sum_by program_events threads.now)) }
 {
-    match after_threads(MAX_EVENTS - locations.len(), threads) {
+    match after_threads(MOST_EVENTS - locations.len(), threads) {
         Some(_) => Ok(()),
         None => Err(TestFault::TooManyEvents),
     }
@@ -371,7 +371,7 @@ fn make_parts(
     ensures kept { (n : Word) → OnOk result (KeepsRules entries.now (litmus_of (record { name = n; entries = entries.now; threads = map listing_of bodies.items; listed = listed.now; condition = condition.now }))) }
     ensures cause { (n : Word) → IfErr result (λ e. Explains entries.now (litmus_of (record { name = n; entries = entries.now; threads = map listing_of bodies.items; listed = listed.now; condition = condition.now })) e) }
 {
-    if bodies.len() > MAX_THREADS {
+    if bodies.len() > MOST_THREADS {
         return Err(TestFault::TooManyThreads);
     }
     let locations = find_locations(alloc, entries, bodies.as_slice())?;

@@ -25,7 +25,7 @@ use std::alloc::{AllocError, Global};
 use wb_text::Name;
 
 /// How deep the parts of a test may nest.
-const NESTING: u32 = 32;
+const MOST_NESTED: u32 = 32;
 
 /// The symbols that are not yet read.
 #[derive(Drop)]
@@ -521,5 +521,5 @@ pub fn read_draft(alloc: Global, symbols: &[Symbol]) -> Result<Draft, SyntaxFaul
         alloc,
         rest: symbols,
     };
-    reader.test(NESTING)
+    reader.test(MOST_NESTED)
 }

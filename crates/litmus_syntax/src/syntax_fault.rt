@@ -11,7 +11,7 @@ pub enum SyntaxFault {
     Syntax(usize),
     /// A call with an order that it doesn't take.
     BadOrder,
-    /// Something nests more than `NESTING` deep.
+    /// Something nests more than `MOST_NESTED` deep.
     TooDeep,
     NoMemory,
 }

@@ -14,10 +14,10 @@ use litmus_tree::Thread;
 use std::alloc::{AllocError, AllocFailed, Global};
 
 /// As many values as a test has at most.
-const MAX_VALUES: usize = 16;
+const MOST_VALUES: usize = 16;
 
 /// The greatest value that a test may have.
-const MAX_VALUE: u128 = 2_147_483_647;
+const GREATEST_VALUE: u128 = 2_147_483_647;
 
 /// Why there is no list of values.
 #[derive(Clone, Copy, Debug, Drop, PartialEq, Eq)]
@@ -61,7 +61,7 @@ fn insert(values: &mut Vec<u128>, value: u128) -> Result<(), ValuesFault>
     if values.contains(&value) {
         return Ok(());
     }
-    if values.len() >= MAX_VALUES {
+    if values.len() >= MOST_VALUES {
         return Err(ValuesFault::TooMany);
     }
     values.push(value)?;
@@ -105,7 +105,7 @@ fn narrowed(alloc: Global, values: &[u128]) -> Result<Vec<u32>, ValuesFault>
 {
     let mut narrow = Vec::with_capacity(alloc, values.len())?;
     for value in values {
-        if *value > MAX_VALUE {
+        if *value > GREATEST_VALUE {
             return Err(ValuesFault::TooBig);
         }
         narrow.push(*value as u32)?;

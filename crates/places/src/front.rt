@@ -10,7 +10,7 @@ use std::alloc::{AllocError, Global};
 use wb_text::{Dialect, TextFault, tokens};
 
 /// The most bytes of a text.
-const MAX_TEXT: usize = 65_536;
+const MOST_BYTES: usize = 65_536;
 
 /// Whether the front of a text, up to an offset, has tokens.
 fn front_has_tokens(
@@ -110,7 +110,7 @@ pub fn place_of_fault(
     ensures { IfOk result (IsFaultAt dialect text.now fault) }
 {
     if fault == TextFault::TooLong {
-        return Ok(MAX_TEXT);
+        return Ok(MOST_BYTES);
     }
     let end = longest_front(alloc, text, dialect)?;
     Ok(faulty_byte(fault, text, end))

@@ -5,7 +5,7 @@ ghost use Rattle.std.specs.Prelude.{◌≡◌};
 use book::Limits;
 
 /// The most versions of a name, and the most claims.
-const MOST: u32 = 1_000_000;
+const MOST_NUMBERED: u32 = 1_000_000;
 
 /// How many workers a script has, and what its book is bounded by.
 #[derive(Clone, Copy, Drop)]
@@ -25,8 +25,8 @@ impl Options {
             workers,
             limits: Limits {
                 journal,
-                versions: MOST,
-                claims: MOST,
+                versions: MOST_NUMBERED,
+                claims: MOST_NUMBERED,
             },
         }
     }

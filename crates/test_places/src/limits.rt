@@ -10,7 +10,7 @@ use std::alloc::{AllocError, Global};
 use wb_text::Name;
 
 /// As many threads as a test has at most, and as many locations.
-const MOST: usize = 8;
+const MOST_NAMED: usize = 8;
 
 /// The place of the head of the ninth thread.
 pub fn thread_too_many(marks: &[Mark]) -> Option<usize>
@@ -19,7 +19,7 @@ pub fn thread_too_many(marks: &[Mark]) -> Option<usize>
     let mut heads = 0usize;
     for (place, mark) in marks.iter().enumerate() {
         if mark.is_head() {
-            if heads >= MOST {
+            if heads >= MOST_NAMED {
                 return Some(place);
             }
             heads += 1;
@@ -61,7 +61,7 @@ pub fn location_too_many(alloc: Global, marks: &[Mark]) -> Result<Option<usize>,
     let mut names = Vec::new(alloc);
     for (place, mark) in marks.iter().enumerate() {
         add_location(&mut names, mark)?;
-        if names.len() > MOST {
+        if names.len() > MOST_NAMED {
             return Ok(Some(place));
         }
     }

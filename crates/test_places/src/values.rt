@@ -12,7 +12,7 @@ use std::alloc::{AllocError, Global};
 const MOST_VALUES: usize = 16;
 
 /// The greatest value that a test may have.
-const MOST_VALUE: u64 = 2_147_483_647;
+const GREATEST_VALUE: u64 = 2_147_483_647;
 
 /// Adds a value that isn't there yet.
 fn insert(values: &mut Vec<u128>, value: u128) -> Result<(), AllocError>
@@ -111,7 +111,7 @@ pub fn value_too_great(numbers: &[Role]) -> Option<usize>
             Role::Added(value) => added += u64::from(*value),
             _ => continue,
         }
-        if constant + added > MOST_VALUE {
+        if constant + added > GREATEST_VALUE {
             return Some(place);
         }
     }

@@ -15,7 +15,7 @@ use std::hash::{Hash, Hasher};
 use std::marker::Model;
 
 /// The most bytes of a name.
-const MAX_NAME: usize = 64;
+const MOST_BYTES: usize = 64;
 
 /// A printable ASCII byte that is no blank.
 fn is_printable(byte: u8) -> bool
@@ -54,7 +54,7 @@ impl Name {
         ensures bad { (result ≡ Err BadName) ↔ ¬ IsName bytes.now }
     {
         if bytes.is_empty()
-            || bytes.len() > MAX_NAME
+            || bytes.len() > MOST_BYTES
             || !bytes.iter().all(|byte| is_printable(*byte))
         {
             return Err(NameFault::BadName);

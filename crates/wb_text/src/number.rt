@@ -4,7 +4,7 @@ ghost use Rattle.std.specs.Prelude.{◌≤◌, SomeIff};
 ghost use Rattle.wb_text.specs.Numbers.{IsDecimal, decimal_value};
 
 /// The largest number of a test.
-const MAX_NUMBER: u64 = 2_147_483_647;
+const GREATEST_NUMBER: u64 = 2_147_483_647;
 
 /// The value of decimal digits, unless it is above 2,147,483,647.
 pub fn decimal(digits: &[u8]) -> Option<u32>
@@ -19,7 +19,7 @@ pub fn decimal(digits: &[u8]) -> Option<u32>
             return None;
         }
         value = value * 10 + u64::from(*digit - b'0');
-        if value > MAX_NUMBER {
+        if value > GREATEST_NUMBER {
             return None;
         }
     }

@@ -45,7 +45,7 @@ pub struct Token {
 }
 
 /// The most bytes of a text.
-const MAX_TEXT: usize = 65_536;
+const MOST_BYTES: usize = 65_536;
 
 /// The tokens of a text, in order.
 ///
@@ -62,7 +62,7 @@ pub fn tokens(alloc: Global, text: &[u8], dialect: Dialect) -> Result<Vec<Token>
     // Each fault comes only where its cause stands.
     ensures cause { IfErr result (λ e. HasCause dialect text.now e) }
 {
-    if text.len() > MAX_TEXT {
+    if text.len() > MOST_BYTES {
         return Err(TextFault::TooLong);
     }
     let mut tokens = Vec::new(alloc);

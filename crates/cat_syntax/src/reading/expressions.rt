@@ -14,7 +14,7 @@ use cat_tree::{Expression, Infix, Leaf, Sign};
 use std::alloc::AllocError;
 
 /// How deep an expression may nest.
-const NESTING: u32 = 64;
+const MOST_NESTED: u32 = 64;
 
 /// How many levels of operators there are.
 const LEVELS: u32 = 5;
@@ -334,6 +334,6 @@ impl<'a> Reader<'a> {
     pub fn expression(&mut self) -> Result<Expression, SyntaxFault>
         ensures { Gives term_of result self.new.rest.now (expression_at self.old.rest.now) }
     {
-        Ok(self.level(LEVELS, NESTING)?.trimmed())
+        Ok(self.level(LEVELS, MOST_NESTED)?.trimmed())
     }
 }

@@ -15,8 +15,8 @@ use Rattle.litmus_c.proofs.making.make_parts.Goals as goal
 abbrev written : Word → List Binding → List Body → List Place → Condition → Written
 written n es bs qs q = record { name = n; entries = es; threads = map listing_of bs; listed = qs; condition = q }
 
-pub returns-then-len-gt-MAX_THREADS-clause-cause : goal.returns-then-len-gt-MAX_THREADS-clause-cause
-returns-then-len-gt-MAX_THREADS-clause-cause c n =
+pub returns-then-len-gt-MOST_THREADS-clause-cause : goal.returns-then-len-gt-MOST_THREADS-clause-cause
+returns-then-len-gt-MOST_THREADS-clause-cause c n =
     let few : 8 < length c.args.bodies.items = search rules in
     omega (arith, programs_len 0 c.args.entries.now (map listing_of c.args.bodies.items), map_len listing_of c.args.bodies.items)
 

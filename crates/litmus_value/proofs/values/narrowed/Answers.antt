@@ -9,7 +9,7 @@ loop-value-preserved c =
     let P : ℕ → Type 0 = λ v. v ≤ 2147483647 in
     record {
       copied = c.in_ok-push.ensures.items ∙ ap (λ vs. vs ++ get_or c.args.values.now c.loop-value.value-index 0 ∷ []) c.loop-value.invariant.copied ∙ sym (take_more c.args.values.now c.loop-value.value-index 0 c.loop-value-test.true);
-      small = All-same P _ _ c.in_ok-push.ensures.items (All-append P c.loop-value.narrow.items _ c.loop-value.invariant.small (All-cons P _ [] (omega (arith, c.if-value-gt-MAX_VALUE.false)) (All-nil P)));
+      small = All-same P _ _ c.in_ok-push.ensures.items (All-append P c.loop-value.narrow.items _ c.loop-value.invariant.small (All-cons P _ [] (omega (arith, c.if-value-gt-GREATEST_VALUE.false)) (All-nil P)));
     }
 
 pub returns-clause-small : goal.returns-clause-small
@@ -20,7 +20,7 @@ returns-clause-small c =
 pub returns-clause-value : goal.returns-clause-value
 returns-clause-value c = c.loop-value.invariant.copied ∙ take_all c.loop-value.value-index c.args.values.now c.loop-value-test.false
 
-pub returns-then-value-gt-MAX_VALUE-clause-fault : goal.returns-then-value-gt-MAX_VALUE-clause-fault
-returns-then-value-gt-MAX_VALUE-clause-fault c =
+pub returns-then-value-gt-GREATEST_VALUE-clause-fault : goal.returns-then-value-gt-GREATEST_VALUE-clause-fault
+returns-then-value-gt-GREATEST_VALUE-clause-fault c =
     let place = c.loop-value.value-index in
-    (c.requires, (place, get_or c.args.values.now place 0, c.loop-value-test.true, search rules, c.if-value-gt-MAX_VALUE.true))
+    (c.requires, (place, get_or c.args.values.now place 0, c.loop-value-test.true, search rules, c.if-value-gt-GREATEST_VALUE.true))

@@ -7,8 +7,8 @@ use Rattle.test_places.proofs.Noting.{few_more}
 use Rattle.test_places.proofs.values.value_too_great.Goals.{in-Constant, in-Added}
 use Rattle.test_places.proofs.values.value_too_great.Goals as goal
 
-pub returns-then-constant-added-gt-MOST_VALUE : goal.returns-then-constant-added-gt-MOST_VALUE
-returns-then-constant-added-gt-MOST_VALUE c =
+pub returns-then-constant-added-gt-GREATEST_VALUE : goal.returns-then-constant-added-gt-GREATEST_VALUE
+returns-then-constant-added-gt-GREATEST_VALUE c =
     let numbers = c.args.numbers.now in
     let place = c.loop-place.place in
     let next : (c.match-number.constant ≡ greatest_constant (take (place + 1) numbers)) × (c.match-number.added ≡ added (take (place + 1) numbers)) =
@@ -21,7 +21,7 @@ returns-then-constant-added-gt-MOST_VALUE c =
     record {
       within = c.loop-place-test.true;
       few = c.loop-place.invariant.few;
-      many = omega (arith, c.if-constant-added-gt-MOST_VALUE.true, next.0, next.1, greatest_is (take (place + 1) numbers));
+      many = omega (arith, c.if-constant-added-gt-GREATEST_VALUE.true, next.0, next.1, greatest_is (take (place + 1) numbers));
     }
 
 pub loop-place-preserved : goal.loop-place-preserved
@@ -38,8 +38,8 @@ loop-place-preserved c =
     record {
       constant = next.0;
       added = next.1;
-      small = omega (arith, c.if-constant-added-gt-MOST_VALUE.false);
-      few = few_more greatest 2147483647 numbers place c.loop-place.invariant.few (omega (arith, c.if-constant-added-gt-MOST_VALUE.false, next.0, next.1, greatest_is (take (place + 1) numbers)));
+      small = omega (arith, c.if-constant-added-gt-GREATEST_VALUE.false);
+      few = few_more greatest 2147483647 numbers place c.loop-place.invariant.few (omega (arith, c.if-constant-added-gt-GREATEST_VALUE.false, next.0, next.1, greatest_is (take (place + 1) numbers)));
     }
 
 pub loop-place-preserved-in_default : goal.loop-place-preserved-in_default

@@ -6,8 +6,8 @@ use Rattle.wb_text.specs.Numbers.{decimal_value}
 use Rattle.wb_text.proofs.Values.{decimal_value-take, decimal_value-more}
 use Rattle.wb_text.proofs.number.decimal.Goals as goal
 
-pub returns-then-value-gt-MAX_NUMBER : goal.returns-then-value-gt-MAX_NUMBER
-returns-then-value-gt-MAX_NUMBER c = λ h.
+pub returns-then-value-gt-GREATEST_NUMBER : goal.returns-then-value-gt-GREATEST_NUMBER
+returns-then-value-gt-GREATEST_NUMBER c = λ h.
     let more = decimal_value-more c.args.digits.now c.loop-digit.digit-index 0 (omega arith) in
     let grows = decimal_value-take (c.loop-digit.digit-index + 1) c.args.digits.now in
     absurd (omega (arith, h.1))

@@ -11,8 +11,8 @@ use Rattle.wb_text.proofs.Texts.{nonempty, range_length}
 use Rattle.wb_text.proofs.Lists.{scanned_first, scanned_push, scanned_list, scanned_none_open, scanned_none_here, scanned_tail, scanned_within, list_once, tail_length, token_length}
 use Rattle.wb_text.proofs.token.tokens.Goals as goal
 
-pub returns-then-text-gt-MAX_TEXT-clause-cause : goal.returns-then-text-gt-MAX_TEXT-clause-cause
-returns-then-text-gt-MAX_TEXT-clause-cause c = too_long c.if-text-gt-MAX_TEXT.true
+pub returns-then-text-gt-MOST_BYTES-clause-cause : goal.returns-then-text-gt-MOST_BYTES-clause-cause
+returns-then-text-gt-MOST_BYTES-clause-cause c = too_long c.if-text-gt-MOST_BYTES.true
 
 pub returns-in_err-rest-clause-too_long : goal.returns-in_err-rest-clause-too_long
 returns-in_err-rest-clause-too_long c =
@@ -33,7 +33,7 @@ returns-in_err-rest-clause-cause c =
 pub loop-tokens-init : goal.loop-tokens-init
 loop-tokens-init c =
     let h = c.in_ok-rest.ensures.head in
-    scanned_first c.if-text-gt-MAX_TEXT.false h.0 (h.2 ∙ ap (λ l. l ++ h.0) c.new-tokens.ensures.items) h.1
+    scanned_first c.if-text-gt-MOST_BYTES.false h.0 (h.2 ∙ ap (λ l. l ++ h.0) c.new-tokens.ensures.items) h.1
 
 pub returns-in_err-next-clause-only : goal.returns-in_err-next-clause-only
 returns-in_err-next-clause-only c =
