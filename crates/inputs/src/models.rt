@@ -184,10 +184,16 @@ fn root_name(alloc: Global, path: &str) -> Result<Name, AllocError> {
     match Name::new(alloc, name.as_bytes()) {
         Ok(name) => Ok(name),
         Err(NameFault::NoMemory) => Err(AllocError),
-        Err(NameFault::BadName) => match Name::new(alloc, b"main.cat") {
-            Ok(name) => Ok(name),
-            Err(_) => Err(AllocError),
-        },
+        Err(NameFault::BadName) => main_name(alloc),
+    }
+}
+
+/// The name of a root whose file's can be none.
+fn main_name(alloc: Global) -> Result<Name, AllocError> {
+    match Name::new(alloc, b"main.cat") {
+        Ok(name) => Ok(name),
+        Err(NameFault::NoMemory) => Err(AllocError),
+        Err(NameFault::BadName) => unreachable!(),
     }
 }
 

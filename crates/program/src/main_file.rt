@@ -27,7 +27,8 @@ fn root_name(alloc: Global) -> Result<Name, AllocError>
 {
     match Name::new(alloc, b"main.cat") {
         Ok(name) => Ok(name),
-        Err(NameFault::BadName | NameFault::NoMemory) => Err(AllocError),
+        Err(NameFault::NoMemory) => Err(AllocError),
+        Err(NameFault::BadName) => unreachable!(),
     }
 }
 

@@ -106,7 +106,7 @@ impl<L: Ledger> Seats<L> {
         let answer = self.desk.call(rt, &mut self.passes[seat as usize], command);
         match refusal(answer) {
             None => {
-                find_right(last_entry(&self.passes[seat as usize]).reply());
+                prove_eq!(last_entry(&self.passes[seat as usize]).seat(), seat);
                 Outcome::Made(seat)
             }
             Some(why) => Outcome::NotTaken(why),
@@ -190,8 +190,7 @@ fn work_behind<L: Ledger + Send + Sync, R: Threads + Wait + Sync>(
     ensures table { IsTable desk.now passes.new }
     ensures worked { IsAnswered passes.old passes.new (Outcome.Worked result) (Answers (desk.now - 8) (session_receipts passes.old) Instruction.Work) }
 {
-    let (sessions, workers) = passes.split_at_mut(SESSIONS as usize);
-    let _ = sessions;
+    let (_, workers) = passes.split_at_mut(SESSIONS as usize);
     let report = work_until_idle(rt, alloc, desk, workers, &NoGate);
     sums(report.counts.as_slice())
 }
@@ -220,23 +219,22 @@ fn piece_in<L: Ledger>(passes: &[Pass<L>], claim: u32) -> Option<&Piece>
     None
 }
 
-/// The entry of the last call of a pass.
+/// The entry of the last call of a pass. A verdict that it replies is right, as each verdict is.
 fn last_entry<L: Ledger>(pass: &Pass<L>) -> &Entry
     requires { 0 < length pass.now.receipts }
-    ensures { slice_get pass.now.receipts (length pass.now.receipts - 1) ≡ Some result.now }
+    ensures last { slice_get pass.now.receipts (length pass.now.receipts - 1) ≡ Some result.now }
+    ensures right { IsRight result.now.reply }
 {
     match pass.receipts().last() {
-        Some(receipt) => receipt.entry(),
+        Some(receipt) => {
+            let entry = receipt.entry();
+            if let Reply::Verdict(verdict) = entry.reply() {
+                let verdict = verdict.verdict();
+                prove_eq!(verdict.finding().positive(), verdict.positive());
+            }
+            entry
+        }
         None => unreachable!(),
-    }
-}
-
-/// Sees that a verdict that is replied is right.
-fn find_right(reply: &Reply)
-    ensures { IsRight reply.now }
-{
-    if let Reply::Verdict(verdict) = reply {
-        let _finding = verdict.verdict().finding();
     }
 }
 

@@ -4,18 +4,8 @@ use denote.RattleType.{RattleType}
 use denote.Param.Send.{IsSend, IsSync, sendable}
 use Rattle.std.proofs.Crossing.{crosses}
 use Rattle.std.proofs.MapsCrossing.{crosses as maps_cross}
-use Rattle.conditions.proofs.prop.Link.TheLaws.TheKnot as Condition
-use Rattle.litmus_tree.proofs.expression.Link.TheLaws.TheKnot as Expression
-use Rattle.litmus_tree.proofs.tree.Statement.TheLaws.TheKnot as Statement
-use Rattle.litmus_tree.specs.contracts.tree.Thread as Thread
-use Rattle.litmus_value.specs.contracts.test.Test as Test
 use Rattle.cat_model.specs.contracts.files.Files as Files
-use Rattle.cat_model.specs.contracts.model.Model as Model
-use Rattle.slices.specs.contracts.finding.FindingRef as FindingRef
-use Rattle.slices.specs.contracts.piece.Piece as Piece
-use Rattle.slices.specs.contracts.tally.Tally as Tally
-use Rattle.slices.specs.contracts.verdict.VerdictRef as VerdictRef
-use Rattle.slices.specs.contracts.work.WorkRef as WorkRef
+use Rattle.slices.proofs.Sent.{test_send, work_send, work_sync, piece_send, piece_sync, tally_send, verdict_send, verdict_sync}
 use Rattle.journal.specs.contracts.records.Entry as Entry
 use Rattle.journal.specs.contracts.records.Reply as Reply
 use Rattle.journal.specs.contracts.records.Said as Said
@@ -28,48 +18,6 @@ use Rattle.std.specs.declared.sync.ledger.Ledger.{Ghosts}
 use Rattle.std.proofs.sync.ledger.Share.TheSendSync.{the_send as share_send}
 use Rattle.std.proofs.sync.ledger.Book.TheSendSync.{the_send as count_send}
 use Rattle.std.proofs.sync.Mutex.TheSendSync.{the_sync as mutex_sync}
-
-thread_send : IsSend Thread.the_row
-thread_send = search (crosses, Statement.crosses, Expression.crosses, sendable) depth 60 fits 20000
-
-thread_sync : IsSync Thread.the_row
-thread_sync = search (crosses, Statement.crosses, Expression.crosses, sendable) depth 60 fits 20000
-
-test_send : IsSend Test.the_row
-test_send = search (thread_send, thread_sync, crosses, Condition.crosses, sendable) depth 60 fits 20000
-
-test_sync : IsSync Test.the_row
-test_sync = search (thread_send, thread_sync, crosses, Condition.crosses, sendable) depth 60 fits 20000
-
-model_send : IsSend Model.the_row
-model_send = search (crosses, sendable) depth 60 fits 20000
-
-model_sync : IsSync Model.the_row
-model_sync = search (crosses, sendable) depth 60 fits 20000
-
-work_send : IsSend WorkRef.the_row
-work_send = search (test_send, test_sync, model_send, model_sync, crosses, sendable) depth 60 fits 20000
-
-work_sync : IsSync WorkRef.the_row
-work_sync = search (test_send, test_sync, model_send, model_sync, crosses, sendable) depth 60 fits 20000
-
-piece_send : IsSend Piece.the_row
-piece_send = search (work_send, crosses, sendable) depth 60 fits 20000
-
-piece_sync : IsSync Piece.the_row
-piece_sync = search (work_sync, crosses, sendable) depth 60 fits 20000
-
-finding_send : IsSend FindingRef.the_row
-finding_send = search (maps_cross, work_send, work_sync, crosses, sendable) depth 60 fits 20000
-
-finding_sync : IsSync FindingRef.the_row
-finding_sync = search (maps_cross, work_send, work_sync, crosses, sendable) depth 60 fits 20000
-
-verdict_send : IsSend VerdictRef.the_row
-verdict_send = search (work_send, work_sync, finding_send, finding_sync, crosses, sendable) depth 60 fits 20000
-
-verdict_sync : IsSync VerdictRef.the_row
-verdict_sync = search (work_send, work_sync, finding_send, finding_sync, crosses, sendable) depth 60 fits 20000
 
 said_send : IsSend (Said.the_field).row
 said_send = search (work_send, crosses, sendable) depth 60 fits 20000
@@ -94,9 +42,6 @@ pass_send L g = search (entry_send, entry_sync, crosses, share_send, sendable) d
 
 files_send : IsSend Files.the_row
 files_send = search (crosses, sendable) depth 60 fits 20000
-
-tally_send : IsSend Tally.the_row
-tally_send = search (work_send, finding_send, crosses, sendable) depth 60 fits 20000
 
 live_send : IsSend Live.the_row
 live_send = search (maps_cross, crosses, sendable) depth 60 fits 20000

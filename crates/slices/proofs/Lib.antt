@@ -16,6 +16,7 @@ pub mod Orders
 pub mod PassedOver
 pub mod Picked
 pub mod Rows
+pub mod Sent
 pub mod Sets
 pub mod Shown
 pub mod Sorted

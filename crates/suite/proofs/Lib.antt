@@ -2,7 +2,6 @@ pub mod EachSlice
 pub mod Firsts
 pub mod Loaded
 pub mod Objects
-pub mod Sent
 pub mod Told
 pub mod Verdicts
 pub mod Pushed

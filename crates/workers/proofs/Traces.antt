@@ -123,6 +123,13 @@ goes-more form n k xs ys a b =
       none = omega (arith, g, h, given_back-append xs ys);
     }
 
+-- each return has its receipt
+pub so_far-few : (form : Form) (before now : PassView) (number : ℕ) → SoFar form before now number → number ≤ length now.receipts
+so_far-few form before now number so_far =
+    let some = so_far.goes.some in
+    let long : length now.receipts ≡ length before.receipts + length so_far.added = ap (λ (p : PassView). length p.receipts) so_far.is ∙ length-append before.receipts so_far.added in
+    omega (arith, some, long)
+
 pub so_far-waited : (D : Deed → Type 0) (form : Form) (before mid now : PassView) (n : ℕ) → SoFar form before mid n → IsTurn D form Free mid now Waited → SoFar form before now n
 so_far-waited D form before mid now n a t = record {
   added = a.added ++ t.added;

@@ -62,7 +62,8 @@ pub fn work<L: Ledger, C: Calls<L>, G: Gate, R: Wait>(
     let mut space = KeptSpace::new(alloc);
     let mut evaluated = 0;
     loop {
-        let _made = pass.receipts().len();
+        // Each return has its receipt.
+        prove!(evaluated <= pass.receipts().len() as u64);
         match one_turn(rt, &mut space, form, calls, gate, place, pass) {
             Turn::Waited => {}
             Turn::Returned => evaluated += 1,

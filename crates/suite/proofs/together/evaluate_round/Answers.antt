@@ -3,7 +3,7 @@ use Rattle.std.proofs.Common.{arith, rules}
 use Rattle.std.proofs.Crossing.{crosses}
 use Rattle.std.proofs.alloc.Global.TheSendSync.{the_field_sync as heap_sync}
 use Rattle.std.proofs.lemmas.Result.{IfOk-weaker}
-use Rattle.suite.proofs.Sent.{work_sync, result_send}
+use Rattle.slices.proofs.Sent.{work_sync, result_send}
 use Rattle.suite.proofs.EachSlice.{both_ok}
 use Rattle.suite.proofs.together.evaluate_round.Goals as goal
 
