@@ -6,8 +6,8 @@ use Rattle.relations.specs.Tables.{cell}
 use Rattle.relations.specs.Relation.{Relation, In, IsExactly, IsCanonical, IsWithin, relation}
 use Rattle.relations.specs.TableFacts.{cell_square, square_below, square_again}
 use Rattle.relations.specs.Equality.{pair_below, one_relation}
-use Rattle.relations.specs.Words.{has_bit, bit, IsRow, BuildsRows, HasWay, Combines, CombinesRow}
-use Rattle.relations.proofs.Words.{bit_by_shift, row_or, row_one, row_told, row_at, row_way, empty_at, of_and_bit, and_bit}
+use Rattle.relations.specs.Words.{has_bit, bit, IsRow, BuildsRows, Combines, CombinesRow}
+use Rattle.relations.proofs.Words.{bit_by_shift, row_or, row_one, row_told, row_at, empty_at, of_and_bit, and_bit}
 
 in_relation : (n : ℕ) (f : ℕ → ℕ → Bool) (i j : ℕ) → i < n → j < n → f i j ≡ true → In (relation n f) i j
 in_relation n f i j a b h = cell_square n f i j a b ∙ h
@@ -118,24 +118,8 @@ all_over n m w P l h =
     relation_of n n (λ i j. P j) (replicate m w) refl
     (λ i a. (let Q : ℕ → Type 0 = λ x. IsRow n P x in subst Q (sym (get_or-replicate m i w 0 (omega (arith, a, l)))) h))
 
--- Each row with the ways through one event.
-pub passed_rows : (n middle beyond : ℕ) (old rows : List ℕ) (r : Relation) → relation n (bit old) ≡ r → middle < r.count → IsRow r.count (In r middle) beyond →
-    ((k : ℕ) → k < n → HasWay (get_or old k 0) beyond middle (get_or rows k 0)) →
-    IsExactly r.count (λ i j. In r i j ⊎ (In r i middle × In r middle j)) (relation n (bit rows))
-passed_rows n middle beyond old rows r e l g h =
-    let t : n ≡ r.count = ap (λ x. x.count) e in
-    relation_of n r.count (λ i j. In r i j ⊎ (In r i middle × In r middle j)) rows t
-    (λ i a. row_way r.count middle (In r i) (In r middle) (get_or old i 0) beyond (get_or rows i 0) l (row_of n old i r e a) g (h i (omega (arith, a, t))))
-
 pub built_at : (n m : ℕ) (P : ℕ → ℕ → Type 0) (r : Relation) → m ≡ n → BuildsRows m (λ i w. IsRow n (P i) w) r → IsExactly n P r
 built_at n m P r e h = (let Q : ℕ → Type 0 = λ m. BuildsRows m (λ i w. IsRow n (P i) w) r in built n P r (subst Q e h))
-
-pub passed_at : (n m middle beyond : ℕ) (old rows : List ℕ) (r : Relation) → relation n (bit old) ≡ r → middle < r.count → IsRow r.count (In r middle) beyond → m ≡ n →
-    ((k : ℕ) → k < n → HasWay (get_or old k 0) beyond middle (get_or rows k 0)) →
-    IsExactly r.count (λ i j. In r i j ⊎ (In r i middle × In r middle j)) (relation m (bit rows))
-passed_at n m middle beyond old rows r e l g d h =
-    let Q : ℕ → Type 0 = λ m. IsExactly r.count (λ i j. In r i j ⊎ (In r i middle × In r middle j)) (relation m (bit rows)) in
-    subst Q (sym d) (passed_rows n middle beyond old rows r e l g h)
 
 pub within_told : (m mask f : ℕ) (r s : Relation) → mask ≡ 2 ^ m - 1 → m ≡ r.count → IsCanonical r → IsRow r.count (λ j. (i : ℕ) × (In r i j × (¬ In s i j))) f →
     ((bit_and f mask == 0) ≡ true) ↔ IsWithin r s
@@ -239,3 +223,12 @@ reflected n k P r l h = record {
   all = λ i j a b x. elim x [ inl p ↦ h.all i j a b (inl p) | inr p ↦ h.all i j a b (inr (p, omega (arith, a, l))) ];
   canonical = h.canonical;
 }
+
+-- A row of a relation with just the pairs of P tells P.
+pub row_exact : (n i w : ℕ) (P : ℕ → ℕ → Type 0) (r : Relation) → i < n → IsExactly n P r → IsRow r.count (In r i) w → IsRow n (P i) w
+row_exact n i w P r l h g =
+    row_told n (In r i) (P i) w (λ j s x. h.only i j x) (λ j s x. h.all i j l s x) (row_at n r.count (In r i) w (sym h.count) g)
+
+-- A relation without a pair has just the pairs of what relates nothing.
+pub none_exact : (n m : ℕ) (P : ℕ → ℕ → Type 0) (r : Relation) → m ≡ n → IsExactly m (λ i j. ⊥) r → ((i j : ℕ) → P i j → ⊥) → IsExactly n P r
+none_exact n m P r e h f = record { count = h.count ∙ e; only = λ i j x. absurd (h.only i j x); all = λ i j a b x. absurd (f i j x); canonical = h.canonical }

@@ -1,14 +1,15 @@
 //! The operations that write over what a relation has: they touch the rows below the count alone, and copy nothing that they
 //! only read.
 
-ghost use Rattle.std.specs.Prelude.{◌≡◌, ℕ, ◌<◌, ◌≤◌, ◌⊎◌, true};
+ghost use Rattle.std.specs.Prelude.{◌≡◌, ℕ, ◌<◌, ◌≤◌, ◌⊎◌, ◌+◌, true};
 ghost use Rattle.relations.specs.Events.{Has};
 ghost use Rattle.relations.specs.Relation.{In, IsExactly};
 ghost use Rattle.relations.specs.Algebra.{Through, Chain};
-ghost use Rattle.relations.specs.Words.{has_bit, IsRow};
+ghost use Rattle.relations.specs.Words.{has_bit, ClosedFrom, IsRow};
 
 use crate::rel::Rel;
 use crate::set::Set;
+use crate::word::below;
 
 impl Rel {
     /// Becomes the relation without a pair.
@@ -114,6 +115,9 @@ impl Rel {
         ensures { IsExactly left.now.count (Through left.now.count (In left.now) (In right.now)) self.new }
     {
         let mask = right.leading();
+        if mask == 0 {
+            return self.become_empty(left.count());
+        }
         self.fill(
             left.count(),
             |i|
@@ -145,14 +149,26 @@ impl Rel {
     pub fn become_inverse(&mut self, of: &Self)
         ensures { IsExactly of.now.count (λ i j. In of.now j i) self.new }
     {
-        self.fill(
-            of.count(),
-            |i|
-                requires from { i < of.now.count }
-                requires small { of.now.count ≤ 64 }
-                ensures { IsRow of.entry.now.count (λ j. In of.entry.now j i) result }
-            { of.column(i) },
-        );
+        self.become_empty(of.count());
+        for to in 0..of.count() {
+            self.insert_from(of.row(to) & below(of.count()), to);
+        }
+    }
+
+    // Relates each of these events to event `to`, too.
+    #[inline(always)]
+    fn insert_from(&mut self, from: u64, to: usize)
+        requires to { to < self.old.count }
+        requires inside { (m : ℕ) → has_bit from m ≡ true → m < self.old.count }
+        ensures { IsExactly self.old.count (λ i j. In self.old i j ⊎ ((has_bit from i ≡ true) × (j ≡ to))) self.new }
+    {
+        prove!(self.count <= 64);
+        let mut left = from;
+        while left != 0 {
+            let m = left.trailing_zeros() as usize;
+            left &= !(1u64 << m);
+            self.insert(m, to);
+        }
     }
 
     /// Becomes the pairs of the other, and each event with itself.
@@ -174,14 +190,21 @@ impl Rel {
     pub fn become_plus(&mut self, of: &Self)
         ensures { IsExactly of.now.count (Chain (In of.now)) self.new }
     {
-        self.fill(
-            of.count(),
-            |i|
-                requires from { i < of.now.count }
-                requires small { of.now.count ≤ 64 }
-                ensures { IsRow of.entry.now.count (Chain (In of.entry.now) i) result }
-            { of.reached(i) },
-        );
+        self.become_copy(of);
+        for passed in 0..of.count() {
+            self.close_row(of, of.count() - 1 - passed);
+        }
+    }
+
+    // Relates an event to those to which chains of the other lead from it, where the events behind it are so related.
+    #[inline(always)]
+    fn close_row(&mut self, of: &Self, i: usize)
+        requires i { i < of.now.count }
+        requires behind { IsExactly of.now.count (ClosedFrom (i + 1) (In of.now)) self.old }
+        ensures { IsExactly of.now.count (ClosedFrom i (In of.now)) self.new }
+    {
+        let reached = self.reached(of, i);
+        self.rows[i] = reached;
     }
 
     /// Becomes the ends of each chain, also of none.
