@@ -13,6 +13,7 @@ pub mod Stepping
 pub mod Copies
 pub mod Following
 pub mod Graded
+pub mod Nexts
 pub mod Held
 pub mod Lawful
 pub mod Cores

@@ -5,6 +5,7 @@ ghost use Rattle.cat_tree.specs.Tree.{clause_of};
 ghost use Rattle.cat_eval.specs.Code.{planned_clause};
 ghost use Rattle.cat_eval.specs.Prepared.{IsReadyFor, steps_of_item};
 
+use crate::bases::Bases;
 use crate::evaluator::Evaluator;
 use crate::growth::Growth;
 use crate::keeping::Kept;
@@ -13,7 +14,7 @@ use crate::step::Step;
 use crate::value::Value;
 use cat_model::Model;
 use cat_tree::Item;
-use events::{Basis, SourcedStructure};
+use events::SourcedStructure;
 use relations::Rel;
 use std::alloc::{AllocError, Global};
 
@@ -28,7 +29,7 @@ pub(crate) struct ItemSteps {
 /// What an evaluator has made ready and what it keeps, without the model. It serves any model of the same items.
 pub struct Prepared {
     pub(crate) steps: Vec<Step>,
-    pub(crate) bases: Vec<Basis>,
+    pub(crate) bases: Bases,
     pub(crate) ends: Vec<usize>,
     pub(crate) item_steps: Vec<ItemSteps>,
     pub(crate) growths: Vec<Growth>,
