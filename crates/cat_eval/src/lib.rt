@@ -1,6 +1,7 @@
 //! Judges executions under models: which checks hold, and which flags are raised.
 #![tactic(auto)]
 
+mod asked;
 mod bases;
 mod calls;
 mod drafting;

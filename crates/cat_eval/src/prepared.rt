@@ -5,6 +5,7 @@ ghost use Rattle.cat_tree.specs.Tree.{clause_of};
 ghost use Rattle.cat_eval.specs.Code.{planned_clause};
 ghost use Rattle.cat_eval.specs.Prepared.{IsReadyFor, steps_of_item};
 
+use crate::asked::Asked;
 use crate::bases::Bases;
 use crate::evaluator::Evaluator;
 use crate::growth::Growth;
@@ -34,6 +35,7 @@ pub struct Prepared {
     pub(crate) item_steps: Vec<ItemSteps>,
     pub(crate) growths: Vec<Growth>,
     pub(crate) telling: usize,
+    pub(crate) asked: Asked,
     pub(crate) values: Vec<Value>,
     pub(crate) kept: Kept,
     pub(crate) sourced: Box<SourcedStructure>,
@@ -50,6 +52,7 @@ impl Drop for Prepared {
             item_steps: _,
             growths: _,
             telling: _,
+            asked: _,
             values: _,
             kept: _,
             sourced: _,
@@ -117,6 +120,7 @@ impl Prepared {
             item_steps: _,
             growths,
             telling,
+            asked,
             values,
             kept,
             sourced,
@@ -129,6 +133,7 @@ impl Prepared {
             items,
             growths,
             telling,
+            asked,
             values,
             kept,
             sourced,

@@ -1,6 +1,6 @@
 //! What a partial execution tells of all that go on from it.
 
-ghost use Rattle.std.specs.Prelude.{◌≤◌, length, IsTrue};
+ghost use Rattle.std.specs.Prelude.{◌≤◌, length, IfSome, IsTrue};
 ghost use Rattle.events.specs.Executions.{GraphValue};
 ghost use Rattle.events.specs.Extends.{Extends};
 ghost use Rattle.cat_eval.specs.Judging.{Allowed};
@@ -45,36 +45,36 @@ pub fn telling<'m>(growths: &[Growth], items: &[PlannedItem<'m>]) -> usize
 }
 
 impl Machine<'_, '_, '_> {
-    // Is it known of the execution that the model allows none that goes on from it? The first items are looked at, up to one that refutes it. So
-    // many values are made.
+    // The number of an item that refutes the execution: the model allows none that goes on from it. The first items are looked at, up to such a
+    // one. So many values are made.
     fn refutes(
         &self,
         growths: &[Growth],
         count: usize,
         values: &mut [Value],
         made: &mut usize,
-    ) -> bool
+    ) -> Option<usize>
         requires code { IsCode self.now.code }
         requires grown { AreGrown self.now.code.steps.now self.now.code.items.now growths.now }
         requires count { count ≤ length self.now.code.items.now }
         requires machine { HasMade self.now values.old made.old }
         ensures machine { HasMade self.now values.new made.new }
-        ensures refuted { IsTrue result → (h : GraphValue) → Extends self.now.view.now h → ¬ Allowed (clauses_of self.now.code) h }
+        ensures refuted { IfSome result (λ _. (h : GraphValue) → Extends self.now.view.now h → ¬ Allowed (clauses_of self.now.code) h) }
     {
         laws::extension();
         for number in 0..count {
             let item = &self.code.items[number];
             let weighed = self.weigh(values, made, item);
             if !weighed.permits && tells(growths, item) {
-                return true;
+                return Some(number);
             }
         }
-        false
+        None
     }
 }
 
-/// Is it known of a partial execution that the model allows none that goes on from it? The first items are looked at, up to one that
-/// refutes it. Values that are kept are not made again, and those that are made are kept.
+/// The number of an item that refutes a partial execution: the model allows none that goes on from it. The first items are looked at, up to
+/// such a one. Values that are kept are not made again, and those that are made are kept.
 pub(crate) fn refutes_by(
     view: &GraphView,
     code: &Code<'_, '_>,
@@ -82,13 +82,13 @@ pub(crate) fn refutes_by(
     count: usize,
     kept: &mut Kept,
     values: &mut [Value],
-) -> bool
+) -> Option<usize>
     requires code { IsCode code.now }
     requires grown { AreGrown code.now.steps.now code.now.items.now growths.now }
     requires count { count ≤ length code.now.items.now }
     requires kept { Keeps view.now code.now kept.old values.old }
     ensures kept { Keeps view.now code.now kept.new values.new }
-    ensures refuted { IsTrue result → (h : GraphValue) → Extends view.now h → ¬ Allowed (clauses_of code.now) h }
+    ensures refuted { IfSome result (λ _. (h : GraphValue) → Extends view.now h → ¬ Allowed (clauses_of code.now) h) }
 {
     let machine = Machine {
         view,
@@ -96,7 +96,7 @@ pub(crate) fn refutes_by(
         kept: *kept,
     };
     let mut made = 0;
-    let known = machine.refutes(growths, count, values, &mut made);
+    let refuted = machine.refutes(growths, count, values, &mut made);
     *kept = kept.with(made);
-    known
+    refuted
 }

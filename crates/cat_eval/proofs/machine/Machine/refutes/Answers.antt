@@ -55,7 +55,7 @@ returns-then-tells-clause-refuted c =
     let is : item ≡ get_or ps c.loop-number.number item = ap (λ (x : PlannedItem). get_or ps c.loop-number.number x) c.index-self-number.is in
     let next = standing_next g ss ps c.args.growths.now c.loop-number.values c.loop-number.number item r (omega (arith, c.loop-number-test.true, c.requires.count)) is in
     let its = due c.args.self.now ps c.loop-number.values c.loop-number.number item r.names r.last_names r.last_place next in
-    λ _. refuted_at g ss ps c.args.growths.now c.loop-number.values c.loop-number.number item c.weigh-weighed.result.permits r next c.requires.grown
+    refuted_at g ss ps c.args.growths.now c.loop-number.values c.loop-number.number item c.weigh-weighed.result.permits r next c.requires.grown
     c.if-not-weighed.true (c.weigh-weighed.ensures.said.permits r.names next.item_core its) (c.tells.ensures c.if-tells.true)
 
 pub returns-clause-machine : goal.returns-clause-machine
