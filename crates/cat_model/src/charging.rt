@@ -16,10 +16,10 @@ use std::alloc::{AllocError, Global};
 use wb_text::Name;
 
 /// The most nodes of all checks and bound values.
-const NODES: u32 = 65_536;
+const MOST_NODES: u32 = 65_536;
 
 /// The most bodies that stand inside one another.
-const BODIES: u32 = 64;
+const MOST_BODIES: u32 = 64;
 
 /// The total with one more expression, if it isn't too much.
 pub fn charge<'a>(
@@ -33,7 +33,7 @@ pub fn charge<'a>(
     let nodes = size(alloc, scope, expression)?;
     let depth = depth(alloc, scope, expression)?;
     let sum = nodes.saturating_add(1).saturating_add(total);
-    if sum > NODES || depth > BODIES {
+    if sum > MOST_NODES || depth > MOST_BODIES {
         return Ok(None);
     }
     Ok(Some(sum))

@@ -22,7 +22,7 @@ use wb_text::Name;
 const MOST_ITEMS: usize = 4096;
 
 /// The most files on a path.
-const DEPTH: usize = 16;
+const MOST_FILES: usize = 16;
 
 /// Whether a file was read.
 fn is_read(files: &[FileVersion], name: &Name) -> bool
@@ -163,7 +163,7 @@ impl<'a> Walk<'a> {
         if is_on_path(path, name) {
             return Err(ModelFault::IncludeCycle(name.copy()?));
         }
-        if path.len() == DEPTH {
+        if path.len() == MOST_FILES {
             return Err(ModelFault::ModelTooLarge);
         }
         draft.count_one()?;

@@ -16,10 +16,10 @@ use std::alloc::{AllocError, Global};
 use wb_text::Name;
 
 /// All larger sizes count as this one.
-const MOST_NODES: u32 = 65_537;
+const GREATEST_SIZE: u32 = 65_537;
 
 /// The weight of a depth of 65, as which all larger depths count.
-const MOST_BODIES: u32 = 66;
+const GREATEST_DEPTH: u32 = 66;
 
 /// What is weighed.
 #[derive(Clone, Copy)]
@@ -44,7 +44,7 @@ fn beside(measure: Measure, a: u32, b: u32) -> u32
     ensures { Alike measure result (beside_by measure a b) }
 {
     match measure {
-        Measure::Size => a.saturating_add(b).min(MOST_NODES),
+        Measure::Size => a.saturating_add(b).min(GREATEST_SIZE),
         Measure::Depth => a.max(b),
     }
 }
@@ -60,7 +60,7 @@ fn deeper(a: u32, b: u32) -> u32
     if b == 0 {
         return 0;
     }
-    a.saturating_add(b - 1).min(MOST_BODIES)
+    a.saturating_add(b - 1).min(GREATEST_DEPTH)
 }
 
 /// The weight of what weighs `b`, where it stands with weight `a`.
@@ -69,7 +69,7 @@ fn within(measure: Measure, a: u32, b: u32) -> u32
     ensures { Alike measure result (within_by measure a b) }
 {
     match measure {
-        Measure::Size => a.saturating_mul(b).min(MOST_NODES),
+        Measure::Size => a.saturating_mul(b).min(GREATEST_SIZE),
         Measure::Depth => deeper(a, b),
     }
 }

@@ -9,7 +9,7 @@ ghost use Rattle.cat_syntax.specs.declared.counting.Context.TheVariants.{Naming}
 use crate::symbol::{Symbol, Terminal};
 
 /// The most nodes of a model.
-const NODES: usize = 4096;
+const MOST_NODES: usize = 4096;
 
 /// What stands before a symbol, as far as it tells whether the symbol is a node.
 #[derive(Clone, Copy)]
@@ -124,7 +124,7 @@ pub fn excess(symbols: &[Symbol]) -> Option<usize>
     let mut nodes = 0;
     for (i, symbol) in symbols.iter().enumerate() {
         nodes += cost(context, depth, symbol);
-        if nodes > NODES {
+        if nodes > MOST_NODES {
             return Some(if announces(symbol) { i + 1 } else { i });
         }
         context = following(context, symbol);

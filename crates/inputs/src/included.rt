@@ -4,7 +4,7 @@ use std::alloc::{AllocError, Global};
 use wb_text::{Dialect, Name, NameFault, TextFault, Token, TokenKind, tokens};
 
 /// The most bytes of a name that a book can have.
-const LONGEST: usize = 64;
+const MOST_BYTES: usize = 64;
 
 /// Where the name of an included file stands in a text, with its quotes.
 #[derive(Clone, Copy)]
@@ -68,10 +68,10 @@ impl Included {
 
 /// Makes a name that a book can have of one that stands before a closing quote: its last 64 bytes, with `_` for each that no name can have. Bytes that get free become blanks behind the quote.
 fn stand_in(alloc: Global, quoted: &mut [u8]) -> Result<Option<Name>, AllocError> {
-    let name_len = quoted.len().saturating_sub(1).min(LONGEST);
-    quoted.rotate_left(quoted.len().saturating_sub(LONGEST + 1));
+    let name_len = quoted.len().saturating_sub(1).min(MOST_BYTES);
+    quoted.rotate_left(quoted.len().saturating_sub(MOST_BYTES + 1));
     for (at, byte) in quoted.iter_mut().enumerate() {
-        if at > LONGEST {
+        if at > MOST_BYTES {
             *byte = b' ';
         } else if !byte.is_ascii_graphic() {
             *byte = b'_';

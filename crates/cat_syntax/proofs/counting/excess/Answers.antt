@@ -11,7 +11,7 @@ returns-then-announces-clause-place c =
     let reported : announces_node (get_or c.args.symbols.now c.loop-i.i symbol) ≡ true = sym (ap announces_node c.index-symbols-i.is) ∙ (sym c.announces.ensures ∙ c.if-announces.true) in (
       omega (arith, c.loop-i-test.true),
       excess_here c.loop-i.context c.loop-i.depth c.args.symbols.now c.loop-i.i c.loop-i.nodes (c.loop-i.i + 1) symbol c.loop-i-test.true c.loop-i.invariant.3 c.loop-i.invariant.1
-          (omega (arith, c.if-nodes-gt-NODES.true, counted)) (rw reported refl),
+          (omega (arith, c.if-nodes-gt-MOST_NODES.true, counted)) (rw reported refl),
     )
 
 pub returns-else-announces-clause-place : goal.returns-else-announces-clause-place
@@ -21,7 +21,7 @@ returns-else-announces-clause-place c =
     let reported : announces_node (get_or c.args.symbols.now c.loop-i.i symbol) ≡ false = sym (ap announces_node c.index-symbols-i.is) ∙ (sym c.announces.ensures ∙ c.if-announces.false) in (
       omega (arith, c.loop-i-test.true),
       excess_here c.loop-i.context c.loop-i.depth c.args.symbols.now c.loop-i.i c.loop-i.nodes c.loop-i.i symbol c.loop-i-test.true c.loop-i.invariant.3 c.loop-i.invariant.1
-          (omega (arith, c.if-nodes-gt-NODES.true, counted)) (rw reported refl),
+          (omega (arith, c.if-nodes-gt-MOST_NODES.true, counted)) (rw reported refl),
     )
 
 pub loop-i-preserved : goal.loop-i-preserved
@@ -33,7 +33,7 @@ loop-i-preserved c =
     let rest = weight_next c.loop-i.context c.loop-i.depth c.args.symbols.now c.loop-i.i symbol c.loop-i-test.true in
     let few = front_next Naming c.loop-i.context c.loop-i.depth c.args.symbols.now c.loop-i.i c.loop-i.nodes symbol c.loop-i-test.true c.loop-i.invariant.3 in (
       rw (counted, behind, nested) (omega (arith, rest, c.loop-i.invariant.0)),
-      omega (arith, c.if-nodes-gt-NODES.false),
+      omega (arith, c.if-nodes-gt-MOST_NODES.false),
       omega (arith, c.cost.ensures.small, c.loop-i.invariant.2),
       rw (counted, behind, nested) few,
       omega (arith, c.depth_behind-depth.ensures.most, c.loop-i.invariant.4),
@@ -43,10 +43,10 @@ pub returns-then-announces-clause-weight : goal.returns-then-announces-clause-we
 returns-then-announces-clause-weight c =
     let symbol = c.index-symbols-i.result in
     let counted : c.cost.result ≡ cost c.loop-i.context c.loop-i.depth (get_or c.args.symbols.now c.loop-i.i symbol) = c.cost.ensures.value ∙ ap (cost c.loop-i.context c.loop-i.depth) c.index-symbols-i.is in
-    omega (arith, counted, c.if-nodes-gt-NODES.true, c.loop-i.invariant.0, weight_next c.loop-i.context c.loop-i.depth c.args.symbols.now c.loop-i.i symbol c.loop-i-test.true)
+    omega (arith, counted, c.if-nodes-gt-MOST_NODES.true, c.loop-i.invariant.0, weight_next c.loop-i.context c.loop-i.depth c.args.symbols.now c.loop-i.i symbol c.loop-i-test.true)
 
 pub returns-else-announces-clause-weight : goal.returns-else-announces-clause-weight
 returns-else-announces-clause-weight c =
     let symbol = c.index-symbols-i.result in
     let counted : c.cost.result ≡ cost c.loop-i.context c.loop-i.depth (get_or c.args.symbols.now c.loop-i.i symbol) = c.cost.ensures.value ∙ ap (cost c.loop-i.context c.loop-i.depth) c.index-symbols-i.is in
-    omega (arith, counted, c.if-nodes-gt-NODES.true, c.loop-i.invariant.0, weight_next c.loop-i.context c.loop-i.depth c.args.symbols.now c.loop-i.i symbol c.loop-i-test.true)
+    omega (arith, counted, c.if-nodes-gt-MOST_NODES.true, c.loop-i.invariant.0, weight_next c.loop-i.context c.loop-i.depth c.args.symbols.now c.loop-i.i symbol c.loop-i-test.true)

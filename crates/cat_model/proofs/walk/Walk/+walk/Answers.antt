@@ -18,8 +18,8 @@ include-returns-then-is_on_path-clause-err t c =
     subst (λ z. IsAstray (IncludeCycle z) c.args.self.now.files.now c.args.self.now.root.now) (sym c.in_ok-copy-2.ensures)
     (cycle-here c.args.self.now.files.now c.args.self.now.root.now (told c.args.path.now) c.requires.0 c.args.name.now c.requires.1 c.requires.2 on)
 
-pub include-returns-then-path-eq-DEPTH-clause-err : goal.include-returns-then-path-eq-DEPTH-clause-err
-include-returns-then-path-eq-DEPTH-clause-err t c =
+pub include-returns-then-path-eq-MOST_FILES-clause-err : goal.include-returns-then-path-eq-MOST_FILES-clause-err
+include-returns-then-path-eq-MOST_FILES-clause-err t c =
     let e : Some c.in-Some.file.now ≡ file_of c.args.name.now c.args.self.now.files.now = c.in-Some.ensures in
     let l : 16 ≤ length (told c.args.path.now) = omega (arith, length-map c.args.path.now (λ y. y.now)) in
     deep-here c.args.self.now.files.now c.args.self.now.root.now (told c.args.path.now) c.requires.0 c.args.name.now c.requires.1 c.requires.2 l (subst IsSome e refl) _
@@ -34,7 +34,7 @@ include-returns-in_err-count_one-clause-err t c =
 pub include-items-requires-2 : goal.include-items-requires-2
 include-items-requires-2 t c =
     let e : Some c.in-Some.file.now ≡ file_of c.args.name.now c.args.self.now.files.now = c.in-Some.ensures in
-    let l : length (told c.args.path.now) < 16 = short c.args.path.now c.requires.1.short c.if-path-eq-DEPTH.false in
+    let l : length (told c.args.path.now) < 16 = short c.args.path.now c.requires.1.short c.if-path-eq-MOST_FILES.false in
     let inside = here-inside c.args.self.now.files.now c.args.self.now.root.now (told c.args.path.now) c.requires.0 c.args.name.now c.in-Some.file.now c.requires.1 c.requires.2 (sym e) l in
     let here : IsHere c.args.self.now.files.now c.args.self.now.root.now (told c.deref.result.now) (map clause_of c.items.result.now) =
     here_call c.args.self.now.files.now c.args.self.now.root.now c.args.name.now (told c.args.path.now) c.in_ok-longer.longer.items c.deref.result.now c.in-Some.file.now c.items.result.now c.deref.ensures.value c.in_ok-longer.ensures c.items.ensures inside in
@@ -46,7 +46,7 @@ include-items-requires-2 t c =
 pub include-returns-clause-ok : goal.include-returns-clause-ok
 include-returns-clause-ok t c =
     let e : Some c.in-Some.file.now ≡ file_of c.args.name.now c.args.self.now.files.now = c.in-Some.ensures in
-    let l : length (told c.args.path.now) < 16 = short c.args.path.now c.requires.1.short c.if-path-eq-DEPTH.false in
+    let l : length (told c.args.path.now) < 16 = short c.args.path.now c.requires.1.short c.if-path-eq-MOST_FILES.false in
     let o : is_on (told c.args.path.now) c.args.name.now ≡ false = on_path c.args.path.now c.args.name.now ∙ (sym c.is_on_path.ensures ∙ c.if-is_on_path.false) in
     on_ok_weaker c.items-2.result
     (λ p. place_include c.args.self.now.files.now (told c.args.path.now) c.args.name.now c.in-Some.file.now c.args.draft.now c.count_one.new.self c.note.new.self c.items-2.new.draft (sym e) o l
@@ -57,7 +57,7 @@ include-returns-clause-ok t c =
 pub include-returns-clause-err : goal.include-returns-clause-err
 include-returns-clause-err t c =
     let e : Some c.in-Some.file.now ≡ file_of c.args.name.now c.args.self.now.files.now = c.in-Some.ensures in
-    let l : length (told c.args.path.now) < 16 = short c.args.path.now c.requires.1.short c.if-path-eq-DEPTH.false in
+    let l : length (told c.args.path.now) < 16 = short c.args.path.now c.requires.1.short c.if-path-eq-MOST_FILES.false in
     let o : is_on (told c.args.path.now) c.args.name.now ≡ false = on_path c.args.path.now c.args.name.now ∙ (sym c.is_on_path.ensures ∙ c.if-is_on_path.false) in
     IfErr-weaker c.items-2.result _ _
     (λ y h. fault_include y c.args.self.now.files.now c.args.self.now.root.now (told c.args.path.now) c.args.name.now c.in-Some.file.now c.args.draft.now c.count_one.new.self c.note.new.self (sym e) o l
