@@ -10,6 +10,7 @@ ghost use Rattle.cat_eval.specs.Machine.{clauses_of, IsCode, Keeps, HasMade};
 
 use crate::growing::growth_at;
 use crate::growth::Growth;
+use crate::judging::is_settled;
 use crate::keeping::Kept;
 use crate::machine::{Code, Machine};
 use crate::plan::PlannedItem;
@@ -64,6 +65,9 @@ impl Machine<'_, '_, '_> {
         laws::extension();
         for number in 0..count {
             let item = &self.code.items[number];
+            if is_settled(item, *made) {
+                continue;
+            }
             let weighed = self.weigh(values, made, item);
             if !weighed.permits && tells(growths, item) {
                 return Some(number);

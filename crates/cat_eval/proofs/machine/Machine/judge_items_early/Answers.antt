@@ -5,10 +5,10 @@ use Rattle.cat_eval.specs.Code.{entries_of, planned_clause}
 use Rattle.cat_eval.specs.CoreMeaning.{Under}
 use Rattle.cat_eval.specs.CoreJudging.{Names, Permits, RaisedBy}
 use Rattle.cat_eval.specs.Judging.{Allowed, Raised}
-use Rattle.cat_eval.proofs.Lawful.{forbidden_is, no_flag_told, kept, flag_told, all_told}
+use Rattle.cat_eval.proofs.Lawful.{forbidden_is, no_flag_told, kept, flag_told, nothing_told, all_told}
 use Rattle.cat_eval.proofs.Running.{ran_less}
 use Rattle.cat_eval.proofs.Reaching.{reached_none, reached_next, reached_more, reached_done, forbidden_at}
-use Rattle.cat_eval.proofs.Turns.{turn, due}
+use Rattle.cat_eval.proofs.Turns.{turn, due, settled_made, settled_says}
 use Rattle.cat_eval.proofs.machine.Machine.judge_items_early.Goals as goal
 
 pub loop-item-init : goal.loop-item-init
@@ -31,6 +31,29 @@ weigh-weighed-requires c =
 
 pub add_raised-requires : goal.add_raised-requires
 add_raised-requires c = c.loop-item.invariant.reached.so_far.once
+
+pub loop-item-preserved-then-is_settled : goal.loop-item-preserved-then-is_settled
+loop-item-preserved-then-is_settled c =
+    let g = c.args.self.now.view.now in
+    let ss = c.args.self.now.code.steps.now in
+    let ps = c.args.self.now.code.items.now in
+    let vs = c.loop-item.values in
+    let item = c.item-item.result in
+    let machine = c.loop-item.invariant.machine in
+    let r = c.loop-item.invariant.reached in
+    let next = reached_next g ss ps vs c.loop-item.item-index true c.loop-item.flags.items item r c.loop-item-test.true c.item-item.is in
+    let its = due c.args.self.now ps vs c.loop-item.item-index item r.names r.last_names r.last_place next in
+    let settled = c.is_settled.ensures c.if-is_settled.true in
+    let made = settled_made c.args.self.now vs c.loop-item.made item machine settled in
+    let said = settled_says c.args.self.now vs c.loop-item.made item settled in
+    record {
+      machine = machine;
+      reached = reached_more g ss ps vs vs c.loop-item.item-index true true c.loop-item.flags.items c.loop-item.flags.items
+          item r next made.same (ran_less g ss vs c.loop-item.made item.to made.reached machine.ran) (made.binds r.names next.item_core its)
+          (kept true true true (Permits (event_count g) (Under (Names g) (entries_of r.names vs)) next.item_core) refl refl (said.permits r.names next.item_core its))
+          r.so_far.once
+          (nothing_told c.loop-item.flags.items (RaisedBy (event_count g) (Under (Names g) (entries_of r.names vs)) next.item_core) (said.raised r.names next.item_core its));
+    }
 
 pub loop-item-preserved : goal.loop-item-preserved
 loop-item-preserved c =

@@ -2,7 +2,7 @@ use Rattle.std.proofs.Common.{◌≡◌, get_or, ap, arith}
 use Rattle.cat_eval.specs.declared.plan.PlannedItem.{PlannedItem}
 use Rattle.cat_eval.proofs.Refuted.{standing_none, standing_next, standing_more, refuted_at}
 use Rattle.cat_eval.proofs.Running.{ran_less}
-use Rattle.cat_eval.proofs.Turns.{turn, due}
+use Rattle.cat_eval.proofs.Turns.{turn, due, settled_made}
 use Rattle.cat_eval.proofs.machine.Machine.refutes.Goals as goal
 
 pub loop-number-init : goal.loop-number-init
@@ -23,6 +23,25 @@ weigh-weighed-requires c =
     record {
       machine = c.loop-number.invariant.machine;
       turn = turn c.args.self.now ps c.loop-number.values c.loop-number.number item r.names r.last_names r.last_place next;
+    }
+
+pub loop-number-preserved-then-is_settled : goal.loop-number-preserved-then-is_settled
+loop-number-preserved-then-is_settled c =
+    let g = c.args.self.now.view.now in
+    let ss = c.args.self.now.code.steps.now in
+    let ps = c.args.self.now.code.items.now in
+    let vs = c.loop-number.values in
+    let machine = c.loop-number.invariant.machine in
+    let r = c.loop-number.invariant.standing in
+    let item : PlannedItem = get_or ps c.loop-number.number c.index-self-number.result in
+    let is : item ≡ get_or ps c.loop-number.number item = ap (λ (x : PlannedItem). get_or ps c.loop-number.number x) c.index-self-number.is in
+    let next = standing_next g ss ps c.args.growths.now vs c.loop-number.number item r (omega (arith, c.loop-number-test.true, c.requires.count)) is in
+    let its = due c.args.self.now ps vs c.loop-number.number item r.names r.last_names r.last_place next in
+    let made = settled_made c.args.self.now vs c.loop-number.made item machine (c.is_settled.ensures c.if-is_settled.true) in
+    record {
+      machine = machine;
+      standing = standing_more g ss ps c.args.growths.now vs vs c.loop-number.number item r next c.requires.grown (omega (arith, c.loop-number-test.true, c.requires.count)) is
+          made.same (ran_less g ss vs c.loop-number.made item.to made.reached machine.ran) (made.binds r.names next.item_core its);
     }
 
 pub loop-number-preserved : goal.loop-number-preserved
