@@ -12,9 +12,11 @@ use Rattle.events.specs.declared.event.EventId.{EventId}
 use Rattle.events.specs.declared.event.EventId.TheVariants.{Initial}
 use Rattle.events.specs.declared.named.RelName.TheVariants.{Rf, Co}
 use Rattle.events.specs.Executions.{GraphValue, IsNamed}
-use Rattle.events.specs.Named.{event_names, event_count, read_names, IsNumber, NamedRel, StandsBefore, StandsFrom}
+use Rattle.events.specs.Named.{event_names, event_count, read_names, IsNumber, NamedRel, ReadsFrom, StandsBefore, StandsFrom}
+use Rattle.events.specs.Structures.{with_sources}
 use Rattle.events.specs.Rows.{ByNumbers, IsBehind, StandsBeforeFrom, IsBeforeAmong, ReadsAmong, IsReadAt}
 use Rattle.events.proofs.Numbers.{names_listed, counted}
+use Rattle.events.proofs.Shapes.{names_same, reads_same}
 use Rattle.events.proofs.Standing.{stands_below, stands_get, stands_or, one_stands}
 
 -- NUMBERS
@@ -168,7 +170,7 @@ order_done n g order p o r e h =
 
 -- ALL ORDERS, ALL READS
 
-by_step : (n : ℕ) (g : GraphValue) (P Q R : EventId → EventId → Type 0) (r t : Relation) → ((d e : EventId) → P d e → R d e) → ((d e : EventId) → Q d e → R d e) →
+pub by_step : (n : ℕ) (g : GraphValue) (P Q R : EventId → EventId → Type 0) (r t : Relation) → ((d e : EventId) → P d e → R d e) → ((d e : EventId) → Q d e → R d e) →
     ((d e : EventId) → R d e → P d e ⊎ Q d e) → IsExactly n (ByNumbers g P) r → IsExactly n (λ i j. In r i j ⊎ ByNumbers g Q i j) t → IsExactly n (ByNumbers g R) t
 by_step n g P Q R r t f k m h l = record {
   count = l.count;
@@ -207,44 +209,56 @@ orders_done n g x r l h =
     (λ i j y. (let z : IsBeforeAmong g x y.0 y.1 = y.4 in (y.0, y.1, y.2, y.3, (z.0, z.1, z.3, z.4))))
     (λ i j a b y. (y.0, y.1, y.2, y.3, (y.4.0, y.4.1, omega (arith, l, stands_below g.co y.4.0 y.4.1 y.4.2), y.4.2, y.4.3))) h
 
-pub reads_begun : (n : ℕ) (g : GraphValue) (r : Relation) → IsExactly n (λ i j. ⊥) r → IsExactly n (ByNumbers g (ReadsAmong g 0)) r
-reads_begun n g r h =
-    reworded n (λ i j. ⊥) (ByNumbers g (ReadsAmong g 0)) r (λ i j x. absurd x)
-    (λ i j a b x. (let y : ReadsAmong g 0 x.0 x.1 = x.4 in let z : ⊥ = omega (arith, y.1) in z)) h
+pub reads_begun : (n : ℕ) (g : GraphValue) (rf : List EventId) (r : Relation) → IsExactly n (λ i j. ⊥) r → IsExactly n (ByNumbers g (ReadsAmong g rf 0)) r
+reads_begun n g rf r h =
+    reworded n (λ i j. ⊥) (ByNumbers g (ReadsAmong g rf 0)) r (λ i j x. absurd x)
+    (λ i j a b x. (let y : ReadsAmong g rf 0 x.0 x.1 = x.4 in let z : ⊥ = omega (arith, y.1) in z)) h
 
-pub reads_on : (n : ℕ) (g : GraphValue) (m : ℕ) (r t : Relation) → IsExactly n (ByNumbers g (ReadsAmong g m)) r →
-    IsExactly n (λ i j. In r i j ⊎ ByNumbers g (IsReadAt g m) i j) t → IsExactly n (ByNumbers g (ReadsAmong g (m + 1))) t
-reads_on n g m r t h k =
-    by_step n g (ReadsAmong g m) (IsReadAt g m) (ReadsAmong g (m + 1)) r t
+pub reads_on : (n : ℕ) (g : GraphValue) (rf : List EventId) (m : ℕ) (r t : Relation) → IsExactly n (ByNumbers g (ReadsAmong g rf m)) r →
+    IsExactly n (λ i j. In r i j ⊎ ByNumbers g (IsReadAt g rf m) i j) t → IsExactly n (ByNumbers g (ReadsAmong g rf (m + 1))) t
+reads_on n g rf m r t h k =
+    by_step n g (ReadsAmong g rf m) (IsReadAt g rf m) (ReadsAmong g rf (m + 1)) r t
     (λ d e y. (y.0, omega (arith, y.1), y.2, y.3))
     (λ d e y. (m, omega arith, y.0, y.1))
     (λ d e y. elim (cases_eq y.0 m) [
-      | inl f ↦ (let P : ℕ → Type 0 = λ m. IsReadAt g m d e in inr (subst P f (y.2, y.3)))
+      | inl f ↦ (let P : ℕ → Type 0 = λ m. IsReadAt g rf m d e in inr (subst P f (y.2, y.3)))
       | inr f ↦ inl (y.0, omega (arith, f, y.1), y.2, y.3)
     ]) h k
 
-pub reads_done : (n : ℕ) (g : GraphValue) (m : ℕ) (r : Relation) → length (read_names g) ≤ m → IsExactly n (ByNumbers g (ReadsAmong g m)) r → IsExactly n (NamedRel g Rf) r
+pub reads_done : (n : ℕ) (g : GraphValue) (rf : List EventId) (m : ℕ) (r : Relation) → length (read_names g) ≤ m → IsExactly n (ByNumbers g (ReadsAmong g rf m)) r → IsExactly n (NamedRel (with_sources g rf) Rf) r
 unfolding NamedRel
-reads_done n g m r l h =
-    reworded n (ByNumbers g (ReadsAmong g m)) (NamedRel g Rf) r
-    (λ i j y. (let z : ReadsAmong g m y.0 y.1 = y.4 in (y.0, y.1, y.2, y.3, (z.0, z.2, z.3))))
-    (λ i j a b y. (y.0, y.1, y.2, y.3, (y.4.0, omega (arith, l, stands_below (read_names g) y.4.0 y.1 y.4.1), y.4.1, y.4.2))) h
+reads_done n g rf m r l h =
+    let x : GraphValue = with_sources g rf in
+    let names : event_names g ≡ event_names x = names_same g x refl in
+    let reads : read_names g ≡ read_names x = reads_same g x refl in
+    reworded n (ByNumbers g (ReadsAmong g rf m)) (NamedRel x Rf) r
+    (λ i j y. (let z : ReadsAmong g rf m y.0 y.1 = y.4 in
+    let P : List EventId → Type 0 = λ ds. StandsAt ds i y.0 in
+    let Q : List EventId → Type 0 = λ ds. StandsAt ds j y.1 in
+    let R : List EventId → Type 0 = λ ds. StandsAt ds z.0 y.1 in
+    (y.0, y.1, subst P names y.2, subst Q names y.3, (z.0, subst R reads z.2, z.3))))
+    (λ i j a b y. (let z : ReadsFrom x y.0 y.1 = y.4 in
+    let P : List EventId → Type 0 = λ ds. StandsAt ds i y.0 in
+    let Q : List EventId → Type 0 = λ ds. StandsAt ds j y.1 in
+    let R : List EventId → Type 0 = λ ds. StandsAt ds z.0 y.1 in
+    let at : StandsAt (read_names g) z.0 y.1 = subst R (sym reads) z.1 in
+    (y.0, y.1, subst P (sym names) y.2, subst Q (sym names) y.3, (z.0, omega (arith, l, stands_below (read_names g) z.0 y.1 at), at, z.2)))) h
 
 -- the pair of two events is that of what stands at place m
-pub read_more : (n : ℕ) (g : GraphValue) (m : ℕ) (w r : EventId) (o t : Relation) → StandsAt (read_names g) m r → StandsAt g.rf m w →
-    IsExactly n (λ i j. In o i j ⊎ (IsNumber g i w × IsNumber g j r)) t → IsExactly n (λ i j. In o i j ⊎ ByNumbers g (IsReadAt g m) i j) t
-read_more n g m w r o t a b h =
-    reworded n (λ i j. In o i j ⊎ (IsNumber g i w × IsNumber g j r)) (λ i j. In o i j ⊎ ByNumbers g (IsReadAt g m) i j) t
+pub read_more : (n : ℕ) (g : GraphValue) (rf : List EventId) (m : ℕ) (w r : EventId) (o t : Relation) → StandsAt (read_names g) m r → StandsAt rf m w →
+    IsExactly n (λ i j. In o i j ⊎ (IsNumber g i w × IsNumber g j r)) t → IsExactly n (λ i j. In o i j ⊎ ByNumbers g (IsReadAt g rf m) i j) t
+read_more n g rf m w r o t a b h =
+    reworded n (λ i j. In o i j ⊎ (IsNumber g i w × IsNumber g j r)) (λ i j. In o i j ⊎ ByNumbers g (IsReadAt g rf m) i j) t
     (λ i j x. elim x [ inl y ↦ inl y | inr y ↦ inr (w, r, y.0, y.1, (a, b)) ])
     (λ i j k l x. elim x [
       | inl y ↦ inl y
       | inr y ↦ (let P : EventId → Type 0 = λ e. IsNumber g i e in
           let Q : EventId → Type 0 = λ e. IsNumber g j e in
-          inr (subst P (one_stands g.rf m y.0 w y.4.1 b) y.2, subst Q (one_stands (read_names g) m y.1 r y.4.0 a) y.3))
+          inr (subst P (one_stands rf m y.0 w y.4.1 b) y.2, subst Q (one_stands (read_names g) m y.1 r y.4.0 a) y.3))
     ]) h
 
-pub no_read_more : (g : GraphValue) (m : ℕ) (r : Relation) → length g.rf ≤ m → r.count ≡ event_count g → IsCanonical r →
-    IsExactly (event_count g) (λ i j. In r i j ⊎ ByNumbers g (IsReadAt g m) i j) r
-no_read_more g m r l c d =
-    nothing_more (event_count g) (ByNumbers g (IsReadAt g m)) r c d
-    (λ i j x. (let z : ⊥ = omega (arith, l, stands_below g.rf m x.0 x.4.1) in z))
+pub no_read_more : (g : GraphValue) (rf : List EventId) (m : ℕ) (r : Relation) → length rf ≤ m → r.count ≡ event_count g → IsCanonical r →
+    IsExactly (event_count g) (λ i j. In r i j ⊎ ByNumbers g (IsReadAt g rf m) i j) r
+no_read_more g rf m r l c d =
+    nothing_more (event_count g) (ByNumbers g (IsReadAt g rf m)) r c d
+    (λ i j x. (let z : ⊥ = omega (arith, l, stands_below rf m x.0 x.4.1) in z))

@@ -3,6 +3,7 @@ pub mod Numbers
 pub mod Places
 pub mod Standing
 pub mod Adding
+pub mod Cutting
 pub mod Turning
 pub mod Made
 pub mod Shapes

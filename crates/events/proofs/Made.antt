@@ -1,11 +1,15 @@
 -- Named relations that are made of others.
-use Rattle.std.proofs.Common.{◌≡◌, ℕ, ◌<◌, refl, ◌∙◌, subst, arith}
+use Rattle.std.proofs.Common.{◌≡◌, ℕ, ◌<◌, Option, None, Some, refl, ◌∙◌, subst, arith}
 use Rattle.relations.specs.Relation.{Relation, In, IsExactly}
 use Rattle.relations.specs.Algebra.{Through}
 use Rattle.relations.specs.Equality.{pair_below}
 use Rattle.events.specs.declared.event.EventId.{EventId}
 use Rattle.events.specs.declared.named.RelName.{RelName}
 use Rattle.events.specs.declared.named.RelName.TheVariants.{Rf, Co, Fr, Int, Ext, Addr, Id}
+use Rattle.std.specs.List.{All}
+use Rattle.std.proofs.lemmas.List.Elements.{All-take}
+use Rattle.events.specs.declared.cut.Cut.{Cut}
+use Rattle.events.specs.Held.{seen}
 use Rattle.events.specs.Executions.{GraphValue, IsGraph, IsNamed}
 use Rattle.events.specs.Named.{event_names, event_count, IsNumber, InRel, NamedRel, ReadsFrom, ReadsBefore, IsCoherenceBefore}
 use Rattle.events.proofs.Adding.{one_number, of_number, has_number, number_below, all_at}
@@ -95,10 +99,15 @@ turned_named g r t h m = record {
 }
 
 -- the row of co behind the write that a read reads from
-pub fr_named : (g : GraphValue) (s t u : Relation) → IsGraph g → IsExactly (event_count g) (λ i j. NamedRel g Rf j i) t → IsExactly (event_count g) (NamedRel g Co) s →
+-- what is known of the sources of an execution names events
+pub seen_named : (o : Option Cut) (g : GraphValue) → IsGraph g → All (IsNamed (seen o g).init (seen o g).runs) (seen o g).rf
+seen_named None g h = h.rf
+seen_named (Some c) g h = All-take (IsNamed g.init g.runs) c.reads g.rf h.rf
+
+pub fr_named : (g : GraphValue) (s t u : Relation) → All (IsNamed g.init g.runs) g.rf → IsExactly (event_count g) (λ i j. NamedRel g Rf j i) t → IsExactly (event_count g) (NamedRel g Co) s →
     IsExactly t.count (Through t.count (In t) (In s)) u → IsExactly (event_count g) (NamedRel g Fr) u
 unfolding NamedRel
-fr_named g s t u graph l k m = record {
+fr_named g s t u named l k m = record {
   count = m.count ∙ l.count;
   only = λ i j x. (let y : Through t.count (In t) (In s) i j = m.only i j x in
       let p : NamedRel g Rf y.0 i = l.only i y.0 y.2 in
@@ -107,7 +116,7 @@ fr_named g s t u graph l k m = record {
       (p.1, q.1, p.3, q.3, (p.0, p.4, subst P (one_stands (event_names g) y.0 q.0 p.0 q.2 p.2) q.4)));
   all = λ i j a b z. (let before : ReadsBefore g z.0 z.1 = z.4 in
       let from : ReadsFrom g before.0 z.0 = before.1 in
-      let w : (i : ℕ) × IsNumber g i before.0 = has_number g before.0 (all_at (IsNamed g.init g.runs) g.rf from.0 before.0 graph.rf from.2) in
+      let w : (i : ℕ) × IsNumber g i before.0 = has_number g before.0 (all_at (IsNamed g.init g.runs) g.rf from.0 before.0 named from.2) in
       let n : w.0 < event_count g = number_below g w.0 before.0 w.1 in
       m.all i j (omega (arith, a, l.count)) (omega (arith, b, l.count)) (
         w.0,

@@ -1,18 +1,20 @@
 -- What depends on a structure alone, or on it and the read-from map, is the same in each execution that has these.
 use Rattle.std.proofs.Common.{◌≡◌, ℕ, ◌≤◌, List, [], ◌∷◌, length, map, refl, sym, ap, ◌∙◌, subst, arith}
 use Rattle.std.proofs.lemmas.List.{length-map}
+use Rattle.relations.specs.Events.{EventSet, IsExactlySet}
 use Rattle.relations.specs.Relation.{Relation, IsExactly}
 use Rattle.events.specs.declared.event.Event.{Event}
 use Rattle.events.specs.declared.event.EventId.{EventId}
 use Rattle.events.specs.declared.named.RelName.{RelName}
+use Rattle.events.specs.declared.named.SetName.{SetName}
 use Rattle.events.specs.declared.named.RelName.TheVariants.{Rf}
 use Rattle.events.specs.declared.named.Basis.TheVariants.{Runs}
 use Rattle.events.specs.Bases.{basis_of}
 use Rattle.events.specs.Executions.{GraphValue, ThreadRun}
-use Rattle.events.specs.Named.{event_names, event_count, read_names, NamedRel}
+use Rattle.events.specs.Named.{event_names, event_count, read_names, NamedSet, NamedRel}
 use Rattle.events.specs.Rows.{AreFirsts}
 use Rattle.events.specs.Structures.{Structure, Sourced, unvalued, unvalued_run, nought, structured, structure_of, sourced_of, bare, plain}
-use Rattle.events.proofs.Bases.{same_on_runs, same_on_sources}
+use Rattle.events.proofs.Bases.{same_sets, same_on_runs, same_on_sources}
 use Rattle.events.proofs.Shapes.{names_same, count_same, reads_same, threads_same, rest_same}
 
 pub moved_names : (g h : GraphValue) (es : List EventId) → structure_of g ≡ structure_of h → es ≡ event_names g → es ≡ event_names h
@@ -37,6 +39,14 @@ exactly_as m n P Q r e a b x =
 
 pub moved : (g h : GraphValue) (name : RelName) (r : Relation) → basis_of name ≡ Runs → structure_of g ≡ structure_of h → IsExactly (event_count g) (NamedRel g name) r → IsExactly (event_count h) (NamedRel h name) r
 moved g h name r b e x = exactly_as _ _ _ _ r (count_same g h e) (same_on_runs g h e name b) (same_on_runs h g (sym e) name b) x
+
+pub moved_set : (g h : GraphValue) (name : SetName) (s : EventSet) → structure_of g ≡ structure_of h → IsExactlySet (event_count g) (NamedSet g name) s → IsExactlySet (event_count h) (NamedSet h name) s
+moved_set g h name s e x = record {
+  count = x.count ∙ count_same g h e;
+  only = λ i m. same_sets g h e name i (x.only i m);
+  all = λ i l y. x.all i (omega (arith, l, count_same g h e)) (same_sets h g (sym e) name i y);
+  canonical = x.canonical;
+}
 
 pub moved_rf : (g h : GraphValue) (r : Relation) → sourced_of g ≡ sourced_of h → IsExactly (event_count g) (NamedRel g Rf) r → IsExactly (event_count h) (NamedRel h Rf) r
 moved_rf g h r e x = exactly_as _ _ _ _ r (count_same g h (ap (λ (s : Sourced). s.structure) e)) (same_on_sources g h e Rf refl) (same_on_sources h g (sym e) Rf refl) x

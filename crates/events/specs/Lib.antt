@@ -1,4 +1,5 @@
 pub mod Bases
+pub mod Cuts
 pub mod Examples
 pub mod Executions
 pub mod Extends

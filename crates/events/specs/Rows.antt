@@ -1,6 +1,6 @@
 -- How the relations of an execution are worked out.
 use Rattle.std.specs.Prelude.{◌≡◌, ℕ, ◌+◌, ◌<◌, ◌≤◌, List, length, drop, sum_by, slice_index_or}
-use Rattle.listings.specs.Lists.{StandsAt}
+use Rattle.listings.specs.Lists.{IsIn, StandsAt}
 use Rattle.events.specs.declared.event.EventId.{EventId}
 use Rattle.events.specs.declared.named.RelName.{RelName}
 use Rattle.events.specs.declared.named.RelName.TheVariants as names
@@ -22,6 +22,14 @@ name_of Ctrl = names.Ctrl
 abbrev pub ByNumbers : GraphValue → (EventId → EventId → Type 0) → ℕ → ℕ → Type 0
 ByNumbers g P i j = (d : EventId) × (e : EventId) × IsNumber g i d × IsNumber g j e × P d e
 
+-- i is the number of one of these events
+abbrev pub IsNumberOfOne : GraphValue → List EventId → ℕ → Type 0
+IsNumberOfOne g es i = (e : EventId) × IsNumber g i e × IsIn e es
+
+-- i is the number of event e, and not one of these numbers
+abbrev pub IsNumberUnless : GraphValue → (ℕ → Type 0) → EventId → ℕ → Type 0
+IsNumberUnless g P e i = IsNumber g i e × (¬ P i)
+
 -- i is the number of an event that stands in the order at place from or later
 abbrev pub IsBehind : GraphValue → List EventId → ℕ → ℕ → Type 0
 IsBehind g order from i = (e : EventId) × IsNumber g i e × StandsFrom order from e
@@ -34,13 +42,13 @@ StandsBeforeFrom order from d e = (a : ℕ) × (from ≤ a) × StandsAt order a 
 abbrev pub IsBeforeAmong : GraphValue → ℕ → EventId → EventId → Type 0
 IsBeforeAmong g count d e = (x : ℕ) × (order : List EventId) × (x < count) × StandsAt g.co x order × StandsBefore order d e
 
--- one of the first reads is r, and it reads from w
-abbrev pub ReadsAmong : GraphValue → ℕ → EventId → EventId → Type 0
-ReadsAmong g count w r = (m : ℕ) × (m < count) × StandsAt (read_names g) m r × StandsAt g.rf m w
+-- one of the first reads is r, and it reads from w, if these are the sources
+abbrev pub ReadsAmong : GraphValue → List EventId → ℕ → EventId → EventId → Type 0
+ReadsAmong g sources count w r = (m : ℕ) × (m < count) × StandsAt (read_names g) m r × StandsAt sources m w
 
--- r is the read with this number among the reads, and it reads from w
-abbrev pub IsReadAt : GraphValue → ℕ → EventId → EventId → Type 0
-IsReadAt g m w r = StandsAt (read_names g) m r × StandsAt g.rf m w
+-- r is the read with this number among the reads, and it reads from w, if these are the sources
+abbrev pub IsReadAt : GraphValue → List EventId → ℕ → EventId → EventId → Type 0
+IsReadAt g sources m w r = StandsAt (read_names g) m r × StandsAt sources m w
 
 -- firsts gives of each thread the number of its first event: with the events of this thread and of those behind it, that makes all events
 pub record AreFirsts (g : GraphValue) (firsts : List ℕ) : Type 0 where

@@ -39,6 +39,10 @@ pub record Sourced : Type 0 where
   pub structure : Structure
   pub rf : List EventId
 
+-- the execution, if these are the sources of its reads
+abbrev pub with_sources : GraphValue → List EventId → GraphValue
+with_sources g sources = record { init = g.init; runs = g.runs; rf = sources; co = g.co }
+
 abbrev pub sourced_of : GraphValue → Sourced
 sourced_of g = record { structure = structure_of g; rf = g.rf }
 

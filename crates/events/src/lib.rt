@@ -1,6 +1,7 @@
 //! Events, the runs of threads, candidate executions, and the named sets and relations of one.
 #![tactic(auto)]
 
+mod cut;
 mod event;
 mod graph;
 pub mod laws;
@@ -8,6 +9,7 @@ mod named;
 mod run;
 mod view;
 
+pub use cut::Cut;
 pub use event::{Access, Event, EventId, Order, no_places};
 pub use graph::{Coherence, Graph, GraphParts};
 pub use named::{Basis, RelName, SetName};

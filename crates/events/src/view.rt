@@ -4,9 +4,11 @@ ghost use Rattle.std.specs.Prelude.{◌≡◌, ◌≤◌, IfOk};
 ghost use Rattle.relations.specs.Events.{IsExactlySet};
 ghost use Rattle.relations.specs.Relation.{IsExactly};
 ghost use Rattle.events.specs.Named.{event_count, NamedSet, NamedRel};
+ghost use Rattle.events.specs.Cuts.{cut_down};
 ghost use Rattle.events.specs.Structures.{structure_of, sourced_of};
 ghost use Rattle.events.specs.declared.named.RelName.TheVariants as names;
 
+use crate::cut::Cut;
 use crate::graph::Graph;
 use crate::named::{RelName, SetName};
 use relations::{Rel, Set};
@@ -15,6 +17,7 @@ use std::marker::Model;
 
 mod facts;
 mod held;
+mod known;
 mod names;
 mod numbered;
 mod numbers;
@@ -35,6 +38,8 @@ use table::Pairwise;
 #[derive(Drop)]
 pub struct GraphView<'a> {
     graph: &'a Graph,
+    // To what it is cut down, if it is.
+    cut: Option<Cut<'a>>,
     // What it has in common with the executions that differ in their coherence orders alone.
     held: Held<'a>,
     co: Placed<'a>,
@@ -44,16 +49,17 @@ impl<'a> Model for GraphView<'a> {
     ghost use Rattle.std.specs.Prelude.{◌≡◌};
     ghost use Rattle.relations.specs.Relation.{IsExactly};
     ghost use Rattle.events.specs.Executions.{GraphValue};
-    ghost use Rattle.events.specs.Held.{held_value, placed_value};
+    ghost use Rattle.events.specs.Held.{seen, held_value, placed_value};
     ghost use Rattle.events.specs.Named.{event_count, NamedRel};
     ghost use Rattle.events.specs.Structures.{sourced_of};
     ghost use Rattle.events.specs.declared.named.RelName.TheVariants as names;
 
     ghost Value = { GraphValue };
 
-    ghost view = { λ v. v.graph.now };
+    ghost view = { λ v. seen v.cut v.graph.now };
 
-    ghost invariant = { λ v. record { held : held_value v.held ≡ sourced_of v.graph.now; co : IsExactly (event_count v.graph.now) (NamedRel v.graph.now names.Co) (placed_value v.co) } };
+    ghost invariant = { λ v. let g = seen v.cut v.graph.now in
+        record { held : held_value v.held ≡ sourced_of g; co : IsExactly (event_count g) (NamedRel g names.Co) (placed_value v.co) } };
 }
 
 impl<'a> GraphView<'a> {
@@ -66,6 +72,7 @@ impl<'a> GraphView<'a> {
         sourced.numbered(graph).coherence_into(&mut co);
         Ok(GraphView {
             graph,
+            cut: None,
             held: Held::Own(Box::new(alloc, sourced)?),
             co: Placed::Own(co),
         })
@@ -80,6 +87,26 @@ impl<'a> GraphView<'a> {
         sourced.numbered(graph).coherence_into(room);
         GraphView {
             graph,
+            cut: None,
+            held: Held::Lent(sourced),
+            co: Placed::Lent(room),
+        }
+    }
+
+    /// The same of an execution that is cut down to what is known of it.
+    pub fn over_cut(
+        sourced: &'a SourcedStructure,
+        graph: &'a Graph,
+        cut: Cut<'a>,
+        room: &'a mut Rel,
+    ) -> Self
+        requires { sourced.now ≡ sourced_of (cut_down graph.now cut) }
+        ensures { result ≡ cut_down graph.entry.now cut.entry }
+    {
+        sourced.numbered(graph).known_coherence_into(&cut, room);
+        GraphView {
+            graph,
+            cut: Some(cut),
             held: Held::Lent(sourced),
             co: Placed::Lent(room),
         }
@@ -166,9 +193,9 @@ impl<'a> GraphView<'a> {
         &kept.structure
     }
 
-    // The events, numbered.
+    // The events, numbered: those of an execution of the same structure.
     fn numbered(&self) -> Numbered<'_>
-        ensures { result ≡ self.now }
+        ensures { structure_of result ≡ structure_of self.now }
     {
         self.structure().numbered(self.graph)
     }

@@ -5,6 +5,7 @@ ghost use Rattle.relations.specs.Events.{Has, IsCanonicalSet, IsExactlySet};
 ghost use Rattle.relations.specs.Relation.{In, IsCanonical, IsExactly};
 ghost use Rattle.events.specs.declared.named.RelName.TheVariants.{Rf, Co};
 ghost use Rattle.events.specs.Named.{IsNumber, event_count, NamedRel, StandsBefore, read_names};
+ghost use Rattle.events.specs.Structures.{with_sources};
 ghost use Rattle.events.specs.Rows.{ByNumbers, IsReadAt};
 
 use super::numbered::Numbered;
@@ -12,17 +13,17 @@ use crate::event::EventId;
 use relations::{Rel, Set};
 
 impl Numbered<'_> {
-    /// Writes `rf`, and its pairs turned, over what the two had. The second is filled beside the first: to turn a relation as a whole
-    /// costs much more.
+    /// Writes what `rf` is if these are the sources of the reads, and its pairs turned, over what the two had. The second is filled beside the first: to turn
+    /// a relation as a whole costs much more.
     #[tactic(auto, using(crate::proofs::Adding::reads_begun, crate::proofs::Adding::reads_on, crate::proofs::Adding::reads_done, crate::proofs::Turning::turned_begun))]
-    pub(super) fn reads_into(&self, rel: &mut Rel, turned: &mut Rel)
-        ensures rel { IsExactly (event_count self.now) (NamedRel self.now Rf) rel.new }
+    pub(super) fn reads_into(&self, sources: &[EventId], rel: &mut Rel, turned: &mut Rel)
+        ensures rel { IsExactly (event_count self.now) (NamedRel (with_sources self.now sources.now) Rf) rel.new }
         ensures turned { IsExactly rel.new.count (λ i j. In rel.new j i) turned.new }
     {
         rel.become_empty(self.count());
         turned.become_empty(self.count());
         for read in 0..self.reads.len() {
-            self.relate_read(rel, turned, read);
+            self.relate_read(sources, rel, turned, read);
         }
     }
 
@@ -39,15 +40,14 @@ impl Numbered<'_> {
 
     // Adds the pair of the read with this number among the reads and the write that it reads from.
     #[tactic(auto, using(crate::proofs::Adding::read_more, crate::proofs::Adding::no_read_more, crate::proofs::Standing::stands_read))]
-    fn relate_read(&self, rel: &mut Rel, turned: &mut Rel, read: usize)
+    fn relate_read(&self, sources: &[EventId], rel: &mut Rel, turned: &mut Rel, read: usize)
         requires count { rel.old.count ≡ event_count self.now }
         requires canonical { IsCanonical rel.old }
         requires turned { IsExactly rel.old.count (λ i j. In rel.old j i) turned.old }
         requires read { read < length (read_names self.now) }
-        ensures rel { IsExactly (event_count self.now) (λ i j. In rel.old i j ⊎ ByNumbers self.now (IsReadAt self.now read) i j) rel.new }
+        ensures rel { IsExactly (event_count self.now) (λ i j. In rel.old i j ⊎ ByNumbers self.now (IsReadAt self.now sources.now read) i j) rel.new }
         ensures turned { IsExactly rel.new.count (λ i j. In rel.new j i) turned.new }
     {
-        let sources = self.graph.rf();
         if read < sources.len() {
             self.relate(rel, turned, sources[read], self.read(read));
         }
@@ -72,7 +72,7 @@ impl Numbered<'_> {
 
     // Adds the pairs of an order, from its last event on.
     #[tactic(auto, using(crate::proofs::Adding::behind_begun, crate::proofs::Adding::order_begun, crate::proofs::Adding::behind_on, crate::proofs::Adding::order_on, crate::proofs::Adding::order_done, crate::proofs::Standing::stands))]
-    fn relate_order(&self, rel: &mut Rel, order: &[EventId])
+    pub(super) fn relate_order(&self, rel: &mut Rel, order: &[EventId])
         requires count { rel.old.count ≡ event_count self.now }
         requires canonical { IsCanonical rel.old }
         ensures { IsExactly (event_count self.now) (λ i j. In rel.old i j ⊎ ByNumbers self.now (StandsBefore order.now) i j) rel.new }

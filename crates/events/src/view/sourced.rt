@@ -1,11 +1,13 @@
 //! Executions without their coherence orders.
 
-ghost use Rattle.std.specs.Prelude.{◌≡◌, ◌↔◌, IfOk, IsTrue, OnOk, OnErr};
-ghost use Rattle.events.specs.Structures.{structure_of, sourced_of};
+ghost use Rattle.std.specs.Prelude.{◌≡◌, ◌↔◌, take, IfOk, IsTrue, OnOk, OnErr};
+ghost use Rattle.events.specs.Cuts.{cut_down};
+ghost use Rattle.events.specs.Structures.{structure_of, sourced_of, with_sources};
 ghost use Rattle.events.specs.declared.named.Basis.TheVariants.{Sources, Orders};
 
 use super::numbered::Numbered;
 use super::structure::EventStructure;
+use crate::cut::Cut;
 use crate::event::EventId;
 use crate::graph::Graph;
 use crate::named::Basis;
@@ -49,19 +51,35 @@ impl Model for SourcedStructure {
         record { rf : IsExactly (event_count g) (NamedRel g names.Rf) s.rf; turned : IsExactly (event_count g) (λ i j. NamedRel g names.Rf j i) s.turned } };
 }
 
+/// What so many of the first reads of an execution read from.
+fn first_sources(graph: &Graph, reads: usize) -> &[EventId]
+    ensures { result.now ≡ take reads graph.now.rf }
+{
+    let sources = graph.rf();
+    &sources[..sources.len().min(reads)]
+}
+
 impl SourcedStructure {
     /// That of an execution.
     pub fn of(alloc: Global, graph: &Graph) -> Result<Self, AllocError>
         ensures { IfOk result (λ s. s ≡ sourced_of graph.now) }
     {
+        SourcedStructure::with(alloc, graph, graph.rf())
+    }
+
+    // That of an execution, if these are the sources of its reads.
+    fn with(alloc: Global, graph: &Graph, sources: &[EventId]) -> Result<Self, AllocError>
+        ensures { IfOk result (λ s. s ≡ sourced_of (with_sources graph.now sources.now)) }
+    {
         let structure = EventStructure::of(alloc, graph)?;
-        let sources = Vec::from_slice(alloc, graph.rf())?;
+        let kept = Vec::from_slice(alloc, sources)?;
         let mut rf = Rel::empty(0);
         let mut turned = Rel::empty(0);
-        structure.numbered(graph).reads_into(&mut rf, &mut turned);
+        let numbered = structure.numbered(graph);
+        numbered.reads_into(sources, &mut rf, &mut turned);
         Ok(SourcedStructure {
             structure,
-            sources,
+            sources: kept,
             rf,
             turned,
         })
@@ -76,12 +94,43 @@ impl SourcedStructure {
         ensures all { IfOk result (λ b. b ≡ Orders → self.new ≡ self.old) }
         ensures same { OnErr result (self.new ≡ self.old) }
     {
+        self.follow_with(alloc, graph, graph.rf())
+    }
+
+    /// The same for an execution that is cut down to what is known of it.
+    pub fn follow_cut(
+        &mut self,
+        alloc: Global,
+        graph: &Graph,
+        cut: &Cut<'_>,
+    ) -> Result<Basis, AllocError>
+        ensures done { OnOk result (self.new ≡ sourced_of (cut_down graph.now cut.now)) }
+        ensures runs { IfOk result (λ b. b ≡ Sources → self.new.structure ≡ self.old.structure) }
+        ensures all { IfOk result (λ b. b ≡ Orders → self.new ≡ self.old) }
+        ensures same { OnErr result (self.new ≡ self.old) }
+    {
+        self.follow_with(alloc, graph, first_sources(graph, cut.reads))
+    }
+
+    // The same for an execution, if these are the sources of its reads.
+    #[inline(always)]
+    fn follow_with(
+        &mut self,
+        alloc: Global,
+        graph: &Graph,
+        sources: &[EventId],
+    ) -> Result<Basis, AllocError>
+        ensures done { OnOk result (self.new ≡ sourced_of (with_sources graph.now sources.now)) }
+        ensures runs { IfOk result (λ b. b ≡ Sources → self.new.structure ≡ self.old.structure) }
+        ensures all { IfOk result (λ b. b ≡ Orders → self.new ≡ self.old) }
+        ensures same { OnErr result (self.new ≡ self.old) }
+    {
         if !self.structure.is_of(graph) {
-            self.follow_runs(alloc, graph)?;
+            self.follow_runs(alloc, graph, sources)?;
             return Ok(Basis::Runs);
         }
-        if !self.has_sources_of(graph) {
-            self.follow_sources(alloc, graph)?;
+        if !self.has_sources(sources) {
+            self.follow_sources(alloc, graph, sources)?;
             return Ok(Basis::Sources);
         }
         Ok(Basis::Orders)
@@ -95,40 +144,49 @@ impl SourcedStructure {
         self.structure.numbered(graph)
     }
 
-    // Has it the read-from map of this execution?
-    fn has_sources_of(&self, graph: &Graph) -> bool
-        ensures { IsTrue result ↔ (self.now.rf ≡ graph.now.rf) }
+    // Are these its sources?
+    fn has_sources(&self, sources: &[EventId]) -> bool
+        ensures { IsTrue result ↔ (self.now.rf ≡ sources.now) }
     {
-        self.sources.as_slice() == graph.rf()
+        self.sources.as_slice() == sources
     }
 
     // Becomes that of an execution with other runs. It stands by itself, as does what follows a map, since a function clears
     // its locals when it is called.
     #[inline(never)]
-    fn follow_runs(&mut self, alloc: Global, graph: &Graph) -> Result<(), AllocError>
-        ensures done { OnOk result (self.new ≡ sourced_of graph.now) }
+    fn follow_runs(
+        &mut self,
+        alloc: Global,
+        graph: &Graph,
+        sources: &[EventId],
+    ) -> Result<(), AllocError>
+        ensures done { OnOk result (self.new ≡ sourced_of (with_sources graph.now sources.now)) }
         ensures same { OnErr result (self.new ≡ self.old) }
     {
-        *self = SourcedStructure::of(alloc, graph)?;
+        *self = SourcedStructure::with(alloc, graph, sources)?;
         Ok(())
     }
 
-    // Takes over the read-from map of an execution with the same structure.
+    // Takes over the sources of the reads of an execution with the same structure.
     #[inline(never)]
-    fn follow_sources(&mut self, alloc: Global, graph: &Graph) -> Result<(), AllocError>
+    fn follow_sources(
+        &mut self,
+        alloc: Global,
+        graph: &Graph,
+        sources: &[EventId],
+    ) -> Result<(), AllocError>
         requires { self.old.structure ≡ structure_of graph.now }
-        ensures done { OnOk result (self.new ≡ sourced_of graph.now) }
+        ensures done { OnOk result (self.new ≡ sourced_of (with_sources graph.now sources.now)) }
         ensures same { OnErr result (self.new ≡ self.old) }
     {
-        let sources = Vec::from_slice(alloc, graph.rf())?;
+        let kept = Vec::from_slice(alloc, sources)?;
         let mut rf = Rel::empty(0);
         let mut turned = Rel::empty(0);
-        self.structure
-            .numbered(graph)
-            .reads_into(&mut rf, &mut turned);
+        let numbered = self.structure.numbered(graph);
+        numbered.reads_into(sources, &mut rf, &mut turned);
         self.turned = turned;
         self.rf = rf;
-        self.sources = sources;
+        self.sources = kept;
         Ok(())
     }
 }

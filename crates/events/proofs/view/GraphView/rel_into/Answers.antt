@@ -1,7 +1,8 @@
-use Rattle.std.proofs.Common.{◌≡◌, ℕ, subst}
+use Rattle.std.proofs.Common.{◌≡◌, ℕ, refl, subst}
 use Rattle.relations.specs.Relation.{IsExactly}
-use Rattle.events.specs.declared.named.RelName.TheVariants.{Po, Int, Loc, PoLoc, Rf, Co, Fr, Rfi, Coi, Fri, Rfe, Coe, Fre}
+use Rattle.events.specs.declared.named.RelName.TheVariants.{Po, Int, Loc, PoLoc, Rf, Co, Fr, Rfi, Coi, Fri, Rfe, Coe, Fre, Rmw, Data, Ctrl}
 use Rattle.events.proofs.Made.{both_named, first_named, ext_named, id_named, addr_named}
+use Rattle.events.proofs.Structures.{moved}
 use Rattle.events.proofs.view.GraphView.rel_into.Goals as goal
 
 pub returns-in-Ext : goal.returns-in-Ext
@@ -37,3 +38,12 @@ pub returns-in-Id : goal.returns-in-Id
 returns-in-Id c =
     let P : ℕ → Type 0 = λ n. IsExactly n (λ i j. i ≡ j) c.become_id.new.self in
     rw c.in-Id.is (id_named c.args.self.now _ (subst P c.count-in-Id.ensures.is c.become_id.ensures))
+
+pub returns-in-Rmw : goal.returns-in-Rmw
+returns-in-Rmw c = rw c.in-Rmw.is (moved c.numbered.result c.args.self.now Rmw c.tested_into.new.into refl c.numbered.ensures c.tested_into.ensures)
+
+pub returns-in-Data : goal.returns-in-Data
+returns-in-Data c = rw c.in-Data.is (moved c.numbered-in-Data.result c.args.self.now Data c.tested_into-in-Data.new.into refl c.numbered-in-Data.ensures c.tested_into-in-Data.ensures)
+
+pub returns-in-Ctrl : goal.returns-in-Ctrl
+returns-in-Ctrl c = rw c.in-Ctrl.is (moved c.numbered-in-Ctrl.result c.args.self.now Ctrl c.tested_into-in-Ctrl.new.into refl c.numbered-in-Ctrl.ensures c.tested_into-in-Ctrl.ensures)

@@ -1,4 +1,4 @@
-use Rattle.std.proofs.Common.{◌∙◌, ap, arith, length, get_or}
+use Rattle.std.proofs.Common.{get_or, refl}
 use Rattle.events.specs.declared.event.EventId.TheVariants.{Initial}
 use Rattle.events.specs.Named.{event_count}
 use Rattle.events.proofs.Standing.{stands_index}
@@ -8,12 +8,10 @@ use Rattle.events.proofs.view.numbered.Numbered.relate_read.Goals as goal
 pub returns-then-read-sources-clause-rel : goal.returns-then-read-sources-clause-rel
 returns-then-read-sources-clause-rel c =
     let g = c.args.self.now in
-    let sources = c.rf-sources.result.now in
-    read_more (event_count g) g c.args.read (get_or sources c.args.read (Initial 0)) c.read.result c.args.rel.now c.relate.new.rel c.read.ensures
-    (stands_index sources g.rf c.args.read (Initial 0) (c.rf-sources.ensures ∙ ap (λ g. g.rf) c.self.view_is) c.if-read-sources.true)
+    let sources = c.args.sources.now in
+    read_more (event_count g) g sources c.args.read (get_or sources c.args.read (Initial 0)) c.read.result c.args.rel.now c.relate.new.rel c.read.ensures
+    (stands_index sources sources c.args.read (Initial 0) refl c.if-read-sources.true)
     c.relate.ensures.rel
 
 pub returns-else-read-sources-clause-rel : goal.returns-else-read-sources-clause-rel
-returns-else-read-sources-clause-rel c =
-    let e = c.rf-sources.ensures ∙ ap (λ g. g.rf) c.self.view_is in
-    no_read_more c.args.self.now c.args.read c.args.rel.now (omega (arith, ap length e, c.if-read-sources.false)) c.requires.count c.requires.canonical
+returns-else-read-sources-clause-rel c = no_read_more c.args.self.now c.args.sources.now c.args.read c.args.rel.now c.if-read-sources.false c.requires.count c.requires.canonical
