@@ -1,7 +1,6 @@
 -- Down the threads to the choice that a number is in.
 use Rattle.std.proofs.Common.{◌≡◌, ℕ, zero, suc, ◌+◌, ◌-◌, ◌<◌, ◌≤◌, List, [], ◌∷◌, ◌++◌, append_assoc, map, length, take, drop, get_or, drop-cons, add-one, refl, sym, ◌∙◌, ap, subst, inl, inr, arith}
 use Rattle.std.specs.List.{flat_map}
-use Rattle.std.proofs.lemmas.List.{get_or_default}
 use Rattle.events.specs.Executions.{ThreadRun, empty_run}
 use Rattle.listings.specs.Lists.{IsIn, sum_of}
 use Rattle.listings.proofs.Listings.{in_get_or, map_in}
@@ -185,11 +184,6 @@ enter n row number rest tally chosen threads groups i here after sizes g l h a d
 -- The place of a size is that of a run.
 pub run_within : (n : ℕ) (row : List (List ThreadRun)) (number rest : ℕ) (tally : List Counts) (chosen : List ThreadRun) (threads : List (List ThreadRun)) (i : ℕ) (sizes : List ℕ) (d : ℕ) → IsEntered n row number rest tally chosen threads i sizes → d < length sizes → d < length (get_or threads i [])
 run_within n row number rest tally chosen threads i sizes d e l = omega (arith, l, sizes_length n tally (get_or threads i []) (map (tallies_of n) (drop (i + 1) threads)) sizes e.are)
-
--- the run at a place of a thread
-pub run_there : (threads : List (List ThreadRun)) (i d : ℕ) (list runs : List ThreadRun) (run : ThreadRun) → i < length threads → list ≡ get_or threads i list → runs ≡ list → d < length (get_or threads i []) → run ≡ get_or runs d run → run ≡ get_or (get_or threads i []) d empty_run
-run_there threads i d list runs run l e r m is =
-    is ∙ ap (λ (rs : List ThreadRun). get_or rs d run) (r ∙ e ∙ get_or_default threads i list [] l) ∙ get_or_default (get_or threads i []) d run empty_run m
 
 pub down_next : (n : ℕ) (row : List (List ThreadRun)) (number rest left : ℕ) (tally here grown : List Counts) (chosen longer runs : List ThreadRun) (more : List (List ThreadRun)) (sizes : List ℕ) (d : ℕ) (run : ThreadRun) → IsDown n row number rest tally chosen (runs ∷ more) → sizes ≡ sizes_of tally (tallies_of n runs) (map (tallies_of n) more) → d < length sizes → left < get_or sizes d 0 → rest ≡ sum_of (λ k. k) (take d sizes) + left → run ≡ get_or runs d empty_run → here ≡ tally_of n run.events → grown ≡ sum_tally tally here → longer ≡ chosen ++ run ∷ [] → IsDown n row number left grown longer more
 down_next n row number rest left tally here grown chosen longer runs more sizes d run h e l b s r t g c =

@@ -18,8 +18,10 @@ pub mod Listed
 pub mod Marking
 pub mod Moves
 pub mod Orders
+pub mod Outlining
 pub mod Passed
 pub mod Passing
+pub mod Placed
 pub mod Puts
 pub mod Sizes
 pub mod Sources
@@ -33,3 +35,4 @@ pub mod Walked
 pub mod Writing
 pub mod Pages
 pub mod Scenes
+pub mod Openings

@@ -11,7 +11,7 @@ use Rattle.candidates.specs.Candidates.{Choices, candidate_at, graph_at, is_cons
 use Rattle.candidates.specs.Executions.{upto}
 use Rattle.candidates.specs.Readings.{IsStretch}
 use Rattle.candidates.proofs.Cutting.{ways_divide}
-use Rattle.candidates.proofs.Sizes.{all_open, some_orders, ways_none}
+use Rattle.candidates.proofs.Sizes.{all_open, some_orders}
 use Rattle.candidates.proofs.Spanning.{none_some, rest_within, size_divides}
 use Rattle.listings.specs.Numbered.{digits}
 
@@ -102,7 +102,3 @@ whole_open n orders runs e = record {
   some = (let P : ℕ → Type 0 = λ z. 1 ≤ z in subst P (all_open n runs ∙ sym e) (some_orders n runs n 0));
   fits = λ l. absurd (omega (arith, l));
 }
-
--- None is open.
-pub none_open : (n : ℕ) (runs : List ThreadRun) → IsOpen n runs (record { unplaced = record { locations = 0; writes = 0 }; size = 1 })
-none_open n runs = record { size = sym (ways_none runs (upto n)); some = omega arith; fits = λ l. omega arith }

@@ -1,6 +1,6 @@
 -- Lists that are filled place by place, over what stood there before.
 use Rattle.std.proofs.Common.{◌≡◌, ℕ, zero, suc, ◌+◌, ◌<◌, ◌≤◌, List, [], ◌∷◌, ◌++◌, take, length, get_or, set, refl, sym, ◌∙◌, ap, arith}
-use Rattle.std.proofs.lemmas.List.{take_more, take_more_set, take_all}
+use Rattle.std.proofs.lemmas.List.{take_more_set, take_all}
 use Rattle.std.proofs.Math.Seq.{take-suc}
 
 -- Up to the place i the list is that of before and then x.
@@ -23,16 +23,13 @@ put_over old new i x l is =
       omega (arith, n, l),
     )
 
--- What is put behind all others, and what stands there already.
+-- What is put behind all others.
 pub put_behind : {X : Type 0} (old new : List X) (i : ℕ) (x : X) → i ≤ length old → length old ≤ i → new ≡ old ++ x ∷ [] → IsPut old new i x
 put_behind {X = X} old new i x l m is =
     let n : length new ≡ length old + 1 = ap (λ (xs : List X). length xs) is ∙ longer old x in (
       take_all (i + 1) new (omega (arith, n, m)) ∙ is ∙ ap (λ (xs : List X). xs ++ x ∷ []) (sym (take_all i old m)),
       omega (arith, n, l),
     )
-
-pub put_already : {X : Type 0} (xs : List X) (i : ℕ) (x y : X) → i < length xs → y ≡ get_or xs i y → y ≡ x → IsPut xs xs i x
-put_already {X = X} xs i x y l at e = (take_more xs i y l ∙ ap (λ (z : X). take i xs ++ z ∷ []) (sym at ∙ e), l)
 
 -- What is put over what was taken out.
 pub put_back : {X : Type 0} (old gone new : List X) (i : ℕ) (y x : X) → i < length old → gone ≡ set old i y → new ≡ set gone i x → IsPut old new i x

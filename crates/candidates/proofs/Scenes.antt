@@ -1,15 +1,17 @@
 -- What a walk has at hand once it has found an execution.
-use Rattle.std.proofs.Common.{◌≡◌, ◌∙◌, ℕ, ◌+◌, ◌≤◌, List, length, subst, sym, ap, inl, inr, arith}
+use Rattle.std.proofs.Common.{◌≡◌, ◌∙◌, ℕ, ◌+◌, ◌≤◌, List, [], length, subst, sym, ap, inl, inr, arith}
 use Rattle.std.proofs.lemmas.Bool.{cases_lt}
 use Rattle.events.specs.Executions.{GraphValue}
 use Rattle.candidates.specs.Candidates.{Choices, candidate}
 use Rattle.candidates.specs.Depths.{depths_of}
+use Rattle.candidates.specs.Levels.{ArePlaced}
 use Rattle.candidates.specs.Readings.{MayBeStretch}
 use Rattle.candidates.specs.Walks.{IsAhead, IsFound, IsScene, NoneFrom}
 use Rattle.candidates.specs.declared.page.Ahead.{Ahead}
 use Rattle.candidates.specs.declared.page.Scene.{Scene}
 use Rattle.candidates.specs.declared.page.Stretch.{Stretch}
 use Rattle.candidates.specs.declared.reading.Hit.{Hit}
+use Rattle.candidates.proofs.Placed.{placed_none}
 
 -- none up to a number, and none behind it
 pub none_on : (s : Choices) (a n b : ℕ) → NoneFrom s a n → NoneFrom s n b → NoneFrom s a b
@@ -33,33 +35,37 @@ ahead_kept s x a b same levels m h =
     let P : Stretch → Type 0 = λ c. MayBeStretch s c in
     record { stretch = subst P (sym same) m; levels = rw levels h.levels }
 
-shown : (s : Choices) (x : Scene) (n : ℕ) → IsFound s n x.stretch x.hit → x.graph ≡ candidate s.init x.stretch.page.runs.items x.hit.at → IsAhead s x.ahead → IsScene s x
-shown s x n f is ahead = record {
-  stretch = λ l. f.stretch;
+shown : (s : Choices) (x : Scene) (n : ℕ) → IsFound s n x.stretch x.hit → x.graph ≡ candidate s.init x.stretch.page.runs.items x.hit.at → ArePlaced s.threads x.graph.runs x.places.items → ArePlaced s.threads x.room.runs.items x.room_places.items → IsAhead s x.ahead → IsScene s x
+shown s x n f is placed room ahead = record {
+  stretch = record { whole = λ l. f.stretch; placed = f.stretch.placed };
   none = λ z. absurd (omega (arith, z, f.within));
   within = λ l. f.within;
   seen = λ l. (is, f.known.holds);
   known = λ l. f.known;
   depths = f.stretch.depths ∙ ap (λ (g : GraphValue). depths_of (length s.init) g.runs) (sym is);
+  placed = placed;
+  room = room;
   ahead = ahead;
 }
 
 -- The execution that is found is shown.
-pub scene_shown : (s : Choices) (x : Scene) (init : List ℕ) (n : ℕ) (b : Stretch) (h : Hit) → init ≡ s.init → x.stretch ≡ b → x.hit ≡ h → x.graph ≡ candidate init b.page.runs.items h.at → IsFound s n b h → IsAhead s x.ahead → IsScene s x
-scene_shown s x init n b h own same hit is f ahead =
+pub scene_shown : (s : Choices) (x : Scene) (init : List ℕ) (n : ℕ) (b : Stretch) (h : Hit) → init ≡ s.init → x.stretch ≡ b → x.hit ≡ h → x.graph ≡ candidate init b.page.runs.items h.at → IsFound s n b h → ArePlaced s.threads x.graph.runs x.places.items → ArePlaced s.threads x.room.runs.items x.room_places.items → IsAhead s x.ahead → IsScene s x
+scene_shown s x init n b h own same hit is f placed room ahead =
     let P : Stretch → Type 0 = λ c. IsFound s n c h in
     let Q : Hit → Type 0 = λ k. IsFound s n x.stretch k in
     shown s x n (subst Q (sym hit) (subst P (sym same) f))
-    (is ∙ ap (λ (is : List ℕ). candidate is b.page.runs.items h.at) own ∙ ap (λ (c : Stretch). candidate s.init c.page.runs.items h.at) (sym same) ∙ ap (λ (k : Hit). candidate s.init x.stretch.page.runs.items k.at) (sym hit)) ahead
+    (is ∙ ap (λ (is : List ℕ). candidate is b.page.runs.items h.at) own ∙ ap (λ (c : Stretch). candidate s.init c.page.runs.items h.at) (sym same) ∙ ap (λ (k : Hit). candidate s.init x.stretch.page.runs.items k.at) (sym hit)) placed room ahead
 
 -- Another execution may be looked for while the same is shown.
-pub scene_kept : (s : Choices) (x y : Scene) (a : Ahead) → x.stretch ≡ y.stretch → x.ahead ≡ a → x.graph ≡ y.graph → x.hit ≡ y.hit → IsScene s y → IsAhead s a → IsScene s x
-scene_kept s x y a same at graph hit h ahead = record {
+pub scene_kept : (s : Choices) (x y : Scene) (a : Ahead) → x.stretch ≡ y.stretch → x.ahead ≡ a → x.graph ≡ y.graph → x.hit ≡ y.hit → x.places ≡ y.places → x.room_places.items ≡ [] → IsScene s y → IsAhead s a → IsScene s x
+scene_kept s x y a same at graph hit places left h ahead = record {
   stretch = rw same h.stretch;
   none = rw same h.none;
   within = rw (same, hit) h.within;
   seen = rw (same, graph, hit) h.seen;
   known = rw (same, hit) h.known;
   depths = ap (λ (b : Stretch). b.page.depths.items) same ∙ h.depths ∙ ap (λ (g : GraphValue). depths_of (length s.init) g.runs) (sym graph);
+  placed = rw (graph, places) h.placed;
+  room = placed_none s.threads _ _ left;
   ahead = rw at ahead;
 }

@@ -1,25 +1,23 @@
 -- The numbers that share a quotient stand one behind another.
-use Rattle.std.proofs.Common.{◌≡◌, ℕ, ◌+◌, ◌-◌, ◌*◌, ◌/◌, ◌%◌, ◌<◌, ◌≤◌, List, [], ◌++◌, length, drop, take, Bool, true, false, nat_lt, get_or, Option, Some, None, if◌then◌else◌, refl, sym, ◌∙◌, ap, subst, inl, inr, append-nil, arith}
+use Rattle.std.proofs.Common.{◌≡◌, ℕ, ◌+◌, ◌-◌, ◌*◌, ◌/◌, ◌%◌, ◌<◌, ◌≤◌, List, length, drop, Bool, true, false, nat_lt, get_or, Option, Some, None, if◌then◌else◌, refl, sym, ◌∙◌, ap, subst, inl, inr, arith}
 use Rattle.std.specs.List.{All}
 use Rattle.std.proofs.lemmas.Bool.{ltb-true}
 use Rattle.std.proofs.Math.Nat.{mul_assoc, mul_comm, eq-zero-or-pos, div-add-mod, mod-lt, zero-mul, div-lt_iff_lt-mul, mul-le-mul_right, add-mul}
 use Rattle.std.proofs.lemmas.Nat.{div-mul-add}
-use Rattle.events.specs.declared.event.EventId.{EventId}
-use Rattle.events.specs.Executions.{GraphValue, ThreadRun, IsGraph}
-use Rattle.events.specs.Extends.{Extends, PartsAreGraphs}
+use Rattle.events.specs.Executions.{GraphValue, ThreadRun}
+use Rattle.events.specs.Extends.{Extends}
 use Rattle.listings.specs.Lists.{product_by}
 use Rattle.candidates.specs.declared.depths.Depth.{Depth}
 use Rattle.candidates.specs.declared.depths.Known.{Known}
 use Rattle.candidates.specs.declared.depths.Known.TheVariants.{Sources, Orders}
 use Rattle.candidates.specs.declared.page.Stretch.{Stretch}
-use Rattle.candidates.specs.declared.walk.Block.{Block}
 use Rattle.candidates.specs.Executions.{reads, upto, block}
-use Rattle.candidates.specs.Candidates.{Choices, candidate, candidate_at, graph_at, is_consistent, size_of, count_sources, count_co, rf_at}
+use Rattle.candidates.specs.Candidates.{Choices, candidate, candidate_at, is_consistent, size_of, count_sources, count_co}
 use Rattle.candidates.specs.Readings.{IsStretch}
-use Rattle.candidates.specs.Blocks.{AllExtend, CommonValue, IsDepth, size_by, cut_by, cut_by_reads, cut_by_orders, cut_orders, open_pairs}
-use Rattle.candidates.specs.Depths.{cut_at, depths_of}
-use Rattle.candidates.specs.Walks.{IsBlock, IsCommon, IsJustFound, Walking}
-use Rattle.candidates.proofs.Cutting.{by_orders, by_reads, ways_divide, sources_split, order_self}
+use Rattle.candidates.specs.Blocks.{AllExtend, IsDepth, size_by, cut_of}
+use Rattle.candidates.specs.Walks.{IsSection}
+use Rattle.candidates.proofs.Cutting.{ways_divide, sources_split}
+use Rattle.candidates.proofs.Openings.{extends_cut}
 
 quotient_is : (m q d : ℕ) → q * d ≤ m → m < q * d + d → m / d ≡ q
 quotient_is m q d l u =
@@ -88,10 +86,6 @@ size_divides n runs (Orders o) =
     let w = ways_divide runs o.locations o.writes (upto n) in
     (w.0 * r, mul_comm r c ∙ ap (λ z. z * r) w.1 ∙ mul_assoc (size_by n runs (Orders o)) w.0 r)
 
-extends_cut : (init : List ℕ) (runs : List ThreadRun) (k : Known) (i j : ℕ) → i / size_by (length init) runs k ≡ j / size_by (length init) runs k → Extends (cut_by init runs k i) (candidate init runs j)
-extends_cut init runs (Sources m) i j e = by_reads init runs m i j e
-extends_cut init runs (Orders o) i j e = by_orders init runs o.locations o.writes i j e
-
 -- A block's numbers are some of the stretch.
 pub rest_within : (j d t n : ℕ) → n ≡ d * t → j < n → (j % d < d) × (j + (d - j % d) ≤ n)
 rest_within j d t n e l =
@@ -107,19 +101,19 @@ block_ends s b h d k j l =
     let w = size_divides n runs d.known in
     rest_within j d.size w.0 b.size (h.size ∙ w.1 ∙ ap (λ z. z * w.0) (sym k.size)) l
 
-pub block_is : (s : Choices) (b : Stretch) → IsStretch s b → (d : Depth) → IsDepth (length s.init) b.page.runs.items d → (j n e : ℕ) → j < b.size → n ≡ b.first + j + 1 → e ≡ n - 1 + (d.size - j % d.size) → (i : ℕ) → i < length b.page.depths.items → d ≡ get_or b.page.depths.items i d → IsBlock s b n i (record { known = d.known; place = j; end = e })
-block_is s b h d k j n e l at is i inside found =
+pub section_is : (s : Choices) (b : Stretch) → IsStretch s b → (d : Depth) → IsDepth (length s.init) b.page.runs.items d → (j n e : ℕ) → j < b.size → n ≡ b.first + j + 1 → e ≡ n - 1 + (d.size - j % d.size) → (i : ℕ) → i < length b.page.depths.items → d ≡ get_or b.page.depths.items i d → IsSection s b n i (record { known = d.known; place = j; end = e })
+section_is s b h d k j n e l at is i inside found =
     let init : List ℕ = s.init in
     let runs : List ThreadRun = b.page.runs.items in
     let w = size_divides (length init) runs d.known in
     let whole : b.size ≡ d.size * w.0 = h.size ∙ w.1 ∙ ap (λ z. z * w.0) (sym k.size) in
     let r = block_ends s b h d k j l in
     let most : b.first + b.size ≤ size_of s = h.most in
-    let f : (i : ℕ) → j / d.size ≡ i / d.size → Extends (cut_by init runs d.known j) (candidate init runs i) =
-    (let P : ℕ → Type 0 = λ z. (i : ℕ) → j / z ≡ i / z → Extends (cut_by init runs d.known j) (candidate init runs i) in subst P (sym k.size) (λ i q. extends_cut init runs d.known j i q)) in
+    let f : (i : ℕ) → j / d.size ≡ i / d.size → Extends (cut_of d.known (candidate init runs j)) (candidate init runs i) =
+    (let P : ℕ → Type 0 = λ z. (i : ℕ) → j / z ≡ i / z → Extends (cut_of d.known (candidate init runs j)) (candidate init runs i) in subst P (sym k.size) (λ i q. extends_cut init runs d.known j i q)) in
     let here : n - 1 ≡ b.first + j = omega (arith, at) in
     let there : e ≡ b.first + j + (d.size - j % d.size) = omega (arith, is, here) in
-    let Q : ℕ → ℕ → Type 0 = λ y z. AllExtend s y z (cut_by init runs d.known j) in
+    let Q : ℕ → ℕ → Type 0 = λ y z. AllExtend s y z (cut_of d.known (candidate init runs j)) in
     let Q1 : ℕ → Type 0 = λ y. Q y e in
     let Q2 : ℕ → Type 0 = λ z. Q (b.first + j) z in
     record {
@@ -134,66 +128,8 @@ block_is s b h d k j n e l at is i inside found =
       fits = k.fits;
       later = omega (arith, there, at, r.0);
       most = omega (arith, there, r.1, most);
-      extend = subst Q1 (sym here) (subst Q2 (sym there) (spans s b h j d.size w.0 (cut_by init runs d.known j) l whole f));
+      extend = subst Q1 (sym here) (subst Q2 (sym there) (spans s b h j d.size w.0 (cut_of d.known (candidate init runs j)) l whole f));
     }
-
--- What is cut off a candidate is a graph.
-pub cut_is_graph : (init : List ℕ) (runs : List ThreadRun) (k : Known) (i : ℕ) → PartsAreGraphs → IsGraph (candidate init runs i) → IsGraph (cut_by init runs k i)
-cut_is_graph init runs k i law g = law (cut_by init runs k i) (candidate init runs i) (extends_cut init runs k i i refl) g
-
--- An execution extends itself.
-pub extends_self : (g : GraphValue) → Extends g g
-extends_self g = record {
-  init = refl;
-  runs = refl;
-  rf = record { more = []; is = sym (append-nil g.rf) };
-  co = order_self g.co;
-}
-
--- The number alone.
-pub alone_extends : (s : Choices) (n : ℕ) (g : Option GraphValue) (x : GraphValue) → 1 ≤ n → g ≡ graph_at s (n - 1) → g ≡ Some x → AllExtend s (n - 1) n x
-alone_extends s n g x l e f = λ m lo hi y at. (
-    let is : m ≡ n - 1 = omega (arith, lo, hi) in
-    let P : GraphValue → Type 0 = λ z. Extends x z in
-    subst P (some_one x y (sym f ∙ e ∙ ap (λ z. graph_at s z) (sym is) ∙ at)) (extends_self x))
-
--- A cut by its parts.
-same_parts : (v w : List ℕ) (rs qs : List ThreadRun) (f g : List EventId) (c d : List (List EventId)) → v ≡ w → rs ≡ qs → f ≡ g → c ≡ d → (let x : GraphValue = record { init = v; runs = rs; rf = f; co = c } in x) ≡ (let y : GraphValue = record { init = w; runs = qs; rf = g; co = d } in y)
-same_parts v w rs qs f g c d a b e h =
-    let X : List ℕ → List ThreadRun → List EventId → List (List EventId) → GraphValue = λ z r x k. record { init = z; runs = r; rf = x; co = k } in
-    ap (λ z. X z rs f c) a ∙ ap (λ r. X w r f c) b ∙ ap (λ x. X w qs x c) e ∙ ap (λ k. X w qs g k) h
-
-pub cut_of_reads : (init : List ℕ) (runs : List ThreadRun) (m number orders : ℕ) (vs : List ℕ) (rs : List ThreadRun) (rf : List EventId) (co : List (List EventId)) → vs ≡ init → rs ≡ runs → orders ≡ count_co (length init) runs →
-    rf ≡ take m (rf_at runs (number / orders)) → co ≡ open_pairs runs (length init) 0 (upto (length init)) → (let x : GraphValue = record { init = vs; runs = rs; rf = rf; co = co } in x) ≡ cut_by_reads init runs m number
-cut_of_reads init runs m number orders vs rs rf co a b o f c =
-    same_parts vs init rs runs rf (take m (rf_at runs (number / count_co (length init) runs))) co (open_pairs runs (length init) 0 (upto (length init))) a b (f ∙ ap (λ n. take m (rf_at runs (number / n))) o) c
-
-pub cut_of_orders : (init : List ℕ) (runs : List ThreadRun) (free k number orders : ℕ) (vs : List ℕ) (rs : List ThreadRun) (rf : List EventId) (co : List (List EventId)) → vs ≡ init → rs ≡ runs → orders ≡ count_co (length init) runs →
-    rf ≡ rf_at runs (number / orders) → co ≡ cut_orders runs free k (upto (length init)) (number % orders) ++ open_pairs runs free k (upto (length init)) → (let x : GraphValue = record { init = vs; runs = rs; rf = rf; co = co } in x) ≡ cut_by_orders init runs free k number
-cut_of_orders init runs free k number orders vs rs rf co a b o f c =
-    let n : ℕ = length init in
-    same_parts vs init rs runs rf (rf_at runs (number / count_co n runs)) co (cut_orders runs free k (upto n) (number % count_co n runs) ++ open_pairs runs free k (upto n)) a b (f ∙ ap (λ z. rf_at runs (number / z)) o) (c ∙ ap (λ z. cut_orders runs free k (upto n) (number % z) ++ open_pairs runs free k (upto n)) o)
-
--- What a walk shows of a block.
-pub common_is : (s : Choices) (b : Stretch) (n to : ℕ) (x : GraphValue) (r : Block) (init : List ℕ) (g : GraphValue) (c : CommonValue) (depth : ℕ) → IsBlock s b n depth r → init ≡ s.init → g ≡ cut_by init b.page.runs.items r.known r.place →
-    c ≡ record { graph = g; end = r.end } → cut_by s.init b.page.runs.items r.known r.place ≡ cut_at s x (depths_of (length s.init) x.runs) depth (n - 1) → IsCommon (record { space = s; next = n; to = to; shown = x }) depth c
-common_is s b n to x r init g c depth k e f is cut =
-    let w : Walking = record { space = s; next = n; to = to; shown = x } in
-    let P : CommonValue → Type 0 = λ v. IsCommon w depth v in
-    let Q : GraphValue → Type 0 = λ h. AllExtend s (n - 1) r.end h in
-    let same = f ∙ ap (λ vs. cut_by vs b.page.runs.items r.known r.place) e in
-    subst P (sym is) (record {
-      cut = λ found. same ∙ cut;
-      extend = subst Q (sym same) k.extend;
-      later = k.later;
-      most = k.most;
-    })
-
-pub alone_is : (s : Choices) (n to : ℕ) (x g : GraphValue) (c : CommonValue) (depth : ℕ) → n ≤ to → to ≤ size_of s → AllExtend s (n - 1) n g → c ≡ record { graph = g; end = n } → (IsJustFound (record { space = s; next = n; to = to; shown = x }) → g ≡ cut_at s x (depths_of (length s.init) x.runs) depth (n - 1)) → IsCommon (record { space = s; next = n; to = to; shown = x }) depth c
-alone_is s n to x g c depth l m k is cut =
-    let w : Walking = record { space = s; next = n; to = to; shown = x } in
-    let P : CommonValue → Type 0 = λ v. IsCommon w depth v in
-    subst P (sym is) (record { cut = cut; extend = k; later = omega arith; most = omega (arith, l, m) })
 
 -- A depth of a stretch's page.
 pub depth_is : (s : Choices) (b : Stretch) → IsStretch s b → (xs : List Depth) → xs ≡ b.page.depths.items → (i : ℕ) (d : Depth) → true ≡ nat_lt i (length xs) → d ≡ get_or xs i d → IsDepth (length s.init) b.page.runs.items d

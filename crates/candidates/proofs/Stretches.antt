@@ -8,6 +8,7 @@ use Rattle.candidates.specs.declared.page.Stretch.{Stretch}
 use Rattle.candidates.specs.declared.fault.TheConstants.{MOST_CANDIDATES}
 use Rattle.candidates.specs.Depths.{depths_of, place_of}
 use Rattle.candidates.specs.Executions.{block}
+use Rattle.candidates.specs.Levels.{ArePlaced}
 use Rattle.candidates.specs.Candidates.{Choices, candidate, candidate_at, is_consistent, size_of}
 use Rattle.candidates.specs.Readings.{IsFirst, IsLook, IsPage, IsStretch}
 use Rattle.candidates.specs.Walks.{IsFound, IsPast}
@@ -17,8 +18,8 @@ use Rattle.candidates.proofs.Law.{hidden}
 pub whole_page : (n : ℕ) (p : Page) → IsPage n p → p.ways * p.orders ≡ block n p.runs.items
 whole_page n p h = rw (h.ways, h.orders) refl
 
-pub stretch_of : (s : Choices) (runs : List ThreadRun) (n first : ℕ) (b : Stretch) → n ≡ length s.init → IsPage n b.page → b.page.runs.items ≡ runs → b.first ≡ first → b.size ≡ b.page.ways * b.page.orders → first + block (length s.init) runs ≤ size_of s → size_of s ≤ MOST_CANDIDATES → ((j : ℕ) → j < block (length s.init) runs → candidate_at s (first + j) ≡ candidate s.init runs j) → ((j : ℕ) → j < block (length s.init) runs → place_of s (first + j) ≡ j) → b.page.depths.items ≡ depths_of n b.page.runs.items → IsStretch s b
-stretch_of s runs n first b same page are is size most small at place depths =
+pub stretch_of : (s : Choices) (runs : List ThreadRun) (n first : ℕ) (b : Stretch) → n ≡ length s.init → IsPage n b.page → b.page.runs.items ≡ runs → b.first ≡ first → b.size ≡ b.page.ways * b.page.orders → first + block (length s.init) runs ≤ size_of s → size_of s ≤ MOST_CANDIDATES → ((j : ℕ) → j < block (length s.init) runs → candidate_at s (first + j) ≡ candidate s.init runs j) → ((j : ℕ) → j < block (length s.init) runs → place_of s (first + j) ≡ j) → b.page.depths.items ≡ depths_of n b.page.runs.items → ArePlaced s.threads b.page.runs.items b.page.places.items → IsStretch s b
+stretch_of s runs n first b same page are is size most small at place depths placed =
     let P : ℕ → Type 0 = λ m. IsPage m b.page in
     let q : IsPage (length s.init) b.page = subst P same page in
     let w : b.size ≡ block (length s.init) b.page.runs.items = size ∙ whole_page (length s.init) b.page q in
@@ -32,6 +33,7 @@ stretch_of s runs n first b same page are is size most small at place depths =
       at = λ j l. ap (λ m. candidate_at s (m + j)) is ∙ k.1 j (omega (arith, l, w));
       place = λ j l. ap (λ m. place_of s (m + j)) is ∙ k.2 j (omega (arith, l, w));
       depths = depths ∙ ap (λ m. depths_of m b.page.runs.items) same;
+      placed = placed;
     }
 
 -- the candidate at a number of a stretch

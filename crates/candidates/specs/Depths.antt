@@ -6,7 +6,7 @@ use Rattle.listings.specs.Numbered.{walk}
 use Rattle.candidates.specs.declared.depths.Depth.{Depth}
 use Rattle.candidates.specs.declared.depths.Known.{Known}
 use Rattle.candidates.specs.declared.depths.Known.TheVariants.{Sources, Orders}
-use Rattle.candidates.specs.Blocks.{size_by, cut_by}
+use Rattle.candidates.specs.Blocks.{size_by, cut_of}
 use Rattle.candidates.specs.Candidates.{Choices, choices}
 use Rattle.candidates.specs.Executions.{reads, later_writes, block}
 
@@ -49,11 +49,11 @@ end_at s [] depth i = i + 1
 end_at s (d ∷ ds) zero i = i + (d.size - place_of s i % d.size)
 end_at s (d ∷ ds) (suc depth) i = end_at s ds depth i
 
--- What is known of the candidates of that block, where x is the one at the number i.
-abbrev pub cut_at : Choices → GraphValue → List Depth → ℕ → ℕ → GraphValue
-cut_at s x [] depth i = x
-cut_at s x (d ∷ ds) zero i = cut_by s.init x.runs d.known (place_of s i)
-cut_at s x (d ∷ ds) (suc depth) i = cut_at s x ds depth i
+-- What is known of the execution x at a depth, where these are the depths of its runs. Where there is no such depth, all of it is.
+abbrev pub cut_at : GraphValue → List Depth → ℕ → GraphValue
+cut_at x [] depth = x
+cut_at x (d ∷ ds) zero = cut_of d.known x
+cut_at x (d ∷ ds) (suc depth) = cut_at x ds depth
 
 -- what is known at each of these depths
 abbrev pub known_of : List Depth → List Known

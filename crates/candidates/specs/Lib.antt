@@ -9,6 +9,7 @@ pub mod Impossible
 pub mod Labels
 pub mod Levels
 pub mod Located
+pub mod Outlines
 pub mod Parts
 pub mod Readings
 pub mod Walks

@@ -17,6 +17,7 @@ use Rattle.candidates.specs.Candidates.{Choices, count_sources, source_at, digit
 use Rattle.candidates.specs.Bounds.{AreWithin}
 use Rattle.candidates.specs.Blocks.{IsDepth}
 use Rattle.candidates.specs.Depths.{depths_of, place_of}
+use Rattle.candidates.specs.Levels.{ArePlaced}
 
 -- what these reads read from by number i
 abbrev pub read_at : List ThreadRun → List Event → ℕ → List EventId
@@ -86,10 +87,12 @@ pub record IsStretch (s : Choices) (b : Stretch) : Type 0 where
   pub at : (j : ℕ) → j < b.size → candidate_at s (b.first + j) ≡ candidate s.init b.page.runs.items j
   pub place : (j : ℕ) → j < b.size → place_of s (b.first + j) ≡ j
   pub depths : b.page.depths.items ≡ depths_of (length s.init) b.page.runs.items
+  pub placed : ArePlaced s.threads b.page.runs.items b.page.places.items
 
--- A stretch of some numbers is one of the space.
-abbrev pub MayBeStretch : Choices → Stretch → Type 0
-MayBeStretch s b = 1 ≤ b.size → IsStretch s b
+-- A stretch of some numbers is one of the space. The places of its runs are theirs even if it is of none.
+pub record MayBeStretch (s : Choices) (b : Stretch) : Type 0 where
+  pub whole : 1 ≤ b.size → IsStretch s b
+  pub placed : ArePlaced s.threads b.page.runs.items b.page.places.items
 
 -- The execution is the page's candidate with the number n.
 abbrev pub IsSeen : List ℕ → Page → GraphValue → ℕ → Type 0

@@ -1,13 +1,13 @@
 -- A walk over the executions of a space, from number to number.
 use Rattle.std.specs.Prelude.{◌≡◌, ℕ, ◌+◌, ◌-◌, ◌%◌, ◌<◌, ◌≤◌, List, [], length, slice_index_or, Option, None, Some}
 use Rattle.events.specs.Executions.{GraphValue}
-use Rattle.candidates.specs.Blocks.{AllExtend, CommonValue, Fits, cut_by}
-use Rattle.candidates.specs.Candidates.{Choices, graph_at, size_of}
-use Rattle.candidates.specs.Depths.{depths_of, cut_at}
+use Rattle.candidates.specs.Blocks.{AllExtend, Fits, cut_of}
+use Rattle.candidates.specs.Candidates.{Choices, candidate, graph_at, size_of}
+use Rattle.candidates.specs.Depths.{depths_of}
 use Rattle.candidates.specs.declared.reading.Hit.{Hit}
 use Rattle.candidates.specs.declared.reading.Look.{Look}
 use Rattle.candidates.specs.declared.reading.Look.TheVariants.{Found, Until}
-use Rattle.candidates.specs.Levels.{AreLevels, groups_of}
+use Rattle.candidates.specs.Levels.{AreLevels, ArePlaced, groups_of}
 use Rattle.candidates.specs.Readings.{IsKnown, IsStretch, MayBeStretch, IsSeen}
 use Rattle.candidates.specs.declared.depths.Depth.{Depth}
 use Rattle.candidates.specs.declared.page.Ahead.{Ahead}
@@ -15,7 +15,7 @@ use Rattle.candidates.specs.declared.walk.Near.{Near}
 use Rattle.candidates.specs.declared.walk.Near.TheVariants as of_near
 use Rattle.candidates.specs.declared.page.Stretch.{Stretch}
 use Rattle.candidates.specs.declared.page.Scene.{Scene}
-use Rattle.candidates.specs.declared.walk.Block.{Block}
+use Rattle.candidates.specs.declared.walk.Section.{Section}
 use Rattle.candidates.specs.declared.walk.PausedWalk.{PausedWalk}
 
 -- A walk goes on from the number `next`, and ends before the number `to`. It shows the execution that it found last.
@@ -92,7 +92,7 @@ pub record IsAhead (s : Choices) (a : Ahead) : Type 0 where
   pub stretch : MayBeStretch s a.stretch
   pub levels : AreLevels (groups_of s) a.levels.items
 
--- The stretch of what is shown is one of the space, and what is shown is its candidate with the number that is named. The depths are those of the runs that are shown.
+-- The stretch of what is shown is one of the space, and what is shown is its candidate with the number that is named. The depths are those of the runs that are shown, and the places those of the runs.
 pub record IsScene (s : Choices) (c : Scene) : Type 0 where
   pub stretch : MayBeStretch s c.stretch
   pub none : c.stretch.size ≡ 0 → c.stretch.page.depths.items ≡ []
@@ -100,6 +100,8 @@ pub record IsScene (s : Choices) (c : Scene) : Type 0 where
   pub seen : 1 ≤ c.stretch.size → IsSeen s.init c.stretch.page c.graph c.hit.at
   pub known : 1 ≤ c.stretch.size → IsKnown s.init c.stretch.page.runs.items c.hit
   pub depths : c.stretch.page.depths.items ≡ depths_of (length s.init) c.graph.runs
+  pub placed : ArePlaced s.threads c.graph.runs c.places.items
+  pub room : ArePlaced s.threads c.room.runs.items c.room_places.items
   pub ahead : IsAhead s c.ahead
 
 -- The paused walk may go on among these candidates.
@@ -111,11 +113,11 @@ abbrev pub IsPlace : Stretch → ℕ → ℕ → Type 0
 IsPlace b n place = (place < b.size) × (n ≡ b.first + place + 1)
 
 -- The stretch has the number before n, and no such depth; or it hasn't that number.
-abbrev pub HasNoBlock : Stretch → (n depth : ℕ) → Type 0
-HasNoBlock b n depth = (place : ℕ) → IsPlace b n place → length b.page.depths.items ≤ depth
+abbrev pub HasNoSection : Stretch → (n depth : ℕ) → Type 0
+HasNoSection b n depth = (place : ℕ) → IsPlace b n place → length b.page.depths.items ≤ depth
 
--- The block is one of this depth around the number before n, which is in the stretch: its candidates extend what is known of them.
-pub record IsBlock (s : Choices) (b : Stretch) (n depth : ℕ) (r : Block) : Type 0 where
+-- The section is the block of this depth around the number before n, which is in the stretch: its executions extend what is known of the candidate there.
+pub record IsSection (s : Choices) (b : Stretch) (n depth : ℕ) (r : Section) : Type 0 where
   pub at : Depth
   pub inside : depth < length b.page.depths.items
   pub there : at ≡ slice_index_or b.page.depths.items depth at
@@ -127,7 +129,7 @@ pub record IsBlock (s : Choices) (b : Stretch) (n depth : ℕ) (r : Block) : Typ
   pub fits : Fits (length s.init) b.page.runs.items r.known
   pub later : n ≤ r.end
   pub most : r.end ≤ size_of s
-  pub extend : AllExtend s (n - 1) r.end (cut_by s.init b.page.runs.items r.known r.place)
+  pub extend : AllExtend s (n - 1) r.end (cut_of r.known (candidate s.init b.page.runs.items r.place))
 
 -- The execution that the walk shows stands at the number before the one where it goes on, and at no other.
 pub record IsJustFound (w : Walking) : Type 0 where
@@ -135,17 +137,6 @@ pub record IsJustFound (w : Walking) : Type 0 where
   pub at : graph_at w.space (w.next - 1) ≡ Some w.shown
   pub once : (i : ℕ) → graph_at w.space i ≡ Some w.shown → i ≡ w.next - 1
 
--- The execution is the one at the number before n, where one stands.
-abbrev pub IsBefore : Choices → ℕ → GraphValue → Type 0
-IsBefore s n g = (x : GraphValue) → 1 ≤ n → graph_at s (n - 1) ≡ Some x → g ≡ x
-
 -- the depths of the blocks around the execution that the walk shows
 abbrev pub depths_around : Walking → List Depth
 depths_around w = depths_of (length w.space.init) w.shown.runs
-
--- What the executions from the number that the walk found last to before an end have in common: what is known of them at a depth.
-pub record IsCommon (w : Walking) (depth : ℕ) (c : CommonValue) : Type 0 where
-  pub cut : IsJustFound w → c.graph ≡ cut_at w.space w.shown (depths_around w) depth (w.next - 1)
-  pub extend : AllExtend w.space (w.next - 1) c.end c.graph
-  pub later : w.next ≤ c.end
-  pub most : c.end ≤ size_of w.space

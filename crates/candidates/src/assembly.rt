@@ -1,19 +1,21 @@
 //! The parts of the candidates with the same runs, and the candidates.
 
-ghost use Rattle.std.specs.Prelude.{◌≡◌, ◌+◌, ◌++◌, [], ◌∷◌, ◌<◌, ◌≤◌, length, map, take, filter, All, IfOk, OnOk};
-ghost use Rattle.events.specs.Executions.{is_read};
+ghost use Rattle.std.specs.Prelude.{◌≡◌, ◌+◌, ◌/◌, ◌++◌, [], ◌∷◌, ◌<◌, ◌≤◌, List, length, map, slice_index_or, take, drop, filter, true, All, IfOk, OnOk};
+ghost use Rattle.events.specs.Executions.{ThreadRun, empty_run, is_read};
 ghost use Rattle.listings.specs.Lists.{factorial, product_by};
 ghost use Rattle.candidates.specs.Bounds.{AreWithin};
 ghost use Rattle.candidates.specs.Executions.{writes_from, later_writes, reads, upto, block};
-ghost use Rattle.candidates.specs.Candidates.{count_co, candidate, no_execution, write_value};
+ghost use Rattle.candidates.specs.Candidates.{count_co, candidate, no_execution, rf_at, write_value};
 ghost use Rattle.candidates.specs.Depths.{depths_of};
+ghost use Rattle.candidates.specs.Levels.{ArePlaced};
+ghost use Rattle.candidates.specs.Outlines.{IsOfRuns};
 ghost use Rattle.candidates.specs.Readings.{IsPage, sources_among, orders_among};
 
 use crate::depths::list_depths;
 use crate::fault::MOST_CANDIDATES;
 use crate::ordering::{coherence, turn_orders};
 use crate::page::{Page, Writes};
-use crate::reading::{read_from, turn_sources};
+use crate::reading::{read_from, read_into, turn_sources};
 use events::{Event, EventId, Graph, GraphParts, Run, copy_runs};
 use std::alloc::{AllocError, Global};
 use std::mem::replace;
@@ -161,7 +163,7 @@ fn fill_plain(alloc: Global, page: &mut Page, locations: usize) -> Result<(), Al
     requires most { block locations page.old.runs.items ≤ MOST_CANDIDATES }
     requires depths { page.old.depths.items ≡ [] }
     ensures page { OnOk result (IsPage locations page.new) }
-    ensures runs { OnOk result (page.new.runs.items ≡ page.old.runs.items) }
+    ensures runs { (page.new.runs ≡ page.old.runs) × (page.new.places ≡ page.old.places) }
 {
     let reads = reads(&page.runs, replace(&mut page.reads, Vec::new(alloc)))?;
     let writes = all_writes(
@@ -179,14 +181,24 @@ fn fill_plain(alloc: Global, page: &mut Page, locations: usize) -> Result<(), Al
     Ok(())
 }
 
-/// Makes a page that of its runs.
-pub(crate) fn fill_page(alloc: Global, page: &mut Page, locations: usize) -> Result<(), AllocError>
+/// Makes a page that of its runs, which may be known to have all that it keeps but for its reads.
+pub(crate) fn fill_page(
+    alloc: Global,
+    page: &mut Page,
+    locations: usize,
+    kept: bool,
+) -> Result<(), AllocError>
     requires within { AreWithin locations page.old.runs.items }
     requires most { block locations page.old.runs.items ≤ MOST_CANDIDATES }
+    requires kept { kept ≡ true → IsOfRuns locations page.old.runs.items page.old }
     ensures page { OnOk result (IsPage locations page.new) }
-    ensures runs { OnOk result (page.new.runs.items ≡ page.old.runs.items) }
+    ensures runs { (page.new.runs ≡ page.old.runs) × (page.new.places ≡ page.old.places) }
     ensures depths { OnOk result (page.new.depths.items ≡ depths_of locations page.old.runs.items) }
 {
+    if kept {
+        page.reads = reads(&page.runs, replace(&mut page.reads, Vec::new(alloc)))?;
+        return Ok(());
+    }
     let room = replace(&mut page.depths, Vec::new(alloc));
     fill_plain(alloc, page, locations)?;
     page.depths = list_depths(page, locations, room)?;
@@ -210,6 +222,115 @@ pub(crate) fn assemble(
     let room = Vec::new(alloc);
     let co = coherence(alloc, page, init.len(), number % page.orders, room)?;
     Ok(Graph::new(values, runs, rf, co))
+}
+
+/// Whether both lists have the same at a thread's place.
+fn have_same(places: &[usize], others: &[usize], thread: usize) -> bool
+    ensures { result ≡ true → (thread < length places.now) × (thread < length others.now) × (slice_index_or places.now thread 0 ≡ slice_index_or others.now thread 0) }
+{
+    if thread >= places.len() || thread >= others.len() {
+        return false;
+    }
+    places[thread] == others[thread]
+}
+
+/// Puts a run of a page at its place of a list, where it stands already if these places have the page's. All others stay as they are.
+fn put_run(
+    runs: &mut Vec<Run>,
+    places: &[usize],
+    page: &Page,
+    thread: usize,
+) -> Result<(), AllocError>
+    requires thread { thread < length page.now.runs.items }
+    requires room { thread ≤ length runs.old.items }
+    requires there { thread < length places.now → thread < length page.now.places.items → slice_index_or places.now thread 0 ≡ slice_index_or page.now.places.items thread 0 → (thread < length runs.old.items) × (slice_index_or runs.old.items thread empty_run ≡ slice_index_or page.now.runs.items thread empty_run) }
+    ensures put { OnOk result ((take (thread + 1) runs.new.items ≡ take thread runs.old.items ++ slice_index_or page.now.runs.items thread empty_run ∷ []) × (thread < length runs.new.items)) }
+    ensures behind { OnOk result (drop (thread + 1) runs.new.items ≡ drop (thread + 1) runs.old.items) }
+{
+    if have_same(places, &page.places, thread) {
+        return Ok(());
+    }
+    if thread >= runs.len() {
+        runs.push(page.runs[thread].copy()?)?;
+        return Ok(());
+    }
+    runs[thread].become_copy(&page.runs[thread])?;
+    Ok(())
+}
+
+/// The runs of a page, in a vector that may have some of them already. The places are those of its runs, and become the page's.
+fn runs_again(
+    mut runs: Vec<Run>,
+    places: &mut Vec<usize>,
+    page: &Page,
+) -> Result<Vec<Run>, AllocError>
+    requires placed { (t : List (List ThreadRun)) × ArePlaced t runs.items places.old.items × ArePlaced t page.now.runs.items page.now.places.items }
+    ensures runs { IfOk result (λ v. v.items ≡ page.now.runs.items) }
+    ensures places { OnOk result (places.new.items ≡ page.now.places.items) }
+{
+    for thread in 0..page.runs.len() {
+        put_run(&mut runs, places, page, thread)?;
+    }
+    runs.truncate(page.runs.len());
+    places.clear();
+    places.extend_from_slice(&page.places)?;
+    Ok(runs)
+}
+
+/// These values, in a vector that has had others.
+fn values_again(mut values: Vec<u32>, wanted: &[u32]) -> Result<Vec<u32>, AllocError>
+    ensures { IfOk result (λ v. v.items ≡ wanted.now) }
+{
+    values.clear();
+    values.extend_from_slice(wanted)?;
+    Ok(values)
+}
+
+/// The parts of the page's candidate with this number, but for its orders, in the room of others.
+fn refill(
+    init: &[u32],
+    page: &Page,
+    number: u64,
+    parts: GraphParts,
+    places: &mut Vec<usize>,
+) -> Result<GraphParts, AllocError>
+    requires page { IsPage (length init.now) page.now }
+    requires placed { (t : List (List ThreadRun)) × ArePlaced t parts.runs.items places.old.items × ArePlaced t page.now.runs.items page.now.places.items }
+    requires number { number < block (length init.now) page.now.runs.items }
+    ensures init { IfOk result (λ p. p.init.items ≡ init.now) }
+    ensures runs { IfOk result (λ p. p.runs.items ≡ page.now.runs.items) }
+    ensures rf { IfOk result (λ p. p.rf.items ≡ rf_at page.now.runs.items (number / page.now.orders)) }
+    ensures places { OnOk result (places.new.items ≡ page.now.places.items) }
+{
+    let values = values_again(parts.init, init)?;
+    let runs = runs_again(parts.runs, places, page)?;
+    let rf = read_into(page, &page.reads, parts.rf, number / page.orders)?;
+    Ok(GraphParts {
+        init: values,
+        runs,
+        rf,
+        co: parts.co,
+    })
+}
+
+/// The candidate of the page's runs with this number, in the room of other parts. The places are those of its runs.
+pub(crate) fn assemble_in(
+    alloc: Global,
+    init: &[u32],
+    page: &Page,
+    number: u64,
+    parts: GraphParts,
+    places: &mut Vec<usize>,
+) -> Result<Graph, AllocError>
+    requires page { IsPage (length init.now) page.now }
+    requires placed { (t : List (List ThreadRun)) × ArePlaced t parts.runs.items places.old.items × ArePlaced t page.now.runs.items page.now.places.items }
+    requires number { number < block (length init.now) page.now.runs.items }
+    ensures graph { IfOk result (λ g. g ≡ candidate init.now page.now.runs.items number) }
+    ensures places { OnOk result (places.new.items ≡ page.now.places.items) }
+{
+    let filled = refill(init, page, number, parts, places)?;
+    let co = coherence(alloc, page, init.len(), number % page.orders, filled.co)?;
+    Ok(Graph::new(filled.init, filled.runs, filled.rf, co))
 }
 
 /// The candidate of the page's runs with another number, made from the one with this number.
@@ -242,8 +363,8 @@ pub(crate) fn no_parts(alloc: Global) -> GraphParts {
     }
 }
 
-/// An execution of nothing.
-pub(crate) fn nothing(alloc: Global) -> Graph
+/// An execution of nothing. It takes no memory.
+pub fn nothing(alloc: Global) -> Graph
     ensures { result ≡ no_execution }
 {
     Graph::new(

@@ -2,9 +2,9 @@
 #![tactic(auto)]
 
 mod assembly;
+mod block;
 mod capped;
 mod choosing;
-mod common;
 mod counts;
 mod depths;
 mod fault;
@@ -15,14 +15,13 @@ mod levels;
 mod open_orders;
 mod ordering;
 mod page;
-mod partial;
 mod reading;
 mod space;
 mod threads;
 mod walk;
 
-pub use assembly::write_value;
-pub use common::Common;
+pub use assembly::{nothing, write_value};
+pub use block::Block;
 pub use fault::SpaceFault;
 pub use open_orders::OpenOrders;
 pub use space::Space;

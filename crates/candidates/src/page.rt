@@ -81,10 +81,11 @@ impl Writes {
     }
 }
 
-/// The runs of a choice, their reads, the later writes of each location, in how many ways the reads can read and the
-/// writes be ordered, and the depths of blocks.
+/// The runs of a choice, at which place of its thread's runs each of the first stands, their reads, the later writes of each
+/// location, in how many ways the reads can read and the writes be ordered, and the depths of blocks.
 pub(crate) struct Page {
     pub(crate) runs: Vec<Run>,
+    pub(crate) places: Vec<usize>,
     pub(crate) reads: Vec<Event>,
     pub(crate) writes: Vec<Writes>,
     pub(crate) ways: u64,
@@ -97,6 +98,7 @@ impl Drop for Page {
     fn drop(self) {
         let Page {
             runs: _,
+            places: _,
             reads: _,
             writes: _,
             ways: _,
@@ -159,13 +161,16 @@ impl Drop for Ahead {
 }
 
 /// What a walk has at hand: the execution that it shows, the stretch that this is in, and where it is there; and where the
-/// walk looks on. What was shown before lends its room to what is shown next.
+/// walk looks on. What was shown before lends its room to what is shown next. Of the runs of both, it has the places among
+/// those of their threads.
 pub(crate) struct Scene {
     pub(crate) stretch: Stretch,
     pub(crate) graph: Graph,
+    pub(crate) places: Vec<usize>,
     pub(crate) hit: Hit,
     pub(crate) ahead: Ahead,
     pub(crate) room: GraphParts,
+    pub(crate) room_places: Vec<usize>,
 }
 
 impl Drop for Scene {
@@ -173,9 +178,11 @@ impl Drop for Scene {
         let Scene {
             stretch: _,
             graph: _,
+            places: _,
             hit: _,
             ahead: _,
             room: _,
+            room_places: _,
         } = self;
     }
 }

@@ -1,9 +1,11 @@
 //! The way down the threads of a test to the runs of a candidate.
 
-ghost use Rattle.std.specs.Prelude.{◌≡◌, ◌+◌, ◌<◌, ◌≤◌, [], ◌∷◌, ◌++◌, length, take, IfOk, OnOk};
+ghost use Rattle.std.specs.Prelude.{◌≡◌, ◌+◌, ◌<◌, ◌≤◌, [], ◌∷◌, ◌++◌, length, map, slice_index_or, take, true, IfOk, OnOk};
+ghost use Rattle.events.specs.Executions.{empty_run};
 ghost use Rattle.candidates.specs.Candidates.{size_of};
-ghost use Rattle.candidates.specs.Levels.{AreLevels};
-ghost use Rattle.candidates.specs.Located.{IsLocated, AreThreads, choices_by};
+ghost use Rattle.candidates.specs.Levels.{AreLevels, ArePlaced};
+ghost use Rattle.candidates.specs.Located.{IsLocated, AreKept, AreThreads, choices_by};
+ghost use Rattle.candidates.specs.Outlines.{outline, outlines};
 ghost use Rattle.candidates.specs.Readings.{MayBeStretch};
 ghost use Rattle.candidates.specs.Walks.{IsReached};
 
@@ -14,29 +16,81 @@ use crate::groups::Groups;
 use crate::impossible::Marks;
 use crate::levels::{Level, Rooms};
 use crate::page::Stretch;
-use events::Run;
+use events::{Event, Run};
 use std::alloc::{AllocError, Global};
 use std::mem::replace;
 
-/// Puts a run at a place of a list, where it may stand already. Those before it stay as they are.
-pub(crate) fn put_run(runs: &mut Vec<Run>, place: usize, run: &Run) -> Result<(), AllocError>
-    requires { place ≤ length runs.old.items }
-    ensures { OnOk result ((take (place + 1) runs.new.items ≡ take place runs.old.items ++ run.now ∷ []) × (place < length runs.new.items)) }
+/// Whether two events do the same to one location, whatever their values are.
+fn do_the_same(event: &Event, other: &Event) -> bool
+    ensures { result ≡ true → outline event.now ≡ outline other.now }
 {
-    if place >= runs.len() {
-        runs.push(run.copy()?)?;
-        return Ok(());
-    }
-    if !runs[place].is_same(run) {
-        runs[place].become_copy(run)?;
-    }
-    Ok(())
+    event.access == other.access && event.loc == other.loc
 }
 
-/// Where the candidate with a number is: its number among those with its runs; or up to which number no execution stands.
+/// Whether events do what the others do, one by one, whatever their values are.
+fn are_alike(events: &[Event], others: &[Event]) -> bool
+    ensures { result ≡ true → map outline events.now ≡ map outline others.now }
+{
+    if events.len() != others.len() {
+        return false;
+    }
+    for place in 0..events.len() {
+        if !do_the_same(&events[place], &others[place]) {
+            return false;
+        }
+    }
+    true
+}
+
+/// Whether this is the place of a thread's run.
+fn is_placed(places: &[usize], thread: usize, place: usize) -> bool
+    ensures { result ≡ true → (thread < length places.now) × (slice_index_or places.now thread 0 ≡ place) }
+{
+    if thread >= places.len() {
+        return false;
+    }
+    places[thread] == place
+}
+
+/// Puts a copy of the run at a place of a thread in a list, if it isn't there already, and says whether a run stands there whose
+/// events do the same. Those before it stay as they are.
+fn place_run(
+    runs: &mut Vec<Run>,
+    places: &mut Vec<usize>,
+    threads: &[RunList],
+    thread: usize,
+    place: usize,
+) -> Result<bool, AllocError>
+    requires thread { thread < length threads.now }
+    requires place { place < length (slice_index_or threads.now thread []) }
+    requires done { thread ≤ length places.old.items }
+    requires placed { ArePlaced threads.now runs.old.items places.old.items }
+    ensures put { OnOk result (take (thread + 1) runs.new.items ≡ take thread runs.old.items ++ slice_index_or (slice_index_or threads.now thread []) place empty_run ∷ []) }
+    ensures done { OnOk result (thread < length places.new.items) }
+    ensures placed { ArePlaced threads.now runs.new.items places.new.items }
+    ensures alike { IfOk result (λ alike. alike ≡ true → outlines runs.new.items ≡ outlines runs.old.items) }
+{
+    if is_placed(places, thread, place) {
+        return Ok(true);
+    }
+    let run = &threads[thread].runs()[place];
+    if thread < places.len() {
+        let alike = are_alike(runs[thread].events(), run.events());
+        runs[thread].become_copy(run)?;
+        places[thread] = place;
+        return Ok(alike);
+    }
+    runs.truncate(thread);
+    runs.push(run.copy()?)?;
+    places.push(place)?;
+    Ok(false)
+}
+
+/// Where the candidate with a number is: its number among those with its runs, and whether these do what the runs do that were there
+/// before; or up to which number no execution stands.
 #[derive(Clone, Copy)]
 pub(crate) enum Located {
-    At(u64),
+    At(u64, bool),
     Until(u64),
 }
 
@@ -58,14 +112,19 @@ fn locate(
     levels: &mut Vec<Level>,
     rooms: &mut Rooms,
     runs: &mut Vec<Run>,
+    places: &mut Vec<usize>,
     number: u64,
 ) -> Result<Located, AllocError>
     requires threads { AreThreads threads.now }
     requires levels { AreLevels threads.now.groups.now levels.old.items }
+    requires placed { ArePlaced threads.now.runs.now runs.old.items places.old.items }
     requires number { number < size_of (choices_by threads.now) }
     ensures located { IfOk result (IsLocated (choices_by threads.now) number runs.new.items) }
+    ensures alike { IfOk result (AreKept runs.old.items runs.new.items) }
+    ensures placed { ArePlaced threads.now.runs.now runs.new.items places.new.items }
     ensures levels { AreLevels threads.now.groups.now levels.new.items }
 {
+    let mut alike = runs.len() <= threads.runs.len();
     let first = replace(&mut rooms.tally, AccessTally::empty(alloc));
     let mut tally = AccessTally::new_in(&[], threads.init.len(), first)?;
     let mut room = replace(&mut rooms.other, AccessTally::empty(alloc));
@@ -84,16 +143,15 @@ fn locate(
             *rooms = Rooms { tally, other: room };
             return Ok(Located::Until(number - choice.rest + choice.passed));
         }
-        let run = &threads.runs[thread].runs()[choice.place];
         let sum = tally.plus_into(threads.groups[thread].tally_at(choice.place), room)?;
         room = tally;
         tally = sum;
-        put_run(runs, thread, run)?;
+        alike = place_run(runs, places, threads.runs, thread, choice.place)? && alike;
         rest = choice.rest;
     }
     runs.truncate(threads.runs.len());
     *rooms = Rooms { tally, other: room };
-    Ok(Located::At(rest))
+    Ok(Located::At(rest, alike))
 }
 
 /// Makes a stretch to that in which a number is; or says up to which number no execution stands.
@@ -108,11 +166,13 @@ pub(crate) fn go_to(
 ) -> Result<Option<u64>, AllocError>
     requires threads { AreThreads threads.now }
     requires levels { AreLevels threads.now.groups.now levels.old.items }
+    requires stretch { MayBeStretch (choices_by threads.now) stretch.old }
     requires number { number < size_of (choices_by threads.now) }
     ensures reached { IfOk result (IsReached (choices_by threads.now) number stretch.new) }
     ensures stretch { MayBeStretch (choices_by threads.now) stretch.new }
     ensures levels { AreLevels threads.now.groups.now levels.new.items }
 {
+    let whole = stretch.size > 0;
     stretch.size = 0;
     match locate(
         alloc,
@@ -120,10 +180,11 @@ pub(crate) fn go_to(
         levels,
         rooms,
         &mut stretch.page.runs,
+        &mut stretch.page.places,
         number,
     )? {
-        Located::At(rest) => {
-            fill_page(alloc, &mut stretch.page, threads.init.len())?;
+        Located::At(rest, alike) => {
+            fill_page(alloc, &mut stretch.page, threads.init.len(), whole && alike)?;
             stretch.first = number - rest;
             stretch.size = stretch.page.ways * stretch.page.orders;
             Ok(None)

@@ -1,22 +1,23 @@
 //! A walk over the executions of a space.
 
-ghost use Rattle.std.specs.Prelude.{◌≡◌, ◌+◌, ◌-◌, ◌<◌, ◌≤◌, ℕ, [], length, max, min, true, Some, IfOk, IfSome, OnOk, OnErr, MatchOption};
-ghost use Rattle.events.specs.Executions.{GraphValue};
+ghost use Rattle.std.specs.Prelude.{◌≡◌, ◌+◌, ◌-◌, ◌<◌, ◌≤◌, ℕ, List, [], length, max, min, true, Some, IfOk, IfSome, OnOk, OnErr, MatchOption};
+ghost use Rattle.events.specs.Executions.{GraphValue, ThreadRun};
 ghost use Rattle.candidates.specs.Executions.{block};
 ghost use Rattle.candidates.specs.Alike.{AreAlike};
+ghost use Rattle.events.specs.Cuts.{cut_down};
 ghost use Rattle.candidates.specs.Blocks.{AllExtend};
-ghost use Rattle.candidates.specs.Candidates.{Choices, candidate, graph_at, is_consistent, size_of, no_execution};
+ghost use Rattle.candidates.specs.Candidates.{Choices, candidate, graph_at, size_of, no_execution};
 ghost use Rattle.candidates.specs.Depths.{cut_at, end_at};
+ghost use Rattle.candidates.specs.Levels.{ArePlaced};
 ghost use Rattle.candidates.specs.Readings.{IsKnown, IsPage, IsSeen, MayBeStretch};
-ghost use Rattle.candidates.specs.Walks.{IsAhead, IsBefore, IsBlock, IsCommon, IsFind, IsFound, IsHit, IsJustFound, IsMiss, IsNear, IsPausedIn, IsPlace, IsReached, IsScene, IsVisit, IsWithin, HasNoBlock, depths_around};
+ghost use Rattle.candidates.specs.Walks.{IsAhead, IsFind, IsFound, IsHit, IsJustFound, IsMiss, IsNear, IsPausedIn, IsPlace, IsReached, IsScene, IsSection, IsVisit, IsWithin, HasNoSection, depths_around};
 
-use crate::assembly::{assemble, no_parts, nothing, turned};
-use crate::common::Common;
+use crate::assembly::{assemble, assemble_in, no_parts, nothing, turned};
+use crate::block::{Block, cut_to};
 use crate::depths::Known;
 use crate::levels::no_rooms;
 use crate::open_orders::{OpenOrders, open_orders};
 use crate::page::{Ahead, Page, Scene, Stretch};
-use crate::partial::{assemble_in, cut};
 use crate::reading::{Hit, Look, look_at};
 use crate::space::Space;
 use crate::threads::go_to;
@@ -74,9 +75,11 @@ impl Drop for PausedWalk {
 fn no_stretch(alloc: Global) -> Stretch
     ensures size { result.size ≡ 0 }
     ensures depths { result.page.depths.items ≡ [] }
+    ensures places { result.page.places.items ≡ [] }
 {
     let page = Page {
         runs: Vec::new(alloc),
+        places: Vec::new(alloc),
         reads: Vec::new(alloc),
         writes: Vec::new(alloc),
         ways: 1,
@@ -94,6 +97,7 @@ fn no_stretch(alloc: Global) -> Stretch
 fn nothing_ahead(alloc: Global) -> Ahead
     ensures size { result.stretch.size ≡ 0 }
     ensures levels { result.levels.items ≡ [] }
+    ensures places { result.stretch.page.places.items ≡ [] }
 {
     Ahead {
         levels: Vec::new(alloc),
@@ -109,13 +113,16 @@ fn no_scene(alloc: Global) -> Scene
     ensures graph { result.graph ≡ no_execution }
     ensures ahead { result.ahead.stretch.size ≡ 0 }
     ensures levels { result.ahead.levels.items ≡ [] }
+    ensures places { (result.stretch.page.places.items ≡ []) × (result.ahead.stretch.page.places.items ≡ []) × (result.places.items ≡ []) × (result.room_places.items ≡ []) }
 {
     Scene {
         stretch: no_stretch(alloc),
         graph: nothing(alloc),
+        places: Vec::new(alloc),
         hit: Hit { at: 0, until: 0 },
         ahead: nothing_ahead(alloc),
         room: no_parts(alloc),
+        room_places: Vec::new(alloc),
     }
 }
 
@@ -274,6 +281,8 @@ fn turn(alloc: Global, init: &[u32], scene: &mut Scene, hit: Hit)
     requires number { hit.at < block (length init.now) scene.old.stretch.page.runs.items }
     ensures stretch { scene.new.stretch ≡ scene.old.stretch }
     ensures ahead { scene.new.ahead ≡ scene.old.ahead }
+    ensures runs { scene.new.graph.runs ≡ scene.old.graph.runs }
+    ensures kept { (scene.new.places ≡ scene.old.places) × (scene.new.room ≡ scene.old.room) × (scene.new.room_places ≡ scene.old.room_places) }
     ensures hit { scene.new.hit ≡ hit }
     ensures shown { scene.new.graph ≡ candidate init.now scene.old.stretch.page.runs.items hit.at }
 {
@@ -287,16 +296,23 @@ fn turn(alloc: Global, init: &[u32], scene: &mut Scene, hit: Hit)
 fn show(alloc: Global, init: &[u32], scene: &mut Scene, hit: Hit) -> Result<(), AllocError>
     requires page { IsPage (length init.now) scene.old.ahead.stretch.page }
     requires number { hit.at < block (length init.now) scene.old.ahead.stretch.page.runs.items }
+    requires placed { (t : List (List ThreadRun)) × ArePlaced t scene.old.room.runs.items scene.old.room_places.items × ArePlaced t scene.old.ahead.stretch.page.runs.items scene.old.ahead.stretch.page.places.items }
     ensures stretch { OnOk result (scene.new.stretch ≡ scene.old.ahead.stretch) }
     ensures ahead { OnOk result (scene.new.ahead.stretch ≡ scene.old.stretch) }
     ensures levels { scene.new.ahead.levels ≡ scene.old.ahead.levels }
     ensures hit { OnOk result (scene.new.hit ≡ hit) }
     ensures shown { OnOk result (scene.new.graph ≡ candidate init.now scene.old.ahead.stretch.page.runs.items hit.at) }
+    ensures places { OnOk result (scene.new.places.items ≡ scene.old.ahead.stretch.page.places.items) }
+    ensures room { OnOk result ((scene.new.room.runs.items ≡ scene.old.graph.runs) × (scene.new.room_places ≡ scene.old.places)) }
+    ensures left { OnErr result ((scene.new.places ≡ scene.old.places) × (scene.new.room_places.items ≡ [])) }
     ensures same { OnErr result ((scene.new.stretch ≡ scene.old.stretch) × (scene.new.ahead ≡ scene.old.ahead) × (scene.new.graph ≡ scene.old.graph) × (scene.new.hit ≡ scene.old.hit)) }
 {
     let room = replace(&mut scene.room, no_parts(alloc));
-    let graph = assemble_in(alloc, init, &scene.ahead.stretch.page, hit.at, room)?;
+    let mut places = replace(&mut scene.room_places, Vec::new(alloc));
+    let page = &scene.ahead.stretch.page;
+    let graph = assemble_in(alloc, init, page, hit.at, room, &mut places)?;
     scene.room = replace(&mut scene.graph, graph).into_parts();
+    scene.room_places = replace(&mut scene.places, places);
     swap(&mut scene.stretch, &mut scene.ahead.stretch);
     scene.hit = hit;
     Ok(())
@@ -305,7 +321,7 @@ fn show(alloc: Global, init: &[u32], scene: &mut Scene, hit: Hit) -> Result<(), 
 /// A block around a number of a stretch: what is known of its executions, at which place of the stretch the number is, and
 /// the number behind the block.
 #[derive(Clone, Copy)]
-struct Block {
+struct Section {
     known: Known,
     place: u64,
     end: u64,
@@ -313,7 +329,7 @@ struct Block {
 
 /// At which place of the stretch the number before this one is, if it is in it.
 fn place_before(stretch: &Stretch, next: u64) -> Option<u64>
-    ensures { MatchOption result ((depth : ℕ) → HasNoBlock stretch.now next depth) (IsPlace stretch.now next) }
+    ensures { MatchOption result ((depth : ℕ) → HasNoSection stretch.now next depth) (IsPlace stretch.now next) }
 {
     if next <= stretch.first || next - stretch.first > stretch.size {
         return None;
@@ -322,34 +338,19 @@ fn place_before(stretch: &Stretch, next: u64) -> Option<u64>
 }
 
 /// The block of this depth around the number before `next`, if the stretch has both.
-fn block_before(stretch: &Stretch, next: u64, depth: usize) -> Option<Block>
+fn section_before(stretch: &Stretch, next: u64, depth: usize) -> Option<Section>
     requires { (s : Choices) × MayBeStretch s stretch.now }
-    ensures block { (s : Choices) → MayBeStretch s stretch.now → IfSome result (IsBlock s stretch.now next depth) }
-    ensures none { MatchOption result (HasNoBlock stretch.now next depth) (λ _. Unit {0}) }
+    ensures section { (s : Choices) → MayBeStretch s stretch.now → IfSome result (IsSection s stretch.now next depth) }
+    ensures none { MatchOption result (HasNoSection stretch.now next depth) (λ _. Unit {0}) }
 {
     let place = place_before(stretch, next)?;
     let depth = stretch.page.depths.get(depth)?;
     let end = next - 1 + (depth.size - place % depth.size);
-    Some(Block {
+    Some(Section {
         known: depth.known,
         place,
         end,
     })
-}
-
-/// The execution at the number before this one, or one of nothing where none is.
-fn graph_before(alloc: Global, space: &Space, next: u64) -> Result<Graph, AllocError>
-    requires { next ≤ size_of space.now }
-    ensures extend { IfOk result (AllExtend space.now (next - 1) next) }
-    ensures at { IfOk result (IsBefore space.now next) }
-{
-    if next == 0 {
-        return Ok(nothing(alloc));
-    }
-    match find(alloc, space, next - 1)? {
-        Some(graph) => Ok(graph),
-        None => Ok(nothing(alloc)),
-    }
 }
 
 impl PausedWalk {
@@ -453,8 +454,8 @@ impl<'a> Walk<'a> {
         ensures within { result ≤ size_of self.now.space }
         ensures end { IsJustFound self.now → result ≡ end_at self.now.space (depths_around self.now) depth (self.now.next - 1) }
     {
-        match block_before(&self.scene.stretch, self.next, depth) {
-            Some(block) => block.end,
+        match section_before(&self.scene.stretch, self.next, depth) {
+            Some(section) => section.end,
             None => self.next,
         }
     }
@@ -472,50 +473,27 @@ impl<'a> Walk<'a> {
         Some(open_orders(&stretch.page, locations, place, most))
     }
 
-    /// Shows what the executions of a block have in common, and its end.
-    fn write_common(
-        &self,
-        alloc: Global,
-        depth: usize,
-        common: &mut Common,
-    ) -> Result<(), AllocError>
-        ensures shown { OnOk result (IsCommon self.now depth common.new) }
-        ensures same { OnErr result (common.new ≡ common.old) }
+    /// The block of this depth around the execution found last; none where the walk has passed that, or there is no such depth.
+    pub fn block(&self, depth: usize) -> Option<Block<'_>>
+        // Each execution of the block goes on from what is known of the one that is shown.
+        ensures extend { IfSome result (λ b. AllExtend self.now.space (self.now.next - 1) b.end (cut_down self.now.shown b.cut)) }
+        ensures within { IfSome result (λ b. (self.now.next ≤ b.end) × (b.end ≤ size_of self.now.space)) }
+        // It ends where blocks of this depth do.
+        ensures end { IfSome result (λ b. b.end ≡ end_at self.now.space (depths_around self.now) depth (self.now.next - 1)) }
+        // What is known is what is known at this depth, and there is a block where there is such a depth.
+        ensures cut { MatchOption result (IsJustFound self.now → length (depths_around self.now) ≤ depth) (λ b. cut_down self.now.shown b.cut ≡ cut_at self.now.shown (depths_around self.now) depth) }
     {
-        match block_before(&self.scene.stretch, self.next, depth) {
-            Some(block) => {
-                let page = &self.scene.stretch.page;
-                let mut spare = common.take_spare(alloc);
-                let init = self.space.init();
-                let graph = cut(alloc, init, page, block.known, block.place, &mut spare)?;
-                common.show(graph, block.end, spare);
-                Ok(())
-            }
-            None => {
-                let graph = graph_before(alloc, self.space, self.next)?;
-                let spare = common.take_spare(alloc);
-                common.show(graph, self.next, spare);
-                Ok(())
-            }
+        let scene = &self.scene;
+        let section = section_before(&scene.stretch, self.next, depth)?;
+        if section.place != scene.hit.at {
+            return None;
         }
-    }
-
-    /// Shows what the executions of the block of this depth around the number found last have in common, and its end.
-    pub fn show_common(
-        &self,
-        alloc: Global,
-        depth: usize,
-        common: &mut Common,
-    ) -> Result<(), AllocError>
-        // Each execution of the block goes on from the graph that is shown.
-        ensures shown { OnOk result (AllExtend self.now.space (self.now.next - 1) common.new.end common.new.graph) }
-        ensures end { OnOk result ((self.now.next ≤ common.new.end) × (common.new.end ≤ size_of self.now.space)) }
-        // It is what is known of them at this depth.
-        ensures cut { OnOk result (IsJustFound self.now → common.new.graph ≡ cut_at self.now.space self.now.shown (depths_around self.now) depth (self.now.next - 1)) }
-        ensures same { OnErr result (common.new ≡ common.old) }
-    {
-        self.write_common(alloc, depth, common)?;
-        Ok(())
+        let locations = self.space.init().len();
+        let cut = cut_to(&scene.stretch.page, locations, section.known);
+        Some(Block {
+            cut,
+            end: section.end,
+        })
     }
 
     /// Goes on behind the numbers before this one, without leaving the walk's own numbers.

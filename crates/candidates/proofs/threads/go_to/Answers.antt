@@ -1,14 +1,17 @@
-use Rattle.std.proofs.Common.{◌≡◌, ◌-◌, ◌∙◌, refl, sym, ap, length, List, arith}
+use Rattle.std.proofs.Common.{◌≡◌, ◌-◌, ◌∙◌, refl, sym, ap, length, List, arith, ltb-true}
 use Rattle.events.specs.Executions.{ThreadRun}
 use Rattle.candidates.specs.Executions.{block}
 use Rattle.candidates.specs.Candidates.{Choices, choices}
 use Rattle.candidates.specs.Depths.{depths_of}
+use Rattle.candidates.specs.Levels.{ArePlaced}
 use Rattle.candidates.specs.Located.{choices_by}
 use Rattle.candidates.proofs.Steps.{in_block, place_in_block, part_member, part_block}
 use Rattle.candidates.proofs.Stretches.{stretch_of, whole_page}
 use Rattle.std.proofs.lemmas.Result.{IfOk-from_err}
+use Rattle.candidates.proofs.Outlining.{of_runs_like}
 use Rattle.candidates.proofs.Pages.{start_within}
 use Rattle.candidates.proofs.threads.go_to.Goals as goal
+use Rattle.candidates.proofs.threads.go_to.Goals.{then-whole, else-whole}
 
 pub fill_page-requires-clause-within : goal.fill_page-requires-clause-within
 fill_page-requires-clause-within c =
@@ -32,16 +35,18 @@ returns-in_ok-fill_page-in-At-clause-reached c =
     let at = rw c.in-At.is at c.in_ok-rest.ensures.located in
     let page = c.in_ok-fill_page-in-At.ensures in
     let made = c.fill_page.new.page in
-    let same : block n made.runs.items ≡ block n runs = ap (λ (rs : List ThreadRun). block n rs) page.runs in
-    let depths : made.depths.items ≡ depths_of n made.runs.items = page.depths ∙ ap (depths_of n) (sym page.runs) in
+    let same_runs : made.runs.items ≡ runs = rw c.fill_page.ensures.runs.0 refl in
+    let same : block n made.runs.items ≡ block n runs = ap (λ (rs : List ThreadRun). block n rs) same_runs in
+    let depths : made.depths.items ≡ depths_of n made.runs.items = page.depths ∙ ap (depths_of n) (sym same_runs) in
+    let placed : ArePlaced t.runs.now made.runs.items made.places.items = rw (c.fill_page.ensures.runs.0, c.fill_page.ensures.runs.1) c.locate.ensures.placed in
     record {
-      stretch = stretch_of s runs n first _ refl page.page page.runs refl refl (part_block n (choices t.runs.now) first runs at.2) c.requires.threads.most (in_block t.init.now (choices t.runs.now) first runs at.2) (place_in_block n (choices t.runs.now) first runs at.2) depths;
+      stretch = stretch_of s runs n first _ refl page.page same_runs refl refl (part_block n (choices t.runs.now) first runs at.2) c.requires.threads.most (in_block t.init.now (choices t.runs.now) first runs at.2) (place_in_block n (choices t.runs.now) first runs at.2) depths placed;
       first = omega arith;
       last = omega (arith, whole_page n made page.page, same, at.1, at.0);
     }
 
 pub returns-in_ok-fill_page-in-At-clause-stretch : goal.returns-in_ok-fill_page-in-At-clause-stretch
-returns-in_ok-fill_page-in-At-clause-stretch c some =
+returns-in_ok-fill_page-in-At-clause-stretch c =
     let t = c.args.threads.now in
     let s : Choices = choices_by t in
     let n = length t.init.now in
@@ -50,8 +55,10 @@ returns-in_ok-fill_page-in-At-clause-stretch c some =
     let at = rw c.in-At.is at c.in_ok-rest.ensures.located in
     let page = c.in_ok-fill_page-in-At.ensures in
     let made = c.fill_page.new.page in
-    let depths : made.depths.items ≡ depths_of n made.runs.items = page.depths ∙ ap (depths_of n) (sym page.runs) in
-    stretch_of s runs n first _ refl page.page page.runs refl refl (part_block n (choices t.runs.now) first runs at.2) c.requires.threads.most (in_block t.init.now (choices t.runs.now) first runs at.2) (place_in_block n (choices t.runs.now) first runs at.2) depths
+    let same_runs : made.runs.items ≡ runs = rw c.fill_page.ensures.runs.0 refl in
+    let depths : made.depths.items ≡ depths_of n made.runs.items = page.depths ∙ ap (depths_of n) (sym same_runs) in
+    let placed : ArePlaced t.runs.now made.runs.items made.places.items = rw (c.fill_page.ensures.runs.0, c.fill_page.ensures.runs.1) c.locate.ensures.placed in
+    record { placed = placed; whole = λ some. stretch_of s runs n first _ refl page.page same_runs refl refl (part_block n (choices t.runs.now) first runs at.2) c.requires.threads.most (in_block t.init.now (choices t.runs.now) first runs at.2) (place_in_block n (choices t.runs.now) first runs at.2) depths placed }
 
 pub locate-requires-clause-threads : goal.locate-requires-clause-threads
 locate-requires-clause-threads c = c.requires.threads
@@ -87,9 +94,27 @@ pub returns-in-Until-clause-levels : goal.returns-in-Until-clause-levels
 returns-in-Until-clause-levels c = c.locate.ensures.levels
 
 pub returns-in-Until-clause-stretch : goal.returns-in-Until-clause-stretch
-returns-in-Until-clause-stretch c some = absurd (omega (arith, some))
+returns-in-Until-clause-stretch c = record { whole = λ some. absurd (omega (arith, some)); placed = c.locate.ensures.placed }
 
 pub overflow_mul-stretch : goal.overflow_mul-stretch
 overflow_mul-stretch c =
     let page = c.fill_page.new.page in
     omega (arith, start_within (length c.args.threads.now.init.now) page page.ways c.in_ok-fill_page-in-At.ensures.page (omega arith))
+
+pub fill_page-requires-clause-kept : goal.fill_page-requires-clause-kept
+fill_page-requires-clause-kept c = λ h. elim c.if-whole.branch [
+  | then-whole w ↦ (let s = c.requires.stretch.whole (omega (arith, w.if-whole.true)) in
+      let alike = (rw c.in-At.is at c.in_ok-rest.ensures.alike) (sym w.fill_page-is ∙ h) in
+      of_runs_like (length c.args.threads.now.init.now) c.args.stretch.now.page.runs.items c.locate.new.runs.items _ (sym alike)
+      (record { writes_are = s.page.writes_are; ways = s.page.ways; orders = s.page.orders; depths = s.page.depths; depths_are = s.depths }))
+  | else-whole w ↦ absurd (omega (arith, w.if-whole.false, ltb-true 0 c.args.stretch.now.size (sym w.fill_page-is ∙ h)))
+]
+
+pub locate-requires-clause-placed : goal.locate-requires-clause-placed
+locate-requires-clause-placed c = c.requires.stretch.placed
+
+pub returns-in_err-rest-clause-stretch : goal.returns-in_err-rest-clause-stretch
+returns-in_err-rest-clause-stretch c = record { whole = λ some. absurd (omega (arith, some)); placed = c.locate.ensures.placed }
+
+pub returns-in_err-fill_page-in-At-clause-stretch : goal.returns-in_err-fill_page-in-At-clause-stretch
+returns-in_err-fill_page-in-At-clause-stretch c = record { whole = λ some. absurd (omega (arith, some)); placed = rw (c.fill_page.ensures.runs.0, c.fill_page.ensures.runs.1) c.locate.ensures.placed }

@@ -1,7 +1,8 @@
-use Rattle.std.proofs.Common.{◌∙◌, ◌+◌, ◌-◌, ◌<◌, ◌≤◌, [], ◌∷◌, List, length, map, take, drop, get_or, sym, ap, subst, refl, arith}
-use Rattle.std.proofs.lemmas.List.{drop_all, get_or_default}
+use Rattle.std.proofs.Common.{◌∙◌, ◌+◌, ◌-◌, ◌<◌, ◌≤◌, [], ◌∷◌, List, length, map, take, drop, get_or, sym, ap, subst, refl, arith, leb-true}
+use Rattle.std.proofs.lemmas.List.{drop_all, take_all}
 use Rattle.std.proofs.lemmas.Result.{IfOk-from_err}
-use Rattle.events.specs.Executions.{ThreadRun}
+use Rattle.std.proofs.lemmas.Bool.{false≢true}
+use Rattle.events.specs.Executions.{ThreadRun, empty_run}
 use Rattle.candidates.specs.Groups.{tally_of, sizes_of}
 use Rattle.candidates.specs.Candidates.{Choices, choices}
 use Rattle.candidates.specs.Impossible.{is_impossible}
@@ -9,25 +10,31 @@ use Rattle.candidates.proofs.Excluded.{marks_here, passed_within, passed_over}
 use Rattle.candidates.proofs.Grouping.{length_mapped, tallies_of}
 use Rattle.candidates.specs.Executions.{block}
 use Rattle.candidates.specs.Parts.{IsPart}
+use Rattle.candidates.proofs.Placed.{placed_cut}
 use Rattle.candidates.proofs.Puts.{cut_behind}
+use Rattle.candidates.proofs.Outlining.{as_many}
+use Rattle.candidates.specs.Outlines.{outlines}
 use Rattle.candidates.proofs.Kept.{as_many_groups, same_default, tally_there}
-use Rattle.candidates.proofs.Descent.{down_first, down_at, tallies_here, tallies_after, room_on, most_on, below_on, enter, run_within, run_there, small_on, down_next, down_end}
+use Rattle.candidates.proofs.Descent.{down_first, down_at, tallies_here, tallies_after, room_on, most_on, below_on, enter, run_within, small_on, down_next, down_end}
 use Rattle.candidates.proofs.threads.locate.Goals as goal
+use Rattle.candidates.proofs.threads.locate.Goals.{then-branch, else-branch}
 
 pub loop-thread-init : goal.loop-thread-init
 loop-thread-init c = record {
   down = down_first (length c.args.threads.now.init.now) c.args.threads.now.runs.now c.args.threads.now.groups.now c.args.number c.in_ok-tally.tally c.requires.threads.tallied c.requires.threads.room c.requires.threads.within c.requires.number c.in_ok-tally.ensures;
   within = omega arith;
-  room = omega arith;
+  done = omega arith;
+  placed = c.requires.placed;
+  alike = λ h. (omega (arith, c.len.ensures, leb-true c.len.result (length c.args.threads.now.runs.now) h), refl);
   levels = c.requires.levels;
 }
 
-pub bounds-threads-thread-in-loop-thread-2 : goal.bounds-threads-thread-in-loop-thread-2
-bounds-threads-thread-in-loop-thread-2 c =
+pub bounds-threads-thread-in-loop-thread : goal.bounds-threads-thread-in-loop-thread
+bounds-threads-thread-in-loop-thread c =
     omega (arith, c.loop-thread-test.true, ap (λ gs. length gs) c.requires.threads.tallied, length_mapped (tallies_of (length c.args.threads.now.init.now)) c.args.threads.now.runs.now)
 
-pub bounds-runs-choice : goal.bounds-runs-choice
-bounds-runs-choice c =
+pub place_run-requires-clause-place : goal.place_run-requires-clause-place
+place_run-requires-clause-place c =
     let n = length c.args.threads.now.init.now in
     let threads = c.args.threads.now.runs.now in
     let at = c.loop-thread in
@@ -36,9 +43,7 @@ bounds-runs-choice c =
     let sizes = sizes_of at.tally (get_or c.args.threads.now.groups.now at.thread []) (drop (at.thread + 1) c.args.threads.now.groups.now) in
     let e = enter n (choices threads) c.args.number at.rest at.tally (take at.thread at.runs.items) threads c.args.threads.now.groups.now at.thread (get_or c.args.threads.now.groups.now at.thread []) (drop (at.thread + 1) c.args.threads.now.groups.now) sizes c.requires.threads.tallied l
     (same_default c.args.threads.now.groups.now at.thread (as_many_groups (tallies_of n) c.args.threads.now.groups.now threads at.thread c.requires.threads.tallied l)) refl at.invariant.down refl in
-    let m = run_within n (choices threads) c.args.number at.rest at.tally (take at.thread at.runs.items) threads at.thread sizes choice.place e c.in_ok-choice.ensures.chosen.place in
-    let runs = c.runs.ensures ∙ get_or_default threads at.thread c.index-threads-thread-in-loop-thread.result [] l in
-    omega (arith, m, ap (λ (rs : List ThreadRun). length rs) runs)
+    run_within n (choices threads) c.args.number at.rest at.tally (take at.thread at.runs.items) threads at.thread sizes choice.place e c.in_ok-choice.ensures.chosen.place
 
 pub choose_run-requires-clause-room : goal.choose_run-requires-clause-room
 choose_run-requires-clause-room c =
@@ -132,8 +137,8 @@ plus_into-requires c =
     let e = enter n (choices threads) c.args.number at.rest at.tally (take at.thread at.runs.items) threads c.args.threads.now.groups.now at.thread (get_or c.args.threads.now.groups.now at.thread []) (drop (at.thread + 1) c.args.threads.now.groups.now) sizes c.requires.threads.tallied l
     (same_default c.args.threads.now.groups.now at.thread (as_many_groups (tallies_of n) c.args.threads.now.groups.now threads at.thread c.requires.threads.tallied l)) refl at.invariant.down refl in
     let m = run_within n (choices threads) c.args.number at.rest at.tally (take at.thread at.runs.items) threads at.thread sizes choice.place e chosen.place in
-    let run = run_there threads at.thread choice.place (get_or threads at.thread c.index-threads-thread-in-loop-thread.result) c.runs.result.now c.index-runs-choice.result l (ap (λ rs. get_or threads at.thread rs) c.index-threads-thread-in-loop-thread.is) c.runs.ensures m c.index-runs-choice.is in
-    record { small = small_on n (choices threads) c.args.number at.rest at.tally c.tally_at.result.now (take at.thread at.runs.items) runs more choice.place c.index-runs-choice.result e.down m run (tally_there (λ (run : ThreadRun). tally_of n run.events) c.args.threads.now.groups.now threads at.thread choice.place (get_or c.args.threads.now.groups.now at.thread c.index-threads-thread-in-loop-thread-2.result) c.tally_at.result.now c.index-runs-choice.result c.requires.threads.tallied l (ap (λ ts. get_or c.args.threads.now.groups.now at.thread ts) c.index-threads-thread-in-loop-thread-2.is) m c.tally_at.ensures run) }
+    let run = get_or (get_or threads at.thread []) choice.place empty_run in
+    record { small = small_on n (choices threads) c.args.number at.rest at.tally c.tally_at.result.now (take at.thread at.runs.items) runs more choice.place run e.down m refl (tally_there (λ (run : ThreadRun). tally_of n run.events) c.args.threads.now.groups.now threads at.thread choice.place (get_or c.args.threads.now.groups.now at.thread c.index-threads-thread-in-loop-thread.result) c.tally_at.result.now run c.requires.threads.tallied l (ap (λ ts. get_or c.args.threads.now.groups.now at.thread ts) c.index-threads-thread-in-loop-thread.is) m c.tally_at.ensures refl) }
 
 pub loop-thread-preserved : goal.loop-thread-preserved
 loop-thread-preserved c =
@@ -149,13 +154,18 @@ loop-thread-preserved c =
     let e = enter n (choices threads) c.args.number at.rest at.tally (take at.thread at.runs.items) threads c.args.threads.now.groups.now at.thread (get_or c.args.threads.now.groups.now at.thread []) (drop (at.thread + 1) c.args.threads.now.groups.now) sizes c.requires.threads.tallied l
     (same_default c.args.threads.now.groups.now at.thread (as_many_groups (tallies_of n) c.args.threads.now.groups.now threads at.thread c.requires.threads.tallied l)) refl at.invariant.down refl in
     let m = run_within n (choices threads) c.args.number at.rest at.tally (take at.thread at.runs.items) threads at.thread sizes choice.place e chosen.place in
-    let run = run_there threads at.thread choice.place (get_or threads at.thread c.index-threads-thread-in-loop-thread.result) c.runs.result.now c.index-runs-choice.result l (ap (λ rs. get_or threads at.thread rs) c.index-threads-thread-in-loop-thread.is) c.runs.ensures m c.index-runs-choice.is in
+    let run = get_or (get_or threads at.thread []) choice.place empty_run in
     record {
-      down = down_next n (choices threads) c.args.number at.rest choice.rest at.tally c.tally_at.result.now c.in_ok-sum.sum (take at.thread at.runs.items) (take (at.thread + 1) c.put_run.new.runs.items) runs more sizes choice.place c.index-runs-choice.result e.down e.are
-          chosen.place chosen.within chosen.sum run (tally_there (λ (run : ThreadRun). tally_of n run.events) c.args.threads.now.groups.now threads at.thread choice.place (get_or c.args.threads.now.groups.now at.thread c.index-threads-thread-in-loop-thread-2.result) c.tally_at.result.now c.index-runs-choice.result c.requires.threads.tallied l (ap (λ ts. get_or c.args.threads.now.groups.now at.thread ts) c.index-threads-thread-in-loop-thread-2.is) m c.tally_at.ensures run) c.in_ok-sum.ensures
-          c.in_ok-put_run.ensures.0;
+      down = down_next n (choices threads) c.args.number at.rest choice.rest at.tally c.tally_at.result.now c.in_ok-sum.sum (take at.thread at.runs.items) (take (at.thread + 1) c.place_run.new.runs.items) runs more sizes choice.place run e.down e.are
+          chosen.place chosen.within chosen.sum refl (tally_there (λ (run : ThreadRun). tally_of n run.events) c.args.threads.now.groups.now threads at.thread choice.place (get_or c.args.threads.now.groups.now at.thread c.index-threads-thread-in-loop-thread.result) c.tally_at.result.now run c.requires.threads.tallied l (ap (λ ts. get_or c.args.threads.now.groups.now at.thread ts) c.index-threads-thread-in-loop-thread.is) m c.tally_at.ensures refl) c.in_ok-sum.ensures
+          c.in_ok-alike.ensures.put;
       within = omega (arith, l);
-      room = omega (arith, c.in_ok-put_run.ensures.1);
+      done = omega (arith, c.in_ok-alike.ensures.done);
+      placed = c.place_run.ensures.placed;
+      alike = λ h. elim c.if-branch.branch [
+        | then-branch w ↦ (let k = at.invariant.alike (sym w.alike-is ∙ h) in (k.0, c.in_ok-alike.ensures.alike w.if-branch.true ∙ k.1))
+        | else-branch w ↦ absurd (false≢true (sym w.if-branch.false ∙ sym w.alike-is ∙ h))
+      ];
       levels = c.choose_run.ensures.levels;
     }
 
@@ -199,40 +209,23 @@ overflow_sub-result c = omega (arith, c.in_ok-choice.ensures.chosen.sum, c.loop-
 pub returns-then-choice-gt0-clause-levels : goal.returns-then-choice-gt0-clause-levels
 returns-then-choice-gt0-clause-levels c = c.choose_run.ensures.levels
 
-pub bounds-threads-thread-in-loop-thread : goal.bounds-threads-thread-in-loop-thread
-bounds-threads-thread-in-loop-thread c = c.loop-thread-test.true
-
 pub returns-in_err-sum-clause-located : goal.returns-in_err-sum-clause-located
 returns-in_err-sum-clause-located c = IfOk-from_err c.from_residual-in_err-sum.result _ c.from_residual-in_err-sum.ensures.0
 
 pub returns-in_err-sum-clause-levels : goal.returns-in_err-sum-clause-levels
 returns-in_err-sum-clause-levels c = c.choose_run.ensures.levels
 
-pub put_run-requires : goal.put_run-requires
-put_run-requires c = c.loop-thread.invariant.room
+pub place_run-requires-clause-thread : goal.place_run-requires-clause-thread
+place_run-requires-clause-thread c = c.loop-thread-test.true
 
-pub returns-in_err-put_run-clause-located : goal.returns-in_err-put_run-clause-located
-returns-in_err-put_run-clause-located c = IfOk-from_err c.from_residual-in_err-put_run.result _ c.from_residual-in_err-put_run.ensures.0
+pub place_run-requires-clause-done : goal.place_run-requires-clause-done
+place_run-requires-clause-done c = c.loop-thread.invariant.done
 
-pub returns-in_err-put_run-clause-levels : goal.returns-in_err-put_run-clause-levels
-returns-in_err-put_run-clause-levels c = c.choose_run.ensures.levels
+pub place_run-requires-clause-placed : goal.place_run-requires-clause-placed
+place_run-requires-clause-placed c = c.loop-thread.invariant.placed
 
 pub returns-clause-levels : goal.returns-clause-levels
 returns-clause-levels c = c.loop-thread.invariant.levels
-
-pub offset_bounds-runs-choice : goal.offset_bounds-runs-choice
-offset_bounds-runs-choice c =
-    let n = length c.args.threads.now.init.now in
-    let threads = c.args.threads.now.runs.now in
-    let groups = c.args.threads.now.groups.now in
-    let at = c.loop-thread in
-    let l = c.loop-thread-test.true in
-    let sizes = sizes_of at.tally (get_or groups at.thread []) (drop (at.thread + 1) groups) in
-    let e = enter n (choices threads) c.args.number at.rest at.tally (take at.thread at.runs.items) threads groups at.thread (get_or groups at.thread []) (drop (at.thread + 1) groups) sizes c.requires.threads.tallied l
-    (same_default groups at.thread (as_many_groups (tallies_of n) groups threads at.thread c.requires.threads.tallied l)) refl at.invariant.down refl in
-    let m = run_within n (choices threads) c.args.number at.rest at.tally (take at.thread at.runs.items) threads at.thread sizes c.in_ok-choice.choice.place e c.in_ok-choice.ensures.chosen.place in
-    let runs = c.runs.ensures ∙ get_or_default threads at.thread c.index-threads-thread-in-loop-thread.result [] l in
-    omega (arith, m, ap (λ (rs : List ThreadRun). length rs) runs, c.runs.type_inv)
 
 pub tally_at-requires : goal.tally_at-requires
 tally_at-requires c =
@@ -245,5 +238,17 @@ tally_at-requires c =
     let e = enter n (choices threads) c.args.number at.rest at.tally (take at.thread at.runs.items) threads groups at.thread (get_or groups at.thread []) (drop (at.thread + 1) groups) sizes c.requires.threads.tallied l
     (same_default groups at.thread (as_many_groups (tallies_of n) groups threads at.thread c.requires.threads.tallied l)) refl at.invariant.down refl in
     let m = run_within n (choices threads) c.args.number at.rest at.tally (take at.thread at.runs.items) threads at.thread sizes c.in_ok-choice.choice.place e c.in_ok-choice.ensures.chosen.place in
-    let here = tallies_here n threads groups at.thread (get_or groups at.thread c.index-threads-thread-in-loop-thread-2.result) c.requires.threads.tallied l (ap (λ ts. get_or groups at.thread ts) c.index-threads-thread-in-loop-thread-2.is) in
+    let here = tallies_here n threads groups at.thread (get_or groups at.thread c.index-threads-thread-in-loop-thread.result) c.requires.threads.tallied l (ap (λ ts. get_or groups at.thread ts) c.index-threads-thread-in-loop-thread.is) in
     omega (arith, m, ap (λ ts. length ts) here, length_mapped (λ (run : ThreadRun). tally_of n run.events) (get_or threads at.thread []))
+
+pub returns-clause-alike : goal.returns-clause-alike
+returns-clause-alike c = λ h.
+    let at = c.loop-thread in
+    let k = at.invariant.alike h in
+    ap outlines (c.truncate.ensures.items ∙ take_all (length c.args.threads.now.runs.now) at.runs.items (omega (arith, k.0, as_many at.runs.items c.args.runs.now.items k.1))) ∙ k.1
+
+pub returns-clause-placed : goal.returns-clause-placed
+returns-clause-placed c =
+    let at = c.loop-thread in
+    let h = at.invariant.placed in
+    placed_cut c.args.threads.now.runs.now at.runs.items c.truncate.new.self.items at.places.items (length c.args.threads.now.runs.now) h h.few c.truncate.ensures.items

@@ -1,6 +1,7 @@
-use Rattle.std.proofs.Common.{◌≤◌, drop, take, length}
+use Rattle.std.proofs.Common.{◌≡◌, ◌≤◌, drop, take, length, true}
 use Rattle.candidates.specs.Candidates.{choices}
-use Rattle.candidates.specs.Levels.{AreLevels}
+use Rattle.candidates.specs.Levels.{AreLevels, ArePlaced}
+use Rattle.candidates.specs.Outlines.{outlines}
 use Rattle.candidates.proofs.Descent.{IsDown}
 use Rattle.candidates.proofs.threads.locate.Given as goal
 
@@ -8,6 +9,8 @@ abbrev pub invariant-loop-thread : goal.invariant-loop-thread
 invariant-loop-thread l = record {
   down : IsDown (length l.threads.init.now) (choices l.threads.runs.now) l.number l.rest l.tally (take l.thread l.runs.items) (drop l.thread l.threads.runs.now);
   within : l.thread ≤ length l.threads.runs.now;
-  room : l.thread ≤ length l.runs.items;
+  done : l.thread ≤ length l.places.items;
+  placed : ArePlaced l.threads.runs.now l.runs.items l.places.items;
+  alike : l.alike ≡ true → (length l.fn.runs.items ≤ length l.threads.runs.now) × (outlines l.runs.items ≡ outlines l.fn.runs.items);
   levels : AreLevels l.threads.groups.now l.levels.items;
 }

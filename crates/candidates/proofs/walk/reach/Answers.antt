@@ -27,3 +27,8 @@ pub returns-clause-reached : goal.returns-clause-reached
 returns-clause-reached c =
     let P : Choices → Type 0 = λ s. IfOk c.go_to.result (IsReached s c.args.number c.go_to.new.stretch) in
     subst P c.threads.ensures.choices c.go_to.ensures.reached
+
+pub go_to-requires-clause-stretch : goal.go_to-requires-clause-stretch
+go_to-requires-clause-stretch c =
+    let P : Choices → Type 0 = λ s. MayBeStretch s c.args.ahead.now.stretch in
+    subst P (sym c.threads.ensures.choices) c.requires.ahead.stretch

@@ -8,4 +8,4 @@ returns-then-scene-hit c = (c.if-scene-hit.true, found_on c.args.space.now c.arg
 pub visit-requires-clause-within : goal.visit-requires-clause-within
 visit-requires-clause-within c =
     let inside = c.contains.ensures c.if-not-contains.false in
-    record { stretch = c.requires.scene.stretch (omega (arith, inside.1)); first = inside.0; last = omega (arith, inside.0, inside.1) }
+    record { stretch = c.requires.scene.stretch.whole (omega (arith, inside.1)); first = inside.0; last = omega (arith, inside.0, inside.1) }

@@ -4,6 +4,7 @@ use Rattle.candidates.specs.declared.levels.Level.{Level}
 use Rattle.candidates.specs.Depths.{depths_of}
 use Rattle.candidates.specs.Levels.{AreLevels, groups_of}
 use Rattle.candidates.proofs.Deeper.{no_depths}
+use Rattle.candidates.proofs.Placed.{placed_none}
 use Rattle.candidates.proofs.walk.PausedWalk.new.Goals as goal
 
 pub returns-clause-paused : goal.returns-clause-paused
@@ -11,14 +12,16 @@ returns-clause-paused c = λ s.
     let e = c.no_scene.ensures in
     let P : List Level → Type 0 = λ ls. AreLevels (groups_of s) ls in
     record {
-      stretch = λ l. absurd (omega (arith, l, e.size));
+      stretch = record { whole = λ l. absurd (omega (arith, l, e.size)); placed = placed_none s.threads _ _ e.places.0 };
       none = λ z. e.depths;
       within = λ l. absurd (omega (arith, l, e.size));
       seen = λ l. absurd (omega (arith, l, e.size));
       known = λ l. absurd (omega (arith, l, e.size));
       depths = e.depths ∙ sym (no_depths (length s.init)) ∙ sym (ap (λ (x : GraphValue). depths_of (length s.init) x.runs) e.graph);
+      placed = placed_none s.threads _ _ e.places.2;
+      room = placed_none s.threads _ _ e.places.3;
       ahead = record {
-        stretch = λ l. absurd (omega (arith, l, e.ahead));
+        stretch = record { whole = λ l. absurd (omega (arith, l, e.ahead)); placed = placed_none s.threads _ _ e.places.1 };
         levels = subst P (sym e.levels) (λ l m. absurd m);
       };
     }

@@ -8,9 +8,9 @@ pub returns-in-Some-clause-end : goal.returns-in-Some-clause-end
 returns-in-Some-clause-end c =
     let w = c.self.inside in
     let s = w.space.now in
-    let k = c.in-Some.ensures.block s c.self.invariant.scene.stretch in
-    let P : Walking → Type 0 = λ v. IsJustFound v → c.in-Some.block.end ≡ end_at v.space (depths_around v) c.args.depth (v.next - 1) in
-    subst P c.self.view_is (λ f. block_end s w.scene w.next c.args.depth c.in-Some.block c.self.invariant.scene k)
+    let k = c.in-Some.ensures.section s c.self.invariant.scene.stretch in
+    let P : Walking → Type 0 = λ v. IsJustFound v → c.in-Some.section.end ≡ end_at v.space (depths_around v) c.args.depth (v.next - 1) in
+    subst P c.self.view_is (λ f. block_end s w.scene w.next c.args.depth c.in-Some.section c.self.invariant.scene k)
 
 pub returns-in-None-clause-end : goal.returns-in-None-clause-end
 returns-in-None-clause-end c =

@@ -25,7 +25,7 @@ invariant_of-self-in_err-hit c =
     record {
       order = c.self.invariant.order;
       within = c.self.invariant.within;
-      scene = record { stretch = s.stretch; none = s.none; within = s.within; seen = s.seen; known = s.known; depths = s.depths; ahead = c.search.ensures.ahead };
+      scene = record { stretch = s.stretch; none = s.none; within = s.within; seen = s.seen; known = s.known; depths = s.depths; placed = s.placed; room = s.room; ahead = c.search.ensures.ahead };
     }
 
 pub invariant_of-self-in-None : goal.invariant_of-self-in-None
@@ -34,7 +34,7 @@ invariant_of-self-in-None c =
     record {
       order = omega arith;
       within = c.self.invariant.within;
-      scene = record { stretch = s.stretch; none = s.none; within = s.within; seen = s.seen; known = s.known; depths = s.depths; ahead = c.search.ensures.ahead };
+      scene = record { stretch = s.stretch; none = s.none; within = s.within; seen = s.seen; known = s.known; depths = s.depths; placed = s.placed; room = s.room; ahead = c.search.ensures.ahead };
     }
 
 pub returns-in_err-hit-clause-found : goal.returns-in_err-hit-clause-found
@@ -73,6 +73,7 @@ invariant_of-self c =
       order = omega (arith, c.in-Found.ensures.0);
       within = c.self.invariant.within;
       scene = scene_shown s c.turn.new.scene c.init.result.now c.self.inside.next c.self.inside.scene.stretch c.in-Found.hit c.init.ensures c.turn.ensures.stretch c.turn.ensures.hit c.turn.ensures.shown c.in-Found.ensures.1
+          (rw (c.turn.ensures.runs, c.turn.ensures.kept.0) c.self.invariant.scene.placed) (rw (c.turn.ensures.kept.1, c.turn.ensures.kept.2) c.self.invariant.scene.room)
           (subst P (sym c.turn.ensures.ahead) c.self.invariant.scene.ahead);
     }
 
@@ -85,6 +86,7 @@ invariant_of-self-in-Some c =
       order = omega (arith, found.0);
       within = c.self.invariant.within;
       scene = scene_shown s c.show.new.scene c.init-in-Some.result.now c.in-Until.from c.search.new.ahead.stretch c.in-Some.hit c.init-in-Some.ensures told.stretch told.hit told.shown found.1
+          (rw (told.shown, told.places) found.1.stretch.placed) (rw (told.room.0, told.room.1) c.self.invariant.scene.placed)
           (ahead_kept s c.show.new.scene.ahead c.search.new.ahead c.self.inside.scene.stretch told.ahead told.levels c.self.invariant.scene.stretch c.in_ok-hit.ensures.ahead);
     }
 
@@ -94,7 +96,7 @@ invariant_of-self-in_err-show-in-Some c =
     record {
       order = c.self.invariant.order;
       within = c.self.invariant.within;
-      scene = scene_kept c.self.inside.space.now c.show.new.scene c.self.inside.scene c.search.new.ahead same.0 same.1 same.2 same.3 c.self.invariant.scene c.in_ok-hit.ensures.ahead;
+      scene = scene_kept c.self.inside.space.now c.show.new.scene c.self.inside.scene c.search.new.ahead same.0 same.1 same.2 same.3 c.in_err-show-in-Some.ensures.left.0 c.in_err-show-in-Some.ensures.left.1 c.self.invariant.scene c.in_ok-hit.ensures.ahead;
     }
 
 pub overflow_add-self-in-Some : goal.overflow_add-self-in-Some
@@ -106,3 +108,8 @@ pub overflow_add-number-in-Some : goal.overflow_add-number-in-Some
 overflow_add-number-in-Some c =
     let found = rw c.in-Some.is at c.in_ok-hit.ensures.found in
     omega (arith, found.0)
+
+pub show-requires-clause-placed : goal.show-requires-clause-placed
+show-requires-clause-placed c =
+    let found = rw c.in-Some.is at c.in_ok-hit.ensures.found in
+    (c.self.inside.space.now.threads, c.self.invariant.scene.room, found.1.stretch.placed)

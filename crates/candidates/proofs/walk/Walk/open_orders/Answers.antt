@@ -16,7 +16,7 @@ returns-clause-alike c =
     let P : Walking → Type 0 = λ w. (x : GraphValue) → graph_at w.space (w.next - 1) ≡ Some x → AreAlike w.space (w.next - 1) o in
     let Q : List ℕ → Type 0 = λ vs. IsOpen (length vs) b.page.runs.items o in
     subst P c.self.view_is (λ x at.
-    alike s b (c.self.invariant.scene.stretch (omega (arith, l.0))) o (subst Q c.init-locations.ensures c.open_orders.ensures.open) c.in_ok-place.place (c.self.inside.next - 1) l.0 c.open_orders.ensures.first (omega (arith, l.1)) x at)
+    alike s b (c.self.invariant.scene.stretch.whole (omega (arith, l.0))) o (subst Q c.init-locations.ensures c.open_orders.ensures.open) c.in_ok-place.place (c.self.inside.next - 1) l.0 c.open_orders.ensures.first (omega (arith, l.1)) x at)
 
 pub open_orders-requires-clause-page : goal.open_orders-requires-clause-page
-open_orders-requires-clause-page c = let P : List ℕ → Type 0 = λ is. IsPage (length is) c.self.inside.scene.stretch.page in subst P (sym c.init-locations.ensures) (c.self.invariant.scene.stretch (omega (arith, c.in_ok-place.ensures.0))).page
+open_orders-requires-clause-page c = let P : List ℕ → Type 0 = λ is. IsPage (length is) c.self.inside.scene.stretch.page in subst P (sym c.init-locations.ensures) (c.self.invariant.scene.stretch.whole (omega (arith, c.in_ok-place.ensures.0))).page
