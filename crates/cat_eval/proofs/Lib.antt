@@ -6,6 +6,7 @@ pub mod Execution
 pub mod Groups
 pub mod Climbing
 pub mod Once
+pub mod Ordered
 pub mod Below
 pub mod Standing
 pub mod Running

@@ -1,4 +1,4 @@
-//! What a partial execution tells of all that go on from it.
+//! What an execution tells, as far as it is known, of all that go on from it.
 
 ghost use Rattle.std.specs.Prelude.{◌≤◌, length, IfSome, IsTrue};
 ghost use Rattle.events.specs.Executions.{GraphValue};
@@ -77,7 +77,7 @@ impl Machine<'_, '_, '_> {
     }
 }
 
-/// The number of an item that refutes a partial execution: the model allows none that goes on from it. The first items are looked at, up to
+/// The number of an item that refutes an execution as far as it is known: the model allows none that goes on from it. The first items are looked at, up to
 /// such a one. Values that are kept are not made again, and those that are made are kept.
 pub(crate) fn refutes_by(
     view: &GraphView,

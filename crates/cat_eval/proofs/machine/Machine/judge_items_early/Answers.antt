@@ -43,7 +43,7 @@ loop-item-preserved-then-is_settled c =
     let r = c.loop-item.invariant.reached in
     let next = reached_next g ss ps vs c.loop-item.item-index true c.loop-item.flags.items item r c.loop-item-test.true c.item-item.is in
     let its = due c.args.self.now ps vs c.loop-item.item-index item r.names r.last_names r.last_place next in
-    let settled = c.is_settled.ensures c.if-is_settled.true in
+    let settled = c.is_settled.ensures.0 c.if-is_settled.true in
     let made = settled_made c.args.self.now vs c.loop-item.made item machine settled in
     let said = settled_says c.args.self.now vs c.loop-item.made item settled in
     record {

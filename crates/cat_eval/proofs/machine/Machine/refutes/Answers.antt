@@ -37,7 +37,7 @@ loop-number-preserved-then-is_settled c =
     let is : item ≡ get_or ps c.loop-number.number item = ap (λ (x : PlannedItem). get_or ps c.loop-number.number x) c.index-self-number.is in
     let next = standing_next g ss ps c.args.growths.now vs c.loop-number.number item r (omega (arith, c.loop-number-test.true, c.requires.count)) is in
     let its = due c.args.self.now ps vs c.loop-number.number item r.names r.last_names r.last_place next in
-    let made = settled_made c.args.self.now vs c.loop-number.made item machine (c.is_settled.ensures c.if-is_settled.true) in
+    let made = settled_made c.args.self.now vs c.loop-number.made item machine (c.is_settled.ensures.0 c.if-is_settled.true) in
     record {
       machine = machine;
       standing = standing_more g ss ps c.args.growths.now vs vs c.loop-number.number item r next c.requires.grown (omega (arith, c.loop-number-test.true, c.requires.count)) is
