@@ -13,6 +13,7 @@ pub mod Members
 pub mod Merging
 pub mod Opened
 pub mod Orders
+pub mod Pairing
 pub mod PassedOver
 pub mod Picked
 pub mod Rows

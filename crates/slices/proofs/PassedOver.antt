@@ -1,18 +1,21 @@
 -- What is passed over adds nothing to a count.
 use Rattle.std.proofs.Common.{◌≡◌, ℕ, zero, suc, ◌+◌, ◌-◌, ◌<◌, ◌≤◌, List, ◌++◌, Option, Some, None, refl, sym, ◌∙◌, subst, append-nil, arith}
-use Rattle.std.specs.Prelude.{max, min, Bool, true, false, MatchBool, MatchOption, ◌↔◌}
+use Rattle.std.specs.Prelude.{max, min, Bool, true, false, IfSome, MatchBool, MatchOption, ◌↔◌}
+use Rattle.events.specs.declared.cut.Cut.{Cut}
+use Rattle.events.specs.Cuts.{cut_down}
 use Rattle.events.specs.Executions.{GraphValue}
 use Rattle.events.specs.Extends.{Extends}
 use Rattle.litmus_tree.specs.Tree.{Litmus}
 use Rattle.cat_tree.specs.Tree.{Clause}
 use Rattle.cat_eval.specs.Judging.{Allowed}
-use Rattle.candidates.specs.Blocks.{AllExtend, CommonValue}
+use Rattle.candidates.specs.Blocks.{AllExtend}
 use Rattle.candidates.specs.Candidates.{Choices, found, graph_at, some_of}
 use Rattle.candidates.specs.Walks.{IsHit, IsMiss, NoneFrom, Walking}
 use Rattle.candidates.proofs.Walked.{found_from}
 use Rattle.slices.specs.Findings.{FindingValue}
 use Rattle.slices.specs.Parts.{AreThose}
 use Rattle.slices.specs.Passing.{ArePassed, HasGoneOver, IsForbidden, Knows, NoneAllowed}
+use Rattle.slices.specs.Misplaced.{AreLearned}
 use Rattle.slices.specs.declared.pruning.Pruner.{Pruner}
 use Rattle.slices.specs.declared.span.Span.{Span}
 use Rattle.slices.proofs.Counted.{IsCountOf, IsUnderWay, those-pass}
@@ -69,13 +72,25 @@ miss_number v w (Some m) none h = absurd (none m refl)
 pub walk_nearer : (n : ℕ) (v w : Walking) → w.to ≡ v.to → n < w.next → v.next ≤ n → n < v.to → w.to - w.next < v.to - v.next
 walk_nearer n v w to later old below = omega (arith, to, later, old, below)
 
--- what a pruner knows, by its numbers alone
-pub knows_alike : (s u : Choices) (items clauses : List Clause) (p q : Pruner) → s ≡ u → items ≡ clauses → q.refuted ≡ p.refuted → Knows s items p → Knows u clauses q
-knows_alike s u items clauses p q space model same known =
+-- what a pruner knows, by what it keeps
+pub knows_alike : (s u : Choices) (items clauses : List Clause) (p q : Pruner) → s ≡ u → items ≡ clauses → q.refuted ≡ p.refuted → (AreLearned clauses p.misplaced → AreLearned clauses q.misplaced) → Knows s items p → Knows u clauses q
+knows_alike s u items clauses p q space model same learned known =
     let P : Choices → Type 0 = λ z. Knows z items p in
     let Q : List Clause → Type 0 = λ z. Knows u z p in
     let R : Span → Type 0 = λ z. NoneAllowed clauses u z.from z.to in
-    subst R (sym same) (subst Q model (subst P space known))
+    let k = subst Q model (subst P space known) in
+    (subst R (sym same) k.0, learned k.1)
+
+-- what was asked of a block, of the walk and the model as they were
+pub block_known : (items told : List Clause) (v w : Walking) (o : Option ℕ) (end : ℕ) → told ≡ items → w ≡ v → o ≡ Some end → IfSome o (IsForbidden told w) → IsForbidden items v end
+block_known items told v w o end model same is h =
+    let P : Option ℕ → Type 0 = λ z. IfSome z (IsForbidden told w) in
+    let Q : List Clause → Type 0 = λ z. IsForbidden z w end in
+    let R : Walking → Type 0 = λ z. IsForbidden items z end in
+    subst R same (subst Q model (subst P is h))
+
+pub none_from : (items : List Clause) (w : Walking) (n end : ℕ) → w.next ≡ n + 1 → IsForbidden items w end → NoneAllowed items w.space n end
+none_from items w n end e h m l u x at = h.1 m (omega (arith, e, l)) u x at
 
 -- what is gone over isn't counted
 pub walked_on : (t : Litmus) (items : List Clause) (from to : ℕ) (v w : Walking) (f : FindingValue) → IsUnderWay t items from to v f → HasGoneOver items v w → IsUnderWay t items from to w f
@@ -106,14 +121,11 @@ walked_over t items from to n u v w f h hit p =
     }
 
 -- what is known of a block, where what its executions have in common is refuted
-pub forbidden : (items : List Clause) (w : Walking) (common : CommonValue) (end : ℕ) (partial : GraphValue) → end ≡ common.end → partial ≡ common.graph
-    → w.next ≤ common.end → AllExtend w.space (w.next - 1) common.end common.graph
-    → ((h : GraphValue) → Extends partial h → ¬ Allowed items h)
-    → IsForbidden items w end
-forbidden items w common end partial is same later extend refuted =
-    let P : GraphValue → Type 0 = λ g. (h : GraphValue) → Extends g h → ¬ Allowed items h in
-    let R : ℕ → Type 0 = λ n. IsForbidden items w n in
-    subst R (sym is) (none_allowed items w common.end common.graph later extend (subst P same refuted))
+pub forbidden : (items : List Clause) (w : Walking) (end : ℕ) (x : GraphValue) (c : Cut) → x ≡ w.shown → w.next ≤ end → AllExtend w.space (w.next - 1) end (cut_down w.shown c) →
+    ((h : GraphValue) → Extends (cut_down x c) h → ¬ Allowed items h) → IsForbidden items w end
+forbidden items w end x c is later extend refuted =
+    let P : GraphValue → Type 0 = λ g. (h : GraphValue) → Extends (cut_down g c) h → ¬ Allowed items h in
+    none_allowed items w end (cut_down w.shown c) later extend (subst P is refuted)
 
 pub is_passed : (b : Bool) (P Q : Type 0) → b ≡ true → MatchBool b P Q → P
 is_passed true P Q e h = h

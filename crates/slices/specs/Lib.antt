@@ -4,6 +4,7 @@ pub mod Courses
 pub mod Finals
 pub mod Findings
 pub mod Fronts
+pub mod Misplaced
 pub mod Parts
 pub mod Passing
 pub mod Questions

@@ -47,7 +47,7 @@ pub fn count(
         }
         let graph = walk.graph();
         let judgement = evaluator.judge_next(alloc, graph)?;
-        pruner.note(&judgement);
+        pruner.learn(alloc, evaluator, graph, &judgement)?;
         if let Some(range) = alike_behind(inner, walk) {
             finding.weigh_alike(alloc, &slots, graph, range, &judgement)?;
             walk.pass(number + range.size());

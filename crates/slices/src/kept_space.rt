@@ -73,7 +73,7 @@ impl Made {
     {
         let ready = evaluator_of(alloc, work.work())?.without_model(alloc)?;
         let ready = Box::new(alloc, ready)?;
-        let pruner = Box::new(alloc, Pruner::new(alloc, work.work().model()))?;
+        let pruner = Box::new(alloc, Pruner::new(work.work().model()))?;
         let paused = Box::new(alloc, PausedWalk::new(alloc))?;
         let work = work.share()?;
         Ok(Made {

@@ -9,6 +9,7 @@ mod finding;
 mod front;
 mod kept_space;
 pub mod laws;
+mod misplaced;
 mod piece;
 mod prospects;
 mod pruning;

@@ -10,7 +10,7 @@ use crate::finding::FindingRef;
 use crate::pruning::Pruner;
 use crate::span::Span;
 use crate::work::{Work, WorkRef};
-use candidates::{Common, Space, SpaceFault, Walk};
+use candidates::{Space, SpaceFault, Walk, nothing};
 use cat_eval::Evaluator;
 use std::alloc::{AllocError, Global};
 use std::marker::Model;
@@ -85,7 +85,7 @@ pub fn evaluate(alloc: Global, piece: &Piece) -> Result<PieceResult, AllocError>
     let work = piece.work.work();
     let space = space_of(alloc, work)?;
     let mut evaluator = evaluator_of(alloc, work)?;
-    let mut pruner = Pruner::new(alloc, work.model());
+    let mut pruner = Pruner::new(work.model());
     let Span { from, to } = piece.span();
     let mut walk = space.walk(alloc, from, to);
     evaluate_in(alloc, &mut walk, &mut evaluator, &mut pruner, piece)
@@ -108,8 +108,8 @@ pub fn space_of(alloc: Global, work: &Work) -> Result<Space, AllocError>
 pub fn evaluator_of<'w>(alloc: Global, work: &'w Work) -> Result<Evaluator<'w>, AllocError>
     ensures { IfOk result (λ e. e ≡ work.entry.now.model.items) }
 {
-    let nothing = Common::nothing(alloc);
-    Evaluator::of(alloc, work.model(), nothing.graph())
+    let none = nothing(alloc);
+    Evaluator::of(alloc, work.model(), &none)
 }
 
 /// Evaluates a piece by a walk over its numbers among the candidates of its test, and by an evaluator of its work's model.

@@ -1,26 +1,30 @@
 //! What a model is known to forbid together, so that it needn't be judged one by one.
 
-ghost use Rattle.std.specs.Prelude.{◌≡◌, ◌+◌, List, MatchBool, IfOk, IfSome};
-ghost use Rattle.candidates.specs.Candidates.{Choices};
+ghost use Rattle.std.specs.Prelude.{◌≡◌, ◌+◌, List, MatchBool, Some, IfOk, IfSome};
+ghost use Rattle.candidates.specs.Candidates.{Choices, graph_at};
 ghost use Rattle.cat_tree.specs.Tree.{Clause};
+ghost use Rattle.slices.specs.Misplaced.{AreLearned};
 ghost use Rattle.slices.specs.Passing.{ArePassed, HasGoneOver, IsForbidden, Knows};
 
+use crate::misplaced::Misplaced;
 use crate::prospects::Prospects;
 use crate::span::Span;
-use candidates::{Common, Walk};
+use candidates::Walk;
 use cat_eval::{Evaluator, Judgement};
 use cat_model::Model;
 use cat_tree::Item;
+use events::Graph;
 use std::alloc::{AllocError, Global};
 
 /// Passes over executions that a model forbids for a reason that they share.
 pub struct Pruner {
     /// Whether a check of the model may tell that of executions of which not all is known.
     may_refute: bool,
-    common: Common,
     prospects: Prospects,
     /// The numbers that were refuted last; none at first.
     refuted: Span,
+    /// Writes whose order the model forbids, whatever else an execution is.
+    misplaced: Misplaced,
 }
 
 // A function of its own: whoever holds one drops it by a call.
@@ -28,9 +32,9 @@ impl Drop for Pruner {
     fn drop(self) {
         let Pruner {
             may_refute: _,
-            common: _,
             prospects: _,
             refuted: _,
+            misplaced: _,
         } = self;
     }
 }
@@ -45,14 +49,14 @@ fn may_refute(item: &Item) -> bool {
 
 impl Pruner {
     /// For executions that are judged under this model.
-    pub fn new(alloc: Global, model: &Model) -> Self
+    pub fn new(model: &Model) -> Self
         ensures known { (s : Choices) (items : List Clause) → Knows s items result }
     {
         Pruner {
             may_refute: model.items().iter().any(may_refute),
-            common: Common::nothing(alloc),
             prospects: Prospects::new(),
             refuted: Span { from: 0, to: 0 },
+            misplaced: Misplaced::new(),
         }
     }
 
@@ -61,6 +65,7 @@ impl Pruner {
     pub(crate) fn begin(&mut self, walk: &mut Walk<'_>, from: u64)
         requires from { walk.old.next ≡ from }
         ensures refuted { self.new.refuted ≡ self.old.refuted }
+        ensures misplaced { self.new.misplaced ≡ self.old.misplaced }
         ensures passed { (items : List Clause) → Knows walk.old.space items self.old → HasGoneOver items walk.old walk.new }
     {
         self.prospects.begin();
@@ -79,17 +84,21 @@ impl Pruner {
     ) -> Result<Option<u64>, AllocError>
         ensures model { evaluator.new ≡ evaluator.old }
         ensures refuted { self.new.refuted ≡ self.old.refuted }
+        ensures misplaced { self.new.misplaced ≡ self.old.misplaced }
         ensures forbidden { IfOk result (λ end. IfSome end (IsForbidden evaluator.old walk.now)) }
     {
         if !self.prospects.pay(depth) {
             return Ok(None);
         }
-        walk.show_common(alloc, depth, &mut self.common)?;
-        if !evaluator.refutes(alloc, self.common.graph())? {
+        let block = match walk.block(depth) {
+            Some(block) => block,
+            None => return Ok(None),
+        };
+        if !evaluator.refutes(alloc, walk.graph(), block.cut)? {
             return Ok(None);
         }
         self.prospects.earn(depth);
-        Ok(Some(self.common.end()))
+        Ok(Some(block.end))
     }
 
     /// Goes on over the execution at this number, which the walk found last, and over a block around it, if it is known that the
@@ -102,6 +111,7 @@ impl Pruner {
         number: u64,
     ) -> Result<bool, AllocError>
         requires found { walk.old.next ≡ number + 1 }
+        requires shown { graph_at walk.old.space number ≡ Some walk.old.shown }
         requires known { Knows walk.old.space evaluator.old self.old }
         ensures model { evaluator.new ≡ evaluator.old }
         ensures known { Knows walk.old.space evaluator.old self.new }
@@ -109,6 +119,9 @@ impl Pruner {
     {
         if !self.may_refute || self.prospects.are_early() {
             return Ok(false);
+        }
+        if self.misplaced.passes(alloc, walk, number)? {
+            return Ok(true);
         }
         for depth in self.prospects.leave(number)..walk.depths() {
             if let Some(end) = self.ask(alloc, evaluator, walk, depth)? {
@@ -127,7 +140,28 @@ impl Pruner {
     /// Notes what was said of an execution that wasn't passed over.
     pub fn note(&mut self, judgement: &Judgement)
         ensures refuted { self.new.refuted ≡ self.old.refuted }
+        ensures misplaced { self.new.misplaced ≡ self.old.misplaced }
     {
         self.prospects.note(judgement.allowed());
+    }
+
+    /// Notes what was said of an execution that wasn't passed over, and learns from it.
+    pub(crate) fn learn(
+        &mut self,
+        alloc: Global,
+        evaluator: &mut Evaluator<'_>,
+        graph: &Graph,
+        judgement: &Judgement,
+    ) -> Result<(), AllocError>
+        requires learned { AreLearned evaluator.old self.old.misplaced }
+        ensures model { evaluator.new ≡ evaluator.old }
+        ensures refuted { self.new.refuted ≡ self.old.refuted }
+        ensures learned { AreLearned evaluator.old self.new.misplaced }
+    {
+        self.note(judgement);
+        if judgement.allowed() || !self.may_refute || self.prospects.are_early() {
+            return Ok(());
+        }
+        self.misplaced.learn(alloc, evaluator, graph)
     }
 }

@@ -1,11 +1,12 @@
 use Rattle.std.proofs.Common.{◌≡◌, ◌+◌, ◌↔◌, ◌∙◌, List, [], map, refl, sym, ap, subst, IsTrue, arith}
-use Rattle.std.specs.Prelude.{max, min}
+use Rattle.std.specs.Prelude.{Some, max, min}
 use Rattle.listings.specs.Lists.{Lists}
 use Rattle.cat_tree.specs.Tree.{Clause}
 use Rattle.cat_eval.specs.Judging.{Allowed, Raised}
 use Rattle.cat_eval.specs.Orderless.{IsOrderless}
-use Rattle.candidates.specs.Candidates.{choices_of}
+use Rattle.candidates.specs.Candidates.{Choices, choices_of, graph_at}
 use Rattle.candidates.specs.Walks.{IsHit, Walking}
+use Rattle.slices.specs.Misplaced.{AreLearned}
 use Rattle.slices.specs.Parts.{IsAdmitted}
 use Rattle.slices.specs.Passing.{ArePassed}
 use Rattle.slices.specs.Slots.{slot_of}
@@ -22,12 +23,12 @@ loop-slots-init c =
     let T : WorkValue → Type 0 = λ z. Tells z.test w.model.items [] c.in_ok-finding.finding in
     let begun = walked_none_yet w.test w.model.items c.args.walk.now.next c.args.walk.now.to c.args.walk.now c.in_ok-finding.finding
     c.requires.space refl refl (subst T c.in_ok-share.ensures (c.in_ok-finding.ensures w.model.items)) in
-    let over = c.begin.ensures.passed w.model.items (knows_alike _ _ _ _ c.args.pruner.now c.args.pruner.now (sym c.requires.space) refl refl c.requires.known) in
+    let over = c.begin.ensures.passed w.model.items (knows_alike _ _ _ _ c.args.pruner.now c.args.pruner.now (sym c.requires.space) refl refl (λ l. l) c.requires.known) in
     record {
       counted = walked_on w.test w.model.items c.args.walk.now.next c.args.walk.now.to c.args.walk.now c.begin.new.walk c.in_ok-finding.finding begun over;
       slots = c.in_ok-slots.ensures ∙ ap (λ t. map (slot_of t) c.places.result.now) (c.test.ensures ∙ ap (λ (z : WorkValue). z.test) c.work-inner.ensures) ∙ ap (map (slot_of w.test)) c.places.ensures;
       model = c.requires.evaluator;
-      known = knows_alike (choices_of w.test) (choices_of w.test) w.model.items w.model.items c.args.pruner.now c.begin.new.self refl refl c.begin.ensures.refuted c.requires.known;
+      known = knows_alike (choices_of w.test) (choices_of w.test) w.model.items w.model.items c.args.pruner.now c.begin.new.self refl refl c.begin.ensures.refuted (subst (AreLearned w.model.items) (sym c.begin.ensures.misplaced)) c.requires.known;
     }
 
 pub weigh_alike-requires-clause-whole : goal.weigh_alike-requires-clause-whole
@@ -92,8 +93,9 @@ loop-slots-preserved-in-Some-alike_behind c =
     record {
       counted = walked_alike w.test w.model.items c.args.walk.now.next c.args.walk.now.to n c.loop-slots.walk c.passes.new.walk c.pass.new.self c.graph-graph.result.now c.deref.result.now o c.in_ok-judgement.judgement.allowed c.in_ok-judgement.judgement.flags c.loop-slots.finding c.weigh_alike.new.self inv.counted here c.graph-graph.ensures orderless (c.deref.ensures.value ∙ inv.slots) alike.0 alike.1 judged within c.in_ok-weigh_alike.ensures c.pass.ensures.space c.pass.ensures.to next;
       slots = inv.slots ∙ ap (map (slot_of w.test)) (sym (same_places c.in_ok-judgement.judgement.allowed c.loop-slots.finding _ c.weigh_alike.new.self c.in_ok-weigh_alike.ensures));
-      model = c.judge_next.ensures.model ∙ c.passes.ensures.model ∙ inv.model;
-      known = knows_alike _ _ _ _ c.passes.new.self c.note.new.self (hit.step.space ∙ inv.counted.space) inv.model c.note.ensures.refuted c.passes.ensures.known;
+      model = c.learn.ensures.model ∙ c.judge_next.ensures.model ∙ c.passes.ensures.model ∙ inv.model;
+      known = (let L : List Clause → Type 0 = λ z. AreLearned z c.learn.new.self.misplaced in
+          knows_alike _ _ _ _ c.passes.new.self c.learn.new.self (hit.step.space ∙ inv.counted.space) inv.model c.learn.ensures.refuted (λ l. subst L (c.judge_next.ensures.model ∙ c.passes.ensures.model ∙ inv.model) c.learn.ensures.learned) c.passes.ensures.known);
     }
 
 pub loop-slots-preserved-then-branch : goal.loop-slots-preserved-then-branch
@@ -107,7 +109,7 @@ loop-slots-preserved-then-branch c =
       counted = walked_over c.args.work.now.test c.args.work.now.model.items c.args.walk.now.next c.args.walk.now.to n c.loop-slots.walk c.next.new.self c.passes.new.walk c.loop-slots.finding inv.counted hit (subst P inv.model over);
       slots = inv.slots;
       model = c.passes.ensures.model ∙ inv.model;
-      known = knows_alike _ _ _ _ c.passes.new.self c.passes.new.self (hit.step.space ∙ inv.counted.space) inv.model refl c.passes.ensures.known;
+      known = knows_alike _ _ _ _ c.passes.new.self c.passes.new.self (hit.step.space ∙ inv.counted.space) inv.model refl (λ l. l) c.passes.ensures.known;
     }
 
 pub loop-slots-preserved : goal.loop-slots-preserved
@@ -125,8 +127,9 @@ loop-slots-preserved c =
     record {
       counted = walked_one w.test w.model.items c.args.walk.now.next c.args.walk.now.to n c.loop-slots.walk c.passes.new.walk c.graph-graph.result.now c.deref-in-Some.result.now c.in_ok-judgement.judgement.allowed c.in_ok-judgement.judgement.flags c.loop-slots.finding c.weigh.new.self inv.counted (subst H (sym same) hit) c.graph-graph.ensures (c.deref-in-Some.ensures.value ∙ inv.slots) judged c.in_ok-weigh.ensures;
       slots = inv.slots ∙ ap (map (slot_of w.test)) (sym (same_places c.in_ok-judgement.judgement.allowed c.loop-slots.finding _ c.weigh.new.self c.in_ok-weigh.ensures));
-      model = c.judge_next.ensures.model ∙ c.passes.ensures.model ∙ inv.model;
-      known = knows_alike _ _ _ _ c.passes.new.self c.note.new.self (hit.step.space ∙ inv.counted.space) inv.model c.note.ensures.refuted c.passes.ensures.known;
+      model = c.learn.ensures.model ∙ c.judge_next.ensures.model ∙ c.passes.ensures.model ∙ inv.model;
+      known = (let L : List Clause → Type 0 = λ z. AreLearned z c.learn.new.self.misplaced in
+          knows_alike _ _ _ _ c.passes.new.self c.learn.new.self (hit.step.space ∙ inv.counted.space) inv.model c.learn.ensures.refuted (λ l. subst L (c.judge_next.ensures.model ∙ c.passes.ensures.model ∙ inv.model) c.learn.ensures.learned) c.passes.ensures.known);
     }
 
 pub weigh-requires-clause-whole : goal.weigh-requires-clause-whole
@@ -143,8 +146,14 @@ passes-requires c =
     let hit = hit_number c.loop-slots.walk c.next.new.self c.in_ok-number.field-0 c.in-Some.number c.in-Some.is c.in_ok-number.ensures.found in
     record {
       found = hit.step.next;
-      known = knows_alike _ _ _ _ c.loop-slots.pruner c.loop-slots.pruner (sym (hit.step.space ∙ inv.counted.space)) (sym inv.model) refl inv.known;
+      shown = (let S : Choices → Type 0 = λ s. graph_at s c.in-Some.number ≡ Some c.next.new.self.shown in subst S (sym hit.step.space) hit.at);
+      known = knows_alike _ _ _ _ c.loop-slots.pruner c.loop-slots.pruner (sym (hit.step.space ∙ inv.counted.space)) (sym inv.model) refl (λ l. l) inv.known;
     }
+
+pub learn-requires : goal.learn-requires
+learn-requires c = record {
+  learned = (let L : List Clause → Type 0 = λ z. AreLearned z c.passes.new.self.misplaced in subst L (sym (c.judge_next.ensures.model ∙ c.passes.ensures.model)) c.passes.ensures.known.1);
+}
 
 pub loop-slots-smaller-then-branch : goal.loop-slots-smaller-then-branch
 loop-slots-smaller-then-branch c =
@@ -172,10 +181,13 @@ loop-slots-smaller c =
     walk_nearer c.in-Some.number c.loop-slots.walk c.passes.new.walk here.step.to (let next = here.step.next in omega (arith, next)) hit.later hit.below
 
 pub returns-in_err-weigh_alike-clause-evaluator : goal.returns-in_err-weigh_alike-clause-evaluator
-returns-in_err-weigh_alike-clause-evaluator c = c.in_ok-judgement.ensures.model ∙ c.in_ok-passes.ensures.model ∙ c.loop-slots.invariant.model ∙ sym c.requires.evaluator
+returns-in_err-weigh_alike-clause-evaluator c = c.in_ok-learn.ensures.model ∙ c.in_ok-judgement.ensures.model ∙ c.in_ok-passes.ensures.model ∙ c.loop-slots.invariant.model ∙ sym c.requires.evaluator
 
 pub returns-in_err-weigh-clause-evaluator : goal.returns-in_err-weigh-clause-evaluator
-returns-in_err-weigh-clause-evaluator c = c.in_ok-judgement.ensures.model ∙ c.in_ok-passes.ensures.model ∙ c.loop-slots.invariant.model ∙ sym c.requires.evaluator
+returns-in_err-weigh-clause-evaluator c = c.in_ok-learn.ensures.model ∙ c.in_ok-judgement.ensures.model ∙ c.in_ok-passes.ensures.model ∙ c.loop-slots.invariant.model ∙ sym c.requires.evaluator
+
+pub returns-in_err-learn-clause-evaluator : goal.returns-in_err-learn-clause-evaluator
+returns-in_err-learn-clause-evaluator c = c.learn.ensures.model ∙ c.in_ok-judgement.ensures.model ∙ c.in_ok-passes.ensures.model ∙ c.loop-slots.invariant.model ∙ sym c.requires.evaluator
 
 pub returns-in_err-judgement-clause-evaluator : goal.returns-in_err-judgement-clause-evaluator
 returns-in_err-judgement-clause-evaluator c = c.judge_next.ensures.model ∙ c.in_ok-passes.ensures.model ∙ c.loop-slots.invariant.model ∙ sym c.requires.evaluator

@@ -3,5 +3,6 @@ use Rattle.slices.proofs.pruning.Pruner.ask.Goals as goal
 
 pub returns-clause-forbidden : goal.returns-clause-forbidden
 returns-clause-forbidden c =
-    forbidden c.args.evaluator.now c.args.walk.now c.show_common.new.common c.end.result c.graph.result.now c.end.ensures c.graph.ensures
-    c.in_ok-show_common.ensures.end.0 c.in_ok-show_common.ensures.shown (c.in_ok-refutes.ensures.refuted c.if-not-branch.false)
+    let block = c.in-Some.block in
+    forbidden c.args.evaluator.now c.args.walk.now block.end c.graph.result.now block.cut c.graph.ensures
+    c.in-Some.ensures.within.0 c.in-Some.ensures.extend (c.in_ok-refutes.ensures.refuted c.if-not-branch.false)

@@ -1,5 +1,12 @@
-use Rattle.std.proofs.Common.{◌≡◌}
+use Rattle.std.proofs.Common.{◌≡◌, List}
+use Rattle.cat_tree.specs.Tree.{Clause}
+use Rattle.slices.specs.Misplaced.{AreLearned}
 use Rattle.slices.proofs.pruning.Pruner.passes.Given as goal
 
 abbrev pub invariant-loop-depth : goal.invariant-loop-depth
-invariant-loop-depth l = record { model : l.evaluator ≡ l.fn.evaluator; walk : l.walk ≡ l.fn.walk; refuted : l.self.refuted ≡ l.fn.self.refuted }
+invariant-loop-depth l = record {
+  model : l.evaluator ≡ l.fn.evaluator;
+  walk : l.walk ≡ l.fn.walk;
+  refuted : l.self.refuted ≡ l.fn.self.refuted;
+  learned : (items : List Clause) → AreLearned items l.fn.self.misplaced → AreLearned items l.self.misplaced;
+}

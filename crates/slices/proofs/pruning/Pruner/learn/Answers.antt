@@ -1,0 +1,6 @@
+use Rattle.std.proofs.Common.{sym, subst}
+use Rattle.slices.specs.Misplaced.{AreLearned}
+use Rattle.slices.proofs.pruning.Pruner.learn.Goals as goal
+
+pub learn-requires : goal.learn-requires
+learn-requires c = subst (AreLearned c.args.evaluator.now) (sym c.note.ensures.misplaced) c.requires.learned
