@@ -1,12 +1,12 @@
 //! Which executions are looked for: those that a model allows, or all.
 
-ghost use Rattle.std.specs.Prelude.{◌≡◌, ◌+◌, ◌↔◌, [], IfOk, IsTrue, MatchBool};
-ghost use Rattle.candidates.specs.Candidates.{Choices};
+ghost use Rattle.std.specs.Prelude.{◌≡◌, ◌+◌, ◌↔◌, [], Some, IfOk, IsTrue, MatchBool};
+ghost use Rattle.candidates.specs.Candidates.{Choices, graph_at};
 ghost use Rattle.cat_eval.specs.Judging.{Allowed};
 ghost use Rattle.slices.specs.Passing.{ArePassed, Knows};
 ghost use Rattle.witness.specs.Judges.{KnowsOf, judged};
 
-use candidates::{Common, Walk};
+use candidates::{Walk, nothing};
 use cat_eval::Evaluator;
 use cat_model::Model;
 use events::Graph;
@@ -43,9 +43,9 @@ impl<'m> ModelJudge<'m> {
         ensures items { IfOk result (λ j. j.evaluator ≡ model.entry.now.items) }
         ensures known { IfOk result (λ j. (s : Choices) → Knows s j.evaluator j.pruner) }
     {
-        let none = Common::nothing(alloc);
-        let evaluator = Evaluator::of(alloc, model, none.graph())?;
-        let pruner = Pruner::new(alloc, model);
+        let none = nothing(alloc);
+        let evaluator = Evaluator::of(alloc, model, &none)?;
+        let pruner = Pruner::new(model);
         Ok(ModelJudge { evaluator, pruner })
     }
 
@@ -56,6 +56,7 @@ impl<'m> ModelJudge<'m> {
         number: u64,
     ) -> Result<bool, AllocError>
         requires found { walk.old.next ≡ number + 1 }
+        requires shown { graph_at walk.old.space number ≡ Some walk.old.shown }
         requires known { Knows walk.old.space self.old.evaluator self.old.pruner }
         ensures items { self.new.evaluator ≡ self.old.evaluator }
         ensures known { Knows walk.old.space self.old.evaluator self.new.pruner }
@@ -67,6 +68,7 @@ impl<'m> ModelJudge<'m> {
     fn allows(&mut self, alloc: Global, graph: &Graph) -> Result<bool, AllocError>
         ensures items { self.new.evaluator ≡ self.old.evaluator }
         ensures refuted { self.new.pruner.refuted ≡ self.old.pruner.refuted }
+        ensures misplaced { self.new.pruner.misplaced ≡ self.old.pruner.misplaced }
         ensures allowed { IfOk result (λ allowed. IsTrue allowed ↔ Allowed self.old.evaluator graph.now) }
     {
         let judgement = self.evaluator.judge_next(alloc, graph)?;
@@ -93,6 +95,7 @@ impl<'m> Judge<'m> {
         number: u64,
     ) -> Result<bool, AllocError>
         requires found { walk.old.next ≡ number + 1 }
+        requires shown { graph_at walk.old.space number ≡ Some walk.old.shown }
         requires known { KnowsOf walk.old.space self.old }
         ensures items { judged self.new ≡ judged self.old }
         ensures known { KnowsOf walk.old.space self.new }

@@ -1,5 +1,5 @@
 use Rattle.candidates.specs.Candidates.{choices_of, size_of, Choices, graph_at}
-use Rattle.std.proofs.Common.{◌≡◌, ◌<◌, ◌∙◌, ℕ, Bool, List, Option, ap, arith, subst, sym}
+use Rattle.std.proofs.Common.{◌≡◌, ◌<◌, ◌∙◌, ℕ, Bool, List, Option, Some, ap, arith, subst, sym}
 use Rattle.std.proofs.lemmas.Bool.{false≢true}
 use Rattle.candidates.specs.Walks.{Walking}
 use Rattle.cat_eval.specs.Judging.{Allowed}
@@ -108,7 +108,8 @@ passes-requires c =
     let v = c.loop-walk.walk in
     let hit = hit_number v c.next.new.self c.in_ok-number.field-0 c.in-Some.number c.in-Some.is c.in_ok-number.ensures.found in
     let K : Choices → Type 0 = λ s. KnowsOf s c.loop-walk.judge in
-    record { found = hit.step.next; known = subst K (sym (hit.step.space ∙ inv.space)) inv.known }
+    let S : Choices → Type 0 = λ s. graph_at s c.in-Some.number ≡ Some c.next.new.self.shown in
+    record { found = hit.step.next; shown = subst S (sym hit.step.space) hit.at; known = subst K (sym (hit.step.space ∙ inv.space)) inv.known }
 
 pub returns : goal.returns
 returns c =
