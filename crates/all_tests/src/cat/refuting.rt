@@ -1,34 +1,41 @@
-//! What models say of all executions that go on from a partial one.
+//! What models say of all executions that go on from what is known of one.
 
 use crate::cat::loading::is_so;
 use crate::graphs::graph;
 use crate::rows::all_hold;
 use cat_eval::Evaluator;
 use cat_model::Model;
-use events::{Graph, Order};
+use events::{Cut, EventId, Graph, Order};
 use std::alloc::{AllocError, Global};
 
-/// Message passing, where the flag is seen and the first read of the message reads the initial write. What the second one reads is
-/// open, and so is the order of the flag's writes.
+/// Message passing, where the flag is seen and the first read of the message reads the initial write. What the second one reads is not
+/// among what is known, nor are the places of later writes.
 ///
 /// Events 0 and 1 are the initial writes of x and y, 2 and 3 the writes of x and y of P0, 4 to 6 the read of y and the reads of x of P1.
-/// So po is (2,3) (4,5) (4,6) (5,6), rf (3,4) (0,5), co (0,2), and fr (5,2).
+/// So po is (2,3) (4,5) (4,6) (5,6), rf (3,4) (0,5), co (0,2) (1,3), and fr (5,2).
 const MESSAGE_PASSING: &str = "init 0 0
 run | W 0 1 | W 1 1
 run | R 1 1 | R 0 0 | R 0 1
-rf 0.1 i0
-co i0 0.0";
+rf 0.1 i0 0.0
+co i0 0.0
+co i1 0.1";
 
-/// Whether an evaluator says this of a partial execution, and says it again.
+/// Whether an evaluator says this of what is known of message passing, and says it again.
 fn says_twice(
     alloc: Global,
     model: &Model,
-    partial: &Graph,
+    execution: &Graph,
     known: bool,
 ) -> Result<bool, AllocError> {
-    let mut evaluator = Evaluator::of(alloc, model, partial)?;
-    let first = evaluator.refutes(alloc, partial)?;
-    let second = evaluator.refutes(alloc, partial)?;
+    let flag = [EventId::Own(0, 1)];
+    let cut = Cut {
+        reads: 2,
+        locations: 1,
+        unplaced: &flag,
+    };
+    let mut evaluator = Evaluator::of(alloc, model, execution)?;
+    let first = evaluator.refutes(alloc, execution, cut)?;
+    let second = evaluator.refutes(alloc, execution, cut)?;
     Ok(first == known && second == known)
 }
 
@@ -39,8 +46,8 @@ pub fn is_known(
     order: Order,
     known: bool,
 ) -> Result<bool, AllocError> {
-    let partial = graph(alloc, MESSAGE_PASSING, order)?;
-    says_twice(alloc, model, &partial, known)
+    let execution = graph(alloc, MESSAGE_PASSING, order)?;
+    says_twice(alloc, model, &execution, known)
 }
 
 /// Of each that is refuted nothing that goes on from message passing is allowed, whatever comes; of what is open nothing is said.
@@ -61,6 +68,7 @@ acyclic po | rf ==> open
 ~acyclic po ==> open
 flag empty fr as none ==> open
 empty ~co ==> open
+empty fr ; rf ==> open
 empty fr \\ co ==> open
 let rec a = fr and b = ~rf empty a ==> open
 let old(r) = po \\ r empty old(rf) ==> open";
