@@ -17,10 +17,10 @@ pub record Reaches (n i left found : ℕ) (P : ℕ → ℕ → Type 0) : Type 0 
   pub first : (j : ℕ) → j < n → P i j → has_bit found j ≡ true
   pub on : (m : ℕ) → m < n → (has_bit left m ≡ true) ⊎ ((j : ℕ) → j < n → P m j → has_bit found j ≡ true)
 
-pub begun : (n m i mask row : ℕ) (P : ℕ → ℕ → Type 0) → mask ≡ 2 ^ m - 1 → m ≡ n → IsRow n (P i) row → Reaches n i mask row P
-begun n m i mask row P e d h =
+pub begun : (n i mask row : ℕ) (P : ℕ → ℕ → Type 0) → mask ≡ 2 ^ n - 1 → IsRow n (P i) row → Reaches n i mask row P
+begun n i mask row P e h =
     let Q : ℕ → Type 0 = λ x. Reaches n i x row P in
-    subst Q (sym (e ∙ ap (λ m. 2 ^ m - 1) d)) (record {
+    subst Q (sym e) (record {
       inside = λ k b. mask_only n k b;
       only = λ j l b. one (h.only j l b);
       first = λ j l p. h.all j l p;

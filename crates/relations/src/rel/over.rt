@@ -1,7 +1,7 @@
 //! The operations that write over what a relation has: they touch the rows below the count alone, and copy nothing that they
 //! only read.
 
-ghost use Rattle.std.specs.Prelude.{◌≡◌, ℕ, ◌<◌, ◌≤◌, ◌⊎◌, ◌+◌, true};
+ghost use Rattle.std.specs.Prelude.{◌≡◌, ℕ, ◌<◌, ◌≤◌, ◌⊎◌, ◌+◌, ◌-◌, ◌^◌, true};
 ghost use Rattle.relations.specs.Events.{Has};
 ghost use Rattle.relations.specs.Relation.{In, IsExactly};
 ghost use Rattle.relations.specs.Algebra.{Through, Chain};
@@ -149,9 +149,11 @@ impl Rel {
     pub fn become_inverse(&mut self, of: &Self)
         ensures { IsExactly of.now.count (λ i j. In of.now j i) self.new }
     {
-        self.become_empty(of.count());
-        for to in 0..of.count() {
-            self.insert_from(of.row(to) & below(of.count()), to);
+        let count = of.count();
+        let all = below(count);
+        self.become_empty(count);
+        for to in 0..count {
+            self.insert_from(of.row(to) & all, to);
         }
     }
 
@@ -166,7 +168,7 @@ impl Rel {
         let mut left = from;
         while left != 0 {
             let m = left.trailing_zeros() as usize;
-            left &= !(1u64 << m);
+            left &= left - 1;
             self.insert(m, to);
         }
     }
@@ -190,20 +192,23 @@ impl Rel {
     pub fn become_plus(&mut self, of: &Self)
         ensures { IsExactly of.now.count (Chain (In of.now)) self.new }
     {
+        let count = of.count();
+        let all = below(count);
         self.become_copy(of);
-        for passed in 0..of.count() {
-            self.close_row(of, of.count() - 1 - passed);
+        for passed in 0..count {
+            self.close_row(of, all, count - 1 - passed);
         }
     }
 
-    // Relates an event to those to which chains of the other lead from it, where the events behind it are so related.
+    // Relates an event to those to which chains of the other lead from it, where the events behind it are so related. The word has all events.
     #[inline(always)]
-    fn close_row(&mut self, of: &Self, i: usize)
+    fn close_row(&mut self, of: &Self, all: u64, i: usize)
+        requires all { all ≡ 2 ^ of.now.count - 1 }
         requires i { i < of.now.count }
         requires behind { IsExactly of.now.count (ClosedFrom (i + 1) (In of.now)) self.old }
         ensures { IsExactly of.now.count (ClosedFrom i (In of.now)) self.new }
     {
-        let reached = self.reached(of, i);
+        let reached = self.reached(of, all, i);
         self.rows[i] = reached;
     }
 

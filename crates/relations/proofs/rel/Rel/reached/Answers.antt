@@ -8,7 +8,7 @@ use Rattle.relations.proofs.Reached.{begun, next_of, gone_on, all_found}
 use Rattle.relations.proofs.rel.Rel.reached.Goals as goal
 
 pub loop-found-init : goal.loop-found-init
-loop-found-init c = begun c.args.of.now.count c.count.result c.args.i c.below-left.result c.row-found.result (In c.args.of.now) c.below-left.ensures c.count.ensures.is c.row-found.ensures
+loop-found-init c = begun c.args.of.now.count c.args.i c.args.all c.row-found.result (In c.args.of.now) c.requires.all c.row-found.ensures
 
 pub row-beyond-requires : goal.row-beyond-requires
 row-beyond-requires c =
