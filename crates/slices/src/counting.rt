@@ -10,7 +10,7 @@ ghost use Rattle.slices.specs.Sums.{IsSum, of_state};
 use crate::alike::alike_behind;
 use crate::finding::Finding;
 use crate::pruning::Pruner;
-use crate::slot::{Slot, row, slots};
+use crate::slot::{Slot, row};
 use crate::work::WorkRef;
 use candidates::Walk;
 use cat_eval::{Evaluator, Judgement};
@@ -39,7 +39,7 @@ pub fn count(
     let inner = work.work();
     prove!(inner.size() <= u64::MAX);
     let mut finding = Finding::nothing(alloc, work.share()?)?;
-    let slots = slots(alloc, inner.test(), finding.places())?;
+    let slots = inner.slots();
     pruner.begin(walk, from);
     while let Some(number) = walk.next(alloc)? {
         if pruner.passes(alloc, evaluator, walk, number)? {
@@ -49,11 +49,11 @@ pub fn count(
         let judgement = evaluator.judge_next(alloc, graph)?;
         pruner.learn(alloc, evaluator, graph, &judgement)?;
         if let Some(range) = alike_behind(inner, walk) {
-            finding.weigh_alike(alloc, &slots, graph, range, &judgement)?;
+            finding.weigh_alike(alloc, slots, graph, range, &judgement)?;
             walk.pass(number + range.size());
             continue;
         }
-        finding.weigh(alloc, &slots, graph, &judgement)?;
+        finding.weigh(alloc, slots, graph, &judgement)?;
     }
     Ok(finding)
 }

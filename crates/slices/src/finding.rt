@@ -13,7 +13,7 @@ ghost use Rattle.slices.specs.Verdicts.{AreSorted, Tells};
 use crate::row::Row;
 use crate::state_set::add_rows;
 use crate::work::WorkRef;
-use conditions::{Kind, Place, Prop, State, holds, observed, ok_of};
+use conditions::{Kind, Place, Prop, State, holds, ok_of};
 use std::alloc::{AllocError, Global};
 use std::cmp::Ordering;
 use std::collections::BTreeSet;
@@ -25,7 +25,7 @@ use wb_text::Name;
 /// have it not, which final states there are, and which flags were raised, each once and in order.
 pub struct Finding {
     work: WorkRef,
-    places: Vec<Place>,
+    places: Arc<Vec<Place>>,
     positive: u64,
     negative: u64,
     states: BTreeSet<Row>,
@@ -47,6 +47,7 @@ impl Drop for Finding {
 }
 
 impl Model for Finding {
+    ghost use Rattle.std.specs.Arc.{arc_value};
     ghost use Rattle.conditions.specs.States.{AreObserved};
     ghost use Rattle.slices.specs.Findings.{FindingValue};
     ghost use Rattle.slices.specs.Codes.{coded_finding};
@@ -59,14 +60,14 @@ impl Model for Finding {
       name = v.work.test.name;
       kind = v.work.test.condition.kind;
       formula = v.work.test.condition.formula;
-      places = v.places.items;
+      places = (arc_value v.places).items;
       positive = v.positive;
       negative = v.negative;
       states = v.states.keys;
       flags = v.flags.items;
     } };
 
-    ghost invariant = { λ v. AreObserved v.work.test.condition v.work.test.listed v.places.items };
+    ghost invariant = { λ v. AreObserved v.work.test.condition v.work.test.listed (arc_value v.places).items };
 }
 
 /// A finding that is kept more than once. Contracts see the finding.
@@ -224,8 +225,7 @@ impl Finding {
     pub(crate) fn nothing(alloc: Global, work: WorkRef) -> Result<Self, AllocError>
         ensures { IfOk result (λ v. (items : List Clause) → Tells work.test items [] v) }
     {
-        let test = work.work().test();
-        let places = observed(alloc, test.condition(), test.listed())?;
+        let places = work.work().places()?;
         Ok(Finding {
             work,
             places,
@@ -242,7 +242,7 @@ impl Finding {
         requires whole { length self.old.places ≡ length state }
         ensures { OnOk result (IsSum self.old (of_state self.old state times []) self.new) }
     {
-        let has = holds(self.prop(), &State::new(&self.places, state.values()));
+        let has = holds(self.prop(), &State::new(self.places(), state.values()));
         self.states.insert(state)?;
         if has {
             self.positive += times;

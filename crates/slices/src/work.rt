@@ -1,23 +1,33 @@
 //! What is evaluated: a test under a model.
 
-ghost use Rattle.std.specs.Prelude.{◌≡◌, ◌↔◌, IsTrue, IfOk, IfErr};
+ghost use Rattle.std.specs.Prelude.{◌≡◌, ◌↔◌, List, map, IsTrue, IfOk, IfErr};
+ghost use Rattle.std.specs.Arc.{arc_value};
 ghost use Rattle.cat_eval.specs.Orderless.{IsOrderless};
 ghost use Rattle.candidates.specs.Faults.{IsSpaceFault};
+ghost use Rattle.conditions.specs.States.{AreObserved};
+ghost use Rattle.conditions.specs.declared.place.Place.{Place};
 ghost use Rattle.slices.specs.Parts.{IsAdmitted, test_size};
+ghost use Rattle.slices.specs.Slots.{slot_of};
 
+use crate::slot::{Slot, slots};
 use candidates::{Space, SpaceFault};
 use cat_eval::is_orderless;
 use cat_model::Model;
+use conditions::{Place, observed};
 use litmus_value::Test;
 use std::alloc::{AllocError, Global};
 use std::sync::Arc;
 
-/// A test under a model, how many numbers the test has, and whether it is known that the model doesn't look at the orders.
+/// A test under a model, how many numbers the test has, whether it is known that the model doesn't look at the orders, the observed places, and
+/// where their values stand in an execution.
 pub struct Work {
     test: Test,
     model: Model,
     size: u64,
     orderless: bool,
+    // Each finding of the work has them, too.
+    places: Arc<Vec<Place>>,
+    slots: Vec<Slot>,
 }
 
 // A function of its own: whoever holds one drops it by a call.
@@ -28,14 +38,19 @@ impl Drop for Work {
             model: _,
             size: _,
             orderless: _,
+            places: _,
+            slots: _,
         } = self;
     }
 }
 
 impl std::marker::Model for Work {
-    ghost use Rattle.std.specs.Prelude.{◌≡◌, IsTrue};
+    ghost use Rattle.std.specs.Prelude.{◌≡◌, map, IsTrue};
+    ghost use Rattle.std.specs.Arc.{arc_value};
     ghost use Rattle.cat_eval.specs.Orderless.{IsOrderless};
+    ghost use Rattle.conditions.specs.States.{AreObserved};
     ghost use Rattle.slices.specs.Parts.{IsAdmitted, test_size};
+    ghost use Rattle.slices.specs.Slots.{slot_of};
     ghost use Rattle.slices.specs.Works.{WorkValue};
     ghost use Rattle.slices.specs.Codes.{coded_work};
 
@@ -45,7 +60,7 @@ impl std::marker::Model for Work {
 
     ghost view = { λ w. record { test = w.test; model = w.model } };
 
-    ghost invariant = { λ w. (w.size ≡ test_size w.test) × IsAdmitted w.test × (IsTrue w.orderless → IsOrderless w.model.items) };
+    ghost invariant = { λ w. record { size : w.size ≡ test_size w.test; admitted : IsAdmitted w.test; orderless : IsTrue w.orderless → IsOrderless w.model.items; observed : AreObserved w.test.condition w.test.listed (arc_value w.places).items; slots : w.slots.items ≡ map (slot_of w.test) (arc_value w.places).items } };
 }
 
 /// A work that is kept more than once. Contracts see the work.
@@ -80,19 +95,20 @@ impl Work {
         // A thread has too many runs, the test has too many candidates, or memory ran out.
         ensures fault { IfErr result (IsSpaceFault test) }
     {
-        match Space::new(alloc, &test) {
-            Ok(space) => {
-                let size = space.size();
-                let orderless = is_orderless(&model);
-                Ok(Work {
-                    test,
-                    model,
-                    size,
-                    orderless,
-                })
-            }
-            Err(fault) => Err(fault),
-        }
+        let space = Space::new(alloc, &test)?;
+        let size = space.size();
+        let orderless = is_orderless(&model);
+        let places = observed(alloc, test.condition(), test.listed())?;
+        let slots = slots(alloc, &test, &places)?;
+        let places = Arc::new(alloc, places)?;
+        Ok(Work {
+            test,
+            model,
+            size,
+            orderless,
+            places,
+            slots,
+        })
     }
 
     /// The test.
@@ -114,6 +130,20 @@ impl Work {
         ensures { IsTrue result → IsOrderless self.now.model.items }
     {
         self.orderless
+    }
+
+    /// The observed places, in order, kept once more.
+    pub(crate) fn places(&self) -> Result<Arc<Vec<Place>>, AllocError>
+        ensures { IfOk result (λ places. AreObserved self.now.test.condition self.now.test.listed (arc_value places).items) }
+    {
+        Arc::try_clone(&self.places)
+    }
+
+    /// Where the values of the observed places stand in an execution.
+    pub(crate) fn slots(&self) -> &[Slot]
+        ensures { (places : List Place) → AreObserved self.now.test.condition self.now.test.listed places → result.now ≡ map (slot_of self.now.test) places }
+    {
+        &self.slots
     }
 
     /// Whether it is the same test under the same model, of the same files and versions.
