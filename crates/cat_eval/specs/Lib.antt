@@ -18,4 +18,5 @@ pub mod Outcomes
 pub mod Laws
 pub mod Orderless
 pub mod Prepared
+pub mod Evaluators
 pub mod Machine

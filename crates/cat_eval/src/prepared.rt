@@ -1,6 +1,6 @@
 //! Evaluators without their models: put aside, and taken up again.
 
-ghost use Rattle.std.specs.Prelude.{◌≡◌, length, map, IfOk};
+ghost use Rattle.std.specs.Prelude.{◌≡◌, None, length, map, IfOk};
 ghost use Rattle.cat_tree.specs.Tree.{clause_of};
 ghost use Rattle.cat_eval.specs.Code.{planned_clause};
 ghost use Rattle.cat_eval.specs.Prepared.{IsReadyFor, steps_of_item};
@@ -103,14 +103,15 @@ fn planned<'m>(
 }
 
 impl Prepared {
-    /// The evaluator again, of a model of the same items.
+    /// The evaluator again, of a model of the same items. The next execution may have any runs.
     pub fn with_model<'m>(
         self,
         alloc: Global,
         model: &'m Model,
     ) -> Result<Evaluator<'m>, AllocError>
         requires { IsReadyFor model.now.items self }
-        ensures { IfOk result (λ e. e ≡ model.entry.now.items) }
+        ensures items { IfOk result (λ e. e.items ≡ model.entry.now.items) }
+        ensures relied { IfOk result (λ e. e.relied ≡ None) }
     {
         let items = planned(alloc, model.items(), &self.item_steps)?;
         let Prepared {
@@ -137,6 +138,7 @@ impl Prepared {
             values,
             kept,
             sourced,
+            relies: false,
             room,
         })
     }

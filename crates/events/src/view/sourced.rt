@@ -1,9 +1,9 @@
 //! Executions without their coherence orders.
 
-ghost use Rattle.std.specs.Prelude.{◌≡◌, ◌↔◌, take, IfOk, IsTrue, OnOk, OnErr};
+ghost use Rattle.std.specs.Prelude.{◌≡◌, ◌≢◌, ◌↔◌, take, IfOk, IsTrue, OnOk, OnErr};
 ghost use Rattle.events.specs.Cuts.{cut_down};
 ghost use Rattle.events.specs.Structures.{structure_of, sourced_of, with_sources};
-ghost use Rattle.events.specs.declared.named.Basis.TheVariants.{Sources, Orders};
+ghost use Rattle.events.specs.declared.named.Basis.TheVariants.{Runs, Sources, Orders};
 
 use super::numbered::Numbered;
 use super::structure::EventStructure;
@@ -112,7 +112,37 @@ impl SourcedStructure {
         self.follow_with(alloc, graph, first_sources(graph, cut.reads))
     }
 
-    // The same for an execution, if these are the sources of its reads.
+    /// The same as `follow` for an execution that is known to have the same runs but for their values. They aren't compared, and
+    /// it tells `Sources` or `Orders`.
+    pub fn follow_on(&mut self, alloc: Global, graph: &Graph) -> Result<Basis, AllocError>
+        requires { self.old.structure ≡ structure_of graph.now }
+        ensures done { OnOk result (self.new ≡ sourced_of graph.now) }
+        ensures structure { self.new.structure ≡ self.old.structure }
+        ensures told { IfOk result (λ b. b ≢ Runs) }
+        ensures all { IfOk result (λ b. b ≡ Orders → self.new ≡ self.old) }
+        ensures same { OnErr result (self.new ≡ self.old) }
+    {
+        self.follow_on_with(alloc, graph, graph.rf())
+    }
+
+    /// The same for such an execution that is cut down to what is known of it.
+    pub fn follow_cut_on(
+        &mut self,
+        alloc: Global,
+        graph: &Graph,
+        cut: &Cut<'_>,
+    ) -> Result<Basis, AllocError>
+        requires { self.old.structure ≡ structure_of graph.now }
+        ensures done { OnOk result (self.new ≡ sourced_of (cut_down graph.now cut.now)) }
+        ensures structure { self.new.structure ≡ self.old.structure }
+        ensures told { IfOk result (λ b. b ≢ Runs) }
+        ensures all { IfOk result (λ b. b ≡ Orders → self.new ≡ self.old) }
+        ensures same { OnErr result (self.new ≡ self.old) }
+    {
+        self.follow_on_with(alloc, graph, first_sources(graph, cut.reads))
+    }
+
+    // The same as `follow` for an execution, if these are the sources of its reads.
     #[inline(always)]
     fn follow_with(
         &mut self,
@@ -129,6 +159,24 @@ impl SourcedStructure {
             self.follow_runs(alloc, graph, sources)?;
             return Ok(Basis::Runs);
         }
+        self.follow_on_with(alloc, graph, sources)
+    }
+
+    // The same as `follow_on` for an execution, if these are the sources of its reads.
+    #[inline(always)]
+    fn follow_on_with(
+        &mut self,
+        alloc: Global,
+        graph: &Graph,
+        sources: &[EventId],
+    ) -> Result<Basis, AllocError>
+        requires { self.old.structure ≡ structure_of graph.now }
+        ensures done { OnOk result (self.new ≡ sourced_of (with_sources graph.now sources.now)) }
+        ensures structure { self.new.structure ≡ self.old.structure }
+        ensures told { IfOk result (λ b. b ≢ Runs) }
+        ensures all { IfOk result (λ b. b ≡ Orders → self.new ≡ self.old) }
+        ensures same { OnErr result (self.new ≡ self.old) }
+    {
         if !self.has_sources(sources) {
             self.follow_sources(alloc, graph, sources)?;
             return Ok(Basis::Sources);
