@@ -118,9 +118,11 @@ impl Pair {
         evaluator: &mut Evaluator<'_>,
         graph: &Graph,
     ) -> Result<bool, AllocError>
-        requires { HasPair self graph.now }
-        ensures model { evaluator.new ≡ evaluator.old }
-        ensures misplaced { IfOk result (λ known. IsTrue known → IsMisplaced evaluator.old (structure_of graph.now) self) }
+        requires pair { HasPair self graph.now }
+        requires relied { IfSome evaluator.old.relied (λ s. s ≡ structure_of graph.now) }
+        ensures model { evaluator.new.items ≡ evaluator.old.items }
+        ensures relied { IfSome evaluator.new.relied (λ s. s ≡ structure_of graph.now) }
+        ensures misplaced { IfOk result (λ known. IsTrue known → IsMisplaced evaluator.old.items (structure_of graph.now) self) }
     {
         cat_eval::laws::values_apart();
         let alone = self.alone(alloc, graph)?;
@@ -205,9 +207,11 @@ impl Lesson {
         evaluator: &mut Evaluator<'_>,
         graph: &Graph,
     ) -> Result<bool, AllocError>
-        requires lesson { IsLesson evaluator.old self.old }
-        ensures model { evaluator.new ≡ evaluator.old }
-        ensures lesson { IsLesson evaluator.old self.new }
+        requires lesson { IsLesson evaluator.old.items self.old }
+        requires relied { IfSome evaluator.old.relied (λ s. s ≡ structure_of graph.now) }
+        ensures model { evaluator.new.items ≡ evaluator.old.items }
+        ensures relied { IfSome evaluator.new.relied (λ s. s ≡ structure_of graph.now) }
+        ensures lesson { IsLesson evaluator.old.items self.new }
     {
         self.is_of(alloc, graph)?;
         let Some(pair) = self.unasked(graph) else {
@@ -317,9 +321,11 @@ impl Misplaced {
         evaluator: &mut Evaluator<'_>,
         graph: &Graph,
     ) -> Result<(), AllocError>
-        requires { AreLearned evaluator.old self.old }
-        ensures model { evaluator.new ≡ evaluator.old }
-        ensures learned { AreLearned evaluator.old self.new }
+        requires learned { AreLearned evaluator.old.items self.old }
+        requires relied { IfSome evaluator.old.relied (λ s. s ≡ structure_of graph.now) }
+        ensures model { evaluator.new.items ≡ evaluator.old.items }
+        ensures relied { IfSome evaluator.new.relied (λ s. s ≡ structure_of graph.now) }
+        ensures learned { AreLearned evaluator.old.items self.new }
     {
         if self.lesson.is_none() {
             self.lesson = Some(Lesson::new(alloc, graph)?);
@@ -343,9 +349,11 @@ impl Misplaced {
         evaluator: &mut Evaluator<'_>,
         graph: &Graph,
     ) -> Result<(), AllocError>
-        requires { AreLearned evaluator.old self.old }
-        ensures model { evaluator.new ≡ evaluator.old }
-        ensures learned { AreLearned evaluator.old self.new }
+        requires learned { AreLearned evaluator.old.items self.old }
+        requires relied { IfSome evaluator.old.relied (λ s. s ≡ structure_of graph.now) }
+        ensures model { evaluator.new.items ≡ evaluator.old.items }
+        ensures relied { IfSome evaluator.new.relied (λ s. s ≡ structure_of graph.now) }
+        ensures learned { AreLearned evaluator.old.items self.new }
     {
         if self.patience == 0 {
             return Ok(());

@@ -106,7 +106,7 @@ pub fn space_of(alloc: Global, work: &Work) -> Result<Space, AllocError>
 
 /// An evaluator of a work's model.
 pub fn evaluator_of<'w>(alloc: Global, work: &'w Work) -> Result<Evaluator<'w>, AllocError>
-    ensures { IfOk result (λ e. e ≡ work.entry.now.model.items) }
+    ensures { IfOk result (λ e. e.items ≡ work.entry.now.model.items) }
 {
     let none = nothing(alloc);
     Evaluator::of(alloc, work.model(), &none)
@@ -123,10 +123,10 @@ pub fn evaluate_in(
     requires space { walk.old.space ≡ choices_of piece.now.work.test }
     requires from { walk.old.next ≡ piece.now.from }
     requires to { walk.old.to ≡ piece.now.to }
-    requires evaluator { evaluator.old ≡ piece.now.work.model.items }
+    requires evaluator { evaluator.old.items ≡ piece.now.work.model.items }
     requires known { Knows (choices_of piece.now.work.test) piece.now.work.model.items pruner.old }
     ensures piece { IfOk result (λ r. r.piece ≡ piece.now) }
-    ensures evaluator { evaluator.new ≡ evaluator.old }
+    ensures evaluator { evaluator.new.items ≡ evaluator.old.items }
     ensures space { OnOk result (walk.new.space ≡ walk.old.space) }
     ensures known { OnOk result (Knows (choices_of piece.now.work.test) piece.now.work.model.items pruner.new) }
 {

@@ -3,6 +3,7 @@
 ghost use Rattle.std.specs.Prelude.{◌≡◌, ◌+◌, List, MatchBool, Some, IfOk, IfSome};
 ghost use Rattle.candidates.specs.Candidates.{Choices, graph_at};
 ghost use Rattle.cat_tree.specs.Tree.{Clause};
+ghost use Rattle.events.specs.Structures.{structure_of};
 ghost use Rattle.slices.specs.Misplaced.{AreLearned};
 ghost use Rattle.slices.specs.Passing.{ArePassed, HasGoneOver, IsForbidden, Knows};
 
@@ -82,10 +83,12 @@ impl Pruner {
         walk: &Walk<'_>,
         depth: usize,
     ) -> Result<Option<u64>, AllocError>
-        ensures model { evaluator.new ≡ evaluator.old }
+        requires relied { IfSome evaluator.old.relied (λ s. s ≡ structure_of walk.now.shown) }
+        ensures relied { IfSome evaluator.new.relied (λ s. s ≡ structure_of walk.now.shown) }
+        ensures model { evaluator.new.items ≡ evaluator.old.items }
         ensures refuted { self.new.refuted ≡ self.old.refuted }
         ensures misplaced { self.new.misplaced ≡ self.old.misplaced }
-        ensures forbidden { IfOk result (λ end. IfSome end (IsForbidden evaluator.old walk.now)) }
+        ensures forbidden { IfOk result (λ end. IfSome end (IsForbidden evaluator.old.items walk.now)) }
     {
         if !self.prospects.pay(depth) {
             return Ok(None);
@@ -112,10 +115,12 @@ impl Pruner {
     ) -> Result<bool, AllocError>
         requires found { walk.old.next ≡ number + 1 }
         requires shown { graph_at walk.old.space number ≡ Some walk.old.shown }
-        requires known { Knows walk.old.space evaluator.old self.old }
-        ensures model { evaluator.new ≡ evaluator.old }
-        ensures known { Knows walk.old.space evaluator.old self.new }
-        ensures passed { IfOk result (λ passed. MatchBool passed (ArePassed evaluator.old number walk.old walk.new) (walk.new ≡ walk.old)) }
+        requires relied { IfSome evaluator.old.relied (λ s. s ≡ structure_of walk.old.shown) }
+        requires known { Knows walk.old.space evaluator.old.items self.old }
+        ensures relied { IfSome evaluator.new.relied (λ s. s ≡ structure_of walk.old.shown) }
+        ensures model { evaluator.new.items ≡ evaluator.old.items }
+        ensures known { Knows walk.old.space evaluator.old.items self.new }
+        ensures passed { IfOk result (λ passed. MatchBool passed (ArePassed evaluator.old.items number walk.old walk.new) (walk.new ≡ walk.old)) }
     {
         if !self.may_refute || self.prospects.are_early() {
             return Ok(false);
@@ -153,10 +158,12 @@ impl Pruner {
         graph: &Graph,
         judgement: &Judgement,
     ) -> Result<(), AllocError>
-        requires learned { AreLearned evaluator.old self.old.misplaced }
-        ensures model { evaluator.new ≡ evaluator.old }
+        requires learned { AreLearned evaluator.old.items self.old.misplaced }
+        requires relied { IfSome evaluator.old.relied (λ s. s ≡ structure_of graph.now) }
+        ensures relied { IfSome evaluator.new.relied (λ s. s ≡ structure_of graph.now) }
+        ensures model { evaluator.new.items ≡ evaluator.old.items }
         ensures refuted { self.new.refuted ≡ self.old.refuted }
-        ensures learned { AreLearned evaluator.old self.new.misplaced }
+        ensures learned { AreLearned evaluator.old.items self.new.misplaced }
     {
         self.note(judgement);
         if judgement.allowed() || !self.may_refute || self.prospects.are_early() {
