@@ -22,6 +22,7 @@ pub mod Sets
 pub mod Shown
 pub mod Sorted
 pub mod Spread
+pub mod Steadily
 pub mod Together
 pub mod Told
 pub mod Unions

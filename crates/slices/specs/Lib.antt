@@ -10,6 +10,7 @@ pub mod Passing
 pub mod Questions
 pub mod Same
 pub mod Slots
+pub mod Steady
 pub mod Sums
 pub mod Tallies
 pub mod Totals

@@ -1,6 +1,5 @@
 -- Executions one behind another that have the same events.
-use Rattle.std.specs.Prelude.{◌≡◌, ℕ, ◌<◌, ◌≤◌, Some, IfSome}
-use Rattle.std.specs.declared.option.Option.{Option}
+use Rattle.std.specs.Prelude.{◌≡◌, ℕ, ◌<◌, ◌≤◌, Option, Some, IfSome}
 use Rattle.candidates.specs.Candidates.{Choices, graph_at}
 use Rattle.events.specs.Executions.{GraphValue}
 use Rattle.events.specs.Structures.{Structure, structure_of}

@@ -8,10 +8,10 @@ use Rattle.witness.specs.declared.judge.Judge.TheVariants.{Model, All}
 
 -- the items of the model, or none where all executions count: a model without items allows each
 abbrev pub judged : Judge → List Clause
-judged (Model judge) = judge.evaluator
+judged (Model judge) = judge.evaluator.items
 judged All = []
 
 -- What the judge keeps of refuted executions is right for these candidates.
 abbrev pub KnowsOf : Choices → Judge → Type 0
-KnowsOf s (Model judge) = Knows s judge.evaluator judge.pruner
+KnowsOf s (Model judge) = Knows s judge.evaluator.items judge.pruner
 KnowsOf s All = Unit {0}

@@ -40,8 +40,8 @@ pub enum Judge<'m> {
 
 impl<'m> ModelJudge<'m> {
     fn new(alloc: Global, model: &'m Model) -> Result<Self, AllocError>
-        ensures items { IfOk result (λ j. j.evaluator ≡ model.entry.now.items) }
-        ensures known { IfOk result (λ j. (s : Choices) → Knows s j.evaluator j.pruner) }
+        ensures items { IfOk result (λ j. j.evaluator.items ≡ model.entry.now.items) }
+        ensures known { IfOk result (λ j. (s : Choices) → Knows s j.evaluator.items j.pruner) }
     {
         let none = nothing(alloc);
         let evaluator = Evaluator::of(alloc, model, &none)?;
@@ -57,20 +57,22 @@ impl<'m> ModelJudge<'m> {
     ) -> Result<bool, AllocError>
         requires found { walk.old.next ≡ number + 1 }
         requires shown { graph_at walk.old.space number ≡ Some walk.old.shown }
-        requires known { Knows walk.old.space self.old.evaluator self.old.pruner }
-        ensures items { self.new.evaluator ≡ self.old.evaluator }
-        ensures known { Knows walk.old.space self.old.evaluator self.new.pruner }
-        ensures passed { IfOk result (λ passed. MatchBool passed (ArePassed self.old.evaluator number walk.old walk.new) (walk.new ≡ walk.old)) }
+        requires known { Knows walk.old.space self.old.evaluator.items self.old.pruner }
+        ensures items { self.new.evaluator.items ≡ self.old.evaluator.items }
+        ensures known { Knows walk.old.space self.old.evaluator.items self.new.pruner }
+        ensures passed { IfOk result (λ passed. MatchBool passed (ArePassed self.old.evaluator.items number walk.old walk.new) (walk.new ≡ walk.old)) }
     {
+        self.evaluator.forget_runs();
         self.pruner.passes(alloc, &mut self.evaluator, walk, number)
     }
 
     fn allows(&mut self, alloc: Global, graph: &Graph) -> Result<bool, AllocError>
-        ensures items { self.new.evaluator ≡ self.old.evaluator }
+        ensures items { self.new.evaluator.items ≡ self.old.evaluator.items }
         ensures refuted { self.new.pruner.refuted ≡ self.old.pruner.refuted }
         ensures misplaced { self.new.pruner.misplaced ≡ self.old.pruner.misplaced }
-        ensures allowed { IfOk result (λ allowed. IsTrue allowed ↔ Allowed self.old.evaluator graph.now) }
+        ensures allowed { IfOk result (λ allowed. IsTrue allowed ↔ Allowed self.old.evaluator.items graph.now) }
     {
+        self.evaluator.forget_runs();
         let judgement = self.evaluator.judge_next(alloc, graph)?;
         self.pruner.note(&judgement);
         Ok(judgement.allowed())

@@ -2,16 +2,18 @@ use Rattle.std.proofs.Common.{◌≡◌, ◌-◌, map}
 use Rattle.candidates.specs.Candidates.{choices_of}
 use Rattle.slices.specs.Passing.{Knows}
 use Rattle.slices.specs.Slots.{slot_of}
+use Rattle.slices.specs.Steady.{AreSteady}
 use Rattle.slices.proofs.Counted.{IsUnderWay}
 use Rattle.slices.proofs.counting.count.Given as goal
 
-abbrev pub decreases-loop-finding : goal.decreases-loop-finding
-decreases-loop-finding l = l.walk.to - l.walk.next
+abbrev pub decreases-loop-steady : goal.decreases-loop-steady
+decreases-loop-steady l = l.walk.to - l.walk.next
 
-abbrev pub invariant-loop-finding : goal.invariant-loop-finding
-invariant-loop-finding l = record {
+abbrev pub invariant-loop-steady : goal.invariant-loop-steady
+invariant-loop-steady l = record {
   counted : IsUnderWay l.work.test l.work.model.items l.fn.walk.next l.fn.walk.to l.walk l.finding;
   slots : l.slots ≡ map (slot_of l.work.test) l.finding.places;
-  model : l.evaluator ≡ l.work.model.items;
+  model : l.evaluator.items ≡ l.work.model.items;
+  steady : AreSteady l.walk.space l.walk.next l.steady l.evaluator.relied;
   known : Knows (choices_of l.work.test) l.work.model.items l.pruner;
 }

@@ -19,31 +19,31 @@ loop-depth-preserved c = record {
 
 pub returns-in_err-end-clause-known : goal.returns-in_err-end-clause-known
 returns-in_err-end-clause-known c =
-    let items = c.args.evaluator.now in
+    let items = c.args.evaluator.now.items in
     let at = c.loop-depth.invariant in
     let R : Span → Type 0 = λ z. NoneAllowed items c.args.walk.now.space z.from z.to in
     (subst R (sym (c.ask.ensures.refuted ∙ at.refuted)) c.requires.known.0, subst (AreLearned items) (sym c.ask.ensures.misplaced) (at.learned items c.requires.known.1))
 
 pub returns-in-Some-clause-known : goal.returns-in-Some-clause-known
 returns-in-Some-clause-known c =
-    let items = c.args.evaluator.now in
+    let items = c.args.evaluator.now.items in
     let at = c.loop-depth.invariant in
-    let block = block_known items c.loop-depth.evaluator c.args.walk.now c.loop-depth.walk c.in_ok-end.field-0 c.in-Some.end at.model at.walk c.in-Some.is c.in_ok-end.ensures.forbidden in
+    let block = block_known items c.loop-depth.evaluator.items c.args.walk.now c.loop-depth.walk c.in_ok-end.field-0 c.in-Some.end at.model at.walk c.in-Some.is c.in_ok-end.ensures.forbidden in
     (none_from items c.args.walk.now c.args.number c.in-Some.end c.requires.found block, subst (AreLearned items) (sym c.ask.ensures.misplaced) (at.learned items c.requires.known.1))
 
 pub returns-in-Some-clause-passed : goal.returns-in-Some-clause-passed
 returns-in-Some-clause-passed c =
-    let items = c.args.evaluator.now in
+    let items = c.args.evaluator.now.items in
     let at = c.loop-depth.invariant in
     let n = c.args.number in
     let w = c.loop-depth.walk in
-    let block = block_known items c.loop-depth.evaluator w w c.in_ok-end.field-0 c.in-Some.end at.model refl c.in-Some.is c.in_ok-end.ensures.forbidden in
+    let block = block_known items c.loop-depth.evaluator.items w w c.in_ok-end.field-0 c.in-Some.end at.model refl c.in-Some.is c.in_ok-end.ensures.forbidden in
     let P : Walking → Type 0 = λ v. ArePassed items n v c.pass.new.self in
     subst P at.walk (gone_on items n c.in-Some.end w c.pass.new.self (ap (λ (v : Walking). v.next) at.walk ∙ c.requires.found) block c.pass.ensures.space c.pass.ensures.to c.pass.ensures.next)
 
 pub returns-clause-known : goal.returns-clause-known
 returns-clause-known c =
-    let items = c.args.evaluator.now in
+    let items = c.args.evaluator.now.items in
     let at = c.loop-depth.invariant in
     let R : Span → Type 0 = λ z. NoneAllowed items c.args.walk.now.space z.from z.to in
     (subst R (sym at.refuted) c.requires.known.0, at.learned items c.requires.known.1)
