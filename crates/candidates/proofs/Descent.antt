@@ -7,10 +7,10 @@ use Rattle.listings.proofs.Listings.{in_get_or, map_in}
 use Rattle.candidates.specs.declared.counts.Counts.{Counts}
 use Rattle.candidates.specs.Executions.{block}
 use Rattle.candidates.specs.Candidates.{choices}
-use Rattle.candidates.specs.Groups.{tally_of, sum_tally, size_by, sizes_of, IsSmall, HasRoom}
+use Rattle.candidates.specs.Groups.{tally_of, sum_tally, size_by, sizes_of, HasRoom}
 use Rattle.candidates.specs.Parts.{behind, IsPart, AreAllWithin}
 use Rattle.candidates.proofs.Steps.{sum_flat, behind_step, behind_end, behind_all, whole_part, part_of_part, part_end}
-use Rattle.candidates.proofs.Grouping.{events_of, tallies_of, tally_more, counted, within_run, room_small, length_mapped, sum_map}
+use Rattle.candidates.proofs.Grouping.{events_of, tallies_of, tally_more, counted, within_run, length_mapped, sum_map}
 
 -- The chosen runs are those of the number's choice as far as they go, and `rest` is its number behind them.
 pub record IsDown (n : ℕ) (row : List (List ThreadRun)) (number rest : ℕ) (tally : List Counts) (chosen : List ThreadRun) (left : List (List ThreadRun)) : Type 0 where

@@ -1,7 +1,7 @@
 -- What is kept of the threads on the way down.
 use Rattle.std.proofs.Common.{◌≡◌, ◌≢◌, ℕ, zero, suc, ◌+◌, ◌<◌, ◌≤◌, List, [], ◌∷◌, ◌++◌, take, drop, length, map, get_or, set, refl, sym, ◌∙◌, ap, subst, inl, inr, arith}
 use Rattle.std.proofs.lemmas.Bool.{cases_lt}
-use Rattle.std.proofs.lemmas.List.{get_or_default, get_or-take, get_or-set_same, get_or-set_other, get_or_append_left, map-set, map-append, take-map, length-map, length-set, get_or-map, take_all}
+use Rattle.std.proofs.lemmas.List.{get_or_default, get_or-take, get_or-set_same, get_or-set_other, get_or_append_left, map-set, map-append, take-map, length-map, length-set, get_or-map}
 use Rattle.std.proofs.Math.Seq.{get_or-append_seam}
 use Rattle.events.specs.Executions.{ThreadRun, empty_run}
 use Rattle.listings.specs.Lists.{sum_of}
@@ -89,8 +89,8 @@ moved_to n groups levels new k m level h i most same =
       | inr more ↦ elim (cases_lt k j) [
         | inl less ↦ ap (tally_by groups j) (moved_other levels new k m level h j (omega (arith, l, most)) (λ e. omega (arith, e, less)))
         | inr least ↦ (let e : j ≡ k = omega (arith, more, least) in
-          let P : ℕ → Type 0 = λ x. tally_by groups x (get_or (places_of new) x 0) ≡ tally_by groups x (get_or (places_of levels) x 0) in
-          subst P (sym e) (ap (tally_by groups k) (moved_here levels new k m level h) ∙ same (omega (arith, l, e))))
+            let P : ℕ → Type 0 = λ x. tally_by groups x (get_or (places_of new) x 0) ≡ tally_by groups x (get_or (places_of levels) x 0) in
+            subst P (sym e) (ap (tally_by groups k) (moved_here levels new k m level h) ∙ same (omega (arith, l, e))))
       ]
     ])
 
@@ -110,15 +110,15 @@ levels_moved n groups levels new k m old level are h o t s stands same i l insid
       | inr more ↦ elim (cases_lt k i) [
         | inl less ↦ other (λ e. omega (arith, e, less))
         | inr least ↦ (let e : i ≡ k = omega (arith, more, least) in
-          let is : l ≡ level = here ∙ ap (λ x. get_or (set levels k level) x l) e ∙ get_or-set_same levels k level l h.0 in
-          let was = are k old h.0 o in
-          let P : Level → Type 0 = λ x. IsLevel n groups (places_of new) i x in
-          let Q : ℕ → Type 0 = λ x. tally_to n groups (places_of new) i ≡ tally_to n groups (places_of levels) x in
-          subst P (sym is) (record {
-            tally = t ∙ was.tally ∙ sym (subst Q e to);
-            sizes = s ∙ was.sizes ∙ ap (λ u. sizes_of u (get_or groups k []) (drop (k + 1) groups)) (sym t) ∙ ap (λ x. sizes_of level.tally (get_or groups x []) (drop (x + 1) groups)) (sym e);
-            stands = stands;
-          }))
+            let is : l ≡ level = here ∙ ap (λ x. get_or (set levels k level) x l) e ∙ get_or-set_same levels k level l h.0 in
+            let was = are k old h.0 o in
+            let P : Level → Type 0 = λ x. IsLevel n groups (places_of new) i x in
+            let Q : ℕ → Type 0 = λ x. tally_to n groups (places_of new) i ≡ tally_to n groups (places_of levels) x in
+            subst P (sym is) (record {
+              tally = t ∙ was.tally ∙ sym (subst Q e to);
+              sizes = s ∙ was.sizes ∙ ap (λ u. sizes_of u (get_or groups k []) (drop (k + 1) groups)) (sym t) ∙ ap (λ x. sizes_of level.tally (get_or groups x []) (drop (x + 1) groups)) (sym e);
+              stands = stands;
+            }))
       ]
     ]
 
@@ -130,8 +130,8 @@ pub added_to : (n : ℕ) (groups : List (List (List Counts))) (levels new : List
 added_to n groups levels new level h i most =
     let F : Level → ℕ = λ l. l.place in
     same_to n groups (places_of new) (places_of levels) i (λ j l. ap (tally_by groups j) (
-      ap (λ ls. get_or (places_of ls) j 0) h ∙ ap (λ ps. get_or ps j 0) (map-append F levels (level ∷ []))
-      ∙ get_or_append_left (places_of levels) (level.place ∷ []) 0 j (omega (arith, l, most, length-map levels F))))
+    ap (λ ls. get_or (places_of ls) j 0) h ∙ ap (λ ps. get_or ps j 0) (map-append F levels (level ∷ []))
+    ∙ get_or_append_left (places_of levels) (level.place ∷ []) 0 j (omega (arith, l, most, length-map levels F))))
 
 pub levels_added : (n : ℕ) (groups : List (List (List Counts))) (levels new : List Level) (level : Level) → AreLevels n groups levels → IsAdded levels new level → IsLevel n groups (places_of levels) (length levels) level → AreLevels n groups new
 levels_added n groups levels new level are h is i l inside at =
@@ -141,10 +141,10 @@ levels_added n groups levels new level are h is i l inside at =
     elim (cases_lt i (length levels)) [
       | inl less ↦ level_by n groups (places_of levels) (places_of new) i l (are i l less (here ∙ get_or_append_left levels (level ∷ []) l i less)) (sym to)
       | inr more ↦ (let e : i ≡ length levels = omega (arith, more, inside, long) in
-        let same : l ≡ level = here ∙ ap (λ x. get_or (levels ++ level ∷ []) x l) e ∙ get_or-append_seam levels level [] l in
-        let P : Level → Type 0 = λ x. IsLevel n groups (places_of new) i x in
-        let Q : ℕ → Type 0 = λ x. IsLevel n groups (places_of levels) x level in
-        subst P (sym same) (level_by n groups (places_of levels) (places_of new) i level (subst Q (sym e) is) (sym to)))
+          let same : l ≡ level = here ∙ ap (λ x. get_or (levels ++ level ∷ []) x l) e ∙ get_or-append_seam levels level [] l in
+          let P : Level → Type 0 = λ x. IsLevel n groups (places_of new) i x in
+          let Q : ℕ → Type 0 = λ x. IsLevel n groups (places_of levels) x level in
+          subst P (sym same) (level_by n groups (places_of levels) (places_of new) i level (subst Q (sym e) is) (sym to)))
     ]
 
 -- The sizes of a thread's level.
@@ -152,6 +152,11 @@ pub sizes_here : (n : ℕ) (groups : List (List (List Counts))) (levels : List L
 sizes_here n groups levels k level tally are inside at is =
     let h = are k level inside at in
     h.sizes ∙ ap (λ t. sizes_of t (get_or groups k []) (drop (k + 1) groups)) (h.tally ∙ is)
+
+pub place_here : (levels : List Level) (k : ℕ) (level : Level) → k < length levels → level ≡ get_or levels k level → get_or (places_of levels) k 0 ≡ level.place
+place_here levels k level inside at =
+    let F : Level → ℕ = λ l. l.place in
+    get_or-map F levels k level 0 inside ∙ ap F (sym at)
 
 -- The tally behind a thread.
 pub to_more : (n : ℕ) (groups : List (List (List Counts))) (places : List ℕ) (k p : ℕ) (tally : List Counts) → tally_to n groups places k ≡ tally → get_or places k 0 ≡ p → tally_to n groups places (k + 1) ≡ sum_tally tally (tally_by groups k p)
@@ -184,4 +189,3 @@ same_default groups i l = get_or_default groups i [] (get_or groups i []) l
 
 pub as_many_groups : (f : List ThreadRun → List (List Counts)) (groups : List (List (List Counts))) (threads : List (List ThreadRun)) (i : ℕ) → groups ≡ map f threads → i < length threads → i < length groups
 as_many_groups f groups threads i g l = omega (arith, l, ap (λ gs. length gs) g, length_mapped f threads)
-

@@ -1,6 +1,6 @@
 //! Choices of one run of each thread.
 
-ghost use Rattle.std.specs.Prelude.{◌≡◌, ◌+◌, ◌<◌, ◌≤◌, ℕ, [], ◌∷◌, List, length, map, take, drop, slice_index_or, IfOk, OnOk};
+ghost use Rattle.std.specs.Prelude.{◌≡◌, ◌+◌, ◌<◌, ◌≤◌, ℕ, [], ◌∷◌, List, length, map, take, drop, slice_index_or, IfOk, IfSome, OnOk};
 ghost use Rattle.listings.specs.Lists.{IsIn, sum_of};
 ghost use Rattle.candidates.specs.Groups.{tally_of, sum_tally, size_by, sizes_of, HasRoom, IsSmall};
 ghost use Rattle.candidates.specs.declared.counts.Counts.{Counts};
@@ -114,6 +114,26 @@ pub(crate) struct Choice {
     pub(crate) passed: u64,
 }
 
+/// The run at which a level stands, where a number is in it and it may be in an execution: none needs to be sought then.
+fn stay(level: &Level, marks: &Marks, number: u64) -> Option<Choice>
+    requires stands { Stands level.now }
+    requires marks { length marks.now ≡ length level.now.sizes.items }
+    ensures { IfSome result (λ c. (c.place ≡ level.now.place) × IsChosen marks.now level.now.sizes.items number c.place c.rest c.passed) }
+{
+    if number < level.before || marks.is_marked(level.place) {
+        return None;
+    }
+    let rest = number - level.before;
+    if rest >= level.sizes[level.place] {
+        return None;
+    }
+    Some(Choice {
+        place: level.place,
+        rest,
+        passed: 0,
+    })
+}
+
 /// The run of a level's thread that a number is in.
 fn choose(level: &Level, marks: &Marks, number: u64) -> Choice
     requires stands { Stands level.now }
@@ -132,13 +152,7 @@ fn choose(level: &Level, marks: &Marks, number: u64) -> Choice
 
 /// Lets the level of a thread stand at a run. The levels behind fall away unless that run reads and writes each location as often as the one
 /// at which it stood.
-fn stand_at(
-    levels: &mut Vec<Level>,
-    groups: &[Groups],
-    thread: usize,
-    place: usize,
-    before: u64,
-)
+fn stand_at(levels: &mut Vec<Level>, groups: &[Groups], thread: usize, place: usize, before: u64)
     requires thread { (thread < length levels.old.items) × (thread < length groups.now) }
     requires place { (l : Level) → l ≡ slice_index_or levels.old.items thread l → StandsAt l.sizes.items place before }
     ensures levels { (n : ℕ) → AreLevels n groups.now levels.old.items → AreLevels n groups.now levels.new.items }
@@ -253,7 +267,11 @@ pub(crate) fn choose_run(
     ensures levels { AreLevels locations groups.now levels.new.items }
 {
     enter(alloc, levels, groups, thread, locations)?;
-    let choice = choose(&levels[thread], marks, number);
+    let level = &levels[thread];
+    if let Some(choice) = stay(level, marks, number) {
+        return Ok(choice);
+    }
+    let choice = choose(level, marks, number);
     if choice.passed == 0 {
         stand_at(levels, groups, thread, choice.place, number - choice.rest);
     }

@@ -1,4 +1,4 @@
-use Rattle.std.proofs.Common.{◌≡◌, ◌∙◌, ◌+◌, ◌≤◌, ℕ, [], ◌∷◌, List, length, get_or, drop, refl, sym, ap, subst, arith}
+use Rattle.std.proofs.Common.{◌≡◌, ◌∙◌, ◌+◌, ◌≤◌, [], ◌∷◌, List, length, get_or, drop, refl, sym, ap, subst, arith}
 use Rattle.listings.specs.Lists.{IsIn}
 use Rattle.candidates.specs.declared.counts.Counts.{Counts}
 use Rattle.candidates.specs.declared.fault.TheConstants.{MOST_CANDIDATES}

@@ -1,4 +1,4 @@
-use Rattle.std.proofs.Common.{◌≡◌, ◌∙◌, ◌+◌, [], List, length, get_or, set, refl, sym, ap, arith}
+use Rattle.std.proofs.Common.{◌≡◌, ◌∙◌, ◌+◌, [], length, get_or, set, refl, sym, ap, arith}
 use Rattle.std.proofs.lemmas.List.{take_all, length-set, get_or_default}
 use Rattle.candidates.specs.declared.levels.Level.{Level}
 use Rattle.candidates.proofs.Kept.{IsMoved, levels_moved, moved_to, moved_here, moved_length, tally_by}

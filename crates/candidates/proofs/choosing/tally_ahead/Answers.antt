@@ -1,10 +1,9 @@
-use Rattle.std.proofs.Common.{◌≡◌, ◌∙◌, ◌+◌, ◌-◌, [], List, length, get_or, sym, ap, subst, arith}
+use Rattle.std.proofs.Common.{◌≡◌, ◌∙◌, ◌-◌, [], List, length, get_or, sym, ap, subst, arith}
 use Rattle.std.proofs.lemmas.Bool.{eqb-false}
 use Rattle.std.proofs.lemmas.List.{get_or_default}
 use Rattle.std.specs.Prelude.{IfOk}
 use Rattle.candidates.specs.declared.counts.Counts.{Counts}
 use Rattle.candidates.specs.Groups.{sum_tally, IsSmall}
-use Rattle.candidates.specs.Levels.{places_of, tally_to}
 use Rattle.candidates.proofs.Kept.{not_none, tally_by, to_last}
 use Rattle.candidates.proofs.choosing.tally_ahead.Goals as goal
 
