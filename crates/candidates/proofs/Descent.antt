@@ -7,10 +7,10 @@ use Rattle.listings.proofs.Listings.{in_get_or, map_in}
 use Rattle.candidates.specs.declared.counts.Counts.{Counts}
 use Rattle.candidates.specs.Executions.{block}
 use Rattle.candidates.specs.Candidates.{choices}
-use Rattle.candidates.specs.Groups.{tally_of, sum_tally, size_by, sizes_of, IsSmall, HasRoom}
+use Rattle.candidates.specs.Groups.{tally_of, sum_tally, size_by, sizes_of, HasRoom}
 use Rattle.candidates.specs.Parts.{behind, IsPart, AreAllWithin}
 use Rattle.candidates.proofs.Steps.{sum_flat, behind_step, behind_end, behind_all, whole_part, part_of_part, part_end}
-use Rattle.candidates.proofs.Grouping.{events_of, tallies_of, tally_more, counted, within_run, room_small, length_mapped, sum_map}
+use Rattle.candidates.proofs.Grouping.{events_of, tallies_of, tally_more, counted, within_run, length_mapped, sum_map}
 
 -- The chosen runs are those of the number's choice as far as they go, and `rest` is its number behind them.
 pub record IsDown (n : ℕ) (row : List (List ThreadRun)) (number rest : ℕ) (tally : List Counts) (chosen : List ThreadRun) (left : List (List ThreadRun)) : Type 0 where
@@ -148,11 +148,11 @@ down_at n row number rest tally chosen threads i l h =
     let P : List (List ThreadRun) → Type 0 = IsDown n row number rest tally chosen in
     subst P (drop_next threads i l) h
 
-pub room_on : (n : ℕ) (row : List (List ThreadRun)) (number rest : ℕ) (tally : List Counts) (chosen runs : List ThreadRun) (more : List (List ThreadRun)) (here : List (List Counts)) (after : List (List (List Counts))) → IsDown n row number rest tally chosen (runs ∷ more) → here ≡ tallies_of n runs → after ≡ map (tallies_of n) more → (t : List Counts) → IsIn t here → HasRoom (sum_tally tally t) after
-room_on n row number rest tally chosen runs more here after h e f t m =
-    let P : List (List Counts) → Type 0 = λ us. IsIn t us in
-    let Q : List (List (List Counts)) → Type 0 = λ gs. HasRoom (sum_tally tally t) gs in
-    subst Q (sym f) (h.room.1 t (subst P e m))
+pub room_on : (n : ℕ) (row : List (List ThreadRun)) (number rest : ℕ) (tally : List Counts) (chosen runs : List ThreadRun) (more : List (List ThreadRun)) (here : List (List Counts)) (after : List (List (List Counts))) → IsDown n row number rest tally chosen (runs ∷ more) → here ≡ tallies_of n runs → after ≡ map (tallies_of n) more → HasRoom tally (here ∷ after)
+room_on n row number rest tally chosen runs more here after h e f =
+    let P : List (List Counts) → Type 0 = λ us. HasRoom tally (us ∷ map (tallies_of n) more) in
+    let Q : List (List (List Counts)) → Type 0 = λ gs. HasRoom tally (here ∷ gs) in
+    subst Q (sym f) (subst P (sym e) h.room)
 
 pub sizes_on : (n : ℕ) (tally : List Counts) (runs : List ThreadRun) (more : List (List ThreadRun)) (here : List (List Counts)) (after : List (List (List Counts))) (sizes : List ℕ) → here ≡ tallies_of n runs → after ≡ map (tallies_of n) more → sizes ≡ sizes_of tally here after → sizes ≡ sizes_of tally (tallies_of n runs) (map (tallies_of n) more)
 sizes_on n tally runs more here after sizes e f s = s ∙ ap (λ us. sizes_of tally us after) e ∙ ap (λ gs. sizes_of tally (tallies_of n runs) gs) f
@@ -194,10 +194,3 @@ down_next n row number rest left tally here grown chosen longer runs more sizes 
     let P : List Counts → Type 0 = λ u. T u (chosen ++ at ∷ []) in
     let Q : List ThreadRun → Type 0 = T grown in
     subst Q long (subst P same (down_on n row number rest left tally chosen runs more sizes d h e l b s))
-
--- One run more has room.
-pub small_on : (n : ℕ) (row : List (List ThreadRun)) (number rest : ℕ) (tally here : List Counts) (chosen runs : List ThreadRun) (more : List (List ThreadRun)) (d : ℕ) (run : ThreadRun) → IsDown n row number rest tally chosen (runs ∷ more) → d < length runs → run ≡ get_or runs d empty_run → here ≡ tally_of n run.events → IsSmall (sum_tally tally here)
-small_on n row number rest tally here chosen runs more d run h l r t =
-    let P : List Counts → Type 0 = λ u. IsSmall (sum_tally tally u) in
-    subst P (sym (t ∙ ap (λ (x : ThreadRun). tally_of n x.events) r))
-    (room_small (sum_tally tally (tally_of n (get_or runs d empty_run).events)) (map (tallies_of n) more) (room_at n tally runs more d h.room l))

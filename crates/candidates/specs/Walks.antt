@@ -90,7 +90,7 @@ IsNear s b a c (of_near.Until n) = (a ≤ n) × NoneFrom s a n
 -- The stretch at which a walk looks is one of the space, and what is kept of the threads is theirs.
 pub record IsAhead (s : Choices) (a : Ahead) : Type 0 where
   pub stretch : MayBeStretch s a.stretch
-  pub levels : AreLevels (groups_of s) a.levels.items
+  pub levels : AreLevels (length s.init) (groups_of s) a.levels.items
 
 -- The stretch of what is shown is one of the space, and what is shown is its candidate with the number that is named. The depths are those of the runs that are shown, and the places those of the runs.
 pub record IsScene (s : Choices) (c : Scene) : Type 0 where

@@ -1,17 +1,18 @@
 //! Choices of one run of each thread.
 
-ghost use Rattle.std.specs.Prelude.{◌≡◌, ◌+◌, ◌<◌, ◌≤◌, [], ◌∷◌, List, length, map, take, drop, slice_index_or, IfOk};
+ghost use Rattle.std.specs.Prelude.{◌≡◌, ◌+◌, ◌<◌, ◌≤◌, ℕ, [], ◌∷◌, List, length, map, take, drop, slice_index_or, IfOk, IfSome, OnOk};
 ghost use Rattle.listings.specs.Lists.{IsIn, sum_of};
-ghost use Rattle.candidates.specs.Groups.{tally_of, sum_tally, size_by, sizes_of, HasRoom};
+ghost use Rattle.candidates.specs.Groups.{tally_of, sum_tally, size_by, sizes_of, HasRoom, IsSmall};
 ghost use Rattle.candidates.specs.declared.counts.Counts.{Counts};
+ghost use Rattle.candidates.specs.declared.levels.Level.{Level};
 ghost use Rattle.candidates.specs.Impossible.{IsChosen};
-ghost use Rattle.candidates.specs.Levels.{AreLevels, Stands};
+ghost use Rattle.candidates.specs.Levels.{AreLevels, StandsAt, Stands, places_of, tally_to};
 
 use crate::counts::AccessTally;
 use crate::fault::MOST_CANDIDATES;
 use crate::groups::Groups;
 use crate::impossible::Marks;
-use crate::levels::{Level, is_known, keep};
+use crate::levels::Level;
 use events::Run;
 use std::alloc::{AllocError, Global};
 use std::marker::Model;
@@ -113,24 +114,57 @@ pub(crate) struct Choice {
     pub(crate) passed: u64,
 }
 
-/// The run of a level's thread that a number is in. The level stands at it then.
-fn choose(level: &mut Level, marks: &Marks, number: u64) -> Choice
-    requires stands { Stands level.old }
-    requires most { sum_of (λ n. n) level.old.sizes.items ≤ MOST_CANDIDATES }
-    requires marks { length marks.now ≡ length level.old.sizes.items }
-    requires number { number < sum_of (λ n. n) level.old.sizes.items }
-    ensures chosen { IsChosen marks.now level.old.sizes.items number result.place result.rest result.passed }
-    ensures same { (level.new.thread ≡ level.old.thread) × (level.new.tally ≡ level.old.tally) × (level.new.sizes.items ≡ level.old.sizes.items) }
-    ensures stands { Stands level.new }
+/// The run at which a level stands, where a number is in it and it may be in an execution: none needs to be sought then.
+fn stay(level: &Level, marks: &Marks, number: u64) -> Option<Choice>
+    requires stands { Stands level.now }
+    requires marks { length marks.now ≡ length level.now.sizes.items }
+    ensures { IfSome result (λ c. (c.place ≡ level.now.place) × IsChosen marks.now level.now.sizes.items number c.place c.rest c.passed) }
+{
+    if number < level.before || marks.is_marked(level.place) {
+        return None;
+    }
+    let rest = number - level.before;
+    if rest >= level.sizes[level.place] {
+        return None;
+    }
+    Some(Choice {
+        place: level.place,
+        rest,
+        passed: 0,
+    })
+}
+
+/// The run of a level's thread that a number is in.
+fn choose(level: &Level, marks: &Marks, number: u64) -> Choice
+    requires stands { Stands level.now }
+    requires most { sum_of (λ n. n) level.now.sizes.items ≤ MOST_CANDIDATES }
+    requires marks { length marks.now ≡ length level.now.sizes.items }
+    requires number { number < sum_of (λ n. n) level.now.sizes.items }
+    ensures { IsChosen marks.now level.now.sizes.items number result.place result.rest result.passed }
 {
     let part = part_at(level, number);
-    let passed = marks.passed(&level.sizes, part.place);
-    level.place = part.place;
-    level.before = number - part.rest;
     Choice {
         place: part.place,
         rest: part.rest,
-        passed,
+        passed: marks.passed(&level.sizes, part.place),
+    }
+}
+
+/// Lets the level of a thread stand at a run. The levels behind fall away unless that run reads and writes each location as often as the one
+/// at which it stood.
+fn stand_at(levels: &mut Vec<Level>, groups: &[Groups], thread: usize, place: usize, before: u64)
+    requires thread { (thread < length levels.old.items) × (thread < length groups.now) }
+    requires place { (l : Level) → l ≡ slice_index_or levels.old.items thread l → StandsAt l.sizes.items place before }
+    ensures levels { (n : ℕ) → AreLevels n groups.now levels.old.items → AreLevels n groups.now levels.new.items }
+    ensures same { (n : ℕ) → tally_to n groups.now (places_of levels.new.items) thread ≡ tally_to n groups.now (places_of levels.old.items) thread }
+    ensures place { (thread < length levels.new.items) × (slice_index_or (places_of levels.new.items) thread 0 ≡ place) }
+{
+    let level = &mut levels[thread];
+    let same = groups[thread].has_both(level.place, place);
+    level.place = place;
+    level.before = before;
+    if !same {
+        levels.truncate(thread + 1);
     }
 }
 
@@ -158,38 +192,88 @@ fn count_runs(
     Ok(sizes.unwrap())
 }
 
-/// The run of a thread that a number is in: it counts the candidates with the runs that are tallied. What is counted for
-/// the thread is kept.
+/// How often the runs that are chosen of the threads before the next level read and write each location.
+fn tally_ahead(
+    alloc: Global,
+    levels: &[Level],
+    groups: &[Groups],
+    locations: usize,
+) -> Result<AccessTally, AllocError>
+    requires levels { AreLevels locations groups.now levels.now }
+    requires few { length levels.now ≤ length groups.now }
+    requires small { IsSmall (tally_to locations groups.now (places_of levels.now) (length levels.now)) }
+    ensures { IfOk result (λ t. t ≡ tally_to locations groups.now (places_of levels.now) (length levels.now)) }
+{
+    if levels.is_empty() {
+        return AccessTally::new(alloc, &[], locations);
+    }
+    let last = levels.len() - 1;
+    let level = &levels[last];
+    level.tally.plus(alloc, groups[last].tally_at(level.place))
+}
+
+/// Adds the level of a thread, if it isn't there, behind those of the threads before it.
+fn enter(
+    alloc: Global,
+    levels: &mut Vec<Level>,
+    groups: &[Groups],
+    thread: usize,
+    locations: usize,
+) -> Result<(), AllocError>
+    requires levels { AreLevels locations groups.now levels.old.items }
+    requires there { thread ≤ length levels.old.items }
+    requires thread { thread < length groups.now }
+    requires room { HasRoom (tally_to locations groups.now (places_of levels.old.items) thread) (slice_index_or groups.now thread [] ∷ drop (thread + 1) groups.now) }
+    requires most { size_by (tally_to locations groups.now (places_of levels.old.items) thread) (slice_index_or groups.now thread [] ∷ drop (thread + 1) groups.now) ≤ MOST_CANDIDATES }
+    requires some { 1 ≤ size_by (tally_to locations groups.now (places_of levels.old.items) thread) (slice_index_or groups.now thread [] ∷ drop (thread + 1) groups.now) }
+    ensures levels { AreLevels locations groups.now levels.new.items }
+    ensures same { tally_to locations groups.now (places_of levels.new.items) thread ≡ tally_to locations groups.now (places_of levels.old.items) thread }
+    ensures there { OnOk result (thread < length levels.new.items) }
+{
+    if thread < levels.len() {
+        return Ok(());
+    }
+    let tally = tally_ahead(alloc, levels, groups, locations)?;
+    let sizes = count_runs(alloc, groups, thread, &tally)?;
+    levels.push(Level {
+        tally,
+        sizes,
+        place: 0,
+        before: 0,
+    })?;
+    Ok(())
+}
+
+/// The run of a thread that a number is in, behind the runs that are chosen of the threads before it. The level of the thread
+/// stands at it then, unless it is in no execution.
 pub(crate) fn choose_run(
     alloc: Global,
     levels: &mut Vec<Level>,
     groups: &[Groups],
     thread: usize,
+    locations: usize,
     marks: &Marks,
-    tally: &AccessTally,
     number: u64,
 ) -> Result<Choice, AllocError>
-    requires levels { AreLevels groups.now levels.old.items }
+    requires levels { AreLevels locations groups.now levels.old.items }
+    requires there { thread ≤ length levels.old.items }
     requires thread { thread < length groups.now }
-    requires room { (t : List Counts) → IsIn t (slice_index_or groups.now thread []) → HasRoom (sum_tally tally.now t) (drop (thread + 1) groups.now) }
-    requires most { size_by tally.now (slice_index_or groups.now thread [] ∷ drop (thread + 1) groups.now) ≤ MOST_CANDIDATES }
+    requires room { HasRoom (tally_to locations groups.now (places_of levels.old.items) thread) (slice_index_or groups.now thread [] ∷ drop (thread + 1) groups.now) }
+    requires most { size_by (tally_to locations groups.now (places_of levels.old.items) thread) (slice_index_or groups.now thread [] ∷ drop (thread + 1) groups.now) ≤ MOST_CANDIDATES }
     requires marks { length marks.now ≡ length (slice_index_or groups.now thread []) }
-    requires number { number < size_by tally.now (slice_index_or groups.now thread [] ∷ drop (thread + 1) groups.now) }
-    ensures chosen { IfOk result (λ c. IsChosen marks.now (sizes_of tally.now (slice_index_or groups.now thread []) (drop (thread + 1) groups.now)) number c.place c.rest c.passed) }
-    ensures levels { AreLevels groups.now levels.new.items }
+    requires number { number < size_by (tally_to locations groups.now (places_of levels.old.items) thread) (slice_index_or groups.now thread [] ∷ drop (thread + 1) groups.now) }
+    ensures chosen { IfOk result (λ c. IsChosen marks.now (sizes_of (tally_to locations groups.now (places_of levels.old.items) thread) (slice_index_or groups.now thread []) (drop (thread + 1) groups.now)) number c.place c.rest c.passed) }
+    ensures next { IfOk result (λ c. c.passed ≡ 0 → (thread < length levels.new.items) × (tally_to locations groups.now (places_of levels.new.items) (thread + 1) ≡ sum_tally (tally_to locations groups.now (places_of levels.old.items) thread) (slice_index_or (slice_index_or groups.now thread []) c.place []))) }
+    ensures levels { AreLevels locations groups.now levels.new.items }
 {
-    if is_known(levels, thread, tally) {
-        return Ok(choose(&mut levels[thread], marks, number));
+    enter(alloc, levels, groups, thread, locations)?;
+    let level = &levels[thread];
+    if let Some(choice) = stay(level, marks, number) {
+        return Ok(choice);
     }
-    let sizes = count_runs(alloc, groups, thread, tally)?;
-    let mut level = Level {
-        thread,
-        tally: tally.copy(alloc)?,
-        sizes,
-        place: 0,
-        before: 0,
-    };
-    let choice = choose(&mut level, marks, number);
-    keep(levels, level)?;
+    let choice = choose(level, marks, number);
+    if choice.passed == 0 {
+        stand_at(levels, groups, thread, choice.place, number - choice.rest);
+    }
     Ok(choice)
 }

@@ -76,14 +76,13 @@ fn shorter(counts: &[Counts], more: &[Counts]) -> usize
     more.len()
 }
 
-/// The sums of the counts of each location, in the room of others.
-fn add(counts: &[Counts], more: &[Counts], room: Vec<Counts>) -> Result<Vec<Counts>, AllocError>
+/// The sums of the counts of each location.
+fn add(alloc: Global, counts: &[Counts], more: &[Counts]) -> Result<Vec<Counts>, AllocError>
     requires small { IsSmall (sum_tally counts.now more.now) }
     ensures { IfOk result (λ v. v.items ≡ sum_tally counts.now more.now) }
 {
     let locations = shorter(counts, more);
-    let mut sums = room;
-    sums.clear();
+    let mut sums = Vec::with_capacity(alloc, locations)?;
     for location in 0..locations {
         let one = counts[location];
         let other = more[location];
@@ -130,44 +129,10 @@ impl AccessTally {
     pub(crate) fn new(alloc: Global, events: &[Event], locations: usize) -> Result<Self, AllocError>
         ensures { IfOk result (λ t. t ≡ tally_of locations events.now) }
     {
-        let counts = Vec::with_capacity(alloc, locations)?;
-        AccessTally::new_in(events, locations, AccessTally { counts })
-    }
-
-    /// How often events read and write each location, in the room of another.
-    pub(crate) fn new_in(
-        events: &[Event],
-        locations: usize,
-        room: AccessTally,
-    ) -> Result<Self, AllocError>
-        ensures { IfOk result (λ t. t ≡ tally_of locations events.now) }
-    {
-        let mut counts = room.counts;
-        counts.clear();
+        let mut counts = Vec::with_capacity(alloc, locations)?;
         for location in 0..locations {
             counts.push(count(events, location))?;
         }
-        Ok(AccessTally { counts })
-    }
-
-    /// The same once more.
-    pub(crate) fn copy(&self, alloc: Global) -> Result<Self, AllocError>
-        ensures { IfOk result (λ t. t ≡ self.now) }
-    {
-        let counts = Vec::from_slice(alloc, &self.counts)?;
-        Ok(AccessTally { counts })
-    }
-
-    /// Both together, in the room of another.
-    pub(crate) fn plus_into(
-        &self,
-        more: &AccessTally,
-        room: AccessTally,
-    ) -> Result<Self, AllocError>
-        requires small { IsSmall (sum_tally self.now more.now) }
-        ensures { IfOk result (λ t. t ≡ sum_tally self.now more.now) }
-    {
-        let counts = add(&self.counts, &more.counts, room.counts)?;
         Ok(AccessTally { counts })
     }
 
@@ -176,16 +141,8 @@ impl AccessTally {
         requires small { IsSmall (sum_tally self.now more.now) }
         ensures { IfOk result (λ t. t ≡ sum_tally self.now more.now) }
     {
-        self.plus_into(more, AccessTally::empty(alloc))
-    }
-
-    /// That of no location.
-    pub(crate) fn empty(alloc: Global) -> Self
-        ensures { result ≡ [] }
-    {
-        AccessTally {
-            counts: Vec::new(alloc),
-        }
+        let counts = add(alloc, &self.counts, &more.counts)?;
+        Ok(AccessTally { counts })
     }
 
     /// Whether both are the same.

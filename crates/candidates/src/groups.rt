@@ -1,6 +1,6 @@
 //! The runs of a thread in groups that read and write each location equally often.
 
-ghost use Rattle.std.specs.Prelude.{◌≡◌, ◌<◌, List, [], ◌∷◌, length, map, IfOk, MatchOption, slice_index_or, All};
+ghost use Rattle.std.specs.Prelude.{◌≡◌, ◌<◌, List, [], ◌∷◌, length, map, IfOk, MatchOption, slice_index_or, All, true};
 ghost use Rattle.listings.specs.Lists.{IsIn};
 ghost use Rattle.candidates.specs.declared.counts.Counts.{Counts};
 ghost use Rattle.candidates.specs.Candidates.{IsCapped};
@@ -138,6 +138,16 @@ impl Groups {
         ensures { result.now ≡ slice_index_or self.now place [] }
     {
         &self.tallies[self.places[place]]
+    }
+
+    /// Whether the runs at two places are in one group.
+    pub(crate) fn has_both(&self, place: usize, other: usize) -> bool
+        ensures { result ≡ true → slice_index_or self.now place [] ≡ slice_index_or self.now other [] }
+    {
+        if place >= self.places.len() || other >= self.places.len() {
+            return false;
+        }
+        self.places[place] == self.places[other]
     }
 
     /// For each run, how many candidates have the runs that are tallied, this run, and runs of the threads behind.

@@ -1,6 +1,6 @@
 //! Runs that are in no execution, since one of their reads has a value that nothing writes.
 
-ghost use Rattle.std.specs.Prelude.{◌≡◌, ◌<◌, ◌≤◌, List, Bool, true, length, map, IfOk, OnOk};
+ghost use Rattle.std.specs.Prelude.{◌≡◌, ◌<◌, ◌≤◌, List, Bool, true, false, length, map, slice_index_or, IfOk, OnOk};
 ghost use Rattle.std.specs.List.{list_any};
 ghost use Rattle.listings.specs.Lists.{sum_of};
 ghost use Rattle.candidates.specs.Impossible.{AreMarks, has_store, is_wanting, is_impossible, Keeps, HasWrite, HasWrites, HasRuns, HasThreads, IsPassed};
@@ -128,6 +128,14 @@ impl Marks {
             marks.push(is_impossible(init, stores, run.events()))?;
         }
         Ok(Marks { marks })
+    }
+
+    /// Whether the run at a place is in no execution.
+    pub(crate) fn is_marked(&self, place: usize) -> bool
+        requires { place < length self.now }
+        ensures { result ≡ slice_index_or self.now place false }
+    {
+        self.marks[place]
     }
 
     /// How many candidates go on with this run and those behind it, up to the first that may be in an execution.

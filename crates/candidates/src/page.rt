@@ -6,7 +6,7 @@ ghost use Rattle.listings.specs.Lists.{factorial};
 use crate::capped::capped_factorial;
 use crate::depths::Depth;
 use crate::fault::MOST_CANDIDATES;
-use crate::levels::{Level, Rooms};
+use crate::levels::Level;
 use crate::reading::Hit;
 use events::{Event, EventId, Graph, GraphParts, Run};
 use std::alloc::Global;
@@ -146,7 +146,6 @@ impl Drop for Stretch {
 /// Where a walk looks on: what is kept of the threads on the way down to a choice of runs, and the stretch of the choice.
 pub(crate) struct Ahead {
     pub(crate) levels: Vec<Level>,
-    pub(crate) rooms: Rooms,
     pub(crate) stretch: Stretch,
 }
 
@@ -154,7 +153,6 @@ impl Drop for Ahead {
     fn drop(self) {
         let Ahead {
             levels: _,
-            rooms: _,
             stretch: _,
         } = self;
     }

@@ -11,14 +11,12 @@ ghost use Rattle.candidates.specs.Walks.{IsReached};
 
 use crate::assembly::fill_page;
 use crate::choosing::{RunList, choose_run};
-use crate::counts::AccessTally;
 use crate::groups::Groups;
 use crate::impossible::Marks;
-use crate::levels::{Level, Rooms};
+use crate::levels::Level;
 use crate::page::Stretch;
 use events::{Event, Run};
 use std::alloc::{AllocError, Global};
-use std::mem::replace;
 
 /// Whether two events do the same to one location, whatever their values are.
 fn do_the_same(event: &Event, other: &Event) -> bool
@@ -110,24 +108,20 @@ fn locate(
     alloc: Global,
     threads: &Threads<'_>,
     levels: &mut Vec<Level>,
-    rooms: &mut Rooms,
     runs: &mut Vec<Run>,
     places: &mut Vec<usize>,
     number: u64,
 ) -> Result<Located, AllocError>
     requires threads { AreThreads threads.now }
-    requires levels { AreLevels threads.now.groups.now levels.old.items }
+    requires levels { AreLevels (length threads.now.init.now) threads.now.groups.now levels.old.items }
     requires placed { ArePlaced threads.now.runs.now runs.old.items places.old.items }
     requires number { number < size_of (choices_by threads.now) }
     ensures located { IfOk result (IsLocated (choices_by threads.now) number runs.new.items) }
     ensures alike { IfOk result (AreKept runs.old.items runs.new.items) }
     ensures placed { ArePlaced threads.now.runs.now runs.new.items places.new.items }
-    ensures levels { AreLevels threads.now.groups.now levels.new.items }
+    ensures levels { AreLevels (length threads.now.init.now) threads.now.groups.now levels.new.items }
 {
     let mut alike = runs.len() <= threads.runs.len();
-    let first = replace(&mut rooms.tally, AccessTally::empty(alloc));
-    let mut tally = AccessTally::new_in(&[], threads.init.len(), first)?;
-    let mut room = replace(&mut rooms.other, AccessTally::empty(alloc));
     let mut rest = number;
     for thread in 0..threads.runs.len() {
         let choice = choose_run(
@@ -135,22 +129,17 @@ fn locate(
             levels,
             threads.groups,
             thread,
+            threads.init.len(),
             &threads.marks[thread],
-            &tally,
             rest,
         )?;
         if choice.passed > 0 {
-            *rooms = Rooms { tally, other: room };
             return Ok(Located::Until(number - choice.rest + choice.passed));
         }
-        let sum = tally.plus_into(threads.groups[thread].tally_at(choice.place), room)?;
-        room = tally;
-        tally = sum;
         alike = place_run(runs, places, threads.runs, thread, choice.place)? && alike;
         rest = choice.rest;
     }
     runs.truncate(threads.runs.len());
-    *rooms = Rooms { tally, other: room };
     Ok(Located::At(rest, alike))
 }
 
@@ -160,17 +149,16 @@ pub(crate) fn go_to(
     alloc: Global,
     threads: &Threads<'_>,
     levels: &mut Vec<Level>,
-    rooms: &mut Rooms,
     stretch: &mut Stretch,
     number: u64,
 ) -> Result<Option<u64>, AllocError>
     requires threads { AreThreads threads.now }
-    requires levels { AreLevels threads.now.groups.now levels.old.items }
+    requires levels { AreLevels (length threads.now.init.now) threads.now.groups.now levels.old.items }
     requires stretch { MayBeStretch (choices_by threads.now) stretch.old }
     requires number { number < size_of (choices_by threads.now) }
     ensures reached { IfOk result (IsReached (choices_by threads.now) number stretch.new) }
     ensures stretch { MayBeStretch (choices_by threads.now) stretch.new }
-    ensures levels { AreLevels threads.now.groups.now levels.new.items }
+    ensures levels { AreLevels (length threads.now.init.now) threads.now.groups.now levels.new.items }
 {
     let whole = stretch.size > 0;
     stretch.size = 0;
@@ -178,7 +166,6 @@ pub(crate) fn go_to(
         alloc,
         threads,
         levels,
-        rooms,
         &mut stretch.page.runs,
         &mut stretch.page.places,
         number,

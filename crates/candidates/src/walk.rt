@@ -15,7 +15,6 @@ ghost use Rattle.candidates.specs.Walks.{IsAhead, IsFind, IsFound, IsHit, IsJust
 use crate::assembly::{assemble, assemble_in, no_parts, nothing, turned};
 use crate::block::{Block, cut_to};
 use crate::depths::Known;
-use crate::levels::no_rooms;
 use crate::open_orders::{OpenOrders, open_orders};
 use crate::page::{Ahead, Page, Scene, Stretch};
 use crate::reading::{Hit, Look, look_at};
@@ -101,7 +100,6 @@ fn nothing_ahead(alloc: Global) -> Ahead
 {
     Ahead {
         levels: Vec::new(alloc),
-        rooms: no_rooms(alloc),
         stretch: no_stretch(alloc),
     }
 }
@@ -153,7 +151,6 @@ fn reach(
         alloc,
         &space.threads(),
         &mut ahead.levels,
-        &mut ahead.rooms,
         &mut ahead.stretch,
         number,
     )

@@ -12,7 +12,7 @@ pub part_from-requires-clause-number : goal.part_from-requires-clause-number
 part_from-requires-clause-number c = (let P : List ℕ → Type 0 = λ ss. c.args.number < sum_of (λ n. n) ss in subst P (sym c.deref.ensures.value) c.requires.number)
 
 pub part_from-requires-2-clause-before : goal.part_from-requires-2-clause-before
-part_from-requires-2-clause-before c = c.requires.stands ∙ ap (λ (ss : List ℕ). sum_of (λ n. n) (take c.args.level.now.place ss)) (sym c.deref-2.ensures.value)
+part_from-requires-2-clause-before c = c.requires.stands.1 ∙ ap (λ (ss : List ℕ). sum_of (λ n. n) (take c.args.level.now.place ss)) (sym c.deref-2.ensures.value)
 
 pub part_from-requires-2-clause-order : goal.part_from-requires-2-clause-order
 part_from-requires-2-clause-order c = c.if-number-level.false

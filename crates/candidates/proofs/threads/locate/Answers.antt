@@ -15,23 +15,21 @@ use Rattle.candidates.proofs.Puts.{cut_behind}
 use Rattle.candidates.proofs.Outlining.{as_many}
 use Rattle.candidates.specs.Outlines.{outlines}
 use Rattle.candidates.proofs.Kept.{as_many_groups, same_default, tally_there}
-use Rattle.candidates.proofs.Descent.{down_first, down_at, tallies_here, tallies_after, room_on, most_on, below_on, enter, run_within, small_on, down_next, down_end}
+use Rattle.candidates.proofs.Descent.{down_first, down_at, tallies_here, tallies_after, room_on, most_on, below_on, enter, run_within, down_next, down_end}
+use Rattle.candidates.specs.Levels.{places_of, tally_to}
 use Rattle.candidates.proofs.threads.locate.Goals as goal
 use Rattle.candidates.proofs.threads.locate.Goals.{then-branch, else-branch}
 
 pub loop-thread-init : goal.loop-thread-init
 loop-thread-init c = record {
-  down = down_first (length c.args.threads.now.init.now) c.args.threads.now.runs.now c.args.threads.now.groups.now c.args.number c.in_ok-tally.tally c.requires.threads.tallied c.requires.threads.room c.requires.threads.within c.requires.number c.in_ok-tally.ensures;
+  down = down_first (length c.args.threads.now.init.now) c.args.threads.now.runs.now c.args.threads.now.groups.now c.args.number (tally_to (length c.args.threads.now.init.now) c.args.threads.now.groups.now (places_of c.args.levels.now.items) 0) c.requires.threads.tallied c.requires.threads.room c.requires.threads.within c.requires.number refl;
+  there = omega arith;
   within = omega arith;
   done = omega arith;
   placed = c.requires.placed;
   alike = λ h. (omega (arith, c.len.ensures, leb-true c.len.result (length c.args.threads.now.runs.now) h), refl);
   levels = c.requires.levels;
 }
-
-pub bounds-threads-thread-in-loop-thread : goal.bounds-threads-thread-in-loop-thread
-bounds-threads-thread-in-loop-thread c =
-    omega (arith, c.loop-thread-test.true, ap (λ gs. length gs) c.requires.threads.tallied, length_mapped (tallies_of (length c.args.threads.now.init.now)) c.args.threads.now.runs.now)
 
 pub place_run-requires-clause-place : goal.place_run-requires-clause-place
 place_run-requires-clause-place c =
@@ -40,10 +38,10 @@ place_run-requires-clause-place c =
     let at = c.loop-thread in
     let l = c.loop-thread-test.true in
     let choice = c.in_ok-choice.choice in
-    let sizes = sizes_of at.tally (get_or c.args.threads.now.groups.now at.thread []) (drop (at.thread + 1) c.args.threads.now.groups.now) in
-    let e = enter n (choices threads) c.args.number at.rest at.tally (take at.thread at.runs.items) threads c.args.threads.now.groups.now at.thread (get_or c.args.threads.now.groups.now at.thread []) (drop (at.thread + 1) c.args.threads.now.groups.now) sizes c.requires.threads.tallied l
+    let sizes = sizes_of (tally_to n c.args.threads.now.groups.now (places_of at.levels.items) at.thread) (get_or c.args.threads.now.groups.now at.thread []) (drop (at.thread + 1) c.args.threads.now.groups.now) in
+    let e = enter n (choices threads) c.args.number at.rest (tally_to n c.args.threads.now.groups.now (places_of at.levels.items) at.thread) (take at.thread at.runs.items) threads c.args.threads.now.groups.now at.thread (get_or c.args.threads.now.groups.now at.thread []) (drop (at.thread + 1) c.args.threads.now.groups.now) sizes c.requires.threads.tallied l
     (same_default c.args.threads.now.groups.now at.thread (as_many_groups (tallies_of n) c.args.threads.now.groups.now threads at.thread c.requires.threads.tallied l)) refl at.invariant.down refl in
-    run_within n (choices threads) c.args.number at.rest at.tally (take at.thread at.runs.items) threads at.thread sizes choice.place e c.in_ok-choice.ensures.chosen.place
+    run_within n (choices threads) c.args.number at.rest (tally_to n c.args.threads.now.groups.now (places_of at.levels.items) at.thread) (take at.thread at.runs.items) threads at.thread sizes choice.place e c.in_ok-choice.ensures.chosen.place
 
 pub choose_run-requires-clause-room : goal.choose_run-requires-clause-room
 choose_run-requires-clause-room c =
@@ -51,10 +49,10 @@ choose_run-requires-clause-room c =
     let threads = c.args.threads.now.runs.now in
     let at = c.loop-thread in
     let l = c.loop-thread-test.true in
-    let d = down_at n (choices threads) c.args.number at.rest at.tally (take at.thread at.runs.items) threads at.thread l at.invariant.down in
+    let d = down_at n (choices threads) c.args.number at.rest (tally_to n c.args.threads.now.groups.now (places_of at.levels.items) at.thread) (take at.thread at.runs.items) threads at.thread l at.invariant.down in
     let here = tallies_here n threads c.args.threads.now.groups.now at.thread (get_or c.args.threads.now.groups.now at.thread []) c.requires.threads.tallied l (same_default c.args.threads.now.groups.now at.thread (as_many_groups (tallies_of n) c.args.threads.now.groups.now threads at.thread c.requires.threads.tallied l)) in
     let after = tallies_after n threads c.args.threads.now.groups.now (drop (at.thread + 1) c.args.threads.now.groups.now) at.thread c.requires.threads.tallied refl in
-    room_on n (choices threads) c.args.number at.rest at.tally (take at.thread at.runs.items) (get_or threads at.thread []) (drop (at.thread + 1) threads) (get_or c.args.threads.now.groups.now at.thread []) (drop (at.thread + 1) c.args.threads.now.groups.now) d here after
+    room_on n (choices threads) c.args.number at.rest (tally_to n c.args.threads.now.groups.now (places_of at.levels.items) at.thread) (take at.thread at.runs.items) (get_or threads at.thread []) (drop (at.thread + 1) threads) (get_or c.args.threads.now.groups.now at.thread []) (drop (at.thread + 1) c.args.threads.now.groups.now) d here after
 
 pub choose_run-requires-clause-most : goal.choose_run-requires-clause-most
 choose_run-requires-clause-most c =
@@ -62,10 +60,10 @@ choose_run-requires-clause-most c =
     let threads = c.args.threads.now.runs.now in
     let at = c.loop-thread in
     let l = c.loop-thread-test.true in
-    let d = down_at n (choices threads) c.args.number at.rest at.tally (take at.thread at.runs.items) threads at.thread l at.invariant.down in
+    let d = down_at n (choices threads) c.args.number at.rest (tally_to n c.args.threads.now.groups.now (places_of at.levels.items) at.thread) (take at.thread at.runs.items) threads at.thread l at.invariant.down in
     let here = tallies_here n threads c.args.threads.now.groups.now at.thread (get_or c.args.threads.now.groups.now at.thread []) c.requires.threads.tallied l (same_default c.args.threads.now.groups.now at.thread (as_many_groups (tallies_of n) c.args.threads.now.groups.now threads at.thread c.requires.threads.tallied l)) in
     let after = tallies_after n threads c.args.threads.now.groups.now (drop (at.thread + 1) c.args.threads.now.groups.now) at.thread c.requires.threads.tallied refl in
-    omega (arith, most_on n (choices threads) c.args.number at.rest at.tally (take at.thread at.runs.items) (get_or threads at.thread []) (drop (at.thread + 1) threads) (get_or c.args.threads.now.groups.now at.thread []) (drop (at.thread + 1) c.args.threads.now.groups.now) d here after, c.requires.threads.most)
+    omega (arith, most_on n (choices threads) c.args.number at.rest (tally_to n c.args.threads.now.groups.now (places_of at.levels.items) at.thread) (take at.thread at.runs.items) (get_or threads at.thread []) (drop (at.thread + 1) threads) (get_or c.args.threads.now.groups.now at.thread []) (drop (at.thread + 1) c.args.threads.now.groups.now) d here after, c.requires.threads.most)
 
 pub choose_run-requires-clause-marks : goal.choose_run-requires-clause-marks
 choose_run-requires-clause-marks c =
@@ -85,10 +83,10 @@ choose_run-requires-clause-number c =
     let threads = c.args.threads.now.runs.now in
     let at = c.loop-thread in
     let l = c.loop-thread-test.true in
-    let d = down_at n (choices threads) c.args.number at.rest at.tally (take at.thread at.runs.items) threads at.thread l at.invariant.down in
+    let d = down_at n (choices threads) c.args.number at.rest (tally_to n c.args.threads.now.groups.now (places_of at.levels.items) at.thread) (take at.thread at.runs.items) threads at.thread l at.invariant.down in
     let here = tallies_here n threads c.args.threads.now.groups.now at.thread (get_or c.args.threads.now.groups.now at.thread []) c.requires.threads.tallied l (same_default c.args.threads.now.groups.now at.thread (as_many_groups (tallies_of n) c.args.threads.now.groups.now threads at.thread c.requires.threads.tallied l)) in
     let after = tallies_after n threads c.args.threads.now.groups.now (drop (at.thread + 1) c.args.threads.now.groups.now) at.thread c.requires.threads.tallied refl in
-    below_on n (choices threads) c.args.number at.rest at.tally (take at.thread at.runs.items) (get_or threads at.thread []) (drop (at.thread + 1) threads) (get_or c.args.threads.now.groups.now at.thread []) (drop (at.thread + 1) c.args.threads.now.groups.now) d here after
+    below_on n (choices threads) c.args.number at.rest (tally_to n c.args.threads.now.groups.now (places_of at.levels.items) at.thread) (take at.thread at.runs.items) (get_or threads at.thread []) (drop (at.thread + 1) threads) (get_or c.args.threads.now.groups.now at.thread []) (drop (at.thread + 1) c.args.threads.now.groups.now) d here after
 
 pub overflow_add-result : goal.overflow_add-result
 overflow_add-result c =
@@ -100,10 +98,10 @@ overflow_add-result c =
     let more = drop (at.thread + 1) threads in
     let choice = c.in_ok-choice.choice in
     let chosen = c.in_ok-choice.ensures.chosen in
-    let sizes = sizes_of at.tally (get_or c.args.threads.now.groups.now at.thread []) (drop (at.thread + 1) c.args.threads.now.groups.now) in
-    let e = enter n (choices threads) c.args.number at.rest at.tally (take at.thread at.runs.items) threads c.args.threads.now.groups.now at.thread (get_or c.args.threads.now.groups.now at.thread []) (drop (at.thread + 1) c.args.threads.now.groups.now) sizes c.requires.threads.tallied l
+    let sizes = sizes_of (tally_to n c.args.threads.now.groups.now (places_of at.levels.items) at.thread) (get_or c.args.threads.now.groups.now at.thread []) (drop (at.thread + 1) c.args.threads.now.groups.now) in
+    let e = enter n (choices threads) c.args.number at.rest (tally_to n c.args.threads.now.groups.now (places_of at.levels.items) at.thread) (take at.thread at.runs.items) threads c.args.threads.now.groups.now at.thread (get_or c.args.threads.now.groups.now at.thread []) (drop (at.thread + 1) c.args.threads.now.groups.now) sizes c.requires.threads.tallied l
     (same_default c.args.threads.now.groups.now at.thread (as_many_groups (tallies_of n) c.args.threads.now.groups.now threads at.thread c.requires.threads.tallied l)) refl at.invariant.down refl in
-    omega (arith, passed_within n (choices threads) c.args.number at.rest choice.rest at.tally (take at.thread at.runs.items) runs more sizes (get_or c.args.threads.now.marks.now at.thread c.index-threads-thread.result) choice.place choice.passed e.down e.are chosen.sum chosen.passed_are, c.requires.threads.most)
+    omega (arith, passed_within n (choices threads) c.args.number at.rest choice.rest (tally_to n c.args.threads.now.groups.now (places_of at.levels.items) at.thread) (take at.thread at.runs.items) runs more sizes (get_or c.args.threads.now.marks.now at.thread c.index-threads-thread.result) choice.place choice.passed e.down e.are chosen.sum chosen.passed_are, c.requires.threads.most)
 
 pub returns-then-choice-gt0-clause-located : goal.returns-then-choice-gt0-clause-located
 returns-then-choice-gt0-clause-located c =
@@ -115,30 +113,13 @@ returns-then-choice-gt0-clause-located c =
     let more = drop (at.thread + 1) threads in
     let choice = c.in_ok-choice.choice in
     let chosen = c.in_ok-choice.ensures.chosen in
-    let sizes = sizes_of at.tally (get_or c.args.threads.now.groups.now at.thread []) (drop (at.thread + 1) c.args.threads.now.groups.now) in
-    let e = enter n (choices threads) c.args.number at.rest at.tally (take at.thread at.runs.items) threads c.args.threads.now.groups.now at.thread (get_or c.args.threads.now.groups.now at.thread []) (drop (at.thread + 1) c.args.threads.now.groups.now) sizes c.requires.threads.tallied l
+    let sizes = sizes_of (tally_to n c.args.threads.now.groups.now (places_of at.levels.items) at.thread) (get_or c.args.threads.now.groups.now at.thread []) (drop (at.thread + 1) c.args.threads.now.groups.now) in
+    let e = enter n (choices threads) c.args.number at.rest (tally_to n c.args.threads.now.groups.now (places_of at.levels.items) at.thread) (take at.thread at.runs.items) threads c.args.threads.now.groups.now at.thread (get_or c.args.threads.now.groups.now at.thread []) (drop (at.thread + 1) c.args.threads.now.groups.now) sizes c.requires.threads.tallied l
     (same_default c.args.threads.now.groups.now at.thread (as_many_groups (tallies_of n) c.args.threads.now.groups.now threads at.thread c.requires.threads.tallied l)) refl at.invariant.down refl in
     let marks = sym c.index-threads-thread.is ∙ marks_here c.args.threads.now.init.now c.requires.threads.marked.stores threads c.args.threads.now.marks.now at.thread c.index-threads-thread.result c.requires.threads.marked.are l c.index-threads-thread.is in
     let s : Choices = record { init = c.args.threads.now.init.now; threads = threads } in
-    passed_over s c.requires.threads.marked.stores c.args.number at.rest choice.rest at.tally (take at.thread at.runs.items) runs more sizes (get_or c.args.threads.now.marks.now at.thread c.index-threads-thread.result) choice.place choice.passed
+    passed_over s c.requires.threads.marked.stores c.args.number at.rest choice.rest (tally_to n c.args.threads.now.groups.now (places_of at.levels.items) at.thread) (take at.thread at.runs.items) runs more sizes (get_or c.args.threads.now.marks.now at.thread c.index-threads-thread.result) choice.place choice.passed
     c.requires.threads.marked.has marks e.down e.are chosen.sum chosen.passed_are chosen.place chosen.within (omega (arith, c.if-choice-gt0.true))
-
-pub plus_into-requires : goal.plus_into-requires
-plus_into-requires c =
-    let n = length c.args.threads.now.init.now in
-    let threads = c.args.threads.now.runs.now in
-    let at = c.loop-thread in
-    let l = c.loop-thread-test.true in
-    let runs = get_or threads at.thread [] in
-    let more = drop (at.thread + 1) threads in
-    let choice = c.in_ok-choice.choice in
-    let chosen = c.in_ok-choice.ensures.chosen in
-    let sizes = sizes_of at.tally (get_or c.args.threads.now.groups.now at.thread []) (drop (at.thread + 1) c.args.threads.now.groups.now) in
-    let e = enter n (choices threads) c.args.number at.rest at.tally (take at.thread at.runs.items) threads c.args.threads.now.groups.now at.thread (get_or c.args.threads.now.groups.now at.thread []) (drop (at.thread + 1) c.args.threads.now.groups.now) sizes c.requires.threads.tallied l
-    (same_default c.args.threads.now.groups.now at.thread (as_many_groups (tallies_of n) c.args.threads.now.groups.now threads at.thread c.requires.threads.tallied l)) refl at.invariant.down refl in
-    let m = run_within n (choices threads) c.args.number at.rest at.tally (take at.thread at.runs.items) threads at.thread sizes choice.place e chosen.place in
-    let run = get_or (get_or threads at.thread []) choice.place empty_run in
-    record { small = small_on n (choices threads) c.args.number at.rest at.tally c.tally_at.result.now (take at.thread at.runs.items) runs more choice.place run e.down m refl (tally_there (λ (run : ThreadRun). tally_of n run.events) c.args.threads.now.groups.now threads at.thread choice.place (get_or c.args.threads.now.groups.now at.thread c.index-threads-thread-in-loop-thread.result) c.tally_at.result.now run c.requires.threads.tallied l (ap (λ ts. get_or c.args.threads.now.groups.now at.thread ts) c.index-threads-thread-in-loop-thread.is) m c.tally_at.ensures refl) }
 
 pub loop-thread-preserved : goal.loop-thread-preserved
 loop-thread-preserved c =
@@ -150,14 +131,22 @@ loop-thread-preserved c =
     let more = drop (at.thread + 1) threads in
     let choice = c.in_ok-choice.choice in
     let chosen = c.in_ok-choice.ensures.chosen in
-    let sizes = sizes_of at.tally (get_or c.args.threads.now.groups.now at.thread []) (drop (at.thread + 1) c.args.threads.now.groups.now) in
-    let e = enter n (choices threads) c.args.number at.rest at.tally (take at.thread at.runs.items) threads c.args.threads.now.groups.now at.thread (get_or c.args.threads.now.groups.now at.thread []) (drop (at.thread + 1) c.args.threads.now.groups.now) sizes c.requires.threads.tallied l
+    let sizes = sizes_of (tally_to n c.args.threads.now.groups.now (places_of at.levels.items) at.thread) (get_or c.args.threads.now.groups.now at.thread []) (drop (at.thread + 1) c.args.threads.now.groups.now) in
+    let e = enter n (choices threads) c.args.number at.rest (tally_to n c.args.threads.now.groups.now (places_of at.levels.items) at.thread) (take at.thread at.runs.items) threads c.args.threads.now.groups.now at.thread (get_or c.args.threads.now.groups.now at.thread []) (drop (at.thread + 1) c.args.threads.now.groups.now) sizes c.requires.threads.tallied l
     (same_default c.args.threads.now.groups.now at.thread (as_many_groups (tallies_of n) c.args.threads.now.groups.now threads at.thread c.requires.threads.tallied l)) refl at.invariant.down refl in
-    let m = run_within n (choices threads) c.args.number at.rest at.tally (take at.thread at.runs.items) threads at.thread sizes choice.place e chosen.place in
+    let m = run_within n (choices threads) c.args.number at.rest (tally_to n c.args.threads.now.groups.now (places_of at.levels.items) at.thread) (take at.thread at.runs.items) threads at.thread sizes choice.place e chosen.place in
     let run = get_or (get_or threads at.thread []) choice.place empty_run in
+    let groups = c.args.threads.now.groups.now in
+    let tally = tally_to n groups (places_of at.levels.items) at.thread in
+    let grown = tally_to n groups (places_of c.choose_run.new.levels.items) (at.thread + 1) in
+    let next = c.in_ok-choice.ensures.next (omega (arith, c.if-choice-gt0.false)) in
+    let inside = as_many_groups (tallies_of n) groups threads at.thread c.requires.threads.tallied l in
+    let here = get_or (get_or groups at.thread []) choice.place [] in
     record {
-      down = down_next n (choices threads) c.args.number at.rest choice.rest at.tally c.tally_at.result.now c.in_ok-sum.sum (take at.thread at.runs.items) (take (at.thread + 1) c.place_run.new.runs.items) runs more sizes choice.place run e.down e.are
-          chosen.place chosen.within chosen.sum refl (tally_there (λ (run : ThreadRun). tally_of n run.events) c.args.threads.now.groups.now threads at.thread choice.place (get_or c.args.threads.now.groups.now at.thread c.index-threads-thread-in-loop-thread.result) c.tally_at.result.now run c.requires.threads.tallied l (ap (λ ts. get_or c.args.threads.now.groups.now at.thread ts) c.index-threads-thread-in-loop-thread.is) m c.tally_at.ensures refl) c.in_ok-sum.ensures
+      there = omega (arith, next.0);
+      down = down_next n (choices threads) c.args.number at.rest choice.rest tally here grown (take at.thread at.runs.items) (take (at.thread + 1) c.place_run.new.runs.items) runs more sizes choice.place run e.down e.are
+          chosen.place chosen.within chosen.sum refl
+          (tally_there (λ (run : ThreadRun). tally_of n run.events) groups threads at.thread choice.place (get_or groups at.thread []) here run c.requires.threads.tallied l (same_default groups at.thread inside) m refl refl) next.1
           c.in_ok-alike.ensures.put;
       within = omega (arith, l);
       done = omega (arith, c.in_ok-alike.ensures.done);
@@ -176,16 +165,7 @@ returns-clause-located c =
     let at = c.loop-thread in
     let P : List ThreadRun → Type 0 = λ rs. (at.rest ≤ c.args.number) × (at.rest < block n rs) × IsPart n (choices threads) (c.args.number - at.rest) (rs ∷ []) in
     subst P (sym (cut_behind at.runs.items c.truncate.new.self.items at.thread (length threads) at.invariant.within (omega (arith, c.loop-thread-test.false)) c.truncate.ensures.items))
-    (down_end n (choices threads) c.args.number at.rest at.tally (take at.thread at.runs.items) (drop at.thread threads) (drop_all at.thread threads (omega (arith, c.loop-thread-test.false))) at.invariant.down)
-
-pub slice_bounds-new_in-end : goal.slice_bounds-new_in-end
-slice_bounds-new_in-end c = refl
-
-pub returns-in_err-tally-clause-located : goal.returns-in_err-tally-clause-located
-returns-in_err-tally-clause-located c = IfOk-from_err c.from_residual.result _ c.from_residual.ensures.0
-
-pub returns-in_err-tally-clause-levels : goal.returns-in_err-tally-clause-levels
-returns-in_err-tally-clause-levels c = c.requires.levels
+    (down_end n (choices threads) c.args.number at.rest (tally_to n c.args.threads.now.groups.now (places_of at.levels.items) at.thread) (take at.thread at.runs.items) (drop at.thread threads) (drop_all at.thread threads (omega (arith, c.loop-thread-test.false))) at.invariant.down)
 
 pub bounds-threads-thread : goal.bounds-threads-thread
 bounds-threads-thread c =
@@ -198,7 +178,7 @@ pub choose_run-requires-clause-thread : goal.choose_run-requires-clause-thread
 choose_run-requires-clause-thread c = as_many_groups (tallies_of (length c.args.threads.now.init.now)) c.args.threads.now.groups.now c.args.threads.now.runs.now c.loop-thread.thread c.requires.threads.tallied c.loop-thread-test.true
 
 pub returns-in_err-choice-clause-located : goal.returns-in_err-choice-clause-located
-returns-in_err-choice-clause-located c = IfOk-from_err c.from_residual-in_err-choice.result _ c.from_residual-in_err-choice.ensures.0
+returns-in_err-choice-clause-located c = IfOk-from_err c.from_residual.result _ c.from_residual.ensures.0
 
 pub returns-in_err-choice-clause-levels : goal.returns-in_err-choice-clause-levels
 returns-in_err-choice-clause-levels c = c.choose_run.ensures.levels
@@ -208,12 +188,6 @@ overflow_sub-result c = omega (arith, c.in_ok-choice.ensures.chosen.sum, c.loop-
 
 pub returns-then-choice-gt0-clause-levels : goal.returns-then-choice-gt0-clause-levels
 returns-then-choice-gt0-clause-levels c = c.choose_run.ensures.levels
-
-pub returns-in_err-sum-clause-located : goal.returns-in_err-sum-clause-located
-returns-in_err-sum-clause-located c = IfOk-from_err c.from_residual-in_err-sum.result _ c.from_residual-in_err-sum.ensures.0
-
-pub returns-in_err-sum-clause-levels : goal.returns-in_err-sum-clause-levels
-returns-in_err-sum-clause-levels c = c.choose_run.ensures.levels
 
 pub place_run-requires-clause-thread : goal.place_run-requires-clause-thread
 place_run-requires-clause-thread c = c.loop-thread-test.true
@@ -227,20 +201,6 @@ place_run-requires-clause-placed c = c.loop-thread.invariant.placed
 pub returns-clause-levels : goal.returns-clause-levels
 returns-clause-levels c = c.loop-thread.invariant.levels
 
-pub tally_at-requires : goal.tally_at-requires
-tally_at-requires c =
-    let n = length c.args.threads.now.init.now in
-    let threads = c.args.threads.now.runs.now in
-    let groups = c.args.threads.now.groups.now in
-    let at = c.loop-thread in
-    let l = c.loop-thread-test.true in
-    let sizes = sizes_of at.tally (get_or groups at.thread []) (drop (at.thread + 1) groups) in
-    let e = enter n (choices threads) c.args.number at.rest at.tally (take at.thread at.runs.items) threads groups at.thread (get_or groups at.thread []) (drop (at.thread + 1) groups) sizes c.requires.threads.tallied l
-    (same_default groups at.thread (as_many_groups (tallies_of n) groups threads at.thread c.requires.threads.tallied l)) refl at.invariant.down refl in
-    let m = run_within n (choices threads) c.args.number at.rest at.tally (take at.thread at.runs.items) threads at.thread sizes c.in_ok-choice.choice.place e c.in_ok-choice.ensures.chosen.place in
-    let here = tallies_here n threads groups at.thread (get_or groups at.thread c.index-threads-thread-in-loop-thread.result) c.requires.threads.tallied l (ap (λ ts. get_or groups at.thread ts) c.index-threads-thread-in-loop-thread.is) in
-    omega (arith, m, ap (λ ts. length ts) here, length_mapped (λ (run : ThreadRun). tally_of n run.events) (get_or threads at.thread []))
-
 pub returns-clause-alike : goal.returns-clause-alike
 returns-clause-alike c = λ h.
     let at = c.loop-thread in
@@ -252,3 +212,6 @@ returns-clause-placed c =
     let at = c.loop-thread in
     let h = at.invariant.placed in
     placed_cut c.args.threads.now.runs.now at.runs.items c.truncate.new.self.items at.places.items (length c.args.threads.now.runs.now) h h.few c.truncate.ensures.items
+
+pub choose_run-requires-clause-there : goal.choose_run-requires-clause-there
+choose_run-requires-clause-there c = c.loop-thread.invariant.there

@@ -1,16 +1,17 @@
 use Rattle.std.proofs.Common.{◌≡◌, ◌≤◌, drop, take, length, true}
 use Rattle.candidates.specs.Candidates.{choices}
-use Rattle.candidates.specs.Levels.{AreLevels, ArePlaced}
+use Rattle.candidates.specs.Levels.{AreLevels, ArePlaced, places_of, tally_to}
 use Rattle.candidates.specs.Outlines.{outlines}
 use Rattle.candidates.proofs.Descent.{IsDown}
 use Rattle.candidates.proofs.threads.locate.Given as goal
 
 abbrev pub invariant-loop-thread : goal.invariant-loop-thread
 invariant-loop-thread l = record {
-  down : IsDown (length l.threads.init.now) (choices l.threads.runs.now) l.number l.rest l.tally (take l.thread l.runs.items) (drop l.thread l.threads.runs.now);
+  down : IsDown (length l.threads.init.now) (choices l.threads.runs.now) l.number l.rest (tally_to (length l.threads.init.now) l.threads.groups.now (places_of l.levels.items) l.thread) (take l.thread l.runs.items) (drop l.thread l.threads.runs.now);
   within : l.thread ≤ length l.threads.runs.now;
   done : l.thread ≤ length l.places.items;
   placed : ArePlaced l.threads.runs.now l.runs.items l.places.items;
   alike : l.alike ≡ true → (length l.fn.runs.items ≤ length l.threads.runs.now) × (outlines l.runs.items ≡ outlines l.fn.runs.items);
-  levels : AreLevels l.threads.groups.now l.levels.items;
+  there : l.thread ≤ length l.levels.items;
+  levels : AreLevels (length l.threads.init.now) l.threads.groups.now l.levels.items;
 }

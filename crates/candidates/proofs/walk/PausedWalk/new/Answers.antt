@@ -10,7 +10,7 @@ use Rattle.candidates.proofs.walk.PausedWalk.new.Goals as goal
 pub returns-clause-paused : goal.returns-clause-paused
 returns-clause-paused c = λ s.
     let e = c.no_scene.ensures in
-    let P : List Level → Type 0 = λ ls. AreLevels (groups_of s) ls in
+    let P : List Level → Type 0 = λ ls. AreLevels (length s.init) (groups_of s) ls in
     record {
       stretch = record { whole = λ l. absurd (omega (arith, l, e.size)); placed = placed_none s.threads _ _ e.places.0 };
       none = λ z. e.depths;
@@ -22,6 +22,6 @@ returns-clause-paused c = λ s.
       room = placed_none s.threads _ _ e.places.3;
       ahead = record {
         stretch = record { whole = λ l. absurd (omega (arith, l, e.ahead)); placed = placed_none s.threads _ _ e.places.1 };
-        levels = subst P (sym e.levels) (λ l m. absurd m);
+        levels = subst P (sym e.levels) (λ k l m. absurd (omega (arith, m)));
       };
     }

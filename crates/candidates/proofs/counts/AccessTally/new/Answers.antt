@@ -1,7 +1,7 @@
 use Rattle.candidates.proofs.Adding.{tally_next}
 use Rattle.std.proofs.Common.{◌≡◌, ◌∙◌, ap, arith}
 use Rattle.candidates.specs.Groups.{tally_of}
-use Rattle.candidates.proofs.counts.AccessTally.new_in.Goals as goal
+use Rattle.candidates.proofs.counts.AccessTally.new.Goals as goal
 
 pub loop-location-preserved : goal.loop-location-preserved
 loop-location-preserved c =
