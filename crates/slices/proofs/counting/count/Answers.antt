@@ -1,4 +1,4 @@
-use Rattle.std.proofs.Common.{◌≡◌, ◌+◌, ◌↔◌, ◌∙◌, List, [], map, refl, sym, ap, subst, IsTrue, arith}
+use Rattle.std.proofs.Common.{◌≡◌, ◌+◌, ◌<◌, ◌↔◌, ◌∙◌, List, [], map, refl, sym, ap, subst, IsTrue, arith}
 use Rattle.std.specs.Prelude.{Some, IfSome, max, min}
 use Rattle.listings.specs.Lists.{Lists}
 use Rattle.cat_tree.specs.Tree.{Clause}
@@ -23,8 +23,8 @@ use Rattle.slices.proofs.Steadily.{steady_behind, steady_from, steady_nowhere}
 use Rattle.slices.proofs.Weighed.{IsJudged, alike_at, alike_within, as_long, few_ways, same_places, walked_alike, walked_one}
 use Rattle.slices.proofs.counting.count.Goals as goal
 
-pub loop-steady-init : goal.loop-steady-init
-loop-steady-init c =
+pub loop-finding-init : goal.loop-finding-init
+loop-finding-init c =
     let w = c.args.work.now in
     let T : WorkValue → Type 0 = λ z. Tells z.test w.model.items [] c.in_ok-finding.finding in
     let begun = walked_none_yet w.test w.model.items c.args.walk.now.next c.args.walk.now.to c.args.walk.now c.in_ok-finding.finding
@@ -39,158 +39,158 @@ loop-steady-init c =
     }
 
 pub weigh_alike-requires-clause-whole : goal.weigh_alike-requires-clause-whole
-weigh_alike-requires-clause-whole c = as_long c.args.work.now.test c.loop-steady.finding.places c.slots-slots.result.now (c.loop-steady.invariant.slots)
+weigh_alike-requires-clause-whole c = as_long c.args.work.now.test c.loop-finding.finding.places c.slots-slots.result.now (c.loop-finding.invariant.slots)
 
 pub weigh_alike-requires-clause-ways : goal.weigh_alike-requires-clause-ways
 weigh_alike-requires-clause-ways c =
     let n = c.in-Some.number in
-    let hit = hit_number c.loop-steady.walk c.next.new.self c.in_ok-number.field-0 n c.in-Some.is c.in_ok-number.ensures.found in
-    let same = not_passed c.in_ok-passes.field-0 (ArePassed c.rely.new.evaluator.items n c.next.new.self c.passes.new.walk) (c.passes.new.walk ≡ c.next.new.self) c.if-branch.false c.in_ok-passes.ensures.passed in
-    let H : Walking → Type 0 = λ w. IsHit c.loop-steady.walk w n in
+    let hit = hit_number c.loop-finding.walk c.next.new.self c.in_ok-number.field-0 n c.in-Some.is c.in_ok-number.ensures.found in
+    let same = not_passed c.in_ok-passes.field-0 (ArePassed c.rely-steady.new.evaluator.items n c.next.new.self c.passes.new.walk) (c.passes.new.walk ≡ c.next.new.self) c.if-branch.false c.in_ok-passes.ensures.passed in
+    let H : Walking → Type 0 = λ w. IsHit c.loop-finding.walk w n in
     let here = subst H (sym same) hit in
     let o = c.in-Some-alike_behind.range in
-    let alike = alike_at c.loop-steady.walk c.passes.new.walk n o here c.in-Some-alike_behind.ensures.alike in
-    let within = alike_within c.args.work.now.test c.args.work.now.model.items c.args.walk.now.next c.args.walk.now.to n o.size c.loop-steady.walk c.passes.new.walk c.loop-steady.finding c.loop-steady.invariant.counted here c.requires.range (subst (λ (z : WorkValue). IsAdmitted z.test) c.work-inner.ensures c.size.ensures.admitted) c.in-Some-alike_behind.ensures.within in
-    (few_ways c.args.work.now.test c.args.work.now.model.items c.args.walk.now.next c.args.walk.now.to n c.loop-steady.walk c.passes.new.walk c.slots-slots.result.now o c.graph-graph.result.now c.loop-steady.finding c.loop-steady.invariant.counted here alike.0 alike.1 c.graph-graph.ensures within).0
+    let alike = alike_at c.loop-finding.walk c.passes.new.walk n o here c.in-Some-alike_behind.ensures.alike in
+    let within = alike_within c.args.work.now.test c.args.work.now.model.items c.args.walk.now.next c.args.walk.now.to n o.size c.loop-finding.walk c.passes.new.walk c.loop-finding.finding c.loop-finding.invariant.counted here c.requires.range (subst (λ (z : WorkValue). IsAdmitted z.test) c.work-inner.ensures c.size.ensures.admitted) c.in-Some-alike_behind.ensures.within in
+    (few_ways c.args.work.now.test c.args.work.now.model.items c.args.walk.now.next c.args.walk.now.to n c.loop-finding.walk c.passes.new.walk c.slots-slots.result.now o c.graph-graph.result.now c.loop-finding.finding c.loop-finding.invariant.counted here alike.0 alike.1 c.graph-graph.ensures within).0
 
 pub weigh_alike-requires-clause-few : goal.weigh_alike-requires-clause-few
 weigh_alike-requires-clause-few c =
     let n = c.in-Some.number in
-    let hit = hit_number c.loop-steady.walk c.next.new.self c.in_ok-number.field-0 n c.in-Some.is c.in_ok-number.ensures.found in
-    let same = not_passed c.in_ok-passes.field-0 (ArePassed c.rely.new.evaluator.items n c.next.new.self c.passes.new.walk) (c.passes.new.walk ≡ c.next.new.self) c.if-branch.false c.in_ok-passes.ensures.passed in
-    let H : Walking → Type 0 = λ w. IsHit c.loop-steady.walk w n in
+    let hit = hit_number c.loop-finding.walk c.next.new.self c.in_ok-number.field-0 n c.in-Some.is c.in_ok-number.ensures.found in
+    let same = not_passed c.in_ok-passes.field-0 (ArePassed c.rely-steady.new.evaluator.items n c.next.new.self c.passes.new.walk) (c.passes.new.walk ≡ c.next.new.self) c.if-branch.false c.in_ok-passes.ensures.passed in
+    let H : Walking → Type 0 = λ w. IsHit c.loop-finding.walk w n in
     let here = subst H (sym same) hit in
     let o = c.in-Some-alike_behind.range in
-    let alike = alike_at c.loop-steady.walk c.passes.new.walk n o here c.in-Some-alike_behind.ensures.alike in
-    let within = alike_within c.args.work.now.test c.args.work.now.model.items c.args.walk.now.next c.args.walk.now.to n o.size c.loop-steady.walk c.passes.new.walk c.loop-steady.finding c.loop-steady.invariant.counted here c.requires.range (subst (λ (z : WorkValue). IsAdmitted z.test) c.work-inner.ensures c.size.ensures.admitted) c.in-Some-alike_behind.ensures.within in
-    (few_ways c.args.work.now.test c.args.work.now.model.items c.args.walk.now.next c.args.walk.now.to n c.loop-steady.walk c.passes.new.walk c.slots-slots.result.now o c.graph-graph.result.now c.loop-steady.finding c.loop-steady.invariant.counted here alike.0 alike.1 c.graph-graph.ensures within).1
+    let alike = alike_at c.loop-finding.walk c.passes.new.walk n o here c.in-Some-alike_behind.ensures.alike in
+    let within = alike_within c.args.work.now.test c.args.work.now.model.items c.args.walk.now.next c.args.walk.now.to n o.size c.loop-finding.walk c.passes.new.walk c.loop-finding.finding c.loop-finding.invariant.counted here c.requires.range (subst (λ (z : WorkValue). IsAdmitted z.test) c.work-inner.ensures c.size.ensures.admitted) c.in-Some-alike_behind.ensures.within in
+    (few_ways c.args.work.now.test c.args.work.now.model.items c.args.walk.now.next c.args.walk.now.to n c.loop-finding.walk c.passes.new.walk c.slots-slots.result.now o c.graph-graph.result.now c.loop-finding.finding c.loop-finding.invariant.counted here alike.0 alike.1 c.graph-graph.ensures within).1
 
 pub overflow_add-number : goal.overflow_add-number
 overflow_add-number c =
     let n = c.in-Some.number in
-    let hit = hit_number c.loop-steady.walk c.next.new.self c.in_ok-number.field-0 n c.in-Some.is c.in_ok-number.ensures.found in
-    let same = not_passed c.in_ok-passes.field-0 (ArePassed c.rely.new.evaluator.items n c.next.new.self c.passes.new.walk) (c.passes.new.walk ≡ c.next.new.self) c.if-branch.false c.in_ok-passes.ensures.passed in
-    let H : Walking → Type 0 = λ w. IsHit c.loop-steady.walk w n in
+    let hit = hit_number c.loop-finding.walk c.next.new.self c.in_ok-number.field-0 n c.in-Some.is c.in_ok-number.ensures.found in
+    let same = not_passed c.in_ok-passes.field-0 (ArePassed c.rely-steady.new.evaluator.items n c.next.new.self c.passes.new.walk) (c.passes.new.walk ≡ c.next.new.self) c.if-branch.false c.in_ok-passes.ensures.passed in
+    let H : Walking → Type 0 = λ w. IsHit c.loop-finding.walk w n in
     let here = subst H (sym same) hit in
     let o = c.in-Some-alike_behind.range in
-    let within = alike_within c.args.work.now.test c.args.work.now.model.items c.args.walk.now.next c.args.walk.now.to n o.size c.loop-steady.walk c.passes.new.walk c.loop-steady.finding c.loop-steady.invariant.counted here c.requires.range (subst (λ (z : WorkValue). IsAdmitted z.test) c.work-inner.ensures c.size.ensures.admitted) c.in-Some-alike_behind.ensures.within in
+    let within = alike_within c.args.work.now.test c.args.work.now.model.items c.args.walk.now.next c.args.walk.now.to n o.size c.loop-finding.walk c.passes.new.walk c.loop-finding.finding c.loop-finding.invariant.counted here c.requires.range (subst (λ (z : WorkValue). IsAdmitted z.test) c.work-inner.ensures c.size.ensures.admitted) c.in-Some-alike_behind.ensures.within in
     let end = within.0 in
     let least = within.1 in
     let size = c.size-in-Some-alike_behind.ensures in
     omega (arith, end, least, size)
 
-pub loop-steady-preserved-in-Some-alike_behind : goal.loop-steady-preserved-in-Some-alike_behind
-loop-steady-preserved-in-Some-alike_behind c =
+pub loop-finding-preserved-in-Some-alike_behind : goal.loop-finding-preserved-in-Some-alike_behind
+loop-finding-preserved-in-Some-alike_behind c =
     let w = c.args.work.now in
-    let inv = c.loop-steady.invariant in
+    let inv = c.loop-finding.invariant in
     let n = c.in-Some.number in
-    let hit = hit_number c.loop-steady.walk c.next.new.self c.in_ok-number.field-0 n c.in-Some.is c.in_ok-number.ensures.found in
-    let same = not_passed c.in_ok-passes.field-0 (ArePassed c.rely.new.evaluator.items n c.next.new.self c.passes.new.walk) (c.passes.new.walk ≡ c.next.new.self) c.if-branch.false c.in_ok-passes.ensures.passed in
-    let H : Walking → Type 0 = λ w. IsHit c.loop-steady.walk w n in
+    let hit = hit_number c.loop-finding.walk c.next.new.self c.in_ok-number.field-0 n c.in-Some.is c.in_ok-number.ensures.found in
+    let same = not_passed c.in_ok-passes.field-0 (ArePassed c.rely-steady.new.evaluator.items n c.next.new.self c.passes.new.walk) (c.passes.new.walk ≡ c.next.new.self) c.if-branch.false c.in_ok-passes.ensures.passed in
+    let H : Walking → Type 0 = λ w. IsHit c.loop-finding.walk w n in
     let here = subst H (sym same) hit in
     let o = c.in-Some-alike_behind.range in
-    let alike = alike_at c.loop-steady.walk c.passes.new.walk n o here c.in-Some-alike_behind.ensures.alike in
-    let within = alike_within w.test w.model.items c.args.walk.now.next c.args.walk.now.to n o.size c.loop-steady.walk c.passes.new.walk c.loop-steady.finding inv.counted here c.requires.range (subst (λ (z : WorkValue). IsAdmitted z.test) c.work-inner.ensures c.size.ensures.admitted) c.in-Some-alike_behind.ensures.within in
+    let alike = alike_at c.loop-finding.walk c.passes.new.walk n o here c.in-Some-alike_behind.ensures.alike in
+    let within = alike_within w.test w.model.items c.args.walk.now.next c.args.walk.now.to n o.size c.loop-finding.walk c.passes.new.walk c.loop-finding.finding inv.counted here c.requires.range (subst (λ (z : WorkValue). IsAdmitted z.test) c.work-inner.ensures c.size.ensures.admitted) c.in-Some-alike_behind.ensures.within in
     let P : List Clause → Type 0 = λ items. IsTrue c.in_ok-judgement.judgement.allowed ↔ Allowed items c.graph-graph.result.now in
     let F : List Clause → Type 0 = λ items. Lists (λ name. Allowed items c.graph-graph.result.now × Raised items c.graph-graph.result.now name) c.in_ok-judgement.judgement.flags in
-    let model = c.passes.ensures.model ∙ (c.rely.ensures.items ∙ inv.model) in
+    let model = c.passes.ensures.model ∙ (c.rely-steady.ensures.items ∙ inv.model) in
     let judged : IsJudged w.model.items c.graph-graph.result.now c.in_ok-judgement.judgement.allowed c.in_ok-judgement.judgement.flags = record { allowed = subst P model c.in_ok-judgement.ensures.allowed; flags = subst F model c.in_ok-judgement.ensures.flags } in
     let orderless = subst (λ (z : WorkValue). IsOrderless z.model.items) c.work-inner.ensures c.in-Some-alike_behind.ensures.orderless in
     let next = c.pass.ensures.next ∙ ap (λ x. max c.passes.new.walk.next (min (n + x) c.passes.new.walk.to)) c.size-in-Some-alike_behind.ensures in
     record {
-      counted = walked_alike w.test w.model.items c.args.walk.now.next c.args.walk.now.to n c.loop-steady.walk c.passes.new.walk c.pass.new.self c.graph-graph.result.now c.slots-slots.result.now o c.in_ok-judgement.judgement.allowed c.in_ok-judgement.judgement.flags c.loop-steady.finding c.weigh_alike.new.self inv.counted here c.graph-graph.ensures orderless (inv.slots) alike.0 alike.1 judged within c.in_ok-weigh_alike.ensures c.pass.ensures.space c.pass.ensures.to next;
-      slots = inv.slots ∙ ap (map (slot_of w.test)) (sym (same_places c.in_ok-judgement.judgement.allowed c.loop-steady.finding _ c.weigh_alike.new.self c.in_ok-weigh_alike.ensures));
-      steady = (let S : Choices → Type 0 = λ s. AreSteady s c.pass.new.self.next c.rely.result c.learn.new.evaluator.relied in
+      counted = walked_alike w.test w.model.items c.args.walk.now.next c.args.walk.now.to n c.loop-finding.walk c.passes.new.walk c.pass.new.self c.graph-graph.result.now c.slots-slots.result.now o c.in_ok-judgement.judgement.allowed c.in_ok-judgement.judgement.flags c.loop-finding.finding c.weigh_alike.new.self inv.counted here c.graph-graph.ensures orderless (inv.slots) alike.0 alike.1 judged within c.in_ok-weigh_alike.ensures c.pass.ensures.space c.pass.ensures.to next;
+      slots = inv.slots ∙ ap (map (slot_of w.test)) (sym (same_places c.in_ok-judgement.judgement.allowed c.loop-finding.finding _ c.weigh_alike.new.self c.in_ok-weigh_alike.ensures));
+      steady = (let S : Choices → Type 0 = λ s. AreSteady s c.pass.new.self.next c.rely-steady.result c.learn.new.evaluator.relied in
           let on : n < c.pass.new.self.next = (let l = hit.step.next in let e = c.pass.ensures.next in let z = ap (λ (w : Walking). w.next) same in omega (arith, l, e, z)) in
           subst S (sym (c.pass.ensures.space ∙ ap (λ (w : Walking). w.space) same))
-          (steady_behind c.next.new.self.space n c.rely.result c.pass.new.self.next n c.next.new.self.shown c.rely.new.evaluator.relied c.learn.new.evaluator.relied c.rely.ensures.steady (omega arith) on (omega (arith, on))
+          (steady_behind c.next.new.self.space n c.rely-steady.result c.pass.new.self.next n c.next.new.self.shown c.rely-steady.new.evaluator.relied c.learn.new.evaluator.relied c.rely-steady.ensures.steady (omega arith) on (omega (arith, on))
           (let G : Choices → Type 0 = λ s. graph_at s n ≡ Some c.next.new.self.shown in subst G (sym hit.step.space) hit.at)
           (let R : Walking → Type 0 = λ w. IfSome c.learn.new.evaluator.relied (λ r. r ≡ structure_of w.shown) in let Q : GraphValue → Type 0 = λ g. IfSome c.learn.new.evaluator.relied (λ r. r ≡ structure_of g) in subst R same (subst Q c.graph-graph.ensures c.learn.ensures.relied))));
-      model = c.learn.ensures.model ∙ c.judge_next.ensures.model ∙ c.passes.ensures.model ∙ (c.rely.ensures.items ∙ inv.model);
+      model = c.learn.ensures.model ∙ c.judge_next.ensures.model ∙ c.passes.ensures.model ∙ (c.rely-steady.ensures.items ∙ inv.model);
       known = (let L : List Clause → Type 0 = λ z. AreLearned z c.learn.new.self.misplaced in
-          knows_alike _ _ _ _ c.passes.new.self c.learn.new.self (hit.step.space ∙ inv.counted.space) (c.rely.ensures.items ∙ inv.model) c.learn.ensures.refuted (λ l. subst L (c.judge_next.ensures.model ∙ c.passes.ensures.model ∙ (c.rely.ensures.items ∙ inv.model)) c.learn.ensures.learned) c.passes.ensures.known);
+          knows_alike _ _ _ _ c.passes.new.self c.learn.new.self (hit.step.space ∙ inv.counted.space) (c.rely-steady.ensures.items ∙ inv.model) c.learn.ensures.refuted (λ l. subst L (c.judge_next.ensures.model ∙ c.passes.ensures.model ∙ (c.rely-steady.ensures.items ∙ inv.model)) c.learn.ensures.learned) c.passes.ensures.known);
     }
 
-pub loop-steady-preserved-then-branch : goal.loop-steady-preserved-then-branch
-loop-steady-preserved-then-branch c =
-    let inv = c.loop-steady.invariant in
+pub loop-finding-preserved-then-branch : goal.loop-finding-preserved-then-branch
+loop-finding-preserved-then-branch c =
+    let inv = c.loop-finding.invariant in
     let n = c.in-Some.number in
-    let hit = hit_number c.loop-steady.walk c.next.new.self c.in_ok-number.field-0 n c.in-Some.is c.in_ok-number.ensures.found in
+    let hit = hit_number c.loop-finding.walk c.next.new.self c.in_ok-number.field-0 n c.in-Some.is c.in_ok-number.ensures.found in
     let P : List Clause → Type 0 = λ items. ArePassed items n c.next.new.self c.passes.new.walk in
-    let over = is_passed c.in_ok-passes.field-0 (P c.rely.new.evaluator.items) (c.passes.new.walk ≡ c.next.new.self) c.if-branch.true c.in_ok-passes.ensures.passed in
+    let over = is_passed c.in_ok-passes.field-0 (P c.rely-steady.new.evaluator.items) (c.passes.new.walk ≡ c.next.new.self) c.if-branch.true c.in_ok-passes.ensures.passed in
     record {
-      counted = walked_over c.args.work.now.test c.args.work.now.model.items c.args.walk.now.next c.args.walk.now.to n c.loop-steady.walk c.next.new.self c.passes.new.walk c.loop-steady.finding inv.counted hit (subst P (c.rely.ensures.items ∙ inv.model) over);
+      counted = walked_over c.args.work.now.test c.args.work.now.model.items c.args.walk.now.next c.args.walk.now.to n c.loop-finding.walk c.next.new.self c.passes.new.walk c.loop-finding.finding inv.counted hit (subst P (c.rely-steady.ensures.items ∙ inv.model) over);
       slots = inv.slots;
-      steady = (let S : Choices → Type 0 = λ s. AreSteady s c.passes.new.walk.next c.rely.result c.passes.new.evaluator.relied in
+      steady = (let S : Choices → Type 0 = λ s. AreSteady s c.passes.new.walk.next c.rely-steady.result c.passes.new.evaluator.relied in
           subst S (sym over.space)
-          (steady_behind c.next.new.self.space n c.rely.result c.passes.new.walk.next n c.next.new.self.shown c.rely.new.evaluator.relied c.passes.new.evaluator.relied c.rely.ensures.steady (omega arith) (let l = over.later in omega (arith, l)) (let l = over.later in omega (arith, l))
+          (steady_behind c.next.new.self.space n c.rely-steady.result c.passes.new.walk.next n c.next.new.self.shown c.rely-steady.new.evaluator.relied c.passes.new.evaluator.relied c.rely-steady.ensures.steady (omega arith) (let l = over.later in omega (arith, l)) (let l = over.later in omega (arith, l))
           (let G : Choices → Type 0 = λ s. graph_at s n ≡ Some c.next.new.self.shown in subst G (sym hit.step.space) hit.at) c.passes.ensures.relied));
-      model = c.passes.ensures.model ∙ (c.rely.ensures.items ∙ inv.model);
-      known = knows_alike _ _ _ _ c.passes.new.self c.passes.new.self (hit.step.space ∙ inv.counted.space) (c.rely.ensures.items ∙ inv.model) refl (λ l. l) c.passes.ensures.known;
+      model = c.passes.ensures.model ∙ (c.rely-steady.ensures.items ∙ inv.model);
+      known = knows_alike _ _ _ _ c.passes.new.self c.passes.new.self (hit.step.space ∙ inv.counted.space) (c.rely-steady.ensures.items ∙ inv.model) refl (λ l. l) c.passes.ensures.known;
     }
 
-pub loop-steady-preserved : goal.loop-steady-preserved
-loop-steady-preserved c =
+pub loop-finding-preserved : goal.loop-finding-preserved
+loop-finding-preserved c =
     let w = c.args.work.now in
-    let inv = c.loop-steady.invariant in
+    let inv = c.loop-finding.invariant in
     let n = c.in-Some.number in
-    let hit = hit_number c.loop-steady.walk c.next.new.self c.in_ok-number.field-0 n c.in-Some.is c.in_ok-number.ensures.found in
-    let same = not_passed c.in_ok-passes.field-0 (ArePassed c.rely.new.evaluator.items n c.next.new.self c.passes.new.walk) (c.passes.new.walk ≡ c.next.new.self) c.if-branch.false c.in_ok-passes.ensures.passed in
-    let H : Walking → Type 0 = λ w. IsHit c.loop-steady.walk w n in
+    let hit = hit_number c.loop-finding.walk c.next.new.self c.in_ok-number.field-0 n c.in-Some.is c.in_ok-number.ensures.found in
+    let same = not_passed c.in_ok-passes.field-0 (ArePassed c.rely-steady.new.evaluator.items n c.next.new.self c.passes.new.walk) (c.passes.new.walk ≡ c.next.new.self) c.if-branch.false c.in_ok-passes.ensures.passed in
+    let H : Walking → Type 0 = λ w. IsHit c.loop-finding.walk w n in
     let P : List Clause → Type 0 = λ items. IsTrue c.in_ok-judgement.judgement.allowed ↔ Allowed items c.graph-graph.result.now in
     let F : List Clause → Type 0 = λ items. Lists (λ name. Allowed items c.graph-graph.result.now × Raised items c.graph-graph.result.now name) c.in_ok-judgement.judgement.flags in
-    let model = c.passes.ensures.model ∙ (c.rely.ensures.items ∙ inv.model) in
+    let model = c.passes.ensures.model ∙ (c.rely-steady.ensures.items ∙ inv.model) in
     let judged : IsJudged w.model.items c.graph-graph.result.now c.in_ok-judgement.judgement.allowed c.in_ok-judgement.judgement.flags = record { allowed = subst P model c.in_ok-judgement.ensures.allowed; flags = subst F model c.in_ok-judgement.ensures.flags } in
     record {
-      counted = walked_one w.test w.model.items c.args.walk.now.next c.args.walk.now.to n c.loop-steady.walk c.passes.new.walk c.graph-graph.result.now c.slots-slots.result.now c.in_ok-judgement.judgement.allowed c.in_ok-judgement.judgement.flags c.loop-steady.finding c.weigh.new.self inv.counted (subst H (sym same) hit) c.graph-graph.ensures (inv.slots) judged c.in_ok-weigh.ensures;
-      slots = inv.slots ∙ ap (map (slot_of w.test)) (sym (same_places c.in_ok-judgement.judgement.allowed c.loop-steady.finding _ c.weigh.new.self c.in_ok-weigh.ensures));
-      steady = (let W : Walking → Type 0 = λ w. AreSteady w.space w.next c.rely.result c.learn.new.evaluator.relied in
+      counted = walked_one w.test w.model.items c.args.walk.now.next c.args.walk.now.to n c.loop-finding.walk c.passes.new.walk c.graph-graph.result.now c.slots-slots.result.now c.in_ok-judgement.judgement.allowed c.in_ok-judgement.judgement.flags c.loop-finding.finding c.weigh.new.self inv.counted (subst H (sym same) hit) c.graph-graph.ensures (inv.slots) judged c.in_ok-weigh.ensures;
+      slots = inv.slots ∙ ap (map (slot_of w.test)) (sym (same_places c.in_ok-judgement.judgement.allowed c.loop-finding.finding _ c.weigh.new.self c.in_ok-weigh.ensures));
+      steady = (let W : Walking → Type 0 = λ w. AreSteady w.space w.next c.rely-steady.result c.learn.new.evaluator.relied in
           subst W (sym same)
-          (steady_behind c.next.new.self.space n c.rely.result c.next.new.self.next n c.next.new.self.shown c.rely.new.evaluator.relied c.learn.new.evaluator.relied c.rely.ensures.steady (omega arith) (let l = hit.step.next in omega (arith, l)) (let l = hit.step.next in omega (arith, l))
+          (steady_behind c.next.new.self.space n c.rely-steady.result c.next.new.self.next n c.next.new.self.shown c.rely-steady.new.evaluator.relied c.learn.new.evaluator.relied c.rely-steady.ensures.steady (omega arith) (let l = hit.step.next in omega (arith, l)) (let l = hit.step.next in omega (arith, l))
           (let G : Choices → Type 0 = λ s. graph_at s n ≡ Some c.next.new.self.shown in subst G (sym hit.step.space) hit.at)
           (let R : Walking → Type 0 = λ w. IfSome c.learn.new.evaluator.relied (λ r. r ≡ structure_of w.shown) in let Q : GraphValue → Type 0 = λ g. IfSome c.learn.new.evaluator.relied (λ r. r ≡ structure_of g) in subst R same (subst Q c.graph-graph.ensures c.learn.ensures.relied))));
-      model = c.learn.ensures.model ∙ c.judge_next.ensures.model ∙ c.passes.ensures.model ∙ (c.rely.ensures.items ∙ inv.model);
+      model = c.learn.ensures.model ∙ c.judge_next.ensures.model ∙ c.passes.ensures.model ∙ (c.rely-steady.ensures.items ∙ inv.model);
       known = (let L : List Clause → Type 0 = λ z. AreLearned z c.learn.new.self.misplaced in
-          knows_alike _ _ _ _ c.passes.new.self c.learn.new.self (hit.step.space ∙ inv.counted.space) (c.rely.ensures.items ∙ inv.model) c.learn.ensures.refuted (λ l. subst L (c.judge_next.ensures.model ∙ c.passes.ensures.model ∙ (c.rely.ensures.items ∙ inv.model)) c.learn.ensures.learned) c.passes.ensures.known);
+          knows_alike _ _ _ _ c.passes.new.self c.learn.new.self (hit.step.space ∙ inv.counted.space) (c.rely-steady.ensures.items ∙ inv.model) c.learn.ensures.refuted (λ l. subst L (c.judge_next.ensures.model ∙ c.passes.ensures.model ∙ (c.rely-steady.ensures.items ∙ inv.model)) c.learn.ensures.learned) c.passes.ensures.known);
     }
 
 pub weigh-requires-clause-whole : goal.weigh-requires-clause-whole
-weigh-requires-clause-whole c = as_long c.args.work.now.test c.loop-steady.finding.places c.slots-slots.result.now (c.loop-steady.invariant.slots)
+weigh-requires-clause-whole c = as_long c.args.work.now.test c.loop-finding.finding.places c.slots-slots.result.now (c.loop-finding.invariant.slots)
 
 pub returns-clause-part : goal.returns-clause-part
 returns-clause-part c =
-    let miss = miss_number c.loop-steady.walk c.next.new.self c.in_ok-number.field-0 c.in_default.not-Some c.in_ok-number.ensures.found in
-    walked_none c.args.work.now.test c.args.work.now.model.items c.args.walk.now.next c.args.walk.now.to c.loop-steady.walk c.next.new.self c.loop-steady.finding c.loop-steady.invariant.counted miss
+    let miss = miss_number c.loop-finding.walk c.next.new.self c.in_ok-number.field-0 c.in_default.not-Some c.in_ok-number.ensures.found in
+    walked_none c.args.work.now.test c.args.work.now.model.items c.args.walk.now.next c.args.walk.now.to c.loop-finding.walk c.next.new.self c.loop-finding.finding c.loop-finding.invariant.counted miss
 
-pub rely-requires : goal.rely-requires
-rely-requires c =
-    let inv = c.loop-steady.invariant in
+pub rely-steady-requires : goal.rely-steady-requires
+rely-steady-requires c =
+    let inv = c.loop-finding.invariant in
     let n = c.in-Some.number in
-    let hit = hit_number c.loop-steady.walk c.next.new.self c.in_ok-number.field-0 n c.in-Some.is c.in_ok-number.ensures.found in
+    let hit = hit_number c.loop-finding.walk c.next.new.self c.in_ok-number.field-0 n c.in-Some.is c.in_ok-number.ensures.found in
     record {
       found = hit.step.next;
       shown = (let S : Choices → Type 0 = λ s. graph_at s n ≡ Some c.next.new.self.shown in subst S (sym hit.step.space) hit.at);
-      steady = (let S : Choices → Type 0 = λ s. AreSteady s n c.loop-steady.steady c.loop-steady.evaluator.relied in
-          subst S (sym hit.step.space) (steady_from _ c.loop-steady.walk.next _ n _ hit.later inv.steady));
+      steady = (let S : Choices → Type 0 = λ s. AreSteady s n c.loop-finding.steady c.loop-finding.evaluator.relied in
+          subst S (sym hit.step.space) (steady_from _ c.loop-finding.walk.next _ n _ hit.later inv.steady));
     }
 
 pub judge_next-requires : goal.judge_next-requires
 judge_next-requires c =
     let n = c.in-Some.number in
-    let same = not_passed c.in_ok-passes.field-0 (ArePassed c.rely.new.evaluator.items n c.next.new.self c.passes.new.walk) (c.passes.new.walk ≡ c.next.new.self) c.if-branch.false c.in_ok-passes.ensures.passed in
+    let same = not_passed c.in_ok-passes.field-0 (ArePassed c.rely-steady.new.evaluator.items n c.next.new.self c.passes.new.walk) (c.passes.new.walk ≡ c.next.new.self) c.if-branch.false c.in_ok-passes.ensures.passed in
     let R : Walking → Type 0 = λ w. IfSome c.passes.new.evaluator.relied (λ r. r ≡ structure_of w.shown) in
     let Q : GraphValue → Type 0 = λ g. IfSome c.passes.new.evaluator.relied (λ r. r ≡ structure_of g) in
-    subst Q (sym c.graph-graph.ensures) (subst R (sym same) c.passes.ensures.relied)
+    record { relied = subst Q (sym c.graph-graph.ensures) (subst R (sym same) c.passes.ensures.relied) }
 
 pub passes-requires : goal.passes-requires
 passes-requires c =
-    let inv = c.loop-steady.invariant in
-    let hit = hit_number c.loop-steady.walk c.next.new.self c.in_ok-number.field-0 c.in-Some.number c.in-Some.is c.in_ok-number.ensures.found in
+    let inv = c.loop-finding.invariant in
+    let hit = hit_number c.loop-finding.walk c.next.new.self c.in_ok-number.field-0 c.in-Some.number c.in-Some.is c.in_ok-number.ensures.found in
     record {
       found = hit.step.next;
-      relied = c.rely.ensures.relied;
+      relied = c.rely-steady.ensures.relied;
       shown = (let S : Choices → Type 0 = λ s. graph_at s c.in-Some.number ≡ Some c.next.new.self.shown in subst S (sym hit.step.space) hit.at);
-      known = knows_alike _ _ _ _ c.loop-steady.pruner c.loop-steady.pruner (sym (hit.step.space ∙ inv.counted.space)) (sym (c.rely.ensures.items ∙ inv.model)) refl (λ l. l) inv.known;
+      known = knows_alike _ _ _ _ c.loop-finding.pruner c.loop-finding.pruner (sym (hit.step.space ∙ inv.counted.space)) (sym (c.rely-steady.ensures.items ∙ inv.model)) refl (λ l. l) inv.known;
     }
 
 pub learn-requires : goal.learn-requires
@@ -199,55 +199,55 @@ learn-requires c = record {
   learned = (let L : List Clause → Type 0 = λ z. AreLearned z c.passes.new.self.misplaced in subst L (sym (c.judge_next.ensures.model ∙ c.passes.ensures.model)) c.passes.ensures.known.1);
 }
 
-pub loop-steady-smaller-then-branch : goal.loop-steady-smaller-then-branch
-loop-steady-smaller-then-branch c =
-    let hit = hit_number c.loop-steady.walk c.next.new.self c.in_ok-number.field-0 c.in-Some.number c.in-Some.is c.in_ok-number.ensures.found in
-    let over = is_passed c.in_ok-passes.field-0 (ArePassed c.rely.new.evaluator.items c.in-Some.number c.next.new.self c.passes.new.walk) (c.passes.new.walk ≡ c.next.new.self) c.if-branch.true c.in_ok-passes.ensures.passed in
-    walk_nearer c.in-Some.number c.loop-steady.walk c.passes.new.walk (over.to ∙ hit.step.to) over.later hit.later hit.below
+pub loop-finding-smaller-then-branch : goal.loop-finding-smaller-then-branch
+loop-finding-smaller-then-branch c =
+    let hit = hit_number c.loop-finding.walk c.next.new.self c.in_ok-number.field-0 c.in-Some.number c.in-Some.is c.in_ok-number.ensures.found in
+    let over = is_passed c.in_ok-passes.field-0 (ArePassed c.rely-steady.new.evaluator.items c.in-Some.number c.next.new.self c.passes.new.walk) (c.passes.new.walk ≡ c.next.new.self) c.if-branch.true c.in_ok-passes.ensures.passed in
+    walk_nearer c.in-Some.number c.loop-finding.walk c.passes.new.walk (over.to ∙ hit.step.to) over.later hit.later hit.below
 
-pub loop-steady-smaller-in-Some-alike_behind : goal.loop-steady-smaller-in-Some-alike_behind
-loop-steady-smaller-in-Some-alike_behind c =
+pub loop-finding-smaller-in-Some-alike_behind : goal.loop-finding-smaller-in-Some-alike_behind
+loop-finding-smaller-in-Some-alike_behind c =
     let n = c.in-Some.number in
-    let hit = hit_number c.loop-steady.walk c.next.new.self c.in_ok-number.field-0 n c.in-Some.is c.in_ok-number.ensures.found in
-    let same = not_passed c.in_ok-passes.field-0 (ArePassed c.rely.new.evaluator.items n c.next.new.self c.passes.new.walk) (c.passes.new.walk ≡ c.next.new.self) c.if-branch.false c.in_ok-passes.ensures.passed in
-    let H : Walking → Type 0 = λ w. IsHit c.loop-steady.walk w n in
+    let hit = hit_number c.loop-finding.walk c.next.new.self c.in_ok-number.field-0 n c.in-Some.is c.in_ok-number.ensures.found in
+    let same = not_passed c.in_ok-passes.field-0 (ArePassed c.rely-steady.new.evaluator.items n c.next.new.self c.passes.new.walk) (c.passes.new.walk ≡ c.next.new.self) c.if-branch.false c.in_ok-passes.ensures.passed in
+    let H : Walking → Type 0 = λ w. IsHit c.loop-finding.walk w n in
     let here = subst H (sym same) hit in
     let step = here.step.next in
     let next = c.pass.ensures.next in
-    walk_nearer n c.loop-steady.walk c.pass.new.self (c.pass.ensures.to ∙ here.step.to) (omega (arith, step, next)) hit.later hit.below
+    walk_nearer n c.loop-finding.walk c.pass.new.self (c.pass.ensures.to ∙ here.step.to) (omega (arith, step, next)) hit.later hit.below
 
-pub loop-steady-smaller : goal.loop-steady-smaller
-loop-steady-smaller c =
-    let hit = hit_number c.loop-steady.walk c.next.new.self c.in_ok-number.field-0 c.in-Some.number c.in-Some.is c.in_ok-number.ensures.found in
-    let same = not_passed c.in_ok-passes.field-0 (ArePassed c.rely.new.evaluator.items c.in-Some.number c.next.new.self c.passes.new.walk) (c.passes.new.walk ≡ c.next.new.self) c.if-branch.false c.in_ok-passes.ensures.passed in
-    let H : Walking → Type 0 = λ w. IsHit c.loop-steady.walk w c.in-Some.number in
+pub loop-finding-smaller : goal.loop-finding-smaller
+loop-finding-smaller c =
+    let hit = hit_number c.loop-finding.walk c.next.new.self c.in_ok-number.field-0 c.in-Some.number c.in-Some.is c.in_ok-number.ensures.found in
+    let same = not_passed c.in_ok-passes.field-0 (ArePassed c.rely-steady.new.evaluator.items c.in-Some.number c.next.new.self c.passes.new.walk) (c.passes.new.walk ≡ c.next.new.self) c.if-branch.false c.in_ok-passes.ensures.passed in
+    let H : Walking → Type 0 = λ w. IsHit c.loop-finding.walk w c.in-Some.number in
     let here = subst H (sym same) hit in
-    walk_nearer c.in-Some.number c.loop-steady.walk c.passes.new.walk here.step.to (let next = here.step.next in omega (arith, next)) hit.later hit.below
+    walk_nearer c.in-Some.number c.loop-finding.walk c.passes.new.walk here.step.to (let next = here.step.next in omega (arith, next)) hit.later hit.below
 
 pub returns-in_err-weigh_alike-clause-evaluator : goal.returns-in_err-weigh_alike-clause-evaluator
-returns-in_err-weigh_alike-clause-evaluator c = c.in_ok-learn.ensures.model ∙ c.in_ok-judgement.ensures.model ∙ c.in_ok-passes.ensures.model ∙ c.rely.ensures.items ∙ c.loop-steady.invariant.model ∙ sym c.requires.evaluator
+returns-in_err-weigh_alike-clause-evaluator c = c.in_ok-learn.ensures.model ∙ c.in_ok-judgement.ensures.model ∙ c.in_ok-passes.ensures.model ∙ c.rely-steady.ensures.items ∙ c.loop-finding.invariant.model ∙ sym c.requires.evaluator
 
 pub returns-in_err-weigh-clause-evaluator : goal.returns-in_err-weigh-clause-evaluator
-returns-in_err-weigh-clause-evaluator c = c.in_ok-learn.ensures.model ∙ c.in_ok-judgement.ensures.model ∙ c.in_ok-passes.ensures.model ∙ c.rely.ensures.items ∙ c.loop-steady.invariant.model ∙ sym c.requires.evaluator
+returns-in_err-weigh-clause-evaluator c = c.in_ok-learn.ensures.model ∙ c.in_ok-judgement.ensures.model ∙ c.in_ok-passes.ensures.model ∙ c.rely-steady.ensures.items ∙ c.loop-finding.invariant.model ∙ sym c.requires.evaluator
 
 pub returns-in_err-learn-clause-evaluator : goal.returns-in_err-learn-clause-evaluator
-returns-in_err-learn-clause-evaluator c = c.learn.ensures.model ∙ c.in_ok-judgement.ensures.model ∙ c.in_ok-passes.ensures.model ∙ c.rely.ensures.items ∙ c.loop-steady.invariant.model ∙ sym c.requires.evaluator
+returns-in_err-learn-clause-evaluator c = c.learn.ensures.model ∙ c.in_ok-judgement.ensures.model ∙ c.in_ok-passes.ensures.model ∙ c.rely-steady.ensures.items ∙ c.loop-finding.invariant.model ∙ sym c.requires.evaluator
 
 pub returns-in_err-judgement-clause-evaluator : goal.returns-in_err-judgement-clause-evaluator
-returns-in_err-judgement-clause-evaluator c = c.judge_next.ensures.model ∙ c.in_ok-passes.ensures.model ∙ c.rely.ensures.items ∙ c.loop-steady.invariant.model ∙ sym c.requires.evaluator
+returns-in_err-judgement-clause-evaluator c = c.judge_next.ensures.model ∙ c.in_ok-passes.ensures.model ∙ c.rely-steady.ensures.items ∙ c.loop-finding.invariant.model ∙ sym c.requires.evaluator
 
 pub returns-clause-evaluator : goal.returns-clause-evaluator
-returns-clause-evaluator c = c.loop-steady.invariant.model ∙ sym c.requires.evaluator
+returns-clause-evaluator c = c.loop-finding.invariant.model ∙ sym c.requires.evaluator
 
 pub returns-in_err-passes-clause-evaluator : goal.returns-in_err-passes-clause-evaluator
-returns-in_err-passes-clause-evaluator c = c.passes.ensures.model ∙ c.rely.ensures.items ∙ c.loop-steady.invariant.model ∙ sym c.requires.evaluator
+returns-in_err-passes-clause-evaluator c = c.passes.ensures.model ∙ c.rely-steady.ensures.items ∙ c.loop-finding.invariant.model ∙ sym c.requires.evaluator
 
 pub returns-in_err-number-clause-evaluator : goal.returns-in_err-number-clause-evaluator
-returns-in_err-number-clause-evaluator c = c.loop-steady.invariant.model ∙ sym c.requires.evaluator
+returns-in_err-number-clause-evaluator c = c.loop-finding.invariant.model ∙ sym c.requires.evaluator
 
 pub weigh-requires-clause-few : goal.weigh-requires-clause-few
 weigh-requires-clause-few c =
-    let counted = c.loop-steady.invariant.counted in
-    let hit = hit_number c.loop-steady.walk c.next.new.self c.in_ok-number.field-0 c.in-Some.number c.in-Some.is c.in_ok-number.ensures.found in
+    let counted = c.loop-finding.invariant.counted in
+    let hit = hit_number c.loop-finding.walk c.next.new.self c.in_ok-number.field-0 c.in-Some.number c.in-Some.is c.in_ok-number.ensures.found in
     let admitted = subst (λ (z : WorkValue). IsAdmitted z.test) c.work-inner.ensures c.size.ensures.admitted in
     omega (arith, counted.few, counted.to_is, hit.later, hit.below, c.requires.range.within, admitted.few)

@@ -6,11 +6,11 @@ use Rattle.slices.specs.Steady.{AreSteady}
 use Rattle.slices.proofs.Counted.{IsUnderWay}
 use Rattle.slices.proofs.counting.count.Given as goal
 
-abbrev pub decreases-loop-steady : goal.decreases-loop-steady
-decreases-loop-steady l = l.walk.to - l.walk.next
+abbrev pub decreases-loop-finding : goal.decreases-loop-finding
+decreases-loop-finding l = l.walk.to - l.walk.next
 
-abbrev pub invariant-loop-steady : goal.invariant-loop-steady
-invariant-loop-steady l = record {
+abbrev pub invariant-loop-finding : goal.invariant-loop-finding
+invariant-loop-finding l = record {
   counted : IsUnderWay l.work.test l.work.model.items l.fn.walk.next l.fn.walk.to l.walk l.finding;
   slots : l.slots ≡ map (slot_of l.work.test) l.finding.places;
   model : l.evaluator.items ≡ l.work.model.items;

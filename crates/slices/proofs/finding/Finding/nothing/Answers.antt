@@ -1,4 +1,4 @@
-use Rattle.std.proofs.Common.{◌∙◌, ap, subst}
+use Rattle.std.proofs.Common.{subst}
 use Rattle.conditions.specs.States.{AreObserved}
 use Rattle.slices.specs.Works.{WorkValue}
 use Rattle.slices.proofs.Told.{nothing_told}

@@ -10,7 +10,7 @@ use Rattle.slices.proofs.kept_space.Made.evaluate.Goals as goal
 
 pub evaluate_in-requires-clause-evaluator : goal.evaluate_in-requires-clause-evaluator
 evaluate_in-requires-clause-evaluator c =
-    c.in_ok-evaluator.ensures ∙ ap (λ (m : Assembly). m.items) c.model.ensures ∙ ap (λ (w : WorkValue). w.model.items) (c.work-2.ensures ∙ c.work.ensures.work)
+    c.in_ok-evaluator.ensures.items ∙ ap (λ (m : Assembly). m.items) c.model.ensures ∙ ap (λ (w : WorkValue). w.model.items) (c.work-2.ensures ∙ c.work.ensures.work)
 
 pub evaluate_in-requires-clause-known : goal.evaluate_in-requires-clause-known
 evaluate_in-requires-clause-known c =
@@ -21,8 +21,8 @@ evaluate_in-requires-clause-known c =
 pub invariant_of-made : goal.invariant_of-made
 invariant_of-made c =
     let own : c.args.piece.now.work ≡ c.self.inside.work = sym (c.self.view_is ∙ c.requires) in
-    let same : c.evaluate_in.new.evaluator ≡ c.self.inside.work.model.items =
-    c.evaluate_in.ensures.evaluator ∙ c.in_ok-evaluator.ensures ∙ ap (λ (m : Assembly). m.items) c.model.ensures ∙ ap (λ (w : WorkValue). w.model.items) (c.work-2.ensures ∙ c.work.ensures.work ∙ own) in
+    let same : c.evaluate_in.new.evaluator.items ≡ c.self.inside.work.model.items =
+    c.evaluate_in.ensures.evaluator ∙ c.in_ok-evaluator.ensures.items ∙ ap (λ (m : Assembly). m.items) c.model.ensures ∙ ap (λ (w : WorkValue). w.model.items) (c.work-2.ensures ∙ c.work.ensures.work ∙ own) in
     let P : List Clause → Type 0 = λ items. IsReadyFor items c.in_ok-without_model.field-0 in
     let W : Choices → Type 0 = λ s. IsPausedIn s c.pause.result in
     let K : WorkValue → Type 0 = λ w. Knows (choices_of w.test) w.model.items c.evaluate_in.new.pruner in

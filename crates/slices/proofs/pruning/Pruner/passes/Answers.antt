@@ -1,4 +1,6 @@
-use Rattle.std.proofs.Common.{◌∙◌, refl, sym, ap, subst}
+use Rattle.std.proofs.Common.{◌≡◌, ◌∙◌, refl, sym, ap, subst}
+use Rattle.std.specs.Prelude.{IfSome}
+use Rattle.events.specs.Structures.{structure_of}
 use Rattle.candidates.specs.Walks.{Walking}
 use Rattle.slices.specs.Misplaced.{AreLearned}
 use Rattle.slices.specs.Passing.{ArePassed, NoneAllowed}
@@ -12,6 +14,7 @@ returns-in-Some-clause-model c = c.ask.ensures.model ∙ c.loop-depth.invariant.
 pub loop-depth-preserved : goal.loop-depth-preserved
 loop-depth-preserved c = record {
   model = c.ask.ensures.model ∙ c.loop-depth.invariant.model;
+  relied = (let R : Walking → Type 0 = λ w. IfSome c.ask.new.evaluator.relied (λ s. s ≡ structure_of w.shown) in subst R c.loop-depth.invariant.walk c.ask.ensures.relied);
   walk = c.loop-depth.invariant.walk;
   refuted = c.ask.ensures.refuted ∙ c.loop-depth.invariant.refuted;
   learned = λ items h. subst (AreLearned items) (sym c.ask.ensures.misplaced) (c.loop-depth.invariant.learned items h);
