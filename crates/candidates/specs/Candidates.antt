@@ -66,7 +66,7 @@ candidate init runs i = record {
   init = init;
   runs = runs;
   rf = rf_at runs (i / count_co (length init) runs);
-  co = orders_by (length init) runs (i % count_co (length init) runs);
+  co = digits (count_orders runs) (order_at runs) (upto (length init)) (i % count_co (length init) runs);
 }
 
 abbrev pub no_execution : GraphValue
