@@ -1,18 +1,19 @@
 -- What rests on what the events of runs do, whatever their values are.
-use Rattle.std.proofs.Common.{◌≡◌, ℕ, zero, suc, ◌+◌, ◌-◌, ◌*◌, ◌<◌, ◌≤◌, List, [], ◌∷◌, ◌++◌, length, map, drop, get_or, set, nat_lt, Bool, true, false, cond, if◌then◌else◌, refl, sym, ◌∙◌, ap, subst, arith}
+use Rattle.std.proofs.Common.{◌≡◌, ℕ, zero, suc, ◌+◌, ◌-◌, ◌*◌, ◌/◌, ◌%◌, ◌<◌, ◌≤◌, List, [], ◌∷◌, ◌++◌, length, map, drop, get_or, set, nat_lt, Bool, true, false, cond, if◌then◌else◌, refl, sym, ◌∙◌, ap, subst, arith}
 use Rattle.std.specs.Prelude.{filter}
 use Rattle.std.proofs.lemmas.List.{length-map, map-append}
 use Rattle.events.specs.declared.event.Event.{Event}
 use Rattle.events.specs.declared.event.EventId.{EventId}
-use Rattle.events.specs.declared.event.EventId.TheVariants.{Own}
+use Rattle.events.specs.declared.event.EventId.TheVariants.{Initial, Own}
 use Rattle.events.specs.Executions.{ThreadRun, is_read, writes_to}
 use Rattle.listings.specs.Lists.{factorial, product_by}
+use Rattle.listings.specs.Numbered.{arrange, digits}
 use Rattle.candidates.specs.declared.depths.Depth.{Depth}
 use Rattle.candidates.specs.declared.depths.Known.{Known}
 use Rattle.candidates.specs.declared.depths.Known.TheVariants.{Sources, Orders}
 use Rattle.candidates.specs.declared.page.Page.{Page}
 use Rattle.candidates.specs.Blocks.{IsDepth, Fits, placings, size_by, ways_of_orders}
-use Rattle.candidates.specs.Candidates.{count_co, count_orders, count_sources}
+use Rattle.candidates.specs.Candidates.{count_co, count_orders, count_sources, order_at, orders_by}
 use Rattle.candidates.specs.Depths.{before_reads, by_locations, by_places, depth_of, depths_of, is_open, known_at_depths}
 use Rattle.candidates.specs.Executions.{reads, later_writes, upto, writes_from, writes_from_thread}
 use Rattle.candidates.specs.Outlines.{IsOfRuns, outline, outline_run, outlines}
@@ -72,6 +73,16 @@ sources_same as' bs e es fs f =
 
 co_same : (as' bs : List ThreadRun) → outlines as' ≡ outlines bs → (n : ℕ) → count_co n as' ≡ count_co n bs
 co_same as' bs e n = product_same (count_orders as') (count_orders bs) (λ x. ap (λ (ws : List EventId). factorial (length ws)) (later_same as' bs e x)) (upto n)
+
+digits_alike : (as' bs : List ThreadRun) → outlines as' ≡ outlines bs → (xs : List ℕ) (k : ℕ) → digits (count_orders as') (order_at as') xs k ≡ digits (count_orders bs) (order_at bs) xs k
+digits_alike as' bs e [] k = refl
+digits_alike as' bs e (x ∷ xs) k =
+    ap (λ (ws : List EventId). (Initial x ∷ arrange ws (k % factorial (length ws))) ∷ digits (count_orders as') (order_at as') xs (k / factorial (length ws))) (later_same as' bs e x)
+    ∙ ap (λ (os : List (List EventId)). order_at bs x (k % count_orders bs x) ∷ os) (digits_alike as' bs e xs (k / count_orders bs x))
+
+-- The orders with a number are those of all runs that do the same.
+pub orders_alike : (as' bs : List ThreadRun) → outlines as' ≡ outlines bs → (n k : ℕ) → orders_by n as' k ≡ orders_by n bs k
+orders_alike as' bs e n k = digits_alike as' bs e (upto n) k
 
 -- blocks
 orders_same : (as' bs : List ThreadRun) → outlines as' ≡ outlines bs → (free k : ℕ) (xs : List ℕ) → ways_of_orders as' free k xs ≡ ways_of_orders bs free k xs

@@ -56,6 +56,10 @@ digits_down size at (a ∷ rest) i = at a (i / product_by size rest) ∷ digits_
 abbrev pub rf_at : List ThreadRun → ℕ → List EventId
 rf_at runs i = digits_down (count_sources runs) (source_at runs) (reads runs) i
 
+-- the orders with the number k, of the writes to each location
+abbrev pub orders_by : ℕ → List ThreadRun → ℕ → List (List EventId)
+orders_by locations runs k = digits (count_orders runs) (order_at runs) (upto locations) k
+
 -- the candidate of these runs with this number: co by the lower part of the number, rf by the higher part
 abbrev pub candidate : List ℕ → List ThreadRun → ℕ → GraphValue
 candidate init runs i = record {

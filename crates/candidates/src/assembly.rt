@@ -1,14 +1,14 @@
 //! The parts of the candidates with the same runs, and the candidates.
 
-ghost use Rattle.std.specs.Prelude.{◌≡◌, ◌+◌, ◌/◌, ◌++◌, [], ◌∷◌, ◌<◌, ◌≤◌, List, length, map, slice_index_or, take, drop, filter, true, All, IfOk, OnOk};
+ghost use Rattle.std.specs.Prelude.{◌≡◌, ◌+◌, ◌/◌, ◌%◌, ◌++◌, [], ◌∷◌, ◌<◌, ◌≤◌, List, length, map, slice_index_or, take, drop, filter, true, All, IfOk, IfSome, OnOk, Some};
 ghost use Rattle.events.specs.Executions.{ThreadRun, empty_run, is_read};
 ghost use Rattle.listings.specs.Lists.{factorial, product_by};
 ghost use Rattle.candidates.specs.Bounds.{AreWithin};
 ghost use Rattle.candidates.specs.Executions.{writes_from, later_writes, reads, upto, block};
-ghost use Rattle.candidates.specs.Candidates.{count_co, candidate, no_execution, rf_at, write_value};
+ghost use Rattle.candidates.specs.Candidates.{count_co, candidate, no_execution, orders_by, rf_at, write_value};
 ghost use Rattle.candidates.specs.Depths.{depths_of};
 ghost use Rattle.candidates.specs.Levels.{ArePlaced};
-ghost use Rattle.candidates.specs.Outlines.{IsOfRuns};
+ghost use Rattle.candidates.specs.Outlines.{IsOfRuns, outline, outlines};
 ghost use Rattle.candidates.specs.Readings.{IsPage, sources_among, orders_among};
 
 use crate::depths::list_depths;
@@ -16,7 +16,8 @@ use crate::fault::MOST_CANDIDATES;
 use crate::ordering::{coherence, turn_orders};
 use crate::page::{Page, Writes};
 use crate::reading::{read_from, read_into, turn_sources};
-use events::{Event, EventId, Graph, GraphParts, Run, copy_runs};
+use crate::threads::are_alike;
+use events::{Coherence, Event, EventId, Graph, GraphParts, Run, copy_runs};
 use std::alloc::{AllocError, Global};
 use std::mem::replace;
 
@@ -234,47 +235,77 @@ fn have_same(places: &[usize], others: &[usize], thread: usize) -> bool
     places[thread] == others[thread]
 }
 
-/// Puts a run of a page at its place of a list, where it stands already if these places have the page's. All others stay as they are.
+/// Whether it is asked and the events of both runs do the same.
+fn are_like(asked: bool, run: &Run, other: &Run) -> bool
+    ensures { result ≡ true → map outline run.now.events ≡ map outline other.now.events }
+{
+    asked && are_alike(run.events(), other.events())
+}
+
+/// Whether it is asked and the others are as many or more.
+fn may_be_like(asked: bool, runs: &[Run], others: &[Run]) -> bool
+    ensures { result ≡ true → (asked ≡ true) × (length runs.now ≤ length others.now) }
+{
+    asked && runs.len() <= others.len()
+}
+
+/// Puts a run of a page at its place of a list, where it stands already if these places have the page's, and says, where it is asked, whether
+/// a run stands there whose events do the same. All others stay as they are.
 fn put_run(
     runs: &mut Vec<Run>,
     places: &[usize],
     page: &Page,
     thread: usize,
-) -> Result<(), AllocError>
+    asked: bool,
+) -> Result<bool, AllocError>
     requires thread { thread < length page.now.runs.items }
     requires room { thread ≤ length runs.old.items }
     requires there { thread < length places.now → thread < length page.now.places.items → slice_index_or places.now thread 0 ≡ slice_index_or page.now.places.items thread 0 → (thread < length runs.old.items) × (slice_index_or runs.old.items thread empty_run ≡ slice_index_or page.now.runs.items thread empty_run) }
     ensures put { OnOk result ((take (thread + 1) runs.new.items ≡ take thread runs.old.items ++ slice_index_or page.now.runs.items thread empty_run ∷ []) × (thread < length runs.new.items)) }
     ensures behind { OnOk result (drop (thread + 1) runs.new.items ≡ drop (thread + 1) runs.old.items) }
+    ensures alike { IfOk result (λ alike. alike ≡ true → outlines runs.new.items ≡ outlines runs.old.items) }
 {
     if have_same(places, &page.places, thread) {
-        return Ok(());
+        return Ok(true);
     }
+    let run = &page.runs[thread];
     if thread >= runs.len() {
-        runs.push(page.runs[thread].copy()?)?;
-        return Ok(());
+        runs.push(run.copy()?)?;
+        return Ok(false);
     }
-    runs[thread].become_copy(&page.runs[thread])?;
-    Ok(())
+    let alike = are_like(asked, &runs[thread], run);
+    runs[thread].become_copy(run)?;
+    Ok(alike)
 }
 
-/// The runs of a page, in a vector that may have some of them already. The places are those of its runs, and become the page's.
+/// Runs, and whether they are known to do what the runs do that were there before.
+#[derive(Drop)]
+struct Again {
+    runs: Vec<Run>,
+    alike: bool,
+}
+
+/// The runs of a page, in a vector that may have some of them already. The places are those of its runs, and become the page's. It may be asked
+/// whether the events of all do what those did that were there.
 fn runs_again(
     mut runs: Vec<Run>,
     places: &mut Vec<usize>,
     page: &Page,
-) -> Result<Vec<Run>, AllocError>
+    asked: bool,
+) -> Result<Again, AllocError>
     requires placed { (t : List (List ThreadRun)) × ArePlaced t runs.items places.old.items × ArePlaced t page.now.runs.items page.now.places.items }
-    ensures runs { IfOk result (λ v. v.items ≡ page.now.runs.items) }
+    ensures runs { IfOk result (λ a. a.runs.items ≡ page.now.runs.items) }
+    ensures alike { IfOk result (λ a. a.alike ≡ true → (asked ≡ true) × (outlines runs.items ≡ outlines page.now.runs.items)) }
     ensures places { OnOk result (places.new.items ≡ page.now.places.items) }
 {
+    let mut alike = may_be_like(asked, &runs, &page.runs);
     for thread in 0..page.runs.len() {
-        put_run(&mut runs, places, page, thread)?;
+        alike = put_run(&mut runs, places, page, thread, alike)? && alike;
     }
     runs.truncate(page.runs.len());
     places.clear();
     places.extend_from_slice(&page.places)?;
-    Ok(runs)
+    Ok(Again { runs, alike })
 }
 
 /// These values, in a vector that has had others.
@@ -286,34 +317,70 @@ fn values_again(mut values: Vec<u32>, wanted: &[u32]) -> Result<Vec<u32>, AllocE
     Ok(values)
 }
 
-/// The parts of the page's candidate with this number, but for its orders, in the room of others.
+/// Whether orders are known to be those with this number.
+fn are_known(orders: Option<u64>, number: u64) -> bool
+    ensures { result ≡ true → orders ≡ Some number }
+{
+    match orders {
+        Some(known) => known == number,
+        None => false,
+    }
+}
+
+/// The orders with this number, in the room of others, which may be known to be the same.
+fn orders_again(
+    alloc: Global,
+    page: &Page,
+    locations: usize,
+    number: u64,
+    room: Vec<Coherence>,
+    known: bool,
+) -> Result<Vec<Coherence>, AllocError>
+    requires page { IsPage locations page.now }
+    requires known { known ≡ true → room.items ≡ orders_by locations page.now.runs.items number }
+    ensures { IfOk result (λ v. v.items ≡ orders_by locations page.now.runs.items number) }
+{
+    if known {
+        return Ok(room);
+    }
+    coherence(alloc, page, locations, number, room)
+}
+
+/// The parts of the page's candidate with this number, in the room of others, whose orders may be known to be those with a number.
 fn refill(
+    alloc: Global,
     init: &[u32],
     page: &Page,
     number: u64,
     parts: GraphParts,
     places: &mut Vec<usize>,
+    orders: Option<u64>,
 ) -> Result<GraphParts, AllocError>
     requires page { IsPage (length init.now) page.now }
     requires placed { (t : List (List ThreadRun)) × ArePlaced t parts.runs.items places.old.items × ArePlaced t page.now.runs.items page.now.places.items }
     requires number { number < block (length init.now) page.now.runs.items }
+    requires orders { IfSome orders (λ k. parts.co.items ≡ orders_by (length init.now) parts.runs.items k) }
     ensures init { IfOk result (λ p. p.init.items ≡ init.now) }
     ensures runs { IfOk result (λ p. p.runs.items ≡ page.now.runs.items) }
     ensures rf { IfOk result (λ p. p.rf.items ≡ rf_at page.now.runs.items (number / page.now.orders)) }
+    ensures co { IfOk result (λ p. p.co.items ≡ orders_by (length init.now) page.now.runs.items (number % page.now.orders)) }
     ensures places { OnOk result (places.new.items ≡ page.now.places.items) }
 {
     let values = values_again(parts.init, init)?;
-    let runs = runs_again(parts.runs, places, page)?;
+    let wanted = number % page.orders;
+    let again = runs_again(parts.runs, places, page, are_known(orders, wanted))?;
     let rf = read_into(page, &page.reads, parts.rf, number / page.orders)?;
+    let co = orders_again(alloc, page, init.len(), wanted, parts.co, again.alike)?;
     Ok(GraphParts {
         init: values,
-        runs,
+        runs: again.runs,
         rf,
-        co: parts.co,
+        co,
     })
 }
 
-/// The candidate of the page's runs with this number, in the room of other parts. The places are those of its runs.
+/// The candidate of the page's runs with this number, in the room of other parts, whose orders may be known to be those with a number. The places
+/// are those of its runs.
 pub(crate) fn assemble_in(
     alloc: Global,
     init: &[u32],
@@ -321,16 +388,17 @@ pub(crate) fn assemble_in(
     number: u64,
     parts: GraphParts,
     places: &mut Vec<usize>,
+    orders: Option<u64>,
 ) -> Result<Graph, AllocError>
     requires page { IsPage (length init.now) page.now }
     requires placed { (t : List (List ThreadRun)) × ArePlaced t parts.runs.items places.old.items × ArePlaced t page.now.runs.items page.now.places.items }
     requires number { number < block (length init.now) page.now.runs.items }
+    requires orders { IfSome orders (λ k. parts.co.items ≡ orders_by (length init.now) parts.runs.items k) }
     ensures graph { IfOk result (λ g. g ≡ candidate init.now page.now.runs.items number) }
     ensures places { OnOk result (places.new.items ≡ page.now.places.items) }
 {
-    let filled = refill(init, page, number, parts, places)?;
-    let co = coherence(alloc, page, init.len(), number % page.orders, filled.co)?;
-    Ok(Graph::new(filled.init, filled.runs, filled.rf, co))
+    let filled = refill(alloc, init, page, number, parts, places, orders)?;
+    Ok(Graph::new(filled.init, filled.runs, filled.rf, filled.co))
 }
 
 /// The candidate of the page's runs with another number, made from the one with this number.

@@ -26,7 +26,7 @@ fn do_the_same(event: &Event, other: &Event) -> bool
 }
 
 /// Whether events do what the others do, one by one, whatever their values are.
-fn are_alike(events: &[Event], others: &[Event]) -> bool
+pub(crate) fn are_alike(events: &[Event], others: &[Event]) -> bool
     ensures { result ≡ true → map outline events.now ≡ map outline others.now }
 {
     if events.len() != others.len() {
