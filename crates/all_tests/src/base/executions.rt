@@ -1,11 +1,14 @@
 //! Executions made by hand, and the sets and relations that they have.
 
+ghost use Rattle.std.specs.Prelude.{◌≡◌, IfOk};
+ghost use Rattle.events.specs.Structures.{sourced_of};
+
 use crate::graphs::graph;
 use crate::names::name;
 use crate::rows::{again, all_hold, expect, meant};
 use cat_model::Named;
 use events::EventId::{Initial, Own};
-use events::{Basis, Coherence, EventId, Graph, GraphView, Order, SourcedStructure};
+use events::{Basis, Coherence, Cut, EventId, Graph, GraphView, Order, SourcedStructure};
 use relations::{Rel, Set};
 use std::alloc::{AllocError, Global};
 
@@ -200,6 +203,26 @@ fn made_again(execution: Graph) -> Graph {
     Graph::new(parts.init, parts.runs, parts.rf, parts.co)
 }
 
+/// Does a structure that is of an execution tell that the map may be another, as it follows it without its reads, and then whole again?
+fn follows_on(
+    alloc: Global,
+    sourced: &mut SourcedStructure,
+    execution: &Graph,
+) -> Result<bool, AllocError>
+    requires { sourced.old ≡ sourced_of execution.now }
+    ensures { IfOk result (λ _. sourced.new ≡ sourced_of execution.now) }
+{
+    let without = Cut {
+        reads: 0,
+        locations: 0,
+        unplaced: &[],
+    };
+    let cut = sourced.follow_cut_on(alloc, execution, &without)?;
+    let whole = sourced.follow_on(alloc, execution)?;
+    let same = sourced.follow_on(alloc, execution)?;
+    Ok(cut == Basis::Sources && whole == Basis::Sources && same == Basis::Orders)
+}
+
 /// Does a structure of one execution tell, as it follows another, that this is what may be another than before, and is that to
 /// be seen in the view over it?
 fn is_followed(
@@ -211,9 +234,10 @@ fn is_followed(
 ) -> Result<bool, AllocError> {
     let mut sourced = SourcedStructure::of(alloc, from)?;
     let basis = sourced.follow(alloc, execution)?;
+    let goes_on = follows_on(alloc, &mut sourced, execution)?;
     let mut room = Rel::empty(0);
     let view = GraphView::over(&sourced, execution, &mut room);
-    Ok(meant(BASES, told) == Some(basis) && is_seen(alloc, &view, seen)?)
+    Ok(meant(BASES, told) == Some(basis) && goes_on && is_seen(alloc, &view, seen)?)
 }
 
 /// Has this name an execution whose structure follows another so?

@@ -1,11 +1,11 @@
 //! What models say of all executions that go on from what is known of one.
 
 use crate::cat::loading::is_so;
-use crate::graphs::graph;
+use crate::graphs::{STORE_BUFFERING, graph};
 use crate::rows::all_hold;
-use cat_eval::Evaluator;
+use cat_eval::{Evaluator, judge};
 use cat_model::Model;
-use events::{Cut, EventId, Graph, Order};
+use events::{Cut, EventId, Graph, GraphView, Order};
 use std::alloc::{AllocError, Global};
 
 /// Message passing, where the flag is seen and the first read of the message reads the initial write. What the second one reads is not
@@ -20,7 +20,20 @@ rf 0.1 i0 0.0
 co i0 0.0
 co i1 0.1";
 
-/// Whether an evaluator says this of what is known of message passing, and says it again.
+/// Whether an evaluator that forgets the runs of another execution judges this one as it is judged alone.
+fn judges_another(
+    alloc: Global,
+    model: &Model,
+    evaluator: &mut Evaluator<'_>,
+    execution: &Graph,
+) -> Result<bool, AllocError> {
+    evaluator.forget_runs();
+    let allowed = evaluator.judge_next(alloc, execution)?.allowed();
+    let view = GraphView::of(alloc, execution)?;
+    Ok(allowed == judge(alloc, model, &view)?.allowed())
+}
+
+/// Whether an evaluator says this of what is known of message passing, and says it again, and then judges store buffering right.
 fn says_twice(
     alloc: Global,
     model: &Model,
@@ -36,7 +49,9 @@ fn says_twice(
     let mut evaluator = Evaluator::of(alloc, model, execution)?;
     let first = evaluator.refutes(alloc, execution, cut)?;
     let second = evaluator.refutes(alloc, execution, cut)?;
-    Ok(first == known && second == known)
+    let other = graph(alloc, STORE_BUFFERING, Order::Rlx)?;
+    let judges = judges_another(alloc, model, &mut evaluator, &other)?;
+    Ok(first == known && second == known && judges)
 }
 
 /// Whether a model is known, or isn't known, to forbid all executions that go on from message passing of this order.
