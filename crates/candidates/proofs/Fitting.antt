@@ -8,7 +8,7 @@ use Rattle.events.specs.declared.event.Event.{Event}
 use Rattle.events.specs.Executions.{ThreadRun}
 use Rattle.listings.specs.Lists.{product_by}
 use Rattle.candidates.specs.Candidates.{count_sources, source_at, write_value, agree}
-use Rattle.candidates.specs.Readings.{IsFit, IsWhole, read_at}
+use Rattle.candidates.specs.Readings.{IsFit, IsWhole, Misses, read_at}
 use Rattle.candidates.specs.declared.reading.Fit.TheVariants as of_fit
 use Rattle.candidates.proofs.Sources.{agree_next, divided, some_ways, split, ways_from, IsSplit}
 
@@ -32,10 +32,6 @@ div_up a b q s l =
           absurd (omega (arith, l, up, mod-add-div' a q, mod-add-div' b q, mod_below b q z)))
       | inr le ↦ le
     ]
-
--- no value between
-abbrev pub Misses : List ℕ → List ThreadRun → Event → ℕ → ℕ → Type 0
-Misses init runs r d f = (e : ℕ) → d ≤ e → e < f → (write_value init runs (source_at runs r e) == r.value) ≡ false
 
 -- by no number of the blocks of sources without the read's value the reads fit
 missed : (init : List ℕ) (runs : List ThreadRun) (rs : List Event) (number i start rest below other c f j : ℕ) (r : Event) → i < length rs → r ≡ get_or rs i r
@@ -183,6 +179,37 @@ stands_on init runs rs number i start rest below other f g p r l e is few from m
       ];
       behind = o.behind;
     })
+
+-- Before the first read, from the first number on.
+pub stands_begin : (init : List ℕ) (runs : List ThreadRun) (rs : List Event) (ways : ℕ) → ways ≡ ways_from runs rs 0 → Stands init runs rs 0 0 0 0 ways ways
+stands_begin init runs rs ways e = record {
+  left = e;
+  small = omega (arith, e, some_ways runs rs 0);
+  far = omega arith;
+  most = omega (arith, e);
+  order = omega arith;
+  same = λ j l. ap (λ m. agree init runs rs (read_at runs rs m)) (let plain : 0 + j ≡ j = omega arith in plain);
+  none = λ m a b. absurd (omega (arith, b));
+  behind = λ m a b. absurd (omega (arith, a, b));
+}
+
+-- the same where no number is left
+no_rest : (b : Bool) (k : ℕ) → k ≡ 0 → cond b 0 k ≡ 0
+no_rest true k e = refl
+no_rest false k e = e
+
+pub stands_first : (init : List ℕ) (runs : List ThreadRun) (rs : List Event) (number i start below other f g p : ℕ) (r : Event) → i < length rs → r ≡ get_or rs i r
+    → p ≡ ways_from runs rs (i + 1) → f < count_sources runs r → Misses init runs r 0 f
+    → write_value init runs (source_at runs r f) ≡ r.value
+    → f < g → g ≤ count_sources runs r → Misses init runs r (f + 1) g
+    → Stands init runs rs number i start 0 below other
+    → Stands init runs rs number (i + 1) (start + f * p) 0 p (cond (nat_lt g (count_sources runs r)) (start + g * p) other)
+stands_first init runs rs number i start below other f g p r l e is few misses fits up within later h =
+    let s : 1 ≤ ways_from runs rs (i + 1) = some_ways runs rs (i + 1) in
+    let t : IsSplit 0 1 p = split 0 1 p (omega (arith, is, s)) (omega (arith, is, s)) in
+    let P : ℕ → Type 0 = λ x. Stands init runs rs number (i + 1) (start + f * p) x p (cond (nat_lt g (count_sources runs r)) (start + g * p) other) in
+    subst P (no_rest (nat_lt (0 / p) f) (0 % p) (omega (arith, t.whole)))
+    (stands_on init runs rs number i start 0 below other f g p r l e is few (omega (arith, t.digit)) (λ d a b. misses d (omega arith) b) fits up within later h)
 
 -- What the read at place i needs to choose its source.
 pub can_fit : (init : List ℕ) (runs : List ThreadRun) (rs : List Event) (number i start rest below other : ℕ) (r : Event) → i < length rs → r ≡ get_or rs i r → Stands init runs rs number i start rest below other

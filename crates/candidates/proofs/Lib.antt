@@ -30,6 +30,7 @@ pub mod Spanning
 pub mod Steps
 pub mod Storing
 pub mod Stretches
+pub mod Suiting
 pub mod Tallies
 pub mod Walked
 pub mod Writing

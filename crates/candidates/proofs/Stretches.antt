@@ -10,7 +10,7 @@ use Rattle.candidates.specs.Depths.{depths_of, place_of}
 use Rattle.candidates.specs.Executions.{block}
 use Rattle.candidates.specs.Levels.{ArePlaced}
 use Rattle.candidates.specs.Candidates.{Choices, candidate, candidate_at, is_consistent, size_of}
-use Rattle.candidates.specs.Readings.{IsFirst, IsLook, IsPage, IsStretch}
+use Rattle.candidates.specs.Readings.{HasSuitable, IsFirst, IsLook, IsPage, IsStretch}
 use Rattle.candidates.specs.Walks.{IsFound, IsPast}
 use Rattle.candidates.proofs.Law.{hidden}
 
@@ -18,8 +18,8 @@ use Rattle.candidates.proofs.Law.{hidden}
 pub whole_page : (n : ℕ) (p : Page) → IsPage n p → p.ways * p.orders ≡ block n p.runs.items
 whole_page n p h = rw (h.ways, h.orders) refl
 
-pub stretch_of : (s : Choices) (runs : List ThreadRun) (n first : ℕ) (b : Stretch) → n ≡ length s.init → IsPage n b.page → b.page.runs.items ≡ runs → b.first ≡ first → b.size ≡ b.page.ways * b.page.orders → first + block (length s.init) runs ≤ size_of s → size_of s ≤ MOST_CANDIDATES → ((j : ℕ) → j < block (length s.init) runs → candidate_at s (first + j) ≡ candidate s.init runs j) → ((j : ℕ) → j < block (length s.init) runs → place_of s (first + j) ≡ j) → b.page.depths.items ≡ depths_of n b.page.runs.items → ArePlaced s.threads b.page.runs.items b.page.places.items → IsStretch s b
-stretch_of s runs n first b same page are is size most small at place depths placed =
+pub stretch_of : (s : Choices) (runs : List ThreadRun) (n first : ℕ) (b : Stretch) → n ≡ length s.init → IsPage n b.page → HasSuitable s.init b.page → b.page.runs.items ≡ runs → b.first ≡ first → b.size ≡ b.page.ways * b.page.orders → first + block (length s.init) runs ≤ size_of s → size_of s ≤ MOST_CANDIDATES → ((j : ℕ) → j < block (length s.init) runs → candidate_at s (first + j) ≡ candidate s.init runs j) → ((j : ℕ) → j < block (length s.init) runs → place_of s (first + j) ≡ j) → b.page.depths.items ≡ depths_of n b.page.runs.items → ArePlaced s.threads b.page.runs.items b.page.places.items → IsStretch s b
+stretch_of s runs n first b same page fits are is size most small at place depths placed =
     let P : ℕ → Type 0 = λ m. IsPage m b.page in
     let q : IsPage (length s.init) b.page = subst P same page in
     let w : b.size ≡ block (length s.init) b.page.runs.items = size ∙ whole_page (length s.init) b.page q in
@@ -27,6 +27,7 @@ stretch_of s runs n first b same page are is size most small at place depths pla
     let k = subst R (sym are) (most, at, place) in
     record {
       page = q;
+      fits = fits;
       size = w;
       most = omega (arith, is, w, k.0);
       small = omega (arith, is, w, k.0, small);

@@ -1,10 +1,11 @@
 -- What is found from a number of some runs on: the first candidate that is an execution, or up to which number none is.
-use Rattle.std.specs.Prelude.{◌≡◌, ℕ, suc, ◌+◌, ◌/◌, ◌<◌, ◌≤◌, List, [], length, slice_index_or, map, true, false, All}
+use Rattle.std.specs.Prelude.{◌≡◌, ℕ, suc, ◌+◌, ◌/◌, ◌<◌, ◌≤◌, List, [], length, slice_index_or, map, true, false, ◌==◌, All}
 use Rattle.events.specs.declared.event.Event.{Event}
 use Rattle.events.specs.declared.event.EventId.{EventId}
 use Rattle.events.specs.Executions.{GraphValue, ThreadRun}
 use Rattle.listings.specs.Lists.{factorial, product_by}
 use Rattle.candidates.specs.declared.reading.Fit.{Fit}
+use Rattle.candidates.specs.declared.reading.Suitable.{Suitable}
 use Rattle.candidates.specs.declared.reading.Hit.{Hit}
 use Rattle.candidates.specs.declared.reading.Fit.TheVariants as of_fit
 use Rattle.candidates.specs.declared.reading.Look.{Look}
@@ -13,7 +14,7 @@ use Rattle.candidates.specs.declared.page.Page.{Page}
 use Rattle.candidates.specs.declared.page.Stretch.{Stretch}
 use Rattle.candidates.specs.declared.fault.TheConstants.{MOST_CANDIDATES}
 use Rattle.candidates.specs.Executions.{reads, later_writes, upto, block}
-use Rattle.candidates.specs.Candidates.{Choices, count_sources, source_at, digits_down, count_co, candidate, candidate_at, size_of, agree, is_consistent}
+use Rattle.candidates.specs.Candidates.{Choices, count_sources, source_at, digits_down, count_co, candidate, candidate_at, size_of, agree, is_consistent, write_value}
 use Rattle.candidates.specs.Bounds.{AreWithin}
 use Rattle.candidates.specs.Blocks.{IsDepth}
 use Rattle.candidates.specs.Depths.{depths_of, place_of}
@@ -55,6 +56,25 @@ abbrev pub IsLook : List ℕ → List ThreadRun → ℕ → Look → Type 0
 IsLook init runs i (of_look.Found h) = IsFirst init runs i h
 IsLook init runs i (of_look.Until n) = (i < n) × (n ≤ block (length init) runs) × ((m : ℕ) → i ≤ m → m < n → is_consistent (candidate init runs m) ≡ false)
 
+-- None of a read's sources from the place a to before b has the read's value.
+abbrev pub Misses : List ℕ → List ThreadRun → Event → ℕ → ℕ → Type 0
+Misses init runs r a b = (d : ℕ) → a ≤ d → d < b → (write_value init runs (source_at runs r d) == r.value) ≡ false
+
+-- The first two sources of a read that have its value.
+pub record AreSuitable (init : List ℕ) (runs : List ThreadRun) (r : Event) (f : Suitable) : Type 0 where
+  pub within : f.first ≤ count_sources runs r
+  pub none : Misses init runs r 0 f.first
+  pub found : f.first < count_sources runs r → write_value init runs (source_at runs r f.first) ≡ r.value
+  pub later : f.first < count_sources runs r → f.first < f.next
+  pub most : f.next ≤ count_sources runs r
+  pub between : Misses init runs r (f.first + 1) f.next
+
+-- Those of each of the first k reads are known.
+pub record HaveSuitable (init : List ℕ) (runs : List ThreadRun) (rs : List Event) (fs : List Suitable) (k : ℕ) : Type 0 where
+  pub reads : k ≤ length rs
+  pub fits : k ≤ length fs
+  pub are : (i : ℕ) (r : Event) (f : Suitable) → i < k → AreSuitable init runs (slice_index_or rs i r) (slice_index_or fs i f)
+
 -- What is kept of some runs: their reads, the later writes of each location, and in how many ways the reads can read and the writes be
 -- ordered; and depths of blocks.
 pub record IsPage (locations : ℕ) (p : Page) : Type 0 where
@@ -65,6 +85,11 @@ pub record IsPage (locations : ℕ) (p : Page) : Type 0 where
   pub ways : p.ways ≡ product_by (count_sources p.runs.items) (reads p.runs.items)
   pub orders : p.orders ≡ count_co locations p.runs.items
   pub depths : All (IsDepth locations p.runs.items) p.depths.items
+
+-- The page has the sources that each of its reads fits.
+pub record HasSuitable (init : List ℕ) (p : Page) : Type 0 where
+  pub many : length p.suitable.items ≡ length p.reads.items
+  pub are : HaveSuitable init p.runs.items p.reads.items p.suitable.items (length p.reads.items)
 
 -- how many writes a read may read from, where these are the later writes of each location
 abbrev pub sources_among : List (List EventId) → Event → ℕ
@@ -81,6 +106,7 @@ IsReadOf p r = (n : ℕ) × IsPage n p × (r.loc < n)
 -- The numbers of a stretch are those of the candidates with its runs.
 pub record IsStretch (s : Choices) (b : Stretch) : Type 0 where
   pub page : IsPage (length s.init) b.page
+  pub fits : HasSuitable s.init b.page
   pub size : b.size ≡ block (length s.init) b.page.runs.items
   pub most : b.first + b.size ≤ size_of s
   pub small : b.first + b.size ≤ MOST_CANDIDATES

@@ -9,13 +9,13 @@ ghost use Rattle.candidates.specs.Candidates.{count_co, candidate, no_execution,
 ghost use Rattle.candidates.specs.Depths.{depths_of};
 ghost use Rattle.candidates.specs.Levels.{ArePlaced};
 ghost use Rattle.candidates.specs.Outlines.{IsOfRuns, outline, outlines};
-ghost use Rattle.candidates.specs.Readings.{IsPage, sources_among, orders_among};
+ghost use Rattle.candidates.specs.Readings.{HasSuitable, IsPage, sources_among, orders_among};
 
 use crate::depths::list_depths;
 use crate::fault::MOST_CANDIDATES;
 use crate::ordering::{coherence, turn_orders};
 use crate::page::{Page, Writes};
-use crate::reading::{read_from, read_into, turn_sources};
+use crate::reading::{all_suitable, read_from, read_into, turn_sources};
 use crate::threads::are_alike;
 use events::{Coherence, Event, EventId, Graph, GraphParts, Run, copy_runs};
 use std::alloc::{AllocError, Global};
@@ -203,6 +203,27 @@ pub(crate) fn fill_page(
     let room = replace(&mut page.depths, Vec::new(alloc));
     fill_plain(alloc, page, locations)?;
     page.depths = list_depths(page, locations, room)?;
+    Ok(())
+}
+
+/// Makes a page that of its runs, which may be known to have all that it keeps but for its reads, and finds which of their sources the reads fit.
+pub(crate) fn open_page(
+    alloc: Global,
+    init: &[u32],
+    page: &mut Page,
+    kept: bool,
+) -> Result<(), AllocError>
+    requires within { AreWithin (length init.now) page.old.runs.items }
+    requires most { block (length init.now) page.old.runs.items ≤ MOST_CANDIDATES }
+    requires kept { kept ≡ true → IsOfRuns (length init.now) page.old.runs.items page.old }
+    ensures page { OnOk result (IsPage (length init.now) page.new) }
+    ensures fits { OnOk result (HasSuitable init.now page.new) }
+    ensures runs { (page.new.runs ≡ page.old.runs) × (page.new.places ≡ page.old.places) }
+    ensures depths { OnOk result (page.new.depths.items ≡ depths_of (length init.now) page.old.runs.items) }
+{
+    fill_page(alloc, page, init.len(), kept)?;
+    let room = replace(&mut page.suitable, Vec::new(alloc));
+    page.suitable = all_suitable(init, page, 0, room)?;
     Ok(())
 }
 

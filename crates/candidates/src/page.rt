@@ -7,7 +7,7 @@ use crate::capped::capped_factorial;
 use crate::depths::Depth;
 use crate::fault::MOST_CANDIDATES;
 use crate::levels::Level;
-use crate::reading::Hit;
+use crate::reading::{Suitable, Hit};
 use events::{Event, EventId, Graph, GraphParts, Run};
 use std::alloc::Global;
 use std::marker::Model;
@@ -81,12 +81,13 @@ impl Writes {
     }
 }
 
-/// The runs of a choice, at which place of its thread's runs each of the first stands, their reads, the later writes of each
-/// location, in how many ways the reads can read and the writes be ordered, and the depths of blocks.
+/// The runs of a choice, at which place of its thread's runs each of the first stands, their reads, which of their sources these fit, the later
+/// writes of each location, in how many ways the reads can read and the writes be ordered, and the depths of blocks.
 pub(crate) struct Page {
     pub(crate) runs: Vec<Run>,
     pub(crate) places: Vec<usize>,
     pub(crate) reads: Vec<Event>,
+    pub(crate) suitable: Vec<Suitable>,
     pub(crate) writes: Vec<Writes>,
     pub(crate) ways: u64,
     pub(crate) orders: u64,
@@ -100,6 +101,7 @@ impl Drop for Page {
             runs: _,
             places: _,
             reads: _,
+            suitable: _,
             writes: _,
             ways: _,
             orders: _,

@@ -1,10 +1,10 @@
 //! What the reads read from, by numbers, and whether it has their values.
 
-ghost use Rattle.std.specs.Prelude.{◌≡◌, ◌<◌, ◌≤◌, ◌+◌, ◌*◌, ◌^◌, ◌/◌, ◌%◌, ◌==◌, ◌∷◌, ℕ, suc, length, slice_index_or, nat_lt, true, false, IfOk, IfSome, if◌then◌else◌};
+ghost use Rattle.std.specs.Prelude.{◌≡◌, ◌<◌, ◌≤◌, ◌+◌, ◌*◌, ◌^◌, ◌/◌, ◌%◌, ◌∷◌, ℕ, List, suc, length, slice_index_or, nat_lt, IfOk, IfSome, if◌then◌else◌};
 ghost use Rattle.events.specs.declared.event.EventId.TheVariants.{Initial};
-ghost use Rattle.candidates.specs.Executions.{block};
+ghost use Rattle.candidates.specs.Executions.{block, reads};
 ghost use Rattle.candidates.specs.Candidates.{count_sources, rf_at, source_at, write_value};
-ghost use Rattle.candidates.specs.Readings.{IsFit, IsKnown, IsLook, IsPage, IsReadOf, read_at};
+ghost use Rattle.candidates.specs.Readings.{HasSuitable, AreSuitable, HaveSuitable, IsFit, IsKnown, IsLook, IsPage, IsReadOf, Misses, read_at};
 
 use crate::assembly::write_value;
 use crate::page::Page;
@@ -100,7 +100,7 @@ fn fitting(init: &[u32], page: &Page, read: &Event, first: u64, sources: u64) ->
     requires sources { sources ≡ count_sources page.now.runs.items read.now }
     ensures from { first ≤ result }
     ensures within { result ≤ sources }
-    ensures none { (d : ℕ) → first ≤ d → d < result → (write_value init.now page.now.runs.items (source_at page.now.runs.items read.now d) == read.now.value) ≡ false }
+    ensures none { Misses init.now page.now.runs.items read.now first result }
     ensures found { result < sources → write_value init.now page.now.runs.items (source_at page.now.runs.items read.now result) ≡ read.now.value }
 {
     for place in first..sources {
@@ -109,6 +109,47 @@ fn fitting(init: &[u32], page: &Page, read: &Event, first: u64, sources: u64) ->
         }
     }
     sources
+}
+
+/// The first source of a read that has the read's value, and the next one. In place of one that isn't there stands the number of the sources.
+#[derive(Clone, Copy)]
+pub(crate) struct Suitable {
+    pub(crate) first: u64,
+    pub(crate) next: u64,
+}
+
+/// The first two sources of a read that have its value.
+fn suitable_to(init: &[u32], page: &Page, read: &Event) -> Suitable
+    requires page { IsReadOf page.now read.now }
+    ensures { AreSuitable init.now page.now.runs.items read.now result }
+{
+    let sources = sources_of(page, read);
+    let first = fitting(init, page, read, 0, sources);
+    if first >= sources {
+        return Suitable { first, next: first };
+    }
+    let next = fitting(init, page, read, first + 1, sources);
+    Suitable { first, next }
+}
+
+/// The first two sources of each of the page's reads that have its value, where those of so many of the first reads are known.
+pub(crate) fn all_suitable(
+    init: &[u32],
+    page: &Page,
+    known: usize,
+    room: Vec<Suitable>,
+) -> Result<Vec<Suitable>, AllocError>
+    requires page { IsPage (length init.now) page.now }
+    requires known { HaveSuitable init.now page.now.runs.items page.now.reads.items room.items known }
+    ensures many { IfOk result (λ v. length v.items ≡ length page.now.reads.items) }
+    ensures are { IfOk result (λ v. HaveSuitable init.now page.now.runs.items page.now.reads.items v.items (length page.now.reads.items)) }
+{
+    let mut suitable = room;
+    suitable.truncate(known);
+    for place in known..page.reads.len() {
+        suitable.push(suitable_to(init, page, &page.reads[place]))?;
+    }
+    Ok(suitable)
 }
 
 /// How far a number is into those by which a read reads from this source: `rest` tells how far it is into all of the read's, and it reads from
@@ -166,6 +207,45 @@ fn compare(init: &[u32], page: &Page, reads: &[Event], number: u64) -> Fit
         at: start + rest,
         until: other,
     })
+}
+
+/// As `compare` from the first number on, by the sources that are kept of each read.
+fn compare_kept(page: &Page, reads: &[Event]) -> Fit
+    requires page { (n : ℕ) × IsPage n page.now }
+    requires reads { reads.now ≡ page.now.reads.items }
+    requires fits { (init : List ℕ) × HasSuitable init page.now }
+    ensures { (init : List ℕ) → HasSuitable init page.now → IsFit init page.now.runs.items reads.now 0 result }
+{
+    let mut start = 0;
+    let mut ways = page.ways;
+    let mut other = page.ways;
+    for (place, read) in reads.iter().enumerate() {
+        let sources = sources_of(page, read);
+        let suitable = page.suitable[place];
+        if suitable.first >= sources {
+            return Fit::Until(other);
+        }
+        ways /= sources;
+        other = other_start(start, suitable.next, sources, ways, other);
+        start += suitable.first * ways;
+    }
+    Fit::Whole(Hit {
+        at: start,
+        until: other,
+    })
+}
+
+/// As `compare`, for the page's reads.
+fn compare_from(init: &[u32], page: &Page, number: u64) -> Fit
+    requires page { IsPage (length init.now) page.now }
+    requires fits { HasSuitable init.now page.now }
+    requires number { number < page.now.ways }
+    ensures { IsFit init.now page.now.runs.items (reads page.now.runs.items) number result }
+{
+    if number == 0 {
+        return compare_kept(page, &page.reads);
+    }
+    compare(init, page, &page.reads, number)
 }
 
 /// Writes down what each read reads from by this number.
@@ -247,10 +327,11 @@ pub(crate) enum Look {
 /// The first execution of the page's runs from this number on; or up to which number none is.
 fn look_anew(init: &[u32], page: &Page, number: u64) -> Look
     requires page { IsPage (length init.now) page.now }
+    requires fits { HasSuitable init.now page.now }
     requires number { number < block (length init.now) page.now.runs.items }
     ensures { IsLook init.now page.now.runs.items number result }
 {
-    match compare(init, page, &page.reads, number / page.orders) {
+    match compare_from(init, page, number / page.orders) {
         Fit::Whole(hit) => {
             let start = hit.at * page.orders;
             let until = hit.until * page.orders;
@@ -266,6 +347,7 @@ fn look_anew(init: &[u32], page: &Page, number: u64) -> Look
 /// The first execution of the page's runs from this number on, where one of them is known; or up to which number none is.
 fn look_behind(init: &[u32], page: &Page, known: Hit, number: u64) -> Look
     requires page { IsPage (length init.now) page.now }
+    requires fits { HasSuitable init.now page.now }
     requires known { IsKnown init.now page.now.runs.items known }
     requires number { number < block (length init.now) page.now.runs.items }
     ensures { IsLook init.now page.now.runs.items number result }
@@ -285,6 +367,7 @@ fn look_behind(init: &[u32], page: &Page, known: Hit, number: u64) -> Look
 /// The first execution of the page's runs from this number on; or up to which number none is. One may be known.
 pub(crate) fn look_at(init: &[u32], page: &Page, known: Option<Hit>, number: u64) -> Look
     requires page { IsPage (length init.now) page.now }
+    requires fits { HasSuitable init.now page.now }
     requires known { IfSome known (IsKnown init.now page.now.runs.items) }
     requires number { number < block (length init.now) page.now.runs.items }
     ensures { IsLook init.now page.now.runs.items number result }

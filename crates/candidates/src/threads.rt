@@ -9,7 +9,7 @@ ghost use Rattle.candidates.specs.Outlines.{outline, outlines};
 ghost use Rattle.candidates.specs.Readings.{MayBeStretch};
 ghost use Rattle.candidates.specs.Walks.{IsReached};
 
-use crate::assembly::fill_page;
+use crate::assembly::open_page;
 use crate::choosing::{RunList, choose_run};
 use crate::groups::Groups;
 use crate::impossible::Marks;
@@ -171,7 +171,7 @@ pub(crate) fn go_to(
         number,
     )? {
         Located::At(rest, alike) => {
-            fill_page(alloc, &mut stretch.page, threads.init.len(), whole && alike)?;
+            open_page(alloc, threads.init, &mut stretch.page, whole && alike)?;
             stretch.first = number - rest;
             stretch.size = stretch.page.ways * stretch.page.orders;
             Ok(None)

@@ -80,6 +80,7 @@ fn no_stretch(alloc: Global) -> Stretch
         runs: Vec::new(alloc),
         places: Vec::new(alloc),
         reads: Vec::new(alloc),
+        suitable: Vec::new(alloc),
         writes: Vec::new(alloc),
         ways: 1,
         orders: 1,

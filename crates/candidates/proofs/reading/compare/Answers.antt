@@ -1,6 +1,7 @@
 use Rattle.std.proofs.Common.{◌≡◌, ◌∙◌, ◌<◌, ◌/◌, ◌+◌, ◌≤◌, nat_lt, length, ap, subst, arith, sym}
 use Rattle.candidates.specs.Candidates.{count_sources}
-use Rattle.candidates.proofs.Fitting.{Misses, can_fit, stands_end, stands_on, stands_until}
+use Rattle.candidates.specs.Readings.{Misses}
+use Rattle.candidates.proofs.Fitting.{can_fit, stands_end, stands_on, stands_until}
 use Rattle.candidates.proofs.Listed.{placed}
 use Rattle.candidates.proofs.Sources.{ways_from}
 use Rattle.std.proofs.Math.Nat.{mul-le-mul_right}

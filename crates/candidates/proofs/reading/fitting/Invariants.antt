@@ -1,4 +1,4 @@
-use Rattle.candidates.proofs.Fitting.{Misses}
+use Rattle.candidates.specs.Readings.{Misses}
 use Rattle.candidates.proofs.reading.fitting.Given as goal
 
 -- none of the sources so far has the read's value

@@ -14,9 +14,8 @@ returns-in-Until c =
     let page = c.args.page.now in
     let runs = page.runs.items in
     let i = c.args.number / page.orders in
-    let read = rw c.in-Until.is at c.compare.ensures in
-    let Q : List Event → Type 0 = λ es. IsFit init runs es i (Until c.in-Until.next) in
-    until_of init runs page.orders c.args.number c.in-Until.next c.requires.page.orders (subst Q (c.deref.ensures.value ∙ c.requires.page.reads_are) read)
+    let read = rw c.in-Until.is at c.compare_from.ensures in
+    until_of init runs page.orders c.args.number c.in-Until.next c.requires.page.orders read
 
 pub returns-then-start-number : goal.returns-then-start-number
 returns-then-start-number c =
@@ -24,9 +23,8 @@ returns-then-start-number c =
     let page = c.args.page.now in
     let runs = page.runs.items in
     let i = c.args.number / page.orders in
-    let read = rw c.in-Whole.is at c.compare.ensures in
-    let Q : List Event → Type 0 = λ es. IsFit init runs es i (Whole c.in-Whole.hit) in
-    first_of init runs page.orders c.args.number c.args.number c.in-Whole.hit c.requires.page.orders (subst Q (c.deref.ensures.value ∙ c.requires.page.reads_are) read) (omega arith) (omega (arith, c.if-start-number.true)) (inl refl)
+    let read = rw c.in-Whole.is at c.compare_from.ensures in
+    first_of init runs page.orders c.args.number c.args.number c.in-Whole.hit c.requires.page.orders read (omega arith) (omega (arith, c.if-start-number.true)) (inl refl)
 
 pub returns-else-start-number : goal.returns-else-start-number
 returns-else-start-number c =
@@ -34,27 +32,26 @@ returns-else-start-number c =
     let page = c.args.page.now in
     let runs = page.runs.items in
     let i = c.args.number / page.orders in
-    let read = rw c.in-Whole.is at c.compare.ensures in
-    let Q : List Event → Type 0 = λ es. IsFit init runs es i (Whole c.in-Whole.hit) in
-    first_of init runs page.orders c.args.number (c.in-Whole.hit.at * page.orders) c.in-Whole.hit c.requires.page.orders (subst Q (c.deref.ensures.value ∙ c.requires.page.reads_are) read) (omega (arith, c.if-start-number.false)) (omega arith) (inr refl)
+    let read = rw c.in-Whole.is at c.compare_from.ensures in
+    first_of init runs page.orders c.args.number (c.in-Whole.hit.at * page.orders) c.in-Whole.hit c.requires.page.orders read (omega (arith, c.if-start-number.false)) (omega arith) (inr refl)
 
-pub compare-requires-clause-number : goal.compare-requires-clause-number
-compare-requires-clause-number c = reading_within (length c.args.init.now) c.args.page.now c.args.number c.requires.page c.requires.number
+pub compare_from-requires-clause-number : goal.compare_from-requires-clause-number
+compare_from-requires-clause-number c = reading_within (length c.args.init.now) c.args.page.now c.args.number c.requires.page c.requires.number
 
 pub overflow_mul-until : goal.overflow_mul-until
 overflow_mul-until c =
-    let ways = ap (λ es. product_by (count_sources c.args.page.now.runs.items) es) (c.deref.ensures.value ∙ c.requires.page.reads_are) ∙ sym c.requires.page.ways in
+    let ways = sym c.requires.page.ways in
     let within : c.in-Whole.hit.until ≤ c.args.page.now.ways = omega (arith, c.in-Whole.ensures.most, ways) in
     omega (arith, start_within (length c.args.init.now) c.args.page.now c.in-Whole.hit.until c.requires.page within)
 
 pub overflow_mul-start : goal.overflow_mul-start
 overflow_mul-start c =
-    let ways = ap (λ es. product_by (count_sources c.args.page.now.runs.items) es) (c.deref.ensures.value ∙ c.requires.page.reads_are) ∙ sym c.requires.page.ways in
+    let ways = sym c.requires.page.ways in
     let within : c.in-Whole.hit.at ≤ c.args.page.now.ways = omega (arith, c.in-Whole.ensures.within, ways) in
     omega (arith, start_within (length c.args.init.now) c.args.page.now c.in-Whole.hit.at c.requires.page within)
 
 pub overflow_mul-result : goal.overflow_mul-result
 overflow_mul-result c =
-    let ways = ap (λ es. product_by (count_sources c.args.page.now.runs.items) es) (c.deref.ensures.value ∙ c.requires.page.reads_are) ∙ sym c.requires.page.ways in
+    let ways = sym c.requires.page.ways in
     let within : c.in-Until.next ≤ c.args.page.now.ways = omega (arith, c.in-Until.ensures.1, ways) in
     omega (arith, start_within (length c.args.init.now) c.args.page.now c.in-Until.next c.requires.page within)

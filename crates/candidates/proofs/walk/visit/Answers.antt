@@ -1,6 +1,6 @@
 use Rattle.candidates.proofs.Stretches.{found_here, none_here}
 use Rattle.std.proofs.Common.{ℕ, List, length, subst, sym}
-use Rattle.candidates.specs.Readings.{IsPage}
+use Rattle.candidates.specs.Readings.{HasSuitable, IsPage}
 use Rattle.candidates.proofs.walk.visit.Goals as goal
 
 pub returns-in-Until : goal.returns-in-Until
@@ -13,3 +13,6 @@ returns-in-Found c =
 
 pub look_at-requires-clause-page : goal.look_at-requires-clause-page
 look_at-requires-clause-page c = let P : List ℕ → Type 0 = λ is. IsPage (length is) c.args.stretch.now.page in subst P (sym c.init.ensures) c.requires.within.stretch.page
+
+pub look_at-requires-clause-fits : goal.look_at-requires-clause-fits
+look_at-requires-clause-fits c = let P : List ℕ → Type 0 = λ is. HasSuitable is c.args.stretch.now.page in subst P (sym c.init.ensures) c.requires.within.stretch.fits
