@@ -2,6 +2,7 @@ pub mod Adding
 pub mod Around
 pub mod Bounding
 pub mod ByLocation
+pub mod Calm
 pub mod Caps
 pub mod Cutting
 pub mod Deeper

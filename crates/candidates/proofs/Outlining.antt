@@ -61,6 +61,9 @@ reads_by_outline (run ∷ runs) =
 reads_alike : (as' bs : List ThreadRun) → outlines as' ≡ outlines bs → map outline (reads as') ≡ map outline (reads bs)
 reads_alike as' bs e = reads_by_outline as' ∙ ap reads e ∙ sym (reads_by_outline bs)
 
+pub as_many_reads : (as' bs : List ThreadRun) → outlines as' ≡ outlines bs → length (reads as') ≡ length (reads bs)
+as_many_reads as' bs e = sym (length-map (reads as') outline) ∙ ap (λ (es : List Event). length es) (reads_alike as' bs e) ∙ length-map (reads bs) outline
+
 -- in how many ways reads can read
 sources_by_outline : (runs : List ThreadRun) (es : List Event) → product_by (count_sources runs) es ≡ product_by (count_sources runs) (map outline es)
 sources_by_outline runs [] = refl
@@ -128,7 +131,7 @@ places_same as' bs e (suc x) =
 known_same : (n : ℕ) (as' bs : List ThreadRun) → outlines as' ≡ outlines bs → known_at_depths n as' ≡ known_at_depths n bs
 known_same n as' bs e =
     let f = reads_alike as' bs e in
-    let many : length (reads as') ≡ length (reads bs) = sym (length-map (reads as') outline) ∙ ap (λ (es : List Event). length es) f ∙ length-map (reads bs) outline in
+    let many = as_many_reads as' bs e in
     let ks : List Known = Sources (length (reads as')) ∷ by_locations as' n in
     ap (λ (ls : List Known). ls ++ filter (is_open n as') ks) (before_same as' bs e 0 (reads as') ∙ before_by_outline bs 0 (reads as') ∙ ap (before_reads bs 0) f ∙ sym (before_by_outline bs 0 (reads bs)))
     ∙ ap (λ (ls : List Known). before_reads bs 0 (reads bs) ++ ls) (

@@ -15,7 +15,7 @@ use Rattle.candidates.proofs.Caps.{product_drop, product_positive, sources_posit
 pub different : (a b : ℕ) → a ≢ b → (a == b) ≡ false
 different a b ne = elim (cases_Bool (a == b)) [ inl t ↦ absurd (ne (eqb-true a b t)) | inr f ↦ f ]
 
-next : (rs : List Event) (i : ℕ) (r : Event) → i < length rs → r ≡ get_or rs i r → drop i rs ≡ r ∷ drop (i + 1) rs
+pub next : (rs : List Event) (i : ℕ) (r : Event) → i < length rs → r ≡ get_or rs i r → drop i rs ≡ r ∷ drop (i + 1) rs
 next rs i r l e = rw (add-one, drop-cons rs i r) (ap (λ (x : Event). x ∷ drop (suc i) rs) (sym e))
 
 -- in how many ways the reads from place i on can read

@@ -1,11 +1,11 @@
 -- Where the candidate with a number is.
-use Rattle.std.specs.Prelude.{◌≡◌, ℕ, ◌-◌, ◌<◌, ◌≤◌, List, [], ◌∷◌, length, true}
+use Rattle.std.specs.Prelude.{◌≡◌, ℕ, ◌-◌, ◌<◌, ◌≤◌, List, [], ◌∷◌, length}
 use Rattle.events.specs.Executions.{ThreadRun}
 use Rattle.candidates.specs.declared.threads.Located.{Located}
 use Rattle.candidates.specs.declared.threads.Located.TheVariants.{At, Until}
 use Rattle.candidates.specs.Executions.{block}
 use Rattle.candidates.specs.Candidates.{Choices, choices}
-use Rattle.candidates.specs.Outlines.{outlines}
+use Rattle.candidates.specs.Outlines.{IsKept}
 use Rattle.candidates.specs.Parts.{IsPart}
 use Rattle.candidates.specs.Walks.{IsPast}
 use Rattle.candidates.specs.declared.threads.Threads.{Threads}
@@ -31,10 +31,10 @@ pub record AreThreads (t : Threads) : Type 0 where
 -- The candidate with the number n has these runs, and stands at the number `rest` among those that have them; or none from n to before
 -- a later number is an execution.
 abbrev pub IsLocated : Choices → ℕ → List ThreadRun → Located → Type 0
-IsLocated s n runs (At rest alike) = (rest ≤ n) × (rest < block (length s.init) runs) × IsPart (length s.init) (choices s.threads) (n - rest) (runs ∷ [])
+IsLocated s n runs (At rest kept) = (rest ≤ n) × (rest < block (length s.init) runs) × IsPart (length s.init) (choices s.threads) (n - rest) (runs ∷ [])
 IsLocated s n runs (Until m) = IsPast s n m
 
--- Where the runs are said to be like those before, their events do the same.
+-- What is said to stay of the runs before does.
 abbrev pub AreKept : List ThreadRun → List ThreadRun → Located → Type 0
-AreKept before runs (At rest alike) = alike ≡ true → outlines runs ≡ outlines before
+AreKept before runs (At rest kept) = IsKept before runs kept
 AreKept before runs (Until m) = Unit {0}

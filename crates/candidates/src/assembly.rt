@@ -1,6 +1,6 @@
 //! The parts of the candidates with the same runs, and the candidates.
 
-ghost use Rattle.std.specs.Prelude.{◌≡◌, ◌+◌, ◌/◌, ◌%◌, ◌++◌, [], ◌∷◌, ◌<◌, ◌≤◌, List, length, map, slice_index_or, take, drop, filter, true, All, IfOk, IfSome, OnOk, Some};
+ghost use Rattle.std.specs.Prelude.{◌≡◌, ◌+◌, ◌/◌, ◌%◌, ◌++◌, ◌⊎◌, [], ◌∷◌, ◌<◌, ◌≤◌, List, length, map, slice_index_or, take, drop, filter, true, All, IfOk, IfSome, OnOk, Some};
 ghost use Rattle.events.specs.Executions.{ThreadRun, empty_run, is_read};
 ghost use Rattle.listings.specs.Lists.{factorial, product_by};
 ghost use Rattle.candidates.specs.Bounds.{AreWithin};
@@ -8,7 +8,7 @@ ghost use Rattle.candidates.specs.Executions.{writes_from, later_writes, reads, 
 ghost use Rattle.candidates.specs.Candidates.{count_co, candidate, no_execution, orders_by, rf_at, write_value};
 ghost use Rattle.candidates.specs.Depths.{depths_of};
 ghost use Rattle.candidates.specs.Levels.{ArePlaced};
-ghost use Rattle.candidates.specs.Outlines.{IsOfRuns, outline, outlines};
+ghost use Rattle.candidates.specs.Outlines.{IsOfRuns, WasOf, outline, outlines};
 ghost use Rattle.candidates.specs.Readings.{HasSuitable, IsPage, sources_among, orders_among};
 
 use crate::depths::list_depths;
@@ -16,7 +16,7 @@ use crate::fault::MOST_CANDIDATES;
 use crate::ordering::{coherence, turn_orders};
 use crate::page::{Page, Writes};
 use crate::reading::{all_suitable, read_from, read_into, turn_sources};
-use crate::threads::are_alike;
+use crate::threads::{Kept, are_alike};
 use events::{Coherence, Event, EventId, Graph, GraphParts, Run, copy_runs};
 use std::alloc::{AllocError, Global};
 use std::mem::replace;
@@ -105,14 +105,47 @@ fn push_reads(reads: &mut Vec<Event>, events: &[Event]) -> Result<(), AllocError
     Ok(())
 }
 
-/// The reads of all threads, thread by thread, in the room of others.
-fn reads(runs: &[Run], room: Vec<Event>) -> Result<Vec<Event>, AllocError>
+/// How many of the events of a thread are reads.
+fn count_reads(events: &[Event]) -> usize
+    ensures { result ≡ length (filter (λ e. is_read e.access) events.now) }
+{
+    let mut count = 0;
+    for event in events {
+        if event.is_read() {
+            count += 1;
+        }
+    }
+    count
+}
+
+/// How many reads so many of the first threads have, where all have so many.
+fn reads_before(runs: &[Run], threads: usize, all: usize) -> usize
+    requires threads { threads ≤ length runs.now }
+    requires all { all ≡ length (reads runs.now) }
+    ensures { result ≡ length (reads (take threads runs.now)) }
+{
+    let mut count = all;
+    for thread in threads..runs.len() {
+        count -= count_reads(runs[thread].events());
+    }
+    count
+}
+
+/// The reads of all threads, thread by thread, in the room of others, where those of so many of the first threads stand there already.
+fn reads(
+    runs: &[Run],
+    room: Vec<Event>,
+    threads: usize,
+    known: usize,
+) -> Result<Vec<Event>, AllocError>
+    requires threads { threads ≤ length runs.now }
+    requires known { take known room.items ≡ reads (take threads runs.now) }
     ensures { IfOk result (λ v. v.items ≡ reads runs.now) }
 {
     let mut reads = room;
-    reads.clear();
-    for run in runs {
-        push_reads(&mut reads, run.events())?;
+    reads.truncate(known);
+    for thread in threads..runs.len() {
+        push_reads(&mut reads, runs[thread].events())?;
     }
     Ok(reads)
 }
@@ -166,7 +199,7 @@ fn fill_plain(alloc: Global, page: &mut Page, locations: usize) -> Result<(), Al
     ensures page { OnOk result (IsPage locations page.new) }
     ensures runs { (page.new.runs ≡ page.old.runs) × (page.new.places ≡ page.old.places) }
 {
-    let reads = reads(&page.runs, replace(&mut page.reads, Vec::new(alloc)))?;
+    let reads = reads(&page.runs, replace(&mut page.reads, Vec::new(alloc)), 0, 0)?;
     let writes = all_writes(
         alloc,
         &page.runs,
@@ -182,49 +215,88 @@ fn fill_plain(alloc: Global, page: &mut Page, locations: usize) -> Result<(), Al
     Ok(())
 }
 
-/// Makes a page that of its runs, which may be known to have all that it keeps but for its reads.
-pub(crate) fn fill_page(
-    alloc: Global,
-    page: &mut Page,
-    locations: usize,
-    kept: bool,
-) -> Result<(), AllocError>
+/// Makes a page that of its runs, but for what its reads fit.
+fn fill_page(alloc: Global, page: &mut Page, locations: usize) -> Result<(), AllocError>
     requires within { AreWithin locations page.old.runs.items }
     requires most { block locations page.old.runs.items ≤ MOST_CANDIDATES }
-    requires kept { kept ≡ true → IsOfRuns locations page.old.runs.items page.old }
     ensures page { OnOk result (IsPage locations page.new) }
     ensures runs { (page.new.runs ≡ page.old.runs) × (page.new.places ≡ page.old.places) }
     ensures depths { OnOk result (page.new.depths.items ≡ depths_of locations page.old.runs.items) }
 {
-    if kept {
-        page.reads = reads(&page.runs, replace(&mut page.reads, Vec::new(alloc)))?;
-        return Ok(());
-    }
     let room = replace(&mut page.depths, Vec::new(alloc));
     fill_plain(alloc, page, locations)?;
     page.depths = list_depths(page, locations, room)?;
     Ok(())
 }
 
-/// Makes a page that of its runs, which may be known to have all that it keeps but for its reads, and finds which of their sources the reads fit.
-pub(crate) fn open_page(
-    alloc: Global,
-    init: &[u32],
-    page: &mut Page,
-    kept: bool,
-) -> Result<(), AllocError>
+/// Makes a page that of its runs, of which it has nothing.
+fn fill_anew(alloc: Global, init: &[u32], page: &mut Page) -> Result<(), AllocError>
     requires within { AreWithin (length init.now) page.old.runs.items }
     requires most { block (length init.now) page.old.runs.items ≤ MOST_CANDIDATES }
-    requires kept { kept ≡ true → IsOfRuns (length init.now) page.old.runs.items page.old }
     ensures page { OnOk result (IsPage (length init.now) page.new) }
     ensures fits { OnOk result (HasSuitable init.now page.new) }
     ensures runs { (page.new.runs ≡ page.old.runs) × (page.new.places ≡ page.old.places) }
     ensures depths { OnOk result (page.new.depths.items ≡ depths_of (length init.now) page.old.runs.items) }
 {
-    fill_page(alloc, page, init.len(), kept)?;
+    fill_page(alloc, page, init.len())?;
     let room = replace(&mut page.suitable, Vec::new(alloc));
     page.suitable = all_suitable(init, page, 0, room)?;
     Ok(())
+}
+
+/// So many if all runs write the same, else none.
+fn if_calm(kept: Kept, count: usize) -> usize
+    ensures { (result ≡ 0) ⊎ ((kept.calm ≡ true) × (result ≡ count)) }
+{
+    if kept.calm {
+        return count;
+    }
+    0
+}
+
+/// Makes a page that of its runs, of which it has all but the reads behind those of the first threads and what the reads fit.
+fn fill_again(
+    alloc: Global,
+    init: &[u32],
+    page: &mut Page,
+    kept: Kept,
+) -> Result<(), AllocError>
+    requires within { AreWithin (length init.now) page.old.runs.items }
+    requires most { block (length init.now) page.old.runs.items ≤ MOST_CANDIDATES }
+    requires has { IsOfRuns (length init.now) page.old.runs.items page.old }
+    requires was { WasOf init.now kept page.old }
+    ensures page { OnOk result (IsPage (length init.now) page.new) }
+    ensures fits { OnOk result (HasSuitable init.now page.new) }
+    ensures runs { (page.new.runs ≡ page.old.runs) × (page.new.places ≡ page.old.places) }
+    ensures depths { OnOk result (page.new.depths.items ≡ depths_of (length init.now) page.old.runs.items) }
+{
+    let before = reads_before(&page.runs, kept.same, page.reads.len());
+    let stood = replace(&mut page.reads, Vec::new(alloc));
+    page.reads = reads(&page.runs, stood, kept.same, before)?;
+    let room = replace(&mut page.suitable, Vec::new(alloc));
+    page.suitable = all_suitable(init, page, if_calm(kept, before), room)?;
+    Ok(())
+}
+
+/// Makes a page that of its runs, of which it may have all but the reads and what these fit.
+pub(crate) fn open_page(
+    alloc: Global,
+    init: &[u32],
+    page: &mut Page,
+    kept: Option<Kept>,
+) -> Result<(), AllocError>
+    requires within { AreWithin (length init.now) page.old.runs.items }
+    requires most { block (length init.now) page.old.runs.items ≤ MOST_CANDIDATES }
+    requires kept { IfSome kept (λ k. IsOfRuns (length init.now) page.old.runs.items page.old × WasOf init.now k page.old) }
+    ensures page { OnOk result (IsPage (length init.now) page.new) }
+    ensures fits { OnOk result (HasSuitable init.now page.new) }
+    ensures runs { (page.new.runs ≡ page.old.runs) × (page.new.places ≡ page.old.places) }
+    ensures depths { OnOk result (page.new.depths.items ≡ depths_of (length init.now) page.old.runs.items) }
+{
+    match kept {
+        Some(kept) => fill_again(alloc, init, page, kept),
+        None => fill_anew(alloc, init, page),
+    }
 }
 
 /// The candidate of the page's runs with this number.

@@ -1,11 +1,11 @@
 //! The way down the threads of a test to the runs of a candidate.
 
-ghost use Rattle.std.specs.Prelude.{◌≡◌, ◌+◌, ◌<◌, ◌≤◌, [], ◌∷◌, ◌++◌, length, map, slice_index_or, take, true, IfOk, OnOk};
+ghost use Rattle.std.specs.Prelude.{◌≡◌, ◌+◌, ◌^◌, ◌<◌, ◌≤◌, ◌⊎◌, [], ◌∷◌, ◌++◌, length, map, slice_index_or, take, true, false, IfOk, IfSome, OnOk};
 ghost use Rattle.events.specs.Executions.{empty_run};
 ghost use Rattle.candidates.specs.Candidates.{size_of};
 ghost use Rattle.candidates.specs.Levels.{AreLevels, ArePlaced};
 ghost use Rattle.candidates.specs.Located.{IsLocated, AreKept, AreThreads, choices_by};
-ghost use Rattle.candidates.specs.Outlines.{outline, outlines};
+ghost use Rattle.candidates.specs.Outlines.{outline, outlines, written, writings};
 ghost use Rattle.candidates.specs.Readings.{MayBeStretch};
 ghost use Rattle.candidates.specs.Walks.{IsReached};
 
@@ -40,6 +40,96 @@ pub(crate) fn are_alike(events: &[Event], others: &[Event]) -> bool
     true
 }
 
+/// Whether two events do the same to one location, and are of one value if they write.
+fn write_the_same(event: &Event, other: &Event) -> bool
+    ensures { result ≡ true → written event.now ≡ written other.now }
+{
+    if event.access.is_write() && event.value != other.value {
+        return false;
+    }
+    event.access == other.access && event.loc == other.loc
+}
+
+/// Whether events do what the others do, one by one, and write the same values.
+fn are_calm(events: &[Event], others: &[Event]) -> bool
+    ensures { result ≡ true → map written events.now ≡ map written others.now }
+{
+    if events.len() != others.len() {
+        return false;
+    }
+    for place in 0..events.len() {
+        if !write_the_same(&events[place], &others[place]) {
+            return false;
+        }
+    }
+    true
+}
+
+/// How a run is like the one that stood at its place: whether it is the same, whether it writes the same, and whether its events do the same.
+#[derive(Clone, Copy)]
+pub(crate) struct Likeness {
+    pub(crate) same: bool,
+    pub(crate) calm: bool,
+    pub(crate) alike: bool,
+}
+
+/// How events are like the others.
+fn how_like(events: &[Event], others: &[Event]) -> Likeness
+    ensures same { result.same ≡ false }
+    ensures calm { result.calm ≡ true → map written events.now ≡ map written others.now }
+    ensures alike { result.alike ≡ true → map outline events.now ≡ map outline others.now }
+{
+    Likeness {
+        same: false,
+        calm: are_calm(events, others),
+        alike: are_alike(events, others),
+    }
+}
+
+/// What stays of the runs that stood there before: how many of the first stay themselves, whether all write the same, and whether the events of
+/// all do the same.
+#[derive(Clone, Copy)]
+pub(crate) struct Kept {
+    pub(crate) same: usize,
+    pub(crate) calm: bool,
+    pub(crate) alike: bool,
+}
+
+impl Kept {
+    /// What stays once the run of this thread, which is so like the one before, is in its place.
+    fn joined(self, thread: usize, run: Likeness) -> Self
+        requires { thread + 1 < 2 ^ 64 }
+        ensures same { (result.same ≡ self.same) ⊎ ((result.same ≡ thread + 1) × (self.same ≡ thread) × (run.same ≡ true)) }
+        ensures calm { result.calm ≡ true → (self.calm ≡ true) × (run.calm ≡ true) }
+        ensures alike { result.alike ≡ true → (self.alike ≡ true) × (run.alike ≡ true) }
+    {
+        let calm = self.calm && run.calm;
+        let alike = self.alike && run.alike;
+        if run.same && self.same == thread {
+            return Kept {
+                same: thread + 1,
+                calm,
+                alike,
+            };
+        }
+        Kept {
+            same: self.same,
+            calm,
+            alike,
+        }
+    }
+
+    /// The same, where the events of all runs do what those did that were there, if anything was.
+    fn of_whole(self, whole: bool) -> Option<Self>
+        ensures { IfSome result (λ k. (k ≡ self) × (whole ≡ true) × (self.alike ≡ true)) }
+    {
+        if whole && self.alike {
+            return Some(self);
+        }
+        None
+    }
+}
+
 /// Whether this is the place of a thread's run.
 fn is_placed(places: &[usize], thread: usize, place: usize) -> bool
     ensures { result ≡ true → (thread < length places.now) × (slice_index_or places.now thread 0 ≡ place) }
@@ -50,15 +140,15 @@ fn is_placed(places: &[usize], thread: usize, place: usize) -> bool
     places[thread] == place
 }
 
-/// Puts a copy of the run at a place of a thread in a list, if it isn't there already, and says whether a run stands there whose
-/// events do the same. Those before it stay as they are.
+/// Puts a copy of the run at a place of a thread in a list, if it isn't there already, and says how it is like the one that stood there. Those before
+/// it stay as they are.
 fn place_run(
     runs: &mut Vec<Run>,
     places: &mut Vec<usize>,
     threads: &[RunList],
     thread: usize,
     place: usize,
-) -> Result<bool, AllocError>
+) -> Result<Likeness, AllocError>
     requires thread { thread < length threads.now }
     requires place { place < length (slice_index_or threads.now thread []) }
     requires done { thread ≤ length places.old.items }
@@ -66,29 +156,38 @@ fn place_run(
     ensures put { OnOk result (take (thread + 1) runs.new.items ≡ take thread runs.old.items ++ slice_index_or (slice_index_or threads.now thread []) place empty_run ∷ []) }
     ensures done { OnOk result (thread < length places.new.items) }
     ensures placed { ArePlaced threads.now runs.new.items places.new.items }
-    ensures alike { IfOk result (λ alike. alike ≡ true → outlines runs.new.items ≡ outlines runs.old.items) }
+    ensures same { IfOk result (λ run. run.same ≡ true → runs.new.items ≡ runs.old.items) }
+    ensures calm { IfOk result (λ run. run.calm ≡ true → writings runs.new.items ≡ writings runs.old.items) }
+    ensures alike { IfOk result (λ run. run.alike ≡ true → outlines runs.new.items ≡ outlines runs.old.items) }
 {
     if is_placed(places, thread, place) {
-        return Ok(true);
+        return Ok(Likeness {
+            same: true,
+            calm: true,
+            alike: true,
+        });
     }
     let run = &threads[thread].runs()[place];
     if thread < places.len() {
-        let alike = are_alike(runs[thread].events(), run.events());
+        let like = how_like(runs[thread].events(), run.events());
         runs[thread].become_copy(run)?;
         places[thread] = place;
-        return Ok(alike);
+        return Ok(like);
     }
     runs.truncate(thread);
     runs.push(run.copy()?)?;
     places.push(place)?;
-    Ok(false)
+    Ok(Likeness {
+        same: false,
+        calm: false,
+        alike: false,
+    })
 }
 
-/// Where the candidate with a number is: its number among those with its runs, and whether these do what the runs do that were there
-/// before; or up to which number no execution stands.
+/// Where the candidate with a number is: its number among those with its runs, and what stays of the runs that were there before; or up to which number no execution stands.
 #[derive(Clone, Copy)]
 pub(crate) enum Located {
-    At(u64, bool),
+    At(u64, Kept),
     Until(u64),
 }
 
@@ -121,7 +220,12 @@ fn locate(
     ensures placed { ArePlaced threads.now.runs.now runs.new.items places.new.items }
     ensures levels { AreLevels (length threads.now.init.now) threads.now.groups.now levels.new.items }
 {
-    let mut alike = runs.len() <= threads.runs.len();
+    let few = runs.len() <= threads.runs.len();
+    let mut kept = Kept {
+        same: 0,
+        calm: few,
+        alike: few,
+    };
     let mut rest = number;
     for thread in 0..threads.runs.len() {
         let choice = choose_run(
@@ -136,11 +240,12 @@ fn locate(
         if choice.passed > 0 {
             return Ok(Located::Until(number - choice.rest + choice.passed));
         }
-        alike = place_run(runs, places, threads.runs, thread, choice.place)? && alike;
+        let like = place_run(runs, places, threads.runs, thread, choice.place)?;
+        kept = kept.joined(thread, like);
         rest = choice.rest;
     }
     runs.truncate(threads.runs.len());
-    Ok(Located::At(rest, alike))
+    Ok(Located::At(rest, kept))
 }
 
 /// Makes a stretch to that in which a number is; or says up to which number no execution stands.
@@ -170,8 +275,9 @@ pub(crate) fn go_to(
         &mut stretch.page.places,
         number,
     )? {
-        Located::At(rest, alike) => {
-            open_page(alloc, threads.init, &mut stretch.page, whole && alike)?;
+        Located::At(rest, kept) => {
+            let kept = kept.of_whole(whole);
+            open_page(alloc, threads.init, &mut stretch.page, kept)?;
             stretch.first = number - rest;
             stretch.size = stretch.page.ways * stretch.page.orders;
             Ok(None)
