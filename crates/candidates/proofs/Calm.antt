@@ -13,7 +13,7 @@ use Rattle.events.specs.Named.{no_event}
 use Rattle.listings.proofs.Listings.{in_get_or}
 use Rattle.candidates.specs.Candidates.{count_sources, source_at, sources, write_value}
 use Rattle.candidates.specs.Executions.{Writes, later_writes, reads}
-use Rattle.candidates.specs.Outlines.{outlines, writings, written, written_run}
+use Rattle.candidates.specs.Outlines.{outlines, shown_run, writings, written}
 use Rattle.candidates.specs.Readings.{AreSuitable, HaveSuitable}
 use Rattle.candidates.specs.declared.reading.Suitable.{Suitable}
 use Rattle.candidates.proofs.Outlining.{later_same}
@@ -23,11 +23,11 @@ abbrev event_in : List ThreadRun → ℕ → ℕ → Event
 event_in runs k p = get_or (get_or runs k empty_run).events p no_event
 
 abbrev written_in : List ThreadRun → ℕ → ℕ → Event
-written_in runs k p = get_or (get_or runs k (written_run empty_run)).events p (written no_event)
+written_in runs k p = get_or (get_or runs k (shown_run written empty_run)).events p (written no_event)
 
 written_there : (runs : List ThreadRun) (k p : ℕ) → written_in (writings runs) k p ≡ written (event_in runs k p)
 written_there runs k p =
-    ap (λ (r : ThreadRun). get_or r.events p (written no_event)) (get_or-map written_run runs k empty_run)
+    ap (λ (r : ThreadRun). get_or r.events p (written no_event)) (get_or-map (shown_run written) runs k empty_run)
     ∙ get_or-map written (get_or runs k empty_run).events p no_event
 
 same_written : (as' bs : List ThreadRun) → writings as' ≡ writings bs → (k p : ℕ) → written (event_in as' k p) ≡ written (event_in bs k p)

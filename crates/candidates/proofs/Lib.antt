@@ -28,6 +28,7 @@ pub mod Sizes
 pub mod Sources
 pub mod Spaces
 pub mod Spanning
+pub mod Staying
 pub mod Steps
 pub mod Storing
 pub mod Stretches

@@ -16,7 +16,7 @@ use Rattle.candidates.specs.Blocks.{IsDepth, Fits, placings, size_by, ways_of_or
 use Rattle.candidates.specs.Candidates.{count_co, count_orders, count_sources, order_at, orders_by}
 use Rattle.candidates.specs.Depths.{before_reads, by_locations, by_places, depth_of, depths_of, is_open, known_at_depths}
 use Rattle.candidates.specs.Executions.{reads, later_writes, upto, writes_from, writes_from_thread}
-use Rattle.candidates.specs.Outlines.{IsOfRuns, outline, outline_run, outlines}
+use Rattle.candidates.specs.Outlines.{IsOfRuns, outline, shown_run, outlines}
 use Rattle.candidates.proofs.ByLocation.{product_same}
 use Rattle.candidates.proofs.Descent.{drop_mapped}
 
@@ -155,13 +155,13 @@ of_runs_like n as' bs p e h = record {
   depths_are = h.depths_are ∙ depths_same n as' bs e;
 }
 
--- A run in the place of another whose events do the same.
-pub put_like : (runs : List ThreadRun) (i : ℕ) (old new : ThreadRun) → i < length runs → old ≡ get_or runs i old → map outline old.events ≡ map outline new.events → outlines (set runs i new) ≡ outlines runs
-put_like [] i old new l is e = refl
-put_like (r ∷ runs) zero old new l is e =
+-- A run in the place of another whose events are the same in what f shows of them.
+pub put_like : (f : Event → Event) (runs : List ThreadRun) (i : ℕ) (old new : ThreadRun) → i < length runs → old ≡ get_or runs i old → map f old.events ≡ map f new.events → map (shown_run f) (set runs i new) ≡ map (shown_run f) runs
+put_like f [] i old new l is e = refl
+put_like f (r ∷ runs) zero old new l is e =
     let R : List Event → ThreadRun = λ es. record { events = es; registers = [] } in
-    ap (λ (es : List Event). R es ∷ outlines runs) (sym e) ∙ ap (λ (x : ThreadRun). outline_run x ∷ outlines runs) is
-put_like (r ∷ runs) (suc i) old new l is e = ap (λ (rs : List ThreadRun). outline_run r ∷ rs) (put_like runs i old new (omega (arith, l)) is e)
+    ap (λ (es : List Event). R es ∷ map (shown_run f) runs) (sym e) ∙ ap (λ (x : ThreadRun). shown_run f x ∷ map (shown_run f) runs) is
+put_like f (r ∷ runs) (suc i) old new l is e = ap (λ (rs : List ThreadRun). shown_run f r ∷ rs) (put_like f runs i old new (omega (arith, l)) is e)
 
-pub as_many : (as' bs : List ThreadRun) → outlines as' ≡ outlines bs → length as' ≡ length bs
-as_many as' bs e = sym (length-map as' outline_run) ∙ ap (λ (rs : List ThreadRun). length rs) e ∙ length-map bs outline_run
+pub as_many : (f : Event → Event) (as' bs : List ThreadRun) → map (shown_run f) as' ≡ map (shown_run f) bs → length as' ≡ length bs
+as_many f as' bs e = sym (length-map as' (shown_run f)) ∙ ap (λ (rs : List ThreadRun). length rs) e ∙ length-map bs (shown_run f)

@@ -16,23 +16,21 @@ use Rattle.candidates.specs.declared.threads.Kept.{Kept}
 abbrev pub outline : Event → Event
 outline e = record { thread = 0; access = e.access; loc = e.loc; value = 0; order = NoOrder; data_from = no_places; ctrl_from = no_places }
 
-abbrev pub outline_run : ThreadRun → ThreadRun
-outline_run run = record { events = map outline run.events; registers = [] }
+-- a run, of which of each event so much is shown
+abbrev pub shown_run : (Event → Event) → ThreadRun → ThreadRun
+shown_run f run = record { events = map f run.events; registers = [] }
 
 -- what the events of each run do
 abbrev pub outlines : List ThreadRun → List ThreadRun
-outlines runs = map outline_run runs
+outlines runs = map (shown_run outline) runs
 
 -- the same of an event, and what it writes
 abbrev pub written : Event → Event
 written e = record { thread = 0; access = e.access; loc = e.loc; value = if is_write e.access then e.value else 0; order = NoOrder; data_from = no_places; ctrl_from = no_places }
 
-abbrev pub written_run : ThreadRun → ThreadRun
-written_run run = record { events = map written run.events; registers = [] }
-
 -- what the events of each run do and write
 abbrev pub writings : List ThreadRun → List ThreadRun
-writings runs = map written_run runs
+writings runs = map (shown_run written) runs
 
 -- What is said to stay of the runs that were there before does.
 pub record IsKept (before runs : List ThreadRun) (k : Kept) : Type 0 where

@@ -216,7 +216,7 @@ fn locate(
     requires placed { ArePlaced threads.now.runs.now runs.old.items places.old.items }
     requires number { number < size_of (choices_by threads.now) }
     ensures located { IfOk result (IsLocated (choices_by threads.now) number runs.new.items) }
-    ensures alike { IfOk result (AreKept runs.old.items runs.new.items) }
+    ensures kept { IfOk result (AreKept runs.old.items runs.new.items) }
     ensures placed { ArePlaced threads.now.runs.now runs.new.items places.new.items }
     ensures levels { AreLevels (length threads.now.init.now) threads.now.groups.now levels.new.items }
 {

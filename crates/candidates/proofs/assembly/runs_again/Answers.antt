@@ -2,7 +2,7 @@ use Rattle.std.proofs.Common.{◌≡◌, ◌<◌, ◌≤◌, ℕ, List, length, 
 use Rattle.std.proofs.lemmas.Bool.{false≢true}
 use Rattle.std.proofs.lemmas.List.{get_or_default, take_all}
 use Rattle.events.specs.Executions.{ThreadRun, empty_run}
-use Rattle.candidates.specs.Outlines.{outlines}
+use Rattle.candidates.specs.Outlines.{outline, outlines}
 use Rattle.candidates.proofs.Outlining.{as_many}
 use Rattle.candidates.proofs.Placed.{drop_one, placed_same}
 use Rattle.candidates.proofs.Puts.{put_on, put_all}
@@ -55,4 +55,4 @@ returns-clause-alike c = λ h.
     let wanted = c.args.page.now.runs.items in
     let k = at.invariant.alike h in
     let end : length wanted ≤ at.thread = omega (arith, c.loop-thread-test.false, c.len-thread-end.ensures) in
-    (k.0, sym k.2 ∙ ap outlines (sym (take_all at.thread at.runs.items (omega (arith, k.1, end, as_many at.runs.items c.args.runs.items k.2))) ∙ at.invariant.is ∙ take_all at.thread wanted end))
+    (k.0, sym k.2 ∙ ap outlines (sym (take_all at.thread at.runs.items (omega (arith, k.1, end, as_many outline at.runs.items c.args.runs.items k.2))) ∙ at.invariant.is ∙ take_all at.thread wanted end))

@@ -1,7 +1,6 @@
-use Rattle.std.proofs.Common.{◌∙◌, ◌+◌, ◌-◌, ◌<◌, ◌≤◌, [], ◌∷◌, List, length, map, take, drop, get_or, sym, ap, subst, refl, arith, leb-true}
-use Rattle.std.proofs.lemmas.List.{drop_all, take_all}
+use Rattle.std.proofs.Common.{◌≡◌, ◌∙◌, ◌+◌, ◌-◌, ◌<◌, ◌≤◌, [], ◌∷◌, List, length, map, take, drop, get_or, sym, ap, subst, refl, inl, inr, arith, leb-true}
+use Rattle.std.proofs.lemmas.List.{drop_all, length-take-le, take-take, take_all}
 use Rattle.std.proofs.lemmas.Result.{IfOk-from_err}
-use Rattle.std.proofs.lemmas.Bool.{false≢true}
 use Rattle.events.specs.Executions.{ThreadRun, empty_run}
 use Rattle.candidates.specs.Groups.{tally_of, sizes_of}
 use Rattle.candidates.specs.Candidates.{Choices, choices}
@@ -12,13 +11,13 @@ use Rattle.candidates.specs.Executions.{block}
 use Rattle.candidates.specs.Parts.{IsPart}
 use Rattle.candidates.proofs.Placed.{placed_cut}
 use Rattle.candidates.proofs.Puts.{cut_behind}
+use Rattle.candidates.proofs.Staying.{first_kept, whole_kept}
 use Rattle.candidates.proofs.Outlining.{as_many}
-use Rattle.candidates.specs.Outlines.{outlines}
+use Rattle.candidates.specs.Outlines.{outline, outlines, writings, written}
 use Rattle.candidates.proofs.Kept.{as_many_groups, same_default, tally_there}
 use Rattle.candidates.proofs.Descent.{down_first, down_at, tallies_here, tallies_after, room_on, most_on, below_on, enter, run_within, down_next, down_end}
 use Rattle.candidates.specs.Levels.{places_of, tally_to}
 use Rattle.candidates.proofs.threads.locate.Goals as goal
-use Rattle.candidates.proofs.threads.locate.Goals.{then-branch, else-branch}
 
 pub loop-thread-init : goal.loop-thread-init
 loop-thread-init c = record {
@@ -27,6 +26,10 @@ loop-thread-init c = record {
   within = omega arith;
   done = omega arith;
   placed = c.requires.placed;
+  same = omega arith;
+  first = refl;
+  whole = λ at. refl;
+  calm = λ h. (omega (arith, c.len.ensures, leb-true c.len.result (length c.args.threads.now.runs.now) h), refl);
   alike = λ h. (omega (arith, c.len.ensures, leb-true c.len.result (length c.args.threads.now.runs.now) h), refl);
   levels = c.requires.levels;
 }
@@ -147,14 +150,15 @@ loop-thread-preserved c =
       down = down_next n (choices threads) c.args.number at.rest choice.rest tally here grown (take at.thread at.runs.items) (take (at.thread + 1) c.place_run.new.runs.items) runs more sizes choice.place run e.down e.are
           chosen.place chosen.within chosen.sum refl
           (tally_there (λ (run : ThreadRun). tally_of n run.events) groups threads at.thread choice.place (get_or groups at.thread []) here run c.requires.threads.tallied l (same_default groups at.thread inside) m refl refl) next.1
-          c.in_ok-alike.ensures.put;
+          c.in_ok-like.ensures.put;
       within = omega (arith, l);
-      done = omega (arith, c.in_ok-alike.ensures.done);
+      done = omega (arith, c.in_ok-like.ensures.done);
       placed = c.place_run.ensures.placed;
-      alike = λ h. elim c.if-branch.branch [
-        | then-branch w ↦ (let k = at.invariant.alike (sym w.alike-is ∙ h) in (k.0, c.in_ok-alike.ensures.alike w.if-branch.true ∙ k.1))
-        | else-branch w ↦ absurd (false≢true (sym w.if-branch.false ∙ sym w.alike-is ∙ h))
-      ];
+      same = elim c.joined-kept.ensures.same [ | inl stays ↦ omega (arith, stays, at.invariant.same) | inr more ↦ omega (arith, more.0) ];
+      first = first_kept at.runs.items c.place_run.new.runs.items c.args.runs.now.items at.thread at.kept.same c.joined-kept.result.same _ c.in_ok-like.like.same c.joined-kept.ensures.same at.invariant.same (omega (arith, at.invariant.done, at.invariant.placed.there)) c.in_ok-like.ensures.put c.in_ok-like.ensures.same at.invariant.first at.invariant.whole;
+      whole = whole_kept at.runs.items c.place_run.new.runs.items c.args.runs.now.items at.thread at.kept.same c.joined-kept.result.same c.in_ok-like.like.same c.joined-kept.ensures.same at.invariant.same c.in_ok-like.ensures.same at.invariant.whole;
+      calm = λ h. (let both = c.joined-kept.ensures.calm h in let k = at.invariant.calm both.0 in (k.0, c.in_ok-like.ensures.calm both.1 ∙ k.1));
+      alike = λ h. (let both = c.joined-kept.ensures.alike h in let k = at.invariant.alike both.0 in (k.0, c.in_ok-like.ensures.alike both.1 ∙ k.1));
       levels = c.choose_run.ensures.levels;
     }
 
@@ -201,11 +205,21 @@ place_run-requires-clause-placed c = c.loop-thread.invariant.placed
 pub returns-clause-levels : goal.returns-clause-levels
 returns-clause-levels c = c.loop-thread.invariant.levels
 
-pub returns-clause-alike : goal.returns-clause-alike
-returns-clause-alike c = λ h.
+pub returns-clause-kept : goal.returns-clause-kept
+returns-clause-kept c =
     let at = c.loop-thread in
-    let k = at.invariant.alike h in
-    ap outlines (c.truncate.ensures.items ∙ take_all (length c.args.threads.now.runs.now) at.runs.items (omega (arith, k.0, as_many at.runs.items c.args.runs.now.items k.1))) ∙ k.1
+    let n = length c.args.threads.now.runs.now in
+    let runs = at.runs.items in
+    let m : length (take n runs) ≡ n = length-take-le n runs (omega (arith, at.invariant.done, at.invariant.placed.there, c.loop-thread-test.false)) in
+    let cut = c.truncate.ensures.items in
+    let len = ap (λ (rs : List ThreadRun). length rs) cut in
+    let all : length runs ≤ n → c.truncate.new.self.items ≡ runs = λ few. cut ∙ take_all n runs few in
+    record {
+      few = omega (arith, len, m, at.invariant.same, at.invariant.within);
+      same = ap (take at.kept.same) cut ∙ take-take at.kept.same n runs (omega (arith, at.invariant.same, at.invariant.within)) ∙ at.invariant.first;
+      calm = λ h. (let k = at.invariant.calm h in ap writings (all (omega (arith, k.0, as_many written runs c.args.runs.now.items k.1))) ∙ k.1);
+      alike = λ h. (let k = at.invariant.alike h in ap outlines (all (omega (arith, k.0, as_many outline runs c.args.runs.now.items k.1))) ∙ k.1);
+    }
 
 pub returns-clause-placed : goal.returns-clause-placed
 returns-clause-placed c =

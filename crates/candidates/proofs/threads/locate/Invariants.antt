@@ -1,7 +1,7 @@
 use Rattle.std.proofs.Common.{◌≡◌, ◌≤◌, drop, take, length, true}
 use Rattle.candidates.specs.Candidates.{choices}
 use Rattle.candidates.specs.Levels.{AreLevels, ArePlaced, places_of, tally_to}
-use Rattle.candidates.specs.Outlines.{outlines}
+use Rattle.candidates.specs.Outlines.{outlines, writings}
 use Rattle.candidates.proofs.Descent.{IsDown}
 use Rattle.candidates.proofs.threads.locate.Given as goal
 
@@ -11,7 +11,11 @@ invariant-loop-thread l = record {
   within : l.thread ≤ length l.threads.runs.now;
   done : l.thread ≤ length l.places.items;
   placed : ArePlaced l.threads.runs.now l.runs.items l.places.items;
-  alike : l.alike ≡ true → (length l.fn.runs.items ≤ length l.threads.runs.now) × (outlines l.runs.items ≡ outlines l.fn.runs.items);
+  same : l.kept.same ≤ l.thread;
+  first : take l.kept.same l.runs.items ≡ take l.kept.same l.fn.runs.items;
+  whole : l.kept.same ≡ l.thread → l.runs.items ≡ l.fn.runs.items;
+  calm : l.kept.calm ≡ true → (length l.fn.runs.items ≤ length l.threads.runs.now) × (writings l.runs.items ≡ writings l.fn.runs.items);
+  alike : l.kept.alike ≡ true → (length l.fn.runs.items ≤ length l.threads.runs.now) × (outlines l.runs.items ≡ outlines l.fn.runs.items);
   there : l.thread ≤ length l.levels.items;
   levels : AreLevels (length l.threads.init.now) l.threads.groups.now l.levels.items;
 }
