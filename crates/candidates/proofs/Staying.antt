@@ -1,5 +1,6 @@
 -- The first runs that stay while runs are put to their places one by one.
-use Rattle.std.proofs.Common.{◌≡◌, ◌⊎◌, ℕ, ◌+◌, ◌≤◌, List, [], ◌∷◌, ◌++◌, length, take, sym, ◌∙◌, ap, inl, inr, arith, Bool, true}
+use Rattle.std.proofs.Common.{◌≡◌, ◌⊎◌, ℕ, ◌+◌, ◌≤◌, List, [], ◌∷◌, ◌++◌, length, take, sym, ◌∙◌, ap, inl, inr, arith, Bool, true, Option, None, Some}
+use Rattle.std.specs.Prelude.{IfSome}
 use Rattle.std.proofs.lemmas.List.{length-take-le, take-append-le, take-take}
 
 -- How many of the first stay once the one at place i is put there, and whether it was there.
@@ -23,3 +24,8 @@ whole_kept old new first i before after same j l there whole at = elim j [
   | inl e ↦ absurd (omega (arith, e, at, l))
   | inr h ↦ there h.2 ∙ whole h.1
 ]
+
+-- What follows of a value follows where there may be none.
+pub still_some : {X : Type 0} (P Q : X → Type 0) (found : Option X) → ((x : X) → P x → Q x) → IfSome found P → IfSome found Q
+still_some P Q None f h = tt
+still_some P Q (Some x) f h = f x h

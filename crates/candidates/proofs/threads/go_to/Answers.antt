@@ -1,17 +1,20 @@
-use Rattle.std.proofs.Common.{◌≡◌, ◌-◌, ◌∙◌, refl, sym, ap, length, List, arith, ltb-true}
+use Rattle.std.proofs.Common.{◌≡◌, ◌-◌, ◌∙◌, refl, sym, ap, subst, length, List, arith, ltb-true}
 use Rattle.events.specs.Executions.{ThreadRun}
 use Rattle.candidates.specs.Executions.{block}
 use Rattle.candidates.specs.Candidates.{Choices, choices}
 use Rattle.candidates.specs.Depths.{depths_of}
 use Rattle.candidates.specs.Levels.{ArePlaced}
 use Rattle.candidates.specs.Located.{choices_by}
+use Rattle.candidates.specs.Outlines.{IsOfRuns, WasOf}
+use Rattle.candidates.specs.declared.page.Page.{Page}
+use Rattle.candidates.specs.declared.threads.Kept.{Kept}
+use Rattle.candidates.proofs.Staying.{still_some}
 use Rattle.candidates.proofs.Steps.{in_block, place_in_block, part_member, part_block}
 use Rattle.candidates.proofs.Stretches.{stretch_of, whole_page}
 use Rattle.std.proofs.lemmas.Result.{IfOk-from_err}
 use Rattle.candidates.proofs.Outlining.{of_runs_like}
 use Rattle.candidates.proofs.Pages.{start_within}
 use Rattle.candidates.proofs.threads.go_to.Goals as goal
-use Rattle.candidates.proofs.threads.go_to.Goals.{then-whole, else-whole}
 
 pub open_page-requires-clause-within : goal.open_page-requires-clause-within
 open_page-requires-clause-within c =
@@ -102,13 +105,20 @@ overflow_mul-stretch c =
     omega (arith, start_within (length c.args.threads.now.init.now) page page.ways c.in_ok-open_page-in-At.ensures.page (omega arith))
 
 pub open_page-requires-clause-kept : goal.open_page-requires-clause-kept
-open_page-requires-clause-kept c = λ h. elim c.if-whole.branch [
-  | then-whole w ↦ (let s = c.requires.stretch.whole (omega (arith, w.if-whole.true)) in
-      let alike = (rw c.in-At.is at c.in_ok-rest.ensures.alike) (sym w.open_page-is ∙ h) in
-      of_runs_like (length c.args.threads.now.init.now) c.args.stretch.now.page.runs.items c.locate.new.runs.items _ (sym alike)
-      (record { writes_are = s.page.writes_are; ways = s.page.ways; orders = s.page.orders; depths = s.page.depths; depths_are = s.depths }))
-  | else-whole w ↦ absurd (omega (arith, w.if-whole.false, ltb-true 0 c.args.stretch.now.size (sym w.open_page-is ∙ h)))
-]
+open_page-requires-clause-kept c =
+    let t = c.args.threads.now in
+    let runs = c.locate.new.runs.items in
+    let page : Page = record c.args.stretch.now.page { runs = c.locate.new.runs; places = c.locate.new.places } in
+    let Q : Kept → Type 0 = λ k. IsOfRuns (length t.init.now) runs page × WasOf t.init.now k page in
+    still_some _ Q c.of_whole-kept.result (λ k f.
+      let s = c.requires.stretch.whole (omega (arith, ltb-true 0 c.args.stretch.now.size f.1)) in
+      let kept = rw c.in-At.is at c.in_ok-rest.ensures.kept in
+      let like = kept.alike f.2 in
+      subst Q (sym f.0) (
+        of_runs_like (length t.init.now) c.args.stretch.now.page.runs.items runs _ (sym like)
+        (record { writes_are = s.page.writes_are; ways = s.page.ways; orders = s.page.orders; depths = s.page.depths; depths_are = s.depths }),
+        record { before = c.args.stretch.now.page.runs.items; kept = kept; alike = like; reads_were = s.page.reads_are; suited = s.fits.are },
+      )) c.of_whole-kept.ensures
 
 pub locate-requires-clause-placed : goal.locate-requires-clause-placed
 locate-requires-clause-placed c = c.requires.stretch.placed
