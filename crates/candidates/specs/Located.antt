@@ -1,5 +1,5 @@
 -- Where the candidate with a number is.
-use Rattle.std.specs.Prelude.{◌≡◌, ℕ, ◌-◌, ◌<◌, ◌≤◌, List, [], ◌∷◌, length}
+use Rattle.std.specs.Prelude.{◌≡◌, ℕ, ◌-◌, ◌<◌, ◌≤◌, List, [], ◌∷◌, ◌⊎◌, length, Option, None, Some}
 use Rattle.events.specs.Executions.{ThreadRun}
 use Rattle.candidates.specs.declared.threads.Located.{Located}
 use Rattle.candidates.specs.declared.threads.Located.TheVariants.{At, Until}
@@ -8,6 +8,7 @@ use Rattle.candidates.specs.Candidates.{Choices, choices}
 use Rattle.candidates.specs.Outlines.{IsKept}
 use Rattle.candidates.specs.Parts.{IsPart}
 use Rattle.candidates.specs.Walks.{IsPast}
+use Rattle.candidates.specs.declared.threads.Likeness.{Likeness}
 use Rattle.candidates.specs.declared.threads.Threads.{Threads}
 use Rattle.candidates.specs.declared.fault.TheConstants.{MOST_CANDIDATES}
 use Rattle.candidates.specs.Candidates.{size_of}
@@ -38,3 +39,8 @@ IsLocated s n runs (Until m) = IsPast s n m
 abbrev pub AreKept : List ThreadRun → List ThreadRun → Located → Type 0
 AreKept before runs (At rest kept) = IsKept before runs kept
 AreKept before runs (Until m) = Unit {0}
+
+-- How many of the first runs stay once the one of the thread at place i is put there, where so many stayed before: all as before if it stood there, else none from i on.
+abbrev pub Joins : (i before after : ℕ) → Option Likeness → Type 0
+Joins i before after None = after ≡ before
+Joins i before after (Some like) = ((after ≡ before) × (before ≤ i)) ⊎ ((after ≡ i) × (i ≤ before))

@@ -1,10 +1,10 @@
 //! The way down the threads of a test to the runs of a candidate.
 
-ghost use Rattle.std.specs.Prelude.{◌≡◌, ◌+◌, ◌^◌, ◌<◌, ◌≤◌, ◌⊎◌, [], ◌∷◌, ◌++◌, length, map, slice_index_or, take, true, false, IfOk, IfSome, OnOk};
+ghost use Rattle.std.specs.Prelude.{◌≡◌, ◌+◌, ◌<◌, ◌≤◌, ◌⊎◌, [], ◌∷◌, ◌++◌, length, map, slice_index_or, take, true, None, IfOk, IfSome, OnOk};
 ghost use Rattle.events.specs.Executions.{empty_run};
 ghost use Rattle.candidates.specs.Candidates.{size_of};
 ghost use Rattle.candidates.specs.Levels.{AreLevels, ArePlaced};
-ghost use Rattle.candidates.specs.Located.{IsLocated, AreKept, AreThreads, choices_by};
+ghost use Rattle.candidates.specs.Located.{IsLocated, AreKept, AreThreads, Joins, choices_by};
 ghost use Rattle.candidates.specs.Outlines.{outline, outlines, written, writings};
 ghost use Rattle.candidates.specs.Readings.{MayBeStretch};
 ghost use Rattle.candidates.specs.Walks.{IsReached};
@@ -65,23 +65,26 @@ fn are_calm(events: &[Event], others: &[Event]) -> bool
     true
 }
 
-/// How a run is like the one that stood at its place: whether it is the same, whether it writes the same, and whether its events do the same.
+/// How a run is like another that stood at its place: whether it writes the same, and whether its events do the same.
 #[derive(Clone, Copy)]
 pub(crate) struct Likeness {
-    pub(crate) same: bool,
     pub(crate) calm: bool,
     pub(crate) alike: bool,
 }
 
 /// How events are like the others.
 fn how_like(events: &[Event], others: &[Event]) -> Likeness
-    ensures same { result.same ≡ false }
     ensures calm { result.calm ≡ true → map written events.now ≡ map written others.now }
     ensures alike { result.alike ≡ true → map outline events.now ≡ map outline others.now }
 {
+    if are_calm(events, others) {
+        return Likeness {
+            calm: true,
+            alike: true,
+        };
+    }
     Likeness {
-        same: false,
-        calm: are_calm(events, others),
+        calm: false,
         alike: are_alike(events, others),
     }
 }
@@ -96,26 +99,19 @@ pub(crate) struct Kept {
 }
 
 impl Kept {
-    /// What stays once the run of this thread, which is so like the one before, is in its place.
-    fn joined(self, thread: usize, run: Likeness) -> Self
-        requires { thread + 1 < 2 ^ 64 }
-        ensures same { (result.same ≡ self.same) ⊎ ((result.same ≡ thread + 1) × (self.same ≡ thread) × (run.same ≡ true)) }
-        ensures calm { result.calm ≡ true → (self.calm ≡ true) × (run.calm ≡ true) }
-        ensures alike { result.alike ≡ true → (self.alike ≡ true) × (run.alike ≡ true) }
+    /// What stays once the run of this thread is in its place: it is so like the one that stood there, unless it stood there itself.
+    fn joined(self, thread: usize, change: Option<Likeness>) -> Self
+        ensures same { Joins thread self.same result.same change }
+        ensures calm { result.calm ≡ true → (self.calm ≡ true) × IfSome change (λ like. like.calm ≡ true) }
+        ensures alike { result.alike ≡ true → (self.alike ≡ true) × IfSome change (λ like. like.alike ≡ true) }
     {
-        let calm = self.calm && run.calm;
-        let alike = self.alike && run.alike;
-        if run.same && self.same == thread {
-            return Kept {
-                same: thread + 1,
-                calm,
-                alike,
-            };
-        }
-        Kept {
-            same: self.same,
-            calm,
-            alike,
+        match change {
+            None => self,
+            Some(like) => Kept {
+                same: lesser(self.same, thread),
+                calm: self.calm && like.calm,
+                alike: self.alike && like.alike,
+            },
         }
     }
 
@@ -128,6 +124,16 @@ impl Kept {
         }
         None
     }
+}
+
+/// The lesser of two numbers.
+fn lesser(one: usize, other: usize) -> usize
+    ensures { ((result ≡ one) × (one ≤ other)) ⊎ ((result ≡ other) × (other ≤ one)) }
+{
+    if other < one {
+        return other;
+    }
+    one
 }
 
 /// Whether this is the place of a thread's run.
@@ -148,7 +154,7 @@ fn place_run(
     threads: &[RunList],
     thread: usize,
     place: usize,
-) -> Result<Likeness, AllocError>
+) -> Result<Option<Likeness>, AllocError>
     requires thread { thread < length threads.now }
     requires place { place < length (slice_index_or threads.now thread []) }
     requires done { thread ≤ length places.old.items }
@@ -156,32 +162,27 @@ fn place_run(
     ensures put { OnOk result (take (thread + 1) runs.new.items ≡ take thread runs.old.items ++ slice_index_or (slice_index_or threads.now thread []) place empty_run ∷ []) }
     ensures done { OnOk result (thread < length places.new.items) }
     ensures placed { ArePlaced threads.now runs.new.items places.new.items }
-    ensures same { IfOk result (λ run. run.same ≡ true → runs.new.items ≡ runs.old.items) }
-    ensures calm { IfOk result (λ run. run.calm ≡ true → writings runs.new.items ≡ writings runs.old.items) }
-    ensures alike { IfOk result (λ run. run.alike ≡ true → outlines runs.new.items ≡ outlines runs.old.items) }
+    ensures same { IfOk result (λ change. change ≡ None → runs.new.items ≡ runs.old.items) }
+    ensures calm { IfOk result (λ change. IfSome change (λ like. like.calm ≡ true → writings runs.new.items ≡ writings runs.old.items)) }
+    ensures alike { IfOk result (λ change. IfSome change (λ like. like.alike ≡ true → outlines runs.new.items ≡ outlines runs.old.items)) }
 {
     if is_placed(places, thread, place) {
-        return Ok(Likeness {
-            same: true,
-            calm: true,
-            alike: true,
-        });
+        return Ok(None);
     }
     let run = &threads[thread].runs()[place];
     if thread < places.len() {
         let like = how_like(runs[thread].events(), run.events());
         runs[thread].become_copy(run)?;
         places[thread] = place;
-        return Ok(like);
+        return Ok(Some(like));
     }
     runs.truncate(thread);
     runs.push(run.copy()?)?;
     places.push(place)?;
-    Ok(Likeness {
-        same: false,
+    Ok(Some(Likeness {
         calm: false,
         alike: false,
-    })
+    }))
 }
 
 /// Where the candidate with a number is: its number among those with its runs, and what stays of the runs that were there before; or up to which number no execution stands.
@@ -222,7 +223,7 @@ fn locate(
 {
     let few = runs.len() <= threads.runs.len();
     let mut kept = Kept {
-        same: 0,
+        same: threads.runs.len(),
         calm: few,
         alike: few,
     };
@@ -240,8 +241,8 @@ fn locate(
         if choice.passed > 0 {
             return Ok(Located::Until(number - choice.rest + choice.passed));
         }
-        let like = place_run(runs, places, threads.runs, thread, choice.place)?;
-        kept = kept.joined(thread, like);
+        let change = place_run(runs, places, threads.runs, thread, choice.place)?;
+        kept = kept.joined(thread, change);
         rest = choice.rest;
     }
     runs.truncate(threads.runs.len());

@@ -11,7 +11,7 @@ use Rattle.candidates.specs.Executions.{block}
 use Rattle.candidates.specs.Parts.{IsPart}
 use Rattle.candidates.proofs.Placed.{placed_cut}
 use Rattle.candidates.proofs.Puts.{cut_behind}
-use Rattle.candidates.proofs.Staying.{first_kept, whole_kept}
+use Rattle.candidates.proofs.Staying.{shows_on, stay_all, stay_first, stay_on}
 use Rattle.candidates.proofs.Outlining.{as_many}
 use Rattle.candidates.specs.Outlines.{outline, outlines, writings, written}
 use Rattle.candidates.proofs.Kept.{as_many_groups, same_default, tally_there}
@@ -27,8 +27,7 @@ loop-thread-init c = record {
   done = omega arith;
   placed = c.requires.placed;
   same = omega arith;
-  first = refl;
-  whole = λ at. refl;
+  stay = stay_first c.args.runs.now.items (length c.args.threads.now.runs.now);
   calm = λ h. (omega (arith, c.len.ensures, leb-true c.len.result (length c.args.threads.now.runs.now) h), refl);
   alike = λ h. (omega (arith, c.len.ensures, leb-true c.len.result (length c.args.threads.now.runs.now) h), refl);
   levels = c.requires.levels;
@@ -150,15 +149,14 @@ loop-thread-preserved c =
       down = down_next n (choices threads) c.args.number at.rest choice.rest tally here grown (take at.thread at.runs.items) (take (at.thread + 1) c.place_run.new.runs.items) runs more sizes choice.place run e.down e.are
           chosen.place chosen.within chosen.sum refl
           (tally_there (λ (run : ThreadRun). tally_of n run.events) groups threads at.thread choice.place (get_or groups at.thread []) here run c.requires.threads.tallied l (same_default groups at.thread inside) m refl refl) next.1
-          c.in_ok-like.ensures.put;
+          c.in_ok-change.ensures.put;
       within = omega (arith, l);
-      done = omega (arith, c.in_ok-like.ensures.done);
+      done = omega (arith, c.in_ok-change.ensures.done);
       placed = c.place_run.ensures.placed;
-      same = elim c.joined-kept.ensures.same [ | inl stays ↦ omega (arith, stays, at.invariant.same) | inr more ↦ omega (arith, more.0) ];
-      first = first_kept at.runs.items c.place_run.new.runs.items c.args.runs.now.items at.thread at.kept.same c.joined-kept.result.same _ c.in_ok-like.like.same c.joined-kept.ensures.same at.invariant.same (omega (arith, at.invariant.done, at.invariant.placed.there)) c.in_ok-like.ensures.put c.in_ok-like.ensures.same at.invariant.first at.invariant.whole;
-      whole = whole_kept at.runs.items c.place_run.new.runs.items c.args.runs.now.items at.thread at.kept.same c.joined-kept.result.same c.in_ok-like.like.same c.joined-kept.ensures.same at.invariant.same c.in_ok-like.ensures.same at.invariant.whole;
-      calm = λ h. (let both = c.joined-kept.ensures.calm h in let k = at.invariant.calm both.0 in (k.0, c.in_ok-like.ensures.calm both.1 ∙ k.1));
-      alike = λ h. (let both = c.joined-kept.ensures.alike h in let k = at.invariant.alike both.0 in (k.0, c.in_ok-like.ensures.alike both.1 ∙ k.1));
+      same = ?;
+      stay = stay_on at.runs.items c.place_run.new.runs.items c.args.runs.now.items at.thread at.kept.same c.joined-kept.result.same _ c.in_ok-change.change c.joined-kept.ensures.same (omega (arith, at.invariant.done, at.invariant.placed.there)) c.in_ok-change.ensures.put c.in_ok-change.ensures.same at.invariant.stay;
+      calm = λ h. (let both = c.joined-kept.ensures.calm h in let k = at.invariant.calm both.0 in (k.0, shows_on writings at.runs.items c.place_run.new.runs.items (λ like. like.calm) c.in_ok-change.change c.in_ok-change.ensures.same c.in_ok-change.ensures.calm both.1 ∙ k.1));
+      alike = λ h. (let both = c.joined-kept.ensures.alike h in let k = at.invariant.alike both.0 in (k.0, shows_on outlines at.runs.items c.place_run.new.runs.items (λ like. like.alike) c.in_ok-change.change c.in_ok-change.ensures.same c.in_ok-change.ensures.alike both.1 ∙ k.1));
       levels = c.choose_run.ensures.levels;
     }
 
@@ -215,8 +213,8 @@ returns-clause-kept c =
     let len = ap (λ (rs : List ThreadRun). length rs) cut in
     let all : length runs ≤ n → c.truncate.new.self.items ≡ runs = λ few. cut ∙ take_all n runs few in
     record {
-      few = omega (arith, len, m, at.invariant.same, at.invariant.within);
-      same = ap (take at.kept.same) cut ∙ take-take at.kept.same n runs (omega (arith, at.invariant.same, at.invariant.within)) ∙ at.invariant.first;
+      few = omega (arith, len, m, at.invariant.same);
+      same = ap (take at.kept.same) cut ∙ take-take at.kept.same n runs (omega (arith, at.invariant.same)) ∙ stay_all runs c.args.runs.now.items at.thread at.kept.same (omega (arith, at.invariant.same, c.loop-thread-test.false)) at.invariant.stay;
       calm = λ h. (let k = at.invariant.calm h in ap writings (all (omega (arith, k.0, as_many written runs c.args.runs.now.items k.1))) ∙ k.1);
       alike = λ h. (let k = at.invariant.alike h in ap outlines (all (omega (arith, k.0, as_many outline runs c.args.runs.now.items k.1))) ∙ k.1);
     }

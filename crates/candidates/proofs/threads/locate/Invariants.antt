@@ -3,6 +3,7 @@ use Rattle.candidates.specs.Candidates.{choices}
 use Rattle.candidates.specs.Levels.{AreLevels, ArePlaced, places_of, tally_to}
 use Rattle.candidates.specs.Outlines.{outlines, writings}
 use Rattle.candidates.proofs.Descent.{IsDown}
+use Rattle.candidates.proofs.Staying.{Stay}
 use Rattle.candidates.proofs.threads.locate.Given as goal
 
 abbrev pub invariant-loop-thread : goal.invariant-loop-thread
@@ -11,9 +12,8 @@ invariant-loop-thread l = record {
   within : l.thread ≤ length l.threads.runs.now;
   done : l.thread ≤ length l.places.items;
   placed : ArePlaced l.threads.runs.now l.runs.items l.places.items;
-  same : l.kept.same ≤ l.thread;
-  first : take l.kept.same l.runs.items ≡ take l.kept.same l.fn.runs.items;
-  whole : l.kept.same ≡ l.thread → l.runs.items ≡ l.fn.runs.items;
+  same : l.kept.same ≤ length l.threads.runs.now;
+  stay : Stay l.runs.items l.fn.runs.items l.thread l.kept.same;
   calm : l.kept.calm ≡ true → (length l.fn.runs.items ≤ length l.threads.runs.now) × (writings l.runs.items ≡ writings l.fn.runs.items);
   alike : l.kept.alike ≡ true → (length l.fn.runs.items ≤ length l.threads.runs.now) × (outlines l.runs.items ≡ outlines l.fn.runs.items);
   there : l.thread ≤ length l.levels.items;
