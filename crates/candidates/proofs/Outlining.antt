@@ -16,7 +16,7 @@ use Rattle.candidates.specs.Blocks.{IsDepth, Fits, placings, size_by, ways_of_or
 use Rattle.candidates.specs.Candidates.{count_co, count_orders, count_sources, order_at, orders_by}
 use Rattle.candidates.specs.Depths.{before_reads, by_locations, by_places, depth_of, depths_of, is_open, known_at_depths}
 use Rattle.candidates.specs.Executions.{reads, later_writes, upto, writes_from, writes_from_thread}
-use Rattle.candidates.specs.Outlines.{IsOfRuns, outline, shown_run, outlines}
+use Rattle.candidates.specs.Outlines.{IsOfRuns, outline, outlines, shown_run, written}
 use Rattle.candidates.proofs.ByLocation.{product_same}
 use Rattle.candidates.proofs.Descent.{drop_mapped}
 
@@ -162,6 +162,14 @@ put_like f (r ∷ runs) zero old new l is e =
     let R : List Event → ThreadRun = λ es. record { events = es; registers = [] } in
     ap (λ (es : List Event). R es ∷ map (shown_run f) runs) (sym e) ∙ ap (λ (x : ThreadRun). shown_run f x ∷ map (shown_run f) runs) is
 put_like f (r ∷ runs) (suc i) old new l is e = ap (λ (rs : List ThreadRun). shown_run f r ∷ rs) (put_like f runs i old new (omega (arith, l)) is e)
+
+outlines_written : (es : List Event) → map outline (map written es) ≡ map outline es
+outlines_written [] = refl
+outlines_written (e ∷ es) = ap (λ (fs : List Event). outline e ∷ fs) (outlines_written es)
+
+-- Events that write the same do the same.
+pub like_written : (es fs : List Event) → map written es ≡ map written fs → map outline es ≡ map outline fs
+like_written es fs e = sym (outlines_written es) ∙ ap (λ (xs : List Event). map outline xs) e ∙ outlines_written fs
 
 pub as_many : (f : Event → Event) (as' bs : List ThreadRun) → map (shown_run f) as' ≡ map (shown_run f) bs → length as' ≡ length bs
 as_many f as' bs e = sym (length-map as' (shown_run f)) ∙ ap (λ (rs : List ThreadRun). length rs) e ∙ length-map bs (shown_run f)

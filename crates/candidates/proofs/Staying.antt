@@ -39,6 +39,10 @@ stay_on old new first i before after x (Some like) j m put there h = record {
   whole = λ l. absurd (elim j [ | inl less ↦ omega (arith, less.0, less.1, l) | inr here ↦ omega (arith, here.0, l) ]);
 }
 
+pub stay_fewer : (i before after n : ℕ) (change : Option Likeness) → Joins i before after change → before ≤ n → after ≤ n
+stay_fewer i before after n None j l = omega (arith, j, l)
+stay_fewer i before after n (Some like) j l = elim j [ | inl less ↦ omega (arith, less.0, l) | inr here ↦ omega (arith, here.0, here.1, l) ]
+
 pub stay_all : {X : Type 0} (old first : List X) (i k : ℕ) → k ≤ i → Stay old first i k → take k old ≡ take k first
 stay_all old first i k l h = elim (cases_lt k i) [ | inl less ↦ h.some less | inr up ↦ ap (take k) (h.whole up) ]
 

@@ -11,7 +11,7 @@ use Rattle.candidates.specs.Executions.{block}
 use Rattle.candidates.specs.Parts.{IsPart}
 use Rattle.candidates.proofs.Placed.{placed_cut}
 use Rattle.candidates.proofs.Puts.{cut_behind}
-use Rattle.candidates.proofs.Staying.{shows_on, stay_all, stay_first, stay_on}
+use Rattle.candidates.proofs.Staying.{shows_on, stay_all, stay_fewer, stay_first, stay_on}
 use Rattle.candidates.proofs.Outlining.{as_many}
 use Rattle.candidates.specs.Outlines.{outline, outlines, writings, written}
 use Rattle.candidates.proofs.Kept.{as_many_groups, same_default, tally_there}
@@ -153,7 +153,7 @@ loop-thread-preserved c =
       within = omega (arith, l);
       done = omega (arith, c.in_ok-change.ensures.done);
       placed = c.place_run.ensures.placed;
-      same = ?;
+      same = stay_fewer at.thread at.kept.same c.joined-kept.result.same (length threads) c.in_ok-change.change c.joined-kept.ensures.same at.invariant.same;
       stay = stay_on at.runs.items c.place_run.new.runs.items c.args.runs.now.items at.thread at.kept.same c.joined-kept.result.same _ c.in_ok-change.change c.joined-kept.ensures.same (omega (arith, at.invariant.done, at.invariant.placed.there)) c.in_ok-change.ensures.put c.in_ok-change.ensures.same at.invariant.stay;
       calm = λ h. (let both = c.joined-kept.ensures.calm h in let k = at.invariant.calm both.0 in (k.0, shows_on writings at.runs.items c.place_run.new.runs.items (λ like. like.calm) c.in_ok-change.change c.in_ok-change.ensures.same c.in_ok-change.ensures.calm both.1 ∙ k.1));
       alike = λ h. (let both = c.joined-kept.ensures.alike h in let k = at.invariant.alike both.0 in (k.0, shows_on outlines at.runs.items c.place_run.new.runs.items (λ like. like.alike) c.in_ok-change.change c.in_ok-change.ensures.same c.in_ok-change.ensures.alike both.1 ∙ k.1));
