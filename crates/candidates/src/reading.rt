@@ -218,20 +218,20 @@ fn compare_kept(page: &Page, reads: &[Event]) -> Fit
 {
     let mut start = 0;
     let mut ways = page.ways;
-    let mut other = page.ways;
+    let mut behind = page.ways;
     for (place, read) in reads.iter().enumerate() {
         let sources = sources_of(page, read);
         let suitable = page.suitable[place];
         if suitable.first >= sources {
-            return Fit::Until(other);
+            return Fit::Until(behind);
         }
         ways /= sources;
-        other = other_start(start, suitable.next, sources, ways, other);
+        behind = other_start(start, suitable.next, sources, ways, behind);
         start += suitable.first * ways;
     }
     Fit::Whole(Hit {
         at: start,
-        until: other,
+        until: behind,
     })
 }
 
@@ -242,10 +242,10 @@ fn compare_from(init: &[u32], page: &Page, number: u64) -> Fit
     requires number { number < page.now.ways }
     ensures { IsFit init.now page.now.runs.items (reads page.now.runs.items) number result }
 {
-    if number == 0 {
-        return compare_kept(page, &page.reads);
+    if number > 0 {
+        return compare(init, page, &page.reads, number);
     }
-    compare(init, page, &page.reads, number)
+    compare_kept(page, &page.reads)
 }
 
 /// Writes down what each read reads from by this number.

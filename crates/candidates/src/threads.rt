@@ -47,7 +47,7 @@ fn write_the_same(event: &Event, other: &Event) -> bool
     if event.access.is_write() && event.value != other.value {
         return false;
     }
-    event.access == other.access && event.loc == other.loc
+    event.loc == other.loc && event.access == other.access
 }
 
 /// Whether events do what the others do, one by one, and write the same values.
