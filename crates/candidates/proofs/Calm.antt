@@ -1,5 +1,5 @@
 -- What the reads fit, where other runs write the same.
-use Rattle.std.proofs.Common.{◌≡◌, ℕ, zero, suc, ◌+◌, ◌<◌, ◌≤◌, List, [], ◌∷◌, ◌++◌, length, map, get_or, take, drop, drop-cons, append_assoc, refl, sym, ◌∙◌, ap, subst, arith, true, false, ◌==◌, if◌then◌else◌}
+use Rattle.std.proofs.Common.{◌≡◌, ℕ, suc, ◌+◌, ◌<◌, List, [], ◌∷◌, ◌++◌, length, get_or, take, drop, drop-cons, append_assoc, refl, sym, ◌∙◌, ap, subst, arith, true, ◌==◌}
 use Rattle.std.specs.Prelude.{filter}
 use Rattle.std.proofs.Math.ListN.{get_or-map}
 use Rattle.std.proofs.Math.Seq.{take-append_seam}
@@ -12,7 +12,7 @@ use Rattle.events.specs.Executions.{ThreadRun, empty_run, is_read, is_write}
 use Rattle.events.specs.Named.{no_event}
 use Rattle.listings.proofs.Listings.{in_get_or}
 use Rattle.candidates.specs.Candidates.{count_sources, source_at, sources, write_value}
-use Rattle.candidates.specs.Executions.{Writes, later_writes, reads}
+use Rattle.candidates.specs.Executions.{Writes, reads}
 use Rattle.candidates.specs.Outlines.{outlines, shown_run, writings, written}
 use Rattle.candidates.specs.Readings.{AreSuitable, HaveSuitable}
 use Rattle.candidates.specs.declared.reading.Suitable.{Suitable}
@@ -110,7 +110,7 @@ suited_alike init before runs fs k known o e same is h =
       reads = (let n = reads_counted runs k in omega (arith, is, n));
       fits = omega (arith, was, few, h.fits);
       are = λ i r f l. (let read : get_or (reads before) i r ≡ get_or (reads runs) i r =
-            read_first before k i r (omega (arith, l, was)) ∙ ap (λ (rs : List ThreadRun). get_or (reads rs) i r) (sym same) ∙ sym (read_first runs k i r (omega (arith, l, is))) in
+          read_first before k i r (omega (arith, l, was)) ∙ ap (λ (rs : List ThreadRun). get_or (reads rs) i r) (sym same) ∙ sym (read_first runs k i r (omega (arith, l, is))) in
           let P : Event → Type 0 = λ x. AreSuitable init runs x (get_or fs i f) in
           subst P read (suitable_alike init before runs (get_or (reads before) i r) (get_or fs i f) (sym o) (sym e) (h.are i r f (omega (arith, l, was, few)))));
     }

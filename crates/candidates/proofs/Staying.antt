@@ -36,15 +36,15 @@ stay_on old new first i before after x (Some like) j m put there h = record {
     ]
     | inr here ↦ stay_below old new i after x (omega (arith, here.0)) m put ∙ ap (take after) (h.whole here.1)
   ];
-  whole = λ l. absurd (elim j [ | inl less ↦ omega (arith, less.0, less.1, l) | inr here ↦ omega (arith, here.0, l) ]);
+  whole = λ l. absurd (elim j [ inl less ↦ omega (arith, less.0, less.1, l) | inr here ↦ omega (arith, here.0, l) ]);
 }
 
 pub stay_fewer : (i before after n : ℕ) (change : Option Likeness) → Joins i before after change → before ≤ n → after ≤ n
 stay_fewer i before after n None j l = omega (arith, j, l)
-stay_fewer i before after n (Some like) j l = elim j [ | inl less ↦ omega (arith, less.0, l) | inr here ↦ omega (arith, here.0, here.1, l) ]
+stay_fewer i before after n (Some like) j l = elim j [ inl less ↦ omega (arith, less.0, l) | inr here ↦ omega (arith, here.0, here.1, l) ]
 
 pub stay_all : {X : Type 0} (old first : List X) (i k : ℕ) → k ≤ i → Stay old first i k → take k old ≡ take k first
-stay_all old first i k l h = elim (cases_lt k i) [ | inl less ↦ h.some less | inr up ↦ ap (take k) (h.whole up) ]
+stay_all old first i k l h = elim (cases_lt k i) [ inl less ↦ h.some less | inr up ↦ ap (take k) (h.whole up) ]
 
 -- What shows of the runs stays, where it does so if one is changed.
 pub shows_on : {X Y : Type 0} (shown : X → Y) (old new : X) (calm : Likeness → Bool) (change : Option Likeness) → (change ≡ None → new ≡ old) → IfSome change (λ like. calm like ≡ true → shown new ≡ shown old) → IfSome change (λ like. calm like ≡ true) → shown new ≡ shown old

@@ -1,5 +1,5 @@
 -- The sources that the reads fit, read by read.
-use Rattle.std.proofs.Common.{◌≡◌, ℕ, ◌+◌, ◌<◌, ◌≤◌, List, [], ◌∷◌, ◌++◌, length, get_or, take, refl, sym, ◌∙◌, ap, subst, inl, inr, arith}
+use Rattle.std.proofs.Common.{◌≡◌, ℕ, ◌+◌, ◌<◌, List, [], ◌∷◌, ◌++◌, length, get_or, take, refl, sym, ◌∙◌, ap, subst, inl, inr, arith}
 use Rattle.std.proofs.lemmas.Bool.{cases_lt}
 use Rattle.std.proofs.lemmas.List.{get_or_default, get_or-take, get_or_append_left, length-take-le}
 use Rattle.std.proofs.Math.Seq.{get_or-append_seam}
@@ -45,10 +45,13 @@ suited_on init runs rs fs more k r f l is new grown h = (
     longer : (xs : List Suitable) → length (xs ++ f ∷ []) ≡ length xs + 1
     longer [] = refl
     longer (x ∷ xs) = let e = longer xs in omega (arith, e)
+
     n : length more ≡ k + 1
     n = ap (λ (xs : List Suitable). length xs) grown ∙ longer fs ∙ ap (λ m. m + 1) h.0
+
     Q : Event → Suitable → Type 0
     Q e g = AreSuitable init runs e g
+
     at : (i : ℕ) (e : Event) (g : Suitable) → i < k + 1 → AreSuitable init runs (get_or rs i e) (get_or more i g)
     at i e g b = elim (cases_lt i k) [
       | inl before ↦ subst (Q (get_or rs i e)) (sym (ap (λ (xs : List Suitable). get_or xs i g) grown ∙ get_or_append_left fs (f ∷ []) g i (omega (arith, before, h.0)))) (h.1.are i e g before)

@@ -255,12 +255,7 @@ fn if_calm(kept: Kept, count: usize) -> usize
 }
 
 /// Makes a page that of its runs, of which it has all but the reads behind those of the first threads and what the reads fit.
-fn fill_again(
-    alloc: Global,
-    init: &[u32],
-    page: &mut Page,
-    kept: Kept,
-) -> Result<(), AllocError>
+fn fill_again(alloc: Global, init: &[u32], page: &mut Page, kept: Kept) -> Result<(), AllocError>
     requires within { AreWithin (length init.now) page.old.runs.items }
     requires most { block (length init.now) page.old.runs.items ≤ MOST_CANDIDATES }
     requires has { IsOfRuns (length init.now) page.old.runs.items page.old }

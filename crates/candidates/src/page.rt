@@ -7,7 +7,7 @@ use crate::capped::capped_factorial;
 use crate::depths::Depth;
 use crate::fault::MOST_CANDIDATES;
 use crate::levels::Level;
-use crate::reading::{Suitable, Hit};
+use crate::reading::{Hit, Suitable};
 use events::{Event, EventId, Graph, GraphParts, Run};
 use std::alloc::Global;
 use std::marker::Model;

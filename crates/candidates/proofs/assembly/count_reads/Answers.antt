@@ -1,4 +1,4 @@
-use Rattle.std.proofs.Common.{◌∙◌, ◌≡◌, ◌+◌, List, ◌∷◌, ap, drop, length, sym, arith}
+use Rattle.std.proofs.Common.{◌∙◌, ◌+◌, List, ap, drop, length, sym, arith}
 use Rattle.std.specs.Prelude.{filter}
 use Rattle.events.specs.declared.event.Event.{Event}
 use Rattle.events.specs.Executions.{is_read}

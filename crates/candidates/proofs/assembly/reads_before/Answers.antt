@@ -1,4 +1,4 @@
-use Rattle.std.proofs.Common.{◌∙◌, ◌≡◌, ◌+◌, List, ap, drop, take, length, sym, arith}
+use Rattle.std.proofs.Common.{◌∙◌, List, ap, length, sym, arith}
 use Rattle.events.specs.declared.event.Event.{Event}
 use Rattle.events.specs.Executions.{ThreadRun}
 use Rattle.std.specs.Prelude.{filter}

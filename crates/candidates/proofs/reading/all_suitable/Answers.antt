@@ -1,7 +1,7 @@
-use Rattle.std.proofs.Common.{◌≡◌, ◌∙◌, ℕ, List, length, subst, arith}
+use Rattle.std.proofs.Common.{◌≡◌, ◌∙◌, ℕ, length, subst, arith}
 use Rattle.candidates.specs.Readings.{HaveSuitable}
 use Rattle.candidates.proofs.Listed.{placed}
-use Rattle.candidates.proofs.Suiting.{IsSuited, suited_cut, suited_on}
+use Rattle.candidates.proofs.Suiting.{suited_cut, suited_on}
 use Rattle.candidates.proofs.reading.all_suitable.Goals as goal
 
 pub loop-place-init : goal.loop-place-init

@@ -1,4 +1,4 @@
-use Rattle.std.proofs.Common.{◌≡◌, ◌∙◌, ℕ, List, sym, subst, arith}
+use Rattle.std.proofs.Common.{◌≡◌, ◌∙◌, ℕ, List, subst, arith}
 use Rattle.events.specs.declared.event.Event.{Event}
 use Rattle.candidates.specs.Executions.{reads}
 use Rattle.candidates.specs.Readings.{IsFit}

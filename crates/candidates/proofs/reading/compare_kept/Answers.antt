@@ -1,4 +1,4 @@
-use Rattle.std.proofs.Common.{◌≡◌, ◌∙◌, ◌<◌, ◌/◌, ◌+◌, ◌*◌, ◌≤◌, ℕ, List, nat_lt, length, ap, subst, arith, sym}
+use Rattle.std.proofs.Common.{◌≡◌, ◌∙◌, ◌<◌, ◌/◌, ◌+◌, ℕ, List, nat_lt, ap, subst, arith, sym}
 use Rattle.events.specs.declared.event.Event.{Event}
 use Rattle.candidates.specs.Candidates.{count_sources}
 use Rattle.candidates.specs.Readings.{IsWhole}

@@ -1,10 +1,5 @@
-use Rattle.std.proofs.Common.{◌∙◌, List, subst, inl, inr, refl, arith, ◌*◌, ◌/◌, ◌≤◌, sym, ap, length}
-use Rattle.events.specs.declared.event.Event.{Event}
-use Rattle.candidates.specs.declared.reading.Fit.TheVariants.{Until, Whole}
-use Rattle.candidates.specs.Readings.{IsFit}
+use Rattle.std.proofs.Common.{inl, inr, refl, arith, ◌*◌, ◌/◌, ◌≤◌, sym, length}
 use Rattle.candidates.proofs.Passing.{first_of, until_of}
-use Rattle.listings.specs.Lists.{product_by}
-use Rattle.candidates.specs.Candidates.{count_sources}
 use Rattle.candidates.proofs.Pages.{reading_within, start_within}
 use Rattle.candidates.proofs.reading.look_anew.Goals as goal
 

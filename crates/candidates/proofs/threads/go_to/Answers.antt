@@ -111,14 +111,14 @@ open_page-requires-clause-kept c =
     let page : Page = record c.args.stretch.now.page { runs = c.locate.new.runs; places = c.locate.new.places } in
     let Q : Kept → Type 0 = λ k. IsOfRuns (length t.init.now) runs page × WasOf t.init.now k page in
     still_some _ Q c.of_whole-kept.result (λ k f.
-      let s = c.requires.stretch.whole (omega (arith, ltb-true 0 c.args.stretch.now.size f.1)) in
-      let kept = rw c.in-At.is at c.in_ok-rest.ensures.kept in
-      let like = kept.alike f.2 in
-      subst Q (sym f.0) (
-        of_runs_like (length t.init.now) c.args.stretch.now.page.runs.items runs _ (sym like)
-        (record { writes_are = s.page.writes_are; ways = s.page.ways; orders = s.page.orders; depths = s.page.depths; depths_are = s.depths }),
-        record { before = c.args.stretch.now.page.runs.items; kept = kept; alike = like; reads_were = s.page.reads_are; suited = s.fits.are },
-      )) c.of_whole-kept.ensures
+    let s = c.requires.stretch.whole (omega (arith, ltb-true 0 c.args.stretch.now.size f.1)) in
+    let kept = rw c.in-At.is at c.in_ok-rest.ensures.kept in
+    let like = kept.alike f.2 in
+    subst Q (sym f.0) (
+      of_runs_like (length t.init.now) c.args.stretch.now.page.runs.items runs _ (sym like)
+          (record { writes_are = s.page.writes_are; ways = s.page.ways; orders = s.page.orders; depths = s.page.depths; depths_are = s.depths }),
+      record { before = c.args.stretch.now.page.runs.items; kept = kept; alike = like; reads_were = s.page.reads_are; suited = s.fits.are },
+    )) c.of_whole-kept.ensures
 
 pub locate-requires-clause-placed : goal.locate-requires-clause-placed
 locate-requires-clause-placed c = c.requires.stretch.placed

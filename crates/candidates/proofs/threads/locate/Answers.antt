@@ -1,4 +1,4 @@
-use Rattle.std.proofs.Common.{◌≡◌, ◌∙◌, ◌+◌, ◌-◌, ◌<◌, ◌≤◌, [], ◌∷◌, List, length, map, take, drop, get_or, sym, ap, subst, refl, inl, inr, arith, leb-true}
+use Rattle.std.proofs.Common.{◌≡◌, ◌∙◌, ◌+◌, ◌-◌, ◌<◌, ◌≤◌, [], ◌∷◌, List, length, map, take, drop, get_or, sym, ap, subst, refl, arith, leb-true}
 use Rattle.std.proofs.lemmas.List.{drop_all, length-take-le, take-take, take_all}
 use Rattle.std.proofs.lemmas.Result.{IfOk-from_err}
 use Rattle.events.specs.Executions.{ThreadRun, empty_run}
