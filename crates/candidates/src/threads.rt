@@ -185,7 +185,8 @@ fn place_run(
     }))
 }
 
-/// Where the candidate with a number is: its number among those with its runs, and what stays of the runs that were there before; or up to which number no execution stands.
+/// Where the candidate with a number is: its number among those with its runs, and what stays of the runs that were there before; or up to which
+/// number no execution stands.
 #[derive(Clone, Copy)]
 pub(crate) enum Located {
     At(u64, Kept),
