@@ -60,11 +60,7 @@ fn first_sources(graph: &Graph, reads: usize) -> &[EventId]
 }
 
 // Writes sources over those that stand in a list, in its room where they fit.
-fn take_over(
-    alloc: Global,
-    kept: &mut Vec<EventId>,
-    sources: &[EventId],
-) -> Result<(), AllocError>
+fn take_over(alloc: Global, kept: &mut Vec<EventId>, sources: &[EventId]) -> Result<(), AllocError>
     ensures done { OnOk result (kept.new.items ≡ sources.now) }
     ensures same { OnErr result (kept.new.items ≡ kept.old.items) }
 {
