@@ -59,6 +59,22 @@ fn first_sources(graph: &Graph, reads: usize) -> &[EventId]
     &sources[..sources.len().min(reads)]
 }
 
+// Writes sources over those that stand in a list, in its room where they fit.
+fn take_over(alloc: Global, kept: &mut Vec<EventId>, sources: &[EventId]) -> Result<(), AllocError>
+    ensures done { OnOk result (kept.new.items ≡ sources.now) }
+    ensures same { OnErr result (kept.new.items ≡ kept.old.items) }
+{
+    if kept.capacity() < sources.len() {
+        *kept = Vec::from_slice(alloc, sources)?;
+        return Ok(());
+    }
+    kept.clear();
+    match kept.extend_from_slice(sources) {
+        Ok(()) => Ok(()),
+        Err(AllocError) => unreachable!(),
+    }
+}
+
 impl SourcedStructure {
     /// That of an execution.
     pub fn of(alloc: Global, graph: &Graph) -> Result<Self, AllocError>
@@ -227,14 +243,9 @@ impl SourcedStructure {
         ensures done { OnOk result (self.new ≡ sourced_of (with_sources graph.now sources.now)) }
         ensures same { OnErr result (self.new ≡ self.old) }
     {
-        let kept = Vec::from_slice(alloc, sources)?;
-        let mut rf = Rel::empty(0);
-        let mut turned = Rel::empty(0);
+        take_over(alloc, &mut self.sources, sources)?;
         let numbered = self.structure.numbered(graph);
-        numbered.reads_into(sources, &mut rf, &mut turned);
-        self.turned = turned;
-        self.rf = rf;
-        self.sources = kept;
+        numbered.reads_into(sources, &mut self.rf, &mut self.turned);
         Ok(())
     }
 }
