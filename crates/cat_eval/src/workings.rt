@@ -225,12 +225,7 @@ impl Workings {
 
     /// Whether it is known of the execution that was followed last, cut down, that a model of these items allows none that goes on from it.
     #[inline(always)]
-    pub(crate) fn refutes(
-        &mut self,
-        items: &[PlannedItem<'_>],
-        graph: &Graph,
-        cut: Cut<'_>,
-    ) -> bool
+    pub(crate) fn refutes(&mut self, items: &[PlannedItem<'_>], graph: &Graph, cut: Cut<'_>) -> bool
         requires model { IsModel (map planned_clause items.now) }
         requires works { WorksFor items.now self.old }
         requires followed { self.old.sourced ≡ sourced_of (cut_down graph.now cut) }
