@@ -30,6 +30,7 @@ pub mod Bridge
 pub mod Reaching
 pub mod Solving
 pub mod Wanted
+pub mod Worked
 pub mod Trees
 pub mod Looked
 pub mod Functions

@@ -33,6 +33,7 @@ mod step;
 mod steps;
 mod value;
 mod valuing;
+mod workings;
 
 pub use early::judge_early;
 pub use evaluator::Evaluator;

@@ -5,59 +5,22 @@ ghost use Rattle.cat_tree.specs.Tree.{clause_of};
 ghost use Rattle.cat_eval.specs.Code.{planned_clause};
 ghost use Rattle.cat_eval.specs.Prepared.{IsReadyFor, steps_of_item};
 
-use crate::asked::Asked;
-use crate::bases::Bases;
 use crate::evaluator::Evaluator;
-use crate::growth::Growth;
-use crate::keeping::Kept;
 use crate::plan::PlannedItem;
-use crate::step::Step;
-use crate::value::Value;
+use crate::workings::{ItemSteps, Workings};
 use cat_model::Model;
 use cat_tree::Item;
-use events::SourcedStructure;
-use relations::Rel;
 use std::alloc::{AllocError, Global};
-
-/// Where the steps of an item are, as a planned item says it.
-#[derive(Clone, Copy)]
-pub(crate) struct ItemSteps {
-    start: usize,
-    from: usize,
-    to: usize,
-}
 
 /// What an evaluator has made ready and what it keeps, without the model. It serves any model of the same items.
 pub struct Prepared {
-    pub(crate) steps: Vec<Step>,
-    pub(crate) bases: Bases,
-    pub(crate) ends: Vec<usize>,
-    pub(crate) item_steps: Vec<ItemSteps>,
-    pub(crate) growths: Vec<Growth>,
-    pub(crate) telling: usize,
-    pub(crate) asked: Asked,
-    pub(crate) values: Vec<Value>,
-    pub(crate) kept: Kept,
-    pub(crate) sourced: Box<SourcedStructure>,
-    pub(crate) room: Box<Rel>,
+    pub(crate) workings: Box<Workings>,
 }
 
 // A function of its own: whoever holds one drops it by a call.
 impl Drop for Prepared {
     fn drop(self) {
-        let Prepared {
-            steps: _,
-            bases: _,
-            ends: _,
-            item_steps: _,
-            growths: _,
-            telling: _,
-            asked: _,
-            values: _,
-            kept: _,
-            sourced: _,
-            room: _,
-        } = self;
+        let Prepared { workings: _ } = self;
     }
 }
 
@@ -113,33 +76,12 @@ impl Prepared {
         ensures items { IfOk result (λ e. e.items ≡ model.entry.now.items) }
         ensures relied { IfOk result (λ e. e.relied ≡ None) }
     {
-        let items = planned(alloc, model.items(), &self.item_steps)?;
-        let Prepared {
-            steps,
-            bases,
-            ends,
-            item_steps: _,
-            growths,
-            telling,
-            asked,
-            values,
-            kept,
-            sourced,
-            room,
-        } = self;
+        let items = planned(alloc, model.items(), &self.workings.item_steps)?;
+        let Prepared { workings } = self;
         Ok(Evaluator {
-            steps,
-            bases,
-            ends,
             items,
-            growths,
-            telling,
-            asked,
-            values,
-            kept,
-            sourced,
             relies: false,
-            room,
+            workings,
         })
     }
 }

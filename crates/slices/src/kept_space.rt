@@ -20,7 +20,7 @@ struct Made {
     work: WorkRef,
     space: Space,
     paused: Box<PausedWalk>,
-    ready: Box<Prepared>,
+    ready: Prepared,
     pruner: Box<Pruner>,
 }
 
@@ -52,7 +52,7 @@ impl Model for Made {
 
     ghost view = { λ m. m.work };
 
-    ghost invariant = { λ m. record { space : m.space ≡ choices_of m.work.test; paused : IsPausedIn m.space m.paused.value; ready : IsReadyFor m.work.model.items m.ready.value; known : Knows m.space m.work.model.items m.pruner.value } };
+    ghost invariant = { λ m. record { space : m.space ≡ choices_of m.work.test; paused : IsPausedIn m.space m.paused.value; ready : IsReadyFor m.work.model.items m.ready; known : Knows m.space m.work.model.items m.pruner.value } };
 }
 
 impl Made {
@@ -71,8 +71,7 @@ impl Made {
         requires { space ≡ choices_of work.now.test }
         ensures { IfOk result (λ m. m ≡ work.now) }
     {
-        let ready = evaluator_of(alloc, work.work())?.without_model(alloc)?;
-        let ready = Box::new(alloc, ready)?;
+        let ready = evaluator_of(alloc, work.work())?.without_model();
         let pruner = Box::new(alloc, Pruner::new(work.work().model()))?;
         let paused = Box::new(alloc, PausedWalk::new(alloc))?;
         let work = work.share()?;
@@ -129,10 +128,9 @@ impl Made {
         } = self;
         let Span { from, to } = piece.span();
         let mut walk = space.resume(Box::into_inner(paused), from, to);
-        let ready = Box::into_inner(ready);
         let mut evaluator = ready.with_model(alloc, piece.work().work().model())?;
         let result = evaluate_in(alloc, &mut walk, &mut evaluator, &mut pruner, piece)?;
-        let ready = Box::new(alloc, evaluator.without_model(alloc)?)?;
+        let ready = evaluator.without_model();
         let paused = Box::new(alloc, walk.pause())?;
         let made = Made {
             work,

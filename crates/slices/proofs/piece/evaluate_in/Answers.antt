@@ -25,3 +25,8 @@ pub returns-clause-known : goal.returns-clause-known
 returns-clause-known c =
     let K : WorkValue → Type 0 = λ w. Knows (choices_of w.test) w.model.items c.count.new.pruner in
     subst K (ap (λ (q : PieceValue). q.work) (c.piece.view_is ∙ c.in_ok-piece.ensures)) c.in_ok-finding.ensures.known
+
+pub count-requires-clause-known : goal.count-requires-clause-known
+count-requires-clause-known c =
+    let K : WorkValue → Type 0 = λ w. Knows (choices_of w.test) w.model.items c.args.pruner.now in
+    subst K (sym (ap (λ (q : PieceValue). q.work) (c.piece.view_is ∙ c.in_ok-piece.ensures))) c.requires.known

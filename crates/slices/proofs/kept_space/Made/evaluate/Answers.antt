@@ -23,9 +23,9 @@ invariant_of-made c =
     let own : c.args.piece.now.work ≡ c.self.inside.work = sym (c.self.view_is ∙ c.requires) in
     let same : c.evaluate_in.new.evaluator.items ≡ c.self.inside.work.model.items =
     c.evaluate_in.ensures.evaluator ∙ c.in_ok-evaluator.ensures.items ∙ ap (λ (m : Assembly). m.items) c.model.ensures ∙ ap (λ (w : WorkValue). w.model.items) (c.work-2.ensures ∙ c.work.ensures.work ∙ own) in
-    let P : List Clause → Type 0 = λ items. IsReadyFor items c.in_ok-without_model.field-0 in
+    let P : List Clause → Type 0 = λ items. IsReadyFor items c.without_model-ready.result in
     let W : Choices → Type 0 = λ s. IsPausedIn s c.pause.result in
     let K : WorkValue → Type 0 = λ w. Knows (choices_of w.test) w.model.items c.evaluate_in.new.pruner in
     let S : Choices → Type 0 = λ s. Knows s c.self.inside.work.model.items c.evaluate_in.new.pruner in
     let own_space = c.in_ok-result.ensures.space ∙ ap (λ (w : Walking). w.space) c.resume-walk.ensures in
-    record { space = c.self.invariant.space; paused = rw c.in_ok-paused.ensures.ok (subst W own_space c.pause.ensures); ready = rw c.in_ok-ready.ensures.ok (subst P same c.in_ok-without_model.ensures); known = subst S (sym c.self.invariant.space) (subst K own c.in_ok-result.ensures.known) }
+    record { space = c.self.invariant.space; paused = rw c.in_ok-paused.ensures.ok (subst W own_space c.pause.ensures); ready = subst P same c.without_model-ready.ensures; known = subst S (sym c.self.invariant.space) (subst K own c.in_ok-result.ensures.known) }

@@ -7,5 +7,5 @@ use Rattle.slices.proofs.kept_space.Made.over.Goals as goal
 pub invariant_of-result : goal.invariant_of-result
 invariant_of-result c =
     let same : c.in_ok-evaluator_of.field-0.items ≡ c.in_ok-work.work.model.items = c.in_ok-evaluator_of.ensures ∙ ap (λ (w : WorkValue). w.model.items) (c.work.ensures ∙ sym c.in_ok-work.ensures) in
-    let P : List Clause → Type 0 = λ items. IsReadyFor items c.in_ok-ready.ready in
-    record { space = rw c.in_ok-work.ensures c.requires; paused = rw c.in_ok-paused.ensures.ok (c.new-4.ensures.paused c.args.space); ready = rw c.in_ok-ready-2.ensures.ok (subst P same c.in_ok-ready.ensures); known = rw c.in_ok-pruner.ensures.ok (c.new-2.ensures.known c.args.space c.in_ok-work.work.model.items) }
+    let P : List Clause → Type 0 = λ items. IsReadyFor items c.without_model-ready.result in
+    record { space = rw c.in_ok-work.ensures c.requires; paused = rw c.in_ok-paused.ensures.ok (c.new-3.ensures.paused c.args.space); ready = subst P same c.without_model-ready.ensures; known = rw c.in_ok-pruner.ensures.ok (c.new.ensures.known c.args.space c.in_ok-work.work.model.items) }

@@ -5,7 +5,7 @@ use Rattle.cat_tree.specs.Tree.{Word}
 use Rattle.events.specs.Executions.{GraphValue}
 use Rattle.cat_eval.specs.Code.{planned_clause}
 use Rattle.cat_eval.specs.Judging.{Allowed, Raised}
-use Rattle.cat_eval.proofs.evaluator.judge_over.Goals as goal
+use Rattle.cat_eval.proofs.workings.judge_over.Goals as goal
 
 pub returns-clause-allowed : goal.returns-clause-allowed
 returns-clause-allowed c =

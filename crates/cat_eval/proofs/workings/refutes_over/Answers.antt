@@ -4,7 +4,7 @@ use Rattle.events.specs.Executions.{GraphValue}
 use Rattle.events.specs.Extends.{Extends}
 use Rattle.cat_eval.specs.Code.{planned_clause}
 use Rattle.cat_eval.specs.Judging.{Allowed}
-use Rattle.cat_eval.proofs.evaluator.refutes_over.Goals as goal
+use Rattle.cat_eval.proofs.workings.refutes_over.Goals as goal
 
 pub returns-clause-refuted : goal.returns-clause-refuted
 returns-clause-refuted c =

@@ -1,0 +1,32 @@
+use Rattle.std.proofs.Common.{List, length, take, drop, ap, subst, sym, refl, arith, ◌≡◌, ◌++◌, ◌∙◌}
+use Rattle.cat_eval.specs.declared.step.Step.{Step}
+use Rattle.cat_eval.specs.declared.value.Value.{Value}
+use Rattle.cat_eval.specs.Keeping.{Holds}
+use Rattle.cat_eval.proofs.Held.{written_back}
+use Rattle.cat_eval.proofs.Worked.{holds_followed, works_made}
+use Rattle.cat_eval.proofs.workings.Workings.judge.Goals as goal
+
+pub judge_over-requires-clause-kept : goal.judge_over-requires-clause-kept
+judge_over-requires-clause-kept c = record {
+  long = ap length c.deref_mut.ensures.value ∙ c.requires.works.values ∙ sym (ap length c.deref.ensures.value);
+  holds = rw (c.deref.ensures.value, c.deref_mut.ensures.value)
+      (holds_followed c.args.items.now c.args.self.now c.args.graph.now
+      (record { counts = c.bases.ensures.counts; like = c.bases.ensures.plain; sets = c.bases.ensures.sets; runs = c.bases.ensures.runs; sources = c.bases.ensures.sources }) c.requires.followed c.requires.works);
+}
+
+pub returns-clause-works : goal.returns-clause-works
+returns-clause-works c =
+    let w = c.args.self.now in
+    let old : List Value = w.values.items in
+    let new : List Value = c.judge_over.new.values in
+    let a = c.judge_over.ensures.kept.long in
+    let f = ap length c.deref.ensures.value in
+    let v = c.requires.works.values in
+    let b = ap length c.deref_mut.ensures.value in
+    let d = c.deref_mut.ensures.len in
+    let e : take w.values.len (new ++ drop (length new) old) ≡ new = written_back w.values.len new (drop (length new) old) (omega (arith, a, f, v, b, d)) in
+    let P : List Step → Type 0 = λ xs. Holds c.args.graph.now xs w.bases c.judge_over.new.kept new in
+    let R : List Value → Type 0 = λ xs. Holds c.args.graph.now w.steps.items w.bases c.judge_over.new.kept xs in
+    works_made c.args.items.now w _ c.args.graph.now
+    (record { counts = c.bases.ensures.counts; like = c.bases.ensures.plain; sets = c.bases.ensures.sets; runs = c.bases.ensures.runs; sources = c.bases.ensures.sources })
+    c.requires.followed refl (ap length e ∙ a ∙ f) (subst R (sym e) (subst P c.deref.ensures.value c.judge_over.ensures.kept.holds)) c.requires.works

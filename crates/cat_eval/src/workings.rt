@@ -1,0 +1,258 @@
+//! What an evaluator works with, beside the items of its model.
+
+ghost use Rattle.std.specs.Prelude.{◌≡◌, ◌↔◌, ◌≤◌, length, map, IfOk, IfSome, IsTrue, OnErr, OnOk, List};
+ghost use Rattle.listings.specs.Lists.{Lists};
+ghost use Rattle.cat_model.specs.Scopes.{IsModel};
+ghost use Rattle.events.specs.Executions.{GraphValue};
+ghost use Rattle.events.specs.Cuts.{cut_down};
+ghost use Rattle.events.specs.Extends.{Extends};
+ghost use Rattle.events.specs.Structures.{sourced_of, structure_of};
+ghost use Rattle.events.specs.declared.named.Basis.TheVariants.{Sources, Orders};
+ghost use Rattle.cat_eval.specs.Code.{planned_clause};
+ghost use Rattle.cat_eval.specs.Growth.{AreGrown};
+ghost use Rattle.cat_eval.specs.Judging.{Allowed, Raised};
+ghost use Rattle.cat_eval.specs.Machine.{clauses_of, IsCode, Keeps};
+ghost use Rattle.cat_eval.specs.Prepared.{WorksFor};
+ghost use Rattle.cat_eval.specs.declared.plan.PlannedItem.{PlannedItem as PlannedItemValue};
+
+use crate::asked::Asked;
+use crate::bases::Bases;
+use crate::early::judge_early_by;
+use crate::growth::Growth;
+use crate::judging::Judgement;
+use crate::keeping::Kept;
+use crate::machine::Code;
+use crate::plan::PlannedItem;
+use crate::refuting::refutes_by;
+use crate::step::Step;
+use crate::value::Value;
+use events::{Basis, Cut, Graph, GraphView, SourcedStructure, laws};
+use relations::Rel;
+use std::alloc::{AllocError, Global};
+
+/// Where the steps of an item are, as a planned item says it.
+#[derive(Clone, Copy)]
+pub(crate) struct ItemSteps {
+    pub(crate) start: usize,
+    pub(crate) from: usize,
+    pub(crate) to: usize,
+}
+
+/// The steps of a model's items with what is known of them, and their values, which executions write one after another.
+#[derive(Drop)]
+pub(crate) struct Workings {
+    pub(crate) steps: Vec<Step>,
+    pub(crate) bases: Bases,
+    // How far the values from each step on are made in one go.
+    pub(crate) ends: Vec<usize>,
+    pub(crate) item_steps: Vec<ItemSteps>,
+    // How the value of each step goes from an execution to those that go on from it.
+    pub(crate) growths: Vec<Growth>,
+    // So many of the first items that each one behind them can refute nothing.
+    pub(crate) telling: usize,
+    // Which of them are asked.
+    pub(crate) asked: Asked,
+    // A value for each step.
+    pub(crate) values: Vec<Value>,
+    pub(crate) kept: Kept,
+    // What the kept values are of.
+    pub(crate) sourced: SourcedStructure,
+    // Room for the coherence orders of one execution after another.
+    pub(crate) room: Rel,
+}
+
+// Makes what is kept that of an execution, and tells what of it may be another than before.
+#[inline(always)]
+fn follow(
+    sourced: &mut SourcedStructure,
+    relies: bool,
+    alloc: Global,
+    graph: &Graph,
+) -> Result<Basis, AllocError>
+    requires { IsTrue relies → sourced.old.structure ≡ structure_of graph.now }
+    ensures done { OnOk result (sourced.new ≡ sourced_of graph.now) }
+    ensures runs { IfOk result (λ b. b ≡ Sources → sourced.new.structure ≡ sourced.old.structure) }
+    ensures all { IfOk result (λ b. b ≡ Orders → sourced.new ≡ sourced.old) }
+    ensures same { OnErr result (sourced.new ≡ sourced.old) }
+{
+    if relies {
+        return sourced.follow_on(alloc, graph);
+    }
+    sourced.follow(alloc, graph)
+}
+
+// The same for an execution that is cut down to what is known of it.
+#[inline(always)]
+fn follow_cut(
+    sourced: &mut SourcedStructure,
+    relies: bool,
+    alloc: Global,
+    graph: &Graph,
+    cut: &Cut<'_>,
+) -> Result<Basis, AllocError>
+    requires { IsTrue relies → sourced.old.structure ≡ structure_of graph.now }
+    ensures done { OnOk result (sourced.new ≡ sourced_of (cut_down graph.now cut.now)) }
+    ensures runs { IfOk result (λ b. b ≡ Sources → sourced.new.structure ≡ sourced.old.structure) }
+    ensures all { IfOk result (λ b. b ≡ Orders → sourced.new ≡ sourced.old) }
+    ensures same { OnErr result (sourced.new ≡ sourced.old) }
+{
+    if relies {
+        return sourced.follow_cut_on(alloc, graph, cut);
+    }
+    sourced.follow_cut(alloc, graph, cut)
+}
+
+// Judges an execution over what it has in common with the one before.
+#[inline(always)]
+fn judge_over(
+    alloc: Global,
+    sourced: &SourcedStructure,
+    graph: &Graph,
+    code: &Code<'_, '_>,
+    kept: &mut Kept,
+    values: &mut [Value],
+    room: &mut Rel,
+) -> Result<Judgement, AllocError>
+    requires sourced { sourced.now ≡ sourced_of graph.now }
+    requires code { IsCode code.now }
+    requires kept { Keeps graph.now code.now kept.old values.old }
+    ensures kept { Keeps graph.now code.now kept.new values.new }
+    ensures allowed { IfOk result (λ j. IsTrue j.allowed ↔ Allowed (clauses_of code.now) graph.now) }
+    ensures flags { IfOk result (λ j. Lists (λ name. Allowed (clauses_of code.now) graph.now × Raised (clauses_of code.now) graph.now name) j.flags) }
+{
+    let view = GraphView::over(sourced, graph, room);
+    judge_early_by(alloc, &view, code, kept, values)
+}
+
+// Looks for what refutes an execution as far as it is known, over what it has in common with the one before.
+#[inline(always)]
+fn refutes_over(
+    sourced: &SourcedStructure,
+    graph: &Graph,
+    cut: Cut<'_>,
+    code: &Code<'_, '_>,
+    growths: &[Growth],
+    count: usize,
+    kept: &mut Kept,
+    values: &mut [Value],
+    room: &mut Rel,
+) -> Option<usize>
+    requires sourced { sourced.now ≡ sourced_of (cut_down graph.now cut) }
+    requires code { IsCode code.now }
+    requires grown { AreGrown code.now.steps.now code.now.items.now growths.now }
+    requires count { count ≤ length code.now.items.now }
+    requires kept { Keeps (cut_down graph.now cut) code.now kept.old values.old }
+    ensures kept { Keeps (cut_down graph.now cut.entry) code.now kept.new values.new }
+    ensures refuted { IfSome result (λ _. (h : GraphValue) → Extends (cut_down graph.now cut.entry) h → ¬ Allowed (clauses_of code.now) h) }
+{
+    let view = GraphView::over_cut(sourced, graph, cut, room);
+    refutes_by(&view, code, growths, count, kept, values)
+}
+
+impl Workings {
+    /// Goes on to an execution, which may be relied on to have the same events as the one before.
+    #[inline(always)]
+    pub(crate) fn follow(
+        &mut self,
+        alloc: Global,
+        graph: &Graph,
+        relies: bool,
+    ) -> Result<(), AllocError>
+        requires { IsTrue relies → self.old.sourced.structure ≡ structure_of graph.now }
+        ensures works { (items : List PlannedItemValue) → WorksFor items self.old → WorksFor items self.new }
+        ensures done { OnOk result (self.new.sourced ≡ sourced_of graph.now) }
+        ensures same { OnErr result (self.new.sourced ≡ self.old.sourced) }
+    {
+        laws::bases();
+        let changed = follow(&mut self.sourced, relies, alloc, graph)?;
+        self.kept = self.kept.without(changed);
+        Ok(())
+    }
+
+    /// The same for an execution that is cut down to what is known of it.
+    #[inline(always)]
+    pub(crate) fn follow_cut(
+        &mut self,
+        alloc: Global,
+        graph: &Graph,
+        cut: &Cut<'_>,
+        relies: bool,
+    ) -> Result<(), AllocError>
+        requires { IsTrue relies → self.old.sourced.structure ≡ structure_of graph.now }
+        ensures works { (items : List PlannedItemValue) → WorksFor items self.old → WorksFor items self.new }
+        ensures done { OnOk result (self.new.sourced ≡ sourced_of (cut_down graph.now cut.now)) }
+        ensures same { OnErr result (self.new.sourced ≡ self.old.sourced) }
+    {
+        laws::bases();
+        let changed = follow_cut(&mut self.sourced, relies, alloc, graph, cut)?;
+        self.kept = self.kept.without(changed);
+        Ok(())
+    }
+
+    /// Judges the execution that was followed last under a model of these items.
+    #[inline(always)]
+    pub(crate) fn judge(
+        &mut self,
+        alloc: Global,
+        items: &[PlannedItem<'_>],
+        graph: &Graph,
+    ) -> Result<Judgement, AllocError>
+        requires model { IsModel (map planned_clause items.now) }
+        requires works { WorksFor items.now self.old }
+        requires followed { self.old.sourced ≡ sourced_of graph.now }
+        ensures works { WorksFor items.now self.new }
+        ensures sourced { self.new.sourced ≡ self.old.sourced }
+        ensures allowed { IfOk result (λ j. IsTrue j.allowed ↔ Allowed (map planned_clause items.now) graph.now) }
+        ensures flags { IfOk result (λ j. Lists (λ name. Allowed (map planned_clause items.now) graph.now × Raised (map planned_clause items.now) graph.now name) j.flags) }
+    {
+        laws::bases();
+        let code = Code {
+            items,
+            steps: &self.steps,
+            bases: &self.bases,
+            ends: &self.ends,
+        };
+        judge_over(
+            alloc,
+            &self.sourced,
+            graph,
+            &code,
+            &mut self.kept,
+            &mut self.values,
+            &mut self.room,
+        )
+    }
+
+    /// Whether it is known of the execution that was followed last, cut down, that a model of these items allows none that goes on from it.
+    #[inline(always)]
+    pub(crate) fn refutes(&mut self, items: &[PlannedItem<'_>], graph: &Graph, cut: Cut<'_>) -> bool
+        requires model { IsModel (map planned_clause items.now) }
+        requires works { WorksFor items.now self.old }
+        requires followed { self.old.sourced ≡ sourced_of (cut_down graph.now cut) }
+        ensures works { WorksFor items.now self.new }
+        ensures sourced { self.new.sourced ≡ self.old.sourced }
+        ensures refuted { IsTrue result → (h : GraphValue) → Extends (cut_down graph.now cut.entry) h → ¬ Allowed (map planned_clause items.now) h }
+    {
+        laws::bases();
+        let code = Code {
+            items,
+            steps: &self.steps,
+            bases: &self.bases,
+            ends: &self.ends,
+        };
+        let count = self.asked.ask(self.telling);
+        let refuted = refutes_over(
+            &self.sourced,
+            graph,
+            cut,
+            &code,
+            &self.growths,
+            count,
+            &mut self.kept,
+            &mut self.values,
+            &mut self.room,
+        );
+        self.asked.note(refuted);
+        refuted.is_some()
+    }
+}
