@@ -6,7 +6,7 @@ use Rattle.std.specs.List.{list_any}
 use Rattle.std.proofs.Math.Seq.{drop-cons}
 use Rattle.listings.specs.Lists.{IsIn}
 use Rattle.book.specs.Jobs.{Job, marked}
-use Rattle.book.specs.Workbench.{marked_in}
+use Rattle.book.specs.Workbench.{job_of, marked_in}
 
 pub here : {X : Type 0} (xs : List X) (i : ℕ) (x : X) → i < length xs → x ≡ get_or xs i x → drop i xs ≡ x ∷ drop (i + 1) xs
 here xs i x h e = drop-cons xs i x h ∙ rw (← e, add-one) refl
@@ -31,6 +31,10 @@ any_is p [] x q is = absurd q
 any_is p (y ∷ ys) x q is = any_first p y ys x q is (λ r. any_is p ys x r is)
 
 -- the job of a number, from the front
+
+-- the first job behind some place that has the number
+pub job_of-first : (xs : List Job) (i : ℕ) (x : Job) (number : ℕ) → i < length xs → x ≡ get_or xs i x → (x.number == number) ≡ true → job_of (drop i xs) number ≡ Some x
+job_of-first xs i x number h e is = ap (λ ys. job_of ys number) (here xs i x h e) ∙ if_true (x.number == number) (Some x) (job_of (drop (i + 1) xs) number) is
 
 pub marked_in-found : (xs : List Job) (i : ℕ) (x : Job) (number slice : ℕ) → i < length xs → x ≡ get_or xs i x → (x.number == number) ≡ true → marked_in (drop i xs) number slice ≡ marked slice x ∷ drop (i + 1) xs
 marked_in-found xs i x number slice h e b = ap (λ v. marked_in v number slice) (here xs i x h e) ∙ if_true _ _ _ b

@@ -22,7 +22,7 @@ same_assembly a b = pointwise same_clause a.items b.items && pointwise same_vers
 abbrev at_version : Word → ℕ → FileVersion
 at_version x v = record { name = x; version = v }
 
-pub version_exact : (a b : FileVersion) → Decides (same_version a b) (a ≡ b)
+version_exact : (a b : FileVersion) → Decides (same_version a b) (a ≡ b)
 version_exact a b =
     by_parts _ (both _ _ (bytes_eq-Decides a.name b.name) (Decides-eqb a.version b.version))
     (λ h. ap (λ x. at_version x a.version) h.0 ∙ ap (at_version b.name) h.1) (λ e. (ap (λ c. c.name) e, ap (λ c. c.version) e))
@@ -34,9 +34,6 @@ pub assembly_exact : (a b : Assembly) → Decides (same_assembly a b) (a ≡ b)
 assembly_exact a b =
     by_parts _ (both _ _ (pointwise_decides clause_exact a.items b.items) (pointwise_decides version_exact a.files b.files))
     (λ h. ap (λ is. assembly is a.files) h.0 ∙ ap (assembly b.items) h.1) (λ e. (ap (λ c. c.items) e, ap (λ c. c.files) e))
-
-pub version_equivalence : IsEquivalence same_version
-version_equivalence = equivalence (λ v. v) same_version version_exact
 
 pub assembly_equivalence : IsEquivalence same_assembly
 assembly_equivalence = equivalence (λ a. a) same_assembly assembly_exact

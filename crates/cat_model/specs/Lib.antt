@@ -18,6 +18,7 @@ pub mod Behind
 pub mod Counts
 pub mod Models
 pub mod Equality
+pub mod Spellings
 pub mod Rc11
 pub mod Sketches
 pub mod Files

@@ -1,16 +1,15 @@
 //! Files of the cat language, with their versions.
 
-ghost use Rattle.std.specs.Prelude.{◌≡◌, ◌<◌, [], true, Some, None, IfOk, OnOk, IfErr, OnErr, IsTrue, map, option_map, slice_get, is_some};
-ghost use Rattle.cat_tree.specs.Tree.{clause_of};
+ghost use Rattle.std.specs.Prelude.{◌≡◌, ◌<◌, [], true, Some, None, IfOk, OnOk, IfErr, OnErr, option_map, slice_get, is_some};
 ghost use Rattle.cat_model.specs.Files.{built_in, version_of, loaded, file_of, nothing, store};
 ghost use Rattle.cat_model.specs.Rc11.{rc11 as rc11_tree};
 
 use crate::rc11_text::rc11;
-use cat_tree::{CatFile, Item};
+use cat_tree::CatFile;
 use indexmap::IndexMap;
 use std::alloc::{AllocError, Global};
 use std::marker::Model;
-use wb_text::{Name, are_same};
+use wb_text::Name;
 
 /// What contracts see of a name that was put: the name with its version and its file, or none where the file was removed.
 pub struct Entry {
@@ -190,12 +189,5 @@ impl Files {
             }
         }
         self.built_in.get(name)
-    }
-
-    /// Whether these are the items of the built-in `rc11.cat`.
-    pub(crate) fn are_rc11(&self, items: &[Item]) -> bool
-        ensures { IsTrue result → map clause_of items.now ≡ rc11_tree.items }
-    {
-        are_same(items, self.built_in.rc11.items())
     }
 }

@@ -1,17 +1,16 @@
 //! A model that is ready to judge executions.
 
-ghost use Rattle.std.specs.Prelude.{◌≡◌, map, IfOk, IsTrue};
-ghost use Rattle.std.specs.Cmp.Lexicographic.{pointwise};
-ghost use Rattle.cat_tree.specs.Equality.{same_clause};
+ghost use Rattle.std.specs.Prelude.{◌≡◌, map, IfOk, OnOk};
 ghost use Rattle.cat_tree.specs.Tree.{clause_of, defined_of};
 ghost use Rattle.cat_model.specs.Beforehand.{beforehand as functions_beforehand};
-ghost use Rattle.cat_model.specs.Rc11.{rc11 as rc11_tree};
 ghost use Rattle.cat_model.specs.Scopes.{IsModel};
+ghost use Rattle.cat_model.specs.Spellings.{spelled_version, key_bytes};
 
 use cat_tree::{Definition, Item};
+use keys::{Key, Spell, spell_all};
 use std::alloc::{AllocError, Global};
 use std::sync::Arc;
-use wb_text::{Name, are_same};
+use wb_text::Name;
 
 /// A file that was read, with its version then.
 #[derive(Drop)]
@@ -20,27 +19,15 @@ pub struct FileVersion {
     pub version: u32,
 }
 
-impl PartialEq for FileVersion {
-    ghost use Rattle.std.specs.Prelude.{◌≡◌, ◌↔◌, IsTrue};
-    ghost use Rattle.std.specs.Cmp.{partial_equiv_from_equiv};
-    ghost use Rattle.cat_model.specs.Equality.{same_version, version_equivalence};
+impl Spell for FileVersion {
+    ghost over = { spelled_version.over };
 
-    ghost eq = { same_version };
-
-    ghost laws = { partial_equiv_from_equiv version_equivalence };
-
-    fn eq(&self, other: &FileVersion) -> bool
-        ensures value { result ≡ same_version self.now other.now }
-        ensures exact { IsTrue result ↔ (self.now ≡ other.now) }
+    fn spell(&self, key: &mut Key) -> Result<(), AllocError>
+        ensures { OnOk result (key.new ≡ spelled_version.over self.now key.old) }
     {
-        self.name == other.name && self.version == other.version
+        self.name.spell(key)?;
+        key.push_number(u64::from(self.version))
     }
-}
-
-impl Eq for FileVersion {
-    ghost use Rattle.cat_model.specs.Equality.{version_equivalence};
-
-    ghost laws = { version_equivalence };
 }
 
 /// What a model is made of.
@@ -49,8 +36,8 @@ struct Parts {
     beforehand: Vec<Definition>,
     items: Vec<Item>,
     files: Vec<FileVersion>,
-    // Whether the items are known to be those of the built-in `rc11.cat`.
-    is_rc11: bool,
+    // What is written of the items and the files.
+    key: Key,
 }
 
 /// The items of a model with all includes in place, and the files that they come from; beside them the functions that are bound
@@ -78,13 +65,12 @@ impl std::marker::Model for Model {
     ghost use Rattle.std.specs.Prelude.{◌≡◌, map};
     ghost use Rattle.cat_tree.specs.Tree.{clause_of, defined_of};
     ghost use Rattle.cat_model.specs.Beforehand.{beforehand as functions_beforehand};
-    ghost use Rattle.cat_model.specs.Rc11.{rc11 as rc11_tree};
     ghost use Rattle.cat_model.specs.Scopes.{IsModel};
-    ghost use Rattle.std.specs.Prelude.{IsTrue};
+    ghost use Rattle.cat_model.specs.Spellings.{key_bytes};
 
     ghost view = { λ m. let p = arc_value m.parts in record { items = map clause_of p.items.items; files = p.files.items } };
 
-    ghost invariant = { λ m. let p = arc_value m.parts in (map defined_of p.beforehand.items ≡ functions_beforehand) × IsModel (map clause_of p.items.items) × (IsTrue p.is_rc11 → map clause_of p.items.items ≡ rc11_tree.items) };
+    ghost invariant = { λ m. let p = arc_value m.parts in (map defined_of p.beforehand.items ≡ functions_beforehand) × IsModel (map clause_of p.items.items) × (p.key ≡ key_bytes (record { items = map clause_of p.items.items; files = p.files.items })) };
 }
 
 impl PartialEq for Model {
@@ -96,11 +82,12 @@ impl PartialEq for Model {
 
     ghost laws = { partial_equiv_from_equiv assembly_equivalence };
 
+    /// It compares their keys.
     fn eq(&self, other: &Model) -> bool
         ensures value { result ≡ same_assembly self.now other.now }
         ensures exact { IsTrue result ↔ (self.now ≡ other.now) }
     {
-        self.has_items_of(other) && are_same(self.files(), other.files())
+        *self.key() == *other.key()
     }
 }
 
@@ -110,47 +97,46 @@ impl Eq for Model {
     ghost laws = { assembly_equivalence };
 }
 
+/// What is written of these items and files.
+#[tactic(auto, unfolding(crate::specs::Spellings::key_bytes))]
+fn key_of(alloc: Global, items: &[Item], files: &[FileVersion]) -> Result<Key, AllocError>
+    ensures { IfOk result (λ k. k ≡ key_bytes (record { items = map clause_of items.now; files = files.now })) }
+{
+    let mut key = Key::new(alloc);
+    spell_all(items, &mut key)?;
+    spell_all(files, &mut key)?;
+    Ok(key.trimmed())
+}
+
 impl Model {
-    /// The model of these items, which come from these files, and whether it is known that they are those of the built-in `rc11.cat`.
+    /// The model of these items, which come from these files.
     pub(crate) fn new(
         alloc: Global,
         beforehand: Vec<Definition>,
         items: Vec<Item>,
         files: Vec<FileVersion>,
-        is_rc11: bool,
     ) -> Result<Self, AllocError>
         requires beforehand { map defined_of beforehand.items ≡ functions_beforehand }
         requires model { IsModel (map clause_of items.items) }
-        requires rc11 { IsTrue is_rc11 → map clause_of items.items ≡ rc11_tree.items }
         ensures { IfOk result (λ m. m ≡ record { items = map clause_of items.items; files = files.items }) }
     {
+        let key = key_of(alloc, &items, &files)?;
         let parts = Parts {
             beforehand,
             items,
             files,
-            is_rc11,
+            key,
         };
         Ok(Model {
             parts: Arc::new(alloc, parts)?,
         })
     }
 
-    /// Whether it is known that its items are those of the built-in `rc11.cat`.
-    fn is_rc11(&self) -> bool
-        ensures { IsTrue result → self.now.items ≡ rc11_tree.items }
+    /// What is written of it.
+    fn key(&self) -> &Key
+        ensures { result.now ≡ key_bytes self.now }
     {
-        self.parts.is_rc11
-    }
-
-    /// Whether its items are those of the other. Two of the built-in `rc11.cat` needn't be compared.
-    #[tactic(auto, using(crate::proofs::Equal::clauses_told))]
-    fn has_items_of(&self, other: &Model) -> bool
-        ensures { result ≡ pointwise same_clause self.now.items other.now.items }
-    {
-        if self.is_rc11() && other.is_rc11() {
-            return true;
-        }
-        are_same(self.items(), other.items())
+        &self.parts.key
     }
 
     /// The functions that are bound before any item.

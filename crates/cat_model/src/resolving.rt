@@ -31,6 +31,5 @@ pub fn resolve(alloc: Global, files: &Files, root: &Name) -> Result<Model, Model
     let draft = walk.whole()?;
     let beforehand = functions_beforehand(alloc)?;
     require_model(alloc, &beforehand, &draft.items)?;
-    let is_rc11 = files.are_rc11(&draft.items);
-    Ok(Model::new(alloc, beforehand, draft.items, draft.files, is_rc11)?)
+    Ok(Model::new(alloc, beforehand, draft.items, draft.files)?)
 }

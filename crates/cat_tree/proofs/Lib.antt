@@ -1,3 +1,4 @@
 pub mod Copies
 pub mod Equal
 pub mod Nodes
+pub mod Spelled

@@ -6,6 +6,7 @@ ghost use Rattle.cat_tree.specs.Terms.{postorder, term_in};
 mod copying;
 mod equality;
 mod making;
+mod spelling;
 
 use crate::node::Node;
 

@@ -7,6 +7,7 @@ mod expression;
 mod file;
 pub mod laws;
 mod node;
+mod spelling;
 mod tree;
 
 pub use expression::Expression;

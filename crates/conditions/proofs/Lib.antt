@@ -5,3 +5,4 @@ pub mod ObservedPlaces
 pub mod Places
 pub mod StateValues
 pub mod Left
+pub mod Spelled

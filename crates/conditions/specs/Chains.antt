@@ -12,9 +12,9 @@ use Rattle.conditions.specs.declared.prop.Atom.TheVariants.{True, False, Equals}
 use Rattle.conditions.specs.declared.prop.Connective.{Connective}
 use Rattle.conditions.specs.declared.prop.Connective.TheVariants.{And, Or, Implies}
 use Rattle.conditions.specs.declared.prop.Prop.{Prop, fold-Prop, fold_out-Prop}
-use Rattle.conditions.specs.declared.prop.Link.{Link, Link-F, Join, fold-roll-Link}
+use Rattle.conditions.specs.declared.prop.Link.{Link-F, Join, fold-roll-Link}
 use Rattle.conditions.specs.declared.prop.Link.TheVariants.{rolls-Join}
-use Rattle.conditions.specs.Conditions.{Formula, truth, falsehood, equals, negation, conjunction, disjunction, implication, atomic, connected, Growth, denies, joins, grown, along, link_layer, layer, growth_of, formula_of}
+use Rattle.conditions.specs.Conditions.{Formula, truth, falsehood, equals, negation, conjunction, disjunction, implication, atomic, Growth, denies, joins, grown, along, link_layer, layer, growth_of, formula_of}
 use Rattle.conditions.specs.Equality.{same_formula}
 use Rattle.conditions.specs.Exact.{both, by_parts, formula_exact}
 use Rattle.conditions.specs.States.{holds_in, mentioned}

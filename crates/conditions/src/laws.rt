@@ -3,6 +3,7 @@
 ghost use Rattle.std.specs.Prelude.{◌≡◌, ◌↔◌, ℕ, IsTrue, List, map};
 ghost use Rattle.listings.specs.Lists.{IsIn, NoRepeats};
 ghost use Rattle.conditions.specs.Conditions.{Formula, Condition};
+ghost use Rattle.conditions.specs.Spellings.{spelled_place, spelled_binding, spelled_condition};
 ghost use Rattle.conditions.specs.Equality.{same_place, same_binding, same_formula, same_condition};
 ghost use Rattle.conditions.specs.States.{bindings, value_at, holds_in, Mentions, AreObserved};
 ghost use Rattle.conditions.specs.declared.place.Binding.{Binding};
@@ -40,4 +41,11 @@ pub fn exact_equality()
     ensures bindings { (a b : Binding) → IsTrue (same_binding a b) ↔ (a ≡ b) }
     ensures formulas { (a b : Formula) → IsTrue (same_formula a b) ↔ (a ≡ b) }
     ensures conditions { (a b : Condition) → IsTrue (same_condition a b) ↔ (a ≡ b) }
+{}
+
+/// What is written of a value in a key tells it, and what lay below it.
+pub fn exact_spelling()
+    ensures places { (a b : Place) (s t : List ℕ) → spelled_place.over a s ≡ spelled_place.over b t → (a ≡ b) × (s ≡ t) }
+    ensures bindings { (a b : Binding) (s t : List ℕ) → spelled_binding.over a s ≡ spelled_binding.over b t → (a ≡ b) × (s ≡ t) }
+    ensures conditions { (a b : Condition) (s t : List ℕ) → spelled_condition.over a s ≡ spelled_condition.over b t → (a ≡ b) × (s ≡ t) }
 {}

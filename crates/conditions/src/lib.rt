@@ -6,6 +6,7 @@ pub mod laws;
 mod observing;
 mod place;
 mod prop;
+mod spelling;
 mod state;
 
 pub use condition::{Cond, Kind};

@@ -1,4 +1,4 @@
 pub mod Links
 pub mod Lists
-pub mod Rows
 pub mod Steps
+pub mod Spelled

@@ -1,19 +1,7 @@
--- Chains of different length, and one link more.
-use Rattle.std.proofs.Common.{◌≡◌, ◌≢◌, List, [], ◌∷◌, ◌++◌, map, ap, refl, ◌∙◌, suc}
-use Rattle.std.specs.Prelude.{length, Bool, true, false, ◌&&◌}
-use Rattle.litmus_tree.specs.Chains.{same_growth, same_growths}
+-- One link more.
+use Rattle.std.proofs.Common.{◌≡◌, List, [], ◌∷◌, ◌++◌, map, ap, refl, ◌∙◌}
 use Rattle.litmus_tree.specs.declared.expression.Link.{Link}
 use Rattle.litmus_tree.specs.Tree.{Term, Growth, grown, along, growth_of}
-
-and_false : (b : Bool) → (b && false) ≡ false
-and_false true = refl
-and_false false = refl
-
-pub links_differ : (xs ys : List Link) → length xs ≢ length ys → same_growths (map growth_of xs) (map growth_of ys) ≡ false
-links_differ [] [] d = absurd (d refl)
-links_differ [] (y ∷ ys) d = refl
-links_differ (x ∷ xs) [] d = refl
-links_differ (x ∷ xs) (y ∷ ys) d = ap (λ b. same_growth (growth_of x) (growth_of y) && b) (links_differ xs ys (λ e. d (ap suc e))) ∙ and_false (same_growth (growth_of x) (growth_of y))
 
 along_push : (a : Term) (ss : List Growth) (s : Growth) → along a (ss ++ s ∷ []) ≡ grown (along a ss) s
 along_push a [] s = refl

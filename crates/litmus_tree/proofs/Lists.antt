@@ -1,16 +1,15 @@
--- Lists of trees, and names that stand once each.
-use Rattle.std.proofs.Common.{◌≡◌, List, [], ◌∷◌, ◌++◌, map, refl, ap}
-use Rattle.std.specs.Prelude.{◌&&◌, Bool}
-use Rattle.std.specs.Cmp.Lexicographic.{pointwise}
-use Rattle.std.specs.List.{AllByRecursion}
+-- Lists of trees.
+use Rattle.std.proofs.Common.{◌≡◌, ℕ, List, [], ◌∷◌, map, length, suc, refl, ap, ◌∙◌}
+use Rattle.keys.specs.Spelling.{all_over, list_over, number_over}
 
--- lists are compared as the lists of their trees
-pub pointwise_map : {X A : Type 0} (f : X → A) (E : A → A → Bool) (xs ys : List X) → pointwise (λ x y. E (f x) (f y)) xs ys ≡ pointwise E (map f xs) (map f ys)
-pointwise_map f E [] [] = refl
-pointwise_map f E [] (y ∷ ys) = refl
-pointwise_map f E (x ∷ xs) [] = refl
-pointwise_map f E (x ∷ xs) (y ∷ ys) = ap (λ b. E (f x) (f y) && b) (pointwise_map f E xs ys)
+length_map : {X A : Type 0} (f : X → A) (xs : List X) → length xs ≡ length (map f xs)
+length_map f [] = refl
+length_map f (x ∷ xs) = ap suc (length_map f xs)
 
-holds_there : {X : Type 0} (P : X → Type 0) (xs : List X) (y : X) (ys : List X) → AllByRecursion P (xs ++ y ∷ ys) → P y
-holds_there P [] y ys h = h.0
-holds_there P (x ∷ xs) y ys h = holds_there P xs y ys h.1
+all_over_map : {X A : Type 0} (f : X → A) (over : A → List ℕ → List ℕ) (xs : List X) (s : List ℕ) → all_over (λ x. over (f x)) xs s ≡ all_over over (map f xs) s
+all_over_map f over [] s = refl
+all_over_map f over (x ∷ xs) s = all_over_map f over xs (over (f x) s)
+
+-- lists are written as the lists of their trees
+pub list_over_map : {X A : Type 0} (f : X → A) (over : A → List ℕ → List ℕ) (xs : List X) (s : List ℕ) → list_over (λ x. over (f x)) xs s ≡ list_over over (map f xs) s
+list_over_map f over xs s = ap (λ n. number_over n (all_over (λ x. over (f x)) xs s)) (length_map f xs) ∙ ap (number_over (length (map f xs))) (all_over_map f over xs s)

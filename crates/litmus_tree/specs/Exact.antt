@@ -2,7 +2,7 @@
 use Rattle.std.specs.Prelude.{◌≡◌, List, Option, None, Some, refl}
 use Rattle.std.proofs.Common.{◌∙◌, ap, rules}
 use Rattle.std.specs.Bool.{Decides}
-use Rattle.std.specs.Cmp.{IsEquivalence, on_equiv}
+use Rattle.std.specs.Cmp.{IsEquivalence}
 use Rattle.std.specs.Cmp.Lexicographic.{pointwise, pointwise_decides}
 use Rattle.std.specs.Str.{bytes_eq}
 use Rattle.std.proofs.lemmas.Bool.Decides.{Decides-eqb}
@@ -15,14 +15,9 @@ use Rattle.events.specs.contracts.event.OrderPartialEq.TheImpl.{ghosts as order_
 use Rattle.events.specs.declared.event.Order.{Order}
 use Rattle.litmus_tree.specs.contracts.tree.ComputationPartialEq.TheImpl.{ghosts as computation_equality}
 use Rattle.litmus_tree.specs.contracts.tree.LocationKindPartialEq.TheImpl.{ghosts as kind_equality}
-use Rattle.litmus_tree.specs.declared.tree.Call as calls
 use Rattle.litmus_tree.specs.declared.tree.Computation.{Computation}
-use Rattle.litmus_tree.specs.declared.tree.Declarator.{Declarator}
-use Rattle.litmus_tree.specs.declared.expression.Expression.{Expression}
 use Rattle.litmus_tree.specs.declared.tree.LocationKind.{LocationKind}
 use Rattle.litmus_tree.specs.declared.tree.Parameter.{Parameter}
-use Rattle.litmus_tree.specs.declared.tree.RightSide.{RightSide}
-use Rattle.litmus_tree.specs.declared.tree.Statement.{Statement}
 use Rattle.litmus_tree.specs.Equality.{same_parameter, same_term, same_action, same_right, same_optional, same_declared, same_step, same_steps, same_program, same_litmus}
 use Rattle.litmus_tree.specs.Tree as trees
 use Rattle.litmus_tree.specs.Tree.{Word, Term, number, held, denied, equal, unequal, either, term_of, Action, load, store, exchange, modify, fence, action_of, Right, computed, plain_read, value_of, right_of, Declared, declared_of, Step, empty, block, declare, assign, plain_write, perform, if_only, if_else, step_of, Steps, no_steps, in_turn, Program, Litmus}
@@ -130,27 +125,6 @@ litmus_exact a b =
     ap (λ qs. test b.name b.initial b.threads b.condition qs a.locations) h.0.1 ∙
     ap (test b.name b.initial b.threads b.condition b.listed) h.1)
     (λ e. (((((ap (λ c. c.name) e, ap (λ c. c.initial) e), ap (λ c. c.threads) e), ap (λ c. c.condition) e), ap (λ c. c.listed) e), ap (λ c. c.locations) e))
-
-pub parameter_equivalence : IsEquivalence same_parameter
-parameter_equivalence = equivalence same_parameter parameter_exact
-
-pub term_equivalence : IsEquivalence (λ (a b : Expression). same_term (term_of a) (term_of b))
-term_equivalence = on_equiv term_of (equivalence same_term term_exact)
-
-pub action_equivalence : IsEquivalence (λ (a b : calls.Call). same_action (action_of a) (action_of b))
-action_equivalence = on_equiv action_of (equivalence same_action action_exact)
-
-pub right_equivalence : IsEquivalence (λ (a b : RightSide). same_right (right_of a) (right_of b))
-right_equivalence = on_equiv right_of (equivalence same_right right_exact)
-
-pub declared_equivalence : IsEquivalence (λ (a b : Declarator). same_declared (declared_of a) (declared_of b))
-declared_equivalence = on_equiv declared_of (equivalence same_declared declared_exact)
-
-pub step_equivalence : IsEquivalence (λ (a b : Statement). same_step (step_of a) (step_of b))
-step_equivalence = on_equiv step_of (equivalence same_step step_exact)
-
-pub program_equivalence : IsEquivalence same_program
-program_equivalence = equivalence same_program program_exact
 
 pub litmus_equivalence : IsEquivalence same_litmus
 litmus_equivalence = equivalence same_litmus litmus_exact

@@ -3,7 +3,7 @@
 ghost use Rattle.std.specs.Prelude.{◌≡◌, IfOk};
 ghost use Rattle.litmus_tree.specs.Tree.{denied, joined, grown, leaf_of, growth_of, term_of};
 
-mod equality;
+mod spelling;
 
 use std::alloc::{AllocError, Global};
 use wb_text::Name;

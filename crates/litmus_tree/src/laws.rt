@@ -1,7 +1,8 @@
 //! What holds of the trees.
 
-ghost use Rattle.std.specs.Prelude.{◌≡◌, ◌↔◌, IsTrue};
+ghost use Rattle.std.specs.Prelude.{◌≡◌, ◌↔◌, IsTrue, ℕ, List};
 ghost use Rattle.litmus_tree.specs.Equality.{same_parameter, same_term, same_action, same_right, same_declared, same_step, same_program, same_litmus};
+ghost use Rattle.litmus_tree.specs.Spellings.{spelled_parameter, spelled_declared, spelled_program, spelled_litmus};
 ghost use Rattle.litmus_tree.specs.Tree.{Term, Action, Right, Declared, Step, Program, Litmus};
 ghost use Rattle.litmus_tree.specs.declared.tree.Parameter.{Parameter};
 
@@ -15,4 +16,12 @@ pub fn exact_equality()
     ensures statements { (a b : Step) → IsTrue (same_step a b) ↔ (a ≡ b) }
     ensures threads { (a b : Program) → IsTrue (same_program a b) ↔ (a ≡ b) }
     ensures tests { (a b : Litmus) → IsTrue (same_litmus a b) ↔ (a ≡ b) }
+{}
+
+/// What is written of a tree in a key tells it, and what lay below it.
+pub fn exact_spelling()
+    ensures parameters { (a b : Parameter) (s t : List ℕ) → spelled_parameter.over a s ≡ spelled_parameter.over b t → (a ≡ b) × (s ≡ t) }
+    ensures declarators { (a b : Declared) (s t : List ℕ) → spelled_declared.over a s ≡ spelled_declared.over b t → (a ≡ b) × (s ≡ t) }
+    ensures threads { (a b : Program) (s t : List ℕ) → spelled_program.over a s ≡ spelled_program.over b t → (a ≡ b) × (s ≡ t) }
+    ensures tests { (a b : Litmus) (s t : List ℕ) → spelled_litmus.over a s ≡ spelled_litmus.over b t → (a ≡ b) × (s ≡ t) }
 {}

@@ -1,4 +1,4 @@
-//! The trees of C litmus tests: threads with their statements, and their equality.
+//! The trees of C litmus tests: threads with their statements, and how they are written in a key.
 #![tactic(auto)]
 
 mod expression;

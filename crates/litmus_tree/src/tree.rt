@@ -4,7 +4,7 @@ ghost use Rattle.std.specs.Prelude.{◌≡◌, ◌<◌, ◌^◌};
 ghost use Rattle.litmus_tree.specs.Names.{is_one_of};
 ghost use Rattle.litmus_tree.specs.Tree.{computed_by, steps_of};
 
-mod equality;
+mod spelling;
 
 use crate::expression::Expression;
 use events::Order;

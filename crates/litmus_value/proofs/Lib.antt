@@ -5,3 +5,4 @@ pub mod Distinct
 pub mod Noted
 pub mod Sums
 pub mod Terms
+pub mod Keys

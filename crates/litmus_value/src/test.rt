@@ -4,8 +4,11 @@ ghost use Rattle.std.specs.Prelude.{◌≡◌, IfOk};
 ghost use Rattle.litmus_value.specs.Limits.{IsTest};
 
 mod equality;
+mod spelling;
 
+use crate::test::spelling::key_of;
 use conditions::{Binding, Cond, Place};
+use keys::Key;
 use litmus_tree::Thread;
 use std::alloc::{AllocError, Global};
 use std::marker::Model;
@@ -21,6 +24,8 @@ struct Parts {
     condition: Cond,
     listed: Vec<Place>,
     locations: Vec<Name>,
+    /// What all these are written as.
+    key: Key,
 }
 
 /// A litmus test, which its copies share. Contracts see its tree, which is within the limits and names nothing that isn't there.
@@ -44,11 +49,11 @@ impl Model for Test {
 
     ghost coded = { coded_litmus };
 
-    ghost use Rattle.litmus_value.specs.Limits.{IsTest};
+    ghost use Rattle.litmus_value.specs.Tests.{litmus_of, IsKept};
 
-    ghost view = { λ t. let p = arc_value t.parts in record { name = p.name; initial = p.initial.items; threads = p.threads.items; condition = p.condition; listed = p.listed.items; locations = p.locations.items } };
+    ghost view = { λ t. litmus_of (arc_value t.parts) };
 
-    ghost invariant = { λ t. let p = arc_value t.parts in IsTest (record { name = p.name; initial = p.initial.items; threads = p.threads.items; condition = p.condition; listed = p.listed.items; locations = p.locations.items }) };
+    ghost invariant = { λ t. IsKept (arc_value t.parts) };
 }
 
 impl Test {
@@ -65,6 +70,9 @@ impl Test {
         requires { IsTest (record { name = name; initial = initial.items; threads = threads.items; condition = condition; listed = listed.items; locations = locations.items }) }
         ensures { IfOk result (λ t. t ≡ record { name = name; initial = initial.items; threads = threads.items; condition = condition; listed = listed.items; locations = locations.items }) }
     {
+        let key = key_of(
+            alloc, &name, &initial, &threads, &condition, &listed, &locations,
+        )?;
         let parts = Parts {
             name,
             initial,
@@ -72,6 +80,7 @@ impl Test {
             condition,
             listed,
             locations,
+            key,
         };
         Ok(Test {
             parts: Arc::new(alloc, parts)?,

@@ -248,7 +248,21 @@ C a
 {}P0(atomic_int*y){int r=atomic_fetch_add_explicit(y,1,memory_order_relaxed);}exists y=0
 <>
 C a
-{}P0(atomic_int*y,atomic_int*z){int r=atomic_fetch_add_explicit(z,1,memory_order_relaxed);}exists y=0 ==> another";
+{}P0(atomic_int*y,atomic_int*z){int r=atomic_fetch_add_explicit(z,1,memory_order_relaxed);}exists y=0 ==> another
+
+# numbers of more than a byte
+
+C a
+{x=70000}P0(atomic_int*y){atomic_store_explicit(y,1,memory_order_relaxed);}exists x=0
+<>
+C a
+{x=70000}P0(atomic_int*y){atomic_store_explicit(y,1,memory_order_relaxed);}exists x=0 ==> equal
+
+C a
+{x=70000}P0(atomic_int*y){atomic_store_explicit(y,1,memory_order_relaxed);}exists x=0
+<>
+C a
+{x=4464}P0(atomic_int*y){atomic_store_explicit(y,1,memory_order_relaxed);}exists x=0 ==> another";
 
 /// `||` binds most loosely, then `&&`, then `==`, and `!` most tightly.
 const OPERATORS: &str = "C a\n{}P0(){int r; r = 1 == 2 && 3 || !r && 4;}exists true";

@@ -1,4 +1,4 @@
-//! Equality of tests: two are equal where their trees are.
+//! Equality of tests: two are equal where their trees are, which their keys tell.
 
 ghost use Rattle.std.specs.Prelude.{◌≡◌, ◌↔◌, IsTrue};
 ghost use Rattle.std.specs.Cmp.{partial_equiv_from_equiv};
@@ -6,7 +6,6 @@ ghost use Rattle.litmus_tree.specs.Equality.{same_litmus};
 ghost use Rattle.litmus_tree.specs.Exact.{litmus_equivalence};
 
 use crate::test::Test;
-use wb_text::are_same;
 
 impl PartialEq for Test {
     ghost eq = { same_litmus };
@@ -18,20 +17,15 @@ impl PartialEq for Test {
         ensures value { result ≡ same_litmus self.now other.now }
         ensures exact { IsTrue result ↔ (self.now ≡ other.now) }
     {
-        self.has_parts_of(other)
+        self.has_key_of(other)
     }
 }
 
 impl Test {
-    fn has_parts_of(&self, other: &Test) -> bool
+    fn has_key_of(&self, other: &Test) -> bool
         ensures { result ≡ same_litmus self.now other.now }
     {
-        self.name() == other.name()
-            && are_same(self.initial(), other.initial())
-            && are_same(self.threads(), other.threads())
-            && self.condition() == other.condition()
-            && are_same(self.listed(), other.listed())
-            && are_same(self.locations(), other.locations())
+        self.parts.key == other.parts.key
     }
 }
 

@@ -1,9 +1,8 @@
-use Rattle.std.proofs.Common.{arith}
-use Rattle.cat_model.proofs.Equal.{assembly_told}
+use Rattle.cat_model.proofs.Equal.{one_model, same_keys}
 use Rattle.cat_model.proofs.model.ModelPartialEq.eq.Goals as goal
 
-pub returns-then-has_items_of-clause-exact : goal.returns-then-has_items_of-clause-exact
-returns-then-has_items_of-clause-exact c = assembly_told c.args.self.now c.args.other.now c.are_same.result (grind arith)
+pub returns-clause-value : goal.returns-clause-value
+returns-clause-value c = same_keys c.args.self.now c.args.other.now _ _ c.eq.result c.key.ensures c.key-2.ensures c.eq.ensures.exact
 
-pub returns-else-has_items_of-clause-exact : goal.returns-else-has_items_of-clause-exact
-returns-else-has_items_of-clause-exact c = assembly_told c.args.self.now c.args.other.now c.has_items_of.result (grind arith)
+pub returns-clause-exact : goal.returns-clause-exact
+returns-clause-exact c = one_model c.args.self.now c.args.other.now _ _ c.eq.result c.key.ensures c.key-2.ensures c.eq.ensures.exact
