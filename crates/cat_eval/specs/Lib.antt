@@ -17,6 +17,14 @@ pub mod Growth
 pub mod Outcomes
 pub mod Laws
 pub mod Orderless
+pub mod Working
 pub mod Prepared
 pub mod Evaluators
 pub mod Machine
+pub mod Extents
+pub mod Lean
+pub mod Needs
+pub mod Sparing
+pub mod Plans
+pub mod Choices
+pub mod Absent

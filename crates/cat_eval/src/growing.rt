@@ -1,10 +1,11 @@
 //! How the values of a plan's steps go from an execution to those that go on from it.
 
-ghost use Rattle.std.specs.Prelude.{◌≡◌, ◌<◌, ◌≤◌, ◌⊎◌, ℕ, length, IfOk, OnOk, IsTrue, Some};
+ghost use Rattle.std.specs.Prelude.{◌≡◌, ◌<◌, ◌≤◌, ◌⊎◌, ℕ, List, length, IfOk, OnOk, IsTrue, Some};
 ghost use Rattle.std.specs.List.{slice_get};
 ghost use Rattle.cat_eval.specs.declared.growth.Growth.TheVariants.{Grows};
 ghost use Rattle.cat_eval.specs.declared.step.Step.TheVariants as steps_of;
-ghost use Rattle.cat_eval.specs.Code.{planned_clause, IsPlan};
+ghost use Rattle.cat_eval.specs.Code.{planned_clause, IsPlanOf};
+ghost use Rattle.cat_eval.specs.Core.{Clause};
 ghost use Rattle.cat_eval.specs.Growth.{IsAtMost, growth_at as growth_in, GoesBy, AreGoing, IsLonger, AreOpen, AreTold, HasRoom, GroupGoes, AreGrown};
 
 use crate::growth::{Growth, of_infix, of_named, of_sign};
@@ -129,7 +130,7 @@ pub fn grow<'m>(
     steps: &[Step],
     items: &[PlannedItem<'m>],
 ) -> Result<Vec<Growth>, AllocError>
-    requires { IsPlan steps.now items.now }
+    requires { (cores : List Clause) × IsPlanOf cores steps.now items.now }
     ensures { IfOk result (λ gs. AreGrown steps.now items.now gs.items) }
 {
     let mut growths = Vec::with_capacity(alloc, steps.len())?;

@@ -1,13 +1,17 @@
 //! Judges executions under models: which checks hold, and which flags are raised.
 #![tactic(auto)]
 
+mod absent;
 mod asked;
 mod bases;
 mod calls;
+mod choice;
 mod drafting;
 mod early;
 mod ends;
 mod evaluator;
+mod extent;
+mod extents;
 mod flags;
 mod grading;
 mod growing;
@@ -18,17 +22,22 @@ mod instruction;
 mod judging;
 mod keeping;
 pub mod laws;
+mod lean;
 mod lowering;
 mod machine;
 mod making;
 mod naming;
+mod needs;
 mod orderless;
+mod parting;
 mod plan;
 mod planning;
 mod prepared;
 mod refuting;
 mod rounds;
 mod scoping;
+mod serving;
+mod sparing;
 mod step;
 mod steps;
 mod value;

@@ -3,24 +3,26 @@
 ghost use Rattle.std.specs.Prelude.{◌≡◌, None, length, map, IfOk};
 ghost use Rattle.cat_tree.specs.Tree.{clause_of};
 ghost use Rattle.cat_eval.specs.Code.{planned_clause};
-ghost use Rattle.cat_eval.specs.Prepared.{IsReadyFor, steps_of_item};
+ghost use Rattle.cat_eval.specs.Prepared.{IsReadyFor};
+ghost use Rattle.cat_eval.specs.Working.{steps_of_item};
 
+use crate::choice::Choice;
 use crate::evaluator::Evaluator;
 use crate::plan::PlannedItem;
-use crate::workings::{ItemSteps, Workings};
+use crate::workings::ItemSteps;
 use cat_model::Model;
 use cat_tree::Item;
 use std::alloc::{AllocError, Global};
 
 /// What an evaluator has made ready and what it keeps, without the model. It serves any model of the same items.
 pub struct Prepared {
-    pub(crate) workings: Box<Workings>,
+    pub(crate) choice: Choice,
 }
 
 // A function of its own: whoever holds one drops it by a call.
 impl Drop for Prepared {
     fn drop(self) {
-        let Prepared { workings: _ } = self;
+        let Prepared { choice: _ } = self;
     }
 }
 
@@ -76,12 +78,12 @@ impl Prepared {
         ensures items { IfOk result (λ e. e.items ≡ model.entry.now.items) }
         ensures relied { IfOk result (λ e. e.relied ≡ None) }
     {
-        let items = planned(alloc, model.items(), &self.workings.item_steps)?;
-        let Prepared { workings } = self;
+        let items = planned(alloc, model.items(), &self.choice.used.item_steps)?;
+        let Prepared { choice } = self;
         Ok(Evaluator {
             items,
             relies: false,
-            workings,
+            choice,
         })
     }
 }

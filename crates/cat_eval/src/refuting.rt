@@ -5,6 +5,7 @@ ghost use Rattle.events.specs.Executions.{GraphValue};
 ghost use Rattle.events.specs.Extends.{Extends};
 ghost use Rattle.cat_eval.specs.Judging.{Allowed};
 ghost use Rattle.cat_eval.specs.Code.{planned_clause};
+ghost use Rattle.cat_eval.specs.Extents.{AreAbsent};
 ghost use Rattle.cat_eval.specs.Growth.{AreGrown, IsTelling};
 ghost use Rattle.cat_eval.specs.Machine.{clauses_of, IsCode, Keeps, HasMade};
 
@@ -56,6 +57,7 @@ impl Machine<'_, '_, '_> {
         made: &mut usize,
     ) -> Option<usize>
         requires code { IsCode self.now.code }
+        requires absent { AreAbsent self.now.code.absent.now self.now.view.now }
         requires grown { AreGrown self.now.code.steps.now self.now.code.items.now growths.now }
         requires count { count ≤ length self.now.code.items.now }
         requires machine { HasMade self.now values.old made.old }
@@ -88,6 +90,7 @@ pub(crate) fn refutes_by(
     values: &mut [Value],
 ) -> Option<usize>
     requires code { IsCode code.now }
+    requires absent { AreAbsent code.now.absent.now view.now }
     requires grown { AreGrown code.now.steps.now code.now.items.now growths.now }
     requires count { count ≤ length code.now.items.now }
     requires kept { Keeps view.now code.now kept.old values.old }

@@ -2,17 +2,17 @@
 
 ghost use Rattle.std.specs.Prelude.{◌≡◌, ◌↔◌, ◌≤◌, length, map, IfOk, IfSome, IsTrue, OnErr, OnOk, List};
 ghost use Rattle.listings.specs.Lists.{Lists};
-ghost use Rattle.cat_model.specs.Scopes.{IsModel};
 ghost use Rattle.events.specs.Executions.{GraphValue};
 ghost use Rattle.events.specs.Cuts.{cut_down};
 ghost use Rattle.events.specs.Extends.{Extends};
 ghost use Rattle.events.specs.Structures.{sourced_of, structure_of};
 ghost use Rattle.events.specs.declared.named.Basis.TheVariants.{Sources, Orders};
 ghost use Rattle.cat_eval.specs.Code.{planned_clause};
+ghost use Rattle.cat_eval.specs.Extents.{AreAbsent};
 ghost use Rattle.cat_eval.specs.Growth.{AreGrown};
 ghost use Rattle.cat_eval.specs.Judging.{Allowed, Raised};
 ghost use Rattle.cat_eval.specs.Machine.{clauses_of, IsCode, Keeps};
-ghost use Rattle.cat_eval.specs.Prepared.{WorksFor};
+ghost use Rattle.cat_eval.specs.Working.{WorksFor};
 ghost use Rattle.cat_eval.specs.declared.plan.PlannedItem.{PlannedItem as PlannedItemValue};
 
 use crate::asked::Asked;
@@ -26,6 +26,7 @@ use crate::plan::PlannedItem;
 use crate::refuting::refutes_by;
 use crate::step::Step;
 use crate::value::Value;
+use cat_model::Named;
 use events::{Basis, Cut, Graph, GraphView, SourcedStructure, laws};
 use relations::Rel;
 use std::alloc::{AllocError, Global};
@@ -42,6 +43,8 @@ pub(crate) struct ItemSteps {
 #[derive(Drop)]
 pub(crate) struct Workings {
     pub(crate) steps: Vec<Step>,
+    // Names that stand for nothing in the executions that the steps are for.
+    pub(crate) absent: Vec<Named>,
     pub(crate) bases: Bases,
     // How far the values from each step on are made in one go.
     pub(crate) ends: Vec<usize>,
@@ -115,6 +118,7 @@ fn judge_over(
 ) -> Result<Judgement, AllocError>
     requires sourced { sourced.now ≡ sourced_of graph.now }
     requires code { IsCode code.now }
+    requires absent { AreAbsent code.now.absent.now graph.now }
     requires kept { Keeps graph.now code.now kept.old values.old }
     ensures kept { Keeps graph.now code.now kept.new values.new }
     ensures allowed { IfOk result (λ j. IsTrue j.allowed ↔ Allowed (clauses_of code.now) graph.now) }
@@ -139,6 +143,7 @@ fn refutes_over(
 ) -> Option<usize>
     requires sourced { sourced.now ≡ sourced_of (cut_down graph.now cut) }
     requires code { IsCode code.now }
+    requires absent { AreAbsent code.now.absent.now (cut_down graph.now cut) }
     requires grown { AreGrown code.now.steps.now code.now.items.now growths.now }
     requires count { count ≤ length code.now.items.now }
     requires kept { Keeps (cut_down graph.now cut) code.now kept.old values.old }
@@ -160,6 +165,7 @@ impl Workings {
     ) -> Result<(), AllocError>
         requires { IsTrue relies → self.old.sourced.structure ≡ structure_of graph.now }
         ensures works { (items : List PlannedItemValue) → WorksFor items self.old → WorksFor items self.new }
+        ensures absent { self.new.absent ≡ self.old.absent }
         ensures done { OnOk result (self.new.sourced ≡ sourced_of graph.now) }
         ensures same { OnErr result (self.new.sourced ≡ self.old.sourced) }
     {
@@ -180,6 +186,7 @@ impl Workings {
     ) -> Result<(), AllocError>
         requires { IsTrue relies → self.old.sourced.structure ≡ structure_of graph.now }
         ensures works { (items : List PlannedItemValue) → WorksFor items self.old → WorksFor items self.new }
+        ensures absent { self.new.absent ≡ self.old.absent }
         ensures done { OnOk result (self.new.sourced ≡ sourced_of (cut_down graph.now cut.now)) }
         ensures same { OnErr result (self.new.sourced ≡ self.old.sourced) }
     {
@@ -197,10 +204,11 @@ impl Workings {
         items: &[PlannedItem<'_>],
         graph: &Graph,
     ) -> Result<Judgement, AllocError>
-        requires model { IsModel (map planned_clause items.now) }
         requires works { WorksFor items.now self.old }
+        requires absent { AreAbsent self.old.absent.items graph.now }
         requires followed { self.old.sourced ≡ sourced_of graph.now }
         ensures works { WorksFor items.now self.new }
+        ensures absent { self.new.absent ≡ self.old.absent }
         ensures sourced { self.new.sourced ≡ self.old.sourced }
         ensures allowed { IfOk result (λ j. IsTrue j.allowed ↔ Allowed (map planned_clause items.now) graph.now) }
         ensures flags { IfOk result (λ j. Lists (λ name. Allowed (map planned_clause items.now) graph.now × Raised (map planned_clause items.now) graph.now name) j.flags) }
@@ -209,6 +217,7 @@ impl Workings {
         let code = Code {
             items,
             steps: &self.steps,
+            absent: &self.absent,
             bases: &self.bases,
             ends: &self.ends,
         };
@@ -226,10 +235,11 @@ impl Workings {
     /// Whether it is known of the execution that was followed last, cut down, that a model of these items allows none that goes on from it.
     #[inline(always)]
     pub(crate) fn refutes(&mut self, items: &[PlannedItem<'_>], graph: &Graph, cut: Cut<'_>) -> bool
-        requires model { IsModel (map planned_clause items.now) }
         requires works { WorksFor items.now self.old }
+        requires absent { AreAbsent self.old.absent.items (cut_down graph.now cut) }
         requires followed { self.old.sourced ≡ sourced_of (cut_down graph.now cut) }
         ensures works { WorksFor items.now self.new }
+        ensures absent { self.new.absent ≡ self.old.absent }
         ensures sourced { self.new.sourced ≡ self.old.sourced }
         ensures refuted { IsTrue result → (h : GraphValue) → Extends (cut_down graph.now cut.entry) h → ¬ Allowed (map planned_clause items.now) h }
     {
@@ -237,6 +247,7 @@ impl Workings {
         let code = Code {
             items,
             steps: &self.steps,
+            absent: &self.absent,
             bases: &self.bases,
             ends: &self.ends,
         };

@@ -60,6 +60,40 @@ Witnesses
 Positive: 0 Negative: 0
 Condition forall (0:r0=0 /\\ 1:r0=0)
 Observation SB Never 0 0
+=== SC events in some runs alone, 1
+C SOME {}
+P0 (atomic_int* x, atomic_int* y, atomic_int* z) { int r0 = 1; int r2 = atomic_load_explicit(z, memory_order_relaxed); if (r2) { atomic_store(x, 1); r0 = atomic_load(y); } }
+P1 (atomic_int* x, atomic_int* y, atomic_int* z) { int r1 = 1; int r3 = atomic_load_explicit(z, memory_order_relaxed); if (r3) { atomic_store(y, 1); r1 = atomic_load(x); } }
+P2 (atomic_int* z) { atomic_store_explicit(z, 1, memory_order_relaxed); }
+exists (0:r0=0 /\\ 1:r1=0)
++++ one
+include \"rc11.cat\"
+---
+...
+Observation SOME Never 0 6
+=== SC events in some runs alone, 2
+C LBF {}
+P0 (atomic_int* x, atomic_int* y) { int r0 = atomic_load_explicit(x, memory_order_relaxed); atomic_store_explicit(y, 1, memory_order_relaxed); if (r0) { atomic_thread_fence(memory_order_seq_cst); } }
+P1 (atomic_int* x, atomic_int* y) { int r0 = atomic_load_explicit(y, memory_order_relaxed); atomic_store_explicit(x, 1, memory_order_relaxed); }
+exists (0:r0=1 /\\ 1:r0=1)
++++ one
+include \"rc11.cat\"
+---
+...
+Observation LBF Never 0 3
+=== SC events in some runs alone, flagged
+C LBF {}
+P0 (atomic_int* x, atomic_int* y) { int r0 = atomic_load_explicit(x, memory_order_relaxed); atomic_store_explicit(y, 1, memory_order_relaxed); if (r0) { atomic_thread_fence(memory_order_seq_cst); } }
+P1 (atomic_int* x, atomic_int* y) { int r0 = atomic_load_explicit(y, memory_order_relaxed); atomic_store_explicit(x, 1, memory_order_relaxed); }
+exists (0:r0=1 /\\ 1:r0=1)
++++ one
+let fenced = po ; [F & SC] acyclic (po | rf | fenced) flag ~empty fenced as seen
+---
+...
+Positive: 0 Negative: 3
+Flag seen
+Condition exists (0:r0=1 /\\ 1:r0=1)
+Observation LBF Never 0 3
 === worked_rows: let_rec, 1
 %store buffering%
 +++ one

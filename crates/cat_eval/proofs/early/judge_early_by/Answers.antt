@@ -5,6 +5,7 @@ use Rattle.cat_eval.proofs.early.judge_early_by.Goals as goal
 pub judge_items_early-judgement-requires : goal.judge_items_early-judgement-requires
 judge_items_early-judgement-requires c = record {
   code = c.requires.code;
+  absent = c.requires.absent;
   machine = record { graded = c.requires.code.graded; keeps = c.requires.kept; ran = ran_none c.args.view.now c.args.code.now.steps.now c.args.values.now };
 }
 

@@ -3,7 +3,7 @@ use Rattle.cat_eval.proofs.Grown.{grown_none, grown_next, grown_more, grown_done
 use Rattle.cat_eval.proofs.growing.grow.Goals as goal
 
 pub loop-item-init : goal.loop-item-init
-loop-item-init c = grown_none c.args.steps.now c.args.items.now c.in_ok-growths.growths.items c.requires c.in_ok-growths.ensures.items
+loop-item-init c = grown_none c.requires.0 c.args.steps.now c.args.items.now c.in_ok-growths.growths.items c.requires.1 c.in_ok-growths.ensures.items
 
 pub grow_item-requires : goal.grow_item-requires
 grow_item-requires c =

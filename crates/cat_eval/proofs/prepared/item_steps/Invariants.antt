@@ -1,5 +1,5 @@
 use Rattle.std.proofs.Common.{◌≡◌, take, map}
-use Rattle.cat_eval.specs.Prepared.{steps_of_item}
+use Rattle.cat_eval.specs.Working.{steps_of_item}
 use Rattle.cat_eval.proofs.prepared.item_steps.Given as goal
 
 abbrev pub invariant-loop-item : goal.invariant-loop-item

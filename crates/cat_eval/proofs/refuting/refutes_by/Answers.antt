@@ -5,6 +5,7 @@ use Rattle.cat_eval.proofs.refuting.refutes_by.Goals as goal
 pub refutes-refuted-requires : goal.refutes-refuted-requires
 refutes-refuted-requires c = record {
   code = c.requires.code;
+  absent = c.requires.absent;
   grown = c.requires.grown;
   count = c.requires.count;
   machine = record { graded = c.requires.code.graded; keeps = c.requires.kept; ran = ran_none c.args.view.now c.args.code.now.steps.now c.args.values.now };

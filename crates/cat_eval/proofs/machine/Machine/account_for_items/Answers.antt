@@ -4,6 +4,8 @@ use Rattle.events.specs.Named.{event_count}
 use Rattle.cat_eval.specs.CoreJudging.{Names, Permits, RaisedBy}
 use Rattle.cat_eval.specs.Code.{entries_of, planned_clause}
 use Rattle.cat_eval.specs.CoreMeaning.{Under}
+use Rattle.cat_eval.specs.Machine.{clauses_of}
+use Rattle.cat_eval.specs.Replacing.{core}
 use Rattle.cat_eval.proofs.Lawful.{forbidden, kept, flag_told}
 use Rattle.cat_eval.proofs.Accounts.{has_room, permits_on, told_none, told_more, told_done}
 use Rattle.cat_eval.proofs.Running.{ran_less}
@@ -15,7 +17,7 @@ use Rattle.cat_eval.proofs.machine.Machine.account_for_items.Goals.{then-not-wei
 pub loop-item-init : goal.loop-item-init
 loop-item-init c = record {
   machine = c.requires.machine;
-  told = told_none c.args.self.now.view.now c.args.self.now.code.steps.now c.args.self.now.code.items.now c.args.values.now c.new-flags.result.items c.new-outcomes.result.items c.requires.code.plan c.requires.code.model c.new-flags.ensures.items c.new-outcomes.ensures.items;
+  told = told_none c.args.self.now.view.now c.args.self.now.code.steps.now c.args.self.now.code.items.now c.args.values.now c.new-flags.result.items c.new-outcomes.result.items c.requires.plan.plan c.requires.plan.model c.new-flags.ensures.items c.new-outcomes.ensures.items;
 }
 
 pub weigh-weighed-requires : goal.weigh-weighed-requires
@@ -23,11 +25,13 @@ weigh-weighed-requires c =
     let g = c.args.self.now.view.now in
     let ss = c.args.self.now.code.steps.now in
     let ps = c.args.self.now.code.items.now in
+    let cs = core (clauses_of c.args.self.now.code) in
+    let end = c.loop-item.invariant.told.end in
     let r = c.loop-item.invariant.told.reached in
     record {
       machine = c.loop-item.invariant.machine;
-      turn = turn c.args.self.now ps c.loop-item.values c.loop-item.item-index c.item-item.result r.names r.last_names r.last_place (
-          reached_next g ss ps c.loop-item.values c.loop-item.item-index c.loop-item.allowed c.loop-item.flags.items c.item-item.result r c.loop-item-test.true c.item-item.is);
+      turn = turn c.args.self.now ps cs c.loop-item.values c.loop-item.item-index c.item-item.result r.names r.last_names end (
+          reached_next g ss ps cs end c.loop-item.values c.loop-item.item-index c.loop-item.allowed c.loop-item.flags.items c.item-item.result r c.loop-item-test.true c.item-item.is);
     }
 
 pub add_raised-requires : goal.add_raised-requires
@@ -38,22 +42,26 @@ outcome_of-requires c =
     let g = c.args.self.now.view.now in
     let ss = c.args.self.now.code.steps.now in
     let ps = c.args.self.now.code.items.now in
+    let cs = core (clauses_of c.args.self.now.code) in
+    let end = c.loop-item.invariant.told.end in
     let r = c.loop-item.invariant.told.reached in
-    let next = reached_next g ss ps c.loop-item.values c.loop-item.item-index c.loop-item.allowed c.loop-item.flags.items c.item-item.result r c.loop-item-test.true c.item-item.is in
+    let next = reached_next g ss ps cs end c.loop-item.values c.loop-item.item-index c.loop-item.allowed c.loop-item.flags.items c.item-item.result r c.loop-item-test.true c.item-item.is in
     has_room ss r.names c.item-item.result.from c.item-item.result.to (length c.weigh-weighed.new.values) next.item_core (planned_clause c.item-item.result)
-    (let inside = next.inside in let a = c.weigh-weighed.ensures.made.machine.keeps.long in omega (arith, inside, a)) next.is_core next.ready.planned
+    (let inside = next.inside in let a = c.weigh-weighed.ensures.made.machine.keeps.long in omega (arith, inside, a)) next.form next.ready.planned
 
 pub loop-item-preserved : goal.loop-item-preserved
 loop-item-preserved c =
     let g = c.args.self.now.view.now in
     let ss = c.args.self.now.code.steps.now in
     let ps = c.args.self.now.code.items.now in
+    let cs = core (clauses_of c.args.self.now.code) in
+    let end = c.loop-item.invariant.told.end in
     let r = c.loop-item.invariant.told.reached in
-    let next = reached_next g ss ps c.loop-item.values c.loop-item.item-index c.loop-item.allowed c.loop-item.flags.items c.item-item.result r c.loop-item-test.true c.item-item.is in
+    let next = reached_next g ss ps cs end c.loop-item.values c.loop-item.item-index c.loop-item.allowed c.loop-item.flags.items c.item-item.result r c.loop-item-test.true c.item-item.is in
     let n : ℕ = event_count g in
     let E : Word → _ → Type 0 = Under (Names g) (entries_of r.names c.loop-item.values) in
     let flagged : Option Word = option_map (λ f. f.now) c.weigh-weighed.result.raised in
-    let its = due c.args.self.now ps c.loop-item.values c.loop-item.item-index c.item-item.result r.names r.last_names r.last_place next in
+    let its = due c.args.self.now ps cs c.loop-item.values c.loop-item.item-index c.item-item.result r.names r.last_names end next in
     let made = c.weigh-weighed.ensures.made in
     let permits = c.weigh-weighed.ensures.said.permits r.names next.item_core its in
     let raised = c.weigh-weighed.ensures.said.raised r.names next.item_core its in
@@ -78,16 +86,18 @@ returns-clause-allowed c =
     let g = c.args.self.now.view.now in
     let ss = c.args.self.now.code.steps.now in
     let ps = c.args.self.now.code.items.now in
+    let end = c.loop-item.invariant.told.end in
     let r = c.loop-item.invariant.told.reached in
-    (reached_done g ss ps c.loop-item.values c.loop-item.item-index c.loop-item.allowed c.loop-item.flags.items c.loop-item-test.false r).0
+    (reached_done g ss ps end c.loop-item.values c.loop-item.item-index c.loop-item.allowed c.loop-item.flags.items c.loop-item-test.false r).0
 
 pub returns-clause-flags : goal.returns-clause-flags
 returns-clause-flags c =
     let g = c.args.self.now.view.now in
     let ss = c.args.self.now.code.steps.now in
     let ps = c.args.self.now.code.items.now in
+    let end = c.loop-item.invariant.told.end in
     let r = c.loop-item.invariant.told.reached in
-    (reached_done g ss ps c.loop-item.values c.loop-item.item-index c.loop-item.allowed c.loop-item.flags.items c.loop-item-test.false r).1
+    (reached_done g ss ps end c.loop-item.values c.loop-item.item-index c.loop-item.allowed c.loop-item.flags.items c.loop-item-test.false r).1
 
 pub returns-clause-outcomes : goal.returns-clause-outcomes
 returns-clause-outcomes c =

@@ -8,7 +8,8 @@ use Rattle.cat_eval.proofs.machine.Machine.refutes.Goals as goal
 pub loop-number-init : goal.loop-number-init
 loop-number-init c = record {
   machine = c.requires.machine;
-  standing = standing_none c.args.self.now.view.now c.args.self.now.code.steps.now c.args.self.now.code.items.now c.args.growths.now c.args.values.now c.extension.ensures.sets c.extension.ensures.stay c.extension.ensures.grow c.requires.code.plan c.requires.code.model;
+  standing = standing_none c.args.self.now.view.now c.args.self.now.code.absent.now c.args.self.now.code.steps.now c.args.self.now.code.items.now c.args.growths.now c.args.values.now c.extension.ensures.sets c.extension.ensures.stay c.extension.ensures.grow
+      c.requires.code.speaks c.requires.code.runs c.requires.absent;
 }
 
 pub weigh-weighed-requires : goal.weigh-weighed-requires
@@ -22,7 +23,7 @@ weigh-weighed-requires c =
     let next = standing_next g ss ps c.args.growths.now c.loop-number.values c.loop-number.number item r (omega (arith, c.loop-number-test.true, c.requires.count)) is in
     record {
       machine = c.loop-number.invariant.machine;
-      turn = turn c.args.self.now ps c.loop-number.values c.loop-number.number item r.names r.last_names r.last_place next;
+      turn = turn c.args.self.now ps r.cores c.loop-number.values c.loop-number.number item r.names r.last_names r.last_place next;
     }
 
 pub loop-number-preserved-then-is_settled : goal.loop-number-preserved-then-is_settled
@@ -36,7 +37,7 @@ loop-number-preserved-then-is_settled c =
     let item : PlannedItem = get_or ps c.loop-number.number c.index-self-number.result in
     let is : item ≡ get_or ps c.loop-number.number item = ap (λ (x : PlannedItem). get_or ps c.loop-number.number x) c.index-self-number.is in
     let next = standing_next g ss ps c.args.growths.now vs c.loop-number.number item r (omega (arith, c.loop-number-test.true, c.requires.count)) is in
-    let its = due c.args.self.now ps vs c.loop-number.number item r.names r.last_names r.last_place next in
+    let its = due c.args.self.now ps r.cores vs c.loop-number.number item r.names r.last_names r.last_place next in
     let made = settled_made c.args.self.now vs c.loop-number.made item machine (c.is_settled.ensures.0 c.if-is_settled.true) in
     record {
       machine = machine;
@@ -53,7 +54,7 @@ loop-number-preserved c =
     let item : PlannedItem = get_or ps c.loop-number.number c.index-self-number.result in
     let is : item ≡ get_or ps c.loop-number.number item = ap (λ (x : PlannedItem). get_or ps c.loop-number.number x) c.index-self-number.is in
     let next = standing_next g ss ps c.args.growths.now c.loop-number.values c.loop-number.number item r (omega (arith, c.loop-number-test.true, c.requires.count)) is in
-    let its = due c.args.self.now ps c.loop-number.values c.loop-number.number item r.names r.last_names r.last_place next in
+    let its = due c.args.self.now ps r.cores c.loop-number.values c.loop-number.number item r.names r.last_names r.last_place next in
     let made = c.weigh-weighed.ensures.made in
     record {
       machine = made.machine;
@@ -73,7 +74,7 @@ returns-then-tells-clause-refuted c =
     let item : PlannedItem = get_or ps c.loop-number.number c.index-self-number.result in
     let is : item ≡ get_or ps c.loop-number.number item = ap (λ (x : PlannedItem). get_or ps c.loop-number.number x) c.index-self-number.is in
     let next = standing_next g ss ps c.args.growths.now c.loop-number.values c.loop-number.number item r (omega (arith, c.loop-number-test.true, c.requires.count)) is in
-    let its = due c.args.self.now ps c.loop-number.values c.loop-number.number item r.names r.last_names r.last_place next in
+    let its = due c.args.self.now ps r.cores c.loop-number.values c.loop-number.number item r.names r.last_names r.last_place next in
     refuted_at g ss ps c.args.growths.now c.loop-number.values c.loop-number.number item c.weigh-weighed.result.permits r next c.requires.grown
     c.if-not-weighed.true (c.weigh-weighed.ensures.said.permits r.names next.item_core its) (c.tells.ensures c.if-tells.true)
 

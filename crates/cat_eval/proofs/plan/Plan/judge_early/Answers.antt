@@ -4,11 +4,13 @@ use Rattle.listings.specs.Lists.{Lists}
 use Rattle.cat_tree.specs.Tree.{Word, Clause}
 use Rattle.cat_eval.specs.Judging.{Allowed, Raised}
 use Rattle.cat_eval.proofs.Held.{holds_nothing}
+use Rattle.cat_eval.proofs.Spoken.{none_absent}
 use Rattle.cat_eval.proofs.plan.Plan.judge_early.Goals as goal
 
 pub judge_early_by-requires : goal.judge_early_by-requires
 judge_early_by-requires c = record {
   code = c.code-code.ensures.code;
+  absent = none_absent c.code-code.result.absent.now c.args.view.now c.code-code.ensures.absent;
   kept = record { long = ap length c.deref_mut.ensures.value ∙ c.in_ok-values.ensures; holds = holds_nothing _ _ _ _ _ c.nothing-kept.ensures.runs c.nothing-kept.ensures.sources };
 }
 

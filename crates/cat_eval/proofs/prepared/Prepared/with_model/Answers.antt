@@ -1,9 +1,10 @@
 use Rattle.std.proofs.Common.{◌≡◌, ◌∙◌, List, map, sym, ap, subst}
+use Rattle.std.proofs.lemmas.Bool.{false≢true}
 use Rattle.cat_tree.specs.Tree.{Clause}
 use Rattle.cat_model.specs.Scopes.{IsModel}
 use Rattle.cat_eval.specs.declared.workings.Workings.{Workings}
 use Rattle.cat_eval.specs.Code.{planned_clause}
-use Rattle.cat_eval.proofs.Aside.{works_too}
+use Rattle.cat_eval.proofs.Chosen.{work_too}
 use Rattle.cat_eval.proofs.prepared.Prepared.with_model.Goals as goal
 
 pub invariant_of-result : goal.invariant_of-result
@@ -14,5 +15,6 @@ invariant_of-result c =
     let M : List Clause → Type 0 = λ cs. IsModel cs in
     record {
       model = subst M (sym clauses) c.requires.model;
-      works = works_too ps qs c.args.self.workings.value (c.requires.clauses ∙ sym clauses) (c.requires.works.item_steps ∙ sym (c.in_ok-items.ensures.item_steps ∙ c.deref-2.ensures.value ∙ ap (λ (w : Workings). w.item_steps.items) c.deref.ensures)) c.requires.works;
+      works = work_too ps qs c.args.self.choice (c.requires.clauses ∙ sym clauses) (c.requires.works.used.item_steps ∙ sym (c.in_ok-items.ensures.item_steps ∙ c.deref-2.ensures.value ∙ ap (λ (w : Workings). w.item_steps.items) c.deref.ensures)) c.requires.works;
+      serve = λ t. absurd (false≢true t);
     }

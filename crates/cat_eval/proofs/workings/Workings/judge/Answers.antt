@@ -6,6 +6,16 @@ use Rattle.cat_eval.proofs.Held.{written_back}
 use Rattle.cat_eval.proofs.Worked.{holds_followed, works_made}
 use Rattle.cat_eval.proofs.workings.Workings.judge.Goals as goal
 
+pub judge_over-requires-clause-code : goal.judge_over-requires-clause-code
+judge_over-requires-clause-code c = record {
+  speaks = rw (c.deref.ensures.value, c.deref-2.ensures.value) c.requires.works.speaks;
+  runs = rw c.deref-2.ensures.value c.requires.works.runs;
+  graded = rw c.deref.ensures.value c.requires.works.graded;
+}
+
+pub judge_over-requires-clause-absent : goal.judge_over-requires-clause-absent
+judge_over-requires-clause-absent c = rw c.deref-2.ensures.value c.requires.absent
+
 pub judge_over-requires-clause-kept : goal.judge_over-requires-clause-kept
 judge_over-requires-clause-kept c = record {
   long = ap length c.deref_mut.ensures.value ∙ c.requires.works.values ∙ sym (ap length c.deref.ensures.value);

@@ -14,6 +14,16 @@ use Rattle.cat_eval.proofs.Held.{written_back}
 use Rattle.cat_eval.proofs.Worked.{holds_followed, works_made}
 use Rattle.cat_eval.proofs.workings.Workings.refutes.Goals as goal
 
+pub refutes_over-refuted-requires-clause-code : goal.refutes_over-refuted-requires-clause-code
+refutes_over-refuted-requires-clause-code c = record {
+  speaks = rw (c.deref.ensures.value, c.deref-2.ensures.value) c.requires.works.speaks;
+  runs = rw c.deref-2.ensures.value c.requires.works.runs;
+  graded = rw c.deref.ensures.value c.requires.works.graded;
+}
+
+pub refutes_over-refuted-requires-clause-absent : goal.refutes_over-refuted-requires-clause-absent
+refutes_over-refuted-requires-clause-absent c = rw c.deref-2.ensures.value c.requires.absent
+
 pub refutes_over-refuted-requires-clause-kept : goal.refutes_over-refuted-requires-clause-kept
 refutes_over-refuted-requires-clause-kept c = record {
   long = ap length c.deref_mut.ensures.value ∙ c.requires.works.values ∙ sym (ap length c.deref.ensures.value);
