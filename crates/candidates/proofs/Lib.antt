@@ -33,9 +33,11 @@ pub mod Steps
 pub mod Storing
 pub mod Stretches
 pub mod Suiting
+pub mod Tails
 pub mod Tallies
 pub mod Walked
 pub mod Writing
 pub mod Pages
+pub mod Renumbering
 pub mod Scenes
 pub mod Openings

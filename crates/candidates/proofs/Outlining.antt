@@ -58,14 +58,14 @@ reads_by_outline (run ∷ runs) =
     ∙ ap (λ (es : List Event). es ++ map outline (reads runs)) (filter_by_outline run.events)
     ∙ ap (λ (es : List Event). filter (λ e. is_read e.access) (map outline run.events) ++ es) (reads_by_outline runs)
 
-reads_alike : (as' bs : List ThreadRun) → outlines as' ≡ outlines bs → map outline (reads as') ≡ map outline (reads bs)
+pub reads_alike : (as' bs : List ThreadRun) → outlines as' ≡ outlines bs → map outline (reads as') ≡ map outline (reads bs)
 reads_alike as' bs e = reads_by_outline as' ∙ ap reads e ∙ sym (reads_by_outline bs)
 
 pub as_many_reads : (as' bs : List ThreadRun) → outlines as' ≡ outlines bs → length (reads as') ≡ length (reads bs)
 as_many_reads as' bs e = sym (length-map (reads as') outline) ∙ ap (λ (es : List Event). length es) (reads_alike as' bs e) ∙ length-map (reads bs) outline
 
 -- in how many ways reads can read
-sources_by_outline : (runs : List ThreadRun) (es : List Event) → product_by (count_sources runs) es ≡ product_by (count_sources runs) (map outline es)
+pub sources_by_outline : (runs : List ThreadRun) (es : List Event) → product_by (count_sources runs) es ≡ product_by (count_sources runs) (map outline es)
 sources_by_outline runs [] = refl
 sources_by_outline runs (e ∷ es) = ap (λ n. count_sources runs e * n) (sources_by_outline runs es)
 
@@ -74,7 +74,7 @@ sources_same as' bs e es fs f =
     product_same (count_sources as') (count_sources bs) (λ (r : Event). ap (λ (ws : List EventId). suc (length ws)) (later_same as' bs e r.loc)) es
     ∙ sources_by_outline bs es ∙ ap (product_by (count_sources bs)) f ∙ sym (sources_by_outline bs fs)
 
-co_same : (as' bs : List ThreadRun) → outlines as' ≡ outlines bs → (n : ℕ) → count_co n as' ≡ count_co n bs
+pub co_same : (as' bs : List ThreadRun) → outlines as' ≡ outlines bs → (n : ℕ) → count_co n as' ≡ count_co n bs
 co_same as' bs e n = product_same (count_orders as') (count_orders bs) (λ x. ap (λ (ws : List EventId). factorial (length ws)) (later_same as' bs e x)) (upto n)
 
 digits_alike : (as' bs : List ThreadRun) → outlines as' ≡ outlines bs → (xs : List ℕ) (k : ℕ) → digits (count_orders as') (order_at as') xs k ≡ digits (count_orders bs) (order_at bs) xs k

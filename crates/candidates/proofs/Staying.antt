@@ -1,6 +1,7 @@
 -- The first runs that stay while runs are put to their places one by one.
-use Rattle.std.proofs.Common.{◌≡◌, ℕ, ◌+◌, ◌<◌, ◌≤◌, List, [], ◌∷◌, ◌++◌, length, take, refl, sym, ◌∙◌, ap, inl, inr, arith, Bool, true, Option, None, Some}
+use Rattle.std.proofs.Common.{◌≡◌, ℕ, ◌+◌, ◌<◌, ◌≤◌, List, [], ◌∷◌, ◌++◌, length, min, take, refl, sym, ◌∙◌, ap, inl, inr, arith, Bool, true, Option, None, Some}
 use Rattle.std.specs.Prelude.{IfSome}
+use Rattle.std.proofs.Math.Nat.{min-eq_left, min-eq_right}
 use Rattle.std.proofs.lemmas.Bool.{cases_lt}
 use Rattle.candidates.specs.Located.{Joins}
 use Rattle.candidates.specs.declared.threads.Likeness.{Likeness}
@@ -15,6 +16,13 @@ stay_below {X = X} old new i k x l m put =
 pub record Stay {X : Type 0} (old first : List X) (i k : ℕ) : Type 0 where
   pub some : k < i → take k old ≡ take k first
   pub whole : i ≤ k → old ≡ first
+
+-- The lesser of both is how many stay.
+pub joins_lesser : (i before after : ℕ) (like : Likeness) → after ≡ min before i → Joins i before after (Some like)
+joins_lesser i before after like e = elim (cases_lt i before) [
+  | inl less ↦ (let l : i ≤ before = omega (arith, less) in inr (e ∙ min-eq_right l, l))
+  | inr more ↦ inl (e ∙ min-eq_left more, more)
+]
 
 pub stay_first : {X : Type 0} (xs : List X) (n : ℕ) → Stay xs xs 0 n
 stay_first xs n = record { some = λ l. refl; whole = λ l. refl }

@@ -1,12 +1,13 @@
 -- Runs whose events do the same, whatever their values are, and what a page keeps of all such runs.
-use Rattle.std.specs.Prelude.{◌≡◌, ◌≤◌, ℕ, List, [], length, map, take, true, All, if◌then◌else◌}
+use Rattle.std.specs.Prelude.{◌≡◌, ◌≤◌, ◌/◌, ◌%◌, ℕ, List, [], length, map, take, true, All, if◌then◌else◌}
 use Rattle.events.specs.declared.event.Event.{Event}
+use Rattle.events.specs.declared.graph.GraphParts.{GraphParts}
 use Rattle.events.specs.declared.event.Order.TheVariants.{NoOrder}
 use Rattle.events.specs.Executions.{ThreadRun, is_write, no_places}
 use Rattle.listings.specs.Lists.{product_by}
 use Rattle.candidates.specs.declared.page.Page.{Page}
 use Rattle.candidates.specs.Executions.{reads, later_writes, upto}
-use Rattle.candidates.specs.Candidates.{count_sources, count_co}
+use Rattle.candidates.specs.Candidates.{count_sources, count_co, orders_by, rf_at}
 use Rattle.candidates.specs.Blocks.{IsDepth}
 use Rattle.candidates.specs.Depths.{depths_of}
 use Rattle.candidates.specs.Readings.{HaveSuitable}
@@ -46,6 +47,10 @@ pub record WasOf (init : List ℕ) (k : Kept) (p : Page) : Type 0 where
   pub alike : outlines p.runs.items ≡ outlines before
   pub reads_were : p.reads.items ≡ reads before
   pub suited : HaveSuitable init before p.reads.items p.suitable.items (length p.reads.items)
+
+-- The parts are those of the candidate of their runs with the number k.
+abbrev pub HasNumber : ℕ → GraphParts → ℕ → Type 0
+HasNumber locations parts k = (parts.rf.items ≡ rf_at parts.runs.items (k / count_co locations parts.runs.items)) × (parts.co.items ≡ orders_by locations parts.runs.items (k % count_co locations parts.runs.items))
 
 -- What the page keeps besides its runs and reads is that of these runs.
 pub record IsOfRuns (locations : ℕ) (runs : List ThreadRun) (p : Page) : Type 0 where

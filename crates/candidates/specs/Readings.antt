@@ -1,11 +1,12 @@
 -- What is found from a number of some runs on: the first candidate that is an execution, or up to which number none is.
-use Rattle.std.specs.Prelude.{◌≡◌, ℕ, suc, ◌+◌, ◌/◌, ◌<◌, ◌≤◌, List, [], length, slice_index_or, map, true, false, ◌==◌, All}
+use Rattle.std.specs.Prelude.{◌≡◌, ℕ, suc, ◌+◌, ◌/◌, ◌<◌, ◌≤◌, List, [], length, slice_index_or, map, drop, true, false, ◌==◌, All}
 use Rattle.events.specs.declared.event.Event.{Event}
 use Rattle.events.specs.declared.event.EventId.{EventId}
 use Rattle.events.specs.Executions.{GraphValue, ThreadRun}
 use Rattle.listings.specs.Lists.{factorial, product_by}
 use Rattle.candidates.specs.declared.reading.Fit.{Fit}
 use Rattle.candidates.specs.declared.reading.Suitable.{Suitable}
+use Rattle.candidates.specs.declared.reading.Tail.{Tail}
 use Rattle.candidates.specs.declared.reading.Hit.{Hit}
 use Rattle.candidates.specs.declared.reading.Fit.TheVariants as of_fit
 use Rattle.candidates.specs.declared.reading.Look.{Look}
@@ -102,6 +103,10 @@ orders_among later = factorial (length later)
 -- The page is one of some locations, and the read is at one of them.
 abbrev pub IsReadOf : Page → Event → Type 0
 IsReadOf p r = (n : ℕ) × IsPage n p × (r.loc < n)
+
+-- In so many ways can the page's reads from a place on read.
+abbrev pub IsTail : Page → Tail → Type 0
+IsTail p t = (t.from ≤ length p.reads.items) × (t.ways ≡ product_by (count_sources p.runs.items) (drop t.from p.reads.items))
 
 -- The numbers of a stretch are those of the candidates with its runs.
 pub record IsStretch (s : Choices) (b : Stretch) : Type 0 where

@@ -2,11 +2,12 @@
 use Rattle.std.specs.Prelude.{◌≡◌, ℕ, ◌+◌, ◌-◌, ◌%◌, ◌<◌, ◌≤◌, List, [], length, slice_index_or, Option, None, Some, IfSome}
 use Rattle.events.specs.Executions.{GraphValue}
 use Rattle.candidates.specs.Blocks.{AllExtend, Fits, cut_of}
-use Rattle.candidates.specs.Candidates.{Choices, candidate, graph_at, orders_by, size_of}
+use Rattle.candidates.specs.Candidates.{Choices, candidate, graph_at, size_of}
 use Rattle.candidates.specs.Depths.{depths_of}
 use Rattle.candidates.specs.declared.reading.Hit.{Hit}
 use Rattle.candidates.specs.declared.reading.Look.{Look}
 use Rattle.candidates.specs.declared.reading.Look.TheVariants.{Found, Until}
+use Rattle.candidates.specs.Outlines.{HasNumber}
 use Rattle.candidates.specs.Levels.{AreLevels, ArePlaced, groups_of}
 use Rattle.candidates.specs.Readings.{IsKnown, IsStretch, MayBeStretch, IsSeen}
 use Rattle.candidates.specs.declared.depths.Depth.{Depth}
@@ -92,9 +93,9 @@ pub record IsAhead (s : Choices) (a : Ahead) : Type 0 where
   pub stretch : MayBeStretch s a.stretch
   pub levels : AreLevels (length s.init) (groups_of s) a.levels.items
 
--- Where a number of the orders of what was shown before is known, they are those with this number.
-abbrev pub AreOrders : ℕ → Scene → Type 0
-AreOrders locations c = IfSome c.room_orders (λ k. c.room.co.items ≡ orders_by locations c.room.runs.items k)
+-- Where a number of what was shown before is known, it is that of its runs' candidate with this number.
+abbrev pub IsNumberOf : ℕ → Scene → Type 0
+IsNumberOf locations c = IfSome c.room_number (HasNumber locations c.room)
 
 -- The stretch of what is shown is one of the space, and what is shown is its candidate with the number that is named. The depths are those of the runs that are shown, and the places those of the runs.
 pub record IsScene (s : Choices) (c : Scene) : Type 0 where
@@ -106,7 +107,7 @@ pub record IsScene (s : Choices) (c : Scene) : Type 0 where
   pub depths : c.stretch.page.depths.items ≡ depths_of (length s.init) c.graph.runs
   pub placed : ArePlaced s.threads c.graph.runs c.places.items
   pub room : ArePlaced s.threads c.room.runs.items c.room_places.items
-  pub orders : AreOrders (length s.init) c
+  pub number : IsNumberOf (length s.init) c
   pub ahead : IsAhead s c.ahead
 
 -- The paused walk may go on among these candidates.

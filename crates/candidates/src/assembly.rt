@@ -1,6 +1,6 @@
 //! The parts of the candidates with the same runs, and the candidates.
 
-ghost use Rattle.std.specs.Prelude.{◌≡◌, ◌+◌, ◌/◌, ◌%◌, ◌++◌, ◌⊎◌, [], ◌∷◌, ◌<◌, ◌≤◌, List, length, map, slice_index_or, take, drop, filter, true, All, IfOk, IfSome, OnOk, Some};
+ghost use Rattle.std.specs.Prelude.{◌≡◌, ◌+◌, ◌/◌, ◌%◌, ◌++◌, ◌⊎◌, [], ◌∷◌, ◌<◌, ◌≤◌, ℕ, List, length, map, slice_index_or, take, drop, filter, true, All, IfOk, IfSome, OnOk, Some};
 ghost use Rattle.events.specs.Executions.{ThreadRun, empty_run, is_read};
 ghost use Rattle.listings.specs.Lists.{factorial, product_by};
 ghost use Rattle.candidates.specs.Bounds.{AreWithin};
@@ -8,7 +8,7 @@ ghost use Rattle.candidates.specs.Executions.{writes_from, later_writes, reads, 
 ghost use Rattle.candidates.specs.Candidates.{count_co, candidate, no_execution, orders_by, rf_at, write_value};
 ghost use Rattle.candidates.specs.Depths.{depths_of};
 ghost use Rattle.candidates.specs.Levels.{ArePlaced};
-ghost use Rattle.candidates.specs.Outlines.{IsOfRuns, WasOf, outline, outlines};
+ghost use Rattle.candidates.specs.Outlines.{HasNumber, IsOfRuns, WasOf, outline, outlines};
 ghost use Rattle.candidates.specs.Readings.{HasSuitable, IsPage, sources_among, orders_among};
 
 use crate::depths::list_depths;
@@ -118,15 +118,24 @@ fn count_reads(events: &[Event]) -> usize
     count
 }
 
+/// The runs from a thread on.
+fn runs_from(runs: &[Run], thread: usize) -> &[Run]
+    requires { thread ≤ length runs.now }
+    ensures { result.now ≡ drop thread runs.now }
+{
+    &runs[thread..]
+}
+
 /// How many reads so many of the first threads have, where all have so many.
 fn reads_before(runs: &[Run], threads: usize, all: usize) -> usize
     requires threads { threads ≤ length runs.now }
     requires all { all ≡ length (reads runs.now) }
     ensures { result ≡ length (reads (take threads runs.now)) }
 {
+    let later = runs_from(runs, threads);
     let mut count = all;
-    for thread in threads..runs.len() {
-        count -= count_reads(runs[thread].events());
+    for run in later {
+        count -= count_reads(run.events());
     }
     count
 }
@@ -142,10 +151,11 @@ fn reads(
     requires known { take known room.items ≡ reads (take threads runs.now) }
     ensures { IfOk result (λ v. v.items ≡ reads runs.now) }
 {
+    let later = runs_from(runs, threads);
     let mut reads = room;
     reads.truncate(known);
-    for thread in threads..runs.len() {
-        push_reads(&mut reads, runs[thread].events())?;
+    for run in later {
+        push_reads(&mut reads, run.events())?;
     }
     Ok(reads)
 }
@@ -306,7 +316,7 @@ pub(crate) fn assemble(
     ensures { IfOk result (λ g. g ≡ candidate init.now page.now.runs.items number) }
 {
     let values = Vec::from_slice(alloc, init)?;
-    let rf = read_from(alloc, page, &page.reads, number / page.orders)?;
+    let rf = read_from(alloc, page, number / page.orders)?;
     let runs = copy_runs(alloc, &page.runs)?;
     let room = Vec::new(alloc);
     let co = coherence(alloc, page, init.len(), number % page.orders, room)?;
@@ -405,36 +415,55 @@ fn values_again(mut values: Vec<u32>, wanted: &[u32]) -> Result<Vec<u32>, AllocE
     Ok(values)
 }
 
-/// Whether orders are known to be those with this number.
-fn are_known(orders: Option<u64>, number: u64) -> bool
-    ensures { result ≡ true → orders ≡ Some number }
+/// The number that is known, where runs do what those did with which it is known.
+fn if_alike(known: Option<u64>, alike: bool) -> Option<u64>
+    ensures { IfSome result (λ k. (known ≡ Some k) × (alike ≡ true)) }
 {
-    match orders {
-        Some(known) => known == number,
-        None => false,
+    if alike {
+        return known;
+    }
+    None
+}
+
+/// What the reads of the page's candidate with this number read from, in the room of what those of another read from, whose number may be known.
+fn sources_again(
+    page: &Page,
+    rf: Vec<EventId>,
+    known: Option<u64>,
+    number: u64,
+) -> Result<Vec<EventId>, AllocError>
+    requires page { (n : ℕ) × IsPage n page.now × (number < block n page.now.runs.items) }
+    requires known { IfSome known (λ k. rf.items ≡ rf_at page.now.runs.items (k / page.now.orders)) }
+    ensures { IfOk result (λ v. v.items ≡ rf_at page.now.runs.items (number / page.now.orders)) }
+{
+    let reading = number / page.orders;
+    match known {
+        Some(other) => Ok(turn_sources(page, rf, other / page.orders, reading)),
+        None => read_into(page, rf, reading),
     }
 }
 
-/// The orders with this number, in the room of others, which may be known to be the same.
+/// The orders of the page's candidate with this number, in the room of those of another, whose number may be known.
 fn orders_again(
     alloc: Global,
     page: &Page,
     locations: usize,
-    number: u64,
     room: Vec<Coherence>,
-    known: bool,
+    known: Option<u64>,
+    number: u64,
 ) -> Result<Vec<Coherence>, AllocError>
     requires page { IsPage locations page.now }
-    requires known { known ≡ true → room.items ≡ orders_by locations page.now.runs.items number }
-    ensures { IfOk result (λ v. v.items ≡ orders_by locations page.now.runs.items number) }
+    requires known { IfSome known (λ k. room.items ≡ orders_by locations page.now.runs.items (k % page.now.orders)) }
+    ensures { IfOk result (λ v. v.items ≡ orders_by locations page.now.runs.items (number % page.now.orders)) }
 {
-    if known {
-        return Ok(room);
+    let wanted = number % page.orders;
+    match known {
+        Some(other) => Ok(turn_orders(alloc, page, room, locations, other % page.orders, wanted)),
+        None => coherence(alloc, page, locations, wanted, room),
     }
-    coherence(alloc, page, locations, number, room)
 }
 
-/// The parts of the page's candidate with this number, in the room of others, whose orders may be known to be those with a number.
+/// The parts of the page's candidate with this number, in the room of those of another candidate of some runs, whose number may be known.
 fn refill(
     alloc: Global,
     init: &[u32],
@@ -442,12 +471,12 @@ fn refill(
     number: u64,
     parts: GraphParts,
     places: &mut Vec<usize>,
-    orders: Option<u64>,
+    known: Option<u64>,
 ) -> Result<GraphParts, AllocError>
     requires page { IsPage (length init.now) page.now }
     requires placed { (t : List (List ThreadRun)) × ArePlaced t parts.runs.items places.old.items × ArePlaced t page.now.runs.items page.now.places.items }
     requires number { number < block (length init.now) page.now.runs.items }
-    requires orders { IfSome orders (λ k. parts.co.items ≡ orders_by (length init.now) parts.runs.items k) }
+    requires known { IfSome known (HasNumber (length init.now) parts) }
     ensures init { IfOk result (λ p. p.init.items ≡ init.now) }
     ensures runs { IfOk result (λ p. p.runs.items ≡ page.now.runs.items) }
     ensures rf { IfOk result (λ p. p.rf.items ≡ rf_at page.now.runs.items (number / page.now.orders)) }
@@ -455,10 +484,10 @@ fn refill(
     ensures places { OnOk result (places.new.items ≡ page.now.places.items) }
 {
     let values = values_again(parts.init, init)?;
-    let wanted = number % page.orders;
-    let again = runs_again(parts.runs, places, page, are_known(orders, wanted))?;
-    let rf = read_into(page, &page.reads, parts.rf, number / page.orders)?;
-    let co = orders_again(alloc, page, init.len(), wanted, parts.co, again.alike)?;
+    let again = runs_again(parts.runs, places, page, known.is_some())?;
+    let known = if_alike(known, again.alike);
+    let rf = sources_again(page, parts.rf, known, number)?;
+    let co = orders_again(alloc, page, init.len(), parts.co, known, number)?;
     Ok(GraphParts {
         init: values,
         runs: again.runs,
@@ -467,8 +496,8 @@ fn refill(
     })
 }
 
-/// The candidate of the page's runs with this number, in the room of other parts, whose orders may be known to be those with a number. The places
-/// are those of its runs.
+/// The candidate of the page's runs with this number, in the room of the parts of another candidate of some runs, whose number may be known. The
+/// places are those of its runs.
 pub(crate) fn assemble_in(
     alloc: Global,
     init: &[u32],
@@ -476,16 +505,16 @@ pub(crate) fn assemble_in(
     number: u64,
     parts: GraphParts,
     places: &mut Vec<usize>,
-    orders: Option<u64>,
+    known: Option<u64>,
 ) -> Result<Graph, AllocError>
     requires page { IsPage (length init.now) page.now }
     requires placed { (t : List (List ThreadRun)) × ArePlaced t parts.runs.items places.old.items × ArePlaced t page.now.runs.items page.now.places.items }
     requires number { number < block (length init.now) page.now.runs.items }
-    requires orders { IfSome orders (λ k. parts.co.items ≡ orders_by (length init.now) parts.runs.items k) }
+    requires known { IfSome known (HasNumber (length init.now) parts) }
     ensures graph { IfOk result (λ g. g ≡ candidate init.now page.now.runs.items number) }
     ensures places { OnOk result (places.new.items ≡ page.now.places.items) }
 {
-    let filled = refill(alloc, init, page, number, parts, places, orders)?;
+    let filled = refill(alloc, init, page, number, parts, places, known)?;
     Ok(Graph::new(filled.init, filled.runs, filled.rf, filled.co))
 }
 

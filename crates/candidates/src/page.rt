@@ -162,7 +162,7 @@ impl Drop for Ahead {
 
 /// What a walk has at hand: the execution that it shows, the stretch that this is in, and where it is there; and where the
 /// walk looks on. What was shown before lends its room to what is shown next. Of the runs of both, it has the places among
-/// those of their threads; of the orders of what was shown before, the number, if it is known.
+/// those of their threads; of what was shown before, the number among the candidates with its runs, if it is known.
 pub(crate) struct Scene {
     pub(crate) stretch: Stretch,
     pub(crate) graph: Graph,
@@ -171,7 +171,7 @@ pub(crate) struct Scene {
     pub(crate) ahead: Ahead,
     pub(crate) room: GraphParts,
     pub(crate) room_places: Vec<usize>,
-    pub(crate) room_orders: Option<u64>,
+    pub(crate) room_number: Option<u64>,
 }
 
 impl Drop for Scene {
@@ -184,7 +184,7 @@ impl Drop for Scene {
             ahead: _,
             room: _,
             room_places: _,
-            room_orders: _,
+            room_number: _,
         } = self;
     }
 }

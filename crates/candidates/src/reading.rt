@@ -1,10 +1,10 @@
 //! What the reads read from, by numbers, and whether it has their values.
 
-ghost use Rattle.std.specs.Prelude.{◌≡◌, ◌<◌, ◌≤◌, ◌+◌, ◌*◌, ◌^◌, ◌/◌, ◌%◌, ◌∷◌, ℕ, List, suc, length, slice_index_or, nat_lt, IfOk, IfSome, if◌then◌else◌};
+ghost use Rattle.std.specs.Prelude.{◌≡◌, ◌<◌, ◌≤◌, ◌+◌, ◌*◌, ◌^◌, ◌/◌, ◌%◌, ◌∷◌, ℕ, List, suc, length, slice_index_or, nat_lt, take, IfOk, IfSome, if◌then◌else◌};
 ghost use Rattle.events.specs.declared.event.EventId.TheVariants.{Initial};
 ghost use Rattle.candidates.specs.Executions.{block, reads};
 ghost use Rattle.candidates.specs.Candidates.{count_sources, rf_at, source_at, write_value};
-ghost use Rattle.candidates.specs.Readings.{HasSuitable, AreSuitable, HaveSuitable, IsFit, IsKnown, IsLook, IsPage, IsReadOf, Misses, read_at};
+ghost use Rattle.candidates.specs.Readings.{HasSuitable, AreSuitable, HaveSuitable, IsFit, IsKnown, IsLook, IsPage, IsReadOf, IsTail, Misses, read_at};
 
 use crate::assembly::write_value;
 use crate::page::Page;
@@ -248,19 +248,57 @@ fn compare_from(init: &[u32], page: &Page, number: u64) -> Fit
     compare_kept(page, &page.reads)
 }
 
-/// Writes down what each read reads from by this number.
-fn set_sources(page: &Page, reads: &[Event], rf: &mut [EventId], number: u64)
-    requires page { IsPage (length page.now.writes.items) page.now }
-    requires reads { reads.now ≡ page.now.reads.items }
-    requires number { number < page.now.ways }
-    requires len { length rf.old ≡ length reads.now }
-    ensures len { length rf.new ≡ length rf.old }
-    ensures read { rf.new ≡ read_at page.now.runs.items reads.now number }
+/// The reads from a place on, and in how many ways they can read.
+#[derive(Clone, Copy)]
+pub(crate) struct Tail {
+    pub(crate) from: usize,
+    pub(crate) ways: u64,
+}
+
+/// All of the page's reads.
+fn all_reads(page: &Page) -> Tail
+    requires { IsPage (length page.now.writes.items) page.now }
+    ensures tail { IsTail page.now result }
+    ensures all { result.from ≡ 0 }
 {
-    let mut below = page.ways;
-    let mut rest = number;
-    for (place, read) in reads.iter().enumerate() {
-        let pick = choose(page, read, rest, below);
+    Tail {
+        from: 0,
+        ways: page.ways,
+    }
+}
+
+/// The page's reads from the first on that may read differently by the two numbers.
+fn differing(page: &Page, number: u64, other: u64) -> Tail
+    requires { IsPage (length page.now.writes.items) page.now }
+    ensures tail { IsTail page.now result }
+    ensures same { take result.from (read_at page.now.runs.items page.now.reads.items number) ≡ take result.from (read_at page.now.runs.items page.now.reads.items other) }
+{
+    let mut from = page.reads.len();
+    let mut ways = 1;
+    while from > 0 {
+        if number / ways == other / ways {
+            return Tail { from, ways };
+        }
+        from -= 1;
+        ways *= sources_of(page, &page.reads[from]);
+    }
+    Tail { from, ways }
+}
+
+/// Writes down what the reads from a place on read from by this number of all, where it is written down for those before them.
+fn set_sources(page: &Page, rf: &mut [EventId], tail: Tail, number: u64)
+    requires page { IsPage (length page.now.writes.items) page.now }
+    requires number { number < page.now.ways }
+    requires tail { IsTail page.now tail }
+    requires len { length rf.old ≡ length page.now.reads.items }
+    requires before { take tail.from rf.old ≡ take tail.from (read_at page.now.runs.items page.now.reads.items number) }
+    ensures len { length rf.new ≡ length rf.old }
+    ensures read { rf.new ≡ read_at page.now.runs.items page.now.reads.items number }
+{
+    let mut below = tail.ways;
+    let mut rest = number % tail.ways;
+    for place in tail.from..page.reads.len() {
+        let pick = choose(page, &page.reads[place], rest, below);
         rf[place] = pick.source;
         rest = pick.rest;
         below = pick.below;
@@ -268,36 +306,27 @@ fn set_sources(page: &Page, reads: &[Event], rf: &mut [EventId], number: u64)
 }
 
 /// What each read reads from, by this number.
-pub(crate) fn read_from(
-    alloc: Global,
-    page: &Page,
-    reads: &[Event],
-    number: u64,
-) -> Result<Vec<EventId>, AllocError>
+pub(crate) fn read_from(alloc: Global, page: &Page, number: u64) -> Result<Vec<EventId>, AllocError>
     requires page { IsPage (length page.now.writes.items) page.now }
-    requires reads { reads.now ≡ page.now.reads.items }
     requires number { number < page.now.ways }
-    ensures { IfOk result (λ v. v.items ≡ read_at page.now.runs.items reads.now number) }
+    ensures { IfOk result (λ v. v.items ≡ read_at page.now.runs.items page.now.reads.items number) }
 {
-    let mut rf = vec![in alloc; EventId::Initial(0); reads.len()]?;
-    set_sources(page, reads, &mut rf, number);
-    Ok(rf)
+    let rf = Vec::new(alloc);
+    read_into(page, rf, number)
 }
 
 /// Writes what each read reads from, by this number, into a list.
 pub(crate) fn read_into(
     page: &Page,
-    reads: &[Event],
     mut rf: Vec<EventId>,
     number: u64,
 ) -> Result<Vec<EventId>, AllocError>
     requires page { IsPage (length page.now.writes.items) page.now }
-    requires reads { reads.now ≡ page.now.reads.items }
     requires number { number < page.now.ways }
-    ensures { IfOk result (λ v. v.items ≡ read_at page.now.runs.items reads.now number) }
+    ensures { IfOk result (λ v. v.items ≡ read_at page.now.runs.items page.now.reads.items number) }
 {
-    rf.resize(reads.len(), EventId::Initial(0))?;
-    set_sources(page, reads, &mut rf, number);
+    rf.resize(page.reads.len(), EventId::Initial(0))?;
+    set_sources(page, &mut rf, all_reads(page), number);
     Ok(rf)
 }
 
@@ -311,7 +340,8 @@ pub(crate) fn turn_sources(page: &Page, mut rf: Vec<EventId>, from: u64, to: u64
     if from == to {
         return rf;
     }
-    set_sources(page, &page.reads, &mut rf, to);
+    let tail = differing(page, from, to);
+    set_sources(page, &mut rf, tail, to);
     rf
 }
 

@@ -100,17 +100,19 @@ pub(crate) struct Kept {
 
 impl Kept {
     /// What stays once the run of this thread is in its place: it is so like the one that stood there, unless it stood there itself.
+    #[tactic(auto, using(crate::proofs::Staying::joins_lesser))]
     fn joined(self, thread: usize, change: Option<Likeness>) -> Self
         ensures same { Joins thread self.same result.same change }
         ensures calm { result.calm ≡ true → (self.calm ≡ true) × IfSome change (λ like. like.calm ≡ true) }
         ensures alike { result.alike ≡ true → (self.alike ≡ true) × IfSome change (λ like. like.alike ≡ true) }
     {
+        let Kept { same, calm, alike } = self;
         match change {
-            None => self,
+            None => Kept { same, calm, alike },
             Some(like) => Kept {
-                same: lesser(self.same, thread),
-                calm: self.calm && like.calm,
-                alike: self.alike && like.alike,
+                same: same.min(thread),
+                calm: calm && like.calm,
+                alike: alike && like.alike,
             },
         }
     }
@@ -124,16 +126,6 @@ impl Kept {
         }
         None
     }
-}
-
-/// The lesser of two numbers.
-fn lesser(one: usize, other: usize) -> usize
-    ensures { ((result ≡ one) × (one ≤ other)) ⊎ ((result ≡ other) × (other ≤ one)) }
-{
-    if other < one {
-        return other;
-    }
-    one
 }
 
 /// Whether this is the place of a thread's run.

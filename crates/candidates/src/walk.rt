@@ -1,6 +1,6 @@
 //! A walk over the executions of a space.
 
-ghost use Rattle.std.specs.Prelude.{◌≡◌, ◌+◌, ◌-◌, ◌%◌, ◌<◌, ◌≤◌, ℕ, List, [], length, max, min, true, Some, None, IfOk, IfSome, OnOk, OnErr, MatchOption};
+ghost use Rattle.std.specs.Prelude.{◌≡◌, ◌+◌, ◌-◌, ◌<◌, ◌≤◌, ℕ, List, [], length, max, min, true, Some, None, IfOk, IfSome, OnOk, OnErr, MatchOption};
 ghost use Rattle.events.specs.Executions.{GraphValue, ThreadRun};
 ghost use Rattle.candidates.specs.Executions.{block};
 ghost use Rattle.candidates.specs.Alike.{AreAlike};
@@ -10,7 +10,7 @@ ghost use Rattle.candidates.specs.Candidates.{Choices, candidate, graph_at, size
 ghost use Rattle.candidates.specs.Depths.{cut_at, end_at};
 ghost use Rattle.candidates.specs.Levels.{ArePlaced};
 ghost use Rattle.candidates.specs.Readings.{IsKnown, IsPage, IsSeen, MayBeStretch};
-ghost use Rattle.candidates.specs.Walks.{AreOrders, IsAhead, IsFind, IsFound, IsHit, IsJustFound, IsMiss, IsNear, IsPausedIn, IsPlace, IsReached, IsScene, IsSection, IsVisit, IsWithin, HasNoSection, depths_around};
+ghost use Rattle.candidates.specs.Walks.{IsAhead, IsFind, IsFound, IsHit, IsJustFound, IsMiss, IsNear, IsNumberOf, IsPausedIn, IsPlace, IsReached, IsScene, IsSection, IsVisit, IsWithin, HasNoSection, depths_around};
 
 use crate::assembly::{assemble, assemble_in, no_parts, nothing, turned};
 use crate::block::{Block, cut_to};
@@ -111,7 +111,7 @@ fn no_scene(alloc: Global) -> Scene
     ensures depths { result.stretch.page.depths.items ≡ [] }
     ensures graph { result.graph ≡ no_execution }
     ensures ahead { result.ahead.stretch.size ≡ 0 }
-    ensures orders { result.room_orders ≡ None }
+    ensures number { result.room_number ≡ None }
     ensures levels { result.ahead.levels.items ≡ [] }
     ensures places { (result.stretch.page.places.items ≡ []) × (result.ahead.stretch.page.places.items ≡ []) × (result.places.items ≡ []) × (result.room_places.items ≡ []) }
 {
@@ -123,7 +123,7 @@ fn no_scene(alloc: Global) -> Scene
         ahead: nothing_ahead(alloc),
         room: no_parts(alloc),
         room_places: Vec::new(alloc),
-        room_orders: None,
+        room_number: None,
     }
 }
 
@@ -282,7 +282,7 @@ fn turn(alloc: Global, init: &[u32], scene: &mut Scene, hit: Hit)
     ensures stretch { scene.new.stretch ≡ scene.old.stretch }
     ensures ahead { scene.new.ahead ≡ scene.old.ahead }
     ensures runs { scene.new.graph.runs ≡ scene.old.graph.runs }
-    ensures kept { (scene.new.places ≡ scene.old.places) × (scene.new.room ≡ scene.old.room) × (scene.new.room_places ≡ scene.old.room_places) × (scene.new.room_orders ≡ scene.old.room_orders) }
+    ensures kept { (scene.new.places ≡ scene.old.places) × (scene.new.room ≡ scene.old.room) × (scene.new.room_places ≡ scene.old.room_places) × (scene.new.room_number ≡ scene.old.room_number) }
     ensures hit { scene.new.hit ≡ hit }
     ensures shown { scene.new.graph ≡ candidate init.now scene.old.stretch.page.runs.items hit.at }
 {
@@ -291,15 +291,14 @@ fn turn(alloc: Global, init: &[u32], scene: &mut Scene, hit: Hit)
     scene.hit = hit;
 }
 
-/// The number of the orders of what is found in a stretch, if it has any numbers.
-fn orders_shown(stretch: &Stretch, hit: Hit) -> Option<u64>
-    requires { 1 ≤ stretch.now.size → 1 ≤ stretch.now.page.orders }
-    ensures { IfSome result (λ k. (1 ≤ stretch.now.size) × (k ≡ hit.at % stretch.now.page.orders)) }
+/// The number of what is found in a stretch, if it has any numbers.
+fn number_shown(stretch: &Stretch, hit: Hit) -> Option<u64>
+    ensures { IfSome result (λ k. (1 ≤ stretch.now.size) × (k ≡ hit.at)) }
 {
     if stretch.size == 0 {
         return None;
     }
-    Some(hit.at % stretch.page.orders)
+    Some(hit.at)
 }
 
 /// Shows an execution of the stretch ahead, and looks on behind it.
@@ -308,9 +307,8 @@ fn show(alloc: Global, init: &[u32], scene: &mut Scene, hit: Hit) -> Result<(), 
     requires page { IsPage (length init.now) scene.old.ahead.stretch.page }
     requires number { hit.at < block (length init.now) scene.old.ahead.stretch.page.runs.items }
     requires placed { (t : List (List ThreadRun)) × ArePlaced t scene.old.room.runs.items scene.old.room_places.items × ArePlaced t scene.old.ahead.stretch.page.runs.items scene.old.ahead.stretch.page.places.items }
-    requires known { AreOrders (length init.now) scene.old }
-    requires orders { 1 ≤ scene.old.stretch.size → 1 ≤ scene.old.stretch.page.orders }
-    ensures orders { OnOk result ((scene.new.room.co.items ≡ scene.old.graph.co) × IfSome scene.new.room_orders (λ k. (1 ≤ scene.old.stretch.size) × (k ≡ scene.old.hit.at % scene.old.stretch.page.orders))) }
+    requires known { IsNumberOf (length init.now) scene.old }
+    ensures number { OnOk result ((scene.new.room.rf.items ≡ scene.old.graph.rf) × (scene.new.room.co.items ≡ scene.old.graph.co) × IfSome scene.new.room_number (λ k. (1 ≤ scene.old.stretch.size) × (k ≡ scene.old.hit.at))) }
     ensures stretch { OnOk result (scene.new.stretch ≡ scene.old.ahead.stretch) }
     ensures ahead { OnOk result (scene.new.ahead.stretch ≡ scene.old.stretch) }
     ensures levels { scene.new.ahead.levels ≡ scene.old.ahead.levels }
@@ -318,16 +316,16 @@ fn show(alloc: Global, init: &[u32], scene: &mut Scene, hit: Hit) -> Result<(), 
     ensures shown { OnOk result (scene.new.graph ≡ candidate init.now scene.old.ahead.stretch.page.runs.items hit.at) }
     ensures places { OnOk result (scene.new.places.items ≡ scene.old.ahead.stretch.page.places.items) }
     ensures room { OnOk result ((scene.new.room.runs.items ≡ scene.old.graph.runs) × (scene.new.room_places ≡ scene.old.places)) }
-    ensures left { OnErr result ((scene.new.places ≡ scene.old.places) × (scene.new.room_places.items ≡ []) × (scene.new.room_orders ≡ None)) }
+    ensures left { OnErr result ((scene.new.places ≡ scene.old.places) × (scene.new.room_places.items ≡ []) × (scene.new.room_number ≡ None)) }
     ensures same { OnErr result ((scene.new.stretch ≡ scene.old.stretch) × (scene.new.ahead ≡ scene.old.ahead) × (scene.new.graph ≡ scene.old.graph) × (scene.new.hit ≡ scene.old.hit)) }
 {
     let room = replace(&mut scene.room, no_parts(alloc));
     let mut places = replace(&mut scene.room_places, Vec::new(alloc));
-    let orders = replace(&mut scene.room_orders, None);
+    let known = replace(&mut scene.room_number, None);
     let page = &scene.ahead.stretch.page;
-    let graph = assemble_in(alloc, init, page, hit.at, room, &mut places, orders)?;
+    let graph = assemble_in(alloc, init, page, hit.at, room, &mut places, known)?;
     scene.room = replace(&mut scene.graph, graph).into_parts();
-    scene.room_orders = orders_shown(&scene.stretch, scene.hit);
+    scene.room_number = number_shown(&scene.stretch, scene.hit);
     scene.room_places = replace(&mut scene.places, places);
     swap(&mut scene.stretch, &mut scene.ahead.stretch);
     scene.hit = hit;

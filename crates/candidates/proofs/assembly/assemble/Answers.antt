@@ -19,8 +19,8 @@ new-requires c =
     let number = c.args.number in
     let orders = page.orders in
     let e = is_candidate init runs orders number c.in_ok-values.values.items c.in_ok-runs.runs.items c.in_ok-rf.rf.items c.in_ok-co.co.items
-    c.in_ok-values.ensures.items (c.in_ok-runs.ensures ∙ c.deref-2.ensures.value) c.requires.page.orders
-    (c.in_ok-rf.ensures ∙ ap (λ (rs : List Event). read_at runs rs (number / orders)) (c.deref.ensures.value ∙ c.requires.page.reads_are)) c.in_ok-co.ensures in
+    c.in_ok-values.ensures.items (c.in_ok-runs.ensures ∙ c.deref.ensures.value) c.requires.page.orders
+    (c.in_ok-rf.ensures ∙ ap (λ (rs : List Event). read_at runs rs (number / orders)) c.requires.page.reads_are) c.in_ok-co.ensures in
     let P : GraphValue → Type 0 = IsGraph in
     subst P (sym e) (is_graph init runs number c.requires.page.within c.requires.number)
 
@@ -36,9 +36,6 @@ returns-in_err-runs c = IfOk-from_err c.from_residual-in_err-runs.result _ c.fro
 pub returns-in_err-co : goal.returns-in_err-co
 returns-in_err-co c = IfOk-from_err c.from_residual-in_err-co.result _ c.from_residual-in_err-co.ensures.0
 
-pub read_from-requires-clause-reads : goal.read_from-requires-clause-reads
-read_from-requires-clause-reads c = c.deref.ensures.value
-
 pub returns : goal.returns
 returns c =
     let init = c.args.init.now in
@@ -47,8 +44,8 @@ returns c =
     let number = c.args.number in
     let orders = page.orders in
     c.new.ensures ∙ is_candidate init runs orders number c.in_ok-values.values.items c.in_ok-runs.runs.items c.in_ok-rf.rf.items c.in_ok-co.co.items
-    c.in_ok-values.ensures.items (c.in_ok-runs.ensures ∙ c.deref-2.ensures.value) c.requires.page.orders
-    (c.in_ok-rf.ensures ∙ ap (λ (rs : List Event). read_at runs rs (number / orders)) (c.deref.ensures.value ∙ c.requires.page.reads_are)) c.in_ok-co.ensures
+    c.in_ok-values.ensures.items (c.in_ok-runs.ensures ∙ c.deref.ensures.value) c.requires.page.orders
+    (c.in_ok-rf.ensures ∙ ap (λ (rs : List Event). read_at runs rs (number / orders)) c.requires.page.reads_are) c.in_ok-co.ensures
 
 pub read_from-requires-clause-number : goal.read_from-requires-clause-number
 read_from-requires-clause-number c = reading_within (length c.args.init.now) c.args.page.now c.args.number c.requires.page c.requires.number

@@ -1,4 +1,4 @@
-use Rattle.std.proofs.Common.{◌∙◌, List, ap, length, sym, arith}
+use Rattle.std.proofs.Common.{List, ap, length, arith}
 use Rattle.events.specs.declared.event.Event.{Event}
 use Rattle.events.specs.Executions.{ThreadRun}
 use Rattle.std.specs.Prelude.{filter}
@@ -8,25 +8,25 @@ use Rattle.candidates.proofs.Calm.{reads_counted, reads_dropped}
 use Rattle.std.proofs.lemmas.List.{drop_all}
 use Rattle.candidates.proofs.assembly.reads_before.Goals as goal
 
-pub loop-thread-init : goal.loop-thread-init
-loop-thread-init c = c.requires.all ∙ sym (reads_counted c.args.runs.now c.args.threads)
+pub loop-run-init : goal.loop-run-init
+loop-run-init c = omega (arith, c.requires.all, reads_counted c.args.runs.now c.args.threads, ap (λ (rs : List ThreadRun). length (reads rs)) c.runs_from-later.ensures)
 
 pub overflow_sub-count : goal.overflow_sub-count
 overflow_sub-count c =
-    let at = c.loop-thread in
-    let step = reads_dropped c.args.runs.now at.thread c.index-runs-thread.result c.loop-thread-test.true c.index-runs-thread.is in
+    let at = c.loop-run in
+    let step = reads_dropped c.runs_from-later.result.now at.run-index c.run-item.result c.loop-run-test.true c.run-item.is in
     let here = ap (λ (es : List Event). length (filter (λ e. is_read e.access) es)) c.events.ensures in
     omega (arith, c.count_reads-count.ensures, here, step, at.invariant)
 
-pub loop-thread-preserved : goal.loop-thread-preserved
-loop-thread-preserved c =
-    let at = c.loop-thread in
-    let step = reads_dropped c.args.runs.now at.thread c.index-runs-thread.result c.loop-thread-test.true c.index-runs-thread.is in
+pub loop-run-preserved : goal.loop-run-preserved
+loop-run-preserved c =
+    let at = c.loop-run in
+    let step = reads_dropped c.runs_from-later.result.now at.run-index c.run-item.result c.loop-run-test.true c.run-item.is in
     let here = ap (λ (es : List Event). length (filter (λ e. is_read e.access) es)) c.events.ensures in
     omega (arith, c.count_reads-count.ensures, here, step, at.invariant)
 
 pub returns : goal.returns
 returns c =
-    let at = c.loop-thread in
-    let left = ap (λ (rs : List ThreadRun). length (reads rs)) (drop_all at.thread c.args.runs.now c.loop-thread-test.false) in
+    let at = c.loop-run in
+    let left = ap (λ (rs : List ThreadRun). length (reads rs)) (drop_all at.run-index c.runs_from-later.result.now c.loop-run-test.false) in
     omega (arith, left, at.invariant)

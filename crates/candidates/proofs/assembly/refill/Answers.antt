@@ -1,17 +1,9 @@
-use Rattle.candidates.proofs.Listed.{by_writes}
-use Rattle.std.proofs.Common.{◌≡◌, ◌∙◌, ℕ, Option, length, subst}
-use Rattle.std.specs.Prelude.{IfSome}
-use Rattle.candidates.specs.Candidates.{orders_by}
-use Rattle.candidates.proofs.Outlining.{orders_alike}
+use Rattle.std.proofs.Common.{◌≡◌, ◌/◌, ◌%◌, length}
 use Rattle.std.proofs.lemmas.Result.{IfOk-from_err}
-use Rattle.candidates.proofs.Pages.{reading_within, some_orders}
+use Rattle.candidates.specs.Candidates.{orders_by, rf_at}
+use Rattle.candidates.proofs.Renumbering.{HasMaps, known_on}
+use Rattle.candidates.proofs.Staying.{still_some}
 use Rattle.candidates.proofs.assembly.refill.Goals as goal
-
-pub read_into-requires-clause-page : goal.read_into-requires-clause-page
-read_into-requires-clause-page c = by_writes _ c.args.page.now c.requires.page
-
-pub read_into-requires-clause-reads : goal.read_into-requires-clause-reads
-read_into-requires-clause-reads c = c.deref.ensures.value
 
 pub returns-clause-init : goal.returns-clause-init
 returns-clause-init c = c.in_ok-values.ensures
@@ -46,19 +38,21 @@ returns-in_err-rf-clause-runs c = IfOk-from_err c.from_residual-in_err-rf.result
 pub returns-in_err-rf-clause-rf : goal.returns-in_err-rf-clause-rf
 returns-in_err-rf-clause-rf c = IfOk-from_err c.from_residual-in_err-rf.result _ c.from_residual-in_err-rf.ensures.0
 
-pub read_into-requires-clause-number : goal.read_into-requires-clause-number
-read_into-requires-clause-number c = reading_within (length c.args.init.now) c.args.page.now c.args.number c.requires.page c.requires.number
+pub sources_again-requires-clause-page : goal.sources_again-requires-clause-page
+sources_again-requires-clause-page c = (length c.args.init.now, c.requires.page, c.requires.number)
 
-pub nonzero_div-number : goal.nonzero_div-number
-nonzero_div-number c = some_orders (length c.args.init.now) c.args.page.now c.requires.page
-
-pub nonzero_rem-wanted : goal.nonzero_rem-wanted
-nonzero_rem-wanted c = some_orders (length c.args.init.now) c.args.page.now c.requires.page
-
-pub orders_again-requires-clause-known : goal.orders_again-requires-clause-known
-orders_again-requires-clause-known c = λ h.
+pub sources_again-requires-clause-known : goal.sources_again-requires-clause-known
+sources_again-requires-clause-known c =
     let n = length c.args.init.now in
     let parts = c.args.parts in
-    let k = c.in_ok-again.ensures.alike h in
-    let P : Option ℕ → Type 0 = λ o. IfSome o (λ k. parts.co.items ≡ orders_by n parts.runs.items k) in
-    subst P (c.are_known.ensures k.0) c.requires.orders ∙ orders_alike parts.runs.items c.args.page.now.runs.items k.1 n _
+    let page = c.args.page.now in
+    still_some (HasMaps n parts page) (λ k. parts.rf.items ≡ rf_at page.runs.items (k / page.orders)) c.if_alike-known.result (λ k h. h.0)
+    (known_on n parts page c.args.known c.if_alike-known.result c.in_ok-again.again.alike c.requires.page c.requires.known c.if_alike-known.ensures (λ h. (c.in_ok-again.ensures.alike h).1))
+
+pub orders_again-requires-clause-known : goal.orders_again-requires-clause-known
+orders_again-requires-clause-known c =
+    let n = length c.args.init.now in
+    let parts = c.args.parts in
+    let page = c.args.page.now in
+    still_some (HasMaps n parts page) (λ k. parts.co.items ≡ orders_by n page.runs.items (k % page.orders)) c.if_alike-known.result (λ k h. h.1)
+    (known_on n parts page c.args.known c.if_alike-known.result c.in_ok-again.again.alike c.requires.page c.requires.known c.if_alike-known.ensures (λ h. (c.in_ok-again.ensures.alike h).1))

@@ -1,6 +1,6 @@
-use Rattle.std.proofs.Common.{◌≡◌, ◌∙◌, ℕ, List, Option, length, sym, ap, subst, arith}
+use Rattle.std.proofs.Common.{◌∙◌, ℕ, List, Option, length, sym, ap, subst, arith}
 use Rattle.std.specs.Prelude.{IfSome}
-use Rattle.candidates.specs.Candidates.{orders_by}
+use Rattle.candidates.specs.Outlines.{HasNumber}
 use Rattle.events.specs.Executions.{GraphValue}
 use Rattle.candidates.specs.declared.levels.Level.{Level}
 use Rattle.candidates.specs.Depths.{depths_of}
@@ -22,7 +22,7 @@ returns-clause-paused c = λ s.
       depths = e.depths ∙ sym (no_depths (length s.init)) ∙ sym (ap (λ (x : GraphValue). depths_of (length s.init) x.runs) e.graph);
       placed = placed_none s.threads _ _ e.places.2;
       room = placed_none s.threads _ _ e.places.3;
-      orders = (let O : Option ℕ → Type 0 = λ o. IfSome o (λ k. c.no_scene.result.room.co.items ≡ orders_by (length s.init) c.no_scene.result.room.runs.items k) in subst O (sym e.orders) tt);
+      number = (let O : Option ℕ → Type 0 = λ o. IfSome o (HasNumber (length s.init) c.no_scene.result.room) in subst O (sym e.number) tt);
       ahead = record {
         stretch = record { whole = λ l. absurd (omega (arith, l, e.ahead)); placed = placed_none s.threads _ _ e.places.1 };
         levels = subst P (sym e.levels) (λ k l m. absurd (omega (arith, m)));

@@ -2,10 +2,9 @@ use Rattle.std.proofs.Common.{arith, ℕ, ◌<◌, List, length, subst, sym}
 use Rattle.std.proofs.lemmas.Result.{IfOk-from_err}
 use Rattle.candidates.specs.Executions.{block}
 use Rattle.candidates.specs.Readings.{IsPage}
-use Rattle.candidates.specs.Walks.{AreOrders, IsAhead}
+use Rattle.candidates.specs.Walks.{IsAhead, IsNumberOf}
 use Rattle.candidates.specs.declared.page.Ahead.{Ahead}
-use Rattle.candidates.proofs.Pages.{some_orders}
-use Rattle.candidates.proofs.Scenes.{ahead_kept, orders_on, scene_kept, scene_shown}
+use Rattle.candidates.proofs.Scenes.{ahead_kept, number_on, scene_kept, scene_shown}
 use Rattle.candidates.proofs.walk.Walk.next.Goals as goal
 
 pub search_near-requires-clause-scene : goal.search_near-requires-clause-scene
@@ -26,7 +25,7 @@ invariant_of-self-in_err-hit c =
     record {
       order = c.self.invariant.order;
       within = c.self.invariant.within;
-      scene = record { stretch = s.stretch; none = s.none; within = s.within; seen = s.seen; known = s.known; depths = s.depths; placed = s.placed; room = s.room; orders = s.orders; ahead = c.search.ensures.ahead };
+      scene = record { stretch = s.stretch; none = s.none; within = s.within; seen = s.seen; known = s.known; depths = s.depths; placed = s.placed; room = s.room; number = s.number; ahead = c.search.ensures.ahead };
     }
 
 pub invariant_of-self-in-None : goal.invariant_of-self-in-None
@@ -35,7 +34,7 @@ invariant_of-self-in-None c =
     record {
       order = omega arith;
       within = c.self.invariant.within;
-      scene = record { stretch = s.stretch; none = s.none; within = s.within; seen = s.seen; known = s.known; depths = s.depths; placed = s.placed; room = s.room; orders = s.orders; ahead = c.search.ensures.ahead };
+      scene = record { stretch = s.stretch; none = s.none; within = s.within; seen = s.seen; known = s.known; depths = s.depths; placed = s.placed; room = s.room; number = s.number; ahead = c.search.ensures.ahead };
     }
 
 pub returns-in_err-hit-clause-found : goal.returns-in_err-hit-clause-found
@@ -75,7 +74,7 @@ invariant_of-self c =
       within = c.self.invariant.within;
       scene = scene_shown s c.turn.new.scene c.init.result.now c.self.inside.next c.self.inside.scene.stretch c.in-Found.hit c.init.ensures c.turn.ensures.stretch c.turn.ensures.hit c.turn.ensures.shown c.in-Found.ensures.1
           (rw (c.turn.ensures.runs, c.turn.ensures.kept.0) c.self.invariant.scene.placed) (rw (c.turn.ensures.kept.1, c.turn.ensures.kept.2) c.self.invariant.scene.room)
-          (rw (c.turn.ensures.kept.1, c.turn.ensures.kept.3) c.self.invariant.scene.orders)
+          (rw (c.turn.ensures.kept.1, c.turn.ensures.kept.3) c.self.invariant.scene.number)
           (subst P (sym c.turn.ensures.ahead) c.self.invariant.scene.ahead);
     }
 
@@ -89,7 +88,7 @@ invariant_of-self-in-Some c =
       within = c.self.invariant.within;
       scene = scene_shown s c.show.new.scene c.init-in-Some.result.now c.in-Until.from c.search.new.ahead.stretch c.in-Some.hit c.init-in-Some.ensures told.stretch told.hit told.shown found.1
           (rw (told.shown, told.places) found.1.stretch.placed) (rw (told.room.0, told.room.1) c.self.invariant.scene.placed)
-          (orders_on s c.self.inside.scene _ _ c.show.new.scene.room_orders c.self.invariant.scene told.orders.0 told.room.0 told.orders.1)
+          (number_on s c.self.inside.scene c.show.new.scene.room c.show.new.scene.room_number c.self.invariant.scene told.number.0 told.number.1 told.room.0 told.number.2)
           (ahead_kept s c.show.new.scene.ahead c.search.new.ahead c.self.inside.scene.stretch told.ahead told.levels c.self.invariant.scene.stretch c.in_ok-hit.ensures.ahead);
     }
 
@@ -119,9 +118,5 @@ show-requires-clause-placed c =
 
 pub show-requires-clause-known : goal.show-requires-clause-known
 show-requires-clause-known c =
-    let P : List ℕ → Type 0 = λ is. AreOrders (length is) c.self.inside.scene in
-    subst P (sym c.init-in-Some.ensures) c.self.invariant.scene.orders
-
-pub show-requires-clause-orders : goal.show-requires-clause-orders
-show-requires-clause-orders c = λ l.
-    omega (arith, some_orders (length c.self.inside.space.now.init) c.self.inside.scene.stretch.page (c.self.invariant.scene.stretch.whole l).page)
+    let P : List ℕ → Type 0 = λ is. IsNumberOf (length is) c.self.inside.scene in
+    subst P (sym c.init-in-Some.ensures) c.self.invariant.scene.number
