@@ -1,5 +1,5 @@
 -- What is passed over adds nothing to a count.
-use Rattle.std.proofs.Common.{◌≡◌, ℕ, zero, suc, ◌+◌, ◌-◌, ◌<◌, ◌≤◌, List, ◌++◌, Option, Some, None, refl, sym, ◌∙◌, subst, append-nil, arith}
+use Rattle.std.proofs.Common.{◌≡◌, ℕ, zero, suc, ◌+◌, ◌-◌, ◌<◌, ◌≤◌, List, [], ◌++◌, Option, Some, None, refl, sym, ◌∙◌, subst, append-nil, arith}
 use Rattle.std.specs.Prelude.{max, min, Bool, true, false, IfSome, MatchBool, MatchOption, ◌↔◌}
 use Rattle.events.specs.declared.cut.Cut.{Cut}
 use Rattle.events.specs.Cuts.{cut_down}
@@ -9,13 +9,14 @@ use Rattle.litmus_tree.specs.Tree.{Litmus}
 use Rattle.cat_tree.specs.Tree.{Clause}
 use Rattle.cat_eval.specs.Judging.{Allowed}
 use Rattle.candidates.specs.Blocks.{AllExtend}
-use Rattle.candidates.specs.Candidates.{Choices, found, graph_at, some_of}
+use Rattle.candidates.specs.Candidates.{Choices, choices_of, found, graph_at, some_of}
 use Rattle.candidates.specs.Walks.{IsHit, IsMiss, NoneFrom, Walking}
 use Rattle.candidates.proofs.Walked.{found_from}
 use Rattle.slices.specs.Findings.{FindingValue}
-use Rattle.slices.specs.Parts.{AreThose}
+use Rattle.slices.specs.Parts.{AreThose, IsPart, at_end}
 use Rattle.slices.specs.Passing.{ArePassed, HasGoneOver, IsForbidden, Knows, NoneAllowed}
 use Rattle.slices.specs.Misplaced.{AreLearned}
+use Rattle.slices.specs.Verdicts.{Tells}
 use Rattle.slices.specs.declared.pruning.Pruner.{Pruner}
 use Rattle.slices.specs.declared.span.Span.{Span}
 use Rattle.slices.proofs.Counted.{IsCountOf, IsUnderWay, those-pass}
@@ -49,6 +50,14 @@ none_allowed items w end g later extend refuted = (later, λ m l u x is. refuted
 
 some_is : (m n : ℕ) → Some m ≡ Some n → m ≡ n
 some_is m n e = cc
+
+-- Where none is allowed, what is found of no execution is right.
+pub none_found : (t : Litmus) (items : List Clause) (from to : ℕ) (v : FindingValue) → NoneAllowed items (choices_of t) from to → Tells t items [] v → IsPart t items from to v
+none_found t items from to v none told =
+    let at : ℕ → Option GraphValue = λ i. graph_at (choices_of t) (from + i) in
+    let e : 0 + (to - from) ≡ to - from = omega arith in
+    let Q : ℕ → Type 0 = λ k. AreThose (Allowed items) (found at k) [] in
+    ([], subst Q e (pass_all (Allowed items) at [] 0 (to - from) (λ i l u x is. none (from + i) (omega arith) (omega (arith, u)) x is) at_end), told)
 
 -- the walk goes on behind what is forbidden
 pub gone_on : (items : List Clause) (n end : ℕ) (v w : Walking) → v.next ≡ n + 1 → IsForbidden items v end → w.space ≡ v.space → w.to ≡ v.to → w.next ≡ max v.next (min end v.to) → ArePassed items n v w

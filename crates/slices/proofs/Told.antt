@@ -132,6 +132,13 @@ nothing_adds v w p n t items xs ys h k =
     let B : List GraphValue → Type 0 = λ zs. Tells t items (ys ++ zs) w in
     subst B (sym none) (subst T (sym (append-nil ys)) k)
 
+-- and nothing adds nothing to v
+pub adds_nothing : (v w : FindingValue) → w.positive ≡ 0 → w.negative ≡ 0 → AddsUp v w v
+adds_nothing v w p n t items xs ys h k =
+    let none : ys ≡ [] = none_counted (has t w.places) ys (sym k.positive ∙ p) (sym k.negative ∙ n) in
+    let B : List GraphValue → Type 0 = λ zs. Tells t items (zs ++ xs) v in
+    subst B (sym none) h
+
 -- v, added to nothing, and w behind it
 
 abbrev heading : Word → Kind → Formula → List Place → FindingValue

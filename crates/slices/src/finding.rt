@@ -121,7 +121,7 @@ impl FindingRef {
     }
 
     /// Adds what is found of other executions, or changes nothing. Where nothing was found yet, it is then kept together with the other one.
-    /// What is kept elsewhere too is not changed there: a grown copy takes its place here.
+    /// What is kept elsewhere too is not changed there: a grown copy takes its place here, unless nothing is added.
     pub(crate) fn merge(&mut self, alloc: Global, other: &FindingRef) -> Result<(), AllocError>
         requires few { (self.old.positive + other.now.positive < 2 ^ 64) × (self.old.negative + other.now.negative < 2 ^ 64) }
         requires sorted { AreSorted self.old.states }
@@ -130,6 +130,9 @@ impl FindingRef {
     {
         if self.finding.is_nothing() {
             *self = other.share()?;
+            return Ok(());
+        }
+        if other.finding.is_nothing() {
             return Ok(());
         }
         match Arc::get_mut(&mut self.finding) {

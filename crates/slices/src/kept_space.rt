@@ -2,8 +2,10 @@
 
 ghost use Rattle.std.specs.Prelude.{◌≡◌, ◌↔◌, IfOk, IsTrue};
 ghost use Rattle.candidates.specs.Candidates.{choices_of};
+ghost use Rattle.slices.specs.Passing.{NoneAllowed};
 ghost use Rattle.slices.specs.Works.{WorkValue};
 
+use crate::finding::{Finding, FindingRef};
 use crate::piece::{Piece, PieceResult, evaluate_in, evaluator_of, space_of};
 use crate::pruning::Pruner;
 use crate::span::Span;
@@ -14,14 +16,15 @@ use litmus_value::Test;
 use std::alloc::{AllocError, Global};
 use std::marker::Model;
 
-/// A work with the numbered candidates of its test, where the walk over them came to, and with its model made ready. Contracts see the work.
-/// What is large lies elsewhere, since a value of this type is moved for each piece.
+/// A work with the numbered candidates of its test, where the walk over them came to, with its model made ready, and what is found where that
+/// allows no execution. Contracts see the work. What is large lies elsewhere, since a value of this type is moved for each piece.
 struct Made {
     work: WorkRef,
-    space: Space,
+    space: Box<Space>,
     paused: Box<PausedWalk>,
     ready: Prepared,
     pruner: Box<Pruner>,
+    nothing: FindingRef,
 }
 
 // Functions of their own, here and below: whoever holds one drops it by a call.
@@ -33,17 +36,20 @@ impl Drop for Made {
             paused: _,
             ready: _,
             pruner: _,
+            nothing: _,
         } = self;
     }
 }
 
 impl Model for Made {
-    ghost use Rattle.std.specs.Prelude.{◌≡◌};
+    ghost use Rattle.std.specs.Prelude.{◌≡◌, List, []};
     ghost use Rattle.candidates.specs.Candidates.{choices_of};
     ghost use Rattle.candidates.specs.Walks.{IsPausedIn};
     ghost use Rattle.cat_eval.specs.Prepared.{IsReadyFor};
+    ghost use Rattle.cat_tree.specs.Tree.{Clause};
     ghost use Rattle.slices.specs.Codes.{coded_work};
     ghost use Rattle.slices.specs.Passing.{Knows};
+    ghost use Rattle.slices.specs.Verdicts.{Tells};
     ghost use Rattle.slices.specs.Works.{WorkValue};
 
     ghost Value = { WorkValue };
@@ -52,7 +58,7 @@ impl Model for Made {
 
     ghost view = { λ m. m.work };
 
-    ghost invariant = { λ m. record { space : m.space ≡ choices_of m.work.test; paused : IsPausedIn m.space m.paused.value; ready : IsReadyFor m.work.model.items m.ready; known : Knows m.space m.work.model.items m.pruner.value } };
+    ghost invariant = { λ m. record { space : m.space.value ≡ choices_of m.work.test; paused : IsPausedIn m.space.value m.paused.value; ready : IsReadyFor m.work.model.items m.ready; known : Knows m.space.value m.work.model.items m.pruner.value; nothing : (items : List Clause) → Tells m.work.test items [] m.nothing } };
 }
 
 impl Made {
@@ -61,19 +67,21 @@ impl Made {
     fn of(alloc: Global, work: &WorkRef) -> Result<Self, AllocError>
         ensures { IfOk result (λ m. m ≡ work.now) }
     {
-        let space = space_of(alloc, work.work())?;
+        let space = Box::new(alloc, space_of(alloc, work.work())?)?;
         Made::over(alloc, space, work)
     }
 
     /// What a work makes use of whose candidates these are.
     #[inline(never)]
-    fn over(alloc: Global, space: Space, work: &WorkRef) -> Result<Self, AllocError>
-        requires { space ≡ choices_of work.now.test }
+    fn over(alloc: Global, space: Box<Space>, work: &WorkRef) -> Result<Self, AllocError>
+        requires { space.value ≡ choices_of work.now.test }
         ensures { IfOk result (λ m. m ≡ work.now) }
     {
         let ready = evaluator_of(alloc, work.work())?.without_model();
         let pruner = Box::new(alloc, Pruner::new(work.work().model()))?;
         let paused = Box::new(alloc, PausedWalk::new(alloc))?;
+        let found = Finding::nothing(alloc, work.share()?)?;
+        let nothing = FindingRef::new(alloc, found)?;
         let work = work.share()?;
         Ok(Made {
             work,
@@ -81,6 +89,7 @@ impl Made {
             paused,
             ready,
             pruner,
+            nothing,
         })
     }
 
@@ -100,8 +109,8 @@ impl Made {
     }
 
     /// The candidates.
-    fn into_space(self) -> Space
-        ensures { result ≡ choices_of self.test }
+    fn into_space(self) -> Box<Space>
+        ensures { result.value ≡ choices_of self.test }
     {
         let Made {
             work: _,
@@ -109,8 +118,28 @@ impl Made {
             paused: _,
             ready: _,
             pruner: _,
+            nothing: _,
         } = self;
         space
+    }
+
+    /// Whether a piece is of the work, and it is known that the work's model allows none of the executions at its numbers.
+    fn has_refuted(&self, piece: &Piece) -> bool
+        ensures same { IsTrue result → self.now ≡ piece.now.work }
+        ensures none { IsTrue result → NoneAllowed piece.now.work.model.items (choices_of piece.now.work.test) piece.now.from piece.now.to }
+    {
+        self.pruner.has_refuted(piece.span()) && self.is_of(piece.work())
+    }
+
+    /// The result of a piece of the work, none of whose executions the work's model allows.
+    fn refuted(&self, piece: &Piece) -> Result<PieceResult, AllocError>
+        requires same { self.now ≡ piece.now.work }
+        requires none { NoneAllowed piece.now.work.model.items (choices_of piece.now.work.test) piece.now.from piece.now.to }
+        ensures { IfOk result (λ r. r.piece ≡ piece.now) }
+    {
+        let piece = piece.share()?;
+        let nothing = self.nothing.share()?;
+        Ok(PieceResult::new(piece, nothing))
     }
 
     /// Evaluates the numbers of a piece of the work.
@@ -125,6 +154,7 @@ impl Made {
             paused,
             ready,
             mut pruner,
+            nothing,
         } = self;
         let Span { from, to } = piece.span();
         let mut walk = space.resume(Box::into_inner(paused), from, to);
@@ -138,6 +168,7 @@ impl Made {
             paused,
             ready,
             pruner,
+            nothing,
         };
         Ok((result, made))
     }
@@ -145,7 +176,8 @@ impl Made {
 
 /// What one piece leaves for the next one: the numbered candidates of its test, where the walk over them came to, and its model made ready. Each
 /// piece of a job needs these, and its numbers often begin where those of the one before it end. Where the next piece is of another work,
-/// they are made anew; the candidates only if it is of another test. It holds one work's at a time.
+/// they are made anew; the candidates only if it is of another test. It holds one work's at a time. A piece within the numbers that were refuted
+/// last takes no walk.
 pub struct KeptSpace {
     alloc: Global,
     made: Option<Made>,
@@ -167,6 +199,11 @@ impl KeptSpace {
     pub fn evaluate(&mut self, piece: &Piece) -> Result<PieceResult, AllocError>
         ensures { IfOk result (λ r. r.piece ≡ piece.now) }
     {
+        if let Some(made) = &self.made {
+            if made.has_refuted(piece) {
+                return made.refuted(piece);
+            }
+        }
         let made = self.take_for(piece.work())?;
         let (result, made) = made.evaluate(self.alloc, piece)?;
         self.made = Some(made);

@@ -76,6 +76,8 @@ pub(crate) struct Prospects {
     depths: [Depth; MOST_DEPTHS],
     /// How many blocks the number at hand is known to be in.
     entered: usize,
+    /// The number at hand.
+    number: u64,
     /// What was spent so far.
     spent: u64,
     /// What had been spent when an execution was allowed last.
@@ -89,6 +91,7 @@ impl Drop for Prospects {
         let Prospects {
             depths: _,
             entered: _,
+            number: _,
             spent: _,
             allowed: _,
         } = self;
@@ -101,14 +104,18 @@ impl Prospects {
         Prospects {
             depths: [Depth::new(); MOST_DEPTHS],
             entered: 0,
+            number: 0,
             spent: 0,
             allowed: 0,
         }
     }
 
-    /// Those of another walk, which hasn't come into any block. What asking has brought so far is known of it, too.
-    pub(crate) fn begin(&mut self) {
-        self.entered = 0;
+    /// Those of another walk, from this number on. What asking has brought so far is known of it, too, and where it goes on behind the number
+    /// at hand, it is still in the blocks that reach so far.
+    pub(crate) fn begin(&mut self, from: u64) {
+        if from < self.number {
+            self.entered = 0;
+        }
     }
 
     /// Whether so little was spent that no block is worth a look.
@@ -130,6 +137,7 @@ impl Prospects {
 
     /// Leaves the blocks that end at or before this number, and tells in how many others it is.
     pub(crate) fn leave(&mut self, number: u64) -> usize {
+        self.number = number;
         while self.entered > 0 {
             let depth = &mut self.depths[self.entered - 1];
             if number < depth.end {

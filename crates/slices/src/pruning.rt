@@ -1,11 +1,11 @@
 //! What a model is known to forbid together, so that it needn't be judged one by one.
 
-ghost use Rattle.std.specs.Prelude.{◌≡◌, ◌+◌, List, MatchBool, Some, IfOk, IfSome};
+ghost use Rattle.std.specs.Prelude.{◌≡◌, ◌+◌, List, MatchBool, Some, IfOk, IfSome, IsTrue};
 ghost use Rattle.candidates.specs.Candidates.{Choices, graph_at};
 ghost use Rattle.cat_tree.specs.Tree.{Clause};
 ghost use Rattle.events.specs.Structures.{structure_of};
 ghost use Rattle.slices.specs.Misplaced.{AreLearned};
-ghost use Rattle.slices.specs.Passing.{ArePassed, HasGoneOver, IsForbidden, Knows};
+ghost use Rattle.slices.specs.Passing.{ArePassed, HasGoneOver, IsForbidden, Knows, NoneAllowed};
 
 use crate::misplaced::Misplaced;
 use crate::prospects::Prospects;
@@ -69,10 +69,17 @@ impl Pruner {
         ensures misplaced { self.new.misplaced ≡ self.old.misplaced }
         ensures passed { (items : List Clause) → Knows walk.old.space items self.old → HasGoneOver items walk.old walk.new }
     {
-        self.prospects.begin();
+        self.prospects.begin(from);
         if self.refuted.from <= from {
             walk.pass(self.refuted.to);
         }
+    }
+
+    /// Whether it is known that the model allows none of the executions at these numbers.
+    pub(crate) fn has_refuted(&self, span: Span) -> bool
+        ensures { (s : Choices) (items : List Clause) → Knows s items self.now → IsTrue result → NoneAllowed items s span.from span.to }
+    {
+        self.refuted.from <= span.from && span.to <= self.refuted.to
     }
 
     /// The end of the block of a depth around the execution found last, if it is known that the model allows none of the block's.

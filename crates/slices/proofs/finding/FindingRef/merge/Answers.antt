@@ -2,7 +2,7 @@ use Rattle.std.proofs.Common.{◌∙◌, ap, sym, subst}
 use Rattle.std.specs.Prelude.{OnOk}
 use Rattle.slices.specs.Findings.{FindingValue}
 use Rattle.slices.specs.Sums.{IsSum}
-use Rattle.slices.proofs.Told.{adds_up, nothing_adds, on_ok}
+use Rattle.slices.proofs.Told.{adds_nothing, adds_up, nothing_adds, on_ok}
 use Rattle.slices.proofs.finding.FindingRef.merge.Goals as goal
 
 pub returns-then-is_nothing-clause-merged : goal.returns-then-is_nothing-clause-merged
@@ -10,6 +10,12 @@ returns-then-is_nothing-clause-merged c =
     let same = c.deref.ensures ∙ c.self.view_is in
     let z = c.is_nothing.ensures c.if-is_nothing.true in
     rw (c.drop.view_is, c.in_ok-self-inside.ensures) (nothing_adds c.args.self.now c.args.other.now (sym (ap (λ (v : FindingValue). v.positive) same) ∙ z.0) (sym (ap (λ (v : FindingValue). v.negative) same) ∙ z.1))
+
+pub returns-then-is_nothing-2-clause-merged : goal.returns-then-is_nothing-2-clause-merged
+returns-then-is_nothing-2-clause-merged c =
+    let same = c.deref-2.ensures ∙ c.other.view_is in
+    let z = c.is_nothing-2.ensures c.if-is_nothing-2.true in
+    adds_nothing c.args.self.now c.args.other.now (sym (ap (λ (v : FindingValue). v.positive) same) ∙ z.0) (sym (ap (λ (v : FindingValue). v.negative) same) ∙ z.1)
 
 pub returns-in-Some-clause-merged : goal.returns-in-Some-clause-merged
 returns-in-Some-clause-merged c =

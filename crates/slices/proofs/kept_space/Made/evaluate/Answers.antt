@@ -27,5 +27,5 @@ invariant_of-made c =
     let W : Choices → Type 0 = λ s. IsPausedIn s c.pause.result in
     let K : WorkValue → Type 0 = λ w. Knows (choices_of w.test) w.model.items c.evaluate_in.new.pruner in
     let S : Choices → Type 0 = λ s. Knows s c.self.inside.work.model.items c.evaluate_in.new.pruner in
-    let own_space = c.in_ok-result.ensures.space ∙ ap (λ (w : Walking). w.space) c.resume-walk.ensures in
-    record { space = c.self.invariant.space; paused = rw c.in_ok-paused.ensures.ok (subst W own_space c.pause.ensures); ready = subst P same c.without_model-ready.ensures; known = subst S (sym c.self.invariant.space) (subst K own c.in_ok-result.ensures.known) }
+    let own_space = c.in_ok-result.ensures.space ∙ ap (λ (w : Walking). w.space) c.resume-walk.ensures ∙ c.deref.ensures in
+    record { space = c.self.invariant.space; paused = rw c.in_ok-paused.ensures.ok (subst W own_space c.pause.ensures); ready = subst P same c.without_model-ready.ensures; known = subst S (sym c.self.invariant.space) (subst K own c.in_ok-result.ensures.known); nothing = c.self.invariant.nothing }
