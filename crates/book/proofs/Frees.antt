@@ -1,7 +1,8 @@
 -- The search for a free slice.
-use Rattle.std.proofs.Common.{◌≡◌, ◌≢◌, ℕ, zero, suc, ◌+◌, ◌<◌, ◌≤◌, ◌||◌, ◌&&◌, not, ◌∷◌, ◌++◌, length, get_or, Bool, true, false, List, [], Option, None, Some, refl, sym, ap, ◌∙◌, subst, inl, inr, arith}
-use Rattle.std.specs.Prelude.{slice_get, ◌==◌, ◌⊎◌, IfSome}
+use Rattle.std.proofs.Common.{◌≡◌, ◌≢◌, ℕ, zero, suc, ◌+◌, ◌<◌, ◌≤◌, ◌||◌, ◌&&◌, not, ◌∷◌, ◌++◌, length, get_or, Bool, true, false, List, [], Option, None, Some, cond, refl, sym, ap, ◌∙◌, subst, inl, inr, arith}
+use Rattle.std.specs.Prelude.{slice_get, ◌==◌, ◌⊎◌, IfSome, nat_lt}
 use Rattle.std.specs.List.{list_any}
+use Rattle.std.proofs.lemmas.Bool.{eq-eqb, ne_eqb, ltb-true}
 use Rattle.std.proofs.lemmas.List.Folds.{list_any-append}
 use Rattle.listings.specs.Lists.{IsIn}
 use Rattle.book.specs.Frees.{IsFreeAt, IsNoneBefore, IsPassed, IsFirstFree}
@@ -10,10 +11,11 @@ use Rattle.book.specs.Held.{AreClaimedBut}
 use Rattle.book.specs.Jobs as jobs
 use Rattle.book.specs.Numbers.{AreRising}
 use Rattle.book.specs.Step.{others, taken}
-use Rattle.book.specs.Workbench.{Workbench, is_claimed, is_replaced, is_free, free_among, has_free, any_free}
+use Rattle.book.specs.Workbench.{Workbench, is_claimed, is_replaced, is_free, free_among, has_free, any_free, job_of}
 use Rattle.book.specs.declared.live.Live.{Live}
 use Rattle.book.specs.declared.slice.Slice.{Slice}
 use Rattle.book.proofs.Claims.{free_has}
+use Rattle.book.proofs.Counts.{all_get}
 use Rattle.book.proofs.Numbers.{marked_at}
 
 -- one slice
@@ -84,15 +86,20 @@ pub passed_start : (s : Workbench) → IsPassed s 0 0
 passed_start s = record {
   jobs = λ n job lt at. absurd (omega (arith, lt));
   slices = λ job at. record { none = λ n x lt e. absurd (omega (arith, lt)) };
+  current = λ job at lt. absurd (omega (arith, lt));
 }
 
 pub slices_passed : (s : Workbench) (job : jobs.Job) (k i : ℕ) → IsPassed s k i → k < length s.jobs → job ≡ get_or s.jobs k job → IsNoneBefore s job i
 slices_passed s job k i h lt e = h.slices job (at_place s.jobs k job lt e)
 
+pub current_passed : (s : Workbench) (job : jobs.Job) (k i : ℕ) → IsPassed s k i → k < length s.jobs → job ≡ get_or s.jobs k job → 0 < i → is_replaced s job ≡ false
+current_passed s job k i h lt e more = h.current job (at_place s.jobs k job lt e) more
+
 pub job_passed : (s : Workbench) (job : jobs.Job) (k i : ℕ) → IsPassed s k i → k < length s.jobs → job ≡ get_or s.jobs k job → has_free s job ≡ false → IsPassed s (k + 1) 0
 job_passed s job k i h lt e none = record {
   jobs = λ n j below at. by n j at (before_next n k below);
   slices = λ j at. record { none = λ n x below here. absurd (omega (arith, below)) };
+  current = λ j at below. absurd (omega (arith, below));
 }
   where
     by : (n : ℕ) (j : jobs.Job) → slice_get s.jobs n ≡ Some j → (n < k) ⊎ (n ≡ k) → has_free s j ≡ false
@@ -115,6 +122,11 @@ in_list [] n x e = cc
 in_list (y ∷ ys) zero x e = let same : x ≡ y = cc in inl same
 in_list (y ∷ ys) (suc n) x e = inr (in_list ys n x e)
 
+unreplaced : (a b : Bool) → (a && not b) ≡ true → b ≡ false
+unreplaced true true h = cc
+unreplaced true false h = refl
+unreplaced false b h = cc
+
 pub first_free : (s : Workbench) (job : jobs.Job) (k from i : ℕ) → IsPassed s k from → k < length s.jobs → job ≡ get_or s.jobs k job → IsFreeAt s job i × IsNoneBefore s job i → IsFirstFree s job k i
 first_free s job k from i h lt e found =
     let held : slice_get s.jobs k ≡ Some job = at_place s.jobs k job lt e in
@@ -125,6 +137,9 @@ first_free s job k from i h lt e found =
         slices = λ j at.
             let same : job ≡ j = cc in
             subst (λ y. IsNoneBefore s y i) same found.1;
+        current = λ j at more.
+            let same : job ≡ j = cc in
+            subst (λ y. is_replaced s y ≡ false) same (unreplaced (not found.0.0.returned && not (is_claimed s.live job.number i)) (is_replaced s job) found.0.2);
       };
     }
 
@@ -159,6 +174,7 @@ module _ (s : Workbench) (number : ℕ) (claim : Live) where
   still_passed k i h = record {
     jobs = λ n job lt at. still_none job 0 job.slices (h.jobs n job lt at);
     slices = λ job at. record { none = λ n x lt e. still_taken job n x ((h.slices job at).none n x lt e) };
+    current = h.current;
   }
 
 -- nor does a result that is taken
@@ -216,6 +232,10 @@ module _ (s : Workbench) (number seat id slice : ℕ) (c : Live) (h : AreClaimed
   none_then job next m (inl p) none = subst (λ j. IsNoneBefore then j m) (sym p.1) (none_other job m p.0 none)
   none_then job next m (inr p) none = subst (λ j. IsNoneBefore then j m) (sym p.1) (none_marked job m none)
 
+  current_then : (job next : jobs.Job) → ((job.number ≢ id) × (next ≡ job)) ⊎ ((job.number ≡ id) × (next ≡ jobs.marked slice job)) → is_replaced s job ≡ false → is_replaced then next ≡ false
+  current_then job next (inl p) h = subst (λ j. is_replaced then j ≡ false) (sym p.1) h
+  current_then job next (inr p) h = subst (λ j. is_replaced then j ≡ false) (sym p.1) h
+
   taken_passed : (k i : ℕ) → AreRising s.jobs → IsPassed s k i → IsPassed then k i
   taken_passed k i rising passed = record {
     jobs = λ n job lt at.
@@ -225,6 +245,9 @@ module _ (s : Workbench) (number seat id slice : ℕ) (c : Live) (h : AreClaimed
     slices = λ job at.
         let was = marked_at s.jobs id slice k job rising at in
         none_then was.0 job i was.2 (passed.slices was.0 was.1);
+    current = λ job at more.
+        let was = marked_at s.jobs id slice k job rising at in
+        current_then was.0 job was.2 (passed.current was.0 was.1 more);
   }
 
 pub result_passed : (s : Workbench) (number seat id slice k i : ℕ) (left : List Live) (o : Option Live) → HoldsSlice o id slice → IfSome o (λ c. AreClaimedBut c s.live left) → left ≡ others number seat s.live → AreRising s.jobs → IsPassed s k i → IsPassed (taken s number seat id slice) k i
@@ -238,6 +261,7 @@ pub closed_passed : (s : Workbench) (k i : ℕ) (closed : Bool) → IsPassed s k
 closed_passed s k i closed h = record {
   jobs = h.jobs;
   slices = λ job at. record { none = (h.slices job at).none };
+  current = h.current;
 }
 
 -- what the search finds may be held
@@ -252,3 +276,26 @@ first_ready s job k i number h e = (omega (arith, e), unclaimed (not h.free.1.0.
 
 pub slice_inside : (s : Workbench) (job : jobs.Job) (k i : ℕ) → IsFirstFree s job k i → i < length job.slices
 slice_inside s job k i h = inside job.slices i h.free.1.0 h.free.1.1
+
+-- a job at the mark, past its first slice
+
+job_at : (js : List jobs.Job) (k n : ℕ) (job : jobs.Job) → AreRising js → slice_get js k ≡ Some job → job.number ≡ n → job_of js n ≡ Some job
+unfolding AreRising
+job_at [] k n job r e is = cc
+job_at (j ∷ js) zero n job r e is =
+    let same : j ≡ job = cc in
+    let first : (j.number == n) ≡ true = eq-eqb j.number n (ap (λ (x : jobs.Job). x.number) same ∙ is) in
+    ap (λ b. cond b (Some j) (job_of js n)) first ∙ ap Some same
+job_at (j ∷ js) (suc k) n job r e is =
+    let more : j.number < job.number = ltb-true j.number job.number (all_get (λ (x : jobs.Job). nat_lt j.number x.number) js k job r.0 e) in
+    let other : (j.number == n) ≡ false = ne_eqb j.number n (λ q. absurd (omega (arith, more, q, is))) in
+    ap (λ b. cond b (Some j) (job_of js n)) other ∙ job_at js k n job r.1 e is
+
+above_zero : (n : ℕ) → n ≢ 0 → 0 < n
+above_zero zero h = absurd (h refl)
+above_zero (suc n) h = omega arith
+
+pub current_job : (s : Workbench) (job : jobs.Job) (k i n : ℕ) → IsPassed s k i → AreRising s.jobs → slice_get s.jobs k ≡ Some job → job.number ≡ n → i ≢ 0 → IfSome (job_of s.jobs n) (λ j. is_replaced s j ≡ false)
+current_job s job k i n passed rising at is more =
+    let P : Option jobs.Job → Type 0 = λ o. IfSome o (λ j. is_replaced s j ≡ false) in
+    subst P (sym (job_at s.jobs k n job rising at is)) (passed.current job at (above_zero i more))

@@ -37,7 +37,7 @@ turned m n = by (m == n) (n == m) refl refl
     by false false p q = p ∙ sym q
 
 -- a claim holds this slice
-abbrev holds_at : Live → ℕ → ℕ → Bool
+abbrev pub holds_at : Live → ℕ → ℕ → Bool
 holds_at c job slice = (c.job == job) && (c.slice == slice)
 
 at_turned : (c d : Live) → holds_at c d.job d.slice ≡ holds_at d c.job c.slice
@@ -66,7 +66,7 @@ at_number n k = by (k == n) refl (nat_cmp n k) refl
 
 -- lists
 
-any_kept : {X : Type 0} (q keep : X → Bool) (xs : List X) → list_any q xs ≡ false → list_any q (filter keep xs) ≡ false
+pub any_kept : {X : Type 0} (q keep : X → Bool) (xs : List X) → list_any q xs ≡ false → list_any q (filter keep xs) ≡ false
 any_kept q keep [] h = refl
 any_kept {X} q keep (x ∷ xs) h = by (keep x) (or_false _ _ h).0 (any_kept q keep xs (or_false _ _ h).1)
   where
@@ -107,7 +107,7 @@ filter_seen {X} {Y} f p (x ∷ xs) = by (p (f x)) (filter_seen f p xs)
 
 -- what numbers tell
 
-unused : (xs : List Live) (last n : ℕ) → are_upto last xs ≡ true → last < n → is_used xs n ≡ false
+pub unused : (xs : List Live) (last n : ℕ) → are_upto last xs ≡ true → last < n → is_used xs n ≡ false
 unused [] last n h lt = refl
 unused (x ∷ xs) last n h lt =
     let parts = and_parts _ _ h in
@@ -115,7 +115,7 @@ unused (x ∷ xs) last n h lt =
     let first : (x.number == n) ≡ false = ne_eqb x.number n (λ e. omega (arith, below, lt, e)) in
     ap (λ b. b || is_used xs n) first ∙ unused xs last n parts.1 lt
 
-upto_more : (xs : List Live) (c : Live) (last : ℕ) → are_upto last xs ≡ true → last < c.number → are_upto c.number (xs ++ c ∷ []) ≡ true
+pub upto_more : (xs : List Live) (c : Live) (last : ℕ) → are_upto last xs ≡ true → last < c.number → are_upto c.number (xs ++ c ∷ []) ≡ true
 upto_more [] c last h lt = ap (λ b. b && true) (le-leb c.number c.number (omega arith))
 upto_more (x ∷ xs) c last h lt =
     let parts = and_parts _ _ h in
@@ -132,7 +132,7 @@ inserted (e ∷ es) n x last h lt =
     ap (λ o. map live_of (match_ordering o ((n, x) ∷ e ∷ es) ((e.0, x) ∷ es) (e ∷ insert_entry nat_cmp es n x))) order
     ∙ ap (λ ls. live_of e ∷ ls) (inserted es n x last parts.1 lt)
 
-no_claim : (xs : List Live) (n s : ℕ) → is_used xs n ≡ false → claim_of xs n s ≡ None
+pub no_claim : (xs : List Live) (n s : ℕ) → is_used xs n ≡ false → claim_of xs n s ≡ None
 no_claim [] n s h = refl
 no_claim (x ∷ xs) n s h =
     let parts = or_false _ _ h in
@@ -164,7 +164,7 @@ apart_kept keep (x ∷ xs) h = by (keep x) (apart_kept keep xs h.2)
 
 -- without one claim
 
-all_stay : (xs : List Live) (n s : ℕ) → claim_of xs n s ≡ None → filter (λ c. not (is_claim n s c)) xs ≡ xs
+pub all_stay : (xs : List Live) (n s : ℕ) → claim_of xs n s ≡ None → filter (λ c. not (is_claim n s c)) xs ≡ xs
 all_stay [] n s h = refl
 all_stay (x ∷ xs) n s h = by (is_claim n s x) (all_stay xs n s) h
   where

@@ -5,6 +5,7 @@ pub mod Drops
 pub mod Frees
 pub mod Held
 pub mod Listed
+pub mod Newest
 pub mod Numbers
 pub mod Readings
 pub mod Results

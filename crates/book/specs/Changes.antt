@@ -48,7 +48,7 @@ FitsVerdict None v = ⊥
 FitsVerdict (Some job) v = IsVerdictOn job.work job.version v
 
 -- A taken result must be of a job that is there, and of the slice that a live claim holds; a verdict must be one on a job that is there, a put or a drop raises the version, and what is dropped must be there.
--- A claim has a new number, and the slice that it is to hold must not be claimed, and no slice before the mark free.
+-- A claim has a new number, and the slice that it is to hold must not be claimed, and the search must have come to the mark.
 abbrev pub IsReady : Workbench → Change → Type 0
 IsReady s (Take number seat job part) = FitsJob (job_of s.jobs job) part × HoldsSlice (claim_of s.live number seat) job part.piece.slice
 IsReady s (Judge id v) = FitsVerdict (job_of s.jobs id) v

@@ -9,6 +9,7 @@ pub mod Kept
 pub mod Listings
 pub mod LiveCodes
 pub mod NameCodes
+pub mod Newest
 pub mod Numbers
 pub mod Results
 pub mod Step

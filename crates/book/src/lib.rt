@@ -2,6 +2,7 @@
 #![tactic(auto)]
 
 mod cutting;
+mod given;
 mod jobs;
 mod kept;
 mod limits;
@@ -13,6 +14,7 @@ mod reading;
 mod slice;
 mod workbench;
 
+pub use given::GivenClaims;
 pub use jobs::Job;
 pub use journal::{
     Command, Entry, JobRow, Listing, Loaded, Refusal, Replacement, Reply, Returned, Said,

@@ -13,9 +13,10 @@ mod listed;
 mod replacing;
 mod sources;
 
+use crate::given::GivenClaims;
 use crate::jobs::Job;
 use crate::limits::Limits;
-use crate::live::{Live, LiveClaims};
+use crate::live::Live;
 use crate::mark::Mark;
 use crate::names::Tests;
 use crate::plan::Plan;
@@ -32,7 +33,7 @@ pub struct Bench {
     tests: Tests,
     cats: Files,
     jobs: Vec<Job>,
-    live: LiveClaims,
+    live: GivenClaims,
     /// Where the search for a free slice goes on.
     mark: Mark,
     last_job: u32,
@@ -80,7 +81,7 @@ impl Bench {
             tests: Tests::new(alloc),
             cats: Files::new(alloc)?,
             jobs: Vec::new(alloc),
-            live: LiveClaims::new(alloc),
+            live: GivenClaims::new(alloc),
             mark: Mark { job: 0, slice: 0 },
             last_job: 0,
             closed: false,

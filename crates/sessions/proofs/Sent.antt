@@ -9,6 +9,7 @@ use Rattle.slices.proofs.Sent.{test_send, work_send, work_sync, piece_send, piec
 use Rattle.journal.specs.contracts.records.Entry as Entry
 use Rattle.journal.specs.contracts.records.Reply as Reply
 use Rattle.journal.specs.contracts.records.Said as Said
+use Rattle.book.specs.contracts.given.GivenClaims as Given
 use Rattle.book.specs.contracts.kept.Book as Book
 use Rattle.book.specs.contracts.live.LiveClaims as Live
 use Rattle.sessions.specs.contracts.desks.Desk as Desk
@@ -46,8 +47,11 @@ files_send = search (crosses, sendable) depth 60 fits 20000
 live_send : IsSend Live.the_row
 live_send = search (maps_cross, crosses, sendable) depth 60 fits 20000
 
+given_send : IsSend Given.the_row
+given_send = search (live_send, crosses, sendable) depth 60 fits 20000
+
 book_send : IsSend Book.the_row
-book_send = search (live_send, test_send, files_send, tally_send, verdict_send, entry_send, entry_sync, crosses, sendable) depth 60 fits 20000
+book_send = search (given_send, test_send, files_send, tally_send, verdict_send, entry_send, entry_sync, crosses, sendable) depth 60 fits 20000
 
 shared_send : (L : RattleType) (g : Ghosts L.Denot) → IsSend (Shared.the_row L g)
 shared_send L g = search (book_send, share_send, count_send, crosses, sendable) depth 60 fits 20000

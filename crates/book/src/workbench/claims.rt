@@ -1,10 +1,10 @@
 //! What is done with claims: slices are claimed, returned and given back.
 
-ghost use Rattle.std.specs.Prelude.{◌≡◌, ◌↔◌, ◌&&◌, not, true, false, None, Some, IfOk, MatchOption, IsTrue, count_by};
+ghost use Rattle.std.specs.Prelude.{◌≡◌, ◌<◌, ◌↔◌, ◌&&◌, not, true, false, None, Some, IfOk, MatchOption, IsTrue, count_by};
 ghost use Rattle.book.specs.Changes.{changed, IsReady};
 ghost use Rattle.book.specs.Frees.{IsFirstFree, IsFreeAt, IsNoneBefore};
 ghost use Rattle.book.specs.Step.{Step, IsOwn, is_of};
-ghost use Rattle.book.specs.Workbench.{is_claimed, has_free, any_free};
+ghost use Rattle.book.specs.Workbench.{is_claimed, is_replaced, has_free, any_free};
 ghost use Rattle.journal.specs.Lines.{answers, returned, shown};
 ghost use Rattle.journal.specs.declared.records.Said.{Said};
 
@@ -72,7 +72,7 @@ impl Bench {
         let Some(job) = self.job(claim.job) else {
             return Ok(Plan::refuse(Refusal::NoClaim(number)));
         };
-        if let Some(replacement) = self.replaced(job)? {
+        if let Some(replacement) = self.replaced_since(claim.job, job)? {
             return Ok(Plan {
                 reply: Reply::Refused(Refusal::Replaced(replacement)),
                 change: Change::End(number, seat),
@@ -123,7 +123,7 @@ impl Bench {
     }
 
     /// The first free slice: the search goes on from the mark.
-    #[tactic(auto, using(crate::proofs::Frees::slices_passed, crate::proofs::Frees::job_passed, crate::proofs::Frees::all_passed, crate::proofs::Frees::first_free))]
+    #[tactic(auto, using(crate::proofs::Frees::slices_passed, crate::proofs::Frees::current_passed, crate::proofs::Frees::job_passed, crate::proofs::Frees::all_passed, crate::proofs::Frees::first_free))]
     fn free_place(&self) -> Option<FreeSlice<'_>>
         ensures { MatchOption result (any_free self.now ≡ false) (λ p. IsFirstFree self.now p.job.now p.place p.slice) }
     {
@@ -138,23 +138,35 @@ impl Bench {
         None
     }
 
-    /// The lowest free slice of a job, where none before this place is free.
+    /// The lowest free slice of a job, where none before this place is free, and the job isn't replaced if the place isn't its first.
     #[tactic(auto, using(crate::proofs::Frees::closed_taken, crate::proofs::Frees::replaced_taken, crate::proofs::Frees::open_free, crate::proofs::Frees::slice_passed, crate::proofs::Frees::none_here))]
     fn free_slice(&self, job: &Job, from: usize) -> Option<u16>
-        requires { IsNoneBefore self.now job.now from }
+        requires passed { IsNoneBefore self.now job.now from }
+        requires current { 0 < from → is_replaced self.now job.now ≡ false }
         ensures { MatchOption result (has_free self.now job.now ≡ false)
             (λ i. IsFreeAt self.now job.now i × IsNoneBefore self.now job.now i) }
     {
         let slices = job.slices();
         for place in from..slices.len() {
             if self.is_open(job, place as u16, slices[place]) {
-                if self.is_replaced(job) {
+                if self.is_replaced_at(job, from) {
                     return None;
                 }
                 return Some(place as u16);
             }
         }
         None
+    }
+
+    /// Whether a job is replaced. If the search begins behind its first slice, it isn't.
+    fn is_replaced_at(&self, job: &Job, from: usize) -> bool
+        requires { 0 < from → is_replaced self.now job.now ≡ false }
+        ensures { result ≡ is_replaced self.now job.now }
+    {
+        if from > 0 {
+            return false;
+        }
+        self.is_replaced(job)
     }
 
     /// Whether a slice is neither returned nor claimed.

@@ -1,7 +1,7 @@
 //! Which jobs are replaced.
 
-ghost use Rattle.std.specs.Prelude.{◌≡◌, is_some, IfOk};
-ghost use Rattle.book.specs.Workbench.{is_replaced, replaced, replaced_file};
+ghost use Rattle.std.specs.Prelude.{◌≡◌, Some, false, is_some, IfOk, IfSome, IsTrue};
+ghost use Rattle.book.specs.Workbench.{is_replaced, job_of, replaced, replaced_file};
 
 use crate::jobs::Job;
 use crate::workbench::Bench;
@@ -17,6 +17,36 @@ impl Bench {
         let work = job.work().work();
         self.tests.version(work.test().name()) != job.version()
             || is_replaced_file(&self.cats, work.model().files())
+    }
+
+    /// As `replaced`, of the job of a number. The job of the last search for a free slice isn't asked about again.
+    pub(crate) fn replaced_since(
+        &self,
+        number: u32,
+        job: &Job,
+    ) -> Result<Option<Replacement>, AllocError>
+        requires { job_of self.now.jobs number ≡ Some job.now }
+        ensures { IfOk result (λ r. r ≡ replaced self.now job.now) }
+    {
+        if self.is_current(number) {
+            return Ok(None);
+        }
+        self.replaced(job)
+    }
+
+    /// Whether the job of a number is known not to be replaced: the search for a free slice is behind its first.
+    fn is_current(&self, number: u32) -> bool
+        ensures { IsTrue result → IfSome (job_of self.now.jobs number) (λ j. is_replaced self.now j ≡ false) }
+    {
+        match self.jobs.get(self.mark.job) {
+            Some(job) => {
+                if self.mark.slice == 0 {
+                    return false;
+                }
+                job.number() == number
+            }
+            None => false,
+        }
     }
 
     /// The first of a job's test and then its files whose version is no longer the job's.
