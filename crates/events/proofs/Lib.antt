@@ -11,5 +11,6 @@ pub mod Structures
 pub mod Bases
 pub mod Exact
 pub mod Direct
+pub mod Grouping
 pub mod Extending
 pub mod Told

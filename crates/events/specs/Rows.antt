@@ -2,18 +2,16 @@
 use Rattle.std.specs.Prelude.{◌≡◌, ℕ, ◌+◌, ◌<◌, ◌≤◌, List, length, drop, sum_by, slice_index_or}
 use Rattle.listings.specs.Lists.{IsIn, StandsAt}
 use Rattle.events.specs.declared.event.EventId.{EventId}
+use Rattle.events.specs.declared.event.EventId.TheVariants.{Initial, Own}
 use Rattle.events.specs.declared.named.RelName.{RelName}
 use Rattle.events.specs.declared.named.RelName.TheVariants as names
 use Rattle.events.specs.declared.view.table.Pairwise.{Pairwise}
-use Rattle.events.specs.declared.view.table.Pairwise.TheVariants.{Po, Int, Loc, Rmw, Data, Ctrl}
+use Rattle.events.specs.declared.view.table.Pairwise.TheVariants.{Rmw, Data, Ctrl}
 use Rattle.events.specs.Executions.{GraphValue}
-use Rattle.events.specs.Named.{event_count, IsNumber, read_names, StandsFrom, StandsBefore}
+use Rattle.events.specs.Named.{event_count, location_of, IsMemory, IsNumber, read_names, StandsFrom, StandsBefore}
 
 -- the name of a relation that is tested pair by pair
 abbrev pub name_of : Pairwise → RelName
-name_of Po = names.Po
-name_of Int = names.Int
-name_of Loc = names.Loc
 name_of Rmw = names.Rmw
 name_of Data = names.Data
 name_of Ctrl = names.Ctrl
@@ -21,6 +19,32 @@ name_of Ctrl = names.Ctrl
 -- i and j are the numbers of events that P relates
 abbrev pub ByNumbers : GraphValue → (EventId → EventId → Type 0) → ℕ → ℕ → Type 0
 ByNumbers g P i j = (d : EventId) × (e : EventId) × IsNumber g i d × IsNumber g j e × P d e
+
+-- i is the number of an event with P
+abbrev pub ByNumber : GraphValue → (EventId → Type 0) → ℕ → Type 0
+ByNumber g P i = (e : EventId) × IsNumber g i e × P e
+
+-- e is an event of thread k, at place p or later
+abbrev pub IsFrom : ℕ → ℕ → EventId → Type 0
+IsFrom k p (Initial x) = ⊥
+IsFrom k p (Own l q) = (k ≡ l) × (p ≤ q)
+
+-- e is an initial write, or an event of one of the first k threads
+abbrev pub IsAmongThreads : ℕ → EventId → Type 0
+IsAmongThreads k (Initial x) = Unit {0}
+IsAmongThreads k (Own l q) = l < k
+
+-- d has P, and R relates it to e
+abbrev pub Starting : (EventId → Type 0) → (EventId → EventId → Type 0) → EventId → EventId → Type 0
+Starting P R d e = P d × R d e
+
+-- e reads or writes location x
+abbrev pub IsAccessOf : GraphValue → ℕ → EventId → Type 0
+IsAccessOf g x e = IsMemory g e × (location_of g e ≡ x)
+
+-- P relates i to j, and one of the numbers below k to i
+abbrev pub IsBegun : ℕ → (ℕ → ℕ → Type 0) → ℕ → ℕ → Type 0
+IsBegun k P i j = P i j × ((m : ℕ) × (m < k) × P m i)
 
 -- i is the number of one of these events
 abbrev pub IsNumberOfOne : GraphValue → List EventId → ℕ → Type 0

@@ -2,7 +2,7 @@
 
 ghost use Rattle.std.specs.Prelude.{◌≡◌, ◌↔◌, ◌⊎◌, IsTrue};
 ghost use Rattle.events.specs.Executions.{is_read, is_write, writes_to, no_places};
-ghost use Rattle.events.specs.Named.{IsOfCall, IsInitial, IsBefore, IsNext, IsInternal};
+ghost use Rattle.events.specs.Named.{IsOfCall, IsInitial, IsNext};
 ghost use Rattle.events.specs.Structures.{unvalued};
 ghost use Rattle.events.specs.declared.event.Access.TheVariants.{ExRead, ExWrite};
 
@@ -81,18 +81,6 @@ impl EventId {
         matches!(self, EventId::Initial(_))
     }
 
-    /// Whether the event comes before the other in program order.
-    pub fn is_before(self, other: Self) -> bool
-        ensures { IsTrue result ↔ IsBefore self other }
-    {
-        match (self, other) {
-            (EventId::Own(thread, place), EventId::Own(same, later)) => {
-                thread == same && place < later
-            }
-            _ => false,
-        }
-    }
-
     /// Whether the event comes directly before the other in program order.
     pub fn is_next(self, other: Self) -> bool
         ensures { IsTrue result ↔ IsNext self other }
@@ -101,17 +89,6 @@ impl EventId {
             (EventId::Own(thread, place), EventId::Own(same, next)) => {
                 thread == same && place < next && next - place == 1
             }
-            _ => false,
-        }
-    }
-
-    /// Whether both events are of one thread, or both are initial writes.
-    pub fn is_internal(self, other: Self) -> bool
-        ensures { IsTrue result ↔ IsInternal self other }
-    {
-        match (self, other) {
-            (EventId::Own(thread, _), EventId::Own(same, _)) => thread == same,
-            (EventId::Initial(_), EventId::Initial(_)) => true,
             _ => false,
         }
     }

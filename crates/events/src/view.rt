@@ -16,6 +16,7 @@ use std::alloc::{AllocError, Global};
 use std::marker::Model;
 
 mod facts;
+mod groups;
 mod held;
 mod known;
 mod names;

@@ -1,7 +1,8 @@
 //! What is known of an event by its name, and of a pair of events.
 
 ghost use Rattle.std.specs.Prelude.{◌≡◌, ◌↔◌, IsTrue, MatchOption};
-ghost use Rattle.events.specs.Named.{no_event, event_at, access_of, location_of, order_of, data_of, control_of, IsMemory, IsAtOneLocation, IsExchange, IsDependency};
+ghost use Rattle.events.specs.Named.{no_event, event_at, access_of, location_of, order_of, data_of, control_of, IsMemory, IsExchange, IsDependency};
+ghost use Rattle.events.specs.Rows.{IsAccessOf};
 
 use crate::event::{Access, Event, EventId, Order};
 use crate::graph::Graph;
@@ -78,13 +79,11 @@ impl Graph {
         access.is_read() || access.is_write()
     }
 
-    /// Do both events read or write one location?
-    pub(super) fn at_one_location(&self, first: EventId, second: EventId) -> bool
-        ensures { IsTrue result ↔ IsAtOneLocation self.now first second }
+    /// Does the event read or write this location?
+    pub(super) fn is_access_of(&self, location: usize, event: EventId) -> bool
+        ensures { IsTrue result ↔ IsAccessOf self.now location event }
     {
-        self.is_memory(first)
-            && self.is_memory(second)
-            && self.location(first) == self.location(second)
+        self.location(event) == location && self.is_memory(event)
     }
 
     /// Are they the read and the write of one exchange, or of one addition?

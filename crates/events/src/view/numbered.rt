@@ -83,15 +83,6 @@ impl<'a> Numbered<'a> {
         set
     }
 
-    /// The relation that is tested pair by pair.
-    pub(super) fn tested(&self, name: Pairwise) -> Rel
-        ensures { IsExactly (event_count self.now) (NamedRel self.now (name_of name)) result }
-    {
-        let mut rel = Rel::empty(self.count());
-        self.tested_into(name, &mut rel);
-        rel
-    }
-
     /// Writes the relation that is tested pair by pair over what `into` had.
     #[tactic(auto, using(crate::proofs::Filling::rel_begun, crate::proofs::Filling::rel_full))]
     pub(super) fn tested_into(&self, name: Pairwise, into: &mut Rel)
@@ -134,8 +125,8 @@ impl<'a> Numbered<'a> {
         self.is_related(name, self.event(from), self.event(to))
     }
 
-    // The event with this number.
-    fn event(&self, number: usize) -> EventId
+    /// The event with this number.
+    pub(super) fn event(&self, number: usize) -> EventId
         requires { number < event_count self.now }
         ensures { IsNumber self.now number result }
     {

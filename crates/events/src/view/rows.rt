@@ -85,9 +85,9 @@ impl Numbered<'_> {
         }
     }
 
-    // Relates an event to each of those behind it, and puts it with them.
+    /// Relates an event to each of those behind it, and puts it with them.
     #[tactic(auto, using(crate::proofs::Adding::row_more, crate::proofs::Adding::event_more, crate::proofs::Adding::nothing_more, crate::proofs::Adding::no_event_more))]
-    fn relate_behind(&self, rel: &mut Rel, behind: &mut Set, event: EventId)
+    pub(super) fn relate_behind(&self, rel: &mut Rel, behind: &mut Set, event: EventId)
         requires rel { rel.old.count ≡ event_count self.now }
         requires behind { behind.old.count ≡ event_count self.now }
         requires canonical_rel { IsCanonical rel.old }

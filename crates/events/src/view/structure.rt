@@ -6,7 +6,6 @@ ghost use Rattle.events.specs.Structures.{structure_of};
 use super::names::{event_names, read_names};
 use super::numbered::Numbered;
 use super::numbers::first_numbers;
-use super::table::Pairwise;
 use crate::event::EventId;
 use crate::graph::Graph;
 use crate::run::{Run, are_like_runs, copy_runs};
@@ -54,16 +53,21 @@ impl EventStructure {
         let events = event_names(alloc, graph)?;
         let reads = read_names(alloc, graph, &events)?;
         let firsts = first_numbers(alloc, graph)?;
+        let mut po = Rel::empty(0);
+        let mut int = Rel::empty(0);
+        let mut loc = Rel::empty(0);
         let numbered = Numbered::new(graph, &events, &reads, &firsts);
+        numbered.threads_into(&mut po, &mut int);
+        numbered.locations_into(&mut loc);
         Ok(EventStructure {
             init: Vec::from_slice(alloc, graph.init())?,
             runs: copy_runs(alloc, graph.runs())?,
-            po: numbered.tested(Pairwise::Po),
-            int: numbered.tested(Pairwise::Int),
-            loc: numbered.tested(Pairwise::Loc),
             events,
             reads,
             firsts,
+            po,
+            int,
+            loc,
         })
     }
 

@@ -11,9 +11,6 @@ use crate::named::SetName;
 /// The relations of which two events tell by themselves whether they are in: each is tested pair by pair.
 #[derive(Clone, Copy)]
 pub(super) enum Pairwise {
-    Po,
-    Int,
-    Loc,
     Rmw,
     Data,
     Ctrl,
@@ -57,9 +54,6 @@ impl Numbered<'_> {
     {
         let graph = self.graph;
         table! { name, Pairwise;
-            Po: from.is_before(to);
-            Int: from.is_internal(to);
-            Loc: graph.at_one_location(from, to);
             Rmw: graph.is_exchange(from, to);
             Data: graph.is_data_dependency(from, to);
             Ctrl: graph.is_control_dependency(from, to);

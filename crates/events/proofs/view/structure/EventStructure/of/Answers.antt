@@ -28,9 +28,9 @@ invariant_of-result c =
       reads = moved_reads g h _ e (c.in_ok-reads.ensures ∙ ap (λ (es : List EventId). filter (λ e. is_read (access_of g e)) es) (c.deref.ensures.value ∙ c.in_ok-events.ensures.names));
       firsts = moved_firsts g h _ e c.in_ok-firsts.ensures;
       few = moved_few g h e c.in_ok-events.ensures.few;
-      po = moved m h names.Po _ refl d c.tested.ensures;
-      int = moved m h names.Int _ refl d c.tested-2.ensures;
-      loc = moved m h names.Loc _ refl d c.tested-3.ensures;
+      po = moved m h names.Po _ refl d c.threads_into.ensures.po;
+      int = moved m h names.Int _ refl d c.threads_into.ensures.int;
+      loc = moved m h names.Loc _ refl d c.locations_into.ensures;
     }
 
 pub new-numbered-requires-clause-firsts : goal.new-numbered-requires-clause-firsts
