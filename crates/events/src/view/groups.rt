@@ -32,8 +32,9 @@ impl Numbered<'_> {
         ensures po { IsExactly (event_count self.now) (NamedRel self.now Po) po.new }
         ensures int { IsExactly (event_count self.now) (NamedRel self.now Int) int.new }
     {
-        po.become_empty(self.count());
-        int.become_empty(self.count());
+        let size = self.count();
+        po.become_empty(size);
+        int.become_empty(size);
         relate_group(int, &self.set(SetName::InitialWrites));
         for (thread, run) in self.graph.runs().iter().enumerate() {
             let events = self.relate_thread(po, thread, run.events().len());
@@ -59,12 +60,13 @@ impl Numbered<'_> {
     }
 
     /// Writes `loc` over what `rel` had, location by location.
-    #[tactic(auto, using(crate::proofs::Grouping::locations_begun, crate::proofs::Grouping::locations_full))]
+    #[tactic(auto, using(crate::proofs::Grouping::locations_begun))]
     pub(super) fn locations_into(&self, rel: &mut Rel)
         ensures { IsExactly (event_count self.now) (NamedRel self.now Loc) rel.new }
     {
-        rel.become_empty(self.count());
-        for number in 0..self.count() {
+        let size = self.count();
+        rel.become_empty(size);
+        for number in 0..size {
             self.relate_location(rel, number);
         }
     }
@@ -85,11 +87,11 @@ impl Numbered<'_> {
         requires { number < event_count self.now }
         ensures { IsExactlySet (event_count self.now) (NamedRel self.now Loc number) result }
     {
-        let event = self.event(number);
-        if !self.graph.is_memory(event) {
+        let one = self.event(number);
+        if !self.graph.is_memory(one) {
             return Set::empty(self.count());
         }
-        self.accesses(self.graph.location(event))
+        self.accesses(self.graph.location(one))
     }
 
     // The numbers of the events that read or write a location.
