@@ -1,7 +1,6 @@
 -- Events that are related to those of a group: of their thread, or of their location.
-use Rattle.std.proofs.Common.{◌≡◌, ℕ, ◌+◌, ◌<◌, ◌≤◌, ◌⊎◌, ◌↔◌, List, length, get_or, Bool, IsTrue, refl, sym, ◌∙◌, subst, inl, inr, arith}
+use Rattle.std.proofs.Common.{◌≡◌, ℕ, ◌+◌, ◌<◌, ◌≤◌, ◌⊎◌, length, get_or, refl, sym, ◌∙◌, subst, inl, inr, arith}
 use Rattle.std.proofs.lemmas.Bool.{cases_eq}
-use Rattle.listings.specs.Lists.{StandsAt}
 use Rattle.relations.specs.Events.{EventSet, Has, IsExactlySet}
 use Rattle.relations.specs.Relation.{Relation, In, IsExactly, IsCanonical}
 use Rattle.relations.specs.Equality.{reworded_set, reworded}
@@ -260,13 +259,16 @@ pub location_in : (n k : ℕ) (g : GraphValue) (r : Relation) → IsExactly n (I
 location_in n k g r h m =
     reworded n (IsBegun k (NamedRel g Loc)) (IsBegun (k + 1) (NamedRel g Loc)) r
     (λ i j x. (x.0, (x.1.0, omega (arith, x.1.1), x.1.2)))
-    (λ i j a b x. (x.0, elim (cases_eq x.1.0 k) [
-      | inl e ↦
-          (let P : ℕ → Type 0 = λ c. NamedRel g Loc c i in
-          let y : IsBegun k (NamedRel g Loc) k k = h.only k k m in
-          (y.1.0, y.1.1, beside_on g y.1.0 k i y.1.2 (subst P e x.1.2)))
-      | inr d ↦ (x.1.0, omega (arith, x.1.1, d), x.1.2)
-    ])) h
+    (λ i j a b x. (
+      x.0,
+      elim (cases_eq x.1.0 k) [
+        | inl e ↦
+            (let P : ℕ → Type 0 = λ c. NamedRel g Loc c i in
+            let y : IsBegun k (NamedRel g Loc) k k = h.only k k m in
+            (y.1.0, y.1.1, beside_on g y.1.0 k i y.1.2 (subst P e x.1.2)))
+        | inr d ↦ (x.1.0, omega (arith, x.1.1, d), x.1.2)
+      ],
+    )) h
 
 pub location_more : (n k : ℕ) (g : GraphValue) (s : EventSet) (r t : Relation) → IsExactly n (IsBegun k (NamedRel g Loc)) r → IsExactlySet n (NamedRel g Loc k) s →
     IsExactly r.count (λ i j. In r i j ⊎ (Has s i × Has s j)) t → IsExactly n (IsBegun (k + 1) (NamedRel g Loc)) t
@@ -305,10 +307,3 @@ unfolding NamedRel
 none_beside n k g e s at out h =
     reworded_set n (λ i. ⊥) (NamedRel g Loc k) s (λ i y. absurd y)
     (λ i l y. (let P : EventId → Type 0 = λ d. IsMemory g d in out (subst P (one_stands (event_names g) k y.0 e y.2 at) y.4.0))) h
-
--- a test of an event is one of its number
-pub tested_at : (g : GraphValue) (P : EventId → Type 0) (i : ℕ) (e : EventId) (b : Bool) → IsNumber g i e → (IsTrue b ↔ P e) → IsTrue b ↔ ByNumber g P i
-tested_at g P i e b s h = (
-  λ t. (e, s, h.0 t),
-  λ n. h.1 (subst P (one_stands (event_names g) i n.0 e n.1 s) n.2),
-)

@@ -6,6 +6,7 @@ use Rattle.events.specs.declared.named.SetName.{SetName}
 use Rattle.events.specs.declared.named.RelName.{RelName}
 use Rattle.events.specs.Executions.{GraphValue}
 use Rattle.listings.specs.Lists.{StandsAt}
+use Rattle.events.specs.Rows.{ByNumber}
 use Rattle.events.specs.Named.{event_names, InSet, InRel, NamedSet, NamedRel}
 
 pub stands : {X : Type 0} (xs : List X) (i : ℕ) (x : X) → i < length xs → x ≡ get_or xs i x → StandsAt xs i x
@@ -44,12 +45,16 @@ pub one_stands : {X : Type 0} (xs : List X) (i : ℕ) (x y : X) → StandsAt xs 
 one_stands xs i x y s t = sym (stands_get xs i x x s) ∙ stands_get xs i x y t
 
 -- a test of an event is one of its number
+pub tested_at : (g : GraphValue) (P : EventId → Type 0) (i : ℕ) (e : EventId) (b : Bool) → StandsAt (event_names g) i e → (IsTrue b ↔ P e) → IsTrue b ↔ ByNumber g P i
+tested_at g P i e b s h = (
+  λ t. (e, s, h.0 t),
+  λ n. h.1 (subst P (one_stands (event_names g) i n.0 e n.1 s) n.2),
+)
+
+-- the same of a named set
 pub by_number : (g : GraphValue) (name : SetName) (i : ℕ) (e : EventId) (b : Bool) → StandsAt (event_names g) i e → (IsTrue b ↔ InSet g name e) → IsTrue b ↔ NamedSet g name i
 unfolding NamedSet
-by_number g name i e b s h = (
-  λ t. (e, s, h.0 t),
-  λ n. (let P : EventId → Type 0 = InSet g name in h.1 (subst P (one_stands (event_names g) i n.0 e n.1 s) n.2)),
-)
+by_number g name i e b s h = tested_at g (InSet g name) i e b s h
 
 -- a test of a pair of events is one of their numbers
 pub by_numbers : (g : GraphValue) (name : RelName) (i j : ℕ) (d e : EventId) (b : Bool) → StandsAt (event_names g) i d → StandsAt (event_names g) j e → (IsTrue b ↔ InRel g name d e) → IsTrue b ↔ NamedRel g name i j

@@ -1,7 +1,7 @@
 -- What tests of events tell.
-use Rattle.std.proofs.Common.{◌≡◌, ◌≢◌, ◌<◌, ◌↔◌, ℕ, Bool, false, IsTrue, eqb, ltb, rules}
+use Rattle.std.proofs.Common.{◌≡◌, ◌≢◌, ◌↔◌, ℕ, Bool, false, IsTrue, eqb, rules}
 use Rattle.std.proofs.lemmas.Bool.{false≢true}
-use Rattle.std.proofs.lemmas.Bool.Decides.{Decides-eqb, Decides-ltb}
+use Rattle.std.proofs.lemmas.Bool.Decides.{Decides-eqb}
 use Rattle.std.specs.Bool.{Decides}
 use Rattle.events.specs.declared.event.Access.{Access}
 use Rattle.events.specs.declared.event.Order.{Order}
@@ -29,6 +29,3 @@ nothing_told = (λ h. absurd (false≢true h), λ h. absurd h)
 -- two numbers that are not the same
 pub apart_told : (k l : ℕ) (P : Type 0) → k ≢ l → IsTrue (eqb k l) ↔ (k ≡ l) × P
 apart_told k l P n = (λ h. absurd (n ((Decides-eqb k l).0 h)), λ h. absurd (n h.0))
-
-pub before_told : (k l p q : ℕ) → k ≡ l → IsTrue (ltb p q) ↔ (k ≡ l) × (p < q)
-before_told k l p q e = (λ h. (e, (Decides-ltb p q).0 h), λ h. (Decides-ltb p q).1 h.1)

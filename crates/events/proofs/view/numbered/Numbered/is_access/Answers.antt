@@ -1,7 +1,7 @@
 use Rattle.std.proofs.Common.{◌↔◌, IsTrue, subst}
 use Rattle.events.specs.Executions.{GraphValue}
 use Rattle.events.specs.Rows.{IsAccessOf}
-use Rattle.events.proofs.Grouping.{tested_at}
+use Rattle.events.proofs.Standing.{tested_at}
 use Rattle.events.proofs.view.numbered.Numbered.is_access.Goals as goal
 
 pub returns : goal.returns
