@@ -11,7 +11,7 @@ ghost use Rattle.candidates.specs.Levels.{AreLevels, StandsAt, Stands, places_of
 use crate::counts::AccessTally;
 use crate::fault::MOST_CANDIDATES;
 use crate::groups::Groups;
-use crate::impossible::Marks;
+use crate::impossible::{Marks, passed};
 use crate::levels::Level;
 use events::Run;
 use std::alloc::{AllocError, Global};
@@ -115,7 +115,7 @@ pub(crate) struct Choice {
 }
 
 /// The run at which a level stands, where a number is in it and it may be in an execution: none needs to be sought then.
-fn stay(level: &Level, marks: &Marks, number: u64) -> Option<Choice>
+fn stay(level: &Level, marks: &Marks<'_>, number: u64) -> Option<Choice>
     requires stands { Stands level.now }
     requires marks { length marks.now ≡ length level.now.sizes.items }
     ensures { IfSome result (λ c. (c.place ≡ level.now.place) × IsChosen marks.now level.now.sizes.items number c.place c.rest c.passed) }
@@ -135,7 +135,7 @@ fn stay(level: &Level, marks: &Marks, number: u64) -> Option<Choice>
 }
 
 /// The run of a level's thread that a number is in.
-fn choose(level: &Level, marks: &Marks, number: u64) -> Choice
+fn choose(level: &Level, marks: &Marks<'_>, number: u64) -> Choice
     requires stands { Stands level.now }
     requires most { sum_of (λ n. n) level.now.sizes.items ≤ MOST_CANDIDATES }
     requires marks { length marks.now ≡ length level.now.sizes.items }
@@ -146,7 +146,7 @@ fn choose(level: &Level, marks: &Marks, number: u64) -> Choice
     Choice {
         place: part.place,
         rest: part.rest,
-        passed: marks.passed(&level.sizes, part.place),
+        passed: passed(marks, &level.sizes, part.place),
     }
 }
 
@@ -252,7 +252,7 @@ pub(crate) fn choose_run(
     groups: &[Groups],
     thread: usize,
     locations: usize,
-    marks: &Marks,
+    marks: &Marks<'_>,
     number: u64,
 ) -> Result<Choice, AllocError>
     requires levels { AreLevels locations groups.now levels.old.items }

@@ -1,4 +1,4 @@
-use Rattle.std.proofs.Common.{arith}
+use Rattle.std.proofs.Common.{◌∙◌, arith, sym}
 use Rattle.candidates.proofs.Adding.{take_on}
 use Rattle.candidates.proofs.Marking.{marked_next, sum_fits}
 use Rattle.candidates.proofs.impossible.passed.Goals as goal
@@ -12,5 +12,15 @@ loop-end-preserved c =
       order = omega (arith, at.invariant.order);
       within = omega (arith, c.loop-end-test.true);
       sum = omega (arith, at.invariant.sum, take_on c.args.sizes.now at.end c.loop-end-test.true);
-      marked = marked_next c.args.marks.now c.args.place at.end c.if-not-marks-end.false at.invariant.marked;
+      marked = marked_next c.args.marks.now c.args.place at.end (sym c.is_marked.ensures ∙ c.if-not-is_marked.false) at.invariant.marked;
     }
+
+pub returns-then-not-is_marked : goal.returns-then-not-is_marked
+returns-then-not-is_marked c =
+    let at = c.loop-end in
+    record { end = at.end; order = at.invariant.order; within = at.invariant.within; sum = at.invariant.sum; marked = at.invariant.marked }
+
+pub returns : goal.returns
+returns c =
+    let at = c.loop-end in
+    record { end = at.end; order = at.invariant.order; within = at.invariant.within; sum = at.invariant.sum; marked = at.invariant.marked }

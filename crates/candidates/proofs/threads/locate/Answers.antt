@@ -4,9 +4,9 @@ use Rattle.std.proofs.lemmas.Result.{IfOk-from_err}
 use Rattle.events.specs.Executions.{ThreadRun, empty_run}
 use Rattle.candidates.specs.Groups.{tally_of, sizes_of}
 use Rattle.candidates.specs.Candidates.{Choices, choices}
-use Rattle.candidates.specs.Impossible.{is_impossible}
-use Rattle.candidates.proofs.Excluded.{marks_here, passed_within, passed_over}
-use Rattle.candidates.proofs.Grouping.{length_mapped, tallies_of}
+use Rattle.candidates.specs.Impossible.{is_refused}
+use Rattle.candidates.proofs.Excluded.{as_many_needs, needed_on, needs_here, passed_within, passed_over, refused}
+use Rattle.candidates.proofs.Grouping.{events_of, length_mapped, tallies_of}
 use Rattle.candidates.specs.Executions.{block}
 use Rattle.candidates.specs.Parts.{IsPart}
 use Rattle.candidates.proofs.Placed.{placed_cut}
@@ -31,6 +31,7 @@ loop-thread-init c = record {
   calm = λ h. (omega (arith, c.len.ensures, leb-true c.len.result (length c.args.threads.now.runs.now) h), refl);
   alike = λ h. (omega (arith, c.len.ensures, leb-true c.len.result (length c.args.threads.now.runs.now) h), refl);
   levels = c.requires.levels;
+  chosen = λ h. c.none-chosen.ensures c.args.threads.now.init.now h.stores;
 }
 
 pub place_run-requires-clause-place : goal.place_run-requires-clause-place
@@ -74,9 +75,10 @@ choose_run-requires-clause-marks c =
     let at = c.loop-thread in
     let l = c.loop-thread-test.true in
     let runs = get_or threads at.thread [] in
-    let marks = sym c.index-threads-thread.is ∙ marks_here c.args.threads.now.init.now c.requires.threads.marked.stores threads c.args.threads.now.marks.now at.thread c.index-threads-thread.result c.requires.threads.marked.are l c.index-threads-thread.is in
+    let needs = c.index-threads-thread.result in
+    let has = needs_here c.args.threads.now.init.now threads c.args.threads.now.needs.now at.thread needs c.requires.threads.needs l c.index-threads-thread.is in
     let here = tallies_here n threads c.args.threads.now.groups.now at.thread (get_or c.args.threads.now.groups.now at.thread []) c.requires.threads.tallied l (same_default c.args.threads.now.groups.now at.thread (as_many_groups (tallies_of n) c.args.threads.now.groups.now threads at.thread c.requires.threads.tallied l)) in
-    ap (λ bs. length bs) marks ∙ length_mapped (is_impossible c.args.threads.now.init.now c.requires.threads.marked.stores) runs
+    ap (λ bs. length bs) c.marks-marked.ensures ∙ length_mapped (is_refused at.chosen needs.behind) needs.needs.items ∙ as_many_needs c.args.threads.now.init.now c.requires.threads.needs.stores threads at.thread needs has
     ∙ sym (ap (λ ts. length ts) here ∙ length_mapped (λ (run : ThreadRun). tally_of n run.events) runs)
 
 pub choose_run-requires-clause-number : goal.choose_run-requires-clause-number
@@ -103,7 +105,7 @@ overflow_add-result c =
     let sizes = sizes_of (tally_to n c.args.threads.now.groups.now (places_of at.levels.items) at.thread) (get_or c.args.threads.now.groups.now at.thread []) (drop (at.thread + 1) c.args.threads.now.groups.now) in
     let e = enter n (choices threads) c.args.number at.rest (tally_to n c.args.threads.now.groups.now (places_of at.levels.items) at.thread) (take at.thread at.runs.items) threads c.args.threads.now.groups.now at.thread (get_or c.args.threads.now.groups.now at.thread []) (drop (at.thread + 1) c.args.threads.now.groups.now) sizes c.requires.threads.tallied l
     (same_default c.args.threads.now.groups.now at.thread (as_many_groups (tallies_of n) c.args.threads.now.groups.now threads at.thread c.requires.threads.tallied l)) refl at.invariant.down refl in
-    omega (arith, passed_within n (choices threads) c.args.number at.rest choice.rest (tally_to n c.args.threads.now.groups.now (places_of at.levels.items) at.thread) (take at.thread at.runs.items) runs more sizes (get_or c.args.threads.now.marks.now at.thread c.index-threads-thread.result) choice.place choice.passed e.down e.are chosen.sum chosen.passed_are, c.requires.threads.most)
+    omega (arith, passed_within n (choices threads) c.args.number at.rest choice.rest (tally_to n c.args.threads.now.groups.now (places_of at.levels.items) at.thread) (take at.thread at.runs.items) runs more sizes c.marks-marked.result choice.place choice.passed e.down e.are chosen.sum chosen.passed_are, c.requires.threads.most)
 
 pub returns-then-choice-gt0-clause-located : goal.returns-then-choice-gt0-clause-located
 returns-then-choice-gt0-clause-located c =
@@ -118,10 +120,11 @@ returns-then-choice-gt0-clause-located c =
     let sizes = sizes_of (tally_to n c.args.threads.now.groups.now (places_of at.levels.items) at.thread) (get_or c.args.threads.now.groups.now at.thread []) (drop (at.thread + 1) c.args.threads.now.groups.now) in
     let e = enter n (choices threads) c.args.number at.rest (tally_to n c.args.threads.now.groups.now (places_of at.levels.items) at.thread) (take at.thread at.runs.items) threads c.args.threads.now.groups.now at.thread (get_or c.args.threads.now.groups.now at.thread []) (drop (at.thread + 1) c.args.threads.now.groups.now) sizes c.requires.threads.tallied l
     (same_default c.args.threads.now.groups.now at.thread (as_many_groups (tallies_of n) c.args.threads.now.groups.now threads at.thread c.requires.threads.tallied l)) refl at.invariant.down refl in
-    let marks = sym c.index-threads-thread.is ∙ marks_here c.args.threads.now.init.now c.requires.threads.marked.stores threads c.args.threads.now.marks.now at.thread c.index-threads-thread.result c.requires.threads.marked.are l c.index-threads-thread.is in
+    let needs = c.index-threads-thread.result in
+    let has = needs_here c.args.threads.now.init.now threads c.args.threads.now.needs.now at.thread needs c.requires.threads.needs l c.index-threads-thread.is in
     let s : Choices = record { init = c.args.threads.now.init.now; threads = threads } in
-    passed_over s c.requires.threads.marked.stores c.args.number at.rest choice.rest (tally_to n c.args.threads.now.groups.now (places_of at.levels.items) at.thread) (take at.thread at.runs.items) runs more sizes (get_or c.args.threads.now.marks.now at.thread c.index-threads-thread.result) choice.place choice.passed
-    c.requires.threads.marked.has marks e.down e.are chosen.sum chosen.passed_are chosen.place chosen.within (omega (arith, c.if-choice-gt0.true))
+    passed_over s c.args.number at.rest choice.rest (tally_to n c.args.threads.now.groups.now (places_of at.levels.items) at.thread) (take at.thread at.runs.items) runs more sizes c.marks-marked.result choice.place choice.passed
+    (refused c.args.threads.now.init.now c.requires.threads.needs.stores (take at.thread at.runs.items) threads at.thread at.chosen needs c.marks-marked.result (at.invariant.chosen c.requires.threads.needs) has c.marks-marked.ensures) e.down e.are chosen.sum chosen.passed_are chosen.place chosen.within (omega (arith, c.if-choice-gt0.true))
 
 pub loop-thread-preserved : goal.loop-thread-preserved
 loop-thread-preserved c =
@@ -158,6 +161,8 @@ loop-thread-preserved c =
       calm = λ h. (let both = c.joined-kept.ensures.calm h in let k = at.invariant.calm both.0 in (k.0, shows_on writings at.runs.items c.place_run.new.runs.items (λ like. like.calm) c.in_ok-change.change c.in_ok-change.ensures.same c.in_ok-change.ensures.calm both.1 ∙ k.1));
       alike = λ h. (let both = c.joined-kept.ensures.alike h in let k = at.invariant.alike both.0 in (k.0, shows_on outlines at.runs.items c.place_run.new.runs.items (λ like. like.alike) c.in_ok-change.change c.in_ok-change.ensures.same c.in_ok-change.ensures.alike both.1 ∙ k.1));
       levels = c.choose_run.ensures.levels;
+      chosen = λ h. needed_on c.args.threads.now.init.now threads c.args.threads.now.needs.now at.thread c.index-threads-thread.result at.chosen c.at.result c.with-chosen.result (take at.thread at.runs.items) (take (at.thread + 1) c.place_run.new.runs.items) choice.place h l c.index-threads-thread.is m c.at.ensures (at.invariant.chosen h) c.in_ok-change.ensures.put
+          (c.with-chosen.ensures c.args.threads.now.init.now h.stores (events_of (take at.thread at.runs.items)) run.events);
     }
 
 pub returns-clause-located : goal.returns-clause-located
@@ -170,8 +175,22 @@ returns-clause-located c =
     (down_end n (choices threads) c.args.number at.rest (tally_to n c.args.threads.now.groups.now (places_of at.levels.items) at.thread) (take at.thread at.runs.items) (drop at.thread threads) (drop_all at.thread threads (omega (arith, c.loop-thread-test.false))) at.invariant.down)
 
 pub bounds-threads-thread : goal.bounds-threads-thread
-bounds-threads-thread c =
-    omega (arith, c.loop-thread-test.true, ap (λ bs. length bs) c.requires.threads.marked.are, length_mapped (λ (runs : List ThreadRun). map (is_impossible c.args.threads.now.init.now c.requires.threads.marked.stores) runs) c.args.threads.now.runs.now)
+bounds-threads-thread c = omega (arith, c.loop-thread-test.true, c.requires.threads.needs.many)
+
+pub at-requires : goal.at-requires
+at-requires c =
+    let n = length c.args.threads.now.init.now in
+    let threads = c.args.threads.now.runs.now in
+    let at = c.loop-thread in
+    let l = c.loop-thread-test.true in
+    let choice = c.in_ok-choice.choice in
+    let sizes = sizes_of (tally_to n c.args.threads.now.groups.now (places_of at.levels.items) at.thread) (get_or c.args.threads.now.groups.now at.thread []) (drop (at.thread + 1) c.args.threads.now.groups.now) in
+    let e = enter n (choices threads) c.args.number at.rest (tally_to n c.args.threads.now.groups.now (places_of at.levels.items) at.thread) (take at.thread at.runs.items) threads c.args.threads.now.groups.now at.thread (get_or c.args.threads.now.groups.now at.thread []) (drop (at.thread + 1) c.args.threads.now.groups.now) sizes c.requires.threads.tallied l
+    (same_default c.args.threads.now.groups.now at.thread (as_many_groups (tallies_of n) c.args.threads.now.groups.now threads at.thread c.requires.threads.tallied l)) refl at.invariant.down refl in
+    let m = run_within n (choices threads) c.args.number at.rest (tally_to n c.args.threads.now.groups.now (places_of at.levels.items) at.thread) (take at.thread at.runs.items) threads at.thread sizes choice.place e c.in_ok-choice.ensures.chosen.place in
+    let needs = c.index-threads-thread.result in
+    let has = needs_here c.args.threads.now.init.now threads c.args.threads.now.needs.now at.thread needs c.requires.threads.needs l c.index-threads-thread.is in
+    omega (arith, m, as_many_needs c.args.threads.now.init.now c.requires.threads.needs.stores threads at.thread needs has)
 
 pub choose_run-requires-clause-levels : goal.choose_run-requires-clause-levels
 choose_run-requires-clause-levels c = c.loop-thread.invariant.levels
