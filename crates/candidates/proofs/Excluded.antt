@@ -2,6 +2,7 @@
 use Rattle.std.proofs.Common.{◌≡◌, ℕ, zero, suc, ◌+◌, ◌-◌, ◌<◌, ◌≤◌, List, [], ◌∷◌, length, map, take, get_or, filter, refl, sym, ◌∙◌, ap, subst, inl, inr, arith, Bool, true, false, not, ◌==◌, ◌&&◌, None, ◌++◌, drop, bit_and, bit_or, bit_xor}
 use Rattle.std.specs.Int.{bit_at}
 use Rattle.std.specs.Prelude.{slice_index_or}
+use Rattle.std.proofs.lemmas.List.{get_or_default}
 use Rattle.std.proofs.lemmas.Bool.{and_parts, cases_Bool, cases_lt, eqb-true, eq-eqb, false≢true}
 use Rattle.events.specs.declared.event.Event.{Event}
 use Rattle.events.specs.declared.event.EventId.{EventId}
@@ -198,8 +199,10 @@ passed_over s number rest left tally chosen runs more sizes marks d k are h e is
 )
 
 -- What the runs of a thread need.
-pub needs_here : (init : List ℕ) (threads : List (List ThreadRun)) (all : List ThreadNeeds) (k : ℕ) (t : ThreadNeeds) (h : AreAllNeeds init threads all) → k < length threads → t ≡ get_or all k t → HasNeeds init h.stores threads k t
-needs_here init threads all k t h l is = h.are k t (omega (arith, l, h.many)) is
+pub needs_here : (init : List ℕ) (threads : List (List ThreadRun)) (all : List ThreadNeeds) (k : ℕ) (e : ThreadNeeds) (h : AreAllNeeds init threads all) → k < length threads → HasNeeds init h.stores threads k (get_or all k e)
+needs_here init threads all k e h l =
+    let inside : k < length all = omega (arith, l, h.many) in
+    h.are k (get_or all k e) inside (get_or_default all k e (get_or all k e) inside)
 
 pub as_many_needs : (init : List ℕ) (stores : List Store) (threads : List (List ThreadRun)) (k : ℕ) (t : ThreadNeeds) → HasNeeds init stores threads k t → length t.needs.items ≡ length (get_or threads k [])
 as_many_needs init stores threads k t has =
@@ -207,12 +210,13 @@ as_many_needs init stores threads k t has =
     each_many R (get_or threads k []) t.needs.items has.runs
 
 -- One run more is chosen.
-pub needed_on : (init : List ℕ) (threads : List (List ThreadRun)) (all : List ThreadNeeds) (k : ℕ) (t : ThreadNeeds) (before own both : Needs) (chosen longer : List ThreadRun) (d : ℕ) (h : AreAllNeeds init threads all) → k < length threads → t ≡ get_or all k t → d < length (get_or threads k []) → own ≡ get_or t.needs.items d own → AreNeeds init h.stores (events_of chosen) before → longer ≡ chosen ++ get_or (get_or threads k []) d empty_run ∷ []
+pub needed_on : (init : List ℕ) (threads : List (List ThreadRun)) (all : List ThreadNeeds) (k : ℕ) (e : ThreadNeeds) (before own both : Needs) (chosen longer : List ThreadRun) (d : ℕ) (h : AreAllNeeds init threads all) → k < length threads → d < length (get_or threads k []) → own ≡ get_or (get_or all k e).needs.items d own → AreNeeds init h.stores (events_of chosen) before → longer ≡ chosen ++ get_or (get_or threads k []) d empty_run ∷ []
     → (AreNeeds init h.stores (events_of chosen) before → AreNeeds init h.stores (get_or (get_or threads k []) d empty_run).events own → AreNeeds init h.stores (events_of chosen ++ (get_or (get_or threads k []) d empty_run).events) both) → AreNeeds init h.stores (events_of longer) both
-needed_on init threads all k t before own both chosen longer d h l is m o front more with =
+needed_on init threads all k e before own both chosen longer d h l m o front more with =
+    let t = get_or all k e in
     let R : ThreadRun → Needs → Type 0 = λ run n. AreNeeds init h.stores run.events n in
     let run = get_or (get_or threads k []) d empty_run in
-    let has = needs_here init threads all k t h l is in
+    let has = needs_here init threads all k e h l in
     let P : Needs → Type 0 = λ n. R run n in
     let here : R run own = subst P (sym o) (each_at R (get_or threads k []) t.needs.items d empty_run own has.runs m) in
     let Q : List Event → Type 0 = λ es. AreNeeds init h.stores es both in

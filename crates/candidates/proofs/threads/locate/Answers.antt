@@ -75,8 +75,8 @@ choose_run-requires-clause-marks c =
     let at = c.loop-thread in
     let l = c.loop-thread-test.true in
     let runs = get_or threads at.thread [] in
-    let needs = c.index-threads-thread.result in
-    let has = needs_here c.args.threads.now.init.now threads c.args.threads.now.needs.now at.thread needs c.requires.threads.needs l c.index-threads-thread.is in
+    let needs = get_or c.args.threads.now.needs.now at.thread c.index-threads-thread.result in
+    let has = needs_here c.args.threads.now.init.now threads c.args.threads.now.needs.now at.thread c.index-threads-thread.result c.requires.threads.needs l in
     let here = tallies_here n threads c.args.threads.now.groups.now at.thread (get_or c.args.threads.now.groups.now at.thread []) c.requires.threads.tallied l (same_default c.args.threads.now.groups.now at.thread (as_many_groups (tallies_of n) c.args.threads.now.groups.now threads at.thread c.requires.threads.tallied l)) in
     ap (λ bs. length bs) c.marks-marked.ensures ∙ length_mapped (is_refused at.chosen needs.behind) needs.needs.items ∙ as_many_needs c.args.threads.now.init.now c.requires.threads.needs.stores threads at.thread needs has
     ∙ sym (ap (λ ts. length ts) here ∙ length_mapped (λ (run : ThreadRun). tally_of n run.events) runs)
@@ -120,8 +120,8 @@ returns-then-choice-gt0-clause-located c =
     let sizes = sizes_of (tally_to n c.args.threads.now.groups.now (places_of at.levels.items) at.thread) (get_or c.args.threads.now.groups.now at.thread []) (drop (at.thread + 1) c.args.threads.now.groups.now) in
     let e = enter n (choices threads) c.args.number at.rest (tally_to n c.args.threads.now.groups.now (places_of at.levels.items) at.thread) (take at.thread at.runs.items) threads c.args.threads.now.groups.now at.thread (get_or c.args.threads.now.groups.now at.thread []) (drop (at.thread + 1) c.args.threads.now.groups.now) sizes c.requires.threads.tallied l
     (same_default c.args.threads.now.groups.now at.thread (as_many_groups (tallies_of n) c.args.threads.now.groups.now threads at.thread c.requires.threads.tallied l)) refl at.invariant.down refl in
-    let needs = c.index-threads-thread.result in
-    let has = needs_here c.args.threads.now.init.now threads c.args.threads.now.needs.now at.thread needs c.requires.threads.needs l c.index-threads-thread.is in
+    let needs = get_or c.args.threads.now.needs.now at.thread c.index-threads-thread.result in
+    let has = needs_here c.args.threads.now.init.now threads c.args.threads.now.needs.now at.thread c.index-threads-thread.result c.requires.threads.needs l in
     let s : Choices = record { init = c.args.threads.now.init.now; threads = threads } in
     passed_over s c.args.number at.rest choice.rest (tally_to n c.args.threads.now.groups.now (places_of at.levels.items) at.thread) (take at.thread at.runs.items) runs more sizes c.marks-marked.result choice.place choice.passed
     (refused c.args.threads.now.init.now c.requires.threads.needs.stores (take at.thread at.runs.items) threads at.thread at.chosen needs c.marks-marked.result (at.invariant.chosen c.requires.threads.needs) has c.marks-marked.ensures) e.down e.are chosen.sum chosen.passed_are chosen.place chosen.within (omega (arith, c.if-choice-gt0.true))
@@ -161,7 +161,7 @@ loop-thread-preserved c =
       calm = λ h. (let both = c.joined-kept.ensures.calm h in let k = at.invariant.calm both.0 in (k.0, shows_on writings at.runs.items c.place_run.new.runs.items (λ like. like.calm) c.in_ok-change.change c.in_ok-change.ensures.same c.in_ok-change.ensures.calm both.1 ∙ k.1));
       alike = λ h. (let both = c.joined-kept.ensures.alike h in let k = at.invariant.alike both.0 in (k.0, shows_on outlines at.runs.items c.place_run.new.runs.items (λ like. like.alike) c.in_ok-change.change c.in_ok-change.ensures.same c.in_ok-change.ensures.alike both.1 ∙ k.1));
       levels = c.choose_run.ensures.levels;
-      chosen = λ h. needed_on c.args.threads.now.init.now threads c.args.threads.now.needs.now at.thread c.index-threads-thread.result at.chosen c.at.result c.with-chosen.result (take at.thread at.runs.items) (take (at.thread + 1) c.place_run.new.runs.items) choice.place h l c.index-threads-thread.is m c.at.ensures (at.invariant.chosen h) c.in_ok-change.ensures.put
+      chosen = λ h. needed_on c.args.threads.now.init.now threads c.args.threads.now.needs.now at.thread c.index-threads-thread.result at.chosen c.at.result c.with-chosen.result (take at.thread at.runs.items) (take (at.thread + 1) c.place_run.new.runs.items) choice.place h l m c.at.ensures (at.invariant.chosen h) c.in_ok-change.ensures.put
           (c.with-chosen.ensures c.args.threads.now.init.now h.stores (events_of (take at.thread at.runs.items)) run.events);
     }
 
@@ -188,8 +188,8 @@ at-requires c =
     let e = enter n (choices threads) c.args.number at.rest (tally_to n c.args.threads.now.groups.now (places_of at.levels.items) at.thread) (take at.thread at.runs.items) threads c.args.threads.now.groups.now at.thread (get_or c.args.threads.now.groups.now at.thread []) (drop (at.thread + 1) c.args.threads.now.groups.now) sizes c.requires.threads.tallied l
     (same_default c.args.threads.now.groups.now at.thread (as_many_groups (tallies_of n) c.args.threads.now.groups.now threads at.thread c.requires.threads.tallied l)) refl at.invariant.down refl in
     let m = run_within n (choices threads) c.args.number at.rest (tally_to n c.args.threads.now.groups.now (places_of at.levels.items) at.thread) (take at.thread at.runs.items) threads at.thread sizes choice.place e c.in_ok-choice.ensures.chosen.place in
-    let needs = c.index-threads-thread.result in
-    let has = needs_here c.args.threads.now.init.now threads c.args.threads.now.needs.now at.thread needs c.requires.threads.needs l c.index-threads-thread.is in
+    let needs = get_or c.args.threads.now.needs.now at.thread c.index-threads-thread.result in
+    let has = needs_here c.args.threads.now.init.now threads c.args.threads.now.needs.now at.thread c.index-threads-thread.result c.requires.threads.needs l in
     omega (arith, m, as_many_needs c.args.threads.now.init.now c.requires.threads.needs.stores threads at.thread needs has)
 
 pub choose_run-requires-clause-levels : goal.choose_run-requires-clause-levels
