@@ -66,13 +66,13 @@ pub record AreAllNeeds (init : List ℕ) (threads : List (List ThreadRun)) (all 
   pub many : length all ≡ length threads
   pub are : (k : ℕ) (t : ThreadNeeds) → k < length all → t ≡ slice_index_or all k t → HasNeeds init stores threads k t
 
--- Whether a run that needs this wants, with those before it, what neither they give nor it.
-abbrev pub is_marked : (wants gives : ℕ) → Needs → Bool
-is_marked wants gives own = not (bit_and (bit_or wants own.wants) (bit_xor (bit_or wants own.wants) (bit_or gives own.gives)) == 0)
+-- Whether one of the words has a bit that the other hasn't.
+abbrev pub has_more : (wants gives : ℕ) → Bool
+has_more wants gives = not (bit_and wants (bit_xor wants gives) == 0)
 
--- Whether a run is in no execution behind chosen ones that need this.
+-- Whether a run wants, with the chosen ones, what neither they give nor any behind it nor it.
 abbrev pub is_refused : Needs → ℕ → Needs → Bool
-is_refused chosen later own = is_marked chosen.wants (bit_or chosen.gives later) own
+is_refused chosen later own = has_more (bit_or chosen.wants own.wants) (bit_or (bit_or chosen.gives later) own.gives)
 
 -- From the place d on n candidates have runs that are marked: those of the places before some end.
 pub record IsPassed (marks : List Bool) (sizes : List ℕ) (d n : ℕ) : Type 0 where
@@ -82,9 +82,8 @@ pub record IsPassed (marks : List Bool) (sizes : List ℕ) (d n : ℕ) : Type 0 
   pub sum : sum_of (λ k. k) (take d sizes) + n ≡ sum_of (λ k. k) (take end sizes)
   pub marked : (i : ℕ) → d ≤ i → i < end → slice_index_or marks i false ≡ true
 
--- A number is `rest` into the size at the place d, and from d on `passed` candidates have runs that are marked.
-pub record IsChosen (marks : List Bool) (sizes : List ℕ) (number d rest passed : ℕ) : Type 0 where
+-- A number is `rest` into the size at the place d.
+pub record IsChosen (sizes : List ℕ) (number d rest : ℕ) : Type 0 where
   pub place : d < length sizes
   pub within : rest < slice_index_or sizes d 0
   pub sum : number ≡ sum_of (λ k. k) (take d sizes) + rest
-  pub passed_are : IsPassed marks sizes d passed

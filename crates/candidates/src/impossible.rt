@@ -11,7 +11,6 @@ use crate::choosing::RunList;
 use crate::fault::MOST_CANDIDATES;
 use events::{Event, Run};
 use std::alloc::{AllocError, Global};
-use std::marker::Model;
 
 /// A location and a value that is written to it.
 #[derive(Clone, Copy)]
@@ -262,60 +261,31 @@ impl ThreadNeeds {
         self.needs[place]
     }
 
-    /// Which of the runs are in no execution behind chosen ones.
-    pub(crate) fn marks(&self, chosen: Needs) -> Marks<'_>
-        ensures { result ≡ map (is_refused chosen self.now.behind) self.now.needs.items }
+    /// Whether the run at a place is in no execution behind chosen ones: with them it wants what neither they write nor it nor any behind it.
+    fn is_refused(&self, chosen: Needs, place: usize) -> bool
+        requires { place < length self.now.needs.items }
+        ensures { result ≡ slice_index_or (map (is_refused chosen self.now.behind) self.now.needs.items) place false }
     {
-        Marks {
-            thread: self,
-            wants: chosen.wants,
-            gives: chosen.gives | self.behind,
-        }
+        let own = self.needs[place];
+        let wants = chosen.wants | own.wants;
+        let gives = chosen.gives | self.behind | own.gives;
+        wants & (wants ^ gives) != 0
     }
-}
 
-/// Which runs of a thread are in no execution behind the chosen ones: with these they want what neither these nor they nor any behind them write.
-#[derive(Drop)]
-pub(crate) struct Marks<'a> {
-    thread: &'a ThreadNeeds,
-    wants: u64,
-    gives: u64,
-}
-
-impl<'a> Model for Marks<'a> {
-    ghost use Rattle.std.specs.Prelude.{List, Bool, map};
-    ghost use Rattle.candidates.specs.Impossible.{is_marked};
-
-    ghost Value = { List Bool };
-
-    ghost view = { λ m. map (is_marked m.wants m.gives) m.thread.now.needs.items };
-}
-
-impl<'a> Marks<'a> {
-    /// Whether the run at a place is in no execution.
-    pub(crate) fn is_marked(&self, place: usize) -> bool
-        requires { place < length self.now }
-        ensures { result ≡ slice_index_or self.now place false }
+    /// How many candidates go on with the run at a place and those behind it, up to the first that may be in an execution behind chosen ones.
+    pub(crate) fn passed(&self, chosen: Needs, sizes: &[u64], place: usize) -> u64
+        requires place { place < length sizes.now }
+        requires many { length self.now.needs.items ≡ length sizes.now }
+        requires most { sum_of (λ k. k) sizes.now ≤ MOST_CANDIDATES }
+        ensures { IsPassed (map (is_refused chosen self.now.behind) self.now.needs.items) sizes.now place result }
     {
-        let own = self.thread.needs[place];
-        let wants = self.wants | own.wants;
-        wants & (wants ^ (self.gives | own.gives)) != 0
-    }
-}
-
-/// How many candidates go on with a run and those behind it, up to the first that may be in an execution.
-pub(crate) fn passed(marks: &Marks<'_>, sizes: &[u64], place: usize) -> u64
-    requires place { place < length sizes.now }
-    requires marks { length marks.now ≡ length sizes.now }
-    requires most { sum_of (λ k. k) sizes.now ≤ MOST_CANDIDATES }
-    ensures { IsPassed marks.now sizes.now place result }
-{
-    let mut sum = 0;
-    for end in place..sizes.len() {
-        if !marks.is_marked(end) {
-            return sum;
+        let mut sum = 0;
+        for end in place..sizes.len() {
+            if !self.is_refused(chosen, end) {
+                return sum;
+            }
+            sum += sizes[end];
         }
-        sum += sizes[end];
+        sum
     }
-    sum
 }

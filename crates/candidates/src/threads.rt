@@ -223,19 +223,19 @@ fn locate(
     let mut chosen = Needs::none();
     let mut rest = number;
     for thread in 0..threads.runs.len() {
-        let needs = &threads.needs[thread];
-        let marked = needs.marks(chosen);
         let choice = choose_run(
             alloc,
             levels,
             threads.groups,
             thread,
             threads.init.len(),
-            &marked,
             rest,
         )?;
-        if choice.passed > 0 {
-            return Ok(Located::Until(number - choice.rest + choice.passed));
+        let needs = &threads.needs[thread];
+        let level = &levels[thread];
+        let over = needs.passed(chosen, &level.sizes, choice.place);
+        if over > 0 {
+            return Ok(Located::Until(number - choice.rest + over));
         }
         let change = place_run(runs, places, threads.runs, thread, choice.place)?;
         kept = kept.joined(thread, change);
