@@ -126,16 +126,25 @@ threads_next stores threads i runs a b l is here h = λ rs r m n.
     let Q : List ThreadRun → Type 0 = λ us. (u : ThreadRun) → IsIn u us → AreGiven stores u.events (bit_or a b) in
     all_next P Q threads i runs l is (λ us p u k. grown stores u.events a b (p u k)) (λ u k. joined stores u.events a b (here u k)) (λ us k u q. h us u k q) rs m r n
 
+both_wanted : (init : List ℕ) (stores : List Store) (es fs : List Event) (a b : ℕ) → AreWanted init stores es a → AreWanted init stores fs b → AreWanted init stores (es ++ fs) (bit_or a b)
+both_wanted init stores es fs a b h k = λ j o. elim (either_bit a b j o) [
+  | inl p ↦ (let r = h j p in (r.0, in_left es fs r.0 r.1, r.2, r.3))
+  | inr p ↦ (let r = k j p in (r.0, in_right es fs r.0 r.1, r.2, r.3))
+]
+
+pub wanted_next : (init : List ℕ) (stores : List Store) (events : List Event) (i : ℕ) (e : Event) (a b : ℕ) → i < length events → e ≡ get_or events i e → AreWanted init stores (e ∷ []) b → AreWanted init stores (take i events) a → AreWanted init stores (take (i + 1) events) (bit_or a b)
+wanted_next init stores events i e a b l is here h =
+    let es = take i events in
+    let P : List Event → Type 0 = λ fs. AreWanted init stores fs (bit_or a b) in
+    subst P (sym (taken events i e l is)) (both_wanted init stores es (e ∷ []) a b h here)
+
 -- ---- both
 pub no_needs : (init : List ℕ) (stores : List Store) → AreNeeds init stores [] (record { wants = 0; gives = 0 })
 no_needs init stores = record { wants = λ j b. absurd (omega (arith, b, bit_at-zero j)); gives = λ e m k. absurd m }
 
 pub both_needs : (init : List ℕ) (stores : List Store) (es fs : List Event) (n m : Needs) → AreNeeds init stores es n → AreNeeds init stores fs m → AreNeeds init stores (es ++ fs) (record { wants = bit_or n.wants m.wants; gives = bit_or n.gives m.gives })
 both_needs init stores es fs n m h k = record {
-  wants = λ j b. elim (either_bit n.wants m.wants j b) [
-    | inl a ↦ (let r = h.wants j a in (r.0, in_left es fs r.0 r.1, r.2, r.3))
-    | inr a ↦ (let r = k.wants j a in (r.0, in_right es fs r.0 r.1, r.2, r.3))
-  ];
+  wants = both_wanted init stores es fs n.wants m.wants h.wants k.wants;
   gives = λ e i w. elim (in_append es fs e i) [
     | inl a ↦ left_bit n.gives m.gives (number_of stores e.loc e.value) (h.gives e a w)
     | inr a ↦ right_bit n.gives m.gives (number_of stores e.loc e.value) (k.gives e a w)

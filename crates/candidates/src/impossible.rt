@@ -144,25 +144,17 @@ impl Needs {
         Needs { wants: 0, gives: 0 }
     }
 
-    /// Those of an event.
-    fn of_event(init: &[u32], stores: &[Store], event: &Event) -> Self
-        ensures { AreNeeds init.now stores.now (event.now ∷ []) result }
-    {
-        Needs {
-            wants: wanted(init, stores, event),
-            gives: given(stores, event),
-        }
-    }
-
     /// Those of these events.
     fn of(init: &[u32], stores: &[Store], events: &[Event]) -> Self
         ensures { AreNeeds init.now stores.now events.now result }
     {
-        let mut needs = Needs::none();
+        let mut wants: u64 = 0;
+        let mut gives: u64 = 0;
         for event in events {
-            needs = needs.with(Needs::of_event(init, stores, event));
+            wants |= wanted(init, stores, event);
+            gives |= given(stores, event);
         }
-        needs
+        Needs { wants, gives }
     }
 
     /// Those of these events and of others.
