@@ -233,13 +233,14 @@ fn locate(
         )?;
         let needs = &threads.needs[thread];
         let level = &levels[thread];
-        let over = needs.passed(chosen, &level.sizes, choice.place);
-        if over > 0 {
-            return Ok(Located::Until(number - choice.rest + over));
+        let next = chosen.with(needs.at(choice.place));
+        let passed = needs.over(chosen, next, &level.sizes, choice.place);
+        if passed > 0 {
+            return Ok(Located::Until(number - choice.rest + passed));
         }
         let change = place_run(runs, places, threads.runs, thread, choice.place)?;
         kept = kept.joined(thread, change);
-        chosen = chosen.with(needs.at(choice.place));
+        chosen = next;
         rest = choice.rest;
     }
     runs.truncate(threads.runs.len());

@@ -70,8 +70,8 @@ choose_run-requires-clause-most c =
     let after = tallies_after n threads c.args.threads.now.groups.now (drop (at.thread + 1) c.args.threads.now.groups.now) at.thread c.requires.threads.tallied refl in
     omega (arith, most_on n (choices threads) c.args.number at.rest (tally_to n c.args.threads.now.groups.now (places_of at.levels.items) at.thread) (take at.thread at.runs.items) (get_or threads at.thread []) (drop (at.thread + 1) threads) (get_or c.args.threads.now.groups.now at.thread []) (drop (at.thread + 1) c.args.threads.now.groups.now) d here after, c.requires.threads.most)
 
-pub passed-over-requires-clause-place : goal.passed-over-requires-clause-place
-passed-over-requires-clause-place c =
+pub over-passed-requires-clause-place : goal.over-passed-requires-clause-place
+over-passed-requires-clause-place c =
     let n = length c.args.threads.now.init.now in
     let threads = c.args.threads.now.runs.now in
     let at = c.loop-thread in
@@ -88,8 +88,8 @@ passed-over-requires-clause-place c =
     let P : List ℕ → Type 0 = λ ss. choice.place < length ss in
     subst P (sym is) chosen.place
 
-pub passed-over-requires-clause-many : goal.passed-over-requires-clause-many
-passed-over-requires-clause-many c =
+pub over-passed-requires-clause-many : goal.over-passed-requires-clause-many
+over-passed-requires-clause-many c =
     let n = length c.args.threads.now.init.now in
     let threads = c.args.threads.now.runs.now in
     let at = c.loop-thread in
@@ -108,8 +108,8 @@ passed-over-requires-clause-many c =
     let marks = map (is_refused at.chosen needs.behind) needs.needs.items in
     as_many_needs c.args.threads.now.init.now c.requires.threads.needs.stores threads at.thread needs has ∙ sym (ap (λ (ss : List ℕ). length ss) is ∙ sizes_length n tally runs (map (tallies_of n) more) sizes e.are)
 
-pub passed-over-requires-clause-most : goal.passed-over-requires-clause-most
-passed-over-requires-clause-most c =
+pub over-passed-requires-clause-most : goal.over-passed-requires-clause-most
+over-passed-requires-clause-most c =
     let n = length c.args.threads.now.init.now in
     let threads = c.args.threads.now.runs.now in
     let at = c.loop-thread in
@@ -154,12 +154,12 @@ overflow_add-result c =
     let needs = get_or c.args.threads.now.needs.now at.thread c.index-threads-thread.result in
     let has = needs_here c.args.threads.now.init.now threads c.args.threads.now.needs.now at.thread c.index-threads-thread.result c.requires.threads.needs l in
     let marks = map (is_refused at.chosen needs.behind) needs.needs.items in
-    let P : List ℕ → Type 0 = λ ss. IsPassed marks ss choice.place c.passed-over.result in
-    let over = subst P is c.passed-over.ensures in
-    omega (arith, passed_within n (choices threads) c.args.number at.rest choice.rest tally (take at.thread at.runs.items) runs more sizes marks choice.place c.passed-over.result e.down e.are chosen.sum over, c.requires.threads.most)
+    let P : List ℕ → Type 0 = λ ss. IsPassed marks ss choice.place c.over-passed.result in
+    let over = subst P is c.over-passed.ensures in
+    omega (arith, passed_within n (choices threads) c.args.number at.rest choice.rest tally (take at.thread at.runs.items) runs more sizes marks choice.place c.over-passed.result e.down e.are chosen.sum over, c.requires.threads.most)
 
-pub returns-then-over-gt0-clause-located : goal.returns-then-over-gt0-clause-located
-returns-then-over-gt0-clause-located c =
+pub returns-then-passed-gt0-clause-located : goal.returns-then-passed-gt0-clause-located
+returns-then-passed-gt0-clause-located c =
     let n = length c.args.threads.now.init.now in
     let threads = c.args.threads.now.runs.now in
     let at = c.loop-thread in
@@ -176,11 +176,11 @@ returns-then-over-gt0-clause-located c =
     let needs = get_or c.args.threads.now.needs.now at.thread c.index-threads-thread.result in
     let has = needs_here c.args.threads.now.init.now threads c.args.threads.now.needs.now at.thread c.index-threads-thread.result c.requires.threads.needs l in
     let marks = map (is_refused at.chosen needs.behind) needs.needs.items in
-    let P : List ℕ → Type 0 = λ ss. IsPassed marks ss choice.place c.passed-over.result in
-    let over = subst P is c.passed-over.ensures in
+    let P : List ℕ → Type 0 = λ ss. IsPassed marks ss choice.place c.over-passed.result in
+    let over = subst P is c.over-passed.ensures in
     let s : Choices = record { init = c.args.threads.now.init.now; threads = threads } in
-    passed_over s c.args.number at.rest choice.rest tally (take at.thread at.runs.items) runs more sizes marks choice.place c.passed-over.result
-    (refused c.args.threads.now.init.now c.requires.threads.needs.stores (take at.thread at.runs.items) threads at.thread at.chosen needs marks (at.invariant.chosen c.requires.threads.needs) has refl) e.down e.are chosen.sum over chosen.place chosen.within (omega (arith, c.if-over-gt0.true))
+    passed_over s c.args.number at.rest choice.rest tally (take at.thread at.runs.items) runs more sizes marks choice.place c.over-passed.result
+    (refused c.args.threads.now.init.now c.requires.threads.needs.stores (take at.thread at.runs.items) threads at.thread at.chosen needs marks (at.invariant.chosen c.requires.threads.needs) has refl) e.down e.are chosen.sum over chosen.place chosen.within (omega (arith, c.if-passed-gt0.true))
 
 pub loop-thread-preserved : goal.loop-thread-preserved
 loop-thread-preserved c =
@@ -217,8 +217,8 @@ loop-thread-preserved c =
       calm = λ h. (let both = c.joined-kept.ensures.calm h in let k = at.invariant.calm both.0 in (k.0, shows_on writings at.runs.items c.place_run.new.runs.items (λ like. like.calm) c.in_ok-change.change c.in_ok-change.ensures.same c.in_ok-change.ensures.calm both.1 ∙ k.1));
       alike = λ h. (let both = c.joined-kept.ensures.alike h in let k = at.invariant.alike both.0 in (k.0, shows_on outlines at.runs.items c.place_run.new.runs.items (λ like. like.alike) c.in_ok-change.change c.in_ok-change.ensures.same c.in_ok-change.ensures.alike both.1 ∙ k.1));
       levels = c.choose_run.ensures.levels;
-      chosen = λ h. needed_on c.args.threads.now.init.now threads c.args.threads.now.needs.now at.thread c.index-threads-thread.result at.chosen c.at.result c.with-chosen.result (take at.thread at.runs.items) (take (at.thread + 1) c.place_run.new.runs.items) choice.place h l m c.at.ensures (at.invariant.chosen h) c.in_ok-change.ensures.put
-          (c.with-chosen.ensures c.args.threads.now.init.now h.stores (events_of (take at.thread at.runs.items)) run.events);
+      chosen = λ h. needed_on c.args.threads.now.init.now threads c.args.threads.now.needs.now at.thread c.index-threads-thread.result at.chosen c.at.result c.with-next.result (take at.thread at.runs.items) (take (at.thread + 1) c.place_run.new.runs.items) choice.place h l m c.at.ensures (at.invariant.chosen h) c.in_ok-change.ensures.put
+          (c.with-next.ensures c.args.threads.now.init.now h.stores (events_of (take at.thread at.runs.items)) run.events);
     }
 
 pub returns-clause-located : goal.returns-clause-located
@@ -263,8 +263,8 @@ returns-in_err-choice-clause-levels c = c.choose_run.ensures.levels
 pub overflow_sub-result : goal.overflow_sub-result
 overflow_sub-result c = omega (arith, c.in_ok-choice.ensures.chosen.sum, c.loop-thread.invariant.down.order)
 
-pub returns-then-over-gt0-clause-levels : goal.returns-then-over-gt0-clause-levels
-returns-then-over-gt0-clause-levels c = c.choose_run.ensures.levels
+pub returns-then-passed-gt0-clause-levels : goal.returns-then-passed-gt0-clause-levels
+returns-then-passed-gt0-clause-levels c = c.choose_run.ensures.levels
 
 pub place_run-requires-clause-thread : goal.place_run-requires-clause-thread
 place_run-requires-clause-thread c = c.loop-thread-test.true
