@@ -125,10 +125,10 @@ impossible init stores chosen run threads before own later h k given refused = �
     let d = tail.0 in
     let P : List ThreadRun → Type 0 = λ runs. IsImpossible init runs in
     let unwritten : IsUnwritten init (front ++ d) e.loc e.value = λ w. unwritten_by init (front ++ d) e.loc e.value (λ u f i n t x v. (
-      let bit = all_given init stores chosen run threads before own later d u f h k given tail.1 i n t in
-      let same : number_of stores f.loc f.value ≡ b.0 = ap (λ y. number_of stores y f.value) x ∙ ap (λ y. number_of stores e.loc y) v ∙ r.5 in
-      let one = ap (bit_at gives) (sym same) ∙ bit in
-      absurd (omega (arith, one, b.2)))) p.1 w in
+    let bit = all_given init stores chosen run threads before own later d u f h k given tail.1 i n t in
+    let same : number_of stores f.loc f.value ≡ b.0 = ap (λ y. number_of stores y f.value) x ∙ ap (λ y. number_of stores e.loc y) v ∙ r.5 in
+    let one = ap (bit_at gives) (sym same) ∙ bit in
+    absurd (omega (arith, one, b.2)))) p.1 w in
     subst P tail.2 (r.0, e, in_left front d r.0 r.2, r.3, p.0, unwritten)
   where
     unwritten_by : (init : List ℕ) (c : List ThreadRun) (x v : ℕ) → ((u : ThreadRun) (f : Event) → IsIn u c → IsIn f u.events → is_write f.access ≡ true → f.loc ≡ x → f.value ≡ v → ⊥) → not (slice_index_or init x 0 == v) ≡ true → IsUnwritten init c x v

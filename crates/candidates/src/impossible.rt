@@ -5,7 +5,7 @@ ghost use Rattle.listings.specs.Lists.{ForEach, IsIn, sum_of};
 ghost use Rattle.events.specs.declared.event.Event.{Event};
 ghost use Rattle.events.specs.Executions.{ThreadRun};
 ghost use Rattle.candidates.specs.declared.impossible.Store.{Store};
-ghost use Rattle.candidates.specs.Impossible.{number_of, place_of, is_refused, is_wanting, AreAllNeeds, AreGiven, AreGivenBy, AreNeeds, AreWanted, HasNeeds, IsPassed};
+ghost use Rattle.candidates.specs.Impossible.{has_more, number_of, place_of, is_refused, is_wanting, AreAllNeeds, AreGiven, AreGivenBy, AreNeeds, AreWanted, HasNeeds, IsPassed};
 
 use crate::choosing::RunList;
 use crate::fault::MOST_CANDIDATES;
@@ -244,6 +244,13 @@ pub(crate) fn all_needs(
     each_needs(alloc, init, &stores, threads)
 }
 
+/// Whether one word has a bit that the other hasn't.
+fn has_more(wants: u64, gives: u64) -> bool
+    ensures { result ≡ has_more wants gives }
+{
+    wants & (wants ^ gives) != 0
+}
+
 impl ThreadNeeds {
     /// Those of the run at a place.
     pub(crate) fn at(&self, place: usize) -> Needs
@@ -261,7 +268,7 @@ impl ThreadNeeds {
         let own = self.needs[place];
         let wants = chosen.wants | own.wants;
         let gives = chosen.gives | self.behind | own.gives;
-        wants & (wants ^ gives) != 0
+        has_more(wants, gives)
     }
 
     /// The same sum, where it is looked for only if the chosen runs with this one, which are `next`, want what neither they give nor any behind them.
@@ -271,7 +278,7 @@ impl ThreadNeeds {
         requires most { sum_of (λ k. k) sizes.now ≤ MOST_CANDIDATES }
         ensures { IsPassed (map (is_refused chosen self.now.behind) self.now.needs.items) sizes.now place result }
     {
-        if next.wants & (next.wants ^ (next.gives | self.behind)) == 0 {
+        if !has_more(next.wants, next.gives | self.behind) {
             return 0;
         }
         self.passed(chosen, sizes, place)

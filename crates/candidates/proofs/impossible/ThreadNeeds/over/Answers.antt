@@ -1,8 +1,8 @@
 use Rattle.std.proofs.Common.{arith}
 use Rattle.candidates.proofs.impossible.ThreadNeeds.over.Goals as goal
 
-pub returns-then-next-eq0 : goal.returns-then-next-eq0
-returns-then-next-eq0 c = record {
+pub returns-then-not-has_more : goal.returns-then-not-has_more
+returns-then-not-has_more c = record {
   end = c.args.place;
   order = omega arith;
   within = omega (arith, c.requires.place);
