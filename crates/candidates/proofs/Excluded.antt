@@ -1,5 +1,5 @@
 -- Choices with a read of a value that nothing writes are in no execution.
-use Rattle.std.proofs.Common.{◌≡◌, ℕ, zero, suc, ◌+◌, ◌-◌, ◌<◌, ◌≤◌, List, [], ◌∷◌, length, map, take, get_or, filter, refl, sym, ◌∙◌, ap, subst, inl, inr, arith, Bool, true, false, not, ◌==◌, ◌&&◌, None, ◌++◌, drop, bit_and, bit_or, bit_xor}
+use Rattle.std.proofs.Common.{◌≡◌, ℕ, zero, suc, ◌+◌, ◌-◌, ◌<◌, ◌≤◌, List, [], ◌∷◌, length, map, take, get_or, filter, refl, sym, ◌∙◌, ap, subst, inl, inr, arith, Bool, true, false, not, ◌==◌, None, ◌++◌, drop, bit_and, bit_or, bit_xor}
 use Rattle.std.specs.Int.{bit_at}
 use Rattle.std.specs.Prelude.{slice_index_or}
 use Rattle.std.proofs.lemmas.List.{get_or_default}

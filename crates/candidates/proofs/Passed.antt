@@ -3,10 +3,8 @@ use Rattle.std.proofs.Common.{◌≡◌, ℕ, zero, suc, ◌+◌, ◌-◌, ◌<�
 use Rattle.std.proofs.lemmas.Bool.{cases_lt}
 use Rattle.events.specs.Executions.{ThreadRun, empty_run}
 use Rattle.listings.specs.Lists.{IsIn, sum_of}
-use Rattle.listings.proofs.Listings.{in_left, in_right, in_map}
 use Rattle.candidates.specs.declared.counts.Counts.{Counts}
 use Rattle.candidates.specs.Executions.{block}
-use Rattle.candidates.specs.Candidates.{choices}
 use Rattle.candidates.specs.Groups.{sizes_of}
 use Rattle.candidates.specs.Impossible.{IsPassed}
 use Rattle.candidates.specs.Parts.{behind, IsPart}

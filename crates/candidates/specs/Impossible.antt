@@ -1,5 +1,5 @@
 -- Choices of runs that are in no execution: one of their runs reads a value that nothing writes.
-use Rattle.std.specs.Prelude.{◌≡◌, ℕ, ◌+◌, ◌%◌, ◌<◌, ◌≤◌, List, [], ◌++◌, take, drop, length, map, Bool, true, false, not, ◌==◌, ◌&&◌, slice_index_or, Option, None, Some, bit_and, bit_or, bit_xor}
+use Rattle.std.specs.Prelude.{◌≡◌, ℕ, ◌+◌, ◌%◌, ◌<◌, ◌≤◌, List, [], take, drop, length, Bool, true, false, not, ◌==◌, ◌&&◌, slice_index_or, Option, None, Some, bit_and, bit_or, bit_xor}
 use Rattle.std.specs.Int.{bit_at}
 use Rattle.std.specs.List.{position}
 use Rattle.events.specs.declared.event.Event.{Event}
