@@ -1,26 +1,30 @@
--- Runs with a read of a value that nothing writes stand in no execution.
-use Rattle.std.proofs.Common.{◌≡◌, ℕ, zero, suc, ◌+◌, ◌-◌, ◌<◌, ◌≤◌, List, [], ◌∷◌, length, map, take, get_or, filter, refl, sym, ◌∙◌, ap, subst, inl, inr, arith, Bool, true, false, not, ◌==◌, ◌&&◌, None}
-use Rattle.std.specs.List.{list_any}
+-- Choices with a read of a value that nothing writes are in no execution.
+use Rattle.std.proofs.Common.{◌≡◌, ℕ, zero, suc, ◌+◌, ◌-◌, ◌<◌, ◌≤◌, List, [], ◌∷◌, length, map, take, get_or, filter, refl, sym, ◌∙◌, ap, subst, inl, inr, arith, Bool, true, false, not, ◌==◌, None, ◌++◌, drop, bit_and, bit_or, bit_xor}
+use Rattle.std.specs.Int.{bit_at}
 use Rattle.std.specs.Prelude.{slice_index_or}
+use Rattle.std.proofs.lemmas.List.{get_or_default}
 use Rattle.std.proofs.lemmas.Bool.{and_parts, cases_Bool, cases_lt, eqb-true, eq-eqb, false≢true}
 use Rattle.events.specs.declared.event.Event.{Event}
 use Rattle.events.specs.declared.event.EventId.{EventId}
 use Rattle.events.specs.declared.event.EventId.TheVariants.{Initial, Own}
 use Rattle.events.specs.Executions.{ThreadRun, is_read, is_write, empty_run}
 use Rattle.listings.specs.Lists.{IsIn, StandsAt, ForEach, sum_of}
-use Rattle.listings.proofs.Listings.{flat_map_in}
+use Rattle.listings.proofs.Listings.{flat_map_in, in_append, in_flat_map, in_left, in_map, in_right}
+use Rattle.candidates.specs.declared.impossible.Needs.{Needs}
 use Rattle.candidates.specs.declared.impossible.Store.{Store}
+use Rattle.candidates.specs.declared.impossible.ThreadNeeds.{ThreadNeeds}
 use Rattle.candidates.specs.Executions.{Writes, reads, block}
 use Rattle.candidates.specs.Candidates.{Choices, choices, candidate, candidate_at, is_consistent, graph_at, size_of}
-use Rattle.candidates.specs.Impossible.{IsUnwritten, IsImpossible, has_store, HasThreads, is_wanting, is_impossible, IsPassed}
+use Rattle.candidates.specs.Impossible.{number_of, is_refused, is_wanting, AreAllNeeds, AreGivenBy, AreImpossible, AreNeeds, HasNeeds, IsImpossible, IsPassed, IsUnwritten}
 use Rattle.candidates.specs.declared.counts.Counts.{Counts}
 use Rattle.candidates.specs.Groups.{sizes_of}
-use Rattle.candidates.specs.Parts.{behind}
 use Rattle.candidates.specs.Walks.{NoneFrom}
 use Rattle.candidates.proofs.Law.{IsFrom, only_choices, agreeing, block_numbered, hidden}
 use Rattle.candidates.proofs.Adding.{take_on}
-use Rattle.candidates.proofs.Steps.{in_block, part_member, part_end}
-use Rattle.candidates.proofs.Grouping.{tallies_of}
+use Rattle.candidates.specs.Parts.{behind}
+use Rattle.candidates.proofs.Needed.{each_at, each_many, either_bit, lacking, left_bit, right_bit}
+use Rattle.candidates.proofs.Steps.{in_block, part_end}
+use Rattle.candidates.proofs.Grouping.{events_more, events_of, tallies_of}
 use Rattle.candidates.proofs.Descent.{IsDown, sizes_total, get_mapped}
 use Rattle.candidates.proofs.Passed.{IsMarked, passed_at}
 
@@ -46,16 +50,16 @@ each_in {X = X} R (b ∷ as') (x ∷ xs) a f m = elim m [
   | inr n ↦ each_in R as' xs a f.1 n
 ]
 
--- No candidate with such a run is an execution.
-pub none_with : (init : List ℕ) (threads : List (List ThreadRun)) (c : List ThreadRun) (run : ThreadRun) (j : ℕ) → IsIn c (choices threads) → IsIn run c → IsImpossible init threads run → j < block (length init) c → is_consistent (candidate init c j) ≡ false
-none_with init threads c run j m r h l = elim (cases_Bool (is_consistent (candidate init c j))) [
+-- No candidate with such runs is an execution.
+none_with : (init : List ℕ) (c : List ThreadRun) (j : ℕ) → IsImpossible init c → j < block (length init) c → is_consistent (candidate init c j) ≡ false
+none_with init c j h l = elim (cases_Bool (is_consistent (candidate init c j))) [
   | inr f ↦ f
   | inl t ↦ (let x = candidate init c j in
       let k = (block_numbered init c).only j l in
       let w = agreeing init c (reads c) x.rf k.rf t in
-      let read = flat_map_in (λ (u : ThreadRun). filter (λ e. is_read e.access) u.events) c run h.0 r (filter_in (λ e. is_read e.access) run.events h.0 h.1 h.2) in
-      let g = each_in (λ (e : Event) (v : EventId). Writes init c v e.loc e.value) (reads c) x.rf h.0 w read in
-      absurd (h.3 c g.0 m g.1))
+      let read = flat_map_in (λ (u : ThreadRun). filter (λ e. is_read e.access) u.events) c h.0 h.1 h.2 (filter_in (λ e. is_read e.access) h.0.events h.1 h.3 h.4) in
+      let g = each_in (λ (e : Event) (v : EventId). Writes init c v e.loc e.value) (reads c) x.rf h.1 w read in
+      absurd (h.5 g.0 g.1))
 ]
 
 stands_member : {X : Type 0} (xs : List X) (i : ℕ) (x : X) → StandsAt xs i x → IsIn x xs
@@ -76,50 +80,88 @@ not_true : (b : Bool) → not b ≡ true → b ≡ true → ⊥
 not_true true h e = false≢true h
 not_true false h e = false≢true e
 
-unwritten : (init : List ℕ) (stores : List Store) (threads : List (List ThreadRun)) (x v : ℕ) → HasThreads stores threads → not (slice_index_or init x 0 == v) ≡ true → not (has_store stores x v) ≡ true → IsUnwritten init threads x v
-unwritten init stores threads x v has a b c (Initial y) m w = not_true (slice_index_or init x 0 == v) a (eq-eqb (slice_index_or init x 0) v (sym w.1))
-unwritten init stores threads x v has a b c (Own k p) m w =
-    let run = w.0 in
-    let e = w.1 in
-    let t = of_threads threads c run (only_choices threads c m) (stands_member c k run w.2) in
-    let parts = and_parts (is_write e.access) (e.loc == x) w.4 in
-    let there = has t.0 t.1 run t.2 e (stands_member run.events p e w.3) parts.0 in
-    not_true (has_store stores x v) b (ap (λ y. has_store stores y v) (sym (eqb-true e.loc x parts.1)) ∙ ap (λ u. has_store stores e.loc u) w.5 ∙ there)
+-- What the chosen runs, this one and any behind them write has the number of a bit of the word.
+all_given : (init : List ℕ) (stores : List Store) (chosen : List ThreadRun) (run : ThreadRun) (threads : List (List ThreadRun)) (before own : Needs) (later : ℕ) (d : List ThreadRun) (u : ThreadRun) (e : Event) → AreNeeds init stores (events_of chosen) before → AreNeeds init stores run.events own → AreGivenBy stores threads later → IsIn d (choices threads) → IsIn u ((chosen ++ run ∷ []) ++ d) → IsIn e u.events → is_write e.access ≡ true → bit_at (bit_or (bit_or before.gives later) own.gives) (number_of stores e.loc e.value) ≡ 1
+all_given init stores chosen run threads before own later d u e h k given m i n w =
+    let j = number_of stores e.loc e.value in
+    let front = bit_or before.gives later in
+    elim (in_append (chosen ++ run ∷ []) d u i) [
+      | inl a ↦ elim (in_append chosen (run ∷ []) u a) [
+        | inl b ↦ left_bit front own.gives j (left_bit before.gives later j (h.gives e (flat_map_in (λ (r : ThreadRun). r.events) chosen u e b n) w))
+        | inr b ↦ elim b [
+          | inl is ↦ (let P : ThreadRun → Type 0 = λ r. IsIn e r.events in right_bit front own.gives j (k.gives e (subst P is n) w))
+          | inr none ↦ absurd none
+        ]
+      ]
+      | inr a ↦ (let t = of_threads threads d u (only_choices threads d m) a in
+          left_bit front own.gives j (right_bit before.gives later j (given t.0 u t.1 t.2 e n w)))
+    ]
 
-any_in : (p : Event → Bool) (es : List Event) → list_any p es ≡ true → (e : Event) × IsIn e es × (p e ≡ true)
-any_in p [] h = absurd (false≢true h)
-any_in p (e ∷ es) h = elim (cases_Bool (p e)) [
-  | inl t ↦ (e, inl refl, t)
-  | inr f ↦ (let s : list_any p (e ∷ es) ≡ list_any p es = rw f refl in
-      let r = any_in p es (sym s ∙ h) in
-      (r.0, inr r.1, r.2))
+not_zero : (w : ℕ) → not (w == 0) ≡ true → 0 < w
+not_zero zero h = absurd (not_true (zero == 0) h refl)
+not_zero (suc w) h = omega arith
+
+-- The read that wants a number, among the events of the chosen runs and of this one.
+who_wants : (init : List ℕ) (stores : List Store) (chosen : List ThreadRun) (run : ThreadRun) (before own : Needs) (j : ℕ) → AreNeeds init stores (events_of chosen) before → AreNeeds init stores run.events own → bit_at (bit_or before.wants own.wants) j ≡ 1 → (u : ThreadRun) × (e : Event) × IsIn u (chosen ++ run ∷ []) × IsIn e u.events × (is_wanting init e ≡ true) × (number_of stores e.loc e.value ≡ j)
+who_wants init stores chosen run before own j h k b = elim (either_bit before.wants own.wants j b) [
+  | inl a ↦ (let r = h.wants j a in
+      let at = in_flat_map (λ (u : ThreadRun). u.events) chosen r.0 r.1 in
+      (at.0, r.0, in_left chosen (run ∷ []) at.0 at.1, at.2, r.2, r.3))
+  | inr a ↦ (let r = k.wants j a in
+      (run, r.0, in_right chosen (run ∷ []) run (inl refl), r.1, r.2, r.3))
 ]
 
-pub impossible : (init : List ℕ) (stores : List Store) (threads : List (List ThreadRun)) (run : ThreadRun) → HasThreads stores threads → is_impossible init stores run ≡ true → IsImpossible init threads run
-impossible init stores threads run has h =
-    let a = any_in (is_wanting init stores) run.events h in
-    let e = a.0 in
-    let p = and_parts (is_read e.access && not (slice_index_or init e.loc 0 == e.value)) (not (has_store stores e.loc e.value)) a.2 in
-    let q = and_parts (is_read e.access) (not (slice_index_or init e.loc 0 == e.value)) p.0 in
-    (e, a.1, q.0, unwritten init stores threads e.loc e.value has q.1 p.1)
+-- A run that is refused behind the chosen ones makes all choices that begin with them and it impossible.
+pub impossible : (init : List ℕ) (stores : List Store) (chosen : List ThreadRun) (run : ThreadRun) (threads : List (List ThreadRun)) (before own : Needs) (later : ℕ) → AreNeeds init stores (events_of chosen) before → AreNeeds init stores run.events own → AreGivenBy stores threads later → is_refused before later own ≡ true → AreImpossible init (chosen ++ run ∷ []) threads
+impossible init stores chosen run threads before own later h k given refused = λ c m.
+    let front = chosen ++ run ∷ [] in
+    let wants = bit_or before.wants own.wants in
+    let gives = bit_or (bit_or before.gives later) own.gives in
+    let b = lacking wants gives (not_zero (bit_and wants (bit_xor wants gives)) refused) in
+    let r = who_wants init stores chosen run before own b.0 h k b.1 in
+    let e = r.1 in
+    let p = and_parts (is_read e.access) (not (slice_index_or init e.loc 0 == e.value)) r.4 in
+    let tail = in_map (λ (d : List ThreadRun). front ++ d) (choices threads) c m in
+    let d = tail.0 in
+    let P : List ThreadRun → Type 0 = λ runs. IsImpossible init runs in
+    let unwritten : IsUnwritten init (front ++ d) e.loc e.value = λ w. unwritten_by init (front ++ d) e.loc e.value (λ u f i n t x v. (
+    let bit = all_given init stores chosen run threads before own later d u f h k given tail.1 i n t in
+    let same : number_of stores f.loc f.value ≡ b.0 = ap (λ y. number_of stores y f.value) x ∙ ap (λ y. number_of stores e.loc y) v ∙ r.5 in
+    let one = ap (bit_at gives) (sym same) ∙ bit in
+    absurd (omega (arith, one, b.2)))) p.1 w in
+    subst P tail.2 (r.0, e, in_left front d r.0 r.2, r.3, p.0, unwritten)
+  where
+    unwritten_by : (init : List ℕ) (c : List ThreadRun) (x v : ℕ) → ((u : ThreadRun) (f : Event) → IsIn u c → IsIn f u.events → is_write f.access ≡ true → f.loc ≡ x → f.value ≡ v → ⊥) → not (slice_index_or init x 0 == v) ≡ true → IsUnwritten init c x v
+    unwritten_by init c x v none a (Initial y) w = not_true (slice_index_or init x 0 == v) a (eq-eqb (slice_index_or init x 0) v (sym w.1))
+    unwritten_by init c x v none a (Own k p) w =
+        let u = w.0 in
+        let f = w.1 in
+        let parts = and_parts (is_write f.access) (f.loc == x) w.4 in
+        none u f (stands_member c k u w.2) (stands_member u.events p f w.3) parts.0 (eqb-true f.loc x parts.1) (sym w.5)
 
-get_flag : (f : ThreadRun → Bool) (runs : List ThreadRun) (i : ℕ) → i < length runs → get_or (map f runs) i false ≡ f (get_or runs i empty_run)
-get_flag f [] i l = absurd (omega (arith, l))
-get_flag f (r ∷ runs) zero l = refl
-get_flag f (r ∷ runs) (suc i) l = get_flag f runs i (omega (arith, l))
+-- All runs of a thread that are marked are such.
+abbrev pub AreRefused : List ℕ → List ThreadRun → List ThreadRun → List (List ThreadRun) → List Bool → Type 0
+AreRefused init chosen runs more marks = (i : ℕ) → i < length runs → get_or marks i false ≡ true → AreImpossible init (chosen ++ get_or runs i empty_run ∷ []) more
+
+pub refused : (init : List ℕ) (stores : List Store) (chosen : List ThreadRun) (threads : List (List ThreadRun)) (k : ℕ) (before : Needs) (t : ThreadNeeds) (marks : List Bool) → AreNeeds init stores (events_of chosen) before → HasNeeds init stores threads k t → marks ≡ map (is_refused before t.behind) t.needs.items → AreRefused init chosen (get_or threads k []) (drop (k + 1) threads) marks
+refused init stores chosen threads k before t marks h has are = λ i l marked.
+    let runs = get_or threads k [] in
+    let none : Needs = record { wants = 0; gives = 0 } in
+    let R : ThreadRun → Needs → Type 0 = λ run n. AreNeeds init stores run.events n in
+    let own = get_or t.needs.items i none in
+    let inside : i < length t.needs.items = omega (arith, l, each_many R runs t.needs.items has.runs) in
+    let is : is_refused before t.behind own ≡ true = sym (get_mapped (is_refused before t.behind) t.needs.items i none false inside) ∙ ap (λ bs. get_or bs i false) (sym are) ∙ marked in
+    impossible init stores chosen (get_or runs i empty_run) (drop (k + 1) threads) before own t.behind h (each_at R runs t.needs.items i empty_run none has.runs l) has.later is
 
 -- No execution stands at the number of a choice with a marked run.
-pub none_marked : (s : Choices) (stores : List Store) (runs : List ThreadRun) (marks : List Bool) (m : ℕ) → HasThreads stores s.threads → marks ≡ map (is_impossible s.init stores) runs → IsMarked (length s.init) (choices s.threads) runs marks m → graph_at s m ≡ None
-none_marked s stores runs marks m has e h =
+none_marked : (s : Choices) (chosen runs : List ThreadRun) (more : List (List ThreadRun)) (marks : List Bool) (m : ℕ) → AreRefused s.init chosen runs more marks → IsMarked (length s.init) (choices s.threads) chosen runs more marks m → graph_at s m ≡ None
+none_marked s chosen runs more marks m are h =
     let c = h.choice in
-    let run = get_or runs h.place empty_run in
-    let flag : is_impossible s.init stores run ≡ true = sym (get_flag (is_impossible s.init stores) runs h.place h.within) ∙ ap (λ bs. get_or bs h.place false) (sym e) ∙ h.marked in
     let j : ℕ = m - c.first in
     let l : j < block (length s.init) c.runs = omega (arith, c.from, c.below) in
     let is : m ≡ c.first + j = omega (arith, c.from) in
-    let member = part_member (length s.init) (choices s.threads) c.first c.runs c.here in
     let at : candidate_at s m ≡ candidate s.init c.runs j = ap (candidate_at s) is ∙ in_block s.init (choices s.threads) c.first c.runs c.here j l in
-    hidden s m (ap is_consistent at ∙ none_with s.init s.threads c.runs run j member h.has (impossible s.init stores s.threads run has flag) l)
+    hidden s m (ap is_consistent at ∙ none_with s.init c.runs j (are h.place h.within h.marked c.runs c.member) l)
 
 take_upto : (sizes : List ℕ) (d e : ℕ) → d ≤ e → sum_of (λ k. k) (take d sizes) ≤ sum_of (λ k. k) (take e sizes)
 take_upto [] zero zero l = omega arith
@@ -149,14 +191,33 @@ pub passed_within : (n : ℕ) (row : List (List ThreadRun)) (number rest left : 
 passed_within n row number rest left tally chosen runs more sizes marks d k h e s p =
     omega (arith, h.order, s, p.sum, take_whole sizes p.end, sizes_total n row number rest tally chosen runs more sizes h e, part_end n row (number - rest) (behind chosen (runs ∷ more)) h.part)
 
-pub passed_over : (s : Choices) (stores : List Store) (number rest left : ℕ) (tally : List Counts) (chosen runs : List ThreadRun) (more : List (List ThreadRun)) (sizes : List ℕ) (marks : List Bool) (d k : ℕ) → HasThreads stores s.threads → marks ≡ map (is_impossible s.init stores) runs → IsDown (length s.init) (choices s.threads) number rest tally chosen (runs ∷ more) → sizes ≡ sizes_of tally (tallies_of (length s.init) runs) (map (tallies_of (length s.init)) more) → rest ≡ sum_of (λ i. i) (take d sizes) + left → IsPassed marks sizes d k → d < length sizes → left < get_or sizes d 0 → 0 < k → (number < number - left + k) × (number - left + k ≤ size_of s) × NoneFrom s number (number - left + k)
-passed_over s stores number rest left tally chosen runs more sizes marks d k has are h e is p l b some = (
+pub passed_over : (s : Choices) (number rest left : ℕ) (tally : List Counts) (chosen runs : List ThreadRun) (more : List (List ThreadRun)) (sizes : List ℕ) (marks : List Bool) (d k : ℕ) → AreRefused s.init chosen runs more marks → IsDown (length s.init) (choices s.threads) number rest tally chosen (runs ∷ more) → sizes ≡ sizes_of tally (tallies_of (length s.init) runs) (map (tallies_of (length s.init)) more) → rest ≡ sum_of (λ i. i) (take d sizes) + left → IsPassed marks sizes d k → d < length sizes → left < get_or sizes d 0 → 0 < k → (number < number - left + k) × (number - left + k ≤ size_of s) × NoneFrom s number (number - left + k)
+passed_over s number rest left tally chosen runs more sizes marks d k are h e is p l b some = (
   omega (arith, passed_some marks sizes d k left p l b some, is, h.order),
   passed_within (length s.init) (choices s.threads) number rest left tally chosen runs more sizes marks d k h e is p,
-  λ m a c. none_marked s stores runs marks m has are (passed_at (length s.init) (choices s.threads) number rest left tally chosen runs more sizes marks d k m h e is p a c),
+  λ m a c. none_marked s chosen runs more marks m are (passed_at (length s.init) (choices s.threads) number rest left tally chosen runs more sizes marks d k m h e is p a c),
 )
 
--- The marks of the runs of a thread.
-pub marks_here : (init : List ℕ) (stores : List Store) (threads : List (List ThreadRun)) (marks : List (List Bool)) (i : ℕ) (here : List Bool) → marks ≡ map (λ runs. map (is_impossible init stores) runs) threads → i < length threads → here ≡ get_or marks i here → here ≡ map (is_impossible init stores) (get_or threads i [])
-marks_here init stores threads marks i here e l h =
-    h ∙ ap (λ bs. get_or bs i here) e ∙ get_mapped (λ (runs : List ThreadRun). map (is_impossible init stores) runs) threads i [] here l
+-- What the runs of a thread need.
+pub needs_here : (init : List ℕ) (threads : List (List ThreadRun)) (all : List ThreadNeeds) (k : ℕ) (e : ThreadNeeds) (h : AreAllNeeds init threads all) → k < length threads → HasNeeds init h.stores threads k (get_or all k e)
+needs_here init threads all k e h l =
+    let inside : k < length all = omega (arith, l, h.many) in
+    h.are k (get_or all k e) inside (get_or_default all k e (get_or all k e) inside)
+
+pub as_many_needs : (init : List ℕ) (stores : List Store) (threads : List (List ThreadRun)) (k : ℕ) (t : ThreadNeeds) → HasNeeds init stores threads k t → length t.needs.items ≡ length (get_or threads k [])
+as_many_needs init stores threads k t has =
+    let R : ThreadRun → Needs → Type 0 = λ run n. AreNeeds init stores run.events n in
+    each_many R (get_or threads k []) t.needs.items has.runs
+
+-- One run more is chosen.
+pub needed_on : (init : List ℕ) (threads : List (List ThreadRun)) (all : List ThreadNeeds) (k : ℕ) (e : ThreadNeeds) (before own both : Needs) (chosen longer : List ThreadRun) (d : ℕ) (h : AreAllNeeds init threads all) → k < length threads → d < length (get_or threads k []) → own ≡ get_or (get_or all k e).needs.items d own → AreNeeds init h.stores (events_of chosen) before → longer ≡ chosen ++ get_or (get_or threads k []) d empty_run ∷ []
+    → (AreNeeds init h.stores (events_of chosen) before → AreNeeds init h.stores (get_or (get_or threads k []) d empty_run).events own → AreNeeds init h.stores (events_of chosen ++ (get_or (get_or threads k []) d empty_run).events) both) → AreNeeds init h.stores (events_of longer) both
+needed_on init threads all k e before own both chosen longer d h l m o front more with =
+    let t = get_or all k e in
+    let R : ThreadRun → Needs → Type 0 = λ run n. AreNeeds init h.stores run.events n in
+    let run = get_or (get_or threads k []) d empty_run in
+    let has = needs_here init threads all k e h l in
+    let P : Needs → Type 0 = λ n. R run n in
+    let here : R run own = subst P (sym o) (each_at R (get_or threads k []) t.needs.items d empty_run own has.runs m) in
+    let Q : List Event → Type 0 = λ es. AreNeeds init h.stores es both in
+    subst Q (sym (ap events_of more ∙ events_more chosen run)) (with front here)

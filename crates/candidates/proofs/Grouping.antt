@@ -41,7 +41,7 @@ counts_append es fs x =
 pub tally_append : (n : ℕ) (es fs : List Event) → tally_of n (es ++ fs) ≡ sum_tally (tally_of n es) (tally_of n fs)
 tally_append n es fs = sum_counts n (counts_of es) (counts_of fs) (counts_of (es ++ fs)) (counts_append es fs)
 
-events_more : (chosen : List ThreadRun) (run : ThreadRun) → events_of (chosen ++ run ∷ []) ≡ events_of chosen ++ run.events
+pub events_more : (chosen : List ThreadRun) (run : ThreadRun) → events_of (chosen ++ run ∷ []) ≡ events_of chosen ++ run.events
 events_more chosen run = flat_map-append (λ (r : ThreadRun). r.events) chosen (run ∷ []) ∙ ap (λ (es : List Event). events_of chosen ++ es) (append-nil run.events)
 
 pub tally_more : (n : ℕ) (chosen : List ThreadRun) (run : ThreadRun) → sum_tally (tally_of n (events_of chosen)) (tally_of n run.events) ≡ tally_of n (events_of (chosen ++ run ∷ []))

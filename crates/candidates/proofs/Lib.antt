@@ -30,7 +30,7 @@ pub mod Spaces
 pub mod Spanning
 pub mod Staying
 pub mod Steps
-pub mod Storing
+pub mod Needed
 pub mod Stretches
 pub mod Suiting
 pub mod Tails

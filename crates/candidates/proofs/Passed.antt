@@ -3,10 +3,8 @@ use Rattle.std.proofs.Common.{◌≡◌, ℕ, zero, suc, ◌+◌, ◌-◌, ◌<�
 use Rattle.std.proofs.lemmas.Bool.{cases_lt}
 use Rattle.events.specs.Executions.{ThreadRun, empty_run}
 use Rattle.listings.specs.Lists.{IsIn, sum_of}
-use Rattle.listings.proofs.Listings.{in_left, in_right, in_map}
 use Rattle.candidates.specs.declared.counts.Counts.{Counts}
 use Rattle.candidates.specs.Executions.{block}
-use Rattle.candidates.specs.Candidates.{choices}
 use Rattle.candidates.specs.Groups.{sizes_of}
 use Rattle.candidates.specs.Impossible.{IsPassed}
 use Rattle.candidates.specs.Parts.{behind, IsPart}
@@ -85,22 +83,14 @@ moved n row number rest m o tally chosen left h e l =
     let same : number - rest ≡ m - o = omega (arith, e) in
     record { tally_is = h.tally_is; room = h.room; part = subst P same h.part; below = l; order = omega (arith, e); within = h.within }
 
--- A choice with a run that is marked, at the number m.
-pub record IsMarked (n : ℕ) (row : List (List ThreadRun)) (runs : List ThreadRun) (marks : List Bool) (m : ℕ) : Type 0 where
+-- A choice that begins with the chosen runs and with one that is marked, at the number m.
+pub record IsMarked (n : ℕ) (row : List (List ThreadRun)) (chosen runs : List ThreadRun) (more : List (List ThreadRun)) (marks : List Bool) (m : ℕ) : Type 0 where
   pub place : ℕ
   pub within : place < length runs
   pub marked : get_or marks place false ≡ true
-  pub part : List (List ThreadRun)
-  pub choice : StandsIn n row part m
-  pub has : IsIn (get_or runs place empty_run) choice.runs
+  pub choice : StandsIn n row (behind (chosen ++ get_or runs place empty_run ∷ []) more) m
 
-run_in : (chosen : List ThreadRun) (run : ThreadRun) (more : List (List ThreadRun)) (c : List ThreadRun) → IsIn c (behind (chosen ++ run ∷ []) more) → IsIn run c
-run_in chosen run more c m =
-    let b = in_map (λ (d : List ThreadRun). (chosen ++ run ∷ []) ++ d) (choices more) c m in
-    let P : List ThreadRun → Type 0 = λ rs. IsIn run rs in
-    subst P b.2 (in_left (chosen ++ run ∷ []) b.0 run (in_right chosen (run ∷ []) run (inl refl)))
-
-pub passed_at : (n : ℕ) (row : List (List ThreadRun)) (number rest left : ℕ) (tally : List Counts) (chosen runs : List ThreadRun) (more : List (List ThreadRun)) (sizes : List ℕ) (marks : List Bool) (d k m : ℕ) → IsDown n row number rest tally chosen (runs ∷ more) → sizes ≡ sizes_of tally (tallies_of n runs) (map (tallies_of n) more) → rest ≡ sum_of (λ k. k) (take d sizes) + left → IsPassed marks sizes d k → number ≤ m → m < number - left + k → IsMarked n row runs marks m
+pub passed_at : (n : ℕ) (row : List (List ThreadRun)) (number rest left : ℕ) (tally : List Counts) (chosen runs : List ThreadRun) (more : List (List ThreadRun)) (sizes : List ℕ) (marks : List Bool) (d k m : ℕ) → IsDown n row number rest tally chosen (runs ∷ more) → sizes ≡ sizes_of tally (tallies_of n runs) (map (tallies_of n) more) → rest ≡ sum_of (λ k. k) (take d sizes) + left → IsPassed marks sizes d k → number ≤ m → m < number - left + k → IsMarked n row chosen runs more marks m
 passed_at n row number rest left tally chosen runs more sizes marks d k m h e s p l b =
     let o : ℕ = m - (number - rest) in
     let is : m ≡ (number - rest) + o = omega (arith, l, h.order) in
@@ -109,14 +99,9 @@ passed_at n row number rest left tally chosen runs more sizes marks d k m h e s 
     let below : o < sum_of (block n) (behind chosen (runs ∷ more)) = omega (arith, total, at.is, at.within, take_end sizes at.place (omega (arith, at.below, p.within))) in
     let inside : at.place < length sizes = omega (arith, at.below, p.within) in
     let on = down_on n row m o at.left tally chosen runs more sizes at.place (moved n row number rest m o tally chosen (runs ∷ more) h is below) e inside at.within at.is in
-    let run = get_or runs at.place empty_run in
-    let part = behind (chosen ++ run ∷ []) more in
-    let choice = stands_in n row (m - at.left) part m on.part (omega (arith, on.order)) (omega (arith, on.order, on.below)) in
     record {
       place = at.place;
       within = omega (arith, inside, sizes_length n tally runs (map (tallies_of n) more) sizes e);
       marked = p.marked at.place at.from at.below;
-      part = part;
-      choice = choice;
-      has = run_in chosen run more choice.runs choice.member;
+      choice = stands_in n row (m - at.left) (behind (chosen ++ get_or runs at.place empty_run ∷ []) more) m on.part (omega (arith, on.order)) (omega (arith, on.order, on.below));
     }

@@ -1,47 +1,78 @@
--- Runs that are in no execution: a read of theirs has a value that nothing writes.
-use Rattle.std.specs.Prelude.{◌≡◌, ℕ, ◌+◌, ◌<◌, ◌≤◌, List, take, length, map, Bool, true, false, not, ◌==◌, ◌&&◌, slice_index_or}
-use Rattle.std.specs.List.{list_any}
+-- Choices of runs that are in no execution: one of their runs reads a value that nothing writes.
+use Rattle.std.specs.Prelude.{◌≡◌, ℕ, ◌+◌, ◌%◌, ◌<◌, ◌≤◌, List, [], take, drop, length, Bool, true, false, not, ◌==◌, ◌&&◌, slice_index_or, Option, None, Some, bit_and, bit_or, bit_xor}
+use Rattle.std.specs.Int.{bit_at}
+use Rattle.std.specs.List.{position}
 use Rattle.events.specs.declared.event.Event.{Event}
 use Rattle.events.specs.declared.event.EventId.{EventId}
 use Rattle.events.specs.Executions.{ThreadRun, is_read, is_write}
-use Rattle.listings.specs.Lists.{IsIn, sum_of}
+use Rattle.listings.specs.Lists.{ForEach, IsIn, sum_of}
+use Rattle.candidates.specs.declared.impossible.Needs.{Needs}
 use Rattle.candidates.specs.declared.impossible.Store.{Store}
+use Rattle.candidates.specs.declared.impossible.ThreadNeeds.{ThreadNeeds}
 use Rattle.candidates.specs.Executions.{Writes}
-use Rattle.candidates.specs.Candidates.{choices}
+use Rattle.candidates.specs.Parts.{behind}
 
--- In no choice of runs does the initial write of x, or any other write, write v to x.
-abbrev pub IsUnwritten : List ℕ → List (List ThreadRun) → ℕ → ℕ → Type 0
-IsUnwritten init threads x v = (c : List ThreadRun) (w : EventId) → IsIn c (choices threads) → Writes init c w x v → ⊥
+-- With these runs neither the initial write of x nor any other write writes v to x.
+abbrev pub IsUnwritten : List ℕ → List ThreadRun → ℕ → ℕ → Type 0
+IsUnwritten init runs x v = (w : EventId) → Writes init runs w x v → ⊥
 
-abbrev pub IsImpossible : List ℕ → List (List ThreadRun) → ThreadRun → Type 0
-IsImpossible init threads run = (e : Event) × IsIn e run.events × (is_read e.access ≡ true) × IsUnwritten init threads e.loc e.value
+-- One of the runs reads a value that nothing writes.
+abbrev pub IsImpossible : List ℕ → List ThreadRun → Type 0
+IsImpossible init runs = (run : ThreadRun) × (e : Event) × IsIn run runs × IsIn e run.events × (is_read e.access ≡ true) × IsUnwritten init runs e.loc e.value
 
--- Whether one of these stores writes v to x.
-abbrev pub has_store : List Store → ℕ → ℕ → Bool
-has_store stores x v = list_any (λ s. (s.loc == x) && (s.value == v)) stores
+-- The same of each choice that begins with the chosen runs, whatever runs of the threads behind follow.
+abbrev pub AreImpossible : List ℕ → List ThreadRun → List (List ThreadRun) → Type 0
+AreImpossible init chosen threads = (c : List ThreadRun) → IsIn c (behind chosen threads) → IsImpossible init c
 
-abbrev pub Keeps : List Store → List Store → Type 0
-Keeps old new = (x v : ℕ) → has_store old x v ≡ true → has_store new x v ≡ true
+-- the place of the first of these stores that writes v to x
+abbrev pub place_of : List Store → ℕ → ℕ → Option ℕ
+place_of stores x v = position (λ s. (s.loc == x) && (s.value == v)) stores
 
-abbrev pub HasWrite : List Store → Event → Type 0
-HasWrite stores e = is_write e.access ≡ true → has_store stores e.loc e.value ≡ true
+abbrev pub number_at : Option ℕ → ℕ
+number_at None = 63
+number_at (Some place) = place % 63
 
--- What the events write is stored.
-abbrev pub HasWrites : List Store → List Event → Type 0
-HasWrites stores events = (e : Event) → IsIn e events → HasWrite stores e
+-- the number of v at x, below 64: its place among the stores, counted anew from each 63rd, and 63 where none writes it
+abbrev pub number_of : List Store → ℕ → ℕ → ℕ
+number_of stores x v = number_at (place_of stores x v)
 
-abbrev pub HasRuns : List Store → List ThreadRun → Type 0
-HasRuns stores runs = (run : ThreadRun) → IsIn run runs → HasWrites stores run.events
+-- Whether an event reads another value than its location's initial one.
+abbrev pub is_wanting : List ℕ → Event → Bool
+is_wanting init e = is_read e.access && not (slice_index_or init e.loc 0 == e.value)
 
-abbrev pub HasThreads : List Store → List (List ThreadRun) → Type 0
-HasThreads stores threads = (runs : List ThreadRun) → IsIn runs threads → HasRuns stores runs
+-- Each bit of the word has the number of something that the events read, and that isn't initial.
+abbrev pub AreWanted : List ℕ → List Store → List Event → ℕ → Type 0
+AreWanted init stores events w = (i : ℕ) → bit_at w i ≡ 1 → (e : Event) × IsIn e events × (is_wanting init e ≡ true) × (number_of stores e.loc e.value ≡ i)
 
--- Whether a read has another value than its location's initial one, and than all that is stored there.
-abbrev pub is_wanting : List ℕ → List Store → Event → Bool
-is_wanting init stores e = is_read e.access && not (slice_index_or init e.loc 0 == e.value) && not (has_store stores e.loc e.value)
+-- All that the events write has the number of a bit of the word.
+abbrev pub AreGiven : List Store → List Event → ℕ → Type 0
+AreGiven stores events w = (e : Event) → IsIn e events → is_write e.access ≡ true → bit_at w (number_of stores e.loc e.value) ≡ 1
 
-abbrev pub is_impossible : List ℕ → List Store → ThreadRun → Bool
-is_impossible init stores run = list_any (is_wanting init stores) run.events
+-- All that any run of the threads writes.
+abbrev pub AreGivenBy : List Store → List (List ThreadRun) → ℕ → Type 0
+AreGivenBy stores threads w = (runs : List ThreadRun) (run : ThreadRun) → IsIn runs threads → IsIn run runs → AreGiven stores run.events w
+
+pub record AreNeeds (init : List ℕ) (stores : List Store) (events : List Event) (n : Needs) : Type 0 where
+  pub wants : AreWanted init stores events n.wants
+  pub gives : AreGiven stores events n.gives
+
+-- What each run of the thread k reads and writes, and what those behind it write.
+pub record HasNeeds (init : List ℕ) (stores : List Store) (threads : List (List ThreadRun)) (k : ℕ) (t : ThreadNeeds) : Type 0 where
+  pub runs : ForEach (λ run n. AreNeeds init stores run.events n) (slice_index_or threads k []) t.needs.items
+  pub later : AreGivenBy stores (drop (k + 1) threads) t.behind
+
+pub record AreAllNeeds (init : List ℕ) (threads : List (List ThreadRun)) (all : List ThreadNeeds) : Type 0 where
+  pub stores : List Store
+  pub many : length all ≡ length threads
+  pub are : (k : ℕ) (t : ThreadNeeds) → k < length all → t ≡ slice_index_or all k t → HasNeeds init stores threads k t
+
+-- Whether one of the words has a bit that the other hasn't.
+abbrev pub has_more : (wants gives : ℕ) → Bool
+has_more wants gives = not (bit_and wants (bit_xor wants gives) == 0)
+
+-- Whether a run wants, with the chosen ones, what neither they give nor any behind it nor it.
+abbrev pub is_refused : Needs → ℕ → Needs → Bool
+is_refused chosen later own = has_more (bit_or chosen.wants own.wants) (bit_or (bit_or chosen.gives later) own.gives)
 
 -- From the place d on n candidates have runs that are marked: those of the places before some end.
 pub record IsPassed (marks : List Bool) (sizes : List ℕ) (d n : ℕ) : Type 0 where
@@ -51,15 +82,8 @@ pub record IsPassed (marks : List Bool) (sizes : List ℕ) (d n : ℕ) : Type 0 
   pub sum : sum_of (λ k. k) (take d sizes) + n ≡ sum_of (λ k. k) (take end sizes)
   pub marked : (i : ℕ) → d ≤ i → i < end → slice_index_or marks i false ≡ true
 
--- A number is `rest` into the size at the place d, and from d on `passed` candidates have runs that are marked.
-pub record IsChosen (marks : List Bool) (sizes : List ℕ) (number d rest passed : ℕ) : Type 0 where
+-- A number is `rest` into the size at the place d.
+pub record IsChosen (sizes : List ℕ) (number d rest : ℕ) : Type 0 where
   pub place : d < length sizes
   pub within : rest < slice_index_or sizes d 0
   pub sum : number ≡ sum_of (λ k. k) (take d sizes) + rest
-  pub passed_are : IsPassed marks sizes d passed
-
--- The marks tell which runs have a read of a value that nothing writes.
-pub record AreMarks (init : List ℕ) (threads : List (List ThreadRun)) (marks : List (List Bool)) : Type 0 where
-  pub stores : List Store
-  pub has : HasThreads stores threads
-  pub are : marks ≡ map (λ runs. map (is_impossible init stores) runs) threads

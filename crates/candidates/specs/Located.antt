@@ -13,7 +13,7 @@ use Rattle.candidates.specs.declared.threads.Threads.{Threads}
 use Rattle.candidates.specs.declared.fault.TheConstants.{MOST_CANDIDATES}
 use Rattle.candidates.specs.Candidates.{size_of}
 use Rattle.candidates.specs.Groups.{tally_of, HasRoom}
-use Rattle.candidates.specs.Impossible.{AreMarks}
+use Rattle.candidates.specs.Impossible.{AreAllNeeds}
 use Rattle.candidates.specs.Levels.{groups_of}
 use Rattle.candidates.specs.Parts.{AreAllWithin}
 
@@ -21,11 +21,11 @@ use Rattle.candidates.specs.Parts.{AreAllWithin}
 abbrev pub choices_by : Threads → Choices
 choices_by t = record { init = t.init.now; threads = t.runs.now }
 
--- The groups and marks are those of the runs of the threads, and the runs are within the limits.
+-- The groups are those of the runs of the threads, and so is what they read and write, and the runs are within the limits.
 pub record AreThreads (t : Threads) : Type 0 where
   pub tallied : t.groups.now ≡ groups_of (choices_by t)
   pub room : HasRoom (tally_of (length t.init.now) []) t.groups.now
-  pub marked : AreMarks t.init.now t.runs.now t.marks.now
+  pub needs : AreAllNeeds t.init.now t.runs.now t.needs.now
   pub within : AreAllWithin (length t.init.now) (choices t.runs.now)
   pub most : size_of (choices_by t) ≤ MOST_CANDIDATES
 

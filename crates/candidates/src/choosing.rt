@@ -11,7 +11,6 @@ ghost use Rattle.candidates.specs.Levels.{AreLevels, StandsAt, Stands, places_of
 use crate::counts::AccessTally;
 use crate::fault::MOST_CANDIDATES;
 use crate::groups::Groups;
-use crate::impossible::Marks;
 use crate::levels::Level;
 use events::Run;
 use std::alloc::{AllocError, Global};
@@ -65,9 +64,9 @@ pub(crate) fn group_all(
 
 /// A part of a sum, and how far into it a number is.
 #[derive(Clone, Copy)]
-struct Part {
-    place: usize,
-    rest: u64,
+pub(crate) struct Part {
+    pub(crate) place: usize,
+    pub(crate) rest: u64,
 }
 
 /// The part that a number below the sum is in, where it isn't in those before the place `from`, whose sum is `before`.
@@ -105,49 +104,22 @@ fn part_at(level: &Level, number: u64) -> Part
     part_from(&level.sizes, level.place, level.before, number)
 }
 
-/// The run of a thread that a number is in, how far into this run's candidates the number is, and how many candidates from
-/// this run's first on are in no execution.
-#[derive(Clone, Copy)]
-pub(crate) struct Choice {
-    pub(crate) place: usize,
-    pub(crate) rest: u64,
-    pub(crate) passed: u64,
-}
-
-/// The run at which a level stands, where a number is in it and it may be in an execution: none needs to be sought then.
-fn stay(level: &Level, marks: &Marks, number: u64) -> Option<Choice>
+/// The run at which a level stands, where a number is in it: none needs to be sought then.
+fn stay(level: &Level, number: u64) -> Option<Part>
     requires stands { Stands level.now }
-    requires marks { length marks.now ≡ length level.now.sizes.items }
-    ensures { IfSome result (λ c. (c.place ≡ level.now.place) × IsChosen marks.now level.now.sizes.items number c.place c.rest c.passed) }
+    ensures { IfSome result (λ c. (c.place ≡ level.now.place) × IsChosen level.now.sizes.items number c.place c.rest) }
 {
-    if number < level.before || marks.is_marked(level.place) {
+    if number < level.before {
         return None;
     }
     let rest = number - level.before;
     if rest >= level.sizes[level.place] {
         return None;
     }
-    Some(Choice {
+    Some(Part {
         place: level.place,
         rest,
-        passed: 0,
     })
-}
-
-/// The run of a level's thread that a number is in.
-fn choose(level: &Level, marks: &Marks, number: u64) -> Choice
-    requires stands { Stands level.now }
-    requires most { sum_of (λ n. n) level.now.sizes.items ≤ MOST_CANDIDATES }
-    requires marks { length marks.now ≡ length level.now.sizes.items }
-    requires number { number < sum_of (λ n. n) level.now.sizes.items }
-    ensures { IsChosen marks.now level.now.sizes.items number result.place result.rest result.passed }
-{
-    let part = part_at(level, number);
-    Choice {
-        place: part.place,
-        rest: part.rest,
-        passed: marks.passed(&level.sizes, part.place),
-    }
 }
 
 /// Lets the level of a thread stand at a run. The levels behind fall away unless that run reads and writes each location as often as the one
@@ -244,36 +216,33 @@ fn enter(
     Ok(())
 }
 
-/// The run of a thread that a number is in, behind the runs that are chosen of the threads before it. The level of the thread
-/// stands at it then, unless it is in no execution.
+/// The run of a thread that a number is in, behind the runs that are chosen of the threads before it, and how far into this run's
+/// candidates the number is. The level of the thread stands at it then.
 pub(crate) fn choose_run(
     alloc: Global,
     levels: &mut Vec<Level>,
     groups: &[Groups],
     thread: usize,
     locations: usize,
-    marks: &Marks,
     number: u64,
-) -> Result<Choice, AllocError>
+) -> Result<Part, AllocError>
     requires levels { AreLevels locations groups.now levels.old.items }
     requires there { thread ≤ length levels.old.items }
     requires thread { thread < length groups.now }
     requires room { HasRoom (tally_to locations groups.now (places_of levels.old.items) thread) (slice_index_or groups.now thread [] ∷ drop (thread + 1) groups.now) }
     requires most { size_by (tally_to locations groups.now (places_of levels.old.items) thread) (slice_index_or groups.now thread [] ∷ drop (thread + 1) groups.now) ≤ MOST_CANDIDATES }
-    requires marks { length marks.now ≡ length (slice_index_or groups.now thread []) }
     requires number { number < size_by (tally_to locations groups.now (places_of levels.old.items) thread) (slice_index_or groups.now thread [] ∷ drop (thread + 1) groups.now) }
-    ensures chosen { IfOk result (λ c. IsChosen marks.now (sizes_of (tally_to locations groups.now (places_of levels.old.items) thread) (slice_index_or groups.now thread []) (drop (thread + 1) groups.now)) number c.place c.rest c.passed) }
-    ensures next { IfOk result (λ c. c.passed ≡ 0 → (thread < length levels.new.items) × (tally_to locations groups.now (places_of levels.new.items) (thread + 1) ≡ sum_tally (tally_to locations groups.now (places_of levels.old.items) thread) (slice_index_or (slice_index_or groups.now thread []) c.place []))) }
+    ensures chosen { IfOk result (λ c. IsChosen (sizes_of (tally_to locations groups.now (places_of levels.old.items) thread) (slice_index_or groups.now thread []) (drop (thread + 1) groups.now)) number c.place c.rest) }
+    ensures next { IfOk result (λ c. (thread < length levels.new.items) × (tally_to locations groups.now (places_of levels.new.items) (thread + 1) ≡ sum_tally (tally_to locations groups.now (places_of levels.old.items) thread) (slice_index_or (slice_index_or groups.now thread []) c.place []))) }
+    ensures same { OnOk result (tally_to locations groups.now (places_of levels.new.items) thread ≡ tally_to locations groups.now (places_of levels.old.items) thread) }
     ensures levels { AreLevels locations groups.now levels.new.items }
 {
     enter(alloc, levels, groups, thread, locations)?;
     let level = &levels[thread];
-    if let Some(choice) = stay(level, marks, number) {
-        return Ok(choice);
+    if let Some(part) = stay(level, number) {
+        return Ok(part);
     }
-    let choice = choose(level, marks, number);
-    if choice.passed == 0 {
-        stand_at(levels, groups, thread, choice.place, number - choice.rest);
-    }
-    Ok(choice)
+    let part = part_at(level, number);
+    stand_at(levels, groups, thread, part.place, number - part.rest);
+    Ok(part)
 }

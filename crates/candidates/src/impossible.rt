@@ -1,15 +1,16 @@
-//! Runs that are in no execution, since one of their reads has a value that nothing writes.
+//! Runs that are in no execution behind those that are chosen, since one of them reads a value that nothing writes.
 
-ghost use Rattle.std.specs.Prelude.{◌≡◌, ◌<◌, ◌≤◌, List, Bool, true, false, length, map, slice_index_or, IfOk, OnOk};
-ghost use Rattle.std.specs.List.{list_any};
-ghost use Rattle.listings.specs.Lists.{sum_of};
-ghost use Rattle.candidates.specs.Impossible.{AreMarks, has_store, is_wanting, is_impossible, Keeps, HasWrite, HasWrites, HasRuns, HasThreads, IsPassed};
+ghost use Rattle.std.specs.Prelude.{◌≡◌, ◌+◌, ◌<◌, ◌≤◌, ℕ, List, false, [], ◌∷◌, ◌++◌, length, map, drop, slice_index_or, IfOk};
+ghost use Rattle.listings.specs.Lists.{ForEach, IsIn, sum_of};
+ghost use Rattle.events.specs.declared.event.Event.{Event};
+ghost use Rattle.events.specs.Executions.{ThreadRun};
+ghost use Rattle.candidates.specs.declared.impossible.Store.{Store};
+ghost use Rattle.candidates.specs.Impossible.{has_more, number_of, place_of, is_refused, is_wanting, AreAllNeeds, AreGiven, AreGivenBy, AreNeeds, AreWanted, HasNeeds, IsPassed};
 
 use crate::choosing::RunList;
 use crate::fault::MOST_CANDIDATES;
 use events::{Event, Run};
 use std::alloc::{AllocError, Global};
-use std::marker::Model;
 
 /// A location and a value that is written to it.
 #[derive(Clone, Copy)]
@@ -18,64 +19,38 @@ pub(crate) struct Store {
     value: u32,
 }
 
-/// Whether one of these stores writes this value to this location.
-fn has_store(stores: &[Store], loc: usize, value: u32) -> bool
-    ensures { result ≡ has_store stores.now loc value }
+/// The place of the first of these stores that writes this value to this location.
+fn place_of(stores: &[Store], loc: usize, value: u32) -> Option<usize>
+    ensures { result ≡ place_of stores.now loc value }
 {
     stores
         .iter()
-        .any(|store| store.loc == loc && store.value == value)
+        .position(|store| store.loc == loc && store.value == value)
 }
 
-/// Adds a store, if it isn't there.
-fn add_store(stores: &mut Vec<Store>, loc: usize, value: u32) -> Result<(), AllocError>
-    ensures kept { OnOk result (Keeps stores.old.items stores.new.items) }
-    ensures has { OnOk result (has_store stores.new.items loc value ≡ true) }
-{
-    if has_store(stores, loc, value) {
-        return Ok(());
-    }
-    stores.push(Store { loc, value })?;
-    Ok(())
-}
-
-/// Adds what an event writes, if it is a write.
-fn add_write(stores: &mut Vec<Store>, event: &Event) -> Result<(), AllocError>
-    ensures kept { OnOk result (Keeps stores.old.items stores.new.items) }
-    ensures has { OnOk result (HasWrite stores.new.items event.now) }
-{
-    if event.access.is_write() {
-        return add_store(stores, event.loc, event.value);
-    }
-    Ok(())
-}
-
-/// Adds what the events write.
-fn add_writes(stores: &mut Vec<Store>, events: &[Event]) -> Result<(), AllocError>
-    ensures kept { OnOk result (Keeps stores.old.items stores.new.items) }
-    ensures has { OnOk result (HasWrites stores.new.items events.now) }
-{
+/// Adds what the events write, if it isn't there.
+fn add_writes(stores: &mut Vec<Store>, events: &[Event]) -> Result<(), AllocError> {
     for event in events {
-        add_write(stores, event)?;
+        if event.access.is_write() && place_of(stores, event.loc, event.value).is_none() {
+            stores.push(Store {
+                loc: event.loc,
+                value: event.value,
+            })?;
+        }
     }
     Ok(())
 }
 
 /// Adds what the runs write.
-fn add_runs(stores: &mut Vec<Store>, runs: &[Run]) -> Result<(), AllocError>
-    ensures kept { OnOk result (Keeps stores.old.items stores.new.items) }
-    ensures has { OnOk result (HasRuns stores.new.items runs.now) }
-{
+fn add_runs(stores: &mut Vec<Store>, runs: &[Run]) -> Result<(), AllocError> {
     for run in runs {
         add_writes(stores, run.events())?;
     }
     Ok(())
 }
 
-/// What the runs of all threads write.
-fn all_stores(alloc: Global, threads: &[RunList]) -> Result<Vec<Store>, AllocError>
-    ensures { IfOk result (λ v. HasThreads v.items threads.now) }
-{
+/// What the runs of all threads write. It only gives numbers to what is written: whatever it is, nothing is said that doesn't hold.
+fn all_stores(alloc: Global, threads: &[RunList]) -> Result<Vec<Store>, AllocError> {
     let mut stores = Vec::new(alloc);
     for thread in threads {
         add_runs(&mut stores, thread.runs())?;
@@ -83,114 +58,247 @@ fn all_stores(alloc: Global, threads: &[RunList]) -> Result<Vec<Store>, AllocErr
     Ok(stores)
 }
 
-/// Whether a read has a value that nothing writes.
-fn is_wanting(init: &[u32], stores: &[Store], event: &Event) -> bool
-    ensures { result ≡ is_wanting init.now stores.now event.now }
+/// The number of a value at a location, below 64: one of the first 63 where it is stored, which it may share, and 63 where it isn't.
+fn number_of(stores: &[Store], loc: usize, value: u32) -> usize
+    ensures is { result ≡ number_of stores.now loc value }
+    ensures few { result < 64 }
 {
-    event.is_read()
-        && init.get(event.loc).copied().unwrap_or(0) != event.value
-        && !has_store(stores, event.loc, event.value)
+    match place_of(stores, loc, value) {
+        Some(place) => place % 63,
+        None => 63,
+    }
 }
 
-/// Whether a run has a read of a value that nothing writes.
-fn is_impossible(init: &[u32], stores: &[Store], events: &[Event]) -> bool
-    ensures { result ≡ list_any (is_wanting init.now stores.now) events.now }
+/// Whether an event reads another value than the initial one.
+fn is_wanting(init: &[u32], event: &Event) -> bool
+    ensures { result ≡ is_wanting init.now event.now }
 {
+    event.is_read() && init.get(event.loc).copied().unwrap_or(0) != event.value
+}
+
+/// The number of what an event reads, as a bit, if it isn't an initial value.
+fn wanted(init: &[u32], stores: &[Store], event: &Event) -> u64
+    ensures { AreWanted init.now stores.now (event.now ∷ []) result }
+{
+    if !is_wanting(init, event) {
+        return 0;
+    }
+    1u64 << number_of(stores, event.loc, event.value)
+}
+
+/// The number of what an event writes, as a bit.
+fn given(stores: &[Store], event: &Event) -> u64
+    ensures { AreGiven stores.now (event.now ∷ []) result }
+{
+    if !event.access.is_write() {
+        return 0;
+    }
+    1u64 << number_of(stores, event.loc, event.value)
+}
+
+/// The numbers of what the events write.
+fn given_by_all(stores: &[Store], events: &[Event]) -> u64
+    ensures { AreGiven stores.now events.now result }
+{
+    let mut numbers: u64 = 0;
     for event in events {
-        if is_wanting(init, stores, event) {
-            return true;
-        }
+        numbers |= given(stores, event);
     }
-    false
+    numbers
 }
 
-/// Which runs of a thread are in no execution.
-#[derive(Drop)]
-pub(crate) struct Marks {
-    marks: Vec<bool>,
-}
-
-impl Model for Marks {
-    ghost use Rattle.std.specs.Prelude.{List, Bool};
-
-    ghost Value = { List Bool };
-
-    ghost view = { λ m. m.marks.items };
-}
-
-impl Marks {
-    /// The marks of these runs.
-    fn new(alloc: Global, init: &[u32], stores: &[Store], runs: &[Run]) -> Result<Self, AllocError>
-        ensures { IfOk result (λ m. m ≡ map (is_impossible init.now stores.now) runs.now) }
-    {
-        let mut marks = Vec::with_capacity(alloc, runs.len())?;
-        for run in runs {
-            marks.push(is_impossible(init, stores, run.events()))?;
-        }
-        Ok(Marks { marks })
-    }
-
-    /// Whether the run at a place is in no execution.
-    pub(crate) fn is_marked(&self, place: usize) -> bool
-        requires { place < length self.now }
-        ensures { result ≡ slice_index_or self.now place false }
-    {
-        self.marks[place]
-    }
-
-    /// How many candidates go on with this run and those behind it, up to the first that may be in an execution.
-    pub(crate) fn passed(&self, sizes: &[u64], place: usize) -> u64
-        requires place { place < length sizes.now }
-        requires marks { length self.now ≡ length sizes.now }
-        requires most { sum_of (λ k. k) sizes.now ≤ MOST_CANDIDATES }
-        ensures { IsPassed self.now sizes.now place result }
-    {
-        passed(&self.marks, sizes, place)
-    }
-}
-
-/// The sum of the sizes from a place on, as far as they are marked.
-fn passed(marks: &[bool], sizes: &[u64], place: usize) -> u64
-    requires place { place < length sizes.now }
-    requires marks { length marks.now ≡ length sizes.now }
-    requires most { sum_of (λ k. k) sizes.now ≤ MOST_CANDIDATES }
-    ensures { IsPassed marks.now sizes.now place result }
+/// The numbers of what any of the runs writes.
+fn given_by_any(stores: &[Store], runs: &[Run]) -> u64
+    ensures { (run : ThreadRun) → IsIn run runs.now → AreGiven stores.now run.events result }
 {
-    let mut sum = 0;
-    for end in place..sizes.len() {
-        if !marks[end] {
-            return sum;
-        }
-        sum += sizes[end];
+    let mut numbers: u64 = 0;
+    for run in runs {
+        numbers |= given_by_all(stores, run.events());
     }
-    sum
+    numbers
 }
 
-/// The marks of the runs of each thread.
-fn all_marks(
+/// The numbers of what any run of these threads writes.
+fn given_behind(stores: &[Store], threads: &[RunList]) -> u64
+    ensures { AreGivenBy stores.now threads.now result }
+{
+    let mut numbers: u64 = 0;
+    for thread in threads {
+        numbers |= given_by_any(stores, thread.runs());
+    }
+    numbers
+}
+
+/// What some events read and write: a bit is set in a word where something with its number is read that isn't an initial value, or is written.
+#[derive(Clone, Copy)]
+pub(crate) struct Needs {
+    wants: u64,
+    gives: u64,
+}
+
+impl Needs {
+    /// Those of no events.
+    pub(crate) fn none() -> Self
+        ensures { (init : List ℕ) (stores : List Store) → AreNeeds init stores [] result }
+    {
+        Needs { wants: 0, gives: 0 }
+    }
+
+    /// Those of these events.
+    fn of(init: &[u32], stores: &[Store], events: &[Event]) -> Self
+        ensures { AreNeeds init.now stores.now events.now result }
+    {
+        let mut wants: u64 = 0;
+        let mut gives: u64 = 0;
+        for event in events {
+            wants |= wanted(init, stores, event);
+            gives |= given(stores, event);
+        }
+        Needs { wants, gives }
+    }
+
+    /// Those of these events and of others.
+    pub(crate) fn with(self, more: Self) -> Self
+        ensures { (init : List ℕ) (stores : List Store) (events others : List Event) → AreNeeds init stores events self → AreNeeds init stores others more → AreNeeds init stores (events ++ others) result }
+    {
+        Needs {
+            wants: self.wants | more.wants,
+            gives: self.gives | more.gives,
+        }
+    }
+}
+
+/// What each run of a thread reads and writes, and the numbers of what any run of the threads behind it writes.
+#[derive(Drop)]
+pub(crate) struct ThreadNeeds {
+    needs: Vec<Needs>,
+    behind: u64,
+}
+
+/// What each of the runs reads and writes.
+fn needs_of(
+    alloc: Global,
+    init: &[u32],
+    stores: &[Store],
+    runs: &[Run],
+) -> Result<Vec<Needs>, AllocError>
+    ensures { IfOk result (λ v. ForEach (λ run n. AreNeeds init.now stores.now run.events n) runs.now v.items) }
+{
+    let mut needs = Vec::with_capacity(alloc, runs.len())?;
+    for run in runs {
+        needs.push(Needs::of(init, stores, run.events()))?;
+    }
+    Ok(needs)
+}
+
+/// The threads behind this one.
+fn later(threads: &[RunList], thread: usize) -> &[RunList]
+    requires { thread < length threads.now }
+    ensures { result.now ≡ drop (thread + 1) threads.now }
+{
+    &threads[thread + 1..]
+}
+
+/// What the runs of a thread read and write, and those behind it.
+fn thread_needs(
     alloc: Global,
     init: &[u32],
     stores: &[Store],
     threads: &[RunList],
-) -> Result<Vec<Marks>, AllocError>
-    requires stores { HasThreads stores.now threads.now }
-    ensures { IfOk result (λ v. AreMarks init.now threads.now v.items) }
+    thread: usize,
+) -> Result<ThreadNeeds, AllocError>
+    requires { thread < length threads.now }
+    ensures { IfOk result (HasNeeds init.now stores.now threads.now thread) }
 {
-    let mut all = Vec::new(alloc);
-    for thread in threads {
-        all.push(Marks::new(alloc, init, stores, thread.runs())?)?;
+    let needs = needs_of(alloc, init, stores, threads[thread].runs())?;
+    let behind = given_behind(stores, later(threads, thread));
+    Ok(ThreadNeeds { needs, behind })
+}
+
+/// The same of each thread, by the numbers that these stores give.
+fn each_needs(
+    alloc: Global,
+    init: &[u32],
+    stores: &[Store],
+    threads: &[RunList],
+) -> Result<Vec<ThreadNeeds>, AllocError>
+    ensures { IfOk result (λ v. AreAllNeeds init.now threads.now v.items) }
+{
+    let mut all = Vec::with_capacity(alloc, threads.len())?;
+    for thread in 0..threads.len() {
+        let needs = thread_needs(alloc, init, stores, threads, thread)?;
+        all.push(needs)?;
     }
     Ok(all)
 }
 
-/// The marks of the runs of each thread, by what the runs of all write.
-pub(crate) fn mark_all(
+/// What the runs of each thread read and write, and those behind it.
+pub(crate) fn all_needs(
     alloc: Global,
     init: &[u32],
     threads: &[RunList],
-) -> Result<Vec<Marks>, AllocError>
-    ensures { IfOk result (λ v. AreMarks init.now threads.now v.items) }
+) -> Result<Vec<ThreadNeeds>, AllocError>
+    ensures { IfOk result (λ v. AreAllNeeds init.now threads.now v.items) }
 {
     let stores = all_stores(alloc, threads)?;
-    all_marks(alloc, init, &stores, threads)
+    each_needs(alloc, init, &stores, threads)
+}
+
+/// Whether one word has a bit that the other hasn't.
+fn has_more(wants: u64, gives: u64) -> bool
+    ensures { result ≡ has_more wants gives }
+{
+    wants & (wants ^ gives) != 0
+}
+
+impl ThreadNeeds {
+    /// Those of the run at a place.
+    pub(crate) fn at(&self, place: usize) -> Needs
+        requires { place < length self.now.needs.items }
+        ensures { result ≡ slice_index_or self.now.needs.items place result }
+    {
+        self.needs[place]
+    }
+
+    /// Whether the run at a place is in no execution behind chosen ones: with them it wants what neither they write nor it nor any behind it.
+    fn is_refused(&self, chosen: Needs, place: usize) -> bool
+        requires { place < length self.now.needs.items }
+        ensures { result ≡ slice_index_or (map (is_refused chosen self.now.behind) self.now.needs.items) place false }
+    {
+        let own = self.needs[place];
+        let wants = chosen.wants | own.wants;
+        let gives = chosen.gives | self.behind | own.gives;
+        has_more(wants, gives)
+    }
+
+    /// The same sum, where it is looked for only if the chosen runs with this one, which are `next`, want what neither they give nor any behind them.
+    pub(crate) fn over(&self, chosen: Needs, next: Needs, sizes: &[u64], place: usize) -> u64
+        requires place { place < length sizes.now }
+        requires many { length self.now.needs.items ≡ length sizes.now }
+        requires most { sum_of (λ k. k) sizes.now ≤ MOST_CANDIDATES }
+        ensures { IsPassed (map (is_refused chosen self.now.behind) self.now.needs.items) sizes.now place result }
+    {
+        if !has_more(next.wants, next.gives | self.behind) {
+            return 0;
+        }
+        self.passed(chosen, sizes, place)
+    }
+
+    /// How many candidates go on with the run at a place and those behind it, up to the first that may be in an execution behind chosen ones.
+    #[inline(never)]
+    fn passed(&self, chosen: Needs, sizes: &[u64], place: usize) -> u64
+        requires place { place < length sizes.now }
+        requires many { length self.now.needs.items ≡ length sizes.now }
+        requires most { sum_of (λ k. k) sizes.now ≤ MOST_CANDIDATES }
+        ensures { IsPassed (map (is_refused chosen self.now.behind) self.now.needs.items) sizes.now place result }
+    {
+        let mut sum = 0;
+        for end in place..sizes.len() {
+            if !self.is_refused(chosen, end) {
+                return sum;
+            }
+            sum += sizes[end];
+        }
+        sum
+    }
 }

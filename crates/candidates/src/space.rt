@@ -16,7 +16,7 @@ ghost use Rattle.candidates.specs.Walks.{IsPausedIn};
 use crate::choosing::{RunList, group_all};
 use crate::fault::{MOST_CANDIDATES, SpaceFault};
 use crate::groups::{Groups, count_all};
-use crate::impossible::{Marks, mark_all};
+use crate::impossible::{ThreadNeeds, all_needs};
 use crate::threads::Threads;
 use crate::walk::{PausedWalk, Walk, find};
 use c11_threads::{initial_value, runs};
@@ -26,12 +26,12 @@ use litmus_value::Test;
 use std::alloc::{AllocError, Global};
 use std::marker::Model;
 
-/// The numbered candidates of a test. It holds the runs of each thread, in groups, and no candidate.
+/// The numbered candidates of a test. It holds the runs of each thread, in groups, what these read and write, and no candidate.
 pub struct Space {
     init: Vec<u32>,
     threads: Vec<RunList>,
     groups: Vec<Groups>,
-    marks: Vec<Marks>,
+    needs: Vec<ThreadNeeds>,
     size: u64,
 }
 
@@ -42,7 +42,7 @@ impl Drop for Space {
             init: _,
             threads: _,
             groups: _,
-            marks: _,
+            needs: _,
             size: _,
         } = self;
     }
@@ -52,7 +52,7 @@ impl Model for Space {
     ghost use Rattle.std.specs.Prelude.{◌≡◌, ◌≤◌, length, map, []};
     ghost use Rattle.candidates.specs.Candidates.{Choices, choices, size_of};
     ghost use Rattle.candidates.specs.Groups.{tally_of, HasRoom};
-    ghost use Rattle.candidates.specs.Impossible.{AreMarks};
+    ghost use Rattle.candidates.specs.Impossible.{AreAllNeeds};
     ghost use Rattle.candidates.specs.Parts.{AreAllWithin};
     ghost use Rattle.candidates.specs.declared.fault.TheConstants.{MOST_CANDIDATES};
 
@@ -60,7 +60,7 @@ impl Model for Space {
 
     ghost view = { λ s. record { init = s.init.items; threads = s.threads.items } };
 
-    ghost invariant = { λ s. record { size : s.size ≡ size_of (record { init = s.init.items; threads = s.threads.items }); most : s.size ≤ MOST_CANDIDATES; within : AreAllWithin (length s.init.items) (choices s.threads.items); tallied : s.groups.items ≡ map (λ runs. map (λ run. tally_of (length s.init.items) run.events) runs) s.threads.items; room : HasRoom (tally_of (length s.init.items) []) s.groups.items; marked : AreMarks s.init.items s.threads.items s.marks.items } };
+    ghost invariant = { λ s. record { size : s.size ≡ size_of (record { init = s.init.items; threads = s.threads.items }); most : s.size ≤ MOST_CANDIDATES; within : AreAllWithin (length s.init.items) (choices s.threads.items); tallied : s.groups.items ≡ map (λ runs. map (λ run. tally_of (length s.init.items) run.events) runs) s.threads.items; room : HasRoom (tally_of (length s.init.items) []) s.groups.items; needs : AreAllNeeds s.init.items s.threads.items s.needs.items } };
 }
 
 /// The initial value of a place of a test.
@@ -116,12 +116,12 @@ impl Space {
         let Some(size) = count_all(alloc, &groups, locations)? else {
             return Err(SpaceFault::TooManyCandidates);
         };
-        let marks = mark_all(alloc, &init, &threads)?;
+        let needs = all_needs(alloc, &init, &threads)?;
         Ok(Space {
             init,
             threads,
             groups,
-            marks,
+            needs,
             size,
         })
     }
@@ -149,7 +149,7 @@ impl Space {
         Threads {
             runs: &self.threads,
             groups: &self.groups,
-            marks: &self.marks,
+            needs: &self.needs,
             init: &self.init,
         }
     }

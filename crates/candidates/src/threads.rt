@@ -12,7 +12,7 @@ ghost use Rattle.candidates.specs.Walks.{IsReached};
 use crate::assembly::open_page;
 use crate::choosing::{RunList, choose_run};
 use crate::groups::Groups;
-use crate::impossible::Marks;
+use crate::impossible::{Needs, ThreadNeeds};
 use crate::levels::Level;
 use crate::page::Stretch;
 use events::{Event, Run};
@@ -185,18 +185,18 @@ pub(crate) enum Located {
     Until(u64),
 }
 
-/// The runs of each thread, in groups, those that are in no execution, and the initial values.
+/// The runs of each thread, in groups, what they read and write, and the initial values.
 #[derive(Drop)]
 pub(crate) struct Threads<'a> {
     pub(crate) runs: &'a [RunList],
     pub(crate) groups: &'a [Groups],
-    pub(crate) marks: &'a [Marks],
+    pub(crate) needs: &'a [ThreadNeeds],
     pub(crate) init: &'a [u32],
 }
 
 /// Where the candidate with this number is, and its runs. It goes down the threads: in each it takes the run that the number
-/// is in. Where that run is in no execution, it passes over all candidates with the runs so far, with this one and with
-/// those behind it that are in none.
+/// is in. Where that run is in no execution behind those so far, it passes over all candidates with them and with this one, and
+/// with the next that are in none either.
 fn locate(
     alloc: Global,
     threads: &Threads<'_>,
@@ -220,6 +220,7 @@ fn locate(
         calm: few,
         alike: few,
     };
+    let mut chosen = Needs::none();
     let mut rest = number;
     for thread in 0..threads.runs.len() {
         let choice = choose_run(
@@ -228,14 +229,18 @@ fn locate(
             threads.groups,
             thread,
             threads.init.len(),
-            &threads.marks[thread],
             rest,
         )?;
-        if choice.passed > 0 {
-            return Ok(Located::Until(number - choice.rest + choice.passed));
+        let needs = &threads.needs[thread];
+        let level = &levels[thread];
+        let next = chosen.with(needs.at(choice.place));
+        let passed = needs.over(chosen, next, &level.sizes, choice.place);
+        if passed > 0 {
+            return Ok(Located::Until(number - choice.rest + passed));
         }
         let change = place_run(runs, places, threads.runs, thread, choice.place)?;
         kept = kept.joined(thread, change);
+        chosen = next;
         rest = choice.rest;
     }
     runs.truncate(threads.runs.len());

@@ -2,9 +2,6 @@ use Rattle.std.proofs.Common.{◌∙◌, refl, arith}
 use Rattle.std.proofs.lemmas.List.{get_or_default}
 use Rattle.candidates.proofs.choosing.stay.Goals as goal
 
-pub is_marked-requires : goal.is_marked-requires
-is_marked-requires c = omega (arith, c.requires.stands.0, c.requires.marks)
-
 pub returns : goal.returns
 returns c =
     let level = c.args.level.now in
@@ -14,12 +11,5 @@ returns c =
         place = c.requires.stands.0;
         within = omega (arith, c.if-rest-index.false, size);
         sum = omega (arith, c.requires.stands.1, c.if-number-level.false);
-        passed_are = record {
-          end = level.place;
-          order = omega arith;
-          within = omega (arith, c.requires.stands.0);
-          sum = omega arith;
-          marked = λ i a b. absurd (omega (arith, a, b));
-        };
       },
     )

@@ -1,21 +1,23 @@
-use Rattle.std.proofs.Common.{◌≡◌, ◌∙◌, ◌+◌, ◌-◌, ◌<◌, ◌≤◌, [], ◌∷◌, List, length, map, take, drop, get_or, sym, ap, subst, refl, arith, leb-true}
+use Rattle.std.proofs.Common.{ℕ, ◌≡◌, ◌∙◌, ◌+◌, ◌-◌, ◌<◌, ◌≤◌, [], ◌∷◌, List, length, map, take, drop, get_or, sym, ap, subst, refl, arith, leb-true}
 use Rattle.std.proofs.lemmas.List.{drop_all, length-take-le, take-take, take_all}
 use Rattle.std.proofs.lemmas.Result.{IfOk-from_err}
 use Rattle.events.specs.Executions.{ThreadRun, empty_run}
 use Rattle.candidates.specs.Groups.{tally_of, sizes_of}
 use Rattle.candidates.specs.Candidates.{Choices, choices}
-use Rattle.candidates.specs.Impossible.{is_impossible}
-use Rattle.candidates.proofs.Excluded.{marks_here, passed_within, passed_over}
-use Rattle.candidates.proofs.Grouping.{length_mapped, tallies_of}
+use Rattle.candidates.specs.Impossible.{is_refused, IsPassed}
+use Rattle.listings.specs.Lists.{sum_of}
+use Rattle.candidates.proofs.Excluded.{as_many_needs, needed_on, needs_here, passed_within, passed_over, refused}
+use Rattle.candidates.proofs.Grouping.{events_of, tallies_of}
 use Rattle.candidates.specs.Executions.{block}
-use Rattle.candidates.specs.Parts.{IsPart}
+use Rattle.candidates.specs.Parts.{behind, IsPart}
 use Rattle.candidates.proofs.Placed.{placed_cut}
 use Rattle.candidates.proofs.Puts.{cut_behind}
 use Rattle.candidates.proofs.Staying.{shows_on, stay_all, stay_fewer, stay_first, stay_on}
 use Rattle.candidates.proofs.Outlining.{as_many}
 use Rattle.candidates.specs.Outlines.{outline, outlines, writings, written}
-use Rattle.candidates.proofs.Kept.{as_many_groups, same_default, tally_there}
-use Rattle.candidates.proofs.Descent.{down_first, down_at, tallies_here, tallies_after, room_on, most_on, below_on, enter, run_within, down_next, down_end}
+use Rattle.candidates.proofs.Kept.{as_many_groups, same_default, sizes_here, tally_there}
+use Rattle.candidates.proofs.Steps.{part_end}
+use Rattle.candidates.proofs.Descent.{down_first, down_at, tallies_here, tallies_after, room_on, most_on, below_on, enter, run_within, down_next, down_end, sizes_length, sizes_total}
 use Rattle.candidates.specs.Levels.{places_of, tally_to}
 use Rattle.candidates.proofs.threads.locate.Goals as goal
 
@@ -31,6 +33,7 @@ loop-thread-init c = record {
   calm = λ h. (omega (arith, c.len.ensures, leb-true c.len.result (length c.args.threads.now.runs.now) h), refl);
   alike = λ h. (omega (arith, c.len.ensures, leb-true c.len.result (length c.args.threads.now.runs.now) h), refl);
   levels = c.requires.levels;
+  chosen = λ h. c.none-chosen.ensures c.args.threads.now.init.now h.stores;
 }
 
 pub place_run-requires-clause-place : goal.place_run-requires-clause-place
@@ -67,17 +70,60 @@ choose_run-requires-clause-most c =
     let after = tallies_after n threads c.args.threads.now.groups.now (drop (at.thread + 1) c.args.threads.now.groups.now) at.thread c.requires.threads.tallied refl in
     omega (arith, most_on n (choices threads) c.args.number at.rest (tally_to n c.args.threads.now.groups.now (places_of at.levels.items) at.thread) (take at.thread at.runs.items) (get_or threads at.thread []) (drop (at.thread + 1) threads) (get_or c.args.threads.now.groups.now at.thread []) (drop (at.thread + 1) c.args.threads.now.groups.now) d here after, c.requires.threads.most)
 
-pub choose_run-requires-clause-marks : goal.choose_run-requires-clause-marks
-choose_run-requires-clause-marks c =
+pub over-passed-requires-clause-place : goal.over-passed-requires-clause-place
+over-passed-requires-clause-place c =
     let n = length c.args.threads.now.init.now in
     let threads = c.args.threads.now.runs.now in
     let at = c.loop-thread in
     let l = c.loop-thread-test.true in
     let runs = get_or threads at.thread [] in
-    let marks = sym c.index-threads-thread.is ∙ marks_here c.args.threads.now.init.now c.requires.threads.marked.stores threads c.args.threads.now.marks.now at.thread c.index-threads-thread.result c.requires.threads.marked.are l c.index-threads-thread.is in
-    let here = tallies_here n threads c.args.threads.now.groups.now at.thread (get_or c.args.threads.now.groups.now at.thread []) c.requires.threads.tallied l (same_default c.args.threads.now.groups.now at.thread (as_many_groups (tallies_of n) c.args.threads.now.groups.now threads at.thread c.requires.threads.tallied l)) in
-    ap (λ bs. length bs) marks ∙ length_mapped (is_impossible c.args.threads.now.init.now c.requires.threads.marked.stores) runs
-    ∙ sym (ap (λ ts. length ts) here ∙ length_mapped (λ (run : ThreadRun). tally_of n run.events) runs)
+    let more = drop (at.thread + 1) threads in
+    let choice = c.in_ok-choice.choice in
+    let chosen = c.in_ok-choice.ensures.chosen in
+    let tally = tally_to n c.args.threads.now.groups.now (places_of at.levels.items) at.thread in
+    let sizes = sizes_of tally (get_or c.args.threads.now.groups.now at.thread []) (drop (at.thread + 1) c.args.threads.now.groups.now) in
+    let e = enter n (choices threads) c.args.number at.rest tally (take at.thread at.runs.items) threads c.args.threads.now.groups.now at.thread (get_or c.args.threads.now.groups.now at.thread []) (drop (at.thread + 1) c.args.threads.now.groups.now) sizes c.requires.threads.tallied l
+    (same_default c.args.threads.now.groups.now at.thread (as_many_groups (tallies_of n) c.args.threads.now.groups.now threads at.thread c.requires.threads.tallied l)) refl at.invariant.down refl in
+    let is : c.deref.result.now ≡ sizes = c.deref.ensures.value ∙ sizes_here n c.args.threads.now.groups.now c.choose_run.new.levels.items at.thread c.index-level.result.now tally c.choose_run.ensures.levels c.in_ok-choice.ensures.next.0 c.index-level.ensures c.in_ok-choice.ensures.same in
+    let P : List ℕ → Type 0 = λ ss. choice.place < length ss in
+    subst P (sym is) chosen.place
+
+pub over-passed-requires-clause-many : goal.over-passed-requires-clause-many
+over-passed-requires-clause-many c =
+    let n = length c.args.threads.now.init.now in
+    let threads = c.args.threads.now.runs.now in
+    let at = c.loop-thread in
+    let l = c.loop-thread-test.true in
+    let runs = get_or threads at.thread [] in
+    let more = drop (at.thread + 1) threads in
+    let choice = c.in_ok-choice.choice in
+    let chosen = c.in_ok-choice.ensures.chosen in
+    let tally = tally_to n c.args.threads.now.groups.now (places_of at.levels.items) at.thread in
+    let sizes = sizes_of tally (get_or c.args.threads.now.groups.now at.thread []) (drop (at.thread + 1) c.args.threads.now.groups.now) in
+    let e = enter n (choices threads) c.args.number at.rest tally (take at.thread at.runs.items) threads c.args.threads.now.groups.now at.thread (get_or c.args.threads.now.groups.now at.thread []) (drop (at.thread + 1) c.args.threads.now.groups.now) sizes c.requires.threads.tallied l
+    (same_default c.args.threads.now.groups.now at.thread (as_many_groups (tallies_of n) c.args.threads.now.groups.now threads at.thread c.requires.threads.tallied l)) refl at.invariant.down refl in
+    let is : c.deref.result.now ≡ sizes = c.deref.ensures.value ∙ sizes_here n c.args.threads.now.groups.now c.choose_run.new.levels.items at.thread c.index-level.result.now tally c.choose_run.ensures.levels c.in_ok-choice.ensures.next.0 c.index-level.ensures c.in_ok-choice.ensures.same in
+    let needs = get_or c.args.threads.now.needs.now at.thread c.index-threads-thread.result in
+    let has = needs_here c.args.threads.now.init.now threads c.args.threads.now.needs.now at.thread c.index-threads-thread.result c.requires.threads.needs l in
+    let marks = map (is_refused at.chosen needs.behind) needs.needs.items in
+    as_many_needs c.args.threads.now.init.now c.requires.threads.needs.stores threads at.thread needs has ∙ sym (ap (λ (ss : List ℕ). length ss) is ∙ sizes_length n tally runs (map (tallies_of n) more) sizes e.are)
+
+pub over-passed-requires-clause-most : goal.over-passed-requires-clause-most
+over-passed-requires-clause-most c =
+    let n = length c.args.threads.now.init.now in
+    let threads = c.args.threads.now.runs.now in
+    let at = c.loop-thread in
+    let l = c.loop-thread-test.true in
+    let runs = get_or threads at.thread [] in
+    let more = drop (at.thread + 1) threads in
+    let choice = c.in_ok-choice.choice in
+    let chosen = c.in_ok-choice.ensures.chosen in
+    let tally = tally_to n c.args.threads.now.groups.now (places_of at.levels.items) at.thread in
+    let sizes = sizes_of tally (get_or c.args.threads.now.groups.now at.thread []) (drop (at.thread + 1) c.args.threads.now.groups.now) in
+    let e = enter n (choices threads) c.args.number at.rest tally (take at.thread at.runs.items) threads c.args.threads.now.groups.now at.thread (get_or c.args.threads.now.groups.now at.thread []) (drop (at.thread + 1) c.args.threads.now.groups.now) sizes c.requires.threads.tallied l
+    (same_default c.args.threads.now.groups.now at.thread (as_many_groups (tallies_of n) c.args.threads.now.groups.now threads at.thread c.requires.threads.tallied l)) refl at.invariant.down refl in
+    let is : c.deref.result.now ≡ sizes = c.deref.ensures.value ∙ sizes_here n c.args.threads.now.groups.now c.choose_run.new.levels.items at.thread c.index-level.result.now tally c.choose_run.ensures.levels c.in_ok-choice.ensures.next.0 c.index-level.ensures c.in_ok-choice.ensures.same in
+    omega (arith, ap (sum_of (λ k. k)) is, sizes_total n (choices threads) c.args.number at.rest tally (take at.thread at.runs.items) runs more sizes e.down e.are, part_end n (choices threads) (c.args.number - at.rest) (behind (take at.thread at.runs.items) (runs ∷ more)) e.down.part, c.requires.threads.most)
 
 pub choose_run-requires-clause-number : goal.choose_run-requires-clause-number
 choose_run-requires-clause-number c =
@@ -100,13 +146,20 @@ overflow_add-result c =
     let more = drop (at.thread + 1) threads in
     let choice = c.in_ok-choice.choice in
     let chosen = c.in_ok-choice.ensures.chosen in
-    let sizes = sizes_of (tally_to n c.args.threads.now.groups.now (places_of at.levels.items) at.thread) (get_or c.args.threads.now.groups.now at.thread []) (drop (at.thread + 1) c.args.threads.now.groups.now) in
-    let e = enter n (choices threads) c.args.number at.rest (tally_to n c.args.threads.now.groups.now (places_of at.levels.items) at.thread) (take at.thread at.runs.items) threads c.args.threads.now.groups.now at.thread (get_or c.args.threads.now.groups.now at.thread []) (drop (at.thread + 1) c.args.threads.now.groups.now) sizes c.requires.threads.tallied l
+    let tally = tally_to n c.args.threads.now.groups.now (places_of at.levels.items) at.thread in
+    let sizes = sizes_of tally (get_or c.args.threads.now.groups.now at.thread []) (drop (at.thread + 1) c.args.threads.now.groups.now) in
+    let e = enter n (choices threads) c.args.number at.rest tally (take at.thread at.runs.items) threads c.args.threads.now.groups.now at.thread (get_or c.args.threads.now.groups.now at.thread []) (drop (at.thread + 1) c.args.threads.now.groups.now) sizes c.requires.threads.tallied l
     (same_default c.args.threads.now.groups.now at.thread (as_many_groups (tallies_of n) c.args.threads.now.groups.now threads at.thread c.requires.threads.tallied l)) refl at.invariant.down refl in
-    omega (arith, passed_within n (choices threads) c.args.number at.rest choice.rest (tally_to n c.args.threads.now.groups.now (places_of at.levels.items) at.thread) (take at.thread at.runs.items) runs more sizes (get_or c.args.threads.now.marks.now at.thread c.index-threads-thread.result) choice.place choice.passed e.down e.are chosen.sum chosen.passed_are, c.requires.threads.most)
+    let is : c.deref.result.now ≡ sizes = c.deref.ensures.value ∙ sizes_here n c.args.threads.now.groups.now c.choose_run.new.levels.items at.thread c.index-level.result.now tally c.choose_run.ensures.levels c.in_ok-choice.ensures.next.0 c.index-level.ensures c.in_ok-choice.ensures.same in
+    let needs = get_or c.args.threads.now.needs.now at.thread c.index-threads-thread.result in
+    let has = needs_here c.args.threads.now.init.now threads c.args.threads.now.needs.now at.thread c.index-threads-thread.result c.requires.threads.needs l in
+    let marks = map (is_refused at.chosen needs.behind) needs.needs.items in
+    let P : List ℕ → Type 0 = λ ss. IsPassed marks ss choice.place c.over-passed.result in
+    let over = subst P is c.over-passed.ensures in
+    omega (arith, passed_within n (choices threads) c.args.number at.rest choice.rest tally (take at.thread at.runs.items) runs more sizes marks choice.place c.over-passed.result e.down e.are chosen.sum over, c.requires.threads.most)
 
-pub returns-then-choice-gt0-clause-located : goal.returns-then-choice-gt0-clause-located
-returns-then-choice-gt0-clause-located c =
+pub returns-then-passed-gt0-clause-located : goal.returns-then-passed-gt0-clause-located
+returns-then-passed-gt0-clause-located c =
     let n = length c.args.threads.now.init.now in
     let threads = c.args.threads.now.runs.now in
     let at = c.loop-thread in
@@ -115,13 +168,19 @@ returns-then-choice-gt0-clause-located c =
     let more = drop (at.thread + 1) threads in
     let choice = c.in_ok-choice.choice in
     let chosen = c.in_ok-choice.ensures.chosen in
-    let sizes = sizes_of (tally_to n c.args.threads.now.groups.now (places_of at.levels.items) at.thread) (get_or c.args.threads.now.groups.now at.thread []) (drop (at.thread + 1) c.args.threads.now.groups.now) in
-    let e = enter n (choices threads) c.args.number at.rest (tally_to n c.args.threads.now.groups.now (places_of at.levels.items) at.thread) (take at.thread at.runs.items) threads c.args.threads.now.groups.now at.thread (get_or c.args.threads.now.groups.now at.thread []) (drop (at.thread + 1) c.args.threads.now.groups.now) sizes c.requires.threads.tallied l
+    let tally = tally_to n c.args.threads.now.groups.now (places_of at.levels.items) at.thread in
+    let sizes = sizes_of tally (get_or c.args.threads.now.groups.now at.thread []) (drop (at.thread + 1) c.args.threads.now.groups.now) in
+    let e = enter n (choices threads) c.args.number at.rest tally (take at.thread at.runs.items) threads c.args.threads.now.groups.now at.thread (get_or c.args.threads.now.groups.now at.thread []) (drop (at.thread + 1) c.args.threads.now.groups.now) sizes c.requires.threads.tallied l
     (same_default c.args.threads.now.groups.now at.thread (as_many_groups (tallies_of n) c.args.threads.now.groups.now threads at.thread c.requires.threads.tallied l)) refl at.invariant.down refl in
-    let marks = sym c.index-threads-thread.is ∙ marks_here c.args.threads.now.init.now c.requires.threads.marked.stores threads c.args.threads.now.marks.now at.thread c.index-threads-thread.result c.requires.threads.marked.are l c.index-threads-thread.is in
+    let is : c.deref.result.now ≡ sizes = c.deref.ensures.value ∙ sizes_here n c.args.threads.now.groups.now c.choose_run.new.levels.items at.thread c.index-level.result.now tally c.choose_run.ensures.levels c.in_ok-choice.ensures.next.0 c.index-level.ensures c.in_ok-choice.ensures.same in
+    let needs = get_or c.args.threads.now.needs.now at.thread c.index-threads-thread.result in
+    let has = needs_here c.args.threads.now.init.now threads c.args.threads.now.needs.now at.thread c.index-threads-thread.result c.requires.threads.needs l in
+    let marks = map (is_refused at.chosen needs.behind) needs.needs.items in
+    let P : List ℕ → Type 0 = λ ss. IsPassed marks ss choice.place c.over-passed.result in
+    let over = subst P is c.over-passed.ensures in
     let s : Choices = record { init = c.args.threads.now.init.now; threads = threads } in
-    passed_over s c.requires.threads.marked.stores c.args.number at.rest choice.rest (tally_to n c.args.threads.now.groups.now (places_of at.levels.items) at.thread) (take at.thread at.runs.items) runs more sizes (get_or c.args.threads.now.marks.now at.thread c.index-threads-thread.result) choice.place choice.passed
-    c.requires.threads.marked.has marks e.down e.are chosen.sum chosen.passed_are chosen.place chosen.within (omega (arith, c.if-choice-gt0.true))
+    passed_over s c.args.number at.rest choice.rest tally (take at.thread at.runs.items) runs more sizes marks choice.place c.over-passed.result
+    (refused c.args.threads.now.init.now c.requires.threads.needs.stores (take at.thread at.runs.items) threads at.thread at.chosen needs marks (at.invariant.chosen c.requires.threads.needs) has refl) e.down e.are chosen.sum over chosen.place chosen.within (omega (arith, c.if-passed-gt0.true))
 
 pub loop-thread-preserved : goal.loop-thread-preserved
 loop-thread-preserved c =
@@ -141,7 +200,7 @@ loop-thread-preserved c =
     let groups = c.args.threads.now.groups.now in
     let tally = tally_to n groups (places_of at.levels.items) at.thread in
     let grown = tally_to n groups (places_of c.choose_run.new.levels.items) (at.thread + 1) in
-    let next = c.in_ok-choice.ensures.next (omega (arith, c.if-choice-gt0.false)) in
+    let next = c.in_ok-choice.ensures.next in
     let inside = as_many_groups (tallies_of n) groups threads at.thread c.requires.threads.tallied l in
     let here = get_or (get_or groups at.thread []) choice.place [] in
     record {
@@ -158,6 +217,8 @@ loop-thread-preserved c =
       calm = λ h. (let both = c.joined-kept.ensures.calm h in let k = at.invariant.calm both.0 in (k.0, shows_on writings at.runs.items c.place_run.new.runs.items (λ like. like.calm) c.in_ok-change.change c.in_ok-change.ensures.same c.in_ok-change.ensures.calm both.1 ∙ k.1));
       alike = λ h. (let both = c.joined-kept.ensures.alike h in let k = at.invariant.alike both.0 in (k.0, shows_on outlines at.runs.items c.place_run.new.runs.items (λ like. like.alike) c.in_ok-change.change c.in_ok-change.ensures.same c.in_ok-change.ensures.alike both.1 ∙ k.1));
       levels = c.choose_run.ensures.levels;
+      chosen = λ h. needed_on c.args.threads.now.init.now threads c.args.threads.now.needs.now at.thread c.index-threads-thread.result at.chosen c.at.result c.with-next.result (take at.thread at.runs.items) (take (at.thread + 1) c.place_run.new.runs.items) choice.place h l m c.at.ensures (at.invariant.chosen h) c.in_ok-change.ensures.put
+          (c.with-next.ensures c.args.threads.now.init.now h.stores (events_of (take at.thread at.runs.items)) run.events);
     }
 
 pub returns-clause-located : goal.returns-clause-located
@@ -170,8 +231,22 @@ returns-clause-located c =
     (down_end n (choices threads) c.args.number at.rest (tally_to n c.args.threads.now.groups.now (places_of at.levels.items) at.thread) (take at.thread at.runs.items) (drop at.thread threads) (drop_all at.thread threads (omega (arith, c.loop-thread-test.false))) at.invariant.down)
 
 pub bounds-threads-thread : goal.bounds-threads-thread
-bounds-threads-thread c =
-    omega (arith, c.loop-thread-test.true, ap (λ bs. length bs) c.requires.threads.marked.are, length_mapped (λ (runs : List ThreadRun). map (is_impossible c.args.threads.now.init.now c.requires.threads.marked.stores) runs) c.args.threads.now.runs.now)
+bounds-threads-thread c = omega (arith, c.loop-thread-test.true, c.requires.threads.needs.many)
+
+pub at-requires : goal.at-requires
+at-requires c =
+    let n = length c.args.threads.now.init.now in
+    let threads = c.args.threads.now.runs.now in
+    let at = c.loop-thread in
+    let l = c.loop-thread-test.true in
+    let choice = c.in_ok-choice.choice in
+    let sizes = sizes_of (tally_to n c.args.threads.now.groups.now (places_of at.levels.items) at.thread) (get_or c.args.threads.now.groups.now at.thread []) (drop (at.thread + 1) c.args.threads.now.groups.now) in
+    let e = enter n (choices threads) c.args.number at.rest (tally_to n c.args.threads.now.groups.now (places_of at.levels.items) at.thread) (take at.thread at.runs.items) threads c.args.threads.now.groups.now at.thread (get_or c.args.threads.now.groups.now at.thread []) (drop (at.thread + 1) c.args.threads.now.groups.now) sizes c.requires.threads.tallied l
+    (same_default c.args.threads.now.groups.now at.thread (as_many_groups (tallies_of n) c.args.threads.now.groups.now threads at.thread c.requires.threads.tallied l)) refl at.invariant.down refl in
+    let m = run_within n (choices threads) c.args.number at.rest (tally_to n c.args.threads.now.groups.now (places_of at.levels.items) at.thread) (take at.thread at.runs.items) threads at.thread sizes choice.place e c.in_ok-choice.ensures.chosen.place in
+    let needs = get_or c.args.threads.now.needs.now at.thread c.index-threads-thread.result in
+    let has = needs_here c.args.threads.now.init.now threads c.args.threads.now.needs.now at.thread c.index-threads-thread.result c.requires.threads.needs l in
+    omega (arith, m, as_many_needs c.args.threads.now.init.now c.requires.threads.needs.stores threads at.thread needs has)
 
 pub choose_run-requires-clause-levels : goal.choose_run-requires-clause-levels
 choose_run-requires-clause-levels c = c.loop-thread.invariant.levels
@@ -188,8 +263,8 @@ returns-in_err-choice-clause-levels c = c.choose_run.ensures.levels
 pub overflow_sub-result : goal.overflow_sub-result
 overflow_sub-result c = omega (arith, c.in_ok-choice.ensures.chosen.sum, c.loop-thread.invariant.down.order)
 
-pub returns-then-choice-gt0-clause-levels : goal.returns-then-choice-gt0-clause-levels
-returns-then-choice-gt0-clause-levels c = c.choose_run.ensures.levels
+pub returns-then-passed-gt0-clause-levels : goal.returns-then-passed-gt0-clause-levels
+returns-then-passed-gt0-clause-levels c = c.choose_run.ensures.levels
 
 pub place_run-requires-clause-thread : goal.place_run-requires-clause-thread
 place_run-requires-clause-thread c = c.loop-thread-test.true

@@ -1,8 +1,10 @@
 use Rattle.std.proofs.Common.{◌≡◌, ◌≤◌, drop, take, length, true}
 use Rattle.candidates.specs.Candidates.{choices}
+use Rattle.candidates.specs.Impossible.{AreAllNeeds, AreNeeds}
 use Rattle.candidates.specs.Levels.{AreLevels, ArePlaced, places_of, tally_to}
 use Rattle.candidates.specs.Outlines.{outlines, writings}
 use Rattle.candidates.proofs.Descent.{IsDown}
+use Rattle.candidates.proofs.Grouping.{events_of}
 use Rattle.candidates.proofs.Staying.{Stay}
 use Rattle.candidates.proofs.threads.locate.Given as goal
 
@@ -18,4 +20,5 @@ invariant-loop-thread l = record {
   alike : l.kept.alike ≡ true → (length l.fn.runs.items ≤ length l.threads.runs.now) × (outlines l.runs.items ≡ outlines l.fn.runs.items);
   there : l.thread ≤ length l.levels.items;
   levels : AreLevels (length l.threads.init.now) l.threads.groups.now l.levels.items;
+  chosen : (h : AreAllNeeds l.threads.init.now l.threads.runs.now l.threads.needs.now) → AreNeeds l.threads.init.now h.stores (events_of (take l.thread l.runs.items)) l.chosen;
 }

@@ -42,7 +42,7 @@ invariant_of-result c =
       within = subst W l k.1;
       tallied = subst G l own;
       room = subst R l (room_all n lists (tally_of n []) c.in_ok-groups.groups.items c.in_ok-threads.ensures.short refl own);
-      marked = rw (c.deref-3.ensures.value, c.deref-4.ensures.value) at c.in_ok-marks.ensures;
+      needs = rw (c.deref-3.ensures.value, c.deref-4.ensures.value) at c.in_ok-needs.ensures;
     }
 
 pub returns-clause-size : goal.returns-clause-size

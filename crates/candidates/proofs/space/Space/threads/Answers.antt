@@ -7,7 +7,7 @@ returns-clause-threads c =
     record {
       tallied = rw (c.deref-4.ensures.value, c.deref.ensures.value, c.deref-2.ensures.value) v.tallied;
       room = rw (c.deref-4.ensures.value, c.deref-2.ensures.value) v.room;
-      marked = rw (c.deref-4.ensures.value, c.deref.ensures.value, c.deref-3.ensures.value) v.marked;
+      needs = rw (c.deref-4.ensures.value, c.deref.ensures.value, c.deref-3.ensures.value) v.needs;
       within = rw (c.deref-4.ensures.value, c.deref.ensures.value) v.within;
       most = rw (c.deref-4.ensures.value, c.deref.ensures.value) (omega (arith, v.size, v.most));
     }
