@@ -271,19 +271,6 @@ impl ThreadNeeds {
         has_more(wants, gives)
     }
 
-    /// The same sum, where it is looked for only if the chosen runs with this one, which are `next`, want what neither they give nor any behind them.
-    pub(crate) fn over(&self, chosen: Needs, next: Needs, sizes: &[u64], place: usize) -> u64
-        requires place { place < length sizes.now }
-        requires many { length self.now.needs.items ≡ length sizes.now }
-        requires most { sum_of (λ k. k) sizes.now ≤ MOST_CANDIDATES }
-        ensures { IsPassed (map (is_refused chosen self.now.behind) self.now.needs.items) sizes.now place result }
-    {
-        if !has_more(next.wants, next.gives | self.behind) {
-            return 0;
-        }
-        self.passed(chosen, sizes, place)
-    }
-
     /// How many candidates go on with the run at a place and those behind it, up to the first that may be in an execution behind chosen ones.
     #[inline(never)]
     fn passed(&self, chosen: Needs, sizes: &[u64], place: usize) -> u64
@@ -300,5 +287,19 @@ impl ThreadNeeds {
             sum += sizes[end];
         }
         sum
+    }
+
+    /// The same, where `next` is what the chosen runs and this one read and write: the others aren't looked at unless these want what neither they give
+    /// nor any run behind them.
+    pub(crate) fn over(&self, chosen: Needs, next: Needs, sizes: &[u64], place: usize) -> u64
+        requires place { place < length sizes.now }
+        requires many { length self.now.needs.items ≡ length sizes.now }
+        requires most { sum_of (λ k. k) sizes.now ≤ MOST_CANDIDATES }
+        ensures { IsPassed (map (is_refused chosen self.now.behind) self.now.needs.items) sizes.now place result }
+    {
+        if !has_more(next.wants, next.gives | self.behind) {
+            return 0;
+        }
+        self.passed(chosen, sizes, place)
     }
 }
